@@ -5,7 +5,8 @@ use Rattle.pagable_nodes.specs.Spelled.{Spelled, fields, number, one, optional, 
 
 -- the fields in their order, the first and the pair of the others
 abbrev pub commit_spelled : Spelled Commit
-commit_spelled = fields (λ c. (c.time, (c.message, (c.parent, c.merged)))) (two (number w64) (two text (two (optional (one 1)) (optional (one 1)))))
+commit_spelled = fields (λ c. (c.time, (c.message, (c.parent, c.merged))))
+    (two (number w64) (two text (two (optional (one 1)) (optional (one 1)))))
 
 pub commit_is_read : (parts : ℕ → Shape) → IsReadThroughout parts commit_spelled.shape
 commit_is_read = commit_spelled.is_read

@@ -23,14 +23,16 @@ pub lender-is : {E : Type 0} {a b : Acting E} → a ≡ b → a.lender ≡ b.len
 lender-is {E} e = ap (λ (a : Acting E). a.lender) e
 
 -- what is told afterwards was told before
-pub told-so : {A : Type 0} {R : A → A → Type 0} (b b' : Bool) (s t : A) → Told (if b then Some s else None) (if b' then Some t else None) R → IsTrue b' → IsTrue b × R s t
+pub told-so : {A : Type 0} {R : A → A → Type 0} (b b' : Bool) (s t : A) → Told (if b then Some s else None) (if b' then Some t else None) R → IsTrue b'
+    → IsTrue b × R s t
 told-so true true s t told is = (refl, told.holds)
 told-so false true s t told is = absurd told.holds
 told-so true false s t told is = absurd (cc)
 told-so false false s t told is = absurd (cc)
 
 -- and so of what is told of an access and of a table together
-pub told-both : {A T : Type 0} {R : A × T → A × T → Type 0} (b b' : Bool) (s t : A) (q q' : T) → Told (both (if b then Some s else None) (Some q)) (both (if b' then Some t else None) (Some q')) R → IsTrue b' → IsTrue b × R (s, q) (t, q')
+pub told-both : {A T : Type 0} {R : A × T → A × T → Type 0} (b b' : Bool) (s t : A) (q q' : T)
+    → Told (both (if b then Some s else None) (Some q)) (both (if b' then Some t else None) (Some q')) R → IsTrue b' → IsTrue b × R (s, q) (t, q')
 told-both true true s t q q' told is = (refl, told.holds)
 told-both false true s t q q' told is = absurd told.holds
 told-both true false s t q q' told is = absurd (cc)
@@ -49,11 +51,18 @@ after {me} {works} {w} {u} {w'} f a = first_of (grind (arith, common_steps, nat_
 pub like : {me : Owner} {w u w' : Core} → Alike u w' → SameAt w.loads u.loads → u.last.load ≡ w.last.load → Leaves me u.workers w w'
 like {me} {w} {u} {w'} a loads last = first_of (grind (arith, common_steps, nat_tests), search (rules))
 
-pub leaves-so : {me : Owner} {lists : Bool} {Asks Keeps : Type 0} {c : Change} {w w' : Core} → Effect me lists Asks Keeps false c w w' → Asks → Leaves me w.workers w w'
-leaves-so e asks = record { loads = λ l load is. elim (e.goes.loads l load is) [ inl was ↦ inl was | inr new ↦ inr new.0 ]; last = e.goes.loads_last; workers = e.workers; others = e.others asks }
+pub leaves-so : {me : Owner} {lists : Bool} {Asks Keeps : Type 0} {c : Change} {w w' : Core} → Effect me lists Asks Keeps false c w w' → Asks
+    → Leaves me w.workers w w'
+leaves-so e asks = record {
+  loads = λ l load is. elim (e.goes.loads l load is) [ inl was ↦ inl was | inr new ↦ inr new.0 ];
+  last = e.goes.loads_last;
+  workers = e.workers;
+  others = e.others asks;
+}
 
 -- a call of the caller's
-pub call-leaves : (w w' : Core) {N B W : Type 0} (m : Seen N B W) (call : Call N B) (reply : Reply N B) → Does m w Owner.Caller call reply w' → Leaves Owner.Caller w.workers w w'
+pub call-leaves : (w w' : Core) {N B W : Type 0} (m : Seen N B W) (call : Call N B) (reply : Reply N B) → Does m w Owner.Caller call reply w'
+    → Leaves Owner.Caller w.workers w w'
 call-leaves w w' m Call.Close (Reply.Done r) c = let f = c.falls.falls in like {u = fallen (shut w w'.failures) f.gone f.entries} f.leaves (λ l. refl) refl
 call-leaves w w' m Call.Close reply c = absurd c
 call-leaves w w' m call reply c = leaves-so (calls-go m w Owner.Caller caller-free w' call reply tt c).does tt
@@ -106,25 +115,30 @@ close-passes v w w' there c loads =
     record { spares = record { each = x.spares.each }; loads = loads; nodes = x.nodes; handles = x.handles; rows = x.rows; cells = x.cells }
 
 -- each event of another's
-pub event-passes : {N B W : Type 0} (m : Seen N B W) (v : ℕ) (u u' : World) → IsWhole u.core → (event : Event N B W) (reply : EventReply N B W) → step_of v event reply ≡ []
+pub event-passes : {N B W : Type 0} (m : Seen N B W) (v : ℕ) (u u' : World) → IsWhole u.core → (event : Event N B W) (reply : EventReply N B W)
+    → step_of v event reply ≡ []
     → Happens m u event reply u'
     → LoadsStay v u.core u'.core → Passes v u.core u'.core
-event-passes m v u u' whole (Event.Call Call.Close) (EventReply.CallReply (Reply.Done r)) others h loads = close-passes v u.core u'.core whole.owners_there h.step.does loads
+event-passes m v u u' whole (Event.Call Call.Close) (EventReply.CallReply (Reply.Done r)) others h loads =
+    close-passes v u.core u'.core whole.owners_there h.step.does loads
 event-passes m v u u' whole (Event.Call Call.Close) (EventReply.CallReply reply) others h loads = absurd h.step.does
 event-passes m v u u' whole (Event.Call Call.Close) reply others h loads = absurd h
-event-passes m v u u' whole event reply others h loads = by-goes v u.core u'.core (event-goes m u u' event reply tt h).goes (event-spares m v u u' whole.owners_there event reply others tt h) loads
+event-passes m v u u' whole event reply others h loads = by-goes v u.core u'.core (event-goes m u u' event reply tt h).goes
+    (event-spares m v u u' whole.owners_there event reply others tt h) loads
 
 -- what a machine keeps of a worker stays in step with the pager through each event that the worker doesn't make
 module _ {v : ℕ} {w w' : Core} (whole : HandlesAreWhole w) (passes : Passes v w w') where
   kind-on : {r : ArcRef} → IsOfKind w r → IsOfKind w' r
   kind-on {r} k = first_of (grind (arith, common_steps, nat_tests), search (rules))
 
-  fits-on : {X XN XH XK XV : Type 0} {g : Environments X XN XH XK XV} {gh : Hashes XH} {go : Orders XK} {gq : Equalities XK} {gp : PartialOrders XK} {gn : Nodes XN X XN XH XK XV} (task : Task X XN XH XK XV g gh go gq gp gn) → TaskFits v w task → TaskFits v w' task
+  fits-on : {X XN XH XK XV : Type 0} {g : Environments X XN XH XK XV} {gh : Hashes XH} {go : Orders XK} {gq : Equalities XK} {gp : PartialOrders XK}
+      {gn : Nodes XN X XN XH XK XV} (task : Task X XN XH XK XV g gh go gq gp gn) → TaskFits v w task → TaskFits v w' task
   fits-on (Task.Pin r place) (s, kind) = (
     record {
       node_given = let a = s.node_given in let b = passes.nodes in omega (arith, a, b);
       given = let a = s.given in let b = passes.handles in omega (arith, a, b);
-      is = λ row live. let was = passes.rows r.handle.0 row live s.given in let old = s.is was.was was.live in (sym was.at ∙ old.0, λ loose. was.loose (old.1 loose));
+      is = λ row live. let was = passes.rows r.handle.0 row live s.given in let old =
+          s.is was.was was.live in (sym was.at ∙ old.0, λ loose. was.loose (old.1 loose));
     },
     kind-on kind,
   )
@@ -147,29 +161,42 @@ module _ {v : ℕ} {w w' : Core} (whole : HandlesAreWhole w) (passes : Passes v 
       (kind-on kind, record { pins = record { row = p.pins.row; live = s.live; at = p.pins.at; pins = p.pins.pins }; own = p.own })
   fits-on task fits = tt
 
-  turn-on : {X XN XH XK XV : Type 0} {g : Environments X XN XH XK XV} {gh : Hashes XH} {go : Orders XK} {gq : Equalities XK} {gp : PartialOrders XK} {gn : Nodes XN X XN XH XK XV} (turn : Turn X XN XH XK XV g gh go gq gp gn) → LeavesFit v w turn → LeavesFit v w' turn
+  turn-on : {X XN XH XK XV : Type 0} {g : Environments X XN XH XK XV} {gh : Hashes XH} {go : Orders XK} {gq : Equalities XK} {gp : PartialOrders XK}
+      {gn : Nodes XN X XN XH XK XV} (turn : Turn X XN XH XK XV g gh go gq gp gn) → LeavesFit v w turn → LeavesFit v w' turn
   turn-on (Turn.Goes task) fits = fits-on task fits
   turn-on (Turn.Answers answer) fits = tt
 
-  pub walk-on : {X XN XH XK XV : Type 0} {g : Environments X XN XH XK XV} {gh : Hashes XH} {go : Orders XK} {gq : Equalities XK} {gp : PartialOrders XK} {gn : Nodes XN X XN XH XK XV} {last last' : ℕ} {k : Walk X XN XH XK XV g gh go gq gp gn} → last ≤ last' → w'.workers v ≡ w.workers v → IsWalkKept w last v k → IsWalkKept w' last' v k
+  pub walk-on : {X XN XH XK XV : Type 0} {g : Environments X XN XH XK XV} {gh : Hashes XH} {go : Orders XK} {gq : Equalities XK} {gp : PartialOrders XK}
+      {gn : Nodes XN X XN XH XK XV} {last last' : ℕ} {k : Walk X XN XH XK XV g gh go gq gp gn} → last ≤ last' → w'.workers v ≡ w.workers v
+      → IsWalkKept w last v k → IsWalkKept w' last' v k
   walk-on more same k = first_of (grind (arith, common_steps, nat_tests), grind (arith, nat_tests, turn-on), search (rules, turn-on))
 
 -- the machine reads what is kept of open loads
-pub are-these : (w' : Core) (kept' : Kept) (target : ℕ → Option Reading) → ((l : ℕ) (load : OpenLoad) → w'.loads l ≡ Some load → option_map reading_of (kept' l) ≡ target l)
+pub are-these : (w' : Core) (kept' : Kept) (target : ℕ → Option Reading)
+    → ((l : ℕ) (load : OpenLoad) → w'.loads l ≡ Some load → option_map reading_of (kept' l) ≡ target l)
     → (l : ℕ) → readings_in kept' w' l ≡ if_there (λ load. target l) None (w'.loads l)
 are-these w' kept' target same l = first_of (grind (arith, common_steps, nat_tests), search (rules))
 
 pub not-same : (q l : ℕ) → (q == l) ≡ false → q ≢ l
 not-same q l e is = let f : (q == l) ≡ true = ap (λ n. n == l) is ∙ self-number l in absurd (cc)
 
-pub at-one : {Y Z : Type 0} (f : Y → Z) {kept kept' : ℕ → Option Y} (l : ℕ) (x : Option Y) (new : Option Z) (old : ℕ → Option Z) → KeepsOne kept l x kept' → option_map f x ≡ new → (q : ℕ)
+pub at-one : {Y Z : Type 0} (f : Y → Z) {kept kept' : ℕ → Option Y} (l : ℕ) (x : Option Y) (new : Option Z) (old : ℕ → Option Z) → KeepsOne kept l x kept'
+    → option_map f x ≡ new → (q : ℕ)
     → option_map f (kept q) ≡ old q
     → option_map f (kept' q) ≡ updated l new old q
-at-one f {kept} {kept'} l x new old k is q same = first_of (grind (arith, common_steps, nat_tests), grind (arith, nat_tests, same-number, not-same), search (rules, same-number, not-same))
+at-one f {kept} {kept'} l x new old k is q same = first_of (
+  grind (arith, common_steps, nat_tests),
+  grind (arith, nat_tests, same-number, not-same),
+  search (rules, same-number, not-same),
+)
 
 pub one-or-old : {Y : Type 0} {kept kept' : ℕ → Option Y} (l : ℕ) (x : Option Y) → KeepsOne kept l x kept' → (q : ℕ) (own : Y) → kept' q ≡ Some own
     → ((q ≢ l) × (kept q ≡ Some own)) ⊎ ((q ≡ l) × (x ≡ Some own))
-one-or-old {kept = kept} {kept'} l x k q own is = first_of (grind (arith, common_steps, nat_tests), grind (arith, nat_tests, same-number, not-same), search (rules, same-number, not-same))
+one-or-old {kept = kept} {kept'} l x k q own is = first_of (
+  grind (arith, common_steps, nat_tests),
+  grind (arith, nat_tests, same-number, not-same),
+  search (rules, same-number, not-same),
+)
 
 module _ {w : Core} {kept : Kept} (all : AllKept w kept) {me : Owner} {works : ℕ → Bool} {w' : Core} (on : Leaves me works w w') where
   -- an open load is read as it was
@@ -190,10 +217,13 @@ module _ {w : Core} {kept : Kept} (all : AllKept w kept) {me : Owner} {works : �
   kept-on anew l own is = elim (anew l own is) [ inl was ↦ still-kept l own (all l own was) | inr new ↦ new ]
 
   pub kept-one : {kept' : Kept} (l : ℕ) (x : Option Own) → KeepsOne kept l x kept' → ((own : Own) → x ≡ Some own → IsKept w' l own) → AllKept w' kept'
-  kept-one l x keeps new = kept-on (λ q own is. elim (one-or-old l x keeps q own is) [ inl there ↦ inl there.1 | inr (here, same) ↦ inr (subst (λ n. IsKept w' n own) (sym here) (new own same)) ])
+  kept-one l x keeps new = kept-on (λ q own is. elim (one-or-old l x keeps q own is)
+      [ inl there ↦ inl there.1 | inr (here, same) ↦ inr (subst (λ n. IsKept w' n own) (sym here) (new own same)) ])
 
 -- a machine in step with a pager that is whole is whole
-pub machine-whole : {X XN XH XK XV : Type 0} {g : Environments X XN XH XK XV} {gh : Hashes XH} {go : Orders XK} {gq : Equalities XK} {gp : PartialOrders XK} {gn : Nodes XN X XN XH XK XV} {N E : Type 0} (v : Values N) (s : PagerState N E) (h : Holding g gh go gq gp gn) → WellFormed v s → IsServing s.core h → IsMachineWhole v (machine_of s h)
+pub machine-whole : {X XN XH XK XV : Type 0} {g : Environments X XN XH XK XV} {gh : Hashes XH} {go : Orders XK} {gq : Equalities XK} {gp : PartialOrders XK}
+    {gn : Nodes XN X XN XH XK XV} {N E : Type 0} (v : Values N) (s : PagerState N E) (h : Holding g gh go gq gp gn) → WellFormed v s → IsServing s.core h
+    → IsMachineWhole v (machine_of s h)
 machine-whole {X} {g} v s h formed serving = record {
   pager = formed;
   readings = λ l reading is. of l reading (s.core.loads l) refl (h.readings l) refl is;
@@ -214,18 +244,35 @@ machine-whole {X} {g} v s h formed serving = record {
 
 -- where nothing has to be held
 pub held-anyhow : {N E : Type 0} {s s' : PagerState N E} {comes : ℕ → N → Type 0} → Moves comes s s' → Moves (λ n x. Unit {0}) s s'
-held-anyhow moves = record { each = λ n x is. elim (moves.each n x is) [ inl there ↦ inl there | inr (none, came) ↦ inr (none, tt) ]; environment = moves.environment }
+held-anyhow moves = record {
+  each = λ n x is. elim (moves.each n x is) [ inl there ↦ inl there | inr (none, came) ↦ inr (none, tt) ];
+  environment = moves.environment;
+}
 
 -- what is done to a pager, and what is kept afterwards
-pub makes-with : {X XN XH XK XV : Type 0} {g : Environments X XN XH XK XV} {gh : Hashes XH} {go : Orders XK} {gq : Equalities XK} {gp : PartialOrders XK} {gn : Nodes XN X XN XH XK XV} {N B W E : Type 0} (m : Seen N B W) (s s' : PagerState N E) {h h' : Holding g gh go gq gp gn} → WellFormed m.values s' → (event : Event N B W) (reply : EventReply N B W)
+pub makes-with : {X XN XH XK XV : Type 0} {g : Environments X XN XH XK XV} {gh : Hashes XH} {go : Orders XK} {gq : Equalities XK} {gp : PartialOrders XK}
+    {gn : Nodes XN X XN XH XK XV} {N B W E : Type 0} (m : Seen N B W) (s s' : PagerState N E) {h h' : Holding g gh go gq gp gn} → WellFormed m.values s'
+    → (event : Event N B W) (reply : EventReply N B W)
     → Happens m (world_of (machine_of s h)) event reply (world_of (machine_of s' h')) → Moves (EventBrings m.values (world_of (machine_of s h)) event) s s'
     → Moves (λ n x. EventHolds m.values s event x) s s' → ReplyWrites m s reply → IsServing s'.core h' → Makes m s h event reply s' h'
 makes-with m s s' {h} {h'} formed event reply happens moves holds writes now =
-    record { does = record { step = record { happens = happens }; moves = moves; holds = holds; writes = writes; whole = machine-whole m.values s' h' formed now }; serving = now }
+    record {
+      does = record {
+        step = record { happens = happens };
+        moves = moves;
+        holds = holds;
+        writes = writes;
+        whole = machine-whole m.values s' h' formed now;
+      };
+      serving = now;
+    }
 
 -- of one worker this is kept from now on
-pub one-serves : {X XN XH XK XV : Type 0} {g : Environments X XN XH XK XV} {gh : Hashes XH} {go : Orders XK} {gq : Equalities XK} {gp : PartialOrders XK} {gn : Nodes XN X XN XH XK XV} {w w' : Core} {h h' : Holding g gh go gq gp gn} → IsServing w h → HandlesAreWhole w → (v : ℕ) (k : Walk X XN XH XK XV g gh go gq gp gn) → KeepsOne h.walks v (Some k) h'.walks
-    → length h.tables ≤ length h'.tables → AllKept w' h'.readings → ((q : ℕ) → q ≢ v → Passes q w w') → ((q : ℕ) → q ≢ v → w'.workers q ≡ w.workers q) → IsWalkKept w' (length h'.tables) v k
+pub one-serves : {X XN XH XK XV : Type 0} {g : Environments X XN XH XK XV} {gh : Hashes XH} {go : Orders XK} {gq : Equalities XK} {gp : PartialOrders XK}
+    {gn : Nodes XN X XN XH XK XV} {w w' : Core} {h h' : Holding g gh go gq gp gn} → IsServing w h → HandlesAreWhole w
+    → (v : ℕ) (k : Walk X XN XH XK XV g gh go gq gp gn) → KeepsOne h.walks v (Some k) h'.walks
+    → length h.tables ≤ length h'.tables → AllKept w' h'.readings → ((q : ℕ) → q ≢ v → Passes q w w') → ((q : ℕ) → q ≢ v → w'.workers q ≡ w.workers q)
+    → IsWalkKept w' (length h'.tables) v k
     → IsServing w' h'
 one-serves {X} {g} {w} {w'} {h} {h'} serving whole v k keeps more readings passes works new = record {
   readings = readings;
@@ -237,10 +284,15 @@ one-serves {X} {g} {w} {w'} {h} {h'} serving whole v k keeps more readings passe
 }
 
 -- no worker steps, and nothing else is kept of any
-module _ {X XN XH XK XV : Type 0} {g : Environments X XN XH XK XV} {gh : Hashes XH} {go : Orders XK} {gq : Equalities XK} {gp : PartialOrders XK} {gn : Nodes XN X XN XH XK XV} {N B W E : Type 0} (m : Seen N B W) (s s' : PagerState N E) {h h' : Holding g gh go gq gp gn} (serving : IsServing s.core h) (was : WellFormed m.values s)
-    (formed : WellFormed m.values s') (more : length h.tables ≤ length h'.tables) (walks : (v : ℕ) → h'.walks v ≡ h.walks v) (on : Leaves Owner.Caller s.core.workers s.core s'.core) where
-  pub makes : (event : Event N B W) (reply : EventReply N B W) → ((v : ℕ) → step_of v event reply ≡ []) → Happens m (world_of (machine_of s h)) event reply (world_of (machine_of s' h'))
-      → Moves (EventBrings m.values (world_of (machine_of s h)) event) s s' → Moves (λ n x. EventHolds m.values s event x) s s' → ReplyWrites m s reply → AllKept s'.core h'.readings
+module _ {X XN XH XK XV : Type 0} {g : Environments X XN XH XK XV} {gh : Hashes XH} {go : Orders XK} {gq : Equalities XK} {gp : PartialOrders XK}
+    {gn : Nodes XN X XN XH XK XV} {N B W E : Type 0} (m : Seen N B W) (s s' : PagerState N E) {h h' : Holding g gh go gq gp gn} (serving : IsServing s.core h)
+    (was : WellFormed m.values s)
+    (formed : WellFormed m.values s') (more : length h.tables ≤ length h'.tables) (walks : (v : ℕ) → h'.walks v ≡ h.walks v)
+    (on : Leaves Owner.Caller s.core.workers s.core s'.core) where
+  pub makes : (event : Event N B W) (reply : EventReply N B W) → ((v : ℕ) → step_of v event reply ≡ [])
+      → Happens m (world_of (machine_of s h)) event reply (world_of (machine_of s' h'))
+      → Moves (EventBrings m.values (world_of (machine_of s h)) event) s s' → Moves (λ n x. EventHolds m.values s event x) s s' → ReplyWrites m s reply
+      → AllKept s'.core h'.readings
       → Makes m s h event reply s' h'
   makes event reply none happens moves holds writes now = makes-with m s s' formed event reply happens moves holds writes (record {
     readings = now;
@@ -251,7 +303,9 @@ module _ {X XN XH XK XV : Type 0} {g : Environments X XN XH XK XV} {gh : Hashes 
     all_there = λ v is. ap is_some (walks v) ∙ serving.all_there v (sym (on.workers v) ∙ is);
   })
 
-module _ {X XN XH XK XV : Type 0} {g : Environments X XN XH XK XV} {gh : Hashes XH} {go : Orders XK} {gq : Equalities XK} {gp : PartialOrders XK} {gn : Nodes XN X XN XH XK XV} {N B W E : Type 0} (m : Seen N B W) (s s' : PagerState N E) (h : Holding g gh go gq gp gn) (kept' : Kept) (serving : IsServing s.core h) (was : WellFormed m.values s)
+module _ {X XN XH XK XV : Type 0} {g : Environments X XN XH XK XV} {gh : Hashes XH} {go : Orders XK} {gq : Equalities XK} {gp : PartialOrders XK}
+    {gn : Nodes XN X XN XH XK XV} {N B W E : Type 0} (m : Seen N B W) (s s' : PagerState N E) (h : Holding g gh go gq gp gn) (kept' : Kept)
+    (serving : IsServing s.core h) (was : WellFormed m.values s)
     (formed : WellFormed m.values s') where
   abbrev served : Holding g gh go gq gp gn
   served = record h { readings = kept' }
@@ -260,18 +314,25 @@ module _ {X XN XH XK XV : Type 0} {g : Environments X XN XH XK XV} {gh : Hashes 
   same-work = record { shelves = λ t. record { slots = λ i. refl; waits = λ v. refl }; last_table = refl; walkings = λ v. refl }
 
   -- what a call does, of which no more is kept than there was
-  pub by-call : (call : Call N B) (answer : Reply N B) → CallStep m s.core Owner.Caller call answer s'.core → Forgets s'.core h.readings kept' → (event : Event N B W) (reply : EventReply N B W)
+  pub by-call : (call : Call N B) (answer : Reply N B) → CallStep m s.core Owner.Caller call answer s'.core → Forgets s'.core h.readings kept'
+      → (event : Event N B W) (reply : EventReply N B W)
       → ((v : ℕ) → step_of v event reply ≡ [])
-      → (ReadingsAre (readings_in h.readings s.core) (world_of (machine_of s' served)) → Happens m (world_of (machine_of s h)) event reply (world_of (machine_of s' served)))
-      → Moves (EventBrings m.values (world_of (machine_of s h)) event) s s' → Moves (λ n x. EventHolds m.values s event x) s s' → ReplyWrites m s reply → Makes m s h event reply s' served
+      → (ReadingsAre (readings_in h.readings s.core) (world_of (machine_of s' served))
+      → Happens m (world_of (machine_of s h)) event reply (world_of (machine_of s' served)))
+      → Moves (EventBrings m.values (world_of (machine_of s h)) event) s s' → Moves (λ n x. EventHolds m.values s event x) s s' → ReplyWrites m s reply
+      → Makes m s h event reply s' served
   by-call call answer step f event reply none happens moves holds writes =
       let on = call-leaves s.core s'.core m call answer step.does in
       makes m s s' {h' = served} serving was formed (omega arith) (λ v. refl) on event reply none
-      (happens (are-these s'.core kept' (readings_in h.readings s.core) (λ l load is. ap (option_map reading_of) (f.still l load is) ∙ as-before serving.readings on l load is)))
+      (happens (are-these s'.core kept' (readings_in h.readings s.core) (λ l load is. ap (option_map reading_of) (f.still l load is)
+      ∙ as-before serving.readings on l load is)))
       moves holds writes (kept-on serving.readings on (λ l own is. inl (f.only l own is)))
 
-module _ {X XN XH XK XV : Type 0} {g : Environments X XN XH XK XV} {gh : Hashes XH} {go : Orders XK} {gq : Equalities XK} {gp : PartialOrders XK} {gn : Nodes XN X XN XH XK XV} {N B W E : Type 0} (m : Seen N B W) {s s' : PagerState N E} {h h' : Holding g gh go gq gp gn} (serving : IsServing s.core h) (was : WellFormed m.values s)
-    (done : Called m.values (λ w'. Alike s.core w') s s') (readings : (l : ℕ) → h'.readings l ≡ h.readings l) (tables : h'.tables ≡ h.tables) (walks : (v : ℕ) → h'.walks v ≡ h.walks v) where
+module _ {X XN XH XK XV : Type 0} {g : Environments X XN XH XK XV} {gh : Hashes XH} {go : Orders XK} {gq : Equalities XK} {gp : PartialOrders XK}
+    {gn : Nodes XN X XN XH XK XV} {N B W E : Type 0} (m : Seen N B W) {s s' : PagerState N E} {h h' : Holding g gh go gq gp gn} (serving : IsServing s.core h)
+    (was : WellFormed m.values s)
+    (done : Called m.values (λ w'. Alike s.core w') s s') (readings : (l : ℕ) → h'.readings l ≡ h.readings l) (tables : h'.tables ≡ h.tables)
+    (walks : (v : ℕ) → h'.walks v ≡ h.walks v) where
   on : Leaves Owner.Caller s.core.workers s.core s'.core
   on = like done.step (λ l. refl) refl
 
@@ -283,9 +344,11 @@ module _ {X XN XH XK XV : Type 0} {g : Environments X XN XH XK XV} {gh : Hashes 
       → (Stays (world_of (machine_of s h)) (world_of (machine_of s' h')) → Happens m (world_of (machine_of s h)) event reply (world_of (machine_of s' h')))
       → ReplyWrites m s reply → Makes m s h event reply s' h'
   refused event reply none happens writes =
-      makes m s s' serving was done.whole (let e : length h'.tables ≡ length h.tables = ap length tables in omega (arith, e)) walks on event reply none (happens stays)
+      makes m s s' serving was done.whole (let e : length h'.tables ≡ length h.tables = ap length tables in omega (arith, e)) walks on event reply none
+      (happens stays)
       (record { each = λ n x is. elim (done.moves.each n x is) [ inl there ↦ inl there | inr came ↦ absurd came.1 ]; environment = done.moves.environment })
-      (record { each = λ n x is. elim (done.moves.each n x is) [ inl there ↦ inl there | inr came ↦ absurd came.1 ]; environment = done.moves.environment }) writes
+      (record { each = λ n x is. elim (done.moves.each n x is) [ inl there ↦ inl there | inr came ↦ absurd came.1 ]; environment = done.moves.environment })
+      writes
       (kept-on serving.readings on (λ l own is. inl (sym (readings l) ∙ is)))
 
 -- nothing is done to the pager
@@ -294,9 +357,11 @@ nothing-done s was = record { step = still s.core; moves = record { each = λ n 
 
 -- ---- workers stay on their tables, whatever the storage answers
 
-module _ {X XN XH XK XV : Type 0} {g : Environments X XN XH XK XV} {gh : Hashes XH} {go : Orders XK} {gq : Equalities XK} {gp : PartialOrders XK} {gn : Nodes XN X XN XH XK XV} where
+module _ {X XN XH XK XV : Type 0} {g : Environments X XN XH XK XV} {gh : Hashes XH} {go : Orders XK} {gq : Equalities XK} {gp : PartialOrders XK}
+    {gn : Nodes XN X XN XH XK XV} where
   -- those that are kept are kept as before, beside no fewer tables
-  pub stay-on : {tables tables' : List (LentTable X XN XH XK XV g gh go gq gp gn)} {walks walks' : ℕ → Option (Walk X XN XH XK XV g gh go gq gp gn)} → AllOnTables tables walks → ((v : ℕ) → walks' v ≡ walks v) → length tables ≤ length tables' → AllOnTables tables' walks'
+  pub stay-on : {tables tables' : List (LentTable X XN XH XK XV g gh go gq gp gn)} {walks walks' : ℕ → Option (Walk X XN XH XK XV g gh go gq gp gn)}
+      → AllOnTables tables walks → ((v : ℕ) → walks' v ≡ walks v) → length tables ≤ length tables' → AllOnTables tables' walks'
   stay-on all same more = record {
     each = λ v k is.
         let on = all.each v k (sym (same v) ∙ is) in
@@ -305,7 +370,8 @@ module _ {X XN XH XK XV : Type 0} {g : Environments X XN XH XK XV} {gh : Hashes 
   }
 
   -- and one is kept anew
-  pub one-on : {tables tables' : List (LentTable X XN XH XK XV g gh go gq gp gn)} {walks walks' : ℕ → Option (Walk X XN XH XK XV g gh go gq gp gn)} → AllOnTables tables walks → (n : ℕ) (new : Walk X XN XH XK XV g gh go gq gp gn) → KeepsOne walks n (Some new) walks' → length tables' ≡ length tables
+  pub one-on : {tables tables' : List (LentTable X XN XH XK XV g gh go gq gp gn)} {walks walks' : ℕ → Option (Walk X XN XH XK XV g gh go gq gp gn)}
+      → AllOnTables tables walks → (n : ℕ) (new : Walk X XN XH XK XV g gh go gq gp gn) → KeepsOne walks n (Some new) walks' → length tables' ≡ length tables
       → IsOnTable (length tables') new → AllOnTables tables' walks'
   one-on {tables} {tables'} all n new keeps len on = record {
     each = λ v k is. elim (one-or-old n (Some new) keeps v k is) [
@@ -319,26 +385,39 @@ module _ {X XN XH XK XV : Type 0} {g : Environments X XN XH XK XV} {gh : Hashes 
   at-work {w} {h} serving v left = grind (arith, nat_tests, serving.walks)
 
 -- what a machine over a pager does, made of both
-pub record Served {X XN XH XK XV : Type 0} {g : Environments X XN XH XK XV} {gh : Hashes XH} {go : Orders XK} {gq : Equalities XK} {gp : PartialOrders XK} {gn : Nodes XN X XN XH XK XV} {N S E : Type 0} (v : Values N) (tells : Telling S) (old : PagerView N S E) (held : Held X XN XH XK XV g gh go gq gp gn) (event : Given N)
+pub record Served {X XN XH XK XV : Type 0} {g : Environments X XN XH XK XV} {gh : Hashes XH} {go : Orders XK} {gq : Equalities XK} {gp : PartialOrders XK}
+    {gn : Nodes XN X XN XH XK XV} {N S E : Type 0} (v : Values N) (tells : Telling S) (old : PagerView N S E) (held : Held X XN XH XK XV g gh go gq gp gn)
+    (event : Given N)
     (reply : Answer N) (new : PagerView N S E) (held' : Held X XN XH XK XV g gh go gq gp gn) : Type 0 where
   pub made : Makes (plainly v) (state_in tells old) (holding held) (plain_event event) (plain_answer reply) (state_in tells new) (holding held')
 
-pub as-made : {X XN XH XK XV : Type 0} {g : Environments X XN XH XK XV} {gh : Hashes XH} {go : Orders XK} {gq : Equalities XK} {gp : PartialOrders XK} {gn : Nodes XN X XN XH XK XV} {N S E : Type 0} {v : Values N} {tells : Telling S} {old new : PagerView N S E} {held held' : Held X XN XH XK XV g gh go gq gp gn} {event : Given N} {reply : Answer N}
-    → Makes (plainly v) (state_in tells old) (holding held) (plain_event event) (plain_answer reply) (state_in tells new) (holding held') → Served v tells old held event reply new held'
+pub as-made : {X XN XH XK XV : Type 0} {g : Environments X XN XH XK XV} {gh : Hashes XH} {go : Orders XK} {gq : Equalities XK} {gp : PartialOrders XK}
+    {gn : Nodes XN X XN XH XK XV} {N S E : Type 0} {v : Values N} {tells : Telling S} {old new : PagerView N S E}
+    {held held' : Held X XN XH XK XV g gh go gq gp gn} {event : Given N} {reply : Answer N}
+    → Makes (plainly v) (state_in tells old) (holding held) (plain_event event) (plain_answer reply) (state_in tells new) (holding held')
+    → Served v tells old held event reply new held'
 as-made makes = record { made = makes }
 
-module _ {X XN XH XK XV : Type 0} {g : Environments X XN XH XK XV} {gh : Hashes XH} {go : Orders XK} {gq : Equalities XK} {gp : PartialOrders XK} {gn : Nodes XN X XN XH XK XV} {N S E : Type 0} {honest : S → Bool} {v : Values N} {tells : Telling S} {old new : PagerView N S E} {held held' : Held X XN XH XK XV g gh go gq gp gn}
+module _ {X XN XH XK XV : Type 0} {g : Environments X XN XH XK XV} {gh : Hashes XH} {go : Orders XK} {gq : Equalities XK} {gp : PartialOrders XK}
+    {gn : Nodes XN X XN XH XK XV} {N S E : Type 0} {honest : S → Bool} {v : Values N} {tells : Telling S} {old new : PagerView N S E}
+    {held held' : Held X XN XH XK XV g gh go gq gp gn}
     {event : Given N} {reply : Answer N} (was : IsInStep honest tells old held) where
   -- a machine over a pager does what is made of both, as long as the storage is honest
-  pub drives : (IsTrue (honest new.storage) → IsTrue (honest old.storage)) → AllOnTables held'.tables.items (kept_at held'.walks) → (IsTrue (honest new.storage) → IsServing (core_in tells old) (holding held) → Served v tells old held event reply new held') → Drives honest v tells old held event reply new held'
+  pub drives : (IsTrue (honest new.storage) → IsTrue (honest old.storage)) → AllOnTables held'.tables.items (kept_at held'.walks)
+      → (IsTrue (honest new.storage) → IsServing (core_in tells old) (holding held) → Served v tells old held event reply new held')
+      → Drives honest v tells old held event reply new held'
   drives keeps on_tables does = record { makes = λ is. (does is (was.serving (keeps is))).made; honest = keeps; on_tables = on_tables }
 
   -- the storage isn't asked, and no other worker is kept
-  pub drives-beside : new.storage ≡ old.storage → length held.tables.items ≤ length held'.tables.items → ((q : ℕ) → kept_at held'.walks q ≡ kept_at held.walks q) → (IsServing (core_in tells old) (holding held) → Served v tells old held event reply new held')
+  pub drives-beside : new.storage ≡ old.storage → length held.tables.items ≤ length held'.tables.items
+      → ((q : ℕ) → kept_at held'.walks q ≡ kept_at held.walks q) → (IsServing (core_in tells old) (holding held)
+      → Served v tells old held event reply new held')
       → Drives honest v tells old held event reply new held'
   drives-beside same more walks does = drives (λ is. ap honest (sym same) ∙ is) (stay-on was.on_tables walks more) (λ is serving. does serving)
 
   -- and nothing is done
-  pub refuses : new.storage ≡ old.storage → length held.tables.items ≤ length held'.tables.items → ((q : ℕ) → kept_at held'.walks q ≡ kept_at held.walks q) → (IsServing (core_in tells old) (holding held) → Makes (plainly v) (state_in tells old) (holding held) (plain_event event) (plain_answer reply) (state_in tells new) (holding held'))
+  pub refuses : new.storage ≡ old.storage → length held.tables.items ≤ length held'.tables.items → ((q : ℕ) → kept_at held'.walks q ≡ kept_at held.walks q)
+      → (IsServing (core_in tells old) (holding held) → Makes (plainly v) (state_in tells old) (holding held) (plain_event event) (plain_answer reply)
+      (state_in tells new) (holding held'))
       → Drives honest v tells old held event reply new held'
   refuses same more walks does = drives-beside same more walks (λ serving. as-made (does serving))

@@ -20,20 +20,37 @@ use Rattle.std.specs.declared.cmp.{Ord.Ghosts as Orders, PartialEq.Ghosts as Equ
 
 -- ---- a table of a list is written in its place
 
-set-at : {Y : Type 0} (xs : List Y) (place q : ℕ) (x y : Y) → slice_get xs place ≡ Some y → slice_get (set xs place x) q ≡ (if q == place then Some x else slice_get xs q)
-set-at xs place q x y is = grind (arith, nat_tests, get_or-set_other, get_or-set_same, length-set, set, slice_get_cases, slice_get_past, slice_get_read, slice_get_within)
+set-at : {Y : Type 0} (xs : List Y) (place q : ℕ) (x y : Y) → slice_get xs place ≡ Some y → slice_get (set xs place x) q
+    ≡ (if q == place then Some x else slice_get xs q)
+set-at xs place q x y is = grind (
+  arith,
+  nat_tests,
+  get_or-set_other,
+  get_or-set_same,
+  length-set,
+  set,
+  slice_get_cases,
+  slice_get_past,
+  slice_get_read,
+  slice_get_within,
+)
 
 -- a worker's step sees no blob
-as-does : {N : Type 0} (v : Values N) (n : ℕ) (s s' : Site) (todo : List Todo) (step : Action Written) → workers.Does (plain v) n s todo step s' → workers.Does (plainly v) n s todo step s'
+as-does : {N : Type 0} (v : Values N) (n : ℕ) (s s' : Site) (todo : List Todo) (step : Action Written) → workers.Does (plain v) n s todo step s'
+    → workers.Does (plainly v) n s todo step s'
 as-does v n s s' todo step d = grind (arith, nat_tests)
 
 -- the load that it goes on with is its own
-front-mine : {X XN XH XK XV : Type 0} {g : Environments X XN XH XK XV} {gh : Hashes XH} {go : Orders XK} {gq : Equalities XK} {gp : PartialOrders XK} {gn : Nodes XN X XN XH XK XV} (n : ℕ) (w : Core) (task : Task X XN XH XK XV g gh go gq gp gn) (below : List Todo) → TaskFits n w task → FrontMine w (owner_worker n) (todo_of task ∷ below)
+front-mine : {X XN XH XK XV : Type 0} {g : Environments X XN XH XK XV} {gh : Hashes XH} {go : Orders XK} {gq : Equalities XK} {gp : PartialOrders XK}
+    {gn : Nodes XN X XN XH XK XV} (n : ℕ) (w : Core) (task : Task X XN XH XK XV g gh go gq gp gn) (below : List Todo) → TaskFits n w task
+    → FrontMine w (owner_worker n) (todo_of task ∷ below)
 front-mine n w x2 below fits = grind (arith, nat_tests, owned-mine)
 
-module _ {X XN XH XK XV : Type 0} {g : Environments X XN XH XK XV} {gh : Hashes XH} {go : Orders XK} {gq : Equalities XK} {gp : PartialOrders XK} {gn : Nodes XN X XN XH XK XV} where
+module _ {X XN XH XK XV : Type 0} {g : Environments X XN XH XK XV} {gh : Hashes XH} {go : Orders XK} {gq : Equalities XK} {gp : PartialOrders XK}
+    {gn : Nodes XN X XN XH XK XV} where
   -- the shelf of a table that is set, and of the others
-  shelf-set : (tables : List (LentTable X XN XH XK XV g gh go gq gp gn)) (place : ℕ) (table table' : LentTable X XN XH XK XV g gh go gq gp gn) (after : Shelf) → slice_get tables place ≡ Some table → SameShelf after (shelf_of table') → (t : ℕ)
+  shelf-set : (tables : List (LentTable X XN XH XK XV g gh go gq gp gn)) (place : ℕ) (table table' : LentTable X XN XH XK XV g gh go gq gp gn) (after : Shelf)
+      → slice_get tables place ≡ Some table → SameShelf after (shelf_of table') → (t : ℕ)
       → SameShelf (updated (suc place) after (shelf_at tables) t) (shelf_at (set tables place table') t)
   shelf-set tables place table table' after there same x7 = grind (arith, nat_tests, set-at, same-number, not-same)
 
@@ -44,9 +61,12 @@ apart q n other = first_of (grind (arith, common_steps, nat_tests), grind (arith
 works-others : (answer : Option WorkerAnswer) (n q : ℕ) (works : ℕ → Bool) → q ≢ n → works_after answer n works q ≡ works q
 works-others answer n q works other = grind (arith, nat_tests, same-number)
 
-module _ {X XN XH XK XV : Type 0} {g : Environments X XN XH XK XV} {gh : Hashes XH} {go : Orders XK} {gq : Equalities XK} {gp : PartialOrders XK} {gn : Nodes XN X XN XH XK XV} {N E : Type 0} (v : Values N) (s s' : PagerState N E) (h : Holding g gh go gq gp gn) {tables' : List (LentTable X XN XH XK XV g gh go gq gp gn)} {walks' : ℕ → Option (Walk X XN XH XK XV g gh go gq gp gn)}
+module _ {X XN XH XK XV : Type 0} {g : Environments X XN XH XK XV} {gh : Hashes XH} {go : Orders XK} {gq : Equalities XK} {gp : PartialOrders XK}
+    {gn : Nodes XN X XN XH XK XV} {N E : Type 0} (v : Values N) (s s' : PagerState N E)
+    (h : Holding g gh go gq gp gn) {tables' : List (LentTable X XN XH XK XV g gh go gq gp gn)} {walks' : ℕ → Option (Walk X XN XH XK XV g gh go gq gp gn)}
     (serving : IsServing s.core h)
-    (was : WellFormed v s) (n : WorkerNumber) (k k' : Walk X XN XH XK XV g gh go gq gp gn) (kept : h.walks n.0 ≡ Some k) (reply : WorkerReply (Arc SerializedData Global)) (on : WalksOn v n.0 h.tables k s reply tables' k' s')
+    (was : WellFormed v s) (n : WorkerNumber) (k k' : Walk X XN XH XK XV g gh go gq gp gn) (kept : h.walks n.0 ≡ Some k)
+    (reply : WorkerReply (Arc SerializedData Global)) (on : WalksOn v n.0 h.tables k s reply tables' k' s')
     (keeps : KeepsOne h.walks n.0 (Some k') walks') where
   abbrev after : Holding g gh go gq gp gn
   after = record h { tables = tables'; walks = walks' }
@@ -131,20 +151,31 @@ module _ {X XN XH XK XV : Type 0} {g : Environments X XN XH XK XV} {gh : Hashes 
   pub worker-moved : Makes m s h (Event.WorkerStep n) (EventReply.WorkerMoved (Ok (plain_moved reply))) s' after
   worker-moved = rw on.replies (makes-with m s s' {h' = after} done.does.whole (Event.WorkerStep n) (EventReply.WorkerMoved (Ok told)) happens
       (record {
-        each = λ q x is. elim (done.does.moves.each q x is)
-            [ inl there ↦ inl there | inr (none, came) ↦ inr (none, (walking_of k, ap (option_map walking_of) kept, subst (λ (list : List Todo). TodoBrings v s.core list q x) (sym todo-is) came)) ];
+        each = λ q x is. elim (done.does.moves.each q x is) [
+          | inl there ↦ inl there
+          | inr (none, came) ↦ inr (
+            none,
+            (
+              walking_of k,
+              ap (option_map walking_of) kept,
+              subst (λ (list : List Todo). TodoBrings v s.core list q x) (sym todo-is) came,
+            ),
+          )
+        ];
         environment = done.does.moves.environment;
       }) done.does.holds done.does.writes
       (one-serves {h' = after} serving was.whole.handles n.0 k' keeps (subst (λ last. length h.tables ≤ last) (sym len) (omega arith))
       (kept-on serving.readings leaves (λ l own is. inl is))
-      (λ q other. event-passes m q (world_of (machine_of s h)) (world_of (machine_of s' after)) was.whole (Event.WorkerStep n) (EventReply.WorkerMoved (Ok told))
+      (λ q other. event-passes m q (world_of (machine_of s h)) (world_of (machine_of s' after)) was.whole (Event.WorkerStep n)
+      (EventReply.WorkerMoved (Ok told))
       (ap (λ b. if b then step ∷ [] else []) (apart n.0 q (λ is. other (sym is)))) happens
       (λ l load is own. leaves.others l load is (was.whole.loads.numbered l (ap is_some is)).1 (ap (is_owner (owner_worker n.0)) own ∙ apart q n.0 other)))
       (λ q other. leaves.workers q ∙ works-others (answer_in turn) n.0 q s.core.workers other) still))
 
 -- ---- what the machine's value shows of tables and workers is what it keeps of them
 
-module _ {X XN XH XK XV : Type 0} {g : Environments X XN XH XK XV} {gh : Hashes XH} {go : Orders XK} {gq : Equalities XK} {gp : PartialOrders XK} {gn : Nodes XN X XN XH XK XV} where
+module _ {X XN XH XK XV : Type 0} {g : Environments X XN XH XK XV} {gh : Hashes XH} {go : Orders XK} {gq : Equalities XK} {gp : PartialOrders XK}
+    {gn : Nodes XN X XN XH XK XV} where
   claims-are : (t : LentTable X XN XH XK XV g gh go gq gp gn) → claims_of (table_view t) ≡ shelf_of t
   claims-are t = ap (λ slots. let s : Shelf = record { slots = slots; waits = λ v. lookup (nat_eq v) t.waits.entries } in s)
       (fun_ext (λ i. lookup-map_values slot_of (is_same (i.kind.0, i.node.0)) t.slots.entries))
@@ -153,7 +184,8 @@ module _ {X XN XH XK XV : Type 0} {g : Environments X XN XH XK XV} {gh : Hashes 
   shelves-are tables zero = refl
   shelves-are tables (suc n) = ap (if_there claims_of no_shelf) (slice_get-map table_view tables n) ∙ by (slice_get tables n)
     where
-      by : (found : Option (LentTable X XN XH XK XV g gh go gq gp gn)) → if_there claims_of no_shelf (option_map table_view found) ≡ if_there shelf_of no_shelf found
+      by : (found : Option (LentTable X XN XH XK XV g gh go gq gp gn)) → if_there claims_of no_shelf (option_map table_view found)
+          ≡ if_there shelf_of no_shelf found
       by None = refl
       by (Some t) = claims-are t
 
@@ -170,7 +202,8 @@ module _ {X XN XH XK XV : Type 0} {g : Environments X XN XH XK XV} {gh : Hashes 
         cc
 
 module _ {N E B W : Type 0} (m : Seen N B W) where
-  pub run-more : (old mid new : MachineState N E) (happened : List (Event N B W)) (replied : List (EventReply N B W)) (event : Event N B W) (reply : EventReply N B W)
+  pub run-more : (old mid new : MachineState N E) (happened : List (Event N B W)) (replied : List (EventReply N B W)) (event : Event N B W)
+      (reply : EventReply N B W)
       → HasRun m old happened replied mid → Does m mid event reply new
       → HasRun m old (happened ++ event ∷ []) (replied ++ reply ∷ []) new
   unfolding state_after
@@ -184,17 +217,20 @@ module _ {N E B W : Type 0} (m : Seen N B W) where
         chain = (chains_join E m).joins old run.moments (x ∷ []) run.chain (subst (λ s. Does m s event reply new) (sym run.ends) does, tt);
       }
 
-module _ {N S E : Type 0} {X XN XH XK XV : Type 0} {g : Environments X XN XH XK XV} {gh : Hashes XH} {go : Orders XK} {gq : Equalities XK} {gp : PartialOrders XK} {gn : Nodes XN X XN XH XK XV} (honest : S → Bool) (tells : Telling S) (v : E → Values N) (old : MachineView N S E) where
+module _ {N S E : Type 0} {X XN XH XK XV : Type 0} {g : Environments X XN XH XK XV} {gh : Hashes XH} {go : Orders XK} {gq : Equalities XK}
+    {gp : PartialOrders XK} {gn : Nodes XN X XN XH XK XV} (honest : S → Bool) (tells : Telling S) (v : E → Values N) (old : MachineView N S E) where
   -- the events so far have happened, as long as the storage is honest, and the others are left
   pub record SoFar (all rest : List (Given N)) (replies : List (Answer N)) (p : PagerView N S E) (h : Held X XN XH XK XV g gh go gq gp gn) : Type 0 where
     pub done : List (Given N)
     pub left : done ++ rest ≡ all
-    pub run : IsTrue (honest p.storage) → HasRun (plainly (v old.pager.environment)) (machine_in tells old) (map plain_event done) (map plain_answer replies) (raw_in tells p h)
+    pub run : IsTrue (honest p.storage) → HasRun (plainly (v old.pager.environment)) (machine_in tells old) (map plain_event done) (map plain_answer replies)
+        (raw_in tells p h)
     pub environment : IsTrue (honest p.storage) → p.environment ≡ old.pager.environment
     pub faithful : IsTrue (honest p.storage) → IsTrue (honest old.pager.storage)
     pub in_step : IsInStep honest tells p h
 
-  pub at-first : (all : List (Given N)) (p : PagerView N S E) (h : Held X XN XH XK XV g gh go gq gp gn) → old ≡ view_of p h → IsInStep honest tells p h → SoFar all all [] p h
+  pub at-first : (all : List (Given N)) (p : PagerView N S E) (h : Held X XN XH XK XV g gh go gq gp gn) → old ≡ view_of p h → IsInStep honest tells p h
+      → SoFar all all [] p h
   unfolding state_after
   at-first all p h is in_step = record {
     done = [];
@@ -206,7 +242,8 @@ module _ {N S E : Type 0} {X XN XH XK XV : Type 0} {g : Environments X XN XH XK 
     in_step = in_step;
   }
 
-  pub one-more : (all rest : List (Given N)) (event : Given N) (replies : List (Answer N)) (reply : Answer N) (p q : PagerView N S E) (h h' : Held X XN XH XK XV g gh go gq gp gn)
+  pub one-more : (all rest : List (Given N)) (event : Given N) (replies : List (Answer N)) (reply : Answer N) (p q : PagerView N S E)
+      (h h' : Held X XN XH XK XV g gh go gq gp gn)
       → SoFar all (event ∷ rest) replies p h → Drives honest (v p.environment) tells p h event reply q h' → SoFar all rest (replies ++ reply ∷ []) q h'
   one-more all rest event replies reply p q h h' so made =
       record {
@@ -214,7 +251,8 @@ module _ {N S E : Type 0} {X XN XH XK XV : Type 0} {g : Environments X XN XH XK 
         left = append_assoc so.done (event ∷ []) rest ∙ so.left;
         run = λ is.
             let same = so.environment (made.honest is) in
-            let does = subst (λ e. Does (plainly (v e)) (raw_in tells p h) (plain_event event) (plain_answer reply) (raw_in tells q h')) same (made.makes is).does in
+            let does = subst (λ e. Does (plainly (v e)) (raw_in tells p h) (plain_event event) (plain_answer reply) (raw_in tells q h')) same
+            (made.makes is).does in
             let more = run-more _ _ _ _ _ _ (plain_event event) (plain_answer reply) (so.run (made.honest is)) does in
             rw (map-append plain_event so.done (event ∷ []), map-append plain_answer replies (reply ∷ [])) more;
         environment = λ is. (made.makes is).does.moves.environment ∙ so.environment (made.honest is);
@@ -232,5 +270,6 @@ module _ {N S E : Type 0} {X XN XH XK XV : Type 0} {g : Environments X XN XH XK 
       record {
         run = run;
         right = λ start before whole idle chain ends.
-            headline_law E m start (before ++ run.moments) whole idle ((chains_join E m).joins start before run.moments chain (subst (λ s. AreMoments m s run.moments) (sym ends) run.chain));
+            headline_law E m start (before ++ run.moments) whole idle ((chains_join E m).joins start before run.moments chain
+            (subst (λ s. AreMoments m s run.moments) (sym ends) run.chain));
       }

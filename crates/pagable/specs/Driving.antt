@@ -20,14 +20,21 @@ abbrev pub task_of : Begun → world.Task
 task_of (Begun.Item item) = of_item (written_of (arc_value item))
 task_of (Begun.Entry r) = of_entry r.handle (identity_of r)
 
-module _ {X XN XH XK XV : Type 0} {g : Environments X XN XH XK XV} {gh : Hashes XH} {go : Orders XK} {gq : Equalities XK} {gp : PartialOrders XK} {gn : Nodes XN X XN XH XK XV} where
+module _ {X XN XH XK XV : Type 0} {g : Environments X XN XH XK XV} {gh : Hashes XH} {go : Orders XK}
+    {gq : Equalities XK} {gp : PartialOrders XK} {gn : Nodes XN X XN XH XK XV} where
   -- tables, the first of number 1
   abbrev pub shelf_at : List (LentTable X XN XH XK XV g gh go gq gp gn) → ℕ → Shelf
   shelf_at tables zero = no_shelf
   shelf_at tables (suc t) = if_there shelf_of no_shelf (slice_get tables t)
 
   abbrev pub walking_of : Walk X XN XH XK XV g gh go gq gp gn → Walking
-  walking_of k = record { table = k.table; task = task_of k.begun; todo = plan k.turn k.path.items; steps = k.steps; answer = answer_in k.turn }
+  walking_of k = record {
+    table = k.table;
+    task = task_of k.begun;
+    todo = plan k.turn k.path.items;
+    steps = k.steps;
+    answer = answer_in k.turn;
+  }
 
   -- Its table exists, and its list of tasks is in order.
   pub record IsOnTable (last : ℕ) (k : Walk X XN XH XK XV g gh go gq gp gn) : Type 0 where
@@ -47,14 +54,16 @@ module _ {X XN XH XK XV : Type 0} {g : Environments X XN XH XK XV} {gh : Hashes 
     pub plain : (x : Task X XN XH XK XV g gh go gq gp gn) → k.turn ≡ Turn.Goes x → IsPlain x
 
   -- the worker after a step
-  pub record IsAfter (k : Walk X XN XH XK XV g gh go gq gp gn) (moved : StepResult X XN XH XK XV g gh go gq gp gn) (k' : Walk X XN XH XK XV g gh go gq gp gn) : Type 0 where
+  pub record IsAfter (k : Walk X XN XH XK XV g gh go gq gp gn) (moved : StepResult X XN XH XK XV g gh go gq gp gn)
+      (k' : Walk X XN XH XK XV g gh go gq gp gn) : Type 0 where
     pub table : k'.table ≡ k.table
     pub begun : k'.begun ≡ k.begun
     pub steps : k'.steps ≡ steps_after k.steps moved.counted
     pub turn : k'.turn ≡ moved.turn
 
   -- A worker that hasn't answered makes a step on its table.
-  pub record WalksOn {N E : Type 0} (v : Values N) (n : ℕ) (tables : List (LentTable X XN XH XK XV g gh go gq gp gn)) (k : Walk X XN XH XK XV g gh go gq gp gn) (s : PagerState N E) (reply : WorkerReply (Arc SerializedData Global))
+  pub record WalksOn {N E : Type 0} (v : Values N) (n : ℕ) (tables : List (LentTable X XN XH XK XV g gh go gq gp gn))
+      (k : Walk X XN XH XK XV g gh go gq gp gn) (s : PagerState N E) (reply : WorkerReply (Arc SerializedData Global))
       (tables' : List (LentTable X XN XH XK XV g gh go gq gp gn)) (k' : Walk X XN XH XK XV g gh go gq gp gn)
       (s' : PagerState N E) : Type 0 where
     pub task : Task X XN XH XK XV g gh go gq gp gn
@@ -66,7 +75,8 @@ module _ {X XN XH XK XV : Type 0} {g : Environments X XN XH XK XV} {gh : Hashes 
     pub on : k.table ≡ suc place
     pub there : slice_get tables place ≡ Some table
     pub sets : tables' ≡ set tables place table'
-    pub steps : StepsTo v (owner_worker n) n (shelf_of table) task (todos k.path.items) (shelf_of table') moved (plan moved.turn k'.path.items) s s'
+    pub steps : StepsTo v (owner_worker n) n (shelf_of table) task (todos k.path.items) (shelf_of table') moved
+        (plan moved.turn k'.path.items) s s'
     pub way : IsWay (plan moved.turn k'.path.items)
     pub after : IsAfter k moved k'
     pub replies : reply ≡ record { action = moved.action; answer = answer_in moved.turn; steps = k'.steps }
@@ -86,7 +96,8 @@ abbrev pub Kept : Type 0
 Kept = ℕ → Option Own
 
 -- what is kept of loads, tables and workers
-pub record Holding {X XN XH XK XV : Type 0} (g : Environments X XN XH XK XV) (gh : Hashes XH) (go : Orders XK) (gq : Equalities XK) (gp : PartialOrders XK) (gn : Nodes XN X XN XH XK XV) : Type 0 where
+pub record Holding {X XN XH XK XV : Type 0} (g : Environments X XN XH XK XV) (gh : Hashes XH) (go : Orders XK)
+    (gq : Equalities XK) (gp : PartialOrders XK) (gn : Nodes XN X XN XH XK XV) : Type 0 where
   pub readings : Kept
   pub tables : List (LentTable X XN XH XK XV g gh go gq gp gn)
   pub walks : ℕ → Option (Walk X XN XH XK XV g gh go gq gp gn)
@@ -95,10 +106,18 @@ pub record Holding {X XN XH XK XV : Type 0} (g : Environments X XN XH XK XV) (gh
 abbrev pub readings_in : Kept → Core → ℕ → Option Reading
 readings_in kept w l = if_there (λ (load : OpenLoad). option_map reading_of (kept l)) None (w.loads l)
 
-abbrev pub work_of : {X XN XH XK XV : Type 0} {g : Environments X XN XH XK XV} {gh : Hashes XH} {go : Orders XK} {gq : Equalities XK} {gp : PartialOrders XK} {gn : Nodes XN X XN XH XK XV} → Holding g gh go gq gp gn → Core → Work
-work_of h w = record { shelves = shelf_at h.tables; last_table = length h.tables; readings = readings_in h.readings w; walkings = λ v. option_map walking_of (h.walks v) }
+abbrev pub work_of : {X XN XH XK XV : Type 0} {g : Environments X XN XH XK XV} {gh : Hashes XH} {go : Orders XK}
+    {gq : Equalities XK} {gp : PartialOrders XK} {gn : Nodes XN X XN XH XK XV} → Holding g gh go gq gp gn → Core → Work
+work_of h w = record {
+  shelves = shelf_at h.tables;
+  last_table = length h.tables;
+  readings = readings_in h.readings w;
+  walkings = λ v. option_map walking_of (h.walks v);
+}
 
-abbrev pub machine_of : {X XN XH XK XV : Type 0} {g : Environments X XN XH XK XV} {gh : Hashes XH} {go : Orders XK} {gq : Equalities XK} {gp : PartialOrders XK} {gn : Nodes XN X XN XH XK XV} {N E : Type 0} → PagerState N E → Holding g gh go gq gp gn → MachineState N E
+abbrev pub machine_of : {X XN XH XK XV : Type 0} {g : Environments X XN XH XK XV} {gh : Hashes XH} {go : Orders XK}
+    {gq : Equalities XK} {gp : PartialOrders XK} {gn : Nodes XN X XN XH XK XV} {N E : Type 0} → PagerState N E
+    → Holding g gh go gq gp gn → MachineState N E
 machine_of s h = record { pager = s; work = work_of h s.core }
 
 -- the caller's load, of this key and root
@@ -117,21 +136,26 @@ pub record IsKept (w : Core) (l : ℕ) (own : Own) : Type 0 where
 abbrev pub AllKept : Core → Kept → Type 0
 AllKept w kept = (l : ℕ) (own : Own) → kept l ≡ Some own → IsKept w l own
 
-module _ {X XN XH XK XV : Type 0} {g : Environments X XN XH XK XV} {gh : Hashes XH} {go : Orders XK} {gq : Equalities XK} {gp : PartialOrders XK} {gn : Nodes XN X XN XH XK XV} where
+module _ {X XN XH XK XV : Type 0} {g : Environments X XN XH XK XV} {gh : Hashes XH} {go : Orders XK}
+    {gq : Equalities XK} {gp : PartialOrders XK} {gn : Nodes XN X XN XH XK XV} where
   -- each worker is on its table, whatever the storage answered
-  pub record AllOnTables (tables : List (LentTable X XN XH XK XV g gh go gq gp gn)) (walks : ℕ → Option (Walk X XN XH XK XV g gh go gq gp gn)) : Type 0 where
+  pub record AllOnTables (tables : List (LentTable X XN XH XK XV g gh go gq gp gn))
+      (walks : ℕ → Option (Walk X XN XH XK XV g gh go gq gp gn)) : Type 0 where
     pub each : (v : ℕ) (k : Walk X XN XH XK XV g gh go gq gp gn) → walks v ≡ Some k → IsOnTable (length tables) k
 
   -- what holds of a machine after each event, beside what holds of its pager, as long as its storage is honest
   pub record IsServing (w : Core) (h : Holding g gh go gq gp gn) : Type 0 where
     pub readings : AllKept w h.readings
-    pub walks : (v : ℕ) (k : Walk X XN XH XK XV g gh go gq gp gn) → h.walks v ≡ Some k → IsWalkKept w (length h.tables) v k
+    pub walks : (v : ℕ) (k : Walk X XN XH XK XV g gh go gq gp gn) → h.walks v ≡ Some k
+        → IsWalkKept w (length h.tables) v k
     pub all_there : (v : ℕ) → w.workers v ≡ true → is_some (h.walks v) ≡ true
 
   -- One event and its reply: a step of the plain world after which the machine agrees with its pager.
-  pub record Makes {N E B W : Type 0} (m : Seen N B W) (s : PagerState N E) (h : Holding g gh go gq gp gn) (event : Event N B W) (reply : EventReply N B W) (s' : PagerState N E) (h' : Holding g gh go gq gp gn) : Type 0 where
-    pub does : Does m (machine_of s h) event reply (machine_of s' h')
-    pub serving : IsServing s'.core h'
+  pub record Makes {N E B W : Type 0} (m : Seen N B W) (s : PagerState N E) (h : Holding g gh go gq gp gn)
+      (event : Event N B W) (reply : EventReply N B W) (s' : PagerState N E) (h' : Holding g gh go gq gp gn) : Type 0
+    where
+      pub does : Does m (machine_of s h) event reply (machine_of s' h')
+      pub serving : IsServing s'.core h'
 
 -- what is kept of an open load stays, and nothing is added
 pub record Forgets (w : Core) (kept kept' : Kept) : Type 0 where
@@ -145,7 +169,8 @@ pub record KeepsOne {Y : Type 0} (kept : ℕ → Option Y) (l : ℕ) (own : Opti
 
 -- A load's progress: what is kept of it, or that of a load of a cell of this type that hasn't made a step.
 pub record IsTaken (kept : Kept) (l : LoadNumber) (key : ℕ) (t : Option ℕ) (own : Own) : Type 0 where
-  pub why : (kept l.0 ≡ Some own) ⊎ ((kept l.0 ≡ None) × ((type : ℕ) × (t ≡ Some type) × (reading_of own ≡ fresh l type)) × (own.key ≡ key) × (own.for_cell ≡ true))
+  pub why : (kept l.0 ≡ Some own) ⊎ ((kept l.0 ≡ None)
+      × ((type : ℕ) × (t ≡ Some type) × (reading_of own ≡ fresh l type)) × (own.key ≡ key) × (own.for_cell ≡ true))
 
 -- If a load's progress is kept now, it was kept before or has just begun; if none is kept, nothing has changed.
 pub record IsPrepared (kept : Kept) (l : LoadNumber) (key : ℕ) (t : Option ℕ) (kept' : Kept) : Type 0 where
@@ -154,7 +179,8 @@ pub record IsPrepared (kept : Kept) (l : LoadNumber) (key : ℕ) (t : Option ℕ
   pub others : (q : ℕ) → q ≢ l.0 → kept' q ≡ kept q
 
 -- A load made a step, which is counted.
-pub record Stepped {N E : Type 0} (v : Values N) (me : Owner) (own : Own) (reply : LoadReply N) (new : Own) (s s' : PagerState N E) : Type 0 where
+pub record Stepped {N E : Type 0} (v : Values N) (me : Owner) (own : Own) (reply : LoadReply N) (new : Own)
+    (s s' : PagerState N E) : Type 0 where
   pub does : IsLoadOf s.core me own → ReadingStep v me (reading_of own) s reply.ended (reading_of new).frames s'
   pub same : IsSameLoad own new (one_more own.steps)
   pub counts : reply.steps ≡ one_more own.steps
@@ -209,7 +235,8 @@ plain_event (Event.WorkerStep v) = Event.WorkerStep v
 abbrev pub plain_moved : WorkerReply (Arc SerializedData Global) → WorkerReply Written
 plain_moved r = record { action = plain_took r.action; answer = r.answer; steps = r.steps }
 
-abbrev pub plain_answer : {N : Type 0} → EventReply N (Arc PagableData Global) (Arc SerializedData Global) → EventReply N PagableData Written
+abbrev pub plain_answer : {N : Type 0} → EventReply N (Arc PagableData Global) (Arc SerializedData Global)
+    → EventReply N PagableData Written
 plain_answer (EventReply.CallReply r) = EventReply.CallReply (plain_reply r)
 plain_answer (EventReply.Started r) = EventReply.Started r
 plain_answer (EventReply.LoadMoved r) = EventReply.LoadMoved r
@@ -218,7 +245,8 @@ plain_answer (EventReply.WorkerMade r) = EventReply.WorkerMade r
 plain_answer (EventReply.WorkerMoved r) = EventReply.WorkerMoved (seen_as plain_moved r)
 
 -- The caller's call does this step, and inserts no value but its own.
-pub record Serves {N S E : Type 0} (v : Values N) (tells : Telling S) (old : PagerView N S E) (call : Call N PagableData) (r : Reply N (Arc PagableData Global)) (new : PagerView N S E) : Type 0 where
+pub record Serves {N S E : Type 0} (v : Values N) (tells : Telling S) (old : PagerView N S E)
+    (call : Call N PagableData) (r : Reply N (Arc PagableData Global)) (new : PagerView N S E) : Type 0 where
   pub step : CallStep (plainly v) (core_in tells old) Owner.Caller call (plain_reply r) (core_in tells new)
   pub moves : Moves (CallBrings (core_in tells old) call) (state_in tells old) (state_in tells new)
 
@@ -244,7 +272,10 @@ pub record MachineView (N S E : Type 0) : Type 0 where
   pub walks : List (ℕ × Walking)
 
 abbrev pub claims_of : TableView → Shelf
-claims_of t = record { slots = λ i. lookup (is_same (i.kind.0, i.node.0)) t.slots; waits = λ v. lookup (nat_eq v) t.waits }
+claims_of t = record {
+  slots = λ i. lookup (is_same (i.kind.0, i.node.0)) t.slots;
+  waits = λ v. lookup (nat_eq v) t.waits;
+}
 
 abbrev pub claims_at : List TableView → ℕ → Shelf
 claims_at tables zero = no_shelf
@@ -268,32 +299,46 @@ Given N = Event N PagableData SerializedData
 abbrev pub Answer : Type 0 → Type 0
 Answer N = EventReply N (Arc PagableData Global) (Arc SerializedData Global)
 
-module _ {X XN XH XK XV : Type 0} {g : Environments X XN XH XK XV} {gh : Hashes XH} {go : Orders XK} {gq : Equalities XK} {gp : PartialOrders XK} {gn : Nodes XN X XN XH XK XV} where
+module _ {X XN XH XK XV : Type 0} {g : Environments X XN XH XK XV} {gh : Hashes XH} {go : Orders XK}
+    {gq : Equalities XK} {gp : PartialOrders XK} {gn : Nodes XN X XN XH XK XV} where
   abbrev pub table_view : LentTable X XN XH XK XV g gh go gq gp gn → TableView
   table_view t = record { slots = map (λ e. (e.0, slot_of e.1)) t.slots.entries; waits = t.waits.entries }
 
   abbrev pub view_of : {N S E : Type 0} → PagerView N S E → Held X XN XH XK XV g gh go gq gp gn → MachineView N S E
-  view_of p h = record { pager = p; readings = h.readings; tables = map table_view h.tables.items; walks = map (λ e. (e.0, walking_of e.1)) h.walks.entries }
+  view_of p h = record {
+    pager = p;
+    readings = h.readings;
+    tables = map table_view h.tables.items;
+    walks = map (λ e. (e.0, walking_of e.1)) h.walks.entries;
+  }
 
   abbrev pub holding : Held X XN XH XK XV g gh go gq gp gn → Holding g gh go gq gp gn
   holding h = record { readings = kept_at h.readings; tables = h.tables.items; walks = kept_at h.walks }
 
-module _ {N S E : Type 0} {X XN XH XK XV : Type 0} {g : Environments X XN XH XK XV} {gh : Hashes XH} {go : Orders XK} {gq : Equalities XK} {gp : PartialOrders XK} {gn : Nodes XN X XN XH XK XV} where
+module _ {N S E : Type 0} {X XN XH XK XV : Type 0} {g : Environments X XN XH XK XV} {gh : Hashes XH} {go : Orders XK}
+    {gq : Equalities XK} {gp : PartialOrders XK} {gn : Nodes XN X XN XH XK XV} where
   -- what holds of each machine: whatever its storage answered, and as long as that is honest
-  pub record IsInStep (is_honest : S → Bool) (tells : Telling S) (p : PagerView N S E) (h : Held X XN XH XK XV g gh go gq gp gn) : Type 0 where
+  pub record IsInStep (is_honest : S → Bool) (tells : Telling S) (p : PagerView N S E)
+      (h : Held X XN XH XK XV g gh go gq gp gn) : Type 0 where
     pub on_tables : AllOnTables h.tables.items (kept_at h.walks)
     pub serving : IsTrue (is_honest p.storage) → IsServing (core_in tells p) (holding h)
 
   -- One event, as long as the storage is honest afterwards. A storage that is honest afterwards was honest before.
-  pub record Drives (is_honest : S → Bool) (v : Values N) (tells : Telling S) (old : PagerView N S E) (held : Held X XN XH XK XV g gh go gq gp gn) (event : Given N) (reply : Answer N) (new : PagerView N S E) (held' : Held X XN XH XK XV g gh go gq gp gn) : Type 0 where
-    pub makes : IsTrue (is_honest new.storage) → Makes (plainly v) (state_in tells old) (holding held) (plain_event event) (plain_answer reply) (state_in tells new) (holding held')
+  pub record Drives (is_honest : S → Bool) (v : Values N) (tells : Telling S) (old : PagerView N S E)
+      (held : Held X XN XH XK XV g gh go gq gp gn) (event : Given N) (reply : Answer N) (new : PagerView N S E)
+      (held' : Held X XN XH XK XV g gh go gq gp gn) : Type 0 where
+    pub makes : IsTrue (is_honest new.storage) → Makes (plainly v) (state_in tells old) (holding held)
+        (plain_event event) (plain_answer reply) (state_in tells new) (holding held')
     pub honest : IsTrue (is_honest new.storage) → IsTrue (is_honest old.storage)
     pub on_tables : AllOnTables held'.tables.items (kept_at held'.walks)
 
 -- These events, with these replies, lead from the old machine to the new one; and the headline holds of them after any
 -- events that led from an idle machine to the old one.
-pub record Runs {N S E : Type 0} (v : Values N) (tells : Telling S) (old : MachineView N S E) (happened : List (Given N)) (replied : List (Answer N)) (new : MachineView N S E) : Type 0 where
-  pub run : HasRun (plainly v) (machine_in tells old) (map plain_event happened) (map plain_answer replied) (machine_in tells new)
-  pub right : (start : MachineState N E) (before : List (Moment N E PagableData Written)) → IsMachineWhole v start → IsIdle start → AreMoments (plainly v) start before
+pub record Runs {N S E : Type 0} (v : Values N) (tells : Telling S) (old : MachineView N S E)
+    (happened : List (Given N)) (replied : List (Answer N)) (new : MachineView N S E) : Type 0 where
+  pub run : HasRun (plainly v) (machine_in tells old) (map plain_event happened) (map plain_answer replied)
+      (machine_in tells new)
+  pub right : (start : MachineState N E) (before : List (Moment N E PagableData Written)) → IsMachineWhole v start
+      → IsIdle start → AreMoments (plainly v) start before
       → state_after start before ≡ machine_in tells old
       → Headline (plainly v) start (before ++ run.moments)

@@ -5,13 +5,17 @@ use Rattle.pagable_pageout.specs.{PageOuts.PagesEntryIfThere, declared.tasks.Pag
 use Rattle.pagable_pager_spec.specs.{Calls.{CloneCall, KeyCall, LoosenCall, ScheduleCall}, Pager.PagerState, Basics.{Error, HandleNumber, OptionalDataKey}, World.Values, declared.handle_row.Owner.Owner}
 
 -- the last entry of the list is paged out, if there is one
-pub data PagesLastEntry {N E : Type 0} (v : Values N) (s : PagerState N E) : Result (Option ℕ) PageOutError → PagerState N E → Type 0 where
+pub data PagesLastEntry {N E : Type 0} (v : Values N) (s : PagerState N E) : Result (Option ℕ) PageOutError
+    → PagerState N E → Type 0 where
   list-is-empty : length s.core.list ≡ 0 → PagesLastEntry v s (Ok None) s
-  entry-is-last : (place : ℕ) (r : Result (Option ℕ) PageOutError) (s' : PagerState N E) → length s.core.list ≡ place + 1 → PagesEntryIfThere v place r s s' → PagesLastEntry v s r s'
+  entry-is-last : (place : ℕ) (r : Result (Option ℕ) PageOutError) (s' : PagerState N E) → length s.core.list
+      ≡ place + 1 → PagesEntryIfThere v place r s s' → PagesLastEntry v s r s'
 
 -- the same, with the key of the entry
-pub data PagesLast {N E : Type 0} (v : Values N) (s : PagerState N E) : Result ℕ PageOutError → PagerState N E → Type 0 where
-  none-is-last : (s' : PagerState N E) → PagesLastEntry v s (Ok None) s' → PagesLast v s (Err (PageOutError.Failed Error.Closed)) s'
+pub data PagesLast {N E : Type 0} (v : Values N) (s : PagerState N E) : Result ℕ PageOutError → PagerState N E
+    → Type 0 where
+  none-is-last : (s' : PagerState N E) → PagesLastEntry v s (Ok None) s'
+      → PagesLast v s (Err (PageOutError.Failed Error.Closed)) s'
   last-has-key : (key : ℕ) (s' : PagerState N E) → PagesLastEntry v s (Ok (Some key)) s' → PagesLast v s (Ok key) s'
   last-fails : (why : PageOutError) (s' : PagerState N E) → PagesLastEntry v s (Err why) s' → PagesLast v s (Err why) s'
 
@@ -30,24 +34,35 @@ module _ {N S E : Type 0} (tells : Telling S) where
   Schedules old h told new = Calls OnlyLess tells old (λ w w'. ScheduleCall w Owner.Caller h told w') new
 
   -- a clone of the handle is unpinned and listed; or it is released
-  pub data ListsClone (old : PagerView N S E) (h : HandleNumber) : Result (Unit {0}) Error → PagerView N S E → Type 0 where
+  pub data ListsClone (old : PagerView N S E) (h : HandleNumber) : Result (Unit {0}) Error → PagerView N S E
+      → Type 0 where
     clone-is-refused : (e : Error) (new : PagerView N S E) → Clones old h (Err e) new → ListsClone old h (Err e) new
-    clone-waits : (c : HandleNumber) (mid low new : PagerView N S E) → ClonesLoosely old h c mid → Unpins tells mid c (Ok tt) low → Schedules low c (Ok tt) new
+    clone-waits : (c : HandleNumber) (mid low new : PagerView N S E) → ClonesLoosely old h c mid
+        → Unpins tells mid c (Ok tt) low → Schedules low c (Ok tt) new
         → ListsClone old h (Ok tt) new
-    clone-stays-pinned : (c : HandleNumber) (e : Error) (told : Result (Unit {0}) Error) (mid low new : PagerView N S E) → ClonesLoosely old h c mid → Unpins tells mid c (Err e) low
+    clone-stays-pinned : (c : HandleNumber) (e : Error) (told : Result (Unit {0}) Error) (mid low new : PagerView N S E)
+        → ClonesLoosely old h c mid → Unpins tells mid c (Err e) low
         → Releases tells low c told new → ListsClone old h (Err e) new
-    clone-is-unlisted : (c : HandleNumber) (e : Error) (told : Result (Unit {0}) Error) (mid low late new : PagerView N S E) → ClonesLoosely old h c mid → Unpins tells mid c (Ok tt) low
+    clone-is-unlisted : (c : HandleNumber) (e : Error) (told : Result (Unit {0}) Error)
+        (mid low late new : PagerView N S E) → ClonesLoosely old h c mid → Unpins tells mid c (Ok tt) low
         → Schedules low c (Err e) late → Releases tells late c told new → ListsClone old h (Err e) new
 
   -- a clone is listed, and its entry, the last one, is paged out; a closed storage lists nothing
-  pub data PagesOutClone (says : E → Values N) (old : PagerView N S E) (h : HandleNumber) : Result ℕ PageOutError → PagerView N S E → Type 0 where
-    clone-is-not-listed : (e : Error) (new : PagerView N S E) → ListsClone old h (Err e) new → PagesOutClone says old h (Err (PageOutError.Failed e)) new
-    clone-is-listed : (r : Result ℕ PageOutError) (mid new : PagerView N S E) → ListsClone old h (Ok tt) mid → PagesLast (says mid.environment) (state_in tells mid) r (state_in tells new)
+  pub data PagesOutClone (says : E → Values N) (old : PagerView N S E) (h : HandleNumber) : Result ℕ PageOutError
+      → PagerView N S E → Type 0 where
+    clone-is-not-listed : (e : Error) (new : PagerView N S E) → ListsClone old h (Err e) new
+        → PagesOutClone says old h (Err (PageOutError.Failed e)) new
+    clone-is-listed : (r : Result ℕ PageOutError) (mid new : PagerView N S E) → ListsClone old h (Ok tt) mid
+        → PagesLast (says mid.environment) (state_in tells mid) r (state_in tells new)
         → PagesOutClone says old h r new
 
   -- the key of a cell that has one; or its page-out
-  pub data PagesOutCell (says : E → Values N) (old : PagerView N S E) (h : HandleNumber) : Result ℕ PageOutError → PagerView N S E → Type 0 where
-    no-handle : (e : Error) → KeyCall (core_in tells old) h (Err e) → PagesOutCell says old h (Err (PageOutError.Failed e)) old
-    has-key : (key : ℕ) → KeyCall (core_in tells old) h (Ok (OptionalDataKey.Some key)) → PagesOutCell says old h (Ok key) old
-    has-no-key : (r : Result ℕ PageOutError) (new : PagerView N S E) → KeyCall (core_in tells old) h (Ok OptionalDataKey.None) → PagesOutClone says old h r new
+  pub data PagesOutCell (says : E → Values N) (old : PagerView N S E) (h : HandleNumber) : Result ℕ PageOutError
+      → PagerView N S E → Type 0 where
+    no-handle : (e : Error) → KeyCall (core_in tells old) h (Err e)
+        → PagesOutCell says old h (Err (PageOutError.Failed e)) old
+    has-key : (key : ℕ) → KeyCall (core_in tells old) h (Ok (OptionalDataKey.Some key))
+        → PagesOutCell says old h (Ok key) old
+    has-no-key : (r : Result ℕ PageOutError) (new : PagerView N S E)
+        → KeyCall (core_in tells old) h (Ok OptionalDataKey.None) → PagesOutClone says old h r new
         → PagesOutCell says old h r new

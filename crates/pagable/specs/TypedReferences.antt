@@ -22,7 +22,8 @@ RefusesReference w h t Error.WrongKind = (row : HandleRow) × (row_at w h ≡ So
 RefusesReference w h t _ = ⊥
 
 -- the handle pins its node, whose value holds this
-pub record IsHeldBy {N T E : Type 0} (s : PagerState N E) (h : HandleNumber) (held : N → Option T) (y : T) : Type 0 where
+pub record IsHeldBy {N T E : Type 0} (s : PagerState N E) (h : HandleNumber) (held : N → Option T)
+    (y : T) : Type 0 where
   pub x : N
   pub pins : ValueCall s h (Ok (Some x))
   pub holds : held x ≡ Some y
@@ -31,6 +32,7 @@ pub record IsHeldBy {N T E : Type 0} (s : PagerState N E) (h : HandleNumber) (he
 abbrev pub RefusesHolding : {N T E : Type 0} → PagerState N E → HandleNumber → ℕ → (N → Option T) → Error → Type 0
 RefusesHolding s h t held Error.NoSuchHandle = row_at s.core h ≡ None
 RefusesHolding s h t held Error.WrongMode = ValueCall s h (Ok None)
-RefusesHolding {N} s h t held Error.WrongKind = ((row : HandleRow) × (row_at s.core h ≡ Some row) × (type_at s.core row.node.0 ≢ Some t)) ⊎ ((x : N) × ValueCall s h (Ok (Some x)) × (held x ≡ None))
+RefusesHolding {N} s h t held Error.WrongKind = ((row : HandleRow) × (row_at s.core h ≡ Some row)
+    × (type_at s.core row.node.0 ≢ Some t)) ⊎ ((x : N) × ValueCall s h (Ok (Some x)) × (held x ≡ None))
 RefusesHolding s h t held Error.OutOfMemory = Unit {0}
 RefusesHolding s h t held _ = ⊥

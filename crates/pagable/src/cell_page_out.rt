@@ -18,8 +18,10 @@ fn entry_by<'a, E: Env<Node: NodeSet<E>>, S: PagableStorage<E>>(
     place: usize,
 ) -> Result<Option<DataKey>, PageOutError>
     requires caller { lent.old.me ≡ owners.Caller }
-    ensures pages { IsTrue (S.is_honest lent.new.pager.now.storage) → PagesEntryIfThere (values_at E.Node.NodeSet E.Env E.Hash.KeyHash lent.old.pager.now.environment) place result
-        (state_in (storage_view S.PagableStorage) lent.old.pager.now) (state_in (storage_view S.PagableStorage) lent.new.pager.now) }
+    ensures pages { IsTrue (S.is_honest lent.new.pager.now.storage)
+        → PagesEntryIfThere (values_at E.Node.NodeSet E.Env E.Hash.KeyHash lent.old.pager.now.environment) place result
+        (state_in (storage_view S.PagableStorage) lent.old.pager.now)
+        (state_in (storage_view S.PagableStorage) lent.new.pager.now) }
     ensures honest { IsTrue (S.is_honest lent.new.pager.now.storage) → IsTrue (S.is_honest lent.old.pager.now.storage) }
     ensures lender { lent.new.pager.ghost_name ≡ lent.old.pager.ghost_name }
 {
@@ -32,7 +34,8 @@ fn last_entry<E: Env<Node: NodeSet<E>>, S: PagableStorage<E>>(
     alloc: Global,
     pager: &mut Pager<E, S>,
 ) -> Result<Option<DataKey>, PageOutError>
-    ensures pages { IsTrue (S.is_honest pager.new.storage) → PagesLastEntry (values_at E.Node.NodeSet E.Env E.Hash.KeyHash pager.old.environment)
+    ensures pages { IsTrue (S.is_honest pager.new.storage)
+        → PagesLastEntry (values_at E.Node.NodeSet E.Env E.Hash.KeyHash pager.old.environment)
         (state_in (storage_view S.PagableStorage) pager.old) result (state_in (storage_view S.PagableStorage) pager.new) }
     ensures honest { IsTrue (S.is_honest pager.new.storage) → IsTrue (S.is_honest pager.old.storage) }
 {
@@ -50,7 +53,8 @@ fn last_key<E: Env<Node: NodeSet<E>>, S: PagableStorage<E>>(
     alloc: Global,
     pager: &mut Pager<E, S>,
 ) -> Result<DataKey, PageOutError>
-    ensures pages { IsTrue (S.is_honest pager.new.storage) → PagesLast (values_at E.Node.NodeSet E.Env E.Hash.KeyHash pager.old.environment)
+    ensures pages { IsTrue (S.is_honest pager.new.storage)
+        → PagesLast (values_at E.Node.NodeSet E.Env E.Hash.KeyHash pager.old.environment)
         (state_in (storage_view S.PagableStorage) pager.old) result (state_in (storage_view S.PagableStorage) pager.new) }
     ensures honest { IsTrue (S.is_honest pager.new.storage) → IsTrue (S.is_honest pager.old.storage) }
 {
@@ -92,7 +96,8 @@ fn page_out_clone<E: Env<Node: NodeSet<E>>, S: PagableStorage<E>>(
     pager: &mut Pager<E, S>,
     handle: HandleNumber,
 ) -> Result<DataKey, PageOutError>
-    ensures pages { IsTrue (S.is_honest pager.new.storage) → PagesOutClone (storage_view S.PagableStorage) (values_at E.Node.NodeSet E.Env E.Hash.KeyHash) pager.old
+    ensures pages { IsTrue (S.is_honest pager.new.storage)
+        → PagesOutClone (storage_view S.PagableStorage) (values_at E.Node.NodeSet E.Env E.Hash.KeyHash) pager.old
         handle result pager.new }
     ensures honest { IsTrue (S.is_honest pager.new.storage) → IsTrue (S.is_honest pager.old.storage) }
 {
@@ -116,7 +121,8 @@ pub fn page_out<E: Env<Node: NodeSet<E>>, S: PagableStorage<E>>(
     pager: &mut Pager<E, S>,
     handle: HandleNumber,
 ) -> Result<DataKey, PageOutError>
-    ensures pages { IsTrue (S.is_honest pager.new.storage) → PagesOutCell (storage_view S.PagableStorage) (values_at E.Node.NodeSet E.Env E.Hash.KeyHash) pager.old
+    ensures pages { IsTrue (S.is_honest pager.new.storage)
+        → PagesOutCell (storage_view S.PagableStorage) (values_at E.Node.NodeSet E.Env E.Hash.KeyHash) pager.old
         handle result pager.new }
     ensures honest { IsTrue (S.is_honest pager.new.storage) → IsTrue (S.is_honest pager.old.storage) }
 {

@@ -29,7 +29,8 @@ pub fn insert<E: Env<Node: NodeSet<E>>, S: PagableStorage<E>>(
     pager: &mut Pager<E, S>,
     node: E::Node,
 ) -> Result<HandleNumber, (Error, Either<E::Node, HandleNumber>)>
-    ensures { InsertsCell (storage_view S.PagableStorage) (values_at E.Node.NodeSet E.Env E.Hash.KeyHash pager.old.environment) pager.old node result pager.new }
+    ensures { InsertsCell (storage_view S.PagableStorage)
+        (values_at E.Node.NodeSet E.Env E.Hash.KeyHash pager.old.environment) pager.old node result pager.new }
 {
     let handle = match pager.new_loose(alloc, node) {
         Ok(handle) => handle,
@@ -72,7 +73,8 @@ pub fn contains<E: Env<Node: NodeSet<E>>, S: PagableStorage<E>>(
     pager: &mut Pager<E, S>,
     key: DataKey,
 ) -> Result<bool, Error>
-    ensures asks { AsksStorage S.is_honest (storage_view S.PagableStorage) pager.old (λ w w'. AsksWhether w key result w') pager.new }
+    ensures asks { AsksStorage S.is_honest (storage_view S.PagableStorage) pager.old
+        (λ w w'. AsksWhether w key result w') pager.new }
     ensures refused { IfErr result (RefusesFetch key None (S.failed pager.old.storage) (S.failed pager.new.storage)) }
 {
     match pager.fetch(alloc, key).err() {
@@ -96,7 +98,8 @@ pub fn follow<E: Env<Node: NodeSet<E>>, S: PagableStorage<E>>(
     pager: &mut Pager<E, S>,
     handle: HandleNumber,
 ) -> Result<(HandleNumber, Arc<E::Node>), Error>
-    ensures follows { IsTrue (S.is_honest pager.new.storage) → Follows (storage_view S.PagableStorage) (values_at E.Node.NodeSet E.Env E.Hash.KeyHash) pager.old
+    ensures follows { IsTrue (S.is_honest pager.new.storage)
+        → Follows (storage_view S.PagableStorage) (values_at E.Node.NodeSet E.Env E.Hash.KeyHash) pager.old
         handle (seen_as (λ a. (a.0, arc_value a.1)) result) pager.new }
     ensures honest { IsTrue (S.is_honest pager.new.storage) → IsTrue (S.is_honest pager.old.storage) }
 {
@@ -125,7 +128,8 @@ fn look_by_pin<E: Env<Node: NodeSet<E>>, S: PagableStorage<E>, Y: Drop, F: FnOnc
 where
     F: Drop,
     requires { F.IsAlwaysCallable show }
-    ensures looks { IsTrue (S.is_honest pager.new.storage) → LooksByPin (storage_view S.PagableStorage) (values_at E.Node.NodeSet E.Env E.Hash.KeyHash) pager.old
+    ensures looks { IsTrue (S.is_honest pager.new.storage)
+        → LooksByPin (storage_view S.PagableStorage) (values_at E.Node.NodeSet E.Env E.Hash.KeyHash) pager.old
         handle (FnOnceReturnsAt F.FnOnce show) result pager.new }
     ensures honest { IsTrue (S.is_honest pager.new.storage) → IsTrue (S.is_honest pager.old.storage) }
 {
@@ -156,7 +160,8 @@ pub fn look<E: Env<Node: NodeSet<E>>, S: PagableStorage<E>, Y: Drop, F: FnOnce(&
 where
     F: Drop,
     requires { F.IsAlwaysCallable show }
-    ensures looks { IsTrue (S.is_honest pager.new.storage) → Looks (storage_view S.PagableStorage) (values_at E.Node.NodeSet E.Env E.Hash.KeyHash) pager.old
+    ensures looks { IsTrue (S.is_honest pager.new.storage)
+        → Looks (storage_view S.PagableStorage) (values_at E.Node.NodeSet E.Env E.Hash.KeyHash) pager.old
         handle (FnOnceReturnsAt F.FnOnce show) result pager.new }
     ensures honest { IsTrue (S.is_honest pager.new.storage) → IsTrue (S.is_honest pager.old.storage) }
 {

@@ -22,7 +22,8 @@ use std::sync::Arc;
 fn found(
     given: Result<Either<HandleNumber, Arc<PagableData>>, Error>,
 ) -> Result<Found<Arc<PagableData>>, Error>
-    ensures { seen_as (given_of blob_of) (seen_as plain_found result) ≡ seen_as (given_as (λ d. blob_of (arc_value d))) given }
+    ensures { seen_as (given_of blob_of) (seen_as plain_found result)
+        ≡ seen_as (given_as (λ d. blob_of (arc_value d))) given }
 {
     match given {
         Ok(Either::Left(known)) => Ok(Found::Cached(known)),
@@ -36,7 +37,9 @@ fn make_call<E: Env<Node: NodeSet<E>>, S: PagableStorage<E>>(
     alloc: Global,
     call: Call<E::Node, PagableData>,
 ) -> Reply<E::Node, Arc<PagableData>>
-    ensures serves { IsTrue (S.is_honest pager.new.storage) → Serves (values_at E.Node.NodeSet E.Env E.Hash.KeyHash pager.old.environment) (storage_view S.PagableStorage) pager.old call result pager.new }
+    ensures serves { IsTrue (S.is_honest pager.new.storage)
+        → Serves (values_at E.Node.NodeSet E.Env E.Hash.KeyHash pager.old.environment) (storage_view S.PagableStorage)
+        pager.old call result pager.new }
     ensures honest { IsTrue (S.is_honest pager.new.storage) → IsTrue (S.is_honest pager.old.storage) }
 {
     match call {
@@ -86,7 +89,8 @@ fn make_call<E: Env<Node: NodeSet<E>>, S: PagableStorage<E>>(
 
 // Forgets the load if its step has ended it.
 fn end<N: Drop>(readings: &mut IndexMap<u64, Reading>, load: u64, ended: &Option<LoadAnswer<N>>)
-    ensures { KeepsOne (kept_at readings.old) load (rest_after ended.now (kept_at readings.old load)) (kept_at readings.new) }
+    ensures { KeepsOne (kept_at readings.old) load (rest_after ended.now (kept_at readings.old load))
+        (kept_at readings.new) }
 {
     if ended.is_some() {
         readings.swap_remove(&load);
@@ -105,7 +109,8 @@ fn prepare(
 ) -> Result<(), Error>
     ensures kept { IsPrepared (kept_at readings.old) load key cell_type (kept_at readings.new) }
     ensures placed { OnOk result (kept_at readings.new load.0 ≡ None → is_none cell_type ≡ true) }
-    ensures short { IfErr result (λ e. (e ≡ Error.OutOfMemory) × (kept_at readings.new load.0 ≡ None) × (is_none cell_type ≡ false)) }
+    ensures short { IfErr result (λ e. (e ≡ Error.OutOfMemory) × (kept_at readings.new load.0 ≡ None)
+        × (is_none cell_type ≡ false)) }
 {
     if readings.get(&load.0).is_some() {
         return Ok(());
@@ -130,8 +135,11 @@ fn step_by<'a, E: Env<Node: NodeSet<E>>, S: PagableStorage<E>>(
     own: &mut Reading,
 ) -> LoadReply<E::Node>
     requires { lent.old.me ≡ Owner.Caller }
-    ensures step { IsTrue (S.is_honest lent.new.pager.now.storage) → Stepped (values_at E.Node.NodeSet E.Env E.Hash.KeyHash lent.old.pager.now.environment) Owner.Caller own.old result own.new
-        (state_in (storage_view S.PagableStorage) lent.old.pager.now) (state_in (storage_view S.PagableStorage) lent.new.pager.now) }
+    ensures step { IsTrue (S.is_honest lent.new.pager.now.storage)
+        → Stepped (values_at E.Node.NodeSet E.Env E.Hash.KeyHash lent.old.pager.now.environment) Owner.Caller own.old
+        result own.new
+        (state_in (storage_view S.PagableStorage) lent.old.pager.now)
+        (state_in (storage_view S.PagableStorage) lent.new.pager.now) }
     ensures honest { IsTrue (S.is_honest lent.new.pager.now.storage) → IsTrue (S.is_honest lent.old.pager.now.storage) }
     ensures lender { lent.new.pager.ghost_name ≡ lent.old.pager.ghost_name }
 {
@@ -149,7 +157,8 @@ fn load_step<E: Env<Node: NodeSet<E>>, S: PagableStorage<E>>(
     load: LoadNumber,
 ) -> Result<LoadReply<E::Node>, Error>
     requires { IsInStep S.is_honest (storage_view S.PagableStorage) pager.old held.old }
-    ensures { Drives S.is_honest (values_at E.Node.NodeSet E.Env E.Hash.KeyHash pager.old.environment) (storage_view S.PagableStorage)
+    ensures { Drives S.is_honest (values_at E.Node.NodeSet E.Env E.Hash.KeyHash pager.old.environment)
+        (storage_view S.PagableStorage)
         pager.old held.old (Event.LoadStep load) (EventReply.LoadMoved result) pager.new held.new }
 {
     pager.is_whole();
@@ -186,7 +195,8 @@ fn forget<E: Env<Node: NodeSet<E>>, S: PagableStorage<E>>(
     readings: &mut IndexMap<u64, Reading>,
     load: Option<LoadNumber>,
 )
-    ensures { Forgets (core_in (storage_view S.PagableStorage) pager.now) (kept_at readings.old) (kept_at readings.new) }
+    ensures { Forgets (core_in (storage_view S.PagableStorage) pager.now) (kept_at readings.old)
+        (kept_at readings.new) }
 {
     let Some(load) = load else {
         return;
@@ -204,7 +214,8 @@ fn load_key<E: Env<Node: NodeSet<E>>, S: PagableStorage<E>>(
     node_type: u32,
 ) -> Result<Beginning, Error>
     requires { IsInStep S.is_honest (storage_view S.PagableStorage) pager.old held.old }
-    ensures { Drives S.is_honest (values_at E.Node.NodeSet E.Env E.Hash.KeyHash pager.old.environment) (storage_view S.PagableStorage)
+    ensures { Drives S.is_honest (values_at E.Node.NodeSet E.Env E.Hash.KeyHash pager.old.environment)
+        (storage_view S.PagableStorage)
         pager.old held.old (Event.LoadKey key node_type) (EventReply.Started result) pager.new held.new }
 {
     pager.is_whole();
@@ -235,7 +246,8 @@ pub fn serve<E: Env<Node: NodeSet<E>>, S: PagableStorage<E>>(
     event: Event<E::Node, PagableData, SerializedData>,
 ) -> EventReply<E::Node, Arc<PagableData>, Arc<SerializedData>>
     requires { IsInStep S.is_honest (storage_view S.PagableStorage) pager.old held.old }
-    ensures { Drives S.is_honest (values_at E.Node.NodeSet E.Env E.Hash.KeyHash pager.old.environment) (storage_view S.PagableStorage)
+    ensures { Drives S.is_honest (values_at E.Node.NodeSet E.Env E.Hash.KeyHash pager.old.environment)
+        (storage_view S.PagableStorage)
         pager.old held.old event result pager.new held.new }
 {
     pager.is_whole();

@@ -60,7 +60,8 @@ impl<E: Env<Node: NodeSet<E>>, S: PagableStorage<E>> Machine<E, S> {
     /// begin at it meet what the headline asks of their start.
     pub fn over(alloc: Global, storage: S, env: E) -> Machine<E, S>
         ensures empty { IsNew (state_in (storage_view S.PagableStorage) result.pager) }
-        ensures starts { StartsWell (values_at E.Node.NodeSet E.Env E.Hash.KeyHash env) (machine_in (storage_view S.PagableStorage) result) }
+        ensures starts { StartsWell (values_at E.Node.NodeSet E.Env E.Hash.KeyHash env)
+            (machine_in (storage_view S.PagableStorage) result) }
         ensures storage { result.pager.storage ≡ storage }
         ensures environment { result.pager.environment ≡ env }
     {
@@ -94,7 +95,8 @@ impl<E: Env<Node: NodeSet<E>>, S: PagableStorage<E>> Machine<E, S> {
         (Error, Vec<Event<E::Node, PagableData, SerializedData>>),
     >
         ensures run { IsTrue (S.is_honest self.new.pager.storage) → IfOk result (λ replies.
-            Runs (values_at E.Node.NodeSet E.Env E.Hash.KeyHash self.old.pager.environment) (storage_view S.PagableStorage) self.old events.items replies.items self.new) }
+            Runs (values_at E.Node.NodeSet E.Env E.Hash.KeyHash self.old.pager.environment)
+            (storage_view S.PagableStorage) self.old events.items replies.items self.new) }
         ensures honest { IsTrue (S.is_honest self.new.pager.storage) → IsTrue (S.is_honest self.old.pager.storage) }
         ensures nothing { OnErr result (self.new ≡ self.old) }
         ensures back { IfErr result (λ e. (e.0 ≡ Error.OutOfMemory) × (e.1 ≡ events)) }

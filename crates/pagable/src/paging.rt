@@ -23,7 +23,9 @@ fn read_by<'a, E: Env<Node: NodeSet<E>>, S: PagableStorage<E>>(
     node_type: u32,
 ) -> Result<E::Node, Error>
     requires caller { lent.old.me ≡ owners.Caller }
-    ensures reads { IsTrue (S.is_honest lent.new.pager.now.storage) → ReadsOver (values_at E.Node.NodeSet E.Env E.Hash.KeyHash lent.old.pager.now.environment) (state_in (storage_view S.PagableStorage) lent.old.pager.now)
+    ensures reads { IsTrue (S.is_honest lent.new.pager.now.storage)
+        → ReadsOver (values_at E.Node.NodeSet E.Env E.Hash.KeyHash lent.old.pager.now.environment)
+        (state_in (storage_view S.PagableStorage) lent.old.pager.now)
         key node_type result (state_in (storage_view S.PagableStorage) lent.new.pager.now) }
     ensures honest { IsTrue (S.is_honest lent.new.pager.now.storage) → IsTrue (S.is_honest lent.old.pager.now.storage) }
     ensures lender { lent.new.pager.ghost_name ≡ lent.old.pager.ghost_name }
@@ -44,7 +46,9 @@ pub fn read<E: Env<Node: NodeSet<E>>, S: PagableStorage<E>>(
     key: DataKey,
     node_type: u32,
 ) -> Result<E::Node, Error>
-    ensures reads { IsTrue (S.is_honest pager.new.storage) → ReadsOver (values_at E.Node.NodeSet E.Env E.Hash.KeyHash pager.old.environment) (state_in (storage_view S.PagableStorage) pager.old)
+    ensures reads { IsTrue (S.is_honest pager.new.storage)
+        → ReadsOver (values_at E.Node.NodeSet E.Env E.Hash.KeyHash pager.old.environment)
+        (state_in (storage_view S.PagableStorage) pager.old)
         key node_type result (state_in (storage_view S.PagableStorage) pager.new) }
     ensures honest { IsTrue (S.is_honest pager.new.storage) → IsTrue (S.is_honest pager.old.storage) }
 {
@@ -65,7 +69,9 @@ pub fn deserialize_pagable_data<E: Env<Node: NodeSet<E>>, S: PagableStorage<E>, 
     pager: &mut Pager<E, S>,
     key: DataKey,
 ) -> Result<Arc<T>, (Error, Option<E::Node>)>
-    ensures reads { IsTrue (S.is_honest pager.new.storage) → ReadsValue (values_at E.Node.NodeSet E.Env E.Hash.KeyHash pager.old.environment) arc_value T.held (state_in (storage_view S.PagableStorage) pager.old)
+    ensures reads { IsTrue (S.is_honest pager.new.storage)
+        → ReadsValue (values_at E.Node.NodeSet E.Env E.Hash.KeyHash pager.old.environment) arc_value T.held
+        (state_in (storage_view S.PagableStorage) pager.old)
         key T.TYPE result (state_in (storage_view S.PagableStorage) pager.new) }
     ensures honest { IsTrue (S.is_honest pager.new.storage) → IsTrue (S.is_honest pager.old.storage) }
 {
@@ -86,8 +92,11 @@ fn page_out_item_by<'a, E: Env<Node: NodeSet<E>>, S: PagableStorage<E>>(
     item: Arc<SerializedData>,
 ) -> Result<DataKey, PageOutError>
     requires caller { lent.old.me ≡ owners.Caller }
-    ensures pages { IsTrue (S.is_honest lent.new.pager.now.storage) → PagesItem (values_at E.Node.NodeSet E.Env E.Hash.KeyHash lent.old.pager.now.environment) (shelf_of table.old) (written_of (arc_value item)) (shelf_of table.new) (answer_of result)
-        (state_in (storage_view S.PagableStorage) lent.old.pager.now) (state_in (storage_view S.PagableStorage) lent.new.pager.now) }
+    ensures pages { IsTrue (S.is_honest lent.new.pager.now.storage)
+        → PagesItem (values_at E.Node.NodeSet E.Env E.Hash.KeyHash lent.old.pager.now.environment) (shelf_of table.old)
+        (written_of (arc_value item)) (shelf_of table.new) (answer_of result)
+        (state_in (storage_view S.PagableStorage) lent.old.pager.now)
+        (state_in (storage_view S.PagableStorage) lent.new.pager.now) }
     ensures honest { IsTrue (S.is_honest lent.new.pager.now.storage) → IsTrue (S.is_honest lent.old.pager.now.storage) }
     ensures lender { lent.new.pager.ghost_name ≡ lent.old.pager.ghost_name }
 {
@@ -110,8 +119,11 @@ pub fn page_out_item<E: Env<Node: NodeSet<E>>, S: PagableStorage<E>>(
     table: &mut LentTable<E>,
     item: Arc<SerializedData>,
 ) -> Result<DataKey, PageOutError>
-    ensures pages { IsTrue (S.is_honest pager.new.storage) → PagesOutItem (values_at E.Node.NodeSet E.Env E.Hash.KeyHash pager.old.environment) (state_in (storage_view S.PagableStorage) pager.old)
-        (shelf_of table.old) (written_of (arc_value item)) (answer_of result) (state_in (storage_view S.PagableStorage) pager.new) (shelf_of table.new) }
+    ensures pages { IsTrue (S.is_honest pager.new.storage)
+        → PagesOutItem (values_at E.Node.NodeSet E.Env E.Hash.KeyHash pager.old.environment)
+        (state_in (storage_view S.PagableStorage) pager.old)
+        (shelf_of table.old) (written_of (arc_value item)) (answer_of result)
+        (state_in (storage_view S.PagableStorage) pager.new) (shelf_of table.new) }
     ensures honest { IsTrue (S.is_honest pager.new.storage) → IsTrue (S.is_honest pager.old.storage) }
 {
     pager.is_whole();
@@ -124,8 +136,10 @@ fn page_out_pending_by<'a, E: Env<Node: NodeSet<E>>, S: PagableStorage<E>>(
     alloc: Global,
 ) -> Result<(), PageOutError>
     requires caller { lent.old.me ≡ owners.Caller }
-    ensures pages { IsTrue (S.is_honest lent.new.pager.now.storage) → PagesList (values_at E.Node.NodeSet E.Env E.Hash.KeyHash lent.old.pager.now.environment) result
-        (state_in (storage_view S.PagableStorage) lent.old.pager.now) (state_in (storage_view S.PagableStorage) lent.new.pager.now) }
+    ensures pages { IsTrue (S.is_honest lent.new.pager.now.storage)
+        → PagesList (values_at E.Node.NodeSet E.Env E.Hash.KeyHash lent.old.pager.now.environment) result
+        (state_in (storage_view S.PagableStorage) lent.old.pager.now)
+        (state_in (storage_view S.PagableStorage) lent.new.pager.now) }
     ensures honest { IsTrue (S.is_honest lent.new.pager.now.storage) → IsTrue (S.is_honest lent.old.pager.now.storage) }
     ensures lender { lent.new.pager.ghost_name ≡ lent.old.pager.ghost_name }
 {
@@ -145,7 +159,9 @@ pub fn page_out_pending<E: Env<Node: NodeSet<E>>, S: PagableStorage<E>>(
     alloc: Global,
     pager: &mut Pager<E, S>,
 ) -> Result<(), PageOutError>
-    ensures pages { IsTrue (S.is_honest pager.new.storage) → PagesOutList (values_at E.Node.NodeSet E.Env E.Hash.KeyHash pager.old.environment) (state_in (storage_view S.PagableStorage) pager.old)
+    ensures pages { IsTrue (S.is_honest pager.new.storage)
+        → PagesOutList (values_at E.Node.NodeSet E.Env E.Hash.KeyHash pager.old.environment)
+        (state_in (storage_view S.PagableStorage) pager.old)
         result (state_in (storage_view S.PagableStorage) pager.new) }
     ensures failed { IsTrue (S.is_honest pager.new.storage) → IfErr result IsRefusal }
     ensures honest { IsTrue (S.is_honest pager.new.storage) → IsTrue (S.is_honest pager.old.storage) }

@@ -20,7 +20,8 @@ fn node_of_type<E: Env<Node: NodeSet<E>>, S: PagableStorage<E>>(
     node_type: u32,
 ) -> Result<NodeNumber, Error>
     ensures named { IfOk result (IsAt (core_in (storage_view S.PagableStorage) pager.now) handle node_type) }
-    ensures refused { IfErr result (RefusesReference (core_in (storage_view S.PagableStorage) pager.now) handle node_type) }
+    ensures refused { IfErr result (RefusesReference (core_in (storage_view S.PagableStorage) pager.now) handle
+        node_type) }
 {
     let node = pager.node_of(handle)?;
     match pager.node_live(node) {
@@ -39,7 +40,8 @@ pub fn loose<T: OfNode<E>, E: Env<Node: NodeSet<E>>, S: PagableStorage<E>>(
     pager: &Pager<E, S>,
     handle: HandleNumber,
 ) -> Result<PagableArc<T>, Error>
-    ensures named { IfOk result (λ a. Refers (core_in (storage_view S.PagableStorage) pager.now) handle T.TYPE (loose_kind T.TYPE) (loose T.TYPE a)) }
+    ensures named { IfOk result (λ a. Refers (core_in (storage_view S.PagableStorage) pager.now) handle T.TYPE
+        (loose_kind T.TYPE) (loose T.TYPE a)) }
     ensures refused { IfErr result (RefusesReference (core_in (storage_view S.PagableStorage) pager.now) handle T.TYPE) }
 {
     let node = node_of_type(pager, handle, T::TYPE)?;
@@ -65,9 +67,12 @@ pub fn holding<
     S: PagableStorage<E>,
     const PINS: bool,
 >(alloc: Global, pager: &Pager<E, S>, handle: HandleNumber) -> Result<HoldingArc<T, PINS>, Error>
-    ensures named { IfOk result (λ a. Refers (core_in (storage_view S.PagableStorage) pager.now) handle T.TYPE (holding_kind T.TYPE PINS) (holding T.TYPE PINS a)) }
-    ensures value { IfOk result (λ a. IsHeldBy (state_in (storage_view S.PagableStorage) pager.now) handle T.held (arc_value a.value)) }
-    ensures refused { IfErr result (RefusesHolding (state_in (storage_view S.PagableStorage) pager.now) handle T.TYPE T.held) }
+    ensures named { IfOk result (λ a. Refers (core_in (storage_view S.PagableStorage) pager.now) handle T.TYPE
+        (holding_kind T.TYPE PINS) (holding T.TYPE PINS a)) }
+    ensures value { IfOk result (λ a. IsHeldBy (state_in (storage_view S.PagableStorage) pager.now) handle T.held
+        (arc_value a.value)) }
+    ensures refused { IfErr result (RefusesHolding (state_in (storage_view S.PagableStorage) pager.now) handle T.TYPE
+        T.held) }
 {
     let node = node_of_type(pager, handle, T::TYPE)?;
     let held = match pager.value(handle)? {

@@ -70,7 +70,8 @@ pub fn table_new<E: Env<Node: NodeSet<E>>, S: PagableStorage<E>>(
     alloc: Global,
 ) -> Result<TableNumber, Error>
     requires { IsInStep S.is_honest (storage_view S.PagableStorage) pager.now held.old }
-    ensures { Drives S.is_honest (values_at E.Node.NodeSet E.Env E.Hash.KeyHash pager.now.environment) (storage_view S.PagableStorage)
+    ensures { Drives S.is_honest (values_at E.Node.NodeSet E.Env E.Hash.KeyHash pager.now.environment)
+        (storage_view S.PagableStorage)
         pager.now held.old Event.TableNew (EventReply.TableMade result) pager.now held.new }
 {
     pager.is_whole();
@@ -89,7 +90,9 @@ fn ready<E: Env<Node: NodeSet<E>>>(
     ensures same { (q : ℕ) → kept_at walks.new q ≡ kept_at walks.old q }
     ensures there { OnOk result (IsIn table.0 tables.now.items) }
     ensures room { OnOk result (0 < spare walks.new) }
-    ensures refused { IfErr result (λ e. ((e ≡ Error.NoSuchHandle) × ((table.0 ≡ 0) ⊎ (length tables.now.items < table.0))) ⊎ ((e ≡ Error.OutOfMemory) × IsIn table.0 tables.now.items)) }
+    ensures refused { IfErr result (λ e. ((e ≡ Error.NoSuchHandle)
+        × ((table.0 ≡ 0) ⊎ (length tables.now.items < table.0)))
+        ⊎ ((e ≡ Error.OutOfMemory) × IsIn table.0 tables.now.items)) }
 {
     if !(0 < table.0 && table.0 <= tables.len() as u64) {
         return Err(Error::NoSuchHandle);
@@ -151,7 +154,8 @@ pub fn worker_item<E: Env<Node: NodeSet<E>>, S: PagableStorage<E>>(
     item: SerializedData,
 ) -> Result<WorkerNumber, Error>
     requires { IsInStep S.is_honest (storage_view S.PagableStorage) pager.old held.old }
-    ensures { Drives S.is_honest (values_at E.Node.NodeSet E.Env E.Hash.KeyHash pager.old.environment) (storage_view S.PagableStorage)
+    ensures { Drives S.is_honest (values_at E.Node.NodeSet E.Env E.Hash.KeyHash pager.old.environment)
+        (storage_view S.PagableStorage)
         pager.old held.old (Event.WorkerItem table item) (EventReply.WorkerMade result) pager.new held.new }
 {
     pager.is_whole();
@@ -179,7 +183,8 @@ pub fn worker_listed<E: Env<Node: NodeSet<E>>, S: PagableStorage<E>>(
     place: u64,
 ) -> Result<WorkerNumber, Error>
     requires { IsInStep S.is_honest (storage_view S.PagableStorage) pager.old held.old }
-    ensures { Drives S.is_honest (values_at E.Node.NodeSet E.Env E.Hash.KeyHash pager.old.environment) (storage_view S.PagableStorage)
+    ensures { Drives S.is_honest (values_at E.Node.NodeSet E.Env E.Hash.KeyHash pager.old.environment)
+        (storage_view S.PagableStorage)
         pager.old held.old (Event.WorkerListed table place) (EventReply.WorkerMade result) pager.new held.new }
 {
     pager.is_whole();
@@ -207,9 +212,12 @@ fn step_by<'a, E: Env<Node: NodeSet<E>>, S: PagableStorage<E>>(
     requires me { lent.old.me ≡ owner_worker worker.0 }
     requires way { IsWay (todo_of task ∷ todos path.old.items) }
     ensures way { IsWay (plan result.turn path.new.items) }
-    ensures step { IsTrue (S.is_honest lent.new.pager.now.storage) → StepsTo (values_at E.Node.NodeSet E.Env E.Hash.KeyHash lent.old.pager.now.environment) (owner_worker worker.0) worker.0 (shelf_of table.old) task (todos path.old.items)
+    ensures step { IsTrue (S.is_honest lent.new.pager.now.storage)
+        → StepsTo (values_at E.Node.NodeSet E.Env E.Hash.KeyHash lent.old.pager.now.environment)
+        (owner_worker worker.0) worker.0 (shelf_of table.old) task (todos path.old.items)
         (shelf_of table.new) result
-        (plan result.turn path.new.items) (state_in (storage_view S.PagableStorage) lent.old.pager.now) (state_in (storage_view S.PagableStorage) lent.new.pager.now) }
+        (plan result.turn path.new.items) (state_in (storage_view S.PagableStorage) lent.old.pager.now)
+        (state_in (storage_view S.PagableStorage) lent.new.pager.now) }
     ensures honest { IsTrue (S.is_honest lent.new.pager.now.storage) → IsTrue (S.is_honest lent.old.pager.now.storage) }
     ensures lender { lent.new.pager.ghost_name ≡ lent.old.pager.ghost_name }
 {
@@ -235,7 +243,9 @@ fn walk_on<E: Env<Node: NodeSet<E>>, S: PagableStorage<E>>(
     requires has { is_some (answer_in walk.old.turn) ≡ false }
     requires at_work { (core_in (storage_view S.PagableStorage) pager.old).workers worker.0 ≡ true }
     requires on_table { IsOnTable (length tables.old.items) walk.old }
-    ensures walks { IsTrue (S.is_honest pager.new.storage) → WalksOn (values_at E.Node.NodeSet E.Env E.Hash.KeyHash pager.old.environment) worker.0 tables.old.items walk.old (state_in (storage_view S.PagableStorage) pager.old) result
+    ensures walks { IsTrue (S.is_honest pager.new.storage)
+        → WalksOn (values_at E.Node.NodeSet E.Env E.Hash.KeyHash pager.old.environment) worker.0 tables.old.items
+        walk.old (state_in (storage_view S.PagableStorage) pager.old) result
         tables.new.items walk.new (state_in (storage_view S.PagableStorage) pager.new) }
     ensures honest { IsTrue (S.is_honest pager.new.storage) → IsTrue (S.is_honest pager.old.storage) }
     ensures count { length tables.new.items ≡ length tables.old.items }
@@ -279,7 +289,8 @@ pub fn worker_step<E: Env<Node: NodeSet<E>>, S: PagableStorage<E>>(
     worker: WorkerNumber,
 ) -> Result<WorkerReply<Arc<SerializedData>>, Error>
     requires { IsInStep S.is_honest (storage_view S.PagableStorage) pager.old held.old }
-    ensures { Drives S.is_honest (values_at E.Node.NodeSet E.Env E.Hash.KeyHash pager.old.environment) (storage_view S.PagableStorage)
+    ensures { Drives S.is_honest (values_at E.Node.NodeSet E.Env E.Hash.KeyHash pager.old.environment)
+        (storage_view S.PagableStorage)
         pager.old held.old (Event.WorkerStep worker) (EventReply.WorkerMoved result) pager.new held.new }
 {
     pager.is_whole();

@@ -31,7 +31,8 @@ module _ {X : Type 0} where
   no-last (x ∷ xs) none =
       let cut = cut_end (x ∷ xs) (omega arith) in
       let at = (last_of_push cut.0 cut.1).0 in
-      subst (λ ys. slice_get ys (length ys - 1) ≡ None → ys ≡ []) (sym cut.2) (λ (is : slice_get (cut.0 ++ cut.1 ∷ []) (length (cut.0 ++ cut.1 ∷ []) - 1) ≡ None). absurd cc) none
+      subst (λ ys. slice_get ys (length ys - 1) ≡ None → ys ≡ []) (sym cut.2)
+      (λ (is : slice_get (cut.0 ++ cut.1 ∷ []) (length (cut.0 ++ cut.1 ∷ []) - 1) ≡ None). absurd cc) none
 
 -- ---- pins by the numbers of their cells
 
@@ -42,7 +43,8 @@ module _ (test : ℕ → Bool) where
   cost-without : (es : List Kept) (e : Kept) → lookup_entry test es ≡ Some e → e.1.cost + cost_of (remove_entry test es) ≡ cost_of es
   cost-without [] e h = cc
   cost-without (f ∷ es) e h = (elim (test f.0) as (λ y. test f.0 ≡ y → e.1.cost + cost_of (remove_entry test (f ∷ es)) ≡ cost_of (f ∷ es)) [
-    | true ↦ λ t. let h' = rw t at h in let same : f ≡ e = cc in rw t (subst (λ g. g.1.cost + cost_of es ≡ cost_of (f ∷ es)) same (sym (sum_by-cons (λ (k : Kept). k.1.cost) f es)))
+    | true ↦ λ t. let h' = rw t at h in let same : f ≡ e = cc in rw t (subst (λ g. g.1.cost + cost_of es ≡ cost_of (f ∷ es)) same
+        (sym (sum_by-cons (λ (k : Kept). k.1.cost) f es)))
     | false ↦ λ t.
         let on = cost-without es e (rw t at h) in
         let first = sum_by-cons (λ (k : Kept). k.1.cost) f es in
@@ -76,12 +78,15 @@ module _ (test : ℕ → Bool) where
 pub put-new : (c : LruCache ℕ KeptPin) (cell : ℕ) (pin : KeptPin) → lookup (nat_eq cell) c.entries ≡ None → length c.entries < 2 ^ 63 → c.cap ≡ 2 ^ 64 - 1
     → put_entries nat_eq c cell pin ≡ (cell, pin) ∷ c.entries
 put-new c cell pin new few wide =
-    ap (λ o. option_map_or (λ (e : Kept). (e.0, pin) ∷ remove_entry (nat_eq cell) c.entries) o ((cell, pin) ∷ take (c.cap - 1) c.entries)) (no-entry (nat_eq cell) c.entries new)
+    ap (λ o. option_map_or (λ (e : Kept). (e.0, pin) ∷ remove_entry (nat_eq cell) c.entries) o ((cell, pin) ∷ take (c.cap - 1) c.entries))
+    (no-entry (nat_eq cell) c.entries new)
     ∙ ap (λ es. (cell, pin) ∷ es) (take_all (c.cap - 1) c.entries (omega (arith, few, wide)))
 
 -- what came of it
-pub inserts : {X Y : Type 0} (old new : LruCache ℕ KeptPin) (cell : ℕ) (pin : KeptPin) (r : Result X Y) (b : Bool) → lookup (nat_eq cell) old.entries ≡ None → old.cap ≡ 2 ^ 64 - 1
-    → length old.entries < 2 ^ 63 → OnOk r (new ≡ lru_cache (put_entries nat_eq old cell pin) old.cap) → OnErr r (new ≡ old) → b ≡ is_ok r → Inserts cell pin b old new
+pub inserts : {X Y : Type 0} (old new : LruCache ℕ KeptPin) (cell : ℕ) (pin : KeptPin) (r : Result X Y) (b : Bool) → lookup (nat_eq cell) old.entries ≡ None
+    → old.cap ≡ 2 ^ 64 - 1
+    → length old.entries < 2 ^ 63 → OnOk r (new ≡ lru_cache (put_entries nat_eq old cell pin) old.cap) → OnErr r (new ≡ old) → b ≡ is_ok r
+    → Inserts cell pin b old new
 inserts old new cell pin (Ok x) b none wide few ok err is = record {
   kept = λ told. ap (λ (c : LruCache ℕ KeptPin). c.entries) ok ∙ put-new old cell pin none few wide;
   refused = λ told. absurd cc;
@@ -115,7 +120,8 @@ module _ {N S E : Type 0} (tells : Telling S) where
   evict-none pins pins' p r is left none =
       subst (λ (c : LruCache ℕ KeptPin). EvictsLast tells pins.entries p None c.entries p) (sym left) (evict-none-of pins.entries p (sym is ∙ none))
 
-  pub evict-one : (pins pins' : LruCache ℕ KeptPin) (cell : ℕ) (pin : KeptPin) (told : Result (Unit {0}) Error) (p q : PagerView N S E) (r : Option Kept) → r ≡ last_entry pins.entries
+  pub evict-one : (pins pins' : LruCache ℕ KeptPin) (cell : ℕ) (pin : KeptPin) (told : Result (Unit {0}) Error) (p q : PagerView N S E) (r : Option Kept) → r
+      ≡ last_entry pins.entries
       → pins' ≡ lru_cache (take (length pins.entries - 1) pins.entries) pins.cap → r ≡ Some (cell, pin) → Releases tells p pin.handle told q
       → EvictsLast tells pins.entries p (Some pin.cost) pins'.entries q
   evict-one pins pins' cell pin told p q r is left some releases =
@@ -141,7 +147,8 @@ module _ {N S E : Type 0} (tells : Telling S) where
   pub none-needed : (most : ℕ) (pins : List Kept) (old : PagerView N S E) → Needed most pins old pins old
   none-needed most pins old = record { evicted = []; are = sym (append-nil pins); evicts = evicts-none; needed = tt }
 
-  pub one-less : {left left' : List Kept} {given : ℕ} {p q : PagerView N S E} → EvictsLast tells left p (Some given) left' q → cost_of left ≡ cost_of left' + given
+  pub one-less : {left left' : List Kept} {given : ℕ} {p q : PagerView N S E} → EvictsLast tells left p (Some given) left' q → cost_of left
+      ≡ cost_of left' + given
   one-less (last-goes e left' told q is releases) = ap cost_of is ∙ cost-push left' e
 
   pub one-shorter : {left left' : List Kept} {given : ℕ} {p q : PagerView N S E} → EvictsLast tells left p (Some given) left' q → length left' < length left
@@ -155,7 +162,8 @@ module _ {N S E : Type 0} (tells : Telling S) where
     evicts = evicts-more e so.evicted told p q so.evicts releases;
   }
 
-  pub one-needed : {most : ℕ} {pins : List Kept} {old : PagerView N S E} {left left' : List Kept} {given : ℕ} {p q : PagerView N S E} → Needed most pins old left p
+  pub one-needed : {most : ℕ} {pins : List Kept} {old : PagerView N S E} {left left' : List Kept} {given : ℕ} {p q : PagerView N S E}
+      → Needed most pins old left p
       → most < cost_of left → EvictsLast tells left p (Some given) left' q → Needed most pins old left' q
   one-needed {most = most} {p = p} so much (last-goes e left' told q is releases) = record {
     evicted = e ∷ so.evicted;
@@ -164,7 +172,8 @@ module _ {N S E : Type 0} (tells : Telling S) where
     needed = subst (λ c. most < c) (ap cost_of is ∙ cost-push left' e) much;
   }
 
-  pub all-evicted : {pins : List Kept} {old : PagerView N S E} {left left' : List Kept} {p q : PagerView N S E} → SoFar pins old left p → EvictsLast tells left p None left' q
+  pub all-evicted : {pins : List Kept} {old : PagerView N S E} {left left' : List Kept} {p q : PagerView N S E} → SoFar pins old left p
+      → EvictsLast tells left p None left' q
       → Evicts tells old pins q
   all-evicted {old = old} {q = q} so (none-is-kept none) = subst (λ es. Evicts tells old es q) (sym (so.are ∙ ap (λ es. es ++ so.evicted) none)) so.evicts
 
@@ -191,7 +200,8 @@ bounded-with pins pins' cost most cell pin was fits are room = record {
 }
 
 -- pins in another order cost the same
-pub bounded-promoted : (pins pins' : LruCache ℕ KeptPin) (cost most cell : ℕ) → IsBounded pins cost most → pins' ≡ lru_cache (promoted (nat_eq cell) pins.entries) pins.cap
+pub bounded-promoted : (pins pins' : LruCache ℕ KeptPin) (cost most cell : ℕ) → IsBounded pins cost most → pins'
+    ≡ lru_cache (promoted (nat_eq cell) pins.entries) pins.cap
     → IsBounded pins' cost most
 bounded-promoted pins pins' cost most cell was are = subst (λ c. IsBounded c cost most) (sym are)
     (record { sum = was.sum ∙ sym (cost-promoted (nat_eq cell) pins.entries); within = was.within; wide = was.wide })
@@ -203,7 +213,8 @@ module _ {N S E : Type 0} (tells : Telling S) where
   stores-alone (pin-is-kept mid q trims) = same-storage tells trims.evicts.evicts
   stores-alone (no-memory-is-left told b' mid q trims releases) = releases.only.storage ∙ same-storage tells trims.evicts.evicts
 
-  admits-alone : {b b' : BudgetView} {p q : PagerView N S E} {cell : ℕ} {k : HandleNumber} {cost : ℕ} → Admits tells b p cell k cost b' q → q.storage ≡ p.storage
+  admits-alone : {b b' : BudgetView} {p q : PagerView N S E} {cell : ℕ} {k : HandleNumber} {cost : ℕ} → Admits tells b p cell k cost b' q → q.storage
+      ≡ p.storage
   admits-alone (costs-too-much much) = refl
   admits-alone (clone-is-refused e q fits clones) = clones.only.storage
   admits-alone (clone-is-stored c b' mid q fits clones stores) = stores-alone stores ∙ clones.only.storage
@@ -227,13 +238,15 @@ none-of : (cell : ℕ) (pins : List Kept) → is_some (lookup (nat_eq cell) pins
 none-of cell pins is = (promoted_absent nat_eq (lru_cache pins 0) cell is).0
 
 -- no pin of a cell is kept after a look for it that found none
-pub still-none : (cell : ℕ) (b mid : BudgetView) (kept : Bool) → kept ≡ is_some (lookup (nat_eq cell) b.pins) → mid ≡ touched cell b → kept ≡ false → lookup (nat_eq cell) mid.pins ≡ None
+pub still-none : (cell : ℕ) (b mid : BudgetView) (kept : Bool) → kept ≡ is_some (lookup (nat_eq cell) b.pins) → mid ≡ touched cell b → kept ≡ false
+    → lookup (nat_eq cell) mid.pins ≡ None
 still-none cell b mid kept is after none =
     let absent = sym is ∙ none in
     subst (λ (m : BudgetView). lookup (nat_eq cell) m.pins ≡ None) (sym (after ∙ as-miss cell b absent)) (none-of cell b.pins absent)
 
 module _ {N S E : Type 0} (tells : Telling S) where
-  pub trimmed : (b : BudgetView) (p q : PagerView N S E) (pins pins' : List Kept) (most n : ℕ) (stats : BudgetStats) (before after evictions : ℕ) → budget_of pins most stats ≡ b
+  pub trimmed : (b : BudgetView) (p q : PagerView N S E) (pins pins' : List Kept) (most n : ℕ) (stats : BudgetStats) (before after evictions : ℕ)
+      → budget_of pins most stats ≡ b
       → EvictsAbove tells n pins p pins' q → before ≡ length pins → after ≡ length pins' → evictions ≡ more stats.evictions (before - after)
       → Trims tells n b p (budget_of pins' most (record stats { evictions = evictions })) q
   trimmed b p q pins pins' most n stats before after evictions see evicts first then counts =
@@ -243,30 +256,36 @@ module _ {N S E : Type 0} (tells : Telling S) where
         stats = ap (λ k. let s : BudgetStats = record stats { evictions = k } in s) (counts ∙ ap₂ (λ x y. more stats.evictions (x - y)) first then);
       })
 
-  pub cleared : (b : BudgetView) (p q : PagerView N S E) (pins pins' : List Kept) (most : ℕ) (stats : BudgetStats) → budget_of pins most stats ≡ b → Evicts tells p pins q → pins' ≡ []
+  pub cleared : (b : BudgetView) (p q : PagerView N S E) (pins pins' : List Kept) (most : ℕ) (stats : BudgetStats) → budget_of pins most stats ≡ b
+      → Evicts tells p pins q → pins' ≡ []
       → Clears tells b p (budget_of pins' most stats) q
   cleared b p q pins pins' most stats see evicts none =
       subst (λ c. Clears tells c p (budget_of pins' most stats) q) see (record { evicts = evicts; none = ap (λ es. budget_of es most stats) none })
 
-  pub stored : (b mid : BudgetView) (p q : PagerView N S E) (cell : ℕ) (pin : KeptPin) (pins pins' : List Kept) (n most : ℕ) (stats : BudgetStats) → n ≡ b.most - pin.cost
+  pub stored : (b mid : BudgetView) (p q : PagerView N S E) (cell : ℕ) (pin : KeptPin) (pins pins' : List Kept) (n most : ℕ) (stats : BudgetStats) → n
+      ≡ b.most - pin.cost
       → budget_of pins most stats ≡ mid → pins' ≡ (cell, pin) ∷ pins → Trims tells n b p mid q → Stores tells b p cell pin (budget_of pins' most stats) q
   stored b mid p q cell pin pins pins' n most stats room see kept trims =
-      subst (λ c. Stores tells b p cell pin c q) (sym (ap (λ es. budget_of es most stats) kept ∙ ap (λ (m : BudgetView). budget_of ((cell, pin) ∷ m.pins) m.most m.stats) see))
+      subst (λ c. Stores tells b p cell pin c q) (sym (ap (λ es. budget_of es most stats) kept
+      ∙ ap (λ (m : BudgetView). budget_of ((cell, pin) ∷ m.pins) m.most m.stats) see))
       (pin-is-kept mid q (subst (λ k. Trims tells k b p mid q) room trims))
 
-  pub unstored : (b mid : BudgetView) (p low q : PagerView N S E) (cell : ℕ) (pin : KeptPin) (pins pins' : List Kept) (n most : ℕ) (stats : BudgetStats) (told : Result (Unit {0}) Error)
+  pub unstored : (b mid : BudgetView) (p low q : PagerView N S E) (cell : ℕ) (pin : KeptPin) (pins pins' : List Kept) (n most : ℕ) (stats : BudgetStats)
+      (told : Result (Unit {0}) Error)
       → n ≡ b.most - pin.cost → budget_of pins most stats ≡ mid → pins' ≡ pins → Trims tells n b p mid low → Releases tells low pin.handle told q
       → Stores tells b p cell pin (budget_of pins' most stats) q
   unstored b mid p low q cell pin pins pins' n most stats told room see same trims releases =
       subst (λ c. Stores tells b p cell pin c q) (sym (ap (λ es. budget_of es most stats) same ∙ see))
       (no-memory-is-left told mid low q (subst (λ k. Trims tells k b p mid low) room trims) releases)
 
-  pub kept-already : (b b' : BudgetView) (p : PagerView N S E) (k : HandleNumber) (cost : ℕ) (n : NodeNumber) (kept : Bool) → NodeCall (core_in tells p) k (Ok n)
+  pub kept-already : (b b' : BudgetView) (p : PagerView N S E) (k : HandleNumber) (cost : ℕ) (n : NodeNumber) (kept : Bool)
+      → NodeCall (core_in tells p) k (Ok n)
       → kept ≡ is_some (lookup (nat_eq n.0) b.pins) → b' ≡ touched n.0 b → kept ≡ true → Keeps tells b p k cost b' p
   kept-already b b' p k cost n kept call is after so =
       let there = sym is ∙ so in subst (λ c. Keeps tells b p k cost c p) (sym (after ∙ as-hit n.0 b there)) (cell-is-kept n call there)
 
-  pub came-new : (b mid b' : BudgetView) (p q : PagerView N S E) (k : HandleNumber) (cost : ℕ) (n : NodeNumber) (kept : Bool) → NodeCall (core_in tells p) k (Ok n)
+  pub came-new : (b mid b' : BudgetView) (p q : PagerView N S E) (k : HandleNumber) (cost : ℕ) (n : NodeNumber) (kept : Bool)
+      → NodeCall (core_in tells p) k (Ok n)
       → kept ≡ is_some (lookup (nat_eq n.0) b.pins) → mid ≡ touched n.0 b → kept ≡ false → Admits tells mid p n.0 k cost b' q → Keeps tells b p k cost b' q
   came-new b mid b' p q k cost n kept call is after so admits =
       let absent = sym is ∙ so in

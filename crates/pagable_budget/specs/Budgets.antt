@@ -39,7 +39,10 @@ counted false stats = record stats { misses = more stats.misses 1 }
 
 -- a hit or a miss of this cell is counted, and its pin becomes the most recently used
 abbrev pub touched : ℕ → BudgetView → BudgetView
-touched cell b = record b { pins = promoted (nat_eq cell) b.pins; stats = counted (is_some (lookup (nat_eq cell) b.pins)) b.stats }
+touched cell b = record b {
+  pins = promoted (nat_eq cell) b.pins;
+  stats = counted (is_some (lookup (nat_eq cell) b.pins)) b.stats;
+}
 
 abbrev pub hit : ℕ → BudgetView → BudgetView
 hit cell b = record b { pins = promoted (nat_eq cell) b.pins; stats = counted true b.stats }
@@ -62,24 +65,28 @@ module _ {N S E : Type 0} (tells : Telling S) where
   -- the handles of these pins are released, from the last to the first
   pub data Evicts (old : PagerView N S E) : List Kept → PagerView N S E → Type 0 where
     evicts-none : Evicts old [] old
-    evicts-more : (e : Kept) (later : List Kept) (told : Result (Unit {0}) Error) (mid new : PagerView N S E) → Evicts old later mid → Releases tells mid e.1.handle told new
+    evicts-more : (e : Kept) (later : List Kept) (told : Result (Unit {0}) Error) (mid new : PagerView N S E)
+        → Evicts old later mid → Releases tells mid e.1.handle told new
         → Evicts old (e ∷ later) new
 
   -- the last pin is released and its cost returned, or no pin is kept
   pub data EvictsLast (pins : List Kept) (old : PagerView N S E) : Option ℕ → List Kept → PagerView N S E → Type 0 where
     none-is-kept : pins ≡ [] → EvictsLast pins old None [] old
-    last-goes : (e : Kept) (left : List Kept) (told : Result (Unit {0}) Error) (new : PagerView N S E) → pins ≡ left ++ e ∷ [] → Releases tells old e.1.handle told new
+    last-goes : (e : Kept) (left : List Kept) (told : Result (Unit {0}) Error) (new : PagerView N S E) → pins ≡ left
+        ++ e ∷ [] → Releases tells old e.1.handle told new
         → EvictsLast pins old (Some e.1.cost) left new
 
   -- pins at the end are evicted until those that are left cost at most this much, and no more of them
-  pub record EvictsAbove (most : ℕ) (pins : List Kept) (old : PagerView N S E) (left : List Kept) (new : PagerView N S E) : Type 0 where
+  pub record EvictsAbove (most : ℕ) (pins : List Kept) (old : PagerView N S E) (left : List Kept)
+      (new : PagerView N S E) : Type 0 where
     pub evicted : List Kept
     pub are : pins ≡ left ++ evicted
     pub evicts : Evicts old evicted new
     pub within : cost_of left ≤ most
     pub needed : IsNeeded most left evicted
 
-  pub record Trims (most : ℕ) (b : BudgetView) (old : PagerView N S E) (b' : BudgetView) (new : PagerView N S E) : Type 0 where
+  pub record Trims (most : ℕ) (b : BudgetView) (old : PagerView N S E) (b' : BudgetView) (new : PagerView N S E) : Type
+      0 where
     pub evicts : EvictsAbove most b.pins old b'.pins new
     pub most_is : b'.most ≡ b.most
     pub stats : b'.stats ≡ record b.stats { evictions = more b.stats.evictions (length b.pins - length b'.pins) }
@@ -89,33 +96,47 @@ module _ {N S E : Type 0} (tells : Telling S) where
     pub none : b' ≡ record b { pins = [] }
 
   -- room is made for the pin, which is kept as the most recently used; or memory runs out and it is released
-  pub data Stores (b : BudgetView) (old : PagerView N S E) (cell : ℕ) (pin : KeptPin) : BudgetView → PagerView N S E → Type 0 where
-    pin-is-kept : (mid : BudgetView) (new : PagerView N S E) → Trims (b.most - pin.cost) b old mid new → Stores b old cell pin (record mid { pins = (cell, pin) ∷ mid.pins }) new
-    no-memory-is-left : (told : Result (Unit {0}) Error) (b' : BudgetView) (mid new : PagerView N S E) → Trims (b.most - pin.cost) b old b' mid → Releases tells mid pin.handle told new
+  pub data Stores (b : BudgetView) (old : PagerView N S E) (cell : ℕ) (pin : KeptPin) : BudgetView → PagerView N S E
+      → Type 0 where
+    pin-is-kept : (mid : BudgetView) (new : PagerView N S E) → Trims (b.most - pin.cost) b old mid new
+        → Stores b old cell pin (record mid { pins = (cell, pin) ∷ mid.pins }) new
+    no-memory-is-left : (told : Result (Unit {0}) Error) (b' : BudgetView) (mid new : PagerView N S E)
+        → Trims (b.most - pin.cost) b old b' mid → Releases tells mid pin.handle told new
         → Stores b old cell pin b' new
 
   -- a clone of the caller's pin is kept, if its cost is within the bound and the pager can make it
-  pub data Admits (b : BudgetView) (old : PagerView N S E) (cell : ℕ) (k : HandleNumber) (cost : ℕ) : BudgetView → PagerView N S E → Type 0 where
+  pub data Admits (b : BudgetView) (old : PagerView N S E) (cell : ℕ) (k : HandleNumber) (cost : ℕ) : BudgetView
+      → PagerView N S E → Type 0 where
     costs-too-much : b.most < cost → Admits b old cell k cost b old
-    clone-is-refused : (e : Error) (new : PagerView N S E) → cost ≤ b.most → Clones tells old k (Err e) new → Admits b old cell k cost b new
-    clone-is-stored : (c : HandleNumber) (b' : BudgetView) (mid new : PagerView N S E) → cost ≤ b.most → Clones tells old k (Ok c) mid
+    clone-is-refused : (e : Error) (new : PagerView N S E) → cost ≤ b.most → Clones tells old k (Err e) new
+        → Admits b old cell k cost b new
+    clone-is-stored : (c : HandleNumber) (b' : BudgetView) (mid new : PagerView N S E) → cost ≤ b.most
+        → Clones tells old k (Ok c) mid
         → Stores b mid cell (record { handle = c; cost = cost }) b' new → Admits b old cell k cost b' new
 
   -- A pin of the cell is kept beside the caller's, or was kept already. For a handle that isn't live none is kept.
-  pub data Keeps (b : BudgetView) (old : PagerView N S E) (k : HandleNumber) (cost : ℕ) : BudgetView → PagerView N S E → Type 0 where
+  pub data Keeps (b : BudgetView) (old : PagerView N S E) (k : HandleNumber) (cost : ℕ) : BudgetView → PagerView N S E
+      → Type 0 where
     no-cell : (e : Error) → NodeCall (core_in tells old) k (Err e) → Keeps b old k cost b old
-    cell-is-kept : (n : NodeNumber) → NodeCall (core_in tells old) k (Ok n) → is_some (lookup (nat_eq n.0) b.pins) ≡ true → Keeps b old k cost (hit n.0 b) old
-    cell-is-new : (n : NodeNumber) (b' : BudgetView) (new : PagerView N S E) → NodeCall (core_in tells old) k (Ok n) → lookup (nat_eq n.0) b.pins ≡ None
+    cell-is-kept : (n : NodeNumber) → NodeCall (core_in tells old) k (Ok n) → is_some (lookup (nat_eq n.0) b.pins)
+        ≡ true → Keeps b old k cost (hit n.0 b) old
+    cell-is-new : (n : NodeNumber) (b' : BudgetView) (new : PagerView N S E) → NodeCall (core_in tells old) k (Ok n)
+        → lookup (nat_eq n.0) b.pins ≡ None
         → Admits (missed b) old n.0 k cost b' new → Keeps b old k cost b' new
 
   -- the caller's pin is made, and then the budget's own; an error leaves the budget as it was
-  pub data PinsWithin (says : E → Values N) (b : BudgetView) (old : PagerView N S E) (h : HandleNumber) (cost : ℕ) : Result (HandleNumber × N) Error → BudgetView
+  pub data PinsWithin (says : E → Values N) (b : BudgetView) (old : PagerView N S E) (h : HandleNumber)
+      (cost : ℕ) : Result (HandleNumber × N) Error → BudgetView
       → PagerView N S E → Type 0 where
-    pin-is-refused : (e : Error) (new : PagerView N S E) → Pins tells says old h (Err e) new → PinsWithin says b old h cost (Err e) b new
-    pin-is-answered : (k : HandleNumber) (x : N) (b' : BudgetView) (mid new : PagerView N S E) → Pins tells says old h (Ok (k, x)) mid → Keeps b mid k cost b' new
+    pin-is-refused : (e : Error) (new : PagerView N S E) → Pins tells says old h (Err e) new
+        → PinsWithin says b old h cost (Err e) b new
+    pin-is-answered : (k : HandleNumber) (x : N) (b' : BudgetView) (mid new : PagerView N S E)
+        → Pins tells says old h (Ok (k, x)) mid → Keeps b mid k cost b' new
         → PinsWithin says b old h cost (Ok (k, x)) b' new
 
 -- nothing is done while at most this many cells are pending; else all pending cells are paged out
-pub data PagesOutAbove {N E : Type 0} (v : Values N) (most : ℕ) (s : PagerState N E) : Result (Unit {0}) PageOutError → PagerState N E → Type 0 where
+pub data PagesOutAbove {N E : Type 0} (v : Values N) (most : ℕ) (s : PagerState N E) : Result (Unit {0}) PageOutError
+    → PagerState N E → Type 0 where
   few-wait : length s.core.list ≤ most → PagesOutAbove v most s (Ok tt) s
-  many-wait : (r : Result (Unit {0}) PageOutError) (s' : PagerState N E) → most < length s.core.list → PagesOutList v s r s' → PagesOutAbove v most s r s'
+  many-wait : (r : Result (Unit {0}) PageOutError) (s' : PagerState N E) → most < length s.core.list
+      → PagesOutList v s r s' → PagesOutAbove v most s r s'

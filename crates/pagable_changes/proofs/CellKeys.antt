@@ -36,7 +36,8 @@ SetsAt w h key n q = (row : HandleRow) × (row_at w h ≡ Some row) × (n ≡ ro
 pub record KeysGo (w w' : Core) (SetAt : ℕ → ℕ → Type 0) : Type 0 where
   pub each : (n key : ℕ) → key_at w' n ≡ OptionalDataKey.Some key → ((t : ℕ) × (type_at w n ≡ Some t)) × ((key_at w n ≡ OptionalDataKey.Some key) ⊎ SetAt n key)
 
-keys-go : {w w' : Core} {c : Change} {SetAt : ℕ → ℕ → Type 0} → CoreGoes c w w' → ((t key : ℕ) → Bears c t (OptionalDataKey.Some key) → ⊥) → ((n key : ℕ) → Sets c n key → SetAt n key)
+keys-go : {w w' : Core} {c : Change} {SetAt : ℕ → ℕ → Type 0} → CoreGoes c w w' → ((t key : ℕ) → Bears c t (OptionalDataKey.Some key) → ⊥)
+    → ((n key : ℕ) → Sets c n key → SetAt n key)
     → KeysGo w w' SetAt
 keys-go {w} {w'} {c} {SetAt} goes none sets = record {
   each = λ n key is.
@@ -54,7 +55,8 @@ keys-go {w} {w'} {c} {SetAt} goes none sets = record {
 }
 
 module _ {N : Type 0} {v : Values N} {w w' : Core} where
-  pub quiet-keys : {call : Call N Blob} {reply : Reply N Blob} {c : Change} → CallFeels v w Owner.Caller call reply w' c → IsQuiet call → CoreGoes c w w' → KeysGo w w' (λ n key. ⊥)
+  pub quiet-keys : {call : Call N Blob} {reply : Reply N Blob} {c : Change} → CallFeels v w Owner.Caller call reply w' c → IsQuiet call → CoreGoes c w w'
+      → KeysGo w w' (λ n key. ⊥)
   quiet-keys (feels-nothing stays) quiet goes = keys-go goes (λ t key b. b) (λ n key b. b)
   quiet-keys (feels-birth x brings good) quiet goes = keys-go goes (λ t key b. let e = b.1 in cc) (λ n key b. b)
   quiet-keys (feels-away t key k) quiet goes = absurd quiet
@@ -64,7 +66,8 @@ module _ {N : Type 0} {v : Values N} {w w' : Core} where
   quiet-keys (feels-lazy l kind key k) quiet goes = absurd quiet
   quiet-keys (feels-end l x k good) quiet goes = absurd quiet
 
-  pub set-keys : {call : Call N Blob} {reply : Reply N Blob} {c : Change} (h : HandleNumber) (key : ℕ) → IsSetting h key call → CallFeels v w Owner.Caller call reply w' c → CoreGoes c w w'
+  pub set-keys : {call : Call N Blob} {reply : Reply N Blob} {c : Change} (h : HandleNumber) (key : ℕ) → IsSetting h key call
+      → CallFeels v w Owner.Caller call reply w' c → CoreGoes c w w'
       → KeysGo w w' (SetsAt w h key)
   set-keys h key is (feels-nothing stays) goes = keys-go goes (λ t q b. b) (λ n q b. absurd b)
   set-keys h key is (feels-birth x brings good) goes = keys-go goes (λ t q b. let e = b.1 in cc) (λ n q b. absurd b)
@@ -78,7 +81,8 @@ module _ {N : Type 0} {v : Values N} {w w' : Core} where
 -- ---- the keys of a node's references make its own
 
 module _ {hash : List ℕ → List ℕ} {types : Types} where
-  one-more-key : {kids : List Kid} {keys : List ℕ} (k : Kid) (key : ℕ) → KeysOf hash types kids keys → KeyOf hash types (tree_of_kid k) key → KeysOf hash types (kids ++ k ∷ []) (keys ++ key ∷ [])
+  one-more-key : {kids : List Kid} {keys : List ℕ} (k : Kid) (key : ℕ) → KeysOf hash types kids keys → KeyOf hash types (tree_of_kid k) key
+      → KeysOf hash types (kids ++ k ∷ []) (keys ++ key ∷ [])
   one-more-key k key no-keys is = more-keys k [] key [] is no-keys
   one-more-key k key (more-keys x kids q keys first rest) is = more-keys x _ q _ first (one-more-key k key rest is)
 

@@ -11,17 +11,20 @@ use Rattle.std.proofs.lemmas.{Bool.Decides.nat_tests, List.{take_all, take_more}
 use Rattle.std.specs.Prelude.{slice_get}
 
 -- what was done in an environment that is the same
-pub at-same : {N E X : Type 0} (says : E → Values N) {e e' : E} {does : Core → Type 0} {s s' : PagerState N X} → e' ≡ e → Called (says e') does s s' → Called (says e) does s s'
+pub at-same : {N E X : Type 0} (says : E → Values N) {e e' : E} {does : Core → Type 0} {s s' : PagerState N X} → e' ≡ e → Called (says e') does s s'
+    → Called (says e) does s s'
 at-same says {does = does} {s} {s'} same c = subst (λ x. Called (says x) does s s') same c
 
 pub pins-same : {N E X : Type 0} (says : E → Values N) {e e' : E} {c : HandleNumber} {r : Result HandleNumber Error} {s s' : PagerState N X} → e' ≡ e
     → PinsLoosely (says e') c s r s' → PinsLoosely (says e) c s r s'
 pins-same says {c = c} {r} {s} {s'} same p = subst (λ x. PinsLoosely (says x) c s r s') same p
 
-pub lets-same : {N E X : Type 0} (says : E → Values N) {e e' : E} {c k : HandleNumber} {s s' : PagerState N X} → e' ≡ e → LetsGo (says e') c k s s' → LetsGo (says e) c k s s'
+pub lets-same : {N E X : Type 0} (says : E → Values N) {e e' : E} {c k : HandleNumber} {s s' : PagerState N X} → e' ≡ e → LetsGo (says e') c k s s'
+    → LetsGo (says e) c k s s'
 lets-same says {c = c} {k} {s} {s'} same p = subst (λ x. LetsGo (says x) c k s s') same p
 
-pub writes-same : {N E X : Type 0} (says : E → Values N) {e e' : E} {r : ArcRef} {c k : HandleNumber} {w : Written} {s : PagerState N X} → e' ≡ e → WritesTaken (says e') s r c k w
+pub writes-same : {N E X : Type 0} (says : E → Values N) {e e' : E} {r : ArcRef} {c k : HandleNumber} {w : Written} {s : PagerState N X} → e' ≡ e
+    → WritesTaken (says e') s r c k w
     → WritesTaken (says e) s r c k w
 writes-same says {r = r} {c} {k} {w} {s} same p = subst (λ x. WritesTaken (says x) s r c k w) same p
 
@@ -33,16 +36,20 @@ pub unset-same : {N E X : Type 0} (says : E → Values N) {e e' : E} {o : OpenNo
     → IsUnset (says e') o key s why s' → IsUnset (says e) o key s why s'
 unset-same says {o = o} {key} {why} {s} {s'} same p = subst (λ x. IsUnset (says x) o key s why s') same p
 
-pub gives-same : {N E X : Type 0} (says : E → Values N) {e e' : E} {path : List OpenNode} {s s' : PagerState N X} → e' ≡ e → GivesUp (says e') path s s' → GivesUp (says e) path s s'
+pub gives-same : {N E X : Type 0} (says : E → Values N) {e e' : E} {path : List OpenNode} {s s' : PagerState N X} → e' ≡ e → GivesUp (says e') path s s'
+    → GivesUp (says e) path s s'
 gives-same says {path = path} {s} {s'} same p = subst (λ x. GivesUp (says x) path s s') same p
 
-pub turned-same : {N E X : Type 0} (says : E → Values N) {e e' : E} {a b : Stage N X} {key : Option ℕ} → e' ≡ e → Turned (says e') a key b → Turned (says e) a key b
+pub turned-same : {N E X : Type 0} (says : E → Values N) {e e' : E} {a b : Stage N X} {key : Option ℕ} → e' ≡ e → Turned (says e') a key b
+    → Turned (says e) a key b
 turned-same says {a = a} {b} {key} same p = subst (λ x. Turned (says x) a key b) same p
 
-pub fails-same : {N E X : Type 0} (says : E → Values N) {e e' : E} {a : Stage N X} {why : Error} {s' : PagerState N X} → e' ≡ e → TurnFails (says e') a why s' → TurnFails (says e) a why s'
+pub fails-same : {N E X : Type 0} (says : E → Values N) {e e' : E} {a : Stage N X} {why : Error} {s' : PagerState N X} → e' ≡ e → TurnFails (says e') a why s'
+    → TurnFails (says e) a why s'
 fails-same says {a = a} {why} {s'} same p = subst (λ x. TurnFails (says x) a why s') same p
 
-pub walks-same : {N E X : Type 0} (says : E → Values N) {e e' : E} {first : OpenNode} {r : Result ℕ Error} {s s' : PagerState N X} → e' ≡ e → Walks (says e') first s r s'
+pub walks-same : {N E X : Type 0} (says : E → Values N) {e e' : E} {first : OpenNode} {r : Result ℕ Error} {s s' : PagerState N X} → e' ≡ e
+    → Walks (says e') first s r s'
     → Walks (says e) first s r s'
 walks-same says {first = first} {r} {s} {s'} same walks = subst (λ x. Walks (says x) first s r s') same walks
 
@@ -70,17 +77,22 @@ module _ {N E : Type 0} (v : Values N) (o : OpenNode) (key : ℕ) (s s' : PagerS
 pub no-keys-yet : {found : FoundKeys} {w : Core} (rs : List ArcRef) {keys : List ℕ} → keys ≡ [] → AllHave found w (take 0 rs) keys
 no-keys-yet {found} {w} rs is = subst (λ ks. AllHave found w (take 0 rs) ks) (sym is) none-are-asked
 
-pub one-key-more : {found : FoundKeys} {w : Core} (rs : List ArcRef) (at : ℕ) (r : ArcRef) (key : ℕ) {keys keys' : List ℕ} → take (at + 1) rs ≡ take at rs ++ r ∷ []
+pub one-key-more : {found : FoundKeys} {w : Core} (rs : List ArcRef) (at : ℕ) (r : ArcRef) (key : ℕ) {keys keys' : List ℕ} → take (at + 1) rs ≡ take at rs ++ r
+    ∷ []
     → AllHave found w (take at rs) keys → HasKey found w r key → keys' ≡ keys ++ key ∷ [] → AllHave found w (take (at + 1) rs) keys'
 one-key-more {found} {w} rs at r key {keys} {keys'} one so has is =
-    subst (λ ks. AllHave found w (take (at + 1) rs) ks) (sym is) (subst (λ xs. AllHave found w xs (keys ++ key ∷ [])) (sym one) (one-more-has (take at rs) keys r key so has))
+    subst (λ ks. AllHave found w (take (at + 1) rs) ks) (sym is) (subst (λ xs. AllHave found w xs (keys ++ key ∷ [])) (sym one)
+    (one-more-has (take at rs) keys r key so has))
 
-pub one-taken : {found : FoundKeys} {w : Core} {rs : List ArcRef} {at : ℕ} {keys keys' : List ℕ} → AllHave found w (take at rs) keys → TakesKey found w rs at keys keys'
+pub one-taken : {found : FoundKeys} {w : Core} {rs : List ArcRef} {at : ℕ} {keys keys' : List ℕ} → AllHave found w (take at rs) keys
+    → TakesKey found w rs at keys keys'
     → AllHave found w (take (at + 1) rs) keys'
 one-taken {rs = rs} {at} so t =
-    one-key-more rs at t.r t.key (take_more rs at t.r (slice_get_within rs at t.r t.there) ∙ ap (λ x. take at rs ++ x ∷ []) (get_or_from_slice_get rs at t.r t.r t.there)) so t.has t.added
+    one-key-more rs at t.r t.key (take_more rs at t.r (slice_get_within rs at t.r t.there)
+    ∙ ap (λ x. take at rs ++ x ∷ []) (get_or_from_slice_get rs at t.r t.r t.there)) so t.has t.added
 
-pub all-taken : {found : FoundKeys} {w : Core} (rs : List ArcRef) {at : ℕ} {keys : List ℕ} → length rs ≤ at → AllHave found w (take at rs) keys → AllHave found w rs keys
+pub all-taken : {found : FoundKeys} {w : Core} (rs : List ArcRef) {at : ℕ} {keys : List ℕ} → length rs ≤ at → AllHave found w (take at rs) keys
+    → AllHave found w rs keys
 all-taken {found} {w} rs {at} {keys} past so = subst (λ xs. AllHave found w xs keys) (take_all at rs past) so
 
 -- a node is left, or isn't
@@ -88,7 +100,8 @@ module _ {N E : Type 0} (v : Values N) {found : FoundKeys} {s mid : PagerState N
   stores-over : {r : Result ℕ Error} → StoresBlob v s blob r mid → StoresBlob v s (blob_of (written_of o.written).bytes over.keys) r mid
   stores-over {r} stores = subst (λ b. StoresBlob v s b r mid) over.is stores
 
-  pub leaves-by : {ready found' : FoundKeys} {low s' : PagerState N E} {key : ℕ} → StoresBlob v s blob (Ok key) mid → ((n : ℕ) → ready n ≡ found n) → SetsFor v ready o key mid found' low
+  pub leaves-by : {ready found' : FoundKeys} {low s' : PagerState N E} {key : ℕ} → StoresBlob v s blob (Ok key) mid → ((n : ℕ) → ready n ≡ found n)
+      → SetsFor v ready o key mid found' low
       → LetsGo v o.through o.pin low s' → Leaves v found s o key found' s'
   leaves-by {ready} {found'} {low} {s'} {key} stores same sets lets = record {
     keys = over.keys;
@@ -117,7 +130,8 @@ module _ {N E : Type 0} (v : Values N) (s s' : PagerState N E) (path path' : Lis
   nowhere-by (Ok u) fails = tt
   nowhere-by (Err e) fails = isnt-entered e q s' (o.keyed, sym next) none fails
 
-last-by : {N E : Type 0} (v : Values N) {first : OpenNode} {s : PagerState N E} {a b : Stage N E} {key : ℕ} → Turns v (stage [] first nothing_found s) a → Turned v a (Some key) b
+last-by : {N E : Type 0} (v : Values N) {first : OpenNode} {s : PagerState N E} {a b : Stage N E} {key : ℕ} → Turns v (stage [] first nothing_found s) a
+    → Turned v a (Some key) b
     → Walks v first s (Ok key) b.pager
 last-by v {a = a} so (last-is-left key b none leaves) = all-is-stored a b key so none leaves
 
@@ -125,7 +139,8 @@ pub next-stage : {N E : Type 0} (v : Values N) {a b c : Stage N E} → Turns v a
 next-stage v {a} {b} so (turns-once d turn) = one-more-turn a b d so turn
 
 -- one of the nodes is given up
-pub one-given-up : {N E : Type 0} (v : Values N) {path path' : List OpenNode} (o : OpenNode) {s mid s' : PagerState N E} → path ≡ path' ++ o ∷ [] → LetsGo v o.through o.pin s mid
+pub one-given-up : {N E : Type 0} (v : Values N) {path path' : List OpenNode} (o : OpenNode) {s mid s' : PagerState N E} → path ≡ path' ++ o ∷ []
+    → LetsGo v o.through o.pin s mid
     → GivesUp v path' mid s' → GivesUp v path s s'
 one-given-up v {path' = path'} o {s} {mid} {s'} is lets gives = subst (λ p. GivesUp v p s s') (sym is) (one-goes-first path' o s mid s' lets gives)
 
@@ -133,7 +148,8 @@ pub none-left : {N E : Type 0} (v : Values N) {path : List OpenNode} {s : PagerS
 none-left v {s = s} is = subst (λ p. GivesUp v p s s) (sym is) (none-is-open s)
 
 -- the walk from its turns
-module _ {N E : Type 0} (v : Values N) {first : OpenNode} {s : PagerState N E} {path : List OpenNode} {found : FoundKeys} (none : path ≡ []) (empty : (n : ℕ) → found n ≡ None) where
+module _ {N E : Type 0} (v : Values N) {first : OpenNode} {s : PagerState N E} {path : List OpenNode} {found : FoundKeys} (none : path ≡ [])
+    (empty : (n : ℕ) → found n ≡ None) where
   pub same-start : {b : Stage N E} → Turns v (stage path first found s) b → Turns v (stage [] first nothing_found s) b
   same-start {b} turns =
       subst (λ f. Turns v (stage [] first f s) b) (λ i n. empty n i) (subst (λ p. Turns v (stage p first found s) b) none turns)
@@ -141,7 +157,8 @@ module _ {N E : Type 0} (v : Values N) {first : OpenNode} {s : PagerState N E} {
   pub walks-by : {b : Stage N E} {key : ℕ} → TurnsOut v (stage path first found s) key b → Walks v first s (Ok key) b.pager
   walks-by t = last-by v (same-start t.so) t.out
 
-  pub refused-by : {path' : List OpenNode} {node' : OpenNode} {e : Error} {mid low s' : PagerState N E} → TurnsFail v (stage path first found s) e path' node' mid
+  pub refused-by : {path' : List OpenNode} {node' : OpenNode} {e : Error} {mid low s' : PagerState N E}
+      → TurnsFail v (stage path first found s) e path' node' mid
       → LetsGo v node'.through node'.pin mid low → GivesUp v path' low s' → Walks v first s (Err e) s'
   refused-by {e = e} {mid} {low} {s'} t lets gives =
       walk-is-refused t.last e mid low s' (same-start t.so) t.fails (subst (λ (o : OpenNode). LetsGo v o.through o.pin mid low) t.node_is lets)

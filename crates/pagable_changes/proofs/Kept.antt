@@ -39,7 +39,8 @@ looked-keys [] = all-looked []
 looked-keys (r ∷ refs) = one-looked r.key (map key_of_ref refs) r refs (Ok []) refl (looked-keys refs)
 
 -- what is stored as a form reads as its meaning
-stored-reads : (store : ℕ → Option Blob) (types : Types) (type key : ℕ) (m : Meaning KeyRef) → IsReadableType types type → StoredAs store types type key m → ReadsAs store types type key m
+stored-reads : (store : ℕ → Option Blob) (types : Types) (type key : ℕ) (m : Meaning KeyRef) → IsReadableType types type → StoredAs store types type key m
+    → ReadsAs store types type key m
 unfolding read
 stored-reads store types type key m can h =
     let whole = rw append-nil at (form-again [] h.form (looked-keys h.refs) (can h.shape h.is)) in
@@ -58,7 +59,8 @@ abbrev keyed : FoundKeys → Core → ArcRef → KeyRef
 keyed found w r = key_ref r.kind.0 (key_now found w r)
 
 -- the cell of the reference has this key
-cell-key : {w : Core} (r : ArcRef) {key : ℕ} → NodeCall w r.handle (Ok r.node) → KeyCall w r.handle (Ok (OptionalDataKey.Some key)) → key_at w r.node.0 ≡ OptionalDataKey.Some key
+cell-key : {w : Core} (r : ArcRef) {key : ℕ} → NodeCall w r.handle (Ok r.node) → KeyCall w r.handle (Ok (OptionalDataKey.Some key)) → key_at w r.node.0
+    ≡ OptionalDataKey.Some key
 cell-key {w} r at keys =
     let rows : keys.found.0 ≡ at.found.0 = same_some _ _ (sym keys.found.1 ∙ at.found.1) in
     ap (λ n. key_at w n.0) (at.found.2 ∙ ap (λ (q : HandleRow). q.node) (sym rows)) ∙ sym keys.found.2
@@ -73,7 +75,8 @@ keys-now {found} {w} (one-more-has rs keys r key all one) =
     ap (λ ks. ks ++ key ∷ []) (keys-now all) ∙ ap (λ k. map key_of_ref (map (keyed found w) rs) ++ k ∷ []) (sym (has-now one))
     ∙ sym (map-append key_of_ref (map (keyed found w) rs) (keyed found w r ∷ [])) ∙ ap (λ ks. map key_of_ref ks) (sym (map-append (keyed found w) rs (r ∷ [])))
 
-each-has : {found : FoundKeys} {w : Core} {rs : List ArcRef} {keys : List ℕ} → AllHave found w rs keys → (r : ArcRef) → Among rs r → (key : ℕ) × HasKey found w r key
+each-has : {found : FoundKeys} {w : Core} {rs : List ArcRef} {keys : List ℕ} → AllHave found w rs keys → (r : ArcRef) → Among rs r → (key : ℕ)
+    × HasKey found w r key
 each-has none-are-asked r among = absurd cc
 each-has {found} {w} (one-more-has rs keys q key all one) r (i, is) = elim (pushed rs q i r is) [
   | inl old ↦ each-has all r (i, old)
@@ -82,7 +85,8 @@ each-has {found} {w} (one-more-has rs keys q key all one) r (i, is) = elim (push
 
 module _ {stored : ℕ → Option Blob} {types : Types} {trees : ℕ → Tree} (f : ArcRef → ℕ) (rs : List ArcRef)
     (reads : (r : ArcRef) → Among rs r → ((trees r.node.0).type ≡ type_of r.kind.0) × ReadsTree stored types (f r) (trees r.node.0)) where
-  follows-keys : {x : Meaning ArcRef} {a : Meaning ⊥} → FollowsTo trees rs x a → IsFollowed (ReadsAs stored types) (rename (λ (r : ArcRef). key_ref r.kind.0 (f r)) x) a
+  follows-keys : {x : Meaning ArcRef} {a : Meaning ⊥} → FollowsTo trees rs x a
+      → IsFollowed (ReadsAs stored types) (rename (λ (r : ArcRef). key_ref r.kind.0 (f r)) x) a
   unfolding rename
   follows-keys (pair-leads x y a b h k) = pair-followed _ _ a b (follows-keys h) (follows-keys k)
   follows-keys (variant-leads i x a h) = variant-followed i _ a (follows-keys h)
@@ -96,10 +100,12 @@ module _ {stored : ℕ → Option Blob} {types : Types} {trees : ℕ → Tree} (
 -- a form of a tree, stored over keys that read as what its references lead to, reads as the tree
 blob-reads : {types : Types} {g : Ground} {n key : ℕ} {written : Written} {keys : List ℕ} {found : FoundKeys} {w : Core} → WroteTree types g n written
     → AllHave found w written.references keys
-    → ((r : ArcRef) → Among written.references r → ((g.trees r.node.0).type ≡ type_of r.kind.0) × ReadsTree g.stored types (key_now found w r) (g.trees r.node.0))
+    → ((r : ArcRef) → Among written.references r → ((g.trees r.node.0).type ≡ type_of r.kind.0)
+    × ReadsTree g.stored types (key_now found w r) (g.trees r.node.0))
     → g.stored key ≡ Some (blob_of written.bytes keys) → ReadsTree g.stored types key (g.trees n)
 blob-reads {types} {g} {n} {key} {written} {keys} {found} {w} wrote_it have reads is_stored =
-    let form = keeps_forms (keyed found w) kind_of_arc kind_of_ref types.parts deepest wrote_it.shape wrote_it.own written.bytes written.references (λ r. refl) wrote_it.form in
+    let form = keeps_forms (keyed found w) kind_of_arc kind_of_ref types.parts deepest wrote_it.shape wrote_it.own written.bytes written.references
+    (λ r. refl) wrote_it.form in
     let under : StoredAs g.stored types (g.trees n).type key (rename (keyed found w) wrote_it.own) = record {
       shape = wrote_it.shape;
       is = wrote_it.is;
@@ -170,7 +176,8 @@ module _ {N E : Type 0} (v : Values N) (lawful : IsLawful v) (M : Type 0) where
   }
 
   -- keys are the trees' after a call, where what it set is
-  keys-on : (s s' : PagerState N E) {trees trees' : ℕ → Tree} {SetAt : ℕ → ℕ → Type 0} → WellFormed v s → KeysGo s.core s'.core SetAt → SameTrees s.core.last.node trees trees'
+  keys-on : (s s' : PagerState N E) {trees trees' : ℕ → Tree} {SetAt : ℕ → ℕ → Type 0} → WellFormed v s → KeysGo s.core s'.core SetAt
+      → SameTrees s.core.last.node trees trees'
       → (M → (n key : ℕ) → SetAt n key → KeyOf v.hash v.types (trees n) key) → AreKeyed s trees → AreKeyed s' trees'
   keys-on s s' {trees} {trees'} well go same sets keyed m n key is =
       let (typed, had) = go.each n key is in
@@ -181,15 +188,27 @@ module _ {N E : Type 0} (v : Values N) (lawful : IsLawful v) (M : Type 0) where
   by-call : {does : Core → Type 0} {s s' : PagerState N E} {trees : ℕ → Tree} {SetAt : ℕ → ℕ → Type 0} (call : Call N Blob) (reply : Reply N Blob)
       → ((c : Change) → CallFeels v s.core Owner.Caller call reply s'.core c → CoreGoes c s.core s'.core → KeysGo s.core s'.core SetAt)
       → (M → (n key : ℕ) → SetAt n key → KeyOf v.hash v.types (trees n) key) → KeepsOpen {N = N} {B = Blob} {W = Written} (Event.Call call)
-      → Called v does s s' → (does s'.core → Does (seen_in v) s.core Owner.Caller call reply s'.core) → AsksWell v s trees call reply → Stands v s trees → Went s trees s'
+      → Called v does s s' → (does s'.core → Does (seen_in v) s.core Owner.Caller call reply s'.core) → AsksWell v s trees call reply → Stands v s trees
+      → Went s trees s'
   by-call {s = s} {s'} call reply keys_go sets stays_open c is asks at =
-      let one : IsCall (seen_in v) s call reply s' = record { step = record { does = is c.step }; moves = no-value (seen_in v) lawful call c.moves; whole = c.whole } in
+      let one : IsCall (seen_in v) s call reply s' = record {
+        step = record { does = is c.step };
+        moves = no-value (seen_in v) lawful call c.moves;
+        whole = c.whole;
+      } in
       let r = (call-stays (seen_in v) lawful call reply at one stays_open asks (still-settled (seen_in v) lawful at c)).0 in
       let g = calls-go (seen_in v) s.core Owner.Caller caller-free s'.core call reply stays_open (is c.step) in
-      record { trees' = r.trees'; after = r.after; now = r.now; kept = g.does.goes.stored; keys = keys-on s s' at.well (keys_go g.change g.feels g.does.goes) r.after.same sets }
+      record {
+        trees' = r.trees';
+        after = r.after;
+        now = r.now;
+        kept = g.does.goes.stored;
+        keys = keys-on s s' at.well (keys_go g.change g.feels g.does.goes) r.after.same sets;
+      }
 
   quietly : {does : Core → Type 0} {s s' : PagerState N E} {trees : ℕ → Tree} (call : Call N Blob) (reply : Reply N Blob) → IsQuiet call
-      → KeepsOpen {N = N} {B = Blob} {W = Written} (Event.Call call) → Called v does s s' → (does s'.core → Does (seen_in v) s.core Owner.Caller call reply s'.core)
+      → KeepsOpen {N = N} {B = Blob} {W = Written} (Event.Call call) → Called v does s s'
+      → (does s'.core → Does (seen_in v) s.core Owner.Caller call reply s'.core)
       → AsksWell v s trees call reply → Stands v s trees → Went s trees s'
   quietly call reply quiet = by-call call reply (λ c feels goes. quiet-keys feels quiet goes) (λ m n key set. absurd set)
 
@@ -199,7 +218,8 @@ module _ {N E : Type 0} (v : Values N) (lawful : IsLawful v) (M : Type 0) where
       went-then a (quietly (Call.Release c) (Reply.Done freed) tt tt last (λ d. d) tt a.now)
   lets-go {k = k} (one-goes told s' same first) at = quietly (Call.Release k) (Reply.Done told) tt tt first (λ d. d) tt at
 
-  pins-go : {s s' : PagerState N E} {trees : ℕ → Tree} {c : HandleNumber} {r : Result HandleNumber Error} → PinsLoosely v c s r s' → Stands v s trees → Went s trees s'
+  pins-go : {s s' : PagerState N E} {trees : ℕ → Tree} {c : HandleNumber} {r : Result HandleNumber Error} → PinsLoosely v c s r s' → Stands v s trees
+      → Went s trees s'
   pins-go {c = c} (cell-is-pinned k s' call) at = quietly (Call.Pin c) (Reply.Pin _) tt tt call (λ d. d) tt at
   pins-go {c = c} (cell-is-away key s' call) at = quietly (Call.Pin c) (Reply.Pin _) tt tt call (λ d. d) tt at
   pins-go {c = c} (cell-is-not-pinned e s' call) at = quietly (Call.Pin c) (Reply.Pin _) tt tt call (λ d. d) tt at
@@ -256,15 +276,27 @@ module _ {N E : Type 0} (v : Values N) (lawful : IsLawful v) (M : Type 0) where
     is_key = λ m. subst (λ t. KeyOf v.hash v.types t key) (sym (a.after.same n k.given)) (k.is_key m);
   }
 
-  wrote-on : {s s' : PagerState N E} {trees : ℕ → Tree} (a : Went s trees s') {n : ℕ} {written : Written} → n ≤ s.core.last.node → WroteTree v.types (ground s trees) n written
+  wrote-on : {s s' : PagerState N E} {trees : ℕ → Tree} (a : Went s trees s') {n : ℕ} {written : Written} → n ≤ s.core.last.node
+      → WroteTree v.types (ground s trees) n written
       → WroteTree v.types (ground s' a.trees') n written
   wrote-on {s} {s'} {trees} a {n} {written} given w =
       let same = a.after.same n given in
-      let inside : (r : ArcRef) → Among written.references r → r.node.0 ≤ s'.core.last.node = λ r among. let le = w.given r among in let more = a.after.nodes in omega (arith, le, more) in
+      let inside : (r : ArcRef) → Among written.references r → r.node.0 ≤ s'.core.last.node = λ r among. let le = w.given r among in let more =
+      a.after.nodes in omega (arith, le, more) in
       let follows : FollowsTo a.trees' written.references w.own (a.trees' n).meaning =
-      leads-on (subst (λ (t : Tree). FollowsTo trees written.references w.own t.meaning) (sym same) w.follows) (λ r own among. (among, a.after.same r.node.0 (w.given r among))) in
+      leads-on (subst (λ (t : Tree). FollowsTo trees written.references w.own t.meaning) (sym same) w.follows)
+      (λ r own among. (among, a.after.same r.node.0 (w.given r among))) in
       let can = subst (λ (t : Tree). IsReadableType v.types t.type) (sym same) w.can in
-      record { shape = w.shape; own = w.own; is = ap (λ (t : Tree). v.types.nodes t.type) same ∙ w.is; can = can; form = w.form; follows = follows; given = inside; once = w.once }
+      record {
+        shape = w.shape;
+        own = w.own;
+        is = ap (λ (t : Tree). v.types.nodes t.type) same ∙ w.is;
+        can = can;
+        form = w.form;
+        follows = follows;
+        given = inside;
+        once = w.once;
+      }
 
   open-on : {s s' : PagerState N E} {trees : ℕ → Tree} (a : Went s trees s') {o : OpenNode} → OpenFits s trees o → OpenFits s' a.trees' o
   open-on {s} {s'} {trees} a {o} f = record {
@@ -293,7 +325,8 @@ module _ {N E : Type 0} (v : Values N) (lawful : IsLawful v) (M : Type 0) where
         let o_is = e.of in
         let through = w.at.found in
         let written : WroteTree v.types (ground s' a.trees') r.node.0 (written_of o.written) =
-        wrote a.now.stands well a.now.settled lawful r.node.0 (written_of o.written) (readable _) (record { x = x; held = has; form = w.writes.form.form; listed = w.writes.form.listed }) in (
+        wrote a.now.stands well a.now.settled lawful r.node.0 (written_of o.written) (readable _)
+        (record { x = x; held = has; form = w.writes.form.form; listed = w.writes.form.listed }) in (
           a,
           record {
             given = subst (λ (q : ArcRef). q.node.0 ≤ s'.core.last.node) (sym o_is) live.1;
@@ -307,13 +340,15 @@ module _ {N E : Type 0} (v : Values N) (lawful : IsLawful v) (M : Type 0) where
           },
         )
 
-    key-fits : {s : PagerState N E} {n : ℕ} {t : Tree} → NodeStands v s n t → (key : ℕ) → key_at s.core n ≡ OptionalDataKey.Some key → ReadsTree s.core.stored v.types key t
+    key-fits : {s : PagerState N E} {n : ℕ} {t : Tree} → NodeStands v s n t → (key : ℕ) → key_at s.core n ≡ OptionalDataKey.Some key
+        → ReadsTree s.core.stored v.types key t
     key-fits (here n x own t there typed means stands fits) key set = fits key set
     key-fits (away n key2 t none keyed2 fits) key set = fits key set
 
     -- ---- the blob over the keys that are there reads as the node's tree
 
-    has-reads : {s : PagerState N E} {trees : ℕ → Tree} {found : FoundKeys} {r : ArcRef} {key : ℕ} → Stands v s trees → AreKeyed s trees → FoundFits s trees found
+    has-reads : {s : PagerState N E} {trees : ℕ → Tree} {found : FoundKeys} {r : ArcRef} {key : ℕ} → Stands v s trees → AreKeyed s trees
+        → FoundFits s trees found
         → HasKey found s.core r key → KeyReads s trees r.node.0 key
     has-reads {s} {trees} {r = r} {key} at keyed fits (cell-has-key key2 loose node keys) =
         let live = subst (λ n. 0 < held n.0 s.core.rows) (sym node.found.2) (row-held s.core r.handle node.found.0 node.found.1) in
@@ -333,23 +368,29 @@ module _ {N E : Type 0} (v : Values N) (lawful : IsLawful v) (M : Type 0) where
       pub fits : OpenFits mid went.trees' o
       pub reads : KeyReads mid went.trees' o.reference.node.0 key
 
-    stores-fit : {s mid : PagerState N E} {trees : ℕ → Tree} {o : OpenNode} {found : FoundKeys} {key : ℕ} {keys : List ℕ} → AllHave found s.core (written_of o.written).references keys
+    stores-fit : {s mid : PagerState N E} {trees : ℕ → Tree} {o : OpenNode} {found : FoundKeys} {key : ℕ} {keys : List ℕ}
+        → AllHave found s.core (written_of o.written).references keys
         → StoresBlob v s (blob_of (written_of o.written).bytes keys) (Ok key) mid → Stands v s trees → AreKeyed s trees → OpenFits s trees o
         → FoundFits s trees found → Stored s trees o key mid
     stores-fit {s} {mid} {trees} {o} {found} {key} {keys} have stores at keyed fits founds =
         let blob = blob_of (written_of o.written).bytes keys in
         let a = quietly (Call.Store blob) (Reply.Stored (Ok key)) tt tt stores (λ d. d) tt at in
         let f = open-on a fits in
-        let is_stored : mid.core.stored key ≡ Some blob = stores.step.stores.1.adds.each key ∙ ap (λ b. if b then Some blob else s.core.stored key) (self-equal key) in
+        let is_stored : mid.core.stored key ≡ Some blob = stores.step.stores.1.adds.each key
+        ∙ ap (λ b. if b then Some blob else s.core.stored key) (self-equal key) in
         let each : (r : ArcRef) → Among (written_of o.written).references r
         → ((a.trees' r.node.0).type ≡ type_of r.kind.0) × ReadsTree mid.core.stored v.types (key_now found s.core r) (a.trees' r.node.0) = λ r among.
-        let h = each-has have r among in
-        (f.typed r among, subst (λ q. ReadsTree mid.core.stored v.types q (a.trees' r.node.0)) (sym (has-now h.1)) (key-on a (has-reads at keyed founds h.1)).reads) in
+        let h = each-has have r among in (
+          f.typed r among,
+          subst (λ q. ReadsTree mid.core.stored v.types q (a.trees' r.node.0)) (sym (has-now h.1))
+              (key-on a (has-reads at keyed founds h.1)).reads,
+        ) in
         let kids : M → KeysOf v.hash v.types (kids_of a.trees' (written_of o.written).references) keys = λ m.
         all-keys a.trees' have (λ r q among has. rw (← f.typed r among) ((key-on a (has-reads at keyed founds has)).is_key m)) in
         let is_key : M → KeyOf v.hash v.types (a.trees' o.reference.node.0) key = λ m.
         subst (λ q. KeyOf v.hash v.types (a.trees' o.reference.node.0) q) (sym stores.step.stores.0)
-        (key-of (a.trees' o.reference.node.0) f.wrote.shape (written_of o.written).bytes (kids_of a.trees' (written_of o.written).references) keys f.wrote.is (tree-form f.wrote) (kids m)) in
+        (key-of (a.trees' o.reference.node.0) f.wrote.shape (written_of o.written).bytes (kids_of a.trees' (written_of o.written).references) keys f.wrote.is
+        (tree-form f.wrote) (kids m)) in
         record { went = a; fits = f; reads = record { given = f.given; reads = blob-reads f.wrote have each is_stored; is_key = is_key } }
 
     -- the key that is set through the node's handle is its tree's
@@ -364,10 +405,12 @@ module _ {N E : Type 0} (v : Values N) (lawful : IsLawful v) (M : Type 0) where
       pub went : Went s trees s'
       pub found : FoundFits s' went.trees' found'
 
-    sets-fit : {s s' : PagerState N E} {trees : ℕ → Tree} {o : OpenNode} {found found' : FoundKeys} {key : ℕ} → SetsFor v found o key s found' s' → Stands v s trees → OpenFits s trees o
+    sets-fit : {s s' : PagerState N E} {trees : ℕ → Tree} {o : OpenNode} {found found' : FoundKeys} {key : ℕ} → SetsFor v found o key s found' s'
+        → Stands v s trees → OpenFits s trees o
         → FoundFits s trees found → KeyReads s trees o.reference.node.0 key → Set s trees found' s'
     sets-fit {s} {trees = trees} {o} {key = key} (cell-gets-key found' s' loose sets same) at f founds k =
-        let b = by-call (Call.SetDataKey o.through key) (Reply.Done (Ok tt)) (λ c feels goes. set-keys o.through key (refl, refl) feels goes) (set-is-key f k) tt sets (λ d. d)
+        let b = by-call (Call.SetDataKey o.through key) (Reply.Done (Ok tt)) (λ c feels goes. set-keys o.through key (refl, refl) feels goes)
+        (set-is-key f k) tt sets (λ d. d)
         (λ row owns. subst (λ n. ReadsTree s.core.stored v.types key (trees n.0)) (sym (f.through row owns.live)) k.reads) at in
         record { went = b; found = λ n x is. key-on b (founds n x (sym (same n) ∙ is)) }
     sets-fit {s} {trees = trees} {o} {key = key} (key-is-found x found' eager is there others) at f founds k = record {
@@ -387,7 +430,8 @@ module _ {N E : Type 0} (v : Values N) (lawful : IsLawful v) (M : Type 0) where
       pub found : FoundFits s' went.trees' found'
       pub reads : KeyReads s' went.trees' o.reference.node.0 key
 
-    leaves-fit : {s s' : PagerState N E} {trees : ℕ → Tree} {o : OpenNode} {found found' : FoundKeys} {key : ℕ} → Leaves v found s o key found' s' → Stands v s trees → AreKeyed s trees
+    leaves-fit : {s s' : PagerState N E} {trees : ℕ → Tree} {o : OpenNode} {found found' : FoundKeys} {key : ℕ} → Leaves v found s o key found' s'
+        → Stands v s trees → AreKeyed s trees
         → OpenFits s trees o → FoundFits s trees found → Left s trees o key found' s'
     leaves-fit l at keyed fits founds =
         let a = stores-fit l.have l.stores at keyed fits founds in
@@ -395,7 +439,8 @@ module _ {N E : Type 0} (v : Values N) (lawful : IsLawful v) (M : Type 0) where
         let d = lets-go l.lets b.went.now in
         record { went = went-then a.went (went-then b.went d); found = found-on d b.found; reads = key-on d (key-on b.went a.reads) }
 
-    leave-fails : {s s' : PagerState N E} {trees : ℕ → Tree} {o : OpenNode} {found : FoundKeys} {e : Error} → LeaveFails v found s o e s' → Stands v s trees → AreKeyed s trees
+    leave-fails : {s s' : PagerState N E} {trees : ℕ → Tree} {o : OpenNode} {found : FoundKeys} {e : Error} → LeaveFails v found s o e s' → Stands v s trees
+        → AreKeyed s trees
         → OpenFits s trees o → FoundFits s trees found → Went s trees s'
     leave-fails (nothing-is-stored e) at keyed fits founds = went-same at
     leave-fails (blob-is-refused e keys s' have stores) at keyed fits founds = quietly (Call.Store _) (Reply.Stored (Err e)) tt tt stores (λ d. d) tt at
@@ -403,7 +448,8 @@ module _ {N E : Type 0} (v : Values N) (lawful : IsLawful v) (M : Type 0) where
         let a = stores-fit have stores at keyed fits founds in
         let asks = λ (row : HandleRow) (owns : Owns mid.core Owner.Caller o.through is_loose row).
         subst (λ n. ReadsTree mid.core.stored v.types key (a.went.trees' n.0)) (sym (a.fits.through row owns.live)) a.reads.reads in
-        went-then a.went (by-call (Call.SetDataKey o.through key) (Reply.Done (Err e)) (λ c feels goes. set-keys o.through key (refl, refl) feels goes) (set-is-key a.fits a.reads) tt unset.refused (λ d. d) asks a.went.now)
+        went-then a.went (by-call (Call.SetDataKey o.through key) (Reply.Done (Err e)) (λ c feels goes. set-keys o.through key (refl, refl) feels goes)
+        (set-is-key a.fits a.reads) tt unset.refused (λ d. d) asks a.went.now)
 
     -- ---- turn by turn
 
@@ -421,8 +467,17 @@ module _ {N E : Type 0} (v : Values N) (lawful : IsLawful v) (M : Type 0) where
 
     turn-fits : {a b : Stage N E} {trees : ℕ → Tree} {r : ArcRef} → Turn v a b → Fits a trees r → (w : Went a.pager trees b.pager) × Fits b w.trees' r
     turn-fits {a} {b} {trees} {r} (has-key b2 next is) f =
-        subst (λ c. (w : Went a.pager trees c.pager) × Fits c w.trees' r) (sym is)
-        (went-same f.at, record { at = f.at; keyed = f.keyed; node = looks-further next f.node; path = f.path; found = f.found; first = first-same a.path a.node next ∙ f.first })
+        subst (λ c. (w : Went a.pager trees c.pager) × Fits c w.trees' r) (sym is) (
+          went-same f.at,
+          record {
+            at = f.at;
+            keyed = f.keyed;
+            node = looks-further next f.node;
+            path = f.path;
+            found = f.found;
+            first = first-same a.path a.node next ∙ f.first;
+          },
+        )
     turn-fits {a} {b} {trees} {r} (goes-down b2 q among none waits same enters) f =
         let (w, node) = enters-fit enters f.at in (
           w,
@@ -469,7 +524,8 @@ module _ {N E : Type 0} (v : Values N) (lawful : IsLawful v) (M : Type 0) where
         → Fits (stage [] first nothing_found s) trees first.reference
     begun at keyed fits = record { at = at; keyed = keyed; node = fits; path = λ o among. absurd cc; found = λ n k is. absurd cc; first = refl }
 
-    walks-fit : {s s' : PagerState N E} {trees : ℕ → Tree} {first : OpenNode} {answer : Result ℕ Error} → Walks v first s answer s' → Stands v s trees → AreKeyed s trees → OpenFits s trees first
+    walks-fit : {s s' : PagerState N E} {trees : ℕ → Tree} {first : OpenNode} {answer : Result ℕ Error} → Walks v first s answer s' → Stands v s trees
+        → AreKeyed s trees → OpenFits s trees first
         → (w : Went s trees s') × IfOk answer (λ key. KeyReads s' w.trees' first.reference.node.0 key)
     walks-fit {first = first} (all-is-stored a b key turns none leaves) at keyed fits =
         let (w, g) = turns-fit turns (begun at keyed fits) in
@@ -482,7 +538,8 @@ module _ {N E : Type 0} (v : Values N) (lawful : IsLawful v) (M : Type 0) where
         let u = lets-go lets t.now in
         (went-then w (went-then t (went-then u (gives-up gives u.now))), tt)
 
-    keyless-fits : {s s' : PagerState N E} {trees : ℕ → Tree} {h : HandleNumber} {r : Result ℕ Error} (row : HandleRow) → PagesOutKeyless v s h r s' → Stands v s trees → AreKeyed s trees
+    keyless-fits : {s s' : PagerState N E} {trees : ℕ → Tree} {h : HandleNumber} {r : Result ℕ Error} (row : HandleRow) → PagesOutKeyless v s h r s'
+        → Stands v s trees → AreKeyed s trees
         → row_at s.core h ≡ Some row → (w : Went s trees s') × IfOk r (λ key. KeyReads s' w.trees' row.node.0 key)
     keyless-fits row (nothing-is-begun e) at keyed live = (went-same at, tt)
     keyless-fits row (root-is-refused q e s' root fails) at keyed live = (fails-to-enter fails at, tt)
@@ -493,7 +550,8 @@ module _ {N E : Type 0} (v : Values N) (lawful : IsLawful v) (M : Type 0) where
         let nodes : first.reference.node ≡ row.node = ap (λ (x : ArcRef). x.node) enters.of ∙ root.at.found.2 ∙ ap (λ (x : HandleRow). x.node) rows in
         (went-then w u, subst (λ n. IfOk answer (λ key. KeyReads s' u.trees' n.0 key)) nodes reads)
 
-    pages-fit : {s s' : PagerState N E} {trees : ℕ → Tree} {h : HandleNumber} {r : Result ℕ Error} (row : HandleRow) → PagesOutChanged v s h r s' → Stands v s trees → AreKeyed s trees
+    pages-fit : {s s' : PagerState N E} {trees : ℕ → Tree} {h : HandleNumber} {r : Result ℕ Error} (row : HandleRow) → PagesOutChanged v s h r s'
+        → Stands v s trees → AreKeyed s trees
         → row_at s.core h ≡ Some row → (w : Went s trees s') × IfOk r (λ key. KeyReads s' w.trees' row.node.0 key)
     pages-fit row (no-handle e keys) at keyed live = (went-same at, tt)
     pages-fit {s} {h = h} row (root-has-key key keys) at keyed live =
@@ -512,7 +570,8 @@ module _ {N E : Type 0} (v : Values N) (lawful : IsLawful v) (M : Type 0) where
 pub changed_law : {N : Type 0} (E : Type 0) (v : Values N) → ChangedLaw E v
 changed_law E v s s' h r run well lawful = record {
   reads = λ nobody settled readable row trees stands live.
-      let (w, reads) = pages-fit v lawful (HasMerkleKeys v s trees) readable row run (record { well = well; nobody = nobody; settled = settled; stands = stands }) (λ m. m) live in
+      let (w, reads) = pages-fit v lawful (HasMerkleKeys v s trees) readable row run
+      (record { well = well; nobody = nobody; settled = settled; stands = stands }) (λ m. m) live in
       record {
         trees' = w.trees';
         same = w.after.same;

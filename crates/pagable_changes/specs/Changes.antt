@@ -20,13 +20,15 @@ nothing_found n = None
 
 -- The key of a reference's target: for a loose reference its cell's key, for another the one that was found before.
 pub data HasKey (found : FoundKeys) (w : Core) (r : ArcRef) : ℕ → Type 0 where
-  cell-has-key : (key : ℕ) → is_loose_kind r.kind.0 ≡ true → NodeCall w r.handle (Ok r.node) → KeyCall w r.handle (Ok (OptionalDataKey.Some key))
+  cell-has-key : (key : ℕ) → is_loose_kind r.kind.0 ≡ true → NodeCall w r.handle (Ok r.node)
+      → KeyCall w r.handle (Ok (OptionalDataKey.Some key))
       → HasKey found w r key
   key-was-found : (k : FoundKey) → is_loose_kind r.kind.0 ≡ false → found r.node.0 ≡ Some k → HasKey found w r k.key
 
 -- the target has no key yet
 pub data HasNoKey (found : FoundKeys) (w : Core) (r : ArcRef) : Type 0 where
-  cell-has-none : is_loose_kind r.kind.0 ≡ true → NodeCall w r.handle (Ok r.node) → KeyCall w r.handle (Ok OptionalDataKey.None) → HasNoKey found w r
+  cell-has-none : is_loose_kind r.kind.0 ≡ true → NodeCall w r.handle (Ok r.node)
+      → KeyCall w r.handle (Ok OptionalDataKey.None) → HasNoKey found w r
   none-was-found : is_loose_kind r.kind.0 ≡ false → found r.node.0 ≡ None → HasNoKey found w r
 
 abbrev pub IsFound : FoundKeys → Core → ArcRef → Option FoundKey → Type 0
@@ -36,7 +38,8 @@ IsFound found w r None = HasNoKey found w r
 -- each reference has the key at its index
 pub data AllHave (found : FoundKeys) (w : Core) : List ArcRef → List ℕ → Type 0 where
   none-are-asked : AllHave found w [] []
-  one-more-has : (rs : List ArcRef) (keys : List ℕ) (r : ArcRef) (key : ℕ) → AllHave found w rs keys → HasKey found w r key
+  one-more-has : (rs : List ArcRef) (keys : List ℕ) (r : ArcRef) (key : ℕ) → AllHave found w rs keys
+      → HasKey found w r key
       → AllHave found w (rs ++ r ∷ []) (keys ++ key ∷ [])
 
 -- the reference at this index has a key, which is appended
@@ -98,27 +101,36 @@ module _ {N E : Type 0} (v : Values N) where
 
   -- The two handles of a taken node are released. They are one handle if the node's reference isn't loose.
   pub data LetsGo (through pin : HandleNumber) (s : PagerState N E) : PagerState N E → Type 0 where
-    both-go : (told freed : Result (Unit {0}) Error) (mid s' : PagerState N E) → Releases s pin told mid → Releases mid through freed s' → LetsGo through pin s s'
-    one-goes : (told : Result (Unit {0}) Error) (s' : PagerState N E) → pin ≡ through → Releases s pin told s' → LetsGo through pin s s'
+    both-go : (told freed : Result (Unit {0}) Error) (mid s' : PagerState N E) → Releases s pin told mid
+        → Releases mid through freed s' → LetsGo through pin s s'
+    one-goes : (told : Result (Unit {0}) Error) (s' : PagerState N E) → pin ≡ through → Releases s pin told s'
+        → LetsGo through pin s s'
 
   -- a cell whose value is in memory is pinned by a loose handle
-  pub data PinsLoosely (c : HandleNumber) (s : PagerState N E) : Result HandleNumber Error → PagerState N E → Type 0 where
-    cell-is-pinned : (k : HandleNumber) (s' : PagerState N E) → Pins s c (Ok (Pinning.Pinned k)) s' → PinsLoosely c s (Ok k) s'
-    cell-is-away : (key : ℕ) (s' : PagerState N E) → Pins s c (Ok (Pinning.NeedsLoad key)) s' → PinsLoosely c s (Err Error.WrongMode) s'
+  pub data PinsLoosely (c : HandleNumber) (s : PagerState N E) : Result HandleNumber Error → PagerState N E
+      → Type 0 where
+    cell-is-pinned : (k : HandleNumber) (s' : PagerState N E) → Pins s c (Ok (Pinning.Pinned k)) s'
+        → PinsLoosely c s (Ok k) s'
+    cell-is-away : (key : ℕ) (s' : PagerState N E) → Pins s c (Ok (Pinning.NeedsLoad key)) s'
+        → PinsLoosely c s (Err Error.WrongMode) s'
     cell-is-not-pinned : (e : Error) (s' : PagerState N E) → Pins s c (Err e) s' → PinsLoosely c s (Err e) s'
 
   -- The page-out takes a reference's node: it clones the handle, and for a loose reference pins the cell by the clone,
   -- which it first makes loose if it is Pinned.
   pub data Takes (r : ArcRef) (s : PagerState N E) : HandleNumber → HandleNumber → PagerState N E → Type 0 where
-    cell-is-taken : (c k : HandleNumber) (told : Result HandleNumber Error) (mid low s' : PagerState N E) → is_loose_kind r.kind.0 ≡ true
+    cell-is-taken : (c k : HandleNumber) (told : Result HandleNumber Error) (mid low s' : PagerState N E)
+        → is_loose_kind r.kind.0 ≡ true
         → Clones s r.handle (Ok c) mid → Loosens mid c told low → PinsLoosely c low (Ok k) s' → Takes r s c k s'
-    node-is-taken : (c : HandleNumber) (s' : PagerState N E) → is_loose_kind r.kind.0 ≡ false → Clones s r.handle (Ok c) s' → Takes r s c c s'
+    node-is-taken : (c : HandleNumber) (s' : PagerState N E) → is_loose_kind r.kind.0 ≡ false
+        → Clones s r.handle (Ok c) s' → Takes r s c c s'
 
   -- it fails to take the node, and releases a clone that it made
   pub data TakeFails (r : ArcRef) (s : PagerState N E) : Error → PagerState N E → Type 0 where
     clone-is-refused : (e : Error) (s' : PagerState N E) → Clones s r.handle (Err e) s' → TakeFails r s e s'
-    pin-is-refused : (c : HandleNumber) (told : Result HandleNumber Error) (freed : Result (Unit {0}) Error) (e : Error) (mid low late s' : PagerState N E)
-        → Clones s r.handle (Ok c) mid → Loosens mid c told low → PinsLoosely c low (Err e) late → Releases late c freed s' → TakeFails r s e s'
+    pin-is-refused : (c : HandleNumber) (told : Result HandleNumber Error) (freed : Result (Unit {0}) Error) (e : Error)
+        (mid low late s' : PagerState N E)
+        → Clones s r.handle (Ok c) mid → Loosens mid c told low → PinsLoosely c low (Err e) late
+        → Releases late c freed s' → TakeFails r s e s'
 
   -- the value that a handle pins is written; it is of the reference's type
   pub record Writes (s : PagerState N E) (r : ArcRef) (pin : HandleNumber) (written : Written) : Type 0 where
@@ -128,7 +140,8 @@ module _ {N E : Type 0} (v : Values N) where
     pub form : IsFormOf v x written
 
   -- the value is written, and both handles are of the reference's node
-  pub record WritesTaken (s : PagerState N E) (r : ArcRef) (through pin : HandleNumber) (written : Written) : Type 0 where
+  pub record WritesTaken (s : PagerState N E) (r : ArcRef) (through pin : HandleNumber)
+      (written : Written) : Type 0 where
     pub at : NodeCall s.core through (Ok r.node)
     pub pin_at : NodeCall s.core pin (Ok r.node)
     pub writes : Writes s r pin written
@@ -142,17 +155,22 @@ module _ {N E : Type 0} (v : Values N) where
   -- it fails, and keeps nothing of the node
   pub data EnterFails (r : ArcRef) (s : PagerState N E) : Error → PagerState N E → Type 0 where
     isnt-taken : (e : Error) (s' : PagerState N E) → TakeFails r s e s' → EnterFails r s e s'
-    isnt-written : (e : Error) (c k : HandleNumber) (mid s' : PagerState N E) → Takes r s c k mid → LetsGo c k mid s' → EnterFails r s e s'
+    isnt-written : (e : Error) (c k : HandleNumber) (mid s' : PagerState N E) → Takes r s c k mid → LetsGo c k mid s'
+        → EnterFails r s e s'
 
   -- A cell gets its key. For a node that the page-out didn't reach by a loose reference the key is found from now on.
-  pub data SetsFor (found : FoundKeys) (o : OpenNode) (key : ℕ) (s : PagerState N E) : FoundKeys → PagerState N E → Type 0 where
-    cell-gets-key : (found' : FoundKeys) (s' : PagerState N E) → is_loose_kind o.reference.kind.0 ≡ true → SetsKey s o.through key (Ok tt) s'
+  pub data SetsFor (found : FoundKeys) (o : OpenNode) (key : ℕ) (s : PagerState N E) : FoundKeys → PagerState N E
+      → Type 0 where
+    cell-gets-key : (found' : FoundKeys) (s' : PagerState N E) → is_loose_kind o.reference.kind.0 ≡ true
+        → SetsKey s o.through key (Ok tt) s'
         → ((n : ℕ) → found' n ≡ found n) → SetsFor found o key s found' s'
     key-is-found : (k : FoundKey) (found' : FoundKeys) → is_loose_kind o.reference.kind.0 ≡ false → k.key ≡ key
-        → found' o.reference.node.0 ≡ Some k → ((n : ℕ) → n ≢ o.reference.node.0 → found' n ≡ found n) → SetsFor found o key s found' s
+        → found' o.reference.node.0 ≡ Some k → ((n : ℕ) → n ≢ o.reference.node.0 → found' n ≡ found n)
+        → SetsFor found o key s found' s
 
   -- A node whose references all have keys is stored with these, gets its key, and its handles are released.
-  pub record Leaves (found : FoundKeys) (s : PagerState N E) (o : OpenNode) (key : ℕ) (found' : FoundKeys) (s' : PagerState N E) : Type 0 where
+  pub record Leaves (found : FoundKeys) (s : PagerState N E) (o : OpenNode) (key : ℕ) (found' : FoundKeys)
+      (s' : PagerState N E) : Type 0 where
     pub keys : List ℕ
     pub have : AllHave found s.core (written_of o.written).references keys
     pub mid : PagerState N E
@@ -169,23 +187,29 @@ module _ {N E : Type 0} (v : Values N) where
   -- leaving a node fails: before its blob is stored, or at storing it, or at setting its key
   pub data LeaveFails (found : FoundKeys) (s : PagerState N E) (o : OpenNode) : Error → PagerState N E → Type 0 where
     nothing-is-stored : (e : Error) → LeaveFails found s o e s
-    blob-is-refused : (e : Error) (keys : List ℕ) (s' : PagerState N E) → AllHave found s.core (written_of o.written).references keys
+    blob-is-refused : (e : Error) (keys : List ℕ) (s' : PagerState N E)
+        → AllHave found s.core (written_of o.written).references keys
         → StoresBlob s (blob_of (written_of o.written).bytes keys) (Err e) s' → LeaveFails found s o e s'
-    key-is-refused : (e : Error) (key : ℕ) (keys : List ℕ) (mid s' : PagerState N E) → AllHave found s.core (written_of o.written).references keys
-        → StoresBlob s (blob_of (written_of o.written).bytes keys) (Ok key) mid → IsUnset o key mid e s' → LeaveFails found s o e s'
+    key-is-refused : (e : Error) (key : ℕ) (keys : List ℕ) (mid s' : PagerState N E)
+        → AllHave found s.core (written_of o.written).references keys
+        → StoresBlob s (blob_of (written_of o.written).bytes keys) (Ok key) mid → IsUnset o key mid e s'
+        → LeaveFails found s o e s'
 
   -- A turn: the next reference has a key and is passed; or it has none, its target is entered and this node waits; or
   -- all have keys, and the node is left for the one that waits for it.
   pub data Turn (a : Stage N E) : Stage N E → Type 0 where
     has-key : (b : Stage N E) (next : ℕ) → b ≡ record a { node = record a.node { keyed = next } } → Turn a b
-    goes-down : (b : Stage N E) (r : ArcRef) → Among (written_of a.node.written).references r → HasNoKey a.found a.pager.core r → b.path ≡ a.path ++ a.node ∷ []
+    goes-down : (b : Stage N E) (r : ArcRef) → Among (written_of a.node.written).references r
+        → HasNoKey a.found a.pager.core r → b.path ≡ a.path ++ a.node ∷ []
         → b.found ≡ a.found → Enters r a.pager b.node b.pager → Turn a b
-    goes-up : (b : Stage N E) (key : ℕ) → a.path ≡ b.path ++ b.node ∷ [] → Leaves a.found a.pager a.node key b.found b.pager → Turn a b
+    goes-up : (b : Stage N E) (key : ℕ) → a.path ≡ b.path ++ b.node ∷ []
+        → Leaves a.found a.pager a.node key b.found b.pager → Turn a b
 
   -- a turn; or the last node is left, and its key is returned
   pub data Turned (a : Stage N E) : Option ℕ → Stage N E → Type 0 where
     turns-once : (b : Stage N E) → Turn a b → Turned a None b
-    last-is-left : (key : ℕ) (b : Stage N E) → a.path ≡ [] → Leaves a.found a.pager a.node key b.found b.pager → Turned a (Some key) b
+    last-is-left : (key : ℕ) (b : Stage N E) → a.path ≡ [] → Leaves a.found a.pager a.node key b.found b.pager
+        → Turned a (Some key) b
 
   -- some turns, one after another
   pub data Turns : Stage N E → Stage N E → Type 0 where
@@ -193,7 +217,8 @@ module _ {N E : Type 0} (v : Values N) where
     one-more-turn : (a b c : Stage N E) → Turns a b → Turn b c → Turns a c
 
   -- a reference's target is entered and this node waits; or entering it fails
-  pub record GoesDown (r : ArcRef) (path : List OpenNode) (o : OpenNode) (s : PagerState N E) (path' : List OpenNode) (o' : OpenNode) (s' : PagerState N E) : Type 0 where
+  pub record GoesDown (r : ArcRef) (path : List OpenNode) (o : OpenNode) (s : PagerState N E) (path' : List OpenNode)
+      (o' : OpenNode) (s' : PagerState N E) : Type 0 where
     pub waits : path' ≡ path ++ o ∷ []
     pub enters : Enters r s o' s'
 
@@ -204,14 +229,16 @@ module _ {N E : Type 0} (v : Values N) where
   -- a turn fails
   pub data TurnFails (a : Stage N E) : Error → PagerState N E → Type 0 where
     nothing-is-done : (e : Error) → TurnFails a e a.pager
-    isnt-entered : (e : Error) (r : ArcRef) (s' : PagerState N E) → Among (written_of a.node.written).references r → HasNoKey a.found a.pager.core r
+    isnt-entered : (e : Error) (r : ArcRef) (s' : PagerState N E) → Among (written_of a.node.written).references r
+        → HasNoKey a.found a.pager.core r
         → GoesNowhere r a.pager e s' → TurnFails a e s'
     isnt-left : (e : Error) (s' : PagerState N E) → LeaveFails a.found a.pager a.node e s' → TurnFails a e s'
 
   -- the handles of these nodes are released, from the last node to the first
   pub data GivesUp : List OpenNode → PagerState N E → PagerState N E → Type 0 where
     none-is-open : (s : PagerState N E) → GivesUp [] s s
-    one-goes-first : (path : List OpenNode) (o : OpenNode) (s mid s' : PagerState N E) → LetsGo o.through o.pin s mid → GivesUp path mid s' → GivesUp (path ++ o ∷ []) s s'
+    one-goes-first : (path : List OpenNode) (o : OpenNode) (s mid s' : PagerState N E) → LetsGo o.through o.pin s mid
+        → GivesUp path mid s' → GivesUp (path ++ o ∷ []) s s'
 
   -- turns that lead from one stage to the last node, which is left; or to an error, with the nodes that were open then
   pub record TurnsOut (a : Stage N E) (key : ℕ) (b : Stage N E) : Type 0 where
@@ -219,7 +246,8 @@ module _ {N E : Type 0} (v : Values N) where
     pub so : Turns a last
     pub out : Turned last (Some key) b
 
-  pub record TurnsFail (a : Stage N E) (e : Error) (path : List OpenNode) (node : OpenNode) (s' : PagerState N E) : Type 0 where
+  pub record TurnsFail (a : Stage N E) (e : Error) (path : List OpenNode) (node : OpenNode)
+      (s' : PagerState N E) : Type 0 where
     pub last : Stage N E
     pub so : Turns a last
     pub fails : TurnFails last e s'
@@ -231,19 +259,23 @@ module _ {N E : Type 0} (v : Values N) where
   pub data Walks (first : OpenNode) (s : PagerState N E) : Result ℕ Error → PagerState N E → Type 0 where
     all-is-stored : (a b : Stage N E) (key : ℕ) → Turns (stage [] first nothing_found s) a → a.path ≡ []
         → Leaves a.found a.pager a.node key b.found b.pager → Walks first s (Ok key) b.pager
-    walk-is-refused : (a : Stage N E) (e : Error) (mid low s' : PagerState N E) → Turns (stage [] first nothing_found s) a → TurnFails a e mid
+    walk-is-refused : (a : Stage N E) (e : Error) (mid low s' : PagerState N E)
+        → Turns (stage [] first nothing_found s) a → TurnFails a e mid
         → LetsGo a.node.through a.node.pin mid low → GivesUp a.path low s' → Walks first s (Err e) s'
 
   -- the page-out of a handle's cell that has no key: the walk from it
   pub data PagesOutKeyless (s : PagerState N E) (h : HandleNumber) : Result ℕ Error → PagerState N E → Type 0 where
     nothing-is-begun : (e : Error) → PagesOutKeyless s h (Err e) s
-    root-is-refused : (r : ArcRef) (e : Error) (s' : PagerState N E) → IsRoot s.core h r → EnterFails r s e s' → PagesOutKeyless s h (Err e) s'
-    root-is-walked : (r : ArcRef) (first : OpenNode) (answer : Result ℕ Error) (mid s' : PagerState N E) → IsRoot s.core h r → Enters r s first mid
+    root-is-refused : (r : ArcRef) (e : Error) (s' : PagerState N E) → IsRoot s.core h r → EnterFails r s e s'
+        → PagesOutKeyless s h (Err e) s'
+    root-is-walked : (r : ArcRef) (first : OpenNode) (answer : Result ℕ Error) (mid s' : PagerState N E)
+        → IsRoot s.core h r → Enters r s first mid
         → Walks first mid answer s' → PagesOutKeyless s h answer s'
 
   -- The page-out of a handle's cell: the key that the cell has, or the walk from it.
   pub data PagesOutChanged (s : PagerState N E) (h : HandleNumber) : Result ℕ Error → PagerState N E → Type 0 where
     no-handle : (e : Error) → KeyCall s.core h (Err e) → PagesOutChanged s h (Err e) s
     root-has-key : (key : ℕ) → KeyCall s.core h (Ok (OptionalDataKey.Some key)) → PagesOutChanged s h (Ok key) s
-    root-has-none : (answer : Result ℕ Error) (s' : PagerState N E) → KeyCall s.core h (Ok OptionalDataKey.None) → PagesOutKeyless s h answer s'
+    root-has-none : (answer : Result ℕ Error) (s' : PagerState N E) → KeyCall s.core h (Ok OptionalDataKey.None)
+        → PagesOutKeyless s h answer s'
         → PagesOutChanged s h answer s'

@@ -11,7 +11,8 @@ HasMerkleKeys v s trees = (n key : ℕ) → key_at s.core n ≡ OptionalDataKey.
 
 -- Each node keeps its tree, and the pager stands for the trees; the returned key is read as the tree of node n; and if
 -- each key was a Merkle key before, each key is one afterwards, the returned one too.
-pub record LeavesTrees {N E : Type 0} (v : Values N) (s : PagerState N E) (trees : ℕ → Tree) (n : ℕ) (r : Result ℕ Error) (s' : PagerState N E) : Type 0 where
+pub record LeavesTrees {N E : Type 0} (v : Values N) (s : PagerState N E) (trees : ℕ → Tree) (n : ℕ)
+    (r : Result ℕ Error) (s' : PagerState N E) : Type 0 where
   pub trees' : ℕ → Tree
   pub same : SameTrees s.core.last.node trees trees'
   pub stands : Represents v s' trees'
@@ -21,10 +22,13 @@ pub record LeavesTrees {N E : Type 0} (v : Values N) (s : PagerState N E) (trees
 
 -- If nobody works, no value in memory is written later, each type is read back, and the pager stands for trees (so each
 -- key is read as its cell's tree), then the pager leaves trees as `LeavesTrees` says, for the handle's node.
-pub record KeepsTrees {N E : Type 0} (v : Values N) (s : PagerState N E) (h : HandleNumber) (r : Result ℕ Error) (s' : PagerState N E) : Type 0 where
-  pub reads : NobodyWorks s.core → HoldsSettled v s → ((t : ℕ) → IsReadableType v.types t) → (row : HandleRow) (trees : ℕ → Tree) → Represents v s trees
+pub record KeepsTrees {N E : Type 0} (v : Values N) (s : PagerState N E) (h : HandleNumber) (r : Result ℕ Error)
+    (s' : PagerState N E) : Type 0 where
+  pub reads : NobodyWorks s.core → HoldsSettled v s → ((t : ℕ) → IsReadableType v.types t)
+      → (row : HandleRow) (trees : ℕ → Tree) → Represents v s trees
       → row_at s.core h ≡ Some row → LeavesTrees v s trees row.node.0 r s'
 
 -- each such page-out keeps trees so
 abbrev pub ChangedLaw : {N : Type 0} → (E : Type 0) → Values N → Type 0
-ChangedLaw {N} E v = (s s' : PagerState N E) (h : HandleNumber) (r : Result ℕ Error) → PagesOutChanged v s h r s' → WellFormed v s → IsLawful v → KeepsTrees v s h r s'
+ChangedLaw {N} E v = (s s' : PagerState N E) (h : HandleNumber) (r : Result ℕ Error) → PagesOutChanged v s h r s'
+    → WellFormed v s → IsLawful v → KeepsTrees v s h r s'

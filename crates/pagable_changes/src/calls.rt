@@ -105,8 +105,10 @@ pub(crate) fn store<E: Env<Node: NodeSet<E>>, S: PagableStorage<E>>(
     pager: &mut Pager<E, S>,
     blob: PagableData,
 ) -> Result<DataKey, Error>
-    ensures called { IsTrue (S.is_honest pager.new.storage) → Called (values_at E.Node.NodeSet E.Env E.Hash.KeyHash pager.old.environment)
-        (λ w'. StoreCall (key_of E.Hash.digest) (core_in (storage_view S.PagableStorage) pager.old) (blob_of blob) result w')
+    ensures called { IsTrue (S.is_honest pager.new.storage)
+        → Called (values_at E.Node.NodeSet E.Env E.Hash.KeyHash pager.old.environment)
+        (λ w'. StoreCall (key_of E.Hash.digest) (core_in (storage_view S.PagableStorage) pager.old)
+        (blob_of blob) result w')
         (state_in (storage_view S.PagableStorage) pager.old) (state_in (storage_view S.PagableStorage) pager.new) }
     ensures honest { IsTrue (S.is_honest pager.new.storage) → IsTrue (S.is_honest pager.old.storage) }
     ensures environment { pager.new.environment ≡ pager.old.environment }

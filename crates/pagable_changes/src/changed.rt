@@ -37,8 +37,10 @@ fn page_out_keyless<E: Env<Node: NodeSet<E>>, S: PagableStorage<E>>(
     pager: &mut Pager<E, S>,
     handle: HandleNumber,
 ) -> Result<DataKey, Error>
-    ensures pages { IsTrue (S.is_honest pager.new.storage) → PagesOutKeyless (values_at E.Node.NodeSet E.Env E.Hash.KeyHash pager.old.environment)
-        (state_in (storage_view S.PagableStorage) pager.old) handle result (state_in (storage_view S.PagableStorage) pager.new) }
+    ensures pages { IsTrue (S.is_honest pager.new.storage)
+        → PagesOutKeyless (values_at E.Node.NodeSet E.Env E.Hash.KeyHash pager.old.environment)
+        (state_in (storage_view S.PagableStorage) pager.old) handle result
+        (state_in (storage_view S.PagableStorage) pager.new) }
     ensures honest { IsTrue (S.is_honest pager.new.storage) → IsTrue (S.is_honest pager.old.storage) }
     ensures environment { pager.new.environment ≡ pager.old.environment }
 {
@@ -59,8 +61,10 @@ fn page_out_root<E: Env<Node: NodeSet<E>>, S: PagableStorage<E>>(
     pager: &mut Pager<E, S>,
     handle: HandleNumber,
 ) -> Result<DataKey, Error>
-    ensures pages { IsTrue (S.is_honest pager.new.storage) → PagesOutChanged (values_at E.Node.NodeSet E.Env E.Hash.KeyHash pager.old.environment)
-        (state_in (storage_view S.PagableStorage) pager.old) handle result (state_in (storage_view S.PagableStorage) pager.new) }
+    ensures pages { IsTrue (S.is_honest pager.new.storage)
+        → PagesOutChanged (values_at E.Node.NodeSet E.Env E.Hash.KeyHash pager.old.environment)
+        (state_in (storage_view S.PagableStorage) pager.old) handle result
+        (state_in (storage_view S.PagableStorage) pager.new) }
     ensures honest { IsTrue (S.is_honest pager.new.storage) → IsTrue (S.is_honest pager.old.storage) }
     ensures environment { pager.new.environment ≡ pager.old.environment }
 {
@@ -95,10 +99,14 @@ pub fn page_out_changed<E: Env<Node: NodeSet<E>>, S: PagableStorage<E>>(
     pager: &mut Pager<E, S>,
     handle: HandleNumber,
 ) -> Result<DataKey, Error>
-    ensures pages { IsTrue (S.is_honest pager.new.storage) → PagesOutChanged (values_at E.Node.NodeSet E.Env E.Hash.KeyHash pager.old.environment)
-        (state_in (storage_view S.PagableStorage) pager.old) handle result (state_in (storage_view S.PagableStorage) pager.new) }
-    ensures reads { IsTrue (S.is_honest pager.new.storage) → KeepsTrees (values_at E.Node.NodeSet E.Env E.Hash.KeyHash pager.old.environment)
-        (state_in (storage_view S.PagableStorage) pager.old) handle result (state_in (storage_view S.PagableStorage) pager.new) }
+    ensures pages { IsTrue (S.is_honest pager.new.storage)
+        → PagesOutChanged (values_at E.Node.NodeSet E.Env E.Hash.KeyHash pager.old.environment)
+        (state_in (storage_view S.PagableStorage) pager.old) handle result
+        (state_in (storage_view S.PagableStorage) pager.new) }
+    ensures reads { IsTrue (S.is_honest pager.new.storage)
+        → KeepsTrees (values_at E.Node.NodeSet E.Env E.Hash.KeyHash pager.old.environment)
+        (state_in (storage_view S.PagableStorage) pager.old) handle result
+        (state_in (storage_view S.PagableStorage) pager.new) }
     ensures honest { IsTrue (S.is_honest pager.new.storage) → IsTrue (S.is_honest pager.old.storage) }
     ensures environment { pager.new.environment ≡ pager.old.environment }
 {

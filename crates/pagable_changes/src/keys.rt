@@ -38,8 +38,10 @@ fn cell_key<E: Env<Node: NodeSet<E>>, S: PagableStorage<E>>(
     pager: &Pager<E, S>,
     reference: ArcRef,
 ) -> Result<OptionalDataKey, Error>
-    ensures at { IfOk result (λ key. NodeCall (core_in (storage_view S.PagableStorage) pager.now) reference.handle (Ok reference.node)) }
-    ensures key { IfOk result (λ key. KeyCall (core_in (storage_view S.PagableStorage) pager.now) reference.handle (Ok key)) }
+    ensures at { IfOk result (λ key. NodeCall (core_in (storage_view S.PagableStorage) pager.now) reference.handle
+        (Ok reference.node)) }
+    ensures key { IfOk result (λ key. KeyCall (core_in (storage_view S.PagableStorage) pager.now) reference.handle
+        (Ok key)) }
 {
     if !is_at(pager, reference.handle, reference.node) {
         return Err(Error::NoSuchHandle);
@@ -57,7 +59,8 @@ pub(crate) fn find<E: Env<Node: NodeSet<E>>, S: PagableStorage<E>>(
     found: &FoundKeys,
     reference: ArcRef,
 ) -> Result<Option<FoundKey>, Error>
-    ensures { IfOk result (λ key. IsFound (λ n. row_by found.now n) (core_in (storage_view S.PagableStorage) pager.now) reference key) }
+    ensures { IfOk result (λ key. IsFound (λ n. row_by found.now n) (core_in (storage_view S.PagableStorage) pager.now)
+        reference key) }
 {
     if reference.kind.0 % 3 != 1 {
         return Ok(found_at(found, reference.node));
@@ -106,7 +109,8 @@ fn take_key<E: Env<Node: NodeSet<E>>, S: PagableStorage<E>>(
     at: usize,
     keys: &mut Vec<DataKey>,
 ) -> Result<u64, Error>
-    ensures { OnOk result (TakesKey (λ n. row_by found.now n) (core_in (storage_view S.PagableStorage) pager.now) references.now.items at keys.old.items keys.new.items) }
+    ensures { OnOk result (TakesKey (λ n. row_by found.now n) (core_in (storage_view S.PagableStorage) pager.now)
+        references.now.items at keys.old.items keys.new.items) }
 {
     let Some(reference) = reference_at(references, at) else {
         return Err(Error::TooDeep);
@@ -132,7 +136,8 @@ pub(crate) fn collect_keys<E: Env<Node: NodeSet<E>>, S: PagableStorage<E>>(
     found: &FoundKeys,
     references: &Vec<ArcRef>,
 ) -> Result<(Vec<DataKey>, u64), Error>
-    ensures { IfOk result (λ r. AllHave (λ n. row_by found.now n) (core_in (storage_view S.PagableStorage) pager.now) references.now.items r.0.items) }
+    ensures { IfOk result (λ r. AllHave (λ n. row_by found.now n) (core_in (storage_view S.PagableStorage) pager.now)
+        references.now.items r.0.items) }
 {
     let mut keys = Vec::with_capacity(alloc, references.len())?;
     let mut height = 0;

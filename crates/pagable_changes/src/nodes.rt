@@ -55,9 +55,12 @@ fn take_loose<E: Env<Node: NodeSet<E>>, S: PagableStorage<E>>(
     reference: ArcRef,
 ) -> Result<(HandleNumber, HandleNumber), Error>
     requires loose { is_loose_kind reference.kind.0 ≡ true }
-    ensures takes { IfOk result (λ t. Takes (values_at E.Node.NodeSet E.Env E.Hash.KeyHash pager.old.environment) reference
-        (state_in (storage_view S.PagableStorage) pager.old) t.0 t.1 (state_in (storage_view S.PagableStorage) pager.new)) }
-    ensures fails { IfErr result (λ e. TakeFails (values_at E.Node.NodeSet E.Env E.Hash.KeyHash pager.old.environment) reference
+    ensures takes { IfOk result (λ t. Takes (values_at E.Node.NodeSet E.Env E.Hash.KeyHash pager.old.environment)
+        reference
+        (state_in (storage_view S.PagableStorage) pager.old) t.0 t.1
+        (state_in (storage_view S.PagableStorage) pager.new)) }
+    ensures fails { IfErr result (λ e. TakeFails (values_at E.Node.NodeSet E.Env E.Hash.KeyHash pager.old.environment)
+        reference
         (state_in (storage_view S.PagableStorage) pager.old) e (state_in (storage_view S.PagableStorage) pager.new)) }
     ensures keeps { KeepsStorage pager.old pager.new }
 {
@@ -77,9 +80,12 @@ fn take<E: Env<Node: NodeSet<E>>, S: PagableStorage<E>>(
     pager: &mut Pager<E, S>,
     reference: ArcRef,
 ) -> Result<(HandleNumber, HandleNumber), Error>
-    ensures takes { IfOk result (λ t. Takes (values_at E.Node.NodeSet E.Env E.Hash.KeyHash pager.old.environment) reference
-        (state_in (storage_view S.PagableStorage) pager.old) t.0 t.1 (state_in (storage_view S.PagableStorage) pager.new)) }
-    ensures fails { IfErr result (λ e. TakeFails (values_at E.Node.NodeSet E.Env E.Hash.KeyHash pager.old.environment) reference
+    ensures takes { IfOk result (λ t. Takes (values_at E.Node.NodeSet E.Env E.Hash.KeyHash pager.old.environment)
+        reference
+        (state_in (storage_view S.PagableStorage) pager.old) t.0 t.1
+        (state_in (storage_view S.PagableStorage) pager.new)) }
+    ensures fails { IfErr result (λ e. TakeFails (values_at E.Node.NodeSet E.Env E.Hash.KeyHash pager.old.environment)
+        reference
         (state_in (storage_view S.PagableStorage) pager.old) e (state_in (storage_view S.PagableStorage) pager.new)) }
     ensures keeps { KeepsStorage pager.old pager.new }
 {
@@ -99,7 +105,8 @@ fn write<E: Env<Node: NodeSet<E>>>(
     alloc: Global,
     node: &E::Node,
 ) -> Result<SerializedData, Error>
-    ensures { IfOk result (λ d. IsFormOf (values_at E.Node.NodeSet E.Env E.Hash.KeyHash env.now) node.now (written_of d)) }
+    ensures { IfOk result (λ d. IsFormOf (values_at E.Node.NodeSet E.Env E.Hash.KeyHash env.now) node.now
+        (written_of d)) }
 {
     let mut serializer = SerializerForPaging::new(alloc, env, session);
     node.write(&mut serializer)?;
@@ -157,9 +164,11 @@ pub(crate) fn enter<E: Env<Node: NodeSet<E>>, S: PagableStorage<E>>(
     reference: ArcRef,
     place: u64,
 ) -> Result<OpenNode, Error>
-    ensures enters { IfOk result (λ o. Enters (values_at E.Node.NodeSet E.Env E.Hash.KeyHash pager.old.environment) reference
+    ensures enters { IfOk result (λ o. Enters (values_at E.Node.NodeSet E.Env E.Hash.KeyHash pager.old.environment)
+        reference
         (state_in (storage_view S.PagableStorage) pager.old) o (state_in (storage_view S.PagableStorage) pager.new)) }
-    ensures fails { IfErr result (λ e. EnterFails (values_at E.Node.NodeSet E.Env E.Hash.KeyHash pager.old.environment) reference
+    ensures fails { IfErr result (λ e. EnterFails (values_at E.Node.NodeSet E.Env E.Hash.KeyHash pager.old.environment)
+        reference
         (state_in (storage_view S.PagableStorage) pager.old) e (state_in (storage_view S.PagableStorage) pager.new)) }
     ensures keeps { KeepsStorage pager.old pager.new }
 {

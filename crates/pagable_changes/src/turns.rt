@@ -25,7 +25,8 @@ fn blob_of_node<E: Env<Node: NodeSet<E>>, S: PagableStorage<E>>(
     found: &FoundKeys,
     node: &OpenNode,
 ) -> Result<(PagableData, u64), Error>
-    ensures { IfOk result (λ r. IsOver (λ n. row_by found.now n) (core_in (storage_view S.PagableStorage) pager.now) node.now (blob_of r.0)) }
+    ensures { IfOk result (λ r. IsOver (λ n. row_by found.now n) (core_in (storage_view S.PagableStorage) pager.now)
+        node.now (blob_of r.0)) }
 {
     let (arcs, height) = collect_keys(alloc, pager, found, &node.written.arcs)?;
     if height > LONGEST_PATH || node.place > LONGEST_PATH - height {
@@ -44,9 +45,13 @@ fn set_for<E: Env<Node: NodeSet<E>>, S: PagableStorage<E>>(
     known: FoundKey,
 ) -> Result<(), Error>
     requires ready { IsSome (place_at found.old node.now.reference.node.0) }
-    ensures sets { OnOk result (SetsFor (values_at E.Node.NodeSet E.Env E.Hash.KeyHash pager.old.environment) (λ n. row_by found.old n) node.now known.key
-        (state_in (storage_view S.PagableStorage) pager.old) (λ n. row_by found.new n) (state_in (storage_view S.PagableStorage) pager.new)) }
-    ensures refused { IfErr result (λ e. IsUnset (values_at E.Node.NodeSet E.Env E.Hash.KeyHash pager.old.environment) node.now known.key (state_in (storage_view S.PagableStorage) pager.old) e (state_in (storage_view S.PagableStorage) pager.new)) }
+    ensures sets { OnOk result (SetsFor (values_at E.Node.NodeSet E.Env E.Hash.KeyHash pager.old.environment)
+        (λ n. row_by found.old n) node.now known.key
+        (state_in (storage_view S.PagableStorage) pager.old) (λ n. row_by found.new n)
+        (state_in (storage_view S.PagableStorage) pager.new)) }
+    ensures refused { IfErr result (λ e. IsUnset (values_at E.Node.NodeSet E.Env E.Hash.KeyHash pager.old.environment)
+        node.now known.key (state_in (storage_view S.PagableStorage) pager.old) e
+        (state_in (storage_view S.PagableStorage) pager.new)) }
     ensures keeps { KeepsStorage pager.old pager.new }
 {
     if node.reference.kind.0 % 3 == 1 {
@@ -63,10 +68,16 @@ fn leave<E: Env<Node: NodeSet<E>>, S: PagableStorage<E>>(
     found: &mut FoundKeys,
     node: &OpenNode,
 ) -> Result<DataKey, Error>
-    ensures leaves { IsTrue (S.is_honest pager.new.storage) → IfOk result (λ key. Leaves (values_at E.Node.NodeSet E.Env E.Hash.KeyHash pager.old.environment) (λ n. row_by found.old n)
-        (state_in (storage_view S.PagableStorage) pager.old) node.now key (λ n. row_by found.new n) (state_in (storage_view S.PagableStorage) pager.new)) }
-    ensures fails { IsTrue (S.is_honest pager.new.storage) → IfErr result (λ e. LeaveFails (values_at E.Node.NodeSet E.Env E.Hash.KeyHash pager.old.environment) (λ n. row_by found.old n)
-        (state_in (storage_view S.PagableStorage) pager.old) node.now e (state_in (storage_view S.PagableStorage) pager.new)) }
+    ensures leaves { IsTrue (S.is_honest pager.new.storage)
+        → IfOk result (λ key. Leaves (values_at E.Node.NodeSet E.Env E.Hash.KeyHash pager.old.environment)
+        (λ n. row_by found.old n)
+        (state_in (storage_view S.PagableStorage) pager.old) node.now key (λ n. row_by found.new n)
+        (state_in (storage_view S.PagableStorage) pager.new)) }
+    ensures fails { IsTrue (S.is_honest pager.new.storage)
+        → IfErr result (λ e. LeaveFails (values_at E.Node.NodeSet E.Env E.Hash.KeyHash pager.old.environment)
+        (λ n. row_by found.old n)
+        (state_in (storage_view S.PagableStorage) pager.old) node.now e
+        (state_in (storage_view S.PagableStorage) pager.new)) }
     ensures honest { IsTrue (S.is_honest pager.new.storage) → IsTrue (S.is_honest pager.old.storage) }
     ensures environment { pager.new.environment ≡ pager.old.environment }
 {
@@ -115,8 +126,12 @@ fn go_down<E: Env<Node: NodeSet<E>>, S: PagableStorage<E>>(
     node: &mut OpenNode,
     reference: ArcRef,
 ) -> Result<(), Error>
-    ensures goes { OnOk result (GoesDown (values_at E.Node.NodeSet E.Env E.Hash.KeyHash pager.old.environment) reference path.old.items node.old (state_in (storage_view S.PagableStorage) pager.old) path.new.items node.new (state_in (storage_view S.PagableStorage) pager.new)) }
-    ensures fails { IfErr result (λ e. GoesNowhere (values_at E.Node.NodeSet E.Env E.Hash.KeyHash pager.old.environment) reference (state_in (storage_view S.PagableStorage) pager.old) e (state_in (storage_view S.PagableStorage) pager.new)) }
+    ensures goes { OnOk result (GoesDown (values_at E.Node.NodeSet E.Env E.Hash.KeyHash pager.old.environment) reference
+        path.old.items node.old (state_in (storage_view S.PagableStorage) pager.old) path.new.items node.new
+        (state_in (storage_view S.PagableStorage) pager.new)) }
+    ensures fails { IfErr result (λ e. GoesNowhere (values_at E.Node.NodeSet E.Env E.Hash.KeyHash pager.old.environment)
+        reference (state_in (storage_view S.PagableStorage) pager.old) e
+        (state_in (storage_view S.PagableStorage) pager.new)) }
     ensures stays { OnErr result ((path.new.items ≡ path.old.items) × (node.new ≡ node.old)) }
     ensures keeps { KeepsStorage pager.old pager.new }
 {
@@ -150,9 +165,11 @@ fn go_on<E: Env<Node: NodeSet<E>>, S: PagableStorage<E>>(
     reference: ArcRef,
 ) -> Result<(), Error>
     requires next { Some reference ≡ slice_get node.old.written.arcs.items node.old.keyed }
-    ensures turns { OnOk result (Turn (values_at E.Node.NodeSet E.Env E.Hash.KeyHash pager.old.environment) (stage path.old.items node.old (λ n. row_by found.now n) (state_in (storage_view S.PagableStorage) pager.old))
+    ensures turns { OnOk result (Turn (values_at E.Node.NodeSet E.Env E.Hash.KeyHash pager.old.environment)
+        (stage path.old.items node.old (λ n. row_by found.now n) (state_in (storage_view S.PagableStorage) pager.old))
         (stage path.new.items node.new (λ n. row_by found.now n) (state_in (storage_view S.PagableStorage) pager.new))) }
-    ensures fails { IfErr result (λ e. TurnFails (values_at E.Node.NodeSet E.Env E.Hash.KeyHash pager.old.environment) (stage path.old.items node.old (λ n. row_by found.now n) (state_in (storage_view S.PagableStorage) pager.old))
+    ensures fails { IfErr result (λ e. TurnFails (values_at E.Node.NodeSet E.Env E.Hash.KeyHash pager.old.environment)
+        (stage path.old.items node.old (λ n. row_by found.now n) (state_in (storage_view S.PagableStorage) pager.old))
         e (state_in (storage_view S.PagableStorage) pager.new)) }
     ensures stays { OnErr result ((path.new.items ≡ path.old.items) × (node.new ≡ node.old)) }
     ensures keeps { KeepsStorage pager.old pager.new }
@@ -190,9 +207,14 @@ fn go_up<E: Env<Node: NodeSet<E>>, S: PagableStorage<E>>(
     path: &mut Vec<OpenNode>,
     node: &mut OpenNode,
 ) -> Result<Option<DataKey>, Error>
-    ensures turns { IsTrue (S.is_honest pager.new.storage) → IfOk result (λ key. Turned (values_at E.Node.NodeSet E.Env E.Hash.KeyHash pager.old.environment) (stage path.old.items node.old (λ n. row_by found.old n) (state_in (storage_view S.PagableStorage) pager.old))
-        key (stage path.new.items node.new (λ n. row_by found.new n) (state_in (storage_view S.PagableStorage) pager.new))) }
-    ensures fails { IsTrue (S.is_honest pager.new.storage) → IfErr result (λ e. TurnFails (values_at E.Node.NodeSet E.Env E.Hash.KeyHash pager.old.environment) (stage path.old.items node.old (λ n. row_by found.old n) (state_in (storage_view S.PagableStorage) pager.old))
+    ensures turns { IsTrue (S.is_honest pager.new.storage)
+        → IfOk result (λ key. Turned (values_at E.Node.NodeSet E.Env E.Hash.KeyHash pager.old.environment)
+        (stage path.old.items node.old (λ n. row_by found.old n) (state_in (storage_view S.PagableStorage) pager.old))
+        key (stage path.new.items node.new (λ n. row_by found.new n)
+        (state_in (storage_view S.PagableStorage) pager.new))) }
+    ensures fails { IsTrue (S.is_honest pager.new.storage)
+        → IfErr result (λ e. TurnFails (values_at E.Node.NodeSet E.Env E.Hash.KeyHash pager.old.environment)
+        (stage path.old.items node.old (λ n. row_by found.old n) (state_in (storage_view S.PagableStorage) pager.old))
         e (state_in (storage_view S.PagableStorage) pager.new)) }
     ensures stays { OnErr result ((path.new.items ≡ path.old.items) × (node.new ≡ node.old)) }
     ensures honest { IsTrue (S.is_honest pager.new.storage) → IsTrue (S.is_honest pager.old.storage) }
@@ -220,9 +242,14 @@ fn turn<E: Env<Node: NodeSet<E>>, S: PagableStorage<E>>(
     path: &mut Vec<OpenNode>,
     node: &mut OpenNode,
 ) -> Result<Option<DataKey>, Error>
-    ensures turns { IsTrue (S.is_honest pager.new.storage) → IfOk result (λ key. Turned (values_at E.Node.NodeSet E.Env E.Hash.KeyHash pager.old.environment) (stage path.old.items node.old (λ n. row_by found.old n) (state_in (storage_view S.PagableStorage) pager.old))
-        key (stage path.new.items node.new (λ n. row_by found.new n) (state_in (storage_view S.PagableStorage) pager.new))) }
-    ensures fails { IsTrue (S.is_honest pager.new.storage) → IfErr result (λ e. TurnFails (values_at E.Node.NodeSet E.Env E.Hash.KeyHash pager.old.environment) (stage path.old.items node.old (λ n. row_by found.old n) (state_in (storage_view S.PagableStorage) pager.old))
+    ensures turns { IsTrue (S.is_honest pager.new.storage)
+        → IfOk result (λ key. Turned (values_at E.Node.NodeSet E.Env E.Hash.KeyHash pager.old.environment)
+        (stage path.old.items node.old (λ n. row_by found.old n) (state_in (storage_view S.PagableStorage) pager.old))
+        key (stage path.new.items node.new (λ n. row_by found.new n)
+        (state_in (storage_view S.PagableStorage) pager.new))) }
+    ensures fails { IsTrue (S.is_honest pager.new.storage)
+        → IfErr result (λ e. TurnFails (values_at E.Node.NodeSet E.Env E.Hash.KeyHash pager.old.environment)
+        (stage path.old.items node.old (λ n. row_by found.old n) (state_in (storage_view S.PagableStorage) pager.old))
         e (state_in (storage_view S.PagableStorage) pager.new)) }
     ensures stays { OnErr result ((path.new.items ≡ path.old.items) × (node.new ≡ node.old)) }
     ensures honest { IsTrue (S.is_honest pager.new.storage) → IsTrue (S.is_honest pager.old.storage) }
@@ -245,9 +272,14 @@ fn make_turns<E: Env<Node: NodeSet<E>>, S: PagableStorage<E>>(
     path: &mut Vec<OpenNode>,
     node: &mut OpenNode,
 ) -> Result<DataKey, Error>
-    ensures turns { IsTrue (S.is_honest pager.new.storage) → IfOk result (λ key. TurnsOut (values_at E.Node.NodeSet E.Env E.Hash.KeyHash pager.old.environment) (stage path.old.items node.old (λ n. row_by found.old n) (state_in (storage_view S.PagableStorage) pager.old))
-        key (stage path.new.items node.new (λ n. row_by found.new n) (state_in (storage_view S.PagableStorage) pager.new))) }
-    ensures fails { IsTrue (S.is_honest pager.new.storage) → IfErr result (λ e. TurnsFail (values_at E.Node.NodeSet E.Env E.Hash.KeyHash pager.old.environment) (stage path.old.items node.old (λ n. row_by found.old n) (state_in (storage_view S.PagableStorage) pager.old))
+    ensures turns { IsTrue (S.is_honest pager.new.storage)
+        → IfOk result (λ key. TurnsOut (values_at E.Node.NodeSet E.Env E.Hash.KeyHash pager.old.environment)
+        (stage path.old.items node.old (λ n. row_by found.old n) (state_in (storage_view S.PagableStorage) pager.old))
+        key (stage path.new.items node.new (λ n. row_by found.new n)
+        (state_in (storage_view S.PagableStorage) pager.new))) }
+    ensures fails { IsTrue (S.is_honest pager.new.storage)
+        → IfErr result (λ e. TurnsFail (values_at E.Node.NodeSet E.Env E.Hash.KeyHash pager.old.environment)
+        (stage path.old.items node.old (λ n. row_by found.old n) (state_in (storage_view S.PagableStorage) pager.old))
         e path.new.items node.new (state_in (storage_view S.PagableStorage) pager.new)) }
     ensures honest { IsTrue (S.is_honest pager.new.storage) → IsTrue (S.is_honest pager.old.storage) }
     ensures environment { pager.new.environment ≡ pager.old.environment }
@@ -272,7 +304,8 @@ fn give_up<E: Env<Node: NodeSet<E>>, S: PagableStorage<E>>(
     pager: &mut Pager<E, S>,
     path: &mut Vec<OpenNode>,
 )
-    ensures gives { GivesUp (values_at E.Node.NodeSet E.Env E.Hash.KeyHash pager.old.environment) path.old.items (state_in (storage_view S.PagableStorage) pager.old) (state_in (storage_view S.PagableStorage) pager.new) }
+    ensures gives { GivesUp (values_at E.Node.NodeSet E.Env E.Hash.KeyHash pager.old.environment) path.old.items
+        (state_in (storage_view S.PagableStorage) pager.old) (state_in (storage_view S.PagableStorage) pager.new) }
     ensures keeps { KeepsStorage pager.old pager.new }
 {
     while let Some(node) = pop_node(path) {
@@ -286,7 +319,8 @@ pub(crate) fn walk<E: Env<Node: NodeSet<E>>, S: PagableStorage<E>>(
     pager: &mut Pager<E, S>,
     first: OpenNode,
 ) -> Result<DataKey, Error>
-    ensures walks { IsTrue (S.is_honest pager.new.storage) → Walks (values_at E.Node.NodeSet E.Env E.Hash.KeyHash pager.old.environment) first
+    ensures walks { IsTrue (S.is_honest pager.new.storage)
+        → Walks (values_at E.Node.NodeSet E.Env E.Hash.KeyHash pager.old.environment) first
         (state_in (storage_view S.PagableStorage) pager.old) result (state_in (storage_view S.PagableStorage) pager.new) }
     ensures honest { IsTrue (S.is_honest pager.new.storage) → IsTrue (S.is_honest pager.old.storage) }
     ensures environment { pager.new.environment ≡ pager.old.environment }

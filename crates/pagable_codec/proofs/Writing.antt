@@ -7,7 +7,8 @@ use Rattle.std.{proofs.{Common.{arith, false, length, refl, sym, ℕ, ◌++◌, 
 use Rattle.pagable_value_spec.specs.Meaning as meanings
 use Rattle.pagable_value_spec.specs.Shape as shapes
 
-pub out_is : (b c : List ℕ) (r s : List ArcRef) → b ≡ c → r ≡ s → (let x : Out = record { bytes = b; refs = r } in x) ≡ (let y : Out = record { bytes = c; refs = s } in y)
+pub out_is : (b c : List ℕ) (r s : List ArcRef) → b ≡ c → r ≡ s → (let x : Out = record { bytes = b; refs = r } in x)
+    ≡ (let y : Out = record { bytes = c; refs = s } in y)
 out_is b c r s e f = rw (e, f) refl
 
 pub grows_bytes : (old : Out) (w : List ℕ) → Extends old.bytes w → Grows old (record old { bytes = w })
@@ -27,27 +28,46 @@ pub grows_some : (M : Meaning ArcRef → Type 0) (n : Nesting) (s : Shape) (a b 
 grows_some M n s a b w = record { bytes = w.wrote.bytes; refs = w.wrote.refs; grown = w.wrote.grown }
 
 -- bytes alone
-pub writes_bytes : (n : Nesting) (s : Shape) (m : Meaning ArcRef) (old : Out) (w b : List ℕ) → w ≡ old.bytes ++ b → FormAt n s m b [] → Writes n s m old (record old { bytes = w })
+pub writes_bytes : (n : Nesting) (s : Shape) (m : Meaning ArcRef) (old : Out) (w b : List ℕ) → w ≡ old.bytes ++ b → FormAt n s m b []
+    → Writes n s m old (record old { bytes = w })
 writes_bytes n s m old w b e f = record { bytes = b; refs = []; form = f; grown = out_is _ _ _ _ e (sym (append-nil old.refs)) }
 
 -- the one meaning of a value
-pub writes_is : {X : Type 0} (meaning : X → Meaning ArcRef) (x : X) (n : Nesting) (s : Shape) (old new : Out) → Writes n s (meaning x) old new → WritesSome (Is meaning x) n s old new
+pub writes_is : {X : Type 0} (meaning : X → Meaning ArcRef) (x : X) (n : Nesting) (s : Shape) (old new : Out) → Writes n s (meaning x) old new
+    → WritesSome (Is meaning x) n s old new
 writes_is meaning x n s old new w = record { m = meaning x; is = refl; wrote = w }
 
-pub writes_unsigned : (n : Nesting) (w : Width) (x : ℕ) (old : Out) (bytes : List ℕ) → x < bound w → bytes ≡ old.bytes ++ unsigned_form w x → WritesSome (Is number x) n (unsigned w) old (record old { bytes = bytes })
-writes_unsigned n w x old bytes lt e = writes_is number x n (unsigned w) old _ (writes_bytes n (unsigned w) (number x) old bytes (unsigned_form w x) e (unsigned-form _ w x lt))
+pub writes_unsigned : (n : Nesting) (w : Width) (x : ℕ) (old : Out) (bytes : List ℕ) → x < bound w → bytes ≡ old.bytes ++ unsigned_form w x
+    → WritesSome (Is number x) n (unsigned w) old (record old { bytes = bytes })
+writes_unsigned n w x old bytes lt e = writes_is number x n (unsigned w) old _
+    (writes_bytes n (unsigned w) (number x) old bytes (unsigned_form w x) e (unsigned-form _ w x lt))
 
-pub writes_signed : (n : Nesting) (w : Width) (x : ℤ) (old : Out) (bytes : List ℕ) → IsSigned w x → bytes ≡ old.bytes ++ signed_form w x → WritesSome (Is integer x) n (signed w) old (record old { bytes = bytes })
-writes_signed n w x old bytes within e = writes_is integer x n (signed w) old _ (writes_bytes n (signed w) (integer x) old bytes (signed_form w x) e (signed-form _ w x within))
+pub writes_signed : (n : Nesting) (w : Width) (x : ℤ) (old : Out) (bytes : List ℕ) → IsSigned w x → bytes ≡ old.bytes ++ signed_form w x
+    → WritesSome (Is integer x) n (signed w) old (record old { bytes = bytes })
+writes_signed n w x old bytes within e = writes_is integer x n (signed w) old _
+    (writes_bytes n (signed w) (integer x) old bytes (signed_form w x) e (signed-form _ w x within))
 
-pub writes_flag : (n : Nesting) (b : Bool) (old : Out) (bytes : List ℕ) → bytes ≡ old.bytes ++ bool_form b → WritesSome (Is meanings.flag b) n shapes.flag old (record old { bytes = bytes })
-writes_flag n b old bytes e = writes_is meanings.flag b n shapes.flag old _ (writes_bytes n shapes.flag (meanings.flag b) old bytes (bool_form b) e (flag-form _ b))
+pub writes_flag : (n : Nesting) (b : Bool) (old : Out) (bytes : List ℕ) → bytes ≡ old.bytes ++ bool_form b
+    → WritesSome (Is meanings.flag b) n shapes.flag old (record old { bytes = bytes })
+writes_flag n b old bytes e = writes_is meanings.flag b n shapes.flag old _
+    (writes_bytes n shapes.flag (meanings.flag b) old bytes (bool_form b) e (flag-form _ b))
 
-pub writes_letter : (n : Nesting) (c : ℕ) (old : Out) (bytes : List ℕ) → IsScalar c → bytes ≡ old.bytes ++ char_form c → WritesSome (Is number c) n shapes.letter old (record old { bytes = bytes })
-writes_letter n c old bytes scalar e = writes_is number c n shapes.letter old _ (writes_bytes n shapes.letter (number c) old bytes (char_form c) e (letter-form _ c scalar))
+pub writes_letter : (n : Nesting) (c : ℕ) (old : Out) (bytes : List ℕ) → IsScalar c → bytes ≡ old.bytes ++ char_form c
+    → WritesSome (Is number c) n shapes.letter old (record old { bytes = bytes })
+writes_letter n c old bytes scalar e = writes_is number c n shapes.letter old _
+    (writes_bytes n shapes.letter (number c) old bytes (char_form c) e (letter-form _ c scalar))
 
 pub writes_nothing : (n : Nesting) (old : Out) → WritesSome (λ m. m ≡ meanings.none) n shapes.nothing old old
-writes_nothing n old = record { m = meanings.none; is = refl; wrote = record { bytes = []; refs = []; form = nothing-form _; grown = out_is _ _ _ _ (sym (append-nil old.bytes)) (sym (append-nil old.refs)) } }
+writes_nothing n old = record {
+  m = meanings.none;
+  is = refl;
+  wrote = record {
+    bytes = [];
+    refs = [];
+    form = nothing-form _;
+    grown = out_is _ _ _ _ (sym (append-nil old.bytes)) (sym (append-nil old.refs));
+  };
+}
 
 -- ---- refusals
 
@@ -61,25 +81,50 @@ refused_memory r M n s h = grind (arith, memory_refuses)
 -- ---- texts
 
 -- the text that a value means
-pub writes_text : {X : Type 0} (meaning : X → Meaning ArcRef) (x : X) (n : Nesting) (t : List ℕ) (old : Out) (bytes : List ℕ) → bytes ≡ old.bytes ++ text_form t → meaning x ≡ meanings.text t → IsUtf8 t → length t ≤ longest
+pub writes_text : {X : Type 0} (meaning : X → Meaning ArcRef) (x : X) (n : Nesting) (t : List ℕ) (old : Out) (bytes : List ℕ) → bytes ≡ old.bytes ++ text_form t
+    → meaning x ≡ meanings.text t → IsUtf8 t → length t ≤ longest
     → WritesSome (Is meaning x) n shapes.text old (record old { bytes = bytes })
-writes_text meaning x n t old bytes e is u le = record { m = meaning x; is = refl; wrote = rw is (writes_bytes n shapes.text (meanings.text t) old bytes (text_form t) e (text-form _ t u le)) }
+writes_text meaning x n t old bytes e is u le = record {
+  m = meaning x;
+  is = refl;
+  wrote = rw is (writes_bytes n shapes.text (meanings.text t) old bytes (text_form t) e (text-form _ t u le));
+}
 
 -- a text that is too long has no form
 pub no_text : (n : Nesting) (t : List ℕ) → longest < length t → NoForm n shapes.text (meanings.text t)
 no_text n t lt b k (text-form l u v le) = omega (arith, lt, le)
 
-pub refused_text : {X Y : Type 0} (r : Result Y Error) (meaning : X → Meaning ArcRef) (x : X) (n : Nesting) (t : List ℕ) → meaning x ≡ meanings.text t → IfErr r (long_or_memory (length t)) → IfErr r (Refused (Is meaning x) n shapes.text)
+pub refused_text : {X Y : Type 0} (r : Result Y Error) (meaning : X → Meaning ArcRef) (x : X) (n : Nesting) (t : List ℕ) → meaning x ≡ meanings.text t
+    → IfErr r (long_or_memory (length t)) → IfErr r (Refused (Is meaning x) n shapes.text)
 refused_text r meaning x n t is h = grind (arith, no_text n t, memory_refuses)
 
 pub only_long : {Y : Type 0} (r : Result Y Error) (len : ℕ) → IfErr r (long_or_memory len) → IfErr r (long_or memory)
 only_long r len h = grind arith
 
-pub ruleset parts = (grows_bytes, grows_refl, grows_trans, grows_some, writes_is, writes_unsigned, writes_signed, writes_flag, writes_letter, writes_text, refused_memory, refused_text, only_long)
+pub ruleset parts = (
+  grows_bytes,
+  grows_refl,
+  grows_trans,
+  grows_some,
+  writes_is,
+  writes_unsigned,
+  writes_signed,
+  writes_flag,
+  writes_letter,
+  writes_text,
+  refused_memory,
+  refused_text,
+  only_long,
+)
 
 -- a reference alone
-pub writes_reference : {X : Type 0} (meaning : X → Meaning ArcRef) (x : X) (n : Nesting) (kind : ℕ) (r : ArcRef) (old new : Out) → new ≡ added old [] (r ∷ []) → meaning x ≡ meanings.reference r → kind_of_arc r ≡ kind → WritesSome (Is meaning x) n (shapes.reference kind) old new
-writes_reference meaning x n kind r old new e is k = record { m = meaning x; is = refl; wrote = rw is (record { bytes = []; refs = r ∷ []; form = reference-form _ kind r k; grown = e }) }
+pub writes_reference : {X : Type 0} (meaning : X → Meaning ArcRef) (x : X) (n : Nesting) (kind : ℕ) (r : ArcRef) (old new : Out) → new ≡ added old [] (r ∷ [])
+    → meaning x ≡ meanings.reference r → kind_of_arc r ≡ kind → WritesSome (Is meaning x) n (shapes.reference kind) old new
+writes_reference meaning x n kind r old new e is k = record {
+  m = meaning x;
+  is = refl;
+  wrote = rw is (record { bytes = []; refs = r ∷ []; form = reference-form _ kind r k; grown = e });
+}
 
 pub grows_added : (old new : Out) (bytes : List ℕ) (refs : List ArcRef) → new ≡ added old bytes refs → Grows old new
 grows_added old new bytes refs e = record { bytes = bytes; refs = refs; grown = e }

@@ -50,7 +50,8 @@ pub trait PagableDeserializer<E: Env> {
     /// - an error of the reference itself.
     fn deserialize_arc(&mut self, kind: Kind) -> Result<ArcRef, Error>
         ensures of_kind { IfOk result (λ r. r.kind ≡ kind) }
-        ensures gives { Gives never (λ r. (meaning_of r, rest self.new)) result (reference_at answer_at kind.0 (rest self.old).refs (rest self.old)) }
+        ensures gives { Gives never (λ r. (meaning_of r, rest self.new)) result
+            (reference_at answer_at kind.0 (rest self.old).refs (rest self.old)) }
         ensures lent { IfOk result (λ r. (y : E.Node) → lends self.new r ≡ Some y → IsLent (standing self.old) r y) }
         ensures used { rest self.new ≡ record (rest self.old) { refs = drop 1 (rest self.old).refs } }
         ensures moves { MovesOn (standing self.old) (standing self.new) }
@@ -68,7 +69,8 @@ pub trait PagableDeserializer<E: Env> {
         alloc: Global,
         reference: ArcRef,
     ) -> Result<Option<Arc<T>>, Error>
-        ensures value { IfOk result (λ found. option_map arc_value found ≡ option_and_then T.held (lends self.now reference)) }
+        ensures value { IfOk result (λ found. option_map arc_value found
+            ≡ option_and_then T.held (lends self.now reference)) }
         ensures only { IfErr result memory };
 
     /// Returns how many bytes and references it has read.
@@ -90,7 +92,8 @@ pub trait PagableDeserializer<E: Env> {
     /// - `TooDeep` if 128 levels are entered: nothing changes.
     fn enter(&mut self) -> Result<(), Error>
         ensures ok { OnOk result ((levels self.new ≡ levels self.old + 1) × (levels self.old < deepest)) }
-        ensures err { IfErr result (λ e. (e ≡ Error.TooDeep) × (deepest ≤ levels self.old) × (levels self.new ≡ levels self.old)) }
+        ensures err { IfErr result (λ e. (e ≡ Error.TooDeep) × (deepest ≤ levels self.old)
+            × (levels self.new ≡ levels self.old)) }
         ensures same_standing { standing self.new ≡ standing self.old }
         ensures same_rest { rest self.new ≡ rest self.old }
         ensures same_env { environment self.new ≡ environment self.old };
@@ -120,9 +123,11 @@ pub trait PagableDeserializer<E: Env> {
 
     // Another reader changes only the bytes that are left; a reader that has moved on moves the
     // deserializer on.
-    ghost rest_of_with: { (s : Self) (r : Self.Reader) → rest (with_reader s r) ≡ record (rest s) { bytes = left (Self.Reader.track r) } };
+    ghost rest_of_with: { (s : Self) (r : Self.Reader) → rest (with_reader s r)
+        ≡ record (rest s) { bytes = left (Self.Reader.track r) } };
 
-    ghost moves_of_with: { (s : Self) (r : Self.Reader) → GoesOn (Self.Reader.track (reader s)) (Self.Reader.track r) → MovesOn (standing s) (standing (with_reader s r)) };
+    ghost moves_of_with: { (s : Self) (r : Self.Reader) → GoesOn (Self.Reader.track (reader s)) (Self.Reader.track r)
+        → MovesOn (standing s) (standing (with_reader s r)) };
 
     ghost levels_of_with: { (s : Self) (r : Self.Reader) → levels (with_reader s r) ≡ levels s };
 

@@ -61,10 +61,13 @@ pub trait NodeSet<E: Env>: Sized {
     /// - as the type's `pagable_serialize`: the serializer keeps what it held before, and may hold
     ///   a part of the value.
     fn write<S: PagableSerializer<E>>(&self, serializer: &mut S) -> Result<(), Error>
-        ensures ok { OnOk result (WritesSome (means self.now) (nesting (S.levels serializer.old) (E.parts (S.environment serializer.old)))
+        ensures ok { OnOk result (WritesSome (means self.now)
+            (nesting (S.levels serializer.old) (E.parts (S.environment serializer.old)))
             (own_shape (S.environment serializer.old) self.now) (S.out serializer.old) (S.out serializer.new)) }
         ensures listed { OnOk result ((S.out serializer.new).refs ≡ (S.out serializer.old).refs ++ refs_of self.now) }
-        ensures refused { IfErr result (Refused (means self.now) (nesting (S.levels serializer.old) (E.parts (S.environment serializer.old))) (own_shape (S.environment serializer.old) self.now)) }
+        ensures refused { IfErr result (Refused (means self.now)
+            (nesting (S.levels serializer.old) (E.parts (S.environment serializer.old)))
+            (own_shape (S.environment serializer.old) self.now)) }
         ensures only { IfErr result (write_causes (type_of self.now)) }
         ensures err { Grows (S.out serializer.old) (S.out serializer.new) }
         ensures same_env { S.environment serializer.new ≡ S.environment serializer.old }
@@ -82,7 +85,8 @@ pub trait NodeSet<E: Env>: Sized {
         deserializer: &mut D,
     ) -> Result<Self, Error>
         ensures gives { GivesSome (read_causes node_type) means (D.rest deserializer.new) result
-            (read_typed (handles_at (D.levels deserializer.old) (E.parts (D.environment deserializer.old))) (shape_of (D.environment deserializer.old) node_type) (D.rest deserializer.old)) }
+            (read_typed (handles_at (D.levels deserializer.old) (E.parts (D.environment deserializer.old)))
+            (shape_of (D.environment deserializer.old) node_type) (D.rest deserializer.old)) }
         ensures asked { IfOk result (λ x. type_of x ≡ node_type) }
         ensures holds { IfOk result (HoldsLent (D.standing deserializer.old) beside) }
         ensures moves { MovesOn (D.standing deserializer.old) (D.standing deserializer.new) }

@@ -56,7 +56,8 @@ pub fn write_count<E: Env, S: PagableSerializer<E>>(
 /// - `BadBool` if the byte is neither 0 nor 1.
 /// - a fault of the input, if it has no byte left.
 pub fn read_flag<E: Env, D: PagableDeserializer<E>>(deserializer: &mut D) -> Result<bool, Error>
-    ensures gives { Gives never (λ b. (b, D.rest deserializer.new)) result (bytes_of bool_at (λ b. b) (D.rest deserializer.old)) }
+    ensures gives { Gives never (λ b. (b, D.rest deserializer.new)) result
+        (bytes_of bool_at (λ b. b) (D.rest deserializer.old)) }
     ensures moves { MovesOn (D.standing deserializer.old) (D.standing deserializer.new) }
     ensures same_env { D.environment deserializer.new ≡ D.environment deserializer.old }
     ensures same_levels { D.levels deserializer.new ≡ D.levels deserializer.old }
@@ -71,7 +72,8 @@ pub fn read_flag<E: Env, D: PagableDeserializer<E>>(deserializer: &mut D) -> Res
 /// - `TooLong` if the count is above 4,294,967,295.
 /// - a fault of the input's bytes.
 pub fn read_count<E: Env, D: PagableDeserializer<E>>(deserializer: &mut D) -> Result<usize, Error>
-    ensures gives { Gives never (λ n. (n, D.rest deserializer.new)) result (bytes_of length_at (λ n. n) (D.rest deserializer.old)) }
+    ensures gives { Gives never (λ n. (n, D.rest deserializer.new)) result
+        (bytes_of length_at (λ n. n) (D.rest deserializer.old)) }
     ensures moves { MovesOn (D.standing deserializer.old) (D.standing deserializer.new) }
     ensures same_env { D.environment deserializer.new ≡ D.environment deserializer.old }
     ensures same_levels { D.levels deserializer.new ≡ D.levels deserializer.old }

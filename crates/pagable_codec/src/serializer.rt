@@ -46,7 +46,8 @@ pub trait PagableSerializer<E: Env> {
     /// Overwrites bytes that were written before, from this position on.
     fn write_at(&mut self, position: usize, bytes: &[u8])
         requires { position + length bytes.now ≤ length (out self.old).bytes }
-        ensures written { out self.new ≡ record (out self.old) { bytes = overwritten (out self.old).bytes position bytes.now } }
+        ensures written { out self.new ≡ record (out self.old)
+            { bytes = overwritten (out self.old).bytes position bytes.now } }
         ensures same_env { environment self.new ≡ environment self.old }
         ensures same_levels { levels self.new ≡ levels self.old };
 
@@ -57,7 +58,8 @@ pub trait PagableSerializer<E: Env> {
     /// - `TooDeep` if 128 levels are entered: nothing changes.
     fn enter(&mut self) -> Result<(), Error>
         ensures ok { OnOk result ((levels self.new ≡ levels self.old + 1) × (levels self.old < deepest)) }
-        ensures err { IfErr result (λ e. (e ≡ Error.TooDeep) × (deepest ≤ levels self.old) × (levels self.new ≡ levels self.old)) }
+        ensures err { IfErr result (λ e. (e ≡ Error.TooDeep) × (deepest ≤ levels self.old)
+            × (levels self.new ≡ levels self.old)) }
         ensures same_out { out self.new ≡ out self.old }
         ensures same_env { environment self.new ≡ environment self.old };
 

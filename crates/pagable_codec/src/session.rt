@@ -96,8 +96,10 @@ impl<K: Ord + Drop, V: SessionValue> SessionMap<K, V> {
         make: F,
     ) -> Result<V, (Error, K, Option<V>)>
         requires { get K.cmp self.old.values key ≡ None → F.pre make }
-        ensures kept { IfOk result (λ y. (x : V) → get K.cmp self.old.values key ≡ Some x → V.is_clone x y × IsUnchanged self.old.values self.new.values) }
-        ensures made { IfOk result (λ y. get K.cmp self.old.values key ≡ None → (x : V) × F.post make x × V.is_clone x y × Updates K.cmp self.old.values self.new.values key (Some x)) }
+        ensures kept { IfOk result (λ y. (x : V) → get K.cmp self.old.values key ≡ Some x → V.is_clone x y
+            × IsUnchanged self.old.values self.new.values) }
+        ensures made { IfOk result (λ y. get K.cmp self.old.values key ≡ None → (x : V) × F.post make x × V.is_clone x y
+            × Updates K.cmp self.old.values self.new.values key (Some x)) }
         ensures err { OnErr result (IsUnchanged self.old.values self.new.values) }
         ensures only { IfErr result (λ e. memory e.0) }
         ensures back { IfErr result (λ e. (e.1 ≡ key) × IsBack (F.post make) (get K.cmp self.old.values key) e.2) }
@@ -168,7 +170,9 @@ impl<K: Ord + Drop, V: SessionValue> SessionContext<K, V> {
     ///
     /// - `OutOfMemory` only.
     pub fn get<R: Wait>(&self, rt: &R, key: &K) -> Result<Option<V>, Error>
-        ensures does { Under self.now (λ (old new : SessionMap K V). IfOk result (IsCloneOf V.is_clone (get K.cmp old.values key.now)) × OnErr result (IsSome (get K.cmp old.values key.now))) }
+        ensures does { Under self.now (λ (old new : SessionMap K V). IfOk result
+            (IsCloneOf V.is_clone (get K.cmp old.values key.now))
+            × OnErr result (IsSome (get K.cmp old.values key.now))) }
         ensures only { IfErr result memory }
     {
         let map = self.lent(rt);
@@ -183,7 +187,8 @@ impl<K: Ord + Drop, V: SessionValue> SessionContext<K, V> {
     ///
     /// - `OutOfMemory` only: the map is unchanged, and the caller gets key and value back.
     pub fn set<R: Wait>(&self, rt: &R, key: K, value: V) -> Result<(), (Error, K, V)>
-        ensures does { Under self.now (λ (old new : SessionMap K V). OnOk result (Updates K.cmp old.values new.values key (Some value)) × OnErr result (IsUnchanged old.values new.values)) }
+        ensures does { Under self.now (λ (old new : SessionMap K V). OnOk result
+            (Updates K.cmp old.values new.values key (Some value)) × OnErr result (IsUnchanged old.values new.values)) }
         ensures only { IfErr result (λ e. memory e.0) }
         ensures back { IfErr result (λ e. (e.1 ≡ key) × (e.2 ≡ value)) }
     {
@@ -207,8 +212,10 @@ impl<K: Ord + Drop, V: SessionValue> SessionContext<K, V> {
     ) -> Result<V, (Error, K, Option<V>)>
         requires { F.pre make }
         ensures does { Under self.now (λ (old new : SessionMap K V).
-            IfOk result (λ y. (x : V) → get K.cmp old.values key ≡ Some x → V.is_clone x y × IsUnchanged old.values new.values) ×
-            IfOk result (λ y. get K.cmp old.values key ≡ None → (x : V) × F.post make x × V.is_clone x y × Updates K.cmp old.values new.values key (Some x)) ×
+            IfOk result (λ y. (x : V) → get K.cmp old.values key ≡ Some x → V.is_clone x y
+            × IsUnchanged old.values new.values) ×
+            IfOk result (λ y. get K.cmp old.values key ≡ None → (x : V) × F.post make x × V.is_clone x y
+            × Updates K.cmp old.values new.values key (Some x)) ×
             OnErr result (IsUnchanged old.values new.values)) }
         ensures only { IfErr result (λ e. memory e.0) }
         ensures back { IfErr result (λ e. (e.1 ≡ key) × IfSome e.2 (F.post make)) }

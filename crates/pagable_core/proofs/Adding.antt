@@ -8,15 +8,18 @@ use Rattle.{pagable_core.specs.{Data.{Blobs, blob_of, stored_in}, declared.stora
 pub adds_nothing : (stored : ℕ → Option Blob) (key : ℕ) (blob : Blob) → stored key ≡ Some blob → Adds key blob stored stored
 adds_nothing stored key blob h = record { each = λ q. grind (arith, nat_tests, eqb-true); free = inr h }
 
-pub adds_one : (old new : ℕ → Option Blob) (key : ℕ) (blob : Blob) → old key ≡ None → ((q : ℕ) → new q ≡ (if q == key then Some blob else old q)) → Adds key blob old new
+pub adds_one : (old new : ℕ → Option Blob) (key : ℕ) (blob : Blob) → old key ≡ None → ((q : ℕ) → new q ≡ (if q == key then Some blob else old q))
+    → Adds key blob old new
 adds_one old new key blob h each = record { each = each; free = inl h }
 
 -- another blob stands there
-pub taken : (stored : ℕ → Option Blob) (key : ℕ) (other blob : Blob) (same : Bool) → Some other ≡ stored key → (IsTrue same ↔ (other ≡ blob)) → same ≡ false → (o : Blob) × (stored key ≡ Some o) × (o ≢ blob)
+pub taken : (stored : ℕ → Option Blob) (key : ℕ) (other blob : Blob) (same : Bool) → Some other ≡ stored key → (IsTrue same ↔ (other ≡ blob)) → same ≡ false
+    → (o : Blob) × (stored key ≡ Some o) × (o ≢ blob)
 taken stored key other blob same e means differs = (other, sym e, λ is. let yes = means.1 is in absurd cc)
 
 -- what stands under each key after an insertion
-pub stored_more : (m n : Blobs) (key : ℕ) (v : Arc PagableData Global) (blob : Blob) → ((q : ℕ) → get nat_eq n q ≡ cond (nat_eq key q) (Some v) (get nat_eq m q)) → blob_of (arc_value v) ≡ blob
+pub stored_more : (m n : Blobs) (key : ℕ) (v : Arc PagableData Global) (blob : Blob)
+    → ((q : ℕ) → get nat_eq n q ≡ cond (nat_eq key q) (Some v) (get nat_eq m q)) → blob_of (arc_value v) ≡ blob
     → (q : ℕ) → stored_in n q ≡ (if q == key then Some blob else stored_in m q)
 stored_more m n key v blob each is q = let here = each q in grind (arith, nat_tests)
 
@@ -36,7 +39,8 @@ counts m count many unique = record {
 }
 
 -- each blob stays under its own key, whether one came or not
-pub all_named : {key_of : Blob → ℕ} {old : ℕ → Option Blob} {key : ℕ} (new : ℕ → Option Blob) (blob : Blob) (r : Result (Unit {0}) Error) → key ≡ key_of blob → AreNamed key_of old
+pub all_named : {key_of : Blob → ℕ} {old : ℕ → Option Blob} {key : ℕ} (new : ℕ → Option Blob) (blob : Blob) (r : Result (Unit {0}) Error) → key ≡ key_of blob
+    → AreNamed key_of old
     → OnOk r ((q : ℕ) → new q ≡ (if q == key then Some blob else old q)) → OnErr r (new ≡ old) → AreNamed key_of new
 all_named new blob r own named comes stays q b is = let here = named q b in grind (arith, nat_tests, eqb-true)
 

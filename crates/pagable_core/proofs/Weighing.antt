@@ -9,7 +9,8 @@ weight-more i b [] = grind arith
 weight-more i b (c ∷ bs) = grind (arith, weight-more (i + 1) b bs)
 
 -- one more byte
-pub is_weighed_more : (old new : WeighHash) (came : List ℕ) (b : ℕ) → IsWeighed old came → new.sum ≡ (old.sum + (old.place * b) % 2 ^ 128) % 2 ^ 128 → new.place ≡ (old.place + 1) % 2 ^ 128 → IsWeighed new (came ++ b ∷ [])
+pub is_weighed_more : (old new : WeighHash) (came : List ℕ) (b : ℕ) → IsWeighed old came → new.sum ≡ (old.sum + (old.place * b) % 2 ^ 128) % 2 ^ 128 → new.place
+    ≡ (old.place + 1) % 2 ^ 128 → IsWeighed new (came ++ b ∷ [])
 is_weighed_more old new came b h sum place =
     let next : 1 + length came ≡ length came + 1 = omega arith in
     record {
@@ -18,14 +19,17 @@ is_weighed_more old new came b h sum place =
     }
 
 -- a run of bytes, one after another
-pub take_next : (bytes : List ℕ) (i b : ℕ) (front : List ℕ) → i < length bytes → b ≡ get_or bytes i 0 → front ++ take (i + 1) bytes ≡ (front ++ take i bytes) ++ b ∷ []
+pub take_next : (bytes : List ℕ) (i b : ℕ) (front : List ℕ) → i < length bytes → b ≡ get_or bytes i 0 → front ++ take (i + 1) bytes ≡ (front ++ take i bytes)
+    ++ b ∷ []
 take_next bytes i b front h is = rw (take_more bytes i 0 h, ← is) (sym (append_assoc front (take i bytes) (b ∷ [])))
 
 -- the count, the bytes and the keys are the preimage
-pub preimage_is : (bytes keys : List ℕ) → (to_le_bytes w64 (length keys) ++ bytes) ++ flat_map (to_le_bytes w128) keys ≡ preimage (record { bytes = bytes; keys = keys })
+pub preimage_is : (bytes keys : List ℕ) → (to_le_bytes w64 (length keys) ++ bytes) ++ flat_map (to_le_bytes w128) keys
+    ≡ preimage (record { bytes = bytes; keys = keys })
 unfolding preimage
 preimage_is bytes keys = append_assoc (to_le_bytes w64 (length keys)) bytes (flat_map (to_le_bytes w128) keys)
 
 -- one key more
-pub continues : (f : ℕ → List ℕ) (keys : List ℕ) (i key : ℕ) (front more : List ℕ) → i < length keys → key ≡ get_or keys i key → more ≡ f key → (front ++ flat_map f (take i keys)) ++ more ≡ front ++ flat_map f (take (i + 1) keys)
+pub continues : (f : ℕ → List ℕ) (keys : List ℕ) (i key : ℕ) (front more : List ℕ) → i < length keys → key ≡ get_or keys i key → more ≡ f key
+    → (front ++ flat_map f (take i keys)) ++ more ≡ front ++ flat_map f (take (i + 1) keys)
 continues f keys i key front more h is e = rw (e, take_more keys i key h, ← is) (flat_map_more f front (take i keys) key)

@@ -17,7 +17,8 @@ answers_from answer place [] = []
 answers_from answer place (key ∷ keys) = (λ kind. answer place key kind) ∷ answers_from answer (place + 1) keys
 
 -- the state of a deserializer whose keys and reader are at these positions, with what it is lent at each place
-abbrev pub standing_of : {N : Type 0} → (ℕ → ℕ → ℕ → Result ArcRef Error) → (ℕ → Option (ArcRef × N)) → Track → Track → Standing N
+abbrev pub standing_of : {N : Type 0} → (ℕ → ℕ → ℕ → Result ArcRef Error) → (ℕ → Option (ArcRef × N)) → Track → Track
+    → Standing N
 standing_of answer lent keys reader = record {
   whole = record { bytes = reader.all; refs = answers_from answer 0 keys.all };
   lent = lent;
@@ -25,13 +26,18 @@ standing_of answer lent keys reader = record {
 }
 
 -- the state at the start of these bytes and keys
-abbrev pub at_front : {N : Type 0} → (ℕ → ℕ → ℕ → Result ArcRef Error) → (ℕ → Option (ArcRef × N)) → List ℕ → List ℕ → Standing N
-at_front answer lent bytes keys = standing_of answer lent (record { all = keys; position = 0 }) (record { all = bytes; position = 0 })
+abbrev pub at_front : {N : Type 0} → (ℕ → ℕ → ℕ → Result ArcRef Error) → (ℕ → Option (ArcRef × N)) → List ℕ → List ℕ
+    → Standing N
+at_front answer lent bytes keys = standing_of answer lent (record { all = keys; position = 0 })
+    (record { all = bytes; position = 0 })
 
 -- a reader that has moved on moves the deserializer on
-pub moves_of : {N : Type 0} (answer : ℕ → ℕ → ℕ → Result ArcRef Error) (lent : ℕ → Option (ArcRef × N)) (keys old new : Track) → GoesOn old new → MovesOn (standing_of answer lent keys old) (standing_of answer lent keys new)
+pub moves_of : {N : Type 0} (answer : ℕ → ℕ → ℕ → Result ArcRef Error) (lent : ℕ → Option (ArcRef × N))
+    (keys old new : Track) → GoesOn old new → MovesOn (standing_of answer lent keys old)
+    (standing_of answer lent keys new)
 moves_of answer lent keys old new g = record {
-  whole = ap (λ (bytes : List ℕ). let x : Rest Answer = record { bytes = bytes; refs = answers_from answer 0 keys.all } in x) g.all;
+  whole = ap (λ (bytes : List ℕ). let x : Rest Answer =
+      record { bytes = bytes; refs = answers_from answer 0 keys.all } in x) g.all;
   lent = refl;
   bytes = g.forward;
   refs = omega arith;

@@ -26,7 +26,11 @@ body_of (animals.OldCat lives) = number lives
 body_of (animals.Dog age) = number age
 
 abbrev pub animal_means : Meanings Animal
-animal_means = record { of = λ x. MeansTagged (tag_of x) (Is body_of x); meaning = λ x. of_tagged (tag_of x) (body_of x); is = λ x. record { body = body_of x; is_body = refl; is = refl } }
+animal_means = record {
+  of = λ x. MeansTagged (tag_of x) (Is body_of x);
+  meaning = λ x. of_tagged (tag_of x) (body_of x);
+  is = λ x. record { body = body_of x; is_body = refl; is = refl };
+}
 
 abbrev pub tag_read : AnimalReader → List ℕ
 tag_read readers.Dog = dog

@@ -18,7 +18,10 @@ of_expression (Sum' p left q right) = failure (pair (of_expression left) (of_exp
 
 -- what is written of what means this in a shape, where every part is an expression
 abbrev pub written : (Meaning ArcRef → Type 0) → Shape → Piece
-written M s = record { wrote = λ n. WritesSome M (nesting n.levels nodes) s; lacks = λ n. Refused M (nesting n.levels nodes) s }
+written M s = record {
+  wrote = λ n. WritesSome M (nesting n.levels nodes) s;
+  lacks = λ n. Refused M (nesting n.levels nodes) s;
+}
 
 abbrev pub expression : Expression → Shape → Piece
 expression x s = written (Is of_expression x) s

@@ -41,7 +41,8 @@ fn write_below<S: PagableSerializer<Sheet>>(
     value: &Expression,
     serializer: &mut S,
 ) -> Result<(), Error>
-    ensures { Wrote ⟦<Sheet as Env>⟧ S.PagableSerializer (expression value.now (nested 0)) (deep_or memory) serializer.old serializer.new result }
+    ensures { Wrote ⟦<Sheet as Env>⟧ S.PagableSerializer (expression value.now (nested 0))
+        (deep_or memory) serializer.old serializer.new result }
 {
     serializer.enter()?;
     let done = write_node(value, serializer);
@@ -55,7 +56,8 @@ fn write_node<S: PagableSerializer<Sheet>>(
     value: &Expression,
     serializer: &mut S,
 ) -> Result<(), Error>
-    ensures { Wrote ⟦<Sheet as Env>⟧ S.PagableSerializer (expression value.now node) (deep_or memory) serializer.old serializer.new result }
+    ensures { Wrote ⟦<Sheet as Env>⟧ S.PagableSerializer (expression value.now node) (deep_or memory) serializer.old
+        serializer.new result }
 {
     match value {
         Expression::Number(number) => {
@@ -77,7 +79,8 @@ fn read_below<D: PagableDeserializer<Sheet>>(
     alloc: Global,
     deserializer: &mut D,
 ) -> Result<Expression, Error>
-    ensures { Reads ⟦<Sheet as Env>⟧ D.PagableDeserializer memory (Is of_expression) (λ x. read x (nested 0)) deserializer.old deserializer.new result }
+    ensures { Reads ⟦<Sheet as Env>⟧ D.PagableDeserializer memory (Is of_expression)
+        (λ x. read x (nested 0)) deserializer.old deserializer.new result }
 {
     deserializer.enter()?;
     let read = read_node(alloc, deserializer);
@@ -101,7 +104,8 @@ fn read_node<D: PagableDeserializer<Sheet>>(
     alloc: Global,
     deserializer: &mut D,
 ) -> Result<Expression, Error>
-    ensures { Reads ⟦<Sheet as Env>⟧ D.PagableDeserializer memory (Is of_expression) (λ x. read x node) deserializer.old deserializer.new result }
+    ensures { Reads ⟦<Sheet as Env>⟧ D.PagableDeserializer memory (Is of_expression) (λ x. read x node) deserializer.old
+        deserializer.new result }
 {
     if read_flag(deserializer)? {
         let number = u64::pagable_deserialize(alloc, deserializer)?;

@@ -18,15 +18,18 @@ module _ (waiting : Waiting) (roots : WaitingRoots) (once : IsUnique int_eq wait
   roots_then rows now is = ap roots_in is ∙ (λ i q. all_named roots rows roots_once roots_fit q i)
 
   module _ (old new : View) (was : Settled old)
-      (saved : Saved old new (put_all pending_row waiting.entries (old.trees blob_tree)) (put_all pending_root_row roots.entries (old.trees root_tree))) (sure : IsTrue (is_sure new)) where
+      (saved : Saved old new (put_all pending_row waiting.entries (old.trees blob_tree)) (put_all pending_root_row roots.entries (old.trees root_tree)))
+      (sure : IsTrue (is_sure new)) where
     shown : old.trees ≡ old.committed
     shown = shown_is_committed old was (saved.sure sure)
 
     pub committed_blobs : blobs_in (new.committed blob_tree) ≡ stored_with waiting (old.committed blob_tree)
-    committed_blobs = blobs_then (old.trees blob_tree) (new.committed blob_tree) (saved.blobs_are sure) ∙ ap (λ (t : ℕ → List Row). stored_with waiting (t blob_tree)) shown
+    committed_blobs = blobs_then (old.trees blob_tree) (new.committed blob_tree) (saved.blobs_are sure)
+        ∙ ap (λ (t : ℕ → List Row). stored_with waiting (t blob_tree)) shown
 
     pub committed_roots : roots_in (new.committed root_tree) ≡ roots_with roots (old.committed root_tree)
-    committed_roots = roots_then (old.trees root_tree) (new.committed root_tree) (saved.roots_are sure) ∙ ap (λ (t : ℕ → List Row). roots_with roots (t root_tree)) shown
+    committed_roots = roots_then (old.trees root_tree) (new.committed root_tree) (saved.roots_are sure)
+        ∙ ap (λ (t : ℕ → List Row). roots_with roots (t root_tree)) shown
 
     pub stored_stays : (after : Waiting) → after.entries ≡ [] → stored_with after (new.committed blob_tree) ≡ stored_with waiting (old.committed blob_tree)
     stored_stays after none = none_waits after (new.committed blob_tree) none ∙ committed_blobs
@@ -34,17 +37,21 @@ module _ (waiting : Waiting) (roots : WaitingRoots) (once : IsUnique int_eq wait
     pub roots_stay : (after : WaitingRoots) → after.entries ≡ [] → roots_with after (new.committed root_tree) ≡ roots_with roots (old.committed root_tree)
     roots_stay after none = no_name_waits after (new.committed root_tree) none ∙ committed_roots
 
-pub blobs_kept : (waiting : Waiting) (old new : View) → StaysPut old new → IsTrue (is_sure new) → stored_with waiting (new.committed blob_tree) ≡ stored_with waiting (old.committed blob_tree)
+pub blobs_kept : (waiting : Waiting) (old new : View) → StaysPut old new → IsTrue (is_sure new) → stored_with waiting (new.committed blob_tree)
+    ≡ stored_with waiting (old.committed blob_tree)
 blobs_kept waiting old new stays sure = ap (λ (t : ℕ → List Row). stored_with waiting (t blob_tree)) (stays.same sure)
 
-pub roots_kept : (roots : WaitingRoots) (old new : View) → StaysPut old new → IsTrue (is_sure new) → roots_with roots (new.committed root_tree) ≡ roots_with roots (old.committed root_tree)
+pub roots_kept : (roots : WaitingRoots) (old new : View) → StaysPut old new → IsTrue (is_sure new) → roots_with roots (new.committed root_tree)
+    ≡ roots_with roots (old.committed root_tree)
 roots_kept roots old new stays sure = ap (λ (t : ℕ → List Row). roots_with roots (t root_tree)) (stays.same sure)
 
 -- what a crash leaves of a commit
 pub crashed : (old mid new : View) (waiting : Waiting) (roots : WaitingRoots) (Mid Old : Trees → Type 0)
     → (IsClean mid → Wrote old mid (put_all pending_row waiting.entries (old.trees blob_tree)) (put_all pending_root_row roots.entries (old.trees root_tree)))
-    → IsUnique int_eq waiting → IsUnique int_eq roots → Each (λ e. Fits e.1) waiting.entries → Each (λ e. CanBeKeyIf e.1.key) roots.entries → doubt mid.is_clean ≤ doubt new.is_clean
-    → ((db : Trees) → Mid db → Old db) → (db : Trees) → ((mid.is_broken ≡ false) × (db ≡ mid.trees)) ⊎ Mid db → IsClean new → SavedAs old waiting roots db ⊎ Old db
+    → IsUnique int_eq waiting → IsUnique int_eq roots → Each (λ e. Fits e.1) waiting.entries → Each (λ e. CanBeKeyIf e.1.key) roots.entries
+    → doubt mid.is_clean ≤ doubt new.is_clean
+    → ((db : Trees) → Mid db → Old db) → (db : Trees) → ((mid.is_broken ≡ false) × (db ≡ mid.trees)) ⊎ Mid db → IsClean new → SavedAs old waiting roots db
+    ⊎ Old db
 crashed old mid new waiting roots Mid Old wrote once roots_once fit roots_fit falls kept db (inr was) clean = inr (kept db was)
 crashed old mid new waiting roots Mid Old wrote once roots_once fit roots_fit falls kept db (inl is) clean =
     let w = wrote (omega (arith, falls, clean)) in
@@ -58,29 +65,36 @@ crashed old mid new waiting roots Mid Old wrote once roots_once fit roots_fit fa
     })
 
 -- the tables after a crash in a commit
-pub crash_holds : (old : View) (waiting : Waiting) (roots : WaitingRoots) (db : Trees) (Old : Trees → Type 0) → Settled old → IsTrue (is_sure old) → SavedAs old waiting roots db ⊎ Old db
-    → ((blobs_in (db blob_tree) ≡ stored_with waiting (old.committed blob_tree)) × (roots_in (db root_tree) ≡ roots_with roots (old.committed root_tree))) ⊎ Old db
+pub crash_holds : (old : View) (waiting : Waiting) (roots : WaitingRoots) (db : Trees) (Old : Trees → Type 0) → Settled old → IsTrue (is_sure old)
+    → SavedAs old waiting roots db ⊎ Old db
+    → ((blobs_in (db blob_tree) ≡ stored_with waiting (old.committed blob_tree)) × (roots_in (db root_tree) ≡ roots_with roots (old.committed root_tree)))
+    ⊎ Old db
 crash_holds old waiting roots db Old was sure (inr h) = inr h
 crash_holds old waiting roots db Old was sure (inl h) =
     let shown = shown_is_committed old was sure in
     inl (
-      blobs_then waiting roots h.once h.roots_once h.fit h.roots_fit (old.trees blob_tree) (db blob_tree) h.blobs_are ∙ ap (λ (t : ℕ → List Row). stored_with waiting (t blob_tree)) shown,
-      roots_then waiting roots h.once h.roots_once h.fit h.roots_fit (old.trees root_tree) (db root_tree) h.roots_are ∙ ap (λ (t : ℕ → List Row). roots_with roots (t root_tree)) shown,
+      blobs_then waiting roots h.once h.roots_once h.fit h.roots_fit (old.trees blob_tree) (db blob_tree) h.blobs_are
+          ∙ ap (λ (t : ℕ → List Row). stored_with waiting (t blob_tree)) shown,
+      roots_then waiting roots h.once h.roots_once h.fit h.roots_fit (old.trees root_tree) (db root_tree) h.roots_are
+          ∙ ap (λ (t : ℕ → List Row). roots_with roots (t root_tree)) shown,
     )
 
 -- what was stored and flushed stands in the table
-pub flushed_has : (stored0 stored1 stored2 : ℕ → Option Blob) (closed : Bool) (rows : List Row) (key : ℕ) (blob : Blob) → Adds key blob stored0 stored1 → stored2 ≡ stored1
+pub flushed_has : (stored0 stored1 stored2 : ℕ → Option Blob) (closed : Bool) (rows : List Row) (key : ℕ) (blob : Blob) → Adds key blob stored0 stored1
+    → stored2 ≡ stored1
     → unless closed (blobs_in rows) ≡ stored2 → closed ≡ false → blobs_in rows key ≡ Some blob
 flushed_has stored0 stored1 stored2 closed rows key blob adds same flushed usable =
     let here : (if key == key then Some blob else stored0 key) ≡ Some blob = rw (same_number key) refl in
     ap (λ c. unless c (blobs_in rows) key) (sym usable) ∙ ap (λ (f : ℕ → Option Blob). f key) (flushed ∙ same) ∙ adds.each key ∙ here
 
 -- and is found again where nothing waits
-pub found_last : (again : Bool) (waiting : Waiting) (rows now : List Row) (key : ℕ) (blob found : Blob) → blobs_in rows key ≡ Some blob → again ≡ false → waiting.entries ≡ [] → now ≡ rows
+pub found_last : (again : Bool) (waiting : Waiting) (rows now : List Row) (key : ℕ) (blob found : Blob) → blobs_in rows key ≡ Some blob → again ≡ false
+    → waiting.entries ≡ [] → now ≡ rows
     → unless again (stored_with waiting now) key ≡ Some found → found ≡ blob
 found_last again waiting rows now key blob found there usable none kept here =
     let both : Some found ≡ Some blob =
-    sym here ∙ ap (λ c. unless c (stored_with waiting now) key) usable ∙ ap (λ (f : ℕ → Option Blob). f key) (none_waits waiting now none) ∙ ap (λ (r : List Row). blobs_in r key) kept ∙ there in
+    sym here ∙ ap (λ c. unless c (stored_with waiting now) key) usable ∙ ap (λ (f : ℕ → Option Blob). f key) (none_waits waiting now none)
+    ∙ ap (λ (r : List Row). blobs_in r key) kept ∙ there in
     cc
 
 pub ruleset committing = (committed_blobs, committed_roots, stored_stays, roots_stay, blobs_kept, roots_kept, crash_holds)

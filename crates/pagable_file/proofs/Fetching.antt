@@ -15,12 +15,14 @@ same_number a = grind (arith, nat_tests)
 other_number : (a b : ℕ) → a ≢ b → (a == b) ≡ false
 other_number a b h = grind (arith, nat_tests)
 
-pub held_stored : (closed : Bool) (waiting : Waiting) (rows : List Row) (key : ℕ) (it : Pending) → closed ≡ false → Some it ≡ get int_eq waiting (place_of key) → it.key ≡ key
+pub held_stored : (closed : Bool) (waiting : Waiting) (rows : List Row) (key : ℕ) (it : Pending) → closed ≡ false → Some it ≡ get int_eq waiting (place_of key)
+    → it.key ≡ key
     → unless closed (stored_with waiting rows) key ≡ Some (blob_pending it)
 unfolding stored_with
 held_stored closed waiting rows key it usable e same = rw (usable, sym e, same, same_number key) refl
 
-pub held_other : (closed : Bool) (waiting : Waiting) (rows : List Row) (key : ℕ) (it : Pending) → closed ≡ false → Some it ≡ get int_eq waiting (place_of key) → it.key ≢ key
+pub held_other : (closed : Bool) (waiting : Waiting) (rows : List Row) (key : ℕ) (it : Pending) → closed ≡ false → Some it ≡ get int_eq waiting (place_of key)
+    → it.key ≢ key
     → unless closed (stored_with waiting rows) key ≡ None
 unfolding stored_with
 held_other closed waiting rows key it usable e other = rw (usable, sym e, other_number it.key key other) refl
@@ -39,12 +41,14 @@ row_has_none rows key (Some reading.Other) f none = rw (f.1, f.2) refl
 row_has_none rows key (Some reading.Damaged) f none = absurd none
 row_has_none rows key (Some (reading.Blob it)) f none = absurd none
 
-pub read_stored : (closed : Bool) (waiting : Waiting) (rows : List Row) (key : ℕ) (found : Option Reading) (blob : Blob) → closed ≡ false → None ≡ get int_eq waiting (place_of key)
+pub read_stored : (closed : Bool) (waiting : Waiting) (rows : List Row) (key : ℕ) (found : Option Reading) (blob : Blob) → closed ≡ false → None
+    ≡ get int_eq waiting (place_of key)
     → IsFoundAs rows key found → HasBlob found blob → unless closed (stored_with waiting rows) key ≡ Some blob
 unfolding stored_with
 read_stored closed waiting rows key found blob usable e f has = rw (usable, sym e) (row_has rows key found blob f has)
 
-pub read_none : (closed : Bool) (waiting : Waiting) (rows : List Row) (key : ℕ) (found : Option Reading) → closed ≡ false → None ≡ get int_eq waiting (place_of key)
+pub read_none : (closed : Bool) (waiting : Waiting) (rows : List Row) (key : ℕ) (found : Option Reading) → closed ≡ false → None
+    ≡ get int_eq waiting (place_of key)
     → IsFoundAs rows key found → HasNone found → unless closed (stored_with waiting rows) key ≡ None
 unfolding stored_with
 read_none closed waiting rows key found usable e f none = rw (usable, sym e) (row_has_none rows key found f none)
@@ -54,7 +58,8 @@ pub adds_nothing : (stored : ℕ → Option Blob) (key : ℕ) (blob : Blob) → 
 adds_nothing stored key blob h = record { each = λ q. grind (arith, nat_tests, eqb-true); free = inr h }
 
 -- a blob comes to what waits, where nothing waits and the table has no row
-pub adds_waiting : (closed : Bool) (waiting after : Waiting) (rows : List Row) (key : ℕ) (it : Pending) → closed ≡ false → it.key ≡ key → get int_eq waiting (place_of key) ≡ None
+pub adds_waiting : (closed : Bool) (waiting after : Waiting) (rows : List Row) (key : ℕ) (it : Pending) → closed ≡ false → it.key ≡ key
+    → get int_eq waiting (place_of key) ≡ None
     → ((q : ℤ) → get int_eq after q ≡ (if int_eq (place_of key) q then Some it else get int_eq waiting q)) → row_at rows (place_of key) ≡ None
     → Adds key (blob_pending it) (unless closed (stored_with waiting rows)) (unless closed (stored_with after rows))
 unfolding stored_with blobs_in
@@ -63,11 +68,13 @@ adds_waiting closed waiting after rows key it usable own free comes none = rw us
     nothing : before key (get int_eq waiting (place_of key)) (blob_of_row key (row_at rows (place_of key))) ≡ None
     nothing = rw (free, none) refl
 
-    each : (q : ℕ) → before q (get int_eq after (place_of q)) (blob_of_row q (row_at rows (place_of q))) ≡ (if q == key then Some (blob_pending it) else before q (get int_eq waiting (place_of q)) (blob_of_row q (row_at rows (place_of q))))
+    each : (q : ℕ) → before q (get int_eq after (place_of q)) (blob_of_row q (row_at rows (place_of q)))
+        ≡ (if q == key then Some (blob_pending it) else before q (get int_eq waiting (place_of q)) (blob_of_row q (row_at rows (place_of q))))
     each q = rw (comes (place_of q)) (go (int_eq (place_of key) (place_of q)) refl (q == key) refl)
       where
         go : (b : Bool) → int_eq (place_of key) (place_of q) ≡ b → (c : Bool) → (q == key) ≡ c
-            → before q (if b then Some it else get int_eq waiting (place_of q)) (blob_of_row q (row_at rows (place_of q))) ≡ (if c then Some (blob_pending it) else before q (get int_eq waiting (place_of q)) (blob_of_row q (row_at rows (place_of q))))
+            → before q (if b then Some it else get int_eq waiting (place_of q)) (blob_of_row q (row_at rows (place_of q)))
+            ≡ (if c then Some (blob_pending it) else before q (get int_eq waiting (place_of q)) (blob_of_row q (row_at rows (place_of q))))
         go true e true f = let same : q ≡ key = eqb-true q key f in rw (own, same, same_number key) refl
         go true e false f =
             let place : place_of key ≡ place_of q = (Decides-int_eq (place_of key) (place_of q)).0 e in
@@ -78,14 +85,17 @@ adds_waiting closed waiting after rows key it usable own free comes none = rw us
             let same : q ≡ key = eqb-true q key f in
             absurd (true≢false (sym ((Decides-int_eq (place_of key) (place_of q)).1 (ap place_of (sym same))) ∙ e))
 
-pub adds_holding : (closed : Bool) (waiting after : Waiting) (old new : List Row) (key : ℕ) (blob : Blob) → closed ≡ false → None ≡ get int_eq waiting (place_of key) → Holds key blob waiting after
+pub adds_holding : (closed : Bool) (waiting after : Waiting) (old new : List Row) (key : ℕ) (blob : Blob) → closed ≡ false → None
+    ≡ get int_eq waiting (place_of key) → Holds key blob waiting after
     → IsFoundAs old key None → new ≡ old → Adds key blob (unless closed (stored_with waiting old)) (unless closed (stored_with after new))
 adds_holding closed waiting after old new key blob usable free h none same =
-    let here : Adds key (blob_pending h.it) (unless closed (stored_with waiting old)) (unless closed (stored_with after old)) = adds_waiting closed waiting after old key h.it usable h.own (sym free) h.each none in
+    let here : Adds key (blob_pending h.it) (unless closed (stored_with waiting old)) (unless closed (stored_with after old)) =
+    adds_waiting closed waiting after old key h.it usable h.own (sym free) h.each none in
     subst (λ (rows : List Row). Adds key blob (unless closed (stored_with waiting old)) (unless closed (stored_with after rows))) (sym same)
     (subst (λ (b : Blob). Adds key b (unless closed (stored_with waiting old)) (unless closed (stored_with after old))) h.content here)
 
-pub holds : (waiting after : Waiting) (key : ℕ) (it : Pending) → it.key ≡ key → ((q : ℤ) → get int_eq after q ≡ (if int_eq (place_of key) q then Some it else get int_eq waiting q)) → Holds key (blob_pending it) waiting after
+pub holds : (waiting after : Waiting) (key : ℕ) (it : Pending) → it.key ≡ key
+    → ((q : ℤ) → get int_eq after q ≡ (if int_eq (place_of key) q then Some it else get int_eq waiting q)) → Holds key (blob_pending it) waiting after
 holds waiting after key it own each = record { it = it; own = own; content = refl; each = each }
 
 -- each blob that waits stays under its own key, whether one came or not
@@ -101,7 +111,8 @@ all_keyed key_of old after key blob (Ok _) own keyed comes stays place it is = g
     go false e = keyed place it (rw e at (sym (comes.each place) ∙ is))
 all_keyed key_of old after key blob (Err e) own keyed comes stays place it is = keyed place it (sym (ap (lookup (int_eq place)) stays) ∙ is)
 
-pub held_named : (key_of : Blob → ℕ) (waiting : Waiting) (key : ℕ) (it : Pending) → AreKeyed key_of waiting → Some it ≡ get int_eq waiting (place_of key) → it.key ≡ key → key_of (blob_pending it) ≡ key
+pub held_named : (key_of : Blob → ℕ) (waiting : Waiting) (key : ℕ) (it : Pending) → AreKeyed key_of waiting → Some it ≡ get int_eq waiting (place_of key)
+    → it.key ≡ key → key_of (blob_pending it) ≡ key
 held_named key_of waiting key it keyed found own = keyed (place_of key) it (sym found) ∙ own
 
 -- nothing that waits has no key
@@ -112,24 +123,29 @@ pub keeps_same : (old new : ℕ → Option Blob) → new ≡ old → Keeps old n
 keeps_same old new same key blob is = rw same is
 
 -- the same blobs where the table is as it was
-pub same_stored : (closed : Bool) (waiting : Waiting) (old new : List Row) → new ≡ old → unless closed (stored_with waiting new) ≡ unless closed (stored_with waiting old)
+pub same_stored : (closed : Bool) (waiting : Waiting) (old new : List Row) → new ≡ old → unless closed (stored_with waiting new)
+    ≡ unless closed (stored_with waiting old)
 same_stored closed waiting old new same = ap (λ rows. unless closed (stored_with waiting rows)) same
 
 pub same_flushed : (closed : Bool) (old new : List Row) → new ≡ old → unless closed (blobs_in new) ≡ unless closed (blobs_in old)
 same_flushed closed old new same = ap (λ rows. unless closed (blobs_in rows)) same
 
 -- what stands there already, whether it waits or was read, adds nothing
-pub adds_held : (closed : Bool) (waiting : Waiting) (rows : List Row) (key : ℕ) (it : Pending) (blob : Blob) → closed ≡ false → Some it ≡ get int_eq waiting (place_of key) → it.key ≡ key → blob_pending it ≡ blob
+pub adds_held : (closed : Bool) (waiting : Waiting) (rows : List Row) (key : ℕ) (it : Pending) (blob : Blob) → closed ≡ false → Some it
+    ≡ get int_eq waiting (place_of key) → it.key ≡ key → blob_pending it ≡ blob
     → Adds key blob (unless closed (stored_with waiting rows)) (unless closed (stored_with waiting rows))
 adds_held closed waiting rows key it blob usable found own is = adds_nothing _ key blob (held_stored closed waiting rows key it usable found own ∙ ap Some is)
 
-pub adds_found : (closed : Bool) (waiting : Waiting) (old new : List Row) (key : ℕ) (found : Reading) (blob : Blob) → closed ≡ false → None ≡ get int_eq waiting (place_of key) → IsFoundAs old key (Some found) → HasBlob (Some found) blob
+pub adds_found : (closed : Bool) (waiting : Waiting) (old new : List Row) (key : ℕ) (found : Reading) (blob : Blob) → closed ≡ false → None
+    ≡ get int_eq waiting (place_of key) → IsFoundAs old key (Some found) → HasBlob (Some found) blob
     → new ≡ old → Adds key blob (unless closed (stored_with waiting old)) (unless closed (stored_with waiting new))
 adds_found closed waiting old new key found blob usable free f has same =
-    subst (λ rows. Adds key blob (unless closed (stored_with waiting old)) (unless closed (stored_with waiting rows))) (sym same) (adds_nothing _ key blob (read_stored closed waiting old key (Some found) blob usable free f has))
+    subst (λ rows. Adds key blob (unless closed (stored_with waiting old)) (unless closed (stored_with waiting rows))) (sym same)
+    (adds_nothing _ key blob (read_stored closed waiting old key (Some found) blob usable free f has))
 
 -- what waits and the table decide alone
-pub same_entries : (closed : Bool) (waiting after : Waiting) (old new : List Row) → after.entries ≡ waiting.entries → new ≡ old → unless closed (stored_with after new) ≡ unless closed (stored_with waiting old)
+pub same_entries : (closed : Bool) (waiting after : Waiting) (old new : List Row) → after.entries ≡ waiting.entries → new ≡ old
+    → unless closed (stored_with after new) ≡ unless closed (stored_with waiting old)
 unfolding stored_with
 same_entries closed waiting after old new same rows = ap (unless closed) both
   where
@@ -137,25 +153,31 @@ same_entries closed waiting after old new same rows = ap (unless closed) both
     both = λ i q. before q (lookup (int_eq (place_of q)) (same i)) (blobs_in (rows i) q)
 
 -- refusals of what stands at a key's place, as those of a store
-pub held_refuses : (it : Pending) (key : ℕ) (blob : Blob) (closed : Bool) (was now : ℕ) (e : Error) → RefusesHeld it key blob was now e → (found : Option Blob) × RefusesStore blob found closed was now e
+pub held_refuses : (it : Pending) (key : ℕ) (blob : Blob) (closed : Bool) (was now : ℕ) (e : Error) → RefusesHeld it key blob was now e → (found : Option Blob)
+    × RefusesStore blob found closed was now e
 held_refuses it key blob closed was now error.KeyTaken h = (Some (blob_pending it), (blob_pending it, refl, h.1))
 held_refuses it key blob closed was now (error.Storage code) h = (None, h)
 held_refuses it key blob closed was now x0 h = grind arith
 
-pub held_refuses_only : (it : Pending) (key : ℕ) (blob : Blob) (closed : Bool) (waiting : Waiting) (rows : List Row) (was now : ℕ) (e : Error) → closed ≡ false → Some it ≡ get int_eq waiting (place_of key)
+pub held_refuses_only : (it : Pending) (key : ℕ) (blob : Blob) (closed : Bool) (waiting : Waiting) (rows : List Row) (was now : ℕ) (e : Error) → closed ≡ false
+    → Some it ≡ get int_eq waiting (place_of key)
     → RefusesHeld it key blob was now e → RefusesStore blob (unless closed (stored_with waiting rows) key) closed was now e
-held_refuses_only it key blob closed waiting rows was now error.KeyTaken usable found h = (blob_pending it, held_stored closed waiting rows key it usable found h.0, h.1)
+held_refuses_only it key blob closed waiting rows was now error.KeyTaken usable found h =
+    (blob_pending it, held_stored closed waiting rows key it usable found h.0, h.1)
 held_refuses_only it key blob closed waiting rows was now (error.Storage code) usable found h = h
 held_refuses_only it key blob closed waiting rows was now x0 usable found h = grind arith
 
-pub found_refuses : (found : Reading) (blob : Blob) (closed : Bool) (was now : ℕ) (e : Error) → RefusesFound found blob was now e → (o : Option Blob) × RefusesStore blob o closed was now e
+pub found_refuses : (found : Reading) (blob : Blob) (closed : Bool) (was now : ℕ) (e : Error) → RefusesFound found blob was now e → (o : Option Blob)
+    × RefusesStore blob o closed was now e
 found_refuses found blob closed was now error.KeyTaken h = (Some h.0, (h.0, refl, h.2))
 found_refuses found blob closed was now (error.Storage code) h = (None, h)
 found_refuses found blob closed was now x0 h = grind arith
 
-pub found_refuses_only : (found : Reading) (key : ℕ) (blob : Blob) (closed : Bool) (waiting : Waiting) (rows : List Row) (was now : ℕ) (e : Error) → closed ≡ false → None ≡ get int_eq waiting (place_of key)
+pub found_refuses_only : (found : Reading) (key : ℕ) (blob : Blob) (closed : Bool) (waiting : Waiting) (rows : List Row) (was now : ℕ) (e : Error) → closed
+    ≡ false → None ≡ get int_eq waiting (place_of key)
     → IsFoundAs rows key (Some found) → RefusesFound found blob was now e → RefusesStore blob (unless closed (stored_with waiting rows) key) closed was now e
-found_refuses_only found key blob closed waiting rows was now error.KeyTaken usable free f h = (h.0, read_stored closed waiting rows key (Some found) h.0 usable free f h.1, h.2)
+found_refuses_only found key blob closed waiting rows was now error.KeyTaken usable free f h =
+    (h.0, read_stored closed waiting rows key (Some found) h.0 usable free f h.1, h.2)
 found_refuses_only found key blob closed waiting rows was now (error.Storage code) usable free f h = h
 found_refuses_only found key blob closed waiting rows was now x0 usable free f h = grind arith
 
@@ -165,4 +187,16 @@ any_err (Err e) P h = h
 
 pub ruleset fetching = (held_named, held_stored, held_other, read_stored, read_none, same_stored, same_flushed)
 
-pub ruleset storing = (adds_found, adds_held, adds_holding, found_refuses, found_refuses_only, held_refuses, held_refuses_only, keeps_same, same_entries, same_stored, same_flushed)
+pub ruleset storing = (
+  adds_found,
+  adds_held,
+  adds_holding,
+  found_refuses,
+  found_refuses_only,
+  held_refuses,
+  held_refuses_only,
+  keeps_same,
+  same_entries,
+  same_stored,
+  same_flushed,
+)

@@ -44,8 +44,10 @@ pub tested_as : (P : Flaw → Type 0) (a b : List Flaw) (Q R : Type 0) → (Q �
 tested_as P a b Q R f t = record { real = t.real; clear = λ none. let it = t.clear none in (it.0, f it.1) }
 
 -- one more element passed
-pub tested_more : {A : Type 0} (P : Flaw → Type 0) (T : A → Type 0) (a b c : List Flaw) (xs next : List A) (x : A) → next ≡ xs ++ x ∷ [] → Tested P a b (Each T xs) → Tested P b c (T x) → Tested P a c (Each T next)
-tested_more P T a b c xs next x is f g = tested_as P a c (Each T xs × T x) (Each T next) (λ h. subst (Each T) (sym is) (each_more T xs x h.0 h.1)) (tested_then P a b c (Each T xs) (T x) f g)
+pub tested_more : {A : Type 0} (P : Flaw → Type 0) (T : A → Type 0) (a b c : List Flaw) (xs next : List A) (x : A) → next ≡ xs ++ x ∷ []
+    → Tested P a b (Each T xs) → Tested P b c (T x) → Tested P a c (Each T next)
+tested_more P T a b c xs next x is f g = tested_as P a c (Each T xs × T x) (Each T next) (λ h. subst (Each T) (sym is) (each_more T xs x h.0 h.1))
+    (tested_then P a b c (Each T xs) (T x) f g)
 
 none_of : {A : Type 0} (o : Option A) (b : Bool) → b ≡ is_some o → b ≡ false → o ≡ None
 none_of None b e f = refl
@@ -56,27 +58,35 @@ some_of (Some x) b e f = refl
 some_of None b e f = absurd (true≢false (sym f ∙ e))
 
 -- a child was looked for
-pub child_tested : (of : Blob → ℕ) (rows roots : List Row) (child : ℕ) (old : List Flaw) (there : Bool) → there ≡ is_some (blobs_in rows child) → there ≡ true → Tested (IsFlaw of rows roots) old old (IsThere rows child)
+pub child_tested : (of : Blob → ℕ) (rows roots : List Row) (child : ℕ) (old : List Flaw) (there : Bool) → there ≡ is_some (blobs_in rows child) → there ≡ true
+    → Tested (IsFlaw of rows roots) old old (IsThere rows child)
 child_tested of rows roots child old there e is = passed (IsFlaw of rows roots) old (IsThere rows child) (some_of (blobs_in rows child) there e is)
 
 pub missing : (rows : List Row) (child : ℕ) (there : Bool) → there ≡ is_some (blobs_in rows child) → there ≡ false → blobs_in rows child ≡ None
 missing rows child there e is = none_of (blobs_in rows child) there e is
 
-pub child_flaw : (of : Blob → ℕ) (rows roots : List Row) (key child : ℕ) (old new : List Flaw) (there : Bool) → new ≡ old ++ flaw.MissingChild key child ∷ [] → IsChild rows key child → there ≡ is_some (blobs_in rows child) → there ≡ false
+pub child_flaw : (of : Blob → ℕ) (rows roots : List Row) (key child : ℕ) (old new : List Flaw) (there : Bool) → new ≡ old ++ flaw.MissingChild key child ∷ []
+    → IsChild rows key child → there ≡ is_some (blobs_in rows child) → there ≡ false
     → Tested (IsFlaw of rows roots) old new (IsThere rows child)
-child_flaw of rows roots key child old new there is own e none = flawed (IsFlaw of rows roots) old new (flaw.MissingChild key child) (IsThere rows child) is (own, missing rows child there e none)
+child_flaw of rows roots key child old new there is own e none = flawed (IsFlaw of rows roots) old new (flaw.MissingChild key child) (IsThere rows child) is
+    (own, missing rows child there e none)
 
-pub root_flaw : (of : Blob → ℕ) (rows roots : List Row) (name : String Global) (key : ℕ) (old new : List Flaw) (there : Bool) → new ≡ old ++ flaw.MissingRoot name key ∷ [] → roots_in roots (string_bytes name) ≡ Some key → there ≡ is_some (blobs_in rows key)
+pub root_flaw : (of : Blob → ℕ) (rows roots : List Row) (name : String Global) (key : ℕ) (old new : List Flaw) (there : Bool) → new ≡ old
+    ++ flaw.MissingRoot name key ∷ [] → roots_in roots (string_bytes name) ≡ Some key → there ≡ is_some (blobs_in rows key)
     → there ≡ false → Tested (IsFlaw of rows roots) old new (IsThere rows key)
-root_flaw of rows roots name key old new there is own e none = flawed (IsFlaw of rows roots) old new (flaw.MissingRoot name key) (IsThere rows key) is (own, missing rows key there e none)
+root_flaw of rows roots name key old new there is own e none = flawed (IsFlaw of rows roots) old new (flaw.MissingRoot name key) (IsThere rows key) is
+    (own, missing rows key there e none)
 
-pub key_flaw : (of : Blob → ℕ) (rows roots : List Row) (key : ℕ) (blob : Blob) (old new : List Flaw) → new ≡ old ++ flaw.WrongKey key ∷ [] → blobs_in rows key ≡ Some blob → of blob ≢ key → Tested (IsFlaw of rows roots) old new (of blob ≡ key)
+pub key_flaw : (of : Blob → ℕ) (rows roots : List Row) (key : ℕ) (blob : Blob) (old new : List Flaw) → new ≡ old ++ flaw.WrongKey key ∷ [] → blobs_in rows key
+    ≡ Some blob → of blob ≢ key → Tested (IsFlaw of rows roots) old new (of blob ≡ key)
 key_flaw of rows roots key blob old new is at apart = flawed (IsFlaw of rows roots) old new (flaw.WrongKey key) (of blob ≡ key) is (blob, at, apart)
 
-pub stray_blob : (of : Blob → ℕ) (rows roots : List Row) (place : ℤ) (row : Row) (old new : List Flaw) (Q : Type 0) → new ≡ old ++ flaw.StrayBlob place ∷ [] → row_at rows place ≡ Some row → blob_at place row ≡ None → Tested (IsFlaw of rows roots) old new Q
+pub stray_blob : (of : Blob → ℕ) (rows roots : List Row) (place : ℤ) (row : Row) (old new : List Flaw) (Q : Type 0) → new ≡ old ++ flaw.StrayBlob place ∷ []
+    → row_at rows place ≡ Some row → blob_at place row ≡ None → Tested (IsFlaw of rows roots) old new Q
 stray_blob of rows roots place row old new Q is at none = flawed (IsFlaw of rows roots) old new (flaw.StrayBlob place) Q is (row, at, none)
 
-pub stray_root : (of : Blob → ℕ) (rows roots : List Row) (place : ℤ) (row : Row) (old new : List Flaw) (Q : Type 0) → new ≡ old ++ flaw.StrayRoot place ∷ [] → row_at roots place ≡ Some row → IsNameAt place row None → Tested (IsFlaw of rows roots) old new Q
+pub stray_root : (of : Blob → ℕ) (rows roots : List Row) (place : ℤ) (row : Row) (old new : List Flaw) (Q : Type 0) → new ≡ old ++ flaw.StrayRoot place ∷ []
+    → row_at roots place ≡ Some row → IsNameAt place row None → Tested (IsFlaw of rows roots) old new Q
 stray_root of rows roots place row old new Q is at none = flawed (IsFlaw of rows roots) old new (flaw.StrayRoot place) Q is (row, at, none)
 
 -- the children of a blob that stands under a key are children of the key's
@@ -91,7 +101,8 @@ are_children rows key blob is = each_from (Contains blob.keys) (IsChild rows key
 row_key : (key found : ℕ) → is_key key (Some found) ≡ true → found ≡ key
 row_key key found h = grind (arith, nat_tests)
 
-same_key : (key found : ℕ) (blob : Blob) (keys : Option Blob) (b : Bool) → is_key key (Some found) ≡ b → (if b then keys else None) ≡ Some blob → Some found ≡ Some key
+same_key : (key found : ℕ) (blob : Blob) (keys : Option Blob) (b : Bool) → is_key key (Some found) ≡ b → (if b then keys else None) ≡ Some blob → Some found
+    ≡ Some key
 same_key key found blob keys true f h = ap Some (row_key key found f)
 same_key key found blob keys false f h = absurd (cc)
 
@@ -116,7 +127,8 @@ unfolding first_of second_of
 some_pair a b x y e = (ap (first_of a) e, ap (second_of x) e)
 
 -- the blob that a key's row has at the key's place
-keyed_row : (place : ℤ) (row : Row) (found key : ℕ) (blob : Blob) (b : Bool) → int_eq (place_of found) place ≡ b → (o : Option Blob) → blob_in found row ≡ o → (if b then option_map (keyed found) o else None) ≡ Some (keyed key blob)
+keyed_row : (place : ℤ) (row : Row) (found key : ℕ) (blob : Blob) (b : Bool) → int_eq (place_of found) place ≡ b → (o : Option Blob) → blob_in found row ≡ o
+    → (if b then option_map (keyed found) o else None) ≡ Some (keyed key blob)
     → (place_of key ≡ place) × (blob_in key row ≡ Some blob)
 keyed_row place row found key blob false f o g h = absurd (cc)
 keyed_row place row found key blob true f None g h = absurd (cc)
@@ -125,12 +137,14 @@ keyed_row place row found key blob true f (Some x) g h =
     let at : place_of found ≡ place = (signed_Decides (place_of found) place).0 f in
     (ap place_of (sym same.0) ∙ at, ap (λ n. blob_in n row) (sym same.0) ∙ g ∙ ap Some same.1)
 
-keyed_by : (place : ℤ) (row : Row) (key : ℕ) (blob : Blob) (o : Option ℕ) → keyed_at place row o ≡ Some (keyed key blob) → (place_of key ≡ place) × (blob_in key row ≡ Some blob)
+keyed_by : (place : ℤ) (row : Row) (key : ℕ) (blob : Blob) (o : Option ℕ) → keyed_at place row o ≡ Some (keyed key blob) → (place_of key ≡ place)
+    × (blob_in key row ≡ Some blob)
 keyed_by place row key blob None h = absurd (cc)
 keyed_by place row key blob (Some found) h = keyed_row place row found key blob (int_eq (place_of found) place) refl (blob_in found row) refl h
 
 -- what stands at a place is its key's blob
-pub at_is_in : (rows : List Row) (place : ℤ) (row : Row) (key : ℕ) (blob : Blob) → row_at rows place ≡ Some row → blob_at place row ≡ Some (key, blob) → blobs_in rows key ≡ Some blob
+pub at_is_in : (rows : List Row) (place : ℤ) (row : Row) (key : ℕ) (blob : Blob) → row_at rows place ≡ Some row → blob_at place row ≡ Some (key, blob)
+    → blobs_in rows key ≡ Some blob
 unfolding blob_at blobs_in
 at_is_in rows place row key blob at is =
     let it = keyed_by place row key blob (key_in (bytes (column row 2))) is in
@@ -146,12 +160,14 @@ in_is_at place row key blob h p =
     rw (k, t, h) refl
 
 -- the row at a place is among the rows, so its place is among theirs
-found_step : (P : ℤ → Type 0) (id : ℤ) (row r : Row) (rows : List Row) (p : ℤ) → rowid r ≡ Int p → P p → (row_at rows id ≡ Some row → P id) → (b : Bool) → has_rowid id r ≡ b → row_at (r ∷ rows) id ≡ Some row → P id
+found_step : (P : ℤ → Type 0) (id : ℤ) (row r : Row) (rows : List Row) (p : ℤ) → rowid r ≡ Int p → P p → (row_at rows id ≡ Some row → P id) → (b : Bool)
+    → has_rowid id r ≡ b → row_at (r ∷ rows) id ≡ Some row → P id
 unfolding row_at
 found_step P id row r rows p first here more true f at = subst P ((signed_Decides p id).0 (sym (has_place r p id first) ∙ f)) here
 found_step P id row r rows p first here more false f at = more (rw f at at)
 
-found_place : (P : ℤ → Type 0) (id : ℤ) (row : Row) (rows : List Row) (places : List ℤ) → map Int places ≡ map rowid rows → row_at rows id ≡ Some row → Each P places → P id
+found_place : (P : ℤ → Type 0) (id : ℤ) (row : Row) (rows : List Row) (places : List ℤ) → map Int places ≡ map rowid rows → row_at rows id ≡ Some row
+    → Each P places → P id
 unfolding row_at
 found_place P id row [] places e at all = absurd (cc)
 found_place P id row (r ∷ rows) [] e at all = absurd (cc)
@@ -161,7 +177,8 @@ found_place P id row (r ∷ rows) (p ∷ places) e at all =
     found_step P id row r rows p first all.0 (λ h. found_place P id row rows places rest h all.1) (has_rowid id r) refl at
 
 -- where each place is sound, each blob that stands under a key is
-pub all_sound : (of : Blob → ℕ) (rows : List Row) (places : List ℤ) → map Int places ≡ map rowid rows → Each (IsSoundPlace of rows) places → (key : ℕ) (blob : Blob) → blobs_in rows key ≡ Some blob → IsSoundBlob of rows key blob
+pub all_sound : (of : Blob → ℕ) (rows : List Row) (places : List ℤ) → map Int places ≡ map rowid rows → Each (IsSoundPlace of rows) places
+    → (key : ℕ) (blob : Blob) → blobs_in rows key ≡ Some blob → IsSoundBlob of rows key blob
 unfolding blobs_in
 all_sound of rows places e all key blob is = go (row_at rows (place_of key)) refl
   where
@@ -182,7 +199,8 @@ root_key name row key h = go (bytes_eq (bytes (column row 2)) name) refl
     go true e = rw e at h
     go false e = let no : None ≡ Some key = rw e at h in absurd (cc)
 
-pub all_named : (rows roots : List Row) (places : List ℤ) → map Int places ≡ map rowid roots → Each (IsSoundRoot rows roots) places → (name : List ℕ) (key : ℕ) → roots_in roots name ≡ Some key → IsThere rows key
+pub all_named : (rows roots : List Row) (places : List ℤ) → map Int places ≡ map rowid roots → Each (IsSoundRoot rows roots) places → (name : List ℕ) (key : ℕ)
+    → roots_in roots name ≡ Some key → IsThere rows key
 unfolding roots_in
 all_named rows roots places e all name key is = go (row_at roots (place_of_name name)) refl
   where
@@ -193,7 +211,8 @@ all_named rows roots places e all name key is = go (row_at roots (place_of_name 
         (found_place (IsSoundRoot rows roots) (place_of_name name) row roots places e f all row f).1 key (root_key name row key here)
 
 -- the whole file, by its places
-pub is_whole : (of : Blob → ℕ) (rows roots : List Row) (places names : List ℤ) → map Int places ≡ map rowid rows → map Int names ≡ map rowid roots → Each (IsSoundPlace of rows) places → Each (IsSoundRoot rows roots) names → IsWhole of rows roots
+pub is_whole : (of : Blob → ℕ) (rows roots : List Row) (places names : List ℤ) → map Int places ≡ map rowid rows → map Int names ≡ map rowid roots
+    → Each (IsSoundPlace of rows) places → Each (IsSoundRoot rows roots) names → IsWhole of rows roots
 is_whole of rows roots places names e f blobs named = record {
   placed = λ place row at. let it = found_place (IsSoundPlace of rows) place row rows places e at blobs row at in subst IsSome (sym it.2) refl;
   keyed = λ key blob is. (all_sound of rows places e blobs key blob is).keyed;
@@ -234,11 +253,13 @@ no_flaws of rows roots [] w h = refl
 no_flaws of rows roots (it ∷ all) w h = absurd (no_flaw of rows roots it w h.0)
 
 -- what a search that began with no flaw says
-pub exactly : (of : Blob → ℕ) (rows roots : List Row) (all : List Flaw) → Tested (IsFlaw of rows roots) [] all (IsWhole of rows roots) → (all ≡ []) ↔ IsWhole of rows roots
+pub exactly : (of : Blob → ℕ) (rows roots : List Row) (all : List Flaw) → Tested (IsFlaw of rows roots) [] all (IsWhole of rows roots) → (all ≡ [])
+    ↔ IsWhole of rows roots
 exactly of rows roots all t = (λ none. (t.clear none).1, λ w. no_flaws of rows roots all w (t.real tt))
 
 -- what the row of a name that stands at its place says of it
-pub name_is_in : (roots : List Row) (place : ℤ) (row : Row) (name : List ℕ) (key : ℕ) → row_at roots place ≡ Some row → name ≡ bytes (column row 2) → place_of_name name ≡ place → key_in (bytes (column row 3)) ≡ Some key → roots_in roots name ≡ Some key
+pub name_is_in : (roots : List Row) (place : ℤ) (row : Row) (name : List ℕ) (key : ℕ) → row_at roots place ≡ Some row → name ≡ bytes (column row 2)
+    → place_of_name name ≡ place → key_in (bytes (column row 3)) ≡ Some key → roots_in roots name ≡ Some key
 unfolding roots_in root_in
 name_is_in roots place row name key at own p is =
     let there : row_at roots (place_of_name name) ≡ Some row = ap (row_at roots) p ∙ at in
@@ -246,7 +267,8 @@ name_is_in roots place row name key at own p is =
     rw (there, same) is
 
 -- one more element of a list was tested
-pub each_next : {A : Type 0} (P : Flaw → Type 0) (T : A → Type 0) (a b c : List Flaw) (xs : List A) (i : ℕ) (x : A) → i < length xs → x ≡ get_or xs i x → Tested P a b (Each T (take i xs)) → Tested P b c (T x) → Tested P a c (Each T (take (i + 1) xs))
+pub each_next : {A : Type 0} (P : Flaw → Type 0) (T : A → Type 0) (a b c : List Flaw) (xs : List A) (i : ℕ) (x : A) → i < length xs → x ≡ get_or xs i x
+    → Tested P a b (Each T (take i xs)) → Tested P b c (T x) → Tested P a c (Each T (take (i + 1) xs))
 each_next P T a b c xs i x h is f g = tested_more P T a b c (take i xs) (take (i + 1) xs) x (take_more xs i x h ∙ ap (λ y. take i xs ++ y ∷ []) (sym is)) f g
 
 each_front : {A : Type 0} (P : A → Type 0) (xs : List A) (x : A) → Each P (xs ++ x ∷ []) → Each P xs
@@ -257,17 +279,21 @@ each_last : {A : Type 0} (P : A → Type 0) (xs : List A) (x : A) → Each P (xs
 each_last P [] x h = h.0
 each_last P (y ∷ xs) x h = each_last P xs x h.1
 
-pub child_next : (P : Flaw → Type 0) (S T : ℕ → Type 0) (a b c : List Flaw) (xs : List ℕ) (i x : ℕ) → i < length xs → x ≡ get_or xs i x → (Each S (take i xs) → Tested P a b (Each T (take i xs))) → (S x → Tested P b c (T x)) → Each S (take (i + 1) xs)
+pub child_next : (P : Flaw → Type 0) (S T : ℕ → Type 0) (a b c : List Flaw) (xs : List ℕ) (i x : ℕ) → i < length xs → x ≡ get_or xs i x
+    → (Each S (take i xs) → Tested P a b (Each T (take i xs))) → (S x → Tested P b c (T x)) → Each S (take (i + 1) xs)
     → Tested P a c (Each T (take (i + 1) xs))
 child_next P S T a b c xs i x h is f g all =
     let split : Each S (take i xs ++ x ∷ []) = subst (Each S) (take_more xs i x h ∙ ap (λ (y : ℕ). take i xs ++ y ∷ []) (sym is)) all in
     each_next P T a b c xs i x h is (f (each_front S (take i xs) x split)) (g (each_last S (take i xs) x split))
 
-pub each_tested : {A : Type 0} (P : Flaw → Type 0) (T : A → Type 0) (a b : List Flaw) (xs : List A) (n : ℕ) → length xs ≤ n → Tested P a b (Each T (take n xs)) → Tested P a b (Each T xs)
+pub each_tested : {A : Type 0} (P : Flaw → Type 0) (T : A → Type 0) (a b : List Flaw) (xs : List A) (n : ℕ) → length xs ≤ n → Tested P a b (Each T (take n xs))
+    → Tested P a b (Each T xs)
 each_tested P T a b xs n h t = subst (λ ys. Tested P a b (Each T ys)) (take_all n xs h) t
 
-pub blob_tested : (P : Flaw → Type 0) (of : Blob → ℕ) (rows : List Row) (a b c : List Flaw) (key : ℕ) (blob : Blob) → Tested P a b (of blob ≡ key) → Tested P b c (Each (IsThere rows) blob.keys) → Tested P a c (IsSoundBlob of rows key blob)
-blob_tested P of rows a b c key blob f g = tested_as P a c ((of blob ≡ key) × Each (IsThere rows) blob.keys) (IsSoundBlob of rows key blob) (λ h. record { keyed = h.0; children = h.1 }) (tested_then P a b c (of blob ≡ key) (Each (IsThere rows) blob.keys) f g)
+pub blob_tested : (P : Flaw → Type 0) (of : Blob → ℕ) (rows : List Row) (a b c : List Flaw) (key : ℕ) (blob : Blob) → Tested P a b (of blob ≡ key)
+    → Tested P b c (Each (IsThere rows) blob.keys) → Tested P a c (IsSoundBlob of rows key blob)
+blob_tested P of rows a b c key blob f g = tested_as P a c ((of blob ≡ key) × Each (IsThere rows) blob.keys) (IsSoundBlob of rows key blob)
+    (λ h. record { keyed = h.0; children = h.1 }) (tested_then P a b c (of blob ≡ key) (Each (IsThere rows) blob.keys) f g)
 
 -- what a look at a place found
 pub row_there : (o : Option Row) (row : Row) (found : Bool) → o ≡ (if found then Some row else None) → found ≡ true → o ≡ Some row
@@ -288,16 +314,24 @@ root_empty rows roots place none row at = let no : None ≡ Some row = sym none 
 one_row : (rows : List Row) (place : ℤ) (a b : Row) → row_at rows place ≡ Some a → row_at rows place ≡ Some b → a ≡ b
 one_row rows place a b e f = let same : Some a ≡ Some b = sym e ∙ f in cc
 
-pub place_sound : (of : Blob → ℕ) (rows : List Row) (place : ℤ) (row : Row) (key : ℕ) (blob : Blob) → row_at rows place ≡ Some row → blob_at place row ≡ Some (key, blob) → IsSoundBlob of rows key blob → IsSoundPlace of rows place
-place_sound of rows place row key blob at is sound other there = (key, blob, subst (λ (r : Row). blob_at place r ≡ Some (key, blob)) (one_row rows place row other at there) is, sound)
+pub place_sound : (of : Blob → ℕ) (rows : List Row) (place : ℤ) (row : Row) (key : ℕ) (blob : Blob) → row_at rows place ≡ Some row → blob_at place row
+    ≡ Some (key, blob) → IsSoundBlob of rows key blob → IsSoundPlace of rows place
+place_sound of rows place row key blob at is sound other there = (
+  key,
+  blob,
+  subst (λ (r : Row). blob_at place r ≡ Some (key, blob)) (one_row rows place row other at there) is,
+  sound,
+)
 
 name_at : (place : ℤ) (row : Row) (name : String Global) → IsNameAt place row (Some name) → IsNamed place row
 name_at place row name own = (subst IsUtf8 own.0 (IsUtf8-string_bytes name), ap place_of_name (sym own.0) ∙ own.1)
 
-one_name : (roots : List Row) (place : ℤ) (row other : Row) (name : String Global) → row_at roots place ≡ Some row → row_at roots place ≡ Some other → IsNameAt place row (Some name) → IsNamed place other
+one_name : (roots : List Row) (place : ℤ) (row other : Row) (name : String Global) → row_at roots place ≡ Some row → row_at roots place ≡ Some other
+    → IsNameAt place row (Some name) → IsNamed place other
 one_name roots place row other name at here own = subst (IsNamed place) (one_row roots place row other at here) (name_at place row name own)
 
-pub root_sound : (rows roots : List Row) (place : ℤ) (row : Row) (name : String Global) (key : ℕ) → row_at roots place ≡ Some row → IsNameAt place row (Some name) → key_in (bytes (column row 3)) ≡ Some key → IsThere rows key → IsSoundRoot rows roots place
+pub root_sound : (rows roots : List Row) (place : ℤ) (row : Row) (name : String Global) (key : ℕ) → row_at roots place ≡ Some row
+    → IsNameAt place row (Some name) → key_in (bytes (column row 3)) ≡ Some key → IsThere rows key → IsSoundRoot rows roots place
 root_sound rows roots place row name key at own is there other here = (one_name roots place row other name at here own, own_key)
   where
     own_key : (k : ℕ) → key_in (bytes (column other 3)) ≡ Some k → IsThere rows k
@@ -307,7 +341,8 @@ root_sound rows roots place row name key at own is there other here = (one_name 
         let found : key ≡ k = cc in
         subst (IsThere rows) found there
 
-pub root_none : (rows roots : List Row) (place : ℤ) (row : Row) (name : String Global) → row_at roots place ≡ Some row → IsNameAt place row (Some name) → key_in (bytes (column row 3)) ≡ None → IsSoundRoot rows roots place
+pub root_none : (rows roots : List Row) (place : ℤ) (row : Row) (name : String Global) → row_at roots place ≡ Some row → IsNameAt place row (Some name)
+    → key_in (bytes (column row 3)) ≡ None → IsSoundRoot rows roots place
 root_none rows roots place row name at own is other here = (one_name roots place row other name at here own, no_key)
   where
     no_key : (k : ℕ) → key_in (bytes (column other 3)) ≡ Some k → IsThere rows k
@@ -317,9 +352,11 @@ root_none rows roots place row name at own is other here = (one_name roots place
         absurd (cc)
 
 -- the row at a place was read, and its blob tested
-pub row_found : (of : Blob → ℕ) (a b e : View) (place : ℤ) (row : Row) (key : ℕ) (blob : Blob) (old new : List Flaw) → StaysPut a b → StaysPut b e → IsTrue (is_sure e) → (IsTrue (is_sure b) → row_at (a.committed blob_tree) place ≡ Some row)
+pub row_found : (of : Blob → ℕ) (a b e : View) (place : ℤ) (row : Row) (key : ℕ) (blob : Blob) (old new : List Flaw) → StaysPut a b → StaysPut b e
+    → IsTrue (is_sure e) → (IsTrue (is_sure b) → row_at (a.committed blob_tree) place ≡ Some row)
     → blob_at place row ≡ Some (keyed key blob)
-    → (IsTrue (is_sure e) → blobs_in (b.committed blob_tree) key ≡ Some blob → Tested (IsFlaw of (b.committed blob_tree) (b.committed root_tree)) old new (IsSoundBlob of (b.committed blob_tree) key blob))
+    → (IsTrue (is_sure e) → blobs_in (b.committed blob_tree) key ≡ Some blob
+    → Tested (IsFlaw of (b.committed blob_tree) (b.committed root_tree)) old new (IsSoundBlob of (b.committed blob_tree) key blob))
     → Tested (IsFlaw of (a.committed blob_tree) (a.committed root_tree)) old new (IsSoundPlace of (a.committed blob_tree) place)
 row_found of a b e place row key blob old new first next sure found is test =
     let early = next.sure sure in
@@ -328,50 +365,68 @@ row_found of a b e place row key blob old new first next sure found is test =
     let here : blobs_in (a.committed blob_tree) key ≡ Some blob = at_is_in (a.committed blob_tree) place row key blob at is in
     let there : blobs_in (b.committed blob_tree) key ≡ Some blob = ap (λ (t : Trees). blobs_in (t blob_tree) key) same ∙ here in
     let moved = subst (λ (t : Trees). Tested (IsFlaw of (t blob_tree) (t root_tree)) old new (IsSoundBlob of (t blob_tree) key blob)) same (test sure there) in
-    tested_as (IsFlaw of (a.committed blob_tree) (a.committed root_tree)) old new (IsSoundBlob of (a.committed blob_tree) key blob) (IsSoundPlace of (a.committed blob_tree) place) (place_sound of (a.committed blob_tree) place row key blob at is) moved
+    tested_as (IsFlaw of (a.committed blob_tree) (a.committed root_tree)) old new (IsSoundBlob of (a.committed blob_tree) key blob)
+    (IsSoundPlace of (a.committed blob_tree) place) (place_sound of (a.committed blob_tree) place row key blob at is) moved
 
 -- the row of a root was read, and what it stands for looked for
-pub root_found : (of : Blob → ℕ) (a b e : View) (place : ℤ) (row : Row) (name : String Global) (key : ℕ) (old new : List Flaw) → StaysPut a b → StaysPut b e → IsTrue (is_sure e) → (IsTrue (is_sure b) → row_at (a.committed root_tree) place ≡ Some row)
+pub root_found : (of : Blob → ℕ) (a b e : View) (place : ℤ) (row : Row) (name : String Global) (key : ℕ) (old new : List Flaw) → StaysPut a b → StaysPut b e
+    → IsTrue (is_sure e) → (IsTrue (is_sure b) → row_at (a.committed root_tree) place ≡ Some row)
     → IsNameAt place row (Some name) → key_in (bytes (column row 3)) ≡ Some key
-    → (IsTrue (is_sure e) → roots_in (b.committed root_tree) (string_bytes name) ≡ Some key → Tested (IsFlaw of (b.committed blob_tree) (b.committed root_tree)) old new (IsThere (b.committed blob_tree) key))
+    → (IsTrue (is_sure e) → roots_in (b.committed root_tree) (string_bytes name) ≡ Some key
+    → Tested (IsFlaw of (b.committed blob_tree) (b.committed root_tree)) old new (IsThere (b.committed blob_tree) key))
     → Tested (IsFlaw of (a.committed blob_tree) (a.committed root_tree)) old new (IsSoundRoot (a.committed blob_tree) (a.committed root_tree) place)
 root_found of a b e place row name key old new first next sure found own is test =
     let early = next.sure sure in
     let same : b.committed ≡ a.committed = first.same early in
     let at = found early in
-    let here : roots_in (a.committed root_tree) (string_bytes name) ≡ Some key = name_is_in (a.committed root_tree) place row (string_bytes name) key at own.0 own.1 is in
+    let here : roots_in (a.committed root_tree) (string_bytes name) ≡ Some key =
+    name_is_in (a.committed root_tree) place row (string_bytes name) key at own.0 own.1 is in
     let there : roots_in (b.committed root_tree) (string_bytes name) ≡ Some key = ap (λ (t : Trees). roots_in (t root_tree) (string_bytes name)) same ∙ here in
     let moved = subst (λ (t : Trees). Tested (IsFlaw of (t blob_tree) (t root_tree)) old new (IsThere (t blob_tree) key)) same (test sure there) in
-    tested_as (IsFlaw of (a.committed blob_tree) (a.committed root_tree)) old new (IsThere (a.committed blob_tree) key) (IsSoundRoot (a.committed blob_tree) (a.committed root_tree) place) (root_sound (a.committed blob_tree) (a.committed root_tree) place row name key at own is) moved
+    tested_as (IsFlaw of (a.committed blob_tree) (a.committed root_tree)) old new (IsThere (a.committed blob_tree) key)
+    (IsSoundRoot (a.committed blob_tree) (a.committed root_tree) place)
+    (root_sound (a.committed blob_tree) (a.committed root_tree) place row name key at own is) moved
 
 -- one more element was tested, by a call behind others
-pub next_found : {A : Type 0} (of : Blob → ℕ) (T : List Row → List Row → A → Type 0) (a b e : View) (old mid new : List Flaw) (xs : List A) (i : ℕ) (x : A) → i < length xs → x ≡ get_or xs i x → StaysPut a b → StaysPut b e → IsTrue (is_sure e)
-    → (IsTrue (is_sure b) → Tested (IsFlaw of (a.committed blob_tree) (a.committed root_tree)) old mid (Each (T (a.committed blob_tree) (a.committed root_tree)) (take i xs)))
+pub next_found : {A : Type 0} (of : Blob → ℕ) (T : List Row → List Row → A → Type 0) (a b e : View) (old mid new : List Flaw) (xs : List A) (i : ℕ) (x : A)
+    → i < length xs → x ≡ get_or xs i x → StaysPut a b → StaysPut b e → IsTrue (is_sure e)
+    → (IsTrue (is_sure b) → Tested (IsFlaw of (a.committed blob_tree) (a.committed root_tree)) old mid
+    (Each (T (a.committed blob_tree) (a.committed root_tree)) (take i xs)))
     → (IsTrue (is_sure e) → Tested (IsFlaw of (b.committed blob_tree) (b.committed root_tree)) mid new (T (b.committed blob_tree) (b.committed root_tree) x))
     → Tested (IsFlaw of (a.committed blob_tree) (a.committed root_tree)) old new (Each (T (a.committed blob_tree) (a.committed root_tree)) (take (i + 1) xs))
 next_found of T a b e old mid new xs i x h is first next sure so_far test =
     let early = next.sure sure in
     let same : b.committed ≡ a.committed = first.same early in
     let moved = subst (λ (t : Trees). Tested (IsFlaw of (t blob_tree) (t root_tree)) mid new (T (t blob_tree) (t root_tree) x)) same (test sure) in
-    each_next (IsFlaw of (a.committed blob_tree) (a.committed root_tree)) (T (a.committed blob_tree) (a.committed root_tree)) old mid new xs i x h is (so_far early) moved
+    each_next (IsFlaw of (a.committed blob_tree) (a.committed root_tree)) (T (a.committed blob_tree) (a.committed root_tree)) old mid new xs i x h is
+    (so_far early) moved
 
-pub child_found : (of : Blob → ℕ) (a b e : View) (key : ℕ) (old mid new : List Flaw) (xs : List ℕ) (i x : ℕ) → i < length xs → x ≡ get_or xs i x → StaysPut a b → StaysPut b e → IsTrue (is_sure e)
-    → (IsTrue (is_sure b) → Each (IsChild (a.committed blob_tree) key) (take i xs) → Tested (IsFlaw of (a.committed blob_tree) (a.committed root_tree)) old mid (Each (IsThere (a.committed blob_tree)) (take i xs)))
-    → (IsTrue (is_sure e) → IsChild (b.committed blob_tree) key x → Tested (IsFlaw of (b.committed blob_tree) (b.committed root_tree)) mid new (IsThere (b.committed blob_tree) x))
-    → Each (IsChild (a.committed blob_tree) key) (take (i + 1) xs) → Tested (IsFlaw of (a.committed blob_tree) (a.committed root_tree)) old new (Each (IsThere (a.committed blob_tree)) (take (i + 1) xs))
+pub child_found : (of : Blob → ℕ) (a b e : View) (key : ℕ) (old mid new : List Flaw) (xs : List ℕ) (i x : ℕ) → i < length xs → x ≡ get_or xs i x → StaysPut a b
+    → StaysPut b e → IsTrue (is_sure e)
+    → (IsTrue (is_sure b) → Each (IsChild (a.committed blob_tree) key) (take i xs)
+    → Tested (IsFlaw of (a.committed blob_tree) (a.committed root_tree)) old mid (Each (IsThere (a.committed blob_tree)) (take i xs)))
+    → (IsTrue (is_sure e) → IsChild (b.committed blob_tree) key x → Tested (IsFlaw of (b.committed blob_tree) (b.committed root_tree)) mid new
+    (IsThere (b.committed blob_tree) x))
+    → Each (IsChild (a.committed blob_tree) key) (take (i + 1) xs) → Tested (IsFlaw of (a.committed blob_tree) (a.committed root_tree)) old new
+    (Each (IsThere (a.committed blob_tree)) (take (i + 1) xs))
 child_found of a b e key old mid new xs i x h is first next sure so_far test all =
     let early = next.sure sure in
     let same : b.committed ≡ a.committed = first.same early in
-    let test_here : (IsChild (a.committed blob_tree) key x → Tested (IsFlaw of (a.committed blob_tree) (a.committed root_tree)) mid new (IsThere (a.committed blob_tree) x)) =
+    let test_here : (IsChild (a.committed blob_tree) key x → Tested (IsFlaw of (a.committed blob_tree) (a.committed root_tree)) mid new
+    (IsThere (a.committed blob_tree) x)) =
     subst (λ (t : Trees). IsChild (t blob_tree) key x → Tested (IsFlaw of (t blob_tree) (t root_tree)) mid new (IsThere (t blob_tree) x)) same (test sure) in
-    child_next (IsFlaw of (a.committed blob_tree) (a.committed root_tree)) (IsChild (a.committed blob_tree) key) (IsThere (a.committed blob_tree)) old mid new xs i x h is (so_far early) test_here all
+    child_next (IsFlaw of (a.committed blob_tree) (a.committed root_tree)) (IsChild (a.committed blob_tree) key) (IsThere (a.committed blob_tree)) old mid new
+    xs i x h is (so_far early) test_here all
 
 -- all places of the two tables were tested
-pub whole_found : (of : Blob → ℕ) (a b c d e : View) (places names : List ℤ) (start mid end : List Flaw) → start ≡ [] → StaysPut a b → StaysPut b c → StaysPut c d → StaysPut d e → IsTrue (is_sure e)
+pub whole_found : (of : Blob → ℕ) (a b c d e : View) (places names : List ℤ) (start mid end : List Flaw) → start ≡ [] → StaysPut a b → StaysPut b c
+    → StaysPut c d → StaysPut d e → IsTrue (is_sure e)
     → (IsTrue (is_sure b) → map Int places ≡ map rowid (a.committed blob_tree))
-    → (IsTrue (is_sure c) → Tested (IsFlaw of (b.committed blob_tree) (b.committed root_tree)) start mid (Each (IsSoundPlace of (b.committed blob_tree)) places))
+    → (IsTrue (is_sure c) → Tested (IsFlaw of (b.committed blob_tree) (b.committed root_tree)) start mid
+    (Each (IsSoundPlace of (b.committed blob_tree)) places))
     → (IsTrue (is_sure d) → map Int names ≡ map rowid (c.committed root_tree))
-    → (IsTrue (is_sure e) → Tested (IsFlaw of (d.committed blob_tree) (d.committed root_tree)) mid end (Each (IsSoundRoot (d.committed blob_tree) (d.committed root_tree)) names))
+    → (IsTrue (is_sure e) → Tested (IsFlaw of (d.committed blob_tree) (d.committed root_tree)) mid end
+    (Each (IsSoundRoot (d.committed blob_tree) (d.committed root_tree)) names))
     → Tested (IsFlaw of (a.committed blob_tree) (a.committed root_tree)) [] end (IsWhole of (a.committed blob_tree) (a.committed root_tree))
 whole_found of a b c d e places names start mid end empty ab bc cd de sure found_blobs test_blobs found_names test_names =
     let sure_d = de.sure sure in
@@ -385,7 +440,8 @@ whole_found of a b c d e places names start mid end empty ab bc cd de sure found
     let blobs : Tested (IsFlaw of rows roots) start mid (Each (IsSoundPlace of rows) places) =
     subst (λ (t : Trees). Tested (IsFlaw of (t blob_tree) (t root_tree)) start mid (Each (IsSoundPlace of (t blob_tree)) places)) same_b (test_blobs sure_c) in
     let named : Tested (IsFlaw of rows roots) mid end (Each (IsSoundRoot rows roots) names) =
-    subst (λ (t : Trees). Tested (IsFlaw of (t blob_tree) (t root_tree)) mid end (Each (IsSoundRoot (t blob_tree) (t root_tree)) names)) same_d (test_names sure) in
+    subst (λ (t : Trees). Tested (IsFlaw of (t blob_tree) (t root_tree)) mid end (Each (IsSoundRoot (t blob_tree) (t root_tree)) names)) same_d
+    (test_names sure) in
     let both = tested_then (IsFlaw of rows roots) start mid end (Each (IsSoundPlace of rows) places) (Each (IsSoundRoot rows roots) names) blobs named in
     let whole = tested_as (IsFlaw of rows roots) start end (Each (IsSoundPlace of rows) places × Each (IsSoundRoot rows roots) names) (IsWhole of rows roots)
     (λ h. is_whole of rows roots places names (found_blobs sure_b) (found_names sure_d ∙ ap (λ (t : Trees). map rowid (t root_tree)) same_c) h.0 h.1) both in
@@ -397,7 +453,29 @@ read_once [] i d e h = absurd (omega (arith, h))
 read_once (x ∷ xs) zero d e h = refl
 read_once (x ∷ xs) (suc i) d e h = read_once xs i d e (omega (arith, h))
 
-pub ruleset testing = (flawed, passed, child_tested, missing, are_children, at_is_in, stays_then, blob_tested, place_empty, root_empty, child_flaw, root_flaw, key_flaw, stray_blob, stray_root, name_is_in, row_there, no_row, place_sound, root_sound, root_none)
+pub ruleset testing = (
+  flawed,
+  passed,
+  child_tested,
+  missing,
+  are_children,
+  at_is_in,
+  stays_then,
+  blob_tested,
+  place_empty,
+  root_empty,
+  child_flaw,
+  root_flaw,
+  key_flaw,
+  stray_blob,
+  stray_root,
+  name_is_in,
+  row_there,
+  no_row,
+  place_sound,
+  root_sound,
+  root_none,
+)
 
 pub ruleset looping = (each_next, child_next, each_tested, passed, stays_then)
 

@@ -41,7 +41,8 @@ all_back ks h = let count : length (flat_map (to_le_bytes w128) ks) / 16 ≡ len
 abbrev pub joined : List ℕ → Option (List ℕ) → Option (List ℕ)
 joined front rest = option_map (λ more. front ++ more) rest
 
-pub one_more : (front : List ℕ) (left key : ℕ) (bytes : List ℕ) → key_in (take 16 bytes) ≡ Some key → joined (front ++ key ∷ []) (keys_from left (drop 16 bytes)) ≡ joined front (keys_from (suc left) bytes)
+pub one_more : (front : List ℕ) (left key : ℕ) (bytes : List ℕ) → key_in (take 16 bytes) ≡ Some key
+    → joined (front ++ key ∷ []) (keys_from left (drop 16 bytes)) ≡ joined front (keys_from (suc left) bytes)
 unfolding keys_from
 one_more front left key bytes is = rw is (go (keys_from left (drop 16 bytes)))
   where
@@ -70,12 +71,14 @@ pub not_zero : (n : ℕ) (b : Bool) → b ≡ (n == 0) → b ≡ false → 0 < n
 not_zero n b h g = grind (arith, nat_tests)
 
 -- one key more
-pub continues : (f : ℕ → List ℕ) (keys : List ℕ) (i key : ℕ) (front more : List ℕ) → i < length keys → key ≡ get_or keys i key → more ≡ f key → (front ++ flat_map f (take i keys)) ++ more ≡ front ++ flat_map f (take (i + 1) keys)
+pub continues : (f : ℕ → List ℕ) (keys : List ℕ) (i key : ℕ) (front more : List ℕ) → i < length keys → key ≡ get_or keys i key → more ≡ f key
+    → (front ++ flat_map f (take i keys)) ++ more ≡ front ++ flat_map f (take (i + 1) keys)
 continues f keys i key front more h is e = rw (e, take_more keys i key h, ← is) (flat_map_more f front (take i keys) key)
 
 each_more : (keys : List ℕ) (key : ℕ) → Each CanBeKey keys → CanBeKey key → Each CanBeKey (keys ++ key ∷ [])
 each_more [] key all here = (here, tt)
 each_more (k ∷ keys) key all here = (all.0, each_more keys key all.1 here)
 
-pub more_fit : (keys : List ℕ) (i key : ℕ) → i < length keys → key ≡ get_or keys i key → CanBeKey key → Each CanBeKey (take i keys) → Each CanBeKey (take (i + 1) keys)
+pub more_fit : (keys : List ℕ) (i key : ℕ) → i < length keys → key ≡ get_or keys i key → CanBeKey key → Each CanBeKey (take i keys)
+    → Each CanBeKey (take (i + 1) keys)
 more_fit keys i key h is here all = rw (take_more keys i key h, ← is) (each_more (take i keys) key all here)

@@ -14,7 +14,8 @@ use Rattle.pagable_file.specs.declared.rows.Reading.TheVariants as reading
 use Rattle.pagable_value_spec.specs.declared.error.Error.TheVariants as error
 
 -- whether a blob stands under a key, by what waits
-pub has_held : (waiting : Waiting) (rows : List Row) (key : ℕ) (it : Pending) → Some it ≡ get int_eq waiting (place_of key) → (it.key == key) ≡ is_some (stored_with waiting rows key)
+pub has_held : (waiting : Waiting) (rows : List Row) (key : ℕ) (it : Pending) → Some it ≡ get int_eq waiting (place_of key) → (it.key == key)
+    ≡ is_some (stored_with waiting rows key)
 unfolding stored_with
 has_held waiting rows key it e = rw (sym e) (go (it.key == key) refl)
   where
@@ -30,7 +31,8 @@ row_has_blob rows key (Some reading.Damaged) f = rw f.1 (ap is_some (sym f.2))
 row_has_blob rows key (Some (reading.Blob it)) f = rw f.1 (ap is_some (sym f.2))
 
 -- and by the table
-pub has_read : (waiting : Waiting) (rows : List Row) (key : ℕ) (found : Option Reading) → None ≡ get int_eq waiting (place_of key) → IsFoundAs rows key found → reads_blob found ≡ is_some (stored_with waiting rows key)
+pub has_read : (waiting : Waiting) (rows : List Row) (key : ℕ) (found : Option Reading) → None ≡ get int_eq waiting (place_of key) → IsFoundAs rows key found
+    → reads_blob found ≡ is_some (stored_with waiting rows key)
 unfolding stored_with
 has_read waiting rows key found e f = rw (sym e) (row_has_blob rows key found f)
 
@@ -47,26 +49,31 @@ row_names rows name (Some naming.Other) f = rw (f.1, f.2) refl
 row_names rows name (Some (naming.Root key)) f = rw f.1 (sym f.2.1)
 
 -- and by the table
-pub root_read : (waiting : WaitingRoots) (rows : List Row) (name : List ℕ) (found : Option Naming) → None ≡ get int_eq waiting (place_of_name name) → IsNamedAs rows name found → found_root found ≡ roots_with waiting rows name
+pub root_read : (waiting : WaitingRoots) (rows : List Row) (name : List ℕ) (found : Option Naming) → None ≡ get int_eq waiting (place_of_name name)
+    → IsNamedAs rows name found → found_root found ≡ roots_with waiting rows name
 unfolding roots_with
 root_read waiting rows name found e f = rw (sym e) (row_names rows name found f)
 
 -- no other name has the place
-pub place_held : (waiting : WaitingRoots) (rows : List Row) (name : List ℕ) (it : PendingRoot) → Some it ≡ get int_eq waiting (place_of_name name) → bytes_eq (string_bytes it.name) name ≡ true
+pub place_held : (waiting : WaitingRoots) (rows : List Row) (name : List ℕ) (it : PendingRoot) → Some it ≡ get int_eq waiting (place_of_name name)
+    → bytes_eq (string_bytes it.name) name ≡ true
     → HasPlace name (get int_eq waiting (place_of_name name)) (row_at rows (place_of_name name))
 place_held waiting rows name it e is = rw (sym e) is
 
-read_place : (rows : List Row) (name : List ℕ) (found : Option Naming) → IsNamedAs rows name found → IsNotOther found → HasPlace name None (row_at rows (place_of_name name))
+read_place : (rows : List Row) (name : List ℕ) (found : Option Naming) → IsNamedAs rows name found → IsNotOther found
+    → HasPlace name None (row_at rows (place_of_name name))
 read_place rows name None f h = rw f tt
 read_place rows name (Some (naming.Root key)) f h = rw f.1 f.2.0
 read_place rows name (Some naming.Other) f h = absurd h
 
-pub place_read : (waiting : WaitingRoots) (rows : List Row) (name : List ℕ) (found : Option Naming) → None ≡ get int_eq waiting (place_of_name name) → IsNamedAs rows name found → IsNotOther found
+pub place_read : (waiting : WaitingRoots) (rows : List Row) (name : List ℕ) (found : Option Naming) → None ≡ get int_eq waiting (place_of_name name)
+    → IsNamedAs rows name found → IsNotOther found
     → HasPlace name (get int_eq waiting (place_of_name name)) (row_at rows (place_of_name name))
 place_read waiting rows name found e f h = rw (sym e) (read_place rows name found f h)
 
 -- another name at the same place stands for nothing
-other_name : (name q : List ℕ) (held : Option PendingRoot) (row : Option Row) → HasPlace name held row → bytes_eq name q ≡ false → before_root q held (root_of_row q row) ≡ None
+other_name : (name q : List ℕ) (held : Option PendingRoot) (row : Option Row) → HasPlace name held row → bytes_eq name q ≡ false
+    → before_root q held (root_of_row q row) ≡ None
 unfolding root_in
 other_name name q (Some it) row h apart =
     let same : string_bytes it.name ≡ name = (bytes_eq-Decides (string_bytes it.name) name).0 h in
@@ -77,7 +84,8 @@ other_name name q None (Some row) h apart =
     rw (same, apart) refl
 
 -- a name that comes to what waits
-pub sets : (waiting after : WaitingRoots) (rows : List Row) (name : List ℕ) (key : Option ℕ) → HasPlace name (get int_eq waiting (place_of_name name)) (row_at rows (place_of_name name)) → HoldsRoot name key waiting after
+pub sets : (waiting after : WaitingRoots) (rows : List Row) (name : List ℕ) (key : Option ℕ)
+    → HasPlace name (get int_eq waiting (place_of_name name)) (row_at rows (place_of_name name)) → HoldsRoot name key waiting after
     → Sets name key (roots_with waiting rows) (roots_with after rows)
 unfolding roots_with roots_in
 sets waiting after rows name key free h q = rw (h.each (place_of_name q)) (go (int_eq (place_of_name name) (place_of_name q)) refl (bytes_eq name q) refl)
@@ -86,12 +94,14 @@ sets waiting after rows name key free h q = rw (h.each (place_of_name q)) (go (i
     below = root_of_row q (row_at rows (place_of_name q))
 
     go : (b : Bool) → int_eq (place_of_name name) (place_of_name q) ≡ b → (c : Bool) → bytes_eq name q ≡ c
-        → before_root q (if b then Some h.it else get int_eq waiting (place_of_name q)) below ≡ (if c then key else before_root q (get int_eq waiting (place_of_name q)) below)
+        → before_root q (if b then Some h.it else get int_eq waiting (place_of_name q)) below
+        ≡ (if c then key else before_root q (get int_eq waiting (place_of_name q)) below)
     go true e true f = rw (h.own, f) h.stands
     go true e false f =
         let place : place_of_name name ≡ place_of_name q = (Decides-int_eq (place_of_name name) (place_of_name q)).0 e in
         let none : before_root q (get int_eq waiting (place_of_name q)) below ≡ None =
-        subst (λ p. before_root q (get int_eq waiting p) (root_of_row q (row_at rows p)) ≡ None) place (other_name name q (get int_eq waiting (place_of_name name)) (row_at rows (place_of_name name)) free f) in
+        subst (λ p. before_root q (get int_eq waiting p) (root_of_row q (row_at rows p)) ≡ None) place
+        (other_name name q (get int_eq waiting (place_of_name name)) (row_at rows (place_of_name name)) free f) in
         rw (h.own, f) (sym none)
     go false e false f = refl
     go false e true f =
@@ -102,7 +112,8 @@ sets waiting after rows name key free h q = rw (h.each (place_of_name q)) (go (i
 pub stays_then : (a b c : View) → StaysPut a b → StaysPut b c → StaysPut a c
 stays_then a b c f g = record { settled = λ was. g.settled (f.settled was); sure = λ h. f.sure (g.sure h); same = λ h. g.same h ∙ f.same (g.sure h) }
 
-pub holds_root : (waiting after : WaitingRoots) (name : List ℕ) (it : PendingRoot) → string_bytes it.name ≡ name → ((q : ℤ) → get int_eq after q ≡ (if int_eq (place_of_name name) q then Some it else get int_eq waiting q)) → HoldsRoot name it.key waiting after
+pub holds_root : (waiting after : WaitingRoots) (name : List ℕ) (it : PendingRoot) → string_bytes it.name ≡ name
+    → ((q : ℤ) → get int_eq after q ≡ (if int_eq (place_of_name name) q then Some it else get int_eq waiting q)) → HoldsRoot name it.key waiting after
 holds_root waiting after name it own each = record { it = it; own = own; stands = refl; each = each }
 
 -- what waits decides by its entries alone
@@ -113,7 +124,8 @@ by_entries waiting after rows same = λ i q. before_root q (lookup (int_eq (plac
 failed_since : (was mid now : ℕ) → was ≤ mid → HasFailed mid now → HasFailed was now
 failed_since was mid now le h = grind arith
 
-pub refuses_root : (key : Option ℕ) (stored : ℕ → Option Blob) (closed : Bool) (was mid now : ℕ) (e : Error) → was ≤ mid → RefusesFlush mid now e → RefusesRoot key stored closed was now e
+pub refuses_root : (key : Option ℕ) (stored : ℕ → Option Blob) (closed : Bool) (was mid now : ℕ) (e : Error) → was ≤ mid → RefusesFlush mid now e
+    → RefusesRoot key stored closed was now e
 refuses_root key stored closed was mid now (error.Storage code) le h = failed_since was mid now le h
 refuses_root key stored closed was mid now x0 le h = grind arith
 
@@ -127,18 +139,22 @@ pub ruleset looking = (has_held, has_read, place_held, place_read, stays_then, r
 pub unnamed : (closed : Bool) (roots : List ℕ → Option ℕ) (name : List ℕ) → closed ≡ true → None ≡ roots_unless closed roots name
 unnamed closed roots name is = rw is refl
 
-pub answers_held : (closed : Bool) (waiting : WaitingRoots) (rows : List Row) (name : List ℕ) (it : PendingRoot) (key : Option ℕ) → closed ≡ false → Some it ≡ get int_eq waiting (place_of_name name)
+pub answers_held : (closed : Bool) (waiting : WaitingRoots) (rows : List Row) (name : List ℕ) (it : PendingRoot) (key : Option ℕ) → closed ≡ false → Some it
+    ≡ get int_eq waiting (place_of_name name)
     → key ≡ (if bytes_eq (string_bytes it.name) name then it.key else None) → key ≡ roots_unless closed (roots_with waiting rows) name
 answers_held closed waiting rows name it key usable e is = rw usable (is ∙ root_held waiting rows name it e)
 
-pub answers_read : (closed : Bool) (waiting : WaitingRoots) (rows : List Row) (name : List ℕ) (found : Option Naming) (key : Option ℕ) → closed ≡ false → None ≡ get int_eq waiting (place_of_name name)
+pub answers_read : (closed : Bool) (waiting : WaitingRoots) (rows : List Row) (name : List ℕ) (found : Option Naming) (key : Option ℕ) → closed ≡ false → None
+    ≡ get int_eq waiting (place_of_name name)
     → IsNamedAs rows name found → key ≡ found_root found → key ≡ roots_unless closed (roots_with waiting rows) name
 answers_read closed waiting rows name found key usable e f is = rw usable (is ∙ root_read waiting rows name found e f)
 
-pub kept_stored : (closed : Bool) (waiting : Waiting) (old new : View) → StaysPut old new → IsTrue (is_sure new) → unless closed (stored_with waiting (new.committed blob_tree)) ≡ unless closed (stored_with waiting (old.committed blob_tree))
+pub kept_stored : (closed : Bool) (waiting : Waiting) (old new : View) → StaysPut old new → IsTrue (is_sure new)
+    → unless closed (stored_with waiting (new.committed blob_tree)) ≡ unless closed (stored_with waiting (old.committed blob_tree))
 kept_stored closed waiting old new stays sure = ap (λ (t : Trees). unless closed (stored_with waiting (t blob_tree))) (stays.same sure)
 
-pub kept_flushed : (closed : Bool) (old new : View) → StaysPut old new → IsTrue (is_sure new) → unless closed (blobs_in (new.committed blob_tree)) ≡ unless closed (blobs_in (old.committed blob_tree))
+pub kept_flushed : (closed : Bool) (old new : View) → StaysPut old new → IsTrue (is_sure new) → unless closed (blobs_in (new.committed blob_tree))
+    ≡ unless closed (blobs_in (old.committed blob_tree))
 kept_flushed closed old new stays sure = ap (λ (t : Trees). unless closed (blobs_in (t blob_tree))) (stays.same sure)
 
 pub kept_roots : (closed : Bool) (waiting : WaitingRoots) (old new : View) → StaysPut old new → IsTrue (is_sure new)
@@ -149,18 +165,22 @@ pub kept_entries : (closed : Bool) (waiting after : WaitingRoots) (old new : Vie
     → roots_unless closed (roots_with after (new.committed root_tree)) ≡ roots_unless closed (roots_with waiting (old.committed root_tree))
 kept_entries closed waiting after old new same stays sure = kept_by same ∙ kept_roots closed waiting old new stays sure
   where
-    kept_by : after.entries ≡ waiting.entries → roots_unless closed (roots_with after (new.committed root_tree)) ≡ roots_unless closed (roots_with waiting (new.committed root_tree))
+    kept_by : after.entries ≡ waiting.entries → roots_unless closed (roots_with after (new.committed root_tree))
+        ≡ roots_unless closed (roots_with waiting (new.committed root_tree))
     kept_by is = ap (roots_unless closed) (by_entries waiting after (new.committed root_tree) is)
 
-pub sets_in : (closed : Bool) (waiting after : WaitingRoots) (old new : View) (name text : List ℕ) (key : Option ℕ) → closed ≡ false → text ≡ name → StaysPut old new → IsTrue (is_sure new)
+pub sets_in : (closed : Bool) (waiting after : WaitingRoots) (old new : View) (name text : List ℕ) (key : Option ℕ) → closed ≡ false → text ≡ name
+    → StaysPut old new → IsTrue (is_sure new)
     → HasPlace name (get int_eq waiting (place_of_name name)) (row_at (old.committed root_tree) (place_of_name name)) → HoldsRoot text key waiting after
     → Sets name key (roots_unless closed (roots_with waiting (old.committed root_tree))) (roots_unless closed (roots_with after (new.committed root_tree)))
 sets_in closed waiting after old new name text key usable is stays sure free h =
     let here : Sets name key (roots_with waiting (old.committed root_tree)) (roots_with after (old.committed root_tree)) =
     sets waiting after (old.committed root_tree) name key free (subst (λ (t : List ℕ). HoldsRoot t key waiting after) is h) in
-    rw usable (subst (λ (t : Trees). Sets name key (roots_with waiting (old.committed root_tree)) (roots_with after (t root_tree))) (sym (stays.same sure)) here)
+    rw usable (subst (λ (t : Trees). Sets name key (roots_with waiting (old.committed root_tree)) (roots_with after (t root_tree)))
+    (sym (stays.same sure)) here)
 
-pub there_in : (closed : Bool) (stored : ℕ → Option Blob) (key : ℕ) (there : Bool) → closed ≡ false → there ≡ is_some (stored key) → there ≡ is_some (unless closed stored key)
+pub there_in : (closed : Bool) (stored : ℕ → Option Blob) (key : ℕ) (there : Bool) → closed ≡ false → there ≡ is_some (stored key) → there
+    ≡ is_some (unless closed stored key)
 there_in closed stored key there usable h = rw usable h
 
 pub none_in : (closed : Bool) (stored : ℕ → Option Blob) (key : ℕ) → closed ≡ true → false ≡ is_some (unless closed stored key)
@@ -169,10 +189,25 @@ none_in closed stored key is = rw is refl
 pub stands_in : (closed : Bool) (stored : ℕ → Option Blob) (key : Option ℕ) → closed ≡ false → Stands stored key → Stands (unless closed stored) key
 stands_in closed stored key usable h = rw usable h
 
-pub refuses_in : (closed : Bool) (stored : ℕ → Option Blob) (key : Option ℕ) (was now : ℕ) (e : Error) → closed ≡ false → RefusesRoot key stored false was now e → RefusesRoot key (unless closed stored) closed was now e
+pub refuses_in : (closed : Bool) (stored : ℕ → Option Blob) (key : Option ℕ) (was now : ℕ) (e : Error) → closed ≡ false → RefusesRoot key stored false was now e
+    → RefusesRoot key (unless closed stored) closed was now e
 refuses_in closed stored key was now e usable h = rw usable h
 
 pub refuses_memory : (key : Option ℕ) (stored : ℕ → Option Blob) (closed : Bool) (was now : ℕ) (e : Error) → memory e → RefusesRoot key stored closed was now e
 refuses_memory key stored closed was now e is = rw is tt
 
-pub ruleset roots_named = (unnamed, answers_held, answers_read, kept_stored, kept_flushed, kept_roots, kept_entries, sets_in, there_in, none_in, stands_in, refuses_in, refuses_memory)
+pub ruleset roots_named = (
+  unnamed,
+  answers_held,
+  answers_read,
+  kept_stored,
+  kept_flushed,
+  kept_roots,
+  kept_entries,
+  sets_in,
+  there_in,
+  none_in,
+  stands_in,
+  refuses_in,
+  refuses_memory,
+)

@@ -15,14 +15,16 @@ pub has_place : (row : Row) (p id : ℤ) → rowid row ≡ Int p → has_rowid i
 has_place row p id is = ap (λ v. is_eq (value_cmp v (Int id))) is ∙ ap is_eq (value_cmp-Int p id)
 
 -- a row that is compared with another as different isn't at its place
-apart : (row new : Row) (p id : ℤ) (o : Ordering) → rowid new ≡ Int p → value_cmp (rowid row) (rowid new) ≡ o → is_eq o ≡ false → has_rowid id row ≡ true → (b : Bool) → int_eq p id ≡ b → int_eq p id ≡ false
+apart : (row new : Row) (p id : ℤ) (o : Ordering) → rowid new ≡ Int p → value_cmp (rowid row) (rowid new) ≡ o → is_eq o ≡ false → has_rowid id row ≡ true
+    → (b : Bool) → int_eq p id ≡ b → int_eq p id ≡ false
 apart row new p id o is e other here false f = f
 apart row new p id o is e other here true f =
     let same : p ≡ id = (signed_Decides p id).0 f in
     let there : value_cmp (rowid row) (Int id) ≡ o = ap (λ q. value_cmp (rowid row) (Int q)) (sym same) ∙ ap (value_cmp (rowid row)) (sym is) ∙ e in
     absurd (true≢false (sym here ∙ ap is_eq there ∙ other))
 
-pub row_at-put : (new : Row) (p : ℤ) → rowid new ≡ Int p → (id : ℤ) (rows : List Row) → row_at (put_row new rows) id ≡ (if int_eq p id then Some new else row_at rows id)
+pub row_at-put : (new : Row) (p : ℤ) → rowid new ≡ Int p → (id : ℤ) (rows : List Row) → row_at (put_row new rows) id
+    ≡ (if int_eq p id then Some new else row_at rows id)
 unfolding row_at
 row_at-put new p is id [] = go (has_rowid id new) refl
   where
@@ -33,7 +35,8 @@ row_at-put new p is id (r ∷ rows) = step (value_cmp (rowid r) (rowid new)) ref
   where
     step : (o : Ordering) → value_cmp (rowid r) (rowid new) ≡ o → (b : Bool) → has_rowid id new ≡ b → (c : Bool) → has_rowid id r ≡ c
         → slice_get (filter (has_rowid id) (put_row new rows)) 0 ≡ (if int_eq p id then Some new else slice_get (filter (has_rowid id) rows) 0)
-        → slice_get (filter (has_rowid id) (match_ordering o (r ∷ put_row new rows) (new ∷ rows) (new ∷ r ∷ rows))) 0 ≡ (if int_eq p id then Some new else slice_get (filter (has_rowid id) (r ∷ rows)) 0)
+        → slice_get (filter (has_rowid id) (match_ordering o (r ∷ put_row new rows) (new ∷ rows) (new ∷ r ∷ rows))) 0
+        ≡ (if int_eq p id then Some new else slice_get (filter (has_rowid id) (r ∷ rows)) 0)
     step Less e b f true g more = rw (g, apart r new p id Less is e refl g (int_eq p id) refl) refl
     step Less e b f false g more = rw g more
     step Equal e true f c g more = rw (f, sym (has_place new p id is) ∙ f) refl
@@ -62,7 +65,8 @@ module _ {A : Type 0} (row : ℤ → A → Row) (placed : (p : ℤ) (it : A) →
   not_again id p [] same h = refl
   not_again id p (e ∷ es) same h = rw (ap (λ i. int_eq i e.0) same ∙ h.0) (not_again id p es same h.1)
 
-  pub row_at-put_all : (id : ℤ) (es : List (ℤ × A)) → IsDistinct int_eq (keys_of es) → (rows : List Row) → row_at (put_all row es rows) id ≡ over row id (lookup (int_eq id) es) (row_at rows id)
+  pub row_at-put_all : (id : ℤ) (es : List (ℤ × A)) → IsDistinct int_eq (keys_of es) → (rows : List Row) → row_at (put_all row es rows) id
+      ≡ over row id (lookup (int_eq id) es) (row_at rows id)
   unfolding put_all IsDistinct
   row_at-put_all id [] once rows = refl
   row_at-put_all id (e ∷ es) once rows = go (int_eq id e.0) refl (row_at-put_all id es once.1 (put_row (row e.0 e.1) rows))
@@ -73,14 +77,16 @@ module _ {A : Type 0} (row : ℤ → A → Row) (placed : (p : ℤ) (it : A) →
       here : row_at next id ≡ (if int_eq e.0 id then Some (row e.0 e.1) else row_at rows id)
       here = row_at-put (row e.0 e.1) e.0 (placed e.0 e.1) id rows
 
-      go : (b : Bool) → int_eq id e.0 ≡ b → row_at (put_all row es next) id ≡ over row id (lookup (int_eq id) es) (row_at next id) → row_at (put_all row es next) id ≡ over row id (lookup (int_eq id) (e ∷ es)) (row_at rows id)
+      go : (b : Bool) → int_eq id e.0 ≡ b → row_at (put_all row es next) id ≡ over row id (lookup (int_eq id) es) (row_at next id)
+          → row_at (put_all row es next) id ≡ over row id (lookup (int_eq id) (e ∷ es)) (row_at rows id)
       go true h rest =
           let same : id ≡ e.0 = (signed_Decides id e.0).0 h in
           let none = not_again id e.0 es same once.0 in
           rest ∙ rw (none, here, swapped id e.0 true h, h, same) refl
       go false h rest = rest ∙ rw (here, swapped id e.0 false h, h) refl
 
-pub row_reads : (id : ℤ) (key : ℕ) (blob : Blob) → CanBeKey key → Each CanBeKey blob.keys → (q : ℕ) → blob_in q (blob_row id key blob) ≡ (if key == q then Some blob else None)
+pub row_reads : (id : ℤ) (key : ℕ) (blob : Blob) → CanBeKey key → Each CanBeKey blob.keys → (q : ℕ) → blob_in q (blob_row id key blob)
+    ≡ (if key == q then Some blob else None)
 unfolding blob_in
 row_reads id key blob h ks q = rw (key_back key h, all_back blob.keys ks) refl
 
@@ -89,7 +95,8 @@ unfolding key_in
 bytes_back None h = refl
 bytes_back (Some key) h = key_back key h
 
-pub root_reads : (id : ℤ) (name : List ℕ) (key : Option ℕ) → CanBeKeyIf key → (q : List ℕ) → root_in q (root_row id name key) ≡ (if bytes_eq name q then key else None)
+pub root_reads : (id : ℤ) (name : List ℕ) (key : Option ℕ) → CanBeKeyIf key → (q : List ℕ) → root_in q (root_row id name key)
+    ≡ (if bytes_eq name q then key else None)
 unfolding root_in
 root_reads id name key h q = rw (bytes_back key h) refl
 
@@ -105,7 +112,8 @@ found_fits P p (e ∷ es) it all is = go (int_eq p e.0) refl (found_fits P p es 
 pub all_stored : (waiting : Waiting) (rows : List Row) → IsDistinct int_eq (keys_of waiting.entries) → Each (λ e. Fits e.1) waiting.entries
     → (q : ℕ) → blobs_in (put_all pending_row waiting.entries rows) q ≡ stored_with waiting rows q
 unfolding blobs_in stored_with
-all_stored waiting rows once fit q = rw (row_at-put_all pending_row (λ p it. refl) (place_of q) waiting.entries once rows) (go (lookup (int_eq (place_of q)) waiting.entries) refl)
+all_stored waiting rows once fit q = rw (row_at-put_all pending_row (λ p it. refl) (place_of q) waiting.entries once rows)
+    (go (lookup (int_eq (place_of q)) waiting.entries) refl)
   where
     go : (o : Option Pending) → lookup (int_eq (place_of q)) waiting.entries ≡ o
         → blob_of_row q (over pending_row (place_of q) o (row_at rows (place_of q))) ≡ before q o (blob_of_row q (row_at rows (place_of q)))
@@ -115,12 +123,15 @@ all_stored waiting rows once fit q = rw (row_at-put_all pending_row (λ p it. re
 pub all_named : (waiting : WaitingRoots) (rows : List Row) → IsDistinct int_eq (keys_of waiting.entries) → Each (λ e. CanBeKeyIf e.1.key) waiting.entries
     → (q : List ℕ) → roots_in (put_all pending_root_row waiting.entries rows) q ≡ roots_with waiting rows q
 unfolding roots_in roots_with
-all_named waiting rows once fit q = rw (row_at-put_all pending_root_row (λ p it. refl) (place_of_name q) waiting.entries once rows) (go (lookup (int_eq (place_of_name q)) waiting.entries) refl)
+all_named waiting rows once fit q = rw (row_at-put_all pending_root_row (λ p it. refl) (place_of_name q) waiting.entries once rows)
+    (go (lookup (int_eq (place_of_name q)) waiting.entries) refl)
   where
     go : (o : Option PendingRoot) → lookup (int_eq (place_of_name q)) waiting.entries ≡ o
-        → root_of_row q (over pending_root_row (place_of_name q) o (row_at rows (place_of_name q))) ≡ before_root q o (root_of_row q (row_at rows (place_of_name q)))
+        → root_of_row q (over pending_root_row (place_of_name q) o (row_at rows (place_of_name q)))
+        ≡ before_root q o (root_of_row q (row_at rows (place_of_name q)))
     go None h = refl
-    go (Some it) h = root_reads (place_of_name q) (string_bytes it.name) it.key (found_fits (λ (r : PendingRoot). CanBeKeyIf r.key) (place_of_name q) waiting.entries it fit h) q
+    go (Some it) h = root_reads (place_of_name q) (string_bytes it.name) it.key
+        (found_fits (λ (r : PendingRoot). CanBeKeyIf r.key) (place_of_name q) waiting.entries it fit h) q
 
 -- where nothing waits, the tables have all
 pub none_waits : (waiting : Waiting) (rows : List Row) → waiting.entries ≡ [] → stored_with waiting rows ≡ blobs_in rows

@@ -19,7 +19,8 @@ all_sought o [] = refl
 all_sought o ([] ∷ rows) = refl
 all_sought o ((v ∷ row) ∷ rows) = refl
 
-pub listing_starts : (first now : View) (o : Order) (key : Row) (rows : List Row) (places : List ℤ) → key ≡ [] → places ≡ [] → now ≡ with_cursor first 0 (sought o Forward key rows) → Listing first now rows places
+pub listing_starts : (first now : View) (o : Order) (key : Row) (rows : List Row) (places : List ℤ) → key ≡ [] → places ≡ [] → now
+    ≡ with_cursor first 0 (sought o Forward key rows) → Listing first now rows places
 listing_starts first now o key rows places none empty is = record {
   left = rows;
   moved = is ∙ ap (λ (v : View). record first { cursors = v.cursors }) (sym is);
@@ -35,12 +36,14 @@ more (p ∷ places) place rest = ap (λ l. Int p ∷ l) (more places place rest)
 some_same : {A : Type 0} (a b : A) → Some a ≡ Some b → a ≡ b
 some_same a b e = cc
 
-pub listing_goes_on : (first now next : View) (rows : List Row) (places after : List ℤ) (row : Row) (place : ℤ) → Listing first now rows places → Advances now next 0 row true → rowid row ≡ Int place → after ≡ places ++ place ∷ [] → Listing first next rows after
+pub listing_goes_on : (first now next : View) (rows : List Row) (places after : List ℤ) (row : Row) (place : ℤ) → Listing first now rows places
+    → Advances now next 0 row true → rowid row ≡ Int place → after ≡ places ++ place ∷ [] → Listing first next rows after
 listing_goes_on first now next rows places after row place l (left, here, is) id all =
     let same : l.left ≡ row ∷ left = some_same l.left (row ∷ left) (sym l.at ∙ here) in
     let go : MovesOnly now next = is ∙ ap (λ (v : View). record now { cursors = v.cursors }) (sym is) in
     let rest : map Int (places ++ place ∷ []) ++ map rowid left ≡ map rowid rows =
-    more places place (map rowid left) ∙ ap (λ v. map Int places ++ v ∷ map rowid left) (sym id) ∙ ap (λ (r : List Row). map Int places ++ map rowid r) (sym same) ∙ l.rest in
+    more places place (map rowid left) ∙ ap (λ v. map Int places ++ v ∷ map rowid left) (sym id)
+    ∙ ap (λ (r : List Row). map Int places ++ map rowid r) (sym same) ∙ l.rest in
     record {
       left = left;
       moved = moved_then first now next l.moved go;
@@ -48,7 +51,10 @@ listing_goes_on first now next rows places after row place l (left, here, is) id
       rest = ap (λ (p : List ℤ). map Int p ++ map rowid left) all ∙ rest;
     }
 
-pub listing_ends : (first now next : View) (rows : List Row) (places : List ℤ) (row : Row) → Listing first now rows places → Advances now next 0 row false → (map Int places ≡ map rowid rows) × MovesOnly first next
+pub listing_ends : (first now next : View) (rows : List Row) (places : List ℤ) (row : Row) → Listing first now rows places → Advances now next 0 row false
+    → (map Int places ≡ map rowid rows) × MovesOnly first next
 listing_ends first now next rows places row l (here, is) =
-    let same : l.left ≡ [] = some_same l.left [] (sym l.at ∙ here) in
-    (sym (append-nil (map Int places)) ∙ ap (λ (r : List Row). map Int places ++ map rowid r) (sym same) ∙ l.rest, moved_then first now next l.moved (is ∙ ap (λ (v : View). record now { cursors = v.cursors }) (sym is)))
+    let same : l.left ≡ [] = some_same l.left [] (sym l.at ∙ here) in (
+      sym (append-nil (map Int places)) ∙ ap (λ (r : List Row). map Int places ++ map rowid r) (sym same) ∙ l.rest,
+      moved_then first now next l.moved (is ∙ ap (λ (v : View). record now { cursors = v.cursors }) (sym is)),
+    )

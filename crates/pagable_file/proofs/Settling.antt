@@ -34,7 +34,8 @@ read_only old new falls same = record {
 }
 
 -- a rollback after calls that kept the last commit
-pub rolled_back : (old mid new : View) → (IsClean mid → KeepsCommitted old mid) → IsRolledBack mid new → doubt old.is_clean ≤ doubt mid.is_clean → doubt mid.is_clean ≤ doubt new.is_clean → StaysPut old new
+pub rolled_back : (old mid new : View) → (IsClean mid → KeepsCommitted old mid) → IsRolledBack mid new → doubt old.is_clean ≤ doubt mid.is_clean
+    → doubt mid.is_clean ≤ doubt new.is_clean → StaysPut old new
 rolled_back old mid new kept back first second =
     let mid_clean : (IsClean new → IsClean mid) = λ h. omega (arith, second, h) in
     let old_clean : (IsClean new → IsClean old) = λ h. omega (arith, first, second, h) in
@@ -93,14 +94,16 @@ wrote_none v = record { only = refl; blobs_are = refl; roots_are = refl }
 pub only_then : (a b c : View) → OnlyWrites a b → OnlyWrites b c → OnlyWrites a c
 only_then a b c f g = g ∙ ap (λ (v : View). record v { trees = c.trees; cursors = c.cursors }) f
 
-pub wrote_blob : (first now next : View) (blobs roots : List Row) (edit : List Row → List Row) → Wrote first now blobs roots → SetsTree now next blob_tree edit → OnlyWrites now next → Wrote first next (edit blobs) roots
+pub wrote_blob : (first now next : View) (blobs roots : List Row) (edit : List Row → List Row) → Wrote first now blobs roots → SetsTree now next blob_tree edit
+    → OnlyWrites now next → Wrote first next (edit blobs) roots
 wrote_blob first now next blobs roots edit w set only = record {
   only = only_then first now next w.only only;
   blobs_are = ap (λ (v : View). v.trees blob_tree) set.is ∙ ap edit w.blobs_are;
   roots_are = ap (λ (v : View). v.trees root_tree) set.is ∙ w.roots_are;
 }
 
-pub wrote_root : (first now next : View) (blobs roots : List Row) (edit : List Row → List Row) → Wrote first now blobs roots → SetsTree now next root_tree edit → OnlyWrites now next → Wrote first next blobs (edit roots)
+pub wrote_root : (first now next : View) (blobs roots : List Row) (edit : List Row → List Row) → Wrote first now blobs roots → SetsTree now next root_tree edit
+    → OnlyWrites now next → Wrote first next blobs (edit roots)
 wrote_root first now next blobs roots edit w set only = record {
   only = only_then first now next w.only only;
   blobs_are = ap (λ (v : View). v.trees blob_tree) set.is ∙ w.blobs_are;
@@ -108,7 +111,8 @@ wrote_root first now next blobs roots edit w set only = record {
 }
 
 -- a commit after calls that wrote
-pub saved : (old mid new : View) (blobs roots : List Row) → (IsClean mid → Wrote old mid blobs roots) → (IsClean new → Commits mid new) → doubt old.is_clean ≤ doubt mid.is_clean → doubt mid.is_clean ≤ doubt new.is_clean
+pub saved : (old mid new : View) (blobs roots : List Row) → (IsClean mid → Wrote old mid blobs roots) → (IsClean new → Commits mid new)
+    → doubt old.is_clean ≤ doubt mid.is_clean → doubt mid.is_clean ≤ doubt new.is_clean
     → Saved old new blobs roots
 saved old mid new blobs roots wrote commits first second =
     let mid_clean : (IsClean new → IsClean mid) = λ h. omega (arith, second, h) in
@@ -175,7 +179,8 @@ moved old new falls only = record {
 }
   where
     before : IsTrue (is_sure new) → IsTrue (is_sure old)
-    before h = let clean = sure_clean new h in sure_from old (omega (arith, falls, clean)) (subst (λ b. IsTrue b) (ap (λ (v : View). v.is_open) (only clean)) (sure_open new h))
+    before h = let clean = sure_clean new h in sure_from old (omega (arith, falls, clean))
+        (subst (λ b. IsTrue b) (ap (λ (v : View). v.is_open) (only clean)) (sure_open new h))
 
 pub moved_keeps : (old new : View) → MovesOnly old new → KeepsCommitted old new
 moved_keeps old new is = record {
@@ -195,7 +200,8 @@ moved_then a b c f g = g ∙ ap (λ (v : View). record v { cursors = c.cursors }
 pub stays_self : (v : View) → StaysPut v v
 stays_self v = record { settled = λ was. was; sure = λ h. h; same = λ h. refl }
 
-pub fell_back : (old mid new : View) (e : StoreError) → IsFailure old mid e → IsRolledBack mid new → doubt old.is_clean ≤ doubt mid.is_clean → doubt mid.is_clean ≤ doubt new.is_clean → StaysPut old new
+pub fell_back : (old mid new : View) (e : StoreError) → IsFailure old mid e → IsRolledBack mid new → doubt old.is_clean ≤ doubt mid.is_clean
+    → doubt mid.is_clean ≤ doubt new.is_clean → StaysPut old new
 fell_back old mid new e failed back first second = rolled_back old mid new (λ _. failed.kept) back first second
 
 -- what a look finds is the row at the place
@@ -204,18 +210,21 @@ unfolding row_at
 found_row rows id row true h = ap (λ all. slice_get all 0) h
 found_row rows id row false h = ap (λ all. slice_get all 0) h
 
-pub looked : (old new : View) (table : ℕ) (id : ℤ) (row : Row) (found : Bool) → Settled old → StaysPut old new → (IsClean new → Finds (old.trees table) id row found)
+pub looked : (old new : View) (table : ℕ) (id : ℤ) (row : Row) (found : Bool) → Settled old → StaysPut old new
+    → (IsClean new → Finds (old.trees table) id row found)
     → IsTrue (is_sure new) → row_at (old.committed table) id ≡ (if found then Some row else None)
 looked old new table id row found was stays finds h =
     let same = shown_is_committed old was (stays.sure h) in
     ap (λ (t : ℕ → List Row). row_at (t table) id) (sym same) ∙ found_row (old.trees table) id row found (finds (sure_clean new h))
 
-pub on_saved : (r : Result (Unit {0}) StoreError) (old mid new : View) (blobs roots : List Row) → (IsClean mid → Wrote old mid blobs roots) → OnOk r (IsClean new → Commits mid new) → doubt old.is_clean ≤ doubt mid.is_clean
+pub on_saved : (r : Result (Unit {0}) StoreError) (old mid new : View) (blobs roots : List Row) → (IsClean mid → Wrote old mid blobs roots)
+    → OnOk r (IsClean new → Commits mid new) → doubt old.is_clean ≤ doubt mid.is_clean
     → doubt mid.is_clean ≤ doubt new.is_clean → OnOk r (Saved old new blobs roots)
 on_saved (Ok x) old mid new blobs roots wrote commits first second = saved old mid new blobs roots wrote commits first second
 on_saved (Err e) old mid new blobs roots wrote commits first second = tt
 
-pub on_rolled_back : (r : Result (Unit {0}) StoreError) (old mid new : View) → (IsClean mid → KeepsCommitted old mid) → OnErr r (IsRolledBack mid new) → doubt old.is_clean ≤ doubt mid.is_clean
+pub on_rolled_back : (r : Result (Unit {0}) StoreError) (old mid new : View) → (IsClean mid → KeepsCommitted old mid) → OnErr r (IsRolledBack mid new)
+    → doubt old.is_clean ≤ doubt mid.is_clean
     → doubt mid.is_clean ≤ doubt new.is_clean → OnErr r (StaysPut old new)
 on_rolled_back (Ok x) old mid new kept back first second = tt
 on_rolled_back (Err e) old mid new kept back first second = rolled_back old mid new kept back first second

@@ -94,7 +94,8 @@ IsSettled-prop v a b = λ i. record {
   blobs = shape_set (v.shape blob_tree) Table a.blobs b.blobs i;
   roots = shape_set (v.shape root_tree) Table a.roots b.roots i;
   shapes = Π_set (λ _. shape_set) v.shape v.committed_shape a.shapes b.shapes i;
-  idle = Π_prop (λ (_ : IsTrue v.is_open). ×_prop (Bool-set v.is_broken false) (Trees-set v.trees v.committed)) a.idle b.idle i;
+  idle = Π_prop (λ (_ : IsTrue v.is_open). ×_prop (Bool-set v.is_broken false) (Trees-set v.trees v.committed)) a.idle
+      b.idle i;
   numbered = Bool-set v.is_numbered true a.numbered b.numbered i;
   unmarked = marks_set v.marks [] a.unmarked b.unmarked i;
 }
@@ -104,14 +105,16 @@ settled_prop v = Π_prop (λ _. IsSettled-prop v)
 
 -- each blob that waits has the key that it waits under
 abbrev pub AreKeyed : (Blob → ℕ) → Waiting → Type 0
-AreKeyed key_of waiting = (place : ℤ) (it : Pending) → get int_eq waiting place ≡ Some it → key_of (blob_pending it) ≡ it.key
+AreKeyed key_of waiting = (place : ℤ) (it : Pending) → get int_eq waiting place ≡ Some it → key_of (blob_pending it)
+    ≡ it.key
 
 -- a blob is added to those that wait, in the place of what waited at its key's place
 pub record Holds (key : ℕ) (blob : Blob) (old new : Waiting) : Type 0 where
   pub it : Pending
   pub own : it.key ≡ key
   pub content : blob_pending it ≡ blob
-  pub each : (place : ℤ) → get int_eq new place ≡ (if int_eq (place_of key) place then Some it else get int_eq old place)
+  pub each : (place : ℤ) → get int_eq new place ≡ (if int_eq (place_of key) place then Some it else get int_eq old
+      place)
 
 -- only trees and cursors differ, and the two tables have these rows
 pub record Wrote (old new : View) (blobs roots : List Row) : Type 0 where
@@ -234,7 +237,8 @@ pub record HoldsRoot (name : List ℕ) (key : Option ℕ) (old new : WaitingRoot
   pub it : PendingRoot
   pub own : string_bytes it.name ≡ name
   pub stands : it.key ≡ key
-  pub each : (place : ℤ) → get int_eq new place ≡ (if int_eq (place_of_name name) place then Some it else get int_eq old place)
+  pub each : (place : ℤ) → get int_eq new place ≡ (if int_eq (place_of_name name) place then Some it else get int_eq old
+      place)
 
 -- the key that a look-up found for a name
 abbrev pub found_root : Option Naming → Option ℕ

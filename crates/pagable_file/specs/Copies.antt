@@ -23,7 +23,8 @@ AreCopied from to copied = (key : ℕ) → HasCopied copied key → IsCopied fro
 -- each key of a path is a child of the one before it
 abbrev pub IsPath : (ℕ → Option Blob) → ℕ → List ℕ → Type 0
 IsPath stored key [] = Unit {0}
-IsPath stored key (child ∷ path) = ((blob : Blob) × (stored key ≡ Some blob) × Contains blob.keys child) × IsPath stored child path
+IsPath stored key (child ∷ path) = ((blob : Blob) × (stored key ≡ Some blob) × Contains blob.keys child)
+    × IsPath stored child path
 
 -- the last key of a path
 abbrev pub end_of : ℕ → List ℕ → ℕ
@@ -40,12 +41,14 @@ IsInBoth from to key = (blob : Blob) × (from key ≡ Some blob) × (to key ≡ 
 
 -- a name stands for the wanted key, if there is one, and that was copied
 abbrev pub Matches : Copied → (List ℕ → Option ℕ) → (List ℕ → Option ℕ) → List ℕ → Type 0
-Matches copied wanted roots name = (root : ℕ) → wanted name ≡ Some root → (roots name ≡ Some root) × HasCopied copied root
+Matches copied wanted roots name = (root : ℕ) → wanted name ≡ Some root → (roots name ≡ Some root)
+    × HasCopied copied root
 
 -- a name stands for the same key in both, and both have the same blobs under all keys that this one reaches
 pub record IsSameRoot (from to : ℕ → Option Blob) (copies : List ℕ → Option ℕ) (name : List ℕ) (root : ℕ) : Type 0 where
   pub set : copies name ≡ Some root
   pub blobs : (key : ℕ) → Reaches from root key → IsInBoth from to key
 
-abbrev pub IsCopiedRoot : (ℕ → Option Blob) → (ℕ → Option Blob) → (List ℕ → Option ℕ) → (List ℕ → Option ℕ) → List ℕ → Type 0
+abbrev pub IsCopiedRoot : (ℕ → Option Blob) → (ℕ → Option Blob) → (List ℕ → Option ℕ) → (List ℕ → Option ℕ) → List ℕ
+    → Type 0
 IsCopiedRoot from to roots copies name = (root : ℕ) → roots name ≡ Some root → IsSameRoot from to copies name root

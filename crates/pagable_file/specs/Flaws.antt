@@ -30,11 +30,14 @@ IsChild rows key child = (blob : Blob) × (blobs_in rows key ≡ Some blob) × C
 
 -- a flaw that the two tables have
 abbrev pub IsFlaw : (Blob → ℕ) → List Row → List Row → Flaw → Type 0
-IsFlaw key_of rows roots (flaw.StrayBlob place) = (row : Row) × (row_at rows place ≡ Some row) × (blob_at place row ≡ None)
+IsFlaw key_of rows roots (flaw.StrayBlob place) = (row : Row) × (row_at rows place ≡ Some row)
+    × (blob_at place row ≡ None)
 IsFlaw key_of rows roots (flaw.WrongKey key) = (blob : Blob) × (blobs_in rows key ≡ Some blob) × (key_of blob ≢ key)
 IsFlaw key_of rows roots (flaw.MissingChild key child) = IsChild rows key child × (blobs_in rows child ≡ None)
-IsFlaw key_of rows roots (flaw.StrayRoot place) = (row : Row) × (row_at roots place ≡ Some row) × (IsUtf8 (bytes (column row 2)) → place_of_name (bytes (column row 2)) ≢ place)
-IsFlaw key_of rows roots (flaw.MissingRoot name key) = (roots_in roots (string_bytes name) ≡ Some key) × (blobs_in rows key ≡ None)
+IsFlaw key_of rows roots (flaw.StrayRoot place) = (row : Row) × (row_at roots place ≡ Some row)
+    × (IsUtf8 (bytes (column row 2)) → place_of_name (bytes (column row 2)) ≢ place)
+IsFlaw key_of rows roots (flaw.MissingRoot name key) =
+    (roots_in roots (string_bytes name) ≡ Some key) × (blobs_in rows key ≡ None)
 
 -- a row of the table of roots has a name whose place is this one
 abbrev pub IsNamed : ℤ → Row → Type 0
@@ -52,7 +55,8 @@ pub record IsWhole (key_of : Blob → ℕ) (rows roots : List Row) : Type 0 wher
 -- the text that a row has as its name, if this is the name's place
 abbrev pub IsNameAt : ℤ → Row → Option (String Global) → Type 0
 IsNameAt place row None = IsUtf8 (bytes (column row 2)) → place_of_name (bytes (column row 2)) ≢ place
-IsNameAt place row (Some name) = (string_bytes name ≡ bytes (column row 2)) × (place_of_name (string_bytes name) ≡ place)
+IsNameAt place row (Some name) = (string_bytes name ≡ bytes (column row 2))
+    × (place_of_name (string_bytes name) ≡ place)
 
 -- the flaws that a test added are flaws; if there are none at all, this holds
 pub record Tested (P : Flaw → Type 0) (old new : List Flaw) (Q : Type 0) : Type 0 where
@@ -66,8 +70,10 @@ pub record IsSoundBlob (key_of : Blob → ℕ) (rows : List Row) (key : ℕ) (bl
 
 -- the row at a place, if there is one, is a sound blob's
 abbrev pub IsSoundPlace : (Blob → ℕ) → List Row → ℤ → Type 0
-IsSoundPlace key_of rows place = (row : Row) → row_at rows place ≡ Some row → (key : ℕ) × (blob : Blob) × (blob_at place row ≡ Some (key, blob)) × IsSoundBlob key_of rows key blob
+IsSoundPlace key_of rows place = (row : Row) → row_at rows place ≡ Some row → (key : ℕ) × (blob : Blob)
+    × (blob_at place row ≡ Some (key, blob)) × IsSoundBlob key_of rows key blob
 
 -- the row at a place, if there is one, is a name's, and the table has the blob of the name's key
 abbrev pub IsSoundRoot : List Row → List Row → ℤ → Type 0
-IsSoundRoot rows roots place = (row : Row) → row_at roots place ≡ Some row → IsNamed place row × ((key : ℕ) → key_in (bytes (column row 3)) ≡ Some key → IsThere rows key)
+IsSoundRoot rows roots place = (row : Row) → row_at roots place ≡ Some row → IsNamed place row
+    × ((key : ℕ) → key_in (bytes (column row 3)) ≡ Some key → IsThere rows key)

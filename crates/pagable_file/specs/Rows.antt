@@ -22,7 +22,8 @@ row_at rows place = slice_get (filter (has_rowid place) rows) 0
 
 -- sixteen bytes as a key, low bytes first; a key is never 0
 unfoldable pub key_in : List ℕ → Option ℕ
-key_in bytes = if (length bytes == 16) && not (from_le_bytes w128 bytes == 0) then Some (from_le_bytes w128 bytes) else None
+key_in bytes = if (length bytes == 16) && not (from_le_bytes w128 bytes == 0) then Some
+    (from_le_bytes w128 bytes) else None
 
 -- the numbers that a key can have
 abbrev pub CanBeKey : ℕ → Type 0
@@ -52,7 +53,8 @@ is_row_of key row = is_key key (key_in (bytes (column row 2)))
 
 -- the blob that a row has for this key
 unfoldable pub blob_in : ℕ → Row → Option Blob
-blob_in key row = if is_row_of key row then option_map (λ keys. record { bytes = bytes (column row 3); keys = keys }) (keys_in (bytes (column row 4))) else None
+blob_in key row = if is_row_of key row then option_map (λ keys. record { bytes = bytes (column row 3); keys = keys })
+    (keys_in (bytes (column row 4))) else None
 
 abbrev pub blob_of_row : ℕ → Option Row → Option Blob
 blob_of_row key None = None
@@ -64,7 +66,8 @@ blobs_in rows key = blob_of_row key (row_at rows (place_of key))
 
 -- the row of a blob
 abbrev pub blob_row : ℤ → ℕ → Blob → Row
-blob_row place key blob = Int place ∷ Null ∷ Bytes (to_le_bytes w128 key) ∷ Bytes blob.bytes ∷ Bytes (flat_map (to_le_bytes w128) blob.keys) ∷ []
+blob_row place key blob = Int place ∷ Null ∷ Bytes (to_le_bytes w128 key) ∷ Bytes blob.bytes
+    ∷ Bytes (flat_map (to_le_bytes w128) blob.keys) ∷ []
 
 -- the place of the row of a root: the low 63 bits of the SHA-256 of its name
 abbrev pub place_of_name : List ℕ → ℤ

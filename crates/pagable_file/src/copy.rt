@@ -45,7 +45,8 @@ fn store_copy<E: Env, T: PagableStorage<E>>(
     to: &mut T,
     blob: &PagableData,
 ) -> Result<(), Error>
-    ensures stored { IsTrue (T.is_honest to.new) → OnOk result (T.stored to.new (key_of E.Hash.digest (blob_of blob.now)) ≡ Some (blob_of blob.now)) }
+    ensures stored { IsTrue (T.is_honest to.new) → OnOk result
+        (T.stored to.new (key_of E.Hash.digest (blob_of blob.now)) ≡ Some (blob_of blob.now)) }
     ensures keeps { IsTrue (T.is_honest to.new) → Keeps (T.stored to.old) (T.stored to.new) }
     ensures honest { IsTrue (T.is_honest to.new) → IsTrue (T.is_honest to.old) }
 {
@@ -64,7 +65,9 @@ fn copy_blob<E: Env, S: PagableStorage<E>, T: PagableStorage<E>>(
     copied: &mut Copied,
     key: DataKey,
 ) -> Result<(), Error>
-    ensures copied { IsTrue (S.is_honest from.new) → IsTrue (T.is_honest to.new) → OnOk result (AreCopied (S.stored from.old) (T.stored to.old) copied.old → AreCopied (S.stored from.old) (T.stored to.new) copied.new) }
+    ensures copied { IsTrue (S.is_honest from.new) → IsTrue (T.is_honest to.new)
+        → OnOk result (AreCopied (S.stored from.old) (T.stored to.old) copied.old
+        → AreCopied (S.stored from.old) (T.stored to.new) copied.new) }
     ensures same { IsTrue (S.is_honest from.new) → S.stored from.new ≡ S.stored from.old }
     ensures keeps { IsTrue (T.is_honest to.new) → Keeps (T.stored to.old) (T.stored to.new) }
     ensures honest { IsTrue (S.is_honest from.new) → IsTrue (S.is_honest from.old) }
@@ -127,7 +130,9 @@ fn make_visit<E: Env, S: PagableStorage<E>, T: PagableStorage<E>, W: Watch>(
     next: Visit,
     watch: &mut W,
 ) -> Result<(), Error>
-    ensures copied { IsTrue (S.is_honest from.new) → IsTrue (T.is_honest to.new) → OnOk result (AreCopied (S.stored from.old) (T.stored to.old) copied.old → AreCopied (S.stored from.old) (T.stored to.new) copied.new) }
+    ensures copied { IsTrue (S.is_honest from.new) → IsTrue (T.is_honest to.new)
+        → OnOk result (AreCopied (S.stored from.old) (T.stored to.old) copied.old
+        → AreCopied (S.stored from.old) (T.stored to.new) copied.new) }
     ensures same { IsTrue (S.is_honest from.new) → S.stored from.new ≡ S.stored from.old }
     ensures keeps { IsTrue (T.is_honest to.new) → Keeps (T.stored to.old) (T.stored to.new) }
     ensures honest { IsTrue (S.is_honest from.new) → IsTrue (S.is_honest from.old) }
@@ -156,7 +161,8 @@ fn copy_reached<E: Env, S: PagableStorage<E>, T: PagableStorage<E>, W: Watch>(
     keys: Vec<Visit>,
     watch: &mut W,
 ) -> Result<Copied, Error>
-    ensures copied { IsTrue (S.is_honest from.new) → IsTrue (T.is_honest to.new) → IfOk result (AreCopied (S.stored from.old) (T.stored to.new)) }
+    ensures copied { IsTrue (S.is_honest from.new) → IsTrue (T.is_honest to.new)
+        → IfOk result (AreCopied (S.stored from.old) (T.stored to.new)) }
     ensures same { IsTrue (S.is_honest from.new) → S.stored from.new ≡ S.stored from.old }
     ensures keeps { IsTrue (T.is_honest to.new) → Keeps (T.stored to.old) (T.stored to.new) }
     ensures honest { IsTrue (S.is_honest from.new) → IsTrue (S.is_honest from.old) }
@@ -190,8 +196,10 @@ fn read_roots<E: Env, S: Roots<E>>(
     from: &mut S,
     names: &[String],
 ) -> Result<Vec<Option<DataKey>>, Error>
-    ensures read { IsTrue (S.PagableStorage.is_honest from.new) → IfOk result (λ keys. keys.items ≡ map (λ name. S.Roots.roots from.old (string_bytes name)) names.now) }
-    ensures same { IsTrue (S.PagableStorage.is_honest from.new) → S.PagableStorage.stored from.new ≡ S.PagableStorage.stored from.old }
+    ensures read { IsTrue (S.PagableStorage.is_honest from.new)
+        → IfOk result (λ keys. keys.items ≡ map (λ name. S.Roots.roots from.old (string_bytes name)) names.now) }
+    ensures same { IsTrue (S.PagableStorage.is_honest from.new) → S.PagableStorage.stored from.new
+        ≡ S.PagableStorage.stored from.old }
     ensures honest { IsTrue (S.PagableStorage.is_honest from.new) → IsTrue (S.PagableStorage.is_honest from.old) }
 {
     let mut keys = Vec::new(alloc);
@@ -221,9 +229,13 @@ fn set_copied<E: Env, T: Roots<E>>(
     name: &str,
     key: Option<DataKey>,
 ) -> Result<(), Error>
-    ensures set { IsTrue (T.PagableStorage.is_honest to.new) → (wanted : List ℕ → Option ℕ) → key ≡ wanted name.now → OnOk result (Matches copied.now wanted (T.Roots.roots to.new) name.now) }
-    ensures others { IsTrue (T.PagableStorage.is_honest to.new) → (wanted : List ℕ → Option ℕ) → key ≡ wanted name.now → OnOk result ((q : List ℕ) → Matches copied.now wanted (T.Roots.roots to.old) q → Matches copied.now wanted (T.Roots.roots to.new) q) }
-    ensures same { IsTrue (T.PagableStorage.is_honest to.new) → T.PagableStorage.stored to.new ≡ T.PagableStorage.stored to.old }
+    ensures set { IsTrue (T.PagableStorage.is_honest to.new) → (wanted : List ℕ → Option ℕ) → key ≡ wanted name.now
+        → OnOk result (Matches copied.now wanted (T.Roots.roots to.new) name.now) }
+    ensures others { IsTrue (T.PagableStorage.is_honest to.new) → (wanted : List ℕ → Option ℕ) → key ≡ wanted name.now
+        → OnOk result ((q : List ℕ) → Matches copied.now wanted (T.Roots.roots to.old) q
+        → Matches copied.now wanted (T.Roots.roots to.new) q) }
+    ensures same { IsTrue (T.PagableStorage.is_honest to.new) → T.PagableStorage.stored to.new
+        ≡ T.PagableStorage.stored to.old }
     ensures honest { IsTrue (T.PagableStorage.is_honest to.new) → IsTrue (T.PagableStorage.is_honest to.old) }
 {
     let Some(root) = key else {
@@ -245,9 +257,12 @@ fn set_all<E: Env, T: Roots<E>>(
     names: &[String],
     keys: &[Option<DataKey>],
 ) -> Result<(), Error>
-    ensures set { IsTrue (T.PagableStorage.is_honest to.new) → (wanted : List ℕ → Option ℕ) → keys.now ≡ map (λ name. wanted (string_bytes name)) names.now
-        → OnOk result (AllByRecursion (λ name. Matches copied.now wanted (T.Roots.roots to.new) (string_bytes name)) names.now) }
-    ensures same { IsTrue (T.PagableStorage.is_honest to.new) → T.PagableStorage.stored to.new ≡ T.PagableStorage.stored to.old }
+    ensures set { IsTrue (T.PagableStorage.is_honest to.new) → (wanted : List ℕ → Option ℕ) → keys.now
+        ≡ map (λ name. wanted (string_bytes name)) names.now
+        → OnOk result (AllByRecursion (λ name. Matches copied.now wanted (T.Roots.roots to.new) (string_bytes name))
+        names.now) }
+    ensures same { IsTrue (T.PagableStorage.is_honest to.new) → T.PagableStorage.stored to.new
+        ≡ T.PagableStorage.stored to.old }
     ensures honest { IsTrue (T.PagableStorage.is_honest to.new) → IsTrue (T.PagableStorage.is_honest to.old) }
 {
     for at in 0..names.len().min(keys.len()) {
@@ -275,9 +290,13 @@ pub fn copy<E: Env, S: Roots<E>, T: Roots<E>, W: Watch>(
     watch: &mut W,
 ) -> Result<usize, Error>
     ensures copied { IsTrue (S.PagableStorage.is_honest from.new) → IsTrue (T.PagableStorage.is_honest to.new)
-        → OnOk result (AllByRecursion (λ name. IsCopiedRoot (S.PagableStorage.stored from.old) (T.PagableStorage.stored to.new) (S.Roots.roots from.old) (T.Roots.roots to.new) (string_bytes name)) names.now) }
-    ensures same { IsTrue (S.PagableStorage.is_honest from.new) → S.PagableStorage.stored from.new ≡ S.PagableStorage.stored from.old }
-    ensures keeps { IsTrue (T.PagableStorage.is_honest to.new) → Keeps (T.PagableStorage.stored to.old) (T.PagableStorage.stored to.new) }
+        → OnOk result (AllByRecursion (λ name. IsCopiedRoot (S.PagableStorage.stored from.old)
+        (T.PagableStorage.stored to.new) (S.Roots.roots from.old) (T.Roots.roots to.new) (string_bytes name))
+        names.now) }
+    ensures same { IsTrue (S.PagableStorage.is_honest from.new) → S.PagableStorage.stored from.new
+        ≡ S.PagableStorage.stored from.old }
+    ensures keeps { IsTrue (T.PagableStorage.is_honest to.new)
+        → Keeps (T.PagableStorage.stored to.old) (T.PagableStorage.stored to.new) }
     ensures honest { IsTrue (S.PagableStorage.is_honest from.new) → IsTrue (S.PagableStorage.is_honest from.old) }
     ensures honest_copy { IsTrue (T.PagableStorage.is_honest to.new) → IsTrue (T.PagableStorage.is_honest to.old) }
 {

@@ -76,10 +76,13 @@ impl<E: Env, S: Alter + Drop> FileBlobs<E, S> {
     #[tactic(auto, using(crate::proofs::Fetching::none_keyed))]
     pub fn over(alloc: Global, conn: Connection<S>) -> Result<FileBlobs<E, S>, OpenError>
         ensures open { IfOk result (λ blobs. blobs.closed ≡ false) }
-        ensures clean { IfOk result (λ blobs. IsTrue (is_sure (S.Store.view blobs.store)) → IsClean (S.Store.view conn.store)) }
+        ensures clean { IfOk result (λ blobs. IsTrue (is_sure (S.Store.view blobs.store))
+            → IsClean (S.Store.view conn.store)) }
         ensures nothing_waits { IfOk result (λ blobs. (blobs.waiting.entries ≡ []) × (blobs.waiting_roots.entries ≡ [])) }
-        ensures blobs { IfOk result (λ blobs. IsTrue (is_sure (S.Store.view blobs.store)) → (S.Store.view blobs.store).committed blob_tree ≡ (state S.Store conn).committed.trees blob_tree) }
-        ensures roots { IfOk result (λ blobs. IsTrue (is_sure (S.Store.view blobs.store)) → (S.Store.view blobs.store).committed root_tree ≡ (state S.Store conn).committed.trees root_tree) }
+        ensures blobs { IfOk result (λ blobs. IsTrue (is_sure (S.Store.view blobs.store))
+            → (S.Store.view blobs.store).committed blob_tree ≡ (state S.Store conn).committed.trees blob_tree) }
+        ensures roots { IfOk result (λ blobs. IsTrue (is_sure (S.Store.view blobs.store))
+            → (S.Store.view blobs.store).committed root_tree ≡ (state S.Store conn).committed.trees root_tree) }
     {
         let mut store = conn.into_store();
         prepare(alloc, &mut store)?;
@@ -113,8 +116,12 @@ impl<E: Env, S: Store> FileBlobs<E, S> {
     /// - `Storage` only if the call raised the count of failures.
     #[tactic(auto, using(crate::proofs::Named::roots_named))]
     pub fn contains(&mut self, alloc: Global, key: DataKey) -> Result<bool, Error>
-        ensures ok { IsTrue (is_sure (S.view self.new.store)) → IfOk result (λ there. there ≡ is_some (unless self.old.closed (stored_with self.old.waiting ((S.view self.old.store).committed blob_tree)) key)) }
-        ensures same { IsTrue (is_sure (S.view self.new.store)) → unless self.new.closed (stored_with self.new.waiting ((S.view self.new.store).committed blob_tree)) ≡ unless self.old.closed (stored_with self.old.waiting ((S.view self.old.store).committed blob_tree)) }
+        ensures ok { IsTrue (is_sure (S.view self.new.store))
+            → IfOk result (λ there. there ≡ is_some (unless self.old.closed
+            (stored_with self.old.waiting ((S.view self.old.store).committed blob_tree)) key)) }
+        ensures same { IsTrue (is_sure (S.view self.new.store))
+            → unless self.new.closed (stored_with self.new.waiting ((S.view self.new.store).committed blob_tree))
+            ≡ unless self.old.closed (stored_with self.old.waiting ((S.view self.old.store).committed blob_tree)) }
         ensures sure { IsTrue (is_sure (S.view self.new.store)) → IsTrue (is_sure (S.view self.old.store)) }
         ensures only { IfErr result (RefusesFlush self.old.stats.failures self.new.stats.failures) }
         ensures later { self.old.stats.failures ≤ self.new.stats.failures }
@@ -150,17 +157,28 @@ impl<E: Env, S: Store> FileBlobs<E, S> {
     /// - `Storage` only if the call raised the count of failures.
     #[tactic(auto, using(crate::proofs::Committing::committing, crate::proofs::Fetching::none_keyed))]
     pub fn commit(&mut self) -> Result<(), Error>
-        ensures blobs { IsTrue (is_sure (S.view self.new.store)) → OnOk result (blobs_in ((S.view self.new.store).committed blob_tree) ≡ stored_with self.old.waiting ((S.view self.old.store).committed blob_tree)) }
-        ensures roots { IsTrue (is_sure (S.view self.new.store)) → OnOk result (roots_in ((S.view self.new.store).committed root_tree) ≡ roots_with self.old.waiting_roots ((S.view self.old.store).committed root_tree)) }
-        ensures stored { IsTrue (is_sure (S.view self.new.store)) → stored_with self.new.waiting ((S.view self.new.store).committed blob_tree) ≡ stored_with self.old.waiting ((S.view self.old.store).committed blob_tree) }
-        ensures roots_stay { IsTrue (is_sure (S.view self.new.store)) → roots_with self.new.waiting_roots ((S.view self.new.store).committed root_tree) ≡ roots_with self.old.waiting_roots ((S.view self.old.store).committed root_tree) }
+        ensures blobs { IsTrue (is_sure (S.view self.new.store))
+            → OnOk result (blobs_in ((S.view self.new.store).committed blob_tree)
+            ≡ stored_with self.old.waiting ((S.view self.old.store).committed blob_tree)) }
+        ensures roots { IsTrue (is_sure (S.view self.new.store))
+            → OnOk result (roots_in ((S.view self.new.store).committed root_tree)
+            ≡ roots_with self.old.waiting_roots ((S.view self.old.store).committed root_tree)) }
+        ensures stored { IsTrue (is_sure (S.view self.new.store))
+            → stored_with self.new.waiting ((S.view self.new.store).committed blob_tree)
+            ≡ stored_with self.old.waiting ((S.view self.old.store).committed blob_tree) }
+        ensures roots_stay { IsTrue (is_sure (S.view self.new.store))
+            → roots_with self.new.waiting_roots ((S.view self.new.store).committed root_tree)
+            ≡ roots_with self.old.waiting_roots ((S.view self.old.store).committed root_tree) }
         ensures nothing_waits { OnOk result ((self.new.waiting.entries ≡ []) × (self.new.waiting_roots.entries ≡ [])) }
         ensures sure { IsTrue (is_sure (S.view self.new.store)) → IsTrue (is_sure (S.view self.old.store)) }
         ensures only { IfErr result (RefusesFlush self.old.stats.failures self.new.stats.failures) }
         ensures later { self.old.stats.failures ≤ self.new.stats.failures }
         ensures open { self.new.closed ≡ self.old.closed }
-        ensures crash { IsTrue (is_sure (S.view self.old.store)) → IsClean (S.view self.new.store) → (db : Trees) → S.recovers self.new.store db
-            → (blobs_in (db blob_tree) ≡ stored_with self.old.waiting ((S.view self.old.store).committed blob_tree)) × (roots_in (db root_tree) ≡ roots_with self.old.waiting_roots ((S.view self.old.store).committed root_tree))
+        ensures crash { IsTrue (is_sure (S.view self.old.store)) → IsClean (S.view self.new.store) → (db : Trees)
+            → S.recovers self.new.store db
+            → (blobs_in (db blob_tree) ≡ stored_with self.old.waiting ((S.view self.old.store).committed blob_tree))
+            × (roots_in (db root_tree) ≡ roots_with self.old.waiting_roots
+            ((S.view self.old.store).committed root_tree))
             ⊎ S.recovers self.old.store db }
     {
         match save(

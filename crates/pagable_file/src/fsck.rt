@@ -68,7 +68,8 @@ fn is_there<S: Store>(
     key: DataKey,
 ) -> Result<bool, StoreError>
     requires settled { Settled (S.view store.old) }
-    ensures ok { IsTrue (is_sure (S.view store.new)) → IfOk result (λ there. there ≡ is_some (blobs_in ((S.view store.old).committed blob_tree) key)) }
+    ensures ok { IsTrue (is_sure (S.view store.new)) → IfOk result
+        (λ there. there ≡ is_some (blobs_in ((S.view store.old).committed blob_tree) key)) }
     ensures stays { StaysPut (S.view store.old) (S.view store.new) }
 {
     let found = read(alloc, store, row, key)?;
@@ -86,8 +87,11 @@ fn test_child<S: Store>(
     child: DataKey,
 ) -> Result<(), StoreError>
     requires settled { Settled (S.view store.old) }
-    ensures tested { (of : Blob → ℕ) → IsTrue (is_sure (S.view store.new)) → IsChild ((S.view store.old).committed blob_tree) key child
-        → OnOk result (Tested (IsFlaw of ((S.view store.old).committed blob_tree) ((S.view store.old).committed root_tree)) flaws.old.items flaws.new.items (IsThere ((S.view store.old).committed blob_tree) child)) }
+    ensures tested { (of : Blob → ℕ) → IsTrue (is_sure (S.view store.new))
+        → IsChild ((S.view store.old).committed blob_tree) key child
+        → OnOk result (Tested (IsFlaw of ((S.view store.old).committed blob_tree)
+        ((S.view store.old).committed root_tree)) flaws.old.items flaws.new.items
+        (IsThere ((S.view store.old).committed blob_tree) child)) }
     ensures stays { StaysPut (S.view store.old) (S.view store.new) }
 {
     if is_there(alloc, store, row, child)? {
@@ -108,8 +112,11 @@ fn test_children<S: Store>(
     children: &[DataKey],
 ) -> Result<(), StoreError>
     requires settled { Settled (S.view store.old) }
-    ensures tested { (of : Blob → ℕ) → IsTrue (is_sure (S.view store.new)) → AllByRecursion (IsChild ((S.view store.old).committed blob_tree) key) children.now
-        → OnOk result (Tested (IsFlaw of ((S.view store.old).committed blob_tree) ((S.view store.old).committed root_tree)) flaws.old.items flaws.new.items (AllByRecursion (IsThere ((S.view store.old).committed blob_tree)) children.now)) }
+    ensures tested { (of : Blob → ℕ) → IsTrue (is_sure (S.view store.new))
+        → AllByRecursion (IsChild ((S.view store.old).committed blob_tree) key) children.now
+        → OnOk result (Tested (IsFlaw of ((S.view store.old).committed blob_tree)
+        ((S.view store.old).committed root_tree)) flaws.old.items flaws.new.items
+        (AllByRecursion (IsThere ((S.view store.old).committed blob_tree)) children.now)) }
     ensures stays { StaysPut (S.view store.old) (S.view store.new) }
 {
     for child in children {
@@ -126,7 +133,8 @@ fn test_key<H: KeyHash>(
     blob: &PagableData,
 ) -> Result<(), StoreError>
     ensures { (rows roots : List SqlRow) → blobs_in rows key ≡ Some (blob_of blob.now)
-        → OnOk result (Tested (IsFlaw (key_of H.digest) rows roots) flaws.old.items flaws.new.items (key_of H.digest (blob_of blob.now) ≡ key)) }
+        → OnOk result (Tested (IsFlaw (key_of H.digest) rows roots) flaws.old.items flaws.new.items
+        (key_of H.digest (blob_of blob.now) ≡ key)) }
 {
     if blob.compute_key::<H>() == key {
         return Ok(());
@@ -146,8 +154,11 @@ fn test_blob<H: KeyHash, S: Store>(
     blob: &PagableData,
 ) -> Result<(), StoreError>
     requires settled { Settled (S.view store.old) }
-    ensures tested { IsTrue (is_sure (S.view store.new)) → blobs_in ((S.view store.old).committed blob_tree) key ≡ Some (blob_of blob.now)
-        → OnOk result (Tested (IsFlaw (key_of H.digest) ((S.view store.old).committed blob_tree) ((S.view store.old).committed root_tree)) flaws.old.items flaws.new.items (IsSoundBlob (key_of H.digest) ((S.view store.old).committed blob_tree) key (blob_of blob.now))) }
+    ensures tested { IsTrue (is_sure (S.view store.new)) → blobs_in ((S.view store.old).committed blob_tree) key
+        ≡ Some (blob_of blob.now)
+        → OnOk result (Tested (IsFlaw (key_of H.digest) ((S.view store.old).committed blob_tree)
+        ((S.view store.old).committed root_tree)) flaws.old.items flaws.new.items
+        (IsSoundBlob (key_of H.digest) ((S.view store.old).committed blob_tree) key (blob_of blob.now))) }
     ensures stays { StaysPut (S.view store.old) (S.view store.new) }
 {
     test_key::<H>(flaws, key, blob)?;
@@ -166,7 +177,9 @@ fn test_row<H: KeyHash, S: Store>(
 ) -> Result<(), StoreError>
     requires settled { Settled (S.view store.old) }
     ensures tested { IsTrue (is_sure (S.view store.new))
-        → OnOk result (Tested (IsFlaw (key_of H.digest) ((S.view store.old).committed blob_tree) ((S.view store.old).committed root_tree)) flaws.old.items flaws.new.items (IsSoundPlace (key_of H.digest) ((S.view store.old).committed blob_tree) place)) }
+        → OnOk result (Tested (IsFlaw (key_of H.digest) ((S.view store.old).committed blob_tree)
+        ((S.view store.old).committed root_tree)) flaws.old.items flaws.new.items
+        (IsSoundPlace (key_of H.digest) ((S.view store.old).committed blob_tree) place)) }
     ensures stays { StaysPut (S.view store.old) (S.view store.new) }
 {
     if !look(store, BLOBS, place, row)? {
@@ -196,7 +209,9 @@ fn test_rows<H: KeyHash, S: Store, W: Watch>(
 ) -> Result<(), StoreError>
     requires settled { Settled (S.view store.old) }
     ensures tested { IsTrue (is_sure (S.view store.new))
-        → OnOk result (Tested (IsFlaw (key_of H.digest) ((S.view store.old).committed blob_tree) ((S.view store.old).committed root_tree)) flaws.old.items flaws.new.items (AllByRecursion (IsSoundPlace (key_of H.digest) ((S.view store.old).committed blob_tree)) places.now)) }
+        → OnOk result (Tested (IsFlaw (key_of H.digest) ((S.view store.old).committed blob_tree)
+        ((S.view store.old).committed root_tree)) flaws.old.items flaws.new.items
+        (AllByRecursion (IsSoundPlace (key_of H.digest) ((S.view store.old).committed blob_tree)) places.now)) }
     ensures stays { StaysPut (S.view store.old) (S.view store.new) }
 {
     for place in places {
@@ -232,8 +247,11 @@ fn test_named<S: Store>(
     key: DataKey,
 ) -> Result<(), StoreError>
     requires settled { Settled (S.view store.old) }
-    ensures tested { (of : Blob → ℕ) → IsTrue (is_sure (S.view store.new)) → roots_in ((S.view store.old).committed root_tree) (string_bytes name) ≡ Some key
-        → OnOk result (Tested (IsFlaw of ((S.view store.old).committed blob_tree) ((S.view store.old).committed root_tree)) flaws.old.items flaws.new.items (IsThere ((S.view store.old).committed blob_tree) key)) }
+    ensures tested { (of : Blob → ℕ) → IsTrue (is_sure (S.view store.new))
+        → roots_in ((S.view store.old).committed root_tree) (string_bytes name) ≡ Some key
+        → OnOk result (Tested (IsFlaw of ((S.view store.old).committed blob_tree)
+        ((S.view store.old).committed root_tree)) flaws.old.items flaws.new.items
+        (IsThere ((S.view store.old).committed blob_tree) key)) }
     ensures stays { StaysPut (S.view store.old) (S.view store.new) }
 {
     if is_there(alloc, store, row, key)? {
@@ -254,7 +272,9 @@ fn test_root<S: Store>(
 ) -> Result<(), StoreError>
     requires settled { Settled (S.view store.old) }
     ensures tested { (of : Blob → ℕ) → IsTrue (is_sure (S.view store.new))
-        → OnOk result (Tested (IsFlaw of ((S.view store.old).committed blob_tree) ((S.view store.old).committed root_tree)) flaws.old.items flaws.new.items (IsSoundRoot ((S.view store.old).committed blob_tree) ((S.view store.old).committed root_tree) place)) }
+        → OnOk result (Tested (IsFlaw of ((S.view store.old).committed blob_tree)
+        ((S.view store.old).committed root_tree)) flaws.old.items flaws.new.items
+        (IsSoundRoot ((S.view store.old).committed blob_tree) ((S.view store.old).committed root_tree) place)) }
     ensures stays { StaysPut (S.view store.old) (S.view store.new) }
 {
     if !look(store, ROOTS, place, row)? {
@@ -282,7 +302,10 @@ fn test_roots<S: Store>(
 ) -> Result<(), StoreError>
     requires settled { Settled (S.view store.old) }
     ensures tested { (of : Blob → ℕ) → IsTrue (is_sure (S.view store.new))
-        → OnOk result (Tested (IsFlaw of ((S.view store.old).committed blob_tree) ((S.view store.old).committed root_tree)) flaws.old.items flaws.new.items (AllByRecursion (IsSoundRoot ((S.view store.old).committed blob_tree) ((S.view store.old).committed root_tree)) places.now)) }
+        → OnOk result (Tested (IsFlaw of ((S.view store.old).committed blob_tree)
+        ((S.view store.old).committed root_tree)) flaws.old.items flaws.new.items
+        (AllByRecursion (IsSoundRoot ((S.view store.old).committed blob_tree)
+        ((S.view store.old).committed root_tree)) places.now)) }
     ensures stays { StaysPut (S.view store.old) (S.view store.new) }
 {
     for place in places {
@@ -300,8 +323,12 @@ fn find_flaws<H: KeyHash, S: Store, W: Watch>(
     watch: &mut W,
 ) -> Result<Vec<Flaw>, StoreError>
     requires settled { Settled (S.view store.old) }
-    ensures exact { IsTrue (is_sure (S.view store.new)) → IfOk result (λ flaws. (flaws.items ≡ []) ↔ IsWhole (key_of H.digest) ((S.view store.old).committed blob_tree) ((S.view store.old).committed root_tree)) }
-    ensures real { IsTrue (is_sure (S.view store.new)) → IfOk result (λ flaws. AllByRecursion (IsFlaw (key_of H.digest) ((S.view store.old).committed blob_tree) ((S.view store.old).committed root_tree)) flaws.items) }
+    ensures exact { IsTrue (is_sure (S.view store.new))
+        → IfOk result (λ flaws. (flaws.items ≡ []) ↔ IsWhole (key_of H.digest) ((S.view store.old).committed blob_tree)
+        ((S.view store.old).committed root_tree)) }
+    ensures real { IsTrue (is_sure (S.view store.new))
+        → IfOk result (λ flaws. AllByRecursion (IsFlaw (key_of H.digest) ((S.view store.old).committed blob_tree)
+        ((S.view store.old).committed root_tree)) flaws.items) }
     ensures stays { StaysPut (S.view store.old) (S.view store.new) }
 {
     let mut flaws = Vec::new(alloc);
@@ -323,9 +350,15 @@ impl<E: Env, S: Store> FileBlobs<E, S> {
     /// - `OutOfMemory`.
     /// - `Storage` only if the call raised the count of failures.
     pub fn fsck<W: Watch>(&mut self, alloc: Global, watch: &mut W) -> Result<Vec<Flaw>, Error>
-        ensures exact { IsTrue (is_sure (S.view self.new.store)) → IfOk result (λ flaws. (flaws.items ≡ []) ↔ IsWhole (key_of E.Hash.digest) ((S.view self.old.store).committed blob_tree) ((S.view self.old.store).committed root_tree)) }
-        ensures real { IsTrue (is_sure (S.view self.new.store)) → IfOk result (λ flaws. AllByRecursion (IsFlaw (key_of E.Hash.digest) ((S.view self.old.store).committed blob_tree) ((S.view self.old.store).committed root_tree)) flaws.items) }
-        ensures same { IsTrue (is_sure (S.view self.new.store)) → (S.view self.new.store).committed ≡ (S.view self.old.store).committed }
+        ensures exact { IsTrue (is_sure (S.view self.new.store))
+            → IfOk result (λ flaws. (flaws.items ≡ [])
+            ↔ IsWhole (key_of E.Hash.digest) ((S.view self.old.store).committed blob_tree)
+            ((S.view self.old.store).committed root_tree)) }
+        ensures real { IsTrue (is_sure (S.view self.new.store))
+            → IfOk result (λ flaws. AllByRecursion (IsFlaw (key_of E.Hash.digest)
+            ((S.view self.old.store).committed blob_tree) ((S.view self.old.store).committed root_tree)) flaws.items) }
+        ensures same { IsTrue (is_sure (S.view self.new.store)) → (S.view self.new.store).committed
+            ≡ (S.view self.old.store).committed }
         ensures waits { (self.new.waiting ≡ self.old.waiting) × (self.new.waiting_roots ≡ self.old.waiting_roots) }
         ensures sure { IsTrue (is_sure (S.view self.new.store)) → IsTrue (is_sure (S.view self.old.store)) }
         ensures only { IfErr result (RefusesFlush self.old.stats.failures self.new.stats.failures) }

@@ -21,8 +21,10 @@ pub fn memory_is_honest<E: Env>(blobs: &FileBlobs<E, MemStore>)
 /// While the storage is honest, a crash leaves exactly what the last flush committed, blobs and
 /// names together.
 pub fn crash_leaves_flushed<E: Env, S: Store>(blobs: &FileBlobs<E, S>)
-    ensures blobs { IsTrue (is_sure (S.view blobs.now.store)) → (db : Trees) → S.recovers blobs.now.store db → blobs_in (db blob_tree) ≡ blobs_in ((S.view blobs.now.store).committed blob_tree) }
-    ensures roots { IsTrue (is_sure (S.view blobs.now.store)) → (db : Trees) → S.recovers blobs.now.store db → roots_in (db root_tree) ≡ roots_in ((S.view blobs.now.store).committed root_tree) }
+    ensures blobs { IsTrue (is_sure (S.view blobs.now.store)) → (db : Trees) → S.recovers blobs.now.store db
+        → blobs_in (db blob_tree) ≡ blobs_in ((S.view blobs.now.store).committed blob_tree) }
+    ensures roots { IsTrue (is_sure (S.view blobs.now.store)) → (db : Trees) → S.recovers blobs.now.store db
+        → roots_in (db root_tree) ≡ roots_in ((S.view blobs.now.store).committed root_tree) }
 {
     let _blobs = blobs;
 }

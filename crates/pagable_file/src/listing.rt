@@ -97,7 +97,8 @@ impl<E: Env, S: Store> FileBlobs<E, S> {
     /// - `OutOfMemory`.
     /// - `Storage` only if the call raised the count of failures.
     pub fn list(&mut self, alloc: Global) -> Result<Vec<Listed>, Error>
-        ensures same { IsTrue (is_sure (S.view self.new.store)) → (S.view self.new.store).committed ≡ (S.view self.old.store).committed }
+        ensures same { IsTrue (is_sure (S.view self.new.store)) → (S.view self.new.store).committed
+            ≡ (S.view self.old.store).committed }
         ensures waits { (self.new.waiting ≡ self.old.waiting) × (self.new.waiting_roots ≡ self.old.waiting_roots) }
         ensures sure { IsTrue (is_sure (S.view self.new.store)) → IsTrue (is_sure (S.view self.old.store)) }
         ensures only { IfErr result (RefusesFlush self.old.stats.failures self.new.stats.failures) }

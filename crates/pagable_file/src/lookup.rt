@@ -23,7 +23,9 @@ pub fn look<S: Store>(
 ) -> Result<bool, StoreError>
     requires settled { Settled (S.view store.old) }
     requires table { IsTrue (is_sure (S.view store.old)) → (S.view store.old).shape table ≡ Table }
-    ensures found { IsTrue (is_sure (S.view store.new)) → IfOk result (λ found. row_at ((S.view store.old).committed table) place ≡ (if found then Some row.new else None)) }
+    ensures found { IsTrue (is_sure (S.view store.new))
+        → IfOk result (λ found. row_at ((S.view store.old).committed table) place
+        ≡ (if found then Some row.new else None)) }
     ensures stays { StaysPut (S.view store.old) (S.view store.new) }
     ensures crash { (db : Trees) → S.recovers store.new db → S.recovers store.old db }
 {
@@ -48,7 +50,8 @@ pub fn read<S: Store>(
     key: DataKey,
 ) -> Result<Option<Reading>, StoreError>
     requires settled { Settled (S.view store.old) }
-    ensures found { IsTrue (is_sure (S.view store.new)) → IfOk result (IsFoundAs ((S.view store.old).committed blob_tree) key) }
+    ensures found { IsTrue (is_sure (S.view store.new))
+        → IfOk result (IsFoundAs ((S.view store.old).committed blob_tree) key) }
     ensures stays { StaysPut (S.view store.old) (S.view store.new) }
     ensures crash { (db : Trees) → S.recovers store.new db → S.recovers store.old db }
 {
@@ -67,7 +70,8 @@ pub fn read_name<S: Store>(
     name: &str,
 ) -> Result<Option<Naming>, StoreError>
     requires settled { Settled (S.view store.old) }
-    ensures found { IsTrue (is_sure (S.view store.new)) → IfOk result (IsNamedAs ((S.view store.old).committed root_tree) name.now) }
+    ensures found { IsTrue (is_sure (S.view store.new))
+        → IfOk result (IsNamedAs ((S.view store.old).committed root_tree) name.now) }
     ensures stays { StaysPut (S.view store.old) (S.view store.new) }
     ensures crash { (db : Trees) → S.recovers store.new db → S.recovers store.old db }
 {

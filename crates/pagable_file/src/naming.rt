@@ -37,7 +37,8 @@ pub fn has<S: Store>(
     key: DataKey,
 ) -> Result<bool, Error>
     requires settled { Settled (S.view store.old) }
-    ensures ok { IsTrue (is_sure (S.view store.new)) → IfOk result (λ there. there ≡ is_some (stored_with waiting.now ((S.view store.old).committed blob_tree) key)) }
+    ensures ok { IsTrue (is_sure (S.view store.new)) → IfOk result
+        (λ there. there ≡ is_some (stored_with waiting.now ((S.view store.old).committed blob_tree) key)) }
     ensures stays { StaysPut (S.view store.old) (S.view store.new) }
     ensures only { IfErr result (RefusesFlush stats.old.failures stats.new.failures) }
     ensures later { stats.old.failures ≤ stats.new.failures }
@@ -62,8 +63,11 @@ fn test_key<S: Store>(
     key: &Option<DataKey>,
 ) -> Result<(), Error>
     requires settled { Settled (S.view store.old) }
-    ensures stands { IsTrue (is_sure (S.view store.new)) → OnOk result (Stands (stored_with waiting.now ((S.view store.old).committed blob_tree)) key.now) }
-    ensures refused { IsTrue (is_sure (S.view store.new)) → IfErr result (RefusesRoot key.now (stored_with waiting.now ((S.view store.old).committed blob_tree)) false stats.old.failures stats.new.failures) }
+    ensures stands { IsTrue (is_sure (S.view store.new))
+        → OnOk result (Stands (stored_with waiting.now ((S.view store.old).committed blob_tree)) key.now) }
+    ensures refused { IsTrue (is_sure (S.view store.new))
+        → IfErr result (RefusesRoot key.now (stored_with waiting.now ((S.view store.old).committed blob_tree)) false
+        stats.old.failures stats.new.failures) }
     ensures stays { StaysPut (S.view store.old) (S.view store.new) }
     ensures later { stats.old.failures ≤ stats.new.failures }
 {
@@ -135,7 +139,9 @@ fn test_place<S: Store>(
     name: &str,
 ) -> Result<(), Error>
     requires settled { Settled (S.view store.old) }
-    ensures free { IsTrue (is_sure (S.view store.new)) → OnOk result (HasPlace name.now (get int_eq waiting.now (spec.place_of_name name.now)) (row_at ((S.view store.old).committed root_tree) (spec.place_of_name name.now))) }
+    ensures free { IsTrue (is_sure (S.view store.new))
+        → OnOk result (HasPlace name.now (get int_eq waiting.now (spec.place_of_name name.now))
+        (row_at ((S.view store.old).committed root_tree) (spec.place_of_name name.now))) }
     ensures stays { StaysPut (S.view store.old) (S.view store.new) }
     ensures only { IfErr result (RefusesFlush stats.old.failures stats.new.failures) }
     ensures later { stats.old.failures ≤ stats.new.failures }
@@ -167,9 +173,14 @@ pub fn test_root<S: Store>(
     key: &Option<DataKey>,
 ) -> Result<(), Error>
     requires settled { Settled (S.view store.old) }
-    ensures stands { IsTrue (is_sure (S.view store.new)) → OnOk result (Stands (stored_with waiting.now ((S.view store.old).committed blob_tree)) key.now) }
-    ensures free { IsTrue (is_sure (S.view store.new)) → OnOk result (HasPlace name.now (get int_eq waiting_roots.now (spec.place_of_name name.now)) (row_at ((S.view store.old).committed root_tree) (spec.place_of_name name.now))) }
-    ensures refused { IsTrue (is_sure (S.view store.new)) → IfErr result (RefusesRoot key.now (stored_with waiting.now ((S.view store.old).committed blob_tree)) false stats.old.failures stats.new.failures) }
+    ensures stands { IsTrue (is_sure (S.view store.new))
+        → OnOk result (Stands (stored_with waiting.now ((S.view store.old).committed blob_tree)) key.now) }
+    ensures free { IsTrue (is_sure (S.view store.new))
+        → OnOk result (HasPlace name.now (get int_eq waiting_roots.now (spec.place_of_name name.now))
+        (row_at ((S.view store.old).committed root_tree) (spec.place_of_name name.now))) }
+    ensures refused { IsTrue (is_sure (S.view store.new))
+        → IfErr result (RefusesRoot key.now (stored_with waiting.now ((S.view store.old).committed blob_tree)) false
+        stats.old.failures stats.new.failures) }
     ensures stays { StaysPut (S.view store.old) (S.view store.new) }
     ensures later { stats.old.failures ≤ stats.new.failures }
 {

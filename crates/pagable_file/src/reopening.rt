@@ -22,7 +22,8 @@ fn close_store<D: Disk + Drop>(alloc: Global, store: FileStore<D>) -> Result<Fil
     requires settled { Settled (view store) }
     ensures usable { IfOk result (λ files. IsTrue (D.Disk.is_usable files.log) × IsTrue (D.Disk.is_usable files.db)) }
     ensures sure { IfOk result (λ files. AreClean D.Disk files.log files.db → IsTrue (is_sure (view store))) }
-    ensures holds { IfOk result (λ files. AreClean D.Disk files.log files.db → IsHeldIn D.Disk files (view store).committed) }
+    ensures holds { IfOk result (λ files. AreClean D.Disk files.log files.db
+        → IsHeldIn D.Disk files (view store).committed) }
 {
     if store.is_broken() {
         return Err(OpenError::Io);
@@ -45,7 +46,8 @@ impl<E: Env, D: Disk + Drop> FileBlobs<E, FileStore<D>> {
     ///
     /// - the causes in [`OpenError`]: what was committed stays committed.
     pub fn close_files(self, alloc: Global) -> Result<Files<D>, OpenError>
-        ensures { IfOk result (λ files. AreClean D.Disk files.log files.db → IsHeldIn D.Disk files (view self.store).committed) }
+        ensures { IfOk result (λ files. AreClean D.Disk files.log files.db
+            → IsHeldIn D.Disk files (view self.store).committed) }
     {
         let files = close_store(alloc, self.into_store())?;
         Ok(files)
@@ -65,8 +67,10 @@ impl<E: Env, D: Disk + Drop> FileBlobs<E, FileStore<D>> {
         ensures open { IfOk result (λ again. again.closed ≡ false) }
         ensures nothing_waits { IfOk result (λ again. (again.waiting.entries ≡ []) × (again.waiting_roots.entries ≡ [])) }
         ensures sure { IfOk result (λ again. IsTrue (is_sure (view again.store)) → IsTrue (is_sure (view self.store))) }
-        ensures blobs { IfOk result (λ again. IsTrue (is_sure (view again.store)) → (view again.store).committed blob_tree ≡ (view self.store).committed blob_tree) }
-        ensures roots { IfOk result (λ again. IsTrue (is_sure (view again.store)) → (view again.store).committed root_tree ≡ (view self.store).committed root_tree) }
+        ensures blobs { IfOk result (λ again. IsTrue (is_sure (view again.store))
+            → (view again.store).committed blob_tree ≡ (view self.store).committed blob_tree) }
+        ensures roots { IfOk result (λ again. IsTrue (is_sure (view again.store))
+            → (view again.store).committed root_tree ≡ (view self.store).committed root_tree) }
     {
         let files = close_store(alloc, self.into_store())?;
         match Connection::open_files(alloc, files, options) {
@@ -85,7 +89,8 @@ fn store_flushed<E: Env, S: Store + Drop>(
     mut blobs: FileBlobs<E, S>,
     blob: PagableData,
 ) -> Option<(FileBlobs<E, S>, DataKey)>
-    ensures { IfSome result (λ r. IsTrue (is_sure (S.view r.0.store)) → blobs_in ((S.view r.0.store).committed blob_tree) r.1 ≡ Some (blob_of blob)) }
+    ensures { IfSome result (λ r. IsTrue (is_sure (S.view r.0.store))
+        → blobs_in ((S.view r.0.store).committed blob_tree) r.1 ≡ Some (blob_of blob)) }
 {
     let key = match blobs.store_data(alloc, blob) {
         Ok(key) => key,
@@ -104,7 +109,9 @@ fn fetch_last<E: Env, S: Store + Drop>(
     key: DataKey,
 ) -> Option<(FileBlobs<E, S>, Arc<PagableData>)>
     ensures sure { IfSome result (λ r. IsTrue (is_sure (S.view r.0.store)) → IsTrue (is_sure (S.view blobs.store))) }
-    ensures found { IfSome result (λ r. IsTrue (is_sure (S.view r.0.store)) → unless blobs.closed (stored_with blobs.waiting ((S.view blobs.store).committed blob_tree)) key ≡ Some (blob_of (arc_value r.1))) }
+    ensures found { IfSome result (λ r. IsTrue (is_sure (S.view r.0.store))
+        → unless blobs.closed (stored_with blobs.waiting ((S.view blobs.store).committed blob_tree)) key
+        ≡ Some (blob_of (arc_value r.1))) }
 {
     match blobs.fetch_data_blocking(alloc, key) {
         Ok(found) => Some((blobs, found)),

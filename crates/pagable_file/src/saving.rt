@@ -20,7 +20,9 @@ fn put_blobs<S: Store>(
     waiting: &Waiting,
 ) -> Result<(), StoreError>
     requires table { IsClean (S.view store.old) → (S.view store.old).shape blob_tree ≡ Table }
-    ensures ok { OnOk result (IsClean (S.view store.new) → Wrote (S.view store.old) (S.view store.new) (put_all pending_row waiting.now.entries ((S.view store.old).trees blob_tree)) ((S.view store.old).trees root_tree)) }
+    ensures ok { OnOk result (IsClean (S.view store.new)
+        → Wrote (S.view store.old) (S.view store.new) (put_all pending_row waiting.now.entries
+        ((S.view store.old).trees blob_tree)) ((S.view store.old).trees root_tree)) }
     ensures fit { OnOk result (AllByRecursion (λ e. Fits e.1) waiting.now.entries) }
     ensures once { IsUnique int_eq waiting.now }
     ensures err { OnErr result (IsClean (S.view store.new) → KeepsCommitted (S.view store.old) (S.view store.new)) }
@@ -43,7 +45,9 @@ fn put_roots<S: Store>(
     waiting: &WaitingRoots,
 ) -> Result<(), StoreError>
     requires table { IsClean (S.view store.old) → (S.view store.old).shape root_tree ≡ Table }
-    ensures ok { OnOk result (IsClean (S.view store.new) → Wrote (S.view store.old) (S.view store.new) ((S.view store.old).trees blob_tree) (put_all pending_root_row waiting.now.entries ((S.view store.old).trees root_tree))) }
+    ensures ok { OnOk result (IsClean (S.view store.new)
+        → Wrote (S.view store.old) (S.view store.new) ((S.view store.old).trees blob_tree)
+        (put_all pending_root_row waiting.now.entries ((S.view store.old).trees root_tree))) }
     ensures fit { OnOk result (AllByRecursion (λ e. CanBeKeyIf e.1.key) waiting.now.entries) }
     ensures once { IsUnique int_eq waiting.now }
     ensures err { OnErr result (IsClean (S.view store.new) → KeepsCommitted (S.view store.old) (S.view store.new)) }
@@ -68,7 +72,10 @@ fn put_waiting<S: Store>(
 ) -> Result<(), StoreError>
     requires blobs { IsClean (S.view store.old) → (S.view store.old).shape blob_tree ≡ Table }
     requires roots { IsClean (S.view store.old) → (S.view store.old).shape root_tree ≡ Table }
-    ensures ok { OnOk result (IsClean (S.view store.new) → Wrote (S.view store.old) (S.view store.new) (put_all pending_row waiting.now.entries ((S.view store.old).trees blob_tree)) (put_all pending_root_row roots.now.entries ((S.view store.old).trees root_tree))) }
+    ensures ok { OnOk result (IsClean (S.view store.new)
+        → Wrote (S.view store.old) (S.view store.new) (put_all pending_row waiting.now.entries
+        ((S.view store.old).trees blob_tree)) (put_all pending_root_row roots.now.entries
+        ((S.view store.old).trees root_tree))) }
     ensures fit { OnOk result (AllByRecursion (λ e. Fits e.1) waiting.now.entries) }
     ensures roots_fit { OnOk result (AllByRecursion (λ e. CanBeKeyIf e.1.key) roots.now.entries) }
     ensures once { OnOk result (IsUnique int_eq waiting.now) }
@@ -93,7 +100,9 @@ pub fn save<S: Store>(
     roots: &WaitingRoots,
 ) -> Result<(), StoreError>
     requires settled { Settled (S.view store.old) }
-    ensures ok { OnOk result (Saved (S.view store.old) (S.view store.new) (put_all pending_row waiting.now.entries ((S.view store.old).trees blob_tree)) (put_all pending_root_row roots.now.entries ((S.view store.old).trees root_tree))) }
+    ensures ok { OnOk result (Saved (S.view store.old) (S.view store.new)
+        (put_all pending_row waiting.now.entries ((S.view store.old).trees blob_tree))
+        (put_all pending_root_row roots.now.entries ((S.view store.old).trees root_tree))) }
     ensures fit { OnOk result (AllByRecursion (λ e. Fits e.1) waiting.now.entries) }
     ensures roots_fit { OnOk result (AllByRecursion (λ e. CanBeKeyIf e.1.key) roots.now.entries) }
     ensures once { OnOk result (IsUnique int_eq waiting.now) }

@@ -25,7 +25,8 @@ fn places<S: Store>(
     table: u32,
 ) -> Result<Vec<i64>, StoreError>
     requires table { IsClean (S.view store.old) → (S.view store.old).shape table ≡ Table }
-    ensures found { IfOk result (λ places. IsClean (S.view store.new) → map Int places.items ≡ map rowid ((S.view store.old).trees table)) }
+    ensures found { IfOk result (λ places. IsClean (S.view store.new) → map Int places.items
+        ≡ map rowid ((S.view store.old).trees table)) }
     ensures ok { OnOk result (IsClean (S.view store.new) → MovesOnly (S.view store.old) (S.view store.new)) }
     ensures err { OnErr result (IsClean (S.view store.new) → KeepsCommitted (S.view store.old) (S.view store.new)) }
     ensures clean { doubt (S.view store.old).is_clean ≤ doubt (S.view store.new).is_clean }
@@ -56,7 +57,8 @@ pub fn all_places<S: Store>(
 ) -> Result<Vec<i64>, StoreError>
     requires settled { Settled (S.view store.old) }
     requires table { IsTrue (is_sure (S.view store.old)) → (S.view store.old).shape table ≡ Table }
-    ensures found { IsTrue (is_sure (S.view store.new)) → IfOk result (λ places. map Int places.items ≡ map rowid ((S.view store.old).committed table)) }
+    ensures found { IsTrue (is_sure (S.view store.new))
+        → IfOk result (λ places. map Int places.items ≡ map rowid ((S.view store.old).committed table)) }
     ensures stays { StaysPut (S.view store.old) (S.view store.new) }
     ensures crash { (db : Trees) → S.recovers store.new db → S.recovers store.old db }
 {

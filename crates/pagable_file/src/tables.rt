@@ -69,7 +69,8 @@ fn make<S: Alter>(store: &mut S) -> Result<(), StoreError>
     requires empty { IsClean (S.Store.view store.old) → (S.Store.view store.old).trees catalog_tree ≡ [] }
     requires blobs { (S.Store.view store.old).shape blob_tree ≡ shape.Absent }
     requires roots { (S.Store.view store.old).shape root_tree ≡ shape.Absent }
-    ensures made { OnOk result (IsClean (S.Store.view store.new) → Made (S.Store.view store.old) (S.Store.view store.new)) }
+    ensures made { OnOk result (IsClean (S.Store.view store.new)
+        → Made (S.Store.view store.old) (S.Store.view store.new)) }
     ensures clean { doubt (S.Store.view store.old).is_clean ≤ doubt (S.Store.view store.new).is_clean }
 {
     store.create(BLOBS, &table("blobs", BLOBS_SQL))?;

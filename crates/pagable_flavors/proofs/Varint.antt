@@ -28,7 +28,8 @@ pub varint_at_first : (more last b : ℕ) (xs ys : List ℕ) → byte_at xs ≡ 
 varint_at_first more last b [] ys h l p = cc
 varint_at_first zero last b (x ∷ xs) ys h l p = absurd (omega arith)
 varint_at_first (suc more) last b (x ∷ xs) ys h l p =
-    let same : (let read : ℕ × List ℕ = (x, xs) in read) ≡ (b, ys) = cc in varint_at-short more last x xs (omega (arith, ap (λ (read : ℕ × List ℕ). read.0) same)) ∙ h
+    let same : (let read : ℕ × List ℕ = (x, xs) in read) ≡ (b, ys) = cc in
+    varint_at-short more last x xs (omega (arith, ap (λ (read : ℕ × List ℕ). read.0) same)) ∙ h
 
 -- after `place` bytes with the top bit set
 pub record ReadsOn (more last : ℕ) (bytes : List ℕ) (place low scale : ℕ) : Type 0 where
@@ -43,7 +44,8 @@ limit-above zero last = omega arith
 limit-above (suc more) last = omega (arith, limit-above more last)
 
 -- before the last place one more byte may come
-one-left : {more last : ℕ} {bytes : List ℕ} {place low scale : ℕ} → ReadsOn more last bytes place low scale → place ≢ more → more - place ≡ suc (more - (place + 1))
+one-left : {more last : ℕ} {bytes : List ℕ} {place low scale : ℕ} → ReadsOn more last bytes place low scale → place ≢ more → more - place
+    ≡ suc (more - (place + 1))
 one-left r p = omega (arith, r.turn)
 
 -- a byte that may stand here leaves the number below its limit
@@ -56,26 +58,31 @@ pub ReadsOn_fits : {more last : ℕ} {bytes : List ℕ} {place low scale : ℕ} 
     → low + scale * (byte % 128) < varint_limit more last
 ReadsOn_fits {more} {last} {bytes} {place} byte r p = r.room (byte % 128) (stands (more - place) last byte (λ none. p (omega (arith, r.turn))))
 
-pub ReadsOn_scale : {more last : ℕ} {bytes : List ℕ} {place low scale : ℕ} → ReadsOn more last bytes place low scale → place ≢ more → 0 < last → low + scale * 255 < varint_limit more last
+pub ReadsOn_scale : {more last : ℕ} {bytes : List ℕ} {place low scale : ℕ} → ReadsOn more last bytes place low scale → place ≢ more → 0 < last
+    → low + scale * 255 < varint_limit more last
 unfolding varint_limit
 ReadsOn_scale {more} {last} {bytes} {place} r p l = r.room 255 (rw (one-left r p) (omega (arith, limit-above (more - (place + 1)) last)))
 
 -- what the next byte and those after it read as is the high part
-at_byte : {more last : ℕ} {bytes : List ℕ} {place low scale : ℕ} (byte : ℕ) (high : Read ℕ) → ReadsOn more last bytes place low scale → place < length bytes → byte ≡ get_or bytes place 0
+at_byte : {more last : ℕ} {bytes : List ℕ} {place low scale : ℕ} (byte : ℕ) (high : Read ℕ) → ReadsOn more last bytes place low scale → place < length bytes
+    → byte ≡ get_or bytes place 0
     → varint_at (more - place) last (byte ∷ drop (place + 1) bytes) ≡ high → varint_at more last bytes ≡ raised low scale high
 at_byte {more} {last} {bytes} {place} {low} {scale} byte high r h e is =
     let here : drop place bytes ≡ byte ∷ drop (place + 1) bytes = rw (e, add-one) (drop-cons bytes place 0 h) in
     r.reads ∙ ap (λ (xs : List ℕ). raised low scale (varint_at (more - place) last xs)) here ∙ ap (raised low scale) is
 
-pub ReadsOn_more : {more last : ℕ} {bytes : List ℕ} {place low scale : ℕ} (byte : ℕ) → ReadsOn more last bytes place low scale → place < length bytes → place ≢ more → byte ≡ get_or bytes place 0 - 128
+pub ReadsOn_more : {more last : ℕ} {bytes : List ℕ} {place low scale : ℕ} (byte : ℕ) → ReadsOn more last bytes place low scale → place < length bytes
+    → place ≢ more → byte ≡ get_or bytes place 0 - 128
     → 128 ≤ get_or bytes place 0 → get_or bytes place 0 < 256 → ReadsOn more last bytes (place + 1) (low + scale * byte) (scale * 128)
 unfolding varint_limit
 ReadsOn_more {more} {last} {bytes} {place} {low} {scale} byte r h apart e long small =
-    let front : varint_at (more - place) last (get_or bytes place 0 ∷ drop (place + 1) bytes) ≡ raised (get_or bytes place 0 - 128) 128 (varint_at (more - (place + 1)) last (drop (place + 1) bytes)) =
+    let front : varint_at (more - place) last (get_or bytes place 0 ∷ drop (place + 1) bytes)
+    ≡ raised (get_or bytes place 0 - 128) 128 (varint_at (more - (place + 1)) last (drop (place + 1) bytes)) =
     rw (one-left r apart) (varint_at-long _ last _ _ long) in
     record {
       reads = at_byte _ _ r h refl front ∙ rw (← e) (raised_twice low scale byte (varint_at (more - (place + 1)) last (drop (place + 1) bytes)));
-      room = λ next h. let both : low + scale * (byte + 128 * next) < varint_limit more last = r.room (byte + 128 * next) (rw (one-left r apart) (omega arith)) in omega arith;
+      room = λ next h. let both : low + scale * (byte + 128 * next) < varint_limit more last =
+          r.room (byte + 128 * next) (rw (one-left r apart) (omega arith)) in omega arith;
       turn = omega (arith, r.turn);
     }
 
@@ -85,21 +92,26 @@ unfolding varint_at
 ends zero last byte xs p small = rw (le-leb byte last (p refl)) refl
 ends (suc left) last byte xs p small = varint_at-short left last byte xs small
 
-pub ReadsOn_end : {more last : ℕ} {bytes : List ℕ} {place low scale : ℕ} (byte : ℕ) → ReadsOn more last bytes place low scale → place < length bytes → byte ≡ get_or bytes place 0
+pub ReadsOn_end : {more last : ℕ} {bytes : List ℕ} {place low scale : ℕ} (byte : ℕ) → ReadsOn more last bytes place low scale → place < length bytes → byte
+    ≡ get_or bytes place 0
     → (place ≡ more → byte ≤ last) → byte < 128
     → varint_at more last bytes ≡ Ok (low + scale * (byte % 128), drop (place + 1) bytes)
 ReadsOn_end {more} {last} {bytes} {place} byte r h e p small =
     let same : byte % 128 ≡ byte = omega arith in
     rw same (at_byte byte (Ok (byte, drop (place + 1) bytes)) r h e (ends (more - place) last byte _ (λ none. p (omega (arith, r.turn))) small))
 
-pub ReadsOn_bad : {more last : ℕ} {bytes : List ℕ} {place low scale : ℕ} → ReadsOn more last bytes place low scale → place < length bytes → place ≡ more → last < get_or bytes place 0 → varint_at more last bytes ≡ Err errors.BadVarint
+pub ReadsOn_bad : {more last : ℕ} {bytes : List ℕ} {place low scale : ℕ} → ReadsOn more last bytes place low scale → place < length bytes → place ≡ more
+    → last < get_or bytes place 0 → varint_at more last bytes ≡ Err errors.BadVarint
 unfolding varint_at
 ReadsOn_bad {more} {last} {bytes} {place} r h whole big =
-    let none : more - place ≡ 0 = omega arith in at_byte (get_or bytes place 0) (Err errors.BadVarint) r h refl (rw (none, lt-leb (get_or bytes place 0) last big) refl)
+    let none : more - place ≡ 0 = omega arith in at_byte (get_or bytes place 0) (Err errors.BadVarint) r h refl
+    (rw (none, lt-leb (get_or bytes place 0) last big) refl)
 
-pub ReadsOn_short : {more last : ℕ} {bytes : List ℕ} {place low scale : ℕ} → ReadsOn more last bytes place low scale → length bytes ≤ place → varint_at more last bytes ≡ Err errors.UnexpectedEnd
+pub ReadsOn_short : {more last : ℕ} {bytes : List ℕ} {place low scale : ℕ} → ReadsOn more last bytes place low scale → length bytes ≤ place
+    → varint_at more last bytes ≡ Err errors.UnexpectedEnd
 unfolding varint_at
-ReadsOn_short {more} {last} {bytes} {place} {low} {scale} r h = r.reads ∙ ap (λ (xs : List ℕ). raised low scale (varint_at (more - place) last xs)) (drop_all place bytes h)
+ReadsOn_short {more} {last} {bytes} {place} {low} {scale} r h = r.reads ∙ ap (λ (xs : List ℕ). raised low scale (varint_at (more - place) last xs))
+    (drop_all place bytes h)
 
 varint-short : (more n : ℕ) → n < 128 → varint more n ≡ n ∷ []
 unfolding varint
@@ -114,7 +126,8 @@ Extends_twice a b c p q = (p.0 ++ q.0, q.1 ∙ ap (λ x. x ++ q.0) p.1 ∙ appen
 
 -- what is still to be written after some bytes with the top bit set, whatever width is meant
 pub record WritesOn (start here : List ℕ) (number rest : ℕ) : Type 0 where
-  pub still : (more : ℕ) → number < varint_limit more 127 → (less : ℕ) × (rest < varint_limit less 127) × (start ++ varint more number ≡ here ++ varint less rest)
+  pub still : (more : ℕ) → number < varint_limit more 127 → (less : ℕ) × (rest < varint_limit less 127)
+      × (start ++ varint more number ≡ here ++ varint less rest)
   pub extends : Extends start here
 
 pub WritesOn_none : (start : List ℕ) (number : ℕ) → WritesOn start start number number
@@ -123,7 +136,8 @@ WritesOn_none start number = record {
   extends = ([], sym (append-nil start));
 }
 
-pub WritesOn_more : {start here next : List ℕ} {number rest : ℕ} (byte : ℕ) → WritesOn start here number rest → 128 ≤ rest → byte ≡ 128 + rest % 128 → next ≡ here ++ byte ∷ [] → WritesOn start next number (rest / 128)
+pub WritesOn_more : {start here next : List ℕ} {number rest : ℕ} (byte : ℕ) → WritesOn start here number rest → 128 ≤ rest → byte ≡ 128 + rest % 128 → next
+    ≡ here ++ byte ∷ [] → WritesOn start next number (rest / 128)
 unfolding varint_limit varint
 WritesOn_more {start} {here} {next} {number} {rest} byte w l b e = record {
   still = λ more h. let s = w.still more h in go more s.0 s.1 s.2;
@@ -135,7 +149,8 @@ WritesOn_more {start} {here} {next} {number} {rest} byte w l b e = record {
     go more zero fits same = absurd (omega arith)
     go more (suc less) fits same = (less, omega arith, same ∙ rw (le-ltb rest 128 l, ← b, e, append_assoc) refl)
 
-pub WritesOn_last : {start here next : List ℕ} {number rest : ℕ} → WritesOn start here number rest → rest < 128 → next ≡ here ++ rest ∷ [] → AppendsVarint start next number
+pub WritesOn_last : {start here next : List ℕ} {number rest : ℕ} → WritesOn start here number rest → rest < 128 → next ≡ here ++ rest ∷ []
+    → AppendsVarint start next number
 WritesOn_last {start} {here} {next} {number} {rest} w l e = record {
   appends = λ more h. let s = w.still more h in e ∙ ap (λ xs. here ++ xs) (sym (varint-short s.0 rest l)) ∙ sym s.2;
 }

@@ -14,7 +14,8 @@ pub record Appends {X : Type 0} (form : List ℕ) (result : Result X Error) (old
   pub err : Extends old new
 
 -- The form of something with a length was appended. Above the greatest length the call fails and appends nothing.
-pub record AppendsCounted {X : Type 0} (len : ℕ) (form : List ℕ) (result : Result X Error) (old new : List ℕ) : Type 0 where
+pub record AppendsCounted {X : Type 0} (len : ℕ) (form : List ℕ) (result : Result X Error)
+    (old new : List ℕ) : Type 0 where
   pub ok : OnOk result (new ≡ old ++ form)
   pub fits : OnOk result (len ≤ longest)
   pub only : IfErr result (long_or_memory len)

@@ -122,6 +122,7 @@ pub trait Reader {
     /// - `BadUtf8` if the text isn't UTF-8.
     /// - `OutOfMemory` if the string can't be allocated.
     fn read_string(&mut self, alloc: Global) -> Result<String, Error>
-        ensures gives { Gives memory (λ t. (string_bytes t, left (track self.new))) result (text_at (left (track self.old))) }
+        ensures gives { Gives memory (λ t. (string_bytes t, left (track self.new))) result
+            (text_at (left (track self.old))) }
         ensures goes { GoesOn (track self.old) (track self.new) };
 }

@@ -19,7 +19,14 @@ use Rattle.pagable_pager_spec.specs.{declared.pinning.Beginning.Beginning, World
 turned-more : (n q : ℕ) (rows : List HandleRow) → pins n rows ≤ pins n (changed (is_handle q) turned rows)
 turned-more n q [] = omega arith
 turned-more n q (x ∷ xs) =
-    grind (arith, nat_tests, sum_by-cons (λ h. one (is_pin n h)) x xs, sum_by-cons (λ h. one (is_pin n h)) (if is_handle q x then turned x else x) (changed (is_handle q) turned xs), turned-more n q xs)
+    grind (
+      arith,
+      nat_tests,
+      sum_by-cons (λ h. one (is_pin n h)) x xs,
+      sum_by-cons (λ h. one (is_pin n h)) (if is_handle q x then turned x else x)
+          (changed (is_handle q) turned xs),
+      turned-more n q xs,
+    )
 
 shared-pins : (n : ℕ) (rows : List HandleRow) → sharing n rows ≤ pins n rows
 shared-pins n rows = sum_by-le-sum_by (λ h. one (is_share n h)) (λ h. one (is_pin n h)) rows (λ h. grind (arith, nat_tests))
@@ -27,9 +34,16 @@ shared-pins n rows = sum_by-le-sum_by (λ h. one (is_share n h)) (λ h. one (is_
 numbers-stay : (q n : ℕ) (rows : List HandleRow) → times (is_handle n) (changed (is_handle q) turned rows) ≡ times (is_handle n) rows
 numbers-stay q n [] = refl
 numbers-stay q n (x ∷ xs) =
-    grind (arith, nat_tests, sum_by-cons (λ h. one (is_handle n h)) x xs, sum_by-cons (λ h. one (is_handle n h)) (if is_handle q x then turned x else x) (changed (is_handle q) turned xs), numbers-stay q n xs)
+    grind (
+      arith,
+      nat_tests,
+      sum_by-cons (λ h. one (is_handle n h)) x xs,
+      sum_by-cons (λ h. one (is_handle n h)) (if is_handle q x then turned x else x) (changed (is_handle q) turned xs),
+      numbers-stay q n xs,
+    )
 
-module _ (t t1 : Tables) (storage : StorageView) (lists : Bool) (was : IsWhole t) (whole : IsWhole t1) (e : lists ≡ not storage.closed) (me : Owner) (row : HandleRow) (key type : ℕ) where
+module _ (t t1 : Tables) (storage : StorageView) (lists : Bool) (was : IsWhole t) (whole : IsWhole t1) (e : lists ≡ not storage.closed) (me : Owner)
+    (row : HandleRow) (key type : ℕ) where
   abbrev w : Core
   w = core_of t storage
 
@@ -64,7 +78,8 @@ module _ (t t1 : Tables) (storage : StorageView) (lists : Bool) (was : IsWhole t
   abbrev after : RefCounts
   after = record t1.ref_counts { unlisted = None }
 
-  module _ (owned : Owns w me row.number is_loose row) (a : Alike (with_handle (with_mode (with_numbers w) row.number Mode.LoosePinned) row.node Mode.Pinned me) w')
+  module _ (owned : Owns w me row.number is_loose row) (a : Alike (with_handle (with_mode (with_numbers w) row.number Mode.LoosePinned) row.node Mode.Pinned me)
+      w')
       (cache : (kind k : ℕ) → w'.cache kind k ≡ w.cache kind k) where
     here : (0 < row.number.0) × (row.number.0 ≤ t.ref_counts.last_handle)
     here = was.core.handles.numbered row (found-among row.number.0 w.rows row owned.live).0
@@ -89,14 +104,29 @@ module _ (t t1 : Tables) (storage : StorageView) (lists : Bool) (was : IsWhole t
         ∙ ap (λ rs. rs ++ x ∷ []) (changed-push row.number.0 turned w.rows guard (let h = here in omega arith))
 
     left-u : left_rows only u.rows ≡ w'.rows
-    left-u = ap (left_rows only) rows-u ∙ grind (arith, nat_tests, filter-append, append-nil, left-none g turned-rows (numbers-stay row.number.0 g w.rows ∙ none-yet), a.rows)
+    left-u = ap (left_rows only) rows-u ∙ grind (
+      arith,
+      nat_tests,
+      filter-append,
+      append-nil,
+      left-none g turned-rows (numbers-stay row.number.0 g w.rows ∙ none-yet),
+      a.rows,
+    )
 
     -- what the load's handle isn't is as often there as afterwards
     as-after : (p : HandleRow → Bool) → p guard ≡ false → times p u.rows ≡ times p w'.rows
-    as-after p none = ap (times p) rows-u ∙ grind (arith, nat_tests, sum_by_push (λ h. one (p h)) (turned-rows ++ guard ∷ []) x, sum_by_push (λ h. one (p h)) turned-rows guard, sum_by_push (λ h. one (p h)) turned-rows x, a.rows)
+    as-after p none = ap (times p) rows-u ∙ grind (
+      arith,
+      nat_tests,
+      sum_by_push (λ h. one (p h)) (turned-rows ++ guard ∷ []) x,
+      sum_by_push (λ h. one (p h)) turned-rows guard,
+      sum_by_push (λ h. one (p h)) turned-rows x,
+      a.rows,
+    )
 
     none-after : times (λ (h : HandleNumber). h.0 == g) w.list ≡ 0
-    none-after = was.core.owners_there.listed g ∙ sum-none (λ h. one (is_handle g h && is_owned_by Owner.List h)) w.rows (λ h among. let n = was.core.handles.numbered h among in grind (arith, nat_tests))
+    none-after = was.core.owners_there.listed g ∙ sum-none (λ h. one (is_handle g h && is_owned_by Owner.List h)) w.rows
+        (λ h among. let n = was.core.handles.numbered h among in grind (arith, nat_tests))
 
     so-far : SoFar u u only lists after
     so-far = record {
@@ -104,8 +134,10 @@ module _ (t t1 : Tables) (storage : StorageView) (lists : Bool) (was : IsWhole t
         open_storage = e;
         fewer = λ n. omega arith;
         shared = λ n. omega arith;
-        uniform = λ n. let m = unmixed t1 whole n in let p = as-after (is_share n) (grind (arith, nat_tests)) in let q = as-after (is_plain_pin n) (grind (arith, nat_tests)) in grind (arith, nat_tests);
-        listed = λ q. let m = whole.core.owners_there.listed q in let p = as-after (of_list q) (grind (arith, nat_tests)) in let s = ap (times (λ (h : HandleNumber). h.0 == q)) a.list in omega arith;
+        uniform = λ n. let m = unmixed t1 whole n in let p = as-after (is_share n) (grind (arith, nat_tests)) in let q =
+            as-after (is_plain_pin n) (grind (arith, nat_tests)) in grind (arith, nat_tests);
+        listed = λ q. let m = whole.core.owners_there.listed q in let p = as-after (of_list q) (grind (arith, nat_tests)) in let s =
+            ap (times (λ (h : HandleNumber). h.0 == q)) a.list in omega arith;
       };
       gone = only;
       entries = [];
@@ -119,7 +151,11 @@ module _ (t t1 : Tables) (storage : StorageView) (lists : Bool) (was : IsWhole t
       least = λ s final bare has closed. has;
       new = tt;
       only = λ n some. absurd (omega arith);
-      tells = record { all = λ n must. (let p = as-after (is_pin n) (grind (arith, nat_tests)) in let m = must.pinned in let k = must.unpinned in absurd (omega arith)); not_all = tt };
+      tells = record {
+        all = λ n must. (let p = as-after (is_pin n) (grind (arith, nat_tests)) in let m = must.pinned in let k = must.unpinned in
+            absurd (omega arith));
+        not_all = tt;
+      };
       few = λ some. absurd (some whole.steady.fits.chain);
     }
 
@@ -196,9 +232,11 @@ module _ (t t1 : Tables) (storage : StorageView) (lists : Bool) (was : IsWhole t
         (omega arith, omega arith)
 
     fell-begun : Falls begun u given (Ok tt) w'
-    fell-begun = subst (λ s. Falls begun u s (Ok tt) w') (λ i q. given-is q i) (seen-before {b = u} {w = begun} {u = u} u.places (record { handles = omega arith; entries = omega arith }) before-is fell-so)
+    fell-begun = subst (λ s. Falls begun u s (Ok tt) w') (λ i q. given-is q i)
+        (seen-before {b = u} {w = begun} {u = u} u.places (record { handles = omega arith; entries = omega arith }) before-is fell-so)
 
-    module _ (away : is_here w row.node.0 ≡ false) (keyed : key_at w row.node.0 ≡ OptionalDataKey.Some key) (typed : type_at w row.node.0 ≡ Some type) (load_left : t.last_load < greatest)
+    module _ (away : is_here w row.node.0 ≡ false) (keyed : key_at w row.node.0 ≡ OptionalDataKey.Some key) (typed : type_at w row.node.0 ≡ Some type)
+        (load_left : t.last_load < greatest)
         (handles_left : t.ref_counts.last_handle + 1 < greatest) where
       alike : Alike (with_load (with_handle w row.node Mode.LooseUnpinned (Owner.Load l)) key (of_cell row.node type row.number) me) begun
       alike = record {
@@ -225,7 +263,12 @@ module _ (t t1 : Tables) (storage : StorageView) (lists : Bool) (was : IsWhole t
       opened = grind (arith, nat_tests)
 
       may : MayEnd begun me l row.node row.number type []
-      may = record { load = record { owner = me; key = key; root = of_cell row.node type row.number }; owned = record { stands_open = grind (arith, nat_tests); own = refl }; of_node = refl; good = none-named begun (Owner.Load l) [] refl }
+      may = record {
+        load = record { owner = me; key = key; root = of_cell row.node type row.number };
+        owned = record { stands_open = grind (arith, nat_tests); own = refl };
+        of_node = refl;
+        good = none-named begun (Owner.Load l) [] refl;
+      }
 
       away-still : is_here begun row.node.0 ≡ false
       away-still = let b = sum_by_push (λ h. one (is_pin row.node.0 h)) w.rows guard in grind (arith, nat_tests)

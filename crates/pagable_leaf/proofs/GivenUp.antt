@@ -12,7 +12,8 @@ use Rattle.pagable_tables.specs.{Core.{ArePlaced, IsWhole}, HandleTable.room}
 use Rattle.pagable_leaf.proofs.Words.{length-append}
 use Rattle.pagable_pager_spec.specs.{World.key_at, declared.pinning.Beginning.Beginning}
 
-module _ (t : Tables) (storage : StorageView) (lists : Bool) (was : IsWhole t) (e : lists ≡ not storage.closed) (me : Owner) (row : HandleRow) (key type : ℕ) where
+module _ (t : Tables) (storage : StorageView) (lists : Bool) (was : IsWhole t) (e : lists ≡ not storage.closed) (me : Owner) (row : HandleRow)
+    (key type : ℕ) where
   -- the tables afterwards
   abbrev t1 : Tables
   t1 = record t { ref_counts = record t.ref_counts { last_handle = t.ref_counts.last_handle + 1 }; last_load = t.last_load + 1 }
@@ -60,7 +61,8 @@ module _ (t : Tables) (storage : StorageView) (lists : Bool) (was : IsWhole t) (
     as-after p none = grind (arith, nat_tests, sum_by_push (λ h. one (p h)) w.rows guard)
 
     none-after : times (λ (h : HandleNumber). h.0 == g) w.list ≡ 0
-    none-after = was.core.owners_there.listed g ∙ sum-none (λ h. one (is_handle g h && is_owned_by Owner.List h)) w.rows (λ h among. let n = was.core.handles.numbered h among in grind (arith, nat_tests))
+    none-after = was.core.owners_there.listed g ∙ sum-none (λ h. one (is_handle g h && is_owned_by Owner.List h)) w.rows
+        (λ h among. let n = was.core.handles.numbered h among in grind (arith, nat_tests))
 
     so-far : SoFar u u only lists after
     so-far = record {
@@ -68,7 +70,8 @@ module _ (t : Tables) (storage : StorageView) (lists : Bool) (was : IsWhole t) (
         open_storage = e;
         fewer = λ n. omega arith;
         shared = λ n. omega arith;
-        uniform = λ n. let m = unmixed t1 whole n in let p = as-after (is_share n) (grind (arith, nat_tests)) in let q = as-after (is_plain_pin n) (grind (arith, nat_tests)) in grind (arith, nat_tests);
+        uniform = λ n. let m = unmixed t1 whole n in let p = as-after (is_share n) (grind (arith, nat_tests)) in let q =
+            as-after (is_plain_pin n) (grind (arith, nat_tests)) in grind (arith, nat_tests);
         listed = λ q. let m = whole.core.owners_there.listed q in let p = as-after (of_list q) (grind (arith, nat_tests)) in omega arith;
       };
       gone = only;
@@ -83,7 +86,11 @@ module _ (t : Tables) (storage : StorageView) (lists : Bool) (was : IsWhole t) (
       least = λ s final bare has closed. has;
       new = tt;
       only = λ n some. absurd (omega arith);
-      tells = record { all = λ n must. (let p = as-after (is_pin n) (grind (arith, nat_tests)) in let m = must.pinned in let k = must.unpinned in absurd (omega arith)); not_all = tt };
+      tells = record {
+        all = λ n must. (let p = as-after (is_pin n) (grind (arith, nat_tests)) in let m = must.pinned in let k = must.unpinned in
+            absurd (omega arith));
+        not_all = tt;
+      };
       few = λ some. absurd (some whole.steady.fits.chain);
     }
 
@@ -146,9 +153,11 @@ module _ (t : Tables) (storage : StorageView) (lists : Bool) (was : IsWhole t) (
         grind (arith, nat_tests, cases_eq q g, f, s, o, n)
 
     fell-begun : Falls begun u given (Ok tt) w'
-    fell-begun = subst (λ s. Falls begun u s (Ok tt) w') (λ i q. given-is q i) (seen-before {b = u} {w = begun} {u = u} u.places (record { handles = omega arith; entries = omega arith }) (λ n none. (refl, refl)) fell-so)
+    fell-begun = subst (λ s. Falls begun u s (Ok tt) w') (λ i q. given-is q i)
+        (seen-before {b = u} {w = begun} {u = u} u.places (record { handles = omega arith; entries = omega arith }) (λ n none. (refl, refl)) fell-so)
 
-    module _ (away : is_here w row.node.0 ≡ false) (keyed : key_at w row.node.0 ≡ OptionalDataKey.Some key) (typed : type_at w row.node.0 ≡ Some type) (load_left : t.last_load < greatest)
+    module _ (away : is_here w row.node.0 ≡ false) (keyed : key_at w row.node.0 ≡ OptionalDataKey.Some key) (typed : type_at w row.node.0 ≡ Some type)
+        (load_left : t.last_load < greatest)
         (handles_left : t.ref_counts.last_handle + 1 < greatest) (place : 1 ≤ room t.ref_counts.handles) where
       placed : ArePlaced begun
       placed =

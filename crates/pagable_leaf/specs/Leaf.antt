@@ -19,10 +19,15 @@ pub record IsLeaf (w : Core) (me : Owner) (leaf : Leaf) : Type 0 where
   pub handles_left : w.last.handle + 1 < greatest
 
 -- A load of the cell begins, and ends with a value without references, by which the handle is pinned.
-pub record PinsLeaf (w : Core) (me : Owner) (row : HandleRow) (key type : ℕ) (k : HandleNumber) (w' : Core) : Type 0 where
+pub record PinsLeaf (w : Core) (me : Owner) (row : HandleRow) (key type : ℕ) (k : HandleNumber)
+    (w' : Core) : Type 0 where
   pub begun : Core
   pub begins : BeginCall w me row.number (Ok (Beginning.Load (record { 0 = w.last.load + 1 }) key)) begun
-  pub opened : begun.loads (w.last.load + 1) ≡ Some (record { owner = me; key = key; root = of_cell row.node type row.number })
+  pub opened : begun.loads (w.last.load + 1) ≡ Some (record {
+    owner = me;
+    key = key;
+    root = of_cell row.node type row.number;
+  })
   pub placed : ArePlaced begun
   pub away : is_here begun row.node.0 ≡ false
   pub may : MayEnd begun me (record { 0 = w.last.load + 1 }) row.node row.number type []
@@ -32,6 +37,10 @@ pub record PinsLeaf (w : Core) (me : Owner) (row : HandleRow) (key type : ℕ) (
 pub record DropsLeaf (w : Core) (me : Owner) (row : HandleRow) (key type : ℕ) (w' : Core) : Type 0 where
   pub begun : Core
   pub begins : BeginCall w me row.number (Ok (Beginning.Load (record { 0 = w.last.load + 1 }) key)) begun
-  pub opened : begun.loads (w.last.load + 1) ≡ Some (record { owner = me; key = key; root = of_cell row.node type row.number })
+  pub opened : begun.loads (w.last.load + 1) ≡ Some (record {
+    owner = me;
+    key = key;
+    root = of_cell row.node type row.number;
+  })
   pub placed : ArePlaced begun
   pub closes : LoadCloses begun (record { 0 = w.last.load + 1 }) (Ok tt) w'

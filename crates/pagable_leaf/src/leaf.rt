@@ -60,7 +60,8 @@ pub fn prepare(t: &mut Tables, me: Owner, handle: HandleNumber) -> Result<Option
     ensures none { IfOk result (λ found. IfNone found (t.new ≡ t.old)) }
     ensures does { Does t.old OnlyRoom t.new }
     ensures nodes { t.new.ref_counts.nodes ≡ t.old.ref_counts.nodes }
-    ensures refused { (storage : StorageView) → IfErr result (λ e. BeginCall (core_of t.old storage) me handle (Err e) (core_of t.new storage)) }
+    ensures refused { (storage : StorageView) → IfErr result
+        (λ e. BeginCall (core_of t.old storage) me handle (Err e) (core_of t.new storage)) }
 {
     let Some(leaf) = find(t, me, handle) else {
         return Ok(None);
@@ -77,7 +78,11 @@ pub fn take_numbers(t: &mut Tables)
     requires load_left { t.old.last_load < greatest }
     requires handle_left { t.old.ref_counts.last_handle < greatest }
     ensures does { Does t.old (λ w w'. w' ≡ with_numbers w) t.new }
-    ensures same { t.new ≡ record t.old { ref_counts = record t.old.ref_counts { last_handle = t.old.ref_counts.last_handle + 1 }; last_load = t.old.last_load + 1 } }
+    ensures same { t.new ≡ record t.old {
+      ref_counts =
+          record t.old.ref_counts { last_handle = t.old.ref_counts.last_handle + 1 };
+      last_load = t.old.last_load + 1;
+    } }
 {
     t.last_load += 1;
     t.ref_counts.last_handle += 1;
@@ -90,8 +95,10 @@ pub fn install(t: &mut Tables, me: Owner, leaf: Leaf) -> HandleNumber
     requires leaf { IsLeaf (plain_of t.old) me leaf }
     requires may { MayOwnLoad (plain_of t.old) me }
     requires place { 1 ≤ room t.old.ref_counts.handles }
-    ensures pins { (storage : StorageView) → PinsLeaf (core_of t.old storage) me leaf.row leaf.key leaf.node_type result (core_of t.new storage) }
-    ensures come { (n : ℕ) → has_value (counts_at t.new.ref_counts.nodes n) ≡ has_come (counts_at t.old.ref_counts.nodes) leaf.row.node n }
+    ensures pins { (storage : StorageView) → PinsLeaf (core_of t.old storage) me leaf.row leaf.key leaf.node_type result
+        (core_of t.new storage) }
+    ensures come { (n : ℕ) → has_value (counts_at t.new.ref_counts.nodes n)
+        ≡ has_come (counts_at t.old.ref_counts.nodes) leaf.row.node n }
     ensures whole { IsWhole t.new }
     ensures later { AreLater t.old → AreLater t.new }
 {
@@ -110,7 +117,11 @@ pub fn give_up(t: &mut Tables, me: Owner, leaf: Leaf)
     requires may { MayOwnLoad (plain_of t.old) me }
     requires place { 1 ≤ room t.old.ref_counts.handles }
     ensures does { Does t.old (λ w w'. DropsLeaf w me leaf.row leaf.key leaf.node_type w') t.new }
-    ensures same { t.new ≡ record t.old { ref_counts = record t.old.ref_counts { last_handle = t.old.ref_counts.last_handle + 1 }; last_load = t.old.last_load + 1 } }
+    ensures same { t.new ≡ record t.old {
+      ref_counts =
+          record t.old.ref_counts { last_handle = t.old.ref_counts.last_handle + 1 };
+      last_load = t.old.last_load + 1;
+    } }
 {
     take_numbers(t);
 }

@@ -47,7 +47,8 @@ module _ (xs got : List ArcRef) (kind k : ℕ) (back : List ℕ) where
   abbrev Sided : Result (Meaning ArcRef × Rest Answer) Error → Result (Meaning ArcRef × Rest Answer) Error → Type 0
   Sided = Out Stops Beside Aside
 
-  at_one : (p o : Option ArcRef) (n : ℕ) (ps os : List ℕ) (i j : Rest Answer) → headed o os ++ kind ∷ [] ≡ headed p ps ++ k ∷ back → (os ++ kind ∷ [] ≡ ps ++ k ∷ back → SameRest Beside i j)
+  at_one : (p o : Option ArcRef) (n : ℕ) (ps os : List ℕ) (i j : Rest Answer) → headed o os ++ kind ∷ [] ≡ headed p ps ++ k ∷ back
+      → (os ++ kind ∷ [] ≡ ps ++ k ∷ back → SameRest Beside i j)
       → Sided (answer_of p n >>= λ x. let r : Result (Meaning ArcRef × Rest Answer) Error = Ok (meanings.reference x, i) in r)
       (answer_of o n >>= λ x. let r : Result (Meaning ArcRef × Rest Answer) Error = Ok (meanings.reference x, j) in r)
   at_one None None n ps os i j is more = both-refused (Error.Storage n) (Error.Storage n) (λ at. cc)
@@ -59,13 +60,17 @@ module _ (xs got : List ArcRef) (kind k : ℕ) (back : List ℕ) where
   at_one (Some g) (Some x) n ps os i j is more =
       let same : g.kind.0 ≡ x.kind.0 = cc in
       let alike : (g.kind.0 == n) ≡ (x.kind.0 == n) = ap (λ m. m == n) same in
-      elim (cases_Bool (x.kind.0 == n)) [ inl e ↦ rw (alike, e) (both-given _ _ (reference-along g x tt) (more (cc))) | inr e ↦ rw (alike, e) (both-faulty Error.WrongKind tt) ]
+      elim (cases_Bool (x.kind.0 == n)) [
+        | inl e ↦ rw (alike, e) (both-given _ _ (reference-along g x tt) (more (cc)))
+        | inr e ↦ rw (alike, e) (both-faulty Error.WrongKind tt)
+      ]
 
   at_key : (n place : ℕ) (keys : List ℕ) (i j : Rest Answer) → j.bytes ≡ i.bytes → kinds_of (drop place xs) ++ kind ∷ [] ≡ kinds_of (drop place got) ++ k ∷ back
       → Sided (reference_at answer_at n (answers_from got place keys) i) (reference_at answer_at n (answers_from xs place keys) j)
   unfolding answers_from
   at_key n place [] i j bytes is = both-faulty Error.NoMoreKeys tt
-  at_key n place (key ∷ keys) i j bytes is = at_one (slice_get got place) (slice_get xs place) n (kinds_of (drop (place + 1) got)) (kinds_of (drop (place + 1) xs)) _ _
+  at_key n place (key ∷ keys) i j bytes is = at_one (slice_get got place) (slice_get xs place) n (kinds_of (drop (place + 1) got))
+      (kinds_of (drop (place + 1) xs)) _ _
       (ap (λ zs. zs ++ kind ∷ []) (sym (from xs place)) ∙ is ∙ ap (λ zs. zs ++ k ∷ back) (from got place))
       (λ rest. record { bytes = bytes; refs = record { place = place + 1; keys = keys; own_is = refl; row_is = refl; left = rest } })
 
@@ -80,7 +85,8 @@ module _ (xs got : List ArcRef) (kind k : ℕ) (back : List ℕ) where
 
 -- ---- what comes next
 
-pub stopped_at : (found : Option ℕ) (r : Result (Meaning ArcRef × Rest Answer) Error) (kind : Kind) (key : ℕ) → next_by found r ≡ asks kind key → (r ≡ Err (Error.Storage kind.0)) × (found ≡ Some key)
+pub stopped_at : (found : Option ℕ) (r : Result (Meaning ArcRef × Rest Answer) Error) (kind : Kind) (key : ℕ) → next_by found r ≡ asks kind key
+    → (r ≡ Err (Error.Storage kind.0)) × (found ≡ Some key)
 stopped_at found r kind key e = grind (arith, nat_tests)
 
 module _ (types : Types) (t : ℕ) (blob : Blob) where
@@ -95,8 +101,12 @@ module _ (types : Types) (t : ℕ) (blob : Blob) where
       let there = slice_get-get_or blob.keys (length got) 0 short in
       let input : List ArcRef → Rest Answer = λ gs. record { bytes = blob.bytes; refs = answers_from gs 0 blob.keys } in
       let goes =
-      typed_par {E = Stops xs got kind.0 k back} {F = Unit {0}} {T = Beside xs got kind.0 k back} {R = λ r q. Unit {0}} {parts = types.parts} answer_at answer_at (beside xs got kind.0 k back)
-      0 (types.nodes t) (λ o is. inl tt) (input got) (input xs) (record { bytes = refl; refs = record { place = 0; keys = blob.keys; own_is = refl; row_is = refl; left = is } }) in
+      typed_par {E = Stops xs got kind.0 k back} {F = Unit {0}} {T = Beside xs got kind.0 k back} {R = λ r q. Unit {0}} {parts = types.parts} answer_at
+      answer_at (beside xs got kind.0 k back)
+      0 (types.nodes t) (λ o is. inl tt) (input got) (input xs) (record {
+        bytes = refl;
+        refs = record { place = 0; keys = blob.keys; own_is = refl; row_is = refl; left = is };
+      }) in
       let err : read_blob types t blob got ≡ Err (Error.Storage k) = stopped xs got kind.0 k back goes s.0 in
       record { key = _; there = there; next = ap (next_by (slice_get blob.keys (length got))) err ∙ ap (λ o. next_by o (Err (Error.Storage k))) there }
 
@@ -105,33 +115,41 @@ foreseen : (types : Types) (f : Frame) (row xs noted : List ArcRef) (last : ArcR
     → xs ≡ f.got ++ noted → kind.0 ≡ last.kind.0 → next_of types f.node_type f.blob xs ≡ asks kind key → Foresees types f (kinds_of row)
 foreseen types f row xs noted last kind key is split same next = grind (arith, nat_tests, append_assoc, kinds_joined, row_asked)
 
-pub row_found : (types : Types) (f : Frame) (fs frames : List Frame) (row xs noted : List ArcRef) (last : ArcRef) (kind : Kind) (key : ℕ) → frames ≡ f ∷ fs → row ≡ xs ++ last ∷ []
+pub row_found : (types : Types) (f : Frame) (fs frames : List Frame) (row xs noted : List ArcRef) (last : ArcRef) (kind : Kind) (key : ℕ) → frames ≡ f ∷ fs
+    → row ≡ xs ++ last ∷ []
     → xs ≡ f.got ++ noted → kind.0 ≡ last.kind.0 → next_of types f.node_type f.blob xs ≡ asks kind key → IsAhead types frames row
 row_found types f fs frames row xs noted last kind key there is split same next =
-    record { is = λ g gs at. let e : f ∷ fs ≡ g ∷ gs = sym there ∙ at in let one : f ≡ g = cc in inr (subst (λ x. Foresees types x (kinds_of row)) one (foreseen types f row xs noted last kind key is split same next)) }
+    record {
+      is = λ g gs at. let e : f ∷ fs ≡ g ∷ gs = sym there ∙ at in let one : f ≡ g = cc in
+          inr (subst (λ x. Foresees types x (kinds_of row)) one (foreseen types f row xs noted last kind key is split same next));
+    }
 
 -- what stands in the row behind what was got
-next_in_row : (row got : List ArcRef) (r : ArcRef) (ahead : List ℕ) → kinds_of row ≡ kinds_of got ++ ahead → slice_get row (length got) ≡ Some r → (more : List ℕ) × (ahead ≡ r.kind.0 ∷ more)
+next_in_row : (row got : List ArcRef) (r : ArcRef) (ahead : List ℕ) → kinds_of row ≡ kinds_of got ++ ahead → slice_get row (length got) ≡ Some r
+    → (more : List ℕ) × (ahead ≡ r.kind.0 ∷ more)
 next_in_row [] got r ahead is at = absurd (cc)
 next_in_row (x ∷ row) [] r ahead is at = let e : x ≡ r = cc in (kinds_of row, sym is ∙ ap (λ (z : ArcRef). z.kind.0 ∷ kinds_of row) e)
 next_in_row (x ∷ row) (g ∷ got) r ahead is at = next_in_row row got r ahead (cc) at
 
 -- a reference of the kind is got
-pub still_ahead : (types : Types) (f : Frame) (row : List ArcRef) (r s : ArcRef) → Foresees types f (kinds_of row) → slice_get row (length f.got) ≡ Some r → s.kind.0 ≡ r.kind.0
+pub still_ahead : (types : Types) (f : Frame) (row : List ArcRef) (r s : ArcRef) → Foresees types f (kinds_of row) → slice_get row (length f.got) ≡ Some r
+    → s.kind.0 ≡ r.kind.0
     → Foresees types (record f { got = f.got ++ s ∷ [] }) (kinds_of row)
 still_ahead types f row r s h at same = grind (arith, nat_tests, append_assoc, kinds_joined, next_in_row)
 
 -- what a row tells of the innermost blob
 told_by : (types : Types) (top : Frame) (fs : List Frame) (row : List ArcRef) (r : ArcRef) (key : ℕ) → slice_get row (length top.got) ≡ Some r
     → slice_get top.blob.keys (length top.got) ≡ Some key → IsAheadOf types top row → NeedsNext types (top ∷ fs) r.kind key
-told_by types top fs row r key at_row at_key (inl none) = absurd (let e : slice_get [] (length top.got) ≡ Some r = subst (λ xs. slice_get xs (length top.got) ≡ Some r) none at_row in cc)
+told_by types top fs row r key at_row at_key (inl none) = absurd (let e : slice_get [] (length top.got)
+    ≡ Some r = subst (λ xs. slice_get xs (length top.got) ≡ Some r) none at_row in cc)
 told_by types top fs row r key at_row at_key (inr h) =
     let more = next_in_row row top.got r h.ahead h.split at_row in
     let a = h.each top.got r.kind.0 more.0 (h.split ∙ ap (λ xs. kinds_of top.got ++ xs) more.1) in
     let same : a.key ≡ key = let e = sym a.there ∙ at_key in cc in
     record { is = ap (need_at fs) (a.next ∙ ap (asks r.kind) same) }
 
-pub row_tells : (types : Types) (top : Frame) (fs frames : List Frame) (row : List ArcRef) (r : ArcRef) (key place : ℕ) → frames ≡ top ∷ fs → place ≡ length top.got → slice_get row place ≡ Some r
+pub row_tells : (types : Types) (top : Frame) (fs frames : List Frame) (row : List ArcRef) (r : ArcRef) (key place : ℕ) → frames ≡ top ∷ fs → place
+    ≡ length top.got → slice_get row place ≡ Some r
     → slice_get top.blob.keys place ≡ Some key → IsAhead types frames row → NeedsNext types frames r.kind key
 row_tells types top fs frames row r key place is count at_row at_key h =
     let P : ℕ → Type 0 = λ n. (slice_get row n ≡ Some r) × (slice_get top.blob.keys n ≡ Some key) in
@@ -152,10 +170,12 @@ pub none_ahead : (types : Types) (frames : List Frame) (rows : List (List ArcRef
 none_ahead types [] rows is = record { are = tt }
 none_ahead types (f ∷ fs) rows is = record { are = subst (AreAhead types (f ∷ fs)) (sym is) (inl refl, none_known types fs) }
 
-pub top_ahead : {types : Types} {frames : List Frame} {row : List ArcRef} {rows : List (List ArcRef)} → AllAhead types frames (row ∷ rows) → IsAhead types frames row
+pub top_ahead : {types : Types} {frames : List Frame} {row : List ArcRef} {rows : List (List ArcRef)} → AllAhead types frames (row ∷ rows)
+    → IsAhead types frames row
 top_ahead {types} {frames} {row} {rows} a = record { is = λ f fs there. (subst (λ fr. AreAhead types fr (row ∷ rows)) there a.are).0 }
 
-pub with_top : {types : Types} (frames : List Frame) {row row' : List ArcRef} {rows : List (List ArcRef)} → AllAhead types frames (row ∷ rows) → IsAhead types frames row' → AllAhead types frames (row' ∷ rows)
+pub with_top : {types : Types} (frames : List Frame) {row row' : List ArcRef} {rows : List (List ArcRef)} → AllAhead types frames (row ∷ rows)
+    → IsAhead types frames row' → AllAhead types frames (row' ∷ rows)
 with_top [] a h = record { are = tt }
 with_top (f ∷ fs) a h = record { are = (h.is f fs refl, a.are.1) }
 
@@ -171,7 +191,8 @@ stacked_none xs is = ap (stacked []) is
 pub ruleset leaving = (nat_tests, stacked_more, stacked_none)
 
 -- the innermost blob has got a reference, and its row stays where that is of its kind
-got_on : (types : Types) (f : Frame) (r : ArcRef) (row row' : List ArcRef) (place : ℕ) (kind : Kind) → place ≡ length f.got → kind.0 ≡ r.kind.0 → IsAheadOf types f row → KeptAt place kind row row'
+got_on : (types : Types) (f : Frame) (r : ArcRef) (row row' : List ArcRef) (place : ℕ) (kind : Kind) → place ≡ length f.got → kind.0 ≡ r.kind.0
+    → IsAheadOf types f row → KeptAt place kind row row'
     → IsAheadOf types (record f { got = f.got ++ r ∷ [] }) row'
 got_on types f r row row' place kind at of_kind h (inl none) = inl none
 got_on types f r row row' place kind at of_kind (inl none) (inr (same, (s, there, is))) = inl (same ∙ none)
@@ -180,20 +201,28 @@ got_on types f r row row' place kind at of_kind (inr h) (inr (same, (s, there, i
     inr (subst (λ xs. Foresees types (record f { got = f.got ++ r ∷ [] }) (kinds_of xs)) (sym same) (still_ahead types f row s r h here (sym of_kind ∙ is)))
 
 -- what is known of the blobs before the innermost was read, and then of those below it
-left_on : (types : Types) (top : Frame) (below : List Frame) (rows mid : List (List ArcRef)) → LeftIf true rows mid → AreAhead types (top ∷ below) rows → AreAhead types below mid
+left_on : (types : Types) (top : Frame) (below : List Frame) (rows mid : List (List ArcRef)) → LeftIf true rows mid → AreAhead types (top ∷ below) rows
+    → AreAhead types below mid
 left_on types top below rows mid (inl (row, is)) a = (subst (AreAhead types (top ∷ below)) is a).1
 left_on types top below rows mid (inr is) a = (none_ahead types below mid is).are
 
 -- a reference was got at the last place
-more_on : (new : List Frame) (types : Types) (old : List Frame) (r : ArcRef) (g : GotMore old new r) (row row' : List ArcRef) (rest : List (List ArcRef)) (f : Frame) (fs : List Frame) (place : ℕ) (kind : Kind) (last : ArcRef)
-    → new ≡ f ∷ fs → place + 1 ≡ length f.got → slice_get f.got place ≡ Some last → kind ≡ last.kind → AreAhead types old (row ∷ rest) → KeptAt place kind row row' → AreAhead types new (row' ∷ rest)
+more_on : (new : List Frame) (types : Types) (old : List Frame) (r : ArcRef) (g : GotMore old new r) (row row' : List ArcRef) (rest : List (List ArcRef))
+    (f : Frame) (fs : List Frame) (place : ℕ) (kind : Kind) (last : ArcRef)
+    → new ≡ f ∷ fs → place + 1 ≡ length f.got → slice_get f.got place ≡ Some last → kind ≡ last.kind → AreAhead types old (row ∷ rest)
+    → KeptAt place kind row row' → AreAhead types new (row' ∷ rest)
 more_on new types old r g row row' rest f fs place kind last is count at of a kept =
     let same : f ≡ record g.f { got = g.f.got ++ r ∷ [] } = let e : f ∷ fs ≡ record g.f { got = g.f.got ++ r ∷ [] } ∷ g.fs = sym is ∙ g.is in cc in
     let gots : f.got ≡ g.f.got ++ r ∷ [] = ap (λ (x : Frame). x.got) same in
     let here : place ≡ length g.f.got = let n = length-append g.f.got (r ∷ []) in omega (arith, count, ap length gots, n) in
-    let one : last ≡ r = let e : Some last ≡ Some r = sym at ∙ ap (λ xs. slice_get xs place) gots ∙ ap (slice_get (g.f.got ++ r ∷ [])) here ∙ last_of g.f.got r in cc in
+    let one : last ≡ r = let e : Some last ≡ Some r = sym at ∙ ap (λ xs. slice_get xs place) gots ∙ ap (slice_get (g.f.got ++ r ∷ [])) here
+    ∙ last_of g.f.got r in cc in
     let was = subst (λ fr. AreAhead types fr (row ∷ rest)) g.was a in
-    subst (λ fr. AreAhead types fr (row' ∷ rest)) (sym g.is) (got_on types g.f r row row' place kind here (ap (λ (k : Kind). k.0) of ∙ ap (λ (x : ArcRef). x.kind.0) one) was.0 kept, was.1)
+    subst (λ fr. AreAhead types fr (row' ∷ rest)) (sym g.is) (
+      got_on types g.f r row row' place kind here
+          (ap (λ (k : Kind). k.0) of ∙ ap (λ (x : ArcRef). x.kind.0) one) was.0 kept,
+      was.1,
+    )
 
 -- what has got one reference more has got some
 some_got : (old new : List Frame) (r : ArcRef) (f : Frame) (fs : List Frame) → GotMore old new r → new ≡ f ∷ fs → 0 < length f.got
@@ -204,20 +233,26 @@ some_got old new r f fs g is =
 
 module _ (types : Types) (new : List Frame) (rows mid rows' : List (List ArcRef)) (f : Frame) (fs : List Frame) (is : new ≡ f ∷ fs) where
   -- a blob came, of which nothing was got
-  came : (b : Bool) (old : List Frame) → f.got ≡ [] → (rows' ≡ [] ∷ mid) ⊎ (rows' ≡ [] ∷ []) → LeftIf b rows mid → FramesGo b old new → AreAhead types old rows → AreAhead types new rows'
+  came : (b : Bool) (old : List Frame) → f.got ≡ [] → (rows' ≡ [] ∷ mid) ⊎ (rows' ≡ [] ∷ []) → LeftIf b rows mid → FramesGo b old new → AreAhead types old rows
+      → AreAhead types new rows'
   came true old none after left go a = absurd (let some = some_got go.below new go.r f fs go.more is in omega (arith, some, ap length none))
   came false old none after left (inr (r, go)) a = absurd (let some = some_got old new r f fs go is in omega (arith, some, ap length none))
-  came false old none (inl after) left (inl go) a = subst (λ fr. AreAhead types fr rows') (sym go.is) (subst (AreAhead types (go.f ∷ old)) (sym after) (inl refl, subst (AreAhead types old) (sym left) a))
+  came false old none (inl after) left (inl go) a = subst (λ fr. AreAhead types fr rows') (sym go.is)
+      (subst (AreAhead types (go.f ∷ old)) (sym after) (inl refl, subst (AreAhead types old) (sym left) a))
   came false old none (inr after) left (inl go) a = (none_ahead types new rows' after).are
 
   -- a reference was got
-  grew : (b : Bool) (old : List Frame) (row row' : List ArcRef) (rest : List (List ArcRef)) (place : ℕ) (kind : Kind) (last : ArcRef) → mid ≡ row ∷ rest → rows' ≡ row' ∷ rest
-      → place + 1 ≡ length f.got → slice_get f.got place ≡ Some last → kind ≡ last.kind → KeptAt place kind row row' → LeftIf b rows mid → FramesGo b old new → AreAhead types old rows → AreAhead types new rows'
+  grew : (b : Bool) (old : List Frame) (row row' : List ArcRef) (rest : List (List ArcRef)) (place : ℕ) (kind : Kind) (last : ArcRef) → mid ≡ row ∷ rest → rows'
+      ≡ row' ∷ rest
+      → place + 1 ≡ length f.got → slice_get f.got place ≡ Some last → kind ≡ last.kind → KeptAt place kind row row' → LeftIf b rows mid → FramesGo b old new
+      → AreAhead types old rows → AreAhead types new rows'
   grew true old row row' rest place kind last has after count at of kept left go a =
       let was = left_on types go.top go.below rows mid left (subst (λ fr. AreAhead types fr rows) go.was a) in
-      subst (AreAhead types new) (sym after) (more_on new types go.below go.r go.more row row' rest f fs place kind last is count at of (subst (AreAhead types go.below) has was) kept)
+      subst (AreAhead types new) (sym after) (more_on new types go.below go.r go.more row row' rest f fs place kind last is count at of
+      (subst (AreAhead types go.below) has was) kept)
   grew false old row row' rest place kind last has after count at of kept left (inl go) a =
-      absurd (let e : f ∷ fs ≡ go.f ∷ old = sym is ∙ go.is in let same : f ≡ go.f = cc in omega (arith, count, ap length (ap (λ (x : Frame). x.got) same ∙ go.none)))
+      absurd (let e : f ∷ fs ≡ go.f ∷ old = sym is ∙ go.is in let same : f ≡ go.f = cc in
+      omega (arith, count, ap length (ap (λ (x : Frame). x.got) same ∙ go.none)))
   grew false old row row' rest place kind last has after count at of kept left (inr (r, go)) a =
       let was = subst (AreAhead types old) (sym left ∙ has) a in
       subst (AreAhead types new) (sym after) (more_on new types old r go row row' rest f fs place kind last is count at of was kept)
@@ -225,24 +260,36 @@ module _ (types : Types) (new : List Frame) (rows mid rows' : List (List ArcRef)
 pub follows_none : (b : Bool) (new : List Frame) (rows rows' : List (List ArcRef)) → new ≡ [] → Follows b new rows rows'
 follows_none b new rows rows' is = record { follows = λ types old go a. record { are = subst (λ fr. AreAhead types fr rows') (sym is) tt } }
 
-pub follows_new : (b : Bool) (new : List Frame) (rows mid : List (List ArcRef)) (f : Frame) (fs : List Frame) (top top' : Vec ArcRef Global) (below below' : Vec (Vec ArcRef Global) Global) → new ≡ f ∷ fs → f.got ≡ []
+pub follows_new : (b : Bool) (new : List Frame) (rows mid : List (List ArcRef)) (f : Frame) (fs : List Frame) (top top' : Vec ArcRef Global)
+    (below below' : Vec (Vec ArcRef Global) Global) → new ≡ f ∷ fs → f.got ≡ []
     → mid ≡ top.items ∷ stacked [] below.items → LeftIf b rows mid → top'.items ≡ [] → (below'.items ≡ below.items ++ top ∷ []) ⊎ (below'.items ≡ [])
     → Follows b new rows (top'.items ∷ stacked [] below'.items)
 follows_new b new rows mid f fs top top' below below' is none has left bare below_is =
     let after : (top'.items ∷ stacked [] below'.items ≡ [] ∷ mid) ⊎ (top'.items ∷ stacked [] below'.items ≡ [] ∷ []) =
     elim below_is [
-      | inl more ↦ inl (ap (λ x. x ∷ stacked [] below'.items) bare ∙ ap (λ xs. [] ∷ stacked [] xs) more ∙ ap (λ xs. [] ∷ xs) (stacked_more [] below.items top ∙ sym has))
+      | inl more ↦ inl (ap (λ x. x ∷ stacked [] below'.items) bare ∙ ap (λ xs. [] ∷ stacked [] xs) more
+          ∙ ap (λ xs. [] ∷ xs) (stacked_more [] below.items top ∙ sym has))
       | inr gone ↦ inr (ap (λ x. x ∷ stacked [] below'.items) bare ∙ ap (λ xs. [] ∷ xs) (stacked_none below'.items gone))
     ] in
-    record { follows = λ types old go a. record { are = came types new rows mid (top'.items ∷ stacked [] below'.items) f fs is b old none after left go a.are } }
+    record {
+      follows = λ types old go a. record { are = came types new rows mid (top'.items ∷ stacked [] below'.items) f fs is b old none after left go a.are };
+    }
 
-pub follows_got : (b : Bool) (new : List Frame) (rows mid : List (List ArcRef)) (f : Frame) (fs : List Frame) (row row' : List ArcRef) (rest : List (List ArcRef)) (place : ℕ) (last : ArcRef) → new ≡ f ∷ fs
-    → mid ≡ row ∷ rest → LeftIf b rows mid → place + 1 ≡ length f.got → slice_get f.got place ≡ Some last → KeptAt place last.kind row row' → Follows b new rows (row' ∷ rest)
+pub follows_got : (b : Bool) (new : List Frame) (rows mid : List (List ArcRef)) (f : Frame) (fs : List Frame) (row row' : List ArcRef)
+    (rest : List (List ArcRef)) (place : ℕ) (last : ArcRef) → new ≡ f ∷ fs
+    → mid ≡ row ∷ rest → LeftIf b rows mid → place + 1 ≡ length f.got → slice_get f.got place ≡ Some last → KeptAt place last.kind row row'
+    → Follows b new rows (row' ∷ rest)
 follows_got b new rows mid f fs row row' rest place last is has left count at kept =
-    record { follows = λ types old go a. record { are = grew types new rows mid (row' ∷ rest) f fs is b old row row' rest place last.kind last has refl count at refl kept left go a.are } }
+    record {
+      follows = λ types old go a. record {
+        are = grew types new rows mid (row' ∷ rest) f fs is b old row row' rest place last.kind last has refl count at
+            refl kept left go a.are;
+      };
+    }
 
 -- what is ahead after a step that ends nothing
-pub ahead_then : {N : Type 0} (types : Types) (need : Needed N) (answer : Option (LoadAnswer N)) (old new : List Frame) (rows rows' : List (List ArcRef)) (b : Bool) → b ≡ is_adoption need → GoesFor need answer old new
+pub ahead_then : {N : Type 0} (types : Types) (need : Needed N) (answer : Option (LoadAnswer N)) (old new : List Frame) (rows rows' : List (List ArcRef))
+    (b : Bool) → b ≡ is_adoption need → GoesFor need answer old new
     → Follows b new rows rows' → AllAhead types old rows → IfNone answer (AllAhead types new rows')
 ahead_then types need None old new rows rows' b is goes follows a = follows.follows types old (subst (λ x. FramesGo x old new) (sym is) (goes.goes refl)) a
 ahead_then types need (Some answer) old new rows rows' b is goes follows a = tt
@@ -260,7 +307,8 @@ weight_some (suc k) = let w = weight_some k in omega (arith, w)
 abbrev NeedsOne : Need → Kind → ℕ → Type 0
 NeedsOne need kind key = (need ≡ needs_nested kind key) ⊎ (need ≡ needs_lazy kind key)
 
-wants : (types : Types) (old : List Frame) (f : Frame) (fs : List Frame) (kind : Kind) (key : ℕ) → old ≡ f ∷ fs → NeedsOne (need_of types old) kind key → length f.got < length f.blob.keys
+wants : (types : Types) (old : List Frame) (f : Frame) (fs : List Frame) (kind : Kind) (key : ℕ) → old ≡ f ∷ fs → NeedsOne (need_of types old) kind key
+    → length f.got < length f.blob.keys
 wants types old f fs kind key is need = grind (arith, nat_tests, slice_get_within, stopped_at)
 
 -- ---- what each step leaves
@@ -282,7 +330,8 @@ module _ {N : Type 0} {for_cell : Bool} {old new : List Frame} where
       let left = wants types old f fs kind key a need in
       let n = length-append f.got (r ∷ []) in
       let w = weight_some (129 - length fs) in
-      let m : (length f.blob.keys - length (f.got ++ r ∷ []) + 1) * weight_on fs ≤ left_in f * weight_on fs = mul-le-mul_right (weight_on fs) (omega (arith, n, left)) in
+      let m : (length f.blob.keys - length (f.got ++ r ∷ []) + 1) * weight_on fs ≤ left_in f * weight_on fs =
+      mul-le-mul_right (weight_on fs) (omega (arith, n, left)) in
       led a b (omega (arith, w, m))
 
   pub blob_leads : (types : Types) (g f : Frame) (fs : List Frame) (kind : Kind) (key : ℕ) → g.got ≡ [] → length g.blob.keys < 2 ^ 63 → length fs < 128
@@ -298,8 +347,10 @@ module _ {N : Type 0} {for_cell : Bool} {old new : List Frame} where
       let u : (left_behind f + 1) * weight_on fs ≤ left_in f * weight_on fs = mul-le-mul_right (weight_on fs) (omega (arith, left)) in
       led a b (omega (arith, e, w, m, u))
 
-  pub node_leads : (t u : Frame) (fs : List Frame) (r : ArcRef) → old ≡ t ∷ u ∷ fs → new ≡ record u { got = u.got ++ r ∷ [] } ∷ fs → LeadsOn {N = N} for_cell old new (Ok None)
+  pub node_leads : (t u : Frame) (fs : List Frame) (r : ArcRef) → old ≡ t ∷ u ∷ fs → new ≡ record u { got = u.got ++ r ∷ [] } ∷ fs
+      → LeadsOn {N = N} for_cell old new (Ok None)
   node_leads t u fs r a b =
       let n = length-append u.got (r ∷ []) in
-      let m : (length u.blob.keys - length (u.got ++ r ∷ [])) * weight_on fs ≡ left_behind u * weight_on fs = ap (λ x. (length u.blob.keys - x) * weight_on fs) n in
+      let m : (length u.blob.keys - length (u.got ++ r ∷ [])) * weight_on fs ≡ left_behind u * weight_on fs =
+      ap (λ x. (length u.blob.keys - x) * weight_on fs) n in
       led a b (omega (arith, m))

@@ -10,9 +10,15 @@ module _ {N : Type 0} (v : Values N) (me : Owner) (own now : Own) (blob : Blob) 
   rooted = rw (same.load, same.node_type, same.steps, root) refl
 
   still-open : {w : Core} → IsLoadOf w me own → IsLoadOf w me now
-  still-open {w} o = record { load = o.load; owned = subst (λ l. OwnsLoad w me l o.load) (sym same.load) o.owned; key = o.key ∙ sym same.key; sort = o.sort ∙ sym same.for_cell }
+  still-open {w} o = record {
+    load = o.load;
+    owned = subst (λ l. OwnsLoad w me l o.load) (sym same.load) o.owned;
+    key = o.key ∙ sym same.key;
+    sort = o.sort ∙ sym same.for_cell;
+  }
 
-  goes : {E : Type 0} {s t : PagerState N E} (answer : LoadAnswer N) → Runs v me now s answer t → IsLoadOf s.core me own → LoadRun v me (with_root own blob) s answer t
+  goes : {E : Type 0} {s t : PagerState N E} (answer : LoadAnswer N) → Runs v me now s answer t → IsLoadOf s.core me own
+      → LoadRun v me (with_root own blob) s answer t
   goes {s = s} {t = t} answer runs o = subst (λ (r : Reading). LoadRun v me r s answer t) rooted (runs.run (still-open o))
 
   pub root_pins : {E : Type 0} (k : HandleNumber) (s t : PagerState N E) → Runs v me now s (LoadAnswer.Pinned k) t → PinsFrom v me own blob s (Ok k) t

@@ -3,13 +3,15 @@ use Rattle.{pagable_load.{proofs.LoadSteps.{tells_all, tells_map}, specs.{Resolv
 use Rattle.{pagable_value_spec.specs.declared.{error.Error.Error, numbers.{ArcRef.ArcRef, HandleNumber.HandleNumber}}, pagable_pager_spec.specs.{Pager.{HoldsPinned, PagerState, ValueCall}, World.Values}}
 use Rattle.std.{proofs.{Common.{Err, List, None, Ok, Option, Result, Some, ap, arith, refl, slice_get, subst, sym, ℕ, ◌∙◌, ◌≡◌}, lemmas.Bool.Decides.nat_tests}, specs.{Option.option_map, Prelude.{IfOk, option_and_then}}}
 
-parts : {X Y : Type 0} (o : Option X) (p : Option Y) (q : X × Y) → option_and_then {U = X × Y} (λ a. option_map (λ b. (a, b)) p) o ≡ Some q → (o ≡ Some q.0) × (p ≡ Some q.1)
+parts : {X Y : Type 0} (o : Option X) (p : Option Y) (q : X × Y) → option_and_then {U = X × Y} (λ a. option_map (λ b. (a, b)) p) o ≡ Some q → (o ≡ Some q.0)
+    × (p ≡ Some q.1)
 parts {X} {Y} (Some a) (Some b) q e = (ap (λ (c : Option (X × Y)). option_map (λ d. d.0) c) e, ap (λ (c : Option (X × Y)). option_map (λ d. d.1) c) e)
 parts (Some a) None q e = absurd cc
 parts None p q e = absurd cc
 
 -- what is lent by a reference stands at its place
-module _ {A N : Type 0} (see : A → N) (got : List ArcRef) (lent : List (Option A)) (place : ℕ) (r : ArcRef) (y : N) (lends : lent_by see got lent place r ≡ Some y) where
+module _ {A N : Type 0} (see : A → N) (got : List ArcRef) (lent : List (Option A)) (place : ℕ) (r : ArcRef) (y : N)
+    (lends : lent_by see got lent place r ≡ Some y) where
   pub lent_is : slice_get got place ≡ Some r → lent_there see got lent place ≡ Some (r, y)
   lent_is found = grind (arith, nat_tests)
 
@@ -32,6 +34,7 @@ module _ {A N E : Type 0} (see : A → N) (got : List ArcRef) (lent : List (Opti
       let there = parts (slice_get got place) (lent_at see lent place) (r, z) (ap (λ f. f place) (sym stands) ∙ at) in
       one-value s r.handle y z value (pinned-of s r (lent_at see lent place) z there.1 (lends.each place r there.0))
 
-  pub read_holds : (v : Values N) (told : Option (PagerState N E)) (r : Result N Error) → Tells told (λ s. LendsEach see s got lent) → IfOk r (HoldsLent st v.beside) → Tells told (λ s. IfOk r (HoldsPinned v s))
+  pub read_holds : (v : Values N) (told : Option (PagerState N E)) (r : Result N Error) → Tells told (λ s. LendsEach see s got lent)
+      → IfOk r (HoldsLent st v.beside) → Tells told (λ s. IfOk r (HoldsPinned v s))
   read_holds v told (Ok x) lends holds = tells_map (λ s each. record { each = λ r y value. holds.each r y (only s each r y value) }) lends
   read_holds v told (Err e) lends holds = tells_all (λ s. tt)

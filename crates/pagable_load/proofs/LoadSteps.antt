@@ -27,12 +27,15 @@ same_answers got place [] = refl
 same_answers got place (key ∷ keys) = ap (λ (rest : List Answer). (λ kind. answer_of (slice_get got place) kind) ∷ rest) (same_answers got (place + 1) keys)
 
 -- reading at the front of the blob, with these answers, is reading with these references
-pub reads_with : {X E N : Type 0} (own : Error → Type 0) (means : X → Meaning ArcRef → Type 0) (nodes : E → ℕ → Option Shape) (parts : E → ℕ → Shape) (t : ℕ) (env other : E) (levels : ℕ) (got : List ArcRef) (bytes keys : List ℕ) (blob : Blob) (lent : ℕ → Option (ArcRef × N)) (st : Standing N) (after : Rest Answer) (result : Result X Error)
+pub reads_with : {X E N : Type 0} (own : Error → Type 0) (means : X → Meaning ArcRef → Type 0) (nodes : E → ℕ → Option Shape) (parts : E → ℕ → Shape) (t : ℕ)
+    (env other : E) (levels : ℕ) (got : List ArcRef) (bytes keys : List ℕ) (blob : Blob) (lent : ℕ → Option (ArcRef × N)) (st : Standing N)
+    (after : Rest Answer) (result : Result X Error)
     → st ≡ at_front (answer_at got) lent bytes keys → levels ≡ 0 → other ≡ env → bytes ≡ blob.bytes → keys ≡ blob.keys
     → GivesSome own means after result (read_typed (handles_at levels (parts other)) (nodes other t) (rest_at st))
     → GivesSome own means after result (read_with (record { nodes = nodes env; parts = parts env }) t blob got)
 reads_with own means nodes parts t env other levels got bytes keys blob lent st after result s l e b k h =
-    let P : List Answer → Type 0 = λ refs. GivesSome own means after result (read_typed (handles_at 0 (parts env)) (nodes env t) (let x : Rest Answer = record { bytes = blob.bytes; refs = refs } in x)) in
+    let P : List Answer → Type 0 = λ refs. GivesSome own means after result
+    (read_typed (handles_at 0 (parts env)) (nodes env t) (let x : Rest Answer = record { bytes = blob.bytes; refs = refs } in x)) in
     let there : P (context.answers_from (answer_at got) 0 blob.keys) = rw (s, l, e, b, k) at h in
     subst P (same_answers got 0 blob.keys) there
 
@@ -55,7 +58,8 @@ onto_none fs is = ap (onto []) is
 adopts : (below : List Frame) (own : Meaning ArcRef) → 0 < length below → need_at below (reads own) ≡ to_adopt
 adopts below own some = grind (arith, nat_tests)
 
-module _ {N : Type 0} (v : Values N) (own : Own) (top : Held) (is : own.top ≡ Some top) (x : N) (read : IsReadAs v top.node_type (blob_of (arc_value top.blob)) top.got.items x) where
+module _ {N : Type 0} (v : Values N) (own : Own) (top : Held) (is : own.top ≡ Some top) (x : N)
+    (read : IsReadAs v top.node_type (blob_of (arc_value top.blob)) top.got.items x) where
   pub node_needs : 0 < length own.below.items → Needs v own (Need.Adopt x)
   node_needs some = record { is = grind (arith, nat_tests, length_onto, adopts); there = (grind (arith, nat_tests), some) }
 
@@ -84,15 +88,21 @@ module _ {S : Type 0} where
 -- ---- what an access does
 
 module _ {A S E : Type 0} {told : A → Option S} {by : A → Acting E} where
-  pub acts_map : {o n : A} {after : Acting E → Acting E} {R Q : Acting E → S → S → Type 0} → ActsThen told by o n after R → ((s t : S) → R (by o) s t → Q (by o) s t) → ActsThen told by o n after Q
+  pub acts_map : {o n : A} {after : Acting E → Acting E} {R Q : Acting E → S → S → Type 0} → ActsThen told by o n after R
+      → ((s t : S) → R (by o) s t → Q (by o) s t) → ActsThen told by o n after Q
   acts_map {o} {n} h f = record { step = grind (arith, nat_tests); acting = h.acting }
 
   -- one thing after another
-  pub acts_on : {o m n : A} {first then after : Acting E → Acting E} {R T Q : Acting E → S → S → Type 0} → ActsThen told by o m first R → ActsThen told by m n then T
+  pub acts_on : {o m n : A} {first then after : Acting E → Acting E} {R T Q : Acting E → S → S → Type 0} → ActsThen told by o m first R
+      → ActsThen told by m n then T
       → ((s mid t : S) → R (by o) s mid → T (first (by o)) mid t → Q (by o) s t) → then (first (by o)) ≡ after (by o) → ActsThen told by o n after Q
-  acts_on {m = m} {n = n} {then = then} {T = T} h k f is = record { step = told_then f h.step (subst (λ a. Told (told m) (told n) (T a)) h.acting k.step); acting = k.acting ∙ ap then h.acting ∙ is }
+  acts_on {m = m} {n = n} {then = then} {T = T} h k f is = record {
+    step = told_then f h.step (subst (λ a. Told (told m) (told n) (T a)) h.acting k.step);
+    acting = k.acting ∙ ap then h.acting ∙ is;
+  }
 
-  pub acts_then : {o m n : A} {R T Q : Acting E → S → S → Type 0} → Acts told by o m R → Acts told by m n T → ((s mid t : S) → R (by o) s mid → T (by o) mid t → Q (by o) s t) → Acts told by o n Q
+  pub acts_then : {o m n : A} {R T Q : Acting E → S → S → Type 0} → Acts told by o m R → Acts told by m n T
+      → ((s mid t : S) → R (by o) s mid → T (by o) mid t → Q (by o) s t) → Acts told by o n Q
   acts_then h k f = acts_on h k f refl
 
   -- nothing is done
@@ -103,7 +113,8 @@ module _ {A S E : Type 0} {told : A → Option S} {by : A → Acting E} where
   acts_all f = acts_same (tells_all f)
 
   -- beside what held before
-  pub acts_from : {o n : A} {P : S → Type 0} {R Q : Acting E → S → S → Type 0} → Tells (told o) P → Acts told by o n R → ((s t : S) → P s → R (by o) s t → Q (by o) s t) → Acts told by o n Q
+  pub acts_from : {o n : A} {P : S → Type 0} {R Q : Acting E → S → S → Type 0} → Tells (told o) P → Acts told by o n R
+      → ((s t : S) → P s → R (by o) s t → Q (by o) s t) → Acts told by o n Q
   acts_from {o} {n} {P} {R} {Q} h k f = record { step = grind (arith, nat_tests, common_steps); acting = k.acting }
 
 -- ---- which values come
@@ -112,7 +123,10 @@ pub none_comes : {N E : Type 0} {comes : ℕ → N → Type 0} {s t : PagerState
 none_comes m = record { each = λ n x is. elim (m.each n x is) [ inl was ↦ inl was | inr came ↦ absurd came.1 ]; environment = m.environment }
 
 pub moves_then : {N E : Type 0} {comes : ℕ → N → Type 0} {s mid t : PagerState N E} → Moves comes s mid → Moves (λ n x. ⊥) mid t → Moves comes s t
-moves_then m k = record { each = λ n x is. elim (k.each n x is) [ inl was ↦ m.each n x was | inr came ↦ absurd came.1 ]; environment = k.environment ∙ m.environment }
+moves_then m k = record {
+  each = λ n x is. elim (k.each n x is) [ inl was ↦ m.each n x was | inr came ↦ absurd came.1 ];
+  environment = k.environment ∙ m.environment;
+}
 
 was-held : {N E : Type 0} {s t : PagerState N E} → Moves (λ n x. ⊥) s t → (n : ℕ) (x : N) → t.values n ≡ Some x → s.values n ≡ Some x
 was-held m n x is = elim (m.each n x is) [ inl was ↦ was | inr came ↦ absurd came.1 ]
@@ -124,12 +138,18 @@ new-mode last q [] row new found = absurd (cc)
 new-mode last q (h ∷ hs) row (number, mode, owner, new) found = let later = new-mode (last + 1) q hs row new in grind (arith, nat_tests, is_handle)
 
 -- no value comes where the pager stays as it is
-none-new : {N E : Type 0} (v : Values N) {s t : PagerState N E} → Alike s.core t.core → WellFormed v s → WellFormed v t → (n : ℕ) (x : N) → s.values n ≡ None → t.values n ≡ Some x → ⊥
+none-new : {N E : Type 0} (v : Values N) {s t : PagerState N E} → Alike s.core t.core → WellFormed v s → WellFormed v t → (n : ℕ) (x : N) → s.values n ≡ None
+    → t.values n ≡ Some x → ⊥
 none-new v {s} {t} a whole after n x none some =
     let before = whole.valued n in let now = after.valued n in let rows = a.rows in let cells = a.cells n in grind (arith, nat_tests, common_steps)
 
-unmoved : {N E : Type 0} (v : Values N) {comes other : ℕ → N → Type 0} {s t : PagerState N E} → Alike s.core t.core → WellFormed v t → Moves comes s t → WellFormed v s → Moves other s t
-unmoved v a after m whole = record { each = λ n x is. elim (m.each n x is) [ inl was ↦ inl was | inr (none, came) ↦ absurd (none-new v a whole after n x none is) ]; environment = m.environment }
+unmoved : {N E : Type 0} (v : Values N) {comes other : ℕ → N → Type 0} {s t : PagerState N E} → Alike s.core t.core → WellFormed v t → Moves comes s t
+    → WellFormed v s → Moves other s t
+unmoved v a after m whole = record {
+  each = λ n x is. elim (m.each n x is)
+      [ inl was ↦ inl was | inr (none, came) ↦ absurd (none-new v a whole after n x none is) ];
+  environment = m.environment;
+}
 
 -- what pins after handles were handed over pinned the same node before
 record PinnedBefore (w : Core) (k : HandleNumber) (row : HandleRow) : Type 0 where
@@ -138,11 +158,13 @@ record PinnedBefore (w : Core) (k : HandleNumber) (row : HandleRow) : Type 0 whe
   at : was.node ≡ row.node
   pins : is_pinning was.mode ≡ true
 
-module _ {w w' before left : Core} {given : ℕ → Bool} (test : ℕ → Bool) (owner : Owner) (same : left.rows ≡ moved test owner w.rows) (f : FallsAnyhow before left given w') (k : HandleNumber) (row : HandleRow) where
+module _ {w w' before left : Core} {given : ℕ → Bool} (test : ℕ → Bool) (owner : Owner) (same : left.rows ≡ moved test owner w.rows)
+    (f : FallsAnyhow before left given w') (k : HandleNumber) (row : HandleRow) where
   pinned-row : find_row k.0 (moved test owner w.rows) ≡ Some row → is_pinning row.mode ≡ true → PinnedBefore w k row
   pinned-row at pins = let c = found-changed (λ r. test r.number.0) (λ r. record r { owner = owner }) (λ r. refl) k.0 w.rows row at in grind (arith, nat_tests)
 
-  pinned-by : (left_row : Option HandleRow) → find_row k.0 (left_rows f.falls.gone left.rows) ≡ left_row → or_else left_row (find_row k.0 f.falls.entries) ≡ Some row → is_pinning row.mode ≡ true → PinnedBefore w k row
+  pinned-by : (left_row : Option HandleRow) → find_row k.0 (left_rows f.falls.gone left.rows) ≡ left_row → or_else left_row (find_row k.0 f.falls.entries)
+      ≡ Some row → is_pinning row.mode ≡ true → PinnedBefore w k row
   pinned-by (Some other) at is pins =
       let l = find-left f.falls.gone k.0 left.rows in
       let there : find_row k.0 left.rows ≡ Some other = grind (arith, nat_tests) in
@@ -152,7 +174,8 @@ module _ {w w' before left : Core} {given : ℕ → Bool} (test : ℕ → Bool) 
 
   pinned-before : row_at w' k ≡ Some row → is_pinning row.mode ≡ true → PinnedBefore w k row
   pinned-before live =
-      pinned-by _ refl (sym (find-both k.0 (left_rows f.falls.gone left.rows) f.falls.entries) ∙ ap (λ rows. find_row k.0 rows) (sym f.falls.leaves.rows) ∙ live)
+      pinned-by _ refl (sym (find-both k.0 (left_rows f.falls.gone left.rows) f.falls.entries) ∙ ap (λ rows. find_row k.0 rows) (sym f.falls.leaves.rows)
+      ∙ live)
 
 module _ {N : Type 0} (E : Type 0) (v : Values N) (me : Owner) (own : Own) where
   abbrev reading : Reading
@@ -164,58 +187,121 @@ module _ {N : Type 0} (E : Type 0) (v : Values N) (me : Owner) (own : Own) where
   pub met : {does : Core → Type 0} {s t : PagerState N E} {e : Error} → Called v does s t → Meets v s.core me reading e t.core → Met v me reading s e t
   met c m = record { meets = m; moves = none_comes c.moves; holds = λ w. none_comes c.moves }
 
-  went : {does : Core → Type 0} {s t : PagerState N E} {answer : Option (LoadAnswer N)} {frames : List Frame} → Called v does s t → IfReads answer (HoldsPinned v t) → Does v s.core me reading answer frames t.core → ReadingStep v me reading s answer frames t
+  went : {does : Core → Type 0} {s t : PagerState N E} {answer : Option (LoadAnswer N)} {frames : List Frame} → Called v does s t
+      → IfReads answer (HoldsPinned v t) → Does v s.core me reading answer frames t.core → ReadingStep v me reading s answer frames t
   went c h d = record { does = record { does = d }; moves = none_comes c.moves; holds = λ w. none_comes c.moves; answers = h; whole = c.whole }
 
   -- a value that comes is this one, which holds what the handles of its good references pin
-  came-held : (x : N) {where_to : ℕ → Type 0} {s t : PagerState N E} → references_fault s.core (Owner.Load own.load) [] (v.references x) ≡ None → HoldsPinned v s x → Moves (λ n y. (y ≡ x) × where_to n) s t
+  came-held : (x : N) {where_to : ℕ → Type 0} {s t : PagerState N E} → references_fault s.core (Owner.Load own.load) [] (v.references x) ≡ None
+      → HoldsPinned v s x → Moves (λ n y. (y ≡ x) × where_to n) s t
       → WellFormed v s → Moves (λ n y. HoldsItsNodes v s y) s t
-  came-held x {s = s} good pinned m whole = comes_as (λ n y came. subst (HoldsItsNodes v s) (sym came.0) (pinned_law E v s (Owner.Load own.load) x whole good pinned)) m
+  came-held x {s = s} good pinned m whole = comes_as (λ n y came. subst (HoldsItsNodes v s) (sym came.0)
+      (pinned_law E v s (Owner.Load own.load) x whole good pinned)) m
 
-  goes : {s t : PagerState N E} {answer : Option (LoadAnswer N)} {frames : List Frame} → (IsLoadOf s.core me own → ReadingStep v me reading s answer frames t) → Tries v me own s (Ok answer) frames t
+  goes : {s t : PagerState N E} {answer : Option (LoadAnswer N)} {frames : List Frame} → (IsLoadOf s.core me own → ReadingStep v me reading s answer frames t)
+      → Tries v me own s (Ok answer) frames t
   goes f = record { does = f; meets = λ is. tt }
 
   pub fails : {s t : PagerState N E} {e : Error} {frames : List Frame} → (IsLoadOf s.core me own → Met v me reading s e t) → Tries v me own s (Err e) frames t
   fails f = record { does = λ is. tt; meets = f }
 
   module _ (first : frames_of own.top own.below.items ≡ []) where
-    pub root_comes : (blob : Blob) (frames : List Frame) → frames ≡ root_frame own.key own.node_type blob ∷ [] → (s t : PagerState N E) → Called v (λ w'. AskCall s.core me own.load Want.Root (Ok (from_store blob)) w') s t → Tries v me own s (Ok None) frames t
-    root_comes blob frames is s t c = goes (λ o. went c tt (inl (record { load = o.load; blob = blob; first = first; open_load = o.owned.stands_open; asked = c.step; goes = is ∙ ap (λ k. root_frame k own.node_type blob ∷ []) (sym o.key) })))
+    pub root_comes : (blob : Blob) (frames : List Frame) → frames ≡ root_frame own.key own.node_type blob ∷ [] → (s t : PagerState N E)
+        → Called v (λ w'. AskCall s.core me own.load Want.Root (Ok (from_store blob)) w') s t → Tries v me own s (Ok None) frames t
+    root_comes blob frames is s t c = goes (λ o. went c tt (inl (record {
+      load = o.load;
+      blob = blob;
+      first = first;
+      open_load = o.owned.stands_open;
+      asked = c.step;
+      goes = is ∙ ap (λ k. root_frame k own.node_type blob ∷ []) (sym o.key);
+    })))
 
   module _ (kind : Kind) (key : ℕ) (top : Held) (under : List Held) (was : frames_of own.top own.below.items ≡ frame_of top ∷ onto [] under) where
-    got_goes : (w : Core) (r : ArcRef) (frames : List Frame) → frames ≡ record (frame_of top) { got = top.got.items ++ r ∷ [] } ∷ onto [] under → (m : IsMade w kind r) → frames ≡ with_got kind m.row reading.frames
-    got_goes w r frames is m = is ∙ ap (λ (x : ArcRef). record (frame_of top) { got = top.got.items ++ x ∷ [] } ∷ onto [] under) m.is ∙ ap (with_got kind m.row) (sym was)
+    got_goes : (w : Core) (r : ArcRef) (frames : List Frame) → frames ≡ record (frame_of top) { got = top.got.items ++ r ∷ [] } ∷ onto [] under
+        → (m : IsMade w kind r) → frames ≡ with_got kind m.row reading.frames
+    got_goes w r frames is m = is ∙ ap (λ (x : ArcRef). record (frame_of top) { got = top.got.items ++ x ∷ [] } ∷ onto [] under) m.is
+        ∙ ap (with_got kind m.row) (sym was)
 
     deep : length reading.frames ≡ length under + 1
     deep = let l = length_onto [] under in ap length was ∙ omega (arith, l)
 
     module _ {B : Type 0} (see : B → Blob) (need : need_of v.types reading.frames ≡ needs_nested kind key) where
-      pub nested_known : (r : ArcRef) (frames : List Frame) → frames ≡ record (frame_of top) { got = top.got.items ++ r ∷ [] } ∷ onto [] under → (s t : PagerState N E) → Called v (λ w'. AsksFor see s.core me own.load kind key (Ok (Either.Left r)) w') s t → Tries v me own s (Ok None) frames t
-      nested_known r frames is s t c = goes (λ o. went c tt (inr (inl (record { kind = kind; key = key; k = r.handle; row = c.step.made.row; needs = need; asked = c.step.asked; made = c.step.made.live; goes = got_goes t.core r frames is c.step.made }))))
+      pub nested_known : (r : ArcRef) (frames : List Frame) → frames ≡ record (frame_of top) { got = top.got.items ++ r ∷ [] } ∷ onto [] under
+          → (s t : PagerState N E) → Called v (λ w'. AsksFor see s.core me own.load kind key (Ok (Either.Left r)) w') s t → Tries v me own s (Ok None) frames t
+      nested_known r frames is s t c = goes (λ o. went c tt (inr (inl (record {
+        kind = kind;
+        key = key;
+        k = r.handle;
+        row = c.step.made.row;
+        needs = need;
+        asked = c.step.asked;
+        made = c.step.made.live;
+        goes = got_goes t.core r frames is c.step.made;
+      }))))
 
-      pub nested_blob : (blob : B) (frames : List Frame) → frames ≡ nested_frame kind key (see blob) ∷ frame_of top ∷ onto [] under → length under < longest_path → (s t : PagerState N E) → Called v (λ w'. AsksFor see s.core me own.load kind key (Ok (Either.Right blob)) w') s t → Tries v me own s (Ok None) frames t
-      nested_blob blob frames is short s t c = goes (λ o. went c tt (inr (inr (inl (record { kind = kind; key = key; blob = see blob; needs = need; short = omega (arith, deep, short); asked = c.step.asked; goes = is ∙ ap (λ fs. nested_frame kind key (see blob) ∷ fs) (sym was) })))))
+      pub nested_blob : (blob : B) (frames : List Frame) → frames ≡ nested_frame kind key (see blob) ∷ frame_of top ∷ onto [] under
+          → length under < longest_path → (s t : PagerState N E) → Called v (λ w'. AsksFor see s.core me own.load kind key (Ok (Either.Right blob)) w') s t
+          → Tries v me own s (Ok None) frames t
+      nested_blob blob frames is short s t c = goes (λ o. went c tt (inr
+          (inr (inl (record {
+            kind = kind;
+            key = key;
+            blob = see blob;
+            needs = need;
+            short = omega (arith, deep, short);
+            asked = c.step.asked;
+            goes = is ∙ ap (λ fs. nested_frame kind key (see blob) ∷ fs) (sym was);
+          })))))
 
-      pub nested_deep : (blob : B) (e : Error) (frames : List Frame) → e ≡ Error.TooDeep → longest_path ≤ length under → (s t : PagerState N E) → Called v (λ w'. AsksFor see s.core me own.load kind key (Ok (Either.Right blob)) w') s t → Tries v me own s (Err e) frames t
-      nested_deep blob e frames is long s t c = fails (λ o. met c (inr (inr (inl (kind, key, need, inr (see blob, is, (omega (arith, deep, long)), c.step.asked))))))
+      pub nested_deep : (blob : B) (e : Error) (frames : List Frame) → e ≡ Error.TooDeep → longest_path ≤ length under → (s t : PagerState N E)
+          → Called v (λ w'. AsksFor see s.core me own.load kind key (Ok (Either.Right blob)) w') s t → Tries v me own s (Err e) frames t
+      nested_deep blob e frames is long s t c = fails (λ o. met c (inr (inr
+          (inl (kind, key, need, inr (see blob, is, (omega (arith, deep, long)), c.step.asked))))))
 
     module _ (need : need_of v.types reading.frames ≡ needs_lazy kind key) where
-      pub lazy_comes : (r : ArcRef) (frames : List Frame) → frames ≡ record (frame_of top) { got = top.got.items ++ r ∷ [] } ∷ onto [] under → (s t : PagerState N E) → Called v (λ w'. TakesLazily s.core me own.load kind key (Ok r) w') s t → Tries v me own s (Ok None) frames t
-      lazy_comes r frames is s t c = goes (λ o. went c tt (inr (inr (inr (inl (record { kind = kind; key = key; k = r.handle; row = c.step.made.row; needs = need; asked = c.step.taken; made = c.step.made.live; goes = got_goes t.core r frames is c.step.made }))))))
+      pub lazy_comes : (r : ArcRef) (frames : List Frame) → frames ≡ record (frame_of top) { got = top.got.items ++ r ∷ [] } ∷ onto [] under
+          → (s t : PagerState N E) → Called v (λ w'. TakesLazily s.core me own.load kind key (Ok r) w') s t → Tries v me own s (Ok None) frames t
+      lazy_comes r frames is s t c = goes (λ o. went c tt (inr (inr (inr
+          (inl (record {
+            kind = kind;
+            key = key;
+            k = r.handle;
+            row = c.step.made.row;
+            needs = need;
+            asked = c.step.taken;
+            made = c.step.made.live;
+            goes = got_goes t.core r frames is c.step.made;
+          }))))))
 
-  module _ (x : N) (node : ReadsNode v reading x) (top under : Held) (rest : List Held) (was : frames_of own.top own.below.items ≡ frame_of top ∷ frame_of under ∷ onto [] rest) where
+  module _ (x : N) (node : ReadsNode v reading x) (top under : Held) (rest : List Held)
+      (was : frames_of own.top own.below.items ≡ frame_of top ∷ frame_of under ∷ onto [] rest) where
     -- the same by the blobs that were taken off
     abbrev own_node : ReadsNode v reading x
     own_node = let is : frame_of top ≡ node.top = let e : frame_of top ∷ frame_of under ∷ onto [] rest ≡ node.top ∷ node.below = sym was ∙ node.frames in cc in
-        record { top = frame_of top; below = frame_of under ∷ onto [] rest; frames = was; needs = node.needs; decoded = subst (λ (f : Frame). IsDecoded v f x) (sym is) node.decoded }
+        record {
+          top = frame_of top;
+          below = frame_of under ∷ onto [] rest;
+          frames = was;
+          needs = node.needs;
+          decoded = subst (λ (f : Frame). IsDecoded v f x) (sym is) node.decoded;
+        }
 
     brought : {s t : PagerState N E} → Moves (λ n y. (y ≡ x) × IsNewNode s.core n) s t → Moves (ReadingBrings v s.core reading) s t
     brought {s} m = comes_as (λ n y came. inl (subst (ReadsNode v reading) (sym came.0) node, came.1)) m
 
-    pub adopt_comes : (r : ArcRef) (frames : List Frame) → frames ≡ record (frame_of under) { got = under.got.items ++ r ∷ [] } ∷ onto [] rest → (s t : PagerState N E) → HoldsPinned v s x
-        → Brings v (λ w'. AdoptsValue s.core me own.load top.kind top.key x (v.node_type x) (v.references x) (Ok r) w') (λ n y. (y ≡ x) × IsNewNode s.core n) s t → Tries v me own s (Ok None) frames t
+    pub adopt_comes : (r : ArcRef) (frames : List Frame) → frames ≡ record (frame_of under) { got = under.got.items ++ r ∷ [] } ∷ onto [] rest
+        → (s t : PagerState N E) → HoldsPinned v s x
+        → Brings v (λ w'. AdoptsValue s.core me own.load top.kind top.key x (v.node_type x) (v.references x) (Ok r) w')
+        (λ n y. (y ≡ x) × IsNewNode s.core n) s t → Tries v me own s (Ok None) frames t
     adopt_comes r frames is s t pinned c =
-        goes (λ o. record { does = record { does = inr (inr (inr (inr made))) }; moves = brought c.moves; holds = came-held x c.step.adopted.adopts.good pinned c.moves; answers = tt; whole = c.whole })
+        goes (λ o. record {
+          does = record { does = inr (inr (inr (inr made))) };
+          moves = brought c.moves;
+          holds = came-held x c.step.adopted.adopts.good pinned c.moves;
+          answers = tt;
+          whole = c.whole;
+        })
       where
         made : MakesNode v s.core me reading frames t.core
         made =
@@ -223,9 +309,14 @@ module _ {N : Type 0} (E : Type 0) (v : Values N) (me : Owner) (own : Own) where
             record { x = x; reads_node = own_node; k = r.handle; row = c.step.made.row; adopted = c.step.adopted; made = c.step.made.live; goes = goes }
 
     pub adopt_refused : (e : Error × N) (frames : List Frame) (s t : PagerState N E)
-        → Brings v (λ w'. AdoptsValue s.core me own.load top.kind top.key x (v.node_type x) (v.references x) (Err e) w') (λ n y. (y ≡ x) × IsNewNode s.core n) s t → Tries v me own s (Err e.0) frames t
+        → Brings v (λ w'. AdoptsValue s.core me own.load top.kind top.key x (v.node_type x) (v.references x) (Err e) w')
+        (λ n y. (y ≡ x) × IsNewNode s.core n) s t → Tries v me own s (Err e.0) frames t
     adopt_refused e frames s t c = fails (λ o. record {
-      meets = inr (inr (inr (inr (inl (record { x = x; reads_node = own_node; adopted = record { adopts = tt; refused = (refl, c.step.adopted.refused.1) } })))));
+      meets = inr (inr (inr (inr (inl (record {
+        x = x;
+        reads_node = own_node;
+        adopted = record { adopts = tt; refused = (refl, c.step.adopted.refused.1) };
+      })))));
       moves = brought c.moves;
       holds = unmoved v c.step.adopted.refused.1.stays c.whole c.moves;
     })
@@ -237,20 +328,42 @@ module _ {N : Type 0} (E : Type 0) (v : Values N) (me : Owner) (own : Own) where
     comes : {s t : PagerState N E} → Moves (λ n y. (y ≡ x) × IsCellOf s.core own.load n) s t → Moves (ReadingBrings v s.core reading) s t
     comes {s} m = comes_as (λ n y came. inr (subst (ReadsRoot v reading) (sym came.0) root, came.1)) m
 
-    pub end_pins : (k : HandleNumber) (frames : List Frame) → frames ≡ [] → (s t : PagerState N E) → HoldsPinned v s x → Brings v (λ w'. EndCall s.core me own.load x (v.node_type x) (v.references x) (Ok k) w') (λ n y. (y ≡ x) × IsCellOf s.core own.load n) s t → Tries v me own s (Ok (Some (LoadAnswer.Pinned k))) frames t
+    pub end_pins : (k : HandleNumber) (frames : List Frame) → frames ≡ [] → (s t : PagerState N E) → HoldsPinned v s x
+        → Brings v (λ w'. EndCall s.core me own.load x (v.node_type x) (v.references x) (Ok k) w') (λ n y. (y ≡ x) × IsCellOf s.core own.load n) s t
+        → Tries v me own s (Ok (Some (LoadAnswer.Pinned k))) frames t
     end_pins k frames none s t pinned c =
-        goes (λ o. record { does = record { does = (record { x = x; reads_root = root; of_cell_load = for_cell s.core o; ended = c.step }, none) }; moves = comes c.moves; holds = came-held x c.step.installs.2.good pinned c.moves; answers = tt; whole = c.whole })
+        goes (λ o. record {
+          does = record { does = (record { x = x; reads_root = root; of_cell_load = for_cell s.core o; ended = c.step }, none) };
+          moves = comes c.moves;
+          holds = came-held x c.step.installs.2.good pinned c.moves;
+          answers = tt;
+          whole = c.whole;
+        })
 
-    pub end_closed : (e : Error) (frames : List Frame) → frames ≡ [] → (s t : PagerState N E) → HoldsPinned v s x → Brings v (λ w'. EndCall s.core me own.load x (v.node_type x) (v.references x) (Err (e, None)) w') (λ n y. (y ≡ x) × IsCellOf s.core own.load n) s t → Tries v me own s (Ok (Some (LoadAnswer.Refused e))) frames t
+    pub end_closed : (e : Error) (frames : List Frame) → frames ≡ [] → (s t : PagerState N E) → HoldsPinned v s x
+        → Brings v (λ w'. EndCall s.core me own.load x (v.node_type x) (v.references x) (Err (e, None)) w') (λ n y. (y ≡ x) × IsCellOf s.core own.load n) s t
+        → Tries v me own s (Ok (Some (LoadAnswer.Refused e))) frames t
     end_closed e frames none s t pinned c =
-        goes (λ o. record { does = record { does = (inr (record { x = x; reads_root = root; ended = c.step }), none) }; moves = comes c.moves; holds = came-held x c.step.refused.may.good pinned c.moves; answers = tt; whole = c.whole })
+        goes (λ o. record {
+          does = record { does = (inr (record { x = x; reads_root = root; ended = c.step }), none) };
+          moves = comes c.moves;
+          holds = came-held x c.step.refused.may.good pinned c.moves;
+          answers = tt;
+          whole = c.whole;
+        })
 
-    pub end_refused : (e : Error) (y : N) (frames : List Frame) (s t : PagerState N E) → Brings v (λ w'. EndCall s.core me own.load x (v.node_type x) (v.references x) (Err (e, Some y)) w') (λ n z. (z ≡ x) × IsCellOf s.core own.load n) s t → Tries v me own s (Err e) frames t
+    pub end_refused : (e : Error) (y : N) (frames : List Frame) (s t : PagerState N E)
+        → Brings v (λ w'. EndCall s.core me own.load x (v.node_type x) (v.references x) (Err (e, Some y)) w') (λ n z. (z ≡ x) × IsCellOf s.core own.load n) s t
+        → Tries v me own s (Err e) frames t
     end_refused e y frames s t c = fails (λ o. record {
       meets = inr (inr (inr (inr (inr (record {
         x = x;
         reads_root = root;
-        refuses = inl (for_cell s.core o, subst (λ z. EndCall s.core me own.load x (v.node_type x) (v.references x) (Err (e, Some z)) t.core) c.step.refused.0 c.step);
+        refuses = inl (
+          for_cell s.core o,
+          subst (λ z. EndCall s.core me own.load x (v.node_type x) (v.references x) (Err (e, Some z)) t.core) c.step.refused.0
+              c.step,
+        );
       })))));
       moves = comes c.moves;
       holds = unmoved v c.step.refused.1.stays c.whole c.moves;
@@ -266,14 +379,27 @@ module _ {N : Type 0} (E : Type 0) (v : Values N) (me : Owner) (own : Own) where
           let (row, live, (pins, held)) = value.found in
           let left = record (without_load s.core own.load) { rows = moved (is_in (numbers_of named)) me s.core.rows } in
           let p = pinned-before {w = s.core} {left = left} (is_in (numbers_of named)) me refl c.step.hands.1 r.handle row live pins in
-          pinned.each r y (record { found = (p.was, p.live, (p.pins, ap (λ (n : NodeNumber). s.values n.0) p.at ∙ was-held c.moves row.node.0 y held)); refused = tt });
+          pinned.each r y (record {
+            found = (p.was, p.live, (p.pins, ap (λ (n : NodeNumber). s.values n.0) p.at ∙ was-held c.moves row.node.0 y held));
+            refused = tt;
+          });
     }
 
-    pub hands_over : (frames : List Frame) → frames ≡ [] → (s t : PagerState N E) → HoldsPinned v s x → Called v (λ w'. HandOverCall s.core me own.load named (Ok tt) w') s t → Tries v me own s (Ok (Some (LoadAnswer.Read x))) frames t
-    hands_over frames none s t pinned c = goes (λ o. went c (handed-holds c pinned) (record { reads_root = root; of_key_load = for_key s.core o; handed = subst (λ hs. HandOverCall s.core me own.load hs (Ok tt) t.core) is c.step }, none))
+    pub hands_over : (frames : List Frame) → frames ≡ [] → (s t : PagerState N E) → HoldsPinned v s x
+        → Called v (λ w'. HandOverCall s.core me own.load named (Ok tt) w') s t → Tries v me own s (Ok (Some (LoadAnswer.Read x))) frames t
+    hands_over frames none s t pinned c = goes (λ o. went c (handed-holds c pinned) (
+      record { reads_root = root; of_key_load = for_key s.core o; handed = subst (λ hs. HandOverCall s.core me own.load hs (Ok tt) t.core) is c.step },
+      none,
+    ))
 
-    pub hand_over_refused : (e : Error) (frames : List Frame) (s t : PagerState N E) → Called v (λ w'. HandOverCall s.core me own.load named (Err e) w') s t → Tries v me own s (Err e) frames t
-    hand_over_refused e frames s t c = fails (λ o. met c (inr (inr (inr (inr (inr (record { x = x; reads_root = root; refuses = inr (for_key s.core o, subst (λ hs. HandOverCall s.core me own.load hs (Err e) t.core) is c.step) })))))))
+    pub hand_over_refused : (e : Error) (frames : List Frame) (s t : PagerState N E) → Called v (λ w'. HandOverCall s.core me own.load named (Err e) w') s t
+        → Tries v me own s (Err e) frames t
+    hand_over_refused e frames s t c = fails (λ o. met c (inr (inr (inr (inr
+        (inr (record {
+          x = x;
+          reads_root = root;
+          refuses = inr (for_key s.core o, subst (λ hs. HandOverCall s.core me own.load hs (Err e) t.core) is c.step);
+        })))))))
 
   -- ---- a refusal gives the load up
 
@@ -281,12 +407,16 @@ module _ {N : Type 0} (E : Type 0) (v : Values N) (me : Owner) (own : Own) where
   stays_open : (w w' : Core) (e : Error) → Meets v w me reading e w' → w'.loads own.load.0 ≡ w.loads own.load.0
   stays_open w w' e m = grind (arith, common_steps, nat_tests)
 
-  pub gives_up : (e : Error) (l : LoadNumber) (frames none : List Frame) → l ≡ own.load → none ≡ [] → (s mid t : PagerState N E) → Tries v me own s (Err e) frames mid → Drops v me l mid t
+  pub gives_up : (e : Error) (l : LoadNumber) (frames none : List Frame) → l ≡ own.load → none ≡ [] → (s mid t : PagerState N E)
+      → Tries v me own s (Err e) frames mid → Drops v me l mid t
       → Tries v me own s (Ok (Some (LoadAnswer.Refused e))) none t
   gives_up e l frames none at is s mid t tried dropped = goes (λ o.
       let d = subst (λ n. Drops v me n mid t) at dropped in
       let m = tried.meets o in
-      let open_load : OwnsLoad mid.core me own.load o.load = record { stands_open = stays_open s.core mid.core e m.meets ∙ o.owned.stands_open; own = o.owned.own } in
+      let open_load : OwnsLoad mid.core me own.load o.load = record {
+        stands_open = stays_open s.core mid.core e m.meets ∙ o.owned.stands_open;
+        own = o.owned.own;
+      } in
       record {
         does = record { does = (inl (record { mid = mid.core; meets = m.meets; told = d.told; closes = grind (arith, nat_tests) }), is) };
         moves = moves_then m.moves d.call.moves;
@@ -323,19 +453,30 @@ pushed_at : {X : Type 0} (xs : List X) (y : X) (k : ℕ) → k < length xs + 1
 pushed_at [] y zero less = inr (refl, refl)
 pushed_at [] y (suc k) less = absurd (omega (arith, less))
 pushed_at (x ∷ xs) y zero less = inl (omega arith, refl)
-pushed_at (x ∷ xs) y (suc k) less = elim (pushed_at xs y k (omega (arith, less))) [ inl (l, is) ↦ inl (omega (arith, l), is) | inr (l, is) ↦ inr (ap suc l, is) ]
+pushed_at (x ∷ xs) y (suc k) less = elim (pushed_at xs y k (omega (arith, less)))
+    [ inl (l, is) ↦ inl (omega (arith, l), is) | inr (l, is) ↦ inr (ap suc l, is) ]
 
 -- what stands at a place of two lists, one behind the other
-joined_at : {X : Type 0} (xs ys : List X) (k : ℕ) (x : X) → slice_get (xs ++ ys) k ≡ Some x → (slice_get xs k ≡ Some x) ⊎ ((slice_get ys (k - length xs) ≡ Some x) × (length xs ≤ k))
+joined_at : {X : Type 0} (xs ys : List X) (k : ℕ) (x : X) → slice_get (xs ++ ys) k ≡ Some x → (slice_get xs k ≡ Some x)
+    ⊎ ((slice_get ys (k - length xs) ≡ Some x) × (length xs ≤ k))
 joined_at [] ys k x at = inr (let e : k - 0 ≡ k = omega arith in rw e at, omega arith)
 joined_at (y ∷ xs) ys zero x at = inl at
-joined_at (y ∷ xs) ys (suc k) x at = elim (joined_at xs ys k x at) [ inl here ↦ inl here | inr (there, past) ↦ inr (let e : suc k - suc (length xs) ≡ k - length xs = omega arith in rw e there, omega (arith, past)) ]
+joined_at (y ∷ xs) ys (suc k) x at = elim (joined_at xs ys k x at) [
+  | inl here ↦ inl here
+  | inr (there, past) ↦ inr (let e : suc k - suc (length xs) ≡ k - length xs = omega arith in rw e there, omega (arith, past))
+]
 
 -- of the handle of what stands for references nothing is lent
 unlent_like : {N E : Type 0} (s : PagerState N E) (r : ArcRef) → r.handle.0 ≡ 0 → Lends s (stand_in 0) None → Lends s r None
 unlent_like s r is nobody =
     let same : r.handle ≡ (stand_in 0).handle = ap (λ n. let h : HandleNumber = record { 0 = n } in h) is in
-    record { value = tt; none = elim nobody.none [ inl eager ↦ absurd (cc) | inr other ↦ inr (subst (λ h. ValueCall s h (Ok None) ⊎ IsSome (live_fault (row_at s.core h))) (sym same) other) ] }
+    record {
+      value = tt;
+      none = elim nobody.none [
+        | inl eager ↦ absurd (cc)
+        | inr other ↦ inr (subst (λ h. ValueCall s h (Ok None) ⊎ IsSome (live_fault (row_at s.core h))) (sym same) other)
+      ];
+    }
 
 module _ {A N E : Type 0} (see : A → N) (s : PagerState N E) (got : List ArcRef) where
   -- those before this place lend theirs
@@ -346,7 +487,8 @@ module _ {A N E : Type 0} (see : A → N) (s : PagerState N E) (got : List ArcRe
   pub none_lent : AreLater (length got) got → LendsEach see s got []
   none_lent later = grind (arith, nat_tests, slice_get_within, slice_get)
 
-  pub more_lent : (i : ℕ) (r : ArcRef) (lent : List (Option A)) (o : Option A) → length lent ≡ i → slice_get got i ≡ Some r → LentTo i lent → Lends s r (option_map see o) → LentTo (i + 1) (lent ++ o ∷ [])
+  pub more_lent : (i : ℕ) (r : ArcRef) (lent : List (Option A)) (o : Option A) → length lent ≡ i → slice_get got i ≡ Some r → LentTo i lent
+      → Lends s r (option_map see o) → LentTo (i + 1) (lent ++ o ∷ [])
   more_lent i r lent o same here to lends = grind (arith, nat_tests, pushed_at)
 
   -- all of them do
@@ -354,7 +496,8 @@ module _ {A N E : Type 0} (see : A → N) (s : PagerState N E) (got : List ArcRe
   all_lent i lent past few to = grind (arith, nat_tests, slice_get_within)
 
   -- what stands for references that weren't got lends nothing
-  pub more_unlent : (more : List ArcRef) (lent : List (Option A)) → LendsEach see s got lent → Lends s (stand_in 0) None → AreStandIns (length more) more → LendsEach see s (got ++ more) lent
+  pub more_unlent : (more : List ArcRef) (lent : List (Option A)) → LendsEach see s got lent → Lends s (stand_in 0) None → AreStandIns (length more) more
+      → LendsEach see s (got ++ more) lent
   more_unlent more lent lends nobody stand = record { each = each; few = omega (arith, lends.few, length-append got more) }
     where
       each : (place : ℕ) (r : ArcRef) → slice_get (got ++ more) place ≡ Some r → Lends s r (lent_at see lent place)
@@ -367,14 +510,17 @@ module _ {A N E : Type 0} (see : A → N) (s : PagerState N E) (got : List ArcRe
       ]
 
 -- a row of what was got and of what stands for more
-pub lends_row : {A N E : Type 0} (see : A → N) (s : PagerState N E) (got noted row : List ArcRef) (lent lent' : List (Option A)) → row ≡ got ++ noted → lent' ≡ lent → LendsEach see s got lent
-    → (found : Option A) → found ≡ None → (r : ArcRef) → r ≡ stand_in 0 → Lends s r (option_map see found) → AreStandIns (length noted) noted → LendsEach see s row lent'
+pub lends_row : {A N E : Type 0} (see : A → N) (s : PagerState N E) (got noted row : List ArcRef) (lent lent' : List (Option A)) → row ≡ got ++ noted → lent'
+    ≡ lent → LendsEach see s got lent
+    → (found : Option A) → found ≡ None → (r : ArcRef) → r ≡ stand_in 0 → Lends s r (option_map see found) → AreStandIns (length noted) noted
+    → LendsEach see s row lent'
 lends_row see s got noted row lent lent' is same lends found none r at nobody stand =
     let nothing = subst (λ x. Lends s x None) at (subst (λ f. Lends s r (option_map see f)) none nobody) in
     rw (is, same) (more_unlent see s got noted lent lends nothing stand)
 
 -- what is said of an answer is so of what was answered
-pub lent_so : {S X : Type 0} (P : S → X → Type 0) {o : Option S} (r : Result X Error) (x : X) → r ≡ Ok x → Tells o (λ s. IfOk r (λ y. P s y)) → Tells o (λ s. P s x)
+pub lent_so : {S X : Type 0} (P : S → X → Type 0) {o : Option S} (r : Result X Error) (x : X) → r ≡ Ok x → Tells o (λ s. IfOk r (λ y. P s y))
+    → Tells o (λ s. P s x)
 lent_so P {o} r x is h = subst (λ q. Tells o (λ s. IfOk q (λ y. P s y))) is h
 
 pub ruleset sharing = (nat_tests, tells_map, not_shared)
@@ -388,8 +534,13 @@ module _ {N : Type 0} (v : Values N) (me : Owner) where
 
 module _ {N E : Type 0} (v : Values N) (me : Owner) where
   module _ (own now : Own) (s m t : PagerState N E) (gone : HasGone v me own now s m) where
-    pub went_on : (next : Own) (frames : List Frame) → IsSameLoad now next (one_more now.steps) → frames ≡ frames_of next.top next.below.items → Tries v me now m (Ok None) frames t → HasGone v me own next s t
-    went_on next frames is_same is step = record { open_still = still; then = λ o answer u run. gone.then o answer u (load-goes-on (reading_of now) frames answer m t u (step.does (gone.open_still o)) (subst (λ r. LoadRun v me r t answer u) same run)) }
+    pub went_on : (next : Own) (frames : List Frame) → IsSameLoad now next (one_more now.steps) → frames ≡ frames_of next.top next.below.items
+        → Tries v me now m (Ok None) frames t → HasGone v me own next s t
+    went_on next frames is_same is step = record {
+      open_still = still;
+      then = λ o answer u run. gone.then o answer u
+          (load-goes-on (reading_of now) frames answer m t u (step.does (gone.open_still o)) (subst (λ r. LoadRun v me r t answer u) same run));
+    }
       where
         same : reading_of next ≡ gone_on (reading_of now) frames
         same = rw (is_same.load, is_same.node_type, is_same.steps, is) refl
@@ -400,7 +551,8 @@ module _ {N E : Type 0} (v : Values N) (me : Owner) where
     pub ends_so : (answer : LoadAnswer N) (frames : List Frame) → Tries v me now m (Ok (Some answer)) frames t → Runs v me own s answer t
     ends_so answer frames step = first_of (grind (arith, common_steps, nat_tests), grind (arith, nat_tests, load-ends), search (rules, load-ends))
 
-    pub goes_or_ends : (next : Own) (frames : List Frame) (answer : Option (LoadAnswer N)) → IsSameLoad now next (one_more now.steps) → frames ≡ frames_of next.top next.below.items
+    pub goes_or_ends : (next : Own) (frames : List Frame) (answer : Option (LoadAnswer N)) → IsSameLoad now next (one_more now.steps) → frames
+        ≡ frames_of next.top next.below.items
         → Tries v me now m (Ok answer) frames t → RunsOrGoes v me own next s answer t
     goes_or_ends next frames None is_same is step = went_on next frames is_same is step
     goes_or_ends next frames (Some answer) is_same is step = ends_so answer frames step
@@ -413,15 +565,18 @@ pub ruleset driving = (nat_tests, acts_then, went_on, ends_so)
 
 -- ---- a pin with its loads, and how it is taken back; and the reading of a key
 
-pub begun_is : (w w' : Core) (l : LoadNumber) (key : ℕ) (root : Root) (me : Owner) → l.0 ≡ w.last.load + 1 → Alike (with_load w key root me) w' → w'.loads l.0 ≡ Some (record { owner = me; key = key; root = root })
+pub begun_is : (w w' : Core) (l : LoadNumber) (key : ℕ) (root : Root) (me : Owner) → l.0 ≡ w.last.load + 1 → Alike (with_load w key root me) w' → w'.loads l.0
+    ≡ Some (record { owner = me; key = key; root = root })
 begun_is w w' l key root me next a = first_of (grind (arith, common_steps, nat_tests), search (rules))
 
 module _ {N E : Type 0} (v : Values N) (me : Owner) (mine : me ≡ Owner.Caller) where
   module _ (own : Own) (l : LoadNumber) (key t : ℕ) (is : reading_of own ≡ fresh l t) (under : own.key ≡ key) where
-    runs_on : {s t' : PagerState N E} {answer : LoadAnswer N} → IsLoadOf s.core me own → Runs v me own s answer t' → LoadRun v Owner.Caller (fresh l t) s answer t'
+    runs_on : {s t' : PagerState N E} {answer : LoadAnswer N} → IsLoadOf s.core me own → Runs v me own s answer t'
+        → LoadRun v Owner.Caller (fresh l t) s answer t'
     runs_on {s} {t'} {answer} o r = subst (λ m. LoadRun v m (fresh l t) s answer t') mine (subst (λ x. LoadRun v me x s answer t') is (r.run o))
 
-    module _ (h : HandleNumber) (cell : own.for_cell ≡ true) (s mid : PagerState N E) (c : Called v (λ w'. StartsPin s.core me h (Ok (PinStart.Load l key t)) w') s mid) where
+    module _ (h : HandleNumber) (cell : own.for_cell ≡ true) (s mid : PagerState N E)
+        (c : Called v (λ w'. StartsPin s.core me h (Ok (PinStart.Load l key t)) w') s mid) where
       open_load : IsLoadOf mid.core me own
       open_load = first_of (grind (arith, common_steps, nat_tests), search (rules))
 
@@ -429,10 +584,20 @@ module _ {N E : Type 0} (v : Values N) (me : Owner) (mine : me ≡ Owner.Caller)
       calls = record { step = subst (λ m. BeginCall s.core m h (Ok (Beginning.Load l key)) mid.core) mine c.step.starts.0; moves = c.moves; whole = c.whole }
 
       pub load_pinned : (k : HandleNumber) (s' : PagerState N E) → Runs v me own mid (LoadAnswer.Pinned k) s' → PinsFirst v s h (Ok (k, true)) s'
-      load_pinned k s' r = record { pinned = (load-pins k (fresh l t) mid s' (record { key = key; begins = calls; is = c.step.starts.2 }) (runs_on open_load r), sym c.step.starts.1); refused = tt }
+      load_pinned k s' r = record {
+        pinned = (
+          load-pins k (fresh l t) mid s' (record { key = key; begins = calls; is = c.step.starts.2 }) (runs_on open_load r),
+          sym c.step.starts.1,
+        );
+        refused = tt;
+      }
 
       pub load_failed : (e : Error) (s' : PagerState N E) → Runs v me own mid (LoadAnswer.Refused e) s' → PinsFirst v s h (Err e) s'
-      load_failed e s' r = record { pinned = tt; refused = load-fails e (fresh l t) mid s' (record { key = key; begins = calls; is = c.step.starts.2 }) (runs_on open_load r) }
+      load_failed e s' r = record {
+        pinned = tt;
+        refused = load-fails e (fresh l t) mid s' (record { key = key; begins = calls; is = c.step.starts.2 })
+            (runs_on open_load r);
+      }
 
     module _ (sort : own.for_cell ≡ false) (s mid : PagerState N E) (c : Called v (λ w'. BeginKeyCall s.core me key (Ok (Beginning.Load l key)) w') s mid) where
       open_key : IsLoadOf mid.core me own
@@ -440,7 +605,10 @@ module _ {N E : Type 0} (v : Values N) (me : Owner) (mine : me ≡ Owner.Caller)
           let b = c.step.begins in
           record {
             load = record { owner = me; key = key; root = of_key };
-            owned = record { stands_open = ap (λ (r : Reading). mid.core.loads r.load.0) is ∙ begun_is s.core mid.core l key of_key me b.1.above b.2; own = refl };
+            owned = record {
+              stands_open = ap (λ (r : Reading). mid.core.loads r.load.0) is ∙ begun_is s.core mid.core l key of_key me b.1.above b.2;
+              own = refl;
+            };
             key = sym under;
             sort = sym sort;
           }
@@ -451,18 +619,40 @@ module _ {N E : Type 0} (v : Values N) (me : Owner) (mine : me ≡ Owner.Caller)
       pub key_failed : (e : Error) (s' : PagerState N E) → Runs v me own mid (LoadAnswer.Refused e) s' → ReadsOver v s key t (Err e) s'
       key_failed e s' r = record { run = reading-fails e l mid s' (rw mine at c) (runs_on open_key r) }
 
-  pub key_refused : (key t : ℕ) (e : Error) (s s' : PagerState N E) → Called v (λ w'. BeginKeyCall s.core me key (Err e) w') s s' → ReadsOver v s key t (Err e) s'
-  key_refused key t e s s' c = record { run = reading-is-refused e s' (record { step = subst (λ m. BeginKeyCall s.core m key (Err e) s'.core) mine c.step; moves = c.moves; whole = c.whole }) }
+  pub key_refused : (key t : ℕ) (e : Error) (s s' : PagerState N E) → Called v (λ w'. BeginKeyCall s.core me key (Err e) w') s s'
+      → ReadsOver v s key t (Err e) s'
+  key_refused key t e s s' c = record {
+    run = reading-is-refused e s' (record {
+      step = subst (λ m. BeginKeyCall s.core m key (Err e) s'.core) mine c.step;
+      moves = c.moves;
+      whole = c.whole;
+    });
+  }
 
   -- ---- a pin
 
   module _ (h : HandleNumber) where
-    pub start_pinned : (k : HandleNumber) (was : Bool) (s s' : PagerState N E) → Called v (λ w'. StartsPin s.core me h (Ok (PinStart.Pinned k was)) w') s s' → PinsFirst v s h (Ok (k, was)) s'
+    pub start_pinned : (k : HandleNumber) (was : Bool) (s s' : PagerState N E) → Called v (λ w'. StartsPin s.core me h (Ok (PinStart.Pinned k was)) w') s s'
+        → PinsFirst v s h (Ok (k, was)) s'
     start_pinned k was s s' c =
-        record { pinned = (pins-at-once k s' (record { step = subst (λ m. PinCall s.core m h (Ok (Pinning.Pinned k)) s'.core) mine c.step.starts.0; moves = c.moves; whole = c.whole }), c.step.starts.1); refused = tt }
+        record {
+          pinned = (
+            pins-at-once k s' (record {
+              step = subst (λ m. PinCall s.core m h (Ok (Pinning.Pinned k)) s'.core) mine c.step.starts.0;
+              moves = c.moves;
+              whole = c.whole;
+            }),
+            c.step.starts.1,
+          );
+          refused = tt;
+        }
 
     pub start_refused : (e : Error) (s s' : PagerState N E) → Called v (λ w'. StartsPin s.core me h (Err e) w') s s' → PinsFirst v s h (Err e) s'
-    start_refused e s s' c = first_of (grind (arith, common_steps, nat_tests), grind (arith, nat_tests, pin-is-refused, load-is-refused), search (rules, pin-is-refused, load-is-refused))
+    start_refused e s s' c = first_of (
+      grind (arith, common_steps, nat_tests),
+      grind (arith, nat_tests, pin-is-refused, load-is-refused),
+      search (rules, pin-is-refused, load-is-refused),
+    )
 
 -- ---- how it is taken back
 
@@ -479,7 +669,8 @@ module _ {N E : Type 0} (v : Values N) (h : HandleNumber) where
   pin_whole (load-fails e now mid t starts run) = run_whole run
 
   -- the new handle pins
-  run_pins : {me : Owner} {reading : Reading} {s t : PagerState N E} {answer : LoadAnswer N} → NotValues me → WellFormed v s → LoadRun v me reading s answer t → (k : HandleNumber) → answer ≡ LoadAnswer.Pinned k → HasPin t.core k
+  run_pins : {me : Owner} {reading : Reading} {s t : PagerState N E} {answer : LoadAnswer N} → NotValues me → WellFormed v s → LoadRun v me reading s answer t
+      → (k : HandleNumber) → answer ≡ LoadAnswer.Pinned k → HasPin t.core k
   run_pins {me} free whole (load-ends now answer s t step) k is =
       let e = (subst (λ a. ReadingStep v me now s (Some a) [] t) is step).does.does.0 in
       (end-call s.core t.core (low-whole whole.whole.handles) me now.load e.x _ _ k free e.ended).pin
@@ -492,29 +683,48 @@ module _ {N E : Type 0} (v : Values N) (h : HandleNumber) where
       let alike = here.2 in
       let new = row_of (s.core.last.handle + 1) row.node Mode.Pinned Owner.Caller in
       let same : j ≡ k = cc in
-      let among : Among t.core.rows new = subst (λ rows. Among rows new) (sym alike.rows) (among-right (with_mode s.core h Mode.LoosePinned).rows (new ∷ []) 0 new refl) in
+      let among : Among t.core.rows new = subst (λ rows. Among rows new) (sym alike.rows)
+      (among-right (with_mode s.core h Mode.LoosePinned).rows (new ∷ []) 0 new refl) in
       record { row = new; live = found c.whole.whole.handles k.0 new among (sym next.above ∙ ap (λ (n : HandleNumber). n.0) same); is = refl }
   pin_pins r is (load-pins j now mid t starts run) = run_pins (λ n is. absurd (cc)) starts.begins.whole run _ (ap LoadAnswer.Pinned (cc))
   pin_pins r is run = absurd (cc)
 
   -- the handle was a loose one
-  pin_loose : {s t : PagerState N E} (r : Result HandleNumber Error) {k : HandleNumber} → r ≡ Ok k → PinRun v s h r t → (row : HandleRow) × (row_at s.core h ≡ Some row) × (is_loose row.mode ≡ true)
+  pin_loose : {s t : PagerState N E} (r : Result HandleNumber Error) {k : HandleNumber} → r ≡ Ok k → PinRun v s h r t → (row : HandleRow)
+      × (row_at s.core h ≡ Some row) × (is_loose row.mode ≡ true)
   pin_loose r is (pins-at-once k t c) = let p = c.step.pins in (p.0, p.1.live, p.1.as_asked)
   pin_loose r is (load-pins k now mid t starts run) = let p = starts.begins.step.begins in (p.0, p.1.live, p.1.as_asked)
   pin_loose r is run = absurd (cc)
 
-  back : (s mid low : PagerState N E) (was : Bool) (row : HandleRow) → row_at s.core h ≡ Some row → is_loose row.mode ≡ true → was ≡ is_unpinned row.mode → WellFormed v mid → Unpins v was h mid low → IsUnpinnedBack v s.core h mid low
+  back : (s mid low : PagerState N E) (was : Bool) (row : HandleRow) → row_at s.core h ≡ Some row → is_loose row.mode ≡ true → was ≡ is_unpinned row.mode
+      → WellFormed v mid → Unpins v was h mid low → IsUnpinnedBack v s.core h mid low
   back s mid low was row live loose is whole u = grind (arith, nat_tests, common_steps)
 
   -- ---- its answer
 
-  pub taken_back : {X : Type 0} (see : X → N) (k : HandleNumber) (was : Bool) (e : Error) (s mid t : PagerState N E) → PinsFirst v s h (Ok (k, was)) mid → SharesPinned see mid k (Err e)
+  pub taken_back : {X : Type 0} (see : X → N) (k : HandleNumber) (was : Bool) (e : Error) (s mid t : PagerState N E) → PinsFirst v s h (Ok (k, was)) mid
+      → SharesPinned see mid k (Err e)
       → TakesBack v was h k mid t
       → PinsOver v s h (Err e) t
   taken_back see k was e s mid t p shares b =
       let l = pin_loose (Ok k) refl p.pinned.0 in
       let is = p.pinned.1 ∙ ap (if_there (λ (row : HandleRow). is_unpinned row.mode) false) l.1 in
-      record { pins = tt; refused = inr (shares.refused (pin_pins (Ok k) refl p.pinned.0), record { k = k; mid = mid; low = b.low; told = b.told; pins = p.pinned.0; unpins = back s mid b.low was l.0 l.1 l.2 is (pin_whole p.pinned.0) b.unpins; releases = b.releases }) }
+      record {
+        pins = tt;
+        refused = inr (
+          shares.refused (pin_pins (Ok k) refl p.pinned.0),
+          record {
+            k = k;
+            mid = mid;
+            low = b.low;
+            told = b.told;
+            pins = p.pinned.0;
+            unpins = back s mid b.low was l.0 l.1 l.2 is (pin_whole p.pinned.0) b.unpins;
+            releases = b.releases;
+          },
+        );
+      }
 
-  pub takes_back : {me : Owner} → me ≡ Owner.Caller → (k : HandleNumber) (was : Bool) (s low t : PagerState N E) (told : Result (Unit {0}) Error) → Unpins v was h s low → Called v (λ w'. ReleaseCall low.core me k told w') low t → TakesBack v was h k s t
+  pub takes_back : {me : Owner} → me ≡ Owner.Caller → (k : HandleNumber) (was : Bool) (s low t : PagerState N E) (told : Result (Unit {0}) Error)
+      → Unpins v was h s low → Called v (λ w'. ReleaseCall low.core me k told w') low t → TakesBack v was h k s t
   takes_back mine k was s low t told u c = record { low = low; unpins = u; told = told; releases = rw mine at c }

@@ -13,7 +13,8 @@ pub record Acting (E : Type 0) : Type 0 where
 
 -- What an access does to the state, if it is told, depending on owner and environment; and the owner and environment
 -- afterwards.
-pub record ActsThen {A S E : Type 0} (told : A → Option S) (by : A → Acting E) (old new : A) (after : Acting E → Acting E) (does : Acting E → S → S → Type 0) : Type 0 where
+pub record ActsThen {A S E : Type 0} (told : A → Option S) (by : A → Acting E) (old new : A)
+    (after : Acting E → Acting E) (does : Acting E → S → S → Type 0) : Type 0 where
   pub step : Told (told old) (told new) (does (by old))
   pub acting : by new ≡ after (by old)
 
@@ -46,7 +47,8 @@ pub record Tells {S : Type 0} (s : Option S) (P : S → Type 0) : Type 0 where
   pub holds : IfSome s P
 
 -- A call that may bring a value into memory: what it does to the plain state, and which value it may bring where.
-pub record Brings {N E : Type 0} (v : Values N) (does : Core → Type 0) (comes : ℕ → N → Type 0) (s s' : PagerState N E) : Type 0 where
+pub record Brings {N E : Type 0} (v : Values N) (does : Core → Type 0) (comes : ℕ → N → Type 0)
+    (s s' : PagerState N E) : Type 0 where
   pub step : does s'.core
   pub moves : Moves comes s s'
   pub whole : WellFormed v s'
@@ -76,16 +78,19 @@ IsFoundMade w kind (Either.Left r) = IsMade w kind r
 IsFoundMade w kind (Either.Right blob) = Unit {0}
 
 -- a load asks for a reference, and gets a handle of the cache's node, or a blob
-pub record AsksFor {B : Type 0} (see : B → Blob) (w : Core) (me : Owner) (l : LoadNumber) (kind : Kind) (key : ℕ) (r : Result (Either ArcRef B) Error) (w' : Core) : Type 0 where
+pub record AsksFor {B : Type 0} (see : B → Blob) (w : Core) (me : Owner) (l : LoadNumber) (kind : Kind) (key : ℕ)
+    (r : Result (Either ArcRef B) Error) (w' : Core) : Type 0 where
   pub asked : AskCall w me l (Want.Nested kind key) (seen_as (found_as see) r) w'
   pub made : IfOk r (λ found. IsFoundMade w' kind found)
 
 -- a load takes a loose reference without reading it
-pub record TakesLazily (w : Core) (me : Owner) (l : LoadNumber) (kind : Kind) (key : ℕ) (r : Result ArcRef Error) (w' : Core) : Type 0 where
+pub record TakesLazily (w : Core) (me : Owner) (l : LoadNumber) (kind : Kind) (key : ℕ) (r : Result ArcRef Error)
+    (w' : Core) : Type 0 where
   pub taken : LazyCall w me l kind key (handle_of r) w'
   pub made : IfOk r (λ reference. IsMade w' kind reference)
 
 -- a load makes a node of a value that it has read, and gets a reference to it
-pub record AdoptsValue {N : Type 0} (w : Core) (me : Owner) (l : LoadNumber) (kind : Kind) (key : ℕ) (x : N) (node_type : ℕ) (references : List ArcRef) (r : Result ArcRef (Error × N)) (w' : Core) : Type 0 where
+pub record AdoptsValue {N : Type 0} (w : Core) (me : Owner) (l : LoadNumber) (kind : Kind) (key : ℕ) (x : N)
+    (node_type : ℕ) (references : List ArcRef) (r : Result ArcRef (Error × N)) (w' : Core) : Type 0 where
   pub adopted : AdoptCall w me l kind key x node_type references (handle_of r) w'
   pub made : IfOk r (λ reference. IsMade w' kind reference)

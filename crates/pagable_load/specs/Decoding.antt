@@ -26,7 +26,8 @@ pub record Decodes {N : Type 0} (v : Values N) (t : ℕ) (blob : Blob) (got : Li
   pub answers : Answers v t blob got d
 
 -- the result is what the blob reads as with these references, or a cause of the type's own
-pub record ReadsWith {N : Type 0} (v : Values N) (t : ℕ) (blob : Blob) (got : List ArcRef) (result : Result N Error) : Type 0 where
+pub record ReadsWith {N : Type 0} (v : Values N) (t : ℕ) (blob : Blob) (got : List ArcRef)
+    (result : Result N Error) : Type 0 where
   pub after : Rest Answer
   pub gives : GivesSome (v.read_causes t) v.means after result (read_with v.types t blob got)
 
@@ -71,7 +72,8 @@ pub record AsksNext (types : Types) (t : ℕ) (blob : Blob) (got : List ArcRef) 
 pub record Foresees (types : Types) (f : Frame) (kinds : List ℕ) : Type 0 where
   pub ahead : List ℕ
   pub split : kinds ≡ kinds_of f.got ++ ahead
-  pub each : (got : List ArcRef) (kind : ℕ) (more : List ℕ) → kinds ≡ kinds_of got ++ kind ∷ more → AsksNext types f.node_type f.blob got kind
+  pub each : (got : List ArcRef) (kind : ℕ) (more : List ℕ) → kinds ≡ kinds_of got ++ kind ∷ more
+      → AsksNext types f.node_type f.blob got kind
 
 -- the row is empty, or has the kinds that the blob asks for
 abbrev pub IsAheadOf : Types → Frame → List ArcRef → Type 0
@@ -105,7 +107,8 @@ pub record NeedsNext (types : Types) (frames : List Frame) (kind : Kind) (key : 
 
 -- the row stays, and has this kind at this place; or it is emptied
 abbrev pub KeptAt : ℕ → Kind → List ArcRef → List ArcRef → Type 0
-KeptAt place kind old new = (new ≡ []) ⊎ ((new ≡ old) × ((r : ArcRef) × (slice_get old place ≡ Some r) × (kind.0 ≡ r.kind.0)))
+KeptAt place kind old new = (new ≡ []) ⊎ ((new ≡ old) × ((r : ArcRef) × (slice_get old place ≡ Some r)
+    × (kind.0 ≡ r.kind.0)))
 
 -- the innermost blob's row is removed, if the blob was read; if it was the only row, an empty one is left
 abbrev pub LeftIf : Bool → List (List ArcRef) → List (List ArcRef) → Type 0
@@ -150,7 +153,8 @@ pub record GoesFor {N : Type 0} (need : Need N) (answer : Option (LoadAnswer N))
 
 -- if the rows fit the old frames, the new rows fit the new ones
 pub record Follows (was_read : Bool) (new : List Frame) (rows rows' : List (List ArcRef)) : Type 0 where
-  pub follows : (types : Types) (old : List Frame) → FramesGo was_read old new → AllAhead types old rows → AllAhead types new rows'
+  pub follows : (types : Types) (old : List Frame) → FramesGo was_read old new → AllAhead types old rows
+      → AllAhead types new rows'
 
 -- a step that gets a reference, or the root's blob, doesn't end the load
 abbrev pub goes_on_with : {N X : Type 0} → Result X Error → Result (Option (LoadAnswer N)) Error

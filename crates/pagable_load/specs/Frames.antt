@@ -4,7 +4,13 @@ use Rattle.{pagable_core.specs.Data.blob_of, pagable_load.specs.declared.reading
 use Rattle.pagable_pager_spec.specs.{World.{Reading, Root, of_cell, of_key}, declared.handle_row.Owner.Owner}
 
 abbrev pub frame_of : Held → Frame
-frame_of f = record { kind = f.kind; key = f.key; node_type = f.node_type; blob = blob_of (arc_value f.blob); got = f.got.items }
+frame_of f = record {
+  kind = f.kind;
+  key = f.key;
+  node_type = f.node_type;
+  blob = blob_of (arc_value f.blob);
+  got = f.got.items;
+}
 
 -- the frames of the list, the last one's first, before these frames
 unfoldable pub onto : List Frame → List Held → List Frame
@@ -16,7 +22,12 @@ frames_of None below = []
 frames_of (Some top) below = frame_of top ∷ onto [] below
 
 abbrev pub reading_of : Own → Reading
-reading_of r = record { load = r.load; node_type = r.node_type; frames = frames_of r.top r.below.items; steps = r.steps }
+reading_of r = record {
+  load = r.load;
+  node_type = r.node_type;
+  frames = frames_of r.top r.below.items;
+  steps = r.steps;
+}
 
 abbrev pub is_cell : Root → Bool
 is_cell (of_cell node t h) = true

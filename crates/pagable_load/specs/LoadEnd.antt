@@ -39,5 +39,6 @@ Leads for_cell old new (Ok (Some (LoadAnswer.Read x))) = for_cell ≡ false
 Leads for_cell old new (Ok (Some (LoadAnswer.Refused e))) = Unit {0}
 Leads for_cell old new (Err e) = Unit {0}
 
-pub record LeadsOn {N : Type 0} (for_cell : Bool) (old new : List Frame) (r : Result (Option (LoadAnswer N)) Error) : Type 0 where
+pub record LeadsOn {N : Type 0} (for_cell : Bool) (old new : List Frame)
+    (r : Result (Option (LoadAnswer N)) Error) : Type 0 where
   pub leads : Leads for_cell old new r

@@ -5,13 +5,15 @@ use Rattle.{pagable_pager_spec.specs.declared.{handle_row.Owner.Owner, events.Lo
 use Rattle.pagable_load.specs.{declared.reading.{Reading.Reading as Own, Frame.Frame as Held}, Frames.{frames_of, reading_of, frame_of, onto, IsLoadOf}}
 
 -- a step failed, and the load is still open
-pub record Met {N E : Type 0} (v : Values N) (me : Owner) (reading : Reading) (s : PagerState N E) (e : Error) (t : PagerState N E) : Type 0 where
+pub record Met {N E : Type 0} (v : Values N) (me : Owner) (reading : Reading) (s : PagerState N E) (e : Error)
+    (t : PagerState N E) : Type 0 where
   pub meets : Meets v s.core me reading e t.core
   pub moves : Moves (ReadingBrings v s.core reading) s t
   pub holds : WellFormed v s → Moves (λ n x. HoldsItsNodes v s x) s t
 
 -- A step, up to its failure if it fails; otherwise a whole one. It is asked that the load is open and is as `own` says.
-pub record Tries {N E : Type 0} (v : Values N) (me : Owner) (own : Own) (s : PagerState N E) (r : Result (Option (LoadAnswer N)) Error) (frames : List Frame) (t : PagerState N E) : Type 0 where
+pub record Tries {N E : Type 0} (v : Values N) (me : Owner) (own : Own) (s : PagerState N E)
+    (r : Result (Option (LoadAnswer N)) Error) (frames : List Frame) (t : PagerState N E) : Type 0 where
   pub does : IsLoadOf s.core me own → IfOk r (λ answer. ReadingStep v me (reading_of own) s answer frames t)
   pub meets : IsLoadOf s.core me own → IfErr r (λ e. Met v me (reading_of own) s e t)
 
@@ -40,15 +42,18 @@ pub record TakenTwo (old new : Own) (top under : Held) : Type 0 where
   pub room : vec_len under.got < vec_capacity under.got
 
 -- all steps of a load, if it is open and is as `own` says
-pub record Runs {N E : Type 0} (v : Values N) (me : Owner) (own : Own) (s : PagerState N E) (answer : LoadAnswer N) (t : PagerState N E) : Type 0 where
+pub record Runs {N E : Type 0} (v : Values N) (me : Owner) (own : Own) (s : PagerState N E) (answer : LoadAnswer N)
+    (t : PagerState N E) : Type 0 where
   pub run : IsLoadOf s.core me own → LoadRun v me (reading_of own) s answer t
 
 -- Some steps have been made: the load is still open, and a run from here continues to a run from the beginning.
 pub record HasGone {N E : Type 0} (v : Values N) (me : Owner) (own now : Own) (s t : PagerState N E) : Type 0 where
   pub open_still : IsLoadOf s.core me own → IsLoadOf t.core me now
-  pub then : IsLoadOf s.core me own → (answer : LoadAnswer N) (u : PagerState N E) → LoadRun v me (reading_of now) t answer u → LoadRun v me (reading_of own) s answer u
+  pub then : IsLoadOf s.core me own → (answer : LoadAnswer N) (u : PagerState N E)
+      → LoadRun v me (reading_of now) t answer u → LoadRun v me (reading_of own) s answer u
 
 -- all steps up to the load's end; or some, if there is no answer yet
-abbrev pub RunsOrGoes : {N E : Type 0} → Values N → Owner → Own → Own → PagerState N E → Option (LoadAnswer N) → PagerState N E → Type 0
+abbrev pub RunsOrGoes : {N E : Type 0} → Values N → Owner → Own → Own → PagerState N E → Option (LoadAnswer N)
+    → PagerState N E → Type 0
 RunsOrGoes v me own now s (Some answer) t = Runs v me own s answer t
 RunsOrGoes v me own now s None t = HasGone v me own now s t

@@ -10,34 +10,41 @@ is_unpinned_at w h = if_there (λ (row : HandleRow). is_unpinned row.mode) false
 
 -- a pin, and whether the handle was unpinned before; or a load of its cell, which is of this type
 abbrev pub Starts : Core → Owner → HandleNumber → PinStart → Core → Type 0
-Starts w me h (PinStart.Pinned k was_unpinned) w' = PinCall w me h (Ok (Pinning.Pinned k)) w' × (was_unpinned ≡ is_unpinned_at w h)
-Starts w me h (PinStart.Load l key t) w' = BeginCall w me h (Ok (Beginning.Load l key)) w' × (is_unpinned_at w h ≡ true) × (reading_of_load l (w'.loads l.0) ≡ Some (fresh l t))
+Starts w me h (PinStart.Pinned k was_unpinned) w' = PinCall w me h (Ok (Pinning.Pinned k)) w'
+    × (was_unpinned ≡ is_unpinned_at w h)
+Starts w me h (PinStart.Load l key t) w' = BeginCall w me h (Ok (Beginning.Load l key)) w' × (is_unpinned_at w h ≡ true)
+    × (reading_of_load l (w'.loads l.0) ≡ Some (fresh l t))
 
 pub record StartsPin (w : Core) (me : Owner) (h : HandleNumber) (r : Result PinStart Error) (w' : Core) : Type 0 where
   pub starts : IfOk r (λ p. Starts w me h p w')
   pub refused : IfErr r (λ e. PinCall w me h (Err e) w' ⊎ BeginCall w me h (Err e) w')
 
 -- The value of a handle's node, if the handle pins it. Memory may run out.
-pub record Shares {N E X : Type 0} (see : X → N) (s : PagerState N E) (h : HandleNumber) (r : Result (Option X) Error) : Type 0 where
+pub record Shares {N E X : Type 0} (see : X → N) (s : PagerState N E) (h : HandleNumber)
+    (r : Result (Option X) Error) : Type 0 where
   pub given : IfOk r (λ found. ValueCall s h (Ok (option_map see found)))
   pub refused : IfErr r (λ e. (live_fault (row_at s.core h) ≡ Some e) ⊎ (e ≡ Error.OutOfMemory))
 
 -- The value that a new pin shares. If the handle pins, the call fails only with OutOfMemory.
-pub record SharesPinned {N E X : Type 0} (see : X → N) (s : PagerState N E) (k : HandleNumber) (r : Result X Error) : Type 0 where
+pub record SharesPinned {N E X : Type 0} (see : X → N) (s : PagerState N E) (k : HandleNumber)
+    (r : Result X Error) : Type 0 where
   pub given : IfOk r (λ x. IsValueOf s k (see x))
   pub refused : IfErr r (λ e. HasPin s.core k → e ≡ Error.OutOfMemory)
 
 -- a pin with its load, and whether the handle was unpinned before
-pub record PinsFirst {N E : Type 0} (v : Values N) (s : PagerState N E) (h : HandleNumber) (r : Result (HandleNumber × Bool) Error) (s' : PagerState N E) : Type 0 where
+pub record PinsFirst {N E : Type 0} (v : Values N) (s : PagerState N E) (h : HandleNumber)
+    (r : Result (HandleNumber × Bool) Error) (s' : PagerState N E) : Type 0 where
   pub pinned : IfOk r (λ a. PinRun v s h (Ok a.0) s' × (a.1 ≡ is_unpinned_at s.core h))
   pub refused : IfErr r (λ e. PinRun v s h (Err e) s')
 
 -- the loose handle is unpinned, if it was before; below: and the new handle is released
 abbrev pub Unpins : {N E : Type 0} → Values N → Bool → HandleNumber → PagerState N E → PagerState N E → Type 0
-Unpins v true h s low = (told : Result (Unit {0}) Error) × Called v (λ w'. UnpinCall s.core Owner.Caller h told w') s low
+Unpins v true h s low = (told : Result (Unit {0}) Error)
+    × Called v (λ w'. UnpinCall s.core Owner.Caller h told w') s low
 Unpins v false h s low = low ≡ s
 
-pub record TakesBack {N E : Type 0} (v : Values N) (was_unpinned : Bool) (h k : HandleNumber) (s s' : PagerState N E) : Type 0 where
+pub record TakesBack {N E : Type 0} (v : Values N) (was_unpinned : Bool) (h k : HandleNumber)
+    (s s' : PagerState N E) : Type 0 where
   pub low : PagerState N E
   pub unpins : Unpins v was_unpinned h s low
   pub told : Result (Unit {0}) Error

@@ -18,6 +18,7 @@ abbrev pub with_root : Own → Blob → Reading
 with_root own blob = record (reading_of own) { frames = root_frame own.key own.node_type blob ∷ [] }
 
 -- The load's steps from its root's blob up to its end, if the load is open and is as `own` says.
-pub record PinsFrom {N E : Type 0} (v : Values N) (me : Owner) (own : Own) (blob : Blob) (s : PagerState N E) (r : Result HandleNumber Error) (t : PagerState N E) : Type 0 where
+pub record PinsFrom {N E : Type 0} (v : Values N) (me : Owner) (own : Own) (blob : Blob) (s : PagerState N E)
+    (r : Result HandleNumber Error) (t : PagerState N E) : Type 0 where
   pub pinned : IfOk r (λ k. IsLoadOf s.core me own → LoadRun v me (with_root own blob) s (LoadAnswer.Pinned k) t)
   pub refused : IfErr r (λ e. IsLoadOf s.core me own → LoadRun v me (with_root own blob) s (LoadAnswer.Refused e) t)

@@ -12,32 +12,38 @@ lent_at see lent place = option_map see (option_and_then (λ o. o) (slice_get le
 
 -- the value at this place, if the reference is the one there
 abbrev pub lent_by : {A N : Type 0} → (A → N) → List ArcRef → List (Option A) → ℕ → ArcRef → Option N
-lent_by see got lent place r = if if_there (λ (found : ArcRef). found.handle.0 == r.handle.0) false (slice_get got place) then lent_at see lent place else None
+lent_by see got lent place r = if if_there (λ (found : ArcRef). found.handle.0 == r.handle.0) false
+    (slice_get got place) then lent_at see lent place else None
 
 -- the reference that was got at this place with the value there, if both exist
 abbrev pub lent_there : {A N : Type 0} → (A → N) → List ArcRef → List (Option A) → ℕ → Option (ArcRef × N)
-lent_there see got lent place = option_and_then (λ r. option_map (λ x. (r, x)) (lent_at see lent place)) (slice_get got place)
+lent_there see got lent place = option_and_then (λ r. option_map (λ x. (r, x)) (lent_at see lent place))
+    (slice_get got place)
 
 -- The value that the reference's handle pins, if the reference is loaded with its holder; none if it isn't, or if the
 -- handle pins none or is gone.
 pub record Lends {N E : Type 0} (s : PagerState N E) (r : ArcRef) (found : Option N) : Type 0 where
   pub value : IfSome found (λ x. (is_eager r.kind.0 ≡ true) × ValueCall s r.handle (Ok (Some x)))
-  pub none : IfNone found ((is_eager r.kind.0 ≡ false) ⊎ ValueCall s r.handle (Ok None) ⊎ IsSome (live_fault (row_at s.core r.handle)))
+  pub none : IfNone found ((is_eager r.kind.0 ≡ false) ⊎ ValueCall s r.handle (Ok None)
+      ⊎ IsSome (live_fault (row_at s.core r.handle)))
 
 -- none of the first `count` references is loaded with its holder
 abbrev pub AreLater : ℕ → List ArcRef → Type 0
 AreLater count got = (place : ℕ) (r : ArcRef) → place < count → slice_get got place ≡ Some r → is_eager r.kind.0 ≡ false
 
 -- each reference lends its own value, by its place, and nothing else is lent
-pub record LendsEach {A N E : Type 0} (see : A → N) (s : PagerState N E) (got : List ArcRef) (lent : List (Option A)) : Type 0 where
+pub record LendsEach {A N E : Type 0} (see : A → N) (s : PagerState N E) (got : List ArcRef)
+    (lent : List (Option A)) : Type 0 where
   pub each : (place : ℕ) (r : ArcRef) → slice_get got place ≡ Some r → Lends s r (lent_at see lent place)
   pub few : length lent ≤ length got
 
-choice : (b : Bool) (r : ArcRef) (e : Error) → (if b then Ok r else Err Error.WrongKind) ≡ Err e → may_refuse_reference e ≡ true
+choice : (b : Bool) (r : ArcRef) (e : Error) → (if b then Ok r else Err Error.WrongKind) ≡ Err e
+    → may_refuse_reference e ≡ true
 choice true r e is = cc
 choice false r e is = let same : e ≡ Error.WrongKind = cc in cc
 
-pub may_refuse : (found : Option ArcRef) (kind : ℕ) (e : Error) → answer_of found kind ≡ Err e → may_refuse_reference e ≡ true
+pub may_refuse : (found : Option ArcRef) (kind : ℕ) (e : Error) → answer_of found kind ≡ Err e → may_refuse_reference e
+    ≡ true
 may_refuse None kind e is = let same : e ≡ Error.Storage kind = cc in cc
 may_refuse (Some r) kind e is = choice (r.kind.0 == kind) r e is
 

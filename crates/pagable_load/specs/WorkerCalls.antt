@@ -15,14 +15,17 @@ fault_in (Err e) = Some e
 
 -- the clone's value isn't in memory, its key is `key`, and a load of it begins
 abbrev pub BeginsAt : Core → Owner → ArcRef → HandleNumber → LoadNumber → ℕ → Core → Type 0
-BeginsAt w me r through l key w' = RowIs w r.handle true × ((mid : Core) × CloneCall w me r.handle (Ok through) mid × BeginCall mid me through (Ok (Beginning.Load l key)) w')
+BeginsAt w me r through l key w' = RowIs w r.handle true
+    × ((mid : Core) × CloneCall w me r.handle (Ok through) mid
+    × BeginCall mid me through (Ok (Beginning.Load l key)) w')
 
 abbrev pub Takes : Core → Owner → ArcRef → PinnedOrLoading → Core → Type 0
 Takes w me r (PinnedOrLoading.Held through k) w' = PinsAtOnce w me r through k w'
 Takes w me r (PinnedOrLoading.Begun through l key) w' = BeginsAt w me r through l key w'
 
 -- the handle of a claimed reference is cloned and pinned for the worker, or a load of its cell begins
-pub record TakesReference (w : Core) (me : Owner) (r : ArcRef) (result : Result PinnedOrLoading Error) (w' : Core) : Type 0 where
+pub record TakesReference (w : Core) (me : Owner) (r : ArcRef) (result : Result PinnedOrLoading Error)
+    (w' : Core) : Type 0 where
   pub takes : IfOk result (λ t. Takes w me r t w')
   pub refused : IfErr result (λ e. PinRefused w me r e w')
 
@@ -37,24 +40,31 @@ SharesTaken s (TakenValue.Held through pin value) = Shares arc_value s pin value
 SharesTaken s (TakenValue.Begun through l key) = Unit {0}
 
 -- the key is set by the handle, if there is one
-abbrev pub SetsThrough : {N E : Type 0} → Values N → Owner → Option HandleNumber → ℕ → Result (Unit {0}) Error → PagerState N E → PagerState N E → Type 0
+abbrev pub SetsThrough : {N E : Type 0} → Values N → Owner → Option HandleNumber → ℕ → Result (Unit {0}) Error
+    → PagerState N E → PagerState N E → Type 0
 SetsThrough v me None key r s t = (r ≡ Ok tt) × (t ≡ s)
 SetsThrough v me (Some h) key r s t = Called v (λ w'. SetKeyCall s.core me h key r w') s t
 
 -- The key of a worker's node is set, if it gets one, and then the worker's handles of the node are released. If setting
 -- the key fails, nothing more happens.
-pub record ClosesNode {N E : Type 0} (v : Values N) (me : Owner) (at : WorkerNode) (key : ℕ) (r : Result (Unit {0}) Error) (s t : PagerState N E) : Type 0 where
-  pub closes : OnOk r ((mid : PagerState N E) × SetsThrough v me at.loose key (Ok tt) s mid × Called v (λ w'. FallsAnyhow mid.core mid.core (is_workers_at mid.core at.worker.0 at.node.0) w') mid t)
+pub record ClosesNode {N E : Type 0} (v : Values N) (me : Owner) (at : WorkerNode) (key : ℕ)
+    (r : Result (Unit {0}) Error) (s t : PagerState N E) : Type 0 where
+  pub closes : OnOk r ((mid : PagerState N E) × SetsThrough v me at.loose key (Ok tt) s mid
+      × Called v (λ w'. FallsAnyhow mid.core mid.core (is_workers_at mid.core at.worker.0 at.node.0) w') mid t)
   pub refused : IfErr r (λ e. SetsThrough v me at.loose key (Err e) s t)
 
 -- The blob of a worker's node is stored, and the node is closed with its key. The first error ends it.
-pub record StoresNode {N E : Type 0} (v : Values N) (me : Owner) (at : WorkerNode) (blob : Blob) (r : Result ℕ Error) (s t : PagerState N E) : Type 0 where
-  pub stores : IfOk r (λ key. (mid : PagerState N E) × Called v (λ w'. StoreCall (key_of v.hash) s.core blob (Ok key) w') s mid × ClosesNode v me at key (Ok tt) mid t)
+pub record StoresNode {N E : Type 0} (v : Values N) (me : Owner) (at : WorkerNode) (blob : Blob) (r : Result ℕ Error)
+    (s t : PagerState N E) : Type 0 where
+  pub stores : IfOk r (λ key. (mid : PagerState N E) × Called v
+      (λ w'. StoreCall (key_of v.hash) s.core blob (Ok key) w') s mid × ClosesNode v me at key (Ok tt) mid t)
   pub refused : IfErr r (λ e. Called v (λ w'. StoreCall (key_of v.hash) s.core blob (Err e) w') s t
-      ⊎ ((key : ℕ) × (mid : PagerState N E) × Called v (λ w'. StoreCall (key_of v.hash) s.core blob (Ok key) w') s mid × ClosesNode v me at key (Err e) mid t))
+      ⊎ ((key : ℕ) × (mid : PagerState N E) × Called v (λ w'. StoreCall (key_of v.hash) s.core blob (Ok key) w') s mid
+      × ClosesNode v me at key (Err e) mid t))
 
 -- the entry at this place moves to a new worker, as a loose reference to its cell
-pub record StartsEntry {N E : Type 0} (v : Values N) (s : PagerState N E) (place : ℕ) (n : WorkerNumber) (r : ArcRef) (t : PagerState N E) : Type 0 where
+pub record StartsEntry {N E : Type 0} (v : Values N) (s : PagerState N E) (place : ℕ) (n : WorkerNumber) (r : ArcRef)
+    (t : PagerState N E) : Type 0 where
   pub h : HandleNumber
   pub row : HandleRow
   pub type : ℕ
@@ -65,10 +75,12 @@ pub record StartsEntry {N E : Type 0} (v : Values N) (s : PagerState N E) (place
 
 abbrev pub EntryFault : Core → ℕ → Error → Type 0
 EntryFault w place e = ((e ≡ Error.NoSuchHandle) × (length w.list ≤ place))
-    ⊎ ((e ≡ Error.WrongKind) × ((h : HandleNumber) × (row : HandleRow) × (type : ℕ) × IsEntry w place h row type × HasNoKinds type))
+    ⊎ ((e ≡ Error.WrongKind) × ((h : HandleNumber) × (row : HandleRow) × (type : ℕ) × IsEntry w place h row type
+    × HasNoKinds type))
     ⊎ WorkerFault w e
 
 -- no worker begins for the entry, and nothing changes
-pub record RefusesEntry {N E : Type 0} (v : Values N) (s : PagerState N E) (place : ℕ) (e : Error) (t : PagerState N E) : Type 0 where
+pub record RefusesEntry {N E : Type 0} (v : Values N) (s : PagerState N E) (place : ℕ) (e : Error)
+    (t : PagerState N E) : Type 0 where
   pub why : EntryFault s.core place e
   pub stays : Called v (λ w'. Alike s.core w') s t

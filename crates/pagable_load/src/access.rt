@@ -60,7 +60,9 @@ pub trait Access<E: Env<Node: NodeSet<E>>> {
     /// - `NumbersSpent` if no number is left for a handle or a load: nothing changes.
     /// - `OutOfMemory` if a handle or a load can't be allocated: nothing changes.
     fn begin_pin(&mut self, handle: HandleNumber) -> Result<PinStart, Error>
-        ensures { Acts told acting self.old self.new (λ a s t. Called (values_at E.Node.NodeSet E.Env E.Hash.KeyHash a.environment) (λ w'. StartsPin s.core a.me handle result w') s t) };
+        ensures { Acts told acting self.old self.new (λ a s t. Called
+            (values_at E.Node.NodeSet E.Env E.Hash.KeyHash a.environment) (λ w'. StartsPin s.core a.me handle result w')
+            s t) };
 
     /// Shares the value that a handle pins; returns None if the handle pins none.
     ///
@@ -81,7 +83,9 @@ pub trait Access<E: Env<Node: NodeSet<E>>> {
     /// - `Closed` if the storage is closed.
     fn store(&mut self, alloc: Global, blob: PagableData) -> Result<DataKey, Error>
         ensures key { IfOk result (λ key. key ≡ key_of E.Hash.digest (blob_of blob)) }
-        ensures acts { Acts told acting self.old self.new (λ a s t. Called (values_at E.Node.NodeSet E.Env E.Hash.KeyHash a.environment) (λ w'. StoreCall (key_of E.Hash.digest) s.core (blob_of blob) result w') s t) };
+        ensures acts { Acts told acting self.old self.new
+            (λ a s t. Called (values_at E.Node.NodeSet E.Env E.Hash.KeyHash a.environment)
+            (λ w'. StoreCall (key_of E.Hash.digest) s.core (blob_of blob) result w') s t) };
 
     /// Stores a blob under its key, which the caller has computed, for example before it takes the
     /// pager's lock.
@@ -97,7 +101,9 @@ pub trait Access<E: Env<Node: NodeSet<E>>> {
     ) -> Result<DataKey, Error>
         requires { key ≡ key_of E.Hash.digest (blob_of blob) }
         ensures key { IfOk result (λ answer. answer ≡ key_of E.Hash.digest (blob_of blob)) }
-        ensures acts { Acts told acting self.old self.new (λ a s t. Called (values_at E.Node.NodeSet E.Env E.Hash.KeyHash a.environment) (λ w'. StoreCall (key_of E.Hash.digest) s.core (blob_of blob) result w') s t) };
+        ensures acts { Acts told acting self.old self.new
+            (λ a s t. Called (values_at E.Node.NodeSet E.Env E.Hash.KeyHash a.environment)
+            (λ w'. StoreCall (key_of E.Hash.digest) s.core (blob_of blob) result w') s t) };
 
     /// Sets the key of a loose handle's cell, and drops the cell's value if nothing pins it. Does
     /// nothing if the handle isn't loose.
@@ -109,7 +115,9 @@ pub trait Access<E: Env<Node: NodeSet<E>>> {
     /// - `NumbersSpent` or `OutOfMemory` if a cell that has to be listed isn't: the key is set all
     ///   the same.
     fn set_data_key(&mut self, handle: HandleNumber, key: DataKey) -> Result<(), Error>
-        ensures { Acts told acting self.old self.new (λ a s t. Called (values_at E.Node.NodeSet E.Env E.Hash.KeyHash a.environment) (λ w'. SetKeyCall s.core a.me handle key result w') s t) };
+        ensures { Acts told acting self.old self.new (λ a s t. Called
+            (values_at E.Node.NodeSet E.Env E.Hash.KeyHash a.environment)
+            (λ w'. SetKeyCall s.core a.me handle key result w') s t) };
 
     /// Unpins a loose handle. Does nothing if it is unpinned already.
     ///
@@ -121,7 +129,9 @@ pub trait Access<E: Env<Node: NodeSet<E>>> {
     /// - `NumbersSpent` or `OutOfMemory` if a cell that has to be listed isn't: the handle is
     ///   unpinned all the same.
     fn unpin(&mut self, handle: HandleNumber) -> Result<(), Error>
-        ensures { Acts told acting self.old self.new (λ a s t. Called (values_at E.Node.NodeSet E.Env E.Hash.KeyHash a.environment) (λ w'. UnpinCall s.core a.me handle result w') s t) };
+        ensures { Acts told acting self.old self.new (λ a s t. Called
+            (values_at E.Node.NodeSet E.Env E.Hash.KeyHash a.environment) (λ w'. UnpinCall s.core a.me handle result w')
+            s t) };
 
     /// Releases a handle.
     ///
@@ -132,7 +142,9 @@ pub trait Access<E: Env<Node: NodeSet<E>>> {
     /// - `NumbersSpent` or `OutOfMemory` if a cell that has to be listed isn't: the handle is
     ///   released all the same.
     fn release(&mut self, handle: HandleNumber) -> Result<(), Error>
-        ensures { Acts told acting self.old self.new (λ a s t. Called (values_at E.Node.NodeSet E.Env E.Hash.KeyHash a.environment) (λ w'. ReleaseCall s.core a.me handle result w') s t) };
+        ensures { Acts told acting self.old self.new (λ a s t. Called
+            (values_at E.Node.NodeSet E.Env E.Hash.KeyHash a.environment)
+            (λ w'. ReleaseCall s.core a.me handle result w') s t) };
 
     /// Begins a load of a key.
     ///
@@ -141,7 +153,9 @@ pub trait Access<E: Env<Node: NodeSet<E>>> {
     /// - `NumbersSpent` if no number is left for a load: nothing changes.
     /// - `OutOfMemory` if the load can't be allocated: nothing changes.
     fn load_key(&mut self, key: DataKey) -> Result<LoadNumber, Error>
-        ensures { Acts told acting self.old self.new (λ a s t. Called (values_at E.Node.NodeSet E.Env E.Hash.KeyHash a.environment) (λ w'. BeginKeyCall s.core a.me key (seen_as (λ l. Beginning.Load l key) result) w') s t) };
+        ensures { Acts told acting self.old self.new (λ a s t. Called
+            (values_at E.Node.NodeSet E.Env E.Hash.KeyHash a.environment)
+            (λ w'. BeginKeyCall s.core a.me key (seen_as (λ l. Beginning.Load l key) result) w') s t) };
 
     /// Fetches the blob of the load's own key.
     ///
@@ -151,7 +165,10 @@ pub trait Access<E: Env<Node: NodeSet<E>>> {
     /// - `NotYours` if another than this owner began it.
     /// - `NoData`, `OutOfMemory` or `Storage`, as the storage fails.
     fn load_root(&mut self, alloc: Global, load: LoadNumber) -> Result<Arc<PagableData>, Error>
-        ensures { Acts told acting self.old self.new (λ a s t. Called (values_at E.Node.NodeSet E.Env E.Hash.KeyHash a.environment) (λ w'. AskCall s.core a.me load Want.Root (seen_as (λ d. from_store (blob_of (arc_value d))) result) w') s t) };
+        ensures { Acts told acting self.old self.new (λ a s t. Called
+            (values_at E.Node.NodeSet E.Env E.Hash.KeyHash a.environment)
+            (λ w'. AskCall s.core a.me load Want.Root (seen_as (λ d. from_store (blob_of (arc_value d))) result) w') s
+            t) };
 
     /// Fetches what a reference needs: a handle of the node that the cache has, which the load
     /// owns, or the blob if the cache has none.
@@ -169,7 +186,9 @@ pub trait Access<E: Env<Node: NodeSet<E>>> {
         kind: Kind,
         key: DataKey,
     ) -> Result<Either<ArcRef, Arc<PagableData>>, Error>
-        ensures { Acts told acting self.old self.new (λ a s t. Called (values_at E.Node.NodeSet E.Env E.Hash.KeyHash a.environment) (λ w'. AsksFor (λ d. blob_of (arc_value d)) s.core a.me load kind key result w') s t) };
+        ensures { Acts told acting self.old self.new (λ a s t. Called
+            (values_at E.Node.NodeSet E.Env E.Hash.KeyHash a.environment)
+            (λ w'. AsksFor (λ d. blob_of (arc_value d)) s.core a.me load kind key result w') s t) };
 
     /// Takes a reference through a loose handle without reading it: returns a handle, which the
     /// load owns, of the cell that the cache has, or of a new cell.
@@ -187,7 +206,9 @@ pub trait Access<E: Env<Node: NodeSet<E>>> {
         kind: Kind,
         key: DataKey,
     ) -> Result<ArcRef, Error>
-        ensures { Acts told acting self.old self.new (λ a s t. Called (values_at E.Node.NodeSet E.Env E.Hash.KeyHash a.environment) (λ w'. TakesLazily s.core a.me load kind key result w') s t) };
+        ensures { Acts told acting self.old self.new (λ a s t. Called
+            (values_at E.Node.NodeSet E.Env E.Hash.KeyHash a.environment)
+            (λ w'. TakesLazily s.core a.me load kind key result w') s t) };
 
     /// Makes a node of a value that the load has read, with a handle, which the load owns. If the
     /// cache has a node under the kind and key, drops the value and makes a handle of that node.
@@ -210,7 +231,10 @@ pub trait Access<E: Env<Node: NodeSet<E>>> {
         key: DataKey,
         node: E::Node,
     ) -> Result<ArcRef, (Error, E::Node)>
-        ensures { Acts told acting self.old self.new (λ a s t. Brings (values_at E.Node.NodeSet E.Env E.Hash.KeyHash a.environment) (λ w'. AdoptsValue s.core a.me load kind key node (E.Node.type_of node) (E.Node.refs_of node) result w') (λ n x. (x ≡ node) × IsNewNode s.core n) s t) };
+        ensures { Acts told acting self.old self.new (λ a s t. Brings
+            (values_at E.Node.NodeSet E.Env E.Hash.KeyHash a.environment)
+            (λ w'. AdoptsValue s.core a.me load kind key node (E.Node.type_of node) (E.Node.refs_of node) result w')
+            (λ n x. (x ≡ node) × IsNewNode s.core n) s t) };
 
     /// Ends a load of a cell: pins the cell, which gets the value if it has none, and returns the
     /// new Pinned handle. The caller makes sure that the value is what the load's root was read as,
@@ -235,7 +259,10 @@ pub trait Access<E: Env<Node: NodeSet<E>>> {
         value: E::Node,
     ) -> Result<HandleNumber, (Error, Option<E::Node>)>
         requires { IsReadBy (values_at E.Node.NodeSet E.Env E.Hash.KeyHash (acting self.old).environment) load value }
-        ensures { Acts told acting self.old self.new (λ a s t. Brings (values_at E.Node.NodeSet E.Env E.Hash.KeyHash a.environment) (λ w'. EndCall s.core a.me load value (E.Node.type_of value) (E.Node.refs_of value) result w') (λ n x. (x ≡ value) × IsCellOf s.core load n) s t) };
+        ensures { Acts told acting self.old self.new (λ a s t. Brings
+            (values_at E.Node.NodeSet E.Env E.Hash.KeyHash a.environment)
+            (λ w'. EndCall s.core a.me load value (E.Node.type_of value) (E.Node.refs_of value) result w')
+            (λ n x. (x ≡ value) × IsCellOf s.core load n) s t) };
 
     /// Ends a load of a key: hands the named handles to this owner, and releases the load's other
     /// ones.
@@ -247,7 +274,9 @@ pub trait Access<E: Env<Node: NodeSet<E>>> {
     ///   handle, or a handle is named twice: nothing changes.
     /// - `WrongMode` if it is a load of a cell: nothing changes.
     fn load_take(&mut self, load: LoadNumber, named: &[HandleNumber]) -> Result<(), Error>
-        ensures { Acts told acting self.old self.new (λ a s t. Called (values_at E.Node.NodeSet E.Env E.Hash.KeyHash a.environment) (λ w'. HandOverCall s.core a.me load named.now result w') s t) };
+        ensures { Acts told acting self.old self.new (λ a s t. Called
+            (values_at E.Node.NodeSet E.Env E.Hash.KeyHash a.environment)
+            (λ w'. HandOverCall s.core a.me load named.now result w') s t) };
 
     /// Drops a load, and releases all that it owns.
     ///
@@ -258,7 +287,9 @@ pub trait Access<E: Env<Node: NodeSet<E>>> {
     /// - `NumbersSpent` or `OutOfMemory` if a cell that has to be listed isn't: the load is dropped
     ///   all the same.
     fn load_drop(&mut self, load: LoadNumber) -> Result<(), Error>
-        ensures { Acts told acting self.old self.new (λ a s t. Called (values_at E.Node.NodeSet E.Env E.Hash.KeyHash a.environment) (λ w'. DropCall s.core a.me load result w') s t) };
+        ensures { Acts told acting self.old self.new (λ a s t. Called
+            (values_at E.Node.NodeSet E.Env E.Hash.KeyHash a.environment) (λ w'. DropCall s.core a.me load result w') s
+            t) };
 }
 
 /// What a worker gets for a reference that it has claimed.
@@ -307,7 +338,9 @@ pub trait WorkerAccess<E: Env<Node: NodeSet<E>>>: Access<E> {
     ///
     /// - those of cloning the handle, of pinning the clone, and of the load's begin.
     fn take_reference(&mut self, reference: ArcRef) -> Result<PinnedOrLoading, Error>
-        ensures { Acts Self.told Self.acting self.old self.new (λ a s t. Called (values_at E.Node.NodeSet E.Env E.Hash.KeyHash a.environment) (λ w'. TakesReference s.core a.me reference result w') s t) };
+        ensures { Acts Self.told Self.acting self.old self.new
+            (λ a s t. Called (values_at E.Node.NodeSet E.Env E.Hash.KeyHash a.environment)
+            (λ w'. TakesReference s.core a.me reference result w') s t) };
 
     /// Does what `take_reference` does, and shares the value that is pinned then. If the value
     /// can't be shared, the worker has the handles all the same.
@@ -316,7 +349,9 @@ pub trait WorkerAccess<E: Env<Node: NodeSet<E>>>: Access<E> {
     ///
     /// - those of `take_reference`.
     fn take_value(&mut self, reference: ArcRef) -> Result<TakenValue<E::Node>, Error>
-        ensures takes { Acts Self.told Self.acting self.old self.new (λ a s t. Called (values_at E.Node.NodeSet E.Env E.Hash.KeyHash a.environment) (λ w'. TakesReference s.core a.me reference (seen_as taken_of result) w') s t) }
+        ensures takes { Acts Self.told Self.acting self.old self.new
+            (λ a s t. Called (values_at E.Node.NodeSet E.Env E.Hash.KeyHash a.environment)
+            (λ w'. TakesReference s.core a.me reference (seen_as taken_of result) w') s t) }
         ensures shares { IfOk result (λ taken. Tells (Self.told self.new) (λ s. SharesTaken s taken)) }
     {
         match self.take_reference(reference)? {
@@ -331,7 +366,9 @@ pub trait WorkerAccess<E: Env<Node: NodeSet<E>>>: Access<E> {
 
     /// Releases all handles that a worker has of a node.
     fn give_up(&mut self, worker: WorkerNumber, node: NodeNumber)
-        ensures { Acts Self.told Self.acting self.old self.new (λ a s t. Called (values_at E.Node.NodeSet E.Env E.Hash.KeyHash a.environment) (λ w'. FallsAnyhow s.core s.core (is_workers_at s.core worker.0 node.0) w') s t) };
+        ensures { Acts Self.told Self.acting self.old self.new
+            (λ a s t. Called (values_at E.Node.NodeSet E.Env E.Hash.KeyHash a.environment)
+            (λ w'. FallsAnyhow s.core s.core (is_workers_at s.core worker.0 node.0) w') s t) };
 
     /// Sets the key of a cell by its loose handle, if there is one; otherwise does nothing.
     ///
@@ -339,7 +376,9 @@ pub trait WorkerAccess<E: Env<Node: NodeSet<E>>>: Access<E> {
     ///
     /// - those of `set_data_key`.
     fn set_key_through(&mut self, loose: Option<HandleNumber>, key: DataKey) -> Result<(), Error>
-        ensures { Acts Self.told Self.acting self.old self.new (λ a s t. SetsThrough (values_at E.Node.NodeSet E.Env E.Hash.KeyHash a.environment) a.me loose key result s t) }
+        ensures { Acts Self.told Self.acting self.old self.new
+            (λ a s t. SetsThrough (values_at E.Node.NodeSet E.Env E.Hash.KeyHash a.environment) a.me loose key result s
+            t) }
     {
         match loose {
             Some(handle) => self.set_data_key(handle, key),
@@ -354,7 +393,8 @@ pub trait WorkerAccess<E: Env<Node: NodeSet<E>>>: Access<E> {
     ///
     /// - those of `set_data_key`: the worker keeps its handles.
     fn close_node(&mut self, at: WorkerNode, key: DataKey) -> Result<(), Error>
-        ensures { Acts Self.told Self.acting self.old self.new (λ a s t. ClosesNode (values_at E.Node.NodeSet E.Env E.Hash.KeyHash a.environment) a.me at key result s t) }
+        ensures { Acts Self.told Self.acting self.old self.new
+            (λ a s t. ClosesNode (values_at E.Node.NodeSet E.Env E.Hash.KeyHash a.environment) a.me at key result s t) }
     {
         self.set_key_through(at.loose, key)?;
         self.give_up(at.worker, at.node);
@@ -375,7 +415,9 @@ pub trait WorkerAccess<E: Env<Node: NodeSet<E>>>: Access<E> {
         at: WorkerNode,
     ) -> Result<DataKey, Error>
         ensures key { IfOk result (λ key. key ≡ key_of E.Hash.digest (blob_of blob)) }
-        ensures acts { Acts Self.told Self.acting self.old self.new (λ a s t. StoresNode (values_at E.Node.NodeSet E.Env E.Hash.KeyHash a.environment) a.me at (blob_of blob) result s t) }
+        ensures acts { Acts Self.told Self.acting self.old self.new
+            (λ a s t. StoresNode (values_at E.Node.NodeSet E.Env E.Hash.KeyHash a.environment) a.me at
+            (blob_of blob) result s t) }
     {
         let key = self.store(alloc, blob)?;
         self.close_node(at, key)?;
@@ -397,7 +439,9 @@ pub trait WorkerAccess<E: Env<Node: NodeSet<E>>>: Access<E> {
     ) -> Result<DataKey, Error>
         requires { key ≡ key_of E.Hash.digest (blob_of blob) }
         ensures key { IfOk result (λ answer. answer ≡ key_of E.Hash.digest (blob_of blob)) }
-        ensures acts { Acts Self.told Self.acting self.old self.new (λ a s t. StoresNode (values_at E.Node.NodeSet E.Env E.Hash.KeyHash a.environment) a.me at (blob_of blob) result s t) }
+        ensures acts { Acts Self.told Self.acting self.old self.new
+            (λ a s t. StoresNode (values_at E.Node.NodeSet E.Env E.Hash.KeyHash a.environment) a.me at
+            (blob_of blob) result s t) }
     {
         let stored = self.store_keyed(alloc, key, blob)?;
         self.close_node(at, stored)?;
@@ -414,7 +458,9 @@ pub trait WorkerAccess<E: Env<Node: NodeSet<E>>>: Access<E> {
     /// - `WrongMode` if it isn't loose and unpinned: nothing changes.
     /// - `OutOfMemory` if the list can't grow: nothing changes.
     fn schedule_for_paging(&mut self, handle: HandleNumber) -> Result<(), Error>
-        ensures { Acts Self.told Self.acting self.old self.new (λ a s t. Called (values_at E.Node.NodeSet E.Env E.Hash.KeyHash a.environment) (λ w'. ScheduleCall s.core a.me handle result w') s t) };
+        ensures { Acts Self.told Self.acting self.old self.new
+            (λ a s t. Called (values_at E.Node.NodeSet E.Env E.Hash.KeyHash a.environment)
+            (λ w'. ScheduleCall s.core a.me handle result w') s t) };
 
     /// Begins a worker, who is the owner from now on.
     ///
@@ -423,8 +469,11 @@ pub trait WorkerAccess<E: Env<Node: NodeSet<E>>>: Access<E> {
     /// - `NumbersSpent` if no number is left for a worker: nothing changes.
     /// - `OutOfMemory` if the worker can't be allocated: nothing changes.
     fn worker_begin(&mut self) -> Result<WorkerNumber, Error>
-        ensures begins { IfOk result (λ n. ActsThen Self.told Self.acting self.old self.new (as_worker n) (λ a s t. WorkerStarts (values_at E.Node.NodeSet E.Env E.Hash.KeyHash a.environment) s.core s n.0 t)) }
-        ensures refused { IfErr result (λ e. Acts Self.told Self.acting self.old self.new (λ a s t. WorkerFault s.core e × Called (values_at E.Node.NodeSet E.Env E.Hash.KeyHash a.environment) (λ w'. Alike s.core w') s t)) };
+        ensures begins { IfOk result (λ n. ActsThen Self.told Self.acting self.old self.new (as_worker n)
+            (λ a s t. WorkerStarts (values_at E.Node.NodeSet E.Env E.Hash.KeyHash a.environment) s.core s n.0 t)) }
+        ensures refused { IfErr result (λ e. Acts Self.told Self.acting self.old self.new
+            (λ a s t. WorkerFault s.core e × Called (values_at E.Node.NodeSet E.Env E.Hash.KeyHash a.environment)
+            (λ w'. Alike s.core w') s t)) };
 
     /// Begins a worker for the list entry at this place, counted from 0. The worker owns the entry
     /// and is the owner of calls from now on. Returns the reference that the worker pages out: the
@@ -437,13 +486,17 @@ pub trait WorkerAccess<E: Env<Node: NodeSet<E>>>: Access<E> {
     /// - `NumbersSpent` if no number is left for a worker: nothing changes.
     /// - `OutOfMemory` if the worker can't be allocated: nothing changes.
     fn worker_listed(&mut self, place: usize) -> Result<(WorkerNumber, ArcRef), Error>
-        ensures begins { IfOk result (λ b. ActsThen Self.told Self.acting self.old self.new (as_worker b.0) (λ a s t. StartsEntry (values_at E.Node.NodeSet E.Env E.Hash.KeyHash a.environment) s place b.0 b.1 t)) }
-        ensures refused { IfErr result (λ e. Acts Self.told Self.acting self.old self.new (λ a s t. RefusesEntry (values_at E.Node.NodeSet E.Env E.Hash.KeyHash a.environment) s place e t)) };
+        ensures begins { IfOk result (λ b. ActsThen Self.told Self.acting self.old self.new (as_worker b.0)
+            (λ a s t. StartsEntry (values_at E.Node.NodeSet E.Env E.Hash.KeyHash a.environment) s place b.0 b.1 t)) }
+        ensures refused { IfErr result (λ e. Acts Self.told Self.acting self.old self.new
+            (λ a s t. RefusesEntry (values_at E.Node.NodeSet E.Env E.Hash.KeyHash a.environment) s place e t)) };
 
     /// Ends a worker: releases what it still owns and closes its loads. The caller is the owner of
     /// calls again.
     fn worker_end(&mut self, worker: WorkerNumber)
-        ensures { ActsThen Self.told Self.acting self.old self.new as_caller (λ a s t. Called (values_at E.Node.NodeSet E.Env E.Hash.KeyHash a.environment) (λ w'. WorkerEnds s.core worker.0 w') s t) };
+        ensures { ActsThen Self.told Self.acting self.old self.new as_caller
+            (λ a s t. Called (values_at E.Node.NodeSet E.Env E.Hash.KeyHash a.environment)
+            (λ w'. WorkerEnds s.core worker.0 w') s t) };
 
     /// Returns how many entries the list has.
     fn pending(&self) -> usize
@@ -452,10 +505,13 @@ pub trait WorkerAccess<E: Env<Node: NodeSet<E>>>: Access<E> {
     /// Returns the key of the cell of the list entry at this place, which stays listed; None past
     /// the list's end.
     fn entry_key(&self, place: usize) -> Option<OptionalDataKey>
-        ensures some { IfSome result (λ key. Tells (Self.told self.now) (λ s. (h : Handle) × EntryHas s.core place h key)) }
+        ensures some { IfSome result (λ key. Tells (Self.told self.now)
+            (λ s. (h : Handle) × EntryHas s.core place h key)) }
         ensures none { IfNone result (Tells (Self.told self.now) (λ s. length s.core.list ≤ place)) };
 
     /// Takes the list entry at this place for the owner; returns None past the list's end.
     fn take_pending(&mut self, place: usize) -> Option<HandleNumber>
-        ensures { Acts Self.told Self.acting self.old self.new (λ a s t. Called (values_at E.Node.NodeSet E.Env E.Hash.KeyHash a.environment) (λ w'. TakeCall s.core a.me place result w') s t) };
+        ensures { Acts Self.told Self.acting self.old self.new
+            (λ a s t. Called (values_at E.Node.NodeSet E.Env E.Hash.KeyHash a.environment)
+            (λ w'. TakeCall s.core a.me place result w') s t) };
 }

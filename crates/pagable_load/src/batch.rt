@@ -41,7 +41,8 @@ impl Ahead {
     // below.
     fn enter(&mut self, alloc: Global)
         ensures top { self.new.top.items ≡ [] }
-        ensures below { (self.new.below.items ≡ self.old.below.items ++ self.old.top ∷ []) ⊎ (self.new.below.items ≡ []) }
+        ensures below { (self.new.below.items ≡ self.old.below.items ++ self.old.top ∷ [])
+            ⊎ (self.new.below.items ≡ []) }
     {
         let row = replace(&mut self.top, Vec::new(alloc));
         if self.below.push(row).is_err() {
@@ -96,7 +97,8 @@ impl Reading {
         access: &A,
         alloc: Global,
     ) -> Option<Vec<ArcRef>>
-        ensures { IfSome result (λ row. IsAhead (values_at E.Node.NodeSet E.Env E.Hash.KeyHash (A.acting access.now).environment).types (frames_of self.now.top self.now.below.items) row.items) }
+        ensures { IfSome result (λ row. IsAhead (values_at E.Node.NodeSet E.Env E.Hash.KeyHash
+            (A.acting access.now).environment).types (frames_of self.now.top self.now.below.items) row.items) }
     {
         let Some(top) = &self.top else {
             return None;
@@ -151,8 +153,10 @@ impl Reading {
         alloc: Global,
         row: &mut Vec<ArcRef>,
     )
-        requires { IsAhead (values_at E.Node.NodeSet E.Env E.Hash.KeyHash (A.acting access.now).environment).types (frames_of self.now.top self.now.below.items) row.old.items }
-        ensures { IsAhead (values_at E.Node.NodeSet E.Env E.Hash.KeyHash (A.acting access.now).environment).types (frames_of self.now.top self.now.below.items) row.new.items }
+        requires { IsAhead (values_at E.Node.NodeSet E.Env E.Hash.KeyHash (A.acting access.now).environment).types
+            (frames_of self.now.top self.now.below.items) row.old.items }
+        ensures { IsAhead (values_at E.Node.NodeSet E.Env E.Hash.KeyHash (A.acting access.now).environment).types
+            (frames_of self.now.top self.now.below.items) row.new.items }
     {
         let Some(top) = &self.top else {
             return;
@@ -171,7 +175,9 @@ impl Reading {
 
     // Returns the kind and key of the reference that the load needs next, if the row says so.
     fn told(&self, row: &[ArcRef]) -> Option<(Kind, DataKey)>
-        ensures tells { IfSome result (λ k. (types : Types) → IsAhead types (frames_of self.now.top self.now.below.items) row.now → NeedsNext types (frames_of self.now.top self.now.below.items) k.0 k.1) }
+        ensures tells { IfSome result (λ k. (types : Types)
+            → IsAhead types (frames_of self.now.top self.now.below.items) row.now
+            → NeedsNext types (frames_of self.now.top self.now.below.items) k.0 k.1) }
         ensures top { IfSome result (λ k. IsSome self.now.top) }
     {
         let Some(top) = &self.top else {
@@ -195,9 +201,12 @@ impl Reading {
         alloc: Global,
         row: &[ArcRef],
     ) -> Need<E::Node>
-        requires { IsAhead (values_at E.Node.NodeSet E.Env E.Hash.KeyHash (A.acting access.now).environment).types (frames_of self.now.top self.now.below.items) row.now }
-        ensures holds { Tells (A.told access.now) (λ s. IfValue result (HoldsPinned (values_at E.Node.NodeSet E.Env E.Hash.KeyHash (A.acting access.now).environment) s)) }
-        ensures needs { Needs (values_at E.Node.NodeSet E.Env E.Hash.KeyHash (A.acting access.now).environment) self.now result }
+        requires { IsAhead (values_at E.Node.NodeSet E.Env E.Hash.KeyHash (A.acting access.now).environment).types
+            (frames_of self.now.top self.now.below.items) row.now }
+        ensures holds { Tells (A.told access.now) (λ s. IfValue result
+            (HoldsPinned (values_at E.Node.NodeSet E.Env E.Hash.KeyHash (A.acting access.now).environment) s)) }
+        ensures needs { Needs (values_at E.Node.NodeSet E.Env E.Hash.KeyHash (A.acting access.now).environment) self.now
+            result }
     {
         let Some((kind, key)) = self.told(row) else {
             return self.next::<E, A>(access, alloc);
@@ -212,7 +221,8 @@ impl Reading {
     /// read, adds an empty one for a new blob, and empties the row of a blob that got a reference
     /// of another kind than its row says.
     pub(crate) fn follow(&self, alloc: Global, ahead: &mut Ahead, was_read: bool)
-        ensures { Follows was_read (frames_of self.now.top self.now.below.items) (rows_of ahead.old) (rows_of ahead.new) }
+        ensures { Follows was_read (frames_of self.now.top self.now.below.items) (rows_of ahead.old)
+            (rows_of ahead.new) }
     {
         ahead.leave_if(alloc, was_read);
         let Some(top) = &self.top else {

@@ -54,7 +54,8 @@ impl<'g, E: Env<Node: NodeSet<E>>, A: Access<E>> References<E> for ResolvedRefer
 
     ghost lends_at = { λ s place. lent_there arc_value s.got.now s.lent.now place };
 
-    ghost refusals = { λ s place key kind e is. may_refuse (found_or (is_some s.noted) (slice_get s.got.now place) kind) kind e is };
+    ghost refusals = { λ s place key kind e is. may_refuse (found_or (is_some s.noted) (slice_get s.got.now place) kind)
+        kind e is };
 
     fn env(&self) -> &E {
         self.access.env()
@@ -124,8 +125,10 @@ pub(crate) fn read_got<E: Env<Node: NodeSet<E>>, A: Access<E>>(
 ) -> (Result<E::Node, Error>, Option<Vec<ArcRef>>)
     requires each { Tells (A.told access.now) (λ s. LendsEach arc_value s got.now lent.now) }
     ensures asked { IfOk result.0 (λ x. E.Node.type_of x ≡ node_type) }
-    ensures holds { Tells (A.told access.now) (λ s. IfOk result.0 (HoldsPinned (values_at E.Node.NodeSet E.Env E.Hash.KeyHash (A.acting access.now).environment) s)) }
-    ensures reads { noted ≡ None → ReadsWith (values_at E.Node.NodeSet E.Env E.Hash.KeyHash (A.acting access.now).environment) node_type (blob_of blob.now) got.now result.0 }
+    ensures holds { Tells (A.told access.now) (λ s. IfOk result.0
+        (HoldsPinned (values_at E.Node.NodeSet E.Env E.Hash.KeyHash (A.acting access.now).environment) s)) }
+    ensures reads { noted ≡ None → ReadsWith (values_at E.Node.NodeSet E.Env E.Hash.KeyHash
+        (A.acting access.now).environment) node_type (blob_of blob.now) got.now result.0 }
 {
     let references = ResolvedReferences {
         access,
@@ -156,8 +159,10 @@ pub fn decode<E: Env<Node: NodeSet<E>>, A: Access<E>>(
     lent: &[Option<Arc<E::Node>>],
 ) -> Decoded<E::Node>
     requires each { Tells (A.told access.now) (λ s. LendsEach arc_value s got.now lent.now) }
-    ensures holds { Tells (A.told access.now) (λ s. IfRead result (HoldsPinned (values_at E.Node.NodeSet E.Env E.Hash.KeyHash (A.acting access.now).environment) s)) }
-    ensures decodes { Decodes (values_at E.Node.NodeSet E.Env E.Hash.KeyHash (A.acting access.now).environment) node_type (blob_of blob.now) got.now result }
+    ensures holds { Tells (A.told access.now) (λ s. IfRead result
+        (HoldsPinned (values_at E.Node.NodeSet E.Env E.Hash.KeyHash (A.acting access.now).environment) s)) }
+    ensures decodes { Decodes (values_at E.Node.NodeSet E.Env E.Hash.KeyHash (A.acting access.now).environment)
+        node_type (blob_of blob.now) got.now result }
 {
     let (read, _) = read_got(access, alloc, blob, node_type, got, lent, None);
     match read {

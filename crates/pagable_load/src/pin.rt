@@ -36,7 +36,8 @@ pub fn begin_reading<E: Env<Node: NodeSet<E>>, A: Access<E>>(
     handle: HandleNumber,
 ) -> Result<BegunPin, Error>
     ensures { Acts A.told A.acting access.old access.new (λ a s t.
-        Called (values_at E.Node.NodeSet E.Env E.Hash.KeyHash a.environment) (λ w'. StartsPin s.core a.me handle (start_of result) w') s t) }
+        Called (values_at E.Node.NodeSet E.Env E.Hash.KeyHash a.environment)
+        (λ w'. StartsPin s.core a.me handle (start_of result) w') s t) }
 {
     match access.begin_pin(handle)? {
         PinStart::Pinned(pinned, was_unpinned) => Ok(BegunPin::Pinned(pinned, was_unpinned)),
@@ -63,7 +64,8 @@ impl CellReading {
     ) -> Result<HandleNumber, Error>
         requires named { key_of E.Hash.digest (blob_of (arc_value blob)) ≡ self.reading.key }
         ensures { Acts A.told A.acting access.old access.new (λ a s t.
-            PinsFrom (values_at E.Node.NodeSet E.Env E.Hash.KeyHash a.environment) a.me self.reading (blob_of (arc_value blob)) s result t) }
+            PinsFrom (values_at E.Node.NodeSet E.Env E.Hash.KeyHash a.environment) a.me self.reading
+            (blob_of (arc_value blob)) s result t) }
     {
         let mut reading = self.reading;
         reading.put_root(alloc, blob);

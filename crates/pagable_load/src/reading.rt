@@ -121,7 +121,8 @@ pub(crate) fn value_of<E: Env<Node: NodeSet<E>>, A: Access<E>>(
     access: &A,
     reference: ArcRef,
 ) -> Result<Option<Arc<E::Node>>, Error>
-    ensures lends { Tells (A.told access.now) (λ s. IfOk result (λ found. Lends s reference (option_map arc_value found))) }
+    ensures lends { Tells (A.told access.now) (λ s. IfOk result
+        (λ found. Lends s reference (option_map arc_value found))) }
     ensures only { IfErr result (λ e. e ≡ Error.OutOfMemory) }
 {
     if !is_read_at_once(reference.kind) {
@@ -180,8 +181,10 @@ impl Reading {
         access: &A,
         alloc: Global,
     ) -> Need<E::Node>
-        ensures holds { Tells (A.told access.now) (λ s. IfValue result (HoldsPinned (values_at E.Node.NodeSet E.Env E.Hash.KeyHash (A.acting access.now).environment) s)) }
-        ensures needs { Needs (values_at E.Node.NodeSet E.Env E.Hash.KeyHash (A.acting access.now).environment) self.now result }
+        ensures holds { Tells (A.told access.now) (λ s. IfValue result
+            (HoldsPinned (values_at E.Node.NodeSet E.Env E.Hash.KeyHash (A.acting access.now).environment) s)) }
+        ensures needs { Needs (values_at E.Node.NodeSet E.Env E.Hash.KeyHash (A.acting access.now).environment) self.now
+            result }
     {
         let Some(top) = &self.top else {
             return Need::Root;
@@ -247,7 +250,8 @@ impl Reading {
     /// Puts the blob back as the innermost one, with one more reference.
     pub(crate) fn push_resolved(&mut self, mut top: Frame, reference: ArcRef)
         requires { vec_len top.got < vec_capacity top.got }
-        ensures gets { frames_of self.new.top self.new.below.items ≡ record (frame_of top) { got = top.got.items ++ reference ∷ [] } ∷ onto [] self.old.below.items }
+        ensures gets { frames_of self.new.top self.new.below.items
+            ≡ record (frame_of top) { got = top.got.items ++ reference ∷ [] } ∷ onto [] self.old.below.items }
         ensures same { IsSameLoad self.old self.new self.old.steps }
     {
         top.got.push(reference).unwrap();
@@ -258,7 +262,8 @@ impl Reading {
     #[tactic(auto, using(crate::proofs::LoadSteps::stacking))]
     pub(crate) fn put_root(&mut self, alloc: Global, blob: Arc<PagableData>)
         ensures few { length (blob_of (arc_value blob)).keys < 2 ^ 63 }
-        ensures root { frames_of self.new.top self.new.below.items ≡ root_frame self.old.key self.old.node_type (blob_of (arc_value blob)) ∷ [] }
+        ensures root { frames_of self.new.top self.new.below.items
+            ≡ root_frame self.old.key self.old.node_type (blob_of (arc_value blob)) ∷ [] }
         ensures same { IsSameLoad self.old self.new self.old.steps }
     {
         // (by this count its references are known to be fewer than numbers go)
@@ -279,7 +284,8 @@ impl Reading {
         blob: Arc<PagableData>,
     ) -> Result<(), Error>
         requires { vec_len self.old.below < vec_capacity self.old.below }
-        ensures ok { OnOk result (frames_of self.new.top self.new.below.items ≡ nested_frame kind key (blob_of (arc_value blob)) ∷ frame_of top ∷ onto [] self.old.below.items) }
+        ensures ok { OnOk result (frames_of self.new.top self.new.below.items
+            ≡ nested_frame kind key (blob_of (arc_value blob)) ∷ frame_of top ∷ onto [] self.old.below.items) }
         ensures few { length (blob_of (arc_value blob)).keys < 2 ^ 63 }
         ensures short { OnOk result (length self.old.below.items < longest_path) }
         ensures deep { IfErr result (λ e. e ≡ Error.TooDeep) }

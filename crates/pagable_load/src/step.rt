@@ -27,10 +27,15 @@ impl Reading {
         key: DataKey,
     ) -> Result<ArcRef, Error>
         requires top { IsSome self.old.top }
-        requires need { need_of (values_at E.Node.NodeSet E.Env E.Hash.KeyHash (A.acting access.old).environment).types (frames_of self.old.top self.old.below.items) ≡ needs_lazy kind key }
-        ensures acts { Acts A.told A.acting access.old access.new (λ a s t. Tries (values_at E.Node.NodeSet E.Env E.Hash.KeyHash a.environment) a.me self.old s (goes_on_with result) (frames_of self.new.top self.new.below.items) t) }
-        ensures leads { LeadsOn {N = E.Node} self.old.for_cell (frames_of self.old.top self.old.below.items) (frames_of self.new.top self.new.below.items) (goes_on_with result) }
-        ensures got { IfOk result (λ r. GotMore (frames_of self.old.top self.old.below.items) (frames_of self.new.top self.new.below.items) r) }
+        requires need { need_of (values_at E.Node.NodeSet E.Env E.Hash.KeyHash (A.acting access.old).environment).types
+            (frames_of self.old.top self.old.below.items) ≡ needs_lazy kind key }
+        ensures acts { Acts A.told A.acting access.old access.new
+            (λ a s t. Tries (values_at E.Node.NodeSet E.Env E.Hash.KeyHash a.environment) a.me self.old s
+            (goes_on_with result) (frames_of self.new.top self.new.below.items) t) }
+        ensures leads { LeadsOn {N = E.Node} self.old.for_cell (frames_of self.old.top self.old.below.items)
+            (frames_of self.new.top self.new.below.items) (goes_on_with result) }
+        ensures got { IfOk result (λ r. GotMore (frames_of self.old.top self.old.below.items)
+            (frames_of self.new.top self.new.below.items) r) }
         ensures same { IsSameLoad self.old self.new self.old.steps }
     {
         let load = self.load;
@@ -50,11 +55,17 @@ impl Reading {
     ) -> Result<Option<LoadAnswer<E::Node>>, Error>
         requires top { IsSome self.old.top }
         requires below { 0 < length self.old.below.items }
-        requires node { ReadsNode (values_at E.Node.NodeSet E.Env E.Hash.KeyHash (A.acting access.old).environment) (reading_of self.old) value }
-        requires holds { Tells (A.told access.old) (λ s. HoldsPinned (values_at E.Node.NodeSet E.Env E.Hash.KeyHash (A.acting access.old).environment) s value) }
-        ensures acts { Acts A.told A.acting access.old access.new (λ a s t. Tries (values_at E.Node.NodeSet E.Env E.Hash.KeyHash a.environment) a.me self.old s result (frames_of self.new.top self.new.below.items) t) }
-        ensures leads { LeadsOn self.old.for_cell (frames_of self.old.top self.old.below.items) (frames_of self.new.top self.new.below.items) result }
-        ensures goes { IfOk result (λ answer. FramesGo true (frames_of self.old.top self.old.below.items) (frames_of self.new.top self.new.below.items)) }
+        requires node { ReadsNode (values_at E.Node.NodeSet E.Env E.Hash.KeyHash (A.acting access.old).environment)
+            (reading_of self.old) value }
+        requires holds { Tells (A.told access.old) (λ s. HoldsPinned
+            (values_at E.Node.NodeSet E.Env E.Hash.KeyHash (A.acting access.old).environment) s value) }
+        ensures acts { Acts A.told A.acting access.old access.new
+            (λ a s t. Tries (values_at E.Node.NodeSet E.Env E.Hash.KeyHash a.environment) a.me self.old s result
+            (frames_of self.new.top self.new.below.items) t) }
+        ensures leads { LeadsOn self.old.for_cell (frames_of self.old.top self.old.below.items)
+            (frames_of self.new.top self.new.below.items) result }
+        ensures goes { IfOk result (λ answer. FramesGo true (frames_of self.old.top self.old.below.items)
+            (frames_of self.new.top self.new.below.items)) }
         ensures same { IsSameLoad self.old self.new self.old.steps }
     {
         let load = self.load;
@@ -77,11 +88,15 @@ impl Reading {
         alloc: Global,
         value: E::Node,
     ) -> Result<Option<LoadAnswer<E::Node>>, Error>
-        requires root { ReadsRoot (values_at E.Node.NodeSet E.Env E.Hash.KeyHash (A.acting access.old).environment) (reading_of self.old) value }
-        requires holds { Tells (A.told access.old) (λ s. HoldsPinned (values_at E.Node.NodeSet E.Env E.Hash.KeyHash (A.acting access.old).environment) s value) }
+        requires root { ReadsRoot (values_at E.Node.NodeSet E.Env E.Hash.KeyHash (A.acting access.old).environment)
+            (reading_of self.old) value }
+        requires holds { Tells (A.told access.old) (λ s. HoldsPinned
+            (values_at E.Node.NodeSet E.Env E.Hash.KeyHash (A.acting access.old).environment) s value) }
         ensures acts { Acts A.told A.acting access.old access.new
-            (λ a s t. Tries (values_at E.Node.NodeSet E.Env E.Hash.KeyHash a.environment) a.me self.old s result (frames_of self.new.top self.new.below.items) t) }
-        ensures leads { LeadsOn self.old.for_cell (frames_of self.old.top self.old.below.items) (frames_of self.new.top self.new.below.items) result }
+            (λ a s t. Tries (values_at E.Node.NodeSet E.Env E.Hash.KeyHash a.environment) a.me self.old s result
+            (frames_of self.new.top self.new.below.items) t) }
+        ensures leads { LeadsOn self.old.for_cell (frames_of self.old.top self.old.below.items)
+            (frames_of self.new.top self.new.below.items) result }
         ensures ends { IfOk result (λ answer. IsSome answer) }
         ensures same { IsSameLoad self.old self.new self.old.steps }
     {
@@ -114,11 +129,17 @@ impl Reading {
         alloc: Global,
         need: Need<E::Node>,
     ) -> Result<Option<LoadAnswer<E::Node>>, Error>
-        requires need { Needs (values_at E.Node.NodeSet E.Env E.Hash.KeyHash (A.acting access.old).environment) self.old need }
-        requires holds { Tells (A.told access.old) (λ s. IfValue need (HoldsPinned (values_at E.Node.NodeSet E.Env E.Hash.KeyHash (A.acting access.old).environment) s)) }
-        ensures acts { Acts A.told A.acting access.old access.new (λ a s t. Tries (values_at E.Node.NodeSet E.Env E.Hash.KeyHash a.environment) a.me self.old s result (frames_of self.new.top self.new.below.items) t) }
-        ensures leads { LeadsOn self.old.for_cell (frames_of self.old.top self.old.below.items) (frames_of self.new.top self.new.below.items) result }
-        ensures goes { IfOk result (λ answer. GoesFor need answer (frames_of self.old.top self.old.below.items) (frames_of self.new.top self.new.below.items)) }
+        requires need { Needs (values_at E.Node.NodeSet E.Env E.Hash.KeyHash (A.acting access.old).environment) self.old
+            need }
+        requires holds { Tells (A.told access.old) (λ s. IfValue need
+            (HoldsPinned (values_at E.Node.NodeSet E.Env E.Hash.KeyHash (A.acting access.old).environment) s)) }
+        ensures acts { Acts A.told A.acting access.old access.new
+            (λ a s t. Tries (values_at E.Node.NodeSet E.Env E.Hash.KeyHash a.environment) a.me self.old s result
+            (frames_of self.new.top self.new.below.items) t) }
+        ensures leads { LeadsOn self.old.for_cell (frames_of self.old.top self.old.below.items)
+            (frames_of self.new.top self.new.below.items) result }
+        ensures goes { IfOk result (λ answer. GoesFor need answer (frames_of self.old.top self.old.below.items)
+            (frames_of self.new.top self.new.below.items)) }
         ensures same { IsSameLoad self.old self.new self.old.steps }
     {
         let load = self.load;
@@ -156,7 +177,8 @@ impl Reading {
 
     // Drops the load, since a step failed, and releases all that it owns.
     pub(crate) fn give_up<E: Env<Node: NodeSet<E>>, A: Access<E>>(&mut self, access: &mut A)
-        ensures acts { Acts A.told A.acting access.old access.new (λ a s t. Drops (values_at E.Node.NodeSet E.Env E.Hash.KeyHash a.environment) a.me self.old.load s t) }
+        ensures acts { Acts A.told A.acting access.old access.new
+            (λ a s t. Drops (values_at E.Node.NodeSet E.Env E.Hash.KeyHash a.environment) a.me self.old.load s t) }
         ensures none { frames_of self.new.top self.new.below.items ≡ [] }
         ensures same { IsSameLoad self.old self.new self.old.steps }
     {
@@ -172,8 +194,10 @@ impl Reading {
         alloc: Global,
     ) -> Result<Option<LoadAnswer<E::Node>>, Error>
         ensures acts { Acts A.told A.acting access.old access.new
-            (λ a s t. Tries (values_at E.Node.NodeSet E.Env E.Hash.KeyHash a.environment) a.me self.old s result (frames_of self.new.top self.new.below.items) t) }
-        ensures leads { LeadsOn self.old.for_cell (frames_of self.old.top self.old.below.items) (frames_of self.new.top self.new.below.items) result }
+            (λ a s t. Tries (values_at E.Node.NodeSet E.Env E.Hash.KeyHash a.environment) a.me self.old s result
+            (frames_of self.new.top self.new.below.items) t) }
+        ensures leads { LeadsOn self.old.for_cell (frames_of self.old.top self.old.below.items)
+            (frames_of self.new.top self.new.below.items) result }
         ensures same { IsSameLoad self.old self.new self.old.steps }
     {
         match self.next::<E, A>(access, alloc) {
@@ -193,8 +217,11 @@ impl Reading {
         access: &mut A,
         alloc: Global,
     ) -> Option<LoadAnswer<E::Node>>
-        ensures acts { Acts A.told A.acting access.old access.new (λ a s t. Tries (values_at E.Node.NodeSet E.Env E.Hash.KeyHash a.environment) a.me self.old s (Ok result) (frames_of self.new.top self.new.below.items) t) }
-        ensures leads { LeadsOn self.old.for_cell (frames_of self.old.top self.old.below.items) (frames_of self.new.top self.new.below.items) (Ok result) }
+        ensures acts { Acts A.told A.acting access.old access.new
+            (λ a s t. Tries (values_at E.Node.NodeSet E.Env E.Hash.KeyHash a.environment) a.me self.old s (Ok result)
+            (frames_of self.new.top self.new.below.items) t) }
+        ensures leads { LeadsOn self.old.for_cell (frames_of self.old.top self.old.below.items)
+            (frames_of self.new.top self.new.below.items) (Ok result) }
         ensures same { IsSameLoad self.old self.new (one_more self.old.steps) }
     {
         match self.end_or_meet(access, alloc) {
@@ -218,7 +245,8 @@ impl Reading {
     ) -> Result<(), Error>
         requires none { frames_of self.old.top self.old.below.items ≡ [] }
         ensures acts { Acts A.told A.acting access.old access.new
-            (λ a s t. Tries (values_at E.Node.NodeSet E.Env E.Hash.KeyHash a.environment) a.me self.old s (goes_on_with result) (frames_of self.new.top self.new.below.items) t) }
+            (λ a s t. Tries (values_at E.Node.NodeSet E.Env E.Hash.KeyHash a.environment) a.me self.old s
+            (goes_on_with result) (frames_of self.new.top self.new.below.items) t) }
         ensures same { IsSameLoad self.old self.new self.old.steps }
     {
         match access.load_root(alloc, self.load) {
@@ -239,7 +267,8 @@ impl Reading {
     ) -> Option<LoadAnswer<E::Node>>
         requires none { frames_of self.old.top self.old.below.items ≡ [] }
         ensures acts { Acts A.told A.acting access.old access.new
-            (λ a s t. Tries (values_at E.Node.NodeSet E.Env E.Hash.KeyHash a.environment) a.me self.old s (Ok result) (frames_of self.new.top self.new.below.items) t) }
+            (λ a s t. Tries (values_at E.Node.NodeSet E.Env E.Hash.KeyHash a.environment) a.me self.old s (Ok result)
+            (frames_of self.new.top self.new.below.items) t) }
         ensures ends { IfSome result (λ answer. LeadsOn self.old.for_cell [] [] (Ok (Some answer))) }
         ensures same { IsSameLoad self.old self.new (one_more self.old.steps) }
     {
@@ -273,7 +302,8 @@ impl Reading {
         alloc: Global,
     ) -> Option<LoadAnswer<E::Node>>
         ensures acts { Acts A.told A.acting access.old access.new
-            (λ a s t. RunsOrGoes (values_at E.Node.NodeSet E.Env E.Hash.KeyHash a.environment) a.me self.old self.new s result t) }
+            (λ a s t. RunsOrGoes (values_at E.Node.NodeSet E.Env E.Hash.KeyHash a.environment) a.me self.old self.new s
+            result t) }
         ensures ends { IfSome result (λ answer. LeadsOn self.old.for_cell [] [] (Ok (Some answer))) }
         ensures sort { self.new.for_cell ≡ self.old.for_cell }
     {
@@ -298,11 +328,16 @@ impl Reading {
         alloc: Global,
         ahead: &mut Ahead,
     ) -> Option<LoadAnswer<E::Node>>
-        requires ahead { AllAhead (values_at E.Node.NodeSet E.Env E.Hash.KeyHash (A.acting access.old).environment).types (frames_of self.old.top self.old.below.items) (rows_of ahead.old) }
-        ensures acts { Acts A.told A.acting access.old access.new (λ a s t. Tries (values_at E.Node.NodeSet E.Env E.Hash.KeyHash a.environment) a.me self.old s (Ok result) (frames_of self.new.top self.new.below.items) t) }
-        ensures leads { LeadsOn self.old.for_cell (frames_of self.old.top self.old.below.items) (frames_of self.new.top self.new.below.items) (Ok result) }
+        requires ahead { AllAhead (values_at E.Node.NodeSet E.Env E.Hash.KeyHash
+            (A.acting access.old).environment).types (frames_of self.old.top self.old.below.items) (rows_of ahead.old) }
+        ensures acts { Acts A.told A.acting access.old access.new
+            (λ a s t. Tries (values_at E.Node.NodeSet E.Env E.Hash.KeyHash a.environment) a.me self.old s (Ok result)
+            (frames_of self.new.top self.new.below.items) t) }
+        ensures leads { LeadsOn self.old.for_cell (frames_of self.old.top self.old.below.items)
+            (frames_of self.new.top self.new.below.items) (Ok result) }
         ensures same { IsSameLoad self.old self.new (one_more self.old.steps) }
-        ensures ahead { IfNone result (AllAhead (values_at E.Node.NodeSet E.Env E.Hash.KeyHash (A.acting access.old).environment).types (frames_of self.new.top self.new.below.items) (rows_of ahead.new)) }
+        ensures ahead { IfNone result (AllAhead (values_at E.Node.NodeSet E.Env E.Hash.KeyHash
+            (A.acting access.old).environment).types (frames_of self.new.top self.new.below.items) (rows_of ahead.new)) }
     {
         self.plan_batch_if_useful(access, alloc, &mut ahead.top);
         let need = self.needed::<E, A>(access, alloc, ahead.top.as_slice());
@@ -330,7 +365,8 @@ impl Reading {
         access: &mut A,
         alloc: Global,
     ) -> LoadAnswer<E::Node>
-        ensures acts { Acts A.told A.acting access.old access.new (λ a s t. Runs (values_at E.Node.NodeSet E.Env E.Hash.KeyHash a.environment) a.me self.old s result t) }
+        ensures acts { Acts A.told A.acting access.old access.new
+            (λ a s t. Runs (values_at E.Node.NodeSet E.Env E.Hash.KeyHash a.environment) a.me self.old s result t) }
         ensures ends { LeadsOn self.old.for_cell [] [] (Ok (Some result)) }
     {
         if let Some(answer) = self.run_first(access, alloc) {
@@ -355,7 +391,8 @@ fn pin_first<E: Env<Node: NodeSet<E>>, A: Access<E>>(
     handle: HandleNumber,
 ) -> Result<(HandleNumber, bool), Error>
     requires caller { (A.acting access.old).me ≡ Owner.Caller }
-    ensures { Acts A.told A.acting access.old access.new (λ a s t. PinsFirst (values_at E.Node.NodeSet E.Env E.Hash.KeyHash a.environment) s handle result t) }
+    ensures { Acts A.told A.acting access.old access.new
+        (λ a s t. PinsFirst (values_at E.Node.NodeSet E.Env E.Hash.KeyHash a.environment) s handle result t) }
 {
     match access.begin_pin(handle)? {
         PinStart::Pinned(pinned, was_unpinned) => Ok((pinned, was_unpinned)),
@@ -377,7 +414,8 @@ fn unpin_again<E: Env<Node: NodeSet<E>>, A: Access<E>>(
     was_unpinned: bool,
 )
     requires caller { (A.acting access.old).me ≡ Owner.Caller }
-    ensures { Acts A.told A.acting access.old access.new (λ a s t. Unpins (values_at E.Node.NodeSet E.Env E.Hash.KeyHash a.environment) was_unpinned handle s t) }
+    ensures { Acts A.told A.acting access.old access.new
+        (λ a s t. Unpins (values_at E.Node.NodeSet E.Env E.Hash.KeyHash a.environment) was_unpinned handle s t) }
 {
     if was_unpinned {
         let _told = access.unpin(handle);
@@ -416,7 +454,9 @@ pub fn pin_with_state_over<E: Env<Node: NodeSet<E>>, A: Access<E>>(
     handle: HandleNumber,
 ) -> Result<(HandleNumber, Arc<E::Node>, bool), Error>
     requires caller { (A.acting access.old).me ≡ Owner.Caller }
-    ensures { Acts A.told A.acting access.old access.new (λ a s t. PinsOver (values_at E.Node.NodeSet E.Env E.Hash.KeyHash a.environment) s handle (seen_as (λ a. (a.0, arc_value a.1)) result) t) }
+    ensures { Acts A.told A.acting access.old access.new
+        (λ a s t. PinsOver (values_at E.Node.NodeSet E.Env E.Hash.KeyHash a.environment) s handle
+        (seen_as (λ a. (a.0, arc_value a.1)) result) t) }
 {
     let (pinned, was_unpinned) = pin_first(access, alloc, handle)?;
     match share_pinned(access, pinned) {
@@ -445,7 +485,9 @@ pub fn pin_over<E: Env<Node: NodeSet<E>>, A: Access<E>>(
     handle: HandleNumber,
 ) -> Result<(HandleNumber, Arc<E::Node>), Error>
     requires caller { (A.acting access.old).me ≡ Owner.Caller }
-    ensures { Acts A.told A.acting access.old access.new (λ a s t. PinsOver (values_at E.Node.NodeSet E.Env E.Hash.KeyHash a.environment) s handle (seen_as (λ a. (a.0, arc_value a.1)) result) t) }
+    ensures { Acts A.told A.acting access.old access.new
+        (λ a s t. PinsOver (values_at E.Node.NodeSet E.Env E.Hash.KeyHash a.environment) s handle
+        (seen_as (λ a. (a.0, arc_value a.1)) result) t) }
 {
     let (pinned, value, _) = pin_with_state_over(access, alloc, handle)?;
     Ok((pinned, value))
@@ -465,7 +507,8 @@ pub fn read_over<E: Env<Node: NodeSet<E>>, A: Access<E>>(
     node_type: u32,
 ) -> Result<E::Node, Error>
     requires caller { (A.acting access.old).me ≡ Owner.Caller }
-    ensures { Acts A.told A.acting access.old access.new (λ a s t. ReadsOver (values_at E.Node.NodeSet E.Env E.Hash.KeyHash a.environment) s key node_type result t) }
+    ensures { Acts A.told A.acting access.old access.new
+        (λ a s t. ReadsOver (values_at E.Node.NodeSet E.Env E.Hash.KeyHash a.environment) s key node_type result t) }
 {
     let load = access.load_key(key)?;
     let mut reading = Reading::new(alloc, load, key, node_type, false);

@@ -7,7 +7,8 @@ use Rattle.std.specs.{Arc.arc_value, declared.{alloc.Global.Global, sync.Arc.Arc
 -- `workers` is the worker's own
 abbrev pub items_of : {X : Type 0} → ℕ → ℕ → ℕ → List X → List X
 items_of workers worker i [] = []
-items_of workers worker i (x ∷ xs) = if i % workers == worker then x ∷ items_of workers worker (i + 1) xs else items_of workers worker (i + 1) xs
+items_of workers worker i (x ∷ xs) = if i % workers == worker then x
+    ∷ items_of workers worker (i + 1) xs else items_of workers worker (i + 1) xs
 
 -- one result for each item, in their order
 abbrev pub AnswersEach : {X K : Type 0} → (X → K → Type 0) → List X → List K → Type 0
@@ -17,5 +18,6 @@ AnswersEach P (x ∷ xs) [] = ⊥
 AnswersEach P (x ∷ xs) (r ∷ rs) = P x r × AnswersEach P xs rs
 
 -- a key is the hash of the item's bytes and of the keys of results, one for each of its references
-abbrev pub IsAnswerOf : {N E : Type 0} → (List ℕ → List ℕ) → (E → Values N) → Arc SerializedData Global → Result ℕ PageOutError → Type 0
+abbrev pub IsAnswerOf : {N E : Type 0} → (List ℕ → List ℕ) → (E → Values N) → Arc SerializedData Global
+    → Result ℕ PageOutError → Type 0
 IsAnswerOf hash values item r = IfOk r (λ key. ∥ IsOver hash values (written_of (arc_value item)) key ∥₁)

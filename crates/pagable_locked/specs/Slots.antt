@@ -5,14 +5,17 @@ use Rattle.pagable_pageout.specs.declared.{lent_slot.Outcome.Outcome, results.Sl
 use Rattle.pagable_codec.specs.declared.{env.Env.Ghosts as Environments, hash.KeyHash.Ghosts as Hashes, nodes.NodeSet.Ghosts as Nodes}
 use Rattle.std.specs.declared.cmp.{Ord.Ghosts as Orders, PartialEq.Ghosts as Equalities, PartialOrd.Ghosts as PartialOrders}
 
-module _ {E EN EH EK EV : Type 0} {g : Environments E EN EH EK EV} {gh : Hashes EH} {go : Orders EK} {gq : Equalities EK} {gp : PartialOrders EK} {gn : Nodes EN E EN EH EK EV} where
+module _ {E EN EH EK EV : Type 0} {g : Environments E EN EH EK EV} {gh : Hashes EH} {go : Orders EK}
+    {gq : Equalities EK} {gp : PartialOrders EK} {gn : Nodes EN E EN EH EK EV} where
   -- of two outcomes that are set one after the other, the one that stays
-  abbrev pub first_outcome : Outcome E EN EH EK EV g gh go gq gp gn → Outcome E EN EH EK EV g gh go gq gp gn → Outcome E EN EH EK EV g gh go gq gp gn
+  abbrev pub first_outcome : Outcome E EN EH EK EV g gh go gq gp gn → Outcome E EN EH EK EV g gh go gq gp gn
+      → Outcome E EN EH EK EV g gh go gq gp gn
   first_outcome Outcome.Open later = later
   first_outcome outcome later = outcome
 
   -- the outcome that is returned for an identity: the same result, or a failure if the result is another identity's
-  abbrev pub IsToldAs : Identity → Outcome E EN EH EK EV g gh go gq gp gn → Outcome E EN EH EK EV g gh go gq gp gn → Type 0
+  abbrev pub IsToldAs : Identity → Outcome E EN EH EK EV g gh go gq gp gn → Outcome E EN EH EK EV g gh go gq gp gn
+      → Type 0
   IsToldAs i Outcome.Open Outcome.Open = Unit {0}
   IsToldAs i (Outcome.Published r) (Outcome.Published t) = (r.identity ≡ i) × (t.key ≡ r.key) × (t.height ≡ r.height)
   IsToldAs i (Outcome.Published r) Outcome.Failed = r.identity ≢ i

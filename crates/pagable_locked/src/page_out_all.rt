@@ -79,7 +79,8 @@ fn page_out_each<'a, R: Wait, E: Env<Node: NodeSet<E>>, S: PagableStorage<E>, L:
     worker: usize,
 ) -> Result<VecDeque<Result<DataKey, PageOutError>>, Error>
     requires { 0 < workers }
-    ensures answers { IfOk result (λ v. AnswersEach (IsAnswerOf E.Hash.digest (values_at E.Node.NodeSet E.Env E.Hash.KeyHash)) (items_of workers worker 0 items.now) v.items) }
+    ensures answers { IfOk result (λ v. AnswersEach (IsAnswerOf E.Hash.digest
+        (values_at E.Node.NodeSet E.Env E.Hash.KeyHash)) (items_of workers worker 0 items.now) v.items) }
 {
     let mut keys = VecDeque::new(alloc);
     for i in 0..items.len() {
@@ -101,7 +102,8 @@ fn work<'a, R: Wait, E: Env<Node: NodeSet<E>>, S: PagableStorage<E>, L: Ledger, 
     job: Job<L>,
 ) -> Result<JobEnd<L>, Error>
     requires { 0 < workers }
-    ensures { IfOk result (λ d. AnswersEach (IsAnswerOf E.Hash.digest (values_at E.Node.NodeSet E.Env E.Hash.KeyHash)) (items_of workers job.worker 0 items.now) d.keys.items) }
+    ensures { IfOk result (λ d. AnswersEach (IsAnswerOf E.Hash.digest (values_at E.Node.NodeSet E.Env E.Hash.KeyHash))
+        (items_of workers job.worker 0 items.now) d.keys.items) }
 {
     let Job { worker, share } = job;
     let claims = SharedClaims::new(rt, alloc, site.table, share);
@@ -139,10 +141,14 @@ fn gather<E: Env<Node: NodeSet<E>>, L: Ledger>(
     all: &mut ClaimShare<L>,
 ) -> Result<Vec<VecDeque<Result<DataKey, PageOutError>>>, Error>
     requires count { vec_len ends ≡ workers }
-    requires each { (i : ℕ) (d : _) → i < workers → IfOk (slice_index_or ends.items i d) (λ x. AnswersEach (IsAnswerOf E.Hash.digest (values_at E.Node.NodeSet E.Env E.Hash.KeyHash)) (items_of workers i 0 items.now) x.keys.items) }
+    requires each { (i : ℕ) (d : _) → i < workers → IfOk (slice_index_or ends.items i d)
+        (λ x. AnswersEach (IsAnswerOf E.Hash.digest (values_at E.Node.NodeSet E.Env E.Hash.KeyHash))
+        (items_of workers i 0 items.now) x.keys.items) }
     ensures count { IfOk result (λ v. vec_len v ≡ workers) }
     ensures parts { IfOk result (λ v. all.new.share.parts ≡ all.old.share.parts + workers) }
-    ensures each { IfOk result (λ v. (i : ℕ) (d : _) → i < workers → AnswersEach (IsAnswerOf E.Hash.digest (values_at E.Node.NodeSet E.Env E.Hash.KeyHash)) (items_of workers i 0 items.now) (slice_index_or v.items i d).items) }
+    ensures each { IfOk result (λ v. (i : ℕ) (d : _) → i < workers
+        → AnswersEach (IsAnswerOf E.Hash.digest (values_at E.Node.NodeSet E.Env E.Hash.KeyHash))
+        (items_of workers i 0 items.now) (slice_index_or v.items i d).items) }
 {
     let mut lists = Vec::new(alloc);
     for end in ends {
@@ -163,8 +169,11 @@ fn in_order<E: Env<Node: NodeSet<E>>>(
 ) -> Result<Vec<Result<DataKey, PageOutError>>, Error>
     requires some { 0 < workers }
     requires count { vec_len lists ≡ workers }
-    requires each { (i : ℕ) (d : _) → i < workers → AnswersEach (IsAnswerOf E.Hash.digest (values_at E.Node.NodeSet E.Env E.Hash.KeyHash)) (items_of workers i 0 items.now) (slice_index_or lists.items i d).items }
-    ensures { IfOk result (λ v. AnswersEach (IsAnswerOf E.Hash.digest (values_at E.Node.NodeSet E.Env E.Hash.KeyHash)) items.now v.items) }
+    requires each { (i : ℕ) (d : _) → i < workers → AnswersEach
+        (IsAnswerOf E.Hash.digest (values_at E.Node.NodeSet E.Env E.Hash.KeyHash)) (items_of workers i 0 items.now)
+        (slice_index_or lists.items i d).items }
+    ensures { IfOk result (λ v. AnswersEach (IsAnswerOf E.Hash.digest (values_at E.Node.NodeSet E.Env E.Hash.KeyHash))
+        items.now v.items) }
 {
     let mut keys = Vec::new(alloc);
     for i in 0..items.len() {
@@ -216,7 +225,8 @@ impl<E: Env<Node: NodeSet<E>>, S: PagableStorage<E>> PagableStorageHandle<E, S> 
         requires name { parts.name ≡ L.name }
         requires parts { parts.parts ≡ L.parts }
         requires workers { (0 < workers) × (parts.parts ≡ workers + 1) }
-        ensures { IfOk result (λ r. AnswersEach (IsAnswerOf E.Hash.digest (values_at E.Node.NodeSet E.Env E.Hash.KeyHash)) items.now r.keys.items) }
+        ensures { IfOk result (λ r. AnswersEach (IsAnswerOf E.Hash.digest
+            (values_at E.Node.NodeSet E.Env E.Hash.KeyHash)) items.now r.keys.items) }
     {
         let (table, mut all) = SlotTable::<E, L>::new(alloc, parts);
         let jobs = jobs(alloc, workers, &mut all)?;
@@ -231,7 +241,9 @@ impl<E: Env<Node: NodeSet<E>>, S: PagableStorage<E>> PagableStorageHandle<E, S> 
             jobs,
             &|job: Job<L>| -> Result<JobEnd<L>, Error>
                 requires { 0 < workers }
-                ensures { IfOk result (λ d. AnswersEach (IsAnswerOf E.Hash.digest (values_at E.Node.NodeSet E.Env E.Hash.KeyHash)) (items_of workers job.worker 0 items.entry.now) d.keys.items) }
+                ensures { IfOk result (λ d. AnswersEach
+                    (IsAnswerOf E.Hash.digest (values_at E.Node.NodeSet E.Env E.Hash.KeyHash))
+                    (items_of workers job.worker 0 items.entry.now) d.keys.items) }
             { work(rt, alloc, site, items, workers, job) },
         )?;
         let lists = gather::<E, L>(alloc, items, workers, ends, &mut all)?;
@@ -268,7 +280,8 @@ impl<E: Env<Node: NodeSet<E>>, S: PagableStorage<E>> PagableStorageHandle<E, S> 
         E::CtxKey: Send + Sync,
         E::CtxValue: Send + Sync,
         requires { 0 < workers }
-        ensures { IfOk result (λ r. AnswersEach (IsAnswerOf E.Hash.digest (values_at E.Node.NodeSet E.Env E.Hash.KeyHash)) items.now r.keys.items) }
+        ensures { IfOk result (λ r. AnswersEach (IsAnswerOf E.Hash.digest
+            (values_at E.Node.NodeSet E.Env E.Hash.KeyHash)) items.now r.keys.items) }
     {
         // More workers than items would have nothing to do.
         let workers = workers.min(items.len().max(1));

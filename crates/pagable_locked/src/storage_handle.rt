@@ -268,7 +268,8 @@ impl<E: Env<Node: NodeSet<E>>, S: PagableStorage<E>> PagableStorageHandle<E, S> 
         share: &mut ClaimShare<L>,
     ) -> Result<DataKey, PageOutError>
         requires spare { 1 < share.old.share.parts }
-        ensures over { IfOk result (λ key. ∥ IsOver E.Hash.digest (values_at E.Node.NodeSet E.Env E.Hash.KeyHash) (written_of (arc_value item)) key ∥₁) }
+        ensures over { IfOk result (λ key. ∥ IsOver E.Hash.digest (values_at E.Node.NodeSet E.Env E.Hash.KeyHash)
+            (written_of (arc_value item)) key ∥₁) }
         ensures parts { share.new.share.parts ≡ share.old.share.parts }
     {
         let walk = WalkShare::split_off(share);

@@ -5,7 +5,8 @@ use Rattle.pagable_value_spec.specs.{Meaning.Meaning, Reading.{Rest, read}, Shap
 use Rattle.pagable_nodes.specs.Bytes.{IsFormOf, ReadsWhole}
 
 module _ {E : Type 0} (parts : E → ℕ → Shape) (shape : E → Shape) (env other : E) (levels : ℕ) where
-  pub written_alone : (M : Meaning ArcRef → Type 0) (old new : Out) (d : SerializedData) → WritesSome M (nesting levels (parts other)) (shape other) old new → levels ≡ 0 → other ≡ env → old ≡ nothing
+  pub written_alone : (M : Meaning ArcRef → Type 0) (old new : Out) (d : SerializedData) → WritesSome M (nesting levels (parts other)) (shape other) old new
+      → levels ≡ 0 → other ≡ env → old ≡ nothing
       → out_of d ≡ new → length d.arcs.items ≡ 0 → IsFormOf M (parts env) (shape env) d.bytes.items
   written_alone M old new d wrote l e o is none = record {
     out = out_of d;
@@ -14,7 +15,9 @@ module _ {E : Type 0} (parts : E → ℕ → Shape) (shape : E → Shape) (env o
     bare = nil_from_length _ none;
   }
 
-  pub read_alone : {X N : Type 0} (own : Error → Type 0) (means : X → Meaning ArcRef → Type 0) (answer : ℕ → ℕ → ℕ → Result ArcRef Error) (lent : ℕ → Option (ArcRef × N)) (bytes : List ℕ)
+  pub read_alone : {X N : Type 0} (own : Error → Type 0) (means : X → Meaning ArcRef → Type 0) (answer : ℕ → ℕ → ℕ → Result ArcRef Error)
+      (lent : ℕ → Option (ArcRef × N)) (bytes : List ℕ)
       (st : Standing N) (after : Rest Answer) (result : Result X Error) → st ≡ at_front answer lent bytes [] → levels ≡ 0 → other ≡ env
-      → GivesSome own means after result (read (handles_at levels (parts other)) (shape other) (rest_at st)) → ReadsWhole own means (parts env) (shape env) bytes result
+      → GivesSome own means after result (read (handles_at levels (parts other)) (shape other) (rest_at st))
+      → ReadsWhole own means (parts env) (shape env) bytes result
   read_alone own means answer lent bytes st after result s l e gives = record { after = after; gives = rw (s, l, e) at gives }

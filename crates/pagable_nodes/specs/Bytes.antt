@@ -14,6 +14,7 @@ abbrev pub alone : List ℕ → Rest Answer
 alone bytes = record { bytes = bytes; refs = [] }
 
 -- the result of reading from the start of the bytes, without references, and what reading leaves
-pub record ReadsWhole {X : Type 0} (causes : Error → Type 0) (means : X → Meaning ArcRef → Type 0) (parts : ℕ → Shape) (s : Shape) (bytes : List ℕ) (r : Result X Error) : Type 0 where
+pub record ReadsWhole {X : Type 0} (causes : Error → Type 0) (means : X → Meaning ArcRef → Type 0) (parts : ℕ → Shape)
+    (s : Shape) (bytes : List ℕ) (r : Result X Error) : Type 0 where
   pub after : Rest Answer
   pub gives : GivesSome causes means after r (read (handles_at 0 parts) s (alone bytes))

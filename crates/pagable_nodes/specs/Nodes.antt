@@ -6,7 +6,8 @@ use Rattle.pagable_traits.specs.{InNodes.{Holds, holds-none, holds-value}, Meani
 use Rattle.pagable_nodes.specs.declared.either_node.EitherNode.TheVariants as nodes
 
 -- a value refers to what its one meaning refers to
-pub value_refers : {T : Type 0} (M : Meanings T) → AreSingle M → (x : T) (m : Meaning ArcRef) → M.of x m → SameReferences (references_in (M.meaning x)) (references_in m)
+pub value_refers : {T : Type 0} (M : Meanings T) → AreSingle M → (x : T) (m : Meaning ArcRef) → M.of x m
+    → SameReferences (references_in (M.meaning x)) (references_in m)
 value_refers M single x m h = rw (single x m h) (λ test. refl)
 
 -- ---- one type
@@ -90,7 +91,8 @@ module _ {A B C : Type 0} where
     either_has_meaning (nodes.Second n) = some N (arc_value n.value)
     either_has_meaning (nodes.Third n) = some O (arc_value n.value)
 
-    pub either_refers : AreSingle M → AreSingle N → AreSingle O → (n : EitherNode A B C) (m : Meaning ArcRef) → either_means n m → SameReferences (either_refs n) (references_in m)
+    pub either_refers : AreSingle M → AreSingle N → AreSingle O → (n : EitherNode A B C) (m : Meaning ArcRef)
+        → either_means n m → SameReferences (either_refs n) (references_in m)
     either_refers i j k (nodes.First n) m h = value_refers M i (arc_value n.value) m h
     either_refers i j k (nodes.Second n) m h = value_refers N j (arc_value n.value) m h
     either_refers i j k (nodes.Third n) m h = value_refers O k (arc_value n.value) m h

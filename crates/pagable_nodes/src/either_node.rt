@@ -92,7 +92,8 @@ impl<E: Env, A: NodeValue<E> + Drop, B: NodeValue<E> + Drop, C: NodeValue<E> + D
 
     ghost has_meaning = { either_has_meaning A.spelled.means B.spelled.means C.spelled.means };
 
-    ghost refers = { either_refers A.spelled.means B.spelled.means C.spelled.means A.spelled.single B.spelled.single C.spelled.single };
+    ghost refers = { either_refers A.spelled.means B.spelled.means C.spelled.means A.spelled.single B.spelled.single
+        C.spelled.single };
 
     ghost has_shape = { λ e. either_has_shape A.spelled.shape B.spelled.shape C.spelled.shape };
 

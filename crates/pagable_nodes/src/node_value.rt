@@ -36,8 +36,10 @@ pub trait NodeValue<E: Env>: Sized {
     ///
     /// - as the type's `pagable_serialize`: what was written before stays in place.
     fn write<S: PagableSerializer<E>>(&self, serializer: &mut S) -> Result<(), Error>
-        ensures wrote { Wrote E.Env S.PagableSerializer (form (spelled.means.of self.now) spelled.shape) spelled.writes.are serializer.old serializer.new result }
-        ensures listed { OnOk result ((S.out serializer.new).refs ≡ (S.out serializer.old).refs ++ references_in (spelled.means.meaning self.now)) };
+        ensures wrote { Wrote E.Env S.PagableSerializer (form (spelled.means.of self.now) spelled.shape)
+            spelled.writes.are serializer.old serializer.new result }
+        ensures listed { OnOk result ((S.out serializer.new).refs ≡ (S.out serializer.old).refs
+            ++ references_in (spelled.means.meaning self.now)) };
 
     /// Reads the value at the start of what is left, and leaves the rest.
     ///
@@ -46,7 +48,8 @@ pub trait NodeValue<E: Env>: Sized {
     /// - as the type's `pagable_deserialize`: the first fault from the start, or a cause of the
     ///   type's own.
     fn read<D: PagableDeserializer<E>>(alloc: Global, deserializer: &mut D) -> Result<Self, Error>
-        ensures reads { Reads E.Env D.PagableDeserializer spelled.reads.are spelled.means.of (λ c. read_shape c spelled.shape) deserializer.old deserializer.new result };
+        ensures reads { Reads E.Env D.PagableDeserializer spelled.reads.are spelled.means.of
+            (λ c. read_shape c spelled.shape) deserializer.old deserializer.new result };
 }
 
 /// `()` is the third type of an environment with two.

@@ -35,7 +35,8 @@ settle-ends w (to_fail fault back ∷ below) h = h
 
 pub give-ends : (w : Written) (r : ArcRef) (key height : ℕ) (todo : List Todo) → EndsWith w todo → EndsWith w (give r key height todo)
 give-ends w r key height [] h = h
-give-ends w r key height (to_finish o ∷ below) h = settle-ends w (to_finish (record o { keys = o.keys ++ key ∷ []; height = max o.height (above r.kind.0 height) }) ∷ below) h
+give-ends w r key height (to_finish o ∷ below) h = settle-ends w (to_finish
+    (record o { keys = o.keys ++ key ∷ []; height = max o.height (above r.kind.0 height) }) ∷ below) h
 give-ends w r key height (to_item written keys ∷ below) h = settle-ends w (to_item written (keys ++ key ∷ []) ∷ below) h
 give-ends w r key height (to_start s place ∷ below) h = h
 give-ends w r key height (to_pin s place ∷ below) h = h
@@ -55,42 +56,57 @@ fails-ends w fault back = tt
 
 -- what is to be done after a claim
 
-pub claim-ends : (w : Written) (r : ArcRef) (place : ℕ) (below : List Todo) (found : Result Claim Error) → EndsWith w (to_start r place ∷ below) → EndsWith w (claim_todo r place below found)
+pub claim-ends : (w : Written) (r : ArcRef) (place : ℕ) (below : List Todo) (found : Result Claim Error) → EndsWith w (to_start r place ∷ below)
+    → EndsWith w (claim_todo r place below found)
 claim-ends w r place below (Ok Claim.Claimed) h = h
 claim-ends w r place below (Ok (Claim.Known key height)) h = known-ends w r key height below h
 claim-ends w r place below (Ok Claim.Waiting) h = h
 claim-ends w r place below (Ok Claim.AlreadyFailed) h = tt
 claim-ends w r place below (Err e) h = tt
 
-module _ {X XN XH XK XV : Type 0} {g : Environments X XN XH XK XV} {gh : Hashes XH} {go : Orders XK} {gq : Equalities XK} {gp : PartialOrders XK} {gn : Nodes XN X XN XH XK XV} where
+module _ {X XN XH XK XV : Type 0} {g : Environments X XN XH XK XV} {gh : Hashes XH} {go : Orders XK} {gq : Equalities XK} {gp : PartialOrders XK}
+    {gn : Nodes XN X XN XH XK XV} where
   -- what goes on keeps its end
-  pub goes-ends : (todo after : List Todo) (t : Task X XN XH XK XV g gh go gq gp gn) → ((w : Written) → EndsWith w todo → EndsWith w after) → Ends {g = g} {gh = gh} {go = go} {gq = gq} {gp = gp} {gn = gn} todo (Turn.Goes t) after
+  pub goes-ends : (todo after : List Todo) (t : Task X XN XH XK XV g gh go gq gp gn) → ((w : Written) → EndsWith w todo → EndsWith w after)
+      → Ends {g = g} {gh = gh} {go = go} {gq = gq} {gp = gp} {gn = gn} todo (Turn.Goes t) after
   goes-ends todo after t f = record { stays = f; over = λ w h. tt }
 
-  pub refused-ends : (todo after : List Todo) (t : Task X XN XH XK XV g gh go gq gp gn) (fault : Fault) (back : Option HandleNumber) → after ≡ fails fault back → Ends {g = g} {gh = gh} {go = go} {gq = gq} {gp = gp} {gn = gn} todo (Turn.Goes t) after
+  pub refused-ends : (todo after : List Todo) (t : Task X XN XH XK XV g gh go gq gp gn) (fault : Fault) (back : Option HandleNumber) → after ≡ fails fault back
+      → Ends {g = g} {gh = gh} {go = go} {gq = gq} {gp = gp} {gn = gn} todo (Turn.Goes t) after
   refused-ends todo after t fault back is = goes-ends todo after t (λ w h. subst (EndsWith w) (sym is) tt)
 
-  pub claimed-ends : (r : ArcRef) (place : ℕ) (below after : List Todo) (found : Result Claim Error) (t : Task X XN XH XK XV g gh go gq gp gn) → after ≡ claim_todo r place below found → Ends {g = g} {gh = gh} {go = go} {gq = gq} {gp = gp} {gn = gn} (to_start r place ∷ below) (Turn.Goes t) after
+  pub claimed-ends : (r : ArcRef) (place : ℕ) (below after : List Todo) (found : Result Claim Error) (t : Task X XN XH XK XV g gh go gq gp gn) → after
+      ≡ claim_todo r place below found → Ends {g = g} {gh = gh} {go = go} {gq = gq} {gp = gp} {gn = gn} (to_start r place ∷ below) (Turn.Goes t) after
   claimed-ends r place below after found t is = goes-ends _ after t (λ w h. subst (EndsWith w) (sym is) (claim-ends w r place below found h))
 
-  pub written-ends : (x : Todo) (o : Open) (below after : List Todo) (t : Task X XN XH XK XV g gh go gq gp gn) → ((w : Written) → EndsWith w (x ∷ below) → EndsWith w below) → after ≡ settle (to_finish o ∷ below) → Ends {g = g} {gh = gh} {go = go} {gq = gq} {gp = gp} {gn = gn} (x ∷ below) (Turn.Goes t) after
+  pub written-ends : (x : Todo) (o : Open) (below after : List Todo) (t : Task X XN XH XK XV g gh go gq gp gn)
+      → ((w : Written) → EndsWith w (x ∷ below) → EndsWith w below) → after ≡ settle (to_finish o ∷ below)
+      → Ends {g = g} {gh = gh} {go = go} {gq = gq} {gp = gp} {gn = gn} (x ∷ below) (Turn.Goes t) after
   written-ends x o below after t f is = goes-ends _ after t (λ w h. subst (EndsWith w) (sym is) (settle-ends w (to_finish o ∷ below) (f w h)))
 
-  pub given-ends : (r : ArcRef) (key height : ℕ) (below after : List Todo) (t : Task X XN XH XK XV g gh go gq gp gn) → Gives r key height below after → Ends {g = g} {gh = gh} {go = go} {gq = gq} {gp = gp} {gn = gn} (to_release r key height ∷ below) (Turn.Goes t) after
-  given-ends r key height below after t gives = goes-ends _ after t (λ w h. subst (EndsWith w) (sym gives.is) (give-ends w r key height (gives.x ∷ gives.rest) (subst (EndsWith w) gives.was h)))
+  pub given-ends : (r : ArcRef) (key height : ℕ) (below after : List Todo) (t : Task X XN XH XK XV g gh go gq gp gn) → Gives r key height below after
+      → Ends {g = g} {gh = gh} {go = go} {gq = gq} {gp = gp} {gn = gn} (to_release r key height ∷ below) (Turn.Goes t) after
+  given-ends r key height below after t gives = goes-ends _ after t (λ w h. subst (EndsWith w) (sym gives.is)
+      (give-ends w r key height (gives.x ∷ gives.rest) (subst (EndsWith w) gives.was h)))
 
-  pub alone-ends : (r : ArcRef) (key height : ℕ) (below : List Todo) (k : ℕ) → below ≡ [] → Ends {g = g} {gh = gh} {go = go} {gq = gq} {gp = gp} {gn = gn} (to_release r key height ∷ below) (Turn.Answers (WorkerAnswer.Key k)) []
+  pub alone-ends : (r : ArcRef) (key height : ℕ) (below : List Todo) (k : ℕ) → below ≡ []
+      → Ends {g = g} {gh = gh} {go = go} {gq = gq} {gp = gp} {gn = gn} (to_release r key height ∷ below) (Turn.Answers (WorkerAnswer.Key k)) []
   alone-ends r key height below k none = record { stays = λ w h. tt; over = λ w h. absurd (subst (EndsWith w) none h) }
 
-  pub stored-ends : (node : Option Node) (written : Written) (keys : List ℕ) (key : ℕ) (turn : Turn X XN XH XK XV g gh go gq gp gn) (path : List (Waiting X XN XH XK XV g gh go gq gp gn)) → IsStored node key turn → IfKey turn (λ k. ∥ IsOver gh.digest (values_at gn g gh) written k ∥₁)
+  pub stored-ends : (node : Option Node) (written : Written) (keys : List ℕ) (key : ℕ) (turn : Turn X XN XH XK XV g gh go gq gp gn)
+      (path : List (Waiting X XN XH XK XV g gh go gq gp gn)) → IsStored node key turn → IfKey turn (λ k. ∥ IsOver gh.digest (values_at gn g gh) written k ∥₁)
       → Ends (waits_as node written keys ∷ todos path) turn (plan turn path)
   stored-ends None written keys key turn path is over =
-      let at : ∥ IsOver gh.digest (values_at gn g gh) written key ∥₁ = subst (λ t. IfKey t (λ k. ∥ IsOver gh.digest (values_at gn g gh) written k ∥₁)) is over in
-      subst (λ t. Ends (to_item written keys ∷ todos path) t (plan t path)) (sym is) (record { stays = λ w h. tt; over = λ w h. subst (λ x. ∥ IsOver gh.digest (values_at gn g gh) x key ∥₁) h.0 at })
+      let at : ∥ IsOver gh.digest (values_at gn g gh) written key ∥₁ = subst (λ t. IfKey t (λ k. ∥ IsOver gh.digest (values_at gn g gh) written k ∥₁)) is
+      over in
+      subst (λ t. Ends (to_item written keys ∷ todos path) t (plan t path)) (sym is)
+      (record { stays = λ w h. tt; over = λ w h. subst (λ x. ∥ IsOver gh.digest (values_at gn g gh) x key ∥₁) h.0 at })
   stored-ends (Some n) written keys key turn path (task, is, goes, plain) over =
-      subst (λ t. Ends (waits_as (Some n) written keys ∷ todos path) t (plan t path)) (sym is) (goes-ends _ _ task (λ w h. subst (λ x. EndsWith w (x ∷ todos path)) (sym goes) h))
+      subst (λ t. Ends (waits_as (Some n) written keys ∷ todos path) t (plan t path)) (sym is)
+      (goes-ends _ _ task (λ w h. subst (λ x. EndsWith w (x ∷ todos path)) (sym goes) h))
 
-  pub failed-ends : (why : PageOutError) (back : Option HandleNumber) (below : List Todo) → Ends {g = g} {gh = gh} {go = go} {gq = gq} {gp = gp} {gn = gn} (to_fail (fault_of why) back ∷ below) (Turn.Answers (answer_of_fault (fault_of why))) []
+  pub failed-ends : (why : PageOutError) (back : Option HandleNumber) (below : List Todo)
+      → Ends {g = g} {gh = gh} {go = go} {gq = gq} {gp = gp} {gn = gn} (to_fail (fault_of why) back ∷ below) (Turn.Answers (answer_of_fault (fault_of why))) []
   failed-ends (PageOutError.Failed e) back below = record { stays = λ w h. tt; over = λ w h. tt }
   failed-ends PageOutError.AlreadyFailed back below = record { stays = λ w h. tt; over = λ w h. tt }
 

@@ -15,20 +15,23 @@ module _ {S : Type 0} where
   told-as {o} {n} {R} {P} f h = record { holds = tells-as o n R P f h.holds }
 
 module _ {S Q : Type 0} where
-  told-first : (o n : Option S) (q : Option Q) (R : S → Q → S → Q → Type 0) → ((x : Q) → tells o n (λ s s'. R s x s' x)) → tells (both o q) (both n q) (λ st st'. R st.0 st.1 st'.0 st'.1)
+  told-first : (o n : Option S) (q : Option Q) (R : S → Q → S → Q → Type 0) → ((x : Q) → tells o n (λ s s'. R s x s' x))
+      → tells (both o q) (both n q) (λ st st'. R st.0 st.1 st'.0 st'.1)
   told-first o None q R h = tt
   told-first o (Some s') None R h = tt
   told-first None (Some s') (Some x) R h = h x
   told-first (Some s) (Some s') (Some x) R h = h x
 
-  told-second : (o : Option S) (q p : Option Q) (P : S → Type 0) (R : Q → Q → Type 0) (D : S → Q → S → Q → Type 0) → IfSome o P → tells q p R → ((s : S) (x y : Q) → P s → R x y → D s x s y)
+  told-second : (o : Option S) (q p : Option Q) (P : S → Type 0) (R : Q → Q → Type 0) (D : S → Q → S → Q → Type 0) → IfSome o P → tells q p R
+      → ((s : S) (x y : Q) → P s → R x y → D s x s y)
       → tells (both o q) (both o p) (λ st st'. D st.0 st.1 st'.0 st'.1)
   told-second None q p P R D h k f = tt
   told-second (Some s) q None P R D h k f = tt
   told-second (Some s) None (Some y) P R D h k f = k
   told-second (Some s) (Some x) (Some y) P R D h k f = f s x y h k
 
-  told-each : (o n : Option S) (q p : Option Q) (R : S → S → Type 0) (K : Q → Q → Type 0) (D : S → Q → S → Q → Type 0) → tells o n R → tells q p K → ((s s' : S) (x y : Q) → R s s' → K x y → D s x s' y)
+  told-each : (o n : Option S) (q p : Option Q) (R : S → S → Type 0) (K : Q → Q → Type 0) (D : S → Q → S → Q → Type 0) → tells o n R → tells q p K
+      → ((s s' : S) (x y : Q) → R s s' → K x y → D s x s' y)
       → tells (both o q) (both n p) (λ st st'. D st.0 st.1 st'.0 st'.1)
   told-each o None q p R K D h k f = tt
   told-each o (Some s') q None R K D h k f = tt
@@ -36,52 +39,77 @@ module _ {S Q : Type 0} where
   told-each (Some s) (Some s') None (Some y) R K D h k f = k
   told-each (Some s) (Some s') (Some x) (Some y) R K D h k f = f s s' x y h k
 
-  told-stays : (o : Option S) (q : Option Q) (P : S → Type 0) (D : S → Q → S → Q → Type 0) → IfSome o P → ((s : S) (x : Q) → P s → D s x s x) → tells (both o q) (both o q) (λ st st'. D st.0 st.1 st'.0 st'.1)
+  told-stays : (o : Option S) (q : Option Q) (P : S → Type 0) (D : S → Q → S → Q → Type 0) → IfSome o P → ((s : S) (x : Q) → P s → D s x s x)
+      → tells (both o q) (both o q) (λ st st'. D st.0 st.1 st'.0 st'.1)
   told-stays None q P D h f = tt
   told-stays (Some s) None P D h f = tt
   told-stays (Some s) (Some x) P D h f = f s x h
 
-  told-none : (o : Option S) (q : Option Q) (R : S → Q → S → Q → Type 0) → ((s : S) (x : Q) → R s x s x) → tells (both o q) (both o q) (λ st st'. R st.0 st.1 st'.0 st'.1)
+  told-none : (o : Option S) (q : Option Q) (R : S → Q → S → Q → Type 0) → ((s : S) (x : Q) → R s x s x)
+      → tells (both o q) (both o q) (λ st st'. R st.0 st.1 st'.0 st'.1)
   told-none None q R f = tt
   told-none (Some s) None R f = tt
   told-none (Some s) (Some x) R f = f s x
 
-  told-alone : (o n : Option S) (x y : Q) (R : S → Q → S → Q → Type 0) → tells (both o (Some x)) (both n (Some y)) (λ st st'. R st.0 st.1 st'.0 st'.1) → tells o n (λ s s'. R s x s' y)
+  told-alone : (o n : Option S) (x y : Q) (R : S → Q → S → Q → Type 0) → tells (both o (Some x)) (both n (Some y)) (λ st st'. R st.0 st.1 st'.0 st'.1)
+      → tells o n (λ s s'. R s x s' y)
   told-alone o None x y R h = tt
   told-alone None (Some s') x y R h = h
   told-alone (Some s) (Some s') x y R h = h
 
 module _ {A T S Q E : Type 0} {told : A → Option S} {by : A → Acting E} {shelf : T → Option Q} where
   -- the access acts, and the table stays
-  pub both-first : {a a' : A} {t : T} {after : Acting E → Acting E} {R : Acting E → S → Q → S → Q → Type 0} → ((q : Q) → ActsThen told by a a' after (λ x s s'. R x s q s' q)) → Q → ActsBoth told by shelf a t a' t after R
-  both-first {a} {a'} {t} {after} {R} h q = record { step = record { holds = told-first (told a) (told a') (shelf t) (R (by a)) (λ x. (h x).step.holds) }; acting = (h q).acting }
+  pub both-first : {a a' : A} {t : T} {after : Acting E → Acting E} {R : Acting E → S → Q → S → Q → Type 0}
+      → ((q : Q) → ActsThen told by a a' after (λ x s s'. R x s q s' q)) → Q → ActsBoth told by shelf a t a' t after R
+  both-first {a} {a'} {t} {after} {R} h q = record {
+    step = record { holds = told-first (told a) (told a') (shelf t) (R (by a)) (λ x. (h x).step.holds) };
+    acting = (h q).acting;
+  }
 
   -- the table changes, and the access stays
-  pub both-second : {a : A} {t t' : T} {P : S → Type 0} {R : Q → Q → Type 0} {D : Acting E → S → Q → S → Q → Type 0} → Tells (told a) P → Told (shelf t) (shelf t') R → ((s : S) (x y : Q) → P s → R x y → D (by a) s x s y)
+  pub both-second : {a : A} {t t' : T} {P : S → Type 0} {R : Q → Q → Type 0} {D : Acting E → S → Q → S → Q → Type 0} → Tells (told a) P
+      → Told (shelf t) (shelf t') R → ((s : S) (x y : Q) → P s → R x y → D (by a) s x s y)
       → ActsBoth told by shelf a t a t' (λ x. x) D
-  both-second {a} {t} {t'} {P} {R} {D} h k f = record { step = record { holds = told-second (told a) (shelf t) (shelf t') P R (D (by a)) h.holds k.holds f }; acting = refl }
+  both-second {a} {t} {t'} {P} {R} {D} h k f = record {
+    step = record { holds = told-second (told a) (shelf t) (shelf t') P R (D (by a)) h.holds k.holds f };
+    acting = refl;
+  }
 
   -- both change
-  pub both-each : {a a' : A} {t t' : T} {after : Acting E → Acting E} {R : Acting E → S → S → Type 0} {K : Q → Q → Type 0} {D : Acting E → S → Q → S → Q → Type 0} → ActsThen told by a a' after R → Told (shelf t) (shelf t') K
+  pub both-each : {a a' : A} {t t' : T} {after : Acting E → Acting E} {R : Acting E → S → S → Type 0} {K : Q → Q → Type 0}
+      {D : Acting E → S → Q → S → Q → Type 0} → ActsThen told by a a' after R → Told (shelf t) (shelf t') K
       → ((s s' : S) (x y : Q) → R (by a) s s' → K x y → D (by a) s x s' y) → ActsBoth told by shelf a t a' t' after D
-  both-each {a} {a'} {t} {t'} {after} {R} {K} {D} h k f = record { step = record { holds = told-each (told a) (told a') (shelf t) (shelf t') (R (by a)) K (D (by a)) h.step.holds k.holds f }; acting = h.acting }
+  both-each {a} {a'} {t} {t'} {after} {R} {K} {D} h k f = record {
+    step =
+        record { holds = told-each (told a) (told a') (shelf t) (shelf t') (R (by a)) K (D (by a)) h.step.holds k.holds f };
+    acting = h.acting;
+  }
 
   -- the same, told otherwise
-  pub both-as : {a a' : A} {t t' : T} {after : Acting E → Acting E} {R D : Acting E → S → Q → S → Q → Type 0} → ((s s' : S) (x y : Q) → R (by a) s x s' y → D (by a) s x s' y) → ActsBoth told by shelf a t a' t' after R
+  pub both-as : {a a' : A} {t t' : T} {after : Acting E → Acting E} {R D : Acting E → S → Q → S → Q → Type 0}
+      → ((s s' : S) (x y : Q) → R (by a) s x s' y → D (by a) s x s' y) → ActsBoth told by shelf a t a' t' after R
       → ActsBoth told by shelf a t a' t' after D
-  both-as {a} {a'} {t} {t'} {after} {R} {D} f h = record { step = told-as {R = λ st st'. R (by a) st.0 st.1 st'.0 st'.1} {P = λ st st'. D (by a) st.0 st.1 st'.0 st'.1} (λ st st'. f st.0 st'.0 st.1 st'.1) h.step; acting = h.acting }
+  both-as {a} {a'} {t} {t'} {after} {R} {D} f h = record {
+    step = told-as {R = λ st st'. R (by a) st.0 st.1 st'.0 st'.1}
+        {P = λ st st'. D (by a) st.0 st.1 st'.0 st'.1} (λ st st'. f st.0 st'.0 st.1 st'.1) h.step;
+    acting = h.acting;
+  }
 
   -- one thing after another
-  pub both-on : {a m n : A} {t u w : T} {first then after : Acting E → Acting E} {R K D : Acting E → S → Q → S → Q → Type 0} → ActsBoth told by shelf a t m u first R → ActsBoth told by shelf m u n w then K
-      → ((s mid s' : S) (x y z : Q) → R (by a) s x mid y → K (first (by a)) mid y s' z → D (by a) s x s' z) → then (first (by a)) ≡ after (by a) → ActsBoth told by shelf a t n w after D
+  pub both-on : {a m n : A} {t u w : T} {first then after : Acting E → Acting E} {R K D : Acting E → S → Q → S → Q → Type 0}
+      → ActsBoth told by shelf a t m u first R → ActsBoth told by shelf m u n w then K
+      → ((s mid s' : S) (x y z : Q) → R (by a) s x mid y → K (first (by a)) mid y s' z → D (by a) s x s' z) → then (first (by a)) ≡ after (by a)
+      → ActsBoth told by shelf a t n w after D
   both-on {a} {m} {n} {t} {u} {w} {first} {then} {after} {R} {K} {D} h k f is = record {
-    step = told_then {R = λ st st'. R (by a) st.0 st.1 st'.0 st'.1} {T = λ st st'. K (first (by a)) st.0 st.1 st'.0 st'.1} (λ st mid st' r q. f st.0 mid.0 st'.0 st.1 mid.1 st'.1 r q) h.step
+    step = told_then {R = λ st st'. R (by a) st.0 st.1 st'.0 st'.1} {T = λ st st'. K (first (by a)) st.0 st.1 st'.0 st'.1}
+        (λ st mid st' r q. f st.0 mid.0 st'.0 st.1 mid.1 st'.1 r q) h.step
         (subst (λ x. Told (both (told m) (shelf u)) (both (told n) (shelf w)) (λ st st'. K x st.0 st.1 st'.0 st'.1)) h.acting k.step);
     acting = k.acting ∙ ap then h.acting ∙ is;
   }
 
   -- nothing is done, as far as is known of the access's state
-  pub both-stays : {a : A} {t : T} {P : S → Type 0} {D : Acting E → S → Q → S → Q → Type 0} → Tells (told a) P → ((s : S) (x : Q) → P s → D (by a) s x s x) → ActsBoth told by shelf a t a t (λ x. x) D
+  pub both-stays : {a : A} {t : T} {P : S → Type 0} {D : Acting E → S → Q → S → Q → Type 0} → Tells (told a) P → ((s : S) (x : Q) → P s → D (by a) s x s x)
+      → ActsBoth told by shelf a t a t (λ x. x) D
   both-stays {a} {t} {P} {D} h f = record { step = record { holds = told-stays (told a) (shelf t) P (D (by a)) h.holds f }; acting = refl }
 
   -- nothing is done
@@ -89,9 +117,14 @@ module _ {A T S Q E : Type 0} {told : A → Option S} {by : A → Acting E} {she
   both-all {a} {t} {R} f = record { step = record { holds = told-none (told a) (shelf t) (R (by a)) f }; acting = refl }
 
   -- the table is lent
-  pub both-alone : {a a' : A} {t t' : T} {after : Acting E → Acting E} {R : Acting E → S → Q → S → Q → Type 0} (x y : Q) → shelf t ≡ Some x → shelf t' ≡ Some y → ActsBoth told by shelf a t a' t' after R
+  pub both-alone : {a a' : A} {t t' : T} {after : Acting E → Acting E} {R : Acting E → S → Q → S → Q → Type 0} (x y : Q) → shelf t ≡ Some x → shelf t' ≡ Some y
+      → ActsBoth told by shelf a t a' t' after R
       → ActsThen told by a a' after (λ b s s'. R b s x s' y)
   both-alone {a} {a'} {t} {t'} {after} {R} x y is is' h = record {
-    step = record { holds = told-alone (told a) (told a') x y (R (by a)) (subst (λ p. tells (both (told a) (Some x)) (both (told a') p) (λ st st'. R (by a) st.0 st.1 st'.0 st'.1)) is' (subst (λ p. tells (both (told a) p) (both (told a') (shelf t')) (λ st st'. R (by a) st.0 st.1 st'.0 st'.1)) is h.step.holds)) };
+    step = record {
+      holds = told-alone (told a) (told a') x y (R (by a))
+          (subst (λ p. tells (both (told a) (Some x)) (both (told a') p) (λ st st'. R (by a) st.0 st.1 st'.0 st'.1)) is'
+          (subst (λ p. tells (both (told a) p) (both (told a') (shelf t')) (λ st st'. R (by a) st.0 st.1 st'.0 st'.1)) is h.step.holds));
+    };
     acting = h.acting;
   }

@@ -21,14 +21,18 @@ module _ {N E : Type 0} (v : Values N) where
   stays-called s whole = record { step = alike s.core; moves = record { each = λ n x is. inl is; environment = refl }; whole = whole }
 
   module _ (shelf : Shelf) (item : Written) where
-    pub item-unbegun : (e : Error) (s t : PagerState N E) → WorkerFault s.core e × Called v (λ w'. Alike s.core w') s t → PagesItem v shelf item shelf (WorkerAnswer.Failed e) s t
+    pub item-unbegun : (e : Error) (s t : PagerState N E) → WorkerFault s.core e × Called v (λ w'. Alike s.core w') s t
+        → PagesItem v shelf item shelf (WorkerAnswer.Failed e) s t
     item-unbegun e s t (why, call) = grind (arith, nat_tests, common_steps, same-shelf, no-worker)
 
     pub item-unstarted : (e : Error) → e ≡ Error.OutOfMemory → (s : PagerState N E) → PagesItem v shelf item shelf (WorkerAnswer.Failed e) s s
     item-unstarted e is s = grind (arith, nat_tests, common_steps, stays-called, same-shelf, no-worker)
 
-    pub item-walked : {X XN XH XK XV : Type 0} {g : Environments X XN XH XK XV} {gh : Hashes XH} {go : Orders XK} {gq : Equalities XK} {gp : PartialOrders XK} {gn : Nodes XN X XN XH XK XV} (me : Owner) (n : ℕ) (task : Task X XN XH XK XV g gh go gq gp gn) (below : List Todo) (shelf' : Shelf) (answer : WorkerAnswer) → me ≡ owner_worker n → IsPlain task
-        → todo_of task ∷ below ≡ first_todo (of_item item) → (s mid t : PagerState N E) → WorkerStarts v s.core s n mid → RunsTo v me n shelf task below shelf' answer mid t
+    pub item-walked : {X XN XH XK XV : Type 0} {g : Environments X XN XH XK XV} {gh : Hashes XH} {go : Orders XK} {gq : Equalities XK} {gp : PartialOrders XK}
+        {gn : Nodes XN X XN XH XK XV} (me : Owner) (n : ℕ) (task : Task X XN XH XK XV g gh go gq gp gn) (below : List Todo) (shelf' : Shelf)
+        (answer : WorkerAnswer) → me ≡ owner_worker n → IsPlain task
+        → todo_of task ∷ below ≡ first_todo (of_item item) → (s mid t : PagerState N E) → WorkerStarts v s.core s n mid
+        → RunsTo v me n shelf task below shelf' answer mid t
         → PagesItem v shelf item shelf' answer s t
     item-walked me n task below shelf' answer mine is_plain first s mid t starts runs = record {
       over = λ whole all.
@@ -41,16 +45,21 @@ module _ {N E : Type 0} (v : Values N) where
   -- ---- an entry
 
   -- after a worker the pager is whole, and the handles of the list are left
-  run-keeps : {B W : Type 0} {m : Seen N B W} {n : ℕ} {todo : List Todo} {s s' : AccessState N E} {steps : List (Action W)} {answer : WorkerAnswer} → WorkerRun m n todo s steps answer s'
+  run-keeps : {B W : Type 0} {m : Seen N B W} {n : ℕ} {todo : List Todo} {s s' : AccessState N E} {steps : List (Action W)} {answer : WorkerAnswer}
+      → WorkerRun m n todo s steps answer s'
       → WellFormed m.values s'.pager × Spares Owner.List s.pager.core s'.pager.core
   run-keeps {m = m} {n} (worker-ends todo next step answer s s' w is) =
       (w.whole, walk-spares-list m n (record { core = s.pager.core; shelf = s.shelf; todo = todo }) w.after s'.pager.core step _ w.does w.ends)
   run-keeps {m = m} {n} (worker-goes-on todo next step steps answer s mid s' w is more) =
-      let k = run-keeps more in
-      (k.0, spares-then Owner.List (walk-spares-list m n (record { core = s.pager.core; shelf = s.shelf; todo = todo }) w.after mid.pager.core step _ w.does w.ends) k.1)
+      let k = run-keeps more in (
+        k.0,
+        spares-then Owner.List (walk-spares-list m n (record { core = s.pager.core; shelf = s.shelf; todo = todo }) w.after mid.pager.core step _ w.does
+            w.ends) k.1,
+      )
 
   -- the list without one entry, and what comes then
-  entries-stay : (place : ℕ) (s mid t : PagerState N E) → place < length s.core.list → mid.core.list ≡ remove s.core.list place → length mid.core.list ≤ length t.core.list → place ≤ length t.core.list
+  entries-stay : (place : ℕ) (s mid t : PagerState N E) → place < length s.core.list → mid.core.list ≡ remove s.core.list place
+      → length mid.core.list ≤ length t.core.list → place ≤ length t.core.list
   entries-stay place s mid t within is longer = grind (arith, nat_tests, common_steps, length-remove)
 
   pub entry-refused : (place : ℕ) (e : Error) (s t : PagerState N E) → RefusesEntry v s place e t → PagesEntry v place (WorkerAnswer.Failed e) s t
@@ -59,17 +68,22 @@ module _ {N E : Type 0} (v : Values N) where
   pub entry-gone : (place : ℕ) (s t : PagerState N E) → RefusesEntry v s place Error.NoSuchHandle t → length s.core.list ≤ place
   entry-gone place s t r = grind (arith, nat_tests, common_steps)
 
-  pub entry-walked : {X XN XH XK XV : Type 0} {g : Environments X XN XH XK XV} {gh : Hashes XH} {go : Orders XK} {gq : Equalities XK} {gp : PartialOrders XK} {gn : Nodes XN X XN XH XK XV} (place : ℕ) (me : Owner) (n : WorkerNumber) (r : ArcRef) (shelf : Shelf) (task : Task X XN XH XK XV g gh go gq gp gn) (below : List Todo) (shelf' : Shelf) (answer : WorkerAnswer) → me ≡ owner_worker n.0
-      → IsPlain task → todo_of task ∷ below ≡ first_todo (of_entry r.handle (identity_of r)) → SameShelf no_shelf shelf → (s mid t : PagerState N E) → StartsEntry v s place n r mid
+  pub entry-walked : {X XN XH XK XV : Type 0} {g : Environments X XN XH XK XV} {gh : Hashes XH} {go : Orders XK} {gq : Equalities XK} {gp : PartialOrders XK}
+      {gn : Nodes XN X XN XH XK XV} (place : ℕ) (me : Owner) (n : WorkerNumber) (r : ArcRef) (shelf : Shelf) (task : Task X XN XH XK XV g gh go gq gp gn)
+      (below : List Todo) (shelf' : Shelf) (answer : WorkerAnswer) → me ≡ owner_worker n.0
+      → IsPlain task → todo_of task ∷ below ≡ first_todo (of_entry r.handle (identity_of r)) → SameShelf no_shelf shelf → (s mid t : PagerState N E)
+      → StartsEntry v s place n r mid
       → RunsTo v me n.0 shelf task below shelf' answer mid t
       → PagesEntry v place answer s t
   entry-walked place me n r shelf task below shelf' answer mine is_plain first same s mid t starts runs = record {
     pages = λ whole listed.
         let fits : Fits v me n.0 task mid = record { me_is = mine; whole = starts.starts.begins.whole; task_fits = plain-fits n.0 mid.core task is_plain } in
         let empty : shelf ≡ no_shelf = λ p. record { slots = λ i. same.slots i p; waits = λ q. same.waits q p } in
-        let task_is : first_todo (of_entry r.handle (identity_of r)) ≡ first_todo (entry_task starts.h starts.row starts.type) = ap (λ (x : ArcRef). first_todo (of_entry x.handle (identity_of x))) starts.is in
+        let task_is : first_todo (of_entry r.handle (identity_of r)) ≡ first_todo (entry_task starts.h starts.row starts.type) =
+        ap (λ (x : ArcRef). first_todo (of_entry x.handle (identity_of x))) starts.is in
         let alone : IsAlone n.0 shelf = λ i slot still. let claimed = sym (same.slots i) ∙ still.claimed in absurd (cc) in
-        let walked = subst (λ todo. Walked v n.0 todo mid no_shelf answer t shelf') (first ∙ task_is) (subst (λ x. Walked v n.0 (todo_of task ∷ below) mid x answer t shelf') empty (runs.runs fits alone)) in
+        let walked = subst (λ todo. Walked v n.0 todo mid no_shelf answer t shelf') (first ∙ task_is)
+        (subst (λ x. Walked v n.0 (todo_of task ∷ below) mid x answer t shelf') empty (runs.runs fits alone)) in
         let keeps = run-keeps walked.run in
         record {
           run = entry-is-walked starts.h starts.row starts.type n.0 walked.steps answer mid _ starts.entry starts.kinds starts.starts walked.run;
@@ -79,7 +93,8 @@ module _ {N E : Type 0} (v : Values N) where
         };
   }
 
-  pub entry-there : (place : ℕ) (answer : Result ℕ PageOutError) (s t : PagerState N E) → PagesEntry v place (answer_of answer) s t → PagesEntryIfThere v place (there answer) s t
+  pub entry-there : (place : ℕ) (answer : Result ℕ PageOutError) (s t : PagerState N E) → PagesEntry v place (answer_of answer) s t
+      → PagesEntryIfThere v place (there answer) s t
   entry-there place (Ok key) s t pages_it = pages_it
   entry-there place (Err why) s t pages_it = pages_it
 
@@ -125,19 +140,33 @@ module _ {N E : Type 0} (v : Values N) where
   pub at-failed : (place : ℕ) (why : PageOutError) (s t : PagerState N E) → (h : HandleNumber) × EntryHas s.core place h OptionalDataKey.None
       → PagesEntry v place (answer_of (Err why)) s t → PagesAt v place (Err why) s t
   at-failed place (PageOutError.Failed e) s t (h, has) pages_it = record {
-    done = λ whole within. let p = pages_it.pages whole within in record { whole = p.whole; long = p.long; goes = tt; stops = λ i next. fails i place h e s t next has p.run };
+    done = λ whole within. let p = pages_it.pages whole within in record {
+      whole = p.whole;
+      long = p.long;
+      goes = tt;
+      stops = λ i next. fails i place h e s t next has p.run;
+    };
   }
-  at-failed place PageOutError.AlreadyFailed s t (h, has) pages_it = record { done = λ whole within. let p = pages_it.pages whole within in absurd (p.unfailed refl) }
+  at-failed place PageOutError.AlreadyFailed s t (h, has) pages_it = record {
+    done = λ whole within. let p = pages_it.pages whole within in
+        absurd (p.unfailed refl);
+  }
 
   -- ---- the list
 
   pub none-paged : (count : ℕ) (s : PagerState N E) → count ≡ length s.core.list → HasPaged v count s s
-  none-paged count s is = record { whole = λ whole. whole; long = λ whole. omega (arith, is); then = λ whole answer u run. subst (λ i. ListRun (plain v) i s answer u) is run }
+  none-paged count s is = record {
+    whole = λ whole. whole;
+    long = λ whole. omega (arith, is);
+    then = λ whole answer u run. subst (λ i. ListRun (plain v) i s answer u) is run;
+  }
 
-  pub more-paged : (left place : ℕ) → left ≡ place + 1 → (s mid t : PagerState N E) → HasPaged v left s mid → PagesAt v place (Ok tt) mid t → HasPaged v place s t
+  pub more-paged : (left place : ℕ) → left ≡ place + 1 → (s mid t : PagerState N E) → HasPaged v left s mid → PagesAt v place (Ok tt) mid t
+      → HasPaged v place s t
   more-paged left place next s mid t paged at = grind (arith, nat_tests, common_steps)
 
-  pub ends-paged : (left place : ℕ) → left ≡ place + 1 → (why : PageOutError) (s mid t : PagerState N E) → HasPaged v left s mid → PagesAt v place (Err why) mid t → PagesList v (Err why) s t
+  pub ends-paged : (left place : ℕ) → left ≡ place + 1 → (why : PageOutError) (s mid t : PagerState N E) → HasPaged v left s mid
+      → PagesAt v place (Err why) mid t → PagesList v (Err why) s t
   ends-paged left place next why s mid t paged at = grind (arith, nat_tests)
 
   pub all-paged : (left : ℕ) → left ≡ 0 → (s t : PagerState N E) → HasPaged v left s t → PagesList v (Ok tt) s t

@@ -10,22 +10,26 @@ use Rattle.pagable_codec.specs.declared.{env.Env.Ghosts as Environments, hash.Ke
 use Rattle.std.specs.declared.cmp.{Ord.Ghosts as Orders, PartialEq.Ghosts as Equalities, PartialOrd.Ghosts as PartialOrders}
 
 -- what is left of references after so many, in both cases
-left-by : (Q : List ArcRef → Type 0) (n : ℕ) (refs : List ArcRef) → n ≤ length refs → (n ≡ length refs → Q []) → ((r : ArcRef) (rest : List ArcRef) → slice_get refs n ≡ Some r → Q (r ∷ rest))
+left-by : (Q : List ArcRef → Type 0) (n : ℕ) (refs : List ArcRef) → n ≤ length refs → (n ≡ length refs → Q [])
+    → ((r : ArcRef) (rest : List ArcRef) → slice_get refs n ≡ Some r → Q (r ∷ rest))
     → Q (drop n refs)
 left-by Q zero [] few none more = none refl
 left-by Q zero (r ∷ rs) few none more = more r rs refl
 left-by Q (suc n) [] few none more = absurd (omega arith)
 left-by Q (suc n) (r ∷ rs) few none more = left-by Q n rs (omega arith) (λ e. none (ap suc e)) more
 
-pub settle-way : (o : Open) (below : List Todo) → length o.keys ≤ length o.written.references → Awaits below o.reference o.place → o.place + o.height ≤ longest_path
+pub settle-way : (o : Open) (below : List Todo) → length o.keys ≤ length o.written.references → Awaits below o.reference o.place
+    → o.place + o.height ≤ longest_path
     → IsWay (settle (to_finish o ∷ below))
 unfolding Awaits
 settle-way o below few up near =
-    left-by (λ rest. IsWay (next_start o.place rest ++ to_finish o ∷ below)) (length o.keys) o.written.references few (λ all. (all, up, near)) (λ r rest at. (at, refl, near, up))
+    left-by (λ rest. IsWay (next_start o.place rest ++ to_finish o ∷ below)) (length o.keys) o.written.references few (λ all. (all, up, near))
+    (λ r rest at. (at, refl, near, up))
 
 pub item-way : (written : Written) (keys : List ℕ) → length keys ≤ length written.references → IsWay (settle (to_item written keys ∷ []))
 unfolding Awaits
-item-way written keys few = left-by (λ rest. IsWay (next_start 0 rest ++ to_item written keys ∷ [])) (length keys) written.references few (λ all. (all, refl)) (λ r rest at. (at, refl, refl))
+item-way written keys few = left-by (λ rest. IsWay (next_start 0 rest ++ to_item written keys ∷ [])) (length keys) written.references few (λ all. (all, refl))
+    (λ r rest at. (at, refl, refl))
 
 -- the height by the reference too fits
 near-by : (place height p h kind : ℕ) (b : Bool) → is_eager kind ≡ b → p ≡ (if b then place + 1 else 0) → place + height ≤ longest_path → p + h ≤ longest_path
@@ -41,7 +45,8 @@ one-more : {A : Type 0} (refs : List ArcRef) (xs : List A) (x : A) (r : ArcRef) 
 one-more refs xs x r at = let a = length-append xs (x ∷ []) in let b = slice_get_within refs (length xs) r at in omega (arith, a, b)
 
 -- what waits for a reference takes its result
-pub takes-next : (node : Option Node) (written : Written) (keys : List ℕ) (below : List Todo) (r : ArcRef) (h : ℕ) → AwaitsLow (waits_as node written keys ∷ below) r h → TakesNext node written keys r h
+pub takes-next : (node : Option Node) (written : Written) (keys : List ℕ) (below : List Todo) (r : ArcRef) (h : ℕ)
+    → AwaitsLow (waits_as node written keys ∷ below) r h → TakesNext node written keys r h
 unfolding Awaits
 takes-next given written keys below r h up = grind (arith, nat_tests, node-awaits, none-some, same_some)
 
@@ -53,7 +58,8 @@ give-way (to_finish o ∷ below) r key h up =
     let a = node-awaits o below r h up in
     settle-way (record o { keys = o.keys ++ key ∷ []; height = max o.height (above r.kind.0 h) }) below (one-more o.written.references o.keys key r a.0) a.2 a.1
 give-way (to_item written keys ∷ below) r key h up =
-    subst (λ bs. IsWay (settle (to_item written (keys ++ key ∷ []) ∷ bs))) (sym up.1.2) (item-way written (keys ++ key ∷ []) (one-more written.references keys key r up.1.0))
+    subst (λ bs. IsWay (settle (to_item written (keys ++ key ∷ []) ∷ bs))) (sym up.1.2)
+    (item-way written (keys ++ key ∷ []) (one-more written.references keys key r up.1.0))
 give-way (x ∷ below) r key h up = absurd up.1
 
 pub known-way : (below : List Todo) (r : ArcRef) (key h : ℕ) → AwaitsLow below r h → IsWay (give_known r key h below)
@@ -68,8 +74,10 @@ pub ruleset ways = (known-way, gives-way)
 
 -- ---- what a worker has to do, after a reference was done
 
-module _ {E EN EH EK EV : Type 0} {g : Environments E EN EH EK EV} {gh : Hashes EH} {go : Orders EK} {gq : Equalities EK} {gp : PartialOrders EK} {gn : Nodes EN E EN EH EK EV} where
-  pub todos-more : (ws : List (Waiting E EN EH EK EV g gh go gq gp gn)) (w : Waiting E EN EH EK EV g gh go gq gp gn) → todos (ws ++ w ∷ []) ≡ waiting_todo w ∷ todos ws
+module _ {E EN EH EK EV : Type 0} {g : Environments E EN EH EK EV} {gh : Hashes EH} {go : Orders EK} {gq : Equalities EK} {gp : PartialOrders EK}
+    {gn : Nodes EN E EN EH EK EV} where
+  pub todos-more : (ws : List (Waiting E EN EH EK EV g gh go gq gp gn)) (w : Waiting E EN EH EK EV g gh go gq gp gn) → todos (ws ++ w ∷ []) ≡ waiting_todo w
+      ∷ todos ws
   unfolding todos
   todos-more ws w = ap (map waiting_todo) (reverse-append ws (w ∷ []))
 
@@ -89,16 +97,19 @@ module _ {E EN EH EK EV : Type 0} {g : Environments E EN EH EK EV} {gh : Hashes 
       by (x ∷ xs) more = refl
 
   -- the identities of one result more
-  pub ids-more : (refs : List ArcRef) (xs ys : List (SlotResult E EN EH EK EV g gh go gq gp gn)) (r : ArcRef) (x : SlotResult E EN EH EK EV g gh go gq gp gn) → ids_of xs ≡ map identity_of (take (length xs) refs) → slice_get refs (length xs) ≡ Some r
+  pub ids-more : (refs : List ArcRef) (xs ys : List (SlotResult E EN EH EK EV g gh go gq gp gn)) (r : ArcRef) (x : SlotResult E EN EH EK EV g gh go gq gp gn)
+      → ids_of xs ≡ map identity_of (take (length xs) refs) → slice_get refs (length xs) ≡ Some r
       → x.identity ≡ identity_of r → ys ≡ xs ++ x ∷ []
       → ids_of ys ≡ map identity_of (take (length ys) refs)
   ids-more refs xs ys r x each at own is =
       let lt = slice_get_within refs (length xs) r at in
       let next : get_or refs (length xs) r ≡ r = get_or_from_slice_get refs (length xs) r r at in
       let more : length ys ≡ length xs + 1 = ap length is ∙ length-append xs (x ∷ []) in
-      ap ids_of is ∙ map-append (λ (r : SlotResult E EN EH EK EV g gh go gq gp gn). r.identity) xs (x ∷ []) ∙ ap (λ is. is ++ x.identity ∷ []) each ∙ ap (λ i. map identity_of (take (length xs) refs) ++ i ∷ []) own
+      ap ids_of is ∙ map-append (λ (r : SlotResult E EN EH EK EV g gh go gq gp gn). r.identity) xs (x ∷ []) ∙ ap (λ is. is ++ x.identity ∷ []) each
+      ∙ ap (λ i. map identity_of (take (length xs) refs) ++ i ∷ []) own
       ∙ sym (map-append identity_of (take (length xs) refs) (r ∷ []))
-      ∙ sym (ap (λ n. map identity_of (take n refs)) more ∙ ap (map identity_of) (take_more refs (length xs) r lt ∙ ap (λ z. take (length xs) refs ++ z ∷ []) next))
+      ∙ sym (ap (λ n. map identity_of (take n refs)) more ∙ ap (map identity_of)
+      (take_more refs (length xs) r lt ∙ ap (λ z. take (length xs) refs ++ z ∷ []) next))
 
 -- ---- what waits, a node or the item
 
@@ -107,7 +118,8 @@ pub give-is : (node : Option Node) (written : Written) (keys : List ℕ) (below 
 give-is given written keys below r key height = grind (arith, nat_tests)
 
 -- what holds of a node with the height by a reference too
-pub raised-has : (Q : Node → Type 0) (kind height : ℕ) (node : Option Node) → ((m : Node) → node ≡ Some m → Q (record m { height = max m.height (above kind height) }))
+pub raised-has : (Q : Node → Type 0) (kind height : ℕ) (node : Option Node)
+    → ((m : Node) → node ≡ Some m → Q (record m { height = max m.height (above kind height) }))
     → (n : Node) → raised kind height node ≡ Some n → Q n
 raised-has Q kind height given f n is = grind (arith, nat_tests, same_some)
 
@@ -116,7 +128,8 @@ module _ (node : Option Node) (written : Written) (keys : List ℕ) (below : Lis
   pub settled-all : length written.references ≤ n → waits_as node written keys ∷ below ≡ settle (waits_as node written keys ∷ below)
   settled-all all = grind (arith, nat_tests, common_steps, at_drop_all)
 
-  pub settled-next : (r : ArcRef) (p : ℕ) → n < length written.references → r ≡ get_or written.references n r → p ≡ place_below (if_there (λ (n : Node). n.place) 0 node) r.kind.0
+  pub settled-next : (r : ArcRef) (p : ℕ) → n < length written.references → r ≡ get_or written.references n r → p
+      ≡ place_below (if_there (λ (n : Node). n.place) 0 node) r.kind.0
       → to_start r p ∷ waits_as node written keys ∷ below ≡ settle (waits_as node written keys ∷ below)
   settled-next r p more is at = grind (arith, nat_tests, common_steps, at_drop_more)
 
@@ -132,12 +145,15 @@ pub ruleset giving = (nat_tests, common_steps, todos-more, todos-none, raised-ha
 falls-by : (l l' d d' b : ℕ) → l' + 1 ≤ l → d' < b → l' * b + d' < l * b + d
 falls-by l l' d d' b less low = let a : (l' + 1) * b ≤ l * b = mul-le-mul_right b less in omega (arith, a)
 
-module _ {X XN XH XK XV : Type 0} {g : Environments X XN XH XK XV} {gh : Hashes XH} {go : Orders XK} {gq : Equalities XK} {gp : PartialOrders XK} {gn : Nodes XN X XN XH XK XV} where
-  pub start-falls : (turn : Turn X XN XH XK XV g gh go gq gp gn) (l l' : ℕ) (r : ArcRef) (place : ℕ) (below after : List Todo) → l' + 1 ≤ l → length below < 2 ^ 64 → LeadsOn (to_start r place ∷ below) turn after
+module _ {X XN XH XK XV : Type 0} {g : Environments X XN XH XK XV} {gh : Hashes XH} {go : Orders XK} {gq : Equalities XK} {gp : PartialOrders XK}
+    {gn : Nodes XN X XN XH XK XV} where
+  pub start-falls : (turn : Turn X XN XH XK XV g gh go gq gp gn) (l l' : ℕ) (r : ArcRef) (place : ℕ) (below after : List Todo) → l' + 1 ≤ l
+      → length below < 2 ^ 64 → LeadsOn (to_start r place ∷ below) turn after
       → IfGoes turn (l' * far + due after < l * far + due (to_start r place ∷ below))
   start-falls turn l l' r place below after less few leads = grind (arith, nat_tests, falls-by)
 
-  pub other-falls : (task : Task X XN XH XK XV g gh go gq gp gn) → ((r : ArcRef) (place : ℕ) → task ≡ Task.Start r place → ⊥) → (turn : Turn X XN XH XK XV g gh go gq gp gn) (l : ℕ) (below after : List Todo) → LeadsOn (todo_of task ∷ below) turn after
+  pub other-falls : (task : Task X XN XH XK XV g gh go gq gp gn) → ((r : ArcRef) (place : ℕ) → task ≡ Task.Start r place → ⊥)
+      → (turn : Turn X XN XH XK XV g gh go gq gp gn) (l : ℕ) (below after : List Todo) → LeadsOn (todo_of task ∷ below) turn after
       → IfGoes turn (l * far + due after < l * far + due (todo_of task ∷ below))
   other-falls task other turn l below after leads = grind (arith, nat_tests)
 

@@ -8,9 +8,11 @@ use Rattle.std.proofs.Common.{Err, List, None, Option, Some, ap, arith, length, 
 use Rattle.pagable_codec.specs.declared.{env.Env.Ghosts as Environments, hash.KeyHash.Ghosts as Hashes, nodes.NodeSet.Ghosts as Nodes}
 use Rattle.std.specs.declared.cmp.{Ord.Ghosts as Orders, PartialEq.Ghosts as Equalities, PartialOrd.Ghosts as PartialOrders}
 
-module _ {X XN XH XK XV : Type 0} {g : Environments X XN XH XK XV} {gh : Hashes XH} {go : Orders XK} {gq : Equalities XK} {gp : PartialOrders XK} {gn : Nodes XN X XN XH XK XV} where
+module _ {X XN XH XK XV : Type 0} {g : Environments X XN XH XK XV} {gh : Hashes XH} {go : Orders XK} {gq : Equalities XK} {gp : PartialOrders XK}
+    {gn : Nodes XN X XN XH XK XV} where
   -- an item stays at the list's end from one turn to the next
-  pub ends-on : (todo mid after : List Todo) (first last : Turn X XN XH XK XV g gh go gq gp gn) (next : Task X XN XH XK XV g gh go gq gp gn) → first ≡ Turn.Goes next → Ends todo first mid → Ends mid last after → Ends todo last after
+  pub ends-on : (todo mid after : List Todo) (first last : Turn X XN XH XK XV g gh go gq gp gn) (next : Task X XN XH XK XV g gh go gq gp gn) → first
+      ≡ Turn.Goes next → Ends todo first mid → Ends mid last after → Ends todo last after
   ends-on todo mid after first last next is one two = record { stays = λ w h. two.stays w (to w h); over = λ w h. two.over w (to w h) }
     where
       to : (w : Written) → EndsWith w todo → EndsWith w mid
@@ -22,10 +24,12 @@ module _ {X XN XH XK XV : Type 0} {g : Environments X XN XH XK XV} {gh : Hashes 
   leads-on (Turn.Answers x) d e f less again = tt
 
   -- the item stays where another task was in front
-  pub ends-as : (todo other after : List Todo) (turn : Turn X XN XH XK XV g gh go gq gp gn) → ((w : Written) → EndsWith w other → EndsWith w todo) → Ends todo turn after → Ends other turn after
+  pub ends-as : (todo other after : List Todo) (turn : Turn X XN XH XK XV g gh go gq gp gn) → ((w : Written) → EndsWith w other → EndsWith w todo)
+      → Ends todo turn after → Ends other turn after
   ends-as todo other after turn f e = record { stays = λ w h. e.stays w (f w h); over = λ w h. e.over w (f w h) }
 
-  pub leads-waiting : (turn : Turn X XN XH XK XV g gh go gq gp gn) (node : Option Node) (written : Written) (keys : List ℕ) (below after : List Todo) (e : ℕ) → e < 6 + 6 * length below → IfGoes turn (due after < e) → LeadsOn (waits_as node written keys ∷ below) turn after
+  pub leads-waiting : (turn : Turn X XN XH XK XV g gh go gq gp gn) (node : Option Node) (written : Written) (keys : List ℕ) (below after : List Todo) (e : ℕ)
+      → e < 6 + 6 * length below → IfGoes turn (due after < e) → LeadsOn (waits_as node written keys ∷ below) turn after
   leads-waiting (Turn.Goes t) None written keys below after e less again = omega (arith, less, again)
   leads-waiting (Turn.Goes t) (Some n) written keys below after e less again = omega (arith, less, again)
   leads-waiting (Turn.Answers x) given written keys below after e less again = tt
@@ -38,9 +42,12 @@ module _ {X XN XH XK XV : Type 0} {g : Environments X XN XH XK XV} {gh : Hashes 
   unfolding task-in
   task-is other t x is = ap (task-in other) is
 
-module _ {X XN XH XK XV : Type 0} {g : Environments X XN XH XK XV} {gh : Hashes XH} {go : Orders XK} {gq : Equalities XK} {gp : PartialOrders XK} {gn : Nodes XN X XN XH XK XV} {N E : Type 0} (v : Values N) (me : Owner) (n : ℕ) (shelf : Shelf) (first : Task X XN XH XK XV g gh go gq gp gn) (below : List Todo) where
+module _ {X XN XH XK XV : Type 0} {g : Environments X XN XH XK XV} {gh : Hashes XH} {go : Orders XK} {gq : Equalities XK} {gp : PartialOrders XK}
+    {gn : Nodes XN X XN XH XK XV} {N E : Type 0} (v : Values N) (me : Owner) (n : ℕ) (shelf : Shelf) (first : Task X XN XH XK XV g gh go gq gp gn)
+    (below : List Todo) where
   -- one walk after another
-  pub walked-on : (mid_shelf next_shelf : Shelf) (now next : Task X XN XH XK XV g gh go gq gp gn) (now_below next_below : List Todo) (s mid t : PagerState N E) → HasWalked v me n shelf first below mid_shelf now now_below s mid
+  pub walked-on : (mid_shelf next_shelf : Shelf) (now next : Task X XN XH XK XV g gh go gq gp gn) (now_below next_below : List Todo) (s mid t : PagerState N E)
+      → HasWalked v me n shelf first below mid_shelf now now_below s mid
       → HasWalked v me n mid_shelf now now_below next_shelf next next_below mid t
       → HasWalked v me n shelf first below next_shelf next next_below s t
   walked-on mid_shelf next_shelf now next now_below next_below s mid t one two = record {
@@ -50,36 +57,58 @@ module _ {X XN XH XK XV : Type 0} {g : Environments X XN XH XK XV} {gh : Hashes 
   }
 
   -- a run after a walk
-  pub walked-runs : (mid_shelf shelf' : Shelf) (now : Task X XN XH XK XV g gh go gq gp gn) (now_below : List Todo) (answer : WorkerAnswer) (s mid t : PagerState N E) → HasWalked v me n shelf first below mid_shelf now now_below s mid
+  pub walked-runs : (mid_shelf shelf' : Shelf) (now : Task X XN XH XK XV g gh go gq gp gn) (now_below : List Todo) (answer : WorkerAnswer)
+      (s mid t : PagerState N E) → HasWalked v me n shelf first below mid_shelf now now_below s mid
       → RunsTo v me n mid_shelf now now_below shelf' answer mid t
       → RunsTo v me n shelf first below shelf' answer s t
-  walked-runs mid_shelf shelf' now now_below answer s mid t one two = record { runs = λ f alone. one.then f alone answer t shelf' (two.runs (one.fits f alone) (one.alone f alone)) }
+  walked-runs mid_shelf shelf' now now_below answer s mid t one two = record
+      { runs = λ f alone. one.then f alone answer t shelf' (two.runs (one.fits f alone) (one.alone f alone)) }
 
   -- a step that goes on
-  pub step-walked : (shelf' : Shelf) (next : Task X XN XH XK XV g gh go gq gp gn) (next_below after : List Todo) (moved : StepResult X XN XH XK XV g gh go gq gp gn) (s t : PagerState N E) → StepsAlone v me n shelf first below shelf' moved after s t → moved.turn ≡ Turn.Goes next
+  pub step-walked : (shelf' : Shelf) (next : Task X XN XH XK XV g gh go gq gp gn) (next_below after : List Todo)
+      (moved : StepResult X XN XH XK XV g gh go gq gp gn) (s t : PagerState N E) → StepsAlone v me n shelf first below shelf' moved after s t → moved.turn
+      ≡ Turn.Goes next
       → after ≡ todo_of next ∷ next_below
       → HasWalked v me n shelf first below shelf' next next_below s t
-  step-walked shelf' next next_below after moved s t step goes is = goes-walked v me n shelf first below shelf shelf' first below after moved next next_below goes is s s t (none-walked v me n shelf first below s) step
+  step-walked shelf' next next_below after moved s t step goes is = goes-walked v me n shelf first below shelf shelf' first below after moved next next_below
+      goes is s s t (none-walked v me n shelf first below s) step
 
   -- a turn that goes on
-  pub turn-walked : (shelf' : Shelf) (next : Task X XN XH XK XV g gh go gq gp gn) (next_below after : List Todo) (moved : StepResult X XN XH XK XV g gh go gq gp gn) (s t : PagerState N E) → TurnsTo v me n shelf first below shelf' moved after s t → moved.turn ≡ Turn.Goes next
+  pub turn-walked : (shelf' : Shelf) (next : Task X XN XH XK XV g gh go gq gp gn) (next_below after : List Todo)
+      (moved : StepResult X XN XH XK XV g gh go gq gp gn) (s t : PagerState N E) → TurnsTo v me n shelf first below shelf' moved after s t → moved.turn
+      ≡ Turn.Goes next
       → after ≡ todo_of next ∷ next_below
       → HasWalked v me n shelf first below shelf' next next_below s t
   turn-walked shelf' next next_below after moved s t turns goes is =
       let still : Closes v n moved.turn t t = subst (λ (x : Turn X XN XH XK XV g gh go gq gp gn). Closes v n x t t) (sym goes) (record { closes = refl }) in
-      step-walked shelf' next next_below after moved s t (steps-alone v me n shelf first below after shelf' moved s t (steps-to v n me shelf shelf' first below after moved s t t turns still)) goes is
+      step-walked shelf' next next_below after moved s t (steps-alone v me n shelf first below after shelf' moved s t
+      (steps-to v n me shelf shelf' first below after moved s t t turns still)) goes is
 
   -- a turn comes to what it comes to
-  pub turn-comes : (shelf' : Shelf) (after : List Todo) (moved : StepResult X XN XH XK XV g gh go gq gp gn) (s t : PagerState N E) → TurnsTo v me n shelf first below shelf' moved after s t
+  pub turn-comes : (shelf' : Shelf) (after : List Todo) (moved : StepResult X XN XH XK XV g gh go gq gp gn) (s t : PagerState N E)
+      → TurnsTo v me n shelf first below shelf' moved after s t
       → ComesTo v me n shelf first below shelf' moved.turn after s t
-  turn-comes shelf' after moved s t turns = record { now_shelf = shelf; now = first; now_below = below; moved = moved; mid = s; walked = none-walked v me n shelf first below s; last = turns; comes = refl }
+  turn-comes shelf' after moved s t turns = record {
+    now_shelf = shelf;
+    now = first;
+    now_below = below;
+    moved = moved;
+    mid = s;
+    walked = none-walked v me n shelf first below s;
+    last = turns;
+    comes = refl;
+  }
 
-  pub turn-comes-as : (shelf' : Shelf) (turn : Turn X XN XH XK XV g gh go gq gp gn) (path : List (Waiting X XN XH XK XV g gh go gq gp gn)) (moved : StepResult X XN XH XK XV g gh go gq gp gn) (s t : PagerState N E) → TurnsTo v me n shelf first below shelf' moved (plan moved.turn path) s t → moved.turn ≡ turn
+  pub turn-comes-as : (shelf' : Shelf) (turn : Turn X XN XH XK XV g gh go gq gp gn) (path : List (Waiting X XN XH XK XV g gh go gq gp gn))
+      (moved : StepResult X XN XH XK XV g gh go gq gp gn) (s t : PagerState N E) → TurnsTo v me n shelf first below shelf' moved (plan moved.turn path) s t
+      → moved.turn ≡ turn
       → ComesTo v me n shelf first below shelf' turn (plan turn path) s t
-  turn-comes-as shelf' turn path moved s t turns is = subst (λ (x : Turn X XN XH XK XV g gh go gq gp gn). ComesTo v me n shelf first below shelf' x (plan x path) s t) is (turn-comes shelf' (plan moved.turn path) moved s t turns)
+  turn-comes-as shelf' turn path moved s t turns is = subst (λ (x : Turn X XN XH XK XV g gh go gq gp gn). ComesTo v me n shelf first below shelf' x
+      (plan x path) s t) is (turn-comes shelf' (plan moved.turn path) moved s t turns)
 
   -- turns after a walk
-  pub comes-on : (mid_shelf shelf' : Shelf) (next : Task X XN XH XK XV g gh go gq gp gn) (next_below after : List Todo) (turn : Turn X XN XH XK XV g gh go gq gp gn) (s mid t : PagerState N E) → HasWalked v me n shelf first below mid_shelf next next_below s mid
+  pub comes-on : (mid_shelf shelf' : Shelf) (next : Task X XN XH XK XV g gh go gq gp gn) (next_below after : List Todo)
+      (turn : Turn X XN XH XK XV g gh go gq gp gn) (s mid t : PagerState N E) → HasWalked v me n shelf first below mid_shelf next next_below s mid
       → ComesTo v me n mid_shelf next next_below shelf' turn after mid t
       → ComesTo v me n shelf first below shelf' turn after s t
   comes-on mid_shelf shelf' next next_below after turn s mid t one c = record {
@@ -94,36 +123,49 @@ module _ {X XN XH XK XV : Type 0} {g : Environments X XN XH XK XV} {gh : Hashes 
   }
 
   -- turns with the worker's end
-  pub comes-strides : (shelf' : Shelf) (turn : Turn X XN XH XK XV g gh go gq gp gn) (path : List (Waiting X XN XH XK XV g gh go gq gp gn)) (s mid t : PagerState N E) → ComesTo v me n shelf first below shelf' turn (plan turn path) s mid → Closes v n turn mid t
+  pub comes-strides : (shelf' : Shelf) (turn : Turn X XN XH XK XV g gh go gq gp gn) (path : List (Waiting X XN XH XK XV g gh go gq gp gn))
+      (s mid t : PagerState N E) → ComesTo v me n shelf first below shelf' turn (plan turn path) s mid → Closes v n turn mid t
       → Strides v me n shelf first below shelf' turn (todos path) s t
   comes-strides shelf' turn path s mid t c close =
       let ends : Closes v n c.moved.turn mid t = subst (λ (x : Turn X XN XH XK XV g gh go gq gp gn). Closes v n x mid t) (sym c.comes) close in
       let step : StepsAlone v me n c.now_shelf c.now c.now_below shelf' c.moved (plan turn path) c.mid t =
-      steps-alone v me n c.now_shelf c.now c.now_below (plan turn path) shelf' c.moved c.mid t (steps-to v n me c.now_shelf shelf' c.now c.now_below (plan turn path) c.moved c.mid mid t c.last ends) in
+      steps-alone v me n c.now_shelf c.now c.now_below (plan turn path) shelf' c.moved c.mid t
+      (steps-to v n me c.now_shelf shelf' c.now c.now_below (plan turn path) c.moved c.mid mid t c.last ends) in
       record {
-        goes = λ next is. goes-walked v me n shelf first below c.now_shelf shelf' c.now c.now_below (plan turn path) c.moved next (todos path) (c.comes ∙ is) (ap (λ (x : Turn X XN XH XK XV g gh go gq gp gn). plan x path) is) s c.mid t c.walked step;
-        answers = λ answer is. ends-walked v me n shelf first below c.now_shelf shelf' c.now c.now_below (plan turn path) c.moved answer (c.comes ∙ is) s c.mid t c.walked step;
+        goes = λ next is. goes-walked v me n shelf first below c.now_shelf shelf' c.now c.now_below (plan turn path) c.moved next (todos path) (c.comes ∙ is)
+            (ap (λ (x : Turn X XN XH XK XV g gh go gq gp gn). plan x path) is) s c.mid t c.walked step;
+        answers = λ answer is. ends-walked v me n shelf first below c.now_shelf shelf' c.now c.now_below (plan turn path) c.moved answer
+            (c.comes ∙ is) s c.mid t c.walked step;
       }
 
   -- a step is a stride, and so is a walk
-  pub step-strides : (shelf' : Shelf) (moved : StepResult X XN XH XK XV g gh go gq gp gn) (path : List (Waiting X XN XH XK XV g gh go gq gp gn)) (s t : PagerState N E) → StepsTo v me n shelf first below shelf' moved (plan moved.turn path) s t
+  pub step-strides : (shelf' : Shelf) (moved : StepResult X XN XH XK XV g gh go gq gp gn) (path : List (Waiting X XN XH XK XV g gh go gq gp gn))
+      (s t : PagerState N E) → StepsTo v me n shelf first below shelf' moved (plan moved.turn path) s t
       → Strides v me n shelf first below shelf' moved.turn (todos path) s t
   step-strides shelf' moved path s t to =
-      let step : StepsAlone v me n shelf first below shelf' moved (plan moved.turn path) s t = steps-alone v me n shelf first below (plan moved.turn path) shelf' moved s t to in
+      let step : StepsAlone v me n shelf first below shelf' moved (plan moved.turn path) s t =
+      steps-alone v me n shelf first below (plan moved.turn path) shelf' moved s t to in
       record {
-        goes = λ next is. step-walked shelf' next (todos path) (plan moved.turn path) moved s t step is (ap (λ (x : Turn X XN XH XK XV g gh go gq gp gn). plan x path) is);
-        answers = λ answer is. ends-walked v me n shelf first below shelf shelf' first below (plan moved.turn path) moved answer is s s t (none-walked v me n shelf first below s) step;
+        goes = λ next is. step-walked shelf' next (todos path) (plan moved.turn path) moved s t step is
+            (ap (λ (x : Turn X XN XH XK XV g gh go gq gp gn). plan x path) is);
+        answers = λ answer is. ends-walked v me n shelf first below shelf shelf' first below (plan moved.turn path) moved answer is s s t
+            (none-walked v me n shelf first below s) step;
       }
 
-  pub walk-strides : (shelf' : Shelf) (next : Task X XN XH XK XV g gh go gq gp gn) (after : List Todo) (s t : PagerState N E) → HasWalked v me n shelf first below shelf' next after s t → Strides v me n shelf first below shelf' (Turn.Goes next) after s t
+  pub walk-strides : (shelf' : Shelf) (next : Task X XN XH XK XV g gh go gq gp gn) (after : List Todo) (s t : PagerState N E)
+      → HasWalked v me n shelf first below shelf' next after s t → Strides v me n shelf first below shelf' (Turn.Goes next) after s t
   walk-strides shelf' next after s t walked = record {
     goes = λ x is. subst (λ y. HasWalked v me n shelf first below shelf' y after s t) (task-is next next x is) walked;
     answers = λ answer is. absurd (cc);
   }
 
-module _ {X XN XH XK XV : Type 0} {g : Environments X XN XH XK XV} {gh : Hashes XH} {go : Orders XK} {gq : Equalities XK} {gp : PartialOrders XK} {gn : Nodes XN X XN XH XK XV} {N E : Type 0} (v : Values N) (me : Owner) (n : ℕ) (shelf : Shelf) (r : ArcRef) (place : ℕ) (below : List Todo) where
+module _ {X XN XH XK XV : Type 0} {g : Environments X XN XH XK XV} {gh : Hashes XH} {go : Orders XK} {gq : Equalities XK} {gp : PartialOrders XK}
+    {gn : Nodes XN X XN XH XK XV} {N E : Type 0} (v : Values N) (me : Owner) (n : ℕ) (shelf : Shelf) (r : ArcRef) (place : ℕ) (below : List Todo) where
   -- a worker that is alone waits for nobody, whatever comes then
-  pub waits-walked : (mid shelf' : Shelf) (after rest : List Todo) (moved : StepResult X XN XH XK XV g gh go gq gp gn) (e : Error) (task : Task X XN XH XK XV g gh go gq gp gn) (s t u : PagerState N E) → StepsTo v me n shelf (Task.Start r place) below mid moved after s t → is_waiting moved.action ≡ true
+  pub waits-walked : (mid shelf' : Shelf) (after rest : List Todo) (moved : StepResult X XN XH XK XV g gh go gq gp gn) (e : Error)
+      (task : Task X XN XH XK XV g gh go gq gp gn) (s t u : PagerState N E) → StepsTo v me n shelf (Task.Start r place) below mid moved after s t
+      → is_waiting moved.action ≡ true
       → HasWalked v me n shelf (Task.Start r place) below shelf' task rest s u
-  waits-walked mid shelf' after rest moved e task s t u step waits = step-walked v me n shelf (Task.Start r place) below shelf' task rest (todo_of task ∷ rest) (record { action = Action.Claim (identity_of r) (Err e); turn = Turn.Goes task; counted = true }) s u
+  waits-walked mid shelf' after rest moved e task s t u step waits = step-walked v me n shelf (Task.Start r place) below shelf' task rest (todo_of task ∷ rest)
+      (record { action = Action.Claim (identity_of r) (Err e); turn = Turn.Goes task; counted = true }) s u
       (waits-alone v me n shelf r place below after (todo_of task ∷ rest) mid shelf' moved e task s t u waits step) refl refl

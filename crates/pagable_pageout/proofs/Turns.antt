@@ -45,32 +45,48 @@ module _ (core : Core) (v : ℕ) (s s' : Shelf) (r : ArcRef) (place : ℕ) (belo
 kind-claimed : (w : Core) (r : ArcRef) → HandlesAreWhole w → claim_fault w r ≡ None → IsOfKind w r
 kind-claimed w r whole may = grind (arith, nat_tests, common_steps, may-claim, claimed-stands, same_some)
 
-module _ {X XN XH XK XV : Type 0} {g : Environments X XN XH XK XV} {gh : Hashes XH} {go : Orders XK} {gq : Equalities XK} {gp : PartialOrders XK} {gn : Nodes XN X XN XH XK XV} where
-  pub claim-fits : (r : ArcRef) (place : ℕ) (claim : Result (ClaimResult X XN XH XK XV g gh go gq gp gn) Error) → IfOk claim (IsFoundOf (identity_of r)) → IfOk claim (IsNear place) → ClaimFits r place claim
+module _ {X XN XH XK XV : Type 0} {g : Environments X XN XH XK XV} {gh : Hashes XH} {go : Orders XK} {gq : Equalities XK} {gp : PartialOrders XK}
+    {gn : Nodes XN X XN XH XK XV} where
+  pub claim-fits : (r : ArcRef) (place : ℕ) (claim : Result (ClaimResult X XN XH XK XV g gh go gq gp gn) Error) → IfOk claim (IsFoundOf (identity_of r))
+      → IfOk claim (IsNear place) → ClaimFits r place claim
   claim-fits r place claim own near = grind (arith, nat_tests)
 
-  pub claim-near : (v : ℕ) (s s' : Shelf) (i : Identity) (place : ℕ) (claim : Result (ClaimResult X XN XH XK XV g gh go gq gp gn) Error) → ClaimsThere v s i place (found_as claim) s' → IfOk claim (IsNear place)
+  pub claim-near : (v : ℕ) (s s' : Shelf) (i : Identity) (place : ℕ) (claim : Result (ClaimResult X XN XH XK XV g gh go gq gp gn) Error)
+      → ClaimsThere v s i place (found_as claim) s' → IfOk claim (IsNear place)
   claim-near v s s' i place claim there = grind (arith, nat_tests)
 
   -- a task that needs nothing fits
   pub plain-fits : (n : ℕ) (w : Core) (t : Task X XN XH XK XV g gh go gq gp gn) → IsPlain t → TaskFits n w t
   plain-fits n w task plain = grind (arith, nat_tests)
 
-  claim-leaves : (n : ℕ) (w : Core) (shelf : Shelf) (s' : Site) (r : ArcRef) (place : ℕ) (below : List Todo) (claim : Result (ClaimResult X XN XH XK XV g gh go gq gp gn) Error) (task : Task X XN XH XK XV g gh go gq gp gn) → HandlesAreWhole w
+  claim-leaves : (n : ℕ) (w : Core) (shelf : Shelf) (s' : Site) (r : ArcRef) (place : ℕ) (below : List Todo)
+      (claim : Result (ClaimResult X XN XH XK XV g gh go gq gp gn) Error) (task : Task X XN XH XK XV g gh go gq gp gn) → HandlesAreWhole w
       → ClaimLeaves r place claim task
       → Claims n (site w shelf (to_start r place ∷ below)) r place below (found_as claim) s' → TaskFits n w task
   claim-leaves n w shelf s' r place below claim task whole leaves c = grind (arith, nat_tests, common_steps, claimed-stands, kind-claimed, plain-fits)
 
-  pub start-turns : {N E : Type 0} (v : Values N) (me : Owner) (n : ℕ) (shelf shelf' : Shelf) (r : ArcRef) (place : ℕ) (below after : List Todo) (claim : Result (ClaimResult X XN XH XK XV g gh go gq gp gn) Error) (task : Task X XN XH XK XV g gh go gq gp gn) → after ≡ claim_todo r place below (found_as claim)
+  pub start-turns : {N E : Type 0} (v : Values N) (me : Owner) (n : ℕ) (shelf shelf' : Shelf) (r : ArcRef) (place : ℕ) (below after : List Todo)
+      (claim : Result (ClaimResult X XN XH XK XV g gh go gq gp gn) Error) (task : Task X XN XH XK XV g gh go gq gp gn) → after
+      ≡ claim_todo r place below (found_as claim)
       → ClaimLeaves r place claim task
-      → (s : PagerState N E) → Claims n (site s.core shelf (to_start r place ∷ below)) r place below (found_as claim) (site s.core shelf' (claim_todo r place below (found_as claim)))
-      → TurnsTo v me n shelf (Task.Start r place) below shelf' (record { action = Action.Claim (identity_of r) (found_as claim); turn = Turn.Goes task; counted = is_counted_claim (found_as claim) }) after s s
+      → (s : PagerState N E) → Claims n (site s.core shelf (to_start r place ∷ below)) r place below (found_as claim)
+      (site s.core shelf' (claim_todo r place below (found_as claim)))
+      → TurnsTo v me n shelf (Task.Start r place) below shelf' (record {
+        action = Action.Claim (identity_of r) (found_as claim);
+        turn = Turn.Goes task;
+        counted = is_counted_claim (found_as claim);
+      }) after s s
   start-turns v me n shelf shelf' r place below after claim task is leaves s c = grind (arith, nat_tests, common_steps, turns, claim-leaves)
 
   -- a claim that isn't made
-  pub start-refused : {N E : Type 0} (v : Values N) (me : Owner) (n : ℕ) (shelf shelf' : Shelf) (r : ArcRef) (place : ℕ) (below after : List Todo) (task : Task X XN XH XK XV g gh go gq gp gn) → after ≡ fails (was_refused Error.NumbersSpent) (back_of (Some r.handle) below)
+  pub start-refused : {N E : Type 0} (v : Values N) (me : Owner) (n : ℕ) (shelf shelf' : Shelf) (r : ArcRef) (place : ℕ) (below after : List Todo)
+      (task : Task X XN XH XK XV g gh go gq gp gn) → after ≡ fails (was_refused Error.NumbersSpent) (back_of (Some r.handle) below)
       → IsPlain task → SameShelf (with_wait shelf n None) shelf' → (s : PagerState N E)
-      → TurnsTo v me n shelf (Task.Start r place) below shelf' (record { action = Action.Claim (identity_of r) (Err Error.NumbersSpent); turn = Turn.Goes task; counted = true }) after s s
+      → TurnsTo v me n shelf (Task.Start r place) below shelf' (record {
+        action = Action.Claim (identity_of r) (Err Error.NumbersSpent);
+        turn = Turn.Goes task;
+        counted = true;
+      }) after s s
   start-refused v me n shelf shelf' r place below after task is plain same s = grind (arith, nat_tests, common_steps, start-turns, finds, alike)
 
 pub ruleset claiming = (nat_tests, common_steps, claims-there, refuses, claim-fits)
@@ -79,10 +95,12 @@ pub ruleset claiming = (nat_tests, common_steps, claims-there, refuses, claim-fi
 
 module _ {N E : Type 0} (v : Values N) (s : PagerState N E) (r : ArcRef) (pin : HandleNumber) where
   shared-some : (x : N) → ValueCall s pin (Ok (Some x)) → IsPinned v s r pin → (s.values r.node.0 ≡ Some x) × (v.node_type x ≡ type_of r.kind.0)
-  shared-some x call p = let held : s.values r.node.0 ≡ Some x = grind (arith, nat_tests, common_steps) in (held, p.kind.typed (v.node_type x) (p.whole.typed r.node.0 x held))
+  shared-some x call p = let held : s.values r.node.0 ≡ Some x = grind (arith, nat_tests, common_steps) in
+      (held, p.kind.typed (v.node_type x) (p.whole.typed r.node.0 x held))
 
   module _ {X : Type 0} (see : X → N) where
-    pub forms-other : (y : X) (e : Error) (t : ℕ) → t ≡ v.node_type (see y) → (t ≡ type_of r.kind.0 → ⊥) → Shares see s pin (Ok (Some y)) → Forms v s r pin (Err e)
+    pub forms-other : (y : X) (e : Error) (t : ℕ) → t ≡ v.node_type (see y) → (t ≡ type_of r.kind.0 → ⊥) → Shares see s pin (Ok (Some y))
+        → Forms v s r pin (Err e)
     forms-other y e t is differs shared = record { written = λ p. tt; refused = λ p. absurd (differs (is ∙ (shared-some (see y) shared.given p).1)) }
 
     pub forms-none : (e : Error) → Shares see s pin (Ok None) → Forms v s r pin (Err e)
@@ -99,7 +117,8 @@ module _ {N E : Type 0} (v : Values N) (s : PagerState N E) (r : ArcRef) (pin : 
   forms-short e is = grind (arith, nat_tests, common_steps)
 
 module _ {N E : Type 0} (v : Values N) (s : PagerState N E) (r : ArcRef) (pin : HandleNumber) {W : Type 0} (see : W → Written) where
-  pub forms-from : {X : Type 0} (at : X → N) (y : X) (result : Result W Error) → IfOk result (λ d. IsForm v (at y) (see d)) → IfErr result (λ e. WriteRefused v (at y) e)
+  pub forms-from : {X : Type 0} (at : X → N) (y : X) (result : Result W Error) → IfOk result (λ d. IsForm v (at y) (see d))
+      → IfErr result (λ e. WriteRefused v (at y) e)
       → Shares at s pin (Ok (Some y)) → Forms v s r pin (seen_as see result)
   forms-from at y result is why shared = grind (arith, nat_tests, common_steps, shared-some v s r pin (at y) shared.given)
 
@@ -107,17 +126,22 @@ pub ruleset forming = (nat_tests, tells_map, forms-told, forms-short)
 
 -- ---- the turn
 
-module _ {X XN XH XK XV : Type 0} {g : Environments X XN XH XK XV} {gh : Hashes XH} {go : Orders XK} {gq : Equalities XK} {gp : PartialOrders XK} {gn : Nodes XN X XN XH XK XV} {N E : Type 0} (v : Values N) (me : Owner) (n : ℕ) (shelf shelf' : Shelf) (r : ArcRef) (place : ℕ) (through pin : HandleNumber) (below after : List Todo) (task : Task X XN XH XK XV g gh go gq gp gn) (plain : IsPlain task) (s : PagerState N E) where
+module _ {X XN XH XK XV : Type 0} {g : Environments X XN XH XK XV} {gh : Hashes XH} {go : Orders XK} {gq : Equalities XK} {gp : PartialOrders XK}
+    {gn : Nodes XN X XN XH XK XV} {N E : Type 0} (v : Values N) (me : Owner) (n : ℕ) (shelf shelf' : Shelf) (r : ArcRef) (place : ℕ)
+    (through pin : HandleNumber) (below after : List Todo) (task : Task X XN XH XK XV g gh go gq gp gn) (plain : IsPlain task) (s : PagerState N E) where
   is-pinned : Fits {g = g} {gh = gh} {go = go} {gq = gq} {gp = gp} {gn = gn} v me n (Task.Write r place through pin) s → IsPinned v s r pin
   is-pinned f = record { whole = f.whole; kind = f.task_fits.0; pins = f.task_fits.1.pins }
 
-  pub write-turns : (told : Arc SerializedData Global) → Forms v s r pin (Ok (written_of (arc_value told))) → SameShelf (with_changed_slot shelf (identity_of r) (with_references (written_of (arc_value told)).references)) shelf'
+  pub write-turns : (told : Arc SerializedData Global) → Forms v s r pin (Ok (written_of (arc_value told)))
+      → SameShelf (with_changed_slot shelf (identity_of r) (with_references (written_of (arc_value told)).references)) shelf'
       → after ≡ open_node r place through (written_of (arc_value told)) below
-      → TurnsTo v me n shelf (Task.Write r place through pin) below shelf' (record { action = Action.Write (identity_of r) (Ok told); turn = Turn.Goes task; counted = true }) after s s
+      → TurnsTo v me n shelf (Task.Write r place through pin) below shelf'
+      (record { action = Action.Write (identity_of r) (Ok told); turn = Turn.Goes task; counted = true }) after s s
   write-turns told forms same is = grind (arith, nat_tests, common_steps, alike, is-pinned, plain-fits)
 
   pub write-fails : (e : Error) → Forms v s r pin (Err e) → SameShelf shelf shelf' → after ≡ fails (was_refused e) (back_of None below)
-      → TurnsTo v me n shelf (Task.Write r place through pin) below shelf' (record { action = Action.Write (identity_of r) (Err e); turn = Turn.Goes task; counted = true }) after s s
+      → TurnsTo v me n shelf (Task.Write r place through pin) below shelf'
+      (record { action = Action.Write (identity_of r) (Err e); turn = Turn.Goes task; counted = true }) after s s
   write-fails e forms same is = grind (arith, nat_tests, common_steps, is-pinned, alike, plain-fits)
 
 -- ---- a turn that pins what was claimed, or loads it, is the worker's
@@ -126,10 +150,12 @@ module _ {c : Change} {w w' : Core} (goes : Goes c w w') where
   pub kind-on : {r : ArcRef} → IsOfKind w r → IsOfKind w' r
   kind-on {r} k = record { given = let a = k.given in let b = goes.nodes in omega arith; typed = λ t is. of-cell t (w'.cells r.node.0) refl is }
     where
-      of-cell : (t : ℕ) (found : Option Cell) → w'.cells r.node.0 ≡ found → if_there (λ (cell : Cell). Some cell.node_type) None found ≡ Some t → t ≡ type_of r.kind.0
+      of-cell : (t : ℕ) (found : Option Cell) → w'.cells r.node.0 ≡ found → if_there (λ (cell : Cell). Some cell.node_type) None found ≡ Some t → t
+          ≡ type_of r.kind.0
       of-cell t None live is = absurd (cc)
       of-cell t (Some cell) live is = elim (goes.cells r.node.0 cell live) [
-        | inl kept ↦ sym (same_some _ _ is) ∙ kept.typed ∙ k.typed kept.was.node_type (ap (λ (found : Option Cell). if_there (λ (x : Cell). Some x.node_type) None found) kept.live)
+        | inl kept ↦ sym (same_some _ _ is) ∙ kept.typed ∙ k.typed kept.was.node_type
+            (ap (λ (found : Option Cell). if_there (λ (x : Cell). Some x.node_type) None found) kept.live)
         | inr (next, bears) ↦ let a = k.given in absurd (omega arith)
       ]
 
@@ -138,13 +164,16 @@ module _ {c : Change} {w w' : Core} (goes : Goes c w w') where
 pins-as : {w : Core} {me : Owner} {node : NodeNumber} (r : ArcRef) (k : HandleNumber) → PinOf w me node k → node ≡ r.node → HoldsPin w me r k
 pins-as r k p at = record { pins = record { row = p.pin.row; live = p.pin.live; at = p.at ∙ at; pins = p.pin.is }; own = p.own }
 
-pub at-once-pins : (w w' : Core) (me : Owner) (r : ArcRef) (through k : HandleNumber) → HandlesAreWhole w → StandsAt w r r.handle → PinsAtOnce w me r through k w' → HoldsPin w' me r k
+pub at-once-pins : (w w' : Core) (me : Owner) (r : ArcRef) (through k : HandleNumber) → HandlesAreWhole w → StandsAt w r r.handle
+    → PinsAtOnce w me r through k w' → HoldsPin w' me r k
 at-once-pins w w' me r through k whole stands does = elim does [
   | inl (is, same, clone) ↦
       let c = clone-call w w' (low-whole whole) me r.handle k clone in
-      pins-as r k (pins-by w' k (w.last.handle + 1) clone.made.2.above c.2 (not-loose c.0.mode (rw (same_some _ _ (sym is.live ∙ c.1)) at is.sort))) (stands.is c.0 c.1).0
+      pins-as r k (pins-by w' k (w.last.handle + 1) clone.made.2.above c.2 (not-loose c.0.mode (rw (same_some _ _ (sym is.live ∙ c.1)) at is.sort)))
+      (stands.is c.0 c.1).0
   | inr (is, (mid, copy, pin)) ↦
-      pins-as r k (pin-call mid w' (low-handle w mid _ _ _ (low-whole whole) copy.made.3) me through k pin) ((clone-stands whole r through stands copy).is pin.pins.0 pin.pins.1.live).0
+      pins-as r k (pin-call mid w' (low-handle w mid _ _ _ (low-whole whole) copy.made.3) me through k pin)
+      ((clone-stands whole r through stands copy).is pin.pins.0 pin.pins.1.live).0
 ]
 
 -- ---- a load that has begun
@@ -161,7 +190,12 @@ begun-loads w w' n r through l key own whole stands (is, (mid, clone, begin)) sa
     let new : OpenLoad = record { owner = owner_worker n; key = key; root = of_cell row.node t through } in
     let found : w'.loads l.0 ≡ Some new = b.4.2.loads l.0 ∙ ap (λ c. if c then Some new else mid.loads l.0) (is-at l.0 (mid.last.load + 1) next) in
     record {
-      is = record { load = new; owned = record { stands_open = ap (λ (x : LoadNumber). w'.loads x.0) same_load ∙ found; own = refl }; key = sym same_key; sort = sym cell };
+      is = record {
+        load = new;
+        owned = record { stands_open = ap (λ (x : LoadNumber). w'.loads x.0) same_load ∙ found; own = refl };
+        key = sym same_key;
+        sort = sym cell;
+      };
       for_cell = cell;
       t = t;
       root = ap (λ q. of_cell q t through) at;
@@ -177,12 +211,14 @@ node-in other (of_cell node t h) = node
 node-in other of_key = other
 
 module _ (w w' : Core) (n : ℕ) (r : ArcRef) (whole : HandlesAreWhole w) where
-  pub end-pins : {N : Type 0} (v : Values N) (through : HandleNumber) (own : Own) (k : HandleNumber) → IsLoading w n r through own → EndsPinned v w (owner_worker n) (reading_of own) k w'
+  pub end-pins : {N : Type 0} (v : Values N) (through : HandleNumber) (own : Own) (k : HandleNumber) → IsLoading w n r through own
+      → EndsPinned v w (owner_worker n) (reading_of own) k w'
       → HoldsPin w' (owner_worker n) r k
   end-pins v through own k is e =
       let may = e.ended.installs.2 in
       let same : may.load ≡ is.is.load = same_some _ _ (sym may.owned.stands_open ∙ is.is.owned.stands_open) in
-      let at : e.ended.installs.0 ≡ r.node = sym (ap (node-in r.node) may.of_node) ∙ ap (λ (x : OpenLoad). node-in r.node x.root) same ∙ ap (node-in r.node) is.root in
+      let at : e.ended.installs.0 ≡ r.node = sym (ap (node-in r.node) may.of_node) ∙ ap (λ (x : OpenLoad). node-in r.node x.root) same
+      ∙ ap (node-in r.node) is.root in
       pins-as r k (end-call w w' (low-whole whole) (owner_worker n) own.load e.x _ _ k (λ m is. absurd (cc)) e.ended) at
 
 -- ---- the turns
@@ -196,60 +232,121 @@ none-back [] = refl
 none-back (x ∷ below) = refl
 
 -- a step of the worker that leaves the table, from what it does
-module _ {X XN XH XK XV : Type 0} {g : Environments X XN XH XK XV} {gh : Hashes XH} {go : Orders XK} {gq : Equalities XK} {gp : PartialOrders XK} {gn : Nodes XN X XN XH XK XV} {N E : Type 0} (v : Values N) (n : ℕ) (shelf : Shelf) (todo : List Todo) (moved : StepResult X XN XH XK XV g gh go gq gp gn) (after : List Todo) (s t : PagerState N E) where
-  by-does : Does (plain v) n (site s.core shelf todo) todo (plain_took moved.action) (site t.core shelf after) → answer_after todo (plain_took moved.action) ≡ answer_in moved.turn → Moves (TodoBrings v s.core todo) s t → Moves (λ k x. HoldsItsNodes v s x) s t
-      → TookWrites v (λ w. w) s (plain_took moved.action) → WellFormed v t → ((c : Change) → Goes c s.core t.core → LeavesFit n t.core moved.turn) → Turned v n shelf todo s shelf moved after t
+module _ {X XN XH XK XV : Type 0} {g : Environments X XN XH XK XV} {gh : Hashes XH} {go : Orders XK} {gq : Equalities XK} {gp : PartialOrders XK}
+    {gn : Nodes XN X XN XH XK XV} {N E : Type 0} (v : Values N) (n : ℕ) (shelf : Shelf) (todo : List Todo) (moved : StepResult X XN XH XK XV g gh go gq gp gn)
+    (after : List Todo) (s t : PagerState N E) where
+  by-does : Does (plain v) n (site s.core shelf todo) todo (plain_took moved.action) (site t.core shelf after) → answer_after todo (plain_took moved.action)
+      ≡ answer_in moved.turn → Moves (TodoBrings v s.core todo) s t → Moves (λ k x. HoldsItsNodes v s x) s t
+      → TookWrites v (λ w. w) s (plain_took moved.action) → WellFormed v t → ((c : Change) → Goes c s.core t.core → LeavesFit n t.core moved.turn)
+      → Turned v n shelf todo s shelf moved after t
   by-does does answers moves holds writes whole fits =
       let goes = walk-goes (plain v) n (site s.core shelf todo) (site t.core shelf after) todo (plain_took moved.action) does in
-      record { does = record { does = does }; answers = answers; moves = moves; holds = holds; writes = writes; whole = whole; fits = fits goes.change goes.goes }
+      record {
+        does = record { does = does };
+        answers = answers;
+        moves = moves;
+        holds = holds;
+        writes = writes;
+        whole = whole;
+        fits = fits goes.change goes.goes;
+      }
 
-module _ {X XN XH XK XV : Type 0} {g : Environments X XN XH XK XV} {gh : Hashes XH} {go : Orders XK} {gq : Equalities XK} {gp : PartialOrders XK} {gn : Nodes XN X XN XH XK XV} {N E : Type 0} (v : Values N) (me : Owner) (n : ℕ) (shelf : Shelf) (r : ArcRef) (place : ℕ) (below : List Todo) where
+module _ {X XN XH XK XV : Type 0} {g : Environments X XN XH XK XV} {gh : Hashes XH} {go : Orders XK} {gq : Equalities XK} {gp : PartialOrders XK}
+    {gn : Nodes XN X XN XH XK XV} {N E : Type 0} (v : Values N) (me : Owner) (n : ℕ) (shelf : Shelf) (r : ArcRef) (place : ℕ) (below : List Todo) where
   pub pin-holds : (through k : HandleNumber) (s t : PagerState N E) → Called v (λ w'. TakesReference s.core me r (Ok (PinnedOrLoading.Held through k)) w') s t
-      → TurnsTo {g = g} {gh = gh} {go = go} {gq = gq} {gp = gp} {gn = gn} v me n shelf (Task.Pin r place) below shelf (record { action = Action.Pin (identity_of r) (Ok (PinStep.Held k)); turn = Turn.Goes (Task.Write r place through k); counted = true }) (to_write r place through ∷ below) s t
+      → TurnsTo {g = g} {gh = gh} {go = go} {gq = gq} {gp = gp} {gn = gn} v me n shelf (Task.Pin r place) below shelf
+      (record { action = Action.Pin (identity_of r) (Ok (PinStep.Held k)); turn = Turn.Goes (Task.Write r place through k); counted = true })
+      (to_write r place through ∷ below) s t
   pin-holds through k s t call = record {
     counts = refl;
     turns = λ f.
         let takes = subst (λ o. PinsAtOnce s.core o r through k t.core) f.me_is call.step.takes in
-        by-does v n shelf (to_pin r place ∷ below) _ (to_write r place through ∷ below) s t (refl, record { pins = (through, takes, record { table_stays = same-shelf shelf; list_is = refl }); refused = tt }) refl (none_comes call.moves) (none_comes call.moves) tt call.whole
+        by-does v n shelf (to_pin r place ∷ below) _ (to_write r place through ∷ below) s t
+        (refl, record { pins = (through, takes, record { table_stays = same-shelf shelf; list_is = refl }); refused = tt }) refl (none_comes call.moves)
+        (none_comes call.moves) tt call.whole
         (λ c goes. (kind-on goes f.task_fits.1, at-once-pins s.core t.core (owner_worker n) r through k f.whole.whole.handles f.task_fits.0 takes));
   }
 
-  pub pin-begins : (through : HandleNumber) (l : LoadNumber) (key : ℕ) (own : Own) → reading_of own ≡ fresh l (type_of r.kind.0) → own.key ≡ key → own.for_cell ≡ true → (s t : PagerState N E)
-      → Called v (λ w'. TakesReference s.core me r (Ok (PinnedOrLoading.Begun through l key)) w') s t → TurnsTo {g = g} {gh = gh} {go = go} {gq = gq} {gp = gp} {gn = gn} v me n shelf (Task.Pin r place) below shelf (record { action = Action.Pin (identity_of r) (Ok (PinStep.LoadBegun l)); turn = Turn.Goes (Task.Load r place through own); counted = true }) (to_load r place through (reading_of own) ∷ below) s t
+  pub pin-begins : (through : HandleNumber) (l : LoadNumber) (key : ℕ) (own : Own) → reading_of own ≡ fresh l (type_of r.kind.0) → own.key ≡ key → own.for_cell
+      ≡ true → (s t : PagerState N E)
+      → Called v (λ w'. TakesReference s.core me r (Ok (PinnedOrLoading.Begun through l key)) w') s t
+      → TurnsTo {g = g} {gh = gh} {go = go} {gq = gq} {gp = gp} {gn = gn} v me n shelf (Task.Pin r place) below shelf
+      (record { action = Action.Pin (identity_of r) (Ok (PinStep.LoadBegun l)); turn = Turn.Goes (Task.Load r place through own); counted = true })
+      (to_load r place through (reading_of own) ∷ below) s t
   pin-begins through l key own is same_key cell s t call = record {
     counts = refl;
     turns = λ f.
         let takes = subst (λ o. BeginsAt s.core o r through l key t.core) f.me_is call.step.takes in
-        by-does v n shelf (to_pin r place ∷ below) _ (to_load r place through (reading_of own) ∷ below) s t
-        (refl, record { pins = (through, (takes.0, (takes.1.0, key, takes.1.1, takes.1.2)), record { table_stays = same-shelf shelf; list_is = ap (λ x. to_load r place through x ∷ below) is }); refused = tt }) refl (none_comes call.moves) (none_comes call.moves) tt call.whole
-        (λ c goes. (kind-on goes f.task_fits.1, begun-loads s.core t.core n r through l key own f.whole.whole.handles f.task_fits.0 takes (ap (λ (x : Reading). x.load) is) same_key cell));
+        by-does v n shelf (to_pin r place ∷ below) _ (to_load r place through (reading_of own) ∷ below) s t (
+          refl,
+          record {
+            pins = (
+              through,
+              (takes.0, (takes.1.0, key, takes.1.1, takes.1.2)),
+              record { table_stays = same-shelf shelf; list_is = ap (λ x. to_load r place through x ∷ below) is },
+            );
+            refused = tt;
+          },
+        ) refl (none_comes call.moves)
+        (none_comes call.moves) tt call.whole
+        (λ c goes. (
+          kind-on goes f.task_fits.1,
+          begun-loads s.core t.core n r through l key own f.whole.whole.handles f.task_fits.0 takes
+              (ap (λ (x : Reading). x.load) is) same_key cell,
+        ));
   }
 
-  pub pin-fails : (e : Error) (task : Task X XN XH XK XV g gh go gq gp gn) (after : List Todo) → IsPlain task → after ≡ fails (was_refused e) (back_of (Some r.handle) below) → (s t : PagerState N E)
+  pub pin-fails : (e : Error) (task : Task X XN XH XK XV g gh go gq gp gn) (after : List Todo) → IsPlain task → after
+      ≡ fails (was_refused e) (back_of (Some r.handle) below) → (s t : PagerState N E)
       → Called v (λ w'. TakesReference s.core me r (Err e) w') s t
-      → TurnsTo v me n shelf (Task.Pin r place) below shelf (record { action = Action.Pin (identity_of r) (Err e); turn = Turn.Goes task; counted = true }) after s t
+      → TurnsTo v me n shelf (Task.Pin r place) below shelf (record { action = Action.Pin (identity_of r) (Err e); turn = Turn.Goes task; counted = true })
+      after s t
   pin-fails e task after plain-task is s t call = grind (arith, nat_tests, common_steps, same-shelf, none_comes, plain-fits)
 
   module _ (through : HandleNumber) (own : Own) where
-    stepped : {s t : PagerState N E} {answer : Option (LoadAnswer N)} {frames : List Frame} → Fits {g = g} {gh = gh} {go = go} {gq = gq} {gp = gp} {gn = gn} v me n (Task.Load r place through own) s → Tries v me own s (Ok answer) frames t
+    stepped : {s t : PagerState N E} {answer : Option (LoadAnswer N)} {frames : List Frame}
+        → Fits {g = g} {gh = gh} {go = go} {gq = gq} {gp = gp} {gn = gn} v me n (Task.Load r place through own) s → Tries v me own s (Ok answer) frames t
         → ReadingStep v (owner_worker n) (reading_of own) s answer frames t
-    stepped {s} {t} {answer} {frames} f steps = subst (λ o. IsLoadOf s.core o own → ReadingStep v o (reading_of own) s answer frames t) f.me_is steps.does f.task_fits.1.is
+    stepped {s} {t} {answer} {frames} f steps = subst (λ o. IsLoadOf s.core o own → ReadingStep v o (reading_of own) s answer frames t) f.me_is steps.does
+        f.task_fits.1.is
 
-    pub load-goes : (new : Own) (frames : List Frame) → frames ≡ frames_of new.top new.below.items → IsSameLoad own new (one_more own.steps) → (s t : PagerState N E)
-        → Tries v me own s (Ok None) frames t → TurnsTo {g = g} {gh = gh} {go = go} {gq = gq} {gp = gp} {gn = gn} v me n shelf (Task.Load r place through own) below shelf (record { action = Action.Pin (identity_of r) (Ok PinStep.LoadWent); turn = Turn.Goes (Task.Load r place through new); counted = false }) (to_load r place through (reading_of new) ∷ below) s t
+    pub load-goes : (new : Own) (frames : List Frame) → frames ≡ frames_of new.top new.below.items → IsSameLoad own new (one_more own.steps)
+        → (s t : PagerState N E)
+        → Tries v me own s (Ok None) frames t → TurnsTo {g = g} {gh = gh} {go = go} {gq = gq} {gp = gp} {gn = gn} v me n shelf
+        (Task.Load r place through own) below shelf (record {
+          action = Action.Pin (identity_of r) (Ok PinStep.LoadWent);
+          turn = Turn.Goes (Task.Load r place through new);
+          counted = false;
+        }) (to_load r place through (reading_of new) ∷ below) s t
     load-goes new frames at is_same s t call = record {
       counts = refl;
       turns = λ f.
           let step = stepped f call in
-          let same : reading_of new ≡ gone_on (reading_of own) frames = λ i. record { load = is_same.load i; node_type = is_same.node_type i; frames = sym at i; steps = is_same.steps i } in
+          let same : reading_of new ≡ gone_on (reading_of own) frames = λ i. record {
+            load = is_same.load i;
+            node_type = is_same.node_type i;
+            frames = sym at i;
+            steps = is_same.steps i;
+          } in
           let old = f.task_fits.1 in
-          let open_load : t.core.loads new.load.0 ≡ Some old.is.load = ap (λ (x : LoadNumber). t.core.loads x.0) is_same.load ∙ goes_open v (owner_worker n) s.core t.core (reading_of own) frames step.does.does ∙ old.is.owned.stands_open in
-          by-does v n shelf (to_load r place through (reading_of own) ∷ below) _ (to_load r place through (reading_of new) ∷ below) s t
-          (refl, record { goes = (frames, step.does, record { table_stays = same-shelf shelf; list_is = ap (λ x. to_load r place through x ∷ below) same }); refused = tt }) refl step.moves (step.holds f.whole) tt step.whole
+          let open_load : t.core.loads new.load.0 ≡ Some old.is.load = ap (λ (x : LoadNumber). t.core.loads x.0) is_same.load
+          ∙ goes_open v (owner_worker n) s.core t.core (reading_of own) frames step.does.does ∙ old.is.owned.stands_open in
+          by-does v n shelf (to_load r place through (reading_of own) ∷ below) _ (to_load r place through (reading_of new) ∷ below) s t (
+            refl,
+            record {
+              goes = (frames, step.does, record { table_stays = same-shelf shelf; list_is = ap (λ x. to_load r place through x ∷ below) same });
+              refused = tt;
+            },
+          ) refl step.moves (step.holds f.whole) tt step.whole
           (λ c goes. (
             kind-on goes f.task_fits.0,
             record {
-              is = record { load = old.is.load; owned = record { stands_open = open_load; own = old.is.owned.own }; key = old.is.key ∙ sym is_same.key; sort = old.is.sort ∙ sym is_same.for_cell };
+              is = record {
+                load = old.is.load;
+                owned = record { stands_open = open_load; own = old.is.owned.own };
+                key = old.is.key ∙ sym is_same.key;
+                sort = old.is.sort ∙ sym is_same.for_cell;
+              };
               for_cell = is_same.for_cell ∙ old.for_cell;
               t = old.t;
               root = old.root;
@@ -258,24 +355,30 @@ module _ {X XN XH XK XV : Type 0} {g : Environments X XN XH XK XV} {gh : Hashes 
     }
 
     pub load-pins : (k : HandleNumber) (frames : List Frame) (s t : PagerState N E) → Tries v me own s (Ok (Some (LoadAnswer.Pinned k))) frames t
-        → TurnsTo {g = g} {gh = gh} {go = go} {gq = gq} {gp = gp} {gn = gn} v me n shelf (Task.Load r place through own) below shelf (record { action = Action.Pin (identity_of r) (Ok (PinStep.Held k)); turn = Turn.Goes (Task.Write r place through k); counted = false }) (to_write r place through ∷ below) s t
+        → TurnsTo {g = g} {gh = gh} {go = go} {gq = gq} {gp = gp} {gn = gn} v me n shelf (Task.Load r place through own) below shelf
+        (record { action = Action.Pin (identity_of r) (Ok (PinStep.Held k)); turn = Turn.Goes (Task.Write r place through k); counted = false })
+        (to_write r place through ∷ below) s t
     load-pins k frames s t call = record {
       counts = refl;
       turns = λ f.
           let step = stepped f call in
           let end = step.does.does in
           by-does v n shelf (to_load r place through (reading_of own) ∷ below) _ (to_write r place through ∷ below) s t
-          (refl, record { goes = (record { does = (end.0, refl) }, record { table_stays = same-shelf shelf; list_is = refl }); refused = tt }) refl step.moves (step.holds f.whole) tt step.whole
+          (refl, record { goes = (record { does = (end.0, refl) }, record { table_stays = same-shelf shelf; list_is = refl }); refused = tt }) refl step.moves
+          (step.holds f.whole) tt step.whole
           (λ c goes. (kind-on goes f.task_fits.0, end-pins s.core t.core n r f.whole.whole.handles v through own k f.task_fits.1 end.0));
     }
 
-    pub load-fails : (e : Error) (frames : List Frame) (task : Task X XN XH XK XV g gh go gq gp gn) (after : List Todo) → IsPlain task → after ≡ fails (was_refused e) (back_of (Some r.handle) below)
+    pub load-fails : (e : Error) (frames : List Frame) (task : Task X XN XH XK XV g gh go gq gp gn) (after : List Todo) → IsPlain task → after
+        ≡ fails (was_refused e) (back_of (Some r.handle) below)
         → (s t : PagerState N E) → Tries v me own s (Ok (Some (LoadAnswer.Refused e))) frames t
-        → TurnsTo v me n shelf (Task.Load r place through own) below shelf (record { action = Action.Pin (identity_of r) (Err e); turn = Turn.Goes task; counted = false }) after s t
+        → TurnsTo v me n shelf (Task.Load r place through own) below shelf
+        (record { action = Action.Pin (identity_of r) (Err e); turn = Turn.Goes task; counted = false }) after s t
     load-fails e frames task after plain-task is s t call = grind (arith, nat_tests, common_steps, stepped, same-shelf, plain-fits)
 
     -- a load of a cell reads out nothing
-    pub load-reads-none : (x : N) (frames : List Frame) (moved : StepResult X XN XH XK XV g gh go gq gp gn) (after : List Todo) → moved.counted ≡ false → (s t : PagerState N E) → Tries v me own s (Ok (Some (LoadAnswer.Read x))) frames t
+    pub load-reads-none : (x : N) (frames : List Frame) (moved : StepResult X XN XH XK XV g gh go gq gp gn) (after : List Todo) → moved.counted ≡ false
+        → (s t : PagerState N E) → Tries v me own s (Ok (Some (LoadAnswer.Read x))) frames t
         → TurnsTo v me n shelf (Task.Load r place through own) below shelf moved after s t
     load-reads-none x frames moved after uncounted s t call = grind (arith, nat_tests, common_steps, stepped, same_some)
 
@@ -283,25 +386,34 @@ pub ruleset pinning = (nat_tests, acts_map, load-reads-none)
 
 -- ---- a turn at what was written is the worker's
 
-module _ {X XN XH XK XV : Type 0} {g : Environments X XN XH XK XV} {gh : Hashes XH} {go : Orders XK} {gq : Equalities XK} {gp : PartialOrders XK} {gn : Nodes XN X XN XH XK XV} where
-  pub stored-way : (node : Option Node) (written : Written) (keys : List ℕ) (key : ℕ) (turn : Turn X XN XH XK XV g gh go gq gp gn) (path : List (Waiting X XN XH XK XV g gh go gq gp gn)) → IsStored node key turn → IsWay (waits_as node written keys ∷ todos path) → IsWay (plan turn path)
+module _ {X XN XH XK XV : Type 0} {g : Environments X XN XH XK XV} {gh : Hashes XH} {go : Orders XK} {gq : Equalities XK} {gp : PartialOrders XK}
+    {gn : Nodes XN X XN XH XK XV} where
+  pub stored-way : (node : Option Node) (written : Written) (keys : List ℕ) (key : ℕ) (turn : Turn X XN XH XK XV g gh go gq gp gn)
+      (path : List (Waiting X XN XH XK XV g gh go gq gp gn)) → IsStored node key turn → IsWay (waits_as node written keys ∷ todos path) → IsWay (plan turn path)
   stored-way given written keys key turn path is way = grind (arith, nat_tests, common_steps)
 
-module _ {X XN XH XK XV : Type 0} {g : Environments X XN XH XK XV} {gh : Hashes XH} {go : Orders XK} {gq : Equalities XK} {gp : PartialOrders XK} {gn : Nodes XN X XN XH XK XV} {N E : Type 0} (v : Values N) (me : Owner) (n : ℕ) (shelf : Shelf) (below : List Todo) where
+module _ {X XN XH XK XV : Type 0} {g : Environments X XN XH XK XV} {gh : Hashes XH} {go : Orders XK} {gq : Equalities XK} {gp : PartialOrders XK}
+    {gn : Nodes XN X XN XH XK XV} {N E : Type 0} (v : Values N) (me : Owner) (n : ℕ) (shelf : Shelf) (below : List Todo) where
   module _ (w : Waiting X XN XH XK XV g gh go gq gp gn) (way : IsWay (waiting_todo w ∷ below)) where
-    pub finish-stores : (key : ℕ) (turn : Turn X XN XH XK XV g gh go gq gp gn) (path : List (Waiting X XN XH XK XV g gh go gq gp gn)) → todos path ≡ below → IsStored w.node key turn → (s t : PagerState N E)
+    pub finish-stores : (key : ℕ) (turn : Turn X XN XH XK XV g gh go gq gp gn) (path : List (Waiting X XN XH XK XV g gh go gq gp gn)) → todos path ≡ below
+        → IsStored w.node key turn → (s t : PagerState N E)
         → Stores v s (blob_of (written_of (arc_value w.written)).bytes (keys_of w.children.items)) (Ok key) t
-        → TurnsTo v me n shelf (Task.Finish w) below shelf (record { action = Action.Store (named_by w.node) (Ok key); turn = turn; counted = true }) (plan turn path) s t
+        → TurnsTo v me n shelf (Task.Finish w) below shelf (record { action = Action.Store (named_by w.node) (Ok key); turn = turn; counted = true })
+        (plan turn path) s t
     finish-stores key turn path at is s t call = grind (arith, nat_tests, common_steps, same-shelf, none_comes, plain-fits)
 
-    pub finish-fails : (e : Error) (task : Task X XN XH XK XV g gh go gq gp gn) (after : List Todo) → IsPlain task → after ≡ fails (was_refused e) (back_of None below) → (s t : PagerState N E)
+    pub finish-fails : (e : Error) (task : Task X XN XH XK XV g gh go gq gp gn) (after : List Todo) → IsPlain task → after
+        ≡ fails (was_refused e) (back_of None below) → (s t : PagerState N E)
         → Stores v s (blob_of (written_of (arc_value w.written)).bytes (keys_of w.children.items)) (Err e) t
-        → TurnsTo v me n shelf (Task.Finish w) below shelf (record { action = Action.Store (named_by w.node) (Err e); turn = Turn.Goes task; counted = true }) after s t
+        → TurnsTo v me n shelf (Task.Finish w) below shelf (record { action = Action.Store (named_by w.node) (Err e); turn = Turn.Goes task; counted = true })
+        after s t
     finish-fails e task after plain is s t call = grind (arith, nat_tests, common_steps, same-shelf, none_comes, plain-fits)
 
   module _ (d : Done X XN XH XK XV g gh go gq gp gn) where
     pub set-goes : (through : HandleNumber) (s t : PagerState N E) → SetsFor v me d.reference through d.found.key (Ok tt) s t
-        → TurnsTo {g = g} {gh = gh} {go = go} {gq = gq} {gp = gp} {gn = gn} v me n shelf (Task.SetKey d through) below shelf (record { action = Action.SetKey (identity_of d.reference) (Ok tt); turn = Turn.Goes (Task.Publish d); counted = true }) (to_publish d.reference d.found.key d.found.height ∷ below) s t
+        → TurnsTo {g = g} {gh = gh} {go = go} {gq = gq} {gp = gp} {gn = gn} v me n shelf (Task.SetKey d through) below shelf
+        (record { action = Action.SetKey (identity_of d.reference) (Ok tt); turn = Turn.Goes (Task.Publish d); counted = true })
+        (to_publish d.reference d.found.key d.found.height ∷ below) s t
     set-goes through s t call = record {
       counts = refl;
       turns = λ f.
@@ -317,15 +429,29 @@ module _ {X XN XH XK XV : Type 0} {g : Environments X XN XH XK XV} {gh : Hashes 
           };
     }
 
-    pub set-fails : (through : HandleNumber) (e : Error) (task : Task X XN XH XK XV g gh go gq gp gn) (after : List Todo) → IsPlain task → after ≡ fails (was_refused e) (back_of None below) → (s t : PagerState N E)
+    pub set-fails : (through : HandleNumber) (e : Error) (task : Task X XN XH XK XV g gh go gq gp gn) (after : List Todo) → IsPlain task → after
+        ≡ fails (was_refused e) (back_of None below) → (s t : PagerState N E)
         → SetsFor v me d.reference through d.found.key (Err e) s t
-        → TurnsTo v me n shelf (Task.SetKey d through) below shelf (record { action = Action.SetKey (identity_of d.reference) (Err e); turn = Turn.Goes task; counted = true }) after s t
+        → TurnsTo v me n shelf (Task.SetKey d through) below shelf (record {
+          action = Action.SetKey (identity_of d.reference) (Err e);
+          turn = Turn.Goes task;
+          counted = true;
+        }) after s t
     set-fails through e task after is-plain is s t call = record {
       counts = refl;
       turns = λ f.
           let sets = subst (λ o. KeySetFor s.core o d.reference through d.found.key (Err e) t.core) f.me_is call.sets in
           record {
-            does = record { does = (refl, record { sets = sets; goes = tt; refused = record { table_stays = same-shelf shelf; list_is = is ∙ ap (λ back. to_fail (was_refused e) back ∷ []) (none-back below) } }) };
+            does = record {
+              does = (
+                refl,
+                record {
+                  sets = sets;
+                  goes = tt;
+                  refused = record { table_stays = same-shelf shelf; list_is = is ∙ ap (λ back. to_fail (was_refused e) back ∷ []) (none-back below) };
+                },
+              );
+            };
             answers = refl;
             moves = none_comes call.moves;
             holds = none_comes call.moves;
@@ -337,29 +463,51 @@ module _ {X XN XH XK XV : Type 0} {g : Environments X XN XH XK XV} {gh : Hashes 
 
     pub publishes : (shelf' : Shelf) (i : Identity) (key height : ℕ) → i ≡ identity_of d.reference → key ≡ d.found.key → height ≡ d.found.height
         → SameShelf (with_changed_slot shelf i (with_outcome (published key height))) shelf' → (s : PagerState N E)
-        → TurnsTo {g = g} {gh = gh} {go = go} {gq = gq} {gp = gp} {gn = gn} v me n shelf (Task.Publish d) below shelf' (record { action = Action.Publish (identity_of d.reference) d.found.key d.found.height; turn = Turn.Goes (Task.Release d); counted = true }) (to_release d.reference d.found.key d.found.height ∷ below) s s
+        → TurnsTo {g = g} {gh = gh} {go = go} {gq = gq} {gp = gp} {gn = gn} v me n shelf (Task.Publish d) below shelf'
+        (record { action = Action.Publish (identity_of d.reference) d.found.key d.found.height; turn = Turn.Goes (Task.Release d); counted = true })
+        (to_release d.reference d.found.key d.found.height ∷ below) s s
     publishes shelf' i key height at same_key same_height same s = grind (arith, nat_tests, common_steps, alike)
 
-module _ {X XN XH XK XV : Type 0} {g : Environments X XN XH XK XV} {gh : Hashes XH} {go : Orders XK} {gq : Equalities XK} {gp : PartialOrders XK} {gn : Nodes XN X XN XH XK XV} {N E : Type 0} (v : Values N) (me : Owner) (n : ℕ) (shelf : Shelf) (d : Done X XN XH XK XV g gh go gq gp gn) where
-  pub release-ends : (below : List Todo) → below ≡ [] → (s t : PagerState N E) → Called v (λ w'. FallsAnyhow s.core s.core (is_workers_at s.core n d.reference.node.0) w') s t
-      → TurnsTo v me n shelf (Task.Release d) below shelf (record { action = Action.Release (identity_of d.reference); turn = Turn.Answers (WorkerAnswer.Key d.found.key); counted = true }) [] s t
+module _ {X XN XH XK XV : Type 0} {g : Environments X XN XH XK XV} {gh : Hashes XH} {go : Orders XK} {gq : Equalities XK} {gp : PartialOrders XK}
+    {gn : Nodes XN X XN XH XK XV} {N E : Type 0} (v : Values N) (me : Owner) (n : ℕ) (shelf : Shelf) (d : Done X XN XH XK XV g gh go gq gp gn) where
+  pub release-ends : (below : List Todo) → below ≡ [] → (s t : PagerState N E)
+      → Called v (λ w'. FallsAnyhow s.core s.core (is_workers_at s.core n d.reference.node.0) w') s t
+      → TurnsTo v me n shelf (Task.Release d) below shelf (record {
+        action = Action.Release (identity_of d.reference);
+        turn = Turn.Answers (WorkerAnswer.Key d.found.key);
+        counted = true;
+      }) [] s t
   release-ends below none s t call = grind (arith, nat_tests, common_steps, same-shelf, none_comes)
 
-  pub release-gives : (below : List Todo) (task : Task X XN XH XK XV g gh go gq gp gn) (after : List Todo) → Gives d.reference d.found.key d.found.height below after → IsPlain task → (s t : PagerState N E)
-      → Called v (λ w'. FallsAnyhow s.core s.core (is_workers_at s.core n d.reference.node.0) w') s t → TurnsTo v me n shelf (Task.Release d) below shelf (record { action = Action.Release (identity_of d.reference); turn = Turn.Goes task; counted = true }) after s t
+  pub release-gives : (below : List Todo) (task : Task X XN XH XK XV g gh go gq gp gn) (after : List Todo)
+      → Gives d.reference d.found.key d.found.height below after → IsPlain task → (s t : PagerState N E)
+      → Called v (λ w'. FallsAnyhow s.core s.core (is_workers_at s.core n d.reference.node.0) w') s t
+      → TurnsTo v me n shelf (Task.Release d) below shelf (record {
+        action = Action.Release (identity_of d.reference);
+        turn = Turn.Goes task;
+        counted = true;
+      }) after s t
   release-gives below task after gives plain s t call = grind (arith, nat_tests, common_steps, same-shelf, none_comes, plain-fits)
 
-module _ {X XN XH XK XV : Type 0} {g : Environments X XN XH XK XV} {gh : Hashes XH} {go : Orders XK} {gq : Equalities XK} {gp : PartialOrders XK} {gn : Nodes XN X XN XH XK XV} {N E : Type 0} (v : Values N) (me : Owner) (n : ℕ) (shelf : Shelf) where
-  pub ends-failed : (shelf' : Shelf) (why : PageOutError) (back : Option HandleNumber) (below : List Todo) → SameShelf (with_failed shelf n) shelf' → (s t : PagerState N E) → GoesBack v me back s t
-      → TurnsTo {g = g} {gh = gh} {go = go} {gq = gq} {gp = gp} {gn = gn} v me n shelf (Task.Fail why back) below shelf' (record { action = Action.Fail; turn = Turn.Answers (answer_of_fault (fault_of why)); counted = true }) [] s t
+module _ {X XN XH XK XV : Type 0} {g : Environments X XN XH XK XV} {gh : Hashes XH} {go : Orders XK} {gq : Equalities XK} {gp : PartialOrders XK}
+    {gn : Nodes XN X XN XH XK XV} {N E : Type 0} (v : Values N) (me : Owner) (n : ℕ) (shelf : Shelf) where
+  pub ends-failed : (shelf' : Shelf) (why : PageOutError) (back : Option HandleNumber) (below : List Todo) → SameShelf (with_failed shelf n) shelf'
+      → (s t : PagerState N E) → GoesBack v me back s t
+      → TurnsTo {g = g} {gh = gh} {go = go} {gq = gq} {gp = gp} {gn = gn} v me n shelf (Task.Fail why back) below shelf'
+      (record { action = Action.Fail; turn = Turn.Answers (answer_of_fault (fault_of why)); counted = true }) [] s t
   ends-failed shelf' why back below same s t call = grind (arith, nat_tests, common_steps, none_comes)
 
 -- a key is set, or none is
 module _ {N E : Type 0} (v : Values N) (me : Owner) (r : ArcRef) (through : HandleNumber) (key : ℕ) where
   pub key-unset : is_loose_kind r.kind.0 ≡ false → (s : PagerState N E) → SetsFor v me r through key (Ok tt) s s
-  key-unset kind s = record { sets = record { does = inr (kind, refl, alike s.core) }; moves = record { each = λ n x is. inl is; environment = refl }; whole = λ w. w }
+  key-unset kind s = record {
+    sets = record { does = inr (kind, refl, alike s.core) };
+    moves = record { each = λ n x is. inl is; environment = refl };
+    whole = λ w. w;
+  }
 
-  pub key-set : is_loose_kind r.kind.0 ≡ true → (result : Result (Unit {0}) Error) (s t : PagerState N E) → Called v (λ w'. SetKeyCall s.core me through key result w') s t → SetsFor v me r through key result s t
+  pub key-set : is_loose_kind r.kind.0 ≡ true → (result : Result (Unit {0}) Error) (s t : PagerState N E)
+      → Called v (λ w'. SetKeyCall s.core me through key result w') s t → SetsFor v me r through key result s t
   key-set kind result s t call = record { sets = record { does = inl (kind, call.step) }; moves = call.moves; whole = λ w. call.whole }
 
 -- an entry goes back, or none does
@@ -367,7 +515,8 @@ module _ {N E : Type 0} (v : Values N) (me : Owner) where
   pub back-none : (back : Option HandleNumber) → ((h : HandleNumber) → back ≡ Some h → ⊥) → (s : PagerState N E) → GoesBack v me back s s
   back-none back none s = grind (arith, nat_tests, common_steps, alike)
 
-  pub back-some : (back : Option HandleNumber) (h : HandleNumber) (r : Result (Unit {0}) Error) → back ≡ Some h → (s t : PagerState N E) → Called v (λ w'. ScheduleCall s.core me h r w') s t
+  pub back-some : (back : Option HandleNumber) (h : HandleNumber) (r : Result (Unit {0}) Error) → back ≡ Some h → (s t : PagerState N E)
+      → Called v (λ w'. ScheduleCall s.core me h r w') s t
       → GoesBack v me back s t
   back-some back h r is s t call = subst (λ b. GoesBack v me b s t) (sym is) (record { goes = (r, call.step); moves = call.moves; whole = λ w. call.whole })
 
@@ -381,13 +530,15 @@ pub ruleset turning = (nat_tests, acts_all, publishes)
 
 -- ---- a turn with the worker's end is its step, and steps of a worker's walk are joined to a run
 
-module _ {X XN XH XK XV : Type 0} {g : Environments X XN XH XK XV} {gh : Hashes XH} {go : Orders XK} {gq : Equalities XK} {gp : PartialOrders XK} {gn : Nodes XN X XN XH XK XV} {N E : Type 0} (v : Values N) (n : ℕ) where
+module _ {X XN XH XK XV : Type 0} {g : Environments X XN XH XK XV} {gh : Hashes XH} {go : Orders XK} {gq : Equalities XK} {gp : PartialOrders XK}
+    {gn : Nodes XN X XN XH XK XV} {N E : Type 0} (v : Values N) (n : ℕ) where
   -- what the end after a turn does
   closed : (turn : Turn X XN XH XK XV g gh go gq gp gn) (s t : PagerState N E) → Closes v n turn s t
       → Ends (answer_in turn) n s.core t.core × Moves (λ k x. ⊥) s t × (WellFormed v s → WellFormed v t) × (LeavesFit n s.core turn → LeavesFit n t.core turn)
   closed turn s t close = grind (arith, nat_tests, common_steps, alike)
 
-  pub steps-to : (me : Owner) (shelf shelf' : Shelf) (task : Task X XN XH XK XV g gh go gq gp gn) (below after : List Todo) (moved : StepResult X XN XH XK XV g gh go gq gp gn) (s mid t : PagerState N E)
+  pub steps-to : (me : Owner) (shelf shelf' : Shelf) (task : Task X XN XH XK XV g gh go gq gp gn) (below after : List Todo)
+      (moved : StepResult X XN XH XK XV g gh go gq gp gn) (s mid t : PagerState N E)
       → TurnsTo v me n shelf task below shelf' moved after s mid → Closes v n moved.turn mid t
       → StepsTo v me n shelf task below shelf' moved after s t
   steps-to me shelf shelf' task below after moved s mid t turns close = record {
@@ -421,12 +572,14 @@ other-ends (may-go-on u i other waits done) = other
 other-ends (waits-on u i slot other waits still ends) = other
 
 -- a slot that is changed so is open only where it was, or by this worker's claim
-put-alone : (n : ℕ) (shelf shelf' : Shelf) (i : Identity) (new : Option Slot) → ((j : Identity) → shelf'.slots j ≡ (if is_identity i j then new else shelf.slots j))
+put-alone : (n : ℕ) (shelf shelf' : Shelf) (i : Identity) (new : Option Slot)
+    → ((j : Identity) → shelf'.slots j ≡ (if is_identity i j then new else shelf.slots j))
     → ((slot : Slot) → new ≡ Some slot → slot.outcome ≡ no_result → slot.worker ≡ n) → IsAlone n shelf → IsAlone n shelf'
-put-alone n shelf shelf' i new puts own alone j slot still = elim (is_identity i j) as (λ b. shelf'.slots j ≡ (if b then new else shelf.slots j) → slot.worker ≡ n) [
-  | true ↦ λ at. own slot (sym at ∙ still.claimed) still.no_result_yet
-  | false ↦ λ at. alone j slot (record { claimed = sym at ∙ still.claimed; no_result_yet = still.no_result_yet })
-] (puts j)
+put-alone n shelf shelf' i new puts own alone j slot still = elim (is_identity i j) as
+    (λ b. shelf'.slots j ≡ (if b then new else shelf.slots j) → slot.worker ≡ n) [
+      | true ↦ λ at. own slot (sym at ∙ still.claimed) still.no_result_yet
+      | false ↦ λ at. alone j slot (record { claimed = sym at ∙ still.claimed; no_result_yet = still.no_result_yet })
+    ] (puts j)
 
 same-alone : (n : ℕ) (shelf shelf' : Shelf) → ((j : Identity) → shelf'.slots j ≡ shelf.slots j) → IsAlone n shelf → IsAlone n shelf'
 same-alone n shelf shelf' same alone j slot still = alone j slot (record { claimed = sym (same j) ∙ still.claimed; no_result_yet = still.no_result_yet })
@@ -435,20 +588,23 @@ changed-alone : (n : ℕ) (shelf shelf' : Shelf) (i : Identity) (f : Slot → Sl
     → ((slot : Slot) → ((f slot).outcome ≡ no_result → slot.outcome ≡ no_result) × ((f slot).worker ≡ slot.worker)) → IsAlone n shelf → IsAlone n shelf'
 changed-alone n shelf shelf' i f same keeps alone = put-alone n shelf shelf' i _ same.slots (by (shelf.slots i) refl) alone
   where
-    by : (found : Option Slot) → shelf.slots i ≡ found → (slot : Slot) → if_there (λ (old : Slot). Some (f old)) None found ≡ Some slot → slot.outcome ≡ no_result → slot.worker ≡ n
+    by : (found : Option Slot) → shelf.slots i ≡ found → (slot : Slot) → if_there (λ (old : Slot). Some (f old)) None found ≡ Some slot → slot.outcome
+        ≡ no_result → slot.worker ≡ n
     by None there slot is still = absurd (cc)
     by (Some old) there slot is still =
         let e : f old ≡ slot = same_some _ _ is in
         let kept = keeps old in
         sym (ap (λ (x : Slot). x.worker) e) ∙ kept.1 ∙ alone i old (record { claimed = there; no_result_yet = kept.0 (ap (λ (x : Slot). x.outcome) e ∙ still) })
 
-outcome-keeps : (outcome : Outcome) (slot : Slot) → ((with_outcome outcome slot).outcome ≡ no_result → (outcome ≡ no_result → ⊥) → slot.outcome ≡ no_result) × ((with_outcome outcome slot).worker ≡ slot.worker)
+outcome-keeps : (outcome : Outcome) (slot : Slot) → ((with_outcome outcome slot).outcome ≡ no_result → (outcome ≡ no_result → ⊥) → slot.outcome ≡ no_result)
+    × ((with_outcome outcome slot).worker ≡ slot.worker)
 outcome-keeps outcome slot = grind (arith, nat_tests, common_steps)
 
 failed-alone : (n v : ℕ) (shelf shelf' : Shelf) → SameShelf (with_failed shelf v) shelf' → IsAlone n shelf → IsAlone n shelf'
 failed-alone n v shelf shelf' same alone i slot still = by (shelf.slots i) refl (sym (same.slots i) ∙ still.claimed)
   where
-    by : (found : Option Slot) → shelf.slots i ≡ found → if_there (λ (old : Slot). Some (if nat_eq old.worker v then with_outcome failed old else old)) None found ≡ Some slot → slot.worker ≡ n
+    by : (found : Option Slot) → shelf.slots i ≡ found → if_there (λ (old : Slot). Some (if nat_eq old.worker v then with_outcome failed old else old)) None
+        found ≡ Some slot → slot.worker ≡ n
     by None there is = absurd (cc)
     by (Some old) there is =
         let e = same_some _ _ is in let none_yet = still.no_result_yet in let kept = alone i old in grind (arith, nat_tests, common_steps)
@@ -459,22 +615,27 @@ module _ {N B W : Type 0} (m : Seen N B W) (n : ℕ) (s s' : Site) where
   keeps-alone (to_start r place ∷ below) (Action.Claim i (Ok Claim.Claimed)) (is, c) alone =
       put-alone n s.shelf s'.shelf (identity_of r) _ c.finds.1.2.table_is.slots (λ slot is still. ap (λ (x : Slot). x.worker) (sym (same_some _ _ is))) alone
   keeps-alone (to_write r place through ∷ below) (Action.Write i (Ok out)) (is, p) alone =
-      changed-alone n s.shelf s'.shelf (identity_of r) (λ slot. record slot { references = Some (m.written_of out).references }) p.writes.table_is (λ slot. (λ still. still, refl)) alone
+      changed-alone n s.shelf s'.shelf (identity_of r) (λ slot. record slot { references = Some (m.written_of out).references }) p.writes.table_is
+      (λ slot. (λ still. still, refl)) alone
   keeps-alone (to_publish r key height ∷ below) (Action.Publish i k h) (is, same_key, same_height, t) alone =
       changed-alone n s.shelf s'.shelf (identity_of r) (with_outcome (published key height)) t.table_is
       (λ slot. (λ still. (outcome-keeps (published key height) slot).0 still (λ e. absurd (cc)), (outcome-keeps (published key height) slot).1)) alone
   keeps-alone (to_fail fault back ∷ below) Action.Fail (back_is, table_is, list_is) alone = failed-alone n n s.shelf s'.shelf table_is alone
-  keeps-alone (to_start r place ∷ below) (Action.Claim i (Ok (Claim.Known key height))) (is, c) alone = same-alone n s.shelf s'.shelf c.finds.1.2.table_is.slots alone
+  keeps-alone (to_start r place ∷ below) (Action.Claim i (Ok (Claim.Known key height))) (is, c) alone =
+      same-alone n s.shelf s'.shelf c.finds.1.2.table_is.slots alone
   keeps-alone (to_start r place ∷ below) (Action.Claim i (Ok Claim.Waiting)) (is, c) alone = same-alone n s.shelf s'.shelf c.finds.1.2.table_is.slots alone
-  keeps-alone (to_start r place ∷ below) (Action.Claim i (Ok Claim.AlreadyFailed)) (is, c) alone = same-alone n s.shelf s'.shelf c.finds.1.2.table_is.slots alone
+  keeps-alone (to_start r place ∷ below) (Action.Claim i (Ok Claim.AlreadyFailed)) (is, c) alone =
+      same-alone n s.shelf s'.shelf c.finds.1.2.table_is.slots alone
   keeps-alone (to_start r place ∷ below) (Action.Claim i (Err e)) (is, c) alone = same-alone n s.shelf s'.shelf c.refused.1.table_is.slots alone
   keeps-alone (to_pin r place ∷ below) (Action.Pin i (Ok (PinStep.Held k))) (is, p) alone = same-alone n s.shelf s'.shelf p.pins.2.table_stays.slots alone
   keeps-alone (to_pin r place ∷ below) (Action.Pin i (Ok (PinStep.LoadBegun l))) (is, p) alone = same-alone n s.shelf s'.shelf p.pins.2.table_stays.slots alone
   keeps-alone (to_pin r place ∷ below) (Action.Pin i (Ok PinStep.LoadWent)) (is, p) alone = absurd p.pins
   keeps-alone (to_pin r place ∷ below) (Action.Pin i (Err e)) (is, p) alone = same-alone n s.shelf s'.shelf p.refused.1.table_stays.slots alone
-  keeps-alone (to_load r place through reading ∷ below) (Action.Pin i (Ok (PinStep.Held k))) (is, p) alone = same-alone n s.shelf s'.shelf p.goes.1.table_stays.slots alone
+  keeps-alone (to_load r place through reading ∷ below) (Action.Pin i (Ok (PinStep.Held k))) (is, p) alone =
+      same-alone n s.shelf s'.shelf p.goes.1.table_stays.slots alone
   keeps-alone (to_load r place through reading ∷ below) (Action.Pin i (Ok (PinStep.LoadBegun l))) (is, p) alone = absurd p.goes
-  keeps-alone (to_load r place through reading ∷ below) (Action.Pin i (Ok PinStep.LoadWent)) (is, p) alone = same-alone n s.shelf s'.shelf p.goes.2.table_stays.slots alone
+  keeps-alone (to_load r place through reading ∷ below) (Action.Pin i (Ok PinStep.LoadWent)) (is, p) alone =
+      same-alone n s.shelf s'.shelf p.goes.2.table_stays.slots alone
   keeps-alone (to_load r place through reading ∷ below) (Action.Pin i (Err e)) (is, p) alone = same-alone n s.shelf s'.shelf p.refused.1.table_stays.slots alone
   keeps-alone (to_write r place through ∷ below) (Action.Write i (Err e)) (is, p) alone = same-alone n s.shelf s'.shelf p.refused.1.table_is.slots alone
   keeps-alone (to_finish o ∷ below) (Action.Store i (Ok key)) (is, p) alone = same-alone n s.shelf s'.shelf p.goes.table_stays.slots alone
@@ -486,56 +647,78 @@ module _ {N B W : Type 0} (m : Seen N B W) (n : ℕ) (s s' : Site) where
   keeps-alone (to_release r key height ∷ below) (Action.Release i) (is, falls, t) alone = same-alone n s.shelf s'.shelf t.table_stays.slots alone
   keeps-alone todo step does alone = grind (arith, nat_tests)
 
-module _ {X XN XH XK XV : Type 0} {g : Environments X XN XH XK XV} {gh : Hashes XH} {go : Orders XK} {gq : Equalities XK} {gp : PartialOrders XK} {gn : Nodes XN X XN XH XK XV} {N E : Type 0} (v : Values N) (me : Owner) (n : ℕ) (shelf : Shelf) where
+module _ {X XN XH XK XV : Type 0} {g : Environments X XN XH XK XV} {gh : Hashes XH} {go : Orders XK} {gq : Equalities XK} {gp : PartialOrders XK}
+    {gn : Nodes XN X XN XH XK XV} {N E : Type 0} (v : Values N) (me : Owner) (n : ℕ) (shelf : Shelf) where
   -- a worker that is alone waits for nobody
-  none-waits : (r : ArcRef) (place : ℕ) (below after : List Todo) (mid : Shelf) (moved : StepResult X XN XH XK XV g gh go gq gp gn) (s t : PagerState N E) → is_waiting moved.action ≡ true → Stepped v n shelf (to_start r place ∷ below) s mid moved after t → IsAlone n shelf → ⊥
+  none-waits : (r : ArcRef) (place : ℕ) (below after : List Todo) (mid : Shelf) (moved : StepResult X XN XH XK XV g gh go gq gp gn) (s t : PagerState N E)
+      → is_waiting moved.action ≡ true → Stepped v n shelf (to_start r place ∷ below) s mid moved after t → IsAlone n shelf → ⊥
   none-waits r place below after mid moved s t waits st alone = by (plain_took moved.action) (waits-plain moved.action waits) st.does.does.does
     where
       waits-plain : (action : Action (Arc SerializedData Global)) → is_waiting action ≡ true → is_waiting (plain_took action) ≡ true
       waits-plain action is = grind (arith, nat_tests)
 
-      by : (action : Action Written) → is_waiting action ≡ true → Does (plain v) n (site s.core shelf (to_start r place ∷ below)) (to_start r place ∷ below) action st.does.after → ⊥
+      by : (action : Action Written) → is_waiting action ≡ true → Does (plain v) n (site s.core shelf (to_start r place ∷ below))
+          (to_start r place ∷ below) action st.does.after → ⊥
       by (Action.Claim i (Ok Claim.Waiting)) is (at, c) =
-          let (slot, still, ends) = c.finds.1.1 in let own : slot.worker ≡ n = alone (identity_of r) slot still in let other = other-ends ends in grind (arith, nat_tests)
+          let (slot, still, ends) = c.finds.1.1 in let own : slot.worker ≡ n = alone (identity_of r) slot still in let other =
+          other-ends ends in grind (arith, nat_tests)
       by action is does = grind (arith, nat_tests)
 
-  pub waits-alone : (r : ArcRef) (place : ℕ) (below after last : List Todo) (mid shelf' : Shelf) (moved : StepResult X XN XH XK XV g gh go gq gp gn) (e : Error) (task : Task X XN XH XK XV g gh go gq gp gn) (s t u : PagerState N E) → is_waiting moved.action ≡ true
+  pub waits-alone : (r : ArcRef) (place : ℕ) (below after last : List Todo) (mid shelf' : Shelf) (moved : StepResult X XN XH XK XV g gh go gq gp gn) (e : Error)
+      (task : Task X XN XH XK XV g gh go gq gp gn) (s t u : PagerState N E) → is_waiting moved.action ≡ true
       → StepsTo v me n shelf (Task.Start r place) below mid moved after s t
-      → StepsAlone v me n shelf (Task.Start r place) below shelf' (record { action = Action.Claim (identity_of r) (Err e); turn = Turn.Goes task; counted = true }) last s u
-  waits-alone r place below after last mid shelf' moved e task s t u waits step = record { steps = λ alone. record { steps = λ f. absurd (none-waits r place below after mid moved s t waits (step.steps f) alone); counts = refl } }
+      → StepsAlone v me n shelf (Task.Start r place) below shelf' (record {
+        action = Action.Claim (identity_of r) (Err e);
+        turn = Turn.Goes task;
+        counted = true;
+      }) last s u
+  waits-alone r place below after last mid shelf' moved e task s t u waits step =
+      record { steps = λ alone. record { steps = λ f. absurd (none-waits r place below after mid moved s t waits (step.steps f) alone); counts = refl } }
 
-  pub steps-alone : (task : Task X XN XH XK XV g gh go gq gp gn) (below after : List Todo) (shelf' : Shelf) (moved : StepResult X XN XH XK XV g gh go gq gp gn) (s t : PagerState N E) → StepsTo v me n shelf task below shelf' moved after s t → StepsAlone v me n shelf task below shelf' moved after s t
+  pub steps-alone : (task : Task X XN XH XK XV g gh go gq gp gn) (below after : List Todo) (shelf' : Shelf) (moved : StepResult X XN XH XK XV g gh go gq gp gn)
+      (s t : PagerState N E) → StepsTo v me n shelf task below shelf' moved after s t → StepsAlone v me n shelf task below shelf' moved after s t
   steps-alone task below after shelf' moved s t step = record { steps = λ alone. step }
 
-module _ {X XN XH XK XV : Type 0} {g : Environments X XN XH XK XV} {gh : Hashes XH} {go : Orders XK} {gq : Equalities XK} {gp : PartialOrders XK} {gn : Nodes XN X XN XH XK XV} {N E : Type 0} (v : Values N) (me : Owner) (n : ℕ) (shelf : Shelf) (first : Task X XN XH XK XV g gh go gq gp gn) (below : List Todo) where
+module _ {X XN XH XK XV : Type 0} {g : Environments X XN XH XK XV} {gh : Hashes XH} {go : Orders XK} {gq : Equalities XK} {gp : PartialOrders XK}
+    {gn : Nodes XN X XN XH XK XV} {N E : Type 0} (v : Values N) (me : Owner) (n : ℕ) (shelf : Shelf) (first : Task X XN XH XK XV g gh go gq gp gn)
+    (below : List Todo) where
   pub none-walked : (s : PagerState N E) → HasWalked v me n shelf first below shelf first below s s
   none-walked s = record { fits = λ f alone. f; alone = λ f alone. alone; then = λ f alone answer u shelf' w. w }
 
-  module _ (now_shelf next_shelf : Shelf) (now : Task X XN XH XK XV g gh go gq gp gn) (now_below after : List Todo) (moved : StepResult X XN XH XK XV g gh go gq gp gn) where
-    pub goes-walked : (next : Task X XN XH XK XV g gh go gq gp gn) (next_below : List Todo) → moved.turn ≡ Turn.Goes next → after ≡ todo_of next ∷ next_below → (s mid t : PagerState N E) → HasWalked v me n shelf first below now_shelf now now_below s mid
+  module _ (now_shelf next_shelf : Shelf) (now : Task X XN XH XK XV g gh go gq gp gn) (now_below after : List Todo)
+      (moved : StepResult X XN XH XK XV g gh go gq gp gn) where
+    pub goes-walked : (next : Task X XN XH XK XV g gh go gq gp gn) (next_below : List Todo) → moved.turn ≡ Turn.Goes next → after ≡ todo_of next ∷ next_below
+        → (s mid t : PagerState N E) → HasWalked v me n shelf first below now_shelf now now_below s mid
         → StepsAlone v me n now_shelf now now_below next_shelf moved after mid t
         → HasWalked v me n shelf first below next_shelf next next_below s t
     goes-walked next next_below goes is s mid t walked step = record {
-      fits = λ f alone. let st = (step.steps (walked.alone f alone)).steps (walked.fits f alone) in record { me_is = f.me_is; whole = st.does.whole; task_fits = subst (LeavesFit n t.core) goes st.fits };
+      fits = λ f alone. let st = (step.steps (walked.alone f alone)).steps (walked.fits f alone) in
+          record { me_is = f.me_is; whole = st.does.whole; task_fits = subst (LeavesFit n t.core) goes st.fits };
       alone = λ f alone.
           let now_alone = walked.alone f alone in let st = (step.steps now_alone).steps (walked.fits f alone) in
           same-alone n st.does.after.shelf next_shelf st.does.shelf_is.slots
-          (keeps-alone (plain v) n (site mid.core now_shelf (todo_of now ∷ now_below)) st.does.after (todo_of now ∷ now_below) (plain_took moved.action) st.does.does.does now_alone);
+          (keeps-alone (plain v) n (site mid.core now_shelf (todo_of now ∷ now_below)) st.does.after (todo_of now ∷ now_below)
+          (plain_took moved.action) st.does.does.does now_alone);
       then = λ f alone answer u shelf' w.
           let st = (step.steps (walked.alone f alone)).steps (walked.fits f alone) in
           walked.then f alone answer u shelf' (record {
             steps = plain_took moved.action ∷ w.steps;
             run = worker-goes-on (todo_of now ∷ now_below) (todo_of next ∷ next_below) (plain_took moved.action) w.steps answer _ _ _
-                (subst (λ todo. WalkStep (plain v) n (todo_of now ∷ now_below) (record { pager = mid; shelf = now_shelf }) (plain_took moved.action) todo (record { pager = t; shelf = next_shelf })) is st.does) (st.answers ∙ ap answer_in goes) w.run;
+                (subst (λ todo. WalkStep (plain v) n (todo_of now ∷ now_below) (record { pager = mid; shelf = now_shelf }) (plain_took moved.action) todo
+                (record { pager = t; shelf = next_shelf })) is st.does) (st.answers ∙ ap answer_in goes) w.run;
           });
     }
 
-    pub ends-walked : (answer : WorkerAnswer) → moved.turn ≡ Turn.Answers answer → (s mid t : PagerState N E) → HasWalked v me n shelf first below now_shelf now now_below s mid → StepsAlone v me n now_shelf now now_below next_shelf moved after mid t
+    pub ends-walked : (answer : WorkerAnswer) → moved.turn ≡ Turn.Answers answer → (s mid t : PagerState N E)
+        → HasWalked v me n shelf first below now_shelf now now_below s mid → StepsAlone v me n now_shelf now now_below next_shelf moved after mid t
         → RunsTo v me n shelf first below next_shelf answer s t
     ends-walked answer ends s mid t walked step = record {
       runs = λ f alone.
           let st = (step.steps (walked.alone f alone)).steps (walked.fits f alone) in
-          walked.then f alone answer t next_shelf (record { steps = plain_took moved.action ∷ []; run = worker-ends (todo_of now ∷ now_below) after (plain_took moved.action) answer _ _ st.does (st.answers ∙ ap answer_in ends) });
+          walked.then f alone answer t next_shelf (record {
+            steps = plain_took moved.action ∷ [];
+            run = worker-ends (todo_of now ∷ now_below) after (plain_took moved.action) answer _ _ st.does (st.answers ∙ ap answer_in ends);
+          });
     }
 
 pub ruleset joining = (nat_tests, acts_all, acts_on, none-walked, goes-walked, ends-walked)

@@ -66,11 +66,14 @@ pub same-identity : (i j : Identity) → is_same (i.kind.0, i.node.0) (j.kind.0,
 same-identity i j h = grind (arith, nat_tests, common_steps, same-numbers)
 
 -- what waits at one number, and at the others
-pub wait-is : {T : Type 0} (old new : IndexMap ℕ Identity T) (v : ℕ) (w : Option Identity) → ((q : ℕ) → get nat_eq new q ≡ cond (nat_eq v q) w (get nat_eq old q)) → SameAt (updated v w (λ q. get nat_eq old q)) (λ q. get nat_eq new q)
+pub wait-is : {T : Type 0} (old new : IndexMap ℕ Identity T) (v : ℕ) (w : Option Identity)
+    → ((q : ℕ) → get nat_eq new q ≡ cond (nat_eq v q) w (get nat_eq old q)) → SameAt (updated v w (λ q. get nat_eq old q)) (λ q. get nat_eq new q)
 wait-is old new v w h q = h q ∙ ap (λ b. cond b w (get nat_eq old q)) (eq-sym v q)
 
-module _ {E EN EH EK EV : Type 0} {g : Environments E EN EH EK EV} {gh : Hashes EH} {go : Orders EK} {gq : Equalities EK} {gp : PartialOrders EK} {gn : Nodes EN E EN EH EK EV} where
-  module _ {S : Type 0} (old new : IndexMap (ℕ × ℕ) (LentSlot E EN EH EK EV g gh go gq gp gn) S) (i : Identity) (s : LentSlot E EN EH EK EV g gh go gq gp gn) (h : (q : ℕ × ℕ) → get is_same new q ≡ cond (is_same (i.kind.0, i.node.0) q) (Some s) (get is_same old q)) where
+module _ {E EN EH EK EV : Type 0} {g : Environments E EN EH EK EV} {gh : Hashes EH} {go : Orders EK} {gq : Equalities EK} {gp : PartialOrders EK}
+    {gn : Nodes EN E EN EH EK EV} where
+  module _ {S : Type 0} (old new : IndexMap (ℕ × ℕ) (LentSlot E EN EH EK EV g gh go gq gp gn) S) (i : Identity) (s : LentSlot E EN EH EK EV g gh go gq gp gn)
+      (h : (q : ℕ × ℕ) → get is_same new q ≡ cond (is_same (i.kind.0, i.node.0) q) (Some s) (get is_same old q)) where
     pub slot-is : (x : Slot) → slot_of s ≡ x → SlotIs (slots_in old) i (Some x) (slots_in new)
     slot-is x e j = grind (arith, nat_tests, common_steps, same-as)
 
@@ -93,7 +96,8 @@ module _ (s s' : Shelf) (h : (u w : ℕ) → waits_for s' u ≡ Some w → (wait
   each-ends ends u = ∥∥₁_map (ends u) ends-still
 
 -- slots that get an outcome
-pub less-open : (s s' : Shelf) → ((i : Identity) (w : ℕ) → open_worker (s'.slots i) ≡ Some w → open_worker (s.slots i) ≡ Some w) → SameAt s.waits s'.waits → EachEnds s → EachEnds s'
+pub less-open : (s s' : Shelf) → ((i : Identity) (w : ℕ) → open_worker (s'.slots i) ≡ Some w → open_worker (s.slots i) ≡ Some w) → SameAt s.waits s'.waits
+    → EachEnds s → EachEnds s'
 less-open s s' h same = each-ends s s' (λ u w e. let waits = same u in inl (grind (arith, nat_tests, h)))
 
 -- one that doesn't wait any more
@@ -116,25 +120,31 @@ module _ (s s' : Shelf) (v : ℕ) (i : Identity) (same : SameShelf (with_wait s 
 
   end-later : {u : ℕ} → ComesToEnd s v u → Ends s' u
   end-later (works u d e) = ends-at u (λ w n. let f = was-for u w d n in absurd (none-some w (ap (if_there (λ j. open_worker (s.slots j)) None) (sym e) ∙ f)))
-  end-later (may-go-on u j d e o) = ends-at u (λ w n. let f = was-for u w d n in absurd (closed (s.slots j) o w (ap (if_there (λ k. open_worker (s.slots k)) None) (sym e) ∙ f)))
+  end-later (may-go-on u j d e o) = ends-at u (λ w n. let f = was-for u w d n in
+      absurd (closed (s.slots j) o w (ap (if_there (λ k. open_worker (s.slots k)) None) (sym e) ∙ f)))
   end-later (waits-on u j slot d e o c) = ends-at u (λ w n. grind (arith, nat_tests, was-for u w d n, same_some, open-is, end-later c))
 
   pub waiting : (slot : Slot) → IsOpenSlot s i slot → ComesToEnd s v slot.worker → EachEnds s → EachEnds s'
-  waiting slot o c = each-ends s s' (λ u w e. let waits = same.waits u in let later = end-later c in grind (arith, nat_tests, same.slots, was-for, same_some, open-is))
+  waiting slot o c = each-ends s s' (λ u w e. let waits = same.waits u in let later = end-later c in
+      grind (arith, nat_tests, same.slots, was-for, same_some, open-is))
 
 -- no worker waits
 pub no-waits : (s : Shelf) → ((v : ℕ) → s.waits v ≡ None) → EachEnds s
 no-waits s h u = merely (ends-at u (λ w e. absurd (none-some w (ap (if_there (λ j. open_worker (s.slots j)) None) (sym (h u)) ∙ e))))
 
 -- a slot that changes and doesn't come to be without a result
-module _ (old new : Identity → Option Slot) (i : Identity) (f : Slot → Slot) (h : (x : Slot) (w : ℕ) → open_worker (Some (f x)) ≡ Some w → open_worker (Some x) ≡ Some w) (is : Changes f old i new) where
+module _ (old new : Identity → Option Slot) (i : Identity) (f : Slot → Slot)
+    (h : (x : Slot) (w : ℕ) → open_worker (Some (f x)) ≡ Some w → open_worker (Some x) ≡ Some w) (is : Changes f old i new) where
   pub changed-less : (j : Identity) (w : ℕ) → open_worker (new j) ≡ Some w → open_worker (old j) ≡ Some w
   changed-less j w e = grind (arith, nat_tests, same-identity, same-as, h)
 
-module _ {E EN EH EK EV : Type 0} {g : Environments E EN EH EK EV} {gh : Hashes EH} {go : Orders EK} {gq : Equalities EK} {gp : PartialOrders EK} {gn : Nodes EN E EN EH EK EV} {S T : Type 0} (old new : IndexMap (ℕ × ℕ) (LentSlot E EN EH EK EV g gh go gq gp gn) S) (waits : IndexMap ℕ Identity T) (i : Identity) (s was : LentSlot E EN EH EK EV g gh go gq gp gn) (f : Slot → Slot) where
+module _ {E EN EH EK EV : Type 0} {g : Environments E EN EH EK EV} {gh : Hashes EH} {go : Orders EK} {gq : Equalities EK} {gp : PartialOrders EK}
+    {gn : Nodes EN E EN EH EK EV} {S T : Type 0} (old new : IndexMap (ℕ × ℕ) (LentSlot E EN EH EK EV g gh go gq gp gn) S) (waits : IndexMap ℕ Identity T)
+    (i : Identity) (s was : LentSlot E EN EH EK EV g gh go gq gp gn) (f : Slot → Slot) where
   pub changed-table : ((q : ℕ × ℕ) → get is_same new q ≡ cond (is_same (i.kind.0, i.node.0) q) (Some s) (get is_same old q))
       → Some was ≡ get is_same old (i.kind.0, i.node.0) → slot_of s ≡ f (slot_of was)
-      → ((x : Slot) (w : ℕ) → open_worker (Some (f x)) ≡ Some w → open_worker (Some x) ≡ Some w) → (IsNamed i was → IsNamed i s) → AreNamed old → EachEnds (shelf_in old waits)
+      → ((x : Slot) (w : ℕ) → open_worker (Some (f x)) ≡ Some w → open_worker (Some x) ≡ Some w) → (IsNamed i was → IsNamed i s) → AreNamed old
+      → EachEnds (shelf_in old waits)
       → AreNamed new × EachEnds (shelf_in new waits)
   changed-table h at e less named own ends =
       let is = changed-is old new i s h was at f e in (
@@ -143,7 +153,8 @@ module _ {E EN EH EK EV : Type 0} {g : Environments E EN EH EK EV} {gh : Hashes 
       )
 
 -- a slot that gets an outcome
-pub outcome-less : (o : Outcome) → is_open_outcome o ≡ false → (x : Slot) (w : ℕ) → open_worker (Some (with_outcome o x)) ≡ Some w → open_worker (Some x) ≡ Some w
+pub outcome-less : (o : Outcome) → is_open_outcome o ≡ false → (x : Slot) (w : ℕ) → open_worker (Some (with_outcome o x)) ≡ Some w → open_worker (Some x)
+    ≡ Some w
 outcome-less o h x w e = grind (arith, nat_tests)
 
 -- ---- how many waits lead on from a worker
@@ -169,7 +180,8 @@ module _ (s : Shelf) where
 
   pub how-long : EachEnds s → (u : ℕ) → (n : ℕ) × ∥ Long s n u ∥₁
   how-long ends u =
-      let one : (x y : (n : ℕ) × ∥ Long s n u ∥₁) → x ≡ y = λ x y. Σ_prop_path (λ n. ∥∥₁_prop) (∥∥₁_elim x.1 (ℕ_set _ _) (λ a. ∥∥₁_elim y.1 (ℕ_set _ _) (λ b. same-long x.0 y.0 u a b))) in
+      let one : (x y : (n : ℕ) × ∥ Long s n u ∥₁) → x ≡ y = λ x y. Σ_prop_path (λ n. ∥∥₁_prop)
+      (∥∥₁_elim x.1 (ℕ_set _ _) (λ a. ∥∥₁_elim y.1 (ℕ_set _ _) (λ b. same-long x.0 y.0 u a b))) in
       ∥∥₁_elim (ends u) one (λ e. let l = long e in (l.0, ∣ l.1 ∣₁))
 
   -- fewer than from one that waits for it
@@ -182,19 +194,28 @@ module _ (s : Shelf) where
 
 -- ---- what a worker's failure makes of its claims, one row after another
 
-module _ {E EN EH EK EV : Type 0} {g : Environments E EN EH EK EV} {gh : Hashes EH} {go : Orders EK} {gq : Equalities EK} {gp : PartialOrders EK} {gn : Nodes EN E EN EH EK EV} (v : ℕ) where
+module _ {E EN EH EK EV : Type 0} {g : Environments E EN EH EK EV} {gh : Hashes EH} {go : Orders EK} {gq : Equalities EK} {gp : PartialOrders EK}
+    {gn : Nodes EN E EN EH EK EV} (v : ℕ) where
   -- the next row is failed; or there is none
-  pub row-fails : (n : ℕ) (first rows : List ((ℕ × ℕ) × LentSlot E EN EH EK EV g gh go gq gp gn)) (s w : LentSlot E EN EH EK EV g gh go gq gp gn) → slice_get (values_of rows) n ≡ Some s → slot_of w ≡ failed_by v (slot_of s) → ((i : Identity) → IsNamed i s → IsNamed i w)
+  pub row-fails : (n : ℕ) (first rows : List ((ℕ × ℕ) × LentSlot E EN EH EK EV g gh go gq gp gn)) (s w : LentSlot E EN EH EK EV g gh go gq gp gn)
+      → slice_get (values_of rows) n ≡ Some s → slot_of w ≡ failed_by v (slot_of s) → ((i : Identity) → IsNamed i s → IsNamed i w)
       → FailedTo v n first rows → FailedTo v (suc n) first (set_value_at rows n w)
   row-fails zero (e ∷ es) (m ∷ ms) s w at is own h =
       let same : m ≡ e = cc in
       let rest : ms ≡ es = cc in
-      let here : s ≡ e.1 = sym (same_some _ _ at) ∙ ap (λ (x : (ℕ × ℕ) × LentSlot E EN EH EK EV g gh go gq gp gn). x.1) same in
-      (record { key = ap (λ (x : (ℕ × ℕ) × LentSlot E EN EH EK EV g gh go gq gp gn). x.0) same; slot = is ∙ ap (λ x. failed_by v (slot_of x)) here; own = λ i named. own i (subst (IsNamed i) (sym here) named) }, rest)
+      let here : s ≡ e.1 = sym (same_some _ _ at) ∙ ap (λ (x : (ℕ × ℕ) × LentSlot E EN EH EK EV g gh go gq gp gn). x.1) same in (
+        record {
+          key = ap (λ (x : (ℕ × ℕ) × LentSlot E EN EH EK EV g gh go gq gp gn). x.0) same;
+          slot = is ∙ ap (λ x. failed_by v (slot_of x)) here;
+          own = λ i named. own i (subst (IsNamed i) (sym here) named);
+        },
+        rest,
+      )
   row-fails (suc n) (e ∷ es) (m ∷ ms) s w at is own (row, rest) = (row, row-fails n es ms s w at is own rest)
   row-fails n first rows s w at is own h = grind (arith, nat_tests, none-some)
 
-  pub no-row : (n : ℕ) (first rows : List ((ℕ × ℕ) × LentSlot E EN EH EK EV g gh go gq gp gn)) → slice_get (values_of rows) n ≡ None → FailedTo v n first rows → FailedTo v (suc n) first rows
+  pub no-row : (n : ℕ) (first rows : List ((ℕ × ℕ) × LentSlot E EN EH EK EV g gh go gq gp gn)) → slice_get (values_of rows) n ≡ None → FailedTo v n first rows
+      → FailedTo v (suc n) first rows
   no-row (suc n) (e ∷ es) (m ∷ ms) none (row, rest) = (row, no-row n es ms none rest)
   no-row n first rows none h = grind (arith, nat_tests, none-some)
 
@@ -205,16 +226,20 @@ module _ {E EN EH EK EV : Type 0} {g : Environments E EN EH EK EV} {gh : Hashes 
   all-failed zero (e ∷ es) rows q many h = absurd (omega (arith, many))
   all-failed (suc n) [] rows q many h = rw h refl
   all-failed (suc n) (e ∷ es) [] q many h = absurd h
-  all-failed (suc n) (e ∷ es) (f ∷ fs) q many (row, rest) = let more = all-failed n es fs q (omega (arith, many)) rest in rw row.key (grind (arith, nat_tests, row.slot, more))
+  all-failed (suc n) (e ∷ es) (f ∷ fs) q many (row, rest) = let more = all-failed n es fs q (omega (arith, many)) rest in
+      rw row.key (grind (arith, nat_tests, row.slot, more))
 
-  pub still-named : (n : ℕ) (first rows : List ((ℕ × ℕ) × LentSlot E EN EH EK EV g gh go gq gp gn)) (i : Identity) (q : ℕ × ℕ) → FailedTo v n first rows → ((s : LentSlot E EN EH EK EV g gh go gq gp gn) → lookup (is_same q) first ≡ Some s → IsNamed i s)
+  pub still-named : (n : ℕ) (first rows : List ((ℕ × ℕ) × LentSlot E EN EH EK EV g gh go gq gp gn)) (i : Identity) (q : ℕ × ℕ) → FailedTo v n first rows
+      → ((s : LentSlot E EN EH EK EV g gh go gq gp gn) → lookup (is_same q) first ≡ Some s → IsNamed i s)
       → (s : LentSlot E EN EH EK EV g gh go gq gp gn) → lookup (is_same q) rows ≡ Some s → IsNamed i s
   still-named zero first rows i q h named s there = named s (sym (ap (lookup (is_same q)) h) ∙ there)
   still-named (suc n) [] rows i q h named s there = absurd (none-some s (sym (ap (lookup (is_same q)) h) ∙ there))
   still-named (suc n) (e ∷ es) [] i q h named s there = absurd h
-  still-named (suc n) (e ∷ es) (f ∷ fs) i q (row, rest) named s there = by (still-named n es fs i q rest) (is_same q e.0) refl (sym (ap (λ k. cond (is_same q k) (Some f.1) (lookup (is_same q) fs)) row.key) ∙ there)
+  still-named (suc n) (e ∷ es) (f ∷ fs) i q (row, rest) named s there = by (still-named n es fs i q rest) (is_same q e.0) refl
+      (sym (ap (λ k. cond (is_same q k) (Some f.1) (lookup (is_same q) fs)) row.key) ∙ there)
     where
-      by : (((x : LentSlot E EN EH EK EV g gh go gq gp gn) → lookup (is_same q) es ≡ Some x → IsNamed i x) → (x : LentSlot E EN EH EK EV g gh go gq gp gn) → lookup (is_same q) fs ≡ Some x → IsNamed i x)
+      by : (((x : LentSlot E EN EH EK EV g gh go gq gp gn) → lookup (is_same q) es ≡ Some x → IsNamed i x) → (x : LentSlot E EN EH EK EV g gh go gq gp gn)
+          → lookup (is_same q) fs ≡ Some x → IsNamed i x)
           → (b : Bool) → is_same q e.0 ≡ b → cond b (Some f.1) (lookup (is_same q) fs) ≡ Some s → IsNamed i s
       by more true at is = subst (IsNamed i) (same_some _ _ is) (row.own i (named e.1 (ap (λ b. cond b (Some e.1) (lookup (is_same q) es)) at)))
       by more false at is = more (λ x was. named x (ap (λ b. cond b (Some e.1) (lookup (is_same q) es)) at ∙ was)) s is

@@ -13,11 +13,13 @@ both (Some s) None = None
 both (Some s) (Some q) = Some (s, q)
 
 -- What is done to the state of an access and to that of a table, if both are told; and as whom the access acts afterwards.
-pub record ActsBoth {A T S Q E : Type 0} (told : A → Option S) (by : A → Acting E) (shelf : T → Option Q) (a : A) (t : T) (a' : A) (t' : T) (after : Acting E → Acting E) (does : Acting E → S → Q → S → Q → Type 0) : Type 0 where
+pub record ActsBoth {A T S Q E : Type 0} (told : A → Option S) (by : A → Acting E) (shelf : T → Option Q) (a : A)
+    (t : T) (a' : A) (t' : T) (after : Acting E → Acting E) (does : Acting E → S → Q → S → Q → Type 0) : Type 0 where
   pub step : Told (both (told a) (shelf t)) (both (told a') (shelf t')) (λ st st'. does (by a) st.0 st.1 st'.0 st'.1)
   pub acting : by a' ≡ after (by a)
 
-module _ {E EN EH EK EV : Type 0} {g : Environments E EN EH EK EV} {gh : Hashes EH} {go : Orders EK} {gq : Equalities EK} {gp : PartialOrders EK} {gn : Nodes EN E EN EH EK EV} where
+module _ {E EN EH EK EV : Type 0} {g : Environments E EN EH EK EV} {gh : Hashes EH} {go : Orders EK}
+    {gq : Equalities EK} {gp : PartialOrders EK} {gn : Nodes EN E EN EH EK EV} where
   -- what was found fits at this place on a path
   abbrev pub IsNear : ℕ → ClaimResult E EN EH EK EV g gh go gq gp gn → Type 0
   IsNear place ClaimResult.Claimed = place ≤ longest_path

@@ -14,23 +14,28 @@ seen_as_failure (Ok u) = Ok u
 seen_as_failure (Err e) = Err (answer_of_fault (fault_of e))
 
 -- if the pager is whole and each claim of the table has a result, the item is paged out
-pub record PagesItem {N E : Type 0} (v : Values N) (shelf : Shelf) (item : Written) (shelf' : Shelf) (answer : WorkerAnswer) (s t : PagerState N E) : Type 0 where
-  pub over : WellFormed v s → AllHaveResults shelf → PagesOutItemOver (plain v) (record { pager = s; shelf = shelf }) item answer (record { pager = t; shelf = shelf' })
+pub record PagesItem {N E : Type 0} (v : Values N) (shelf : Shelf) (item : Written) (shelf' : Shelf)
+    (answer : WorkerAnswer) (s t : PagerState N E) : Type 0 where
+  pub over : WellFormed v s → AllHaveResults shelf → PagesOutItemOver (plain v) (record { pager = s; shelf = shelf })
+      item answer (record { pager = t; shelf = shelf' })
 
 -- if the pager is whole, the entries that are in the list at the call are paged out
-pub record PagesList {N E : Type 0} (v : Values N) (answer : Result (Unit {0}) PageOutError) (s t : PagerState N E) : Type 0 where
+pub record PagesList {N E : Type 0} (v : Values N) (answer : Result (Unit {0}) PageOutError)
+    (s t : PagerState N E) : Type 0 where
   pub over : WellFormed v s → ListRun (plain v) (length s.core.list) s (seen_as_failure answer) t
 
 -- the entry at a place of the list is paged out, on a table of its own, where no claim has failed
-pub record EntryPaged {N E : Type 0} (v : Values N) (s : PagerState N E) (place : ℕ) (answer : WorkerAnswer) (t : PagerState N E) : Type 0 where
+pub record EntryPaged {N E : Type 0} (v : Values N) (s : PagerState N E) (place : ℕ) (answer : WorkerAnswer)
+    (t : PagerState N E) : Type 0 where
   pub run : EntryRun (plain v) s place answer t
   pub whole : WellFormed v t
   -- the entries before it stay
   pub long : place ≤ length t.core.list
   pub unfailed : answer ≡ WorkerAnswer.AlreadyFailed → ⊥
 
-pub record PagesEntry {N E : Type 0} (v : Values N) (place : ℕ) (answer : WorkerAnswer) (s t : PagerState N E) : Type 0 where
-  pub pages : WellFormed v s → place < length s.core.list → EntryPaged v s place answer t
+pub record PagesEntry {N E : Type 0} (v : Values N) (place : ℕ) (answer : WorkerAnswer) (s t : PagerState N E) : Type 0
+  where
+    pub pages : WellFormed v s → place < length s.core.list → EntryPaged v s place answer t
 
 -- the answer for an entry that was there
 abbrev pub there : Result ℕ PageOutError → Result (Option ℕ) PageOutError
@@ -38,23 +43,29 @@ there (Ok key) = Ok (Some key)
 there (Err why) = Err why
 
 -- the entry at a place is paged out, or there is none
-abbrev pub PagesEntryIfThere : {N E : Type 0} → Values N → ℕ → Result (Option ℕ) PageOutError → PagerState N E → PagerState N E → Type 0
+abbrev pub PagesEntryIfThere : {N E : Type 0} → Values N → ℕ → Result (Option ℕ) PageOutError → PagerState N E
+    → PagerState N E → Type 0
 PagesEntryIfThere v place (Ok None) s t = length s.core.list ≤ place
 PagesEntryIfThere v place (Ok (Some key)) s t = PagesEntry v place (WorkerAnswer.Key key) s t
 PagesEntryIfThere v place (Err why) s t = PagesEntry v place (answer_of (Err why)) s t
 
 -- a run of the entries below this place continues from here as one from this place, or it ends here with a failure
-pub record PlaceDone {N E : Type 0} (v : Values N) (s : PagerState N E) (place : ℕ) (result : Result (Unit {0}) PageOutError) (t : PagerState N E) : Type 0 where
+pub record PlaceDone {N E : Type 0} (v : Values N) (s : PagerState N E) (place : ℕ)
+    (result : Result (Unit {0}) PageOutError) (t : PagerState N E) : Type 0 where
   pub whole : WellFormed v t
   pub long : place ≤ length t.core.list
-  pub goes : IfOk result (λ u. (i : ℕ) → i ≡ place + 1 → (answer : Result (Unit {0}) WorkerAnswer) (s' : PagerState N E) → ListRun (plain v) place t answer s' → ListRun (plain v) i s answer s')
-  pub stops : IfErr result (λ why. (i : ℕ) → i ≡ place + 1 → ListRun (plain v) i s (Err (answer_of_fault (fault_of why))) t)
+  pub goes : IfOk result (λ u. (i : ℕ) → i ≡ place + 1 → (answer : Result (Unit {0}) WorkerAnswer) (s' : PagerState N E)
+      → ListRun (plain v) place t answer s' → ListRun (plain v) i s answer s')
+  pub stops : IfErr result (λ why. (i : ℕ) → i ≡ place + 1
+      → ListRun (plain v) i s (Err (answer_of_fault (fault_of why))) t)
 
-pub record PagesAt {N E : Type 0} (v : Values N) (place : ℕ) (result : Result (Unit {0}) PageOutError) (s t : PagerState N E) : Type 0 where
+pub record PagesAt {N E : Type 0} (v : Values N) (place : ℕ) (result : Result (Unit {0}) PageOutError)
+    (s t : PagerState N E) : Type 0 where
   pub done : WellFormed v s → place < length s.core.list → PlaceDone v s place result t
 
 -- after some entries, a run of those that are left is a run of all
 pub record HasPaged {N E : Type 0} (v : Values N) (left : ℕ) (s t : PagerState N E) : Type 0 where
   pub whole : WellFormed v s → WellFormed v t
   pub long : WellFormed v s → left ≤ length t.core.list
-  pub then : WellFormed v s → (answer : Result (Unit {0}) WorkerAnswer) (u : PagerState N E) → ListRun (plain v) left t answer u → ListRun (plain v) (length s.core.list) s answer u
+  pub then : WellFormed v s → (answer : Result (Unit {0}) WorkerAnswer) (u : PagerState N E)
+      → ListRun (plain v) left t answer u → ListRun (plain v) (length s.core.list) s answer u

@@ -15,15 +15,21 @@ mutual
   -- the key is that of the form over the keys of one result for each of its references. So a table needs no value in
   -- memory.
   pub data ResultStands {N E : Type 0} (hash : List ℕ → List ℕ) (values : E → Values N) : Identity → ℕ → Type 0 where
-    stands-over : (i : Identity) (written : Written) (keys : List ℕ) → HasFormOf values i written → ResultsStand hash values written.references keys → ResultStands hash values i (key_of hash (blob_of written.bytes keys))
+    stands-over : (i : Identity) (written : Written) (keys : List ℕ) → HasFormOf values i written
+        → ResultsStand hash values written.references keys
+        → ResultStands hash values i (key_of hash (blob_of written.bytes keys))
 
   -- one such tree for each of these references, of its identity
-  pub data ResultsStand {N E : Type 0} (hash : List ℕ → List ℕ) (values : E → Values N) : List ArcRef → List ℕ → Type 0 where
+  pub data ResultsStand {N E : Type 0} (hash : List ℕ → List ℕ) (values : E → Values N) : List ArcRef → List ℕ
+      → Type 0 where
     no-results : ResultsStand hash values [] []
-    more-results : (r : ArcRef) (key : ℕ) (references : List ArcRef) (keys : List ℕ) → ResultStands hash values (identity_of r) key → ResultsStand hash values references keys → ResultsStand hash values (r ∷ references) (key ∷ keys)
+    more-results : (r : ArcRef) (key : ℕ) (references : List ArcRef) (keys : List ℕ)
+        → ResultStands hash values (identity_of r) key → ResultsStand hash values references keys
+        → ResultsStand hash values (r ∷ references) (key ∷ keys)
 
 -- The key is that of this data over the keys of results, one for each of its references.
-pub record IsOver {N E : Type 0} (hash : List ℕ → List ℕ) (values : E → Values N) (item : Written) (key : ℕ) : Type 0 where
+pub record IsOver {N E : Type 0} (hash : List ℕ → List ℕ) (values : E → Values N) (item : Written)
+    (key : ℕ) : Type 0 where
   pub keys : List ℕ
   pub below : ResultsStand hash values item.references keys
   pub key_is : key ≡ key_of hash (blob_of item.bytes keys)

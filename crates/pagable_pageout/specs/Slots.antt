@@ -16,10 +16,14 @@ is_same x y = nat_eq x.0 y.0 && nat_eq x.1 y.1
 abbrev pub written_of : SerializedData → Written
 written_of d = record { bytes = d.bytes.items; references = d.arcs.items }
 
-abbrev pub keys_of : {E EN EH EK EV : Type 0} {g : Environments E EN EH EK EV} {gh : Hashes EH} {go : Orders EK} {gq : Equalities EK} {gp : PartialOrders EK} {gn : Nodes EN E EN EH EK EV} → List (SlotResult E EN EH EK EV g gh go gq gp gn) → List ℕ
+abbrev pub keys_of : {E EN EH EK EV : Type 0} {g : Environments E EN EH EK EV} {gh : Hashes EH} {go : Orders EK}
+    {gq : Equalities EK} {gp : PartialOrders EK} {gn : Nodes EN E EN EH EK EV}
+    → List (SlotResult E EN EH EK EV g gh go gq gp gn) → List ℕ
 keys_of xs = map (λ r. r.key) xs
 
-abbrev pub ids_of : {E EN EH EK EV : Type 0} {g : Environments E EN EH EK EV} {gh : Hashes EH} {go : Orders EK} {gq : Equalities EK} {gp : PartialOrders EK} {gn : Nodes EN E EN EH EK EV} → List (SlotResult E EN EH EK EV g gh go gq gp gn) → List Identity
+abbrev pub ids_of : {E EN EH EK EV : Type 0} {g : Environments E EN EH EK EV} {gh : Hashes EH} {go : Orders EK}
+    {gq : Equalities EK} {gp : PartialOrders EK} {gn : Nodes EN E EN EH EK EV}
+    → List (SlotResult E EN EH EK EV g gh go gq gp gn) → List Identity
 ids_of xs = map (λ r. r.identity) xs
 
 -- a slot whose node was written with these references
@@ -36,27 +40,35 @@ after_failure v slot = if_there (λ (s : Slot). Some (failed_by v s)) None slot
 abbrev pub claimed_by : ℕ → Slot
 claimed_by v = record { worker = v; references = None; outcome = no_result }
 
-module _ {E EN EH EK EV : Type 0} {g : Environments E EN EH EK EV} {gh : Hashes EH} {go : Orders EK} {gq : Equalities EK} {gp : PartialOrders EK} {gn : Nodes EN E EN EH EK EV} where
+module _ {E EN EH EK EV : Type 0} {g : Environments E EN EH EK EV} {gh : Hashes EH} {go : Orders EK}
+    {gq : Equalities EK} {gp : PartialOrders EK} {gn : Nodes EN E EN EH EK EV} where
   abbrev pub outcome_of : Outcome E EN EH EK EV g gh go gq gp gn → world.Outcome
   outcome_of Outcome.Open = no_result
   outcome_of (Outcome.Published r) = published r.key r.height
   outcome_of Outcome.Failed = failed
 
   abbrev pub slot_of : LentSlot E EN EH EK EV g gh go gq gp gn → Slot
-  slot_of s = record { worker = s.worker.0; references = option_map (λ rs. rs.items) s.references; outcome = outcome_of s.outcome }
+  slot_of s = record {
+    worker = s.worker.0;
+    references = option_map (λ rs. rs.items) s.references;
+    outcome = outcome_of s.outcome;
+  }
 
   -- if the slot has a result, it is that of this identity, by its numbers
   abbrev pub IsNamed : Identity → LentSlot E EN EH EK EV g gh go gq gp gn → Type 0
-  IsNamed i s = (r : SlotResult E EN EH EK EV g gh go gq gp gn) → s.outcome ≡ Outcome.Published r → (r.identity.kind.0 ≡ i.kind.0) × (r.identity.node.0 ≡ i.node.0)
+  IsNamed i s = (r : SlotResult E EN EH EK EV g gh go gq gp gn) → s.outcome ≡ Outcome.Published r
+      → (r.identity.kind.0 ≡ i.kind.0) × (r.identity.node.0 ≡ i.node.0)
 
   module _ {S : Type 0} where
     abbrev pub slots_in : IndexMap (ℕ × ℕ) (LentSlot E EN EH EK EV g gh go gq gp gn) S → Identity → Option Slot
     slots_in slots i = option_map slot_of (get is_same slots (i.kind.0, i.node.0))
 
     abbrev pub AreNamed : IndexMap (ℕ × ℕ) (LentSlot E EN EH EK EV g gh go gq gp gn) S → Type 0
-    AreNamed slots = (i : Identity) (s : LentSlot E EN EH EK EV g gh go gq gp gn) → get is_same slots (i.kind.0, i.node.0) ≡ Some s → IsNamed i s
+    AreNamed slots = (i : Identity) (s : LentSlot E EN EH EK EV g gh go gq gp gn)
+        → get is_same slots (i.kind.0, i.node.0) ≡ Some s → IsNamed i s
 
-    abbrev pub shelf_in : {T : Type 0} → IndexMap (ℕ × ℕ) (LentSlot E EN EH EK EV g gh go gq gp gn) S → IndexMap ℕ Identity T → Shelf
+    abbrev pub shelf_in : {T : Type 0} → IndexMap (ℕ × ℕ) (LentSlot E EN EH EK EV g gh go gq gp gn) S
+        → IndexMap ℕ Identity T → Shelf
     shelf_in slots waits = record { slots = slots_in slots; waits = λ v. get nat_eq waits v }
 
   -- a row after the worker has failed
@@ -66,7 +78,8 @@ module _ {E EN EH EK EV : Type 0} {g : Environments E EN EH EK EV} {gh : Hashes 
     pub own : (i : Identity) → IsNamed i old.1 → IsNamed i new.1
 
   -- the first n rows are those after the worker has failed
-  abbrev pub FailedTo : ℕ → ℕ → List ((ℕ × ℕ) × LentSlot E EN EH EK EV g gh go gq gp gn) → List ((ℕ × ℕ) × LentSlot E EN EH EK EV g gh go gq gp gn) → Type 0
+  abbrev pub FailedTo : ℕ → ℕ → List ((ℕ × ℕ) × LentSlot E EN EH EK EV g gh go gq gp gn)
+      → List ((ℕ × ℕ) × LentSlot E EN EH EK EV g gh go gq gp gn) → Type 0
   FailedTo v zero old new = new ≡ old
   FailedTo v (suc n) [] new = new ≡ []
   FailedTo v (suc n) (e ∷ es) [] = ⊥
@@ -105,8 +118,10 @@ Leads s v u false = ComesToEnd s v u
 abbrev pub Would : ℕ → Shelf → Identity → ℕ → Claim → Type 0
 Would v s i place Claim.Claimed = (place ≤ longest_path) × (s.slots i ≡ None)
 Would v s i place (Claim.Known key height) = (place + height ≤ longest_path) × IsPublished s i key height
-Would v s i place Claim.Waiting = (place ≤ longest_path) × ((slot : Slot) × IsOpenSlot s i slot × ComesToEnd s v slot.worker)
-Would v s i place Claim.AlreadyFailed = (place ≤ longest_path) × ((slot : Slot) × (s.slots i ≡ Some slot) × (slot.outcome ≡ failed))
+Would v s i place Claim.Waiting = (place ≤ longest_path)
+    × ((slot : Slot) × IsOpenSlot s i slot × ComesToEnd s v slot.worker)
+Would v s i place Claim.AlreadyFailed = (place ≤ longest_path)
+    × ((slot : Slot) × (s.slots i ≡ Some slot) × (slot.outcome ≡ failed))
 
 -- the table after a claim; the worker's wait is forgotten unless the claim has to wait
 abbrev pub claimed_shelf : ℕ → Shelf → Identity → Claim → Shelf
@@ -119,6 +134,7 @@ abbrev pub RefusesClaim : ℕ → Shelf → Identity → ℕ → Error → Type 
 RefusesClaim v s i place e = ((e ≡ Error.TooDeep) × IsTooDeep s v i place) ⊎ (e ≡ Error.OutOfMemory)
 
 -- a claim of a table: what it finds, and what it leaves
-pub record ClaimsThere (v : ℕ) (s : Shelf) (i : Identity) (place : ℕ) (result : Result Claim Error) (s' : Shelf) : Type 0 where
+pub record ClaimsThere (v : ℕ) (s : Shelf) (i : Identity) (place : ℕ) (result : Result Claim Error)
+    (s' : Shelf) : Type 0 where
   pub finds : IfOk result (λ c. Would v s i place c × SameShelf (claimed_shelf v s i c) s')
   pub refused : IfErr result (λ e. RefusesClaim v s i place e × SameShelf (with_wait s v None) s')

@@ -17,13 +17,20 @@ worker_node v n = record { worker = record { 0 = v }; node = n.reference.node; l
 
 -- The blob of a written node is stored, its key set, and the worker's handles of it are released; the first of these
 -- calls that fails is the last.
-pub record LeavesNode {N E : Type 0} (v : Values N) (me : Owner) (n : ℕ) (node : Node) (s : PagerState N E) (blob : Blob) (r : Result ℕ Error) (t : PagerState N E) : Type 0 where
-  pub stores : IfOk r (λ key. (mid : PagerState N E) × Stores v s blob (Ok key) mid × ClosesNode v me (worker_node n node) key (Ok tt) mid t)
-  pub refused : IfErr r (λ e. Stores v s blob (Err e) t ⊎ ((key : ℕ) × (mid : PagerState N E) × Stores v s blob (Ok key) mid × ClosesNode v me (worker_node n node) key (Err e) mid t))
+pub record LeavesNode {N E : Type 0} (v : Values N) (me : Owner) (n : ℕ) (node : Node) (s : PagerState N E)
+    (blob : Blob) (r : Result ℕ Error) (t : PagerState N E) : Type 0 where
+  pub stores : IfOk r (λ key. (mid : PagerState N E) × Stores v s blob (Ok key) mid
+      × ClosesNode v me (worker_node n node) key (Ok tt) mid t)
+  pub refused : IfErr r (λ e. Stores v s blob (Err e) t
+      ⊎ ((key : ℕ) × (mid : PagerState N E) × Stores v s blob (Ok key) mid
+      × ClosesNode v me (worker_node n node) key (Err e) mid t))
 
-module _ {X XN XH XK XV : Type 0} {g : Environments X XN XH XK XV} {gh : Hashes XH} {go : Orders XK} {gq : Equalities XK} {gp : PartialOrders XK} {gn : Nodes XN X XN XH XK XV} where
+module _ {X XN XH XK XV : Type 0} {g : Environments X XN XH XK XV} {gh : Hashes XH} {go : Orders XK}
+    {gq : Equalities XK} {gp : PartialOrders XK} {gn : Nodes XN X XN XH XK XV} where
   -- Steps from a task on, of which the last leads to this.
-  pub record ComesTo {N E : Type 0} (v : Values N) (me : Owner) (n : ℕ) (shelf : Shelf) (task : Task X XN XH XK XV g gh go gq gp gn) (below : List Todo) (shelf' : Shelf) (turn : Turn X XN XH XK XV g gh go gq gp gn) (after : List Todo) (s t : PagerState N E) : Type 0 where
+  pub record ComesTo {N E : Type 0} (v : Values N) (me : Owner) (n : ℕ) (shelf : Shelf)
+      (task : Task X XN XH XK XV g gh go gq gp gn) (below : List Todo) (shelf' : Shelf)
+      (turn : Turn X XN XH XK XV g gh go gq gp gn) (after : List Todo) (s t : PagerState N E) : Type 0 where
     pub now_shelf : Shelf
     pub now : Task X XN XH XK XV g gh go gq gp gn
     pub now_below : List Todo
@@ -35,11 +42,16 @@ module _ {X XN XH XK XV : Type 0} {g : Environments X XN XH XK XV} {gh : Hashes 
 
   -- The result of a node that is done is given to the first entry of the list; or its key is answered, if the list is
   -- empty.
-  abbrev pub HandsOn : Done X XN XH XK XV g gh go gq gp gn → List Todo → Turn X XN XH XK XV g gh go gq gp gn → List Todo → Type 0
+  abbrev pub HandsOn : Done X XN XH XK XV g gh go gq gp gn → List Todo → Turn X XN XH XK XV g gh go gq gp gn → List Todo
+      → Type 0
   HandsOn d below (Turn.Goes task) after = Gives d.reference d.found.key d.found.height below after × IsPlain task
   HandsOn d below (Turn.Answers answer) after = (answer ≡ WorkerAnswer.Key d.found.key) × (below ≡ []) × (after ≡ [])
 
   -- Steps from a task on lead to another one, or to the answer of a run.
-  pub record Strides {N E : Type 0} (v : Values N) (me : Owner) (n : ℕ) (shelf : Shelf) (task : Task X XN XH XK XV g gh go gq gp gn) (below : List Todo) (shelf' : Shelf) (turn : Turn X XN XH XK XV g gh go gq gp gn) (after : List Todo) (s t : PagerState N E) : Type 0 where
-    pub goes : (next : Task X XN XH XK XV g gh go gq gp gn) → turn ≡ Turn.Goes next → HasWalked v me n shelf task below shelf' next after s t
-    pub answers : (answer : WorkerAnswer) → turn ≡ Turn.Answers answer → RunsTo v me n shelf task below shelf' answer s t
+  pub record Strides {N E : Type 0} (v : Values N) (me : Owner) (n : ℕ) (shelf : Shelf)
+      (task : Task X XN XH XK XV g gh go gq gp gn) (below : List Todo) (shelf' : Shelf)
+      (turn : Turn X XN XH XK XV g gh go gq gp gn) (after : List Todo) (s t : PagerState N E) : Type 0 where
+    pub goes : (next : Task X XN XH XK XV g gh go gq gp gn) → turn ≡ Turn.Goes next
+        → HasWalked v me n shelf task below shelf' next after s t
+    pub answers : (answer : WorkerAnswer) → turn ≡ Turn.Answers answer
+        → RunsTo v me n shelf task below shelf' answer s t

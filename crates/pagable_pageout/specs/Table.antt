@@ -5,7 +5,8 @@ use Rattle.pagable_pageout.specs.declared.{claims.ClaimResult.ClaimResult, lent_
 use Rattle.pagable_codec.specs.declared.{env.Env.Ghosts as Environments, hash.KeyHash.Ghosts as Hashes, nodes.NodeSet.Ghosts as Nodes}
 use Rattle.std.specs.declared.cmp.{Ord.Ghosts as Orders, PartialEq.Ghosts as Equalities, PartialOrd.Ghosts as PartialOrders}
 
-module _ {E EN EH EK EV : Type 0} {g : Environments E EN EH EK EV} {gh : Hashes EH} {go : Orders EK} {gq : Equalities EK} {gp : PartialOrders EK} {gn : Nodes EN E EN EH EK EV} where
+module _ {E EN EH EK EV : Type 0} {g : Environments E EN EH EK EV} {gh : Hashes EH} {go : Orders EK}
+    {gq : Equalities EK} {gp : PartialOrders EK} {gn : Nodes EN E EN EH EK EV} where
   abbrev pub shelf_of : LentTable E EN EH EK EV g gh go gq gp gn → Shelf
   shelf_of t = shelf_in t.slots t.waits
 

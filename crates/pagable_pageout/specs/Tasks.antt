@@ -23,14 +23,22 @@ fails fault back = to_fail fault back ∷ []
 -- what waits for its references: a written node, or else the item
 abbrev pub waits_as : Option Node → Written → List ℕ → Todo
 waits_as None written keys = to_item written keys
-waits_as (Some n) written keys = to_finish (record { reference = n.reference; place = n.place; through = n.through; written = written; keys = keys; height = n.height })
+waits_as (Some n) written keys = to_finish (record {
+  reference = n.reference;
+  place = n.place;
+  through = n.through;
+  written = written;
+  keys = keys;
+  height = n.height;
+})
 
 -- a node with its height raised by a reference of this kind
 abbrev pub raised : ℕ → ℕ → Option Node → Option Node
 raised kind height None = None
 raised kind height (Some n) = Some (record n { height = max n.height (above kind height) })
 
-module _ {E EN EH EK EV : Type 0} {g : Environments E EN EH EK EV} {gh : Hashes EH} {go : Orders EK} {gq : Equalities EK} {gp : PartialOrders EK} {gn : Nodes EN E EN EH EK EV} where
+module _ {E EN EH EK EV : Type 0} {g : Environments E EN EH EK EV} {gh : Hashes EH} {go : Orders EK}
+    {gq : Equalities EK} {gp : PartialOrders EK} {gn : Nodes EN E EN EH EK EV} where
   abbrev pub waiting_todo : Waiting E EN EH EK EV g gh go gq gp gn → Todo
   waiting_todo w = waits_as w.node (written_of (arc_value w.written)) (keys_of w.children.items)
 
@@ -61,8 +69,10 @@ module _ {E EN EH EK EV : Type 0} {g : Environments E EN EH EK EV} {gh : Hashes 
 unfoldable pub Awaits : List Todo → ArcRef → ℕ → Type 0
 Awaits [] r place = place ≡ 0
 Awaits (to_finish o ∷ below) r place =
-    (slice_get o.written.references (length o.keys) ≡ Some r) × (place ≡ place_below o.place r.kind.0) × (o.place + o.height ≤ longest_path) × Awaits below o.reference o.place
-Awaits (to_item written keys ∷ below) r place = (slice_get written.references (length keys) ≡ Some r) × (place ≡ place_below 0 r.kind.0) × (below ≡ [])
+    (slice_get o.written.references (length o.keys) ≡ Some r) × (place ≡ place_below o.place r.kind.0)
+    × (o.place + o.height ≤ longest_path) × Awaits below o.reference o.place
+Awaits (to_item written keys ∷ below) r place = (slice_get written.references (length keys) ≡ Some r)
+    × (place ≡ place_below 0 r.kind.0) × (below ≡ [])
 Awaits (_ ∷ below) r place = ⊥
 
 -- The list waits for a reference, and its place and this height are at most the longest path.
@@ -76,7 +86,8 @@ IsWay (to_start r place ∷ below) = Awaits below r place
 IsWay (to_pin r place ∷ below) = Awaits below r place × (place ≤ longest_path)
 IsWay (to_load r place through reading ∷ below) = Awaits below r place × (place ≤ longest_path)
 IsWay (to_write r place through ∷ below) = Awaits below r place × (place ≤ longest_path)
-IsWay (to_finish o ∷ below) = (length o.keys ≡ length o.written.references) × Awaits below o.reference o.place × (o.place + o.height ≤ longest_path)
+IsWay (to_finish o ∷ below) = (length o.keys ≡ length o.written.references) × Awaits below o.reference o.place
+    × (o.place + o.height ≤ longest_path)
 IsWay (to_item written keys ∷ below) = (length keys ≡ length written.references) × (below ≡ [])
 IsWay (to_set r through key height ∷ below) = AwaitsLow below r height
 IsWay (to_publish r key height ∷ below) = AwaitsLow below r height
@@ -146,7 +157,8 @@ abbrev pub Leads : List Todo → List Todo → Type 0
 Leads (to_start r place ∷ below) after = due after ≤ most + 6 * length below
 Leads todo after = due after < due todo
 
-module _ {X XN XH XK XV : Type 0} {g : Environments X XN XH XK XV} {gh : Hashes XH} {go : Orders XK} {gq : Equalities XK} {gp : PartialOrders XK} {gn : Nodes XN X XN XH XK XV} where
+module _ {X XN XH XK XV : Type 0} {g : Environments X XN XH XK XV} {gh : Hashes XH} {go : Orders XK}
+    {gq : Equalities XK} {gp : PartialOrders XK} {gn : Nodes XN X XN XH XK XV} where
   abbrev pub IfGoes : Turn X XN XH XK XV g gh go gq gp gn → Type 0 → Type 0
   IfGoes (Turn.Goes t) P = P
   IfGoes (Turn.Answers a) P = Unit {0}

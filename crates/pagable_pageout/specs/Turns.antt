@@ -67,7 +67,8 @@ pub record IsLoading (w : Core) (n : ℕ) (r : ArcRef) (through : HandleNumber) 
   pub t : ℕ
   pub root : is.load.root ≡ of_cell r.node t through
 
-module _ {X XN XH XK XV : Type 0} {g : Environments X XN XH XK XV} {gh : Hashes XH} {go : Orders XK} {gq : Equalities XK} {gp : PartialOrders XK} {gn : Nodes XN X XN XH XK XV} where
+module _ {X XN XH XK XV : Type 0} {g : Environments X XN XH XK XV} {gh : Hashes XH} {go : Orders XK}
+    {gq : Equalities XK} {gp : PartialOrders XK} {gn : Nodes XN X XN XH XK XV} where
   -- what a task needs of the pager
   abbrev pub TaskFits : ℕ → Core → Task X XN XH XK XV g gh go gq gp gn → Type 0
   TaskFits n w (Task.Pin r place) = StandsAt w r r.handle × IsOfKind w r
@@ -78,15 +79,18 @@ module _ {X XN XH XK XV : Type 0} {g : Environments X XN XH XK XV} {gh : Hashes 
   -- what a claim found is the reference's, and fits at its place
   abbrev pub ClaimFits : ArcRef → ℕ → Result (ClaimResult X XN XH XK XV g gh go gq gp gn) Error → Type 0
   ClaimFits r place (Ok ClaimResult.Claimed) = place ≤ longest_path
-  ClaimFits r place (Ok (ClaimResult.Known found)) = (found.identity ≡ identity_of r) × (place + found.height ≤ longest_path)
+  ClaimFits r place (Ok (ClaimResult.Known found)) = (found.identity ≡ identity_of r)
+      × (place + found.height ≤ longest_path)
   ClaimFits r place claim = Unit {0}
 
-  abbrev pub ClaimLeaves : ArcRef → ℕ → Result (ClaimResult X XN XH XK XV g gh go gq gp gn) Error → Task X XN XH XK XV g gh go gq gp gn → Type 0
+  abbrev pub ClaimLeaves : ArcRef → ℕ → Result (ClaimResult X XN XH XK XV g gh go gq gp gn) Error
+      → Task X XN XH XK XV g gh go gq gp gn → Type 0
   ClaimLeaves r place (Ok ClaimResult.Claimed) task = task ≡ Task.Pin r place
   ClaimLeaves r place claim task = IsPlain task
 
   -- the pager is whole, the calls are the worker's, and the task fits
-  pub record Fits {N E : Type 0} (v : Values N) (me : Owner) (n : ℕ) (task : Task X XN XH XK XV g gh go gq gp gn) (s : PagerState N E) : Type 0 where
+  pub record Fits {N E : Type 0} (v : Values N) (me : Owner) (n : ℕ) (task : Task X XN XH XK XV g gh go gq gp gn)
+      (s : PagerState N E) : Type 0 where
     pub me_is : me ≡ owner_worker n
     pub whole : WellFormed v s
     pub task_fits : TaskFits n s.core task
@@ -105,7 +109,9 @@ module _ {X XN XH XK XV : Type 0} {g : Environments X XN XH XK XV} {gh : Hashes 
   LeavesFit n w (Turn.Answers a) = Unit {0}
 
   -- a step of the worker, up to its end
-  pub record Turned {N E : Type 0} (v : Values N) (n : ℕ) (shelf : Shelf) (todo : List Todo) (s : PagerState N E) (shelf' : Shelf) (moved : StepResult X XN XH XK XV g gh go gq gp gn) (after : List Todo) (t : PagerState N E) : Type 0 where
+  pub record Turned {N E : Type 0} (v : Values N) (n : ℕ) (shelf : Shelf) (todo : List Todo) (s : PagerState N E)
+      (shelf' : Shelf) (moved : StepResult X XN XH XK XV g gh go gq gp gn) (after : List Todo)
+      (t : PagerState N E) : Type 0 where
     pub does : WalkDoes (plain v) n (site s.core shelf todo) (plain_took moved.action) (site t.core shelf' after)
     pub answers : answer_after todo (plain_took moved.action) ≡ answer_in moved.turn
     pub moves : Moves (TodoBrings v s.core todo) s t
@@ -115,12 +121,15 @@ module _ {X XN XH XK XV : Type 0} {g : Environments X XN XH XK XV} {gh : Hashes 
     pub fits : LeavesFit n t.core moved.turn
 
   -- Performing a task is a step of the worker, if the task fits, and counts as one.
-  pub record TurnsTo {N E : Type 0} (v : Values N) (me : Owner) (n : ℕ) (shelf : Shelf) (task : Task X XN XH XK XV g gh go gq gp gn) (below : List Todo) (shelf' : Shelf) (moved : StepResult X XN XH XK XV g gh go gq gp gn) (after : List Todo) (s t : PagerState N E) : Type 0 where
+  pub record TurnsTo {N E : Type 0} (v : Values N) (me : Owner) (n : ℕ) (shelf : Shelf)
+      (task : Task X XN XH XK XV g gh go gq gp gn) (below : List Todo) (shelf' : Shelf)
+      (moved : StepResult X XN XH XK XV g gh go gq gp gn) (after : List Todo) (s t : PagerState N E) : Type 0 where
     pub turns : Fits v me n task s → Turned v n shelf (todo_of task ∷ below) s shelf' moved after t
     pub counts : moved.counted ≡ is_counted (todo_of task ∷ below) (plain_took moved.action)
 
   -- with an answer the worker ends
-  pub record Closes {N E : Type 0} (v : Values N) (n : ℕ) (turn : Turn X XN XH XK XV g gh go gq gp gn) (s s' : PagerState N E) : Type 0 where
+  pub record Closes {N E : Type 0} (v : Values N) (n : ℕ) (turn : Turn X XN XH XK XV g gh go gq gp gn)
+      (s s' : PagerState N E) : Type 0 where
     pub closes : MatchOption (answer_in turn) (s' ≡ s) (λ a. Called v (λ w'. WorkerEnds s.core n w') s s')
 
   abbrev pub acting_then : {E : Type 0} → Turn X XN XH XK XV g gh go gq gp gn → Acting E → Acting E
@@ -128,13 +137,18 @@ module _ {X XN XH XK XV : Type 0} {g : Environments X XN XH XK XV} {gh : Hashes 
   acting_then (Turn.Answers answer) a = as_caller a
 
   -- a step of the worker, with its end
-  pub record Stepped {N E : Type 0} (v : Values N) (n : ℕ) (shelf : Shelf) (todo : List Todo) (s : PagerState N E) (shelf' : Shelf) (moved : StepResult X XN XH XK XV g gh go gq gp gn) (after : List Todo) (t : PagerState N E) : Type 0 where
-    pub does : WalkStep (plain v) n todo (record { pager = s; shelf = shelf }) (plain_took moved.action) after (record { pager = t; shelf = shelf' })
+  pub record Stepped {N E : Type 0} (v : Values N) (n : ℕ) (shelf : Shelf) (todo : List Todo) (s : PagerState N E)
+      (shelf' : Shelf) (moved : StepResult X XN XH XK XV g gh go gq gp gn) (after : List Todo)
+      (t : PagerState N E) : Type 0 where
+    pub does : WalkStep (plain v) n todo (record { pager = s; shelf = shelf }) (plain_took moved.action) after
+        (record { pager = t; shelf = shelf' })
     pub answers : answer_after todo (plain_took moved.action) ≡ answer_in moved.turn
     pub fits : LeavesFit n t.core moved.turn
 
   -- It is a step of the worker with its end, if the task fits, and counts as one.
-  pub record StepsTo {N E : Type 0} (v : Values N) (me : Owner) (n : ℕ) (shelf : Shelf) (task : Task X XN XH XK XV g gh go gq gp gn) (below : List Todo) (shelf' : Shelf) (moved : StepResult X XN XH XK XV g gh go gq gp gn) (after : List Todo) (s t : PagerState N E) : Type 0 where
+  pub record StepsTo {N E : Type 0} (v : Values N) (me : Owner) (n : ℕ) (shelf : Shelf)
+      (task : Task X XN XH XK XV g gh go gq gp gn) (below : List Todo) (shelf' : Shelf)
+      (moved : StepResult X XN XH XK XV g gh go gq gp gn) (after : List Todo) (s t : PagerState N E) : Type 0 where
     pub steps : Fits v me n task s → Stepped v n shelf (todo_of task ∷ below) s shelf' moved after t
     pub counts : moved.counted ≡ is_counted (todo_of task ∷ below) (plain_took moved.action)
 
@@ -145,24 +159,35 @@ abbrev pub IsAlone : ℕ → Shelf → Type 0
 IsAlone n shelf = (i : Identity) (slot : Slot) → IsOpenSlot shelf i slot → slot.worker ≡ n
 
 -- some steps from what is to be done to this answer
-pub record Walked {N E : Type 0} (v : Values N) (n : ℕ) (todo : List Todo) (s : PagerState N E) (shelf : Shelf) (answer : WorkerAnswer) (t : PagerState N E) (shelf' : Shelf) : Type 0 where
+pub record Walked {N E : Type 0} (v : Values N) (n : ℕ) (todo : List Todo) (s : PagerState N E) (shelf : Shelf)
+    (answer : WorkerAnswer) (t : PagerState N E) (shelf' : Shelf) : Type 0 where
   pub steps : List (Action Written)
-  pub run : WorkerRun (plain v) n todo (record { pager = s; shelf = shelf }) steps answer (record { pager = t; shelf = shelf' })
+  pub run : WorkerRun (plain v) n todo (record { pager = s; shelf = shelf }) steps answer
+      (record { pager = t; shelf = shelf' })
 
-module _ {X XN XH XK XV : Type 0} {g : Environments X XN XH XK XV} {gh : Hashes XH} {go : Orders XK} {gq : Equalities XK} {gp : PartialOrders XK} {gn : Nodes XN X XN XH XK XV} where
+module _ {X XN XH XK XV : Type 0} {g : Environments X XN XH XK XV} {gh : Hashes XH} {go : Orders XK}
+    {gq : Equalities XK} {gp : PartialOrders XK} {gn : Nodes XN X XN XH XK XV} where
   -- It is a step of the worker, where it is alone.
-  pub record StepsAlone {N E : Type 0} (v : Values N) (me : Owner) (n : ℕ) (shelf : Shelf) (task : Task X XN XH XK XV g gh go gq gp gn) (below : List Todo) (shelf' : Shelf) (moved : StepResult X XN XH XK XV g gh go gq gp gn) (after : List Todo) (s t : PagerState N E) : Type 0 where
+  pub record StepsAlone {N E : Type 0} (v : Values N) (me : Owner) (n : ℕ) (shelf : Shelf)
+      (task : Task X XN XH XK XV g gh go gq gp gn) (below : List Todo) (shelf' : Shelf)
+      (moved : StepResult X XN XH XK XV g gh go gq gp gn) (after : List Todo) (s t : PagerState N E) : Type 0 where
     pub steps : IsAlone n shelf → StepsTo v me n shelf task below shelf' moved after s t
 
   -- The answer is that of a run of the worker, where the task fits and it is alone.
-  pub record RunsTo {N E : Type 0} (v : Values N) (me : Owner) (n : ℕ) (shelf : Shelf) (task : Task X XN XH XK XV g gh go gq gp gn) (below : List Todo) (shelf' : Shelf) (answer : WorkerAnswer) (s t : PagerState N E) : Type 0 where
+  pub record RunsTo {N E : Type 0} (v : Values N) (me : Owner) (n : ℕ) (shelf : Shelf)
+      (task : Task X XN XH XK XV g gh go gq gp gn) (below : List Todo) (shelf' : Shelf) (answer : WorkerAnswer)
+      (s t : PagerState N E) : Type 0 where
     pub runs : Fits v me n task s → IsAlone n shelf → Walked v n (todo_of task ∷ below) s shelf answer t shelf'
 
   -- Steps so far: what is to be done fits, the worker is still alone, and a run from there is one from the beginning.
-  pub record HasWalked {N E : Type 0} (v : Values N) (me : Owner) (n : ℕ) (shelf : Shelf) (first : Task X XN XH XK XV g gh go gq gp gn) (below : List Todo) (now_shelf : Shelf) (now : Task X XN XH XK XV g gh go gq gp gn) (now_below : List Todo) (s t : PagerState N E) : Type 0 where
+  pub record HasWalked {N E : Type 0} (v : Values N) (me : Owner) (n : ℕ) (shelf : Shelf)
+      (first : Task X XN XH XK XV g gh go gq gp gn) (below : List Todo) (now_shelf : Shelf)
+      (now : Task X XN XH XK XV g gh go gq gp gn) (now_below : List Todo) (s t : PagerState N E) : Type 0 where
     pub fits : Fits v me n first s → IsAlone n shelf → Fits v me n now t
     pub alone : Fits v me n first s → IsAlone n shelf → IsAlone n now_shelf
-    pub then : Fits v me n first s → IsAlone n shelf → (answer : WorkerAnswer) (u : PagerState N E) (shelf' : Shelf) → Walked v n (todo_of now ∷ now_below) t now_shelf answer u shelf' → Walked v n (todo_of first ∷ below) s shelf answer u shelf'
+    pub then : Fits v me n first s → IsAlone n shelf → (answer : WorkerAnswer) (u : PagerState N E) (shelf' : Shelf)
+        → Walked v n (todo_of now ∷ now_below) t now_shelf answer u shelf'
+        → Walked v n (todo_of first ∷ below) s shelf answer u shelf'
 
 -- ---- what a worker writes of a node that it has pinned, and what it does at a written node
 
@@ -183,18 +208,28 @@ pub record IsPinned {N E : Type 0} (v : Values N) (s : PagerState N E) (r : ArcR
   pub pins : PinsAt s.core r pin
 
 -- what was written is a form of the pinned value, or the value isn't written for this error
-pub record Forms {N E : Type 0} (v : Values N) (s : PagerState N E) (r : ArcRef) (pin : HandleNumber) (result : Result Written Error) : Type 0 where
+pub record Forms {N E : Type 0} (v : Values N) (s : PagerState N E) (r : ArcRef) (pin : HandleNumber)
+    (result : Result Written Error) : Type 0 where
   pub written : IsPinned v s r pin → IfOk result (λ w. IsWrittenOf v s r.node.0 w)
-  pub refused : IsPinned v s r pin → IfErr result (λ e. (v.write_causes (type_of r.kind.0) e ⊎ (e ≡ Error.OutOfMemory)) × RefusesWriting v s r.node.0 e)
+  pub refused : IsPinned v s r pin → IfErr result (λ e. (v.write_causes (type_of r.kind.0) e ⊎ (e ≡ Error.OutOfMemory))
+      × RefusesWriting v s r.node.0 e)
 
 -- a node that was just written
 abbrev pub just_open : ArcRef → ℕ → HandleNumber → Written → Open
-just_open r place through written = record { reference = r; place = place; through = through; written = written; keys = []; height = 0 }
+just_open r place through written = record {
+  reference = r;
+  place = place;
+  through = through;
+  written = written;
+  keys = [];
+  height = 0;
+}
 
 -- ---- what was written
 
 -- the blob is stored, or the call fails
-pub record Stores {N E : Type 0} (v : Values N) (s : PagerState N E) (blob : Blob) (r : Result ℕ Error) (t : PagerState N E) : Type 0 where
+pub record Stores {N E : Type 0} (v : Values N) (s : PagerState N E) (blob : Blob) (r : Result ℕ Error)
+    (t : PagerState N E) : Type 0 where
   pub stored : StoreCall (key_of v.hash) s.core blob r t.core
   pub moves : Moves (λ n x. ⊥) s t
   pub whole : WellFormed v s → WellFormed v t
@@ -205,19 +240,24 @@ named_by None = None
 named_by (Some n) = Some (identity_of n.reference)
 
 -- the key of a stored node is set next; that of an item is answered
-module _ {X XN XH XK XV : Type 0} {g : Environments X XN XH XK XV} {gh : Hashes XH} {go : Orders XK} {gq : Equalities XK} {gp : PartialOrders XK} {gn : Nodes XN X XN XH XK XV} where
+module _ {X XN XH XK XV : Type 0} {g : Environments X XN XH XK XV} {gh : Hashes XH} {go : Orders XK}
+    {gq : Equalities XK} {gp : PartialOrders XK} {gn : Nodes XN X XN XH XK XV} where
   abbrev pub IsStored : Option Node → ℕ → Turn X XN XH XK XV g gh go gq gp gn → Type 0
   IsStored None key turn = turn ≡ Turn.Answers (WorkerAnswer.Key key)
-  IsStored (Some n) key turn = (task : Task X XN XH XK XV g gh go gq gp gn) × (turn ≡ Turn.Goes task) × (todo_of task ≡ to_set n.reference n.through key n.height) × IsPlain task
+  IsStored (Some n) key turn = (task : Task X XN XH XK XV g gh go gq gp gn) × (turn ≡ Turn.Goes task)
+      × (todo_of task ≡ to_set n.reference n.through key n.height) × IsPlain task
 
 -- the key is set through the handle, where the reference's kind has one
-pub record SetsFor {N E : Type 0} (v : Values N) (me : Owner) (r : ArcRef) (through : HandleNumber) (key : ℕ) (result : Result (Unit {0}) Error) (s t : PagerState N E) : Type 0 where
+pub record SetsFor {N E : Type 0} (v : Values N) (me : Owner) (r : ArcRef) (through : HandleNumber) (key : ℕ)
+    (result : Result (Unit {0}) Error) (s t : PagerState N E) : Type 0 where
   pub sets : KeySetFor s.core me r through key result t.core
   pub moves : Moves (λ n x. ⊥) s t
   pub whole : WellFormed v s → WellFormed v t
 
 -- the entry is put back on the list, if there is one
-pub record GoesBack {N E : Type 0} (v : Values N) (me : Owner) (back : Option HandleNumber) (s t : PagerState N E) : Type 0 where
-  pub goes : MatchOption back (Alike s.core t.core) (λ h. (r : Result (Unit {0}) Error) × ScheduleCall s.core me h r t.core)
+pub record GoesBack {N E : Type 0} (v : Values N) (me : Owner) (back : Option HandleNumber)
+    (s t : PagerState N E) : Type 0 where
+  pub goes : MatchOption back (Alike s.core t.core) (λ h. (r : Result (Unit {0}) Error)
+      × ScheduleCall s.core me h r t.core)
   pub moves : Moves (λ n x. ⊥) s t
   pub whole : WellFormed v s → WellFormed v t

@@ -44,7 +44,8 @@ pub trait Claims<E: Env<Node: NodeSet<E>>> {
         identity: Identity,
         place: u64,
     ) -> Result<ClaimResult<E>, Error>
-        ensures claims { Told (shelf self.old) (shelf self.new) (λ s s'. ClaimsThere worker.0 s identity place (found_as result) s') }
+        ensures claims { Told (shelf self.old) (shelf self.new)
+            (λ s s'. ClaimsThere worker.0 s identity place (found_as result) s') }
         ensures own { IfOk result (IsFoundOf identity) }
         ensures near { IfOk result (IsNear place) };
 
@@ -55,12 +56,15 @@ pub trait Claims<E: Env<Node: NodeSet<E>>> {
     /// Notes the references that a claimed node was written with. Does nothing if the identity has
     /// no slot. It can't fail.
     fn note_written(&mut self, identity: Identity, references: Vec<ArcRef>)
-        ensures { Told (shelf self.old) (shelf self.new) (λ s s'. SameShelf (with_changed_slot s identity (with_references references.items)) s') };
+        ensures { Told (shelf self.old) (shelf self.new)
+            (λ s s'. SameShelf (with_changed_slot s identity (with_references references.items)) s') };
 
     /// Publishes the result of a claimed identity. An outcome that is there already stays. It takes
     /// no memory and can't fail.
     fn publish(&mut self, found: &SlotResult<E>)
-        ensures { Told (shelf self.old) (shelf self.new) (λ s s'. SameShelf (with_changed_slot s found.now.identity (with_outcome (published found.now.key found.now.height))) s') };
+        ensures { Told (shelf self.old) (shelf self.new)
+            (λ s s'. SameShelf (with_changed_slot s found.now.identity
+            (with_outcome (published found.now.key found.now.height))) s') };
 
     /// Marks all claims of a worker that have no outcome yet as failed. It takes no memory and
     /// can't fail.

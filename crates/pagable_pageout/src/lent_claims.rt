@@ -96,7 +96,8 @@ impl<E: Env<Node: NodeSet<E>>> LentTable<E> {
     fn take(&mut self, worker: WorkerNumber, identity: Identity) -> Result<(), Error>
         requires free { (shelf_of self.old).slots identity ≡ None }
         requires works { (shelf_of self.old).waits worker.0 ≡ None }
-        ensures ok { OnOk result (SameShelf (with_slot (shelf_of self.old) identity (Some (claimed_by worker.0))) (shelf_of self.new)) }
+        ensures ok { OnOk result (SameShelf (with_slot (shelf_of self.old) identity (Some (claimed_by worker.0)))
+            (shelf_of self.new)) }
         ensures err { OnErr result (SameShelf (shelf_of self.old) (shelf_of self.new)) }
         ensures only { IfErr result (λ e. e ≡ Error.OutOfMemory) }
     {
@@ -112,8 +113,10 @@ impl<E: Env<Node: NodeSet<E>>> LentTable<E> {
     // Notes that a worker waits for the result of an identity, whose worker doesn't wait for this
     // one. Fails with OutOfMemory if the table can't grow.
     fn wait_for(&mut self, worker: WorkerNumber, identity: Identity) -> Result<(), Error>
-        requires { (slot : Slot) × IsOpenSlot (shelf_of self.old) identity slot × ComesToEnd (shelf_of self.old) worker.0 slot.worker }
-        ensures ok { OnOk result (SameShelf (with_wait (shelf_of self.old) worker.0 (Some identity)) (shelf_of self.new)) }
+        requires { (slot : Slot) × IsOpenSlot (shelf_of self.old) identity slot
+            × ComesToEnd (shelf_of self.old) worker.0 slot.worker }
+        ensures ok { OnOk result (SameShelf (with_wait (shelf_of self.old) worker.0 (Some identity))
+            (shelf_of self.new)) }
         ensures err { OnErr result (SameShelf (shelf_of self.old) (shelf_of self.new)) }
         ensures only { IfErr result (λ e. e ≡ Error.OutOfMemory) }
     {
@@ -180,7 +183,8 @@ impl<E: Env<Node: NodeSet<E>>> LentTable<E> {
     /// Notes the references that a claimed node was written with. Does nothing if the identity has
     /// no slot.
     pub fn set_written(&mut self, identity: Identity, references: Vec<ArcRef>)
-        ensures { SameShelf (with_changed_slot (shelf_of self.old) identity (with_references references.items)) (shelf_of self.new) }
+        ensures { SameShelf (with_changed_slot (shelf_of self.old) identity (with_references references.items))
+            (shelf_of self.new) }
     {
         if let Some(slot) = self.slots.get_mut(&(identity.kind.0, identity.node.0)) {
             slot.references = Some(references);
@@ -190,7 +194,8 @@ impl<E: Env<Node: NodeSet<E>>> LentTable<E> {
     /// Publishes the result of a claimed identity. An outcome that is there already stays. It takes
     /// no memory.
     pub fn set_success(&mut self, found: SlotResult<E>)
-        ensures { SameShelf (with_changed_slot (shelf_of self.old) found.identity (with_outcome (published found.key found.height))) (shelf_of self.new) }
+        ensures { SameShelf (with_changed_slot (shelf_of self.old) found.identity
+            (with_outcome (published found.key found.height))) (shelf_of self.new) }
     {
         let identity = found.identity;
         if let Some(slot) = self.slots.get_mut(&(identity.kind.0, identity.node.0)) {

@@ -58,8 +58,10 @@ fn raised(node: Option<Node>, kind: Kind, below: u64) -> Option<Node>
 // Returns a waiting node or item with the result of its next reference.
 #[tactic(auto, using(crate::proofs::Stacks::giving))]
 fn with_result<E: Env<Node: NodeSet<E>>>(waiting: Waiting<E>, done: Done<E>) -> Waiting<E>
-    requires { TakesNext waiting.node (written_of (arc_value waiting.written)) (keys_of waiting.children.items) done.reference done.found.height }
-    ensures { waiting_todo result ≡ waits_as (raised done.reference.kind.0 done.found.height waiting.node) (written_of (arc_value waiting.written)) (keys_of waiting.children.items ++ done.found.key ∷ []) }
+    requires { TakesNext waiting.node (written_of (arc_value waiting.written)) (keys_of waiting.children.items)
+        done.reference done.found.height }
+    ensures { waiting_todo result ≡ waits_as (raised done.reference.kind.0 done.found.height waiting.node)
+        (written_of (arc_value waiting.written)) (keys_of waiting.children.items ++ done.found.key ∷ []) }
 {
     let node = raised(waiting.node, done.reference.kind, done.found.height);
     let mut children = waiting.children;
@@ -79,9 +81,11 @@ pub fn give<E: Env<Node: NodeSet<E>>>(
     done: Done<E>,
 ) -> Result<Task<E>, Done<E>>
     requires { AwaitsLow (todos path.old.items) done.reference done.found.height }
-    ensures gives { IfOk result (λ task. Gives done.reference done.found.key done.found.height (todos path.old.items) (todo_of task ∷ todos path.new.items)) }
+    ensures gives { IfOk result (λ task. Gives done.reference done.found.key done.found.height (todos path.old.items)
+        (todo_of task ∷ todos path.new.items)) }
     ensures plain { IfOk result (λ task. IsPlain task) }
-    ensures less { IfOk result (λ task. due (todo_of task ∷ todos path.new.items) ≤ 2 + 6 * length (todos path.old.items)) }
+    ensures less { IfOk result (λ task. due (todo_of task ∷ todos path.new.items) ≤ 2 + 6 * length
+        (todos path.old.items)) }
     ensures back { IfErr result (λ back. back ≡ done) }
     ensures none { OnErr result ((todos path.old.items ≡ []) × (todos path.new.items ≡ [])) }
 {
@@ -117,7 +121,8 @@ pub fn refuse<E: Env<Node: NodeSet<E>>>(
     e: &Error,
     entry: Option<HandleNumber>,
 ) -> Task<E>
-    ensures todo { todo_of result ∷ todos path.new.items ≡ fails (was_refused e.now) (back_of entry (todos path.old.items)) }
+    ensures todo { todo_of result ∷ todos path.new.items
+        ≡ fails (was_refused e.now) (back_of entry (todos path.old.items)) }
     ensures plain { IsPlain result }
     ensures less { due (todo_of result ∷ todos path.new.items) ≡ 1 }
     ensures none { todos path.new.items ≡ [] }
@@ -135,7 +140,8 @@ pub fn start_item<E: Env<Node: NodeSet<E>>>(
     alloc: Global,
     written: Arc<SerializedData>,
 ) -> Result<(Task<E>, Vec<Waiting<E>>), Error>
-    ensures todo { IfOk result (λ w. todo_of w.0 ∷ todos w.1.items ≡ first_todo (of_item (written_of (arc_value written)))) }
+    ensures todo { IfOk result (λ w. todo_of w.0 ∷ todos w.1.items
+        ≡ first_todo (of_item (written_of (arc_value written)))) }
     ensures way { IfOk result (λ w. IsWay (todo_of w.0 ∷ todos w.1.items)) }
     ensures plain { IfOk result (λ w. IsPlain w.0) }
     ensures only { IfErr result (λ e. e ≡ Error.OutOfMemory) }
@@ -157,7 +163,8 @@ pub fn start_entry<E: Env<Node: NodeSet<E>>>(
     alloc: Global,
     reference: ArcRef,
 ) -> (Task<E>, Vec<Waiting<E>>)
-    ensures todo { todo_of result.0 ∷ todos result.1.items ≡ first_todo (of_entry reference.handle (identity_of reference)) }
+    ensures todo { todo_of result.0 ∷ todos result.1.items
+        ≡ first_todo (of_entry reference.handle (identity_of reference)) }
     ensures way { IsWay (todo_of result.0 ∷ todos result.1.items) }
     ensures plain { IsPlain result.0 }
 {

@@ -35,7 +35,9 @@ fn turn<E: Env<Node: NodeSet<E>>, A: WorkerAccess<E>, T: Claims<E>>(
     requires { IsWay (todo_of task ∷ todos path.old.items) }
     ensures goes { GoesOn (todo_of task ∷ todos path.old.items) result.turn (plan result.turn path.new.items) }
     ensures ends { Ends (todo_of task ∷ todos path.old.items) result.turn (plan result.turn path.new.items) }
-    ensures acts { ActsBoth A.told A.acting T.shelf access.old table.old access.new table.new (λ a. a) (λ a s q s' q'. TurnsTo (values_at E.Node.NodeSet E.Env E.Hash.KeyHash a.environment) a.me worker.0 q task (todos path.old.items) q' result (plan result.turn path.new.items) s s') }
+    ensures acts { ActsBoth A.told A.acting T.shelf access.old table.old access.new table.new (λ a. a)
+        (λ a s q s' q'. TurnsTo (values_at E.Node.NodeSet E.Env E.Hash.KeyHash a.environment) a.me worker.0 q task
+        (todos path.old.items) q' result (plan result.turn path.new.items) s s') }
 {
     match task {
         Task::Start(reference, place) => {
@@ -84,7 +86,8 @@ pub(crate) fn end_answered<E: Env<Node: NodeSet<E>>, A: WorkerAccess<E>>(
     worker: WorkerNumber,
     turn: &Turn<E>,
 )
-    ensures { ActsThen A.told A.acting access.old access.new (acting_then turn.now) (λ a. Closes (values_at E.Node.NodeSet E.Env E.Hash.KeyHash a.environment) worker.0 turn.now) }
+    ensures { ActsThen A.told A.acting access.old access.new (acting_then turn.now)
+        (λ a. Closes (values_at E.Node.NodeSet E.Env E.Hash.KeyHash a.environment) worker.0 turn.now) }
 {
     let Turn::Answers(_) = turn else {
         return;
@@ -107,7 +110,9 @@ pub fn step<E: Env<Node: NodeSet<E>>, A: WorkerAccess<E>, T: Claims<E>>(
     ensures way { IsWay (plan result.turn path.new.items) }
     ensures ends { Ends (todo_of task ∷ todos path.old.items) result.turn (plan result.turn path.new.items) }
     ensures leads { LeadsOn (todo_of task ∷ todos path.old.items) result.turn (plan result.turn path.new.items) }
-    ensures acts { ActsBoth A.told A.acting T.shelf access.old table.old access.new table.new (acting_then result.turn) (λ a s q s' q'. StepsTo (values_at E.Node.NodeSet E.Env E.Hash.KeyHash a.environment) a.me worker.0 q task (todos path.old.items) q' result (plan result.turn path.new.items) s s') }
+    ensures acts { ActsBoth A.told A.acting T.shelf access.old table.old access.new table.new (acting_then result.turn)
+        (λ a s q s' q'. StepsTo (values_at E.Node.NodeSet E.Env E.Hash.KeyHash a.environment) a.me worker.0 q task
+        (todos path.old.items) q' result (plan result.turn path.new.items) s s') }
 {
     let moved = turn(access, alloc, table, worker, path, task);
     end_answered(access, worker, &moved.turn);
@@ -128,8 +133,11 @@ pub fn run<E: Env<Node: NodeSet<E>>, A: WorkerAccess<E>, T: Claims<E>>(
     first: Task<E>,
 ) -> WorkerAnswer
     requires { IsWay (todo_of first ∷ todos path.old.items) }
-    ensures over { (w : Written) → EndsWith w (todo_of first ∷ todos path.old.items) → IfKeyOf result (λ key. ∥ IsOver E.Hash.digest (values_at E.Node.NodeSet E.Env E.Hash.KeyHash) w key ∥₁) }
-    ensures acts { ActsBoth A.told A.acting T.shelf access.old table.old access.new table.new as_caller (λ a s q s' q'. RunsTo (values_at E.Node.NodeSet E.Env E.Hash.KeyHash a.environment) a.me worker.0 q first (todos path.old.items) q' result s s') }
+    ensures over { (w : Written) → EndsWith w (todo_of first ∷ todos path.old.items)
+        → IfKeyOf result (λ key. ∥ IsOver E.Hash.digest (values_at E.Node.NodeSet E.Env E.Hash.KeyHash) w key ∥₁) }
+    ensures acts { ActsBoth A.told A.acting T.shelf access.old table.old access.new table.new as_caller
+        (λ a s q s' q'. RunsTo (values_at E.Node.NodeSet E.Env E.Hash.KeyHash a.environment) a.me worker.0 q first
+        (todos path.old.items) q' result s s') }
 {
     let mut task = first;
     let mut left = u64::MAX;
@@ -172,8 +180,11 @@ pub fn page_out_item_over<E: Env<Node: NodeSet<E>>, A: WorkerAccess<E>, T: Claim
     item: Arc<SerializedData>,
 ) -> Result<DataKey, PageOutError>
     requires caller { (A.acting access.old).me ≡ Owner.Caller }
-    ensures over { IfOk result (λ key. ∥ IsOver E.Hash.digest (values_at E.Node.NodeSet E.Env E.Hash.KeyHash) (written_of (arc_value item)) key ∥₁) }
-    ensures acts { ActsBoth A.told A.acting T.shelf access.old table.old access.new table.new (λ a. a) (λ a s q s' q'. PagesItem (values_at E.Node.NodeSet E.Env E.Hash.KeyHash a.environment) q (written_of (arc_value item)) q' (answer_of result) s s') }
+    ensures over { IfOk result (λ key. ∥ IsOver E.Hash.digest (values_at E.Node.NodeSet E.Env E.Hash.KeyHash)
+        (written_of (arc_value item)) key ∥₁) }
+    ensures acts { ActsBoth A.told A.acting T.shelf access.old table.old access.new table.new (λ a. a)
+        (λ a s q s' q'. PagesItem (values_at E.Node.NodeSet E.Env E.Hash.KeyHash a.environment) q
+        (written_of (arc_value item)) q' (answer_of result) s s') }
 {
     let (task, mut path) = match start_item(alloc, item) {
         Ok(first) => first,
@@ -211,7 +222,8 @@ pub fn page_out_entry<E: Env<Node: NodeSet<E>>, A: WorkerAccess<E>>(
     place: usize,
 ) -> Result<Option<DataKey>, PageOutError>
     requires caller { (A.acting access.old).me ≡ Owner.Caller }
-    ensures { Acts A.told A.acting access.old access.new (λ a. PagesEntryIfThere (values_at E.Node.NodeSet E.Env E.Hash.KeyHash a.environment) place result) }
+    ensures { Acts A.told A.acting access.old access.new
+        (λ a. PagesEntryIfThere (values_at E.Node.NodeSet E.Env E.Hash.KeyHash a.environment) place result) }
 {
     let (worker, reference) = match access.worker_listed(place) {
         Ok(begun) => begun,
@@ -232,7 +244,8 @@ fn page_out_at<E: Env<Node: NodeSet<E>>, A: WorkerAccess<E>>(
     place: usize,
 ) -> Result<(), PageOutError>
     requires caller { (A.acting access.old).me ≡ Owner.Caller }
-    ensures { Acts A.told A.acting access.old access.new (λ a. PagesAt (values_at E.Node.NodeSet E.Env E.Hash.KeyHash a.environment) place result) }
+    ensures { Acts A.told A.acting access.old access.new
+        (λ a. PagesAt (values_at E.Node.NodeSet E.Env E.Hash.KeyHash a.environment) place result) }
 {
     match access.entry_key(place) {
         None => Ok(()),
@@ -264,7 +277,8 @@ pub fn page_out_pending_over<E: Env<Node: NodeSet<E>>, A: WorkerAccess<E>>(
     alloc: Global,
 ) -> Result<(), PageOutError>
     requires caller { (A.acting access.old).me ≡ Owner.Caller }
-    ensures { Acts A.told A.acting access.old access.new (λ a. PagesList (values_at E.Node.NodeSet E.Env E.Hash.KeyHash a.environment) result) }
+    ensures { Acts A.told A.acting access.old access.new
+        (λ a. PagesList (values_at E.Node.NodeSet E.Env E.Hash.KeyHash a.environment) result) }
 {
     let mut table = LentTable::new(alloc);
     let mut left = access.pending();

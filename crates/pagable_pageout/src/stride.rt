@@ -26,7 +26,8 @@ fn unclaimed<E: Env<Node: NodeSet<E>>, T: Claims<E>>(
     reference: ArcRef,
     e: Error,
 ) -> Task<E>
-    ensures todo { todo_of result ∷ todos path.new.items ≡ fails (was_refused e) (back_of (Some reference.handle) (todos path.old.items)) }
+    ensures todo { todo_of result ∷ todos path.new.items
+        ≡ fails (was_refused e) (back_of (Some reference.handle) (todos path.old.items)) }
     ensures plain { IsPlain result }
     ensures less { due (todo_of result ∷ todos path.new.items) ≡ 1 }
     ensures table { Told (T.shelf table.old) (T.shelf table.new) (λ q q'. SameShelf (with_wait q worker.0 None) q') }
@@ -48,9 +49,14 @@ fn enter<E: Env<Node: NodeSet<E>>, A: WorkerAccess<E>, T: Claims<E>>(
     shared: Result<Option<Arc<E::Node>>, Error>,
 ) -> Task<E>
     requires { IsWay (to_write reference place through ∷ todos path.old.items) }
-    ensures ends { Ends (to_write reference place through ∷ todos path.old.items) (Turn.Goes result) (todo_of result ∷ todos path.new.items) }
-    ensures goes { GoesOn (to_write reference place through ∷ todos path.old.items) (Turn.Goes result) (todo_of result ∷ todos path.new.items) }
-    ensures step { (n : ℕ) (pin : HandleNumber) → Tells (A.told access.now) (λ s. Shares arc_value s pin shared) → ActsBoth A.told A.acting T.shelf access.now table.old access.now table.new (λ a. a) (λ a s q s' q'. HasWalked (values_at E.Node.NodeSet E.Env E.Hash.KeyHash a.environment) a.me n q (Task.Write reference place through pin) (todos path.old.items) q' result (todos path.new.items) s s') }
+    ensures ends { Ends (to_write reference place through ∷ todos path.old.items) (Turn.Goes result)
+        (todo_of result ∷ todos path.new.items) }
+    ensures goes { GoesOn (to_write reference place through ∷ todos path.old.items) (Turn.Goes result)
+        (todo_of result ∷ todos path.new.items) }
+    ensures step { (n : ℕ) (pin : HandleNumber) → Tells (A.told access.now) (λ s. Shares arc_value s pin shared)
+        → ActsBoth A.told A.acting T.shelf access.now table.old access.now table.new (λ a. a)
+        (λ a s q s' q'. HasWalked (values_at E.Node.NodeSet E.Env E.Hash.KeyHash a.environment) a.me n q
+        (Task.Write reference place through pin) (todos path.old.items) q' result (todos path.new.items) s s') }
 {
     match prepare(access, alloc, path, reference, place, through, shared) {
         Ok((waiting, references, told)) => {
@@ -73,9 +79,13 @@ fn take<E: Env<Node: NodeSet<E>>, A: WorkerAccess<E>, T: Claims<E>>(
     place: u64,
 ) -> Task<E>
     requires { IsWay (to_pin reference place ∷ todos path.old.items) }
-    ensures ends { Ends (to_pin reference place ∷ todos path.old.items) (Turn.Goes result) (todo_of result ∷ todos path.new.items) }
-    ensures goes { GoesOn (to_pin reference place ∷ todos path.old.items) (Turn.Goes result) (todo_of result ∷ todos path.new.items) }
-    ensures acts { (n : ℕ) → ActsBoth A.told A.acting T.shelf access.old table.old access.new table.new (λ a. a) (λ a s q s' q'. HasWalked (values_at E.Node.NodeSet E.Env E.Hash.KeyHash a.environment) a.me n q (Task.Pin reference place) (todos path.old.items) q' result (todos path.new.items) s s') }
+    ensures ends { Ends (to_pin reference place ∷ todos path.old.items) (Turn.Goes result)
+        (todo_of result ∷ todos path.new.items) }
+    ensures goes { GoesOn (to_pin reference place ∷ todos path.old.items) (Turn.Goes result)
+        (todo_of result ∷ todos path.new.items) }
+    ensures acts { (n : ℕ) → ActsBoth A.told A.acting T.shelf access.old table.old access.new table.new (λ a. a)
+        (λ a s q s' q'. HasWalked (values_at E.Node.NodeSet E.Env E.Hash.KeyHash a.environment) a.me n q
+        (Task.Pin reference place) (todos path.old.items) q' result (todos path.new.items) s s') }
 {
     match access.take_value(reference) {
         Ok(taken) => match taken {
@@ -106,9 +116,13 @@ fn start<E: Env<Node: NodeSet<E>>, A: WorkerAccess<E>, T: Claims<E>>(
     place: u64,
 ) -> Task<E>
     requires { IsWay (to_start reference place ∷ todos path.old.items) }
-    ensures ends { Ends (to_start reference place ∷ todos path.old.items) (Turn.Goes result) (todo_of result ∷ todos path.new.items) }
-    ensures goes { GoesOn (to_start reference place ∷ todos path.old.items) (Turn.Goes result) (todo_of result ∷ todos path.new.items) }
-    ensures acts { ActsBoth A.told A.acting T.shelf access.old table.old access.new table.new (λ a. a) (λ a s q s' q'. HasWalked (values_at E.Node.NodeSet E.Env E.Hash.KeyHash a.environment) a.me worker.0 q (Task.Start reference place) (todos path.old.items) q' result (todos path.new.items) s s') }
+    ensures ends { Ends (to_start reference place ∷ todos path.old.items) (Turn.Goes result)
+        (todo_of result ∷ todos path.new.items) }
+    ensures goes { GoesOn (to_start reference place ∷ todos path.old.items) (Turn.Goes result)
+        (todo_of result ∷ todos path.new.items) }
+    ensures acts { ActsBoth A.told A.acting T.shelf access.old table.old access.new table.new (λ a. a)
+        (λ a s q s' q'. HasWalked (values_at E.Node.NodeSet E.Env E.Hash.KeyHash a.environment) a.me worker.0 q
+        (Task.Start reference place) (todos path.old.items) q' result (todos path.new.items) s s') }
 {
     let checked = access.check_reference(reference);
     let found = claim(table, worker, reference, place, checked);
@@ -132,7 +146,9 @@ fn begin<E: Env<Node: NodeSet<E>>, A: WorkerAccess<E>, T: Claims<E>>(
     requires { IsWay (to_start reference place ∷ todos path.old.items) }
     ensures ends { Ends (to_start reference place ∷ todos path.old.items) result (plan result path.new.items) }
     ensures goes { GoesOn (to_start reference place ∷ todos path.old.items) result (plan result path.new.items) }
-    ensures acts { ActsBoth A.told A.acting T.shelf access.old table.old access.new table.new (acting_then result) (λ a s q s' q'. Strides (values_at E.Node.NodeSet E.Env E.Hash.KeyHash a.environment) a.me worker.0 q (Task.Start reference place) (todos path.old.items) q' result (todos path.new.items) s s') }
+    ensures acts { ActsBoth A.told A.acting T.shelf access.old table.old access.new table.new (acting_then result)
+        (λ a s q s' q'. Strides (values_at E.Node.NodeSet E.Env E.Hash.KeyHash a.environment) a.me worker.0 q
+        (Task.Start reference place) (todos path.old.items) q' result (todos path.new.items) s s') }
 {
     Turn::Goes(start(access, alloc, table, worker, path, reference, place))
 }
@@ -146,10 +162,14 @@ fn publish<E: Env<Node: NodeSet<E>>, T: Claims<E>>(
     done: Done<E>,
 ) -> Turn<E>
     requires { AwaitsLow (todos path.old.items) done.reference done.found.height }
-    ensures ends { Ends (to_publish done.reference done.found.key done.found.height ∷ todos path.old.items) result (plan result path.new.items) }
-    ensures goes { GoesOn (to_publish done.reference done.found.key done.found.height ∷ todos path.old.items) result (plan result path.new.items) }
+    ensures ends { Ends (to_publish done.reference done.found.key done.found.height ∷ todos path.old.items) result
+        (plan result path.new.items) }
+    ensures goes { GoesOn (to_publish done.reference done.found.key done.found.height ∷ todos path.old.items) result
+        (plan result path.new.items) }
     ensures hands { HandsOn done (todos path.old.items) result (plan result path.new.items) }
-    ensures table { Told (T.shelf table.old) (T.shelf table.new) (λ q q'. SameShelf (with_changed_slot q done.found.identity (with_outcome (published done.found.key done.found.height))) q') }
+    ensures table { Told (T.shelf table.old) (T.shelf table.new)
+        (λ q q'. SameShelf (with_changed_slot q done.found.identity
+        (with_outcome (published done.found.key done.found.height))) q') }
 {
     table.publish(&done.found);
     match give(path, done) {
@@ -174,7 +194,9 @@ fn leave_node<E: Env<Node: NodeSet<E>>, A: WorkerAccess<E>, T: Claims<E>>(
     requires node { waiting.node ≡ Some node }
     ensures ends { Ends (waiting_todo waiting ∷ todos path.old.items) result (plan result path.new.items) }
     ensures goes { GoesOn (waiting_todo waiting ∷ todos path.old.items) result (plan result path.new.items) }
-    ensures acts { ActsBoth A.told A.acting T.shelf access.old table.old access.new table.new (λ a. a) (λ a s q s' q'. ComesTo (values_at E.Node.NodeSet E.Env E.Hash.KeyHash a.environment) a.me worker.0 q (Task.Finish waiting) (todos path.old.items) q' result (plan result path.new.items) s s') }
+    ensures acts { ActsBoth A.told A.acting T.shelf access.old table.old access.new table.new (λ a. a)
+        (λ a s q s' q'. ComesTo (values_at E.Node.NodeSet E.Env E.Hash.KeyHash a.environment) a.me worker.0 q
+        (Task.Finish waiting) (todos path.old.items) q' result (plan result path.new.items) s s') }
 {
     match store_node(access, alloc, worker, &waiting, node) {
         Ok(key) => publish(table, path, done_with(&waiting, node, key)),
@@ -193,7 +215,9 @@ fn leave_item<E: Env<Node: NodeSet<E>>, A: WorkerAccess<E>>(
     requires { IsWay (waiting_todo waiting ∷ todos path.old.items) }
     ensures ends { Ends (waiting_todo waiting ∷ todos path.old.items) result (plan result path.new.items) }
     ensures goes { GoesOn (waiting_todo waiting ∷ todos path.old.items) result (plan result path.new.items) }
-    ensures acts { (n : ℕ) (shelf : Shelf) → Acts A.told A.acting access.old access.new (λ a s t. ComesTo (values_at E.Node.NodeSet E.Env E.Hash.KeyHash a.environment) a.me n shelf (Task.Finish waiting) (todos path.old.items) shelf result (plan result path.new.items) s t) }
+    ensures acts { (n : ℕ) (shelf : Shelf) → Acts A.told A.acting access.old access.new
+        (λ a s t. ComesTo (values_at E.Node.NodeSet E.Env E.Hash.KeyHash a.environment) a.me n shelf
+        (Task.Finish waiting) (todos path.old.items) shelf result (plan result path.new.items) s t) }
 {
     match store(access, alloc, &waiting) {
         Ok(key) => stored(waiting, key),
@@ -213,7 +237,9 @@ fn leave<E: Env<Node: NodeSet<E>>, A: WorkerAccess<E>, T: Claims<E>>(
     requires { IsWay (waiting_todo waiting ∷ todos path.old.items) }
     ensures ends { Ends (waiting_todo waiting ∷ todos path.old.items) result (plan result path.new.items) }
     ensures goes { GoesOn (waiting_todo waiting ∷ todos path.old.items) result (plan result path.new.items) }
-    ensures acts { ActsBoth A.told A.acting T.shelf access.old table.old access.new table.new (λ a. a) (λ a s q s' q'. ComesTo (values_at E.Node.NodeSet E.Env E.Hash.KeyHash a.environment) a.me worker.0 q (Task.Finish waiting) (todos path.old.items) q' result (plan result path.new.items) s s') }
+    ensures acts { ActsBoth A.told A.acting T.shelf access.old table.old access.new table.new (λ a. a)
+        (λ a s q s' q'. ComesTo (values_at E.Node.NodeSet E.Env E.Hash.KeyHash a.environment) a.me worker.0 q
+        (Task.Finish waiting) (todos path.old.items) q' result (plan result path.new.items) s s') }
 {
     match waiting.node {
         Some(node) => leave_node(access, alloc, table, worker, path, waiting, node),
@@ -240,8 +266,11 @@ pub fn stride<E: Env<Node: NodeSet<E>>, A: WorkerAccess<E>, T: Claims<E>>(
     requires { IsWay (todo_of task ∷ todos path.old.items) }
     ensures way { IsWay (plan result path.new.items) }
     ensures ends { Ends (todo_of task ∷ todos path.old.items) result (plan result path.new.items) }
-    ensures falls { IfGoes result (left.new * far + due (plan result path.new.items) < left.old * far + due (todo_of task ∷ todos path.old.items)) }
-    ensures acts { ActsBoth A.told A.acting T.shelf access.old table.old access.new table.new (acting_then result) (λ a s q s' q'. Strides (values_at E.Node.NodeSet E.Env E.Hash.KeyHash a.environment) a.me worker.0 q task (todos path.old.items) q' result (todos path.new.items) s s') }
+    ensures falls { IfGoes result (left.new * far + due (plan result path.new.items) < left.old * far + due
+        (todo_of task ∷ todos path.old.items)) }
+    ensures acts { ActsBoth A.told A.acting T.shelf access.old table.old access.new table.new (acting_then result)
+        (λ a s q s' q'. Strides (values_at E.Node.NodeSet E.Env E.Hash.KeyHash a.environment) a.me worker.0 q task
+        (todos path.old.items) q' result (todos path.new.items) s s') }
 {
     match task {
         Task::Start(reference, place) => {

@@ -43,9 +43,11 @@ pub struct Waiting<E: Env<Node: NodeSet<E>>> {
     pub written: Arc<SerializedData>,
     pub children: Vec<SlotResult<E>>,
     pub ghost near: { (n : OfNode) → node ≡ Some n → n.place + n.height ≤ longest_path },
-    pub ghost form: { (n : OfNode) → node ≡ Some n → ∥ HasFormOf (values_at E.Node.NodeSet E.Env E.Hash.KeyHash) (identity_of n.reference) (written_of (arc_value written)) ∥₁ },
+    pub ghost form: { (n : OfNode) → node ≡ Some n → ∥ HasFormOf (values_at E.Node.NodeSet E.Env E.Hash.KeyHash)
+        (identity_of n.reference) (written_of (arc_value written)) ∥₁ },
     pub ghost places: { length (written_of (arc_value written)).references ≤ vec_capacity children },
-    pub ghost each: { ids_of children.items ≡ map identity_of (take (length children.items) (written_of (arc_value written)).references) },
+    pub ghost each: { ids_of children.items ≡ map identity_of
+        (take (length children.items) (written_of (arc_value written)).references) },
 }
 
 /// A reference with the result of what it names.

@@ -38,7 +38,8 @@ pub fn claim<E: Env<Node: NodeSet<E>>, T: Claims<E>>(
     place: u64,
     checked: Result<(), Error>,
 ) -> Result<ClaimResult<E>, Error>
-    ensures step { Told (T.shelf table.old) (T.shelf table.new) (λ s s'. (core : Core) (below : List Todo) → fault_in checked ≡ claim_fault core reference
+    ensures step { Told (T.shelf table.old) (T.shelf table.new)
+        (λ s s'. (core : Core) (below : List Todo) → fault_in checked ≡ claim_fault core reference
         → Claims worker.0 (site core s (to_start reference place ∷ below)) reference place below (found_as result)
         (site core s' (claim_todo reference place below (found_as result)))) }
     ensures fits { ClaimFits reference place result }
@@ -79,7 +80,8 @@ pub fn after_claim<E: Env<Node: NodeSet<E>>>(
 ) -> Task<E>
     requires way { Awaits (todos path.old.items) reference place }
     requires fits { ClaimFits reference place claim }
-    ensures todo { todo_of result ∷ todos path.new.items ≡ claim_todo reference place (todos path.old.items) (found_as claim) }
+    ensures todo { todo_of result ∷ todos path.new.items
+        ≡ claim_todo reference place (todos path.old.items) (found_as claim) }
     ensures way { IsWay (todo_of result ∷ todos path.new.items) }
     ensures less { due (todo_of result ∷ todos path.new.items) ≤ most + 6 * length (todos path.old.items) }
     ensures leaves { ClaimLeaves reference place claim result }
@@ -113,7 +115,9 @@ pub fn pin<E: Env<Node: NodeSet<E>>, A: WorkerAccess<E>>(
     requires { IsWay (to_pin reference place ∷ todos path.old.items) }
     ensures ends { Ends (to_pin reference place ∷ todos path.old.items) result.turn (plan result.turn path.new.items) }
     ensures goes { GoesOn (to_pin reference place ∷ todos path.old.items) result.turn (plan result.turn path.new.items) }
-    ensures acts { (n : ℕ) (shelf : Shelf) → Acts A.told A.acting access.old access.new (λ a. TurnsTo (values_at E.Node.NodeSet E.Env E.Hash.KeyHash a.environment) a.me n shelf (Task.Pin reference place) (todos path.old.items) shelf result (plan result.turn path.new.items)) }
+    ensures acts { (n : ℕ) (shelf : Shelf) → Acts A.told A.acting access.old access.new
+        (λ a. TurnsTo (values_at E.Node.NodeSet E.Env E.Hash.KeyHash a.environment) a.me n shelf
+        (Task.Pin reference place) (todos path.old.items) shelf result (plan result.turn path.new.items)) }
 {
     let identity = named(reference);
     match access.take_reference(reference) {
@@ -152,9 +156,14 @@ pub fn load<E: Env<Node: NodeSet<E>>, A: WorkerAccess<E>>(
     mut reading: Reading,
 ) -> StepResult<E>
     requires { IsWay (to_load reference place through (reading_of reading) ∷ todos path.old.items) }
-    ensures ends { Ends (to_load reference place through (reading_of reading) ∷ todos path.old.items) result.turn (plan result.turn path.new.items) }
-    ensures goes { GoesOn (to_load reference place through (reading_of reading) ∷ todos path.old.items) result.turn (plan result.turn path.new.items) }
-    ensures acts { (n : ℕ) (shelf : Shelf) → Acts A.told A.acting access.old access.new (λ a. TurnsTo (values_at E.Node.NodeSet E.Env E.Hash.KeyHash a.environment) a.me n shelf (Task.Load reference place through reading) (todos path.old.items) shelf result (plan result.turn path.new.items)) }
+    ensures ends { Ends (to_load reference place through (reading_of reading) ∷ todos path.old.items) result.turn
+        (plan result.turn path.new.items) }
+    ensures goes { GoesOn (to_load reference place through (reading_of reading) ∷ todos path.old.items) result.turn
+        (plan result.turn path.new.items) }
+    ensures acts { (n : ℕ) (shelf : Shelf) → Acts A.told A.acting access.old access.new
+        (λ a. TurnsTo (values_at E.Node.NodeSet E.Env E.Hash.KeyHash a.environment) a.me n shelf
+        (Task.Load reference place through reading) (todos path.old.items) shelf result
+        (plan result.turn path.new.items)) }
 {
     let identity = named(reference);
     match reading.step(access, alloc) {
@@ -188,8 +197,10 @@ fn written<E: Env<Node: NodeSet<E>>>(
     alloc: Global,
     node: &E::Node,
 ) -> Result<SerializedData, Error>
-    ensures form { IfOk result (λ d. IsForm (values_at E.Node.NodeSet E.Env E.Hash.KeyHash env.now) node.now (written_of d)) }
-    ensures refused { IfErr result (λ e. WriteRefused (values_at E.Node.NodeSet E.Env E.Hash.KeyHash env.now) node.now e) }
+    ensures form { IfOk result (λ d. IsForm (values_at E.Node.NodeSet E.Env E.Hash.KeyHash env.now) node.now
+        (written_of d)) }
+    ensures refused { IfErr result (λ e. WriteRefused (values_at E.Node.NodeSet E.Env E.Hash.KeyHash env.now) node.now
+        e) }
 {
     let mut serializer = SerializerForPaging::new(alloc, env, session);
     node.write(&mut serializer)?;
@@ -206,8 +217,10 @@ fn form<E: Env<Node: NodeSet<E>>>(
     reference: ArcRef,
     shared: Result<Option<Arc<E::Node>>, Error>,
 ) -> Result<SerializedData, Error>
-    ensures form { IfOk result (λ d. ∥ HasFormOf (values_at E.Node.NodeSet E.Env E.Hash.KeyHash) (identity_of reference) (written_of d) ∥₁) }
-    ensures forms { (s : PagerState E.Node E) (pin : HandleNumber) → Shares arc_value s pin shared → Forms (values_at E.Node.NodeSet E.Env E.Hash.KeyHash env.now) s reference pin (seen_as written_of result) }
+    ensures form { IfOk result (λ d. ∥ HasFormOf (values_at E.Node.NodeSet E.Env E.Hash.KeyHash) (identity_of reference)
+        (written_of d) ∥₁) }
+    ensures forms { (s : PagerState E.Node E) (pin : HandleNumber) → Shares arc_value s pin shared
+        → Forms (values_at E.Node.NodeSet E.Env E.Hash.KeyHash env.now) s reference pin (seen_as written_of result) }
 {
     match shared {
         Ok(Some(node)) => {
@@ -237,9 +250,12 @@ pub(crate) fn prepare<E: Env<Node: NodeSet<E>>, A: WorkerAccess<E>>(
     requires near { place ≤ longest_path }
     ensures path { path.new.items ≡ path.old.items }
     ensures room { OnOk result (vec_len path.new < vec_capacity path.new) }
-    ensures open { IfOk result (λ p. waiting_todo p.0 ≡ to_finish (just_open reference place through (written_of (arc_value p.2)))) }
+    ensures open { IfOk result (λ p. waiting_todo p.0 ≡ to_finish
+        (just_open reference place through (written_of (arc_value p.2)))) }
     ensures listed { IfOk result (λ p. p.1.items ≡ (written_of (arc_value p.2)).references) }
-    ensures forms { (s : PagerState E.Node E) (pin : HandleNumber) → Shares arc_value s pin shared → Forms (values_at E.Node.NodeSet E.Env E.Hash.KeyHash (A.acting access.now).environment) s reference pin (seen_as (λ p. written_of (arc_value p.2)) result) }
+    ensures forms { (s : PagerState E.Node E) (pin : HandleNumber) → Shares arc_value s pin shared
+        → Forms (values_at E.Node.NodeSet E.Env E.Hash.KeyHash (A.acting access.now).environment) s reference pin
+        (seen_as (λ p. written_of (arc_value p.2)) result) }
 {
     path.reserve(1)?;
     let once = form(
@@ -280,9 +296,14 @@ pub fn write<E: Env<Node: NodeSet<E>>, A: WorkerAccess<E>, T: Claims<E>>(
     pin: HandleNumber,
 ) -> StepResult<E>
     requires { IsWay (to_write reference place through ∷ todos path.old.items) }
-    ensures ends { Ends (to_write reference place through ∷ todos path.old.items) result.turn (plan result.turn path.new.items) }
-    ensures goes { GoesOn (to_write reference place through ∷ todos path.old.items) result.turn (plan result.turn path.new.items) }
-    ensures step { (n : ℕ) → ActsBoth A.told A.acting T.shelf access.now table.old access.now table.new (λ a. a) (λ a s q s' q'. TurnsTo (values_at E.Node.NodeSet E.Env E.Hash.KeyHash a.environment) a.me n q (Task.Write reference place through pin) (todos path.old.items) q' result (plan result.turn path.new.items) s s') }
+    ensures ends { Ends (to_write reference place through ∷ todos path.old.items) result.turn
+        (plan result.turn path.new.items) }
+    ensures goes { GoesOn (to_write reference place through ∷ todos path.old.items) result.turn
+        (plan result.turn path.new.items) }
+    ensures step { (n : ℕ) → ActsBoth A.told A.acting T.shelf access.now table.old access.now table.new (λ a. a)
+        (λ a s q s' q'. TurnsTo (values_at E.Node.NodeSet E.Env E.Hash.KeyHash a.environment) a.me n q
+        (Task.Write reference place through pin) (todos path.old.items) q' result (plan result.turn path.new.items) s
+        s') }
 {
     let identity = named(reference);
     let shared = access.share(pin);
@@ -308,7 +329,8 @@ pub fn write<E: Env<Node: NodeSet<E>>, A: WorkerAccess<E>, T: Claims<E>>(
 // Makes the blob of what was written, with the keys of its references' results. Fails with
 // OutOfMemory alone.
 fn blob<E: Env<Node: NodeSet<E>>>(alloc: Global, waiting: &Waiting<E>) -> Result<PagableData, Error>
-    ensures blob { IfOk result (λ blob. blob_of blob ≡ blob_over (written_of (arc_value waiting.now.written)).bytes (keys_of waiting.now.children.items)) }
+    ensures blob { IfOk result (λ blob. blob_of blob ≡ blob_over (written_of (arc_value waiting.now.written)).bytes
+        (keys_of waiting.now.children.items)) }
     ensures only { IfErr result (λ e. e ≡ Error.OutOfMemory) }
 {
     let children = &waiting.children;
@@ -324,8 +346,10 @@ pub(crate) fn store<E: Env<Node: NodeSet<E>>, A: WorkerAccess<E>>(
     alloc: Global,
     waiting: &Waiting<E>,
 ) -> Result<DataKey, Error>
-    ensures key { IfOk result (λ key. key ≡ key_of E.Hash.digest (blob_over (written_of (arc_value waiting.now.written)).bytes (keys_of waiting.now.children.items))) }
-    ensures acts { Acts A.told A.acting access.old access.new (λ a s t. Stores (values_at E.Node.NodeSet E.Env E.Hash.KeyHash a.environment) s
+    ensures key { IfOk result (λ key. key ≡ key_of E.Hash.digest
+        (blob_over (written_of (arc_value waiting.now.written)).bytes (keys_of waiting.now.children.items))) }
+    ensures acts { Acts A.told A.acting access.old access.new
+        (λ a s t. Stores (values_at E.Node.NodeSet E.Env E.Hash.KeyHash a.environment) s
         (blob_over (written_of (arc_value waiting.now.written)).bytes (keys_of waiting.now.children.items)) result t) }
 {
     let blob = blob(alloc, waiting)?;
@@ -360,8 +384,10 @@ pub(crate) fn store_node<E: Env<Node: NodeSet<E>>, A: WorkerAccess<E>>(
     waiting: &Waiting<E>,
     node: Node,
 ) -> Result<DataKey, Error>
-    ensures key { IfOk result (λ key. key ≡ key_of E.Hash.digest (blob_over (written_of (arc_value waiting.now.written)).bytes (keys_of waiting.now.children.items))) }
-    ensures acts { Acts A.told A.acting access.old access.new (λ a s t. LeavesNode (values_at E.Node.NodeSet E.Env E.Hash.KeyHash a.environment) a.me worker.0 node s
+    ensures key { IfOk result (λ key. key ≡ key_of E.Hash.digest
+        (blob_over (written_of (arc_value waiting.now.written)).bytes (keys_of waiting.now.children.items))) }
+    ensures acts { Acts A.told A.acting access.old access.new
+        (λ a s t. LeavesNode (values_at E.Node.NodeSet E.Env E.Hash.KeyHash a.environment) a.me worker.0 node s
         (blob_over (written_of (arc_value waiting.now.written)).bytes (keys_of waiting.now.children.items)) result t) }
 {
     let blob = blob(alloc, waiting)?;
@@ -380,8 +406,10 @@ pub(crate) fn done_with<E: Env<Node: NodeSet<E>>>(
     key: DataKey,
 ) -> Done<E>
     requires node { waiting.now.node ≡ Some node }
-    requires all { length (keys_of waiting.now.children.items) ≡ length (written_of (arc_value waiting.now.written)).references }
-    requires key { key ≡ key_of E.Hash.digest (blob_over (written_of (arc_value waiting.now.written)).bytes (keys_of waiting.now.children.items)) }
+    requires all { length (keys_of waiting.now.children.items)
+        ≡ length (written_of (arc_value waiting.now.written)).references }
+    requires key { key ≡ key_of E.Hash.digest (blob_over (written_of (arc_value waiting.now.written)).bytes
+        (keys_of waiting.now.children.items)) }
     ensures reference { result.reference ≡ node.reference }
     ensures key { result.found.key ≡ key }
     ensures height { result.found.height ≡ node.height }
@@ -398,10 +426,13 @@ pub(crate) fn done_with<E: Env<Node: NodeSet<E>>>(
 
 // Returns what follows when a blob is stored: setting the node's key; or, for an item, the answer.
 pub(crate) fn stored<E: Env<Node: NodeSet<E>>>(waiting: Waiting<E>, key: DataKey) -> Turn<E>
-    requires all { length (keys_of waiting.children.items) ≡ length (written_of (arc_value waiting.written)).references }
-    requires key { key ≡ key_of E.Hash.digest (blob_over (written_of (arc_value waiting.written)).bytes (keys_of waiting.children.items)) }
+    requires all { length (keys_of waiting.children.items)
+        ≡ length (written_of (arc_value waiting.written)).references }
+    requires key { key ≡ key_of E.Hash.digest (blob_over (written_of (arc_value waiting.written)).bytes
+        (keys_of waiting.children.items)) }
     ensures stored { IsStored waiting.node key result }
-    ensures over { IfKey result (λ key. ∥ IsOver E.Hash.digest (values_at E.Node.NodeSet E.Env E.Hash.KeyHash) (written_of (arc_value waiting.written)) key ∥₁) }
+    ensures over { IfKey result (λ key. ∥ IsOver E.Hash.digest (values_at E.Node.NodeSet E.Env E.Hash.KeyHash)
+        (written_of (arc_value waiting.written)) key ∥₁) }
 {
     let Some(node) = waiting.node else {
         return Turn::Answers(WorkerAnswer::Key(key));
@@ -420,7 +451,9 @@ pub fn finish<E: Env<Node: NodeSet<E>>, A: WorkerAccess<E>>(
     requires { IsWay (waiting_todo waiting ∷ todos path.old.items) }
     ensures ends { Ends (waiting_todo waiting ∷ todos path.old.items) result.turn (plan result.turn path.new.items) }
     ensures goes { GoesOn (waiting_todo waiting ∷ todos path.old.items) result.turn (plan result.turn path.new.items) }
-    ensures acts { (n : ℕ) (shelf : Shelf) → Acts A.told A.acting access.old access.new (λ a. TurnsTo (values_at E.Node.NodeSet E.Env E.Hash.KeyHash a.environment) a.me n shelf (Task.Finish waiting) (todos path.old.items) shelf result (plan result.turn path.new.items)) }
+    ensures acts { (n : ℕ) (shelf : Shelf) → Acts A.told A.acting access.old access.new
+        (λ a. TurnsTo (values_at E.Node.NodeSet E.Env E.Hash.KeyHash a.environment) a.me n shelf (Task.Finish waiting)
+        (todos path.old.items) shelf result (plan result.turn path.new.items)) }
 {
     let identity = named_by(&waiting.node);
     match store(access, alloc, &waiting) {
@@ -446,7 +479,8 @@ pub(crate) fn set_key_of<E: Env<Node: NodeSet<E>>, A: WorkerAccess<E>>(
     through: HandleNumber,
     key: DataKey,
 ) -> Result<(), Error>
-    ensures { Acts A.told A.acting access.old access.new (λ a. SetsFor (values_at E.Node.NodeSet E.Env E.Hash.KeyHash a.environment) a.me reference through key result) }
+    ensures { Acts A.told A.acting access.old access.new
+        (λ a. SetsFor (values_at E.Node.NodeSet E.Env E.Hash.KeyHash a.environment) a.me reference through key result) }
 {
     if reference.kind.0 % 3 != 1 {
         return Ok(());
@@ -463,9 +497,13 @@ pub fn set_key<E: Env<Node: NodeSet<E>>, A: WorkerAccess<E>>(
     through: HandleNumber,
 ) -> StepResult<E>
     requires { AwaitsLow (todos path.old.items) done.reference done.found.height }
-    ensures ends { Ends (to_set done.reference through done.found.key done.found.height ∷ todos path.old.items) result.turn (plan result.turn path.new.items) }
-    ensures goes { GoesOn (to_set done.reference through done.found.key done.found.height ∷ todos path.old.items) result.turn (plan result.turn path.new.items) }
-    ensures acts { (n : ℕ) (shelf : Shelf) → Acts A.told A.acting access.old access.new (λ a. TurnsTo (values_at E.Node.NodeSet E.Env E.Hash.KeyHash a.environment) a.me n shelf (Task.SetKey done through) (todos path.old.items) shelf result (plan result.turn path.new.items)) }
+    ensures ends { Ends (to_set done.reference through done.found.key done.found.height ∷ todos path.old.items)
+        result.turn (plan result.turn path.new.items) }
+    ensures goes { GoesOn (to_set done.reference through done.found.key done.found.height ∷ todos path.old.items)
+        result.turn (plan result.turn path.new.items) }
+    ensures acts { (n : ℕ) (shelf : Shelf) → Acts A.told A.acting access.old access.new
+        (λ a. TurnsTo (values_at E.Node.NodeSet E.Env E.Hash.KeyHash a.environment) a.me n shelf
+        (Task.SetKey done through) (todos path.old.items) shelf result (plan result.turn path.new.items)) }
 {
     let identity = named(done.reference);
     match set_key_of(access, done.reference, through, done.key()) {
@@ -492,9 +530,13 @@ pub fn release<E: Env<Node: NodeSet<E>>, A: WorkerAccess<E>>(
     done: Done<E>,
 ) -> StepResult<E>
     requires { AwaitsLow (todos path.old.items) done.reference done.found.height }
-    ensures ends { Ends (to_release done.reference done.found.key done.found.height ∷ todos path.old.items) result.turn (plan result.turn path.new.items) }
-    ensures goes { GoesOn (to_release done.reference done.found.key done.found.height ∷ todos path.old.items) result.turn (plan result.turn path.new.items) }
-    ensures acts { (shelf : Shelf) → Acts A.told A.acting access.old access.new (λ a. TurnsTo (values_at E.Node.NodeSet E.Env E.Hash.KeyHash a.environment) a.me worker.0 shelf (Task.Release done) (todos path.old.items) shelf result (plan result.turn path.new.items)) }
+    ensures ends { Ends (to_release done.reference done.found.key done.found.height ∷ todos path.old.items) result.turn
+        (plan result.turn path.new.items) }
+    ensures goes { GoesOn (to_release done.reference done.found.key done.found.height ∷ todos path.old.items)
+        result.turn (plan result.turn path.new.items) }
+    ensures acts { (shelf : Shelf) → Acts A.told A.acting access.old access.new
+        (λ a. TurnsTo (values_at E.Node.NodeSet E.Env E.Hash.KeyHash a.environment) a.me worker.0 shelf
+        (Task.Release done) (todos path.old.items) shelf result (plan result.turn path.new.items)) }
 {
     let identity = named(done.reference);
     access.give_up(worker, identity.node);
@@ -518,7 +560,8 @@ pub fn give_back<E: Env<Node: NodeSet<E>>, A: WorkerAccess<E>>(
     access: &mut A,
     back: Option<HandleNumber>,
 )
-    ensures { Acts A.told A.acting access.old access.new (λ a s t. GoesBack (values_at E.Node.NodeSet E.Env E.Hash.KeyHash a.environment) a.me back s t) }
+    ensures { Acts A.told A.acting access.old access.new
+        (λ a s t. GoesBack (values_at E.Node.NodeSet E.Env E.Hash.KeyHash a.environment) a.me back s t) }
 {
     let Some(entry) = back else {
         return;

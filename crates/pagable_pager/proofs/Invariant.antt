@@ -41,7 +41,12 @@ whole-over t storage whole shut =
     record {
       handles = search rules;
       owners_there = search rules;
-      loads = record { numbered = l.numbered; owned = l.owned; roots = λ n load node k q e root. let r = l.roots n load node k q e root in record { typed = r.typed; begun = r.begun; given = r.given } };
+      loads = record {
+        numbered = l.numbered;
+        owned = l.owned;
+        roots = λ n load node k q e root. let r = l.roots n load node k q e root in
+            record { typed = r.typed; begun = r.begun; given = r.given };
+      };
       cache = λ kind key n known. let c = is.cache kind key n known in record { given = c.given; typed = c.typed; shares = c.shares };
       workers_numbered = is.workers_numbered;
       shut = shut;
@@ -61,10 +66,12 @@ here-told o w n cell pinned = grind (arith, nat_tests, has-key)
 pub some-map : {X Y : Type 0} (f : X → Y) (o : Option X) → is_some (option_map f o) ≡ is_some o
 some-map f o = grind (arith, nat_tests)
 
-pub left-map : {X Y : Type 0} (f : X → Y) (b : Bool) (old new : Option X) → ((new ≡ old) ⊎ (new ≡ None)) → is_some new ≡ b → option_map f new ≡ (if b then option_map f old else None)
+pub left-map : {X Y : Type 0} (f : X → Y) (b : Bool) (old new : Option X) → ((new ≡ old) ⊎ (new ≡ None)) → is_some new ≡ b → option_map f new
+    ≡ (if b then option_map f old else None)
 left-map f b old new which some = grind (arith, nat_tests)
 
-pub less-moves : {N S E : Type 0} (tells : Telling S) {comes : ℕ → N → Type 0} (p q : PagerView N S E) → OnlyLess p q → Moves comes (state_in tells p) (state_in tells q)
+pub less-moves : {N S E : Type 0} (tells : Telling S) {comes : ℕ → N → Type 0} (p q : PagerView N S E) → OnlyLess p q
+    → Moves comes (state_in tells p) (state_in tells q)
 less-moves tells p q less = record { each = λ n x has. inl (less.values n x has); environment = less.environment }
 
 module _ {N S E : Type 0} {tells : Telling S} {says : E → Values N} {p : PagerView N S E} (is : IsPager tells says p) where
@@ -72,7 +79,8 @@ module _ {N S E : Type 0} {tells : Telling S} {says : E → Values N} {p : Pager
   here-in n = here-told (counts_at p.tables.ref_counts.nodes n) (core_in tells p) n refl (sym (is.tables.steady.fits.pinned n))
 
   -- the value is in memory of a node that the cache gives for handles that pin
-  pub known-valued : (kind key n : ℕ) → usable (core_in tells p) kind key ≡ Some n → is_pinning (mode_of kind) ≡ true → has_value (counts_at p.tables.ref_counts.nodes n) ≡ true
+  pub known-valued : (kind key n : ℕ) → usable (core_in tells p) kind key ≡ Some n → is_pinning (mode_of kind) ≡ true
+      → has_value (counts_at p.tables.ref_counts.nodes n) ≡ true
   known-valued kind key n known pinning =
       grind (arith, nat_tests, entered-of kind key n (core_in tells p) known, known-here is.state.whole kind key n known pinning, here-in n)
 
@@ -84,7 +92,8 @@ module _ {N S E : Type 0} {tells : Telling S} {says : E → Values N} {p : Pager
         → WellFormed (says p.environment) (state_in tells (record p { tables = t }))) → IsPager tells says (record p { tables = t })
     made-by state = in-step (record p { tables = t }) call.whole (call.later is.later) (state (call.does (tells p.storage)))
 
-    pub called : (step (core_in tells p) (core_in tells (record p { tables = t })) → Rests (core_in tells p) (core_in tells (record p { tables = t }))) → IsPager tells says (record p { tables = t })
+    pub called : (step (core_in tells p) (core_in tells (record p { tables = t })) → Rests (core_in tells p) (core_in tells (record p { tables = t })))
+        → IsPager tells says (record p { tables = t })
     called rests = made-by (λ made. spared is.state (rests made) (λ n. refl))
 
   -- values went with their nodes
@@ -95,10 +104,12 @@ module _ {N S E : Type 0} {tells : Telling S} {says : E → Values N} {p : Pager
     abbrev Goes : Type 0
     Goes = Sheds (counts_at p.tables.ref_counts.nodes) (row_by p.values) (counts_at t.ref_counts.nodes) (row_by values)
 
-    pub swept : IsWhole t → Goes → (n : ℕ) → value_in values n ≡ (if is_some ((plain_of t).cells n) && is_here (plain_of t) n then value_in p.values n else None)
+    pub swept : IsWhole t → Goes → (n : ℕ) → value_in values n ≡ (if is_some ((plain_of t).cells n)
+        && is_here (plain_of t) n then value_in p.values n else None)
     swept whole sheds n = grind (arith, nat_tests, here-told, kept-in, left-map, nat_eq)
 
-    pub release_at : IsWhole t → AreLater t → Goes → (Leaves (value_in p.values) (state_in tells gone) → WellFormed (says p.environment) (state_in tells gone)) → IsPager tells says gone
+    pub release_at : IsWhole t → AreLater t → Goes → (Leaves (value_in p.values) (state_in tells gone) → WellFormed (says p.environment) (state_in tells gone))
+        → IsPager tells says gone
     release_at whole later sheds state = in-step gone whole later (λ right. state (record { swept = swept whole sheds; right = right }))
 
     pub less : Goes → (n : ℕ) (x : N) → value_in values n ≡ Some x → value_in p.values n ≡ Some x
@@ -109,7 +120,8 @@ module _ {N S E : Type 0} {tells : Telling S} {says : E → Values N} {p : Pager
 
     -- by a call of the tables
     module _ {b : Bool} {step : Core → Core → Type 0} (call : DoesShed (not b) p.tables p.values step t values) (opens : b ≡ (tells p.storage).closed) where
-      pub release_at-by : (Leaves (value_in p.values) (state_in tells gone) → step (core_in tells p) (core_in tells gone) → WellFormed (says p.environment) (state_in tells gone))
+      pub release_at-by : (Leaves (value_in p.values) (state_in tells gone) → step (core_in tells p) (core_in tells gone)
+          → WellFormed (says p.environment) (state_in tells gone))
           → IsPager tells says gone × Settles OnlyLess tells says p step gone
       release_at-by state =
           let after : IsPager tells says gone = release_at call.whole (call.later is.later) call.sheds (λ left. state left (call.does _ _ _ (ap not opens))) in (
@@ -125,7 +137,8 @@ module _ {N S E : Type 0} {tells : Telling S} {says : E → Values N} {p : Pager
       same-so a = release_at whole later sheds (stayed is.state (unmoved a is.state.whole.shut))
 
       pub none-so : t ≡ p.tables → IsPager tells says gone
-      none-so same = same-so (subst (λ (x : Tables). Alike (core_in tells p) (core_in tells (record p { tables = x; values = values }))) (sym same) (still (core_in tells p)))
+      none-so same = same-so (subst (λ (x : Tables). Alike (core_in tells p) (core_in tells (record p { tables = x; values = values }))) (sym same)
+          (still (core_in tells p)))
 
 pub caller-free : NotValues Owner.Caller
 caller-free n is = absurd (cc)
@@ -143,43 +156,55 @@ module _ {N S E : Type 0} {tells : Telling S} {says : E → Values N} {p q : Pag
   owner-loads m = grind (arith, nat_tests, owner-may)
 
 -- what a load asks for
-pub known_found : {w w' : Core} {me : Owner} {l : LoadNumber} {kind : Kind} {key : ℕ} {k : HandleNumber} (found : Option HandleNumber) → found ≡ Some k → AsksKnown w me l kind key (Ok found) w'
+pub known_found : {w w' : Core} {me : Owner} {l : LoadNumber} {kind : Kind} {key : ℕ} {k : HandleNumber} (found : Option HandleNumber) → found ≡ Some k
+    → AsksKnown w me l kind key (Ok found) w'
     → AskCall w me l (Want.Nested kind key) (Ok (from_cache k)) w'
 known_found found some known = grind (arith, nat_tests)
 
-pub asks-kept : {w w' : Core} {me : Owner} {l : LoadNumber} {kind : Kind} {key : ℕ} (r : Result (Option HandleNumber) Error) → AsksKnown w me l kind key r w' → KeepsWorkers w w'
+pub asks-kept : {w w' : Core} {me : Owner} {l : LoadNumber} {kind : Kind} {key : ℕ} (r : Result (Option HandleNumber) Error) → AsksKnown w me l kind key r w'
+    → KeepsWorkers w w'
 asks-kept r c = grind (arith, nat_tests)
 
 -- and no value comes or goes by that
-pub asks : {w w' : Core} {me : Owner} {l : LoadNumber} {kind : Kind} {key : ℕ} → pager.IsWhole w → (r : Result (Option HandleNumber) Error) → AsksKnown w me l kind key r w' → Rests w w'
+pub asks : {w w' : Core} {me : Owner} {l : LoadNumber} {kind : Kind} {key : ℕ} → pager.IsWhole w → (r : Result (Option HandleNumber) Error)
+    → AsksKnown w me l kind key r w' → Rests w w'
 asks {l = l} whole (Ok found) c = recalls whole (not-load l) (Ok found) (record { answers = c.gives.2; refused = tt })
 asks whole (Err e) c = unmoved c.refused.stays whole.shut
 
-module _ {N S E : Type 0} {tells : Telling S} {says : E → Values N} {p : PagerView N S E} (is : IsPager tells says p) (s : S) (stays : (tells s).closed ≡ (tells p.storage).closed)
+module _ {N S E : Type 0} {tells : Telling S} {says : E → Values N} {p : PagerView N S E} (is : IsPager tells says p) (s : S)
+    (stays : (tells s).closed ≡ (tells p.storage).closed)
     (more : (tells p.storage).failures ≤ (tells s).failures) where
   abbrev stored-in : PagerView N S E
   stored-in = record p { storage = s }
 
   -- whatever is stored, the pager stays in step
   pub kept-so : IsPager tells says stored-in
-  kept-so = in-step stored-in is.tables is.later (spared is.state (record { spares = spares-same refl (λ n. refl) refl; shut = λ shut. is.state.whole.shut (sym stays ∙ shut) }) (λ n. refl))
+  kept-so = in-step stored-in is.tables is.later (spared is.state (record {
+    spares = spares-same refl (λ n. refl) refl;
+    shut = λ shut. is.state.whole.shut (sym stays ∙ shut);
+  }) (λ n. refl))
 
   pub asked : (tells s).stored ≡ (tells p.storage).stored → Asked (core_in tells p) (core_in tells stored-in)
   asked same = grind (arith, nat_tests, still)
 
-  pub store-call : (digest : Blob → ℕ) (blob : Blob) (r : Result ℕ Error) → IfOk r (λ key. key ≡ digest blob) → OnOk r (Adds (digest blob) blob ((tells p.storage).stored) ((tells s).stored))
-      → OnOk r ((tells p.storage).closed ≡ false) → IfErr r (RefusesStore blob ((tells p.storage).stored (digest blob)) ((tells p.storage).closed) ((tells p.storage).failures) ((tells s).failures))
+  pub store-call : (digest : Blob → ℕ) (blob : Blob) (r : Result ℕ Error) → IfOk r (λ key. key ≡ digest blob)
+      → OnOk r (Adds (digest blob) blob ((tells p.storage).stored) ((tells s).stored))
+      → OnOk r ((tells p.storage).closed ≡ false) → IfErr r (RefusesStore blob ((tells p.storage).stored (digest blob)) ((tells p.storage).closed)
+      ((tells p.storage).failures) ((tells s).failures))
       → OnErr r ((tells s).stored ≡ (tells p.storage).stored) → StoreCall digest (core_in tells p) blob r (core_in tells stored-in)
   store-call digest blob r keyed adds was only same = grind (arith, nat_tests, asked, still)
 
-  pub asks-it : {honest : S → Bool} {makes : Core → Core → Type 0} → (IsTrue (honest s) → makes (core_in tells p) (core_in tells stored-in)) → (IsTrue (honest s) → IsTrue (honest p.storage))
+  pub asks-it : {honest : S → Bool} {makes : Core → Core → Type 0} → (IsTrue (honest s) → makes (core_in tells p) (core_in tells stored-in))
+      → (IsTrue (honest s) → IsTrue (honest p.storage))
       → AsksStorage honest tells p makes stored-in
   asks-it step faithful = record { step = step; honest = faithful; closed = stays; only = record { tables = refl; values = refl; environment = refl } }
 
-pub fetch-call : {X : Type 0} (see : X → Blob) (w w' : Core) (key : ℕ) (r : Result X Error) → Asked w w' → IfOk r (λ x. w.stored key ≡ Some (see x)) → IfErr r (RefusesFetch key (w.stored key) w.failures w'.failures) → FetchCall w key (seen_as see r) w'
+pub fetch-call : {X : Type 0} (see : X → Blob) (w w' : Core) (key : ℕ) (r : Result X Error) → Asked w w' → IfOk r (λ x. w.stored key ≡ Some (see x))
+    → IfErr r (RefusesFetch key (w.stored key) w.failures w'.failures) → FetchCall w key (seen_as see r) w'
 fetch-call see w w' key r asks found only = grind (arith, nat_tests)
 
-pub poll-call : {X : Type 0} (see : X → Blob) (w w' : Core) (key : ℕ) (p : Poll (Result X Error)) → Asked w w' → IfReady p (λ r. IfOk r (λ x. w.stored key ≡ Some (see x)))
+pub poll-call : {X : Type 0} (see : X → Blob) (w w' : Core) (key : ℕ) (p : Poll (Result X Error)) → Asked w w'
+    → IfReady p (λ r. IfOk r (λ x. w.stored key ≡ Some (see x)))
     → IfReady p (λ r. IfErr r (RefusesFetch key (w.stored key) w.failures w'.failures)) → PollCall see w key p w'
 poll-call see w w' key (Poll.Ready r) asks found only = record { asked = asks; fetched = fetch-call see w w' key r asks found only }
 poll-call see w w' key Poll.Pending asks found only = record { asked = asks; fetched = tt }
@@ -187,11 +212,13 @@ poll-call see w w' key Poll.Pending asks found only = record { asked = asks; fet
 -- ---- what comes with a value: a node, what a load has read, and the value of a load's cell
 
 -- a birth in a world where room was made before
-birth-past : {N : Type 0} {w w1 w' : Core} {x : N} (me : Owner) (t t' : ℕ) (rs rs' : List ArcRef) (mode : Mode) (k : HandleNumber) → OnlyRoom w w1 → references_fault w me [] rs ≡ None
+birth-past : {N : Type 0} {w w1 w' : Core} {x : N} (me : Owner) (t t' : ℕ) (rs rs' : List ArcRef) (mode : Mode) (k : HandleNumber) → OnlyRoom w w1
+    → references_fault w me [] rs ≡ None
     → w1.last.node < greatest → t ≡ t' → rs ≡ rs' → Bears w1 me t 0 rs mode k w' → BirthCall w me x t' rs' mode (Ok k) w'
 birth-past {N} {w} {w1} {w'} {x} me t t' rs rs' mode k room fit left typed named b = grind (arith, nat_tests, born-past, next-past)
 
-module _ {N S E : Type 0} {tells : Telling S} {says : E → Values N} {p : PagerView N S E} (is : IsPager tells says p) {t1 : Tables} (values : ValuesByNode N) (room : Does p.tables OnlyRoom t1) where
+module _ {N S E : Type 0} {tells : Telling S} {says : E → Values N} {p : PagerView N S E} (is : IsPager tells says p) {t1 : Tables} (values : ValuesByNode N)
+    (room : Does p.tables OnlyRoom t1) where
   abbrev roomy : PagerView N S E
   roomy = record p { tables = t1; values = values }
 
@@ -216,9 +243,12 @@ module _ {N S E : Type 0} {tells : Telling S} {says : E → Values N} {p : Pager
     moved-in = let none_yet : value_in p.values next ≡ None = grind (arith, nat_tests) in grind (arith, nat_tests, cases_eq, none_yet, same_some, told)
 
     -- a node of the caller's
-    module _ {mode : Mode} {k : HandleNumber} {node_type : ℕ} {rs qs : List ArcRef} (bears : Does t1 (λ w w'. Bears w Owner.Caller node_type 0 rs mode k w') t2) (left : t1.last_node < greatest)
-        (fit : references_fault (plain_of t1) Owner.Caller [] qs ≡ None) (read : qs ≡ rs) (typed : node_type ≡ (says p.environment).node_type x) (named : rs ≡ (says p.environment).references x) where
-      birth : BirthCall (core_in tells p) Owner.Caller x ((says p.environment).node_type x) ((says p.environment).references x) mode (Ok k) (core_in tells after)
+    module _ {mode : Mode} {k : HandleNumber} {node_type : ℕ} {rs qs : List ArcRef} (bears : Does t1 (λ w w'. Bears w Owner.Caller node_type 0 rs mode k w') t2)
+        (left : t1.last_node < greatest)
+        (fit : references_fault (plain_of t1) Owner.Caller [] qs ≡ None) (read : qs ≡ rs) (typed : node_type ≡ (says p.environment).node_type x)
+        (named : rs ≡ (says p.environment).references x) where
+      birth : BirthCall (core_in tells p) Owner.Caller x ((says p.environment).node_type x) ((says p.environment).references x) mode (Ok k)
+          (core_in tells after)
       birth =
           let plain = room.does no_blobs in
           let fine = fault-by (plain_of p.tables) (core_in tells p) Owner.Caller [] rs ∙ sym (room-fault Owner.Caller rs plain) ∙ subst
@@ -226,7 +256,8 @@ module _ {N S E : Type 0} {tells : Telling S} {says : E → Values N} {p : Pager
           birth-past Owner.Caller node_type ((says p.environment).node_type x) rs ((says p.environment).references x) mode k only-room fine left typed named
           (bears.does (tells p.storage))
 
-      pub born-told : BirthCall (core_in tells p) Owner.Caller x ((says p.environment).node_type x) ((says p.environment).references x) mode (Ok k) (core_in tells after) × Moves (λ n z. (z ≡ x) × IsNewNode (core_in tells p) n)
+      pub born-told : BirthCall (core_in tells p) Owner.Caller x ((says p.environment).node_type x) ((says p.environment).references x) mode (Ok k)
+          (core_in tells after) × Moves (λ n z. (z ≡ x) × IsNewNode (core_in tells p) n)
           (state_in tells p) (state_in tells after)
       born-told = (birth, moved-in)
 
@@ -236,15 +267,18 @@ module _ {N S E : Type 0} {tells : Telling S} {says : E → Values N} {p : Pager
 
 -- ---- what a load has read becomes a new node
 
-pub not-adopted : {N : Type 0} {w w' : Core} {me : Owner} {l : LoadNumber} {kind : Kind} {key t u : ℕ} {qs refs : List ArcRef} {x y : N} {e : Error} → t ≡ u → qs ≡ refs → y ≡ x
+pub not-adopted : {N : Type 0} {w w' : Core} {me : Owner} {l : LoadNumber} {kind : Kind} {key t u : ℕ} {qs refs : List ArcRef} {x y : N} {e : Error} → t ≡ u
+    → qs ≡ refs → y ≡ x
     → Refused (adopt_fault w me l kind key t qs) (load_fault w me l) (Unit {0}) w e w' → AdoptCall w me l kind key x u refs (Err (e, y)) w'
 not-adopted {me = me} {l} typed named back r = rw (← typed, ← named) (record { adopts = tt; refused = (back, told-later me l r) })
 
-module _ {N S E : Type 0} {tells : Telling S} {says : E → Values N} {p q : PagerView N S E} (is : IsPager tells says p) (viewed : p ≡ q) (me : Owner) (l : LoadNumber) (kind : Kind) (key : ℕ) (x : N)
+module _ {N S E : Type 0} {tells : Telling S} {says : E → Values N} {p q : PagerView N S E} (is : IsPager tells says p) (viewed : p ≡ q) (me : Owner)
+    (l : LoadNumber) (kind : Kind) (key : ℕ) (x : N)
     {rs : List ArcRef} (listed : rs ≡ (says p.environment).references x) (fresh : (storage : StorageView) → early_fault (core_of q.tables storage) me l kind
     ((says p.environment).node_type x) rs ≡ None) (unknown : usable (plain_of q.tables) kind.0 key ≡ None) where
   fresh-in : (storage : StorageView) → early_fault (core_of p.tables storage) me l kind ((says p.environment).node_type x) rs ≡ None
-  fresh-in storage = subst (λ (v : PagerView N S E). early_fault (core_of v.tables storage) me l kind ((says p.environment).node_type x) rs ≡ None) (sym viewed) (fresh storage)
+  fresh-in storage = subst (λ (v : PagerView N S E). early_fault (core_of v.tables storage) me l kind ((says p.environment).node_type x) rs ≡ None) (sym viewed)
+      (fresh storage)
 
   unknown-in : usable (plain_of p.tables) kind.0 key ≡ None
   unknown-in = subst (λ (v : PagerView N S E). usable (plain_of v.tables) kind.0 key ≡ None) (sym viewed) unknown
@@ -260,11 +294,15 @@ module _ {N S E : Type 0} {tells : Telling S} {says : E → Values N} {p q : Pag
   new-unknown room = ap (λ (u : Core). usable u kind.0 key) (room.does no_blobs).same ∙ unknown-in
 
   module _ {t1 : Tables} (values : ValuesByNode N) (room : Does p.tables OnlyRoom t1) where
-    pub new-memory : {y : N} → y ≡ x → AdoptCall (core_in tells p) me l kind key x ((says p.environment).node_type x) ((says p.environment).references x) (Err (Error.OutOfMemory, y)) (core_in tells (record p { tables = t1; values = values }))
-    new-memory back = not-adopted refl listed back (refused-memory (core_in tells p) me l kind key ((says p.environment).node_type x) rs (fresh-in _ _ _) (only-room is values room))
+    pub new-memory : {y : N} → y ≡ x → AdoptCall (core_in tells p) me l kind key x ((says p.environment).node_type x) ((says p.environment).references x)
+        (Err (Error.OutOfMemory, y)) (core_in tells (record p { tables = t1; values = values }))
+    new-memory back = not-adopted refl listed back (refused-memory (core_in tells p) me l kind key ((says p.environment).node_type x) rs (fresh-in _ _ _)
+        (only-room is values room))
 
-    module _ (placed : (n : ℕ) → value_in values n ≡ updated (t1.last_node + 1) (Some x) (value_in p.values) n) (t2 : Tables) {k : HandleNumber} {b : Bool} (opens : b ≡ (tells p.storage).closed)
-        (left : t1.last_node < greatest) (does : Does t1 (λ w w'. IsNext k w × (not b ≡ not w.closed → Alike (adopted w l kind key (first_key kind.0 key) rs) w')) t2) where
+    module _ (placed : (n : ℕ) → value_in values n ≡ updated (t1.last_node + 1) (Some x) (value_in p.values) n) (t2 : Tables) {k : HandleNumber} {b : Bool}
+        (opens : b ≡ (tells p.storage).closed)
+        (left : t1.last_node < greatest) (does : Does t1 (λ w w'. IsNext k w
+        × (not b ≡ not w.closed → Alike (adopted w l kind key (first_key kind.0 key) rs) w')) t2) where
       abbrev learned : PagerView N S E
       learned = record p { tables = t2; values = values }
 
@@ -273,29 +311,35 @@ module _ {N S E : Type 0} {tells : Telling S} {says : E → Values N} {p q : Pag
 
       adopts : Adopts (core_in tells p) me l kind key ((says p.environment).node_type x) ((says p.environment).references x) k (core_in tells learned)
       adopts = subst (λ z. Adopts (core_in tells p) me l kind key ((says p.environment).node_type x) z k (core_in tells learned)) listed
-          (made-new (core_in tells p) me l kind key ((says p.environment).node_type x) rs (fresh-in _ _ _) unknown-in k (subst (λ (u : Core). u.last.node < greatest) (only-room is values room).same left)
+          (made-new (core_in tells p) me l kind key ((says p.environment).node_type x) rs (fresh-in _ _ _) unknown-in k
+          (subst (λ (u : Core). u.last.node < greatest) (only-room is values room).same left)
           (next-past (only-room is values room) (does.does (tells p.storage)).0) leaves)
 
-      pub new-told : AdoptCall (core_in tells p) me l kind key x ((says p.environment).node_type x) ((says p.environment).references x) (Ok k) (core_in tells learned) × Moves (λ n z. (z ≡ x) × IsNewNode (core_in tells p) n)
+      pub new-told : AdoptCall (core_in tells p) me l kind key x ((says p.environment).node_type x) ((says p.environment).references x) (Ok k)
+          (core_in tells learned) × Moves (λ n z. (z ≡ x) × IsNewNode (core_in tells p) n)
           (state_in tells p) (state_in tells learned)
       new-told = (record { adopts = adopts; refused = tt }, moved-in is values room t2 x placed)
 
       pub new-so : IsPager tells says learned
       new-so = in-step learned does.whole (does.later (room.later is.later))
-          (adopts-new {v = says p.environment} {s = state_in tells p} {s' = state_in tells learned} is.state adopts unknown-in (told is values room t2 x placed))
+          (adopts-new {v = says p.environment} {s = state_in tells p} {s' = state_in tells learned} is.state adopts unknown-in
+          (told is values room t2 x placed))
 
 -- ---- a value comes to a load's cell, and others go with their nodes
 
-came : {N : Type 0} (comes : Bool) (node : NodeNumber) (x : N) (values : ℕ → Option N) (at : ℕ → Option Counts) → (comes ≡ false → has_value (at node.0) ≡ true) → ((n : ℕ) → is_some (values n) ≡ has_value (at n))
+came : {N : Type 0} (comes : Bool) (node : NodeNumber) (x : N) (values : ℕ → Option N) (at : ℕ → Option Counts) → (comes ≡ false → has_value (at node.0) ≡ true)
+    → ((n : ℕ) → is_some (values n) ≡ has_value (at n))
     → (n : ℕ) → is_some (with_value comes node.0 x values n) ≡ has_come at node n
 came true node x values at there was n = grind (arith, nat_tests)
 came false node x values at there was n = let here = there refl in grind (arith, nat_tests, cases_eq)
 
-pub ready-told : {w : Core} {me : Owner} {l : LoadNumber} {t t' : ℕ} {refs refs' : List ArcRef} {r : Ending} → t ≡ t' → refs ≡ refs' → IsReady w me l t refs r → IsReady w me l t' refs' r
+pub ready-told : {w : Core} {me : Owner} {l : LoadNumber} {t t' : ℕ} {refs refs' : List ArcRef} {r : Ending} → t ≡ t' → refs ≡ refs' → IsReady w me l t refs r
+    → IsReady w me l t' refs' r
 ready-told {w} {me} {l} {t} {t'} {refs} {refs'} {r} typed named is = subst (λ k. IsReady w me l k refs' r) typed (subst (λ k. IsReady w me l t k r) named is)
 
 -- the pager after a load has ended with a pin
-module _ {N S E : Type 0} {tells : Telling S} {says : E → Values N} {p : PagerView N S E} (is : IsPager tells says p) (x : N) {t1 t2 : Tables} (mid values : ValuesByNode N) {me : Owner} {l : LoadNumber}
+module _ {N S E : Type 0} {tells : Telling S} {says : E → Values N} {p : PagerView N S E} (is : IsPager tells says p) (x : N) {t1 t2 : Tables}
+    (mid values : ValuesByNode N) {me : Owner} {l : LoadNumber}
     {node_type : ℕ} {qs rs : List ArcRef} {r : Ending} {k : HandleNumber} {b : Bool} (typed : node_type ≡ (says p.environment).node_type x) (read : qs ≡ rs)
     (listed : rs ≡ (says p.environment).references x) (room : Does p.tables OnlyRoom t1) (nodes : t1.ref_counts.nodes ≡ p.tables.ref_counts.nodes)
     (prepared : (storage : StorageView) → IsReady (core_of t1 storage) me l node_type qs r)
@@ -334,7 +378,8 @@ module _ {N S E : Type 0} {tells : Telling S} {says : E → Values N} {p : Pager
       let q = plain_of t1 in
       let ready = prepared no_blobs in
       let some = cell-of room.whole.core.handles n (row-held q r.row.number r.row ready.owned.live) in
-      sym (here-told (counts_at t1.ref_counts.nodes n) q n refl (sym (room.whole.steady.fits.pinned n))) ∙ ap (λ b. b && is_here q n) some ∙ (let goes = sym ready.away ∙ here in grind (arith, nat_tests, goes))
+      sym (here-told (counts_at t1.ref_counts.nodes n) q n refl (sym (room.whole.steady.fits.pinned n))) ∙ ap (λ b. b && is_here q n) some
+      ∙ (let goes = sym ready.away ∙ here in grind (arith, nat_tests, goes))
 
   left : (n : ℕ) → value_in values n ≡ (if has_value (counts_at t2.ref_counts.nodes n) then with_value r.is_away r.row.node.0 x (value_in p.values) n else None)
   left n =
@@ -343,7 +388,8 @@ module _ {N S E : Type 0} {tells : Telling S} {says : E → Values N} {p : Pager
       let here = has_value (counts_at t2.ref_counts.nodes n) in
       left-map arc_value here (row_by mid n) (row_by values n) l.0 l.1 ∙ ap (λ v. if here then v else None) (placed n)
 
-  swept-so : (b : Bool) → r.is_away ≡ b → (n : ℕ) → value_in values n ≡ (if is_some (w'.cells n) && is_here w' n then with_value b r.row.node.0 x (value_in p.values) n else None)
+  swept-so : (b : Bool) → r.is_away ≡ b → (n : ℕ) → value_in values n ≡ (if is_some (w'.cells n)
+      && is_here w' n then with_value b r.row.node.0 x (value_in p.values) n else None)
   swept-so b e n = search (rules, here-told, left)
 
   away : (b : Bool) → r.is_away ≡ b → is_here w r.row.node.0 ≡ not b
@@ -358,24 +404,37 @@ module _ {N S E : Type 0} {tells : Telling S} {says : E → Values N} {p : Pager
   comes : (n : ℕ) (y : N) → value_in values n ≡ Some y → (value_in p.values n ≡ Some y) ⊎ ((value_in p.values n ≡ None) × ((y ≡ x) × IsCellOf w l n))
   comes n y some =
       let cell : r.row.node.0 ≡ n → IsCellOf w l n = λ m.
-      record { load = may.load; node = r.row.node; t = (says p.environment).node_type x; h = r.row.number; open_load = may.owned.stands_open; root = may.of_node; is = m } in
-      let none : r.is_away ≡ true → value_in p.values r.row.node.0 ≡ None = λ e. (let a = is.state.valued r.row.node.0 in let b = away true e in grind (arith, nat_tests)) in
+      record {
+        load = may.load;
+        node = r.row.node;
+        t = (says p.environment).node_type x;
+        h = r.row.number;
+        open_load = may.owned.stands_open;
+        root = may.of_node;
+        is = m;
+      } in
+      let none : r.is_away ≡ true → value_in p.values r.row.node.0 ≡ None =
+      λ e. (let a = is.state.valued r.row.node.0 in let b = away true e in grind (arith, nat_tests)) in
       let s = swept-so r.is_away refl n in
       grind (arith, nat_tests, cases_eq)
 
-  pub ended-told : EndCall w me l x ((says p.environment).node_type x) ((says p.environment).references x) (Ok k) w' × Moves (λ n y. (y ≡ x) × IsCellOf w l n) (state_in tells p) (state_in tells p')
+  pub ended-told : EndCall w me l x ((says p.environment).node_type x) ((says p.environment).references x) (Ok k) w'
+      × Moves (λ n y. (y ≡ x) × IsCellOf w l n) (state_in tells p) (state_in tells p')
   ended-told = (record { installs = (r.row.node, r.row.number, may, was); refused = tt }, record { each = comes; environment = refl })
 
 -- a load that doesn't end with the value stays open; or it is closed, where its end is in vain
-module _ {N : Type 0} {w w' : Core} {me : Owner} {l : LoadNumber} {t u : ℕ} {qs refs : List ArcRef} {e : Error} (x : N) (typed : t ≡ u) (named : qs ≡ refs) where
+module _ {N : Type 0} {w w' : Core} {me : Owner} {l : LoadNumber} {t u : ℕ} {qs refs : List ArcRef} {e : Error} (x : N) (typed : t ≡ u)
+    (named : qs ≡ refs) where
   pub unended : Refused (end_fault w me l t qs) (load_fault w me l) (Unit {0}) w e w' → EndCall w me l x u refs (Err (e, Some x)) w'
   unended refused = rw (← typed, ← named) (record { installs = tt; refused = (refl, told-later me l refused) })
 
   pub vain : {v : Core} (r : Result (Unit {0}) Error) → IsVain w me l t qs e × (v ≡ w) → DropCall v me l r w' → EndCall w me l x u refs (Err (e, None)) w'
-  vain r (is, same) drop = let closes : EndRefused w me l x t qs e None w' = grind (arith, nat_tests, no-load-fault) in rw (← typed, ← named) (record { installs = tt; refused = closes })
+  vain r (is, same) drop = let closes : EndRefused w me l x t qs e None w' =
+      grind (arith, nat_tests, no-load-fault) in rw (← typed, ← named) (record { installs = tt; refused = closes })
 
 pub no-room : {N S E : Type 0} {tells : Telling S} {says : E → Values N} {p : PagerView N S E} → IsPager tells says p → {t : Tables} (values : ValuesByNode N)
-    → Does p.tables OnlyRoom t → {me : Owner} {l : LoadNumber} {x y : N} {u node_type : ℕ} {qs refs : List ArcRef} {r : Ending} → y ≡ x → IsReady (core_in tells (record p { tables = t })) me l u qs r
+    → Does p.tables OnlyRoom t → {me : Owner} {l : LoadNumber} {x y : N} {u node_type : ℕ} {qs refs : List ArcRef} {r : Ending} → y ≡ x
+    → IsReady (core_in tells (record p { tables = t })) me l u qs r
     → EndCall (core_in tells p) me l x node_type refs (Err (Error.OutOfMemory, Some y)) (core_in tells (record p { tables = t; values = values }))
 no-room is values room back ready =
     let wider = only-room is values room in
@@ -386,18 +445,24 @@ no-room is values room back ready =
 
 -- what a call does to a pager of which no value comes
 module _ {N S E : Type 0} (tells : Telling S) (v : E → Values N) (p q : PagerView N S E) where
-  pub called_fewer : (D : Core → Type 0) → D (core_in tells q) → FewerValues p q → WellFormed (v q.environment) (state_in tells q) → Called (v p.environment) D (state_in tells p) (state_in tells q)
+  pub called_fewer : (D : Core → Type 0) → D (core_in tells q) → FewerValues p q → WellFormed (v q.environment) (state_in tells q)
+      → Called (v p.environment) D (state_in tells p) (state_in tells q)
   called_fewer D step only whole = grind (arith, nat_tests)
 
-  pub brings-so : (D : Core → Type 0) {comes : ℕ → N → Type 0} → D (core_in tells q) → Moves comes (state_in tells p) (state_in tells q) → WellFormed (v q.environment) (state_in tells q)
+  pub brings-so : (D : Core → Type 0) {comes : ℕ → N → Type 0} → D (core_in tells q) → Moves comes (state_in tells p) (state_in tells q)
+      → WellFormed (v q.environment) (state_in tells q)
       → Brings (v p.environment) D comes (state_in tells p) (state_in tells q)
   brings-so D step moves whole = record { step = step; moves = moves; whole = subst (λ e. WellFormed (v e) (state_in tells q)) moves.environment whole }
 
   pub all_there : SameValues p q → FewerValues p q
-  all_there only = record { values = λ n x has. subst (λ (values : ValuesByNode N). value_in values n ≡ Some x) only.values has; environment = only.environment }
+  all_there only = record {
+    values = λ n x has. subst (λ (values : ValuesByNode N). value_in values n ≡ Some x) only.values has;
+    environment = only.environment;
+  }
 
 -- what an access tells that tells its state as long as it is in no doubt
-pub told-if : {A : Type 0} {R : A → A → Type 0} (b b' : Bool) (s t : A) → (IsTrue b' → IsTrue b) → (IsTrue b' → R s t) → Told (if b then Some s else None) (if b' then Some t else None) R
+pub told-if : {A : Type 0} {R : A → A → Type 0} (b b' : Bool) (s t : A) → (IsTrue b' → IsTrue b) → (IsTrue b' → R s t)
+    → Told (if b then Some s else None) (if b' then Some t else None) R
 told-if true true s t keeps does = record { holds = does refl }
 told-if false true s t keeps does = let is = keeps refl in absurd cc
 told-if true false s t keeps does = record { holds = tt }
@@ -408,10 +473,12 @@ stored_key r c = grind (arith, nat_tests)
 
 -- ---- the handle that a load gets is live
 
-pub made_so : {w : Core} {kind : Kind} {h : HandleNumber} {n : NodeNumber} → Looks w h (λ m row. m ≡ row.node) (Ok n) → IsMade w kind (record { kind = kind; node = n; handle = h })
+pub made_so : {w : Core} {kind : Kind} {h : HandleNumber} {n : NodeNumber} → Looks w h (λ m row. m ≡ row.node) (Ok n)
+    → IsMade w kind (record { kind = kind; node = n; handle = h })
 made_so {w} {kind} {h} {n} l = grind (arith, nat_tests, found-number)
 
-last_live : (w w' : Core) (k : HandleNumber) (rows : List HandleRow) (row : HandleRow) → IsNext k w → row.number.0 ≡ w.last.handle + 1 → w'.rows ≡ rows ++ row ∷ [] → IsSome (row_at w' k)
+last_live : (w w' : Core) (k : HandleNumber) (rows : List HandleRow) (row : HandleRow) → IsNext k w → row.number.0 ≡ w.last.handle + 1 → w'.rows ≡ rows ++ row
+    ∷ [] → IsSome (row_at w' k)
 unfolding find_row
 last_live w w' k rows row next number same =
     let is : is_handle k.0 row ≡ true = (let above = next.above in grind (arith, nat_tests)) in
@@ -427,26 +494,32 @@ born_live w w' l kind key own references k next a =
     last_live w w' k born.rows row next refl (a.rows ∙ (cached-rows (with_handle born (next_node w) (mode_of kind.0) (Owner.Load l)) kind key (next_node w)).0)
 
 pub known_live : {w w' : Core} {l : LoadNumber} {kind : Kind} {key : ℕ} {k : HandleNumber} → GetsKnown w l kind key k w' → IsSome (row_at w' k)
-known_live {w} {w'} {l} {kind} {k = k} c = last_live w w' k w.rows (row_of (w.last.handle + 1) (record { 0 = c.n }) (mode_of kind.0) (Owner.Load l)) c.next refl c.leaves.rows
+known_live {w} {w'} {l} {kind} {k = k} c = last_live w w' k w.rows (row_of (w.last.handle + 1) (record { 0 = c.n }) (mode_of kind.0) (Owner.Load l)) c.next refl
+    c.leaves.rows
 
 -- a handle that the cache gives, as a reference
-pub found-made : {B : Type 0} (see : B → Blob) {w w' : Core} {me : Owner} {l : LoadNumber} {kind : Kind} {key : ℕ} {r : ArcRef} {k : HandleNumber} (given : Either HandleNumber B) → given ≡ Either.Left k
-    → r.handle ≡ k → (IsSome (row_at w' k) → IsMade w' kind r) → AskCall w me l (Want.Nested kind key) (Ok (given_as see given)) w' → AsksFor see w me l kind key (Ok (Either.Left r)) w'
+pub found-made : {B : Type 0} (see : B → Blob) {w w' : Core} {me : Owner} {l : LoadNumber} {kind : Kind} {key : ℕ} {r : ArcRef} {k : HandleNumber}
+    (given : Either HandleNumber B) → given ≡ Either.Left k
+    → r.handle ≡ k → (IsSome (row_at w' k) → IsMade w' kind r) → AskCall w me l (Want.Nested kind key) (Ok (given_as see given)) w'
+    → AsksFor see w me l kind key (Ok (Either.Left r)) w'
 found-made {B} see {w} {w'} {me} {l} {kind} {key} {r} {k} given is same made ask =
-    let found : AskCall w me l (Want.Nested kind key) (Ok (from_cache k)) w' = subst (λ x. AskCall w me l (Want.Nested kind key) (Ok (given_as see x)) w') is ask in
+    let found : AskCall w me l (Want.Nested kind key) (Ok (from_cache k)) w' =
+    subst (λ x. AskCall w me l (Want.Nested kind key) (Ok (given_as see x)) w') is ask in
     record { asked = subst (λ x. AskCall w me l (Want.Nested kind key) (Ok (from_cache x)) w') (sym same) found; made = made (known_live found.gives.2) }
 
 -- whose calls they are is still at work
 pub still-at-work : {w w' : Core} (me : Owner) → KeepsWorkers w w' → is_at_work w me ≡ true → is_at_work w' me ≡ true
 still-at-work me kept was = grind (arith, nat_tests)
 
-pub lazy_live : {w w' : Core} {me : Owner} {l : LoadNumber} {kind : Kind} {key : ℕ} {k : HandleNumber} → LazyCall w me l kind key (Ok k) w' → IsSome (row_at w' k)
+pub lazy_live : {w w' : Core} {me : Owner} {l : LoadNumber} {kind : Kind} {key : ℕ} {k : HandleNumber} → LazyCall w me l kind key (Ok k) w'
+    → IsSome (row_at w' k)
 lazy_live {w} {w'} {l = l} {kind} {key} {k} c = elim c.makes.3 [
   | inl known ↦ known_live known
   | inr (none, left, next, a) ↦ born_live w w' l kind key (OptionalDataKey.Some key) [] k next a
 ]
 
-pub adopted_live : {w w' : Core} → HandlesAreWhole w → {me : Owner} {l : LoadNumber} {kind : Kind} {key t : ℕ} {references : List ArcRef} {k : HandleNumber} → Adopts w me l kind key t references k w'
+pub adopted_live : {w w' : Core} → HandlesAreWhole w → {me : Owner} {l : LoadNumber} {kind : Kind} {key t : ℕ} {references : List ArcRef} {k : HandleNumber}
+    → Adopts w me l kind key t references k w'
     → IsSome (row_at w' k)
 adopted_live {w} {w'} whole {l = l} {kind} {key} {references = references} {k} c = elim c.makes [
   | inl (n, known, f) ↦
@@ -479,7 +552,8 @@ module _ {w w' : Core} (whole : pager.IsWhole w) where
   takes place (Err e) b = unmoved b.refused.1 whole.shut
 
 -- the entry that was looked at is the one that the worker takes
-pub entry-starts : {w w' : Core} {place type : ℕ} {row : HandleRow} {n : WorkerNumber} {kind : Kind} → IsEntry w place row.number row type → (kind.0 ≡ loose_kind type) × HasKinds type
+pub entry-starts : {w w' : Core} {place type : ℕ} {row : HandleRow} {n : WorkerNumber} {kind : Kind} → IsEntry w place row.number row type
+    → (kind.0 ≡ loose_kind type) × HasKinds type
     → TakesWorker w place (Ok n) w'
     → TakesEntry w place n (record { kind = kind; node = row.node; handle = row.number }) w'
 entry-starts {w} {w'} {place} {type} {row} {n} e x0 t = grind (arith, nat_tests, same_some)
@@ -500,17 +574,23 @@ module _ {N E : Type 0} {v : Values N} {s : PagerState N E} (is : WellFormed v s
   lends-fault e l = grind (arith, nat_tests)
 
   pub lends : {X Y : Type 0} (n : NodeNumber) (r : Option X) (see : Y → N) (g : X → Y) → s.values n.0 ≡ option_map see (option_map g r)
-      → Looks s.core h (λ node row. node ≡ (if is_pinning row.mode then Some row.node else None)) (Ok (Some n)) → ValueCall s h (Ok (option_map (λ x. see (g x)) r))
+      → Looks s.core h (λ node row. node ≡ (if is_pinning row.mode then Some row.node else None)) (Ok (Some n))
+      → ValueCall s h (Ok (option_map (λ x. see (g x)) r))
   lends n x0 see g value l = grind (arith, nat_tests, pinned-here, row-held, row-pins)
 
-module _ {N S E : Type 0} (tells : Telling S) (p : PagerView N S E) (rows : p.tables.ref_counts.handles.places.items ≡ []) (nodes : (n : ℕ) → counts_at p.tables.ref_counts.nodes n ≡ None)
-    (list : p.tables.ref_counts.list.items ≡ []) (cache : (kind key : ℕ) → known_at p.tables.cache kind key ≡ None) (none : (n : ℕ) → row_by p.values n ≡ None) where
-  pub is-new : ((l : ℕ) → load_at p.tables.loads l ≡ None) → ((v : ℕ) → worker_at p.tables.workers v ≡ None) → (p.tables.last_node ≡ 0) × (p.tables.ref_counts.last_handle ≡ 0) × (p.tables.last_load ≡ 0) × (p.tables.last_worker ≡ 0) → IsNew (state_in tells p)
-  is-new loads workers last = grind (arith, nat_tests)
+module _ {N S E : Type 0} (tells : Telling S) (p : PagerView N S E) (rows : p.tables.ref_counts.handles.places.items ≡ [])
+    (nodes : (n : ℕ) → counts_at p.tables.ref_counts.nodes n ≡ None)
+    (list : p.tables.ref_counts.list.items ≡ []) (cache : (kind key : ℕ) → known_at p.tables.cache kind key ≡ None) (none : (n : ℕ) → row_by p.values n ≡ None)
+  where
+    pub is-new : ((l : ℕ) → load_at p.tables.loads l ≡ None) → ((v : ℕ) → worker_at p.tables.workers v ≡ None) → (p.tables.last_node ≡ 0)
+        × (p.tables.ref_counts.last_handle ≡ 0) × (p.tables.last_load ≡ 0) × (p.tables.last_worker ≡ 0) → IsNew (state_in tells p)
+    is-new loads workers last = grind (arith, nat_tests)
 
 -- what the storage tells is that it is empty and closed
-module _ {N S E : Type 0} {tells : Telling S} {says : E → Values N} {p : PagerView N S E} (is : IsPager tells says p) (s : S) (t : Tables) (values : ValuesByNode N)
-    (empty : (key : ℕ) → (tells s).stored key ≡ None) (shut : (tells s).closed ≡ true) (call : CloseCall (core_in tells p) (Ok tt) (core_of t (shut_view (tells s).failures))) (whole : IsWhole t)
+module _ {N S E : Type 0} {tells : Telling S} {says : E → Values N} {p : PagerView N S E} (is : IsPager tells says p) (s : S) (t : Tables)
+    (values : ValuesByNode N)
+    (empty : (key : ℕ) → (tells s).stored key ≡ None) (shut : (tells s).closed ≡ true)
+    (call : CloseCall (core_in tells p) (Ok tt) (core_of t (shut_view (tells s).failures))) (whole : IsWhole t)
     (sheds : Sheds (counts_at p.tables.ref_counts.nodes) (row_by p.values) (counts_at t.ref_counts.nodes) (row_by values)) where
   abbrev new : PagerView N S E
   new = record p { tables = t; values = values; storage = s }

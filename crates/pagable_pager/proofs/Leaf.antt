@@ -24,9 +24,23 @@ opened-whole w shut is =
     let o = is.owners_there in
     let l = is.loads in
     record {
-      handles = record { ordered = h.ordered; numbered = h.numbered; nodes_numbered = h.nodes_numbered; within = h.within; live = h.live; uniform = h.uniform; unkeyed = h.unkeyed; places = h.places };
+      handles = record {
+        ordered = h.ordered;
+        numbered = h.numbered;
+        nodes_numbered = h.nodes_numbered;
+        within = h.within;
+        live = h.live;
+        uniform = h.uniform;
+        unkeyed = h.unkeyed;
+        places = h.places;
+      };
       owners_there = record { listed = o.listed; waiting = o.waiting; loads = o.loads; workers = o.workers };
-      loads = record { numbered = l.numbered; owned = l.owned; roots = λ n load node k q e root. let r = l.roots n load node k q e root in record { typed = r.typed; begun = r.begun; given = r.given } };
+      loads = record {
+        numbered = l.numbered;
+        owned = l.owned;
+        roots = λ n load node k q e root. let r = l.roots n load node k q e root in
+            record { typed = r.typed; begun = r.begun; given = r.given };
+      };
       cache = λ kind key n known. let c = is.cache kind key n known in record { given = c.given; typed = c.typed; shares = c.shares };
       workers_numbered = is.workers_numbered;
       shut = shut;
@@ -42,12 +56,14 @@ module _ {N S E : Type 0} {tells : Telling S} {says : E → Values N} {p : Pager
   abbrev at-core : Core → PagerState N E
   at-core b = record (state_in tells p) { core = b }
 
-  begun-whole : (b : Core) (h : HandleNumber) (l : LoadNumber) (key : ℕ) → BeginCall w Owner.Caller h (Ok (Beginning.Load l key)) b → ArePlaced b → WellFormed (says p.environment) (at-core b)
+  begun-whole : (b : Core) (h : HandleNumber) (l : LoadNumber) (key : ℕ) → BeginCall w Owner.Caller h (Ok (Beginning.Load l key)) b → ArePlaced b
+      → WellFormed (says p.environment) (at-core b)
   begun-whole b h l key call placed =
       let (row, owns, (away, keyed, next, left, (t, typed, a))) = call.begins in
       spared is.state (begins is.state.whole (Ok (Beginning.Load l key)) call) (λ n. refl) (record {
         counted = λ n. is.state.counted n ∙ (let rows = ap (pins n) a.rows in
-            let more = sum_by_push (λ x. one (is_pin n x)) w.rows (row_of (w.last.handle + 1) row.node Mode.LooseUnpinned (Owner.Load l)) in grind (arith, nat_tests));
+            let more = sum_by_push (λ x. one (is_pin n x)) w.rows (row_of (w.last.handle + 1) row.node Mode.LooseUnpinned (Owner.Load l)) in
+            grind (arith, nat_tests));
         whole = λ shut. opened-whole b shut (begin-whole Owner.Caller h is.state.whole tt call (record { rows = placed.rows; list = placed.list }));
       })
 
@@ -55,13 +71,21 @@ module _ {N S E : Type 0} {tells : Telling S} {says : E → Values N} {p : Pager
       → b.loads l.0 ≡ Some (record { owner = Owner.Caller; key = leaf.key; root = of_cell leaf.row.node leaf.node_type leaf.row.number }) → ArePlaced b
       → LeafBegun (says p.environment) (state_in tells p) leaf l (at-core b)
   leaf-begun leaf b l call open_load placed = record {
-    begins = record { step = call; moves = record { each = λ n x has. inl has; environment = refl }; whole = begun-whole b leaf.row.number l leaf.key call placed };
+    begins = record {
+      step = call;
+      moves = record { each = λ n x has. inl has; environment = refl };
+      whole = begun-whole b leaf.row.number l leaf.key call placed;
+    };
     opened = open_load;
   }
 
   -- a load that is given up
-  module _ (t : Tables) (values : ValuesByNode N) (sames : (n : ℕ) → value_in values n ≡ value_in p.values n) (leaf : Leaf) (does : Does p.tables (λ w w'. DropsLeaf w Owner.Caller leaf.row leaf.key leaf.node_type w') t)
-      (same : t ≡ record p.tables { ref_counts = record p.tables.ref_counts { last_handle = p.tables.ref_counts.last_handle + 1 }; last_load = p.tables.last_load + 1 }) where
+  module _ (t : Tables) (values : ValuesByNode N) (sames : (n : ℕ) → value_in values n ≡ value_in p.values n) (leaf : Leaf)
+      (does : Does p.tables (λ w w'. DropsLeaf w Owner.Caller leaf.row leaf.key leaf.node_type w') t)
+      (same : t ≡ record p.tables {
+        ref_counts = record p.tables.ref_counts { last_handle = p.tables.ref_counts.last_handle + 1 };
+        last_load = p.tables.last_load + 1;
+      }) where
     abbrev given : PagerView N S E
     given = record p { tables = t; values = values }
 
@@ -89,10 +113,12 @@ module _ {N S E : Type 0} {tells : Telling S} {says : E → Values N} {p : Pager
     }
 
   -- a load that ends with a value
-  module _ (t : Tables) (values : ValuesByNode N) (leaf : Leaf) (x : N) (k : HandleNumber) (found : IsLeaf w Owner.Caller leaf) (typed : (says p.environment).node_type x ≡ leaf.node_type)
+  module _ (t : Tables) (values : ValuesByNode N) (leaf : Leaf) (x : N) (k : HandleNumber) (found : IsLeaf w Owner.Caller leaf)
+      (typed : (says p.environment).node_type x ≡ leaf.node_type)
       (bare : (says p.environment).references x ≡ []) (ends : (storage : StorageView)
       → PinsLeaf (core_of p.tables storage) Owner.Caller leaf.row leaf.key leaf.node_type k (core_of t storage))
-      (come : (n : ℕ) → has_value (counts_at t.ref_counts.nodes n) ≡ has_come (counts_at p.tables.ref_counts.nodes) leaf.row.node n) (whole : IsWhole t) (later : AreLater t)
+      (come : (n : ℕ) → has_value (counts_at t.ref_counts.nodes n) ≡ has_come (counts_at p.tables.ref_counts.nodes) leaf.row.node n) (whole : IsWhole t)
+      (later : AreLater t)
       (placed : (n : ℕ) → value_in values n ≡ with_value true leaf.row.node.0 x (value_in p.values) n) where
     abbrev after : PagerView N S E
     after = record p { tables = t; values = values }
@@ -131,12 +157,21 @@ module _ {N S E : Type 0} {tells : Telling S} {says : E → Values N} {p : Pager
         grind (arith, nat_tests, cases_eq)
 
     pub pinned-so : IsPager tells says after
-    pinned-so = in-step after whole later (λ right. installed_away {s = mid} {s' = state_in tells after} mid-whole may installs leaf-ends.away (record { swept = swept; right = right }))
+    pinned-so = in-step after whole later (λ right. installed_away {s = mid} {s' = state_in tells after} mid-whole may installs leaf-ends.away
+        (record { swept = swept; right = right }))
 
     comes : (n : ℕ) (y : N) → value_in values n ≡ Some y → (value_in p.values n ≡ Some y) ⊎ ((value_in p.values n ≡ None) × ((y ≡ x) × IsCellOf mid.core l n))
     comes n y some =
         let cell : leaf.row.node.0 ≡ n → IsCellOf mid.core l n = λ m.
-        record { load = may.load; node = leaf.row.node; t = v.node_type x; h = leaf.row.number; open_load = may.owned.stands_open; root = may.of_node; is = m } in
+        record {
+          load = may.load;
+          node = leaf.row.node;
+          t = v.node_type x;
+          h = leaf.row.number;
+          open_load = may.owned.stands_open;
+          root = may.of_node;
+          is = m;
+        } in
         let none : value_in p.values leaf.row.node.0 ≡ None = (let a = is.state.valued leaf.row.node.0 in let b = found.away in grind (arith, nat_tests)) in
         let s = placed n in
         grind (arith, nat_tests, cases_eq)
@@ -146,19 +181,26 @@ module _ {N S E : Type 0} {tells : Telling S} {says : E → Values N} {p : Pager
       l = l;
       mid = mid;
       begun = leaf-begun leaf leaf-ends.begun l leaf-ends.begins leaf-ends.opened leaf-ends.placed;
-      ends = record { step = record { installs = (leaf.row.node, leaf.row.number, may, installs); refused = tt }; moves = record { each = comes; environment = refl }; whole = pinned-so.state };
+      ends = record {
+        step = record { installs = (leaf.row.node, leaf.row.number, may, installs); refused = tt };
+        moves = record { each = comes; environment = refl };
+        whole = pinned-so.state;
+      };
     }
 
 -- ---- a load that begins once the blob has come is one that began before, and got it
 
 -- what the cache gives is the same once a load of a cell is open
-loaded-usable : (w : Core) (node : NodeNumber) (l : LoadNumber) (key : ℕ) (root : Root) (kind q : ℕ) → usable (with_load (with_handle w node Mode.LooseUnpinned (Owner.Load l)) key root Owner.Caller) kind q ≡ usable w kind q
+loaded-usable : (w : Core) (node : NodeNumber) (l : LoadNumber) (key : ℕ) (root : Root) (kind q : ℕ)
+    → usable (with_load (with_handle w node Mode.LooseUnpinned (Owner.Load l)) key root Owner.Caller) kind q ≡ usable w kind q
 loaded-usable w node l key root kind q =
     let guard = row_of (w.last.handle + 1) node Mode.LooseUnpinned (Owner.Load l) in
-    let more : (n : ℕ) → pins n (w.rows ++ guard ∷ []) ≡ pins n w.rows = λ n. (let s = sum_by_push (λ x. one (is_pin n x)) w.rows guard in grind (arith, nat_tests)) in
+    let more : (n : ℕ) → pins n (w.rows ++ guard ∷ []) ≡ pins n w.rows =
+    λ n. (let s = sum_by_push (λ x. one (is_pin n x)) w.rows guard in grind (arith, nat_tests)) in
     grind (arith, nat_tests, more)
 
-module _ {N E : Type 0} (v : Values N) (s s1 mid1 : PagerState N E) (leaf : Leaf) (l : LoadNumber) (r : Result Blob Error) (fetched : FetchCall s.core leaf.key r s1.core)
+module _ {N E : Type 0} (v : Values N) (s s1 mid1 : PagerState N E) (leaf : Leaf) (l : LoadNumber) (r : Result Blob Error)
+    (fetched : FetchCall s.core leaf.key r s1.core)
     (values : (n : ℕ) → s1.values n ≡ s.values n) (same : s1.environment ≡ s.environment) (begun : LeafBegun v s1 leaf l mid1) where
   -- as it was before the storage was asked
   abbrev core : Core
@@ -188,7 +230,8 @@ module _ {N E : Type 0} (v : Values N) (s s1 mid1 : PagerState N E) (leaf : Leaf
                 cells = λ n. a.cells n ∙ f.cells n;
                 list = a.list ∙ f.list;
                 cache = record {
-                  gives = λ kind key. a.cache.gives kind key ∙ loaded-usable s1.core row.node l leaf.key (of_cell row.node t leaf.row.number) kind key ∙ f.cache.gives kind key
+                  gives = λ kind key. a.cache.gives kind key ∙ loaded-usable s1.core row.node l leaf.key (of_cell row.node t leaf.row.number) kind key
+                      ∙ f.cache.gives kind key
                       ∙ sym (loaded-usable s.core row.node l leaf.key (of_cell row.node t leaf.row.number) kind key);
                   only = λ kind key n here. f.cache.only kind key n (a.cache.only kind key n here);
                 };
@@ -227,9 +270,23 @@ module _ {N E : Type 0} (v : Values N) (s s1 mid1 : PagerState N E) (leaf : Leaf
       let n = is.loads in
       record {
         whole = record {
-          handles = record { ordered = h.ordered; numbered = h.numbered; nodes_numbered = h.nodes_numbered; within = h.within; live = h.live; uniform = h.uniform; unkeyed = h.unkeyed; places = h.places };
+          handles = record {
+            ordered = h.ordered;
+            numbered = h.numbered;
+            nodes_numbered = h.nodes_numbered;
+            within = h.within;
+            live = h.live;
+            uniform = h.uniform;
+            unkeyed = h.unkeyed;
+            places = h.places;
+          };
           owners_there = record { listed = o.listed; waiting = o.waiting; loads = o.loads; workers = o.workers };
-          loads = record { numbered = n.numbered; owned = n.owned; roots = λ m open_load node k q e root. let r = n.roots m open_load node k q e root in record { typed = r.typed; begun = r.begun; given = r.given } };
+          loads = record {
+            numbered = n.numbered;
+            owned = n.owned;
+            roots = λ m open_load node k q e root. let r = n.roots m open_load node k q e root in
+                record { typed = r.typed; begun = r.begun; given = r.given };
+          };
           cache = λ kind key m known. let c = is.cache kind key m known in record { given = c.given; typed = c.typed; shares = c.shares };
           workers_numbered = is.workers_numbered;
           shut = λ shut. is.shut (closed-is ∙ shut);
@@ -239,7 +296,8 @@ module _ {N E : Type 0} (v : Values N) (s s1 mid1 : PagerState N E) (leaf : Leaf
         typed = b.typed;
         inside = b.inside;
         bare = b.bare;
-        references = λ m x ref has among. let q = b.references m x ref has among in record { row = q.row; live = q.live; at = q.at; owned = q.owned; fits = q.fits; typed = q.typed };
+        references = λ m x ref has among. let q = b.references m x ref has among in
+            record { row = q.row; live = q.live; at = q.at; owned = q.owned; fits = q.fits; typed = q.typed };
       }
 
   got : FetchCall core leaf.key r mid1.core
@@ -269,7 +327,10 @@ module _ {N E : Type 0} (v : Values N) (s s1 mid1 : PagerState N E) (leaf : Leaf
     key = leaf.key;
     begins = record {
       step = began-before;
-      moves = record { each = λ n x has. elim (begun.begins.moves.each n x has) [ inl was ↦ inl (sym (values n) ∙ was) | inr (none, never) ↦ absurd never ]; environment = begun.begins.moves.environment ∙ same };
+      moves = record {
+        each = λ n x has. elim (begun.begins.moves.each n x has) [ inl was ↦ inl (sym (values n) ∙ was) | inr (none, never) ↦ absurd never ];
+        environment = begun.begins.moves.environment ∙ same;
+      };
       whole = before-whole;
     };
     is = ap (reading_of_load l) begun.opened;
@@ -294,7 +355,10 @@ module _ {N E : Type 0} (v : Values N) (s s1 mid1 : PagerState N E) (leaf : Leaf
           blob = blob;
           first = refl;
           open_load = begun.opened;
-          asked = record { gives = (load, record { stands_open = begun.opened; own = refl }, subst (λ q. FetchCall core leaf.key q mid1.core) of_blob got); refused = tt };
+          asked = record {
+            gives = (load, record { stands_open = begun.opened; own = refl }, subst (λ q. FetchCall core leaf.key q mid1.core) of_blob got);
+            refused = tt;
+          };
           goes = refl;
         });
       };
@@ -304,55 +368,82 @@ module _ {N E : Type 0} (v : Values N) (s s1 mid1 : PagerState N E) (leaf : Leaf
       whole = begun.begins.whole;
     }
 
-    goes : (answer : LoadAnswer N) (u : PagerState N E) → LoadRun v Owner.Caller rooted mid1 answer u → LoadRun v Owner.Caller (fresh l leaf.node_type) before answer u
+    goes : (answer : LoadAnswer N) (u : PagerState N E) → LoadRun v Owner.Caller rooted mid1 answer u
+        → LoadRun v Owner.Caller (fresh l leaf.node_type) before answer u
     goes answer u run = load-goes-on (fresh l leaf.node_type) frames answer before mid1 u step-root run
 
-    pub root-pins : (k : HandleNumber) (u : PagerState N E) → LoadRun v Owner.Caller (rooted_reading l leaf.key leaf.node_type blob) mid1 (LoadAnswer.Pinned k) u → PinRun v s leaf.row.number (Ok k) u
-    root-pins k u run = load-pins k (fresh l leaf.node_type) before u starts (goes (LoadAnswer.Pinned k) u (subst (λ q. LoadRun v Owner.Caller q mid1 (LoadAnswer.Pinned k) u) (sym is-rooted) run))
+    pub root-pins : (k : HandleNumber) (u : PagerState N E) → LoadRun v Owner.Caller (rooted_reading l leaf.key leaf.node_type blob) mid1
+        (LoadAnswer.Pinned k) u → PinRun v s leaf.row.number (Ok k) u
+    root-pins k u run = load-pins k (fresh l leaf.node_type) before u starts
+        (goes (LoadAnswer.Pinned k) u (subst (λ q. LoadRun v Owner.Caller q mid1 (LoadAnswer.Pinned k) u) (sym is-rooted) run))
 
-    pub root-fails : (e : Error) (u : PagerState N E) → LoadRun v Owner.Caller (rooted_reading l leaf.key leaf.node_type blob) mid1 (LoadAnswer.Refused e) u → PinRun v s leaf.row.number (Err e) u
-    root-fails e u run = load-fails e (fresh l leaf.node_type) before u starts (goes (LoadAnswer.Refused e) u (subst (λ q. LoadRun v Owner.Caller q mid1 (LoadAnswer.Refused e) u) (sym is-rooted) run))
+    pub root-fails : (e : Error) (u : PagerState N E) → LoadRun v Owner.Caller (rooted_reading l leaf.key leaf.node_type blob) mid1 (LoadAnswer.Refused e) u
+        → PinRun v s leaf.row.number (Err e) u
+    root-fails e u run = load-fails e (fresh l leaf.node_type) before u starts
+        (goes (LoadAnswer.Refused e) u (subst (λ q. LoadRun v Owner.Caller q mid1 (LoadAnswer.Refused e) u) (sym is-rooted) run))
 
     -- it is read, and the load ends with its value
     module _ (x : N) (k : HandleNumber) (u : PagerState N E) (read : IsReadAs v leaf.node_type blob [] x) (bare : v.references x ≡ [])
-        (ends : Brings v (λ w'. EndCall mid1.core Owner.Caller l x (v.node_type x) (v.references x) (Ok k) w') (λ n y. (y ≡ x) × IsCellOf mid1.core l n) mid1 u) where
-      reads-root : ReadsRoot v rooted x
-      reads-root = record { root = root_frame leaf.key leaf.node_type blob; frames = refl; decoded = record { own = read.own; read = read.read; typed = read.typed; means = read.means } }
+        (ends : Brings v (λ w'. EndCall mid1.core Owner.Caller l x (v.node_type x) (v.references x) (Ok k) w') (λ n y. (y ≡ x) × IsCellOf mid1.core l n) mid1 u)
+      where
+        reads-root : ReadsRoot v rooted x
+        reads-root = record {
+          root = root_frame leaf.key leaf.node_type blob;
+          frames = refl;
+          decoded = record { own = read.own; read = read.read; typed = read.typed; means = read.means };
+        }
 
-      holds-none : (y : N) → y ≡ x → HoldsItsNodes v mid1 y
-      holds-none y is ref among eager = absurd (let rs : v.references y ≡ [] = ap v.references is ∙ bare in let (i, at) = among in let none : slice_get [] i ≡ Some ref = subst (λ (zs : List ArcRef). slice_get zs i ≡ Some ref) rs at in cc)
+        holds-none : (y : N) → y ≡ x → HoldsItsNodes v mid1 y
+        holds-none y is ref among eager = absurd (let rs : v.references y ≡ [] = ap v.references is ∙ bare in let (i, at) = among in
+            let none : slice_get [] i ≡ Some ref = subst (λ (zs : List ArcRef). slice_get zs i ≡ Some ref) rs at in cc)
 
-      step-end : ReadingStep v Owner.Caller rooted mid1 (Some (LoadAnswer.Pinned k)) [] u
-      step-end = record {
-        does = record { does = (record { x = x; reads_root = reads-root; of_cell_load = record { load = load; open_load = begun.opened; sort = tt }; ended = ends.step }, refl) };
-        moves = record {
-          each = λ n y some. elim (ends.moves.each n y some) [
-            | inl was ↦ inl was
-            | inr (none, (is, cell)) ↦ inr (none, inr (subst (λ z. ReadsRoot v rooted z) (sym is) reads-root, cell))
-          ];
-          environment = ends.moves.environment;
-        };
-        holds = λ well. record {
-          each = λ n y some. elim (ends.moves.each n y some) [
-            | inl was ↦ inl was
-            | inr (none, (is, cell)) ↦ inr (none, holds-none y is)
-          ];
-          environment = ends.moves.environment;
-        };
-        answers = tt;
-        whole = ends.whole;
-      }
+        step-end : ReadingStep v Owner.Caller rooted mid1 (Some (LoadAnswer.Pinned k)) [] u
+        step-end = record {
+          does = record {
+            does = (
+              record {
+                x = x;
+                reads_root = reads-root;
+                of_cell_load = record { load = load; open_load = begun.opened; sort = tt };
+                ended = ends.step;
+              },
+              refl,
+            );
+          };
+          moves = record {
+            each = λ n y some. elim (ends.moves.each n y some) [
+              | inl was ↦ inl was
+              | inr (none, (is, cell)) ↦ inr (none, inr (subst (λ z. ReadsRoot v rooted z) (sym is) reads-root, cell))
+            ];
+            environment = ends.moves.environment;
+          };
+          holds = λ well. record {
+            each = λ n y some. elim (ends.moves.each n y some) [
+              | inl was ↦ inl was
+              | inr (none, (is, cell)) ↦ inr (none, holds-none y is)
+            ];
+            environment = ends.moves.environment;
+          };
+          answers = tt;
+          whole = ends.whole;
+        }
 
-      pub pins-run : PinRun v s leaf.row.number (Ok k) u
-      pins-run = load-pins k (fresh l leaf.node_type) before u starts (goes (LoadAnswer.Pinned k) u (load-ends rooted (LoadAnswer.Pinned k) mid1 u step-end))
+        pub pins-run : PinRun v s leaf.row.number (Ok k) u
+        pins-run = load-pins k (fresh l leaf.node_type) before u starts (goes (LoadAnswer.Pinned k) u (load-ends rooted (LoadAnswer.Pinned k) mid1 u step-end))
 
     -- memory is wanting for it
     module _ (u : PagerState N E) (closes : Called v (λ w'. LoadCloses mid1.core l (Ok tt) w') mid1 u) where
       step-wanting : ReadingStep v Owner.Caller rooted mid1 (Some (LoadAnswer.Refused Error.OutOfMemory)) [] u
       step-wanting = record {
         does = record { does = (inl (record { mid = mid1.core; meets = inl (inr (inr refl), still mid1.core); told = Ok tt; closes = closes.step }), refl) };
-        moves = record { each = λ n y some. elim (closes.moves.each n y some) [ inl was ↦ inl was | inr (none, never) ↦ absurd never ]; environment = closes.moves.environment };
-        holds = λ well. record { each = λ n y some. elim (closes.moves.each n y some) [ inl was ↦ inl was | inr (none, never) ↦ absurd never ]; environment = closes.moves.environment };
+        moves = record {
+          each = λ n y some. elim (closes.moves.each n y some) [ inl was ↦ inl was | inr (none, never) ↦ absurd never ];
+          environment = closes.moves.environment;
+        };
+        holds = λ well. record {
+          each = λ n y some. elim (closes.moves.each n y some) [ inl was ↦ inl was | inr (none, never) ↦ absurd never ];
+          environment = closes.moves.environment;
+        };
         answers = tt;
         whole = closes.whole;
       }
@@ -369,15 +460,31 @@ module _ {N E : Type 0} (v : Values N) (s s1 mid1 : PagerState N E) (leaf : Leaf
         does = (
           inl (record {
             mid = mid1.core;
-            meets = inr (inl (refl, record { gives = tt; refused = inr (load, record { stands_open = begun.opened; own = refl }, subst (λ q. FetchCall core leaf.key q mid1.core) of_error got) }));
+            meets = inr (inl (
+              refl,
+              record {
+                gives = tt;
+                refused = inr (
+                  load,
+                  record { stands_open = begun.opened; own = refl },
+                  subst (λ q. FetchCall core leaf.key q mid1.core) of_error got,
+                );
+              },
+            ));
             told = Ok tt;
             closes = closes.step;
           }),
           refl,
         );
       };
-      moves = record { each = λ n y some. elim (closes.moves.each n y some) [ inl was ↦ inl was | inr (none, never) ↦ absurd never ]; environment = closes.moves.environment };
-      holds = λ well. record { each = λ n y some. elim (closes.moves.each n y some) [ inl was ↦ inl was | inr (none, never) ↦ absurd never ]; environment = closes.moves.environment };
+      moves = record {
+        each = λ n y some. elim (closes.moves.each n y some) [ inl was ↦ inl was | inr (none, never) ↦ absurd never ];
+        environment = closes.moves.environment;
+      };
+      holds = λ well. record {
+        each = λ n y some. elim (closes.moves.each n y some) [ inl was ↦ inl was | inr (none, never) ↦ absurd never ];
+        environment = closes.moves.environment;
+      };
       answers = tt;
       whole = closes.whole;
     }
@@ -387,19 +494,26 @@ module _ {N E : Type 0} (v : Values N) (s s1 mid1 : PagerState N E) (leaf : Leaf
 
 -- ---- what the pager's calls are told by
 
-pub leaf-in : {N S E : Type 0} (tells : Telling S) {p q : PagerView N S E} {leaf : Leaf} → p ≡ q → IsLeaf (core_in tells q) Owner.Caller leaf → IsLeaf (core_in tells p) Owner.Caller leaf
+pub leaf-in : {N S E : Type 0} (tells : Telling S) {p q : PagerView N S E} {leaf : Leaf} → p ≡ q → IsLeaf (core_in tells q) Owner.Caller leaf
+    → IsLeaf (core_in tells p) Owner.Caller leaf
 leaf-in tells {leaf = leaf} viewed is = subst (λ x. IsLeaf (core_in tells x) Owner.Caller leaf) (sym viewed) is
 
-pub not-begun : {N S E : Type 0} {tells : Telling S} {says : E → Values N} {p : PagerView N S E} → IsPager tells says p → (t : Tables) {h : HandleNumber} {e : Error} → IsPager tells says (record p { tables = t })
-    → BeginCall (core_in tells p) Owner.Caller h (Err e) (core_in tells (record p { tables = t })) → PinRun (says p.environment) (state_in tells p) h (Err e) (state_in tells (record p { tables = t }))
-not-begun {tells = tells} {p = p} was t {e = e} is call = load-is-refused e (state_in tells (record p { tables = t })) (record { step = call; moves = record { each = λ n x has. inl has; environment = refl }; whole = is.state })
+pub not-begun : {N S E : Type 0} {tells : Telling S} {says : E → Values N} {p : PagerView N S E} → IsPager tells says p
+    → (t : Tables) {h : HandleNumber} {e : Error} → IsPager tells says (record p { tables = t })
+    → BeginCall (core_in tells p) Owner.Caller h (Err e) (core_in tells (record p { tables = t }))
+    → PinRun (says p.environment) (state_in tells p) h (Err e) (state_in tells (record p { tables = t }))
+not-begun {tells = tells} {p = p} was t {e = e} is call = load-is-refused e (state_in tells (record p { tables = t }))
+    (record { step = call; moves = record { each = λ n x has. inl has; environment = refl }; whole = is.state })
 
 -- what was found is so once the storage was asked
-pub leaf-after : {N S E : Type 0} {p q : PagerView N S E} {t : Tables} {leaf : Leaf} → p ≡ q → q.tables ≡ t → ((storage : StorageView) → IsLeaf (core_of t storage) Owner.Caller leaf)
+pub leaf-after : {N S E : Type 0} {p q : PagerView N S E} {t : Tables} {leaf : Leaf} → p ≡ q → q.tables ≡ t
+    → ((storage : StorageView) → IsLeaf (core_of t storage) Owner.Caller leaf)
     → IsLeaf (plain_of p.tables) Owner.Caller leaf
-leaf-after {N} {S} {E} {leaf = leaf} viewed same found = subst (λ (t : Tables). IsLeaf (plain_of t) Owner.Caller leaf) (sym (ap (λ (x : PagerView N S E). x.tables) viewed ∙ same)) (found no_blobs)
+leaf-after {N} {S} {E} {leaf = leaf} viewed same found = subst (λ (t : Tables). IsLeaf (plain_of t) Owner.Caller leaf)
+    (sym (ap (λ (x : PagerView N S E). x.tables) viewed ∙ same)) (found no_blobs)
 
-pub leaf-asked : {N S E : Type 0} (tells : Telling S) (q : PagerView N S E) {t : Tables} {leaf : Leaf} → q.tables ≡ t → ((storage : StorageView) → IsLeaf (core_of t storage) Owner.Caller leaf)
+pub leaf-asked : {N S E : Type 0} (tells : Telling S) (q : PagerView N S E) {t : Tables} {leaf : Leaf} → q.tables ≡ t
+    → ((storage : StorageView) → IsLeaf (core_of t storage) Owner.Caller leaf)
     → IsLeaf (core_in tells q) Owner.Caller leaf
 leaf-asked tells q {leaf = leaf} same found =
     subst (λ (t : Tables). IsLeaf (core_of t (tells q.storage)) Owner.Caller leaf) (sym same) (found (tells q.storage))
@@ -407,13 +521,15 @@ leaf-asked tells q {leaf = leaf} same found =
 pub pager-in : {N S E : Type 0} {tells : Telling S} {says : E → Values N} {p q : PagerView N S E} → p ≡ q → IsPager tells says p → IsPager tells says q
 pager-in {tells = tells} {says = says} viewed is = subst (λ x. IsPager tells says x) viewed is
 
-pub asked-in : {N S E : Type 0} {honest : S → Bool} {tells : Telling S} {o p q : PagerView N S E} {makes : Core → Core → Type 0} → p ≡ q → AsksStorage honest tells o makes q → AsksStorage honest tells o makes p
+pub asked-in : {N S E : Type 0} {honest : S → Bool} {tells : Telling S} {o p q : PagerView N S E} {makes : Core → Core → Type 0} → p ≡ q
+    → AsksStorage honest tells o makes q → AsksStorage honest tells o makes p
 asked-in {honest = honest} {tells = tells} {o = o} {makes = makes} viewed asks = subst (λ x. AsksStorage honest tells o makes x) (sym viewed) asks
 
 unpinned-so : {w : Core} {leaf : Leaf} → pager.IsWhole w → IsLeaf w Owner.Caller leaf → is_unpinned_at w leaf.row.number ≡ true
 unpinned-so whole is = let live = is.owned.live in let away = is.away in grind (arith, nat_tests, pinned-here, row-pins)
 
-module _ {N S E : Type 0} {tells : Telling S} {says : E → Values N} {p p1 : PagerView N S E} (is : IsPager tells says p) (is1 : IsPager tells says p1) (t0 : Tables) (room : Does p.tables OnlyRoom t0) (leaf : Leaf)
+module _ {N S E : Type 0} {tells : Telling S} {says : E → Values N} {p p1 : PagerView N S E} (is : IsPager tells says p) (is1 : IsPager tells says p1)
+    (t0 : Tables) (room : Does p.tables OnlyRoom t0) (leaf : Leaf)
     (found : (storage : StorageView) → IsLeaf (core_of t0 storage) Owner.Caller leaf) (r : Result Blob Error)
     (asks : FetchCall (core_in tells (record p { tables = t0 })) leaf.key r (core_in tells p1)) (only : OnlyStorage (record p { tables = t0 }) p1) where
   abbrev w0 : Core
@@ -424,7 +540,8 @@ module _ {N S E : Type 0} {tells : Telling S} {says : E → Values N} {p p1 : Pa
 
   fetched : FetchCall (core_in tells p) leaf.key r (core_in tells p1)
   fetched =
-      let wider : FetchCall (record (core_in tells p) { places = w0.places }) leaf.key r (core_in tells p1) = subst (λ u. FetchCall u leaf.key r (core_in tells p1)) roomier-so.same asks in
+      let wider : FetchCall (record (core_in tells p) { places = w0.places }) leaf.key r (core_in tells p1) =
+      subst (λ u. FetchCall u leaf.key r (core_in tells p1)) roomier-so.same asks in
       let a = wider.asked.leaves in
       let more = roomier-so.more in
       record {
@@ -455,7 +572,14 @@ module _ {N S E : Type 0} {tells : Telling S} {says : E → Values N} {p p1 : Pa
   leaf-still =
       let f : IsLeaf w0 Owner.Caller leaf = found (tells p.storage) in
       let g : IsLeaf (record (core_in tells p) { places = w0.places }) Owner.Caller leaf = subst (λ u. IsLeaf u Owner.Caller leaf) roomier-so.same f in
-      record { owned = record { live = g.owned.live; own = g.owned.own; as_asked = g.owned.as_asked }; away = g.away; keyed = g.keyed; typed = g.typed; load_left = g.load_left; handles_left = g.handles_left }
+      record {
+        owned = record { live = g.owned.live; own = g.owned.own; as_asked = g.owned.as_asked };
+        away = g.away;
+        keyed = g.keyed;
+        typed = g.typed;
+        load_left = g.load_left;
+        handles_left = g.handles_left;
+      }
 
   pub fetch-told : (blob : Blob) → r ≡ Ok blob → LeafFetched (says p.environment) (state_in tells p) leaf blob (state_in tells p1)
   fetch-told blob of_blob = record {
@@ -468,16 +592,21 @@ module _ {N S E : Type 0} {tells : Telling S} {says : E → Values N} {p p1 : Pa
     unpinned = unpinned-so is.state.whole leaf-still;
   }
 
-  pub fetch-refused : (e : Error) (u : PagerState N E) → r ≡ Err e → LeafDropped (says p1.environment) (state_in tells p1) leaf u → PinRun (says p.environment) (state_in tells p) leaf.row.number (Err e) u
+  pub fetch-refused : (e : Error) (u : PagerState N E) → r ≡ Err e → LeafDropped (says p1.environment) (state_in tells p1) leaf u
+      → PinRun (says p.environment) (state_in tells p) leaf.row.number (Err e) u
   fetch-refused e u of_error d =
-      let dropped : LeafDropped (says p.environment) (state_in tells p1) leaf u = subst (λ e. LeafDropped (says e) (state_in tells p1) leaf u) only.environment d in
-      refused-run (says p.environment) (state_in tells p) (state_in tells p1) dropped.mid leaf dropped.l r fetched sames only.environment dropped.begun e u of_error dropped.closes
+      let dropped : LeafDropped (says p.environment) (state_in tells p1) leaf u =
+      subst (λ e. LeafDropped (says e) (state_in tells p1) leaf u) only.environment d in
+      refused-run (says p.environment) (state_in tells p) (state_in tells p1) dropped.mid leaf dropped.l r fetched sames only.environment dropped.begun e u
+      of_error dropped.closes
 
 -- ---- one after the other, a pin's run
 
 module _ {N E : Type 0} {v : Values N} {s s1 u : PagerState N E} {leaf : Leaf} {blob : Blob} (f : LeafFetched v s leaf blob s1) where
-  pub pinned-run : {x : N} {k : HandleNumber} → IsReadAs v leaf.node_type blob [] x → v.references x ≡ [] → LeafPinned v s1 leaf x k u → PinRun v s leaf.row.number (Ok k) u
-  pinned-run {x} {k} read bare p = pins-run v s s1 p.mid leaf p.l (Ok blob) f.fetched.step f.values f.fetched.moves.environment p.begun blob refl x k u read bare p.ends
+  pub pinned-run : {x : N} {k : HandleNumber} → IsReadAs v leaf.node_type blob [] x → v.references x ≡ [] → LeafPinned v s1 leaf x k u
+      → PinRun v s leaf.row.number (Ok k) u
+  pinned-run {x} {k} read bare p = pins-run v s s1 p.mid leaf p.l (Ok blob) f.fetched.step f.values f.fetched.moves.environment p.begun blob refl x k u read
+      bare p.ends
 
   pub dropped-run : LeafDropped v s1 leaf u → PinRun v s leaf.row.number (Err Error.OutOfMemory) u
   dropped-run d = wanting-run v s s1 d.mid leaf d.l (Ok blob) f.fetched.step f.values f.fetched.moves.environment d.begun blob refl u d.closes
@@ -494,7 +623,8 @@ module _ {N E : Type 0} {v : Values N} {s s1 u : PagerState N E} {leaf : Leaf} {
         found = g.found;
         refused = tt;
       } in
-      wanting-run v s d.between d.dropped.mid leaf d.dropped.l (Ok blob) again (λ n. d.same n ∙ f.values n) (d.stays.moves.environment ∙ f.fetched.moves.environment) d.dropped.begun blob refl u d.dropped.closes
+      wanting-run v s d.between d.dropped.mid leaf d.dropped.l (Ok blob) again (λ n. d.same n ∙ f.values n)
+      (d.stays.moves.environment ∙ f.fetched.moves.environment) d.dropped.begun blob refl u d.dropped.closes
 
   pub loads-pinned : {k : HandleNumber} → LeafLoads v s1 leaf blob (Ok k) u → PinRun v s leaf.row.number (Ok k) u
   loads-pinned {k} d =
@@ -509,7 +639,8 @@ module _ {N E : Type 0} {v : Values N} {s s1 u : PagerState N E} {leaf : Leaf} {
 
 -- ---- a load of the cell that begins by itself, or is refused
 
-begun-leaf : {w w' : Core} {leaf : Leaf} {l : LoadNumber} {key : ℕ} → IsLeaf w Owner.Caller leaf → BeginCall w Owner.Caller leaf.row.number (Ok (Beginning.Load l key)) w'
+begun-leaf : {w w' : Core} {leaf : Leaf} {l : LoadNumber} {key : ℕ} → IsLeaf w Owner.Caller leaf
+    → BeginCall w Owner.Caller leaf.row.number (Ok (Beginning.Load l key)) w'
     → (key ≡ leaf.key) × (w'.loads l.0 ≡ Some (record { owner = Owner.Caller; key = leaf.key; root = of_cell leaf.row.node leaf.node_type leaf.row.number }))
 begun-leaf {w} {w'} {leaf} {l} {key} is call =
     let (row, owns, (away, keyed, next, left, (t, typed, a))) = call.begins in
@@ -528,14 +659,17 @@ in-memory-never {w} {w'} {leaf} is call =
     let never : true ≡ false = sym there ∙ away in
     absurd cc
 
-pub begin-told : {N S E : Type 0} {tells : Telling S} {says : E → Values N} {p : PagerView N S E} → IsPager tells says p → (t : Tables) → IsPager tells says (record p { tables = t }) → (leaf : Leaf) {l : LoadNumber} {key : ℕ}
-    → IsLeaf (core_in tells p) Owner.Caller leaf → BeginCall (core_in tells p) Owner.Caller leaf.row.number (Ok (Beginning.Load l key)) (core_in tells (record p { tables = t }))
+pub begin-told : {N S E : Type 0} {tells : Telling S} {says : E → Values N} {p : PagerView N S E} → IsPager tells says p → (t : Tables)
+    → IsPager tells says (record p { tables = t }) → (leaf : Leaf) {l : LoadNumber} {key : ℕ}
+    → IsLeaf (core_in tells p) Owner.Caller leaf → BeginCall (core_in tells p) Owner.Caller leaf.row.number (Ok (Beginning.Load l key))
+    (core_in tells (record p { tables = t }))
     → LeafBegun (says p.environment) (state_in tells p) leaf l (state_in tells (record p { tables = t }))
 begin-told {tells = tells} {p = p} was t after leaf {l} {key} is call =
     let b = begun-leaf is call in
     record {
       begins = record {
-        step = subst (λ k. BeginCall (core_in tells p) Owner.Caller leaf.row.number (Ok (Beginning.Load l k)) (core_in tells (record p { tables = t }))) b.0 call;
+        step = subst (λ k. BeginCall (core_in tells p) Owner.Caller leaf.row.number (Ok (Beginning.Load l k)) (core_in tells (record p { tables = t }))) b.0
+            call;
         moves = record { each = λ n x has. inl has; environment = refl };
         whole = after.state;
       };
@@ -545,12 +679,21 @@ begin-told {tells = tells} {p = p} was t after leaf {l} {key} is call =
 leaf-alike : {w w1 : Core} {leaf : Leaf} → Alike w w1 → IsLeaf w Owner.Caller leaf → IsLeaf w1 Owner.Caller leaf
 leaf-alike a is = grind (arith, nat_tests, a.rows, a.cells, a.last)
 
-module _ {N S E : Type 0} {tells : Telling S} {says : E → Values N} {p p1 : PagerView N S E} (is : IsPager tells says p) (is1 : IsPager tells says p1) (leaf : Leaf) (e : Error)
-    (found : IsLeaf (core_in tells p) Owner.Caller leaf) (call : BeginCall (core_in tells p) Owner.Caller leaf.row.number (Err e) (core_in tells p1)) (only : OnlyTables p p1) where
+module _ {N S E : Type 0} {tells : Telling S} {says : E → Values N} {p p1 : PagerView N S E} (is : IsPager tells says p) (is1 : IsPager tells says p1)
+    (leaf : Leaf) (e : Error)
+    (found : IsLeaf (core_in tells p) Owner.Caller leaf) (call : BeginCall (core_in tells p) Owner.Caller leaf.row.number (Err e) (core_in tells p1))
+    (only : OnlyTables p p1) where
   pub unbegun-leaf : IsLeaf (plain_of p1.tables) Owner.Caller leaf
   unbegun-leaf =
       let g = leaf-alike call.refused.stays found in
-      record { owned = record { live = g.owned.live; own = g.owned.own; as_asked = g.owned.as_asked }; away = g.away; keyed = g.keyed; typed = g.typed; load_left = g.load_left; handles_left = g.handles_left }
+      record {
+        owned = record { live = g.owned.live; own = g.owned.own; as_asked = g.owned.as_asked };
+        away = g.away;
+        keyed = g.keyed;
+        typed = g.typed;
+        load_left = g.load_left;
+        handles_left = g.handles_left;
+      }
 
   pub unbegun-place : 1 ≤ room p.tables.ref_counts.handles → 1 ≤ room p1.tables.ref_counts.handles
   unbegun-place place =
@@ -561,12 +704,16 @@ module _ {N S E : Type 0} {tells : Telling S} {says : E → Values N} {p p1 : Pa
       let more = a.places.handles in
       omega arith
 
-  pub unbegun-told : {u : PagerState N E} → LeafDropped (says p1.environment) (state_in tells p1) leaf u → LeafUnbegun (says p.environment) (state_in tells p) leaf u
+  pub unbegun-told : {u : PagerState N E} → LeafDropped (says p1.environment) (state_in tells p1) leaf u
+      → LeafUnbegun (says p.environment) (state_in tells p) leaf u
   unbegun-told {u} d = record {
     between = state_in tells p1;
     stays = record {
       step = call.refused.stays;
-      moves = record { each = λ n x has. inl (subst (λ (values : ValuesByNode N). value_in values n ≡ Some x) only.values has); environment = only.environment };
+      moves = record {
+        each = λ n x has. inl (subst (λ (values : ValuesByNode N). value_in values n ≡ Some x) only.values has);
+        environment = only.environment;
+      };
       whole = subst (λ e. WellFormed (says e) (state_in tells p1)) only.environment is1.state;
     };
     same = λ n. ap (λ (values : ValuesByNode N). value_in values n) only.values;

@@ -16,7 +16,8 @@ pub environment-is : {E : Type 0} {a b : Acting E} → a ≡ b → a.environment
 environment-is {E} e = ap (λ (a : Acting E). a.environment) e
 
 -- what is told afterwards was told before
-pub told-so : {A : Type 0} {R : A → A → Type 0} (b b' : Bool) (s t : A) → Told (if b then Some s else None) (if b' then Some t else None) R → IsTrue b' → IsTrue b × R s t
+pub told-so : {A : Type 0} {R : A → A → Type 0} (b b' : Bool) (s t : A) → Told (if b then Some s else None) (if b' then Some t else None) R → IsTrue b'
+    → IsTrue b × R s t
 told-so true true s t told is = (refl, told.holds)
 told-so false true s t told is = absurd told.holds
 told-so true false s t told is = absurd (cc)
@@ -33,7 +34,8 @@ module _ {N E : Type 0} (v : Values N) (me : Owner) (own : Own) where
 
 pub ruleset ending = (ends-pinned, ends-refused)
 
-module _ {N E : Type 0} (v : Values N) (s mid : PagerState N E) (leaf : Leaf) (l : LoadNumber) (begun : LeafBegun v s leaf l mid) (own : Own) (number : own.load ≡ l) (key : own.key ≡ leaf.key) (sort : own.for_cell ≡ true) where
+module _ {N E : Type 0} (v : Values N) (s mid : PagerState N E) (leaf : Leaf) (l : LoadNumber) (begun : LeafBegun v s leaf l mid) (own : Own)
+    (number : own.load ≡ l) (key : own.key ≡ leaf.key) (sort : own.for_cell ≡ true) where
   open-load : IsLoadOf mid.core Owner.Caller own
   open-load = record {
     load = record { owner = Owner.Caller; key = leaf.key; root = of_cell leaf.row.node leaf.node_type leaf.row.number };
@@ -42,28 +44,34 @@ module _ {N E : Type 0} (v : Values N) (s mid : PagerState N E) (leaf : Leaf) (l
     sort = sym sort;
   }
 
-  module _ (t : PagerState N E) (blob : Blob) (me : Owner) (mine : me ≡ Owner.Caller) (rooted : reading_of own ≡ rooted_reading l leaf.key leaf.node_type blob) where
-    runs-so : (answer : LoadAnswer N) → Runs v me own mid answer t → LoadRun v Owner.Caller (rooted_reading l leaf.key leaf.node_type blob) mid answer t
-    runs-so answer runs =
-        let r : Runs v Owner.Caller own mid answer t = subst (λ m. Runs v m own mid answer t) mine runs in
-        subst (λ (q : Reading). LoadRun v Owner.Caller q mid answer t) rooted (r.run open-load)
+  module _ (t : PagerState N E) (blob : Blob) (me : Owner) (mine : me ≡ Owner.Caller) (rooted : reading_of own ≡ rooted_reading l leaf.key leaf.node_type blob)
+    where
+      runs-so : (answer : LoadAnswer N) → Runs v me own mid answer t → LoadRun v Owner.Caller (rooted_reading l leaf.key leaf.node_type blob) mid answer t
+      runs-so answer runs =
+          let r : Runs v Owner.Caller own mid answer t = subst (λ m. Runs v m own mid answer t) mine runs in
+          subst (λ (q : Reading). LoadRun v Owner.Caller q mid answer t) rooted (r.run open-load)
 
-    pub loads-ended : (r : Result HandleNumber Error) → EndsCell v me own mid r t → LeafLoads v s leaf blob r t
-    loads-ended (Ok k) ends = record { pinned = (l, mid, begun, runs-so (LoadAnswer.Pinned k) ends.pinned); refused = tt }
-    loads-ended (Err e) ends = record { pinned = tt; refused = inl (l, mid, begun, runs-so (LoadAnswer.Refused e) ends.refused) }
+      pub loads-ended : (r : Result HandleNumber Error) → EndsCell v me own mid r t → LeafLoads v s leaf blob r t
+      loads-ended (Ok k) ends = record { pinned = (l, mid, begun, runs-so (LoadAnswer.Pinned k) ends.pinned); refused = tt }
+      loads-ended (Err e) ends = record { pinned = tt; refused = inl (l, mid, begun, runs-so (LoadAnswer.Refused e) ends.refused) }
 
-    -- by what is told in the same environment
-    pub loads-told : {F : Type 0} (says : F → Values N) {e1 e0 : F} → e1 ≡ e0 → says e0 ≡ v → (r : Result HandleNumber Error) → EndsCell (says e1) me own mid r t → LeafLoads v s leaf blob r t
-    loads-told says same is r ends = loads-ended r (subst (λ w. EndsCell w me own mid r t) (ap says same ∙ is) ends)
+      -- by what is told in the same environment
+      pub loads-told : {F : Type 0} (says : F → Values N) {e1 e0 : F} → e1 ≡ e0 → says e0 ≡ v → (r : Result HandleNumber Error)
+          → EndsCell (says e1) me own mid r t → LeafLoads v s leaf blob r t
+      loads-told says same is r ends = loads-ended r (subst (λ w. EndsCell w me own mid r t) (ap says same ∙ is) ends)
 
 -- ---- a pin of a cell whose value is away, once its blob has come
 
-module _ {N E : Type 0} (says : E → Values N) {e1 e0 : E} (same : e1 ≡ e0) {s s1 : PagerState N E} {leaf : Leaf} {blob : Blob} (f : LeafFetched (says e0) s leaf blob s1) {h : HandleNumber} (number : leaf.row.number ≡ h) where
+module _ {N E : Type 0} (says : E → Values N) {e1 e0 : E} (same : e1 ≡ e0) {s s1 : PagerState N E} {leaf : Leaf} {blob : Blob}
+    (f : LeafFetched (says e0) s leaf blob s1) {h : HandleNumber} (number : leaf.row.number ≡ h) where
   is-refused : (e : Error) (u : PagerState N E) → PinRun (says e0) s leaf.row.number (Err e) u → PinsAway (says e0) s h (Err e) u
   is-refused e u run = record { goes = tt; refused = subst (λ q. PinRun (says e0) s q (Err e) u) number run }
 
   is-pinned : (k : HandleNumber) (u : PagerState N E) → PinRun (says e0) s leaf.row.number (Ok k) u → PinsAway (says e0) s h (Ok (Some k)) u
-  is-pinned k u run = record { goes = (subst (λ q. PinRun (says e0) s q (Ok k) u) number run, subst (λ q. is_unpinned_at s.core q ≡ true) number f.unpinned); refused = tt }
+  is-pinned k u run = record {
+    goes = (subst (λ q. PinRun (says e0) s q (Ok k) u) number run, subst (λ q. is_unpinned_at s.core q ≡ true) number f.unpinned);
+    refused = tt;
+  }
 
   pub away-loads-refused : (e : Error) (u : PagerState N E) → LeafLoads (says e1) s1 leaf blob (Err e) u → PinsAway (says e0) s h (Err e) u
   away-loads-refused e u loads = is-refused e u (loads-refused f (subst (λ q. LeafLoads (says q) s1 leaf blob (Err e) u) same loads))
@@ -73,10 +81,13 @@ module _ {N E : Type 0} (says : E → Values N) {e1 e0 : E} (same : e1 ≡ e0) {
 
   pub away-dropped : (e : Error) (u : PagerState N E) → (e ≡ Error.OutOfMemory) × LeafDropped (says e1) s1 leaf u → PinsAway (says e0) s h (Err e) u
   away-dropped e u (wanting, dropped) =
-      is-refused e u (subst (λ q. PinRun (says e0) s leaf.row.number (Err q) u) (sym wanting) (dropped-run f (subst (λ q. LeafDropped (says q) s1 leaf u) same dropped)))
+      is-refused e u (subst (λ q. PinRun (says e0) s leaf.row.number (Err q) u) (sym wanting)
+      (dropped-run f (subst (λ q. LeafDropped (says q) s1 leaf u) same dropped)))
 
-  pub away-pinned : (x : N) (k : HandleNumber) (u : PagerState N E) → IsReadAs (says e1) leaf.node_type blob [] x → (says e1).references x ≡ [] → LeafPinned (says e1) s1 leaf x k u → PinsAway (says e0) s h (Ok (Some k)) u
-  away-pinned x k u read bare pinned = is-pinned k u (pinned-run f (subst (λ q. IsReadAs (says q) leaf.node_type blob [] x) same read) (subst (λ q. (says q).references x ≡ []) same bare)
+  pub away-pinned : (x : N) (k : HandleNumber) (u : PagerState N E) → IsReadAs (says e1) leaf.node_type blob [] x → (says e1).references x ≡ []
+      → LeafPinned (says e1) s1 leaf x k u → PinsAway (says e0) s h (Ok (Some k)) u
+  away-pinned x k u read bare pinned = is-pinned k u (pinned-run f (subst (λ q. IsReadAs (says q) leaf.node_type blob [] x) same read)
+      (subst (λ q. (says q).references x ≡ []) same bare)
       (subst (λ q. LeafPinned (says q) s1 leaf x k u) same pinned))
 
 -- ---- the value that a new pin shares
@@ -85,19 +96,25 @@ module _ {N E : Type 0} (v : Values N) (h k : HandleNumber) where
   pub shares-it : {X : Type 0} (see : X → N) (y : X) (s : PagerState N E) → SharesPinned see s k (Ok y) → SharesNew v h k s (Ok (k, see y)) s
   shares-it see y s d = record { shares = λ was first. record { pins = (first.pinned.0, d.given); refused = tt } }
 
-  pub shares-back : {X : Type 0} (see : X → N) (e : Error) (s t : PagerState N E) → SharesPinned see s k (Err e) → TakesBack v true h k s t → SharesNew v h k s (Err e) t
+  pub shares-back : {X : Type 0} (see : X → N) (e : Error) (s t : PagerState N E) → SharesPinned see s k (Err e) → TakesBack v true h k s t
+      → SharesNew v h k s (Err e) t
   shares-back see e s t d back = record { shares = λ was first. taken_back v h see k true e was s t first d back }
 
-  pub back-so : {me : Owner} → me ≡ Owner.Caller → (told other : Result (Unit {0}) Error) (s low t : PagerState N E) → Called v (λ w'. UnpinCall s.core me h told w') s low → Called v (λ w'. ReleaseCall low.core me k other w') low t → TakesBack v true h k s t
-  back-so {me} mine told other s low t unpins releases = takes_back v h mine k true s low t other (told, subst (λ m. Called v (λ w'. UnpinCall s.core m h told w') s low) mine unpins) releases
+  pub back-so : {me : Owner} → me ≡ Owner.Caller → (told other : Result (Unit {0}) Error) (s low t : PagerState N E)
+      → Called v (λ w'. UnpinCall s.core me h told w') s low → Called v (λ w'. ReleaseCall low.core me k other w') low t → TakesBack v true h k s t
+  back-so {me} mine told other s low t unpins releases = takes_back v h mine k true s low t other
+      (told, subst (λ m. Called v (λ w'. UnpinCall s.core m h told w') s low) mine unpins) releases
 
 -- ---- a pin by a lent pager
 
-pub pin-refused : {N E : Type 0} {v : Values N} {s t : PagerState N E} {h : HandleNumber} {r : Result (HandleNumber × N) Error} (e : Error) → PinsAway v s h (Err e) t → r ≡ Err e → PinsOver v s h r t
+pub pin-refused : {N E : Type 0} {v : Values N} {s t : PagerState N E} {h : HandleNumber} {r : Result (HandleNumber × N) Error} (e : Error)
+    → PinsAway v s h (Err e) t → r ≡ Err e → PinsOver v s h r t
 pin-refused {v = v} {s = s} {t = t} {h = h} e away is = subst (λ q. PinsOver v s h q t) (sym is) (record { pins = tt; refused = inl away.refused })
 
-pub pin-shared : {N E : Type 0} {v : Values N} {s mid t : PagerState N E} {h k : HandleNumber} {r : Result (HandleNumber × N) Error} → PinsAway v s h (Ok (Some k)) mid → SharesNew v h k mid r t → PinsOver v s h r t
+pub pin-shared : {N E : Type 0} {v : Values N} {s mid t : PagerState N E} {h k : HandleNumber} {r : Result (HandleNumber × N) Error}
+    → PinsAway v s h (Ok (Some k)) mid → SharesNew v h k mid r t → PinsOver v s h r t
 pin-shared {s = s} away new = new.shares s (record { pinned = (away.goes.0, sym away.goes.1); refused = tt })
 
-pub pin-over : {N E : Type 0} {v : Values N} {s mid t : PagerState N E} {h : HandleNumber} {r : Result (HandleNumber × N) Error} → PinsAway v s h (Ok None) mid → PinsOver v mid h r t → PinsOver v s h r t
+pub pin-over : {N E : Type 0} {v : Values N} {s mid t : PagerState N E} {h : HandleNumber} {r : Result (HandleNumber × N) Error} → PinsAway v s h (Ok None) mid
+    → PinsOver v mid h r t → PinsOver v s h r t
 pin-over {N} {E} {v = v} {t = t} {h = h} {r = r} away over = subst (λ (q : PagerState N E). PinsOver v q h r t) away.goes over

@@ -38,7 +38,12 @@ abbrev pub core_in : {N S E : Type 0} → Telling S → PagerView N S E → Core
 core_in tells p = core_of p.tables (tells p.storage)
 
 abbrev pub state_in : {N S E : Type 0} → Telling S → PagerView N S E → PagerState N E
-state_in tells p = record { core = core_in tells p; counts = λ n. pins_in (counts_at p.tables.ref_counts.nodes n); values = value_in p.values; environment = p.environment }
+state_in tells p = record {
+  core = core_in tells p;
+  counts = λ n. pins_in (counts_at p.tables.ref_counts.nodes n);
+  values = value_in p.values;
+  environment = p.environment;
+}
 
 abbrev pub storage_view : {S E N H K V : Type 0} → Storages S E N H K V → Telling S
 storage_view g s = record { stored = g.stored s; closed = g.is_closed s; failures = g.failed s }
@@ -100,20 +105,23 @@ pub record KeepsWorkers (w w' : Core) : Type 0 where
   pub closed : w'.closed ≡ w.closed
 
 -- a call's step in the plain state, and what it leaves unchanged
-pub record Calls {N S E : Type 0} (Only : PagerView N S E → PagerView N S E → Type 0) (tells : Telling S) (old : PagerView N S E) (makes : Core → Core → Type 0) (new : PagerView N S E) : Type 0 where
+pub record Calls {N S E : Type 0} (Only : PagerView N S E → PagerView N S E → Type 0) (tells : Telling S)
+    (old : PagerView N S E) (makes : Core → Core → Type 0) (new : PagerView N S E) : Type 0 where
   pub step : makes (core_in tells old) (core_in tells new)
   pub only : Only old new
 
 -- A call of the storage: its step in the plain state, if the storage is honest afterwards. In any case nothing else
 -- changes, the storage is closed exactly if it was, and a storage that is honest afterwards was honest before.
-pub record AsksStorage {N S E : Type 0} (is_honest : S → Bool) (tells : Telling S) (old : PagerView N S E) (makes : Core → Core → Type 0) (new : PagerView N S E) : Type 0 where
+pub record AsksStorage {N S E : Type 0} (is_honest : S → Bool) (tells : Telling S) (old : PagerView N S E)
+    (makes : Core → Core → Type 0) (new : PagerView N S E) : Type 0 where
   pub step : IsTrue (is_honest new.storage) → makes (core_in tells old) (core_in tells new)
   pub honest : IsTrue (is_honest new.storage) → IsTrue (is_honest old.storage)
   pub closed : (tells new.storage).closed ≡ (tells old.storage).closed
   pub only : OnlyStorage old new
 
 -- a call that brings no value into memory, and keeps the pager's invariant
-pub record Settles {N S E : Type 0} (Only : PagerView N S E → PagerView N S E → Type 0) (tells : Telling S) (says : E → Values N) (old : PagerView N S E) (makes : Core → Core → Type 0)
+pub record Settles {N S E : Type 0} (Only : PagerView N S E → PagerView N S E → Type 0) (tells : Telling S)
+    (says : E → Values N) (old : PagerView N S E) (makes : Core → Core → Type 0)
     (new : PagerView N S E) : Type 0 where
   pub called : Called (says old.environment) (makes (core_in tells old)) (state_in tells old) (state_in tells new)
   pub only : Only old new

@@ -109,9 +109,12 @@ impl<'a, E: Env<Node: NodeSet<E>>, S: PagableStorage<E>> Lent<'a, E, S> {
         handle: HandleNumber,
     ) -> Result<Option<HandleNumber>, Error>
         requires caller { self.old.me ≡ Owner.Caller }
-        ensures goes { IsTrue (S.is_honest self.new.pager.now.storage) → PinsAway (values_at E.Node.NodeSet E.Env E.Hash.KeyHash self.old.pager.now.environment)
-            (state_in (storage_view S.PagableStorage) self.old.pager.now) handle result (state_in (storage_view S.PagableStorage) self.new.pager.now) }
-        ensures honest { IsTrue (S.is_honest self.new.pager.now.storage) → IsTrue (S.is_honest self.old.pager.now.storage) }
+        ensures goes { IsTrue (S.is_honest self.new.pager.now.storage)
+            → PinsAway (values_at E.Node.NodeSet E.Env E.Hash.KeyHash self.old.pager.now.environment)
+            (state_in (storage_view S.PagableStorage) self.old.pager.now) handle result
+            (state_in (storage_view S.PagableStorage) self.new.pager.now) }
+        ensures honest { IsTrue (S.is_honest self.new.pager.now.storage)
+            → IsTrue (S.is_honest self.old.pager.now.storage) }
         ensures lender { self.new.pager.ghost_name ≡ self.old.pager.ghost_name }
         ensures me { self.new.me ≡ self.old.me }
         ensures environment { self.new.pager.now.environment ≡ self.old.pager.now.environment }
@@ -139,9 +142,12 @@ impl<'a, E: Env<Node: NodeSet<E>>, S: PagableStorage<E>> Lent<'a, E, S> {
         requires caller { self.old.me ≡ Owner.Caller }
         requires leaf { IsLeaf (core_in (storage_view S.PagableStorage) self.old.pager.now) Owner.Caller leaf }
         requires place { 1 ≤ room self.old.pager.now.tables.ref_counts.handles }
-        ensures loads { IsTrue (S.is_honest self.new.pager.now.storage) → LeafLoads (values_at E.Node.NodeSet E.Env E.Hash.KeyHash self.old.pager.now.environment)
-            (state_in (storage_view S.PagableStorage) self.old.pager.now) leaf (blob_of (arc_value blob)) result (state_in (storage_view S.PagableStorage) self.new.pager.now) }
-        ensures honest { IsTrue (S.is_honest self.new.pager.now.storage) → IsTrue (S.is_honest self.old.pager.now.storage) }
+        ensures loads { IsTrue (S.is_honest self.new.pager.now.storage)
+            → LeafLoads (values_at E.Node.NodeSet E.Env E.Hash.KeyHash self.old.pager.now.environment)
+            (state_in (storage_view S.PagableStorage) self.old.pager.now) leaf (blob_of (arc_value blob)) result
+            (state_in (storage_view S.PagableStorage) self.new.pager.now) }
+        ensures honest { IsTrue (S.is_honest self.new.pager.now.storage)
+            → IsTrue (S.is_honest self.old.pager.now.storage) }
         ensures lender { self.new.pager.ghost_name ≡ self.old.pager.ghost_name }
         ensures me { self.new.me ≡ self.old.me }
         ensures environment { self.new.pager.now.environment ≡ self.old.pager.now.environment }
@@ -160,7 +166,8 @@ fn settled<E: Env<Node: NodeSet<E>>, S: PagableStorage<E>, X: Drop>(
     pager: &Pager<E, S>,
 ) -> X
     ensures same { result ≡ answer }
-    ensures whole { WellFormed (values_at E.Node.NodeSet E.Env E.Hash.KeyHash pager.now.environment) (state_in (storage_view S.PagableStorage) pager.now) }
+    ensures whole { WellFormed (values_at E.Node.NodeSet E.Env E.Hash.KeyHash pager.now.environment)
+        (state_in (storage_view S.PagableStorage) pager.now) }
 {
     pager.is_whole();
     answer
@@ -170,7 +177,8 @@ impl<'a, E: Env<Node: NodeSet<E>>, S: PagableStorage<E>> Access<E> for Lent<'a, 
     ghost use Rattle.std.specs.Prelude.{None, Some, if◌then◌else◌};
     ghost use Rattle.pagable_pager.specs.View.{state_in, storage_view};
 
-    ghost told = { λ l. if S.is_honest l.pager.now.storage then Some (state_in (storage_view S.PagableStorage) l.pager.now) else None };
+    ghost told = { λ l. if S.is_honest l.pager.now.storage then Some
+        (state_in (storage_view S.PagableStorage) l.pager.now) else None };
 
     ghost acting = { λ l. record { me = l.me; environment = l.pager.now.environment; lender = l.pager.ghost_name } };
 
@@ -424,7 +432,8 @@ impl<'a, E: Env<Node: NodeSet<E>>, S: PagableStorage<E>> DeserializedArcCache<'a
     /// - those of `Pager::cache_get`.
     pub fn get(&mut self, kind: Kind, key: DataKey) -> Result<Option<HandleNumber>, Error>
         ensures lent { self.new.pager.ghost_name ≡ self.old.pager.ghost_name }
-        ensures calls { Calls OnlyTables (storage_view S.PagableStorage) self.old.pager.now (λ w w'. RecallCall w Owner.Caller kind key result w') self.new.pager.now }
+        ensures calls { Calls OnlyTables (storage_view S.PagableStorage) self.old.pager.now
+            (λ w w'. RecallCall w Owner.Caller kind key result w') self.new.pager.now }
     {
         self.pager.cache_get(kind, key)
     }
@@ -437,7 +446,8 @@ impl<'a, E: Env<Node: NodeSet<E>>, S: PagableStorage<E>> DeserializedArcCache<'a
     pub fn get_or_create_cell(&mut self, kind: Kind, key: DataKey) -> Result<ArcCell, Error>
         ensures lent { self.new.pager.ghost_name ≡ self.old.pager.ghost_name }
         ensures place { IfOk result (λ cell. (cell.kind ≡ kind) × (cell.key ≡ key)) }
-        ensures calls { Calls OnlyTables (storage_view S.PagableStorage) self.old.pager.now (λ w w'. RecallCall w Owner.Caller kind key (seen_as (λ cell. cell.handle) result) w') self.new.pager.now }
+        ensures calls { Calls OnlyTables (storage_view S.PagableStorage) self.old.pager.now
+            (λ w w'. RecallCall w Owner.Caller kind key (seen_as (λ cell. cell.handle) result) w') self.new.pager.now }
     {
         let handle = self.pager.cache_get(kind, key)?;
         Ok(ArcCell { kind, key, handle })
@@ -455,7 +465,8 @@ impl<'a, E: Env<Node: NodeSet<E>>, S: PagableStorage<E>> DeserializedArcCache<'a
         handle: HandleNumber,
     ) -> Result<Option<HandleNumber>, Error>
         ensures lent { self.new.pager.ghost_name ≡ self.old.pager.ghost_name }
-        ensures calls { Calls OnlyLess (storage_view S.PagableStorage) self.old.pager.now (λ w w'. OfferCall w Owner.Caller kind key handle result w') self.new.pager.now }
+        ensures calls { Calls OnlyLess (storage_view S.PagableStorage) self.old.pager.now
+            (λ w w'. OfferCall w Owner.Caller kind key handle result w') self.new.pager.now }
     {
         self.pager.on_arc_deserialized(kind, key, handle)
     }
@@ -463,7 +474,8 @@ impl<'a, E: Env<Node: NodeSet<E>>, S: PagableStorage<E>> DeserializedArcCache<'a
     /// Empties the cache. Never fails.
     pub fn clear(&mut self) -> Result<(), Error>
         ensures lent { self.new.pager.ghost_name ≡ self.old.pager.ghost_name }
-        ensures calls { Calls OnlyTables (storage_view S.PagableStorage) self.old.pager.now (λ w w'. ClearCall w result w') self.new.pager.now }
+        ensures calls { Calls OnlyTables (storage_view S.PagableStorage) self.old.pager.now
+            (λ w w'. ClearCall w result w') self.new.pager.now }
     {
         self.pager.cache_clear()
     }

@@ -54,7 +54,12 @@ impl<E: Env<Node: NodeSet<E>>, S: PagableStorage<E>> Model for Pager<E, S> {
 
     ghost coded = { Prim.hlevel (codes, hash_map_code) };
 
-    ghost view = { λ p. record { tables = p.tables; values = p.values; storage = p.storage; environment = environment_of p.setting } };
+    ghost view = { λ p. record {
+      tables = p.tables;
+      values = p.values;
+      storage = p.storage;
+      environment = environment_of p.setting;
+    } };
 
     ghost invariant = { λ p. IsPager (storage_view S.PagableStorage) (values_at E.Node.NodeSet E.Env E.Hash.KeyHash)
         (record { tables = p.tables; values = p.values; storage = p.storage; environment = environment_of p.setting }) };
@@ -103,7 +108,8 @@ impl<E: Env<Node: NodeSet<E>>, S: PagableStorage<E>> Pager<E, S> {
 
     /// Lends the value of a handle's node, if the handle pins it. Fails with NoSuchHandle only.
     fn held(&self, handle: HandleNumber) -> Result<Option<&Arc<E::Node>>, Error>
-        ensures { ValueCall (state_in (storage_view S.PagableStorage) self.now) handle (seen_as (option_map (λ x. arc_value x.now)) result) }
+        ensures { ValueCall (state_in (storage_view S.PagableStorage) self.now) handle
+            (seen_as (option_map (λ x. arc_value x.now)) result) }
     {
         match queries::pinned_node(&self.tables, handle) {
             Ok(Some(node)) => Ok(self.values.get(node.0)),
@@ -118,7 +124,8 @@ impl<E: Env<Node: NodeSet<E>>, S: PagableStorage<E>> Pager<E, S> {
     ///
     /// - `NoSuchHandle` if the handle isn't live.
     pub fn value(&self, handle: HandleNumber) -> Result<Option<&E::Node>, Error>
-        ensures { ValueCall (state_in (storage_view S.PagableStorage) self.now) handle (seen_as (option_map (λ x. x.now)) result) }
+        ensures { ValueCall (state_in (storage_view S.PagableStorage) self.now) handle
+            (seen_as (option_map (λ x. x.now)) result) }
     {
         match self.held(handle) {
             Ok(Some(value)) => Ok(Some(value.as_ref())),
@@ -192,7 +199,8 @@ impl<E: Env<Node: NodeSet<E>>, S: PagableStorage<E>> Pager<E, S> {
     /// value is in memory exactly if its node is pinned or has no key; and a value owns the handles
     /// of its references.
     pub fn is_whole(&self)
-        ensures { WellFormed (values_at E.Node.NodeSet E.Env E.Hash.KeyHash self.now.environment) (state_in (storage_view S.PagableStorage) self.now) }
+        ensures { WellFormed (values_at E.Node.NodeSet E.Env E.Hash.KeyHash self.now.environment)
+            (state_in (storage_view S.PagableStorage) self.now) }
     {
         let _tables = &self.tables;
     }
@@ -215,7 +223,8 @@ impl<E: Env<Node: NodeSet<E>>, S: PagableStorage<E>> Pager<E, S> {
     /// - `OutOfMemory` if an allocation fails.
     /// - `Storage` if the storage fails.
     pub fn fetch(&mut self, alloc: Global, key: DataKey) -> Result<Arc<PagableData>, Error>
-        ensures asks { AsksStorage S.is_honest (storage_view S.PagableStorage) self.old (λ w w'. FetchCall w key (seen_as (λ d. blob_of (arc_value d)) result) w') self.new }
+        ensures asks { AsksStorage S.is_honest (storage_view S.PagableStorage) self.old
+            (λ w w'. FetchCall w key (seen_as (λ d. blob_of (arc_value d)) result) w') self.new }
         ensures named { IfOk result (λ found. key_of E.Hash.digest (blob_of (arc_value found)) ≡ key) }
         ensures refused { IfErr result (RefusesFetch key None (S.failed self.old.storage) (S.failed self.new.storage)) }
     {
@@ -234,9 +243,11 @@ impl<E: Env<Node: NodeSet<E>>, S: PagableStorage<E>> Pager<E, S> {
         alloc: Global,
         key: DataKey,
     ) -> Poll<Result<Arc<PagableData>, Error>>
-        ensures asks { AsksStorage S.is_honest (storage_view S.PagableStorage) self.old (λ w w'. PollCall (λ d. blob_of (arc_value d)) w key result w') self.new }
+        ensures asks { AsksStorage S.is_honest (storage_view S.PagableStorage) self.old
+            (λ w w'. PollCall (λ d. blob_of (arc_value d)) w key result w') self.new }
         ensures named { IfReady result (λ r. IfOk r (λ found. key_of E.Hash.digest (blob_of (arc_value found)) ≡ key)) }
-        ensures refused { IfReady result (λ r. IfErr r (RefusesFetch key None (S.failed self.old.storage) (S.failed self.new.storage))) }
+        ensures refused { IfReady result (λ r. IfErr r
+            (RefusesFetch key None (S.failed self.old.storage) (S.failed self.new.storage))) }
         ensures armed { OnPending result (IsArmed cx.new) }
         ensures kept { Keeps cx.old cx.new }
     {
@@ -252,9 +263,12 @@ impl<E: Env<Node: NodeSet<E>>, S: PagableStorage<E>> Pager<E, S> {
     /// - `KeyTaken` if another blob is stored under the key.
     /// - `Closed` if the storage is closed.
     pub fn store(&mut self, alloc: Global, blob: PagableData) -> Result<DataKey, Error>
-        ensures asks { AsksStorage S.is_honest (storage_view S.PagableStorage) self.old (λ w w'. StoreCall (key_of E.Hash.digest) w (blob_of blob) result w') self.new }
+        ensures asks { AsksStorage S.is_honest (storage_view S.PagableStorage) self.old
+            (λ w w'. StoreCall (key_of E.Hash.digest) w (blob_of blob) result w') self.new }
         ensures key { IfOk result (λ key. key ≡ key_of E.Hash.digest (blob_of blob)) }
-        ensures refused { IfErr result (λ e. (found : Option Blob) × RefusesStore (blob_of blob) found (S.is_closed self.old.storage) (S.failed self.old.storage) (S.failed self.new.storage) e) }
+        ensures refused { IfErr result (λ e. (found : Option Blob)
+            × RefusesStore (blob_of blob) found (S.is_closed self.old.storage) (S.failed self.old.storage)
+            (S.failed self.new.storage) e) }
     {
         self.storage.store_data(alloc, blob)
     }
@@ -272,9 +286,12 @@ impl<E: Env<Node: NodeSet<E>>, S: PagableStorage<E>> Pager<E, S> {
         blob: PagableData,
     ) -> Result<DataKey, Error>
         requires { key ≡ key_of E.Hash.digest (blob_of blob) }
-        ensures asks { AsksStorage S.is_honest (storage_view S.PagableStorage) self.old (λ w w'. StoreCall (key_of E.Hash.digest) w (blob_of blob) result w') self.new }
+        ensures asks { AsksStorage S.is_honest (storage_view S.PagableStorage) self.old
+            (λ w w'. StoreCall (key_of E.Hash.digest) w (blob_of blob) result w') self.new }
         ensures key { IfOk result (λ answer. answer ≡ key_of E.Hash.digest (blob_of blob)) }
-        ensures refused { IfErr result (λ e. (found : Option Blob) × RefusesStore (blob_of blob) found (S.is_closed self.old.storage) (S.failed self.old.storage) (S.failed self.new.storage) e) }
+        ensures refused { IfErr result (λ e. (found : Option Blob)
+            × RefusesStore (blob_of blob) found (S.is_closed self.old.storage) (S.failed self.old.storage)
+            (S.failed self.new.storage) e) }
     {
         self.storage.store_keyed(alloc, key, blob)
     }
@@ -286,8 +303,10 @@ impl<E: Env<Node: NodeSet<E>>, S: PagableStorage<E>> Pager<E, S> {
     /// - `OutOfMemory` if an allocation fails.
     /// - `Storage` if the storage fails.
     pub fn flush(&mut self) -> Result<(), Error>
-        ensures asks { AsksStorage S.is_honest (storage_view S.PagableStorage) self.old (λ w w'. FlushCall w result w') self.new }
-        ensures sure { IsTrue (S.is_honest self.new.storage) → OnOk result (S.flushed self.new.storage ≡ S.stored self.new.storage) }
+        ensures asks { AsksStorage S.is_honest (storage_view S.PagableStorage) self.old (λ w w'. FlushCall w result w')
+            self.new }
+        ensures sure { IsTrue (S.is_honest self.new.storage)
+            → OnOk result (S.flushed self.new.storage ≡ S.stored self.new.storage) }
         ensures refused { IfErr result (RefusesFlush (S.failed self.old.storage) (S.failed self.new.storage)) }
     {
         self.storage.flush()
@@ -297,7 +316,8 @@ impl<E: Env<Node: NodeSet<E>>, S: PagableStorage<E>> Pager<E, S> {
     /// and empties the cache; from then on nothing is listed or cached. Never fails, and allocates
     /// nothing.
     pub fn close(&mut self) -> Result<(), Error>
-        ensures calls { Calls FewerValues (storage_view S.PagableStorage) self.old (λ w w'. CloseCall w result w') self.new }
+        ensures calls { Calls FewerValues (storage_view S.PagableStorage) self.old (λ w w'. CloseCall w result w')
+            self.new }
         ensures honest { IsTrue (S.is_honest self.new.storage) → IsTrue (S.is_honest self.old.storage) }
     {
         self.storage.close();
@@ -312,14 +332,16 @@ impl<E: Env<Node: NodeSet<E>>, S: PagableStorage<E>> Pager<E, S> {
     /// - `NumbersSpent` if no number is left for a load.
     /// - `OutOfMemory` if the load can't be allocated.
     pub fn load_key(&mut self, key: DataKey) -> Result<Beginning, Error>
-        ensures { Calls OnlyTables (storage_view S.PagableStorage) self.old (λ w w'. BeginKeyCall w Owner.Caller key result w') self.new }
+        ensures { Calls OnlyTables (storage_view S.PagableStorage) self.old
+            (λ w w'. BeginKeyCall w Owner.Caller key result w') self.new }
     {
         self.load_key_by(Owner::Caller, key)
     }
 
     pub(crate) fn load_key_by(&mut self, me: Owner, key: DataKey) -> Result<Beginning, Error>
         requires { is_at_work (core_in (storage_view S.PagableStorage) self.old) me ≡ true }
-        ensures { Calls OnlyTables (storage_view S.PagableStorage) self.old (λ w w'. BeginKeyCall w me key result w') self.new }
+        ensures { Calls OnlyTables (storage_view S.PagableStorage) self.old (λ w w'. BeginKeyCall w me key result w')
+            self.new }
     {
         load::load_key(&mut self.tables, me, key)
     }
@@ -335,7 +357,8 @@ impl<E: Env<Node: NodeSet<E>>, S: PagableStorage<E>> Pager<E, S> {
     /// - `NumbersSpent` if no number is left for the load or the clone.
     /// - `OutOfMemory` if the load or the clone can't be allocated.
     pub fn load_begin(&mut self, handle: HandleNumber) -> Result<Beginning, Error>
-        ensures { Calls OnlyTables (storage_view S.PagableStorage) self.old (λ w w'. BeginCall w Owner.Caller handle result w') self.new }
+        ensures { Calls OnlyTables (storage_view S.PagableStorage) self.old
+            (λ w w'. BeginCall w Owner.Caller handle result w') self.new }
     {
         self.load_begin_by(Owner::Caller, handle)
     }
@@ -346,7 +369,8 @@ impl<E: Env<Node: NodeSet<E>>, S: PagableStorage<E>> Pager<E, S> {
         handle: HandleNumber,
     ) -> Result<Beginning, Error>
         requires { is_at_work (core_in (storage_view S.PagableStorage) self.old) me ≡ true }
-        ensures { Calls OnlyTables (storage_view S.PagableStorage) self.old (λ w w'. BeginCall w me handle result w') self.new }
+        ensures { Calls OnlyTables (storage_view S.PagableStorage) self.old (λ w w'. BeginCall w me handle result w')
+            self.new }
     {
         load::load_begin(&mut self.tables, me, handle)
     }
@@ -360,8 +384,10 @@ impl<E: Env<Node: NodeSet<E>>, S: PagableStorage<E>> Pager<E, S> {
         kind: Kind,
         key: DataKey,
     ) -> Result<Option<HandleNumber>, Error>
-        ensures step { AsksKnown (core_in (storage_view S.PagableStorage) self.old) me load kind key result (core_in (storage_view S.PagableStorage) self.new) }
-        ensures none { IfOk result (λ found. IfNone found (core_in (storage_view S.PagableStorage) self.new ≡ core_in (storage_view S.PagableStorage) self.old)) }
+        ensures step { AsksKnown (core_in (storage_view S.PagableStorage) self.old) me load kind key result
+            (core_in (storage_view S.PagableStorage) self.new) }
+        ensures none { IfOk result (λ found. IfNone found
+            (core_in (storage_view S.PagableStorage) self.new ≡ core_in (storage_view S.PagableStorage) self.old)) }
         ensures only { OnlyTables self.old self.new }
     {
         load::load_known(&mut self.tables, me, load, kind, key)
@@ -382,9 +408,12 @@ impl<E: Env<Node: NodeSet<E>>, S: PagableStorage<E>> Pager<E, S> {
         load: LoadNumber,
         want: Want,
     ) -> Result<Either<HandleNumber, Arc<PagableData>>, Error>
-        ensures step { IsTrue (S.is_honest self.new.storage) → AskCall (core_in (storage_view S.PagableStorage) self.old) Owner.Caller load want (seen_as (given_as (λ d. blob_of (arc_value d))) result) (core_in (storage_view S.PagableStorage) self.new) }
+        ensures step { IsTrue (S.is_honest self.new.storage)
+            → AskCall (core_in (storage_view S.PagableStorage) self.old) Owner.Caller load want
+            (seen_as (given_as (λ d. blob_of (arc_value d))) result) (core_in (storage_view S.PagableStorage) self.new) }
         ensures honest { IsTrue (S.is_honest self.new.storage) → IsTrue (S.is_honest self.old.storage) }
-        ensures kept { KeepsWorkers (core_in (storage_view S.PagableStorage) self.old) (core_in (storage_view S.PagableStorage) self.new) }
+        ensures kept { KeepsWorkers (core_in (storage_view S.PagableStorage) self.old)
+            (core_in (storage_view S.PagableStorage) self.new) }
         ensures fits { IfOk result (FitsWant want) }
         ensures only { SameValues self.old self.new }
     {
@@ -399,9 +428,12 @@ impl<E: Env<Node: NodeSet<E>>, S: PagableStorage<E>> Pager<E, S> {
         load: LoadNumber,
         want: Want,
     ) -> Result<Either<HandleNumber, Arc<PagableData>>, Error>
-        ensures step { IsTrue (S.is_honest self.new.storage) → AskCall (core_in (storage_view S.PagableStorage) self.old) me load want (seen_as (given_as (λ d. blob_of (arc_value d))) result) (core_in (storage_view S.PagableStorage) self.new) }
+        ensures step { IsTrue (S.is_honest self.new.storage)
+            → AskCall (core_in (storage_view S.PagableStorage) self.old) me load want
+            (seen_as (given_as (λ d. blob_of (arc_value d))) result) (core_in (storage_view S.PagableStorage) self.new) }
         ensures honest { IsTrue (S.is_honest self.new.storage) → IsTrue (S.is_honest self.old.storage) }
-        ensures kept { KeepsWorkers (core_in (storage_view S.PagableStorage) self.old) (core_in (storage_view S.PagableStorage) self.new) }
+        ensures kept { KeepsWorkers (core_in (storage_view S.PagableStorage) self.old)
+            (core_in (storage_view S.PagableStorage) self.new) }
         ensures fits { IfOk result (FitsWant want) }
         ensures only { SameValues self.old self.new }
     {
@@ -433,7 +465,8 @@ impl<E: Env<Node: NodeSet<E>>, S: PagableStorage<E>> Pager<E, S> {
         kind: Kind,
         key: DataKey,
     ) -> Result<HandleNumber, Error>
-        ensures { Calls OnlyTables (storage_view S.PagableStorage) self.old (λ w w'. LazyCall w Owner.Caller load kind key result w') self.new }
+        ensures { Calls OnlyTables (storage_view S.PagableStorage) self.old
+            (λ w w'. LazyCall w Owner.Caller load kind key result w') self.new }
     {
         self.load_lazy_by(Owner::Caller, alloc, load, kind, key)
     }
@@ -446,7 +479,8 @@ impl<E: Env<Node: NodeSet<E>>, S: PagableStorage<E>> Pager<E, S> {
         kind: Kind,
         key: DataKey,
     ) -> Result<HandleNumber, Error>
-        ensures { Calls OnlyTables (storage_view S.PagableStorage) self.old (λ w w'. LazyCall w me load kind key result w') self.new }
+        ensures { Calls OnlyTables (storage_view S.PagableStorage) self.old
+            (λ w w'. LazyCall w me load kind key result w') self.new }
     {
         let lists = !self.storage.has_closed();
         load::load_lazy(&mut self.tables, me, load, kind, key, lists, alloc)
@@ -468,7 +502,8 @@ impl<E: Env<Node: NodeSet<E>>, S: PagableStorage<E>> Pager<E, S> {
     /// - `NotYours` if another than the caller began it.
     pub fn load_of(&self, load: LoadNumber) -> Result<(DataKey, Option<u32>), Error>
         ensures reads { IfOk result (λ r. ReadsAs (core_in (storage_view S.PagableStorage) self.now) load r.0 r.1) }
-        ensures fault { IfErr result (λ e. load_fault (core_in (storage_view S.PagableStorage) self.now) Owner.Caller load ≡ Some e) }
+        ensures fault { IfErr result (λ e. load_fault (core_in (storage_view S.PagableStorage) self.now) Owner.Caller
+            load ≡ Some e) }
     {
         let row = checks::load_row(&self.tables, Owner::Caller, load)?;
         Ok((row.key, cell_type(row.root)))

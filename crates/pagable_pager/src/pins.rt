@@ -51,7 +51,8 @@ pub(crate) fn read_rest<E: Env<Node: NodeSet<E>>, A: Access<E>>(
     reading: Reading,
 ) -> Result<HandleNumber, Error>
     requires of_cell { reading.for_cell ≡ true }
-    ensures { Acts A.told A.acting access.old access.new (λ a s t. EndsCell (values_at E.Node.NodeSet E.Env E.Hash.KeyHash a.environment) a.me reading s result t) }
+    ensures { Acts A.told A.acting access.old access.new
+        (λ a s t. EndsCell (values_at E.Node.NodeSet E.Env E.Hash.KeyHash a.environment) a.me reading s result t) }
 {
     let mut reading = reading;
     match reading.run(access, alloc) {
@@ -69,7 +70,9 @@ fn share_new<E: Env<Node: NodeSet<E>>, A: Access<E>>(
     pinned: HandleNumber,
 ) -> Result<(HandleNumber, Arc<E::Node>), Error>
     requires caller { (A.acting access.old).me ≡ Owner.Caller }
-    ensures { Acts A.told A.acting access.old access.new (λ a s t. SharesNew (values_at E.Node.NodeSet E.Env E.Hash.KeyHash a.environment) handle pinned s (seen_as (λ a. (a.0, arc_value a.1)) result) t) }
+    ensures { Acts A.told A.acting access.old access.new
+        (λ a s t. SharesNew (values_at E.Node.NodeSet E.Env E.Hash.KeyHash a.environment) handle pinned s
+        (seen_as (λ a. (a.0, arc_value a.1)) result) t) }
 {
     match share_pinned(access, pinned) {
         Ok(value) => Ok((pinned, value)),
@@ -89,8 +92,11 @@ fn pin_lent<'a, E: Env<Node: NodeSet<E>>, S: PagableStorage<E>>(
     handle: HandleNumber,
 ) -> Result<(HandleNumber, Arc<E::Node>), Error>
     requires caller { lent.old.me ≡ Owner.Caller }
-    ensures pins { IsTrue (S.is_honest lent.new.pager.now.storage) → PinsOver (values_at E.Node.NodeSet E.Env E.Hash.KeyHash lent.old.pager.now.environment) (state_in (storage_view S.PagableStorage) lent.old.pager.now)
-        handle (seen_as (λ a. (a.0, arc_value a.1)) result) (state_in (storage_view S.PagableStorage) lent.new.pager.now) }
+    ensures pins { IsTrue (S.is_honest lent.new.pager.now.storage)
+        → PinsOver (values_at E.Node.NodeSet E.Env E.Hash.KeyHash lent.old.pager.now.environment)
+        (state_in (storage_view S.PagableStorage) lent.old.pager.now)
+        handle (seen_as (λ a. (a.0, arc_value a.1)) result)
+        (state_in (storage_view S.PagableStorage) lent.new.pager.now) }
     ensures honest { IsTrue (S.is_honest lent.new.pager.now.storage) → IsTrue (S.is_honest lent.old.pager.now.storage) }
     ensures lender { lent.new.pager.ghost_name ≡ lent.old.pager.ghost_name }
 {
@@ -115,7 +121,9 @@ pub fn pin<E: Env<Node: NodeSet<E>>, S: PagableStorage<E>>(
     pager: &mut Pager<E, S>,
     handle: HandleNumber,
 ) -> Result<(HandleNumber, Arc<E::Node>), Error>
-    ensures pins { IsTrue (S.is_honest pager.new.storage) → PinsOver (values_at E.Node.NodeSet E.Env E.Hash.KeyHash pager.old.environment) (state_in (storage_view S.PagableStorage) pager.old)
+    ensures pins { IsTrue (S.is_honest pager.new.storage)
+        → PinsOver (values_at E.Node.NodeSet E.Env E.Hash.KeyHash pager.old.environment)
+        (state_in (storage_view S.PagableStorage) pager.old)
         handle (seen_as (λ a. (a.0, arc_value a.1)) result) (state_in (storage_view S.PagableStorage) pager.new) }
     ensures honest { IsTrue (S.is_honest pager.new.storage) → IsTrue (S.is_honest pager.old.storage) }
 {

@@ -39,7 +39,8 @@ unfolding find_row
 found-among q [] row found = absurd (cc)
 found-among q (h ∷ hs) row found = at (found-among q hs row) (is_handle q h) refl found
   where
-    at : (find_row q hs ≡ Some row → Among hs row × (row.number.0 ≡ q)) → (b : Bool) → is_handle q h ≡ b → (if b then Some h else find_row q hs) ≡ Some row → Among (h ∷ hs) row × (row.number.0 ≡ q)
+    at : (find_row q hs ≡ Some row → Among hs row × (row.number.0 ≡ q)) → (b : Bool) → is_handle q h ≡ b → (if b then Some h else find_row q hs) ≡ Some row
+        → Among (h ∷ hs) row × (row.number.0 ≡ q)
     at rest true is found = grind (arith, nat_tests)
     at rest false is found = let r = rest found in ((suc r.0.0, r.0.1), r.1)
 
@@ -48,4 +49,12 @@ pub once : (rows : List HandleRow) → AllPairs IsHandleBefore rows → (a b : H
 once rows ordered a b (i, at) (j, there) same =
     let p = ordered i j a in
     let q = ordered j i a in
-    grind (arith, nat_tests, get_or_from_slice_get rows i a a at, get_or_from_slice_get rows j b a there, slice_get_within rows i a at, slice_get_within rows j b there, cases_eq i j)
+    grind (
+      arith,
+      nat_tests,
+      get_or_from_slice_get rows i a a at,
+      get_or_from_slice_get rows j b a there,
+      slice_get_within rows i a at,
+      slice_get_within rows j b there,
+      cases_eq i j,
+    )

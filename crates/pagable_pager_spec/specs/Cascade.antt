@@ -23,7 +23,8 @@ owned_outside rows s n = times (λ h. is_owned_by (owner_value n) h && is_outsid
 -- a node with a key loses its value with its last pin; a shared node or a cell without a key loses it with its last
 -- handle, unless one of the new entries is a handle of it.
 abbrev pub loses_value : List HandleRow → (ℕ → Bool) → List HandleRow → (ℕ → Bool) → ℕ → Bool
-loses_value rows keyed entries s n = if keyed n then nat_eq (pins_outside rows s n) 0 else nat_eq (held n entries) 0 && nat_eq (held_outside rows s n) 0
+loses_value rows keyed entries s n = if keyed n then nat_eq (pins_outside rows s n) 0 else nat_eq (held n entries) 0
+    && nat_eq (held_outside rows s n) 0
 
 -- nothing more follows: if a value is dropped, all handles that it owns are in the set
 abbrev pub IsClosed : List HandleRow → (ℕ → Bool) → List HandleRow → (ℕ → Bool) → Type 0
@@ -34,7 +35,8 @@ abbrev pub IsWithin : List HandleRow → (ℕ → Bool) → (ℕ → Bool) → T
 IsWithin rows s t = times (λ h. s h.number.0 && not (t h.number.0)) rows ≡ 0
 
 -- s is the least closed set that contains the given handles
-pub record IsLeast (rows : List HandleRow) (keyed : ℕ → Bool) (entries : List HandleRow) (given s : ℕ → Bool) : Type 0 where
+pub record IsLeast (rows : List HandleRow) (keyed : ℕ → Bool) (entries : List HandleRow)
+    (given s : ℕ → Bool) : Type 0 where
   pub holds : IsWithin rows given s
   pub closed : IsClosed rows keyed entries s
   pub least : (t : ℕ → Bool) → IsWithin rows given t → IsClosed rows keyed entries t → IsWithin rows s t
@@ -42,7 +44,8 @@ pub record IsLeast (rows : List HandleRow) (keyed : ℕ → Bool) (entries : Lis
 -- new list entries: unpinned handles with consecutive numbers above the last one given out
 abbrev pub AreNewEntries : ℕ → List HandleRow → Type 0
 AreNewEntries last [] = Unit {0}
-AreNewEntries last (h ∷ hs) = (h.number.0 ≡ last + 1) × (h.mode ≡ Mode.LooseUnpinned) × (h.owner ≡ Owner.List) × AreNewEntries (last + 1) hs
+AreNewEntries last (h ∷ hs) = (h.number.0 ≡ last + 1) × (h.mode ≡ Mode.LooseUnpinned) × (h.owner ≡ Owner.List)
+    × AreNewEntries (last + 1) hs
 
 abbrev pub is_keyed : Core → ℕ → Bool
 is_keyed w n = has_key (key_at w n)
@@ -68,7 +71,8 @@ IsListRefusal w w' _ = ⊥
 
 -- what the result says about the listing: Ok means that every cell that must be listed is; an error means that some
 -- cell isn't
-pub record TellsListing (before w : Core) (entries : List HandleRow) (r : Result (Unit {0}) Error) (w' : Core) : Type 0 where
+pub record TellsListing (before w : Core) (entries : List HandleRow) (r : Result (Unit {0}) Error)
+    (w' : Core) : Type 0 where
   pub all : IfOk r (λ u. (n : ℕ) → MustList before w w' n → held n entries ≡ 1)
   pub not_all : IfErr r (λ e. (n : ℕ) × MustList before w w' n × (held n entries ≡ 0) × IsListRefusal w w' e)
 

@@ -15,9 +15,12 @@ given_of f (Found.Cached k) = from_cache k
 given_of f (Found.Blob b) = from_store (f b)
 
 abbrev pub Does : {N B W : Type 0} → Seen N B W → Core → Owner → Call N B → Reply N B → Core → Type 0
-Does m w me (Call.NewPinned x) (Reply.Made r) w' = BirthCall w me x (m.values.node_type x) (m.values.references x) Mode.Pinned r w'
-Does m w me (Call.NewLoose x) (Reply.Made r) w' = BirthCall w me x (m.values.node_type x) (m.values.references x) Mode.LoosePinned r w'
-Does m w me (Call.NewShared x) (Reply.Made r) w' = BirthCall w me x (m.values.node_type x) (m.values.references x) Mode.Shared r w'
+Does m w me (Call.NewPinned x) (Reply.Made r) w' = BirthCall w me x (m.values.node_type x)
+    (m.values.references x) Mode.Pinned r w'
+Does m w me (Call.NewLoose x) (Reply.Made r) w' = BirthCall w me x (m.values.node_type x)
+    (m.values.references x) Mode.LoosePinned r w'
+Does m w me (Call.NewShared x) (Reply.Made r) w' = BirthCall w me x (m.values.node_type x)
+    (m.values.references x) Mode.Shared r w'
 Does m w me (Call.NewPagedOut t key) (Reply.Handle r) w' = AwayBirthCall w me t key r w'
 Does m w me (Call.Clone h) (Reply.Handle r) w' = CloneCall w me h r w'
 Does m w me (Call.Pin h) (Reply.Pin r) w' = PinCall w me h r w'
@@ -42,9 +45,11 @@ Does m w me Call.Flush (Reply.Done r) w' = FlushCall w r w'
 Does m w me (Call.LoadBegin h) (Reply.Begun r) w' = BeginCall w me h r w'
 Does m w me (Call.LoadKey key) (Reply.Begun r) w' = BeginKeyCall w me key r w'
 Does m w me (Call.LoadFetch l want) (Reply.LoadFound r) w' = AskCall w me l want (seen_as (given_of m.blob_of) r) w'
-Does m w me (Call.LoadAdopt l kind key x) (Reply.Made r) w' = AdoptCall w me l kind key x (m.values.node_type x) (m.values.references x) r w'
+Does m w me (Call.LoadAdopt l kind key x) (Reply.Made r) w' =
+    AdoptCall w me l kind key x (m.values.node_type x) (m.values.references x) r w'
 Does m w me (Call.LoadLazy l kind key) (Reply.Handle r) w' = LazyCall w me l kind key r w'
-Does m w me (Call.LoadEnd l x) (Reply.LoadEnded r) w' = EndCall w me l x (m.values.node_type x) (m.values.references x) r w'
+Does m w me (Call.LoadEnd l x) (Reply.LoadEnded r) w' =
+    EndCall w me l x (m.values.node_type x) (m.values.references x) r w'
 Does m w me (Call.LoadTake l hs) (Reply.Done r) w' = HandOverCall w me l hs.items r w'
 Does m w me (Call.LoadDrop l) (Reply.Done r) w' = DropCall w me l r w'
 Does m w me (Call.Reserve n) (Reply.Done r) w' = ReserveCall w n r w'
@@ -53,7 +58,8 @@ Does m w me Call.Close (Reply.Done r) w' = CloseCall w r w'
 Does m w me call reply w' = ⊥
 
 -- In the state w the call of `me` may return this reply and lead to the state w'.
-pub record CallStep {N B W : Type 0} (m : Seen N B W) (w : Core) (me : Owner) (call : Call N B) (reply : Reply N B) (w' : Core) : Type 0 where
+pub record CallStep {N B W : Type 0} (m : Seen N B W) (w : Core) (me : Owner) (call : Call N B) (reply : Reply N B)
+    (w' : Core) : Type 0 where
   pub does : Does m w me call reply w'
 
 -- the loads' readings are these, except that a closed load has none
@@ -96,7 +102,8 @@ reading_after None reading frames = Some (gone_on reading frames)
 reading_after (Some answer) reading frames = None
 
 -- a load that the caller began makes a step, and counts it
-pub record LoadSteps {N : Type 0} (v : Values N) (u : World) (l : LoadNumber) (reply : LoadReply N) (u' : World) : Type 0 where
+pub record LoadSteps {N : Type 0} (v : Values N) (u : World) (l : LoadNumber) (reply : LoadReply N)
+    (u' : World) : Type 0 where
   pub reading : Reading
   pub frames : List Frame
   pub may : load_fault u.core Owner.Caller l ≡ None
@@ -106,7 +113,8 @@ pub record LoadSteps {N : Type 0} (v : Values N) (u : World) (l : LoadNumber) (r
   pub readings : ReadingsAre (updated l.0 (reading_after reply.ended reading frames) u.work.readings) u'
   pub work : WorkStays u.work u'.work
 
-pub record LoadStepped {N : Type 0} (v : Values N) (u : World) (l : LoadNumber) (r : Result (LoadReply N) Error) (u' : World) : Type 0 where
+pub record LoadStepped {N : Type 0} (v : Values N) (u : World) (l : LoadNumber) (r : Result (LoadReply N) Error)
+    (u' : World) : Type 0 where
   pub moves : IfOk r (λ reply. LoadSteps v u l reply u')
   pub refused : IfErr r (λ e. (step_fault u l ≡ Some e) × Stays u u')
 
@@ -131,7 +139,8 @@ pub record WorkIs (shelves : ℕ → Shelf) (last : ℕ) (walkings : ℕ → Opt
 
 -- a new table, under the next number; numbers of tables never run out
 pub record Tabled (u : World) (r : Result TableNumber Error) (u' : World) : Type 0 where
-  pub made : IfOk r (λ t. (t.0 ≡ u.work.last_table + 1) × Alike u.core u'.core × ReadingsAre u.work.readings u' × WorkIs (updated t.0 no_shelf u.work.shelves) t.0 u.work.walkings u'.work)
+  pub made : IfOk r (λ t. (t.0 ≡ u.work.last_table + 1) × Alike u.core u'.core × ReadingsAre u.work.readings u'
+      × WorkIs (updated t.0 no_shelf u.work.shelves) t.0 u.work.walkings u'.work)
   pub refused : IfErr r (λ e. (e ≡ Error.OutOfMemory) × Stays u u')
 
 abbrev pub IsTable : World → TableNumber → Type 0
@@ -142,22 +151,28 @@ IsNoTable u t = (t.0 ≡ 0) ⊎ (u.work.last_table < t.0)
 
 -- one more worker is at work, under the next number
 abbrev pub with_worker : Core → Core
-with_worker w = record w { workers = updated (w.last.worker + 1) true w.workers; last = record w.last { worker = w.last.worker + 1 } }
+with_worker w = record w {
+  workers = updated (w.last.worker + 1) true w.workers;
+  last = record w.last { worker = w.last.worker + 1 };
+}
 
 abbrev pub new_walking : TableNumber → Task → Walking
 new_walking t task = record { table = t.0; task = task; todo = first_todo task; steps = 0; answer = None }
 
 -- a worker with the number v begins on the table, and the pager's state becomes `core` with this worker
-pub record Starts (u : World) (t : TableNumber) (task : Task) (core : Core) (v : WorkerNumber) (u' : World) : Type 0 where
+pub record Starts (u : World) (t : TableNumber) (task : Task) (core : Core) (v : WorkerNumber)
+    (u' : World) : Type 0 where
   pub table : IsTable u t
   pub next : v.0 ≡ u.core.last.worker + 1
   pub pager : Alike (with_worker core) u'.core
   pub readings : ReadingsAre u.work.readings u'
   pub work : WorkIs u.work.shelves u.work.last_table (updated v.0 (Some (new_walking t task)) u.work.walkings) u'.work
 
-pub record StartedItem (u : World) (t : TableNumber) (task : Task) (r : Result WorkerNumber Error) (u' : World) : Type 0 where
+pub record StartedItem (u : World) (t : TableNumber) (task : Task) (r : Result WorkerNumber Error)
+    (u' : World) : Type 0 where
   pub starts : IfOk r (λ v. Starts u t task u.core v u')
-  pub refused : IfErr r (λ e. (((e ≡ Error.NoSuchHandle) × IsNoTable u t) ⊎ ((WorkerFault u.core e ⊎ (e ≡ Error.OutOfMemory)) × IsTable u t)) × Stays u u')
+  pub refused : IfErr r (λ e. (((e ≡ Error.NoSuchHandle) × IsNoTable u t)
+      ⊎ ((WorkerFault u.core e ⊎ (e ≡ Error.OutOfMemory)) × IsTable u t)) × Stays u u')
 
 -- the list has the handle h at this place, and h's cell is of this type
 pub record IsEntry (w : Core) (i : ℕ) (h : HandleNumber) (row : HandleRow) (t : ℕ) : Type 0 where
@@ -175,10 +190,13 @@ entry_task h row t = of_entry h (record { kind = record { 0 = loose_kind t }; no
 
 -- A worker begins for a list entry, which it owns from then on. It fails with WrongKind for a type whose kinds would
 -- exceed 32 bits.
-pub record StartedListed (u : World) (t : TableNumber) (i : ℕ) (r : Result WorkerNumber Error) (u' : World) : Type 0 where
-  pub starts : IfOk r (λ v. (h : HandleNumber) × (row : HandleRow) × (type : ℕ) × IsEntry u.core i h row type × HasKinds type × Starts u t (entry_task h row type) (with_entry_taken u.core i h v) v u')
+pub record StartedListed (u : World) (t : TableNumber) (i : ℕ) (r : Result WorkerNumber Error)
+    (u' : World) : Type 0 where
+  pub starts : IfOk r (λ v. (h : HandleNumber) × (row : HandleRow) × (type : ℕ) × IsEntry u.core i h row type
+      × HasKinds type × Starts u t (entry_task h row type) (with_entry_taken u.core i h v) v u')
   pub refused : IfErr r (λ e. (((e ≡ Error.NoSuchHandle) × (IsNoTable u t ⊎ (length u.core.list ≤ i)))
-      ⊎ ((e ≡ Error.WrongKind) × IsTable u t × ((h : HandleNumber) × (row : HandleRow) × (type : ℕ) × IsEntry u.core i h row type × HasNoKinds type))
+      ⊎ ((e ≡ Error.WrongKind) × IsTable u t × ((h : HandleNumber) × (row : HandleRow) × (type : ℕ)
+      × IsEntry u.core i h row type × HasNoKinds type))
       ⊎ ((WorkerFault u.core e ⊎ (e ≡ Error.OutOfMemory)) × IsTable u t × (i < length u.core.list))) × Stays u u')
 
 -- how many steps the worker has made after this one
@@ -191,26 +209,33 @@ Ends None v w w' = Alike w w'
 Ends (Some answer) v w w' = WorkerEnds w v w'
 
 -- a worker makes its next step, which changes the pager, the worker's table and the worker
-pub record WorkerSteps {N B W : Type 0} (m : Seen N B W) (u : World) (v : WorkerNumber) (reply : WorkerReply W) (u' : World) : Type 0 where
+pub record WorkerSteps {N B W : Type 0} (m : Seen N B W) (u : World) (v : WorkerNumber) (reply : WorkerReply W)
+    (u' : World) : Type 0 where
   pub walking : Walking
   pub after : Site
   pub at : u.work.walkings v.0 ≡ Some walking
   pub at_work : walking.answer ≡ None
-  pub does : WalkDoes m v.0 (record { core = u.core; shelf = u.work.shelves walking.table; todo = walking.todo }) reply.action after
+  pub does : WalkDoes m v.0 (record { core = u.core; shelf = u.work.shelves walking.table; todo = walking.todo })
+      reply.action after
   pub answers : reply.answer ≡ answer_after walking.todo reply.action
   pub counts : reply.steps ≡ steps_after walking.steps (is_counted walking.todo reply.action)
   pub ends : Ends reply.answer v.0 after.core u'.core
   pub readings : ReadingsAre u.work.readings u'
-  pub work : WorkIs (updated walking.table after.shelf u.work.shelves) u.work.last_table (updated v.0 (Some (record walking { todo = after.todo; steps = reply.steps; answer = reply.answer })) u.work.walkings) u'.work
+  pub work : WorkIs (updated walking.table after.shelf u.work.shelves) u.work.last_table
+      (updated v.0 (Some (record walking { todo = after.todo; steps = reply.steps; answer = reply.answer }))
+      u.work.walkings) u'.work
 
 -- A worker makes its next step. If there is no such worker, or it has its result already, the call fails with
 -- NoSuchHandle, and nothing changes.
-pub record WorkerStepped {N B W : Type 0} (m : Seen N B W) (u : World) (v : WorkerNumber) (r : Result (WorkerReply W) Error) (u' : World) : Type 0 where
+pub record WorkerStepped {N B W : Type 0} (m : Seen N B W) (u : World) (v : WorkerNumber)
+    (r : Result (WorkerReply W) Error) (u' : World) : Type 0 where
   pub moves : IfOk r (λ reply. WorkerSteps m u v reply u')
-  pub refused : IfErr r (λ e. (e ≡ Error.NoSuchHandle) × (if_there (λ (walking : Walking). is_some walking.answer) true (u.work.walkings v.0) ≡ true) × Stays u u')
+  pub refused : IfErr r (λ e. (e ≡ Error.NoSuchHandle)
+      × (if_there (λ (walking : Walking). is_some walking.answer) true (u.work.walkings v.0) ≡ true) × Stays u u')
 
 abbrev pub Happens : {N B W : Type 0} → Seen N B W → World → Event N B W → EventReply N B W → World → Type 0
-Happens m u (Event.Call call) (EventReply.CallReply r) u' = OnlyCore u (λ w'. CallStep m u.core Owner.Caller call r w') u'
+Happens m u (Event.Call call) (EventReply.CallReply r) u' =
+    OnlyCore u (λ w'. CallStep m u.core Owner.Caller call r w') u'
 Happens m u (Event.LoadStart h) (EventReply.Started r) u' = OnlyCore u (λ w'. BeginCall u.core Owner.Caller h r w') u'
 Happens m u (Event.LoadKey key t) (EventReply.Started r) u' = KeyStarted u key t r u'
 Happens m u (Event.LoadStep l) (EventReply.LoadMoved r) u' = LoadStepped m.values u l r u'
@@ -221,5 +246,6 @@ Happens m u (Event.WorkerStep v) (EventReply.WorkerMoved r) u' = WorkerStepped m
 Happens m u event reply u' = ⊥
 
 -- In the state u the event may return this reply and lead to the state u'.
-pub record Step {N B W : Type 0} (m : Seen N B W) (u : World) (event : Event N B W) (reply : EventReply N B W) (u' : World) : Type 0 where
+pub record Step {N B W : Type 0} (m : Seen N B W) (u : World) (event : Event N B W) (reply : EventReply N B W)
+    (u' : World) : Type 0 where
   pub happens : Happens m u event reply u'

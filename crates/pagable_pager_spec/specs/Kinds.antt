@@ -15,7 +15,8 @@ HasNoKinds t = 2 ^ 32 ≤ loose_kind t
 
 -- the mode of a handle that a load makes for a reference of this kind
 abbrev pub mode_of : ℕ → Mode
-mode_of kind = if is_shared_kind kind then Mode.Shared else if is_loose_kind kind then Mode.LooseUnpinned else Mode.Pinned
+mode_of kind = if is_shared_kind kind then Mode.Shared else if is_loose_kind kind then Mode.LooseUnpinned
+    else Mode.Pinned
 
 -- whether a handle of this mode fits a reference of this kind
 abbrev pub fits_mode : ℕ → Mode → Bool

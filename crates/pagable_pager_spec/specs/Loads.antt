@@ -19,7 +19,8 @@ answers_from got place (key ∷ keys) = (λ kind. answer_of (slice_get got place
 
 -- what the blob reads as, as a value of the type t, if the load has got these references
 abbrev pub read_with : Types → ℕ → Blob → List ArcRef → Result (Meaning ArcRef × Rest Answer) Error
-read_with types t blob got = read_typed (handles_at 0 types.parts) (types.nodes t) (record { bytes = blob.bytes; refs = answers_from got 0 blob.keys })
+read_with types t blob got = read_typed (handles_at 0 types.parts) (types.nodes t)
+    (record { bytes = blob.bytes; refs = answers_from got 0 blob.keys })
 
 pub data Next : Type 0 where
   -- the blob can be read to its end, and means this
@@ -85,7 +86,10 @@ nested_frame kind key blob = record { kind = kind; key = key; node_type = type_o
 -- the innermost frame has got one more reference: the handle of this row
 abbrev pub with_got : Kind → HandleRow → List Frame → List Frame
 with_got kind row [] = []
-with_got kind row (frame ∷ frames) = record frame { got = frame.got ++ record { kind = kind; node = row.node; handle = row.number } ∷ [] } ∷ frames
+with_got kind row (frame ∷ frames) = record frame {
+  got = frame.got
+      ++ record { kind = kind; node = row.node; handle = row.number } ∷ [];
+} ∷ frames
 
 -- the load has fetched its root's blob
 pub record GetsRoot (w : Core) (me : Owner) (reading : Reading) (frames : List Frame) (w' : Core) : Type 0 where
@@ -97,7 +101,8 @@ pub record GetsRoot (w : Core) (me : Owner) (reading : Reading) (frames : List F
   pub goes : frames ≡ root_frame load.key reading.node_type blob ∷ []
 
 -- the load has got a handle by this call, where this was needed
-pub record GetsHandle (types : Types) (reading : Reading) (needed : Kind → ℕ → Need) (call : Kind → ℕ → HandleNumber → Type 0) (frames : List Frame) (w' : Core) : Type 0 where
+pub record GetsHandle (types : Types) (reading : Reading) (needed : Kind → ℕ → Need)
+    (call : Kind → ℕ → HandleNumber → Type 0) (frames : List Frame) (w' : Core) : Type 0 where
   pub kind : Kind
   pub key : ℕ
   pub k : HandleNumber
@@ -109,14 +114,17 @@ pub record GetsHandle (types : Types) (reading : Reading) (needed : Kind → ℕ
 
 -- the load has got a handle of a node that the cache has
 abbrev pub GetsCached : Types → Core → Owner → Reading → List Frame → Core → Type 0
-GetsCached types w me reading frames w' = GetsHandle types reading needs_nested (λ kind key k. AskCall w me reading.load (Want.Nested kind key) (Ok (from_cache k)) w') frames w'
+GetsCached types w me reading frames w' = GetsHandle types reading needs_nested
+    (λ kind key k. AskCall w me reading.load (Want.Nested kind key) (Ok (from_cache k)) w') frames w'
 
 -- the load has got a handle of a cell without reading it
 abbrev pub GetsLazy : Types → Core → Owner → Reading → List Frame → Core → Type 0
-GetsLazy types w me reading frames w' = GetsHandle types reading needs_lazy (λ kind key k. LazyCall w me reading.load kind key (Ok k) w') frames w'
+GetsLazy types w me reading frames w' = GetsHandle types reading needs_lazy
+    (λ kind key k. LazyCall w me reading.load kind key (Ok k) w') frames w'
 
 -- the load has fetched the blob of a reference, and the path isn't too long
-pub record GetsBlob (types : Types) (w : Core) (me : Owner) (reading : Reading) (frames : List Frame) (w' : Core) : Type 0 where
+pub record GetsBlob (types : Types) (w : Core) (me : Owner) (reading : Reading) (frames : List Frame)
+    (w' : Core) : Type 0 where
   pub kind : Kind
   pub key : ℕ
   pub blob : Blob
@@ -134,18 +142,22 @@ pub record ReadsNode {N : Type 0} (v : Values N) (reading : Reading) (x : N) : T
   pub decoded : IsDecoded v top x
 
 -- the value of the innermost blob has become a node
-pub record MakesNode {N : Type 0} (v : Values N) (w : Core) (me : Owner) (reading : Reading) (frames : List Frame) (w' : Core) : Type 0 where
+pub record MakesNode {N : Type 0} (v : Values N) (w : Core) (me : Owner) (reading : Reading) (frames : List Frame)
+    (w' : Core) : Type 0 where
   pub x : N
   pub reads_node : ReadsNode v reading x
   pub k : HandleNumber
   pub row : HandleRow
-  pub adopted : AdoptCall w me reading.load reads_node.top.kind reads_node.top.key x (v.node_type x) (v.references x) (Ok k) w'
+  pub adopted : AdoptCall w me reading.load reads_node.top.kind reads_node.top.key x (v.node_type x) (v.references x)
+      (Ok k) w'
   pub made : row_at w' k ≡ Some row
   pub goes : frames ≡ with_got reads_node.top.kind row reads_node.below
 
 abbrev pub GoesOn : {N : Type 0} → Values N → Core → Owner → Reading → List Frame → Core → Type 0
 GoesOn v w me reading frames w' =
-    GetsRoot w me reading frames w' ⊎ GetsCached v.types w me reading frames w' ⊎ GetsBlob v.types w me reading frames w' ⊎ GetsLazy v.types w me reading frames w' ⊎ MakesNode v w me reading frames w'
+    GetsRoot w me reading frames w' ⊎ GetsCached v.types w me reading frames w'
+    ⊎ GetsBlob v.types w me reading frames w' ⊎ GetsLazy v.types w me reading frames w'
+    ⊎ MakesNode v w me reading frames w'
 
 -- the root's blob reads as x
 pub record ReadsRoot {N : Type 0} (v : Values N) (reading : Reading) (x : N) : Type 0 where
@@ -168,7 +180,8 @@ pub record LoadIs (w : Core) (reading : Reading) (P : Root → Type 0) : Type 0 
   pub sort : P load.root
 
 -- a load of a cell ends and pins the cell
-pub record EndsPinned {N : Type 0} (v : Values N) (w : Core) (me : Owner) (reading : Reading) (k : HandleNumber) (w' : Core) : Type 0 where
+pub record EndsPinned {N : Type 0} (v : Values N) (w : Core) (me : Owner) (reading : Reading) (k : HandleNumber)
+    (w' : Core) : Type 0 where
   pub x : N
   pub reads_root : ReadsRoot v reading x
   pub of_cell_load : LoadIs w reading IsOfCell
@@ -178,29 +191,37 @@ abbrev pub handles_of : List ArcRef → List HandleNumber
 handles_of references = map (λ (r : ArcRef). r.handle) references
 
 -- a load of a key ends and hands the references of the value to the caller
-pub record EndsRead {N : Type 0} (v : Values N) (w : Core) (me : Owner) (reading : Reading) (x : N) (w' : Core) : Type 0 where
+pub record EndsRead {N : Type 0} (v : Values N) (w : Core) (me : Owner) (reading : Reading) (x : N)
+    (w' : Core) : Type 0 where
   pub reads_root : ReadsRoot v reading x
   pub of_key_load : LoadIs w reading IsOfKey
   pub handed : HandOverCall w me reading.load (handles_of (v.references x)) (Ok tt) w'
 
 -- the innermost blob can't be read: it has a fault, the type's reader fails with a cause of its own, or memory runs out
 abbrev pub RefusesBlob : {N : Type 0} → Values N → Reading → Error → Type 0
-RefusesBlob v reading e = (need_of v.types reading.frames ≡ is_broken e) ⊎ ((top : Frame) × (below : List Frame) × (reading.frames ≡ top ∷ below) × v.read_causes top.node_type e) ⊎ (e ≡ Error.OutOfMemory)
+RefusesBlob v reading e = (need_of v.types reading.frames ≡ is_broken e)
+    ⊎ ((top : Frame) × (below : List Frame) × (reading.frames ≡ top ∷ below) × v.read_causes top.node_type e)
+    ⊎ (e ≡ Error.OutOfMemory)
 
 -- a fetch fails; or the path is too long, which is checked after the blob was fetched
 abbrev pub RefusesNested : Types → Core → Owner → Reading → Error → Core → Type 0
 RefusesNested types w me reading e w' = (kind : Kind)
     × (key : ℕ)
     × (need_of types reading.frames ≡ needs_nested kind key)
-    × (AskCall w me reading.load (Want.Nested kind key) (Err e) w' ⊎ ((blob : Blob) × (e ≡ Error.TooDeep) × (longest_path < length reading.frames) × AskCall w me reading.load (Want.Nested kind key) (Ok (from_store blob)) w'))
+    × (AskCall w me reading.load (Want.Nested kind key) (Err e) w'
+    ⊎ ((blob : Blob) × (e ≡ Error.TooDeep) × (longest_path < length reading.frames)
+    × AskCall w me reading.load (Want.Nested kind key) (Ok (from_store blob)) w'))
 
-pub record RefusesNode {N : Type 0} (v : Values N) (w : Core) (me : Owner) (reading : Reading) (e : Error) (w' : Core) : Type 0 where
+pub record RefusesNode {N : Type 0} (v : Values N) (w : Core) (me : Owner) (reading : Reading) (e : Error)
+    (w' : Core) : Type 0 where
   pub x : N
   pub reads_node : ReadsNode v reading x
-  pub adopted : AdoptCall w me reading.load reads_node.top.kind reads_node.top.key x (v.node_type x) (v.references x) (Err (e, x)) w'
+  pub adopted : AdoptCall w me reading.load reads_node.top.kind reads_node.top.key x (v.node_type x) (v.references x)
+      (Err (e, x)) w'
 
 -- the call that ends the load fails and leaves it open
-pub record RefusesRoot {N : Type 0} (v : Values N) (w : Core) (me : Owner) (reading : Reading) (e : Error) (w' : Core) : Type 0 where
+pub record RefusesRoot {N : Type 0} (v : Values N) (w : Core) (me : Owner) (reading : Reading) (e : Error)
+    (w' : Core) : Type 0 where
   pub x : N
   pub reads_root : ReadsRoot v reading x
   pub refuses :
@@ -212,19 +233,22 @@ abbrev pub Meets : {N : Type 0} → Values N → Core → Owner → Reading → 
 Meets v w me reading e w' = (RefusesBlob v reading e × Alike w w')
     ⊎ ((reading.frames ≡ []) × AskCall w me reading.load Want.Root (Err e) w')
     ⊎ RefusesNested v.types w me reading e w'
-    ⊎ ((kind : Kind) × (key : ℕ) × (need_of v.types reading.frames ≡ needs_lazy kind key) × LazyCall w me reading.load kind key (Err e) w')
+    ⊎ ((kind : Kind) × (key : ℕ) × (need_of v.types reading.frames ≡ needs_lazy kind key)
+    × LazyCall w me reading.load kind key (Err e) w')
     ⊎ RefusesNode v w me reading e w'
     ⊎ RefusesRoot v w me reading e w'
 
 -- A step failed: the load is closed, and what it owns is released.
-pub record GivesUp {N : Type 0} (v : Values N) (w : Core) (me : Owner) (reading : Reading) (e : Error) (w' : Core) : Type 0 where
+pub record GivesUp {N : Type 0} (v : Values N) (w : Core) (me : Owner) (reading : Reading) (e : Error)
+    (w' : Core) : Type 0 where
   pub mid : Core
   pub meets : Meets v w me reading e mid
   pub told : Result (Unit {0}) Error
   pub closes : LoadCloses mid reading.load told w'
 
 -- the call that ends the load found that the caller's handle is gone, and closed the load
-pub record EndsClosed {N : Type 0} (v : Values N) (w : Core) (me : Owner) (reading : Reading) (e : Error) (w' : Core) : Type 0 where
+pub record EndsClosed {N : Type 0} (v : Values N) (w : Core) (me : Owner) (reading : Reading) (e : Error)
+    (w' : Core) : Type 0 where
   pub x : N
   pub reads_root : ReadsRoot v reading x
   pub ended : EndCall w me reading.load x (v.node_type x) (v.references x) (Err (e, None)) w'
@@ -240,7 +264,8 @@ Does v w me reading (Some (LoadAnswer.Refused e)) frames w' = Fails v w me readi
 
 -- What a load's step returns, which frames the load has afterwards, and what the step does to the pager. It changes
 -- nothing else.
-pub record ReadingDoes {N : Type 0} (v : Values N) (w : Core) (me : Owner) (reading : Reading) (answer : Option (LoadAnswer N)) (frames : List Frame) (w' : Core) : Type 0 where
+pub record ReadingDoes {N : Type 0} (v : Values N) (w : Core) (me : Owner) (reading : Reading)
+    (answer : Option (LoadAnswer N)) (frames : List Frame) (w' : Core) : Type 0 where
   pub does : Does v w me reading answer frames w'
 
 -- the reading after one more step

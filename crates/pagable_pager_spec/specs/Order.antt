@@ -18,27 +18,48 @@ steps_of v (event ∷ more) [] = []
 
 -- the action may happen if the list is the first one, and makes it the second
 abbrev pub Follows : {W : Type 0} → (W → Written) → List Todo → Action W → List Todo → Type 0
-Follows f (to_start r place ∷ below) (Action.Claim i (Ok Claim.Claimed)) next = (i ≡ identity_of r) × (next ≡ to_pin r place ∷ below)
-Follows f (to_start r place ∷ below) (Action.Claim i (Ok (Claim.Known key height))) next = (i ≡ identity_of r) × (next ≡ give_known r key height below)
-Follows f (to_start r place ∷ below) (Action.Claim i (Ok Claim.Waiting)) next = (i ≡ identity_of r) × (next ≡ to_start r place ∷ below)
-Follows f (to_start r place ∷ below) (Action.Claim i (Ok Claim.AlreadyFailed)) next = (i ≡ identity_of r) × (next ≡ failing was_failed (to_start r place ∷ below))
-Follows f (to_start r place ∷ below) (Action.Claim i (Err e)) next = (i ≡ identity_of r) × (next ≡ failing_by e (to_start r place ∷ below))
-Follows f (to_pin r place ∷ below) (Action.Pin i (Ok (PinStep.Held k))) next = (i ≡ identity_of r) × ((through : HandleNumber) × (next ≡ to_write r place through ∷ below))
-Follows f (to_pin r place ∷ below) (Action.Pin i (Ok (PinStep.LoadBegun l))) next = (i ≡ identity_of r) × ((through : HandleNumber) × (next ≡ to_load r place through (fresh l (type_of r.kind.0)) ∷ below))
-Follows f (to_pin r place ∷ below) (Action.Pin i (Err e)) next = (i ≡ identity_of r) × (next ≡ failing_by e (to_pin r place ∷ below))
-Follows f (to_load r place through reading ∷ below) (Action.Pin i (Ok PinStep.LoadWent)) next = (i ≡ identity_of r) × ((frames : List Frame) × (next ≡ to_load r place through (gone_on reading frames) ∷ below))
-Follows f (to_load r place through reading ∷ below) (Action.Pin i (Ok (PinStep.Held k))) next = (i ≡ identity_of r) × (next ≡ to_write r place through ∷ below)
-Follows f (to_load r place through reading ∷ below) (Action.Pin i (Err e)) next = (i ≡ identity_of r) × (next ≡ failing_by e (to_load r place through reading ∷ below))
-Follows f (to_write r place through ∷ below) (Action.Write i (Ok out)) next = (i ≡ identity_of r) × (next ≡ open_node r place through (f out) below)
-Follows f (to_write r place through ∷ below) (Action.Write i (Err e)) next = (i ≡ identity_of r) × (next ≡ failing_by e (to_write r place through ∷ below))
-Follows f (to_finish o ∷ below) (Action.Store (Some i) (Ok key)) next = (i ≡ identity_of o.reference) × (next ≡ to_set o.reference o.through key o.height ∷ below)
-Follows f (to_finish o ∷ below) (Action.Store (Some i) (Err e)) next = (i ≡ identity_of o.reference) × (next ≡ failing_by e (to_finish o ∷ below))
+Follows f (to_start r place ∷ below) (Action.Claim i (Ok Claim.Claimed)) next =
+    (i ≡ identity_of r) × (next ≡ to_pin r place ∷ below)
+Follows f (to_start r place ∷ below) (Action.Claim i (Ok (Claim.Known key height))) next =
+    (i ≡ identity_of r) × (next ≡ give_known r key height below)
+Follows f (to_start r place ∷ below) (Action.Claim i (Ok Claim.Waiting)) next =
+    (i ≡ identity_of r) × (next ≡ to_start r place ∷ below)
+Follows f (to_start r place ∷ below) (Action.Claim i (Ok Claim.AlreadyFailed)) next =
+    (i ≡ identity_of r) × (next ≡ failing was_failed (to_start r place ∷ below))
+Follows f (to_start r place ∷ below) (Action.Claim i (Err e)) next =
+    (i ≡ identity_of r) × (next ≡ failing_by e (to_start r place ∷ below))
+Follows f (to_pin r place ∷ below) (Action.Pin i (Ok (PinStep.Held k))) next =
+    (i ≡ identity_of r) × ((through : HandleNumber) × (next ≡ to_write r place through ∷ below))
+Follows f (to_pin r place ∷ below) (Action.Pin i (Ok (PinStep.LoadBegun l))) next =
+    (i ≡ identity_of r) × ((through : HandleNumber) × (next ≡ to_load r place through (fresh l (type_of r.kind.0))
+    ∷ below))
+Follows f (to_pin r place ∷ below) (Action.Pin i (Err e)) next =
+    (i ≡ identity_of r) × (next ≡ failing_by e (to_pin r place ∷ below))
+Follows f (to_load r place through reading ∷ below) (Action.Pin i (Ok PinStep.LoadWent)) next =
+    (i ≡ identity_of r) × ((frames : List Frame) × (next ≡ to_load r place through (gone_on reading frames) ∷ below))
+Follows f (to_load r place through reading ∷ below) (Action.Pin i (Ok (PinStep.Held k))) next =
+    (i ≡ identity_of r) × (next ≡ to_write r place through ∷ below)
+Follows f (to_load r place through reading ∷ below) (Action.Pin i (Err e)) next =
+    (i ≡ identity_of r) × (next ≡ failing_by e (to_load r place through reading ∷ below))
+Follows f (to_write r place through ∷ below) (Action.Write i (Ok out)) next =
+    (i ≡ identity_of r) × (next ≡ open_node r place through (f out) below)
+Follows f (to_write r place through ∷ below) (Action.Write i (Err e)) next =
+    (i ≡ identity_of r) × (next ≡ failing_by e (to_write r place through ∷ below))
+Follows f (to_finish o ∷ below) (Action.Store (Some i) (Ok key)) next =
+    (i ≡ identity_of o.reference) × (next ≡ to_set o.reference o.through key o.height ∷ below)
+Follows f (to_finish o ∷ below) (Action.Store (Some i) (Err e)) next =
+    (i ≡ identity_of o.reference) × (next ≡ failing_by e (to_finish o ∷ below))
 Follows f (to_item written keys ∷ below) (Action.Store None (Ok key)) next = next ≡ []
-Follows f (to_item written keys ∷ below) (Action.Store None (Err e)) next = next ≡ failing_by e (to_item written keys ∷ below)
-Follows f (to_set r through key height ∷ below) (Action.SetKey i (Ok u)) next = (i ≡ identity_of r) × (next ≡ to_publish r key height ∷ below)
-Follows f (to_set r through key height ∷ below) (Action.SetKey i (Err e)) next = (i ≡ identity_of r) × (next ≡ failing_by e (to_set r through key height ∷ below))
-Follows f (to_publish r key height ∷ below) (Action.Publish i k h) next = (i ≡ identity_of r) × (k ≡ key) × (h ≡ height) × (next ≡ to_release r key height ∷ below)
-Follows f (to_release r key height ∷ below) (Action.Release i) next = (i ≡ identity_of r) × (next ≡ give r key height below)
+Follows f (to_item written keys ∷ below) (Action.Store None (Err e)) next =
+    next ≡ failing_by e (to_item written keys ∷ below)
+Follows f (to_set r through key height ∷ below) (Action.SetKey i (Ok u)) next =
+    (i ≡ identity_of r) × (next ≡ to_publish r key height ∷ below)
+Follows f (to_set r through key height ∷ below) (Action.SetKey i (Err e)) next =
+    (i ≡ identity_of r) × (next ≡ failing_by e (to_set r through key height ∷ below))
+Follows f (to_publish r key height ∷ below) (Action.Publish i k h) next =
+    (i ≡ identity_of r) × (k ≡ key) × (h ≡ height) × (next ≡ to_release r key height ∷ below)
+Follows f (to_release r key height ∷ below) (Action.Release i) next =
+    (i ≡ identity_of r) × (next ≡ give r key height below)
 Follows f (to_fail fault back ∷ below) Action.Fail next = next ≡ []
 Follows f todo step next = ⊥
 
@@ -96,11 +117,13 @@ own_references (of_entry h i) = 0
 
 -- the number of a worker's steps is bounded by its claims and by the references that it has written
 abbrev pub IsBounded : {W : Type 0} → (W → Written) → Walking → List (Action W) → Type 0
-IsBounded f walking steps = walking.steps ≤ 8 * times is_claim steps + (own_references walking.task + sum_by (references_written f) steps) + 4
+IsBounded f walking steps = walking.steps ≤ 8 * times is_claim steps +
+    (own_references walking.task + sum_by (references_written f) steps) + 4
 
 -- Some references of these kinds: what a blob needs next depends only on the kinds of the references that were got.
 abbrev pub some_of : List ℕ → List ArcRef
-some_of kinds = map (λ kind. record { kind = record { 0 = kind }; node = record { 0 = 0 }; handle = record { 0 = 0 } }) kinds
+some_of kinds = map (λ kind. record { kind = record { 0 = kind }; node = record { 0 = 0 }; handle = record { 0 = 0 } })
+    kinds
 
 -- what a blob needs next if references of these kinds were got
 abbrev pub after_kinds : Types → ℕ → Blob → List ℕ → Next
@@ -111,23 +134,32 @@ mutual
   -- twice counts twice), and its longest path has `longest`. The references of a repeated map key's dropped value count
   -- too, though the tree doesn't have them.
   pub data Unfolds (types : Types) (store : ℕ → Option Blob) : ℕ → ℕ → ℕ → ℕ → Type 0 where
-    unfolds : (t key many longest : ℕ) (blob : Blob) → store key ≡ Some blob → UnfoldsFrom types store t blob [] many longest → Unfolds types store t key many longest
+    unfolds : (t key many longest : ℕ) (blob : Blob) → store key ≡ Some blob
+        → UnfoldsFrom types store t blob [] many longest → Unfolds types store t key many longest
 
   -- what is still to be taken of a blob if references of these kinds were got: nothing; one more reference and all that
   -- it leads to; or one that is taken without being read
   pub data UnfoldsFrom (types : Types) (store : ℕ → Option Blob) : ℕ → Blob → List ℕ → ℕ → ℕ → Type 0 where
-    ends-here : (t : ℕ) (blob : Blob) (kinds : List ℕ) (own : Meaning ArcRef) → after_kinds types t blob kinds ≡ reads own → UnfoldsFrom types store t blob kinds 0 0
-    takes-next : (t child below rest deep longest : ℕ) (blob : Blob) (kinds : List ℕ) (kind : Kind) → after_kinds types t blob kinds ≡ asks kind child → is_eager kind.0 ≡ true → Unfolds types store (type_of kind.0) child below deep
-        → UnfoldsFrom types store t blob (kinds ++ kind.0 ∷ []) rest longest → UnfoldsFrom types store t blob kinds (1 + below + rest) (max (1 + deep) longest)
-    leaves-next : (t child rest longest : ℕ) (blob : Blob) (kinds : List ℕ) (kind : Kind) → after_kinds types t blob kinds ≡ asks kind child → is_eager kind.0 ≡ false
-        → UnfoldsFrom types store t blob (kinds ++ kind.0 ∷ []) rest longest → UnfoldsFrom types store t blob kinds (1 + rest) longest
+    ends-here : (t : ℕ) (blob : Blob) (kinds : List ℕ) (own : Meaning ArcRef) → after_kinds types t blob kinds
+        ≡ reads own → UnfoldsFrom types store t blob kinds 0 0
+    takes-next : (t child below rest deep longest : ℕ) (blob : Blob) (kinds : List ℕ) (kind : Kind)
+        → after_kinds types t blob kinds ≡ asks kind child → is_eager kind.0 ≡ true
+        → Unfolds types store (type_of kind.0) child below deep
+        → UnfoldsFrom types store t blob (kinds ++ kind.0 ∷ []) rest longest
+        → UnfoldsFrom types store t blob kinds (1 + below + rest) (max (1 + deep) longest)
+    leaves-next : (t child rest longest : ℕ) (blob : Blob) (kinds : List ℕ) (kind : Kind)
+        → after_kinds types t blob kinds ≡ asks kind child → is_eager kind.0 ≡ false
+        → UnfoldsFrom types store t blob (kinds ++ kind.0 ∷ []) rest longest
+        → UnfoldsFrom types store t blob kinds (1 + rest) longest
 
 -- A path of n references leads from reading the key `key` as type t to reading the key `last` as last_type: reading the
 -- first key needs a reference, after all before it were got; that reference's key is the next key; and so on.
 pub data LeadsDown (types : Types) (store : ℕ → Option Blob) : ℕ → ℕ → ℕ → ℕ → ℕ → Type 0 where
   is-there : (t key : ℕ) → LeadsDown types store t key 0 t key
-  goes-down : (t key child n longer last_type last : ℕ) (blob : Blob) (kinds : List ℕ) (kind : Kind) → longer ≡ n + 1 → store key ≡ Some blob → after_kinds types t blob kinds ≡ asks kind child → is_eager kind.0 ≡ true
-      → LeadsDown types store (type_of kind.0) child n last_type last → LeadsDown types store t key longer last_type last
+  goes-down : (t key child n longer last_type last : ℕ) (blob : Blob) (kinds : List ℕ) (kind : Kind) → longer ≡ n + 1
+      → store key ≡ Some blob → after_kinds types t blob kinds ≡ asks kind child → is_eager kind.0 ≡ true
+      → LeadsDown types store (type_of kind.0) child n last_type last
+      → LeadsDown types store t key longer last_type last
 
 -- reading the key reaches a blob that is too deep on its path, or one that enters a level too many
 pub record ReadsTooDeep (types : Types) (store : ℕ → Option Blob) (t key : ℕ) : Type 0 where
@@ -137,8 +169,10 @@ pub record ReadsTooDeep (types : Types) (store : ℕ → Option Blob) (t key : �
   pub blob : Blob
   pub down : LeadsDown types store t key n last_type last
   pub is : store last ≡ Some blob
-  pub deep : (longest_path < n) ⊎ ((kinds : List ℕ) × (after_kinds types last_type blob kinds ≡ is_faulty Error.TooDeep))
+  pub deep : (longest_path < n) ⊎ ((kinds : List ℕ) × (after_kinds types last_type blob kinds
+      ≡ is_faulty Error.TooDeep))
 
 -- a load's step is within the bound; if it reaches the bound, it ends the load
 abbrev pub IsWithinBound : {N : Type 0} → Types → (ℕ → Option Blob) → ℕ → ℕ → LoadReply N → Type 0
-IsWithinBound types store t key reply = (many longest : ℕ) → Unfolds types store t key many longest → (reply.steps ≤ 2 * many + 2) × (reply.steps ≡ 2 * many + 2 → IsSome reply.ended)
+IsWithinBound types store t key reply = (many longest : ℕ) → Unfolds types store t key many longest
+    → (reply.steps ≤ 2 * many + 2) × (reply.steps ≡ 2 * many + 2 → IsSome reply.ended)

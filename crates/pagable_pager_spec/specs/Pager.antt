@@ -44,11 +44,13 @@ pub record HandlesAreWhole (w : Core) : Type 0 where
 
 pub record OwnersAreThere (w : Core) : Type 0 where
   -- the list contains each handle that it owns exactly once, and all of these are loose and unpinned
-  pub listed : (q : ℕ) → times (λ (h : HandleNumber). h.0 == q) w.list ≡ times (λ h. is_handle q h && is_owned_by Owner.List h) w.rows
+  pub listed : (q : ℕ) → times (λ (h : HandleNumber). h.0 == q) w.list
+      ≡ times (λ h. is_handle q h && is_owned_by Owner.List h) w.rows
   pub waiting : (h : HandleRow) → Among w.rows h → h.owner ≡ Owner.List → h.mode ≡ Mode.LooseUnpinned
   -- if a load owns a handle, it is open; if a worker owns one, it is at work
   pub loads : (h : HandleRow) (l : LoadNumber) → Among w.rows h → h.owner ≡ Owner.Load l → is_some (w.loads l.0) ≡ true
-  pub workers : (h : HandleRow) (v : ℕ) → Among w.rows h → h.owner ≡ Owner.Worker (record { 0 = v }) → w.workers v ≡ true
+  pub workers : (h : HandleRow) (v : ℕ) → Among w.rows h → h.owner ≡ Owner.Worker (record { 0 = v }) → w.workers v
+      ≡ true
 
 -- The owner of a load is the caller, or a worker that is at work.
 abbrev pub MayOwnLoad : Core → Owner → Type 0
@@ -66,7 +68,8 @@ pub record IsRootWhole (w : Core) (node : NodeNumber) (t : ℕ) (h : HandleNumbe
 pub record LoadsAreWhole (w : Core) : Type 0 where
   pub numbered : (l : ℕ) → is_some (w.loads l) ≡ true → (0 < l) × (l ≤ w.last.load)
   pub owned : (l : ℕ) (load : OpenLoad) → w.loads l ≡ Some load → MayOwnLoad w load.owner
-  pub roots : (l : ℕ) (load : OpenLoad) (node : NodeNumber) (t : ℕ) (h : HandleNumber) → w.loads l ≡ Some load → load.root ≡ of_cell node t h → IsRootWhole w node t h
+  pub roots : (l : ℕ) (load : OpenLoad) (node : NodeNumber) (t : ℕ) (h : HandleNumber) → w.loads l ≡ Some load
+      → load.root ≡ of_cell node t h → IsRootWhole w node t h
 
 -- The cache names a node whose number has been given out. If it is live, it has the kind's type, and it is shared
 -- exactly if the kind is a shared one.
@@ -94,9 +97,11 @@ pub record WellFormed {N E : Type 0} (v : Values N) (s : PagerState N E) : Type 
   pub typed : (n : ℕ) (x : N) → s.values n ≡ Some x → type_at s.core n ≡ Some (v.node_type x)
   -- the handles that a value owns are exactly its references: each fits its kind's mode, and is a handle of the node
   -- that it names
-  pub inside : (n : ℕ) (x : N) (q : ℕ) → s.values n ≡ Some x → times (λ (r : ArcRef). r.handle.0 == q) (v.references x) ≡ times (λ h. is_handle q h && is_owned_by (owner_value n) h) s.core.rows
+  pub inside : (n : ℕ) (x : N) (q : ℕ) → s.values n ≡ Some x → times (λ (r : ArcRef). r.handle.0 == q) (v.references x)
+      ≡ times (λ h. is_handle q h && is_owned_by (owner_value n) h) s.core.rows
   pub bare : (n : ℕ) → s.values n ≡ None → times (is_owned_by (owner_value n)) s.core.rows ≡ 0
-  pub references : (n : ℕ) (x : N) (r : ArcRef) → s.values n ≡ Some x → Among (v.references x) r → IsReference s.core (owner_value n) r
+  pub references : (n : ℕ) (x : N) (r : ArcRef) → s.values n ≡ Some x → Among (v.references x) r
+      → IsReference s.core (owner_value n) r
 
 -- The node of the reference has a value in memory, and x holds that value beside the reference.
 pub record HoldsNode {N E : Type 0} (v : Values N) (s : PagerState N E) (x : N) (r : ArcRef) : Type 0 where
@@ -133,7 +138,8 @@ pub record IsWalkingWhole (w : Core) (work : Work) (v : ℕ) (walking : Walking)
 pub record IsMachineWhole {N E : Type 0} (v : Values N) (s : MachineState N E) : Type 0 where
   pub pager : WellFormed v s.pager
   pub readings : (l : ℕ) (reading : Reading) → s.work.readings l ≡ Some reading → IsReadingWhole s.pager.core l reading
-  pub walkings : (n : ℕ) (walking : Walking) → s.work.walkings n ≡ Some walking → IsWalkingWhole s.pager.core s.work n walking
+  pub walkings : (n : ℕ) (walking : Walking) → s.work.walkings n ≡ Some walking
+      → IsWalkingWhole s.pager.core s.work n walking
   pub all_there : (n : ℕ) → s.pager.core.workers n ≡ true → is_some (s.work.walkings n) ≡ true
 
 -- a new pager over a storage: nothing in it, no number given out, and any contents of the storage
@@ -187,7 +193,8 @@ CallBrings w call n x = ⊥
 -- the value that a load's step may bring into memory: the one that its innermost blob reads as, at a new node or at the
 -- load's cell
 abbrev pub ReadingBrings : {N : Type 0} → Values N → Core → Reading → ℕ → N → Type 0
-ReadingBrings v w reading n x = (ReadsNode v reading x × IsNewNode w n) ⊎ (ReadsRoot v reading x × IsCellOf w reading.load n)
+ReadingBrings v w reading n x = (ReadsNode v reading x × IsNewNode w n)
+    ⊎ (ReadsRoot v reading x × IsCellOf w reading.load n)
 
 -- the value that a worker's step may bring into memory: the one that its load brings
 abbrev pub TodoBrings : {N : Type 0} → Values N → Core → List Todo → ℕ → N → Type 0
@@ -196,8 +203,10 @@ TodoBrings v w todo n x = ⊥
 
 abbrev pub EventBrings : {N B W : Type 0} → Values N → World → Event N B W → ℕ → N → Type 0
 EventBrings v u (Event.Call call) n x = CallBrings u.core call n x
-EventBrings v u (Event.LoadStep l) n x = (reading : Reading) × (reading_at u l ≡ Some reading) × ReadingBrings v u.core reading n x
-EventBrings v u (Event.WorkerStep k) n x = (walking : Walking) × (u.work.walkings k.0 ≡ Some walking) × TodoBrings v u.core walking.todo n x
+EventBrings v u (Event.LoadStep l) n x = (reading : Reading) × (reading_at u l ≡ Some reading)
+    × ReadingBrings v u.core reading n x
+EventBrings v u (Event.WorkerStep k) n x = (walking : Walking) × (u.work.walkings k.0 ≡ Some walking)
+    × TodoBrings v u.core walking.todo n x
 EventBrings v u event n x = ⊥
 
 -- a value that a load's or a worker's step brings into memory holds the values of its nodes; for a call's value the
@@ -253,8 +262,10 @@ mutual
   -- The node stands for the tree: its value is in memory, and its meaning, followed through the nodes that it refers
   -- to, is the tree's; or its value isn't in memory. Either way the node's key, if any, reads as the tree.
   pub data NodeStands {N E : Type 0} (v : Values N) (s : PagerState N E) : ℕ → Tree → Type 0 where
-    here : (n : ℕ) (x : N) (own : Meaning ArcRef) (t : Tree) → s.values n ≡ Some x → v.node_type x ≡ t.type → v.means x own → MeaningStands v s own t.meaning → KeyFits v s n t → NodeStands v s n t
-    away : (n key : ℕ) (t : Tree) → s.values n ≡ None → key_at s.core n ≡ OptionalDataKey.Some key → KeyFits v s n t → NodeStands v s n t
+    here : (n : ℕ) (x : N) (own : Meaning ArcRef) (t : Tree) → s.values n ≡ Some x → v.node_type x ≡ t.type
+        → v.means x own → MeaningStands v s own t.meaning → KeyFits v s n t → NodeStands v s n t
+    away : (n key : ℕ) (t : Tree) → s.values n ≡ None → key_at s.core n ≡ OptionalDataKey.Some key → KeyFits v s n t
+        → NodeStands v s n t
 
   -- A meaning whose references are handles stands for the meaning in which each is followed to what its node stands
   -- for. What is followed already stands for itself.
@@ -264,10 +275,14 @@ mutual
     text-stands : (t : List ℕ) → MeaningStands v s (text t) (text t)
     pattern-stands : (t : List ℕ) → MeaningStands v s (pattern t) (pattern t)
     none-stands : MeaningStands v s none none
-    pair-stands : (x y : Meaning ArcRef) (a b : Meaning ⊥) → MeaningStands v s x a → MeaningStands v s y b → MeaningStands v s (pair x y) (pair a b)
-    variant-stands : (i : ℕ) (x : Meaning ArcRef) (a : Meaning ⊥) → MeaningStands v s x a → MeaningStands v s (variant i x) (variant i a)
-    followed-stands : (kind : ℕ) (x : Meaning ArcRef) (a : Meaning ⊥) → MeaningStands v s x a → MeaningStands v s (followed kind x) (followed kind a)
-    reference-stands : (r : ArcRef) (a : Meaning ⊥) → NodeStands v s r.node.0 (tree (type_of r.kind.0) a) → MeaningStands v s (reference r) (followed r.kind.0 a)
+    pair-stands : (x y : Meaning ArcRef) (a b : Meaning ⊥) → MeaningStands v s x a → MeaningStands v s y b
+        → MeaningStands v s (pair x y) (pair a b)
+    variant-stands : (i : ℕ) (x : Meaning ArcRef) (a : Meaning ⊥) → MeaningStands v s x a
+        → MeaningStands v s (variant i x) (variant i a)
+    followed-stands : (kind : ℕ) (x : Meaning ArcRef) (a : Meaning ⊥) → MeaningStands v s x a
+        → MeaningStands v s (followed kind x) (followed kind a)
+    reference-stands : (r : ArcRef) (a : Meaning ⊥) → NodeStands v s r.node.0 (tree (type_of r.kind.0) a)
+        → MeaningStands v s (reference r) (followed r.kind.0 a)
 
 -- a value (in memory, or given to a call, or returned by one) stands for the tree
 pub record ValueStands {N E : Type 0} (v : Values N) (s : PagerState N E) (x : N) (t : Tree) : Type 0 where
@@ -286,12 +301,14 @@ pub record ReadsNodeTree (types : Types) (stored : ℕ → Option Blob) (trees :
 pub record FrameFits (types : Types) (stored : ℕ → Option Blob) (trees : ℕ → Tree) (frame : Frame) : Type 0 where
   pub is : stored frame.key ≡ Some frame.blob
   pub few : length frame.got ≤ length frame.blob.keys
-  pub got : (place key : ℕ) (r : ArcRef) → slice_get frame.got place ≡ Some r → slice_get frame.blob.keys place ≡ Some key → ReadsNodeTree types stored trees key (type_of r.kind.0) r.node.0
+  pub got : (place key : ℕ) (r : ArcRef) → slice_get frame.got place ≡ Some r → slice_get frame.blob.keys place
+      ≡ Some key → ReadsNodeTree types stored trees key (type_of r.kind.0) r.node.0
 
 -- each frame is what the frame below it asks for, and the last one is the root's
 unfoldable pub FramesFit : Types → (ℕ → Option Blob) → (ℕ → Tree) → (root_key root_type : ℕ) → List Frame → Type 0
 FramesFit types stored trees root_key root_type [] = Unit {0}
-FramesFit types stored trees root_key root_type (frame ∷ []) = FrameFits types stored trees frame × (frame.key ≡ root_key) × (frame.node_type ≡ root_type)
+FramesFit types stored trees root_key root_type (frame ∷ []) =
+    FrameFits types stored trees frame × (frame.key ≡ root_key) × (frame.node_type ≡ root_type)
 FramesFit types stored trees root_key root_type (frame ∷ below ∷ rest) = FrameFits types stored trees frame
     × (frame.node_type ≡ type_of frame.kind.0)
     × (next_in types below ≡ asks frame.kind frame.key)
@@ -299,7 +316,8 @@ FramesFit types stored trees root_key root_type (frame ∷ below ∷ rest) = Fra
 
 -- the frames of a load fit the load's own key
 abbrev pub ReadingFits : {N E : Type 0} → Values N → PagerState N E → (ℕ → Tree) → Reading → Type 0
-ReadingFits v s trees reading = (load : OpenLoad) → s.core.loads reading.load.0 ≡ Some load → FramesFit v.types s.core.stored trees load.key reading.node_type reading.frames
+ReadingFits v s trees reading = (load : OpenLoad) → s.core.loads reading.load.0 ≡ Some load
+    → FramesFit v.types s.core.stored trees load.key reading.node_type reading.frames
 
 -- The pager stands for its nodes' trees, which each node keeps for ever: each live node stands for its tree, which is
 -- of its type; the key of a load of a cell reads as the cell's tree; and the key of an entry of the cache reads as its
@@ -307,13 +325,17 @@ ReadingFits v s trees reading = (load : OpenLoad) → s.core.loads reading.load.
 pub record Represents {N E : Type 0} (v : Values N) (s : PagerState N E) (trees : ℕ → Tree) : Type 0 where
   pub stands : (n : ℕ) → 0 < held n s.core.rows → NodeStands v s n (trees n)
   pub typed : (n : ℕ) → 0 < held n s.core.rows → type_at s.core n ≡ Some (trees n).type
-  pub loads : (l : ℕ) (load : OpenLoad) (node : NodeNumber) (t : ℕ) (h : HandleNumber) → s.core.loads l ≡ Some load → load.root ≡ of_cell node t h → ReadsNodeTree v.types s.core.stored trees load.key t node.0
-  pub cache : (kind key n : ℕ) → s.core.cache kind key ≡ Some n → ReadsNodeTree v.types s.core.stored trees key (type_of kind) n
+  pub loads : (l : ℕ) (load : OpenLoad) (node : NodeNumber) (t : ℕ) (h : HandleNumber) → s.core.loads l ≡ Some load
+      → load.root ≡ of_cell node t h → ReadsNodeTree v.types s.core.stored trees load.key t node.0
+  pub cache : (kind key n : ℕ) → s.core.cache kind key ≡ Some n
+      → ReadsNodeTree v.types s.core.stored trees key (type_of kind) n
 
 -- this is the reading of some load, of the caller's or of a worker's
 pub data IsReadingOf (work : Work) (reading : Reading) : Type 0 where
   of_caller : (l : ℕ) → work.readings l ≡ Some reading → IsReadingOf work reading
-  of_worker : (n place : ℕ) (walking : Walking) (r : ArcRef) (through : HandleNumber) (below : List Todo) → work.walkings n ≡ Some walking → walking.todo ≡ to_load r place through reading ∷ below → IsReadingOf work reading
+  of_worker : (n place : ℕ) (walking : Walking) (r : ArcRef) (through : HandleNumber) (below : List Todo)
+      → work.walkings n ≡ Some walking → walking.todo ≡ to_load r place through reading ∷ below
+      → IsReadingOf work reading
 
 -- the machine's pager stands for the trees, and the readings fit them
 pub record StandsFor {N E : Type 0} (v : Values N) (s : MachineState N E) (trees : ℕ → Tree) : Type 0 where

@@ -52,7 +52,8 @@ live_fault row = if_there (λ (h : HandleRow). None) (Some Error.NoSuchHandle) r
 -- why `me` can't use the handle
 abbrev pub handle_fault : Core → Owner → HandleNumber → (Mode → Bool) → Option Error
 handle_fault w me h fits =
-    if_there (λ (row : HandleRow). if not (is_owner me row.owner) then Some Error.NotYours else refused_if (not (fits row.mode)) Error.WrongMode) (Some Error.NoSuchHandle) (row_at w h)
+    if_there (λ (row : HandleRow). if not (is_owner me row.owner) then Some Error.NotYours else refused_if
+    (not (fits row.mode)) Error.WrongMode) (Some Error.NoSuchHandle) (row_at w h)
 
 abbrev pub is_type : ℕ → Option ℕ → Bool
 is_type t found = if_there (λ u. u == t) false found
@@ -69,22 +70,27 @@ pub record IsReference (w : Core) (owner : Owner) (r : ArcRef) : Type 0 where
 -- why a reference has a fault, if its handle has this row; `first` is a cause to be checked before mode and type
 abbrev pub row_fault : Core → ArcRef → Option Error → HandleRow → Option Error
 row_fault w r first row = if not (row.node.0 == r.node.0) then Some Error.NoSuchHandle else
-    or_else first (if not (fits_mode r.kind.0 row.mode) then Some Error.WrongMode else refused_if (not (is_type (type_of r.kind.0) (type_at w r.node.0))) Error.WrongKind)
+    or_else first (if not (fits_mode r.kind.0 row.mode) then Some Error.WrongMode else refused_if
+    (not (is_type (type_of r.kind.0) (type_at w r.node.0))) Error.WrongKind)
 
 -- why one reference of a given value has a fault; `seen` are the handles that its earlier references name
 abbrev pub reference_fault : Core → Owner → List ℕ → ArcRef → Option Error
-reference_fault w owner seen r = if_there (λ (row : HandleRow). row_fault w r (refused_if (not (is_owner owner row.owner) || is_in seen r.handle.0) Error.NotYours) row) (Some Error.NoSuchHandle) (row_at w r.handle)
+reference_fault w owner seen r = if_there (λ (row : HandleRow). row_fault w r
+    (refused_if (not (is_owner owner row.owner) || is_in seen r.handle.0) Error.NotYours) row) (Some Error.NoSuchHandle)
+    (row_at w r.handle)
 
 -- the cause of the first reference that has one
 unfoldable pub references_fault : Core → Owner → List ℕ → List ArcRef → Option Error
 references_fault w owner seen [] = None
-references_fault w owner seen (r ∷ rs) = or_else (reference_fault w owner seen r) (references_fault w owner (r.handle.0 ∷ seen) rs)
+references_fault w owner seen (r ∷ rs) = or_else (reference_fault w owner seen r)
+    (references_fault w owner (r.handle.0 ∷ seen) rs)
 
 -- why the named handles can't all be handed over: one isn't live, has another owner, or is named twice
 unfoldable pub named_fault : Core → Owner → List ℕ → List HandleNumber → Option Error
 named_fault w owner seen [] = None
 named_fault w owner seen (h ∷ hs) =
-    earlier (if_there (λ (row : HandleRow). refused_if (not (is_owner owner row.owner) || is_in seen h.0) Error.NotYours) (Some Error.NoSuchHandle) (row_at w h)) (named_fault w owner (h.0 ∷ seen) hs)
+    earlier (if_there (λ (row : HandleRow). refused_if (not (is_owner owner row.owner) || is_in seen h.0)
+    Error.NotYours) (Some Error.NoSuchHandle) (row_at w h)) (named_fault w owner (h.0 ∷ seen) hs)
 
 -- the load is open, and `me` began it
 pub record OwnsLoad (w : Core) (me : Owner) (l : LoadNumber) (load : OpenLoad) : Type 0 where
@@ -93,7 +99,8 @@ pub record OwnsLoad (w : Core) (me : Owner) (l : LoadNumber) (load : OpenLoad) :
 
 -- why `me` can't use the load
 abbrev pub load_fault : Core → Owner → LoadNumber → Option Error
-load_fault w me l = if_there (λ (load : OpenLoad). refused_if (not (is_owner me load.owner)) Error.NotYours) (Some Error.NoSuchHandle) (w.loads l.0)
+load_fault w me l = if_there (λ (load : OpenLoad). refused_if (not (is_owner me load.owner)) Error.NotYours)
+    (Some Error.NoSuchHandle) (w.loads l.0)
 
 -- no load with this number is open
 abbrev pub closed_fault : Core → LoadNumber → Option Error

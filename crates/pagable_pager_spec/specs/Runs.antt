@@ -41,11 +41,14 @@ pub record ReadsAsValue {N E : Type 0} (v : Values N) (s : PagerState N E) (x : 
 -- key only by a loose handle.
 abbrev pub AsksWell : {N E B : Type 0} → Values N → PagerState N E → (ℕ → Tree) → Call N B → Reply N B → Type 0
 AsksWell v s trees (Call.NewPagedOut t key) (Reply.Handle (Ok k)) = ReadsAsType v s t key
-AsksWell v s trees (Call.SetDataKey h key) reply = (row : HandleRow) → Owns s.core Owner.Caller h is_loose row → ReadsTree s.core.stored v.types key (trees row.node.0)
-AsksWell v s trees (Call.OnArcDeserialized kind key h) (Reply.FromCache (Ok None)) = (row : HandleRow) → Owns s.core Owner.Caller h any_mode row → ReadsTree s.core.stored v.types key (trees row.node.0)
+AsksWell v s trees (Call.SetDataKey h key) reply = (row : HandleRow) → Owns s.core Owner.Caller h is_loose row
+    → ReadsTree s.core.stored v.types key (trees row.node.0)
+AsksWell v s trees (Call.OnArcDeserialized kind key h) (Reply.FromCache (Ok None)) =
+    (row : HandleRow) → Owns s.core Owner.Caller h any_mode row → ReadsTree s.core.stored v.types key (trees row.node.0)
 AsksWell v s trees (Call.LoadAdopt l kind key x) (Reply.Made (Ok k)) = ReadsAsValue v s x key
 AsksWell v s trees (Call.LoadLazy l kind key) (Reply.Handle (Ok k)) = ReadsAsType v s (type_of kind.0) key
-AsksWell v s trees (Call.LoadEnd l x) (Reply.LoadEnded (Ok k)) = (n : ℕ) → IsCellOf s.core l n → ValueStands v s x (trees n)
+AsksWell v s trees (Call.LoadEnd l x) (Reply.LoadEnded (Ok k)) =
+    (n : ℕ) → IsCellOf s.core l n → ValueStands v s x (trees n)
 AsksWell v s trees call reply = Unit {0}
 
 -- What is asked of a load's step. The type of each blob that the load reads can be read back: if the type has tags,
@@ -53,7 +56,8 @@ AsksWell v s trees call reply = Unit {0}
 -- the step takes without reading it, for a loose reference, reads as some value of the kind's type.
 pub record TakesWell {N E : Type 0} (v : Values N) (s : PagerState N E) (reading : Reading) : Type 0 where
   pub types : (frame : Frame) → Among reading.frames frame → IsReadableType v.types frame.node_type
-  pub keys : (kind : Kind) (key : ℕ) → need_of v.types reading.frames ≡ needs_lazy kind key → ReadsAsType v s (type_of kind.0) key
+  pub keys : (kind : Kind) (key : ℕ) → need_of v.types reading.frames ≡ needs_lazy kind key
+      → ReadsAsType v s (type_of kind.0) key
 
 -- what is asked of a worker's step: the same for its load; and what it writes is of a type that can be read back
 abbrev pub TodoAsksWell : {N E : Type 0} → Values N → PagerState N E → List Todo → Type 0
@@ -61,14 +65,18 @@ TodoAsksWell v s (to_load r place through reading ∷ below) = TakesWell v s rea
 TodoAsksWell v s (to_write r place through ∷ below) = IsReadableType v.types (type_of r.kind.0)
 TodoAsksWell v s todo = Unit {0}
 
-abbrev pub IsWellAsked : {N E B W : Type 0} → Values N → MachineState N E → (ℕ → Tree) → Event N B W → EventReply N B W → Type 0
+abbrev pub IsWellAsked : {N E B W : Type 0} → Values N → MachineState N E → (ℕ → Tree) → Event N B W → EventReply N B W
+    → Type 0
 IsWellAsked v s trees (Event.Call call) (EventReply.CallReply reply) = AsksWell v s.pager trees call reply
-IsWellAsked v s trees (Event.LoadStep l) reply = (reading : Reading) → reading_at (world_of s) l ≡ Some reading → TakesWell v s.pager reading
-IsWellAsked v s trees (Event.WorkerStep n) reply = (walking : Walking) → s.work.walkings n.0 ≡ Some walking → TodoAsksWell v s.pager walking.todo
+IsWellAsked v s trees (Event.LoadStep l) reply = (reading : Reading) → reading_at (world_of s) l ≡ Some reading
+    → TakesWell v s.pager reading
+IsWellAsked v s trees (Event.WorkerStep n) reply = (walking : Walking) → s.work.walkings n.0 ≡ Some walking
+    → TodoAsksWell v s.pager walking.todo
 IsWellAsked v s trees event reply = Unit {0}
 
 -- all that is asked of an event, of the state before it and of the state after it
-pub record IsPremised {N E B W : Type 0} (v : Values N) (s : MachineState N E) (trees : ℕ → Tree) (event : Event N B W) (reply : EventReply N B W) (s' : MachineState N E) : Type 0 where
+pub record IsPremised {N E B W : Type 0} (v : Values N) (s : MachineState N E) (trees : ℕ → Tree) (event : Event N B W)
+    (reply : EventReply N B W) (s' : MachineState N E) : Type 0 where
   -- no value in memory, and none that a load returns, changes later
   pub settled : HoldsSettled v s'.pager
   pub reads_settled : (x : N) → read_out reply ≡ Some x → IsSettled v x
@@ -82,7 +90,8 @@ pub record Moment (N E B W : Type 0) : Type 0 where
 
 -- One event: its step of the plain state, what it does to values, and the machine's invariant afterwards. Trees are no
 -- part of it: that nodes keep them is a law of chains.
-pub record Does {N E B W : Type 0} (m : Seen N B W) (s : MachineState N E) (event : Event N B W) (reply : EventReply N B W) (s' : MachineState N E) : Type 0 where
+pub record Does {N E B W : Type 0} (m : Seen N B W) (s : MachineState N E) (event : Event N B W)
+    (reply : EventReply N B W) (s' : MachineState N E) : Type 0 where
   pub step : Step m (world_of s) event reply (world_of s')
   pub moves : Moves (EventBrings m.values (world_of s) event) s.pager s'.pager
   pub holds : Moves (λ n x. EventHolds m.values s.pager event x) s.pager s'.pager
@@ -104,7 +113,8 @@ abbrev pub replies_of : {N E B W : Type 0} → List (Moment N E B W) → List (E
 replies_of xs = map (λ x. x.reply) xs
 
 -- These events, with these replies, lead from the old machine to the new one.
-pub record HasRun {N E B W : Type 0} (m : Seen N B W) (old : MachineState N E) (happened : List (Event N B W)) (replied : List (EventReply N B W)) (new : MachineState N E) : Type 0 where
+pub record HasRun {N E B W : Type 0} (m : Seen N B W) (old : MachineState N E) (happened : List (Event N B W))
+    (replied : List (EventReply N B W)) (new : MachineState N E) : Type 0 where
   pub moments : List (Moment N E B W)
   pub events_are : events_of moments ≡ happened
   pub replies_are : replies_of moments ≡ replied
@@ -116,12 +126,15 @@ abbrev pub Fact : (N E B W : Type 0) → Type 1
 Fact N E B W = MachineState N E → (ℕ → Tree) → Event N B W → EventReply N B W → MachineState N E → (ℕ → Tree) → Type 0
 
 -- Trees after an event: the machine stands for them, each node that existed keeps its tree, and P holds.
-pub record TreesAfter {N E B W : Type 0} (m : Seen N B W) (P : Fact N E B W) (s : MachineState N E) (trees : ℕ → Tree) (event : Event N B W) (reply : EventReply N B W) (s' : MachineState N E) (trees' : ℕ → Tree) : Type 0 where
+pub record TreesAfter {N E B W : Type 0} (m : Seen N B W) (P : Fact N E B W) (s : MachineState N E) (trees : ℕ → Tree)
+    (event : Event N B W) (reply : EventReply N B W) (s' : MachineState N E) (trees' : ℕ → Tree) : Type 0 where
   pub keeps : SameTrees s.pager.core.last.node trees trees'
   pub stands : StandsFor m.values s' trees'
   pub so : P s trees event reply s' trees'
 
 -- trees after each event of the chain, and P of each, as long as the events satisfy what is asked of them
-abbrev pub TreesAlong : {N E B W : Type 0} → Seen N B W → Fact N E B W → MachineState N E → (ℕ → Tree) → List (Moment N E B W) → Type 0
+abbrev pub TreesAlong : {N E B W : Type 0} → Seen N B W → Fact N E B W → MachineState N E → (ℕ → Tree)
+    → List (Moment N E B W) → Type 0
 TreesAlong m P s trees [] = Unit {0}
-TreesAlong m P s trees (x ∷ xs) = IsPremised m.values s trees x.event x.reply x.after → (trees' : ℕ → Tree) × TreesAfter m P s trees x.event x.reply x.after trees' × TreesAlong m P x.after trees' xs
+TreesAlong m P s trees (x ∷ xs) = IsPremised m.values s trees x.event x.reply x.after → (trees' : ℕ → Tree)
+    × TreesAfter m P s trees x.event x.reply x.after trees' × TreesAlong m P x.after trees' xs

@@ -8,7 +8,8 @@ use Rattle.pagable_pager_spec.specs.{Basics.Tree, Pager.{IsIdle, IsMachineWhole,
 use Rattle.pagable_pager_spec.specs.{Runs.{AreMoments, HoldsSettled, Moment, TreesAlong, events_of, replies_of, state_after}, World.{IsLawful, Seen}}
 
 -- What holds of a chain of moments, each an event, its reply and the machine after it.
-pub record Headline {N E B W : Type 0} (m : Seen N B W) (start : MachineState N E) (moments : List (Moment N E B W)) : Type 0 where
+pub record Headline {N E B W : Type 0} (m : Seen N B W) (start : MachineState N E)
+    (moments : List (Moment N E B W)) : Type 0 where
   -- Each event is a step of the plain world and leaves the machine whole: so each count is the number of pinning handles, and a cell
   -- holds its value exactly while it is pinned or has no key. Read next: `Does` (Runs), `IsMachineWhole` (Pager), `IsWhole` (World).
   pub chain : AreMoments m start moments
@@ -20,7 +21,8 @@ pub record Headline {N E B W : Type 0} (m : Seen N B W) (start : MachineState N 
   -- And by trees: if the machine stands for these trees (`StandsFor`, Pager), the value types are lawful (`IsLawful`, World) and no
   -- value is written to later (`HoldsSettled`, Runs), then every event that was asked well (`IsPremised`, Runs) is right: each pin
   -- gives its tree, each page-out leaves all that it met stored and answers its key. Read next: `IsRight` (Rightness).
-  pub trees : (trees : ℕ → Tree) → StandsFor m.values start trees → IsLawful m.values → HoldsSettled m.values start.pager
+  pub trees : (trees : ℕ → Tree) → StandsFor m.values start trees → IsLawful m.values
+      → HoldsSettled m.values start.pager
       → TreesAlong m (IsRight m.values) start trees moments
 
 -- The law: it holds of every chain that begins at a whole machine (`IsMachineWhole`) for which nobody works yet (`IsIdle`).

@@ -22,8 +22,10 @@ turn_of event reply = of_nobody
 
 -- no load and no worker is interrupted: between two of its moments there are only its own
 abbrev pub StandTogether : {N E B W : Type 0} → List (Moment N E B W) → Type 0
-StandTogether {N} {E} {B} {W} moments = (i j k : ℕ) (a b c : Moment N E B W) → i < j → j < k → slice_get moments i ≡ Some a → slice_get moments j ≡ Some b → slice_get moments k ≡ Some c
-    → turn_of a.event a.reply ≢ of_nobody → turn_of c.event c.reply ≡ turn_of a.event a.reply → turn_of b.event b.reply ≡ turn_of a.event a.reply
+StandTogether {N} {E} {B} {W} moments = (i j k : ℕ) (a b c : Moment N E B W) → i < j → j < k → slice_get moments i
+    ≡ Some a → slice_get moments j ≡ Some b → slice_get moments k ≡ Some c
+    → turn_of a.event a.reply ≢ of_nobody → turn_of c.event c.reply ≡ turn_of a.event a.reply → turn_of b.event b.reply
+    ≡ turn_of a.event a.reply
 
 -- a reference in the meaning leads to the tree, directly or further down
 pub data Reaches : Meaning ⊥ → Tree → Type 0 where
@@ -45,12 +47,14 @@ LeadsToNoForm types t = HasNoForm types t ⊎ ((below : Tree) × Reaches t.meani
 
 -- a path of too many references leads down from the item, or from the listed cell, or from a node below
 abbrev pub IsTooDeepTask : (ℕ → Tree) → Task → Type 0
-IsTooDeepTask trees (of_item written) = (r : ArcRef) × Among written.references r × (longest_path < max (above r.kind.0 (height (trees r.node.0).meaning)) (deepest_path (trees r.node.0).meaning))
+IsTooDeepTask trees (of_item written) = (r : ArcRef) × Among written.references r
+    × (longest_path < max (above r.kind.0 (height (trees r.node.0).meaning)) (deepest_path (trees r.node.0).meaning))
 IsTooDeepTask trees (of_entry h i) = longest_path < deepest_path (trees i.node.0).meaning
 
 -- some value that the task reaches has no form
 abbrev pub IsFormlessTask : Types → (ℕ → Tree) → Task → Type 0
-IsFormlessTask types trees (of_item written) = (r : ArcRef) × Among written.references r × LeadsToNoForm types (trees r.node.0)
+IsFormlessTask types trees (of_item written) = (r : ArcRef) × Among written.references r
+    × LeadsToNoForm types (trees r.node.0)
 IsFormlessTask types trees (of_entry h i) = LeadsToNoForm types (trees i.node.0)
 
 -- No worker returns a key if such a path leads down, or if some value has no form.
@@ -79,12 +83,14 @@ pub record IsPagedOutAs {N E : Type 0} (s : MachineState N E) (n key : ℕ) : Ty
 
 -- the load is of a cell, and its key was published
 abbrev pub IsLoadOfPagedOut : {N E : Type 0} → MachineState N E → OpenLoad → Type 0
-IsLoadOfPagedOut s load = (node : NodeNumber) × (t : ℕ) × (h : HandleNumber) × (load.root ≡ of_cell node t h) × IsPagedOutAs s node.0 load.key
+IsLoadOfPagedOut s load = (node : NodeNumber) × (t : ℕ) × (h : HandleNumber) × (load.root ≡ of_cell node t h)
+    × IsPagedOutAs s node.0 load.key
 
 -- a load of a cell whose key a page-out has set fails only with such an error
 abbrev pub LoadIsSound : {N E B W : Type 0} → Fact N E B W
 LoadIsSound s trees (Event.LoadStep l) (EventReply.LoadMoved (Ok reply)) s' trees' =
-    (load : OpenLoad) (e : Error) → s.pager.core.loads l.0 ≡ Some load → IsLoadOfPagedOut s load → reply.ended ≡ Some (LoadAnswer.Refused e) → IsOfChance e
+    (load : OpenLoad) (e : Error) → s.pager.core.loads l.0 ≡ Some load → IsLoadOfPagedOut s load → reply.ended
+    ≡ Some (LoadAnswer.Refused e) → IsOfChance e
 LoadIsSound s trees event reply s' trees' = Unit {0}
 
 -- a load gets a reference of this kind and key, and its node is n
@@ -95,11 +101,13 @@ pub record GetsReference (w : Core) (kind : Kind) (key n : ℕ) (w' : Core) : Ty
   pub row : HandleRow
   pub made : row_at w' k ≡ Some row
   pub at : row.node.0 ≡ n
-  pub gets : AskCall w me l (Want.Nested kind key) (Ok (from_cache k)) w' ⊎ LazyCall w me l kind key (Ok k) w' ⊎ ((t : ℕ) × (references : List ArcRef) × Adopts w me l kind key t references k w')
+  pub gets : AskCall w me l (Want.Nested kind key) (Ok (from_cache k)) w' ⊎ LazyCall w me l kind key (Ok k) w'
+      ⊎ ((t : ℕ) × (references : List ArcRef) × Adopts w me l kind key t references k w')
 
 -- the cache has no node twice, as is the case if only loads have filled it
 abbrev pub IsFilledByReading : Core → Type 0
-IsFilledByReading w = (kind key other_kind other_key n : ℕ) → w.cache kind key ≡ Some n → w.cache other_kind other_key ≡ Some n → (other_kind ≡ kind) × (other_key ≡ key)
+IsFilledByReading w = (kind key other_kind other_key n : ℕ) → w.cache kind key ≡ Some n → w.cache other_kind other_key
+    ≡ Some n → (other_kind ≡ kind) × (other_key ≡ key)
 
 -- the event doesn't clear the cache, doesn't put a caller's reference into it, and doesn't close the storage
 abbrev pub LeavesCache : {N B W : Type 0} → Event N B W → Type 0
@@ -123,13 +131,15 @@ StaysAlive kind n (x ∷ xs) = IsAlive x.after.pager.core kind n × StaysAlive k
 -- Two references that loads get through one cache, which only loads have filled and whose storage is open. If they have
 -- the same kind and node, they have the same key. And if they have the same kind and key, they have the same node,
 -- provided that a handle of the first node in the kind's mode was alive all the time between.
-pub record HaveOneIdentity {N E B W : Type 0} (kind other_kind : Kind) (key other_key n other_n : ℕ) (between : List (Moment N E B W)) : Type 0 where
+pub record HaveOneIdentity {N E B W : Type 0} (kind other_kind : Kind) (key other_key n other_n : ℕ)
+    (between : List (Moment N E B W)) : Type 0 where
   pub differ : other_kind ≡ kind → other_n ≡ n → other_key ≡ key
   pub same : other_kind ≡ kind → other_key ≡ key → StaysAlive kind n between → other_n ≡ n
 
 -- The law, for any chain between two such loads.
 abbrev pub OneIdentityLaw : {N B W : Type 0} → (E : Type 0) → Seen N B W → Type 0
-OneIdentityLaw {N} {B} {W} E m = (w : Core) (first : MachineState N E) (between : List (Moment N E B W)) (last : Core) (kind other_kind : Kind) (key other_key n other_n : ℕ) → IsWhole w
+OneIdentityLaw {N} {B} {W} E m = (w : Core) (first : MachineState N E) (between : List (Moment N E B W)) (last : Core)
+    (kind other_kind : Kind) (key other_key n other_n : ℕ) → IsWhole w
     → IsFilledByReading w
     → w.closed ≡ false
     → GetsReference w kind key n first.pager.core

@@ -21,12 +21,14 @@ next_start place (r ∷ rs) = to_start r (place_below place r.kind.0) ∷ []
 -- the front of the list waits for its next reference, if one is left
 abbrev pub settle : List Todo → List Todo
 settle (to_finish o ∷ below) = next_start o.place (drop (length o.keys) o.written.references) ++ to_finish o ∷ below
-settle (to_item written keys ∷ below) = next_start 0 (drop (length keys) written.references) ++ to_item written keys ∷ below
+settle (to_item written keys ∷ below) = next_start 0 (drop (length keys) written.references) ++ to_item written keys
+    ∷ below
 settle todo = todo
 
 -- key and height of a reference are given to its parent, which waits for them at the front
 abbrev pub give : ArcRef → ℕ → ℕ → List Todo → List Todo
-give r key height (to_finish o ∷ below) = settle (to_finish (record o { keys = o.keys ++ key ∷ []; height = max o.height (above r.kind.0 height) }) ∷ below)
+give r key height (to_finish o ∷ below) = settle (to_finish
+    (record o { keys = o.keys ++ key ∷ []; height = max o.height (above r.kind.0 height) }) ∷ below)
 give r key height (to_item written keys ∷ below) = settle (to_item written (keys ++ key ∷ []) ∷ below)
 give r key height todo = todo
 
@@ -38,7 +40,8 @@ give_known r key height (x ∷ below) = give r key height (x ∷ below)
 
 -- the references of a written node are to be walked
 abbrev pub open_node : ArcRef → ℕ → HandleNumber → Written → List Todo → List Todo
-open_node r place through written below = settle (to_finish (record { reference = r; place = place; through = through; written = written; keys = []; height = 0 }) ∷ below)
+open_node r place through written below = settle (to_finish
+    (record { reference = r; place = place; through = through; written = written; keys = []; height = 0 }) ∷ below)
 
 -- what a worker has to do at first
 abbrev pub first_todo : Task → List Todo
@@ -102,13 +105,16 @@ is_open_slot slot = if_there (λ (s : Slot). is_open_outcome s.outcome) false sl
 -- the worker u is v; or it waits for a worker that waits, and so on, for v
 pub data ComesBack (s : Shelf) (v : ℕ) : ℕ → Type 0 where
   is-asker : (u : ℕ) → u ≡ v → ComesBack s v u
-  waits-back : (u : ℕ) (i : Identity) (slot : Slot) → s.waits u ≡ Some i → IsOpenSlot s i slot → ComesBack s v slot.worker → ComesBack s v u
+  waits-back : (u : ℕ) (i : Identity) (slot : Slot) → s.waits u ≡ Some i → IsOpenSlot s i slot
+      → ComesBack s v slot.worker → ComesBack s v u
 
 -- the worker u works, or waits for a worker that waits, and so on, for one that works; and none of them is v
 pub data ComesToEnd (s : Shelf) (v : ℕ) : ℕ → Type 0 where
   works : (u : ℕ) → nat_eq u v ≡ false → s.waits u ≡ None → ComesToEnd s v u
-  may-go-on : (u : ℕ) (i : Identity) → nat_eq u v ≡ false → s.waits u ≡ Some i → is_open_slot (s.slots i) ≡ false → ComesToEnd s v u
-  waits-on : (u : ℕ) (i : Identity) (slot : Slot) → nat_eq u v ≡ false → s.waits u ≡ Some i → IsOpenSlot s i slot → ComesToEnd s v slot.worker → ComesToEnd s v u
+  may-go-on : (u : ℕ) (i : Identity) → nat_eq u v ≡ false → s.waits u ≡ Some i → is_open_slot (s.slots i) ≡ false
+      → ComesToEnd s v u
+  waits-on : (u : ℕ) (i : Identity) (slot : Slot) → nat_eq u v ≡ false → s.waits u ≡ Some i → IsOpenSlot s i slot
+      → ComesToEnd s v slot.worker → ComesToEnd s v u
 
 -- the table has this key and height for the identity
 pub record IsPublished (s : Shelf) (i : Identity) (key height : ℕ) : Type 0 where
@@ -119,24 +125,31 @@ pub record IsPublished (s : Shelf) (i : Identity) (key height : ℕ) : Type 0 wh
 -- A claim is too deep: at its own depth; with the published height added; or since the worker that has the identity
 -- waits for this one (or is this one).
 abbrev pub IsTooDeep : Shelf → ℕ → Identity → ℕ → Type 0
-IsTooDeep s v i place = (longest_path < place) ⊎ ((key height : ℕ) × IsPublished s i key height × (longest_path < place + height)) ⊎ ((slot : Slot) × IsOpenSlot s i slot × ComesBack s v slot.worker)
+IsTooDeep s v i place = (longest_path < place) ⊎ ((key height : ℕ) × IsPublished s i key height
+    × (longest_path < place + height)) ⊎ ((slot : Slot) × IsOpenSlot s i slot × ComesBack s v slot.worker)
 
 -- What a claim finds, and what is to be done then. A claim that needn't wait ends the note that the worker waits.
 abbrev pub Finds : ℕ → Site → ArcRef → ℕ → List Todo → Claim → Site → Type 0
 Finds v s r place below Claim.Claimed s' = (place ≤ longest_path)
     × (s.shelf.slots (identity_of r) ≡ None)
-    × Turns s (with_slot (with_wait s.shelf v None) (identity_of r) (Some (record { worker = v; references = None; outcome = no_result }))) (to_pin r place ∷ below) s'
+    × Turns s (with_slot (with_wait s.shelf v None) (identity_of r)
+    (Some (record { worker = v; references = None; outcome = no_result }))) (to_pin r place ∷ below) s'
 Finds v s r place below (Claim.Known key height) s' =
-    (place + height ≤ longest_path) × IsPublished s.shelf (identity_of r) key height × Turns s (with_wait s.shelf v None) (give_known r key height below) s'
+    (place + height ≤ longest_path) × IsPublished s.shelf (identity_of r) key height
+    × Turns s (with_wait s.shelf v None) (give_known r key height below) s'
 Finds v s r place below Claim.Waiting s' =
-    (place ≤ longest_path) × ((slot : Slot) × IsOpenSlot s.shelf (identity_of r) slot × ComesToEnd s.shelf v slot.worker) × Turns s (with_wait s.shelf v (Some (identity_of r))) s.todo s'
+    (place ≤ longest_path) × ((slot : Slot) × IsOpenSlot s.shelf (identity_of r) slot
+    × ComesToEnd s.shelf v slot.worker) × Turns s (with_wait s.shelf v (Some (identity_of r))) s.todo s'
 Finds v s r place below Claim.AlreadyFailed s' = (place ≤ longest_path)
     × ((slot : Slot) × (s.shelf.slots (identity_of r) ≡ Some slot) × (slot.outcome ≡ failed))
     × Turns s (with_wait s.shelf v None) (failing was_failed s.todo) s'
 
-pub record Claims (v : ℕ) (s : Site) (r : ArcRef) (place : ℕ) (below : List Todo) (result : Result Claim Error) (s' : Site) : Type 0 where
+pub record Claims (v : ℕ) (s : Site) (r : ArcRef) (place : ℕ) (below : List Todo) (result : Result Claim Error)
+    (s' : Site) : Type 0 where
   pub finds : IfOk result (λ c. (claim_fault s.core r ≡ None) × Finds v s r place below c s')
-  pub refused : IfErr result (λ e. ((claim_fault s.core r ≡ Some e) ⊎ ((claim_fault s.core r ≡ None) × (e ≡ Error.TooDeep) × IsTooDeep s.shelf v (identity_of r) place) ⊎ (e ≡ Error.NumbersSpent) ⊎ (e ≡ Error.OutOfMemory))
+  pub refused : IfErr result (λ e. ((claim_fault s.core r ≡ Some e)
+      ⊎ ((claim_fault s.core r ≡ None) × (e ≡ Error.TooDeep) × IsTooDeep s.shelf v (identity_of r) place)
+      ⊎ (e ≡ Error.NumbersSpent) ⊎ (e ≡ Error.OutOfMemory))
       × Turns s (with_wait s.shelf v None) (failing_by e s.todo) s')
 
 pub record RowIs (w : Core) (h : HandleNumber) (loose : Bool) : Type 0 where
@@ -148,53 +161,71 @@ pub record RowIs (w : Core) (h : HandleNumber) (loose : Bool) : Type 0 where
 -- is pinned.
 abbrev pub PinsAtOnce : Core → Owner → ArcRef → HandleNumber → HandleNumber → Core → Type 0
 PinsAtOnce w me r through k w' = (RowIs w r.handle false × (through ≡ k) × CloneCall w me r.handle (Ok k) w')
-    ⊎ (RowIs w r.handle true × ((mid : Core) × CloneCall w me r.handle (Ok through) mid × PinCall mid me through (Ok (Pinning.Pinned k)) w'))
+    ⊎ (RowIs w r.handle true × ((mid : Core) × CloneCall w me r.handle (Ok through) mid
+    × PinCall mid me through (Ok (Pinning.Pinned k)) w'))
 
 -- the value isn't in memory: a load begins by the clone
 abbrev pub PinsByLoad : Core → Owner → ArcRef → HandleNumber → LoadNumber → Core → Type 0
-PinsByLoad w me r through l w' = RowIs w r.handle true × ((mid : Core) × (key : ℕ) × CloneCall w me r.handle (Ok through) mid × BeginCall mid me through (Ok (Beginning.Load l key)) w')
+PinsByLoad w me r through l w' = RowIs w r.handle true
+    × ((mid : Core) × (key : ℕ) × CloneCall w me r.handle (Ok through) mid
+    × BeginCall mid me through (Ok (Beginning.Load l key)) w')
 
 -- the clone fails; or the pin by a loose clone, or the begin of its load
 abbrev pub PinRefused : Core → Owner → ArcRef → Error → Core → Type 0
 PinRefused w me r e w' = CloneCall w me r.handle (Err e) w'
-    ⊎ (RowIs w r.handle true × ((mid : Core) × (through : HandleNumber) × CloneCall w me r.handle (Ok through) mid × (PinCall mid me through (Err e) w' ⊎ BeginCall mid me through (Err e) w')))
+    ⊎ (RowIs w r.handle true × ((mid : Core) × (through : HandleNumber) × CloneCall w me r.handle (Ok through) mid
+    × (PinCall mid me through (Err e) w' ⊎ BeginCall mid me through (Err e) w')))
 
 -- the reading of a load that has just begun
 abbrev pub fresh : LoadNumber → ℕ → Reading
 fresh l t = record { load = l; node_type = t; frames = []; steps = 0 }
 
 abbrev pub PinsFirst : ℕ → Site → ArcRef → ℕ → List Todo → PinStep → Site → Type 0
-PinsFirst v s r place below (PinStep.Held k) s' = (through : HandleNumber) × PinsAtOnce s.core (owner_worker v) r through k s'.core × GoesTo s (to_write r place through ∷ below) s'
-PinsFirst v s r place below (PinStep.LoadBegun l) s' = (through : HandleNumber) × PinsByLoad s.core (owner_worker v) r through l s'.core × GoesTo s (to_load r place through (fresh l (type_of r.kind.0)) ∷ below) s'
+PinsFirst v s r place below (PinStep.Held k) s' = (through : HandleNumber)
+    × PinsAtOnce s.core (owner_worker v) r through k s'.core × GoesTo s (to_write r place through ∷ below) s'
+PinsFirst v s r place below (PinStep.LoadBegun l) s' =
+    (through : HandleNumber) × PinsByLoad s.core (owner_worker v) r through l s'.core
+    × GoesTo s (to_load r place through (fresh l (type_of r.kind.0)) ∷ below) s'
 PinsFirst v s r place below PinStep.LoadWent s' = ⊥
 
 -- the claimed node is pinned, or a load of it begins
-pub record PinsClaimed (v : ℕ) (s : Site) (r : ArcRef) (place : ℕ) (below : List Todo) (result : Result PinStep Error) (s' : Site) : Type 0 where
+pub record PinsClaimed (v : ℕ) (s : Site) (r : ArcRef) (place : ℕ) (below : List Todo) (result : Result PinStep Error)
+    (s' : Site) : Type 0 where
   pub pins : IfOk result (λ p. PinsFirst v s r place below p s')
   pub refused : IfErr result (λ e. PinRefused s.core (owner_worker v) r e s'.core × GoesTo s (failing_by e s.todo) s')
 
-abbrev pub LoadsOn : {N : Type 0} → Values N → ℕ → Site → ArcRef → ℕ → HandleNumber → Reading → List Todo → PinStep → Site → Type 0
-LoadsOn m v s r place through reading below (PinStep.Held k) s' = ReadingDoes m s.core (owner_worker v) reading (Some (LoadAnswer.Pinned k)) [] s'.core × GoesTo s (to_write r place through ∷ below) s'
+abbrev pub LoadsOn : {N : Type 0} → Values N → ℕ → Site → ArcRef → ℕ → HandleNumber → Reading → List Todo → PinStep
+    → Site → Type 0
+LoadsOn m v s r place through reading below (PinStep.Held k) s' =
+    ReadingDoes m s.core (owner_worker v) reading (Some (LoadAnswer.Pinned k)) [] s'.core
+    × GoesTo s (to_write r place through ∷ below) s'
 LoadsOn m v s r place through reading below (PinStep.LoadBegun l) s' = ⊥
 LoadsOn m v s r place through reading below PinStep.LoadWent s' =
-    (frames : List Frame) × ReadingDoes m s.core (owner_worker v) reading None frames s'.core × GoesTo s (to_load r place through (gone_on reading frames) ∷ below) s'
+    (frames : List Frame) × ReadingDoes m s.core (owner_worker v) reading None frames s'.core
+    × GoesTo s (to_load r place through (gone_on reading frames) ∷ below) s'
 
 -- the worker's load makes a step, which may end it with the pin
-pub record PinsLoaded {N : Type 0} (m : Values N) (v : ℕ) (s : Site) (r : ArcRef) (place : ℕ) (through : HandleNumber) (reading : Reading) (below : List Todo) (result : Result PinStep Error) (s' : Site) : Type 0 where
+pub record PinsLoaded {N : Type 0} (m : Values N) (v : ℕ) (s : Site) (r : ArcRef) (place : ℕ) (through : HandleNumber)
+    (reading : Reading) (below : List Todo) (result : Result PinStep Error) (s' : Site) : Type 0 where
   pub goes : IfOk result (λ p. LoadsOn m v s r place through reading below p s')
-  pub refused : IfErr result (λ e. ReadingDoes m s.core (owner_worker v) reading (Some (LoadAnswer.Refused e)) [] s'.core × GoesTo s (failing_by e s.todo) s')
+  pub refused : IfErr result (λ e. ReadingDoes m s.core (owner_worker v) reading (Some (LoadAnswer.Refused e))
+      [] s'.core × GoesTo s (failing_by e s.todo) s')
 
 -- the slot of the identity with f applied, if it is claimed
 abbrev pub with_changed_slot : Shelf → Identity → (Slot → Slot) → Shelf
 with_changed_slot shelf i f = with_slot shelf i (if_there (λ slot. Some (f slot)) None (shelf.slots i))
 
 -- the value is written, and its references are noted in the slot
-pub record Writes {N : Type 0} (m : Values N) (s : Site) (r : ArcRef) (place : ℕ) (through : HandleNumber) (below : List Todo) (result : Result Written Error) (s' : Site) : Type 0 where
-  pub writes : IfOk result (λ written. Turns s (with_changed_slot s.shelf (identity_of r) (λ slot. record slot { references = Some written.references })) (open_node r place through written below) s')
-  pub refused : IfErr result (λ e. (m.write_causes (type_of r.kind.0) e ⊎ (e ≡ Error.OutOfMemory)) × Turns s s.shelf (failing_by e s.todo) s')
+pub record Writes {N : Type 0} (m : Values N) (s : Site) (r : ArcRef) (place : ℕ) (through : HandleNumber)
+    (below : List Todo) (result : Result Written Error) (s' : Site) : Type 0 where
+  pub writes : IfOk result (λ written. Turns s (with_changed_slot s.shelf (identity_of r)
+      (λ slot. record slot { references = Some written.references })) (open_node r place through written below) s')
+  pub refused : IfErr result (λ e. (m.write_causes (type_of r.kind.0) e ⊎ (e ≡ Error.OutOfMemory))
+      × Turns s s.shelf (failing_by e s.todo) s')
 
 -- the blob is stored: what was written, with the keys of its references, which are all known
-pub record StoresBlob {N : Type 0} (m : Values N) (s : Site) (written : Written) (keys : List ℕ) (next : ℕ → List Todo) (result : Result ℕ Error) (s' : Site) : Type 0 where
+pub record StoresBlob {N : Type 0} (m : Values N) (s : Site) (written : Written) (keys : List ℕ) (next : ℕ → List Todo)
+    (result : Result ℕ Error) (s' : Site) : Type 0 where
   pub all : length keys ≡ length written.references
   pub stored : StoreCall (digest m) s.core (blob_of written.bytes keys) result s'.core
   pub goes : IfOk result (λ key. GoesTo s (next key) s')
@@ -202,11 +233,14 @@ pub record StoresBlob {N : Type 0} (m : Values N) (s : Site) (written : Written)
 
 -- A cell that the reference reaches by a loose kind gets the key, by the worker's handle. For any other kind no key is
 -- set, even if the reference's handle is gone by now.
-pub record KeySetFor (w : Core) (me : Owner) (r : ArcRef) (through : HandleNumber) (key : ℕ) (result : Result (Unit {0}) Error) (w' : Core) : Type 0 where
-  pub does : ((is_loose_kind r.kind.0 ≡ true) × SetKeyCall w me through key result w') ⊎ ((is_loose_kind r.kind.0 ≡ false) × (result ≡ Ok tt) × Alike w w')
+pub record KeySetFor (w : Core) (me : Owner) (r : ArcRef) (through : HandleNumber) (key : ℕ)
+    (result : Result (Unit {0}) Error) (w' : Core) : Type 0 where
+  pub does : ((is_loose_kind r.kind.0 ≡ true) × SetKeyCall w me through key result w')
+      ⊎ ((is_loose_kind r.kind.0 ≡ false) × (result ≡ Ok tt) × Alike w w')
 
 -- the key of the stored blob is set, if the reference's kind is loose
-pub record SetsKey (v : ℕ) (s : Site) (r : ArcRef) (through : HandleNumber) (key height : ℕ) (below : List Todo) (result : Result (Unit {0}) Error) (s' : Site) : Type 0 where
+pub record SetsKey (v : ℕ) (s : Site) (r : ArcRef) (through : HandleNumber) (key height : ℕ) (below : List Todo)
+    (result : Result (Unit {0}) Error) (s' : Site) : Type 0 where
   pub sets : KeySetFor s.core (owner_worker v) r through key result s'.core
   pub goes : IfOk result (λ u. GoesTo s (to_publish r key height ∷ below) s')
   pub refused : IfErr result (λ e. GoesTo s (failing_by e s.todo) s')
@@ -227,11 +261,15 @@ is_load_of w v owner = false
 
 -- whether the worker or one of its loads owns the handle
 abbrev pub is_workers : Core → ℕ → ℕ → Bool
-is_workers w v q = if_there (λ (row : HandleRow). is_owner (owner_worker v) row.owner || is_load_of w v row.owner) false (find_row q w.rows)
+is_workers w v q = if_there (λ (row : HandleRow). is_owner (owner_worker v) row.owner || is_load_of w v row.owner) false
+    (find_row q w.rows)
 
 -- the worker isn't at work any more, and its loads are closed
 abbrev pub without_worker : Core → ℕ → Core
-without_worker w v = record w { workers = updated v false w.workers; loads = λ l. if is_workers_load v (w.loads l) then None else w.loads l }
+without_worker w v = record w {
+  workers = updated v false w.workers;
+  loads = λ l. if is_workers_load v (w.loads l) then None else w.loads l;
+}
 
 -- the worker has its result: what it still owns is released
 abbrev pub WorkerEnds : Core → ℕ → Core → Type 0
@@ -239,7 +277,10 @@ WorkerEnds w v w' = FallsAnyhow w (without_worker w v) (is_workers w v) w'
 
 -- the worker's claims that have no result become failed
 abbrev pub with_failed : Shelf → ℕ → Shelf
-with_failed shelf v = record shelf { slots = λ i. if_there (λ (slot : Slot). Some (if nat_eq slot.worker v then with_outcome failed slot else slot)) None (shelf.slots i) }
+with_failed shelf v = record shelf {
+  slots = λ i. if_there
+      (λ (slot : Slot). Some (if nat_eq slot.worker v then with_outcome failed slot else slot)) None (shelf.slots i);
+}
 
 -- an entry that the worker never pinned is listed again, at the end, if the list has room
 abbrev pub GivesBack : Core → ℕ → Option HandleNumber → Core → Type 0
@@ -250,15 +291,26 @@ GivesBack w v (Some h) w' = (r : Result (Unit {0}) Error) × ScheduleCall w (own
 abbrev pub Does : {N B W : Type 0} → Seen N B W → ℕ → Site → List Todo → Action W → Site → Type 0
 Does m v s (to_start r place ∷ below) (Action.Claim i c) s' = (i ≡ identity_of r) × Claims v s r place below c s'
 Does m v s (to_pin r place ∷ below) (Action.Pin i p) s' = (i ≡ identity_of r) × PinsClaimed v s r place below p s'
-Does m v s (to_load r place through reading ∷ below) (Action.Pin i p) s' = (i ≡ identity_of r) × PinsLoaded m.values v s r place through reading below p s'
-Does m v s (to_write r place through ∷ below) (Action.Write i out) s' = (i ≡ identity_of r) × Writes m.values s r place through below (seen_as m.written_of out) s'
-Does m v s (to_finish o ∷ below) (Action.Store i key) s' = (i ≡ Some (identity_of o.reference)) × StoresBlob m.values s o.written o.keys (λ k. to_set o.reference o.through k o.height ∷ below) key s'
-Does m v s (to_item written keys ∷ below) (Action.Store i key) s' = (i ≡ None) × StoresBlob m.values s written keys (λ k. []) key s'
-Does m v s (to_set r through key height ∷ below) (Action.SetKey i u) s' = (i ≡ identity_of r) × SetsKey v s r through key height below u s'
+Does m v s (to_load r place through reading ∷ below) (Action.Pin i p) s' =
+    (i ≡ identity_of r) × PinsLoaded m.values v s r place through reading below p s'
+Does m v s (to_write r place through ∷ below) (Action.Write i out) s' =
+    (i ≡ identity_of r) × Writes m.values s r place through below (seen_as m.written_of out) s'
+Does m v s (to_finish o ∷ below) (Action.Store i key) s' =
+    (i ≡ Some (identity_of o.reference)) × StoresBlob m.values s o.written o.keys
+    (λ k. to_set o.reference o.through k o.height ∷ below) key s'
+Does m v s (to_item written keys ∷ below) (Action.Store i key) s' =
+    (i ≡ None) × StoresBlob m.values s written keys (λ k. []) key s'
+Does m v s (to_set r through key height ∷ below) (Action.SetKey i u) s' =
+    (i ≡ identity_of r) × SetsKey v s r through key height below u s'
 Does m v s (to_publish r key height ∷ below) (Action.Publish i k h) s' =
-    (i ≡ identity_of r) × (k ≡ key) × (h ≡ height) × Turns s (with_changed_slot s.shelf (identity_of r) (with_outcome (published key height))) (to_release r key height ∷ below) s'
-Does m v s (to_release r key height ∷ below) (Action.Release i) s' = (i ≡ identity_of r) × FallsAnyhow s.core s.core (is_workers_at s.core v r.node.0) s'.core × GoesTo s (give r key height below) s'
-Does m v s (to_fail fault back ∷ below) Action.Fail s' = GivesBack s.core v back s'.core × SameShelf (with_failed s.shelf v) s'.shelf × (s'.todo ≡ [])
+    (i ≡ identity_of r) × (k ≡ key) × (h ≡ height) × Turns s
+    (with_changed_slot s.shelf (identity_of r) (with_outcome (published key height)))
+    (to_release r key height ∷ below) s'
+Does m v s (to_release r key height ∷ below) (Action.Release i) s' =
+    (i ≡ identity_of r) × FallsAnyhow s.core s.core (is_workers_at s.core v r.node.0) s'.core
+    × GoesTo s (give r key height below) s'
+Does m v s (to_fail fault back ∷ below) Action.Fail s' =
+    GivesBack s.core v back s'.core × SameShelf (with_failed s.shelf v) s'.shelf × (s'.todo ≡ [])
 Does m v s todo step s' = ⊥
 
 -- One step of the worker v, on the pager, the worker's table and its list. It changes nothing else.

@@ -177,7 +177,8 @@ is_here w n = is_in_memory (pins n w.rows) (key_at w n)
 -- The node that the cache gives for a kind and a key. An entry counts only if its node is live and, for a pinned kind,
 -- has its value in memory.
 abbrev pub usable : Core → ℕ → ℕ → Option ℕ
-usable w kind key = if_there (λ n. if_there (λ (cell : Cell). if is_pinned_kind kind && not (is_in_memory (pins n w.rows) cell.key) then None else Some n) None (w.cells n)) None (w.cache kind key)
+usable w kind key = if_there (λ n. if_there (λ (cell : Cell). if is_pinned_kind kind
+    && not (is_in_memory (pins n w.rows) cell.key) then None else Some n) None (w.cells n)) None (w.cache kind key)
 
 abbrev pub is_identity : Identity → Identity → Bool
 is_identity i j = (j.kind.0 == i.kind.0) && (j.node.0 == i.node.0)

@@ -20,7 +20,8 @@ use Rattle.{pagable_pager_spec.specs.Workers.{WorkerEnds, is_load_of}, std.specs
 
 -- The handle h of this row alone moves: what the list's handles of a number are then.
 lists-moved : {w : Core} → IsWhole w → (h : HandleNumber) (row : HandleRow) (owner : Owner) → Among w.rows row → row.number.0 ≡ h.0 → (q : ℕ)
-    → times (of_list q) (moved (only_handle h) owner w.rows) + one (h.0 == q && is_owned_by Owner.List row) ≡ times (of_list q) w.rows + one (h.0 == q && is_owner Owner.List owner)
+    → times (of_list q) (moved (only_handle h) owner w.rows) + one (h.0 == q && is_owned_by Owner.List row)
+    ≡ times (of_list q) w.rows + one (h.0 == q && is_owner Owner.List owner)
 lists-moved {w} whole h row owner among number q =
     let to = λ (x : HandleRow). if only_handle h x.number.0 then record x { owner = owner } else x in
     let a = apart-sum (λ x. one (of_list q (to x))) (λ x. one (of_list q x)) w.rows row whole.handles.ordered among (λ x other. grind (arith, nat_tests)) in
@@ -33,16 +34,31 @@ schedule-goes {w} me h whole holder call = let (row, owns, does) = call.moves in
       let mine : is_owned_by Owner.List row ≡ false = ap (is_owner Owner.List) owns.own ∙ not-list w me holder in
       let mode : row.mode ≡ Mode.LooseUnpinned = grind (arith, nat_tests, owns.as_asked) in
       settled alike (moved-so {w = opened w} whole (only_handle h) Owner.List (w.list ++ h ∷ [])
-      (λ q. grind (arith, nat_tests, sum_by_push (λ (k : HandleNumber). one (k.0 == q)) w.list h, lists-moved {w = opened w} whole h row Owner.List among number q, whole.owners_there.listed q))
-      (λ x there e. ap (λ (y : HandleRow). y.mode) (once w.rows whole.handles.ordered x row there among (grind (arith, nat_tests))) ∙ mode)) (newer-moved w (only_handle h) Owner.List refl)
+      (λ q. grind (
+        arith,
+        nat_tests,
+        sum_by_push (λ (k : HandleNumber). one (k.0 == q)) w.list h,
+        lists-moved {w = opened w} whole h row Owner.List among number q,
+        whole.owners_there.listed q,
+      ))
+      (λ x there e. ap (λ (y : HandleRow). y.mode) (once w.rows whole.handles.ordered x row there among (grind (arith, nat_tests))) ∙ mode))
+      (newer-moved w (only_handle h) Owner.List refl)
   | inr (closed, falls) ↦ lone-falling whole falls.falls
 ]
 
-pub take-whole : {w : Core} (w' : Core) (me : Owner) (i : ℕ) (h : HandleNumber) → IsWhole w → MayHold w me → TakeCall w me i (Some h) w' → ArePlaced (opened w') → IsWhole (opened w')
-take-whole {w} w' me i h whole holder call placed = settles (moved-so whole (only_handle h) me (remove w.list i) still (λ x there e. holder-in w x.mode me holder)) call.1 placed
+pub take-whole : {w : Core} (w' : Core) (me : Owner) (i : ℕ) (h : HandleNumber) → IsWhole w → MayHold w me → TakeCall w me i (Some h) w' → ArePlaced (opened w')
+    → IsWhole (opened w')
+take-whole {w} w' me i h whole holder call placed = settles (moved-so whole (only_handle h) me (remove w.list i) still
+    (λ x there e. holder-in w x.mode me holder)) call.1 placed
   where
     less : (q : ℕ) → times (λ (k : HandleNumber). k.0 == q) (remove w.list i) + one (h.0 == q) ≡ times (λ (k : HandleNumber). k.0 == q) w.list
-    less q = grind (arith, nat_tests, sum_by-remove (λ (k : HandleNumber). one (k.0 == q)) w.list i h (slice_get_within w.list i h call.0), slice_get_within, get_or_from_slice_get)
+    less q = grind (
+      arith,
+      nat_tests,
+      sum_by-remove (λ (k : HandleNumber). one (k.0 == q)) w.list i h (slice_get_within w.list i h call.0),
+      slice_get_within,
+      get_or_from_slice_get,
+    )
 
     still : (q : ℕ) → times (λ (k : HandleNumber). k.0 == q) (remove w.list i) ≡ times (of_list q) (moved (only_handle h) me w.rows)
     still q =
@@ -54,7 +70,8 @@ take-whole {w} w' me i h whole holder call placed = settles (moved-so whole (onl
 -- ---- a key
 
 -- a cell that isn't shared gets a key
-pub keyed-whole : {w : Core} → IsWhole w → (row : HandleRow) → Among w.rows row → (key : ℕ) → is_shared row.mode ≡ false → IsWhole (roomy (with_key w row.node key))
+pub keyed-whole : {w : Core} → IsWhole w → (row : HandleRow) → Among w.rows row → (key : ℕ) → is_shared row.mode ≡ false
+    → IsWhole (roomy (with_key w row.node key))
 keyed-whole {w} whole row there key unshared = keeps-whole whole (record {
   on = grind (arith, nat_tests, stays-old, alike-rows whole);
   within = whole.handles.within;
@@ -113,7 +130,8 @@ begin-whole {w} {w'} {l} {key} me h whole may call placed =
     let (t, typed, leaves) = rest in
     let found = found-among h.0 w.rows row owns.live in
     let root : IsRootWhole w row.node t h = grind (arith, nat_tests, there-then, owns.live, owns.as_asked, whole.handles.numbered row found.0) in
-    let named : (node : NodeNumber) (t2 : ℕ) (k : HandleNumber) → of_cell row.node t h ≡ of_cell node t2 k → IsRootWhole w node t2 k = λ node t2 k is. grind (arith, nat_tests) in
+    let named : (node : NodeNumber) (t2 : ℕ) (k : HandleNumber) → of_cell row.node t h ≡ of_cell node t2 k → IsRootWhole w node t2 k =
+    λ node t2 k is. grind (arith, nat_tests) in
     settles (beside (loaded-whole key (of_cell row.node t h) me whole may next.is_left named) row.node Mode.LooseUnpinned (Owner.Load l)
     (record { row = row; there = found.0; at = refl; same = loose-unshared row.mode owns.as_asked })
     (let above = next.above in grind (arith, nat_tests)) left).0 leaves placed
@@ -122,7 +140,8 @@ begin-whole {w} {w'} {l} {key} me h whole may call placed =
 
 -- a load closes and what it owns is given
 pub closes : {before u w' : Core} {r : Result (Unit {0}) Error} (l : LoadNumber) (given : ℕ → Bool) → IsWhole (roomy u) → GoesOn before u
-    → ((h : HandleRow) → Among u.rows h → h.owner ≡ Owner.Load l → given h.number.0 ≡ true) → Falls before (without_load u l) given r w' → ArePlaced (opened w') → IsWhole (opened w')
+    → ((h : HandleRow) → Among u.rows h → h.owner ≡ Owner.Load l → given h.number.0 ≡ true) → Falls before (without_load u l) given r w' → ArePlaced (opened w')
+    → IsWhole (opened w')
 closes {before} {u} l given whole on gives falls placed = falls-lost u (without_load u l) whole on (record {
   listed = λ q. inl (whole.owners_there.listed q);
   owners = λ h among. let i = is-in whole h among in grind (arith, nat_tests, gives);
@@ -131,14 +150,17 @@ closes {before} {u} l given whole on gives falls placed = falls-lost u (without_
   workers = λ v is. is;
 }) falls placed
 
-pub owned-in : {w : Core} → IsWhole w → (l : LoadNumber) (x : HandleRow) → Among w.rows x → x.owner ≡ Owner.Load l → is_owned_in w (Owner.Load l) x.number.0 ≡ true
+pub owned-in : {w : Core} → IsWhole w → (l : LoadNumber) (x : HandleRow) → Among w.rows x → x.owner ≡ Owner.Load l → is_owned_in w (Owner.Load l) x.number.0
+    ≡ true
 owned-in {w} whole l x among own =
-    ap (if_there (is_owned_by (Owner.Load l)) false) (found-so x.number.0 w.rows x whole.handles.ordered among refl) ∙ ap (is_owner (Owner.Load l)) own ∙ owner-self (Owner.Load l)
+    ap (if_there (is_owned_by (Owner.Load l)) false) (found-so x.number.0 w.rows x whole.handles.ordered among refl) ∙ ap (is_owner (Owner.Load l)) own
+    ∙ owner-self (Owner.Load l)
 
 -- ---- a load ends
 
 -- A handle of m is pinned, a Pinned one is made and the load closes, where m is what w has become.
-module _ (before m : Core) (whole : IsWhole (roomy m)) (on : GoesOn before m) (me : Owner) (may : MayOwnLoad m me) (l : LoadNumber) (h : HandleNumber) (row : HandleRow)
+module _ (before m : Core) (whole : IsWhole (roomy m)) (on : GoesOn before m) (me : Owner) (may : MayOwnLoad m me) (l : LoadNumber) (h : HandleNumber)
+    (row : HandleRow)
     (owns : Owns (roomy m) me h is_loose row) (left : m.last.handle < greatest) (given : ℕ → Bool)
     (gives : (x : HandleRow) → Among m.rows x → x.owner ≡ Owner.Load l → given x.number.0 ≡ true) where
   pinned-gives : (x : HandleRow) → Among (with_pin m h row.node me).rows x → x.owner ≡ Owner.Load l → given x.number.0 ≡ true
@@ -146,20 +168,23 @@ module _ (before m : Core) (whole : IsWhole (roomy m)) (on : GoesOn before m) (m
       let old = among-map (λ y. if is_handle h.0 y then record y { mode = Mode.LoosePinned } else y) m.rows x in
       grind (arith, nat_tests, among-both (with_mode m h Mode.LoosePinned).rows _ x among, among-one, gives, no-load m me l may)
 
-  pub ends-goes : {w' : Core} {r : Result (Unit {0}) Error} (node : NodeNumber) → row.node ≡ node → Falls before (without_load (with_pin m h node me) l) given r w' → Goes m w'
+  pub ends-goes : {w' : Core} {r : Result (Unit {0}) Error} (node : NodeNumber) → row.node ≡ node
+      → Falls before (without_load (with_pin m h node me) l) given r w' → Goes m w'
   ends-goes {w'} {r} node at falls =
       let (pinned, more, newer) = pin-comes {w = roomy m} h row me whole (may-hold m me may) owns left in
       let fell = subst (λ n. Falls before (without_load (with_pin m h n me) l) given r w') (sym at) falls in
       record { whole = closes {u = with_pin m h row.node me} l given pinned (then-on on more) pinned-gives fell; newer = newer-then newer (newer-falls fell) }
 
 -- what the load still owns once handles have moved to another is given
-left-given : {w : Core} → IsWhole w → (l : LoadNumber) (s : ℕ → Bool) (o : Owner) → is_owner (Owner.Load l) o ≡ false → (y : HandleRow) → Among (moved s o w.rows) y → y.owner ≡ Owner.Load l
+left-given : {w : Core} → IsWhole w → (l : LoadNumber) (s : ℕ → Bool) (o : Owner) → is_owner (Owner.Load l) o ≡ false → (y : HandleRow)
+    → Among (moved s o w.rows) y → y.owner ≡ Owner.Load l
     → (is_owned_in w (Owner.Load l) y.number.0 && not (s y.number.0)) ≡ true
 left-given {w} whole l s o other y among own =
     let (z, there, is) = among-map (λ z. if s z.number.0 then record z { owner = o } else z) w.rows y among in
     grind (arith, nat_tests, owned-in whole l z there, other)
 
-pub installs-goes : {w w' : Core} (me : Owner) (l : LoadNumber) (node : NodeNumber) (h k : HandleNumber) (node_type : ℕ) (refs : List ArcRef) → IsWhole (opened w)
+pub installs-goes : {w w' : Core} (me : Owner) (l : LoadNumber) (node : NodeNumber) (h k : HandleNumber) (node_type : ℕ) (refs : List ArcRef)
+    → IsWhole (opened w)
     → MayEnd w me l node h node_type refs → Installs w me l node h k refs w' → Goes w w'
 installs-goes {w} me l node h k node_type refs whole ends i =
     let may : MayOwnLoad w me = subst (MayOwnLoad w) ends.owned.own (whole.loads.owned l.0 ends.load ends.owned.stands_open) in
@@ -167,12 +192,14 @@ installs-goes {w} me l node h k node_type refs whole ends i =
       | inl (away, falls) ↦
           let s = is_named_by refs in
           let m : Core = record w { rows = moved s (owner_value node.0) w.rows } in
-          let goes = ends-goes w m (moved-to-value whole s (named-unlisted whole (Owner.Load l) refs refl (fault-by w (opened w) (Owner.Load l) [] refs ∙ ends.good)) node.0)
+          let goes = ends-goes w m (moved-to-value whole s (named-unlisted whole (Owner.Load l) refs refl
+          (fault-by w (opened w) (Owner.Load l) [] refs ∙ ends.good)) node.0)
           (moved-on whole s (owner_value node.0)) me (may-own w m (λ v at. at) me may) l h i.row (kept-own may) i.next.is_left
           (λ q. is_owned_in w (Owner.Load l) q && not (is_named_by refs q)) (left-given whole l s (owner_value node.0) refl) node i.at falls.falls in
           record { whole = goes.whole; newer = newer-then (newer-moved w s (owner_value node.0) refl) goes.newer }
       | inr (here, falls) ↦
-          ends-goes w w (roomy-whole whole) (stays-on w) me may l h i.row (record { live = i.owned.live; own = i.owned.own; as_asked = i.owned.as_asked }) i.next.is_left
+          ends-goes w w (roomy-whole whole) (stays-on w) me may l h i.row (record { live = i.owned.live; own = i.owned.own; as_asked = i.owned.as_asked })
+          i.next.is_left
           (is_owned_in w (Owner.Load l)) (owned-in whole l) node i.at falls.falls
     ]
   where
@@ -184,18 +211,26 @@ installs-goes {w} me l node h k node_type refs whole ends i =
         let mine = named-own w whole.handles.ordered (Owner.Load l) refs ends.good row (found-among h.0 w.rows row owns.live).0 in
         let none = no-load w me l may in
         let spared : is_named_by refs row.number.0 ≡ false = grind (arith, nat_tests) in
-        grind (arith, nat_tests, found-map (λ y. if is_named_by refs y.number.0 then record y { owner = owner_value node.0 } else y) (λ y. grind (arith, nat_tests)) h.0 w.rows, owns.live)
+        grind (
+          arith,
+          nat_tests,
+          found-map (λ y. if is_named_by refs y.number.0 then record y { owner = owner_value node.0 } else y)
+              (λ y. grind (arith, nat_tests)) h.0 w.rows,
+          owns.live,
+        )
 
 -- ---- a load of a key hands over
 
-pub handed-mine : (w : Core) (owner : Owner) (seen : List ℕ) (hs : List HandleNumber) → named_fault w owner seen hs ≡ None → (q : ℕ) → is_in (numbers_of hs) q ≡ true → is_owned_in w owner q ≡ true
+pub handed-mine : (w : Core) (owner : Owner) (seen : List ℕ) (hs : List HandleNumber) → named_fault w owner seen hs ≡ None → (q : ℕ) → is_in (numbers_of hs) q
+    ≡ true → is_owned_in w owner q ≡ true
 unfolding named_fault is_in
 handed-mine w owner seen [] good q named = absurd (cc)
 handed-mine w owner seen (h ∷ hs) good q named =
     let parts = both-none (one-fault w owner seen h) (named_fault w owner (h.0 ∷ seen) hs) good in
     let a = parts.0 in grind (arith, nat_tests, cases_eq h.0 q, handed-mine w owner (h.0 ∷ seen) hs parts.1 q)
 
-pub handed-own : (w : Core) → AllPairs IsHandleBefore w.rows → (l : LoadNumber) (hs : List HandleNumber) → named_fault w (Owner.Load l) [] hs ≡ None → (x : HandleRow) → Among w.rows x
+pub handed-own : (w : Core) → AllPairs IsHandleBefore w.rows → (l : LoadNumber) (hs : List HandleNumber) → named_fault w (Owner.Load l) [] hs ≡ None
+    → (x : HandleRow) → Among w.rows x
     → is_in (numbers_of hs) x.number.0 ≡ true → x.owner ≡ Owner.Load l
 handed-own w ordered l hs good x among named = own-of w ordered (Owner.Load l) x among (handed-mine w (Owner.Load l) [] hs good x.number.0 named)
 
@@ -220,7 +255,8 @@ handed-whole {w} whole me l hs can =
     moved-free whole (is_in (numbers_of hs)) (λ x among named. ap (is_owner Owner.List) (handed-own w whole.handles.ordered l hs can.named x among named))
     me (not-list w me holder) (λ mode. holder-in w mode me holder)
 
-pub hand-over-whole : {w w' : Core} (me : Owner) (l : LoadNumber) (hs : List HandleNumber) → IsWhole (opened w) → HandOverCall w me l hs (Ok tt) w' → ArePlaced (opened w') → IsWhole (opened w')
+pub hand-over-whole : {w w' : Core} (me : Owner) (l : LoadNumber) (hs : List HandleNumber) → IsWhole (opened w) → HandOverCall w me l hs (Ok tt) w'
+    → ArePlaced (opened w') → IsWhole (opened w')
 hand-over-whole {w} me l hs whole call placed =
     let (good, falls) = call.hands in
     let can : MayHand w me l hs = may-hand whole me l hs good in
@@ -242,7 +278,8 @@ close-whole {w} {w'} r whole call placed = falls-lost w (shut w w'.failures) (ro
 
 -- ---- a node that was read
 
-module _ (w : Core) (whole : IsWhole (opened w)) (l : LoadNumber) (kind : Kind) (key : ℕ) (own : OptionalDataKey) (refs : List ArcRef) (holder : MayHold w (Owner.Load l))
+module _ (w : Core) (whole : IsWhole (opened w)) (l : LoadNumber) (kind : Kind) (key : ℕ) (own : OptionalDataKey) (refs : List ArcRef)
+    (holder : MayHold w (Owner.Load l))
     (good : references_fault (opened w) (Owner.Load l) [] refs ≡ None) (node_left : w.last.node < greatest) (left : w.last.handle < greatest)
     (unkeyed : is_shared (mode_of kind.0) ≡ true → has_key own ≡ false) where
   abbrev made : Core
@@ -269,7 +306,8 @@ module _ (w : Core) (whole : IsWhole (opened w)) (l : LoadNumber) (kind : Kind) 
 
 pub worker-whole : {w : Core} → IsWhole w → IsWhole (roomy (with_worker w))
 worker-whole {w} whole =
-    let owners : (h : HandleRow) → Among w.rows h → IsIn (roomy (with_worker w)) h.mode h.owner = λ h among. let i = is-in whole h among in grind (arith, nat_tests) in
+    let owners : (h : HandleRow) → Among w.rows h → IsIn (roomy (with_worker w)) h.mode h.owner = λ h among. let i =
+    is-in whole h among in grind (arith, nat_tests) in
     keeps-whole whole (grind (arith, nat_tests, same-rows, whole.workers_numbered, loads-stay))
 
 -- ---- a worker ends
@@ -277,7 +315,8 @@ worker-whole {w} whole =
 pub worker-end-whole : {w w' : Core} (v : ℕ) → IsWhole (opened w) → WorkerEnds w v w' → ArePlaced (opened w') → IsWhole (opened w')
 worker-end-whole {w} {w'} v whole ends placed =
     let found : (h : HandleRow) → Among w.rows h → is_workers w v h.number.0 ≡ (is_owner (owner_worker v) h.owner || is_load_of w v h.owner) =
-    λ h among. ap (if_there (λ (row : HandleRow). is_owner (owner_worker v) row.owner || is_load_of w v row.owner) false) (found-so h.number.0 w.rows h whole.handles.ordered among refl) in
+    λ h among. ap (if_there (λ (row : HandleRow). is_owner (owner_worker v) row.owner || is_load_of w v row.owner) false)
+    (found-so h.number.0 w.rows h whole.handles.ordered among refl) in
     falls-lost w (without_worker w v) (roomy-whole whole) (stays-on w) (record {
       listed = λ q. inl (whole.owners_there.listed q);
       owners = λ h among. let i = is-in whole h among in let f = found h among in grind (arith, nat_tests);

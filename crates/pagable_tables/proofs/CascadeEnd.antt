@@ -16,13 +16,20 @@ pub none-falls-in : (t : RefCounts) → IsFalling t [] owns_nothing → (n : ℕ
 none-falls-in t w n = let m = w.fits.marked n in grind (arith, nat_tests)
 
 none-owned : (n : ℕ) (rows : List HandleRow) → ((q : ℕ) → sum_by (λ h. owns h n q) rows ≡ 0) → times (is_owned_by (owner_value n)) rows ≡ 0
-none-owned n rows none = sum-none (λ h. one (is_owned_by (owner_value n) h)) rows (λ h among. grind (arith, nat_tests, none h.number.0, at-most-sum (λ x. owns x n h.number.0) rows h among))
+none-owned n rows none = sum-none (λ h. one (is_owned_by (owner_value n) h)) rows
+    (λ h among. grind (arith, nat_tests, none h.number.0, at-most-sum (λ x. owns x n h.number.0) rows h among))
 
 module _ (before w : Core) (given : ℕ → Bool) (lists : Bool) (t : RefCounts) (f : SoFar before w given lists t) (whole : IsFalling t [] owns_nothing) where
   pub closed : IsClosed w.rows (is_keyed w) f.entries f.gone
   closed n lost =
-      let fell : HasFallen (counts_at t.nodes) (live t.handles.places.items) n = grind (arith, nat_tests, entries-none, cases_Bool (is_keyed w n), counted f (is_pin n), counted f (is_at n)) in
-      omega (arith, counted f (is_owned_by (owner_value n)), none-owned n (live t.handles.places.items) (λ q. grind (arith, nat_tests, entries-none, whole.fits)))
+      let fell : HasFallen (counts_at t.nodes) (live t.handles.places.items) n =
+      grind (arith, nat_tests, entries-none, cases_Bool (is_keyed w n), counted f (is_pin n), counted f (is_at n)) in
+      omega (
+        arith,
+        counted f (is_owned_by (owner_value n)),
+        none-owned n (live t.handles.places.items)
+            (λ q. grind (arith, nat_tests, entries-none, whole.fits)),
+      )
 
   -- what the world says of a cascade
   pub ended : Falls before w given (told_by t.unlisted) (with_tables w t)
@@ -37,13 +44,15 @@ valued-le rows = omega (arith, ones rows, sum_by-le-sum_by (λ (h : HandleRow). 
 
 pub none-falls : (t : RefCounts) (stack : List ℕ) → IsFalling t stack owns_nothing → t.top ≡ 0 → IsFalling t [] owns_nothing
 none-falls t [] w z = w
-none-falls t (n ∷ ns) w z = absurd (let m = w.fits.marked n in let top = w.fits.chain.0 in let none = w.fits.from_one in grind (arith, nat_tests, sum_by-cons (λ m. one (m == n)) n ns))
+none-falls t (n ∷ ns) w z = absurd (let m = w.fits.marked n in let top = w.fits.chain.0 in let none = w.fits.from_one in
+    grind (arith, nat_tests, sum_by-cons (λ m. one (m == n)) n ns))
 
 -- the value that a node had is there or gone, and it is there exactly where the node has it, unless the node falls
 abbrev pub Lasting : {X : Type 0} → Option Counts → Option X → Option X → Type 0
 Lasting o old now = ((now ≡ old) ⊎ (now ≡ None)) × (falls_in o ≡ false → is_some now ≡ has_value o)
 
-pub lasts-on : {X : Type 0} (done : Bool) (o o' : Option Counts) (old now now' : Option X) → now' ≡ (if done then None else now) → (done ≡ false → ValueStays o o')
+pub lasts-on : {X : Type 0} (done : Bool) (o o' : Option Counts) (old now now' : Option X) → now' ≡ (if done then None else now)
+    → (done ≡ false → ValueStays o o')
     → (done ≡ true → has_value o' ≡ false) → Lasting o old now → Lasting o' old now'
 lasts-on done o o' old now now' is stays gone l = grind (arith, nat_tests)
 
@@ -55,7 +64,8 @@ module _ {X : Type 0} where
   sheds-then {old = old} {mid} {new} a b = grind (arith, nat_tests)
 
   -- what takes no value comes first
-  pub stays-first : {at at1 at2 : ℕ → Option Counts} {old new : ℕ → Option X} → ((n : ℕ) → ValueStays (at n) (at1 n)) → Sheds at1 old at2 new → Sheds at old at2 new
+  pub stays-first : {at at1 at2 : ℕ → Option Counts} {old new : ℕ → Option X} → ((n : ℕ) → ValueStays (at n) (at1 n)) → Sheds at1 old at2 new
+      → Sheds at old at2 new
   stays-first stays b = record { left = λ kept. b.left (λ k falls. let s = stays k falls in kept k s.0 ∙ sym s.1) }
 
 pub ruleset falls = (nat_tests, valued-le, none-falls-in, none-falls)
@@ -70,7 +80,8 @@ list-kept : (gone : ℕ → Bool) (q : ℕ) (rows : List HandleRow) (list : List
 list-kept gone q rows list listed none = grind (arith, nat_tests, sum_by-le-sum_by, kept-more)
 
 -- a handle that the list doesn't own may go apart from it
-unlisted-apart : {before w : Core} {given : ℕ → Bool} {lists : Bool} {t new : RefCounts} {nodes : NumberTable NodeRow} {stack : List ℕ} {x : HandleRow} (f : SoFar before w given lists t)
+unlisted-apart : {before w : Core} {given : ℕ → Bool} {lists : Bool} {t new : RefCounts} {nodes : NumberTable NodeRow} {stack : List ℕ} {x : HandleRow}
+    (f : SoFar before w given lists t)
     → GivesUp (record t { nodes = nodes }) stack x false lists new → is_owned_by Owner.List x ≡ false → IsApart before w given lists t f x.number.0
 unlisted-apart {w = w} {t = t} {x = x} f g owner =
     let none : times (of_list x.number.0) (live t.handles.places.items) ≡ 0 = none-listed g.leaves owner in
@@ -79,19 +90,23 @@ unlisted-apart {w = w} {t = t} {x = x} f g owner =
       kept = list-kept f.gone x.number.0 w.rows w.list (f.begins.listed x.number.0) (omega (arith, counted f (of_list x.number.0)));
     }
 
-pub gives-fewer : {old new : RefCounts} {stack : List ℕ} {x : HandleRow} {lists : Bool} → GivesUp old stack x false lists new → length (live new.handles.places.items) ≤ length (live old.handles.places.items)
+pub gives-fewer : {old new : RefCounts} {stack : List ℕ} {x : HandleRow} {lists : Bool} → GivesUp old stack x false lists new
+    → length (live new.handles.places.items) ≤ length (live old.handles.places.items)
 gives-fewer {old} {new} g = omega (arith, gives-sums g (λ h. 1), ones (live old.handles.places.items), ones (live new.handles.places.items), one-le g.listed)
 
 -- the same is asked and told where other rows are as many, and other cells are left
-must-as : {before w w' : Core} {n : ℕ} (rows : List HandleRow) (cells : ℕ → Option Cell) → MustList before w w' n → MustList before (record w { rows = rows }) (record w' { cells = cells }) n
+must-as : {before w w' : Core} {n : ℕ} (rows : List HandleRow) (cells : ℕ → Option Cell) → MustList before w w' n
+    → MustList before (record w { rows = rows }) (record w' { cells = cells }) n
 must-as rows cells m = record { pinned = m.pinned; unpinned = m.unpinned; unkeyed = m.unkeyed; unshared = m.unshared; stands_open = m.stands_open }
 
-tells-as : {before w w' : Core} {entries : List HandleRow} (rows : List HandleRow) (cells : ℕ → Option Cell) → length rows ≡ length w.rows → (r : Result (Unit {0}) Error)
+tells-as : {before w w' : Core} {entries : List HandleRow} (rows : List HandleRow) (cells : ℕ → Option Cell) → length rows ≡ length w.rows
+    → (r : Result (Unit {0}) Error)
     → TellsListing before w entries r w' → TellsListing before (record w { rows = rows }) entries r (record w' { cells = cells })
 tells-as rows cells long x4 tells = grind (arith, nat_tests, must-as)
 
 -- A handle has gone, or it stays without its pin; then an entry may have come.
-module _ {before w : Core} {given : ℕ → Bool} {lists stays : Bool} {t new : RefCounts} {nodes : NumberTable NodeRow} {stack : List ℕ} {x : HandleRow} (f : SoFar before w given lists t)
+module _ {before w : Core} {given : ℕ → Bool} {lists stays : Bool} {t new : RefCounts} {nodes : NumberTable NodeRow} {stack : List ℕ} {x : HandleRow}
+    (f : SoFar before w given lists t)
     (g : GivesUp (record t { nodes = nodes }) stack x stays lists new) (counts : (n : ℕ) → counts_at nodes n ≡ counts_at t.nodes n)
     (pinned : (n : ℕ) → pins_in (counts_at t.nodes n) ≡ pins n (live t.handles.places.items)) (few : length (live t.handles.places.items) ≤ length w.rows) where
   abbrev entries : List HandleRow
@@ -137,7 +152,13 @@ module _ {before w : Core} {given : ℕ → Bool} {lists stays : Bool} {t new : 
       grind (arith, nat_tests, cases_Bool (is_pin n x), here (is_share n), left n, must.unshared, must.unpinned, is)
 
   must-kept : (n : ℕ) → MustList before w (with_tables w t) n → MustList before w (with_tables w new) n
-  must-kept n m = let a = left n in let b = m.unpinned in record { pinned = m.pinned; unpinned = omega arith; unkeyed = m.unkeyed; unshared = m.unshared; stands_open = m.stands_open }
+  must-kept n m = let a = left n in let b = m.unpinned in record {
+    pinned = m.pinned;
+    unpinned = omega arith;
+    unkeyed = m.unkeyed;
+    unshared = m.unshared;
+    stands_open = m.stands_open;
+  }
 
   held-more : (n : ℕ) → held n entries ≡ held n f.entries + (if g.listed then one (is_at n (entry (t.last_handle + 1) x.node)) else 0)
   held-more n = with-entry (λ h. one (is_at n h)) f.entries g.listed (t.last_handle + 1) x.node
@@ -155,10 +176,12 @@ module _ {before w : Core} {given : ℕ → Bool} {lists stays : Bool} {t new : 
       kept : (u : Option Error) → t.unlisted ≡ u → (g.listed ≡ true) ⊎ (wanted ≡ false) → new.unlisted ≡ u
       kept u is s = ap (λ (h : RefCounts). h.unlisted) g.same ∙ g.comes.told s ∙ is
 
-      late : (u : Option Error) → t.unlisted ≡ u → g.listed ≡ false → wanted ≡ true → (e : Error) × IsUnlisted (record t { handles = g.left; nodes = nodes }) e × (new.unlisted ≡ or_else u (Some e))
+      late : (u : Option Error) → t.unlisted ≡ u → g.listed ≡ false → wanted ≡ true → (e : Error) × IsUnlisted (record t { handles = g.left; nodes = nodes }) e
+          × (new.unlisted ≡ or_else u (Some e))
       late u is none want = let y = g.comes.why none want in (y.0, y.1, ap (λ (h : RefCounts). h.unlisted) g.same ∙ y.2 ∙ ap (λ u. or_else u (Some y.0)) is)
 
-      by : (u : Option Error) → t.unlisted ≡ u → TellsListing before w f.entries (told_by u) (with_tables w t) → TellsListing before w entries (told_by new.unlisted) (with_tables w new)
+      by : (u : Option Error) → t.unlisted ≡ u → TellsListing before w f.entries (told_by u) (with_tables w t)
+          → TellsListing before w entries (told_by new.unlisted) (with_tables w new)
       by (Some e) is tells =
           let a = tells.not_all in
           let so : new.unlisted ≡ Some e = elim (which g.listed wanted) [ inl s ↦ kept (Some e) is s | inr n ↦ (late (Some e) is n.0 n.1).2 ] in
@@ -210,7 +233,8 @@ module _ {before w : Core} {given : ℕ → Bool} {lists stays : Bool} {t new : 
     few = few';
   }
 
-module _ {before w : Core} {given : ℕ → Bool} {lists : Bool} {t new : RefCounts} {nodes : NumberTable NodeRow} {stack : List ℕ} {x : HandleRow} (given' : ℕ → Bool) (f : SoFar before w given lists t)
+module _ {before w : Core} {given : ℕ → Bool} {lists : Bool} {t new : RefCounts} {nodes : NumberTable NodeRow} {stack : List ℕ} {x : HandleRow}
+    (given' : ℕ → Bool) (f : SoFar before w given lists t)
     (g : GivesUp (record t { nodes = nodes }) stack x false lists new) (counts : (n : ℕ) → counts_at nodes n ≡ counts_at t.nodes n)
     (pinned : (n : ℕ) → pins_in (counts_at t.nodes n) ≡ pins n (live t.handles.places.items)) (few : length (live t.handles.places.items) ≤ length w.rows)
     (apart : IsApart before w given lists t f x.number.0) where
@@ -218,10 +242,20 @@ module _ {before w : Core} {given : ℕ → Bool} {lists : Bool} {t new : RefCou
       → ((n : ℕ) → held n (live new.handles.places.items) ≡ 0 → held n final ≡ 0) → IsWithin w.rows given' s → IsClosed w.rows (is_keyed w) final s
       → IsWithin w.rows (and_one f.gone x.number.0) s) → SoFar before w given' lists new
   one-goes holds least = entered-on f g counts pinned few w.rows refl given' (and_one f.gone x.number.0) f.begins
-      (grind (arith, nat_tests, filter-append, left-more f.gone x.number.0 w.rows, left-none x.number.0 f.entries, g.leaves.becomes.rows, f.rows, apart.unentered)) apart.kept holds least
+      (grind (
+        arith,
+        nat_tests,
+        filter-append,
+        left-more f.gone x.number.0 w.rows,
+        left-none x.number.0 f.entries,
+        g.leaves.becomes.rows,
+        f.rows,
+        apart.unentered,
+      )) apart.kept holds least
       (λ falls. let a = gives-fewer g in omega arith)
 
-none-comes : {old new : RefCounts} {stack : List ℕ} {x : HandleRow} {lists : Bool} → GivesUp old stack x false lists new → (m : ℕ) → held m (live old.handles.places.items) ≡ 0
+none-comes : {old new : RefCounts} {stack : List ℕ} {x : HandleRow} {lists : Bool} → GivesUp old stack x false lists new → (m : ℕ)
+    → held m (live old.handles.places.items) ≡ 0
     → held m (live new.handles.places.items) ≡ 0
 none-comes g m none = let a = gives-sums g (λ h. one (is_at m h)) in grind (arith, nat_tests)
 
@@ -229,7 +263,8 @@ with-one : (gone s : ℕ → Bool) (q : ℕ) (rows : List HandleRow) → s q ≡
 with-one gone s q rows is within = grind (arith, nat_tests)
 
 -- the least set, over the whole step
-least-more : {before w : Core} {given : ℕ → Bool} {lists : Bool} {t new : RefCounts} {nodes : NumberTable NodeRow} {stack : List ℕ} {x : HandleRow} {n : ℕ} (f : SoFar before w given lists t)
+least-more : {before w : Core} {given : ℕ → Bool} {lists : Bool} {t new : RefCounts} {nodes : NumberTable NodeRow} {stack : List ℕ} {x : HandleRow} {n : ℕ}
+    (f : SoFar before w given lists t)
     → GivesUp (record t { nodes = nodes }) stack x false lists new → x.owner ≡ owner_value n → HasFallen (counts_at t.nodes) (live t.handles.places.items) n
     → (s : ℕ → Bool) (final : List HandleRow) → ((m : ℕ) → held m (live new.handles.places.items) ≡ 0 → held m final ≡ 0) → IsWithin w.rows given s
     → IsClosed w.rows (is_keyed w) final s → IsWithin w.rows (and_one f.gone x.number.0) s
@@ -237,10 +272,12 @@ least-more {w = w} {t = t} {x = x} {n} f g owner fell s final bare has closed =
     let bare-before : (m : ℕ) → held m (live t.handles.places.items) ≡ 0 → held m final ≡ 0 = λ m none. bare m (none-comes g m none) in
     let rest = f.least s final bare-before has closed in
     let none = forced f s rest final n (bare-before n) fell closed in
-    with-one f.gone s x.number.0 w.rows (let own : is_owned_by (owner_value n) x ≡ (n == n) = ap (λ o. is_owner (owner_value n) o) owner in grind (arith, nat_tests)) rest
+    with-one f.gone s x.number.0 w.rows (let own : is_owned_by (owner_value n) x ≡ (n == n) = ap (λ o. is_owner (owner_value n) o) owner in
+    grind (arith, nat_tests)) rest
 
 -- one handle more on both sides, or on the right
-pub within-less : (a b c d : ℕ → Bool) (rows : List HandleRow) → ((r : ℕ) → one (a r && not (b r)) ≤ one (c r && not (d r))) → IsWithin rows c d → IsWithin rows a b
+pub within-less : (a b c d : ℕ → Bool) (rows : List HandleRow) → ((r : ℕ) → one (a r && not (b r)) ≤ one (c r && not (d r))) → IsWithin rows c d
+    → IsWithin rows a b
 within-less a b c d rows less is = grind (arith, nat_tests, sum_by-le-sum_by)
 
 pub steps-on : (before w : Core) (given : ℕ → Bool) (lists : Bool) (t new : RefCounts) (stack : List ℕ) (r : Option NodeNumber) → SoFar before w given lists t
@@ -255,26 +292,32 @@ steps-on before w given lists t new stack r f falling some s = elim s.what [
 
 -- a handle is given that the list doesn't own, or one apart from the list
 pub gives-on : (before w : Core) (given : ℕ → Bool) (lists : Bool) (t new : RefCounts) (stack : List ℕ) (x : HandleRow) → (f : SoFar before w given lists t)
-    → ((n : ℕ) → pins_in (counts_at t.nodes n) ≡ pins n (live t.handles.places.items)) → (is_owned_by Owner.List x ≡ false) ⊎ IsApart before w given lists t f x.number.0
+    → ((n : ℕ) → pins_in (counts_at t.nodes n) ≡ pins n (live t.handles.places.items)) → (is_owned_by Owner.List x ≡ false)
+    ⊎ IsApart before w given lists t f x.number.0
     → length (live t.handles.places.items) ≤ length w.rows → GivesUp t stack x false lists new → SoFar before w (and_one given x.number.0) lists new
 gives-on before w given lists t new stack x f pinned free few g =
-    one-goes {nodes = t.nodes} (and_one given x.number.0) f g (λ n. refl) pinned few (elim free [ inl other ↦ unlisted-apart {nodes = t.nodes} f g other | inr apart ↦ apart ])
+    one-goes {nodes = t.nodes} (and_one given x.number.0) f g (λ n. refl) pinned few
+    (elim free [ inl other ↦ unlisted-apart {nodes = t.nodes} f g other | inr apart ↦ apart ])
     (within-less (and_one given x.number.0) (and_one f.gone x.number.0) given f.gone w.rows (λ r. grind (arith, nat_tests)) f.holds)
     (λ s final bare has closed.
-    let rest = f.least s final (λ n none. bare n (none-comes g n none)) (within-less given s (and_one given x.number.0) s w.rows (λ r. grind (arith, nat_tests)) has) closed in
+    let rest = f.least s final (λ n none. bare n (none-comes g n none)) (within-less given s (and_one given x.number.0) s w.rows
+    (λ r. grind (arith, nat_tests)) has) closed in
     grind (arith, nat_tests, sum-most, has, rest))
 
-pub gives-unlisted : {t new : RefCounts} {stack : List ℕ} {x : HandleRow} {lists : Bool} → lists ≡ false → GivesUp t stack x false lists new → new.list.items ≡ t.list.items
+pub gives-unlisted : {t new : RefCounts} {stack : List ℕ} {x : HandleRow} {lists : Bool} → lists ≡ false → GivesUp t stack x false lists new → new.list.items
+    ≡ t.list.items
 gives-unlisted {t} {new} shut g = grind (arith, nat_tests, append-nil)
 
 -- ---- what was given is told by another set. Handles of a load that are left are those that it had and that haven't gone
 
 -- a set that has what was given, and no more but what has gone
-pub regiven : (before w : Core) (given given' : ℕ → Bool) (lists : Bool) (t : RefCounts) (f : SoFar before w given lists t) → ((r : ℕ) → given' r ≡ true → (given r || f.gone r) ≡ true) → ((r : ℕ) → given r ≡ true → given' r ≡ true) → SoFar before w given' lists t
+pub regiven : (before w : Core) (given given' : ℕ → Bool) (lists : Bool) (t : RefCounts) (f : SoFar before w given lists t)
+    → ((r : ℕ) → given' r ≡ true → (given r || f.gone r) ≡ true) → ((r : ℕ) → given r ≡ true → given' r ≡ true) → SoFar before w given' lists t
 regiven before w given given' lists t f less more =
     let least : (s : ℕ → Bool) (final : List HandleRow) → ((n : ℕ) → held n (live t.handles.places.items) ≡ 0 → held n final ≡ 0) → IsWithin w.rows given' s
     → IsClosed w.rows (is_keyed w) final s → IsWithin w.rows f.gone s =
-    λ s final bare has closed. f.least s final bare (within-less given s given' s w.rows (λ r. let h = more r in grind (arith, nat_tests, within-less)) has) closed in
+    λ s final bare has closed. f.least s final bare (within-less given s given' s w.rows (λ r. let h = more r in grind (arith, nat_tests, within-less)) has)
+    closed in
     grind (arith, nat_tests, within-less)
 
 -- whether this one owns the handle of this number
@@ -293,7 +336,8 @@ module _ (test : HandleRow → Bool) (q : ℕ) where
   unfolding find_row
   passes-none = refl
 
-  pub no-entry : ((h : HandleRow) → h.owner ≡ Owner.List → test h ≡ false) → (last : ℕ) (entries : List HandleRow) → AreNewEntries last entries → passes_in test entries q ≡ false
+  pub no-entry : ((h : HandleRow) → h.owner ≡ Owner.List → test h ≡ false) → (last : ℕ) (entries : List HandleRow) → AreNewEntries last entries
+      → passes_in test entries q ≡ false
   no-entry none last [] new = passes-none
   no-entry none last (x ∷ xs) new = grind (arith, nat_tests, passes-none, passes-here, no-entry none (last + 1) xs new.3)
 
@@ -304,24 +348,30 @@ module _ (test : HandleRow → Bool) (q : ℕ) where
   pub found-first : (rows more : List HandleRow) → passes_in test more q ≡ false → passes_in test (rows ++ more) q ≡ passes_in test rows q
   found-first rows more none = grind (arith, nat_tests, found-append q rows more)
 
-  pub passes-left : (gone : ℕ → Bool) (entries rows : List HandleRow) → passes_in test entries q ≡ false → passes_in test (left_rows gone rows ++ entries) q ≡ (not (gone q) && passes_in test rows q)
+  pub passes-left : (gone : ℕ → Bool) (entries rows : List HandleRow) → passes_in test entries q ≡ false → passes_in test (left_rows gone rows ++ entries) q
+      ≡ (not (gone q) && passes_in test rows q)
   passes-left gone entries rows none = found-first (left_rows gone rows) entries none ∙ found-left gone rows
 
 -- of what passes and isn't an entry, what hasn't gone is there
-pub passes-so-far : (before w : Core) (given : ℕ → Bool) (lists : Bool) (t : RefCounts) (f : SoFar before w given lists t) (test : HandleRow → Bool) → ((h : HandleRow) → h.owner ≡ Owner.List → test h ≡ false) → (q : ℕ)
+pub passes-so-far : (before w : Core) (given : ℕ → Bool) (lists : Bool) (t : RefCounts) (f : SoFar before w given lists t) (test : HandleRow → Bool)
+    → ((h : HandleRow) → h.owner ≡ Owner.List → test h ≡ false) → (q : ℕ)
     → passes_in test (live t.handles.places.items) q ≡ (not (f.gone q) && passes_in test w.rows q)
-passes-so-far before w given lists t f test none q = ap (λ rows. passes_in test rows q) f.rows ∙ passes-left test q f.gone f.entries w.rows (no-entry test q none w.last.handle f.entries f.new)
+passes-so-far before w given lists t f test none q = ap (λ rows. passes_in test rows q) f.rows
+    ∙ passes-left test q f.gone f.entries w.rows (no-entry test q none w.last.handle f.entries f.new)
 
 -- what was given and this handle, if the load owned it
 abbrev pub and_owned : Core → LoadNumber → (ℕ → Bool) → ℕ → ℕ → Bool
 and_owned w l given n q = given q || (q == n && is_owned_in w (Owner.Load l) q)
 
-pub given-none : (before w : Core) (given : ℕ → Bool) (lists : Bool) (t : RefCounts) (l : LoadNumber) (n : ℕ) → SoFar before w given lists t → owned (Owner.Load l) n (live t.handles.places.items) ≡ false → SoFar before w (and_owned w l given n) lists t
+pub given-none : (before w : Core) (given : ℕ → Bool) (lists : Bool) (t : RefCounts) (l : LoadNumber) (n : ℕ) → SoFar before w given lists t
+    → owned (Owner.Load l) n (live t.handles.places.items) ≡ false → SoFar before w (and_owned w l given n) lists t
 given-none before w given lists t l n f none =
     let left = passes-so-far before w given lists t f (is_owned_by (Owner.Load l)) (unlisting (Owner.Load l) refl) n in
     regiven before w given (and_owned w l given n) lists t f (λ r e. grind (arith, nat_tests, cases_eq r n)) (λ r e. grind (arith, nat_tests))
 
-pub given-one : (before w : Core) (given : ℕ → Bool) (lists : Bool) (t new : RefCounts) (l : LoadNumber) (n : ℕ) → SoFar before w given lists t → owned (Owner.Load l) n (live t.handles.places.items) ≡ true → SoFar before w (and_one given n) lists new → SoFar before w (and_owned w l given n) lists new
+pub given-one : (before w : Core) (given : ℕ → Bool) (lists : Bool) (t new : RefCounts) (l : LoadNumber) (n : ℕ) → SoFar before w given lists t
+    → owned (Owner.Load l) n (live t.handles.places.items) ≡ true → SoFar before w (and_one given n) lists new
+    → SoFar before w (and_owned w l given n) lists new
 given-one before w given lists t new l n f some g =
     let mine : is_owned_in w (Owner.Load l) n ≡ true =
     (and_parts (not (f.gone n)) _ (sym (passes-so-far before w given lists t f (is_owned_by (Owner.Load l)) (unlisting (Owner.Load l) refl) n) ∙ some)).1 in

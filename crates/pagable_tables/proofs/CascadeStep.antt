@@ -17,11 +17,13 @@ abbrev pub is_owned : ℕ → ℕ → HandleRow → ℕ
 is_owned n q h = owns h n q
 
 -- a chain stands on the next numbers of its own nodes alone
-pub chain-frame : (at at' : ℕ → Option Counts) (top : ℕ) (stack : List ℕ) → ((n : ℕ) → 0 < often n stack → next_in (at' n) ≡ next_in (at n)) → Chain at top stack → Chain at' top stack
+pub chain-frame : (at at' : ℕ → Option Counts) (top : ℕ) (stack : List ℕ) → ((n : ℕ) → 0 < often n stack → next_in (at' n) ≡ next_in (at n))
+    → Chain at top stack → Chain at' top stack
 chain-frame at at' top [] same h = h
 chain-frame at at' top (n ∷ ns) same h =
     let here : next_in (at' n) ≡ next_in (at n) = same n (let a = sum_by-cons (λ x. one (x == n)) n ns in grind (arith, nat_tests)) in
-    let rest : Chain at' (next_in (at n)) ns = chain-frame at at' (next_in (at n)) ns (λ m some. same m (let a = sum_by-cons (λ x. one (x == m)) n ns in omega arith)) h.1 in
+    let rest : Chain at' (next_in (at n)) ns = chain-frame at at' (next_in (at n)) ns
+    (λ m some. same m (let a = sum_by-cons (λ x. one (x == m)) n ns in omega arith)) h.1 in
     (h.0, subst (λ t. Chain at' t ns) (sym here) rest)
 
 pub pin-here : (x : HandleRow) → one (is_pin x.node.0 x) ≡ one (is_pinning x.mode)
@@ -34,10 +36,12 @@ in-none : (n : ℕ) (stack : List ℕ) (m : ℕ) → often n stack ≡ 0 → 0 <
 in-none n stack m none some e = let a = ap (λ k. often k stack) e in absurd (omega arith)
 
 -- one handle less, or one that stays without its pin, and perhaps an entry more
-module _ (at at' : ℕ → Option Counts) (refs refs' : ℕ → List ArcRef) (rows rows' : List HandleRow) (top : ℕ) (stack : List ℕ) (x : HandleRow) (c : Counts) (stays listed : Bool) (k : ℕ)
+module _ (at at' : ℕ → Option Counts) (refs refs' : ℕ → List ArcRef) (rows rows' : List HandleRow) (top : ℕ) (stack : List ℕ) (x : HandleRow) (c : Counts)
+    (stays listed : Bool) (k : ℕ)
     (fits : Fits at refs rows top stack (λ n q. is_owned n q x)) (is : at x.node.0 ≡ Some c) (plain : stays ≡ true → (n q : ℕ) → is_owned n q x ≡ 0)
     (leaves : (f : HandleRow → ℕ) → sum_by f rows' + f x ≡ sum_by f rows + (if stays then f (unpinned x) else 0) + (if listed then f (entry k x.node) else 0))
-    (here : at' x.node.0 ≡ Some (after c (is_pinning x.mode) stays listed top)) (others : (n : ℕ) → n ≢ x.node.0 → at' n ≡ at n) (same : (n : ℕ) → refs' n ≡ refs n)
+    (here : at' x.node.0 ≡ Some (after c (is_pinning x.mode) stays listed top)) (others : (n : ℕ) → n ≢ x.node.0 → at' n ≡ at n)
+    (same : (n : ℕ) → refs' n ≡ refs n)
     (some : one (is_pinning x.mode) ≤ c.pins) (live : 1 ≤ c.holds) where
   given-owned : (n q : ℕ) → named q (refs' n) + 0 ≡ sum_by (is_owned n q) rows'
   given-owned n q = grind (arith, nat_tests)
@@ -53,7 +57,8 @@ module _ (at at' : ℕ → Option Counts) (refs refs' : ℕ → List ArcRef) (ro
   given-chain x1 e = grind (arith, nat_tests, chain-frame, in-none)
 
   given-marked : (b : Bool) → now_falls ≡ b → (n : ℕ) → often n (if b then x.node.0 ∷ stack else stack) ≡ one (falls_in (at' n))
-  given-marked b0 e n = let a = sum_by-cons (λ y. one (y == n)) x.node.0 stack in let b = fits.marked n in let d = others n in grind (arith, nat_tests, cases_eq n x.node.0)
+  given-marked b0 e n = let a = sum_by-cons (λ y. one (y == n)) x.node.0 stack in let b = fits.marked n in let d =
+      others n in grind (arith, nat_tests, cases_eq n x.node.0)
 
   given-right : (n : ℕ) → Right (at' n) (refs' n)
   given-right n = grind (arith, nat_tests)
@@ -61,10 +66,12 @@ module _ (at at' : ℕ → Option Counts) (refs refs' : ℕ → List ArcRef) (ro
   pub given-fits : (b : Bool) → now_falls ≡ b → Fits at' refs' rows' (if b then x.node.0 else top) (if b then x.node.0 ∷ stack else stack) owns_nothing
   given-fits b e = grind (arith, nat_tests, given-owned, given-chain, given-marked, given-right, given-one)
 
-pub first-waits : (at : ℕ → Option Counts) (refs : ℕ → List ArcRef) (rows : List HandleRow) (n : ℕ) (ns : List ℕ) (extra : ℕ → ℕ → ℕ) → Fits at refs rows n (n ∷ ns) extra → falls_in (at n) ≡ true
+pub first-waits : (at : ℕ → Option Counts) (refs : ℕ → List ArcRef) (rows : List HandleRow) (n : ℕ) (ns : List ℕ) (extra : ℕ → ℕ → ℕ)
+    → Fits at refs rows n (n ∷ ns) extra → falls_in (at n) ≡ true
 first-waits at refs rows n ns extra fits = let a = sum_by-cons (λ y. one (y == n)) n ns in let b = fits.marked n in grind (arith, nat_tests)
 
-pub top-stands : (t : RefCounts) (stack : List ℕ) → t.top ≢ 0 → IsFalling t stack owns_nothing → (ns : List ℕ) × (stack ≡ t.top ∷ ns) × IsFalling t (t.top ∷ ns) owns_nothing
+pub top-stands : (t : RefCounts) (stack : List ℕ) → t.top ≢ 0 → IsFalling t stack owns_nothing → (ns : List ℕ) × (stack ≡ t.top ∷ ns)
+    × IsFalling t (t.top ∷ ns) owns_nothing
 top-stands t [] some w = absurd (some w.fits.chain)
 top-stands t (n ∷ ns) some w = let top = sym w.fits.chain.0 in (ns, ap (λ m. m ∷ ns) top, subst (λ m. IsFalling t (m ∷ ns) owns_nothing) top w)
 
@@ -86,12 +93,14 @@ module _ (at at' : ℕ → Option Counts) (refs refs' : ℕ → List ArcRef) (ro
 
   pub done-fits : Fits at' refs' rows c.next ns owns_nothing
   done-fits =
-      let chain : Chain at' c.next ns = chain-frame at at' c.next ns (λ m within. ap next_in (others m (in-none n ns m once within))) (subst (λ t. Chain at t ns) (ap next_in is) fits.chain.1) in
+      let chain : Chain at' c.next ns = chain-frame at at' c.next ns (λ m within. ap next_in (others m (in-none n ns m once within)))
+      (subst (λ t. Chain at t ns) (ap next_in is) fits.chain.1) in
       grind (arith, nat_tests, cases_eq, named, pins-le-held n rows, once, sum_by-cons, chain)
 
 -- the last reference of the first node that waits is taken: its row is owned by that node's value
 module _ (at at' : ℕ → Option Counts) (refs refs' : ℕ → List ArcRef) (rows : List HandleRow) (n : ℕ) (ns : List ℕ) (p : ArcRef)
-    (fits : Fits at refs rows n (n ∷ ns) owns_nothing) (popped : refs n ≡ refs' n ++ p ∷ []) (others : (m : ℕ) → m ≢ n → refs' m ≡ refs m) (same : (m : ℕ) → at' m ≡ at m) where
+    (fits : Fits at refs rows n (n ∷ ns) owns_nothing) (popped : refs n ≡ refs' n ++ p ∷ []) (others : (m : ℕ) → m ≢ n → refs' m ≡ refs m)
+    (same : (m : ℕ) → at' m ≡ at m) where
   times-popped : (r : ℕ) → named r (refs n) ≡ named r (refs' n) + one (p.handle.0 == r)
   times-popped r = ap (named r) popped ∙ sum_by_push (λ (y : ArcRef). one (y.handle.0 == r)) (refs' n) p
 
@@ -99,20 +108,30 @@ module _ (at at' : ℕ → Option Counts) (refs refs' : ℕ → List ArcRef) (ro
   taken-owned = let a = fits.owned n p.handle.0 in let b = times-popped p.handle.0 in grind (arith, nat_tests)
 
   pub taken-there : 1 ≤ times (is_handle p.handle.0) rows
-  taken-there = let a = taken-owned in let b = sum_by-le-sum_by (is_owned n p.handle.0) (λ h. one (is_handle p.handle.0 h)) rows (λ h. grind (arith, nat_tests)) in omega arith
+  taken-there = let a = taken-owned in let b = sum_by-le-sum_by (is_owned n p.handle.0) (λ h. one (is_handle p.handle.0 h)) rows
+      (λ h. grind (arith, nat_tests)) in omega arith
 
   -- where the row is that one, the tables fit but for it
   pub taken-fits : (x : HandleRow) → ((m r : ℕ) → is_owned m r x ≡ one (n == m && p.handle.0 == r)) → Fits at' refs' rows n (n ∷ ns) (λ m r. is_owned m r x)
   taken-fits x owner =
-      let right : (m : ℕ) → Right (at' m) (refs' m) = λ m. grind (arith, nat_tests, cases_eq m n, first-waits at refs rows n ns owns_nothing fits, fits.right m) in
+      let right : (m : ℕ) → Right (at' m) (refs' m) = λ m. grind (
+        arith,
+        nat_tests,
+        cases_eq m n,
+        first-waits at refs rows n ns owns_nothing fits,
+        fits.right m,
+      ) in
       grind (arith, nat_tests, cases_eq, named, times-popped, chain-frame, right)
 
-pub fits-same : (at at' : ℕ → Option Counts) (refs refs' : ℕ → List ArcRef) (rows : List HandleRow) (top : ℕ) (stack : List ℕ) → Fits at refs rows top stack owns_nothing
+pub fits-same : (at at' : ℕ → Option Counts) (refs refs' : ℕ → List ArcRef) (rows : List HandleRow) (top : ℕ) (stack : List ℕ)
+    → Fits at refs rows top stack owns_nothing
     → ((m : ℕ) → at' m ≡ at m) → ((m : ℕ) → refs' m ≡ refs m) → Fits at' refs' rows top stack owns_nothing
 fits-same at at' refs refs' rows top stack fits same refs-same = grind (arith, nat_tests, named, chain-frame)
 
-pub fallen : (at : ℕ → Option Counts) (refs : ℕ → List ArcRef) (rows : List HandleRow) (n : ℕ) (ns : List ℕ) → Fits at refs rows n (n ∷ ns) owns_nothing → HasFallen at rows n
-fallen at refs rows n ns fits = let w = first-waits at refs rows n ns owns_nothing fits in let r = fits.right n in let p = fits.pinned n in let h = fits.holding n in grind (arith, nat_tests)
+pub fallen : (at : ℕ → Option Counts) (refs : ℕ → List ArcRef) (rows : List HandleRow) (n : ℕ) (ns : List ℕ) → Fits at refs rows n (n ∷ ns) owns_nothing
+    → HasFallen at rows n
+fallen at refs rows n ns fits = let w = first-waits at refs rows n ns owns_nothing fits in let r = fits.right n in let p = fits.pinned n in let h =
+    fits.holding n in grind (arith, nat_tests)
 
 pub ruleset landing = (nat_tests, cases_eq)
 
@@ -174,9 +193,15 @@ module _ (list : List HandleNumber) (ss : List Place) (i : ℕ) (h : HandleNumbe
   some-entry = grind (arith, nat_tests, get_or-le-sum_by)
 
   pub entry-lives : find_row h.0 (live ss) ≡ None → ⊥
-  entry-lives none = absurd (omega (arith, none-found h.0 (live ss) none, sum_by-le-sum_by (λ r. one (of_list h.0 r)) (λ r. one (is_handle h.0 r)) (live ss) (grind (arith, nat_tests)), some-entry))
+  entry-lives none = absurd (omega (
+    arith,
+    none-found h.0 (live ss) none,
+    sum_by-le-sum_by (λ r. one (of_list h.0 r)) (λ r. one (is_handle h.0 r)) (live ss) (grind (arith, nat_tests)),
+    some-entry,
+  ))
 
-  pub entry-unvalued : (place : ℕ) (row : HandleRow) → AllPairs IsBefore ss → slice_get ss place ≡ Some (alive row) → row.number ≡ h → is_valued row.owner ≡ false
+  pub entry-unvalued : (place : ℕ) (row : HandleRow) → AllPairs IsBefore ss → slice_get ss place ≡ Some (alive row) → row.number ≡ h → is_valued row.owner
+      ≡ false
   entry-unvalued place row ordered at number = grind (arith, nat_tests, only-row, some-entry)
 
 -- what is counted at a node whose handle is there
@@ -185,7 +210,8 @@ pub ruleset counting = (nat_tests, row-le-live, held-here, pins-le-held, held-fe
 -- ---- where handles begin to be given up: nothing has gone so far
 
 -- why a cell isn't listed is told aside
-pub aside : (t : RefCounts) (u : Option Error) (stack : List ℕ) (extra : ℕ → ℕ → ℕ) → IsFalling t stack extra → IsFalling (record t { unlisted = u }) stack extra
+pub aside : (t : RefCounts) (u : Option Error) (stack : List ℕ) (extra : ℕ → ℕ → ℕ) → IsFalling t stack extra
+    → IsFalling (record t { unlisted = u }) stack extra
 aside t u stack extra w = record { sound = w.sound; next = w.next; fits = w.fits; worked = w.worked }
 
 -- a handle that no value owns weighs nothing there
@@ -194,9 +220,17 @@ unowned t x stack plain w = record { sound = w.sound; next = w.next; fits = grin
 
 share-plain : (n : ℕ) (rows : List HandleRow) → sharing n rows + times (is_plain_pin n) rows ≤ held n rows
 share-plain n [] = omega arith
-share-plain n (x ∷ xs) = grind (arith, nat_tests, sum_by-cons (λ h. one (is_share n h)) x xs, sum_by-cons (λ h. one (is_plain_pin n h)) x xs, sum_by-cons (λ h. one (is_at n h)) x xs, share-plain n xs)
+share-plain n (x ∷ xs) = grind (
+  arith,
+  nat_tests,
+  sum_by-cons (λ h. one (is_share n h)) x xs,
+  sum_by-cons (λ h. one (is_plain_pin n h)) x xs,
+  sum_by-cons (λ h. one (is_at n h)) x xs,
+  share-plain n xs,
+)
 
-pub unmixed : (t : Tables) → IsWhole t → (n : ℕ) → (sharing n (live t.ref_counts.handles.places.items) ≡ 0) ⊎ (times (is_plain_pin n) (live t.ref_counts.handles.places.items) ≡ 0)
+pub unmixed : (t : Tables) → IsWhole t → (n : ℕ) → (sharing n (live t.ref_counts.handles.places.items) ≡ 0)
+    ⊎ (times (is_plain_pin n) (live t.ref_counts.handles.places.items) ≡ 0)
 unmixed t w n = let a = share-plain n (live t.ref_counts.handles.places.items) in let b = w.core.handles.uniform n in grind (arith, nat_tests)
 
 pub none-within : (s : ℕ → Bool) (rows : List HandleRow) → IsWithin rows nobody s
@@ -205,8 +239,10 @@ none-within s rows = sum-none (λ h. one (nobody h.number.0 && not (s h.number.0
 -- nothing has gone so far of a world that has as many handles of each kind as the world before, whoever owns them
 abbrev pub begun : (before w : Core) (lists : Bool) (t : RefCounts) → lists ≡ not w.closed
     → ((p : HandleRow → Bool) → ((x : HandleRow) (o : Owner) → p (record x { owner = o }) ≡ p x) → times p w.rows ≡ times p before.rows)
-    → ((n : ℕ) → (sharing n before.rows ≡ 0) ⊎ (times (is_plain_pin n) before.rows ≡ 0)) → ((q : ℕ) → times (λ (h : HandleNumber). h.0 == q) w.list ≤ times (of_list q) w.rows)
-    → live t.handles.places.items ≡ w.rows → t.list.items ≡ w.list → t.last_handle ≡ w.last.handle → t.last_handle ≤ greatest → HasRoom w.places (with_tables w t).places
+    → ((n : ℕ) → (sharing n before.rows ≡ 0) ⊎ (times (is_plain_pin n) before.rows ≡ 0))
+    → ((q : ℕ) → times (λ (h : HandleNumber). h.0 == q) w.list ≤ times (of_list q) w.rows)
+    → live t.handles.places.items ≡ w.rows → t.list.items ≡ w.list → t.last_handle ≡ w.last.handle → t.last_handle ≤ greatest
+    → HasRoom w.places (with_tables w t).places
     → ((n : ℕ) → cell_in (counts_at t.nodes n) ≡ w.cells n) → t.unlisted ≡ None → SoFar before w nobody lists t
 begun before w lists t e many unmixed listed rows list last within places cells told = record {
   begins = record {
@@ -236,7 +272,8 @@ begun before w lists t e many unmixed listed rows list last within places cells 
 }
 
 -- nothing has gone of a whole world, nor of the one with other loads and workers
-abbrev pub begun-less : (t : Tables) (loads : ℕ → Option OpenLoad) (workers : ℕ → Bool) (storage : StorageView) (lists : Bool) → IsWhole t → lists ≡ not storage.closed
+abbrev pub begun-less : (t : Tables) (loads : ℕ → Option OpenLoad) (workers : ℕ → Bool) (storage : StorageView) (lists : Bool) → IsWhole t → lists
+    ≡ not storage.closed
     → SoFar (core_of t storage) (record (core_of t storage) { loads = loads; workers = workers }) nobody lists (record t.ref_counts { unlisted = None })
 begun-less t loads workers storage lists w e =
     begun (core_of t storage) (record (core_of t storage) { loads = loads; workers = workers }) lists (record t.ref_counts { unlisted = None })
@@ -260,22 +297,38 @@ cut f gone s rows = grind (arith, nat_tests, sum-most)
 
 module _ {before w : Core} {given : ℕ → Bool} {lists : Bool} {t : RefCounts} (f : SoFar before w given lists t) where
   pub counted : (p : HandleRow → Bool) → times p (live t.handles.places.items) ≡ times (λ h. p h && not (f.gone h.number.0)) w.rows + times p f.entries
-  counted p = ap (times p) f.rows ∙ sum_by-append (λ h. one (p h)) (left_rows f.gone w.rows) f.entries ∙ ap (λ k. k + times p f.entries) (times-left p f.gone w.rows)
+  counted p = ap (times p) f.rows ∙ sum_by-append (λ h. one (p h)) (left_rows f.gone w.rows) f.entries
+      ∙ ap (λ k. k + times p f.entries) (times-left p f.gone w.rows)
 
   -- what no new entry is, is in the tables no more often than at first
-  pub no-more : (p : HandleRow → Bool) → ((h : HandleRow) → h.mode ≡ Mode.LooseUnpinned → h.owner ≡ Owner.List → p h ≡ false) → times p (live t.handles.places.items) ≤ times p w.rows
+  pub no-more : (p : HandleRow → Bool) → ((h : HandleRow) → h.mode ≡ Mode.LooseUnpinned → h.owner ≡ Owner.List → p h ≡ false)
+      → times p (live t.handles.places.items) ≤ times p w.rows
   no-more p none = grind (arith, nat_tests, sum_by-append, entries-none, times-left, sum_by-le-sum_by)
 
-module _ {before w : Core} {given : ℕ → Bool} {lists : Bool} {t : RefCounts} (f : SoFar before w given lists t) (s : ℕ → Bool) (within : IsWithin w.rows f.gone s) where
+module _ {before w : Core} {given : ℕ → Bool} {lists : Bool} {t : RefCounts} (f : SoFar before w given lists t) (s : ℕ → Bool)
+    (within : IsWithin w.rows f.gone s) where
   -- no handle outside the set is left that the value owned
-  pub forced : (final : List HandleRow) (n : ℕ) → (held n (live t.handles.places.items) ≡ 0 → held n final ≡ 0) → HasFallen (counts_at t.nodes) (live t.handles.places.items) n
+  pub forced : (final : List HandleRow) (n : ℕ) → (held n (live t.handles.places.items) ≡ 0 → held n final ≡ 0)
+      → HasFallen (counts_at t.nodes) (live t.handles.places.items) n
       → IsClosed w.rows (is_keyed w) final s
       → times (λ h. is_owned_by (owner_value n) h && is_outside s h) (live t.handles.places.items) ≡ 0
   forced final n bare down closed =
-      let none = closed n (grind (arith, nat_tests, pins-le-held, cases_Bool (is_keyed w n), counted f (is_pin n), cut (is_pin n) f.gone s w.rows, counted f (is_at n), cut (is_at n) f.gone s w.rows, f.cells n)) in
+      let none = closed n (grind (
+        arith,
+        nat_tests,
+        pins-le-held,
+        cases_Bool (is_keyed w n),
+        counted f (is_pin n),
+        cut (is_pin n) f.gone s w.rows,
+        counted f (is_at n),
+        cut (is_at n) f.gone s w.rows,
+        f.cells n,
+      )) in
       let a = counted f (λ h. is_owned_by (owner_value n) h && is_outside s h) in
-      let b = entries-none (λ h. is_owned_by (owner_value n) h && is_outside s h) (λ h mode owner. grind (arith, nat_tests, pins-le-held)) w.last.handle f.entries f.new in
-      let d = sum_by-le-sum_by (λ h. one ((is_owned_by (owner_value n) h && is_outside s h) && not (f.gone h.number.0))) (λ h. one (is_owned_by (owner_value n) h && is_outside s h))
+      let b = entries-none (λ h. is_owned_by (owner_value n) h && is_outside s h) (λ h mode owner. grind (arith, nat_tests, pins-le-held)) w.last.handle
+      f.entries f.new in
+      let d = sum_by-le-sum_by (λ h. one ((is_owned_by (owner_value n) h && is_outside s h) && not (f.gone h.number.0)))
+      (λ h. one (is_owned_by (owner_value n) h && is_outside s h))
       w.rows (λ h. grind (arith, nat_tests, pins-le-held)) in
       omega arith
 
@@ -298,7 +351,8 @@ none-kept gone q (x ∷ xs) none = grind (arith, nat_tests, none-kept gone q xs)
 
 module _ {before w : Core} {given : ℕ → Bool} {lists : Bool} {t : RefCounts} (f : SoFar before w given lists t) (shut : lists ≡ false) where
   pub none-came : f.entries ≡ []
-  none-came = no-entries f.entries (λ n some. let a : w.closed ≡ true = closed-is lists w.closed f.begins.open_storage ∙ ap not shut in let b = (f.only n some).0.stands_open in absurd (cc))
+  none-came = no-entries f.entries (λ n some. let a : w.closed ≡ true = closed-is lists w.closed f.begins.open_storage ∙ ap not shut in
+      let b = (f.only n some).0.stands_open in absurd (cc))
 
   -- a handle goes apart from a list that has no entry
   pub entry-apart : (q : ℕ) → t.list.items ≡ [] → IsApart before w given lists t f q
@@ -313,7 +367,8 @@ owned-listed {w} whole q =
 
 -- ---- a node gets a key: handles and nodes fit again, and nothing else has gone or come so far
 
-module _ (at at' : ℕ → Option Counts) (refs refs' : ℕ → List ArcRef) (rows : List HandleRow) (top n : ℕ) (c : Counts) (key : ℕ) (fits : Fits at refs rows top [] owns_nothing)
+module _ (at at' : ℕ → Option Counts) (refs refs' : ℕ → List ArcRef) (rows : List HandleRow) (top n : ℕ) (c : Counts) (key : ℕ)
+    (fits : Fits at refs rows top [] owns_nothing)
     (is : at n ≡ Some c) (some : 0 < key)
     (here : at' n ≡ Some (keyed c key top)) (others : (m : ℕ) → m ≢ n → at' m ≡ at m) (same : (m : ℕ) → refs' m ≡ refs m) where
   pub key-fits : (b : Bool) → (c.pins == 0) ≡ b → Fits at' refs' rows (if b then n else top) (if b then n ∷ [] else []) owns_nothing
@@ -321,12 +376,16 @@ module _ (at at' : ℕ → Option Counts) (refs refs' : ℕ → List ArcRef) (ro
       let right : (m : ℕ) → Right (at' m) (refs' m) = λ m. grind (arith, nat_tests, cases_eq m n, fits.marked, fits.right) in
       grind (arith, nat_tests, cases_eq, named, right, not-zero at n c fits.from_one is)
 
-module _ (T : Tables) (storage : StorageView) (lists : Bool) (whole : IsWhole T) (opened : lists ≡ not storage.closed) (node : NodeNumber) (key : ℕ) (new : RefCounts) where
+module _ (T : Tables) (storage : StorageView) (lists : Bool) (whole : IsWhole T) (opened : lists ≡ not storage.closed) (node : NodeNumber) (key : ℕ)
+    (new : RefCounts) where
   abbrev old : Core
   old = core_of T storage
 
-  pub keyed-on : new ≡ record T.ref_counts { unlisted = None; nodes = new.nodes; top = new.top } → GetsKey (counts_at T.ref_counts.nodes) (counts_at new.nodes) node.0 key
+  pub keyed-on : new ≡ record T.ref_counts { unlisted = None; nodes = new.nodes; top = new.top }
+      → GetsKey (counts_at T.ref_counts.nodes) (counts_at new.nodes) node.0 key
       → SoFar old (with_key old node key) nobody lists new
   keyed-on same cells = subst (SoFar old (with_key old node key) nobody lists) (sym same)
-      (begun old (with_key old node key) lists (record T.ref_counts { unlisted = None; nodes = new.nodes; top = new.top }) opened (λ p own. refl) (unmixed T whole)
-      (λ q. let a = whole.core.owners_there.listed q in omega arith) refl refl refl whole.core.handles.within.0 (record { handles = omega arith; entries = omega arith }) cells refl)
+      (begun old (with_key old node key) lists (record T.ref_counts { unlisted = None; nodes = new.nodes; top = new.top }) opened (λ p own. refl)
+      (unmixed T whole)
+      (λ q. let a = whole.core.owners_there.listed q in omega arith) refl refl refl whole.core.handles.within.0
+      (record { handles = omega arith; entries = omega arith }) cells refl)

@@ -25,9 +25,16 @@ sum-most f g h (x ∷ xs) le = omega (arith, le x, sum_by-cons f x xs, sum_by-co
 abbrev pub and_one : (ℕ → Bool) → ℕ → ℕ → Bool
 and_one gone q r = gone r || r == q
 
-pub times-left : (f : HandleRow → Bool) (gone : ℕ → Bool) (rows : List HandleRow) → times f (left_rows gone rows) ≡ times (λ h. f h && not (gone h.number.0)) rows
+pub times-left : (f : HandleRow → Bool) (gone : ℕ → Bool) (rows : List HandleRow) → times f (left_rows gone rows)
+    ≡ times (λ h. f h && not (gone h.number.0)) rows
 times-left f gone [] = refl
-times-left f gone (x ∷ xs) = grind (arith, nat_tests, times-left f gone xs, sum_by-cons (λ h. one (f h && not (gone h.number.0))) x xs, sum_by-cons (λ h. one (f h)) x (left_rows gone xs))
+times-left f gone (x ∷ xs) = grind (
+  arith,
+  nat_tests,
+  times-left f gone xs,
+  sum_by-cons (λ h. one (f h && not (gone h.number.0))) x xs,
+  sum_by-cons (λ h. one (f h)) x (left_rows gone xs),
+)
 
 pub left-more : (gone : ℕ → Bool) (q : ℕ) (rows : List HandleRow) → left_rows (λ r. r == q) (left_rows gone rows) ≡ left_rows (and_one gone q) rows
 left-more gone q [] = refl
@@ -49,15 +56,18 @@ all-kept (x ∷ xs) = ap (λ r. x ∷ r) (all-kept xs)
 pub kept-more : (gone : ℕ → Bool) (q : ℕ) (list : List HandleNumber) → times (λ (h : HandleNumber). h.0 == q) list ≡ 0
     → filter (λ (h : HandleNumber). not (and_one gone q h.0)) list ≡ filter (λ (h : HandleNumber). not (gone h.0)) list
 kept-more gone q [] none = refl
-kept-more gone q (x ∷ xs) none = let a = sum_by-cons (λ (h : HandleNumber). one (h.0 == q)) x xs in let rest = kept-more gone q xs (omega arith) in grind (arith, nat_tests)
+kept-more gone q (x ∷ xs) none = let a = sum_by-cons (λ (h : HandleNumber). one (h.0 == q)) x xs in let rest =
+    kept-more gone q xs (omega arith) in grind (arith, nat_tests)
 
 -- new entries pin nothing, and only the list owns them
-pub entries-none : (f : HandleRow → Bool) → ((h : HandleRow) → h.mode ≡ Mode.LooseUnpinned → h.owner ≡ Owner.List → f h ≡ false) → (last : ℕ) (entries : List HandleRow)
+pub entries-none : (f : HandleRow → Bool) → ((h : HandleRow) → h.mode ≡ Mode.LooseUnpinned → h.owner ≡ Owner.List → f h ≡ false)
+    → (last : ℕ) (entries : List HandleRow)
     → AreNewEntries last entries → times f entries ≡ 0
 entries-none f none last [] e = refl
 entries-none f none last (x ∷ xs) e = grind (arith, nat_tests, entries-none f none (last + 1) xs e.3)
 
-pub entries-more : (last : ℕ) (entries : List HandleRow) (x : HandleRow) → AreNewEntries last entries → x.number.0 ≡ last + length entries + 1 → x.mode ≡ Mode.LooseUnpinned
+pub entries-more : (last : ℕ) (entries : List HandleRow) (x : HandleRow) → AreNewEntries last entries → x.number.0 ≡ last + length entries + 1 → x.mode
+    ≡ Mode.LooseUnpinned
     → x.owner ≡ Owner.List → AreNewEntries last (entries ++ x ∷ [])
 entries-more last [] x e number mode owner = (omega arith, mode, owner, tt)
 entries-more last (y ∷ ys) x e number mode owner = (e.0, e.1, e.2, entries-more (last + 1) ys x e.3 (omega arith) mode owner)
@@ -66,21 +76,25 @@ pub with-entry : (f : HandleRow → ℕ) (rows : List HandleRow) (listed : Bool)
     → sum_by f (rows ++ entries_of listed k node) ≡ sum_by f rows + (if listed then f (entry k node) else 0)
 with-entry f rows x2 k node = grind (arith, nat_tests, sum_by_push, append-nil)
 
-pub gives-sums : {old new : RefCounts} {stack : List ℕ} {x : HandleRow} {stays lists : Bool} (g : GivesUp old stack x stays lists new) (f : HandleRow → ℕ) → sum_by f (live new.handles.places.items) + f x
+pub gives-sums : {old new : RefCounts} {stack : List ℕ} {x : HandleRow} {stays lists : Bool} (g : GivesUp old stack x stays lists new) (f : HandleRow → ℕ)
+    → sum_by f (live new.handles.places.items) + f x
     ≡ sum_by f (live old.handles.places.items) + (if stays then f (unpinned x) else 0) + (if g.listed then f (entry (old.last_handle + 1) x.node) else 0)
 gives-sums {old} {new} {x = x} g f = grind (arith, nat_tests, with-entry)
 
 abbrev pub of_list : ℕ → HandleRow → Bool
 of_list q h = is_handle q h && is_owned_by Owner.List h
 
-pub none-listed : {old new : Handles} {x : HandleRow} → Leaves old x false new → is_owned_by Owner.List x ≡ false → times (of_list x.number.0) (live old.places.items) ≡ 0
+pub none-listed : {old new : Handles} {x : HandleRow} → Leaves old x false new → is_owned_by Owner.List x ≡ false
+    → times (of_list x.number.0) (live old.places.items) ≡ 0
 none-listed {old} {x = x} leaves owner =
     let left = ap (times (of_list x.number.0)) leaves.becomes.rows ∙ times-left (of_list x.number.0) (only_handle x.number) (live old.places.items) in
     grind (arith, nat_tests, sum-none, leaves.sums (λ h. one (of_list x.number.0 h)), left)
 
-pub none-entered : (q last : ℕ) (rows left entries : List HandleRow) → rows ≡ left ++ entries → AreNewEntries last entries → times (of_list q) rows ≡ 0 → times (is_handle q) entries ≡ 0
+pub none-entered : (q last : ℕ) (rows left entries : List HandleRow) → rows ≡ left ++ entries → AreNewEntries last entries → times (of_list q) rows ≡ 0
+    → times (is_handle q) entries ≡ 0
 none-entered q last rows left entries is new none =
     let other = λ (h : HandleRow). is_handle q h && not (is_owned_by Owner.List h) in
-    let e = entries-none other (λ h mode owner. let l : is_owned_by Owner.List h ≡ true = ap (is_owner Owner.List) owner in grind (arith, nat_tests)) last entries new in
+    let e = entries-none other (λ h mode owner. let l : is_owned_by Owner.List h ≡ true = ap (is_owner Owner.List) owner in grind (arith, nat_tests)) last
+    entries new in
     let most = sum-most (λ h. one (is_handle q h)) (λ h. one (of_list q h)) (λ h. one (other h)) entries (λ h. grind (arith, nat_tests)) in
     omega (arith, ap (times (of_list q)) is, sum_by-append (λ h. one (of_list q h)) left entries)

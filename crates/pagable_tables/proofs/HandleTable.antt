@@ -45,7 +45,8 @@ live-append [] ys = refl
 live-append (s ∷ xs) ys = grind (arith, nat_tests, live-append xs ys)
 
 -- where each place of the number is dead, no live row has it
-pub none-live : (q : ℕ) (ss : List Place) → ((k : ℕ) (d : Place) → k < length ss → (get_or ss k d).row.number.0 ≡ q → (get_or ss k d).is_live ≡ false) → find_row q (live ss) ≡ None
+pub none-live : (q : ℕ) (ss : List Place) → ((k : ℕ) (d : Place) → k < length ss → (get_or ss k d).row.number.0 ≡ q → (get_or ss k d).is_live ≡ false)
+    → find_row q (live ss) ≡ None
 unfolding find_row
 none-live q [] h = refl
 none-live q (s ∷ ss) h = let a = h 0 s (omega arith) in grind (arith, nat_tests, none-live q ss (λ k d lt e. h (suc k) d (omega arith) e))
@@ -68,20 +69,25 @@ changed-none q f (x ∷ xs) none = let a = sum_by-cons (λ h. one (is_handle q h
 -- A live place has the one row of its number: it is left out where the place is killed, changed where what is done to rows of the number is done to it, and found.
 pub at-place : (ss : List Place) (i : ℕ) (row : HandleRow) → AllPairs IsBefore ss → slice_get ss i ≡ Some (alive row)
     → (live (set ss i (record { row = row; is_live = false })) ≡ left_rows (λ n. n == row.number.0) (live ss))
-    × ((f : HandleRow → HandleRow) → live (set ss i (alive (f row))) ≡ changed (is_handle row.number.0) f (live ss)) × (find_row row.number.0 (live ss) ≡ Some row)
+    × ((f : HandleRow → HandleRow) → live (set ss i (alive (f row))) ≡ changed (is_handle row.number.0) f (live ss))
+    × (find_row row.number.0 (live ss) ≡ Some row)
 unfolding find_row
 at-place [] i row ordered at = absurd (cc)
 at-place (s ∷ ss) zero row ordered at =
     let same : s ≡ alive row = cc in
     let number : s.row.number.0 ≡ row.number.0 = ap (λ (p : Place). p.row.number.0) same in
     let none : times (is_handle row.number.0) (live ss) ≡ 0 =
-    none-found row.number.0 (live ss) (none-live row.number.0 ss (λ k d lt e. let o = ordered 0 (suc k) d (omega arith) (omega arith) in absurd (omega arith))) in
+    none-found row.number.0 (live ss) (none-live row.number.0 ss (λ k d lt e. let o = ordered 0 (suc k) d (omega arith) (omega arith) in absurd (omega arith)))
+    in
     (grind (arith, nat_tests, left-none row.number.0 (live ss) none), λ f. grind (arith, nat_tests, changed-none), grind (arith, nat_tests))
 at-place (s ∷ ss) (suc i) row ordered at =
     let (kill, change, find) = at-place ss i row (λ j k d less lt. ordered (suc j) (suc k) d (omega arith) (omega arith)) at in
     let lt = slice_get_within ss i (alive row) at in
-    let less = ordered 0 (suc i) (alive row) (omega arith) (omega arith) in
-    (grind (arith, nat_tests, get_or_from_slice_get, get_or_from_slice_get), λ f. grind (arith, nat_tests, get_or_from_slice_get, get_or_from_slice_get, change f), grind (arith, nat_tests, get_or_from_slice_get, get_or_from_slice_get))
+    let less = ordered 0 (suc i) (alive row) (omega arith) (omega arith) in (
+      grind (arith, nat_tests, get_or_from_slice_get, get_or_from_slice_get),
+      λ f. grind (arith, nat_tests, get_or_from_slice_get, get_or_from_slice_get, change f),
+      grind (arith, nat_tests, get_or_from_slice_get, get_or_from_slice_get),
+    )
 
 pub changed-known : (ss : List Place) (i : ℕ) (row : HandleRow) → AllPairs IsBefore ss → slice_get ss i ≡ Some (alive row) → (f : HandleRow → HandleRow)
     → changed (is_handle row.number.0) (λ _. f row) (live ss) ≡ changed (is_handle row.number.0) f (live ss)
@@ -90,27 +96,42 @@ changed-known ss i row ordered at f = let p = at-place ss i row ordered at in sy
 pub sum-live-set : (f : HandleRow → ℕ) (ss : List Place) (i : ℕ) (row : HandleRow) (new : Place) → slice_get ss i ≡ Some (alive row)
     → sum_by f (live (set ss i new)) + f row ≡ sum_by f (live ss) + weigh f new
 sum-live-set f ss i row new at =
-    grind (arith, get_or_from_slice_get ss i (alive row) (alive row) at, sum_by-set (weigh f) ss i new (alive row) (slice_get_within ss i (alive row) at), sum-live f)
+    grind (
+      arith,
+      get_or_from_slice_get ss i (alive row) (alive row) at,
+      sum_by-set (weigh f) ss i new (alive row) (slice_get_within ss i (alive row) at),
+      sum-live f,
+    )
 
 pub row-le-live : (f : HandleRow → ℕ) (ss : List Place) (i : ℕ) (row : HandleRow) → slice_get ss i ≡ Some (alive row) → f row ≤ sum_by f (live ss)
 row-le-live f ss i row at = omega (arith, sum-live-set f ss i row (record { row = row; is_live = false }) at)
 
-pub length-live-set : (ss : List Place) (i : ℕ) (row : HandleRow) (new : Place) → slice_get ss i ≡ Some (alive row) → length (live (set ss i new)) + 1 ≡ length (live ss) + one new.is_live
+pub length-live-set : (ss : List Place) (i : ℕ) (row : HandleRow) (new : Place) → slice_get ss i ≡ Some (alive row) → length (live (set ss i new)) + 1
+    ≡ length (live ss) + one new.is_live
 length-live-set ss i row new at = omega (arith, sum-live-set (λ _. 1) ss i row new at, ones (live ss), ones (live (set ss i new)))
 
 -- from a place on all numbers are greater, where that at the place is
-pub above-from : (ss : List Place) (i number k : ℕ) (d e : Place) → AllPairs IsBefore ss → number < (get_or ss i e).row.number.0 → i ≤ k → k < length ss → number < (get_or ss k d).row.number.0
+pub above-from : (ss : List Place) (i number k : ℕ) (d e : Place) → AllPairs IsBefore ss → number < (get_or ss i e).row.number.0 → i ≤ k → k < length ss
+    → number < (get_or ss k d).row.number.0
 above-from ss i number k d e ordered at low within =
     let same = ap (λ (x : Place). x.row.number.0) (get_or_default ss i e d (omega arith)) in
     let next = ordered i k d in
     grind (arith, nat_tests, cases_eq i k)
 
-pub row-got : (ss : List Place) (i : ℕ) (p : Place) (q : ℕ) → AllPairs IsBefore ss → slice_get ss i ≡ Some p → p.is_live ≡ true → p.row.number.0 ≡ q → find_row q (live ss) ≡ Some p.row
-row-got ss i p q ordered at is number = subst (λ n. find_row n (live ss) ≡ Some p.row) number (at-place ss i p.row ordered (at ∙ ap (λ b. Some (record { row = p.row; is_live = b })) is)).2
+pub row-got : (ss : List Place) (i : ℕ) (p : Place) (q : ℕ) → AllPairs IsBefore ss → slice_get ss i ≡ Some p → p.is_live ≡ true → p.row.number.0 ≡ q
+    → find_row q (live ss) ≡ Some p.row
+row-got ss i p q ordered at is number = subst (λ n. find_row n (live ss) ≡ Some p.row) number
+    (at-place ss i p.row ordered (at ∙ ap (λ b. Some (record { row = p.row; is_live = b })) is)).2
 
-pub next-set : (q : ℕ) (ss : List Place) (i : ℕ) (row : HandleRow) (new : Place) → slice_get ss i ≡ Some (alive row) → new.row.number.0 ≡ row.number.0 → IsNext q ss → IsNext q (set ss i new)
+pub next-set : (q : ℕ) (ss : List Place) (i : ℕ) (row : HandleRow) (new : Place) → slice_get ss i ≡ Some (alive row) → new.row.number.0 ≡ row.number.0
+    → IsNext q ss → IsNext q (set ss i new)
 next-set q ss i row new at same next =
-    All-set (λ (s : Place). s.row.number.0 < q) ss i new (grind (arith, slice_get_within ss i (alive row) at, get_or_from_slice_get ss i (alive row) new at, next i new)) next
+    All-set (λ (s : Place). s.row.number.0 < q) ss i new (grind (
+      arith,
+      slice_get_within ss i (alive row) at,
+      get_or_from_slice_get ss i (alive row) new at,
+      next i new,
+    )) next
 
 sum-without : (q : ℕ) (rows : List HandleRow) → sum_by (λ h. one (is_handle q h)) (left_rows (λ n. n == q) rows) ≡ 0
 sum-without q [] = refl
@@ -119,18 +140,38 @@ sum-without q (h ∷ hs) = grind (arith, nat_tests, sum-without q hs)
 -- a number is used once, so what weighs only at the number weighs at its row alone
 pub only-row : (f : HandleRow → ℕ) (ss : List Place) (i : ℕ) (row : HandleRow) → AllPairs IsBefore ss → slice_get ss i ≡ Some (alive row)
     → ((h : HandleRow) → f h ≤ one (is_handle row.number.0 h)) → sum_by f (live ss) ≡ f row
-only-row f ss i row ordered at less = grind (arith, nat_tests, sum_by-le-sum_by, ap (sum_by f) (at-place ss i row ordered at).0, sum-without row.number.0 (live ss), sum-live-set)
+only-row f ss i row ordered at less = grind (
+  arith,
+  nat_tests,
+  sum_by-le-sum_by,
+  ap (sum_by f) (at-place ss i row ordered at).0,
+  sum-without row.number.0 (live ss),
+  sum-live-set,
+)
 
 pub le_or_lt : (a b : ℕ) → (a ≤ b) ⊎ (b < a)
 le_or_lt a b = grind arith
 
 -- places are in order and counted after one of them changes
-pub sound-set : (old new : Handles) (i : ℕ) (row : HandleRow) (p : Place) → AreSound old → slice_get old.places.items i ≡ Some (alive row) → p.row.number.0 ≡ row.number.0
+pub sound-set : (old new : Handles) (i : ℕ) (row : HandleRow) (p : Place) → AreSound old → slice_get old.places.items i ≡ Some (alive row) → p.row.number.0
+    ≡ row.number.0
     → new.places.items ≡ set old.places.items i p → new.dead + one p.is_live ≡ old.dead + 1 → AreCounted new
-sound-set old new i row p sound at same is dead = grind (arith, nat_tests, cases_eq, get_or-set_at, slice_get_within, get_or_from_slice_get, get_or-set_other, length-set, sound.ordered, length-live-set)
+sound-set old new i row p sound at same is dead = grind (
+  arith,
+  nat_tests,
+  cases_eq,
+  get_or-set_at,
+  slice_get_within,
+  get_or_from_slice_get,
+  get_or-set_other,
+  length-set,
+  sound.ordered,
+  length-live-set,
+)
 
 -- and no more of them are dead than before, where it stays live
-pub sound-kept : (old new : Handles) (i : ℕ) (row : HandleRow) (p : Place) → AreSound old → slice_get old.places.items i ≡ Some (alive row) → p.row.number.0 ≡ row.number.0
+pub sound-kept : (old new : Handles) (i : ℕ) (row : HandleRow) (p : Place) → AreSound old → slice_get old.places.items i ≡ Some (alive row) → p.row.number.0
+    ≡ row.number.0
     → new.places.items ≡ set old.places.items i p → p.is_live ≡ true → new.dead ≡ old.dead → AreSound new
 sound-kept old new i row p sound at same is lives dead =
     let s = sound-set old new i row p sound at same is (omega (arith, dead, ap one lives)) in
@@ -144,7 +185,8 @@ ordered-push ss row ordered next = all_pairs_push IsBefore ss (alive row) ordere
 pub next-push : (ss : List Place) (row : HandleRow) → IsNext row.number.0 ss → IsNext (row.number.0 + 1) (ss ++ alive row ∷ [])
 next-push ss row next = All-push (λ (s : Place). s.row.number.0 < row.number.0 + 1) ss (alive row) (λ k d lt. let a = next k d lt in omega arith) (omega arith)
 
-pub sound-push : (old new : Handles) (row : HandleRow) → AreSound old → IsNext row.number.0 old.places.items → new.places.items ≡ old.places.items ++ alive row ∷ [] → new.dead ≡ old.dead → AreSound new
+pub sound-push : (old new : Handles) (row : HandleRow) → AreSound old → IsNext row.number.0 old.places.items → new.places.items ≡ old.places.items ++ alive row
+    ∷ [] → new.dead ≡ old.dead → AreSound new
 sound-push old new row sound next is dead =
     let rows : length (live new.places.items) ≡ length (live old.places.items) + 1 =
     ap (λ ps. length (live ps)) is ∙ ap length (live-append old.places.items (alive row ∷ [])) ∙ length-append (live old.places.items) (row ∷ []) in

@@ -15,11 +15,13 @@ pub raised-then : (a b c : Option LoadRow) → Raised a b → Raised b c → Rai
 raised-then a b c one two = grind (arith, nat_tests)
 
 -- what stands there stood there before
-pub raised-from : (o o' : Option LoadRow) (row : LoadRow) → Raised o o' → o' ≡ Some row → (old : LoadRow) × (o ≡ Some old) × (row ≡ record old { last = row.last }) × (old.last ≤ row.last)
+pub raised-from : (o o' : Option LoadRow) (row : LoadRow) → Raised o o' → o' ≡ Some row → (old : LoadRow) × (o ≡ Some old)
+    × (row ≡ record old { last = row.last }) × (old.last ≤ row.last)
 raised-from None None row r is = absurd (cc)
 raised-from None (Some new) row r is = absurd r
 raised-from (Some old) None row r is = absurd r
-raised-from (Some old) (Some new) row r is = let same : new ≡ row = cc in (old, refl, subst (λ (x : LoadRow). x ≡ record old { last = x.last }) same r.0, subst (λ (x : LoadRow). old.last ≤ x.last) same r.1)
+raised-from (Some old) (Some new) row r is = let same : new ≡ row = cc in
+    (old, refl, subst (λ (x : LoadRow). x ≡ record old { last = x.last }) same r.0, subst (λ (x : LoadRow). old.last ≤ x.last) same r.1)
 
 raised-load : (o o' : Option LoadRow) → Raised o o' → option_map load_in o' ≡ option_map load_in o
 raised-load None None r = refl
@@ -29,11 +31,13 @@ raised-load (Some old) (Some new) r = ap (λ (x : LoadRow). Some (load_in x)) r.
 
 module _ (t t' : Tables) (same : t' ≡ record t { loads = t'.loads; noted = t'.noted }) (raised : AreRaised t.loads t'.loads) (storage : StorageView) where
   pub core-same : core_of t' storage ≡ core_of t storage
-  core-same = ap (λ (u : Tables). core_of u storage) same ∙ (λ i. record (core_of t storage) { loads = λ l. raised-load (load_at t.loads l) (load_at t'.loads l) (raised l) i })
+  core-same = ap (λ (u : Tables). core_of u storage) same ∙ (λ i. record
+      (core_of t storage) { loads = λ l. raised-load (load_at t.loads l) (load_at t'.loads l) (raised l) i })
 
 -- what the rows tell of places, once more is told
 module _ {S : Type 0} (old new : IndexMap ℕ LoadRow S) (places : List Place) (number : ℕ) (raised : AreRaised old new) where
-  pub told-on : (i : ℕ) → AreTold old places number i → ((l : LoadNumber) (row : LoadRow) (d : Place) → load_at new l.0 ≡ Some row → (get_or places i d).row.owner ≡ Owner.Load l
+  pub told-on : (i : ℕ) → AreTold old places number i → ((l : LoadNumber) (row : LoadRow) (d : Place) → load_at new l.0 ≡ Some row
+      → (get_or places i d).row.owner ≡ Owner.Load l
       → (get_or places i d).row.number.0 ≤ row.last) → AreTold new places number (i + 1)
   told-on i told here l row k d at less above own =
       let (was, is, same, more) = raised-from (load_at old l.0) (load_at new l.0) row (raised l.0) at in
@@ -41,11 +45,14 @@ module _ {S : Type 0} (old new : IndexMap ℕ LoadRow S) (places : List Place) (
       grind (arith, nat_tests, cases_eq k i, here l row d at)
 
 -- the last handle that a load owns above a number is told by its row
-noted-last : (places : List Place) (l : LoadNumber) (row : LoadRow) (q number : ℕ) → ((k : ℕ) (d : Place) → k < length places → number < (get_or places k d).row.number.0
-    → (get_or places k d).row.owner ≡ Owner.Load l → (get_or places k d).row.number.0 ≤ row.last) → number < q → passes_in (is_owned_by (Owner.Load l)) (live places) q ≡ true → q ≤ row.last
+noted-last : (places : List Place) (l : LoadNumber) (row : LoadRow) (q number : ℕ)
+    → ((k : ℕ) (d : Place) → k < length places → number < (get_or places k d).row.number.0
+    → (get_or places k d).row.owner ≡ Owner.Load l → (get_or places k d).row.number.0 ≤ row.last) → number < q
+    → passes_in (is_owned_by (Owner.Load l)) (live places) q ≡ true → q ≤ row.last
 noted-last places l row q number told above own = elim (le_or_lt q row.last) [
   | inl le ↦ le
-  | inr lt ↦ absurd (let none : passes_in (is_owned_by (Owner.Load l)) (live places) q ≡ false = none-passes (is_owned_by (Owner.Load l)) q places (λ k d within is lives.
+  | inr lt ↦ absurd (let none : passes_in (is_owned_by (Owner.Load l)) (live places) q
+      ≡ false = none-passes (is_owned_by (Owner.Load l)) q places (λ k d within is lives.
       let x : HandleRow = (get_or places k d).row in
       elim (cases_Bool (is_owned_by (Owner.Load l) x)) [
         | inl mine ↦ absurd (let le = told k d within (omega arith) (owner-same (Owner.Load l) x.owner mine) in omega arith)
@@ -58,8 +65,10 @@ pub noted-later : (t t' : Tables) → t' ≡ record t { loads = t'.loads; noted 
 noted-later t t' same raised noted told later =
     let from = λ (l : ℕ) (load : LoadRow) (at : load_at t'.loads l ≡ Some load). raised-from (load_at t.loads l) (load_at t'.loads l) load (raised l) at in
     let after : AreLater (record t { loads = t'.loads; noted = t'.noted }) = record {
-      given = λ l load at. let (old, was, is, more) = from l load at in let since = ap (λ (x : LoadRow). x.since) is in let g = later.given l old was in omega arith;
-      since = λ l load q at own. let (old, was, is, more) = from l load at in let since = ap (λ (x : LoadRow). x.since) is in let g = later.since l old q was own in omega arith;
+      given = λ l load at. let (old, was, is, more) = from l load at in let since = ap (λ (x : LoadRow). x.since) is in let g =
+          later.given l old was in omega arith;
+      since = λ l load q at own. let (old, was, is, more) = from l load at in let since = ap (λ (x : LoadRow). x.since) is in let g =
+          later.since l old q was own in omega arith;
       begun = later.begun;
       reach = later.reach;
       loads = λ v l load at mine.
@@ -71,7 +80,8 @@ noted-later t t' same raised noted told later =
           let (old, was, is, more) = from l load at in
           elim (le_or_lt q t.noted) [
             | inl low ↦ (let g = later.until l old q was own low in omega arith)
-            | inr high ↦ noted-last t.ref_counts.handles.places.items (record { 0 = l }) load q t.noted (λ k d within above owner. told (record { 0 = l }) load k d at within above owner) high own
+            | inr high ↦ noted-last t.ref_counts.handles.places.items (record { 0 = l }) load q t.noted
+                (λ k d within above owner. told (record { 0 = l }) load k d at within above owner) high own
           ];
     } in
     subst AreLater (sym same) after
@@ -91,10 +101,12 @@ noted-does {t} {t1} {t2} {step} n d = record {
   later = λ later. d.later n.later;
 }
 
-pub noted-release_at : {X : Type 0} {lists : Bool} {t t1 t2 : Tables} {values values' : NumberTable X} {step : Core → Core → Type 0} → Notes t t1 → DoesShed lists t1 values step t2 values' → DoesShed lists t values step t2 values'
+pub noted-release_at : {X : Type 0} {lists : Bool} {t t1 t2 : Tables} {values values' : NumberTable X} {step : Core → Core → Type 0} → Notes t t1
+    → DoesShed lists t1 values step t2 values' → DoesShed lists t values step t2 values'
 noted-release_at {lists = lists} {t} {t1} {t2} {values} {values'} {step} n d = record {
   does = λ storage open_still. subst (λ (w : Core). step w (core_of t2 storage)) (core-same t t1 n.same n.rows storage) (d.does storage open_still);
   whole = d.whole;
   later = λ later. d.later n.later;
-  sheds = subst (λ (h : RefCounts). Sheds (counts_at h.nodes) (row_by values) (counts_at t2.ref_counts.nodes) (row_by values')) (ap (λ (u : Tables). u.ref_counts) n.same) d.sheds;
+  sheds = subst (λ (h : RefCounts). Sheds (counts_at h.nodes) (row_by values) (counts_at t2.ref_counts.nodes) (row_by values'))
+      (ap (λ (u : Tables). u.ref_counts) n.same) d.sheds;
 }

@@ -3,7 +3,8 @@ use Rattle.std.proofs.Common.{List, None, Option, [], arith, length, refl, suc, 
 use Rattle.std.specs.{List.FoldsTo, Option.{IsSome, option_and_then}, Prelude.{slice_get, take}}
 
 -- nothing stands at the places that come
-pub more : {F X Y : Type 0} {step : F → X → F → Type 0} (v : X → Option Y) (xs ys : List X) (f last : F) → FoldsTo step f ys last → ((f g : F) (x : X) → step f x g → v x ≡ None)
+pub more : {F X Y : Type 0} {step : F → X → F → Type 0} (v : X → Option Y) (xs ys : List X) (f last : F) → FoldsTo step f ys last
+    → ((f g : F) (x : X) → step f x g → v x ≡ None)
     → (q : ℕ) → option_and_then v (slice_get (xs ++ ys) q) ≡ option_and_then v (slice_get xs q)
 more v [] [] f last folds none q = refl
 more v [] (y ∷ ys) f last (g, is, folds) none zero = none f g y is

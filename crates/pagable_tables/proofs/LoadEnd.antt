@@ -16,7 +16,8 @@ use Rattle.pagable_tables.proofs.Views.{moved-to-value, named-mine, named-own, n
 use Rattle.pagable_tables.proofs.SameViews.{fault-by}
 use Rattle.pagable_tables.specs.Core.{IsWhole}
 
-unseen : (w : Core) (me : Owner) (seen : List ℕ) (rs : List ArcRef) → references_fault w me seen rs ≡ None → (q : ℕ) → is_named_by rs q ≡ true → is_in seen q ≡ false
+unseen : (w : Core) (me : Owner) (seen : List ℕ) (rs : List ArcRef) → references_fault w me seen rs ≡ None → (q : ℕ) → is_named_by rs q ≡ true → is_in seen q
+    ≡ false
 unfolding references_fault is_named_by is_in
 unseen w me seen [] fit q is = absurd (cc)
 unseen w me seen (r ∷ rs) fit q is = grind (arith, nat_tests, unseen w me (r.handle.0 ∷ seen) rs (or-none (reference_fault w me seen r) _ fit).1 q)
@@ -26,9 +27,16 @@ unfolding references_fault is_named_by is_in
 once-named w me seen [] fit q = refl
 once-named w me seen (r ∷ rs) fit q =
     let rest = (or-none (reference_fault w me seen r) _ fit).1 in
-    grind (arith, nat_tests, sum_by-cons (λ (x : ArcRef). one (x.handle.0 == q)) r rs, once-named w me (r.handle.0 ∷ seen) rs rest q, unseen w me (r.handle.0 ∷ seen) rs rest q)
+    grind (
+      arith,
+      nat_tests,
+      sum_by-cons (λ (x : ArcRef). one (x.handle.0 == q)) r rs,
+      once-named w me (r.handle.0 ∷ seen) rs rest q,
+      unseen w me (r.handle.0 ∷ seen) rs rest q,
+    )
 
-module _ (w : Core) (me : Owner) (n : ℕ) (rs : List ArcRef) (ordered : AllPairs IsHandleBefore w.rows) (fit : references_fault w me [] rs ≡ None) (unvalued : is_valued me ≡ false) where
+module _ (w : Core) (me : Owner) (n : ℕ) (rs : List ArcRef) (ordered : AllPairs IsHandleBefore w.rows) (fit : references_fault w me [] rs ≡ None)
+    (unvalued : is_valued me ≡ false) where
   abbrev to : HandleRow → HandleRow
   to h = if is_named_by rs h.number.0 then owned-by (owner_value n) h else h
 
@@ -50,12 +58,17 @@ module _ (w : Core) (me : Owner) (n : ℕ) (rs : List ArcRef) (ordered : AllPair
 
   pub own-own : (q : ℕ) → sum_by (is_owned n q) w.rows ≡ 0 → sum_by (is_owned n q) (map to w.rows) ≡ named q rs
   own-own q before =
-      sum-map (is_owned n q) (both q) to w.rows (λ h among. grind (arith, nat_tests, at-most-sum (is_owned n q) w.rows h among)) ∙ sum-both q (is_named_by rs q) refl ∙ sym (once-named w me [] rs fit q)
+      sum-map (is_owned n q) (both q) to w.rows (λ h among. grind (arith, nat_tests, at-most-sum (is_owned n q) w.rows h among))
+      ∙ sum-both q (is_named_by rs q) refl ∙ sym (once-named w me [] rs fit q)
 
-module _ (w : Core) (me : Owner) (rs : List ArcRef) (ordered : AllPairs IsHandleBefore w.rows) (fit : references_fault w me [] rs ≡ None) (unvalued : is_valued me ≡ false)
-    (at at' : ℕ → Option Counts) (refs refs' : ℕ → List ArcRef) (top : ℕ) (x : HandleRow) (c : Counts) (fits : Fits at refs w.rows top [] owns_nothing) (owner : x.owner ≡ me)
-    (new : c ≡ record c { pins = one (is_pinning x.mode); holds = 1; is_dying = false; next = 0 }) (bare : (c.key ≡ 0) ⊎ (rs ≡ []) ⊎ (is_pinning x.mode ≡ true)) (real : 0 < x.node.0) (free : at x.node.0 ≡ None)
-    (here : at' x.node.0 ≡ Some c) (others : (q : ℕ) → q ≢ x.node.0 → at' q ≡ at q) (refers : refs' x.node.0 ≡ rs) (same : (q : ℕ) → q ≢ x.node.0 → refs' q ≡ refs q) where
+module _ (w : Core) (me : Owner) (rs : List ArcRef) (ordered : AllPairs IsHandleBefore w.rows) (fit : references_fault w me [] rs ≡ None)
+    (unvalued : is_valued me ≡ false)
+    (at at' : ℕ → Option Counts) (refs refs' : ℕ → List ArcRef) (top : ℕ) (x : HandleRow) (c : Counts) (fits : Fits at refs w.rows top [] owns_nothing)
+    (owner : x.owner ≡ me)
+    (new : c ≡ record c { pins = one (is_pinning x.mode); holds = 1; is_dying = false; next = 0 }) (bare : (c.key ≡ 0) ⊎ (rs ≡ []) ⊎ (is_pinning x.mode ≡ true))
+    (real : 0 < x.node.0) (free : at x.node.0 ≡ None)
+    (here : at' x.node.0 ≡ Some c) (others : (q : ℕ) → q ≢ x.node.0 → at' q ≡ at q) (refers : refs' x.node.0 ≡ rs)
+    (same : (q : ℕ) → q ≢ x.node.0 → refs' q ≡ refs q) where
   abbrev n : ℕ
   n = x.node.0
 
@@ -73,8 +86,22 @@ module _ (w : Core) (me : Owner) (rs : List ArcRef) (ordered : AllPairs IsHandle
 
   pub born-fits : Fits at' refs' rows' top [] owns_nothing
   born-fits = record {
-    pinned = λ m. grind (arith, nat_tests, cases_eq, pin-here, sum_by_push (λ h. one (is_pin m h)) given-rows x, moved-times (is_pin m) (is_named_by rs) (owner_value n) w.rows (λ h. refl));
-    holding = λ m. grind (arith, nat_tests, cases_eq, held-here, sum_by_push (λ h. one (is_at m h)) given-rows x, moved-times (is_at m) (is_named_by rs) (owner_value n) w.rows (λ h. refl));
+    pinned = λ m. grind (
+      arith,
+      nat_tests,
+      cases_eq,
+      pin-here,
+      sum_by_push (λ h. one (is_pin m h)) given-rows x,
+      moved-times (is_pin m) (is_named_by rs) (owner_value n) w.rows (λ h. refl),
+    );
+    holding = λ m. grind (
+      arith,
+      nat_tests,
+      cases_eq,
+      held-here,
+      sum_by_push (λ h. one (is_at m h)) given-rows x,
+      moved-times (is_at m) (is_named_by rs) (owner_value n) w.rows (λ h. refl),
+    );
     owned = λ m q. let free = owned-by-none m q x (ap is_valued owner ∙ unvalued) in
         grind (arith, nat_tests, cases_eq, owned-here q, sum_by_push (is_owned m q) given-rows x, free, same m, others-own w me n rs ordered fit unvalued m q);
     chain = fits.chain;
@@ -89,11 +116,13 @@ pub moved-turned : (s : ℕ → Bool) (o : Owner) (q : ℕ) (x : HandleRow) (row
 moved-turned s o q x [] spared = grind (arith, nat_tests)
 moved-turned s o q x (y ∷ ys) spared = grind (arith, nat_tests, moved-turned s o q x ys spared)
 
-pub turned-sum : (f : HandleRow → ℕ) (q : ℕ) (rows : List HandleRow) → ((x : HandleRow) → f (turned x) ≡ f x) → sum_by f (changed (is_handle q) turned rows) ≡ sum_by f rows
+pub turned-sum : (f : HandleRow → ℕ) (q : ℕ) (rows : List HandleRow) → ((x : HandleRow) → f (turned x) ≡ f x) → sum_by f (changed (is_handle q) turned rows)
+    ≡ sum_by f rows
 turned-sum f q rows same = grind (arith, nat_tests, sum-map)
 
 -- The world before the pins, and after them the tables; the handles are the value's then.
-module _ (w : Core) (me : Owner) (n : ℕ) (rs : List ArcRef) (ordered : AllPairs IsHandleBefore w.rows) (fit : references_fault w me [] rs ≡ None) (unvalued : is_valued me ≡ false)
+module _ (w : Core) (me : Owner) (n : ℕ) (rs : List ArcRef) (ordered : AllPairs IsHandleBefore w.rows) (fit : references_fault w me [] rs ≡ None)
+    (unvalued : is_valued me ≡ false)
     (none : (q : ℕ) → sum_by (is_owned n q) w.rows ≡ 0) (h : ℕ) (x : HandleRow) (free : is_valued x.owner ≡ false) (spared : is_named_by rs x.number.0 ≡ false)
     (at : ℕ → Option Counts) (refs refs' : ℕ → List ArcRef) (top : ℕ) (fits : Fits at refs (changed (is_handle h) turned w.rows ++ x ∷ []) top [] owns_nothing)
     (pinned : 0 < pins n (changed (is_handle h) turned w.rows ++ x ∷ [])) (refers : refs' n ≡ rs) (same : (q : ℕ) → q ≢ n → refs' q ≡ refs q) where
@@ -109,7 +138,8 @@ module _ (w : Core) (me : Owner) (n : ℕ) (rs : List ArcRef) (ordered : AllPair
     holding = λ m. fits.holding m ∙ sym (moved-times (is_at m) (is_named_by rs) (owner_value n) before (λ y. refl));
     owned = λ m q.
         let was : sum_by (is_owned m q) before ≡ sum_by (is_owned m q) w.rows = grind (arith, nat_tests, sum_by_push, turned-sum, owned-by-none) in
-        let is : sum_by (is_owned m q) joined-rows ≡ sum_by (is_owned m q) (moved (is_named_by rs) (owner_value n) w.rows) = grind (arith, nat_tests, moved-turned, sum_by_push, turned-sum, owned-by-none) in
+        let is : sum_by (is_owned m q) joined-rows ≡ sum_by (is_owned m q) (moved (is_named_by rs) (owner_value n) w.rows) =
+        grind (arith, nat_tests, moved-turned, sum_by_push, turned-sum, owned-by-none) in
         grind (arith, nat_tests, cases_eq, is, was, own-own w me n rs ordered fit unvalued q (none q), others-own w me n rs ordered fit unvalued m q);
     chain = fits.chain;
     marked = fits.marked;
@@ -119,24 +149,29 @@ module _ (w : Core) (me : Owner) (n : ℕ) (rs : List ArcRef) (ordered : AllPair
 
 -- ---- a load of a cell ends with a pin, and gives up what it still owns. The pin stays, so that cells are listed as of the world before
 
-pub references-placed : (w : Core) (places : Places) (owner : Owner) (seen : List ℕ) (refs : List ArcRef) → references_fault (record w { places = places }) owner seen refs ≡ references_fault w owner seen refs
+pub references-placed : (w : Core) (places : Places) (owner : Owner) (seen : List ℕ) (refs : List ArcRef)
+    → references_fault (record w { places = places }) owner seen refs ≡ references_fault w owner seen refs
 references-placed w places = fault-by w (record w { places = places })
 
-pub ready-owner : (t : Tables) (me : Owner) (l : LoadNumber) (node_type : ℕ) (refs : List ArcRef) (e : Ending) → IsWhole t → IsReady (plain_of t) me l node_type refs e → MayOwnLoad (plain_of t) me
+pub ready-owner : (t : Tables) (me : Owner) (l : LoadNumber) (node_type : ℕ) (refs : List ArcRef) (e : Ending) → IsWhole t
+    → IsReady (plain_of t) me l node_type refs e → MayOwnLoad (plain_of t) me
 ready-owner t me l node_type refs e whole r = subst (MayOwnLoad (plain_of t)) r.may.owned.own (whole.core.loads.owned l.0 r.may.load r.may.owned.stands_open)
 
 -- Of other nodes the same handles pin, and are Shared.
-module _ (h : HandleNumber) (node : NodeNumber) (rows : List HandleRow) (of : (y : HandleRow) → Among rows y → is_handle h.0 y ≡ true → y.node ≡ node) (n : ℕ) (other : (node.0 == n) ≡ false) where
+module _ (h : HandleNumber) (node : NodeNumber) (rows : List HandleRow) (of : (y : HandleRow) → Among rows y → is_handle h.0 y ≡ true → y.node ≡ node) (n : ℕ)
+    (other : (node.0 == n) ≡ false) where
   other-same : (pins n (changed (is_handle h.0) turned rows) ≡ pins n rows) × (sharing n (changed (is_handle h.0) turned rows) ≡ sharing n rows)
   other-same = (grind (arith, nat_tests, sum-map, of), grind (arith, nat_tests, sum-map, of))
 
-row-of : (rows : List HandleRow) → AllPairs IsHandleBefore rows → (row : HandleRow) → find_row row.number.0 rows ≡ Some row → (z : HandleRow) → Among rows z → is_handle row.number.0 z ≡ true
+row-of : (rows : List HandleRow) → AllPairs IsHandleBefore rows → (row : HandleRow) → find_row row.number.0 rows ≡ Some row → (z : HandleRow) → Among rows z
+    → is_handle row.number.0 z ≡ true
     → z.node ≡ row.node
 row-of rows ordered row found z among is = grind (arith, nat_tests, once rows ordered z row among, found-among row.number.0 rows row found)
 
 -- t1 is t with the pins; then the handles that the references name move to the node's value, and what the load still owns goes.
 module _ (t t1 : Tables) (storage : StorageView) (lists : Bool) (was : IsWhole t) (whole : IsWhole t1) (e : lists ≡ not storage.closed) (row : HandleRow)
-    (found : find_row row.number.0 (live t.ref_counts.handles.places.items) ≡ Some row) (me : Owner) (may : MayOwnLoad (plain_of t) me) (l : LoadNumber) (rs : List ArcRef)
+    (found : find_row row.number.0 (live t.ref_counts.handles.places.items) ≡ Some row) (me : Owner) (may : MayOwnLoad (plain_of t) me) (l : LoadNumber)
+    (rs : List ArcRef)
     (good : references_fault (plain_of t) (Owner.Load l) [] rs ≡ None)
     (a : Alike (with_handle (with_mode (core_of t storage) row.number Mode.LoosePinned) row.node Mode.Pinned me) (core_of t1 storage))
     (same : t1 ≡ record t { ref_counts = t1.ref_counts }) where
@@ -168,22 +203,28 @@ module _ (t t1 : Tables) (storage : StorageView) (lists : Bool) (was : IsWhole t
   of y among is = grind (arith, nat_tests, row-of, among-map (λ (z : HandleRow). if s z.number.0 then record z { owner = o } else z) w.rows y among)
 
   come : moved s o (live t1.ref_counts.handles.places.items) ≡ u.rows
-  come = ap (moved s o) a.rows ∙ moved-turned s o row.number.0 x w.rows (not-named (plain_of t) l rs was.core.handles good (t.ref_counts.last_handle + 1) (omega arith))
+  come = ap (moved s o) a.rows ∙ moved-turned s o row.number.0 x w.rows (not-named (plain_of t) l rs was.core.handles good (t.ref_counts.last_handle + 1)
+      (omega arith))
 
   as-moved : (f : HandleRow → Bool) → ((y : HandleRow) → f (record y { owner = o }) ≡ f y) → times f u.rows ≡ times f (live t1.ref_counts.handles.places.items)
   as-moved f keeps = ap (times f) (sym come) ∙ moved-times f s o (live t1.ref_counts.handles.places.items) keeps
 
-  module _ (k : RefCounts) (rows : live k.handles.places.items ≡ moved s o (live t1.ref_counts.handles.places.items)) (list : k.list ≡ t1.ref_counts.list) (last : k.last_handle ≡ t1.ref_counts.last_handle)
-      (capacity : vec_capacity k.handles.places ≡ vec_capacity t1.ref_counts.handles.places) (cells : (n : ℕ) → cell_in (counts_at k.nodes n) ≡ cell_in (counts_at t1.ref_counts.nodes n)) where
+  module _ (k : RefCounts) (rows : live k.handles.places.items ≡ moved s o (live t1.ref_counts.handles.places.items)) (list : k.list ≡ t1.ref_counts.list)
+      (last : k.last_handle ≡ t1.ref_counts.last_handle)
+      (capacity : vec_capacity k.handles.places ≡ vec_capacity t1.ref_counts.handles.places)
+      (cells : (n : ℕ) → cell_in (counts_at k.nodes n) ≡ cell_in (counts_at t1.ref_counts.nodes n)) where
     begun-pinned : SoFar u u nobody lists (record k { unlisted = None })
     begun-pinned = begun u u lists (record k { unlisted = None }) e (λ p own. refl)
-        (λ n. let b = unmixed t1 whole n in let p = as-moved (is_share n) (λ y. refl) in let q = as-moved (is_plain_pin n) (λ y. refl) in grind (arith, nat_tests))
+        (λ n. let b = unmixed t1 whole n in let p = as-moved (is_share n) (λ y. refl) in let q = as-moved (is_plain_pin n) (λ y. refl) in
+        grind (arith, nat_tests))
         (λ q.
         let had = (moved-to-value was.core s (named-unlisted was.core (Owner.Load l) rs refl good) row.node.0).owners_there.listed q in
         let more = sum_by_push (λ (h : HandleRow). one (is_handle q h && is_owned_by Owner.List h)) mid x in
-        grind (arith, nat_tests, turned-sum (λ (h : HandleRow). one (is_handle q h && is_owned_by Owner.List h)) row.number.0 rows0 (λ y. refl), had)) (rows ∙ come) (ap (λ v. v.items) list ∙ a.list) (last ∙ ap (λ (v : Last). v.handle) a.last)
+        grind (arith, nat_tests, turned-sum (λ (h : HandleRow). one (is_handle q h && is_owned_by Owner.List h)) row.number.0 rows0 (λ y. refl), had))
+        (rows ∙ come) (ap (λ v. v.items) list ∙ a.list) (last ∙ ap (λ (v : Last). v.handle) a.last)
         (let b = whole.core.handles.within.0 in omega arith)
-        (record { handles = (let b = a.places.handles in omega arith); entries = (let b = a.places.entries in let d = ap deque_capacity list in omega arith) }) (λ n. cells n ∙ a.cells n) refl
+        (record { handles = (let b = a.places.handles in omega arith); entries = (let b = a.places.entries in let d = ap deque_capacity list in omega arith) })
+        (λ n. cells n ∙ a.cells n) refl
 
     owned-pinned : (q : ℕ) → is_owned_in u (Owner.Load l) q ≡ given q
     owned-pinned q = grind (arith, nat_tests, cases_eq, found-first, no-load, passes-here, passes-none, owned-mode, owned-moved)
@@ -194,7 +235,8 @@ module _ (t t1 : Tables) (storage : StorageView) (lists : Bool) (was : IsWhole t
     as-before : {w' : Core} {r : Result (Unit {0}) Error} → Falls u u given r w' → Falls w u given r w'
     as-before {w'} {r} falls = seen-before {b = u} {w = w} {u = u} u.places (record { handles = omega arith; entries = omega arith }) (λ n none.
         let kept = owned-given (plain_of t) (Owner.Load l) (t.ref_counts.last_handle + 1) was.core.handles in
-        let plain = not-a-value (plain_of t) me (may-hold (plain_of t) me may) in let stays = stays-pinned (record w { rows = mid }) u w' given r x refl ordered plain (grind (arith, nat_tests, and-left)) falls n none in
+        let plain = not-a-value (plain_of t) me (may-hold (plain_of t) me may) in let stays =
+        stays-pinned (record w { rows = mid }) u w' given r x refl ordered plain (grind (arith, nat_tests, and-left)) falls n none in
         let more = sum_by_push (λ y. one (is_pin n y)) mid x in
         let z : one (is_pin n x) ≡ 0 = (let b = stays.0 in omega arith) in
         let other : (row.node.0 == n) ≡ false = grind (arith, nat_tests) in (
@@ -212,7 +254,8 @@ module _ (t t1 : Tables) (storage : StorageView) (lists : Bool) (was : IsWhole t
         let falls = gives u u begun-pinned (let b = ap length (rows ∙ come) in omega arith)
         (λ q own. within q (and-left (is_owned_in w (Owner.Load l) q) (not (s q)) (sym (owned-pinned q) ∙ own))) in
         let fell = as-before (subst (λ g. Falls u u g r (with_tables u new)) (λ i q. owned-pinned q i) falls) in
-        let closed-one = updated-by (option_map load_in) (load_at t.loads) loads l.0 None gone (λ q other. others q other ∙ ap (λ (v : Tables). load_at v.loads q) same) in
+        let closed-one = updated-by (option_map load_in) (load_at t.loads) loads l.0 None gone
+        (λ q other. others q other ∙ ap (λ (v : Tables). load_at v.loads q) same) in
         grind (arith, nat_tests, cases_eq)
 
 -- t1 is t with the pins
@@ -230,10 +273,12 @@ module _ (t t1 : Tables) (storage : StorageView) (row : HandleRow) (me : Owner)
       grind (arith, nat_tests, cases_eq n row.node.0, pins-here, sum_by_push, same, a.rows, a.cells n, was.steady.fits.pinned n, whole.steady.fits.pinned n)
 
 -- what is true with more places is true without them
-pub may-wider : {w v : Core} {me : Owner} {l : LoadNumber} {node : NodeNumber} {h : HandleNumber} {t : ℕ} {refs : List ArcRef} → OnlyRoom w v → MayEnd v me l node h t refs → MayEnd w me l node h t refs
+pub may-wider : {w v : Core} {me : Owner} {l : LoadNumber} {node : NodeNumber} {h : HandleNumber} {t : ℕ} {refs : List ArcRef} → OnlyRoom w v
+    → MayEnd v me l node h t refs → MayEnd w me l node h t refs
 may-wider {w} {v} {me} {l} {node} {h} {t} {refs} wider may = grind (arith, nat_tests, references-placed)
 
-pub installs-wider : {w v w' : Core} {me : Owner} {l : LoadNumber} {node : NodeNumber} {h k : HandleNumber} {refs : List ArcRef} → OnlyRoom w v → Installs v me l node h k refs w' → Installs w me l node h k refs w'
+pub installs-wider : {w v w' : Core} {me : Owner} {l : LoadNumber} {node : NodeNumber} {h k : HandleNumber} {refs : List ArcRef} → OnlyRoom w v
+    → Installs v me l node h k refs w' → Installs w me l node h k refs w'
 installs-wider {w} {v} {w'} {me} {l} {node} {h} {k} {refs} wider installs =
     let i : Installs (record w { places = v.places }) me l node h k refs w' = subst (λ u. Installs u me l node h k refs w') wider.same installs in
     let before : Core = record w { places = v.places } in
@@ -244,7 +289,21 @@ installs-wider {w} {v} {w'} {me} {l} {node} {h} {k} {refs} wider installs =
       at = i.at;
       next = record { above = i.next.above; is_left = i.next.is_left };
       falls = elim i.falls [
-        | inl (away, f) ↦ inl (away, record { told = f.told; falls = seen-before {b = before} {w = w} {u = with_pin given h node me} v.places wider.more (λ n none. (refl, refl)) f.falls })
-        | inr (here, f) ↦ inr (here, record { told = f.told; falls = seen-before {b = before} {w = w} {u = with_pin (without_load w l) h node me} v.places wider.more (λ n none. (refl, refl)) f.falls })
+        | inl (away, f) ↦ inl (
+          away,
+          record {
+            told = f.told;
+            falls = seen-before {b = before} {w = w} {u = with_pin given h node me} v.places wider.more
+                (λ n none. (refl, refl)) f.falls;
+          },
+        )
+        | inr (here, f) ↦ inr (
+          here,
+          record {
+            told = f.told;
+            falls = seen-before {b = before} {w = w} {u = with_pin (without_load w l) h node me} v.places
+                wider.more (λ n none. (refl, refl)) f.falls;
+          },
+        )
       ];
     }

@@ -26,14 +26,18 @@ use Rattle.pagable_tables.proofs.WorkCounts.{work-more, work-told}
 use Rattle.pagable_pager_spec.specs.Workers.{is_load_of}
 use Rattle.pagable_pager_spec.specs.Pager as pager
 
-pub moved-times : (f : HandleRow → Bool) (s : ℕ → Bool) (o : Owner) (rows : List HandleRow) → ((x : HandleRow) → f (record x { owner = o }) ≡ f x) → times f (moved s o rows) ≡ times f rows
-moved-times f s o rows same = sum-map (λ x. one (f x)) (λ x. one (f x)) (λ x. if s x.number.0 then record x { owner = o } else x) rows (λ x there. grind (arith, nat_tests, same x))
+pub moved-times : (f : HandleRow → Bool) (s : ℕ → Bool) (o : Owner) (rows : List HandleRow) → ((x : HandleRow) → f (record x { owner = o }) ≡ f x)
+    → times f (moved s o rows) ≡ times f rows
+moved-times f s o rows same = sum-map (λ x. one (f x)) (λ x. one (f x)) (λ x. if s x.number.0 then record x { owner = o } else x) rows
+    (λ x there. grind (arith, nat_tests, same x))
 
 pub no-load : (w : Core) (o : Owner) (l : LoadNumber) → MayOwnLoad w o → is_owner (Owner.Load l) o ≡ false
 no-load w o l may = grind (arith, nat_tests)
 
-pub moved-stands : (t : RefCounts) (h : Handles) (s : ℕ → Bool) (o : Owner) → IsFalling t [] owns_nothing → is_valued o ≡ false → ((x : HandleRow) → Among (live t.handles.places.items) x → s x.number.0 ≡ true → is_valued x.owner ≡ false)
-    → AreAtWork (moved s o (live t.handles.places.items)) t.nodes → Becomes t.handles (moved s o (live t.handles.places.items)) h → IsFalling (record t { handles = h }) [] owns_nothing
+pub moved-stands : (t : RefCounts) (h : Handles) (s : ℕ → Bool) (o : Owner) → IsFalling t [] owns_nothing → is_valued o ≡ false
+    → ((x : HandleRow) → Among (live t.handles.places.items) x → s x.number.0 ≡ true → is_valued x.owner ≡ false)
+    → AreAtWork (moved s o (live t.handles.places.items)) t.nodes → Becomes t.handles (moved s o (live t.handles.places.items)) h
+    → IsFalling (record t { handles = h }) [] owns_nothing
 moved-stands t h s o w plain free work is =
     let rows = live t.handles.places.items in
     let pinned : (n : ℕ) → pins n (moved s o rows) ≡ pins n rows = λ n. moved-times (is_pin n) s o rows (λ x. refl) in
@@ -50,7 +54,8 @@ moved-stands t h s o w plain free work is =
     }
 
 -- a look-up of what changes at one number, as it is told
-pub updated-by : {A B : Type 0} (f : Option A → B) (at at' : ℕ → Option A) (n : ℕ) (o : Option A) → at' n ≡ o → ((q : ℕ) → q ≢ n → at' q ≡ at q) → (q : ℕ) → updated n (f o) (λ q. f (at q)) q ≡ f (at' q)
+pub updated-by : {A B : Type 0} (f : Option A → B) (at at' : ℕ → Option A) (n : ℕ) (o : Option A) → at' n ≡ o → ((q : ℕ) → q ≢ n → at' q ≡ at q) → (q : ℕ)
+    → updated n (f o) (λ q. f (at q)) q ≡ f (at' q)
 updated-by f at at' n o here others q = grind (arith, nat_tests)
 
 -- a handle whose row passes a test was given
@@ -63,28 +68,35 @@ pub owned-given : (w : Core) (o : Owner) (q : ℕ) → pager.HandlesAreWhole w �
 owned-given w o q whole own = (passes-given (is_owned_by o) w q whole own).1
 
 -- all that a worker gives up when it ends is in its reach
-pub in-reach : (t : Tables) → IsWhole t → AreLater t → (v : WorkerNumber) (q : ℕ) → passes_in (gives_row (plain_of t) (ReleaseSet.Worker v)) (plain_of t).rows q ≡ true → InReach (reach_at t.workers v.0) q
-in-reach t whole later v q is = let (row, e, passes) = there-is (gives_row w (ReleaseSet.Worker v)) (find_row q w.rows) is in elim (cases_Bool (is_owner (Owner.Worker v) row.owner)) [
-  | inl own ↦ later.reach v.0 q (ap (if_there (is_owned_by (Owner.Worker v)) false) e ∙ own)
-  | inr other ↦ of-load row.owner (ap (if_there (is_owned_by row.owner) false) e ∙ owner-self row.owner) (sym (ap (λ b. b || is_load_of w v.0 row.owner) other) ∙ passes)
-]
+pub in-reach : (t : Tables) → IsWhole t → AreLater t → (v : WorkerNumber) (q : ℕ) → passes_in (gives_row (plain_of t) (ReleaseSet.Worker v)) (plain_of t).rows q
+    ≡ true → InReach (reach_at t.workers v.0) q
+in-reach t whole later v q is = let (row, e, passes) = there-is (gives_row w (ReleaseSet.Worker v)) (find_row q w.rows) is in
+    elim (cases_Bool (is_owner (Owner.Worker v) row.owner)) [
+      | inl own ↦ later.reach v.0 q (ap (if_there (is_owned_by (Owner.Worker v)) false) e ∙ own)
+      | inr other ↦ of-load row.owner (ap (if_there (is_owned_by row.owner) false) e ∙ owner-self row.owner)
+          (sym (ap (λ b. b || is_load_of w v.0 row.owner) other) ∙ passes)
+    ]
   where
     w : Core
     w = plain_of t
 
     of-load : (o : Owner) → is_owned_in w o q ≡ true → is_load_of w v.0 o ≡ true → InReach (reach_at t.workers v.0) q
-    of-load (Owner.Load l) own of = let a = λ (load : LoadRow) (e : load_at t.loads l.0 ≡ Some load). later.since l.0 load q e own in grind (arith, nat_tests, later.loads v.0 l.0)
+    of-load (Owner.Load l) own of = let a = λ (load : LoadRow) (e : load_at t.loads l.0 ≡ Some load). later.since l.0 load q e own in
+        grind (arith, nat_tests, later.loads v.0 l.0)
     of-load _ own of = absurd (cc)
 
 -- loads are told anew
-pub loads-anew : (before u w' : Core) (given : ℕ → Bool) (r : Result (Unit {0}) Error) (loads : ℕ → Option OpenLoad) → ((q : ℕ) → w'.loads q ≡ loads q) → Falls before u given r w' → Falls before u given r (record w' { loads = loads })
+pub loads-anew : (before u w' : Core) (given : ℕ → Bool) (r : Result (Unit {0}) Error) (loads : ℕ → Option OpenLoad) → ((q : ℕ) → w'.loads q ≡ loads q)
+    → Falls before u given r w' → Falls before u given r (record w' { loads = loads })
 loads-anew before u w' given r loads same falls = subst (λ l. Falls before u given r (record w' { loads = l })) (λ i q. same q i) falls
 
-pub one-more-works : (at at' : ℕ → Option HandleRange) (v : ℕ) (reach : HandleRange) → at' v ≡ Some reach → ((q : ℕ) → q ≢ v → at' q ≡ at q) → (q : ℕ) → is_some (at' q) ≡ updated v true (λ u. is_some (at u)) q
+pub one-more-works : (at at' : ℕ → Option HandleRange) (v : ℕ) (reach : HandleRange) → at' v ≡ Some reach → ((q : ℕ) → q ≢ v → at' q ≡ at q) → (q : ℕ)
+    → is_some (at' q) ≡ updated v true (λ u. is_some (at u)) q
 one-more-works at at' v reach here others q = sym (updated-by is_some at at' v (Some reach) here others q)
 
 -- the entry moves to it
-pub takes-worker : (w w1 w' : Core) (place : ℕ) (v : WorkerNumber) (found : Option HandleNumber) → w1 ≡ with_worker w → v.0 ≡ w.last.worker + 1 → place < length w.list → TakeCall w1 (Owner.Worker v) place found w' → TakesWorker w place (Ok v) w'
+pub takes-worker : (w w1 w' : Core) (place : ℕ) (v : WorkerNumber) (found : Option HandleNumber) → w1 ≡ with_worker w → v.0 ≡ w.last.worker + 1
+    → place < length w.list → TakeCall w1 (Owner.Worker v) place found w' → TakesWorker w place (Ok v) w'
 takes-worker w w1 w' place v found is next within call = let c = subst (λ u. TakeCall u (Owner.Worker v) place found w') is call in grind (arith, nat_tests)
 
 pub ruleset working = (nat_tests, one-more-works)
@@ -92,67 +104,128 @@ pub ruleset working = (nat_tests, one-more-works)
 -- ---- what loads own is what they owned, or has come since: while loads and workers come and go
 
 -- the open loads are ones that were open, and what a worker got besides is in its reach
-pub later-by : {t t' : Tables} → AreLater t → t.ref_counts.last_handle ≤ t'.ref_counts.last_handle → t'.noted ≡ t.noted → ((l : ℕ) (load : LoadRow) → load_at t'.loads l ≡ Some load → load_at t.loads l ≡ Some load) → IsNoLess t.workers t'.workers
-    → ((l q : ℕ) → owned (Owner.Load (record { 0 = l })) q (plain_of t').rows ≡ true → (owned (Owner.Load (record { 0 = l })) q (plain_of t).rows ≡ true) ⊎ (t.ref_counts.last_handle < q))
-    → ((v q : ℕ) → owned (owner_worker v) q (plain_of t').rows ≡ true → (owned (owner_worker v) q (plain_of t).rows ≡ true) ⊎ (t.ref_counts.last_handle < q) ⊎ InReach (reach_at t'.workers v) q) → AreLater t'
+pub later-by : {t t' : Tables} → AreLater t → t.ref_counts.last_handle ≤ t'.ref_counts.last_handle → t'.noted ≡ t.noted
+    → ((l : ℕ) (load : LoadRow) → load_at t'.loads l ≡ Some load → load_at t.loads l ≡ Some load) → IsNoLess t.workers t'.workers
+    → ((l q : ℕ) → owned (Owner.Load (record { 0 = l })) q (plain_of t').rows ≡ true → (owned (Owner.Load (record { 0 = l })) q (plain_of t).rows ≡ true)
+    ⊎ (t.ref_counts.last_handle < q))
+    → ((v q : ℕ) → owned (owner_worker v) q (plain_of t').rows ≡ true → (owned (owner_worker v) q (plain_of t).rows ≡ true) ⊎ (t.ref_counts.last_handle < q)
+    ⊎ InReach (reach_at t'.workers v) q) → AreLater t'
 later-by {t} {t'} later last noted loads less own work =
-    let wider : (v q : ℕ) → owned (owner_worker v) q (plain_of t).rows ≡ true → InReach (reach_at t'.workers v) q = λ v q had. less.wider v q (later.reach v q had) in
+    let wider : (v q : ℕ) → owned (owner_worker v) q (plain_of t).rows ≡ true → InReach (reach_at t'.workers v) q =
+    λ v q had. less.wider v q (later.reach v q had) in
     grind (arith, nat_tests, later.given, later.since, later.begun, later.loads, later.noted, later.until, noted, less.before, wider, loads, own, work)
 
 pub still-reaches : {S : Type 0} {workers workers' : IndexMap ℕ HandleRange S} → workers' ≡ workers → IsNoLess workers workers'
-still-reaches {S} {workers} {workers'} same = subst (λ u. IsNoLess workers u) (sym same) (record { wider = λ v q in-reach. in-reach; before = λ v. omega arith })
+still-reaches {S} {workers} {workers'} same = subst (λ u. IsNoLess workers u) (sym same)
+    (record { wider = λ v q in-reach. in-reach; before = λ v. omega arith })
 
-pub later-less : {t t' : Tables} → AreLater t → OnlyNewer (plain_of t) (plain_of t') → t'.noted ≡ t.noted → ((l : ℕ) (load : LoadRow) → load_at t'.loads l ≡ Some load → load_at t.loads l ≡ Some load) → IsNoLess t.workers t'.workers → AreLater t'
+pub later-less : {t t' : Tables} → AreLater t → OnlyNewer (plain_of t) (plain_of t') → t'.noted ≡ t.noted
+    → ((l : ℕ) (load : LoadRow) → load_at t'.loads l ≡ Some load → load_at t.loads l ≡ Some load) → IsNoLess t.workers t'.workers → AreLater t'
 later-less later newer noted loads less = grind (arith, nat_tests, later-by)
 
-pub later-on : {t t' : Tables} → AreLater t → OnlyNewer (plain_of t) (plain_of t') → t'.loads ≡ t.loads → t'.workers ≡ t.workers → t'.noted ≡ t.noted → AreLater t'
+pub later-on : {t t' : Tables} → AreLater t → OnlyNewer (plain_of t) (plain_of t') → t'.loads ≡ t.loads → t'.workers ≡ t.workers → t'.noted ≡ t.noted
+    → AreLater t'
 later-on later newer loads same noted = later-less later newer noted (λ l load is. ap (λ m. load_at m l) (sym loads) ∙ is) (still-reaches same)
 
-pub closed-still : (at at' : ℕ → Option LoadRow) (m : ℕ) → at' m ≡ None → ((q : ℕ) → q ≢ m → at' q ≡ at q) → (l : ℕ) (load : LoadRow) → at' l ≡ Some load → at l ≡ Some load
+pub closed-still : (at at' : ℕ → Option LoadRow) (m : ℕ) → at' m ≡ None → ((q : ℕ) → q ≢ m → at' q ≡ at q) → (l : ℕ) (load : LoadRow) → at' l ≡ Some load → at l
+    ≡ Some load
 closed-still at at' m gone others l load is = grind (arith, nat_tests)
 
 none-owned : (w : Core) (o : Owner) (q : ℕ) → ((h : HandleRow) → Among w.rows h → h.owner ≡ o → ⊥) → is_owned_in w o q ≡ true → ⊥
-none-owned w o q nobody own = let (row, e, is) = there-is (is_owned_by o) (find_row q w.rows) own in nobody row (found-among q w.rows row e).0 (owner-same o row.owner is)
+none-owned w o q nobody own = let (row, e, is) = there-is (is_owned_by o) (find_row q w.rows) own in
+    nobody row (found-among q w.rows row e).0 (owner-same o row.owner is)
 
-pub later-opened : {t t' : Tables} → pager.IsWhole (plain_of t) → AreLater t → OnlyNewer (plain_of t) (plain_of t') → (m : ℕ) (row : LoadRow) → load_at t.loads m ≡ None → load_at t'.loads m ≡ Some row → row.since ≡ t.ref_counts.last_handle
+pub later-opened : {t t' : Tables} → pager.IsWhole (plain_of t) → AreLater t → OnlyNewer (plain_of t) (plain_of t') → (m : ℕ) (row : LoadRow)
+    → load_at t.loads m ≡ None → load_at t'.loads m ≡ Some row → row.since ≡ t.ref_counts.last_handle
     → ((q : ℕ) → q ≢ m → load_at t'.loads q ≡ load_at t.loads q) → t'.workers ≡ t.workers → t'.noted ≡ t.noted → AreLater t'
 later-opened {t} {t'} whole later newer m row none here since others same noted =
     let new-owns : (q : ℕ) → owned (Owner.Load (record { 0 = m })) q (plain_of t).rows ≡ true → ⊥ = λ q own.
     none-owned (plain_of t) (Owner.Load (record { 0 = m })) q (λ h among of. absurd (let a = whole.owners_there.loads h (record { 0 = m }) among of in
     let b : is_some ((plain_of t).loads m) ≡ false = ap (λ o. is_some (option_map load_in o)) none in cc)) own in
-    grind (arith, nat_tests, cases_eq, here, since, others, later.given, later.since, later.begun, later.reach, later.loads, later.noted, later.until, noted, newer.last, newer.kept, new-owns)
+    grind (
+      arith,
+      nat_tests,
+      cases_eq,
+      here,
+      since,
+      others,
+      later.given,
+      later.since,
+      later.begun,
+      later.reach,
+      later.loads,
+      later.noted,
+      later.until,
+      noted,
+      newer.last,
+      newer.kept,
+      new-owns,
+    )
 
-pub later-begun : {t t' : Tables} → pager.IsWhole (plain_of t) → AreLater t → t' ≡ record t { workers = t'.workers; last_worker = t'.last_worker } → (v : ℕ) → v ≡ t.last_worker + 1
-    → reach_at t'.workers v ≡ record { since = t.ref_counts.last_handle; beside = 0 } → ((u : ℕ) → u ≢ v → reach_at t'.workers u ≡ reach_at t.workers u) → AreLater t'
+pub later-begun : {t t' : Tables} → pager.IsWhole (plain_of t) → AreLater t → t' ≡ record t { workers = t'.workers; last_worker = t'.last_worker } → (v : ℕ) → v
+    ≡ t.last_worker + 1
+    → reach_at t'.workers v ≡ record { since = t.ref_counts.last_handle; beside = 0 } → ((u : ℕ) → u ≢ v → reach_at t'.workers u ≡ reach_at t.workers u)
+    → AreLater t'
 later-begun {t} {t'} whole later same v new here others =
     let at-rest : (m : ℕ) → m ≡ v → (plain_of t).workers m ≡ true → ⊥ = λ m e is. let a = whole.workers_numbered m is in absurd (omega arith) in
-    let working : (m : ℕ) (o : Owner) → is_owner (owner_worker m) o ≡ true → pager.MayOwnLoad (plain_of t) o → (plain_of t).workers m ≡ true = λ m o owns may. grind (arith, nat_tests) in
+    let working : (m : ℕ) (o : Owner) → is_owner (owner_worker m) o ≡ true → pager.MayOwnLoad (plain_of t) o → (plain_of t).workers m ≡ true =
+    λ m o owns may. grind (arith, nat_tests) in
     let nobody : (q : ℕ) → owned (owner_worker v) q (plain_of t).rows ≡ true → ⊥ =
     λ q own. none-owned (plain_of t) (owner_worker v) q (λ h among of. at-rest v refl (whole.owners_there.workers h v among of)) own in
-    subst AreLater (sym same) (grind (arith, nat_tests, cases_eq, here, others, nobody, later.given, later.since, later.begun, later.reach, later.loads, later.noted, later.until))
+    subst AreLater (sym same) (grind (
+      arith,
+      nat_tests,
+      cases_eq,
+      here,
+      others,
+      nobody,
+      later.given,
+      later.since,
+      later.begun,
+      later.reach,
+      later.loads,
+      later.noted,
+      later.until,
+    ))
 
 -- ---- handles that come to a worker
 
-module _ (t : Tables) (later : AreLater t) (s : ℕ → Bool) (me : Owner) (other : (l : LoadNumber) → is_owner (Owner.Load l) me ≡ false) (rows : List HandleRow) (are : rows ≡ moved s me (plain_of t).rows) where
+module _ (t : Tables) (later : AreLater t) (s : ℕ → Bool) (me : Owner) (other : (l : LoadNumber) → is_owner (Owner.Load l) me ≡ false) (rows : List HandleRow)
+    (are : rows ≡ moved s me (plain_of t).rows) where
   pub load-kept : (l q : ℕ) → owned (Owner.Load (record { 0 = l })) q rows ≡ true → owned (Owner.Load (record { 0 = l })) q (plain_of t).rows ≡ true
-  load-kept l q own = let o : Owner = Owner.Load (record { 0 = l }) in and-left (owned o q (plain_of t).rows) (not (s q)) (sym (ap (owned o q) are ∙ owned-moved s me o q (plain_of t).rows (other (record { 0 = l }))) ∙ own)
+  load-kept l q own = let o : Owner = Owner.Load (record { 0 = l }) in and-left (owned o q (plain_of t).rows) (not (s q))
+      (sym (ap (owned o q) are ∙ owned-moved s me o q (plain_of t).rows (other (record { 0 = l }))) ∙ own)
 
-  pub worker-kept : (v q : ℕ) → owned (owner_worker v) q rows ≡ true → (owned (owner_worker v) q (plain_of t).rows ≡ true) ⊎ ((is_owner (owner_worker v) me ≡ true) × (s q ≡ true))
+  pub worker-kept : (v q : ℕ) → owned (owner_worker v) q rows ≡ true → (owned (owner_worker v) q (plain_of t).rows ≡ true)
+      ⊎ ((is_owner (owner_worker v) me ≡ true) × (s q ≡ true))
   worker-kept v q own = grind (arith, nat_tests, cases_eq, found-map, found-among, and-left, owned-moved)
 
   -- a load of the same owner hands handles of its own to it and is closed: they came after the worker began
-  pub later-handed : {t' : Tables} (l : LoadNumber) (row : LoadRow) → load_at t.loads l.0 ≡ Some row → is_owner me row.owner ≡ true → ((q : ℕ) → s q ≡ true → is_owned_in (plain_of t) (Owner.Load l) q ≡ true)
-      → IsNewer rows (plain_of t').rows t.ref_counts.last_handle t'.ref_counts.last_handle → ((m : ℕ) (load : LoadRow) → load_at t'.loads m ≡ Some load → load_at t.loads m ≡ Some load) → t'.workers ≡ t.workers → t'.noted ≡ t.noted → AreLater t'
+  pub later-handed : {t' : Tables} (l : LoadNumber) (row : LoadRow) → load_at t.loads l.0 ≡ Some row → is_owner me row.owner ≡ true
+      → ((q : ℕ) → s q ≡ true → is_owned_in (plain_of t) (Owner.Load l) q ≡ true)
+      → IsNewer rows (plain_of t').rows t.ref_counts.last_handle t'.ref_counts.last_handle
+      → ((m : ℕ) (load : LoadRow) → load_at t'.loads m ≡ Some load → load_at t.loads m ≡ Some load) → t'.workers ≡ t.workers → t'.noted ≡ t.noted
+      → AreLater t'
   later-handed {t'} l row here mine its newer loads same noted =
-      let after : (v q : ℕ) → is_owner (owner_worker v) me ≡ true → s q ≡ true → InReach (reach_at t'.workers v) q = λ v q is gone. subst (λ u. InReach (reach_at u v) q) (sym same)
-      (grind (arith, nat_tests, later.since l.0 row q here (its q gone), later.loads v l.0 row here (ap (is_owner (owner_worker v)) (owner-same me row.owner mine) ∙ is), owner-same)) in
-      later-by later newer.last noted loads (still-reaches same) (λ m q own. elim (newer.kept (Owner.Load (record { 0 = m })) q refl own) [ inl had ↦ inl (load-kept m q had) | inr past ↦ inr past ])
-      (λ (v q : ℕ) (own : owned (owner_worker v) q (plain_of t').rows ≡ true). let k = newer.kept (owner_worker v) q refl own in let a = after v q in let b = worker-kept v q in grind (arith, nat_tests))
+      let after : (v q : ℕ) → is_owner (owner_worker v) me ≡ true → s q ≡ true → InReach (reach_at t'.workers v) q =
+      λ v q is gone. subst (λ u. InReach (reach_at u v) q) (sym same)
+      (grind (
+        arith,
+        nat_tests,
+        later.since l.0 row q here (its q gone),
+        later.loads v l.0 row here (ap (is_owner (owner_worker v)) (owner-same me row.owner mine) ∙ is),
+        owner-same,
+      )) in
+      later-by later newer.last noted loads (still-reaches same) (λ m q own. elim (newer.kept (Owner.Load (record { 0 = m })) q refl own)
+      [ inl had ↦ inl (load-kept m q had) | inr past ↦ inr past ])
+      (λ (v q : ℕ) (own : owned (owner_worker v) q (plain_of t').rows ≡ true). let k = newer.kept (owner_worker v) q refl own in let a = after v q in
+      let b = worker-kept v q in grind (arith, nat_tests))
 
 -- ---- a handle that comes stays, while others that are given go with all that follows
 
 -- what isn't given and isn't a value's isn't in the least set
-module _ (rows : List HandleRow) (keyed : ℕ → Bool) (entries : List HandleRow) (given s : ℕ → Bool) (least : IsLeast rows keyed entries given s) (ordered : AllPairs IsHandleBefore rows)
+module _ (rows : List HandleRow) (keyed : ℕ → Bool) (entries : List HandleRow) (given s : ℕ → Bool) (least : IsLeast rows keyed entries given s)
+    (ordered : AllPairs IsHandleBefore rows)
     (x : HandleRow) (there : Among rows x) (plain : is_valued x.owner ≡ false) (kept : given x.number.0 ≡ false) where
   abbrev less : ℕ → Bool
   less q = s q && not (q == x.number.0)
@@ -168,11 +241,17 @@ module _ (rows : List HandleRow) (keyed : ℕ → Bool) (entries : List HandleRo
       sum-none (λ h. one (is_owned_by (owner_value n) h && is_outside less h)) rows (λ h among.
       let most = at-most-sum (λ h. one (is_owned_by (owner_value n) h && is_outside s h)) rows h among in
       grind (arith, nat_tests, least.closed n loses, once rows ordered h x among there, no-value n x.owner plain))) in
-      grind (arith, nat_tests, least.least less (grind (arith, nat_tests)) closed-less, at-most-sum (λ h. one (s h.number.0 && not (less h.number.0))) rows x there)
+      grind (
+        arith,
+        nat_tests,
+        least.least less (grind (arith, nat_tests)) closed-less,
+        at-most-sum (λ h. one (s h.number.0 && not (less h.number.0))) rows x there,
+      )
 
 -- why a cell must be listed, seen from another world before
 module _ {b w u w' : Core} {given : ℕ → Bool} {r : Result (Unit {0}) Error} (places : Places) (more : HasRoom u.places places)
-    (to : (n : ℕ) → pins n w'.rows ≡ 0 → (pins n b.rows ≡ pins n w.rows) × (sharing n b.rows ≡ sharing n w.rows)) (falls : Falls b (record u { places = places }) given r w') where
+    (to : (n : ℕ) → pins n w'.rows ≡ 0 → (pins n b.rows ≡ pins n w.rows) × (sharing n b.rows ≡ sharing n w.rows))
+    (falls : Falls b (record u { places = places }) given r w') where
   pub seen-before : Falls w u given r w'
   seen-before = grind (arith, nat_tests)
 
@@ -184,7 +263,8 @@ stays-pinned w u w' given r x rows ordered plain kept falls n none =
     let among : Among u.rows x = subst (λ l. Among l x) (sym rows) (among-last w.rows x) in
     let stands = not-least u.rows (is_keyed u) falls.entries given falls.gone falls.set ordered x among plain kept in
     let a = at-most-sum (λ h. one (is_pin n h && not (falls.gone h.number.0))) u.rows x among in let b = times-left (is_pin n) falls.gone u.rows in
-    let c = sum_by-append (λ h. one (is_pin n h)) (left_rows falls.gone u.rows) falls.entries in grind (arith, nat_tests, ap (pins n) falls.leaves.rows, sum_by_push)
+    let c = sum_by-append (λ h. one (is_pin n h)) (left_rows falls.gone u.rows) falls.entries in
+    grind (arith, nat_tests, ap (pins n) falls.leaves.rows, sum_by_push)
 
 pub eager-pins : (kind : ℕ) → is_loose_kind kind ≡ false → is_pinning (mode_of kind) ≡ true
 eager-pins kind eager = grind (arith, nat_tests)
@@ -192,7 +272,8 @@ eager-pins kind eager = grind (arith, nat_tests)
 pub loaded-append : (l : LoadNumber) (q : ℕ) (rows more : List HandleRow) → owned (Owner.Load l) q rows ≡ true → owned (Owner.Load l) q (rows ++ more) ≡ true
 loaded-append l q rows more own = grind (arith, nat_tests, found-append q rows more)
 
-pub not-named : (w : Core) (l : LoadNumber) (refs : List ArcRef) → HandlesAreWhole w → references_fault w (Owner.Load l) [] refs ≡ None → (q : ℕ) → w.last.handle < q → is_named_by refs q ≡ false
+pub not-named : (w : Core) (l : LoadNumber) (refs : List ArcRef) → HandlesAreWhole w → references_fault w (Owner.Load l) [] refs ≡ None → (q : ℕ)
+    → w.last.handle < q → is_named_by refs q ≡ false
 not-named w l refs whole good q above = grind (arith, nat_tests, owned-given w (Owner.Load l) q whole, named-mine w (Owner.Load l) [] refs good q)
 
 module _ (t t1 : Tables) (storage : StorageView) (node : NodeNumber) (mode : Mode) (me : Owner) (after : IsWhole t1)
@@ -206,27 +287,34 @@ module _ (t t1 : Tables) (storage : StorageView) (node : NodeNumber) (mode : Mod
   pub begun-made : (lists : Bool) → lists ≡ not storage.closed → SoFar made made nobody lists (record t1.ref_counts { unlisted = None })
   begun-made lists e = begun made made lists (record t1.ref_counts { unlisted = None }) e (λ p own. refl)
       (λ n. subst (λ r. (sharing n r ≡ 0) ⊎ (times (is_plain_pin n) r ≡ 0)) a.rows (unmixed t1 after n))
-      (λ q. let d = ap (times (λ (h : HandleNumber). h.0 == q)) a.list in let e = ap (times (of_list q)) a.rows in let f = after.core.owners_there.listed q in omega arith)
-      a.rows a.list (ap (λ (l : Last). l.handle) a.last) after.core.handles.within.0 (record { handles = a.places.handles; entries = a.places.entries }) a.cells refl
+      (λ q. let d = ap (times (λ (h : HandleNumber). h.0 == q)) a.list in let e = ap (times (of_list q)) a.rows in let f = after.core.owners_there.listed q in
+      omega arith)
+      a.rows a.list (ap (λ (l : Last). l.handle) a.last) after.core.handles.within.0 (record { handles = a.places.handles; entries = a.places.entries }) a.cells
+      refl
 
   -- others fall then, as seen from before it came
   pub falls-made : t1 ≡ record t { ref_counts = t1.ref_counts } → is_valued me ≡ false → (new : RefCounts) {given : ℕ → Bool} {r : Result (Unit {0}) Error}
-      → Falls made made given r (with_tables made new) → given (t.ref_counts.last_handle + 1) ≡ false → Falls before made given r (core_of (record t1 { ref_counts = new }) storage)
+      → Falls made made given r (with_tables made new) → given (t.ref_counts.last_handle + 1) ≡ false
+      → Falls before made given r (core_of (record t1 { ref_counts = new }) storage)
   falls-made same plain new {given} {r} f spared =
       let ordered = subst (AllPairs IsHandleBefore) a.rows after.core.handles.ordered in
       let stays = stays-pinned before made (with_tables made new) given r (row_of (t.ref_counts.last_handle + 1) node mode me) refl ordered plain spared f in
       grind (arith, nat_tests, cases_eq, seen-before)
 
-pub changed-push : (q : ℕ) (f : HandleRow → HandleRow) (rows : List HandleRow) (x : HandleRow) → q < x.number.0 → changed (is_handle q) f (rows ++ x ∷ []) ≡ changed (is_handle q) f rows ++ x ∷ []
+pub changed-push : (q : ℕ) (f : HandleRow → HandleRow) (rows : List HandleRow) (x : HandleRow) → q < x.number.0 → changed (is_handle q) f (rows ++ x ∷ [])
+    ≡ changed (is_handle q) f rows ++ x ∷ []
 changed-push q f [] x less = let other : is_handle q x ≡ false = grind (arith, nat_tests) in rw other refl
 changed-push q f (y ∷ ys) x less = ap (λ l. (if is_handle q y then f y else y) ∷ l) (changed-push q f ys x less)
 
 -- the tables' cache stays, and so what it gives is told of the whole
-pub pinned-alike : (w u w' : Core) (h : HandleNumber) (node : NodeNumber) (me : Owner) → h.0 ≤ w.last.handle → ((kind key : ℕ) → w'.cache kind key ≡ w.cache kind key)
-    → Alike (with_handle w node Mode.Pinned me) u → Alike (with_mode u h Mode.LoosePinned) w' → Alike (with_handle (with_mode w h Mode.LoosePinned) node Mode.Pinned me) w'
+pub pinned-alike : (w u w' : Core) (h : HandleNumber) (node : NodeNumber) (me : Owner) → h.0 ≤ w.last.handle
+    → ((kind key : ℕ) → w'.cache kind key ≡ w.cache kind key)
+    → Alike (with_handle w node Mode.Pinned me) u → Alike (with_mode u h Mode.LoosePinned) w'
+    → Alike (with_handle (with_mode w h Mode.LoosePinned) node Mode.Pinned me) w'
 pinned-alike w u w' h node me given cache a b = grind (arith, nat_tests, changed-push, same-cache)
 
-pub found-again : (q : ℕ) (rows rows' more : List HandleRow) (row : HandleRow) (o : Option HandleRow) → find_row q rows ≡ Some row → rows' ≡ rows ++ more → find_row q rows' ≡ o → o ≡ Some row
+pub found-again : (q : ℕ) (rows rows' more : List HandleRow) (row : HandleRow) (o : Option HandleRow) → find_row q rows ≡ Some row → rows' ≡ rows ++ more
+    → find_row q rows' ≡ o → o ≡ Some row
 found-again q rows rows' more row o is came again = sym again ∙ ap (find_row q) came ∙ found-append q rows more ∙ ap (λ o. or_else o (find_row q more)) is
 
 -- ---- a birth, by what it is made of
@@ -235,27 +323,32 @@ pub key-is : (k : ℕ) → 0 < k → key_in k ≡ OptionalDataKey.Some k
 key-is x0 some = grind (arith, nat_tests)
 
 -- of a cell that is away, where room was made before
-pub away-born : {w w1 w' : Core} (me : Owner) (node_type key n : ℕ) (rs : List ArcRef) (k : HandleNumber) → OnlyRoom w w1 → w1.last.node < greatest → n ≡ key → 0 < n → rs ≡ []
+pub away-born : {w w1 w' : Core} (me : Owner) (node_type key n : ℕ) (rs : List ArcRef) (k : HandleNumber) → OnlyRoom w w1 → w1.last.node < greatest → n ≡ key
+    → 0 < n → rs ≡ []
     → Bears w1 me node_type n rs Mode.LooseUnpinned k w' → AwayBirthCall w me node_type key (Ok k) w'
 away-born me node_type key n rs k room left is some none b = grind (arith, nat_tests, key-is, next-past, born-past)
 
-pub bears-goes : {w w' : Core} (me : Owner) (node_type key : ℕ) (rs : List ArcRef) (mode : Mode) (k : HandleNumber) → pager.IsWhole w → MayHold w me → references_fault w me [] rs ≡ None
+pub bears-goes : {w w' : Core} (me : Owner) (node_type key : ℕ) (rs : List ArcRef) (mode : Mode) (k : HandleNumber) → pager.IsWhole w → MayHold w me
+    → references_fault w me [] rs ≡ None
     → w.last.node < greatest → (is_shared mode ≡ true → has_key (key_in key) ≡ false) → Bears w me node_type key rs mode k w' → Goes w w'
 bears-goes {w} me node_type key rs mode k whole holder fit left unkeyed b =
     settled b.leaves (born-whole whole node_type (key_in key) rs mode me me (not-list w me holder) fit holder left b.next.is_left unkeyed)
-    (newer-then (newer-moved w (is_named_by rs) (owner_value (w.last.node + 1)) refl) (newer-handle (with_node w node_type (key_in key) rs) (next_node w) mode me))
+    (newer-then (newer-moved w (is_named_by rs) (owner_value (w.last.node + 1)) refl)
+    (newer-handle (with_node w node_type (key_in key) rs) (next_node w) mode me))
 
 -- ---- handles are given up together, those that pass a test or that references name
 
 -- the list's handle isn't given up where others are
-pub given-plain : (w : Core) (giving : ReleaseSet) (o : Owner) (node : NodeNumber) → gives w giving o node ≡ true → (is_owner Owner.List o ≡ false) ⊎ (giving ≡ ReleaseSet.Listed)
+pub given-plain : (w : Core) (giving : ReleaseSet) (o : Owner) (node : NodeNumber) → gives w giving o node ≡ true → (is_owner Owner.List o ≡ false)
+    ⊎ (giving ≡ ReleaseSet.Listed)
 given-plain w x2 o node is = grind (arith, nat_tests)
 
 -- what has been given, while those up to a number are left
 abbrev pub past_of : Core → Core → ReleaseSet → ℕ → ℕ → Bool
 past_of u w giving left q = nat_lt left q && passes_in (gives_row w giving) u.rows q
 
-module _ (before u w : Core) (lists : Bool) (giving : ReleaseSet) (shut : giving ≡ ReleaseSet.Listed → lists ≡ false) (reach : HandleRange) (within : (q : ℕ) → passes_in (gives_row w giving) u.rows q ≡ true → InReach reach q) where
+module _ (before u w : Core) (lists : Bool) (giving : ReleaseSet) (shut : giving ≡ ReleaseSet.Listed → lists ≡ false) (reach : HandleRange)
+    (within : (q : ℕ) → passes_in (gives_row w giving) u.rows q ≡ true → InReach reach q) where
   abbrev passes : ℕ → Bool
   passes q = passes_in (gives_row w giving) u.rows q
 
@@ -263,7 +356,8 @@ module _ (before u w : Core) (lists : Bool) (giving : ReleaseSet) (shut : giving
   past = past_of u w giving
 
   -- of what passes, what hasn't gone is there
-  told : (t : RefCounts) (given : ℕ → Bool) (f : SoFar before u given lists t) (q : ℕ) → passes_in (gives_row w giving) (live t.handles.places.items) q ≡ (not (f.gone q) && passes q)
+  told : (t : RefCounts) (given : ℕ → Bool) (f : SoFar before u given lists t) (q : ℕ) → passes_in (gives_row w giving) (live t.handles.places.items) q
+      ≡ (not (f.gone q) && passes q)
   told t given f q =
       let listed : (giving ≡ ReleaseSet.Listed) ⊎ (giving ≢ ReleaseSet.Listed) = grind (arith, nat_tests) in
       ap (λ rows. passes_in (gives_row w giving) rows q) f.rows ∙ passes-left (gives_row w giving) q f.gone f.entries u.rows (elim listed [
@@ -273,34 +367,43 @@ module _ (before u w : Core) (lists : Bool) (giving : ReleaseSet) (shut : giving
 
   -- what is given of the numbers that are left and isn't there has gone
   pub onto : (t : RefCounts) (left : ℕ) (s : ℕ → Bool) → ((r : ℕ) → s r ≡ true → passes r ≡ true) → ((r : ℕ) → past left r ≡ true → s r ≡ true)
-      → ((r : ℕ) → s r ≡ true → r ≤ left → passes_in (gives_row w giving) (live t.handles.places.items) r ≡ false) → SoFar before u (past left) lists t → SoFar before u s lists t
-  onto t left s up over none f = regiven before u (past left) s lists t f (λ r e. let p = up r e in let n = none r e in let g = told t (past left) f r in grind (arith, nat_tests)) over
+      → ((r : ℕ) → s r ≡ true → r ≤ left → passes_in (gives_row w giving) (live t.handles.places.items) r ≡ false) → SoFar before u (past left) lists t
+      → SoFar before u s lists t
+  onto t left s up over none f = regiven before u (past left) s lists t f (λ r e. let p = up r e in let n = none r e in let g = told t (past left) f r in
+      grind (arith, nat_tests)) over
 
   -- one more is given, the last of those that are left
-  pub one-past : (t new : RefCounts) (left : ℕ) (x : HandleRow) → 0 < x.number.0 → x.number.0 ≤ left → find_row x.number.0 (live t.handles.places.items) ≡ Some x → gives_row w giving x ≡ true
+  pub one-past : (t new : RefCounts) (left : ℕ) (x : HandleRow) → 0 < x.number.0 → x.number.0 ≤ left → find_row x.number.0 (live t.handles.places.items)
+      ≡ Some x → gives_row w giving x ≡ true
       → ((q : ℕ) → InReach reach q → x.number.0 < q → q ≤ left → passes_in (gives_row w giving) (live t.handles.places.items) q ≡ false)
-      → ((given : ℕ → Bool) → SoFar before u given lists t → SoFar before u (λ q. given q || q == x.number.0) lists new) → SoFar before u (past left) lists t → SoFar before u (past (x.number.0 - 1)) lists new
+      → ((given : ℕ → Bool) → SoFar before u given lists t → SoFar before u (λ q. given q || q == x.number.0) lists new) → SoFar before u (past left) lists t
+      → SoFar before u (past (x.number.0 - 1)) lists new
   one-past t new left x above below found is none gives f =
       let n = x.number.0 in
       let here : passes n ≡ true = (and_parts (not (f.gone n)) _ (sym (told t (past left) f n) ∙ ap (if_there (gives_row w giving) false) found ∙ is)).1 in
       let narrowed = onto t left (past n) (λ r e. grind (arith, nat_tests)) (λ r e. grind (arith, nat_tests))
       (λ r e. none r (within r (let p : passes r ≡ true = grind (arith, nat_tests) in p)) (let l : n < r = grind (arith, nat_tests) in l)) f in
-      regiven before u (λ q. past n q || q == n) (past (n - 1)) lists new (gives (past n) narrowed) (λ r e. grind (arith, nat_tests)) (λ r e. grind (arith, nat_tests, cases_eq r n))
+      regiven before u (λ q. past n q || q == n) (past (n - 1)) lists new (gives (past n) narrowed) (λ r e. grind (arith, nat_tests))
+      (λ r e. grind (arith, nat_tests, cases_eq r n))
 
-pub none-passes : (test : HandleRow → Bool) (q : ℕ) (ss : List Place) → ((k : ℕ) (d : Place) → k < length ss → (get_or ss k d).row.number.0 ≡ q → (get_or ss k d).is_live ≡ true → test (get_or ss k d).row ≡ false)
+pub none-passes : (test : HandleRow → Bool) (q : ℕ) (ss : List Place) → ((k : ℕ) (d : Place) → k < length ss → (get_or ss k d).row.number.0 ≡ q
+    → (get_or ss k d).is_live ≡ true → test (get_or ss k d).row ≡ false)
     → passes_in test (live ss) q ≡ false
 none-passes test q [] h = passes-none test q
-none-passes test q (s ∷ ss) h = let rest = none-passes test q ss (λ k d lt e. h (suc k) d (omega arith) e) in let first = h 0 s (omega arith) in grind (arith, nat_tests, passes-here)
+none-passes test q (s ∷ ss) h = let rest = none-passes test q ss (λ k d lt e. h (suc k) d (omega arith) e) in let first =
+    h 0 s (omega arith) in grind (arith, nat_tests, passes-here)
 
 -- below a place numbers are smaller, and from there on those that pass are too great
 pub none-from : (test : HandleRow → Bool) (ss : List Place) (p q left : ℕ) → ((k : ℕ) (d : Place) → k < p → (get_or ss k d).row.number.0 < q) → q ≤ left
-    → ((k : ℕ) (d : Place) → p ≤ k → k < length ss → (get_or ss k d).is_live ≡ true → test (get_or ss k d).row ≡ true → left < (get_or ss k d).row.number.0) → passes_in test (live ss) q ≡ false
+    → ((k : ℕ) (d : Place) → p ≤ k → k < length ss → (get_or ss k d).is_live ≡ true → test (get_or ss k d).row ≡ true → left < (get_or ss k d).row.number.0)
+    → passes_in test (live ss) q ≡ false
 none-from test ss p q left below within above = grind (arith, nat_tests, none-passes, le_or_lt p)
 
 module _ (ss : List Place) (m : ℕ) (p : Place) (within : m < length ss) (is : p ≡ get_or ss m p) where
   -- all places up to one that isn't above a number are below each greater one
   pub below-to : (since q : ℕ) → AllPairs IsBefore ss → p.row.number.0 ≤ since → since < q → (k : ℕ) (d : Place) → k < m + 1 → (get_or ss k d).row.number.0 < q
-  below-to since q ordered up over k d h = let at = ap (λ (x : Place). x.row.number.0) (is ∙ get_or_default ss m p d within) in grind (arith, nat_tests, cases_eq)
+  below-to since q ordered up over k d h = let at = ap (λ (x : Place). x.row.number.0) (is ∙ get_or_default ss m p d within) in
+      grind (arith, nat_tests, cases_eq)
 
   pub place-got : p.is_live ≡ true → slice_get ss m ≡ Some (alive p.row)
   place-got lives = slice_get-get_or ss m p within ∙ ap Some (sym is) ∙ ap (λ b. Some (record { row = p.row; is_live = b })) lives
@@ -314,13 +417,16 @@ named_owned w l rs i q = is_named_by (take i rs) q && is_owned_in w (Owner.Load 
 
 module _ (before w : Core) (lists : Bool) (t : RefCounts) (l : LoadNumber) (rs : List ArcRef) where
   pub none-given : SoFar before w nobody lists t → SoFar before w (named_owned w l rs 0) lists t
-  none-given f = regiven before w nobody (named_owned w l rs 0) lists t f (λ r e. absurd (let a = and-left (is_named_by (take 0 rs) r) _ e in let b = named-none r in cc)) (λ r e. absurd (cc))
+  none-given f = regiven before w nobody (named_owned w l rs 0) lists t f
+      (λ r e. absurd (let a = and-left (is_named_by (take 0 rs) r) _ e in let b = named-none r in cc)) (λ r e. absurd (cc))
 
-  pub one-given : (i : ℕ) (d : ArcRef) → i < length rs → SoFar before w (and_owned w l (named_owned w l rs i) (get_or rs i d).handle.0) lists t → SoFar before w (named_owned w l rs (i + 1)) lists t
+  pub one-given : (i : ℕ) (d : ArcRef) → i < length rs → SoFar before w (and_owned w l (named_owned w l rs i) (get_or rs i d).handle.0) lists t
+      → SoFar before w (named_owned w l rs (i + 1)) lists t
   one-given i d lt f = regiven before w (and_owned w l (named_owned w l rs i) (get_or rs i d).handle.0) (named_owned w l rs (i + 1)) lists t f
       (λ r e. grind (arith, nat_tests, named-take rs i d r lt)) (λ r e. grind (arith, nat_tests, named-take rs i d r lt))
 
-  pub all-given : (i : ℕ) → take i rs ≡ rs → ((q : ℕ) → is_named_by rs q ≡ true → is_owned_in w (Owner.Load l) q ≡ true) → SoFar before w (named_owned w l rs i) lists t → SoFar before w (is_named_by rs) lists t
+  pub all-given : (i : ℕ) → take i rs ≡ rs → ((q : ℕ) → is_named_by rs q ≡ true → is_owned_in w (Owner.Load l) q ≡ true)
+      → SoFar before w (named_owned w l rs i) lists t → SoFar before w (is_named_by rs) lists t
   all-given i all owned f = grind (arith, nat_tests, and-left)
 
 pub ruleset places = (nat_tests, place-got, row-there)
@@ -341,14 +447,17 @@ abbrev pub Each : Tables → (Core → Core → Type 0) → Tables → Type 0
 Each old step new = (storage : StorageView) → step (core_of old storage) (core_of new storage)
 
 module _ {old new : Tables} {step : Core → Core → Type 0} where
-  pub does-by : Each old step new → IsFalling new.ref_counts [] owns_nothing → (step (plain_of old) (plain_of new) → ArePlaced (plain_of new) → pager.IsWhole (plain_of new))
+  pub does-by : Each old step new → IsFalling new.ref_counts [] owns_nothing
+      → (step (plain_of old) (plain_of new) → ArePlaced (plain_of new) → pager.IsWhole (plain_of new))
       → (step (plain_of old) (plain_of new) → AreLater old → AreLater new) → Does old step new
   does-by does steady whole later = let plain = does no_blobs in record { does = does; whole = whole-so steady (whole plain); later = later plain }
 
   -- loads and workers are those that were
-  pub does-so : Each old step new → IsFalling new.ref_counts [] owns_nothing → (step (plain_of old) (plain_of new) → Goes (plain_of old) (plain_of new)) → new.loads ≡ old.loads
+  pub does-so : Each old step new → IsFalling new.ref_counts [] owns_nothing → (step (plain_of old) (plain_of new) → Goes (plain_of old) (plain_of new))
+      → new.loads ≡ old.loads
       → new.workers ≡ old.workers → new.noted ≡ old.noted → Does old step new
-  does-so does steady goes loads workers noted = does-by does steady (λ plain. (goes plain).whole) (λ plain later. later-on later (goes plain).newer loads workers noted)
+  does-so does steady goes loads workers noted = does-by does steady (λ plain. (goes plain).whole)
+      (λ plain later. later-on later (goes plain).newer loads workers noted)
 
 pub nothing-does : {t : Tables} {step : Core → Core → Type 0} → IsWhole t → Each t step t → Does t step t
 nothing-does whole does = record { does = does; whole = whole; later = λ later. later }
@@ -367,21 +476,26 @@ abbrev pub listing : Bool → Tables → Core
 listing lists t = core_of t (no_blobs_of lists)
 
 -- the same, of a step that is made as cells are listed
-module _ {lists : Bool} {old new : Tables} {step : Core → Core → Type 0} (does : Each old (λ w w'. lists ≡ not w.closed → step w w') new) (steady : IsFalling new.ref_counts [] owns_nothing) where
+module _ {lists : Bool} {old new : Tables} {step : Core → Core → Type 0} (does : Each old (λ w w'. lists ≡ not w.closed → step w w') new)
+    (steady : IsFalling new.ref_counts [] owns_nothing) where
   pub lazily-by : (step (listing lists old) (listing lists new) → ArePlaced (plain_of new) → pager.IsWhole (plain_of new))
       → (step (listing lists old) (listing lists new) → AreLater old → AreLater new) → Does old (λ w w'. lists ≡ not w.closed → step w w') new
-  lazily-by whole later = let plain = does (no_blobs_of lists) (closed-is (not lists) lists refl) in record { does = does; whole = whole-so steady (whole plain); later = later plain }
+  lazily-by whole later = let plain = does (no_blobs_of lists) (closed-is (not lists) lists refl) in
+      record { does = does; whole = whole-so steady (whole plain); later = later plain }
 
-  pub lazily-so : (step (listing lists old) (listing lists new) → Goes (listing lists old) (listing lists new)) → new.loads ≡ old.loads → new.workers ≡ old.workers
+  pub lazily-so : (step (listing lists old) (listing lists new) → Goes (listing lists old) (listing lists new)) → new.loads ≡ old.loads → new.workers
+      ≡ old.workers
       → new.noted ≡ old.noted → Does old (λ w w'. lists ≡ not w.closed → step w w') new
   lazily-so goes loads workers noted = lazily-by (λ plain. (goes plain).whole) (λ plain later. later-on later (goes plain).newer loads workers noted)
 
 -- and values go
-pub sheds-with : {X : Type 0} {lists : Bool} {old new : Tables} {values values' : NumberTable X} {step : Core → Core → Type 0} → Does old (λ w w'. lists ≡ not w.closed → step w w') new
+pub sheds-with : {X : Type 0} {lists : Bool} {old new : Tables} {values values' : NumberTable X} {step : Core → Core → Type 0}
+    → Does old (λ w w'. lists ≡ not w.closed → step w w') new
     → Sheds (counts_at old.ref_counts.nodes) (row_by values) (counts_at new.ref_counts.nodes) (row_by values') → DoesShed lists old values step new values'
 sheds-with does sheds = record { does = does.does; whole = does.whole; later = does.later; sheds = sheds }
 
-pub nothing-release_at : {X : Type 0} {lists : Bool} {t : Tables} {values : NumberTable X} {step : Core → Core → Type 0} → IsWhole t → Each t (λ w w'. lists ≡ not w.closed → step w w') t
+pub nothing-release_at : {X : Type 0} {lists : Bool} {t : Tables} {values : NumberTable X} {step : Core → Core → Type 0} → IsWhole t
+    → Each t (λ w w'. lists ≡ not w.closed → step w w') t
     → DoesShed lists t values step t values
 nothing-release_at {t = t} whole does = record { does = does; whole = whole; later = λ later. later; sheds = sheds-still t.ref_counts _ whole.steady }
 

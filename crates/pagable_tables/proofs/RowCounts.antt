@@ -24,11 +24,13 @@ among-more (z ∷ zs) ys x (suc i, is) = let r = among-more zs ys x (i, is) in (
 among-more x0 ys x x3 = grind (arith, nat_tests)
 
 -- what both cases give of a row to which f may be done
-pub each-changed : {X : Type 0} (test : X → Bool) (f : X → X) (P : X → Type 0) (x : X) → (test x ≡ true → P (f x)) → (test x ≡ false → P x) → P (if test x then f x else x)
+pub each-changed : {X : Type 0} (test : X → Bool) (f : X → X) (P : X → Type 0) (x : X) → (test x ≡ true → P (f x)) → (test x ≡ false → P x)
+    → P (if test x then f x else x)
 each-changed test f P x does not-so = grind (arith, nat_tests)
 
 -- a row of changed ones, of which the row before is known
-pub among-changed : {X : Type 0} (test : X → Bool) (f : X → X) (P : X → Type 0) (xs : List X) (x : X) → Among (changed test f xs) x → ((y : X) → Among xs y → test y ≡ true → P (f y))
+pub among-changed : {X : Type 0} (test : X → Bool) (f : X → X) (P : X → Type 0) (xs : List X) (x : X) → Among (changed test f xs) x
+    → ((y : X) → Among xs y → test y ≡ true → P (f y))
     → ((y : X) → Among xs y → test y ≡ false → P y) → P x
 among-changed test f P xs x among does stays = grind (arith, nat_tests, among-map (λ z. if test z then f z else z) xs x among, each-changed)
 
@@ -48,26 +50,51 @@ same-sum f g xs h = ap (sum_by f) (sym (map-id xs)) ∙ sum-map f g (λ x. x) xs
 -- ---- numbers
 
 -- the order stays where numbers do, and where a greater number comes
-pub ordered-map : (to : HandleRow → HandleRow) (rows : List HandleRow) → ((h : HandleRow) → (to h).number.0 ≡ h.number.0) → AllPairs IsHandleBefore rows → AllPairs IsHandleBefore (map to rows)
-ordered-map to rows same ordered j k d less lt = grind (arith, nat_tests, length-map rows to, get_or-map to rows j d d, get_or-map to rows k d d, ordered j k d less, same)
+pub ordered-map : (to : HandleRow → HandleRow) (rows : List HandleRow) → ((h : HandleRow) → (to h).number.0 ≡ h.number.0) → AllPairs IsHandleBefore rows
+    → AllPairs IsHandleBefore (map to rows)
+ordered-map to rows same ordered j k d less lt = grind (
+  arith,
+  nat_tests,
+  length-map rows to,
+  get_or-map to rows j d d,
+  get_or-map to rows k d d,
+  ordered j k d less,
+  same,
+)
 
-pub ordered-push : (rows : List HandleRow) (row : HandleRow) → ((h : HandleRow) → Among rows h → h.number.0 < row.number.0) → AllPairs IsHandleBefore rows → AllPairs IsHandleBefore (rows ++ row ∷ [])
+pub ordered-push : (rows : List HandleRow) (row : HandleRow) → ((h : HandleRow) → Among rows h → h.number.0 < row.number.0) → AllPairs IsHandleBefore rows
+    → AllPairs IsHandleBefore (rows ++ row ∷ [])
 ordered-push rows row above ordered = all_pairs_push IsHandleBefore rows row ordered (λ k d lt. above (get_or rows k d) (k, slice_get-get_or rows k d lt))
 
 first-less : (x : HandleRow) (xs : List HandleRow) → AllPairs IsHandleBefore (x ∷ xs) → (y : HandleRow) → Among xs y → x.number.0 < y.number.0
 first-less x xs ordered y (j, at) = grind (arith, slice_get_within xs j y at, get_or_from_slice_get xs j y x at, ordered 0 (suc j) x)
 
 -- two sums that are the same but at one row
-pub apart-sum : (f g : HandleRow → ℕ) (rows : List HandleRow) (row : HandleRow) → AllPairs IsHandleBefore rows → Among rows row → ((x : HandleRow) → (x.number.0 == row.number.0) ≡ false → f x ≡ g x)
+pub apart-sum : (f g : HandleRow → ℕ) (rows : List HandleRow) (row : HandleRow) → AllPairs IsHandleBefore rows → Among rows row
+    → ((x : HandleRow) → (x.number.0 == row.number.0) ≡ false → f x ≡ g x)
     → sum_by f rows + g row ≡ sum_by g rows + f row
 apart-sum f g [] row ordered among same = let a = among.1 in absurd (cc)
 apart-sum f g (x ∷ xs) row ordered (zero, is) same =
-    grind (arith, nat_tests, sum_by-cons f x xs, sum_by-cons g x xs, same-sum f g xs (λ y among. same y (let less = first-less x xs ordered y among in grind (arith, nat_tests))))
+    grind (
+      arith,
+      nat_tests,
+      sum_by-cons f x xs,
+      sum_by-cons g x xs,
+      same-sum f g xs
+          (λ y among. same y (let less = first-less x xs ordered y among in grind (arith, nat_tests))),
+    )
 apart-sum f g (x ∷ xs) row ordered (suc i, is) same =
     let less = first-less x xs ordered row (i, is) in
-    omega (arith, sum_by-cons f x xs, sum_by-cons g x xs, same x (grind (arith, nat_tests)), apart-sum f g xs row (λ j k d less lt. ordered (suc j) (suc k) d (omega arith) (omega arith)) (i, is) same)
+    omega (
+      arith,
+      sum_by-cons f x xs,
+      sum_by-cons g x xs,
+      same x (grind (arith, nat_tests)),
+      apart-sum f g xs row (λ j k d less lt. ordered (suc j) (suc k) d (omega arith) (omega arith)) (i, is) same,
+    )
 
-pub only-at : (f : HandleRow → ℕ) (rows : List HandleRow) (row : HandleRow) → AllPairs IsHandleBefore rows → Among rows row → ((x : HandleRow) → (x.number.0 == row.number.0) ≡ false → f x ≡ 0)
+pub only-at : (f : HandleRow → ℕ) (rows : List HandleRow) (row : HandleRow) → AllPairs IsHandleBefore rows → Among rows row
+    → ((x : HandleRow) → (x.number.0 == row.number.0) ≡ false → f x ≡ 0)
     → sum_by f rows ≡ f row
 only-at f rows row ordered among none = omega (arith, sum-none (λ (x : HandleRow). 0) rows (λ x there. refl), apart-sum f (λ x. 0) rows row ordered among none)
 
@@ -84,9 +111,16 @@ found-so q rows row ordered among number = at (find_row q rows) refl
 module _ {X : Type 0} (number : X → ℕ) (f : X → Bool) (q : ℕ) (only : (x : X) → f x ≡ true → number x ≡ q) (gone : ℕ → Bool) where
   pub one-left : (b : Bool) → gone q ≡ b → (xs : List X) → times f (filter (λ x. not (gone (number x))) xs) ≡ (if b then 0 else times f xs)
   one-left b e [] = grind (arith, nat_tests)
-  one-left b e (x ∷ xs) = let goes = only x in grind (arith, nat_tests, one-left b e xs, sum_by-cons (λ y. one (f y)) x xs, sum_by-cons (λ y. one (f y)) x (filter (λ x. not (gone (number x))) xs))
+  one-left b e (x ∷ xs) = let goes = only x in grind (
+    arith,
+    nat_tests,
+    one-left b e xs,
+    sum_by-cons (λ y. one (f y)) x xs,
+    sum_by-cons (λ y. one (f y)) x (filter (λ x. not (gone (number x))) xs),
+  )
 
-pub within-goes : (rows : List HandleRow) (given gone : ℕ → Bool) (h : HandleRow) → IsWithin rows given gone → Among rows h → given h.number.0 ≡ true → gone h.number.0 ≡ true
+pub within-goes : (rows : List HandleRow) (given gone : ℕ → Bool) (h : HandleRow) → IsWithin rows given gone → Among rows h → given h.number.0 ≡ true
+    → gone h.number.0 ≡ true
 within-goes rows given gone h within among is = grind (arith, nat_tests, at-most-sum (λ x. one (given x.number.0 && not (gone x.number.0))) rows h among)
 
 -- ---- what comes
@@ -108,11 +142,13 @@ entries-listed q last (x ∷ xs) new =
     let here = sum_by-cons (λ (h : HandleNumber). one (h.0 == q)) x.number (map (λ (h : HandleRow). h.number) xs) in
     grind (arith, nat_tests, entries-listed q (last + 1) xs new.3, sum_by-cons (λ h. one (is_handle q h && is_owned_by Owner.List h)) x xs, and-true)
 
-pub ordered-entries : (last : ℕ) (rows entries : List HandleRow) → ((h : HandleRow) → Among rows h → h.number.0 ≤ last) → AreNewEntries last entries → AllPairs IsHandleBefore rows
+pub ordered-entries : (last : ℕ) (rows entries : List HandleRow) → ((h : HandleRow) → Among rows h → h.number.0 ≤ last) → AreNewEntries last entries
+    → AllPairs IsHandleBefore rows
     → AllPairs IsHandleBefore (rows ++ entries)
 ordered-entries last rows [] few new ordered = subst (λ r. AllPairs IsHandleBefore r) (sym (append-nil rows)) ordered
 ordered-entries last rows (x ∷ xs) few new ordered = subst (λ r. AllPairs IsHandleBefore r) (append_assoc rows (x ∷ []) xs)
-    (ordered-entries (last + 1) (rows ++ x ∷ []) xs (λ h among. let number = new.0 in grind (arith, nat_tests, among-both rows (x ∷ []) h among, among-one x h, few h)) new.3
+    (ordered-entries (last + 1) (rows ++ x ∷ []) xs (λ h among. let number = new.0 in
+    grind (arith, nat_tests, among-both rows (x ∷ []) h among, among-one x h, few h)) new.3
     (ordered-push rows x (λ h among. let a = few h among in omega arith) ordered))
 
 -- ---- a change of a whole world, as small as a row, an entry or a load: what has to be shown of it, and that the world is whole then
@@ -148,7 +184,8 @@ stays-old {rows} {h} among = record { row = h; there = among; number = refl; nod
 pub record IsNew (w u : Core) (fresh : Bool) (h : HandleRow) : Type 0 where
   pub above : w.last.handle < h.number.0
   pub few : h.number.0 ≤ u.last.handle
-  pub like : HasLike w.rows h.node.0 (is_shared h.mode) ⊎ ((w.last.node < h.node.0) × (h.node.0 ≤ u.last.node) × (is_shared h.mode ≡ fresh) × (fresh ≡ true → keyed_in (u.cells h.node.0) ≡ false))
+  pub like : HasLike w.rows h.node.0 (is_shared h.mode) ⊎ ((w.last.node < h.node.0) × (h.node.0 ≤ u.last.node) × (is_shared h.mode ≡ fresh)
+      × (fresh ≡ true → keyed_in (u.cells h.node.0) ≡ false))
 
 -- rows and nodes as they go on
 pub record GoOn (w u : Core) : Type 0 where
@@ -160,7 +197,8 @@ pub record GoOn (w u : Core) : Type 0 where
   pub typed : (n t : ℕ) → n ≤ w.last.node → type_in (u.cells n) ≡ Some t → type_in (w.cells n) ≡ Some t
   pub keyed : (n : ℕ) → HasLike w.rows n true → n ≤ w.last.node → keyed_in (w.cells n) ≡ false → keyed_in (u.cells n) ≡ false
 
-pub same-rows : {w u : Core} → IsWhole w → u.rows ≡ w.rows → SameAt w.cells u.cells → u.last.node ≡ w.last.node → u.last.handle ≡ w.last.handle → w.last.load ≤ u.last.load → GoOn w u
+pub same-rows : {w u : Core} → IsWhole w → u.rows ≡ w.rows → SameAt w.cells u.cells → u.last.node ≡ w.last.node → u.last.handle ≡ w.last.handle
+    → w.last.load ≤ u.last.load → GoOn w u
 same-rows {w} {u} whole rows cells node handle load = grind (arith, nat_tests, stays-old)
 
 -- ---- owners and loads
@@ -219,7 +257,8 @@ pub held-some : (n : ℕ) (rows : List HandleRow) (h : HandleRow) → Among rows
 held-some n rows h among e = let a = at-most-sum (λ x. one (is_at n x)) rows h among in grind (arith, nat_tests)
 
 pub there-then : {w : Core} → IsWhole w → (h : HandleRow) → Among w.rows h → is_some (w.cells h.node.0) ≡ true
-there-then {w} whole h among = let a = held-some h.node.0 w.rows h among refl in let b : nat_lt 0 (held h.node.0 w.rows) ≡ true = grind (arith, nat_tests) in whole.handles.live h.node.0 ∙ b
+there-then {w} whole h among = let a = held-some h.node.0 w.rows h among refl in let b : nat_lt 0 (held h.node.0 w.rows) ≡ true =
+    grind (arith, nat_tests) in whole.handles.live h.node.0 ∙ b
 
 -- rows of one node are all Shared, or none is
 abbrev pub AreAlike : List HandleRow → Type 0
@@ -258,8 +297,10 @@ module _ {w u : Core} (whole : IsWhole w) (k : Keeps w u) where
             let at = at-then n x counts in let l = like x among in let c = k.on.last in grind (arith, nat_tests, given);
         within = k.within;
         live = k.on.live;
-        uniform = λ n. uniform-rows n u.rows (λ x y there here same. let a = like x there in let b = like y here in grind (arith, nat_tests, given, alike-rows whole)) (sharing n u.rows) refl;
-        unkeyed = λ n some. let (x, among, counts) = counted (λ h. one (is_share n h)) u.rows some in let (at, is) = share-then n x counts in subst (λ m. keyed_in (u.cells m) ≡ false) at (keyless x among is);
+        uniform = λ n. uniform-rows n u.rows (λ x y there here same. let a = like x there in let b = like y here in
+            grind (arith, nat_tests, given, alike-rows whole)) (sharing n u.rows) refl;
+        unkeyed = λ n some. let (x, among, counts) = counted (λ h. one (is_share n h)) u.rows some in let (at, is) =
+            share-then n x counts in subst (λ m. keyed_in (u.cells m) ≡ false) at (keyless x among is);
         places = k.places;
       }
     where
@@ -287,7 +328,8 @@ module _ {w u : Core} (whole : IsWhole w) (k : Keeps w u) where
     loads = record {
       numbered = λ l some. grind (arith, nat_tests, k.loads, whole.loads.numbered, k.on.last);
       owned = λ l load is. (k.loads l load is).0;
-      roots = λ l load node t h is of. root node t h (elim (k.loads l load is).1 [ inl was ↦ whole.loads.roots l load node t h was of | inr new ↦ new.root node t h of ]);
+      roots = λ l load node t h is of. root node t h (elim (k.loads l load is).1
+          [ inl was ↦ whole.loads.roots l load node t h was of | inr new ↦ new.root node t h of ]);
     };
     cache = λ kind key n is. let e = k.cache kind key n is in grind (arith, nat_tests, like, k.on.typed);
     workers_numbered = k.workers;

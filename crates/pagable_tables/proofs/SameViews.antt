@@ -20,7 +20,10 @@ alike-on a b = record {
   rows = b.rows ∙ a.rows;
   cells = λ n. b.cells n ∙ a.cells n;
   list = b.list ∙ a.list;
-  cache = record { gives = λ kind key. b.cache.gives kind key ∙ a.cache.gives kind key; only = λ kind key n is. a.cache.only kind key n (b.cache.only kind key n is) };
+  cache = record {
+    gives = λ kind key. b.cache.gives kind key ∙ a.cache.gives kind key;
+    only = λ kind key n is. a.cache.only kind key n (b.cache.only kind key n is);
+  };
   stored = λ key. b.stored key ∙ a.stored key;
   closed = b.closed ∙ a.closed;
   failures = b.failures ∙ a.failures;
@@ -31,12 +34,16 @@ alike-on a b = record {
 }
 
 -- the cache forgets entries whose cells are gone
-pub forgets-gone : (w : Core) (cache : ℕ → ℕ → Option ℕ) → ((kind key : ℕ) → cache kind key ≡ if_there (λ n. if is_some (w.cells n) then Some n else None) None (w.cache kind key)) → Alike w (record w { cache = cache })
+pub forgets-gone : (w : Core) (cache : ℕ → ℕ → Option ℕ) → ((kind key : ℕ) → cache kind key
+    ≡ if_there (λ n. if is_some (w.cells n) then Some n else None) None (w.cache kind key)) → Alike w (record w { cache = cache })
 forgets-gone w cache is = record {
   rows = refl;
   cells = λ n. refl;
   list = refl;
-  cache = record { gives = λ kind key. gives kind key (w.cache kind key) (is kind key) refl; only = λ kind key n here. only kind key n (w.cache kind key) refl (sym (is kind key) ∙ here) };
+  cache = record {
+    gives = λ kind key. gives kind key (w.cache kind key) (is kind key) refl;
+    only = λ kind key n here. only kind key n (w.cache kind key) refl (sym (is kind key) ∙ here);
+  };
   stored = λ key. refl;
   closed = refl;
   failures = refl;
@@ -45,11 +52,13 @@ forgets-gone w cache is = record {
   last = refl;
   places = record { handles = omega arith; entries = omega arith };
 } where
-  gives : (kind key : ℕ) (known : Option ℕ) → cache kind key ≡ if_there (λ n. if is_some (w.cells n) then Some n else None) None known → w.cache kind key ≡ known
+  gives : (kind key : ℕ) (known : Option ℕ) → cache kind key ≡ if_there (λ n. if is_some (w.cells n) then Some n else None) None known → w.cache kind key
+      ≡ known
       → usable (record w { cache = cache }) kind key ≡ usable w kind key
   gives kind key known e f = grind (arith, nat_tests)
 
-  only : (kind key n : ℕ) (known : Option ℕ) → w.cache kind key ≡ known → if_there (λ m. if is_some (w.cells m) then Some m else None) None known ≡ Some n → w.cache kind key ≡ Some n
+  only : (kind key n : ℕ) (known : Option ℕ) → w.cache kind key ≡ known → if_there (λ m. if is_some (w.cells m) then Some m else None) None known ≡ Some n
+      → w.cache kind key ≡ Some n
   only kind key n known f e = grind (arith, nat_tests)
 
 -- rows, cells, list and room may be told anew
@@ -66,7 +75,8 @@ pub owner-same : (a b : Owner) → is_owner a b ≡ true → b ≡ a
 owner-same a b h = grind (arith, nat_tests)
 
 -- why references are refused depends on rows and cells alone
-pub fault-by : (w u : Core) (me : Owner) (seen : List ℕ) (rs : List ArcRef) → references_fault (record u { rows = w.rows; cells = w.cells }) me seen rs ≡ references_fault w me seen rs
+pub fault-by : (w u : Core) (me : Owner) (seen : List ℕ) (rs : List ArcRef) → references_fault (record u { rows = w.rows; cells = w.cells }) me seen rs
+    ≡ references_fault w me seen rs
 unfolding references_fault
 fault-by w u me seen [] = refl
 fault-by w u me seen (r ∷ rs) = ap (or_else (reference_fault w me seen r)) (fault-by w u me (r.handle.0 ∷ seen) rs)
@@ -94,7 +104,8 @@ is-least (Some e) None = refl
 is-least (Some e) (Some f) = refl
 
 pub earlier-each : (a b c : Option Error) → earlier (earlier a b) c ≡ earlier a (earlier b c)
-earlier-each a b c = is-least (earlier a b) c ∙ ap (λ x. least rank x c) (is-least a b) ∙ least-each rank a b c ∙ sym (is-least a (earlier b c) ∙ ap (least rank a) (is-least b c))
+earlier-each a b c = is-least (earlier a b) c ∙ ap (λ x. least rank x c) (is-least a b) ∙ least-each rank a b c
+    ∙ sym (is-least a (earlier b c) ∙ ap (least rank a) (is-least b c))
 
 pub earlier-none : (a : Option Error) → earlier a None ≡ a
 earlier-none a = grind (arith, nat_tests)
@@ -102,7 +113,8 @@ earlier-none a = grind (arith, nat_tests)
 pub both-none : (a b : Option Error) → earlier a b ≡ None → (a ≡ None) × (b ≡ None)
 both-none a b e = grind (arith, nat_tests)
 
-pub late : (a b : Option Error) (m : ℕ) → ((f : Error) → a ≡ Some f → m ≤ rank f) → ((f : Error) → b ≡ Some f → m ≤ rank f) → (f : Error) → earlier a b ≡ Some f → m ≤ rank f
+pub late : (a b : Option Error) (m : ℕ) → ((f : Error) → a ≡ Some f → m ≤ rank f) → ((f : Error) → b ≡ Some f → m ≤ rank f) → (f : Error) → earlier a b ≡ Some f
+    → m ≤ rank f
 late None b m one two f is = two f is
 late (Some e) None m one two f is = one f is
 late (Some e) (Some g) m one two f is = grind (arith, nat_tests)
@@ -121,7 +133,8 @@ references-low w o seen [] e is = absurd (cc)
 references-low w o seen (r ∷ rs) e is = grind (arith, nat_tests, reference-low, references-low w o (r.handle.0 ∷ seen) rs)
 
 abbrev fault-of : Owner → (Mode → Bool) → Option HandleRow → Option Error
-fault-of me fits o = if_there (λ (row : HandleRow). if not (is_owner me row.owner) then Some Error.NotYours else refused_if (not (fits row.mode)) Error.WrongMode) (Some Error.NoSuchHandle) o
+fault-of me fits o = if_there (λ (row : HandleRow). if not (is_owner me row.owner) then Some Error.NotYours else refused_if
+    (not (fits row.mode)) Error.WrongMode) (Some Error.NoSuchHandle) o
 
 fault-rank : (o : Option HandleRow) (me : Owner) (fits : Mode → Bool) (e : Error) → fault-of me fits o ≡ Some e → rank e ≤ 2
 fault-rank o me fits e is = grind (arith, nat_tests)
@@ -141,7 +154,8 @@ pub no-load-fault : (w : Core) (me : Owner) (l : LoadNumber) (load : OpenLoad) �
 no-load-fault w me l load own = grind (arith, nat_tests, owner-self)
 
 -- memory may be told to be wanting where it was asked for only of an own load
-pub told-later : {cause : Option Error} {full : Type 0} {w w' : Core} {e : Error} (me : Owner) (l : LoadNumber) → Refused cause (load_fault w me l) full w e w' → Refused cause (closed_fault w l) full w e w'
+pub told-later : {cause : Option Error} {full : Type 0} {w w' : Core} {e : Error} (me : Owner) (l : LoadNumber) → Refused cause (load_fault w me l) full w e w'
+    → Refused cause (closed_fault w l) full w e w'
 told-later {cause} {full} {w} {w'} {e} me l r = grind (arith, nat_tests)
 
 module _ (w : Core) (me : Owner) (kind : Kind) (key : ℕ) (node : NodeNumber) (mode : Mode) (w' : Core)
@@ -162,20 +176,23 @@ pub next-past : {w w' : Core} {k : HandleNumber} → OnlyRoom w w' → IsNext k 
 next-past {w} {w'} {k} o next = grind (arith, nat_tests)
 
 pub born-past : {w w1 w' : Core} (node_type : ℕ) (key : OptionalDataKey) (rs : List ArcRef) (mode : Mode) (me : Owner) → OnlyRoom w w1
-    → Alike (with_handle (with_node w1 node_type key rs) (next_node w1) mode me) w' → Alike (with_handle (with_node w node_type key rs) (next_node w) mode me) w'
+    → Alike (with_handle (with_node w1 node_type key rs) (next_node w1) mode me) w'
+    → Alike (with_handle (with_node w node_type key rs) (next_node w) mode me) w'
 born-past {w} {w1} {w'} node_type key rs mode me o a = grind (arith, nat_tests)
 
 pub room-fault : {w w' : Core} (me : Owner) (rs : List ArcRef) → OnlyRoom w w' → references_fault w' me [] rs ≡ references_fault w me [] rs
 room-fault {w} {w'} me rs o = ap (λ (u : Core). references_fault u me [] rs) o.same ∙ fault-by w (record w { places = w'.places }) me [] rs
 
 -- a new node that the cache knows from now on
-pub adopted-past : {w w1 w' : Core} (l : LoadNumber) (kind : Kind) (key : ℕ) (own : OptionalDataKey) (rs : List ArcRef) → OnlyRoom w w1 → Alike (adopted w1 l kind key own rs) w' → Alike (adopted w l kind key own rs) w'
+pub adopted-past : {w w1 w' : Core} (l : LoadNumber) (kind : Kind) (key : ℕ) (own : OptionalDataKey) (rs : List ArcRef) → OnlyRoom w w1
+    → Alike (adopted w1 l kind key own rs) w' → Alike (adopted w l kind key own rs) w'
 adopted-past {w} {w1} {w'} l kind key own rs o a = split w.closed (subst (λ (u : Core). Alike (adopted u l kind key own rs) w') o.same a)
   where
     m : Core
     m = with_handle (with_node w (type_of kind.0) own rs) (next_node w) (mode_of kind.0) (Owner.Load l)
 
-    split : (b : Bool) → Alike (if b then record m { places = w1.places } else with_cached (record m { places = w1.places }) kind key (next_node w)) w' → Alike (if b then m else with_cached m kind key (next_node w)) w'
+    split : (b : Bool) → Alike (if b then record m { places = w1.places } else with_cached (record m { places = w1.places }) kind key (next_node w)) w'
+        → Alike (if b then m else with_cached m kind key (next_node w)) w'
     split true a = grind (arith, nat_tests)
     split false a = grind (arith, nat_tests)
 
@@ -198,22 +215,28 @@ in-other hs n q other before = let a : (named_at hs n == q) ≡ false = grind (a
 
 pub in-there : (hs : List HandleNumber) (m n q : ℕ) → n < m → named_at hs n ≡ q → is_in (seen hs m) q ≡ true
 in-there hs zero n q lt is = absurd (omega arith)
-in-there hs (suc m) n q lt is = let a = in-more hs m q in let e : suc m ≡ m + 1 = omega arith in ap (λ k. is_in (seen hs k) q) e ∙ a ∙ grind (arith, nat_tests, in-there hs m n q)
+in-there hs (suc m) n q lt is = let a = in-more hs m q in let e : suc m ≡ m + 1 =
+    omega arith in ap (λ k. is_in (seen hs k) q) e ∙ a ∙ grind (arith, nat_tests, in-there hs m n q)
 
 abbrev pub one-fault : Core → Owner → List ℕ → HandleNumber → Option Error
-one-fault w o before h = if_there (λ (row : HandleRow). refused_if (not (is_owner o row.owner) || is_in before h.0) Error.NotYours) (Some Error.NoSuchHandle) (find_row h.0 w.rows)
+one-fault w o before h = if_there (λ (row : HandleRow). refused_if (not (is_owner o row.owner) || is_in before h.0) Error.NotYours) (Some Error.NoSuchHandle)
+    (find_row h.0 w.rows)
 
-pub one-named : (w : Core) (o : Owner) (hs : List HandleNumber) (p : ℕ) (x rest : Option Error) → p < length hs → x ≡ one-fault w o (seen hs p) (get_or hs p (record { 0 = 0 })) → rest ≡ named_fault w o (seen hs (p + 1)) (drop (p + 1) hs) → earlier x rest ≡ named_fault w o (seen hs p) (drop p hs)
+pub one-named : (w : Core) (o : Owner) (hs : List HandleNumber) (p : ℕ) (x rest : Option Error) → p < length hs → x
+    ≡ one-fault w o (seen hs p) (get_or hs p (record { 0 = 0 })) → rest ≡ named_fault w o (seen hs (p + 1)) (drop (p + 1) hs) → earlier x rest
+    ≡ named_fault w o (seen hs p) (drop p hs)
 unfolding named_fault seen
 one-named w o hs p x rest lt is follows = ap (λ x. earlier x rest) is
-    ∙ ap (earlier (one-fault w o (seen hs p) (get_or hs p (record { 0 = 0 })))) (follows ∙ ap (λ n. named_fault w o (seen hs n) (drop (p + 1) hs)) (let e : p + 1 ≡ suc p = omega arith in e))
+    ∙ ap (earlier (one-fault w o (seen hs p) (get_or hs p (record { 0 = 0 }))))
+    (follows ∙ ap (λ n. named_fault w o (seen hs n) (drop (p + 1) hs)) (let e : p + 1 ≡ suc p = omega arith in e))
     ∙ sym (at_drop_more (named_fault w o (seen hs p)) hs p (record { 0 = 0 }) lt)
 
 pub none-named : (w : Core) (o : Owner) (hs : List HandleNumber) → earlier None (named_fault w o (seen hs 0) (drop 0 hs)) ≡ named_fault w o [] hs
 unfolding seen
 none-named w o hs = refl
 
-pub all-named : (w : Core) (o : Owner) (hs : List HandleNumber) (p : ℕ) (x : Option Error) → length hs ≤ p → earlier x (named_fault w o (seen hs p) (drop p hs)) ≡ named_fault w o [] hs → x ≡ named_fault w o [] hs
+pub all-named : (w : Core) (o : Owner) (hs : List HandleNumber) (p : ℕ) (x : Option Error) → length hs ≤ p → earlier x (named_fault w o (seen hs p) (drop p hs))
+    ≡ named_fault w o [] hs → x ≡ named_fault w o [] hs
 unfolding named_fault
 all-named w o hs p x past is = sym (earlier-none x) ∙ sym (ap (λ rest. earlier x (named_fault w o (seen hs p) rest)) (drop_all p hs past)) ∙ is
 
@@ -221,7 +244,8 @@ pub none-moved : (o : Owner) (rows : List HandleRow) → moved (is_in []) o rows
 unfolding is_in
 none-moved o rows = map-id rows
 
-pub moved-twice : (s : ℕ → Bool) (h : HandleNumber) (o : Owner) (rows : List HandleRow) → moved (only_handle h) o (moved s o rows) ≡ moved (λ q. h.0 == q || s q) o rows
+pub moved-twice : (s : ℕ → Bool) (h : HandleNumber) (o : Owner) (rows : List HandleRow) → moved (only_handle h) o (moved s o rows)
+    ≡ moved (λ q. h.0 == q || s q) o rows
 moved-twice s h o [] = refl
 moved-twice s h o (x ∷ xs) = grind (arith, nat_tests, moved-twice s h o xs)
 
@@ -230,10 +254,12 @@ unfolding is_in
 in-push [] h q = refl
 in-push (x ∷ xs) h q = grind (arith, nat_tests, in-push xs h q)
 
-pub in-take : (hs : List HandleNumber) (i : ℕ) (d : HandleNumber) (q : ℕ) → i < length hs → is_in (numbers_of (take (i + 1) hs)) q ≡ ((get_or hs i d).0 == q || is_in (numbers_of (take i hs)) q)
+pub in-take : (hs : List HandleNumber) (i : ℕ) (d : HandleNumber) (q : ℕ) → i < length hs → is_in (numbers_of (take (i + 1) hs)) q
+    ≡ ((get_or hs i d).0 == q || is_in (numbers_of (take i hs)) q)
 in-take hs i d q lt = ap (λ l. is_in (numbers_of l) q) (ap (λ n. take n hs) (add-one i) ∙ take-suc hs i d lt) ∙ in-push (take i hs) (get_or hs i d) q
 
-pub found-map : (f : HandleRow → HandleRow) → ((h : HandleRow) → (f h).number.0 ≡ h.number.0) → (q : ℕ) (rows : List HandleRow) → find_row q (map f rows) ≡ option_map f (find_row q rows)
+pub found-map : (f : HandleRow → HandleRow) → ((h : HandleRow) → (f h).number.0 ≡ h.number.0) → (q : ℕ) (rows : List HandleRow) → find_row q (map f rows)
+    ≡ option_map f (find_row q rows)
 unfolding find_row
 found-map f same q [] = refl
 found-map f same q (x ∷ xs) = let a = same x in grind (arith, nat_tests, found-map f same q xs)
@@ -266,13 +292,17 @@ named-in [] i d q lt is = absurd (omega arith)
 named-in (r ∷ rs) zero d q lt is = grind (arith, nat_tests)
 named-in (r ∷ rs) (suc i) d q lt is = let a = named-in rs i d q (omega arith) is in grind (arith, nat_tests)
 
-pub named-take : (rs : List ArcRef) (i : ℕ) (d : ArcRef) (q : ℕ) → i < length rs → is_named_by (take (i + 1) rs) q ≡ ((get_or rs i d).handle.0 == q) || is_named_by (take i rs) q
+pub named-take : (rs : List ArcRef) (i : ℕ) (d : ArcRef) (q : ℕ) → i < length rs → is_named_by (take (i + 1) rs) q ≡ ((get_or rs i d).handle.0 == q)
+    || is_named_by (take i rs) q
 named-take rs i d q lt = ap (λ l. is_named_by l q) (ap (λ n. take n rs) (add-one i) ∙ take-suc rs i d lt) ∙ named-push (take i rs) (get_or rs i d) q
 
-pub named-other : (rs : List ArcRef) (i : ℕ) (d : ArcRef) (q : ℕ) → (get_or rs i d).handle.0 ≢ q → i < length rs → is_named_by (take i rs) q ≡ false → is_named_by (take (i + 1) rs) q ≡ false
-named-other rs i d q other lt before = let a : ((get_or rs i d).handle.0 == q) ≡ false = grind (arith, nat_tests) in named-take rs i d q lt ∙ ap (λ b. b || is_named_by (take i rs) q) a ∙ before
+pub named-other : (rs : List ArcRef) (i : ℕ) (d : ArcRef) (q : ℕ) → (get_or rs i d).handle.0 ≢ q → i < length rs → is_named_by (take i rs) q ≡ false
+    → is_named_by (take (i + 1) rs) q ≡ false
+named-other rs i d q other lt before = let a : ((get_or rs i d).handle.0 == q) ≡ false =
+    grind (arith, nat_tests) in named-take rs i d q lt ∙ ap (λ b. b || is_named_by (take i rs) q) a ∙ before
 
-pub seen-more : (seen : List ℕ) (rs : List ArcRef) (i : ℕ) (d : ArcRef) → i < length rs → ((q : ℕ) → is_in seen q ≡ is_named_by (take i rs) q) → (q : ℕ) → is_in ((get_or rs i d).handle.0 ∷ seen) q ≡ is_named_by (take (i + 1) rs) q
+pub seen-more : (seen : List ℕ) (rs : List ArcRef) (i : ℕ) (d : ArcRef) → i < length rs → ((q : ℕ) → is_in seen q ≡ is_named_by (take i rs) q) → (q : ℕ)
+    → is_in ((get_or rs i d).handle.0 ∷ seen) q ≡ is_named_by (take (i + 1) rs) q
 unfolding is_in
 seen-more seen rs i d lt same q = ap (λ b. ((get_or rs i d).handle.0 == q) || b) (same q) ∙ sym (named-take rs i d q lt)
 
@@ -284,7 +314,8 @@ module _ (w : Core) (me : Owner) (seen : List ℕ) (rs : List ArcRef) (i : ℕ) 
   pub fault-at : (d : ArcRef) (o : Option Error) → i < length rs → reference_fault w me seen (get_or rs i d) ≡ o
       → references_fault w me seen (drop i rs) ≡ or_else o (references_fault w me ((get_or rs i d).handle.0 ∷ seen) (drop (i + 1) rs))
   unfolding references_fault
-  fault-at d o lt is = subst (λ f. references_fault w me seen (drop i rs) ≡ or_else f (references_fault w me ((get_or rs i d).handle.0 ∷ seen) (drop (i + 1) rs))) is (rw (add-one, drop-cons rs i d) refl)
+  fault-at d o lt is = subst (λ f. references_fault w me seen (drop i rs)
+      ≡ or_else f (references_fault w me ((get_or rs i d).handle.0 ∷ seen) (drop (i + 1) rs))) is (rw (add-one, drop-cons rs i d) refl)
 
   pub fault-end : length rs ≤ i → references_fault w me seen (drop i rs) ≡ None
   unfolding references_fault
@@ -303,7 +334,11 @@ node-late w kind key f is = grind (arith, nat_tests)
 -- what refuses the load itself comes first
 pub not-own : {before : Option Error} {wanting : Type 0} (w : Core) (me : Owner) (l : LoadNumber) (rest : Option Error) (e : Error) → load_fault w me l ≡ Some e
     → ((f : Error) → rest ≡ Some f → 3 ≤ rank f) → Refused (earlier (load_fault w me l) rest) before wanting w e w
-not-own w me l rest e is late = record { why = inl (earlier-first (load_fault w me l) rest e is (λ f g. let a = load-low w me l e is in let b = late f g in omega arith)); stays = still w }
+not-own w me l rest e is late = record {
+  why = inl (earlier-first (load_fault w me l) rest e is (λ f g. let a = load-low w me l e is in let b = late f g in
+      omega arith));
+  stays = still w;
+}
 
 module _ (w : Core) (me : Owner) (l : LoadNumber) (load : OpenLoad) (kind : Kind) (key : ℕ) (own : OwnsLoad w me l load) where
   pub lazy-not-loose : is_loose_kind kind.0 ≡ false → LazyCall w me l kind key (Err Error.WrongKind) w
@@ -311,14 +346,16 @@ module _ (w : Core) (me : Owner) (l : LoadNumber) (load : OpenLoad) (kind : Kind
 
   module _ (loose : is_loose_kind kind.0 ≡ true) where
     -- a handle of the node that the cache gives
-    pub lazy-known : (node : NodeNumber) (mode : Mode) (r : Result HandleNumber Error) (w' : Core) → usable w kind.0 key ≡ Some node.0 → mode ≡ mode_of kind.0 → Makes w node mode (Owner.Load l) r w' → LazyCall w me l kind key r w'
+    pub lazy-known : (node : NodeNumber) (mode : Mode) (r : Result HandleNumber Error) (w' : Core) → usable w kind.0 key ≡ Some node.0 → mode ≡ mode_of kind.0
+        → Makes w node mode (Owner.Load l) r w' → LazyCall w me l kind key r w'
     lazy-known node mode r w' is fits m = grind (arith, nat_tests)
 
     module _ (none : usable w kind.0 key ≡ None) where
       pub lazy-not-new : {e : Error} {w' : Core} → Refused (birth_fault w) (birth_fault w) (Unit {0}) w e w' → LazyCall w me l kind key (Err e) w'
       lazy-not-new r = grind (arith, nat_tests, no-load-fault)
 
-      pub lazy-new : (k : HandleNumber) {w' : Core} → w.last.node < greatest → IsNext k w → Alike (adopted w l kind key (OptionalDataKey.Some key) []) w' → LazyCall w me l kind key (Ok k) w'
+      pub lazy-new : (k : HandleNumber) {w' : Core} → w.last.node < greatest → IsNext k w → Alike (adopted w l kind key (OptionalDataKey.Some key) []) w'
+          → LazyCall w me l kind key (Ok k) w'
       lazy-new k node_left next made = record { makes = (load, own, loose, inr (none, node_left, next, made)); refused = tt }
 
 abbrev Early : Option Error → Type 0
@@ -333,7 +370,8 @@ first d n early late = grind (arith, nat_tests)
 next : (c d n : Option Error) → Early c → Late n → earlier c (or_else d n) ≡ or_else (earlier c d) n
 next c d n early late = grind (arith, nat_tests)
 
-last-of : (a b c d n : Option Error) → Early a → Early b → Early c → Early d → Late n → earlier a (earlier b (earlier c (earlier d n))) ≡ or_else (earlier a (earlier b (earlier c d))) n
+last-of : (a b c d n : Option Error) → Early a → Early b → Early c → Early d → Late n → earlier a (earlier b (earlier c (earlier d n)))
+    ≡ or_else (earlier a (earlier b (earlier c d))) n
 last-of a b c d n ea eb ec ed late = grind (arith, nat_tests, earlier, first, next)
 
 module _ (w : Core) (me : Owner) (l : LoadNumber) (kind : Kind) (key node_type : ℕ) (refs : List ArcRef) where
@@ -348,7 +386,8 @@ module _ (w : Core) (me : Owner) (l : LoadNumber) (kind : Kind) (key node_type :
   not-adopted e is = record { why = inl (cause ∙ ap (λ f. or_else f (node_fault w kind key)) is); stays = still w }
 
   module _ (good : early ≡ None) where
-    parts : (load_fault w me l ≡ None) × (refused_if (is_loose_kind kind.0) Error.WrongMode ≡ None) × (refused_if (not (node_type == type_of kind.0)) Error.WrongKind ≡ None) × (references_fault w (Owner.Load l) [] refs ≡ None)
+    parts : (load_fault w me l ≡ None) × (refused_if (is_loose_kind kind.0) Error.WrongMode ≡ None)
+        × (refused_if (not (node_type == type_of kind.0)) Error.WrongKind ≡ None) × (references_fault w (Owner.Load l) [] refs ≡ None)
     parts = grind (arith, nat_tests, both-none)
 
     pub fitting : references_fault w (Owner.Load l) [] refs ≡ None
@@ -360,7 +399,8 @@ module _ (w : Core) (me : Owner) (l : LoadNumber) (kind : Kind) (key node_type :
     pub owner-of : (load : OpenLoad) × OwnsLoad w me l load
     owner-of = let own = parts.0 in grind (arith, nat_tests)
 
-    pub refused-memory : {w' : Core} → OnlyRoom w w' → Refused (adopt_fault w me l kind key node_type refs) (load_fault w me l) (Unit {0}) w Error.OutOfMemory w'
+    pub refused-memory : {w' : Core} → OnlyRoom w w' → Refused (adopt_fault w me l kind key node_type refs) (load_fault w me l)
+        (Unit {0}) w Error.OutOfMemory w'
     refused-memory room = record { why = inr (refl, parts.0, tt); stays = room-alike room }
 
     typed : node_type ≡ type_of kind.0
@@ -370,30 +410,53 @@ module _ (w : Core) (me : Owner) (l : LoadNumber) (kind : Kind) (key node_type :
     left = cause ∙ ap (λ f. or_else f (node_fault w kind key)) good
 
     -- the cache gives a node
-    pub adopts-known : (node : NodeNumber) (k : HandleNumber) {w' : Core} → usable w kind.0 key ≡ Some node.0 → IsNext k w → FallsAnyhow w (with_handle w node (mode_of kind.0) (Owner.Load l)) (is_named_by refs) w'
+    pub adopts-known : (node : NodeNumber) (k : HandleNumber) {w' : Core} → usable w kind.0 key ≡ Some node.0 → IsNext k w
+        → FallsAnyhow w (with_handle w node (mode_of kind.0) (Owner.Load l)) (is_named_by refs) w'
         → Adopts w me l kind key node_type refs k w'
-    adopts-known node k is next falls = record { load = owner-of.0; owned = owner-of.1; eager = eager; typed = typed; good = fitting; next = next; makes = inl (node.0, is, falls) }
+    adopts-known node k is next falls = record {
+      load = owner-of.0;
+      owned = owner-of.1;
+      eager = eager;
+      typed = typed;
+      good = fitting;
+      next = next;
+      makes = inl (node.0, is, falls);
+    }
 
-    pub refused-known : (n : ℕ) {e : Error} {w' : Core} → usable w kind.0 key ≡ Some n → Refused (spent w.last.handle) (spent w.last.handle) (AreHandlesFull w) w e w'
+    pub refused-known : (n : ℕ) {e : Error} {w' : Core} → usable w kind.0 key ≡ Some n
+        → Refused (spent w.last.handle) (spent w.last.handle) (AreHandlesFull w) w e w'
         → Refused (adopt_fault w me l kind key node_type refs) (load_fault w me l) (Unit {0}) w e w'
     refused-known n is refused = grind (arith, nat_tests, left, parts)
 
     -- it gives none
     module _ (none : usable w kind.0 key ≡ None) where
-      pub adopts-new : (k : HandleNumber) {w' : Core} → w.last.node < greatest → IsNext k w → Alike (adopted w l kind key (first_key kind.0 key) refs) w' → Adopts w me l kind key node_type refs k w'
-      adopts-new k node_left next made = record { load = owner-of.0; owned = owner-of.1; eager = eager; typed = typed; good = fitting; next = next; makes = inr (none, node_left, made) }
+      pub adopts-new : (k : HandleNumber) {w' : Core} → w.last.node < greatest → IsNext k w → Alike (adopted w l kind key (first_key kind.0 key) refs) w'
+          → Adopts w me l kind key node_type refs k w'
+      adopts-new k node_left next made = record {
+        load = owner-of.0;
+        owned = owner-of.1;
+        eager = eager;
+        typed = typed;
+        good = fitting;
+        next = next;
+        makes = inr (none, node_left, made);
+      }
 
-      pub refused-new : {before : Option Error} {e : Error} {w' : Core} → Refused (birth_fault w) before (Unit {0}) w e w' → Refused (adopt_fault w me l kind key node_type refs) (load_fault w me l) (Unit {0}) w e w'
+      pub refused-new : {before : Option Error} {e : Error} {w' : Core} → Refused (birth_fault w) before (Unit {0}) w e w'
+          → Refused (adopt_fault w me l kind key node_type refs) (load_fault w me l) (Unit {0}) w e w'
       refused-new refused = grind (arith, nat_tests, left, parts)
 
 -- room is nothing to the causes that come first
-pub early-past : {w w' : Core} (me : Owner) (l : LoadNumber) (kind : Kind) (node_type : ℕ) (refs : List ArcRef) → OnlyRoom w w' → early_fault w' me l kind node_type refs ≡ early_fault w me l kind node_type refs
+pub early-past : {w w' : Core} (me : Owner) (l : LoadNumber) (kind : Kind) (node_type : ℕ) (refs : List ArcRef) → OnlyRoom w w'
+    → early_fault w' me l kind node_type refs ≡ early_fault w me l kind node_type refs
 early-past {w} {w'} me l kind node_type refs o = ap (λ (u : Core). early_fault u me l kind node_type refs) o.same
-    ∙ ap (λ x. earlier (load_fault w me l) (earlier (refused_if (is_loose_kind kind.0) Error.WrongMode) (earlier (refused_if (not (node_type == type_of kind.0)) Error.WrongKind) x)))
+    ∙ ap (λ x. earlier (load_fault w me l) (earlier (refused_if (is_loose_kind kind.0) Error.WrongMode)
+    (earlier (refused_if (not (node_type == type_of kind.0)) Error.WrongKind) x)))
     (fault-by w (record w { places = w'.places }) (Owner.Load l) [] refs)
 
 -- the cache of the second world learns what that of the first does
-module _ (w w' : Core) (kind : Kind) (key : ℕ) (n : NodeNumber) (cache : ℕ → ℕ → Option ℕ) (a : Alike w w') (here : cache kind.0 key ≡ Some n.0) (others : (k q : ℕ) → (k ≢ kind.0) ⊎ (q ≢ key) → cache k q ≡ w'.cache k q) where
+module _ (w w' : Core) (kind : Kind) (key : ℕ) (n : NodeNumber) (cache : ℕ → ℕ → Option ℕ) (a : Alike w w') (here : cache kind.0 key ≡ Some n.0)
+    (others : (k q : ℕ) → (k ≢ kind.0) ⊎ (q ≢ key) → cache k q ≡ w'.cache k q) where
   abbrev known : ℕ → ℕ → Option ℕ
   known k q = if k == kind.0 && q == key then Some n.0 else w.cache k q
 
@@ -404,5 +467,6 @@ module _ (w w' : Core) (kind : Kind) (key : ℕ) (n : NodeNumber) (cache : ℕ �
   learned = grind (arith, nat_tests, same)
 
 -- the cache learns while the storage is open
-pub if-open : (closed : Bool) (w w' : Core) (kind : Kind) (key : ℕ) (n : NodeNumber) → (closed ≡ true → Alike w w') → (closed ≡ false → Alike (with_cached w kind key n) w') → Alike (if closed then w else with_cached w kind key n) w'
+pub if-open : (closed : Bool) (w w' : Core) (kind : Kind) (key : ℕ) (n : NodeNumber) → (closed ≡ true → Alike w w')
+    → (closed ≡ false → Alike (with_cached w kind key n) w') → Alike (if closed then w else with_cached w kind key n) w'
 if-open x0 w w' kind key n shut stands = grind (arith, nat_tests)

@@ -19,8 +19,10 @@ use Rattle.std.proofs.lemmas.{Bool.not-true, Option.slice_get-map}
 
 -- ---- what loads and workers own is what they owned, or has come since
 
-pub owned-moved : (s : ℕ → Bool) (o a : Owner) (q : ℕ) (rows : List HandleRow) → is_owner a o ≡ false → owned a q (moved s o rows) ≡ (owned a q rows && not (s q))
-owned-moved s o a q rows other = let is = found-map (λ x. if s x.number.0 then record x { owner = o } else x) (λ x. grind (arith, nat_tests)) q rows in grind (arith, nat_tests, found-among q rows)
+pub owned-moved : (s : ℕ → Bool) (o a : Owner) (q : ℕ) (rows : List HandleRow) → is_owner a o ≡ false → owned a q (moved s o rows)
+    ≡ (owned a q rows && not (s q))
+owned-moved s o a q rows other = let is = found-map (λ x. if s x.number.0 then record x { owner = o } else x) (λ x. grind (arith, nat_tests)) q rows in
+    grind (arith, nat_tests, found-among q rows)
 
 -- loads and workers give up what they have together
 abbrev pub is_giver : Owner → Bool
@@ -36,7 +38,10 @@ abbrev pub OnlyNewer : Core → Core → Type 0
 OnlyNewer w w' = IsNewer w.rows w'.rows w.last.handle w'.last.handle
 
 pub newer-alike : {w w' : Core} → Alike w w' → OnlyNewer w w'
-newer-alike {w} {w'} a = record { last = (let e = ap (λ (l : Last). l.handle) a.last in omega arith); kept = λ o q gives own. inl (sym (ap (owned o q) a.rows) ∙ own) }
+newer-alike {w} {w'} a = record {
+  last = (let e = ap (λ (l : Last). l.handle) a.last in omega arith);
+  kept = λ o q gives own. inl (sym (ap (owned o q) a.rows) ∙ own);
+}
 
 pub newer-then : {r s t : List HandleRow} {i j k : ℕ} → IsNewer r s i j → IsNewer s t j k → IsNewer r t i k
 newer-then p q = grind (arith, nat_tests)
@@ -48,8 +53,10 @@ newer-handle w node mode owner = record { last = omega arith; kept = λ o q give
 pub newer-moved : (w : Core) (s : ℕ → Bool) (o : Owner) → is_giver o ≡ false → OnlyNewer w (record w { rows = moved s o w.rows })
 newer-moved w s o other = grind (arith, nat_tests, and-left, owned-moved)
 
-pub owned-mode : (o : Owner) (q : ℕ) (test : HandleRow → Bool) (mode : Mode) (rows : List HandleRow) → owned o q (changed test (λ row. record row { mode = mode }) rows) ≡ owned o q rows
-owned-mode o q test mode rows = let is = found-map (λ x. if test x then record x { mode = mode } else x) (λ x. grind (arith, nat_tests)) q rows in grind (arith, nat_tests)
+pub owned-mode : (o : Owner) (q : ℕ) (test : HandleRow → Bool) (mode : Mode) (rows : List HandleRow)
+    → owned o q (changed test (λ row. record row { mode = mode }) rows) ≡ owned o q rows
+owned-mode o q test mode rows = let is = found-map (λ x. if test x then record x { mode = mode } else x) (λ x. grind (arith, nat_tests)) q rows in
+    grind (arith, nat_tests)
 
 pub newer-falls : {before u w' : Core} {given : ℕ → Bool} {r : Result (Unit {0}) Error} → Falls before u given r w' → OnlyNewer u w'
 newer-falls {before} {u} {w'} falls = grind (arith, nat_tests, passes-left, no-entry, unlisting)
@@ -64,17 +71,28 @@ abbrev pub roomy : Core → Core
 roomy w = record w { closed = false; places = record { handles = length w.rows; entries = length w.list } }
 
 module _ {m : Core} (w' : Core) (whole : IsWhole m) (rows : w'.rows ≡ m.rows) (cells : SameAt m.cells w'.cells) (list : w'.list ≡ m.list)
-    (cache : (kind key n : ℕ) → w'.cache kind key ≡ Some n → m.cache kind key ≡ Some n) (loads : SameAt m.loads w'.loads) (workers : SameAt m.workers w'.workers) (last : w'.last ≡ m.last) where
+    (cache : (kind key n : ℕ) → w'.cache kind key ≡ Some n → m.cache kind key ≡ Some n) (loads : SameAt m.loads w'.loads)
+    (workers : SameAt m.workers w'.workers) (last : w'.last ≡ m.last) where
   pub told-whole : ArePlaced (opened w') → IsWhole (opened w')
   told-whole placed =
       let v : Core = record m { cache = w'.cache; stored = w'.stored; closed = false; failures = w'.failures; places = w'.places } in
-      let same : opened w' ≡ v = λ i. record w' { rows = rows i; cells = λ n. cells n i; list = list i; closed = false; loads = λ l. loads l i; workers = λ u. workers u i; last = last i } in
-      let places : (length m.rows ≤ w'.places.handles) × (length m.list ≤ w'.places.entries) = (omega (arith, placed.rows, ap length rows), omega (arith, placed.list, ap length list)) in
+      let same : opened w' ≡ v = λ i. record w' {
+        rows = rows i;
+        cells = λ n. cells n i;
+        list = list i;
+        closed = false;
+        loads = λ l. loads l i;
+        workers = λ u. workers u i;
+        last = last i;
+      } in
+      let places : (length m.rows ≤ w'.places.handles) × (length m.list ≤ w'.places.entries) =
+      (omega (arith, placed.rows, ap length rows), omega (arith, placed.list, ap length list)) in
       let known : (kind key n : ℕ) → w'.cache kind key ≡ Some n → IsEntryWhole m kind n = λ kind key n is. whole.cache kind key n (cache kind key n is) in
       subst IsWhole (sym same) (keeps-whole whole (grind (arith, nat_tests, same-rows, whole, is-in whole, loads-stay)))
 
 pub roomy-whole : {w : Core} → IsWhole w → IsWhole (roomy w)
-roomy-whole {w} whole = told-whole (roomy w) whole refl (λ n. refl) refl (λ kind key n is. is) (λ l. refl) (λ v. refl) refl (record { rows = omega arith; list = omega arith })
+roomy-whole {w} whole = told-whole (roomy w) whole refl (λ n. refl) refl (λ kind key n is. is) (λ l. refl) (λ v. refl) refl
+    (record { rows = omega arith; list = omega arith })
 
 pub settles : {m w' : Core} → IsWhole (roomy m) → Alike m w' → ArePlaced (opened w') → IsWhole (opened w')
 settles {m} {w'} whole a placed = told-whole {m = roomy m} w' whole a.rows a.cells a.list a.cache.only a.loads a.workers a.last placed
@@ -108,7 +126,10 @@ pub unturned : (w : Core) → IsWhole (roomy w) → Turns w w
 unturned w whole = (whole, stays-on w, record { last = omega arith; kept = λ o q gives own. inl own })
 
 pub then-on : {a b c : List HandleRow} → AllLike a b → AllLike b c → AllLike a c
-then-on p q = record { like = λ x among. let y = p.like x among in let z = q.like y.row y.there in record { row = z.row; there = z.there; at = z.at ∙ y.at; same = z.same ∙ y.same } }
+then-on p q = record {
+  like = λ x among. let y = p.like x among in let z = q.like y.row y.there in
+      record { row = z.row; there = z.there; at = z.at ∙ y.at; same = z.same ∙ y.same };
+}
 
 -- f is done to some rows, which keep their numbers and nodes
 module _ {w : Core} (whole : IsWhole w) (test : HandleRow → Bool) (f : HandleRow → HandleRow) (number : (h : HandleRow) → (f h).number.0 ≡ h.number.0)
@@ -131,7 +152,8 @@ module _ {w : Core} (whole : IsWhole w) (test : HandleRow → Bool) (f : HandleR
   }
 
   pub turned-whole : (list : List HandleNumber) → ((q : ℕ) → times (λ (h : HandleNumber). h.0 == q) list ≡ times (of_list q) (changed test f w.rows))
-      → ((x : HandleRow) → Among w.rows x → test x ≡ true → IsIn w (f x).mode (f x).owner) → IsWhole (roomy (record w { rows = changed test f w.rows; list = list }))
+      → ((x : HandleRow) → Among w.rows x → test x ≡ true → IsIn w (f x).mode (f x).owner)
+      → IsWhole (roomy (record w { rows = changed test f w.rows; list = list }))
   turned-whole list listed owners =
       let turned = roomy (record w { rows = changed test f w.rows; list = list }) in
       let on : GoOn w turned = record {
@@ -139,8 +161,16 @@ module _ {w : Core} (whole : IsWhole w) (test : HandleRow → Bool) (f : HandleR
         ordered = ordered-map to w.rows (λ x. grind (arith, nat_tests, number x)) whole.handles.ordered;
         fresh = false;
         rows = λ h among. inl (among-changed test f (IsOld w.rows) w.rows h among
-            (λ x there e. record { row = x; there = there; number = sym (number x); node = sym (node x); shared = sym (shared x there e); loose = loose x there e }) (λ x there e. stays-old there));
-        live = λ n. whole.handles.live n ∙ ap (nat_lt 0) (sym (sum-map (λ h. one (is_at n h)) (λ h. one (is_at n h)) to w.rows (λ h among. ap (λ (k : NodeNumber). one (k.0 == n)) (to-node h))));
+            (λ x there e. record {
+              row = x;
+              there = there;
+              number = sym (number x);
+              node = sym (node x);
+              shared = sym (shared x there e);
+              loose = loose x there e;
+            }) (λ x there e. stays-old there));
+        live = λ n. whole.handles.live n ∙ ap (nat_lt 0) (sym (sum-map (λ h. one (is_at n h)) (λ h. one (is_at n h)) to w.rows
+            (λ h among. ap (λ (k : NodeNumber). one (k.0 == n)) (to-node h))));
         typed = λ n t few is. is;
         keyed = λ n like few none. none;
       } in
@@ -151,8 +181,10 @@ module _ {w : Core} (whole : IsWhole w) (test : HandleRow → Bool) (f : HandleR
   -- where no handle comes to the list or from it
   pub turned-still : ((x : HandleRow) → Among w.rows x → test x ≡ true → is_owned_by Owner.List (f x) ≡ is_owned_by Owner.List x)
       → ((x : HandleRow) → Among w.rows x → test x ≡ true → IsIn w (f x).mode (f x).owner) → IsWhole (roomy (record w { rows = changed test f w.rows }))
-  turned-still same owners = turned-whole w.list (λ q. whole.owners_there.listed q ∙ sym (sum-map (λ x. one (of_list q x)) (λ x. one (of_list q x)) to w.rows (λ x among.
-      each-changed test f (λ y. one (of_list q y) ≡ one (of_list q x)) x (λ e. ap (λ k. one (k == q && is_owned_by Owner.List (f x))) (number x) ∙ ap (λ b. one (is_handle q x && b)) (same x among e)) (λ e. refl)))) owners
+  turned-still same owners = turned-whole w.list (λ q. whole.owners_there.listed q
+      ∙ sym (sum-map (λ x. one (of_list q x)) (λ x. one (of_list q x)) to w.rows (λ x among.
+      each-changed test f (λ y. one (of_list q y) ≡ one (of_list q x)) x
+      (λ e. ap (λ k. one (k == q && is_owned_by Owner.List (f x))) (number x) ∙ ap (λ b. one (is_handle q x && b)) (same x among e)) (λ e. refl)))) owners
 
 -- ---- another mode
 
@@ -161,10 +193,12 @@ pub moded : {w : Core} → IsWhole w → (h : HandleNumber) (row : HandleRow) (m
 moded {w} whole h row mode live shared loose waits =
     let the-row : (x : HandleRow) → Among w.rows x → is_handle h.0 x ≡ true → x ≡ row =
     λ x among is. let a = found-among h.0 w.rows row live in once w.rows whole.handles.ordered x row among a.0 (let b = a.1 in grind (arith, nat_tests)) in
-    let same : (x : HandleRow) → Among w.rows x → is_handle h.0 x ≡ true → is_shared mode ≡ is_shared x.mode = λ x among e. shared ∙ ap (λ (y : HandleRow). is_shared y.mode) (sym (the-row x among e)) in
+    let same : (x : HandleRow) → Among w.rows x → is_handle h.0 x ≡ true → is_shared mode ≡ is_shared x.mode =
+    λ x among e. shared ∙ ap (λ (y : HandleRow). is_shared y.mode) (sym (the-row x among e)) in
     let loosely : (x : HandleRow) → Among w.rows x → is_handle h.0 x ≡ true → is_loose x.mode ≡ true → is_loose mode ≡ true =
     λ x among e was. loose (ap (λ (y : HandleRow). is_loose y.mode) (sym (the-row x among e)) ∙ was) in (
-      turned-still whole (is_handle h.0) (λ x. record x { mode = mode }) (λ x. refl) (λ x. refl) same loosely (λ x among e. refl) (λ x among e. let i = is-in whole x among in let r = the-row x among e in grind (arith, nat_tests, waits)),
+      turned-still whole (is_handle h.0) (λ x. record x { mode = mode }) (λ x. refl) (λ x. refl) same loosely (λ x among e. refl)
+          (λ x among e. let i = is-in whole x among in let r = the-row x among e in grind (arith, nat_tests, waits)),
       turned-on whole (is_handle h.0) (λ x. record x { mode = mode }) (λ x. refl) (λ x. refl) same loosely,
       record { last = omega arith; kept = λ o q gives own. inl (sym (owned-mode o q (is_handle h.0) mode w.rows) ∙ own) },
     )
@@ -179,21 +213,31 @@ pub not-a-value : (w : Core) (o : Owner) → MayHold w o → is_valued o ≡ fal
 not-a-value w o may = grind (arith, nat_tests)
 
 -- Of a node that is there, or of a new one.
-module _ {w : Core} (whole : IsWhole w) (x : HandleRow) (cells : ℕ → Option Cell) (last : ℕ) (number : x.number.0 ≡ w.last.handle + 1) (left : w.last.handle < greatest)
-    (more : w.last.node ≤ last) (few : last ≤ greatest) (there : is_some (cells x.node.0) ≡ true) (same : (n : ℕ) → (n ≢ x.node.0) ⊎ (n ≤ w.last.node) → cells n ≡ w.cells n)
-    (like : HasLike w.rows x.node.0 (is_shared x.mode) ⊎ ((w.last.node < x.node.0) × (x.node.0 ≤ last) × (is_shared x.mode ≡ true → keyed_in (cells x.node.0) ≡ false)))
+module _ {w : Core} (whole : IsWhole w) (x : HandleRow) (cells : ℕ → Option Cell) (last : ℕ) (number : x.number.0 ≡ w.last.handle + 1)
+    (left : w.last.handle < greatest)
+    (more : w.last.node ≤ last) (few : last ≤ greatest) (there : is_some (cells x.node.0) ≡ true)
+    (same : (n : ℕ) → (n ≢ x.node.0) ⊎ (n ≤ w.last.node) → cells n ≡ w.cells n)
+    (like : HasLike w.rows x.node.0 (is_shared x.mode) ⊎ ((w.last.node < x.node.0) × (x.node.0 ≤ last)
+    × (is_shared x.mode ≡ true → keyed_in (cells x.node.0) ≡ false)))
     (holder : MayHold w x.owner) where
   abbrev grown : Core
   grown = roomy (record w { rows = w.rows ++ x ∷ []; cells = cells; last = record w.last { node = last; handle = w.last.handle + 1 } })
 
   pub grown-whole : IsWhole grown
   grown-whole =
-      let come : IsNew w grown (is_shared x.mode) x = record { above = omega arith; few = omega arith; like = elim like [ inl old ↦ inl old | inr new ↦ inr (new.0, new.1, refl, new.2) ] } in
+      let come : IsNew w grown (is_shared x.mode) x = record {
+        above = omega arith;
+        few = omega arith;
+        like = elim like [ inl old ↦ inl old | inr new ↦ inr (new.0, new.1, refl, new.2) ];
+      } in
       let on : GoOn w grown = record {
         last = (omega arith, more, omega arith);
         ordered = ordered-push w.rows x (λ y among. let a = whole.handles.numbered y among in omega arith) whole.handles.ordered;
         fresh = is_shared x.mode;
-        rows = λ h among. elim (among-both w.rows (x ∷ []) h among) [ inl old ↦ inl (stays-old old) | inr new ↦ inr (subst (IsNew w grown (is_shared x.mode)) (sym (among-one x h new)) come) ];
+        rows = λ h among. elim (among-both w.rows (x ∷ []) h among) [
+          | inl old ↦ inl (stays-old old)
+          | inr new ↦ inr (subst (IsNew w grown (is_shared x.mode)) (sym (among-one x h new)) come)
+        ];
         live = λ n. grind (arith, nat_tests, sum_by_push (λ h. one (is_at n h)) w.rows x, same n);
         typed = λ n t given is. sym (ap type_in (same n (inr given))) ∙ is;
         keyed = λ n like given none. ap keyed_in (same n (inr given)) ∙ none;
@@ -205,7 +249,8 @@ module _ {w : Core} (whole : IsWhole w) (x : HandleRow) (cells : ℕ → Option 
       keeps-whole whole (grind (arith, nat_tests, loads-stay))
 
 -- beside the handles that its node has
-pub beside : {w : Core} → IsWhole w → (node : NodeNumber) (mode : Mode) (owner : Owner) → HasLike w.rows node.0 (is_shared mode) → MayHold w owner → w.last.handle < greatest
+pub beside : {w : Core} → IsWhole w → (node : NodeNumber) (mode : Mode) (owner : Owner) → HasLike w.rows node.0 (is_shared mode) → MayHold w owner
+    → w.last.handle < greatest
     → Turns w (with_handle w node mode owner)
 beside {w} whole node mode owner like holder left = (
   grown-whole whole (row_of (w.last.handle + 1) node mode owner) w.cells w.last.node refl left (omega arith) whole.handles.within.1
@@ -218,13 +263,15 @@ beside {w} whole node mode owner like holder left = (
 
 -- What u has lost of a whole world m before handles fall: owners of the given handles, entries of the list that are given, and what the cache knew.
 pub record Loses (m u : Core) (given : ℕ → Bool) : Type 0 where
-  pub listed : (q : ℕ) → (times (λ (h : HandleNumber). h.0 == q) u.list ≡ times (of_list q) m.rows) ⊎ ((given q ≡ true) × (times (λ (h : HandleNumber). h.0 == q) u.list ≡ 0))
+  pub listed : (q : ℕ) → (times (λ (h : HandleNumber). h.0 == q) u.list ≡ times (of_list q) m.rows)
+      ⊎ ((given q ≡ true) × (times (λ (h : HandleNumber). h.0 == q) u.list ≡ 0))
   pub owners : (h : HandleRow) → Among m.rows h → IsIn u h.mode h.owner ⊎ (given h.number.0 ≡ true)
   pub loads : (l : ℕ) (load : OpenLoad) → u.loads l ≡ Some load → (m.loads l ≡ Some load) × MayOwnLoad u load.owner
   pub cache : (kind key n : ℕ) → u.cache kind key ≡ Some n → m.cache kind key ≡ Some n
   pub workers : (v : ℕ) → u.workers v ≡ true → m.workers v ≡ true
 
-module _ {before : Core} (m u : Core) {w' : Core} {given : ℕ → Bool} {r : Result (Unit {0}) Error} (whole : IsWhole (roomy m)) (on : GoesOn before m) (lost : Loses m u given)
+module _ {before : Core} (m u : Core) {w' : Core} {given : ℕ → Bool} {r : Result (Unit {0}) Error} (whole : IsWhole (roomy m)) (on : GoesOn before m)
+    (lost : Loses m u given)
     (f : Falls before (record u { rows = m.rows; cells = m.cells; last = m.last }) given r w') where
   abbrev after : Core
   after = roomy (fallen (record u { rows = m.rows; cells = m.cells; last = m.last }) f.gone f.entries)
@@ -253,16 +300,19 @@ module _ {before : Core} (m u : Core) {w' : Core} {given : ℕ → Bool} {r : Re
   there : (n : ℕ) → 0 < held n after.rows → is_some (m.cells n) ≡ true
   there n some =
       let found = counted (λ h. one (is_at n h)) after.rows some in
-      subst (λ k. is_some (m.cells k) ≡ true) (at-then n found.0 found.2) (each-row (λ h. is_some (m.cells h.node.0) ≡ true) (λ h old kept. there-then whole h old)
+      subst (λ k. is_some (m.cells k) ≡ true) (at-then n found.0 found.2)
+      (each-row (λ h. is_some (m.cells h.node.0) ≡ true) (λ h old kept. there-then whole h old)
       (λ h like e. subst (λ k. is_some (m.cells k) ≡ true) like.at (there-then whole like.row like.there)) found.0 found.1)
 
   still-listed : (q : ℕ) → times (λ (h : HandleNumber). h.0 == q) after.list ≡ times (of_list q) after.rows
   still-listed q =
       let none : given q ≡ true → f.gone q ≡ false → times (of_list q) m.rows ≡ 0 = λ is stays. sum-none (λ h. one (of_list q h)) m.rows (λ h among.
-      let g = within-goes m.rows given f.gone h f.set.holds among in let o : of_list q h ≡ true → h.number.0 ≡ q = λ is. grind (arith, nat_tests) in grind (arith, nat_tests)) in
+      let g = within-goes m.rows given f.gone h f.set.holds among in let o : of_list q h ≡ true → h.number.0 ≡ q =
+      λ is. grind (arith, nat_tests) in grind (arith, nat_tests)) in
       let kept = one-left (λ (h : HandleNumber). h.0) (λ h. h.0 == q) q (λ h is. grind (arith, nat_tests)) f.gone (f.gone q) refl u.list in
       let rows = one-left (λ (h : HandleRow). h.number.0) (of_list q) q (λ h is. grind (arith, nat_tests)) f.gone (f.gone q) refl m.rows in
-      let list = sum_by-append (λ (h : HandleNumber). one (h.0 == q)) (filter (λ (h : HandleNumber). not (f.gone h.0)) u.list) (map (λ (h : HandleRow). h.number) f.entries) in
+      let list = sum_by-append (λ (h : HandleNumber). one (h.0 == q)) (filter (λ (h : HandleNumber). not (f.gone h.0)) u.list)
+      (map (λ (h : HandleRow). h.number) f.entries) in
       grind (arith, nat_tests, lost.listed q, none, entries-listed q m.last.handle f.entries f.new, sum_by-append (λ h. one (of_list q h)) left f.entries)
 
   fallen-whole : IsWhole after
@@ -272,7 +322,8 @@ module _ {before : Core} (m u : Core) {w' : Core} {given : ℕ → Bool} {r : Re
         ordered = ordered-entries m.last.handle left f.entries (λ x among. (whole.handles.numbered x (was x among).0).1) f.new
             (AllPairs-filter IsHandleBefore (λ (x : HandleRow). not (f.gone x.number.0)) m.rows whole.handles.ordered);
         fresh = false;
-        rows = each-row (λ h. IsOld m.rows h ⊎ IsNew (roomy m) after false h) (λ h old kept. inl (stays-old old)) (λ h like e. inr (grind (arith, nat_tests, e.above, e.number, e.mode)));
+        rows = each-row (λ h. IsOld m.rows h ⊎ IsNew (roomy m) after false h) (λ h old kept. inl (stays-old old))
+            (λ h like e. inr (grind (arith, nat_tests, e.above, e.number, e.mode)));
         live = λ n. grind (arith, nat_tests, there);
         typed = λ n t given is. grind (arith, nat_tests);
         keyed = λ n like given none. grind (arith, nat_tests);
@@ -283,7 +334,11 @@ module _ {before : Core} (m u : Core) {w' : Core} {given : ℕ → Bool} {r : Re
         places = (omega arith, omega arith);
         listed = still-listed;
         owners = each-row (λ h. IsIn after h.mode h.owner)
-            (λ h old kept. elim (lost.owners h old) [ inl there ↦ there | inr gives ↦ let g : true ≡ false = sym (within-goes m.rows given f.gone h f.set.holds old gives) ∙ kept in absurd (cc) ])
+            (λ h old kept. elim (lost.owners h old) [
+              | inl there ↦ there
+              | inr gives ↦ let g : true
+                  ≡ false = sym (within-goes m.rows given f.gone h f.set.holds old gives) ∙ kept in absurd (cc)
+            ])
             (λ h like e. subst (IsIn after h.mode) (sym e.owner) e.mode);
         loads = λ l load is. let a = lost.loads l load is in (a.1, inl a.0);
         cache = λ kind key n is. whole.cache kind key n (lost.cache kind key n is);
@@ -324,17 +379,25 @@ module _ {w : Core} (whole : IsWhole w) (s : ℕ → Bool) (owner : Owner) where
 
 -- to the value of a node, or to one who may hold, where none is the list's
 module _ {w : Core} (whole : IsWhole w) (s : ℕ → Bool) (mine : (x : HandleRow) → Among w.rows x → s x.number.0 ≡ true → is_owned_by Owner.List x ≡ false) where
-  pub moved-free : (owner : Owner) → is_owner Owner.List owner ≡ false → ((mode : Mode) → IsIn w mode owner) → IsWhole (roomy (record w { rows = moved s owner w.rows }))
-  moved-free owner other there = turned-still whole (λ x. s x.number.0) (λ x. record x { owner = owner }) (λ x. refl) (λ x. refl) (λ x among e. refl) (λ x among e was. was)
+  pub moved-free : (owner : Owner) → is_owner Owner.List owner ≡ false → ((mode : Mode) → IsIn w mode owner)
+      → IsWhole (roomy (record w { rows = moved s owner w.rows }))
+  moved-free owner other there = turned-still whole (λ x. s x.number.0) (λ x. record x { owner = owner }) (λ x. refl) (λ x. refl) (λ x among e. refl)
+      (λ x among e was. was)
       (λ x among e. other ∙ sym (mine x among e)) (λ x among e. there x.mode)
 
   pub moved-to-value : (n : ℕ) → IsWhole (roomy (record w { rows = moved s (owner_value n) w.rows }))
   moved-to-value n = moved-free (owner_value n) refl (λ mode. tt)
 
-pub makes-goes : {w w' : Core} (node : NodeNumber) (mode : Mode) (owner : Owner) (r : Result HandleNumber Error) → IsWhole (opened w) → Suits w node mode → MayHold w owner
+pub makes-goes : {w w' : Core} (node : NodeNumber) (mode : Mode) (owner : Owner) (r : Result HandleNumber Error) → IsWhole (opened w) → Suits w node mode
+    → MayHold w owner
     → Makes w node mode owner r w' → Goes w w'
 makes-goes {w} node mode owner (Ok k) whole suits holder makes =
-    let like : HasLike w.rows node.0 (is_shared mode) = record { row = suits.row; there = suits.there; at = ap (λ (k : NodeNumber). k.0) suits.at; same = suits.shared } in
+    let like : HasLike w.rows node.0 (is_shared mode) = record {
+      row = suits.row;
+      there = suits.there;
+      at = ap (λ (k : NodeNumber). k.0) suits.at;
+      same = suits.shared;
+    } in
     let made = beside whole node mode owner like holder makes.made.0.is_left in settled makes.made.1 made.0 made.2
 makes-goes node mode owner (Err e) whole suits holder makes = alike-goes whole makes.refused.stays
 
@@ -342,7 +405,8 @@ pub loose-unshared : (mode : Mode) → is_loose mode ≡ true → is_shared mode
 loose-unshared mode is = grind (arith, nat_tests)
 
 -- a loose handle of one who may hold is pinned, and a Pinned one is made
-pub pin-comes : {w : Core} (h : HandleNumber) (row : HandleRow) (me : Owner) → IsWhole w → MayHold w me → Owns w me h is_loose row → w.last.handle < greatest → Turns w (with_pin w h row.node me)
+pub pin-comes : {w : Core} (h : HandleNumber) (row : HandleRow) (me : Owner) → IsWhole w → MayHold w me → Owns w me h is_loose row → w.last.handle < greatest
+    → Turns w (with_pin w h row.node me)
 pin-comes {w} h row me whole holder owns left =
     let loosely : is_shared Mode.LoosePinned ≡ is_shared row.mode = sym (loose-unshared row.mode owns.as_asked) in
     let (loose, on, newer) = moded whole h row Mode.LoosePinned owns.live loosely (λ loose. refl)
@@ -352,13 +416,16 @@ pin-comes {w} h row me whole holder owns left =
 
 -- ---- references that are good
 
-pub own-of : (w : Core) → AllPairs IsHandleBefore w.rows → (owner : Owner) (x : HandleRow) → Among w.rows x → is_owned_in w owner x.number.0 ≡ true → x.owner ≡ owner
-own-of w ordered owner x among own = owner-same owner x.owner (sym (ap (if_there (is_owned_by owner) false) (found-so x.number.0 w.rows x ordered among refl)) ∙ own)
+pub own-of : (w : Core) → AllPairs IsHandleBefore w.rows → (owner : Owner) (x : HandleRow) → Among w.rows x → is_owned_in w owner x.number.0 ≡ true → x.owner
+    ≡ owner
+own-of w ordered owner x among own = owner-same owner x.owner (sym (ap (if_there (is_owned_by owner) false) (found-so x.number.0 w.rows x ordered among refl))
+    ∙ own)
 
 pub or-none : {X : Type 0} (a b : Option X) → or_else a b ≡ None → (a ≡ None) × (b ≡ None)
 or-none x0 b e = grind (arith, nat_tests)
 
-pub named-mine : (w : Core) (owner : Owner) (seen : List ℕ) (refs : List ArcRef) → references_fault w owner seen refs ≡ None → (q : ℕ) → is_named_by refs q ≡ true → is_owned_in w owner q ≡ true
+pub named-mine : (w : Core) (owner : Owner) (seen : List ℕ) (refs : List ArcRef) → references_fault w owner seen refs ≡ None → (q : ℕ) → is_named_by refs q
+    ≡ true → is_owned_in w owner q ≡ true
 unfolding references_fault is_named_by
 named-mine w owner seen [] good q named = absurd (cc)
 named-mine w owner seen (r ∷ rs) good q named =
@@ -366,23 +433,29 @@ named-mine w owner seen (r ∷ rs) good q named =
     let a = parts.0 in grind (arith, nat_tests, cases_eq r.handle.0 q, named-mine w owner (r.handle.0 ∷ seen) rs parts.1 q)
 
 -- what is named is the owner's, so it isn't the list's
-pub named-own : (w : Core) → AllPairs IsHandleBefore w.rows → (owner : Owner) (refs : List ArcRef) → references_fault w owner [] refs ≡ None → (x : HandleRow) → Among w.rows x
+pub named-own : (w : Core) → AllPairs IsHandleBefore w.rows → (owner : Owner) (refs : List ArcRef) → references_fault w owner [] refs ≡ None → (x : HandleRow)
+    → Among w.rows x
     → is_named_by refs x.number.0 ≡ true → x.owner ≡ owner
 named-own w ordered owner refs good x among named = own-of w ordered owner x among (named-mine w owner [] refs good x.number.0 named)
 
-pub named-unlisted : {w : Core} → IsWhole w → (owner : Owner) (refs : List ArcRef) → is_owner Owner.List owner ≡ false → references_fault w owner [] refs ≡ None → (x : HandleRow)
+pub named-unlisted : {w : Core} → IsWhole w → (owner : Owner) (refs : List ArcRef) → is_owner Owner.List owner ≡ false → references_fault w owner [] refs ≡ None
+    → (x : HandleRow)
     → Among w.rows x → is_named_by refs x.number.0 ≡ true → is_owned_by Owner.List x ≡ false
-named-unlisted {w} whole owner refs other good x among named = ap (is_owner Owner.List) (named-own w whole.handles.ordered owner refs good x among named) ∙ other
+named-unlisted {w} whole owner refs other good x among named = ap (is_owner Owner.List) (named-own w whole.handles.ordered owner refs good x among named)
+    ∙ other
 
 -- ---- the node
 
-module _ {w : Core} (whole : IsWhole w) (node_type : ℕ) (key : OptionalDataKey) (refs : List ArcRef) (mode : Mode) (from me : Owner) (other : is_owner Owner.List from ≡ false)
+module _ {w : Core} (whole : IsWhole w) (node_type : ℕ) (key : OptionalDataKey) (refs : List ArcRef) (mode : Mode) (from me : Owner)
+    (other : is_owner Owner.List from ≡ false)
     (good : references_fault w from [] refs ≡ None)
     (holder : MayHold w me) (node_left : w.last.node < greatest) (left : w.last.handle < greatest) (unkeyed : is_shared mode ≡ true → has_key key ≡ false) where
   pub born-whole : IsWhole (roomy (with_handle (with_node w node_type key refs) (next_node w) mode me))
-  born-whole = grown-whole (moved-to-value whole (is_named_by refs) (named-unlisted whole from refs other good) (w.last.node + 1)) (row_of (w.last.handle + 1) (next_node w) mode me)
+  born-whole = grown-whole (moved-to-value whole (is_named_by refs) (named-unlisted whole from refs other good) (w.last.node + 1))
+      (row_of (w.last.handle + 1) (next_node w) mode me)
       (updated (w.last.node + 1) (Some (record { node_type = node_type; key = key })) w.cells) (w.last.node + 1)
-      refl left (omega arith) (omega arith) (grind (arith, nat_tests)) (λ n old. grind (arith, nat_tests)) (inr (omega arith, omega arith, λ is. grind (arith, nat_tests, unkeyed is))) holder
+      refl left (omega arith) (omega arith) (grind (arith, nat_tests)) (λ n old. grind (arith, nat_tests))
+      (inr (omega arith, omega arith, λ is. grind (arith, nat_tests, unkeyed is))) holder
 
 pub none-named : (w : Core) (owner : Owner) (refs : List ArcRef) → refs ≡ [] → references_fault w owner [] refs ≡ None
 unfolding references_fault

@@ -25,7 +25,8 @@ is_bare (r ∷ rs) = false
 -- A dying node has no handle, or no pin and a key. Another node has a handle, and has references only while its value
 -- is in memory.
 abbrev pub is_right : Counts → Bool → Bool
-is_right c bare = if c.is_dying then c.holds == 0 || (c.pins == 0 && nat_lt 0 c.key) else nat_lt 0 c.holds && (nat_lt 0 c.pins || not (nat_lt 0 c.key) || bare)
+is_right c bare = if c.is_dying then c.holds == 0 || (c.pins == 0 && nat_lt 0 c.key) else nat_lt 0 c.holds
+    && (nat_lt 0 c.pins || not (nat_lt 0 c.key) || bare)
 
 abbrev pub Right : Option Counts → List ArcRef → Type 0
 Right None refs = refs ≡ []
@@ -47,7 +48,8 @@ often n ns = times (λ m. m == n) ns
 
 -- Nodes by their counts and references, live handles, and the list of dying nodes agree. `extra` counts the handles
 -- that a value owns besides those of its references.
-pub record Fits (at : ℕ → Option Counts) (refs : ℕ → List ArcRef) (rows : List HandleRow) (top : ℕ) (stack : List ℕ) (extra : ℕ → ℕ → ℕ) : Type 0 where
+pub record Fits (at : ℕ → Option Counts) (refs : ℕ → List ArcRef) (rows : List HandleRow) (top : ℕ) (stack : List ℕ)
+    (extra : ℕ → ℕ → ℕ) : Type 0 where
   pub pinned : (n : ℕ) → pins_in (at n) ≡ pins n rows
   pub holding : (n : ℕ) → holds_in (at n) ≡ held n rows
   pub owned : (n q : ℕ) → named q (refs n) + extra n q ≡ sum_by (λ h. owns h n q) rows

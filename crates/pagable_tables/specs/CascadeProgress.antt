@@ -38,7 +38,8 @@ pub record Begins (before w : Core) (lists : Bool) : Type 0 where
   pub shared : (n : ℕ) → sharing n w.rows ≤ sharing n before.rows
   pub uniform : (n : ℕ) → (sharing n before.rows ≡ 0) ⊎ (times (is_plain_pin n) w.rows ≡ 0)
   -- the list names only handles that it owns, each at most once
-  pub listed : (q : ℕ) → times (λ (h : HandleNumber). h.0 == q) w.list ≤ times (λ h. is_handle q h && is_owned_by Owner.List h) w.rows
+  pub listed : (q : ℕ) → times (λ (h : HandleNumber). h.0 == q) w.list ≤ times
+      (λ h. is_handle q h && is_owned_by Owner.List h) w.rows
 
 -- From the world w, the given handles are removed, and others that had to be; the tables hold what is left and what was
 -- listed.
@@ -47,7 +48,8 @@ pub record SoFar (before w : Core) (given : ℕ → Bool) (lists : Bool) (t : Re
   pub gone : ℕ → Bool
   pub entries : List HandleRow
   pub rows : live t.handles.places.items ≡ left_rows gone w.rows ++ entries
-  pub list : t.list.items ≡ filter (λ (q : HandleNumber). not (gone q.0)) w.list ++ map (λ (h : HandleRow). h.number) entries
+  pub list : t.list.items ≡ filter (λ (q : HandleNumber). not (gone q.0)) w.list
+      ++ map (λ (h : HandleRow). h.number) entries
   pub last : t.last_handle ≡ w.last.handle + length entries
   pub within : t.last_handle ≤ greatest
   pub places : HasRoom w.places (with_tables w t).places
@@ -55,7 +57,8 @@ pub record SoFar (before w : Core) (given : ℕ → Bool) (lists : Bool) (t : Re
   pub holds : IsWithin w.rows given gone
   -- each closed set that contains the given handles contains all that were removed, whatever entries are still added to
   -- nodes with handles
-  pub least : (s : ℕ → Bool) (final : List HandleRow) → ((n : ℕ) → held n (live t.handles.places.items) ≡ 0 → held n final ≡ 0) → IsWithin w.rows given s
+  pub least : (s : ℕ → Bool) (final : List HandleRow) → ((n : ℕ) → held n (live t.handles.places.items) ≡ 0
+      → held n final ≡ 0) → IsWithin w.rows given s
       → IsClosed w.rows (is_keyed w) final s → IsWithin w.rows gone s
   pub new : AreNewEntries w.last.handle entries
   pub only : (n : ℕ) → 0 < held n entries → MustList before w (with_tables w t) n × (held n entries ≡ 1)
@@ -65,6 +68,8 @@ pub record SoFar (before w : Core) (given : ℕ → Bool) (lists : Bool) (t : Re
 
 -- A handle can be removed beside the list: no entry that was added has its number, and what is left of the list is the
 -- same without it.
-pub record IsApart (before w : Core) (given : ℕ → Bool) (lists : Bool) (t : RefCounts) (f : SoFar before w given lists t) (q : ℕ) : Type 0 where
+pub record IsApart (before w : Core) (given : ℕ → Bool) (lists : Bool) (t : RefCounts)
+    (f : SoFar before w given lists t) (q : ℕ) : Type 0 where
   pub unentered : times (is_handle q) f.entries ≡ 0
-  pub kept : filter (λ (h : HandleNumber). not (f.gone h.0 || h.0 == q)) w.list ≡ filter (λ (h : HandleNumber). not (f.gone h.0)) w.list
+  pub kept : filter (λ (h : HandleNumber). not (f.gone h.0 || h.0 == q)) w.list
+      ≡ filter (λ (h : HandleNumber). not (f.gone h.0)) w.list

@@ -31,7 +31,9 @@ after c pinning stays listed top =
 -- why no entry can be listed: no handle number is left, or no place
 abbrev pub IsUnlisted : RefCounts → Error → Type 0
 IsUnlisted t Error.NumbersSpent = greatest ≤ t.last_handle
-IsUnlisted t Error.OutOfMemory = (t.last_handle < greatest) × ((vec_capacity t.handles.places ≤ length (live t.handles.places.items)) ⊎ (deque_capacity t.list ≤ length t.list.items))
+IsUnlisted t Error.OutOfMemory = (t.last_handle < greatest)
+    × ((vec_capacity t.handles.places ≤ length (live t.handles.places.items))
+    ⊎ (deque_capacity t.list ≤ length t.list.items))
 IsUnlisted t e = ⊥
 
 -- neither the handles nor the list have less capacity
@@ -43,7 +45,8 @@ pub record HasPlaces (old new : RefCounts) : Type 0 where
 pub record Comes (old : RefCounts) (node : NodeNumber) (listed : Bool) (new : RefCounts) : Type 0 where
   pub sound : AreSound new.handles
   pub next : IsNext (new.last_handle + 1) new.handles.places.items
-  pub rows : live new.handles.places.items ≡ live old.handles.places.items ++ entries_of listed (old.last_handle + 1) node
+  pub rows : live new.handles.places.items ≡ live old.handles.places.items
+      ++ entries_of listed (old.last_handle + 1) node
   pub list : new.list.items ≡ old.list.items ++ (if listed then record { 0 = old.last_handle + 1 } ∷ [] else [])
   pub last : new.last_handle ≡ old.last_handle + one listed
   pub left : listed ≡ true → old.last_handle < greatest
@@ -57,7 +60,8 @@ pub record MayList (old : RefCounts) (node : NodeNumber) (wanted listed : Bool) 
   pub comes : Comes old node listed new
   pub only : listed ≡ true → wanted ≡ true
   pub told : (listed ≡ true) ⊎ (wanted ≡ false) → new.unlisted ≡ old.unlisted
-  pub why : listed ≡ false → wanted ≡ true → (e : Error) × IsUnlisted old e × (new.unlisted ≡ or_else old.unlisted (Some e))
+  pub why : listed ≡ false → wanted ≡ true → (e : Error) × IsUnlisted old e
+      × (new.unlisted ≡ or_else old.unlisted (Some e))
 
 -- the row of a loose handle without its pin
 abbrev pub unpinned : HandleRow → HandleRow
@@ -65,8 +69,10 @@ unpinned x = record x { mode = Mode.LooseUnpinned }
 
 -- the handle of the row x is removed, or unpinned if it `stays`
 pub record Leaves (old : Handles) (x : HandleRow) (stays : Bool) (new : Handles) : Type 0 where
-  pub becomes : Becomes old (if stays then changed (is_handle x.number.0) unpinned (live old.places.items) else left_rows (only_handle x.number) (live old.places.items)) new
-  pub sums : (f : HandleRow → ℕ) → sum_by f (live new.places.items) + f x ≡ sum_by f (live old.places.items) + (if stays then f (unpinned x) else 0)
+  pub becomes : Becomes old (if stays then changed (is_handle x.number.0) unpinned
+      (live old.places.items) else left_rows (only_handle x.number) (live old.places.items)) new
+  pub sums : (f : HandleRow → ℕ) → sum_by f (live new.places.items) + f x
+      ≡ sum_by f (live old.places.items) + (if stays then f (unpinned x) else 0)
   pub there : (f : HandleRow → ℕ) → f x ≤ sum_by f (live old.places.items)
 
 -- the nodes that are left are the same cells
@@ -78,7 +84,8 @@ abbrev pub ValueStays : Option Counts → Option Counts → Type 0
 ValueStays old new = falls_in new ≡ false → (falls_in old ≡ false) × (has_value new ≡ has_value old)
 
 -- The handle of the row x is removed, or unpinned if it `stays`. Then an entry for its node may be listed.
-pub record GivesUp (old : RefCounts) (stack : List ℕ) (x : HandleRow) (stays lists : Bool) (new : RefCounts) : Type 0 where
+pub record GivesUp (old : RefCounts) (stack : List ℕ) (x : HandleRow) (stays lists : Bool)
+    (new : RefCounts) : Type 0 where
   pub left : Handles
   pub leaves : Leaves old.handles x stays left
   pub counts : Counts
@@ -101,7 +108,8 @@ landed c = if c.holds == 0 then None else Some (record c { is_dying = false; nex
 
 -- the value of the node is to be dropped: the node has no handle, or it has a key and no pin
 abbrev pub HasFallen : (ℕ → Option Counts) → List HandleRow → ℕ → Type 0
-HasFallen at rows n = (held n rows ≡ 0) ⊎ ((if_there (λ (c : Counts). nat_lt 0 c.key) false (at n) ≡ true) × (pins n rows ≡ 0))
+HasFallen at rows n = (held n rows ≡ 0) ⊎ ((if_there (λ (c : Counts). nat_lt 0 c.key) false (at n) ≡ true)
+    × (pins n rows ≡ 0))
 
 -- the handle of the row x is released, which the value of the dying node n owned
 pub record FallsBy (old : RefCounts) (x : HandleRow) (n : ℕ) (lists : Bool) (new : RefCounts) : Type 0 where
@@ -114,16 +122,19 @@ pub record FallsBy (old : RefCounts) (x : HandleRow) (n : ℕ) (lists : Bool) (n
   pub gives : GivesUp popped stack x false lists new
 
 -- One step: a handle is released, or the first dying node is finished and its value may be dropped.
-pub record Steps (old : RefCounts) (stack : List ℕ) (lists : Bool) (r : Option NodeNumber) (new : RefCounts) : Type 0 where
+pub record Steps (old : RefCounts) (stack : List ℕ) (lists : Bool) (r : Option NodeNumber)
+    (new : RefCounts) : Type 0 where
   pub rest : List ℕ
   pub falling : IsFalling new rest owns_nothing
-  pub less : 2 * valued (live new.handles.places.items) + length rest < 2 * valued (live old.handles.places.items) + length stack
+  pub less : 2 * valued (live new.handles.places.items) + length rest < 2 * valued (live old.handles.places.items) +
+      length stack
   pub cells : CellsStay (counts_at old.nodes) (counts_at new.nodes)
   pub values : (n : ℕ) → r ≢ Some (record { 0 = n }) → ValueStays (counts_at old.nodes n) (counts_at new.nodes n)
   pub gone : IfSome r (λ n. has_value (counts_at new.nodes n.0) ≡ false)
   pub fewer : length (live new.handles.places.items) ≤ length (live old.handles.places.items)
   pub unlisting : lists ≡ false → new.list.items ≡ old.list.items
-  pub what : ((r ≡ Some (record { 0 = old.top })) × (new ≡ record old { nodes = new.nodes; top = new.top })) ⊎ ((x : HandleRow) × (n : ℕ) × (r ≡ None) × FallsBy old x n lists new)
+  pub what : ((r ≡ Some (record { 0 = old.top })) × (new ≡ record old { nodes = new.nodes; top = new.top }))
+      ⊎ ((x : HandleRow) × (n : ℕ) × (r ≡ None) × FallsBy old x n lists new)
 
 -- whether it is this node
 abbrev pub is_node : Option NodeNumber → ℕ → Bool
@@ -136,4 +147,6 @@ keyed c key top = record c { key = key; is_dying = c.pins == 0; next = if c.pins
 
 -- the cells, with this key at one
 abbrev pub GetsKey : (ℕ → Option Counts) → (ℕ → Option Counts) → ℕ → ℕ → Type 0
-GetsKey old new n key = SameAt (updated n (if_there (λ (cell : Cell). Some (record cell { key = OptionalDataKey.Some key })) None (cell_in (old n))) (λ m. cell_in (old m))) (λ m. cell_in (new m))
+GetsKey old new n key = SameAt (updated n (if_there (λ (cell : Cell). Some
+    (record cell { key = OptionalDataKey.Some key })) None (cell_in (old n))) (λ m. cell_in (old m)))
+    (λ m. cell_in (new m))

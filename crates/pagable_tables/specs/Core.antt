@@ -82,7 +82,8 @@ pub record Suits (w : Core) (node : NodeNumber) (mode : Mode) : Type 0 where
   pub shared : is_shared row.mode ≡ is_shared mode
 
 -- A handle of a live node is made under the next number. It succeeds while numbers and places are left.
-pub record Makes (w : Core) (node : NodeNumber) (mode : Mode) (owner : Owner) (r : Result HandleNumber Error) (w' : Core) : Type 0 where
+pub record Makes (w : Core) (node : NodeNumber) (mode : Mode) (owner : Owner) (r : Result HandleNumber Error)
+    (w' : Core) : Type 0 where
   pub made : IfOk r (λ k. IsNext k w × Alike (with_handle w node mode owner) w')
   pub refused : IfErr r (λ e. Refused (spent w.last.handle) (spent w.last.handle) (AreHandlesFull w) w e w')
 
@@ -111,13 +112,15 @@ abbrev pub LoadsAre : {S : Type 0} → IndexMap ℕ LoadRow S → Core → Type 
 LoadsAre loads w = (l : ℕ) → w.loads l ≡ option_map load_in (load_at loads l)
 
 -- the last live row of the set whose number is asked for and at most `left`, with its index
-pub record IsLast {S : Type 0} (places : List Place) (loads : IndexMap ℕ LoadRow S) (giving : ReleaseSet) (IsAsked : ℕ → Type 0) (left : ℕ) (at : HandleAt) : Type 0 where
+pub record IsLast {S : Type 0} (places : List Place) (loads : IndexMap ℕ LoadRow S) (giving : ReleaseSet)
+    (IsAsked : ℕ → Type 0) (left : ℕ) (at : HandleAt) : Type 0 where
   pub place : slice_get places at.place ≡ Some (alive at.row)
   pub found : find_row at.row.number.0 (live places) ≡ Some at.row
   pub between : IsAsked at.row.number.0 × (at.row.number.0 ≤ left)
   pub gives : (w : Core) → LoadsAre loads w → gives_row w giving at.row ≡ true
   pub plain : is_valued at.row.owner ≡ false
-  pub last : (w : Core) (q : ℕ) → LoadsAre loads w → IsAsked q → at.row.number.0 < q → q ≤ left → passes_in (gives_row w giving) (live places) q ≡ false
+  pub last : (w : Core) (q : ℕ) → LoadsAre loads w → IsAsked q → at.row.number.0 < q → q ≤ left
+      → passes_in (gives_row w giving) (live places) q ≡ false
 
 -- the rows of loads without those of the worker
 abbrev pub left_load : ℕ → Option LoadRow → Option LoadRow
@@ -136,7 +139,8 @@ pub record BeginsWorker (w : Core) (r : Result WorkerNumber Error) (w' : Core) :
 
 -- a worker begins with the handle of a list entry, or the call fails and nothing changes
 pub record TakesWorker (w : Core) (place : ℕ) (r : Result WorkerNumber Error) (w' : Core) : Type 0 where
-  pub taken : IfOk r (λ v. (h : HandleNumber) × (slice_get w.list place ≡ Some h) × (v.0 ≡ w.last.worker + 1) × Alike (with_worker (with_entry_taken w place h v)) w')
+  pub taken : IfOk r (λ v. (h : HandleNumber) × (slice_get w.list place ≡ Some h) × (v.0 ≡ w.last.worker + 1)
+      × Alike (with_worker (with_entry_taken w place h v)) w')
   pub refused : IfErr r (λ e. WorkerFault w e × Alike w w')
 
 -- ---- loads and workers own only handles that were made since they began
@@ -144,14 +148,17 @@ pub record TakesWorker (w : Core) (place : ℕ) (r : Result WorkerNumber Error) 
 pub record AreLater (t : Tables) : Type 0 where
   -- all handles of an open load have numbers above the last one that was given out before it began
   pub given : (l : ℕ) (load : LoadRow) → load_at t.loads l ≡ Some load → load.since ≤ t.ref_counts.last_handle
-  pub since : (l : ℕ) (load : LoadRow) (q : ℕ) → load_at t.loads l ≡ Some load → is_owned_in (plain_of t) (Owner.Load (record { 0 = l })) q ≡ true → load.since < q
+  pub since : (l : ℕ) (load : LoadRow) (q : ℕ) → load_at t.loads l ≡ Some load
+      → is_owned_in (plain_of t) (Owner.Load (record { 0 = l })) q ≡ true → load.since < q
   -- a worker's range contains all its handles, and its loads began after it
   pub begun : (v : ℕ) → (reach_at t.workers v).since ≤ t.ref_counts.last_handle
   pub reach : (v q : ℕ) → is_owned_in (plain_of t) (owner_worker v) q ≡ true → InReach (reach_at t.workers v) q
-  pub loads : (v l : ℕ) (load : LoadRow) → load_at t.loads l ≡ Some load → is_owner (owner_worker v) load.owner ≡ true → (reach_at t.workers v).since ≤ load.since
+  pub loads : (v l : ℕ) (load : LoadRow) → load_at t.loads l ≡ Some load → is_owner (owner_worker v) load.owner ≡ true
+      → (reach_at t.workers v).since ≤ load.since
   -- each open load's row tells the last handle that it owns among those up to `noted`
   pub noted : t.noted ≤ t.ref_counts.last_handle
-  pub until : (l : ℕ) (load : LoadRow) (q : ℕ) → load_at t.loads l ≡ Some load → is_owned_in (plain_of t) (Owner.Load (record { 0 = l })) q ≡ true → q ≤ t.noted → q ≤ load.last
+  pub until : (l : ℕ) (load : LoadRow) (q : ℕ) → load_at t.loads l ≡ Some load
+      → is_owned_in (plain_of t) (Owner.Load (record { 0 = l })) q ≡ true → q ≤ t.noted → q ≤ load.last
 
 -- all handles that a load owns have numbers up to this one; and above this one
 abbrev pub IsOwnedUpTo : Tables → LoadNumber → ℕ → Type 0
@@ -162,7 +169,8 @@ IsOwnedAbove t l since = (q : ℕ) → is_owned_in (plain_of t) (Owner.Load l) q
 
 -- each load's row tells the last handle that it owns among those above a number at the first `count` places
 abbrev pub AreTold : {S : Type 0} → IndexMap ℕ LoadRow S → List Place → (number count : ℕ) → Type 0
-AreTold loads places number count = (l : LoadNumber) (row : LoadRow) (k : ℕ) (d : Place) → load_at loads l.0 ≡ Some row → k < count → number < (get_or places k d).row.number.0
+AreTold loads places number count = (l : LoadNumber) (row : LoadRow) (k : ℕ) (d : Place) → load_at loads l.0 ≡ Some row
+    → k < count → number < (get_or places k d).row.number.0
     → (get_or places k d).row.owner ≡ Owner.Load l → (get_or places k d).row.number.0 ≤ row.last
 
 -- the new row is of the same load, with the same last handle or a greater one
@@ -193,7 +201,8 @@ pub record Does (old : Tables) (step : Core → Core → Type 0) (new : Tables) 
 
 -- The same, where `lists` is set exactly while the storage is open; and the value of each node is dropped when it has
 -- to be.
-pub record DoesShed {X : Type 0} (lists : Bool) (old : Tables) (values : NumberTable X) (step : Core → Core → Type 0) (new : Tables) (values' : NumberTable X) : Type 0 where
+pub record DoesShed {X : Type 0} (lists : Bool) (old : Tables) (values : NumberTable X) (step : Core → Core → Type 0)
+    (new : Tables) (values' : NumberTable X) : Type 0 where
   pub does : (storage : StorageView) → lists ≡ not storage.closed → step (core_of old storage) (core_of new storage)
   pub whole : IsWhole new
   pub later : AreLater old → AreLater new
@@ -204,7 +213,8 @@ pub record DoesShed {X : Type 0} (lists : Bool) (old : Tables) (values : NumberT
 -- A Pinned handle of the row's node is made, and the row's handle is pinned too. It succeeds while numbers and places
 -- are left.
 pub record PinsHere (w : Core) (me : Owner) (row : HandleRow) (r : Result HandleNumber Error) (w' : Core) : Type 0 where
-  pub pinned : IfOk r (λ k. IsNext k w × Alike (with_handle (with_mode w row.number Mode.LoosePinned) row.node Mode.Pinned me) w')
+  pub pinned : IfOk r (λ k. IsNext k w × Alike (with_handle (with_mode w row.number Mode.LoosePinned) row.node
+      Mode.Pinned me) w')
   pub refused : IfErr r (λ e. Refused (spent w.last.handle) (spent w.last.handle) (AreHandlesFull w) w e w')
 
 -- the handle at a place
@@ -231,6 +241,7 @@ pub record OnlyRoom (w w' : Core) : Type 0 where
   pub more : HasRoom w.places w'.places
 
 -- A node of this type is inserted with this key (0 for none), with references that were checked, and one handle of it.
-pub record Bears (w : Core) (me : Owner) (node_type key : ℕ) (references : List ArcRef) (mode : Mode) (k : HandleNumber) (w' : Core) : Type 0 where
+pub record Bears (w : Core) (me : Owner) (node_type key : ℕ) (references : List ArcRef) (mode : Mode) (k : HandleNumber)
+    (w' : Core) : Type 0 where
   pub next : IsNext k w
   pub leaves : Alike (with_handle (with_node w node_type (key_in key) references) (next_node w) mode me) w'

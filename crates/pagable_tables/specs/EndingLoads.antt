@@ -9,20 +9,24 @@ use Rattle.pagable_pager_spec.specs.declared.handle_row.Owner.{Owner}
 
 -- The load gets a handle of the node that is cached for a reference; or None if none is, and the storage has to be
 -- asked.
-pub record AsksKnown (w : Core) (me : Owner) (l : LoadNumber) (kind : Kind) (key : ℕ) (r : Result (Option HandleNumber) Error) (w' : Core) : Type 0 where
+pub record AsksKnown (w : Core) (me : Owner) (l : LoadNumber) (kind : Kind) (key : ℕ)
+    (r : Result (Option HandleNumber) Error) (w' : Core) : Type 0 where
   pub gives : IfOk r (λ found. (load : OpenLoad) × OwnsLoad w me l load × Recalls w (Owner.Load l) kind key found w')
-  pub refused : IfErr r (λ e. Refused (ask_fault w me l (Want.Nested kind key)) (ask_fault w me l (Want.Nested kind key)) ((is_known w (Want.Nested kind key) ≡ true) × AreHandlesFull w) w e w')
+  pub refused : IfErr r (λ e. Refused (ask_fault w me l (Want.Nested kind key))
+      (ask_fault w me l (Want.Nested kind key)) ((is_known w (Want.Nested kind key) ≡ true) × AreHandlesFull w) w e w')
 
 -- why what a load has read can't become a node, apart from numbers and memory
 abbrev pub early_fault : Core → Owner → LoadNumber → Kind → ℕ → List ArcRef → Option Error
 early_fault w me l kind node_type references =
-    earlier (load_fault w me l) (earlier (refused_if (is_loose_kind kind.0) Error.WrongMode) (earlier (refused_if (not (node_type == type_of kind.0)) Error.WrongKind)
+    earlier (load_fault w me l) (earlier (refused_if (is_loose_kind kind.0) Error.WrongMode)
+    (earlier (refused_if (not (node_type == type_of kind.0)) Error.WrongKind)
     (references_fault w (Owner.Load l) [] references)))
 
 -- ---- loads of cells that can end
 
 -- The load may end with a value of this type and these references, and the handle by which it was begun can be pinned.
-pub record IsReady (w : Core) (me : Owner) (l : LoadNumber) (node_type : ℕ) (references : List ArcRef) (e : Ending) : Type 0 where
+pub record IsReady (w : Core) (me : Owner) (l : LoadNumber) (node_type : ℕ) (references : List ArcRef)
+    (e : Ending) : Type 0 where
   pub may : MayEnd w me l e.row.node e.row.number node_type references
   pub owned : Owns w me e.row.number is_loose e.row
   pub away : e.is_away ≡ not (is_here w e.row.node.0)
@@ -34,7 +38,8 @@ pub record HasPlace (t : Tables) (l : LoadNumber) (e : Ending) : Type 0 where
   pub place : 1 ≤ room t.ref_counts.handles
 
 -- The load may end, but the handle by which it was begun is gone or another's.
-pub record IsVain (w : Core) (me : Owner) (l : LoadNumber) (node_type : ℕ) (references : List ArcRef) (e : Error) : Type 0 where
+pub record IsVain (w : Core) (me : Owner) (l : LoadNumber) (node_type : ℕ) (references : List ArcRef)
+    (e : Error) : Type 0 where
   pub node : NodeNumber
   pub h : HandleNumber
   pub may : MayEnd w me l node h node_type references
@@ -42,7 +47,8 @@ pub record IsVain (w : Core) (me : Owner) (l : LoadNumber) (node_type : ℕ) (re
 
 -- why a load doesn't end with a value
 abbrev pub Unends : Core → Owner → LoadNumber → ℕ → List ArcRef → Unended → Core → Type 0
-Unends w me l node_type references (Unended.Refused e) w' = Refused (end_fault w me l node_type references) (load_fault w me l) (Unit {0}) w e w'
+Unends w me l node_type references (Unended.Refused e) w' =
+    Refused (end_fault w me l node_type references) (load_fault w me l) (Unit {0}) w e w'
 Unends w me l node_type references (Unended.InVain e) w' = IsVain w me l node_type references e × (w' ≡ w)
 
 -- whether a node has its value, where this node has just got one
@@ -50,5 +56,6 @@ abbrev pub has_come : (ℕ → Option Counts) → NodeNumber → ℕ → Bool
 has_come at node n = if n == node.0 then true else has_value (at n)
 
 -- the value of each node is dropped when it has to be, if each node had its value before, this one its new value
-pub record ShedsBeside {X : Type 0} (node : NodeNumber) (at : ℕ → Option Counts) (old : ℕ → Option X) (at' : ℕ → Option Counts) (new : ℕ → Option X) : Type 0 where
+pub record ShedsBeside {X : Type 0} (node : NodeNumber) (at : ℕ → Option Counts) (old : ℕ → Option X)
+    (at' : ℕ → Option Counts) (new : ℕ → Option X) : Type 0 where
   pub left : ((n : ℕ) → is_some (old n) ≡ has_come at node n) → AreLeft at' old new

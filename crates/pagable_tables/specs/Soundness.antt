@@ -27,13 +27,15 @@ is_owned_once places owner q = count_by (owned_at q owner) places == 1
 abbrev pub is_had : Tables → HandleRow → Owner → Bool
 is_had t h Owner.Caller = true
 is_had t h (Owner.Value n) = count_by (λ (r : ArcRef). r.handle.0 == h.number.0) (refs_at t.ref_counts.nodes n.0) == 1
-is_had t h Owner.List = is_unpinned h.mode && (count_by (λ (q : HandleNumber). q.0 == h.number.0) t.ref_counts.list.items == 1)
+is_had t h Owner.List = is_unpinned h.mode && (count_by (λ (q : HandleNumber). q.0 == h.number.0)
+    t.ref_counts.list.items == 1)
 is_had t h (Owner.Load l) = is_some (load_at t.loads l.0)
 is_had t h (Owner.Worker v) = is_some (worker_at t.workers v.0)
 
 -- a live handle has a number that was given out and a node that exists, and its owner has it
 abbrev pub is_row_sound : Tables → HandleRow → Bool
-is_row_sound t h = (nat_le 1 h.number.0 && nat_le h.number.0 t.ref_counts.last_handle) && (is_some (counts_at t.ref_counts.nodes h.node.0) && is_had t h h.owner)
+is_row_sound t h = (nat_le 1 h.number.0 && nat_le h.number.0 t.ref_counts.last_handle)
+    && (is_some (counts_at t.ref_counts.nodes h.node.0) && is_had t h h.owner)
 
 abbrev pub is_place_sound : Tables → Place → Bool
 is_place_sound t p = not p.is_live || is_row_sound t p.row
@@ -47,29 +49,35 @@ agree false b = not b
 -- it or it has no key; and if one handle is Shared, all are, and it has no key.
 unfoldable pub are_counts_sound : List Place → ℕ → Bool → Counts → Bool
 are_counts_sound places n here c =
-    ((c.pins == count_by (pins_node n) places && c.holds == count_by (at_node n) places) && (nat_le 1 c.holds && not c.is_dying))
-    && (agree here (nat_le 1 c.pins || c.key == 0) && (count_by (shares_node n) places == 0 || (count_by (shares_node n) places == c.holds && c.key == 0)))
+    ((c.pins == count_by (pins_node n) places && c.holds == count_by (at_node n) places)
+    && (nat_le 1 c.holds && not c.is_dying))
+    && (agree here (nat_le 1 c.pins || c.key == 0) && (count_by (shares_node n) places == 0
+    || (count_by (shares_node n) places == c.holds && c.key == 0)))
 
 -- its value owns each handle that its references name
 unfoldable pub are_references_owned : Tables → ℕ → Bool
-are_references_owned t n = list_all (λ (r : ArcRef). is_owned_once t.ref_counts.handles.places.items (owner_value n) r.handle.0) (refs_at t.ref_counts.nodes n)
+are_references_owned t n = list_all (λ (r : ArcRef). is_owned_once t.ref_counts.handles.places.items
+    (owner_value n) r.handle.0) (refs_at t.ref_counts.nodes n)
 
 -- both; a node that doesn't exist has no value
 abbrev pub is_node_sound : Tables → ℕ → Bool → Option Counts → Bool
-is_node_sound t n here (Some c) = are_counts_sound t.ref_counts.handles.places.items n here c && are_references_owned t n
+is_node_sound t n here (Some c) = are_counts_sound t.ref_counts.handles.places.items n here c
+    && are_references_owned t n
 is_node_sound t n here None = not here
 
 -- each of the nodes up to a number
 unfoldable pub are_nodes_sound : {X : Type 0} → Tables → NumberTable X → ℕ → Bool
 are_nodes_sound t values zero = true
-are_nodes_sound t values (suc n) = is_node_sound t (suc n) (is_some (row_by values (suc n))) (counts_at t.ref_counts.nodes (suc n)) && are_nodes_sound t values n
+are_nodes_sound t values (suc n) = is_node_sound t (suc n) (is_some (row_by values (suc n)))
+    (counts_at t.ref_counts.nodes (suc n)) && are_nodes_sound t values n
 
 -- A node that is cached under a kind has a number that was given out; while it lives it has the kind's type, and Shared
 -- handles exactly if the kind is that of shared nodes.
 abbrev pub is_known_soundly : Tables → ℕ → ℕ → Option Counts → Bool
 is_known_soundly t kind n None = nat_le n t.last_node
 is_known_soundly t kind n (Some c) = nat_le n t.last_node
-    && (c.node_type == type_of kind && agree (nat_le 1 (count_by (shares_node n) t.ref_counts.handles.places.items)) (is_shared_kind kind))
+    && (c.node_type == type_of kind && agree (nat_le 1 (count_by (shares_node n) t.ref_counts.handles.places.items))
+    (is_shared_kind kind))
 
 abbrev pub is_entry_sound : Tables → (ℕ × ℕ) × NodeNumber → Bool
 is_entry_sound t e = is_known_soundly t e.0.0 e.1.0 (counts_at t.ref_counts.nodes e.1.0)
@@ -79,14 +87,17 @@ unfoldable pub are_places_sound : Tables → Bool
 are_places_sound t = list_all (is_place_sound t) t.ref_counts.handles.places.items
 
 abbrev pub are_handles_sound : Tables → Bool
-are_handles_sound t = are_places_sound t && (count_by (λ (p : Place). not p.is_live) t.ref_counts.handles.places.items == t.ref_counts.handles.dead)
+are_handles_sound t = are_places_sound t && (count_by (λ (p : Place). not p.is_live) t.ref_counts.handles.places.items
+    == t.ref_counts.handles.dead)
 
 unfoldable pub is_list_sound : Tables → Bool
-is_list_sound t = list_all (λ (q : HandleNumber). is_owned_once t.ref_counts.handles.places.items Owner.List q.0) t.ref_counts.list.items
+is_list_sound t = list_all (λ (q : HandleNumber). is_owned_once t.ref_counts.handles.places.items Owner.List q.0)
+    t.ref_counts.list.items
 
 unfoldable pub is_cache_sound : Tables → Bool
 is_cache_sound t = list_all (is_entry_sound t) t.cache.entries
 
 -- all of them, and no node is dying
 unfoldable pub is_sound : {X : Type 0} → Tables → NumberTable X → Bool
-is_sound t values = (are_handles_sound t && (is_list_sound t && is_cache_sound t)) && (t.ref_counts.top == 0 && are_nodes_sound t values t.last_node)
+is_sound t values = (are_handles_sound t && (is_list_sound t && is_cache_sound t))
+    && (t.ref_counts.top == 0 && are_nodes_sound t values t.last_node)

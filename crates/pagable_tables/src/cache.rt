@@ -34,7 +34,8 @@ use std::alloc::AllocError;
 ///   happen.
 pub fn put(cache: &mut Cache, kind: Kind, key: DataKey, node: NodeNumber) -> Result<(), AllocError>
     ensures here { OnOk result (known_at cache.new kind.0 key ≡ Some node) }
-    ensures others { OnOk result ((k q : ℕ) → (k ≢ kind.0) ⊎ (q ≢ key) → known_at cache.new k q ≡ known_at cache.old k q) }
+    ensures others { OnOk result ((k q : ℕ) → (k ≢ kind.0) ⊎ (q ≢ key) → known_at cache.new k q
+        ≡ known_at cache.old k q) }
     ensures err { OnErr result ((k q : ℕ) → known_at cache.new k q ≡ known_at cache.old k q) }
     ensures succeeds { 0 < spare cache.old → IsOk result }
 {
@@ -60,7 +61,8 @@ const FEW_ENTRIES: usize = 64;
 
 /// Removes the cache entries of nodes that are gone.
 fn keep_living(cache: &mut Cache, nodes: &Nodes)
-    ensures { (kind key : ℕ) → known_at cache.new kind key ≡ living (counts_at nodes.now) (known_at cache.old kind key) }
+    ensures { (kind key : ℕ) → known_at cache.new kind key
+        ≡ living (counts_at nodes.now) (known_at cache.old kind key) }
 {
     let _many = cache.len();
     cache.retain(
@@ -76,8 +78,10 @@ fn keep_living(cache: &mut Cache, nodes: &Nodes)
 pub fn forget_gone(t: &mut Tables)
     requires { IsWhole t.old }
     ensures does { Does t.old Alike t.new }
-    ensures gone { t.old.cache_limit < length t.old.cache.entries → (kind key : ℕ) → IfSome (known_at t.new.cache kind key) (λ n. is_some (counts_at t.old.ref_counts.nodes n.0) ≡ true) }
-    ensures few { t.old.cache_limit < length t.old.cache.entries → t.new.cache_limit ≤ 2 * length t.new.cache.entries + 64 }
+    ensures gone { t.old.cache_limit < length t.old.cache.entries → (kind key : ℕ)
+        → IfSome (known_at t.new.cache kind key) (λ n. is_some (counts_at t.old.ref_counts.nodes n.0) ≡ true) }
+    ensures few { t.old.cache_limit < length t.old.cache.entries
+        → t.new.cache_limit ≤ 2 * length t.new.cache.entries + 64 }
     ensures same { t.new ≡ record t.old { cache = t.new.cache; cache_limit = t.new.cache_limit } }
 {
     if t.cache.len() <= t.cache_limit {
@@ -91,7 +95,8 @@ pub fn forget_gone(t: &mut Tables)
 /// or, for the kind of a pin, whose node has no value in memory.
 pub fn usable_of(t: &Tables, kind: Kind, key: DataKey) -> Option<NodeNumber>
     requires { IsWhole t.now }
-    ensures { (storage : StorageView) → option_map (λ (n : NodeNumber). n.0) result ≡ usable (core_of t.now storage) kind.0 key }
+    ensures { (storage : StorageView) → option_map (λ (n : NodeNumber). n.0) result
+        ≡ usable (core_of t.now storage) kind.0 key }
 {
     let node = t.cache.get(&(kind.0, key)).copied()?;
     let counts = nodes::counts_of(&t.ref_counts.nodes, node.0);
@@ -135,7 +140,8 @@ pub fn offered(t: &Tables, me: Owner, kind: Kind, handle: HandleNumber) -> Resul
     requires { IsWhole t.now }
     ensures owns { IfOk result (λ row. Owns (plain_of t.now) me handle (fits_mode kind.0) row) }
     ensures typed { IfOk result (λ row. type_at (plain_of t.now) row.node.0 ≡ Some (type_of kind.0)) }
-    ensures fault { IfErr result (λ e. (storage : StorageView) (key : ℕ) → offer_fault (core_of t.now storage) me kind key handle ≡ Some e) }
+    ensures fault { IfErr result (λ e. (storage : StorageView) (key : ℕ)
+        → offer_fault (core_of t.now storage) me kind key handle ≡ Some e) }
 {
     let at = own(t, me, handle)?;
     if !fits_mode(kind, at.row.mode) {
@@ -172,8 +178,10 @@ pub fn offer<N: Drop>(
     ensures offered { (storage : StorageView) → lists ≡ not storage.closed
         → OfferCall (core_of t.old storage) me kind key handle result (core_of t.new storage) }
     ensures whole { IsWhole t.new }
-    ensures sheds { ((n : ℕ) → usable (plain_of t.old) kind.0 key ≡ Some n → is_pinning (mode_of kind.0) ≡ true → has_value (counts_at t.old.ref_counts.nodes n) ≡ true)
-        → Sheds (counts_at t.old.ref_counts.nodes) (row_by values.old) (counts_at t.new.ref_counts.nodes) (row_by values.new) }
+    ensures sheds { ((n : ℕ) → usable (plain_of t.old) kind.0 key ≡ Some n → is_pinning (mode_of kind.0) ≡ true
+        → has_value (counts_at t.old.ref_counts.nodes n) ≡ true)
+        → Sheds (counts_at t.old.ref_counts.nodes) (row_by values.old) (counts_at t.new.ref_counts.nodes)
+        (row_by values.new) }
     ensures later { AreLater t.old → AreLater t.new }
 {
     let row = offered(t, me, kind, handle)?;

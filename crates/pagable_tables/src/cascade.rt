@@ -131,7 +131,8 @@ fn counts_after(counts: Counts, pinning: bool, stays: bool, listed: bool, top: u
 /// and it doesn't stay.
 fn leave_work(nodes: &mut Nodes, row: HandleRow, stays: bool)
     requires { IsSome (counts_at nodes.old row.node.0) }
-    ensures here { work_at nodes.old row.node.0 ≤ work_at nodes.new row.node.0 + (if stays then 0 else one (is_worker row.owner)) }
+    ensures here { work_at nodes.old row.node.0 ≤ work_at nodes.new row.node.0 +
+        (if stays then 0 else one (is_worker row.owner)) }
     ensures others { (q : ℕ) → q ≢ row.node.0 → work_at nodes.new q ≡ work_at nodes.old q }
     ensures counts { (q : ℕ) → counts_at nodes.new q ≡ counts_at nodes.old q }
     ensures refs { (q : ℕ) → refs_at nodes.new q ≡ refs_at nodes.old q }
@@ -238,8 +239,10 @@ pub fn cascade<N: Drop>(t: &mut RefCounts, values: &mut Arcs<N>, lists: bool)
     ensures whole { IsFalling t.new [] owns_nothing }
     ensures fewer { length (live t.new.handles.places.items) ≤ length (live t.old.handles.places.items) }
     ensures unlisting { lists ≡ false → t.new.list.items ≡ t.old.list.items }
-    ensures so_far { (before w : Core) (given : ℕ → Bool) → SoFar before w given lists t.old → SoFar before w given lists t.new }
-    ensures falls { (before w : Core) (given : ℕ → Bool) → SoFar before w given lists t.old → Falls before w given (told_by t.new.unlisted) (with_tables w t.new) }
+    ensures so_far { (before w : Core) (given : ℕ → Bool) → SoFar before w given lists t.old
+        → SoFar before w given lists t.new }
+    ensures falls { (before w : Core) (given : ℕ → Bool) → SoFar before w given lists t.old
+        → Falls before w given (told_by t.new.unlisted) (with_tables w t.new) }
     ensures sheds { Sheds (counts_at t.old.nodes) (row_by values.old) (counts_at t.new.nodes) (row_by values.new) }
 {
     // a bound on the steps: twice the number of live handles, and one
@@ -258,8 +261,10 @@ pub fn release_at<N: Drop>(t: &mut RefCounts, values: &mut Arcs<N>, at: HandleAt
     requires plain { is_valued at.row.owner ≡ false }
     ensures steady { IsFalling t.new [] owns_nothing }
     ensures fewer { length (live t.new.handles.places.items) ≤ length (live t.old.handles.places.items) }
-    ensures so_far { (before w : Core) (given : ℕ → Bool) (f : SoFar before w given lists t.old) → length (live t.old.handles.places.items) ≤ length w.rows
-        → (is_owner Owner.List at.row.owner ≡ false) ⊎ IsApart before w given lists t.old f at.row.number.0 → SoFar before w (λ q. given q || q == at.row.number.0) lists t.new }
+    ensures so_far { (before w : Core) (given : ℕ → Bool) (f : SoFar before w given lists t.old)
+        → length (live t.old.handles.places.items) ≤ length w.rows
+        → (is_owner Owner.List at.row.owner ≡ false) ⊎ IsApart before w given lists t.old f at.row.number.0
+        → SoFar before w (λ q. given q || q == at.row.number.0) lists t.new }
     ensures unlisting { lists ≡ false → t.new.list.items ≡ t.old.list.items }
     ensures sheds { Sheds (counts_at t.old.nodes) (row_by values.old) (counts_at t.new.nodes) (row_by values.new) }
 {
@@ -276,7 +281,8 @@ pub fn release_at<N: Drop>(t: &mut RefCounts, values: &mut Arcs<N>, at: HandleAt
 pub fn fall<N: Drop>(t: &mut RefCounts, values: &mut Arcs<N>, lists: bool) -> Result<(), Error>
     requires falling { (stack : List ℕ) × IsFalling t.old stack owns_nothing × (length stack ≤ 1) }
     ensures steady { IsFalling t.new [] owns_nothing }
-    ensures falls { (before w : Core) (given : ℕ → Bool) → SoFar before w given lists t.old → Falls before w given result (with_tables w t.new) }
+    ensures falls { (before w : Core) (given : ℕ → Bool) → SoFar before w given lists t.old
+        → Falls before w given result (with_tables w t.new) }
     ensures sheds { Sheds (counts_at t.old.nodes) (row_by values.old) (counts_at t.new.nodes) (row_by values.new) }
 {
     cascade(t, values, lists);

@@ -37,7 +37,8 @@ pub fn own(t: &Tables, me: Owner, handle: HandleNumber) -> Result<HandleAt, Erro
     ensures found { IfOk result (λ at. find_row handle.0 (live t.now.ref_counts.handles.places.items) ≡ Some at.row) }
     ensures number { IfOk result (λ at. at.row.number ≡ handle) }
     ensures owner { IfOk result (λ at. is_owner me at.row.owner ≡ true) }
-    ensures fault { IfErr result (λ e. (storage : StorageView) (fits : Mode → Bool) → handle_fault (core_of t.now storage) me handle fits ≡ Some e) }
+    ensures fault { IfErr result (λ e. (storage : StorageView) (fits : Mode → Bool)
+        → handle_fault (core_of t.now storage) me handle fits ≡ Some e) }
 {
     let at = handle_table::look(&t.ref_counts.handles, handle).ok_or(Error::NoSuchHandle)?;
     if !is_owner(me, at.row.owner) {
@@ -88,7 +89,8 @@ fn row_fault(t: &Tables, row: HandleRow, reference: ArcRef, is_anothers: bool) -
 /// reference named the same handle.
 fn fault_of(t: &Tables, me: Owner, reference: ArcRef, is_seen: bool) -> Option<Error>
     requires { IsWhole t.now }
-    ensures { (storage : StorageView) (seen : List ℕ) → is_in seen reference.handle.0 ≡ is_seen → result ≡ reference_fault (core_of t.now storage) me seen reference }
+    ensures { (storage : StorageView) (seen : List ℕ) → is_in seen reference.handle.0 ≡ is_seen → result
+        ≡ reference_fault (core_of t.now storage) me seen reference }
 {
     let Some(at) = handle_table::look(&t.ref_counts.handles, reference.handle) else {
         return Some(Error::NoSuchHandle);
@@ -133,7 +135,8 @@ pub fn references_fault(t: &Tables, me: Owner, references: &[ArcRef]) -> Option<
 /// Returns why this owner can't use the load of this row, if it can't: `NoSuchHandle` if there is
 /// none, `NotYours` if another began it.
 pub fn load_fault(row: Option<LoadRow>, me: Owner) -> Option<Error>
-    ensures { result ≡ if_there (λ (load : OpenLoad). refused_if (not (is_owner me load.owner)) errors.NotYours) (Some errors.NoSuchHandle) (option_map load_in row) }
+    ensures { result ≡ if_there (λ (load : OpenLoad). refused_if (not (is_owner me load.owner)) errors.NotYours)
+        (Some errors.NoSuchHandle) (option_map load_in row) }
 {
     match row {
         Some(row) => (!is_owner(me, row.owner)).then_some(Error::NotYours),
@@ -173,7 +176,8 @@ fn is_before(named: &[HandleNumber], place: usize, lowest: u64, highest: u64, nu
 /// was named before.
 fn hand_fault(handles: &Handles, owner: Owner, handle: HandleNumber, is_seen: bool) -> Option<Error>
     requires { AreSound handles.now }
-    ensures { result ≡ if_there (λ (row : HandleRow). refused_if (not (is_owner owner row.owner) || is_seen) errors.NotYours) (Some errors.NoSuchHandle) (find_row handle.0 (live handles.now.places.items)) }
+    ensures { result ≡ if_there (λ (row : HandleRow). refused_if (not (is_owner owner row.owner) || is_seen)
+        errors.NotYours) (Some errors.NoSuchHandle) (find_row handle.0 (live handles.now.places.items)) }
 {
     let Some(at) = handle_table::look(handles, handle) else {
         return Some(Error::NoSuchHandle);

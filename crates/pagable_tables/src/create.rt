@@ -38,7 +38,9 @@ pub fn make_ready_to_learn(t: &mut Tables) -> Result<(), Error>
     ensures ready { OnOk result (IsReady t.new) }
     ensures learns { OnOk result (0 < spare t.new.cache) }
     ensures does { Does t.old OnlyRoom t.new }
-    ensures refused { (storage : StorageView) → IfErr result (λ e. Refused (birth_fault (core_of t.old storage)) (birth_fault (core_of t.old storage)) (Unit {0}) (core_of t.old storage) e (core_of t.new storage)) }
+    ensures refused { (storage : StorageView) → IfErr result
+        (λ e. Refused (birth_fault (core_of t.old storage)) (birth_fault (core_of t.old storage)) (Unit {0})
+        (core_of t.old storage) e (core_of t.new storage)) }
     ensures loads { t.new.loads ≡ t.old.loads }
     ensures workers { t.new.workers ≡ t.old.workers }
 {
@@ -69,7 +71,8 @@ pub fn add(
     requires live { IsSome (counts_at t.old.nodes node.0) }
     requires owner { is_valued me ≡ false }
     ensures made { (w : Core) → Makes (with_tables w t.old) node mode me result (with_tables w t.new) }
-    ensures values { (n : ℕ) → (n ≡ node.0 → is_pinning mode ≡ true → has_value (counts_at t.old.nodes n) ≡ true) → ValueStays (counts_at t.old.nodes n) (counts_at t.new.nodes n) }
+    ensures values { (n : ℕ) → (n ≡ node.0 → is_pinning mode ≡ true → has_value (counts_at t.old.nodes n) ≡ true)
+        → ValueStays (counts_at t.old.nodes n) (counts_at t.new.nodes n) }
     ensures steady { IsFalling t.new [] owns_nothing }
 {
     let counts = nodes::counts_of(&t.nodes, node.0).unwrap();
@@ -98,7 +101,8 @@ pub fn make(t: &mut Tables, node: NodeNumber, mode: Mode, me: Owner) -> Result<H
     requires suits { Suits (plain_of t.old) node mode }
     requires holder { MayHold (plain_of t.old) me }
     ensures does { Does t.old (λ w w'. Makes w node mode me result w') t.new }
-    ensures values { (n : ℕ) → (n ≡ node.0 → is_pinning mode ≡ true → has_value (counts_at t.old.ref_counts.nodes n) ≡ true) → ValueStays (counts_at t.old.ref_counts.nodes n) (counts_at t.new.ref_counts.nodes n) }
+    ensures values { (n : ℕ) → (n ≡ node.0 → is_pinning mode ≡ true → has_value (counts_at t.old.ref_counts.nodes n)
+        ≡ true) → ValueStays (counts_at t.old.ref_counts.nodes n) (counts_at t.new.ref_counts.nodes n) }
     ensures same { t.new ≡ record t.old { ref_counts = t.new.ref_counts } }
 {
     add(&mut t.ref_counts, node, mode, me)
@@ -135,7 +139,9 @@ pub fn prepare(t: &mut Tables, me: Owner, references: &[ArcRef]) -> Result<(), E
     ensures ready { OnOk result (IsReady t.new) }
     ensures fit { OnOk result (references_fault (plain_of t.new) me [] references.now ≡ None) }
     ensures does { Does t.old OnlyRoom t.new }
-    ensures refused { (storage : StorageView) → IfErr result (λ e. Refused (earlier (references_fault (core_of t.old storage) me [] references.now) (birth_fault (core_of t.old storage))) None (Unit {0}) (core_of t.old storage) e (core_of t.new storage)) }
+    ensures refused { (storage : StorageView) → IfErr result
+        (λ e. Refused (earlier (references_fault (core_of t.old storage) me [] references.now)
+        (birth_fault (core_of t.old storage))) None (Unit {0}) (core_of t.old storage) e (core_of t.new storage)) }
 {
     if let Some(e) = references_fault(t, me, references) {
         return Err(e);

@@ -37,7 +37,8 @@ pub struct Handles {
 pub fn up_to(places: &[Place], number: u64) -> usize
     requires { AllPairs IsBefore places.now }
     ensures within { result ≤ length places.now }
-    ensures point { IsPartitionPoint (λ (p : Place). p.row.number.0 ≤ number) (λ (p : Place). number < p.row.number.0) places.now result }
+    ensures point { IsPartitionPoint (λ (p : Place). p.row.number.0 ≤ number) (λ (p : Place). number < p.row.number.0)
+        places.now result }
 {
     places.partition_point(|place| place.number() <= number)
 }
@@ -47,7 +48,8 @@ pub fn up_to(places: &[Place], number: u64) -> usize
 pub fn up_to_from(places: &[Place], number: u64, guess: usize) -> usize
     requires { AllPairs IsBefore places.now }
     ensures within { result ≤ length places.now }
-    ensures above { (k : ℕ) (d : Place) → result ≤ k → k < length places.now → number < (get_or places.now k d).row.number.0 }
+    ensures above { (k : ℕ) (d : Place) → result ≤ k → k < length places.now
+        → number < (get_or places.now k d).row.number.0 }
 {
     if guess >= places.len() {
         return places.len();
@@ -62,7 +64,8 @@ pub fn up_to_from(places: &[Place], number: u64, guess: usize) -> usize
 #[tactic(auto, using(crate::proofs::HandleTable::looks))]
 fn at(places: &[Place], place: usize, number: u64) -> Option<HandleAt>
     requires { AllPairs IsBefore places.now }
-    ensures none { IfNone result ((p : Place) → slice_get places.now place ≡ Some p → p.row.number.0 ≡ number → p.is_live ≡ false) }
+    ensures none { IfNone result ((p : Place) → slice_get places.now place ≡ Some p → p.row.number.0 ≡ number
+        → p.is_live ≡ false) }
     ensures place { IfSome result (λ at. slice_get places.now at.place ≡ Some (alive at.row)) }
     ensures found { IfSome result (λ at. find_row number (live places.now) ≡ Some at.row) }
     ensures number { IfSome result (λ at. at.row.number.0 ≡ number) }
@@ -151,8 +154,10 @@ fn clear(handles: &mut Handles)
 pub fn kill(handles: &mut Handles, at: HandleAt)
     requires sound { AreSound handles.old }
     requires place { slice_get handles.old.places.items at.place ≡ Some (alive at.row) }
-    ensures becomes { Becomes handles.old (left_rows (only_handle at.row.number) (live handles.old.places.items)) handles.new }
-    ensures sums { (f : HandleRow → ℕ) → sum_by f (live handles.new.places.items) + f at.row ≡ sum_by f (live handles.old.places.items) }
+    ensures becomes { Becomes handles.old (left_rows (only_handle at.row.number) (live handles.old.places.items))
+        handles.new }
+    ensures sums { (f : HandleRow → ℕ) → sum_by f (live handles.new.places.items) + f at.row
+        ≡ sum_by f (live handles.old.places.items) }
 {
     handles.places[at.place] = Place::new(at.row, false);
     handles.dead += 1;
@@ -165,8 +170,10 @@ pub fn set(handles: &mut Handles, at: HandleAt, row: HandleRow)
     requires sound { AreSound handles.old }
     requires place { slice_get handles.old.places.items at.place ≡ Some (alive at.row) }
     requires number { row.number ≡ at.row.number }
-    ensures becomes { Becomes handles.old (changed (is_handle at.row.number.0) (λ _. row) (live handles.old.places.items)) handles.new }
-    ensures sums { (f : HandleRow → ℕ) → sum_by f (live handles.new.places.items) + f at.row ≡ sum_by f (live handles.old.places.items) + f row }
+    ensures becomes { Becomes handles.old (changed (is_handle at.row.number.0) (λ _. row)
+        (live handles.old.places.items)) handles.new }
+    ensures sums { (f : HandleRow → ℕ) → sum_by f (live handles.new.places.items) + f at.row
+        ≡ sum_by f (live handles.old.places.items) + f row }
 {
     handles.places[at.place] = Place::new(row, true);
 }
@@ -234,9 +241,11 @@ pub fn reserve(handles: &mut Handles, more: usize) -> Result<(), AllocError>
 pub fn hand_over(handles: &mut Handles, at: HandleAt, owner: Owner)
     requires sound { AreSound handles.old }
     requires place { slice_get handles.old.places.items at.place ≡ Some (alive at.row) }
-    ensures becomes { Becomes handles.old (moved (only_handle at.row.number) owner (live handles.old.places.items)) handles.new }
+    ensures becomes { Becomes handles.old (moved (only_handle at.row.number) owner (live handles.old.places.items))
+        handles.new }
     ensures stands { (t : RefCounts) → is_valued at.row.owner ≡ false → is_valued owner ≡ false
-        → AreAtWork (moved (only_handle at.row.number) owner (live handles.old.places.items)) t.nodes → IsFalling (record t { handles = handles.old }) [] owns_nothing
+        → AreAtWork (moved (only_handle at.row.number) owner (live handles.old.places.items)) t.nodes
+        → IsFalling (record t { handles = handles.old }) [] owns_nothing
         → IsFalling (record t { handles = handles.new }) [] owns_nothing }
     ensures sums { (f : HandleRow → ℕ) → sum_by f (live handles.new.places.items) + f at.row
         ≡ sum_by f (live handles.old.places.items) + f (record at.row { owner = owner }) }
@@ -270,7 +279,8 @@ pub fn hand_over_all(handles: &mut Handles, references: &[ArcRef], owner: Owner)
 #[tactic(auto, using(crate::proofs::SameViews::handing))]
 pub fn hand_each(handles: &mut Handles, named: &[HandleNumber], owner: Owner)
     requires { AreSound handles.old }
-    ensures { Becomes handles.old (moved (is_in (numbers_of named.now)) owner (live handles.old.places.items)) handles.new }
+    ensures { Becomes handles.old (moved (is_in (numbers_of named.now)) owner (live handles.old.places.items))
+        handles.new }
 {
     for handle in named {
         hand_over_live(handles, *handle, owner);

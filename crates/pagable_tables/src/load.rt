@@ -153,8 +153,10 @@ fn insert_known(
     requires learns { 0 < spare t.old.cache }
     requires holder { MayHold (plain_of t.old) (owners.Load load) }
     requires fit { references_fault (plain_of t.old) (owners.Load load) [] references.items ≡ None }
-    requires bare { (own_key ≡ 0) ⊎ ((is_shared (mode_of kind.0) ≡ false) × ((references.items ≡ []) ⊎ (is_pinning (mode_of kind.0) ≡ true))) }
-    ensures { Does t.old (λ w w'. IsNext result w × (lists ≡ not w.closed → Alike (adopted w load kind key (key_in own_key) references.items) w')) t.new }
+    requires bare { (own_key ≡ 0) ⊎ ((is_shared (mode_of kind.0) ≡ false)
+        × ((references.items ≡ []) ⊎ (is_pinning (mode_of kind.0) ≡ true))) }
+    ensures { Does t.old (λ w w'. IsNext result w × (lists ≡ not w.closed
+        → Alike (adopted w load kind key (key_in own_key) references.items) w')) t.new }
 {
     let me = Owner::Load(load);
     let handle = insert_node(t, me, kind.0 / 3, own_key, references, mode_of(kind));
@@ -177,8 +179,10 @@ fn learn_new(
     requires learns { 0 < spare t.old.cache }
     requires holder { MayHold (plain_of t.old) (owners.Load load) }
     requires fit { references_fault (plain_of t.old) (owners.Load load) [] references.items ≡ None }
-    requires bare { (own_key ≡ 0) ⊎ ((is_shared (mode_of kind.0) ≡ false) × ((references.items ≡ []) ⊎ (is_pinning (mode_of kind.0) ≡ true))) }
-    ensures { Does t.old (λ w w'. IsNext result w × (lists ≡ not w.closed → Alike (adopted w load kind key (key_in own_key) references.items) w')) t.new }
+    requires bare { (own_key ≡ 0) ⊎ ((is_shared (mode_of kind.0) ≡ false)
+        × ((references.items ≡ []) ⊎ (is_pinning (mode_of kind.0) ≡ true))) }
+    ensures { Does t.old (λ w w'. IsNext result w × (lists ≡ not w.closed
+        → Alike (adopted w load kind key (key_in own_key) references.items) w')) t.new }
 {
     let handle = insert_known(t, load, kind, key, own_key, references, lists);
     cache::forget_gone(t);
@@ -229,7 +233,8 @@ fn adopt_fault(
     references: &[ArcRef],
 ) -> Option<Error>
     requires { IsWhole t.now }
-    ensures { (storage : StorageView) → result ≡ early_fault (core_of t.now storage) me load kind node_type references.now }
+    ensures { (storage : StorageView) → result ≡ early_fault (core_of t.now storage) me load kind node_type
+        references.now }
 {
     let own = load_fault(load_table::load_of(&t.loads, load.0), me);
     let mode = is_loose_kind(kind).then_some(Error::WrongMode);
@@ -250,7 +255,10 @@ fn hand_over_named<N: Drop>(
     requires { IsFalling t.old [] owns_nothing }
     ensures steady { IsFalling t.new [] owns_nothing }
     ensures sheds { Sheds (counts_at t.old.nodes) (row_by values.old) (counts_at t.new.nodes) (row_by values.new) }
-    ensures falls { (before w : Core) → SoFar before w nobody lists (record t.old { unlisted = None }) → length (live t.old.handles.places.items) ≤ length w.rows → ((q : ℕ) → is_named_by references.now q ≡ true → is_owned_in w (owners.Load load) q ≡ true) → FallsAnyhow before w (is_named_by references.now) (with_tables w t.new) }
+    ensures falls { (before w : Core) → SoFar before w nobody lists (record t.old { unlisted = None })
+        → length (live t.old.handles.places.items) ≤ length w.rows
+        → ((q : ℕ) → is_named_by references.now q ≡ true → is_owned_in w (owners.Load load) q ≡ true)
+        → FallsAnyhow before w (is_named_by references.now) (with_tables w t.new) }
 {
     t.unlisted = None;
     for reference in references {
@@ -287,17 +295,24 @@ pub fn adopt_if_known<N: Drop>(
 ) -> Result<Option<HandleNumber>, Error>
     requires whole { IsWhole t.old }
     requires later { AreLater t.old }
-    requires valued { (n : ℕ) → usable (plain_of t.old) kind.0 key ≡ Some n → is_loose_kind kind.0 ≡ false → has_value (counts_at t.old.ref_counts.nodes n) ≡ true }
-    ensures known { (storage : StorageView) → lists ≡ not storage.closed → IfOk result (λ found. IfSome found (λ k. Adopts (core_of t.old storage) me load kind key node_type references.now k (core_of t.new storage))) }
-    ensures fresh { (storage : StorageView) → IfOk result (λ found. IfNone found (early_fault (core_of t.old storage) me load kind node_type references.now ≡ None)) }
+    requires valued { (n : ℕ) → usable (plain_of t.old) kind.0 key ≡ Some n → is_loose_kind kind.0 ≡ false
+        → has_value (counts_at t.old.ref_counts.nodes n) ≡ true }
+    ensures known { (storage : StorageView) → lists ≡ not storage.closed
+        → IfOk result (λ found. IfSome found (λ k. Adopts (core_of t.old storage) me load kind key node_type
+        references.now k (core_of t.new storage))) }
+    ensures fresh { (storage : StorageView) → IfOk result
+        (λ found. IfNone found (early_fault (core_of t.old storage) me load kind node_type references.now ≡ None)) }
     ensures given { IfOk result (λ found. IfSome found (λ k. (n : ℕ) × (usable (plain_of t.old) kind.0 key ≡ Some n))) }
     ensures unknown { IfOk result (λ found. IfNone found (usable (plain_of t.old) kind.0 key ≡ None)) }
     ensures same { IfOk result (λ found. IfNone found (t.new ≡ t.old)) }
     ensures kept { IfOk result (λ found. IfNone found (values.new ≡ values.old)) }
-    ensures refused { (storage : StorageView) → IfErr result (λ e. Refused (adopt_fault (core_of t.old storage) me load kind key node_type references.now) (load_fault (core_of t.old storage) me load) (Unit {0}) (core_of t.old storage) e (core_of t.new storage)) }
+    ensures refused { (storage : StorageView) → IfErr result
+        (λ e. Refused (adopt_fault (core_of t.old storage) me load kind key node_type references.now)
+        (load_fault (core_of t.old storage) me load) (Unit {0}) (core_of t.old storage) e (core_of t.new storage)) }
     ensures whole { IsWhole t.new }
     ensures later { AreLater t.new }
-    ensures sheds { Sheds (counts_at t.old.ref_counts.nodes) (row_by values.old) (counts_at t.new.ref_counts.nodes) (row_by values.new) }
+    ensures sheds { Sheds (counts_at t.old.ref_counts.nodes) (row_by values.old) (counts_at t.new.ref_counts.nodes)
+        (row_by values.new) }
 {
     if let Some(e) = adopt_fault(t, me, load, kind, node_type, references) {
         return Err(e);
@@ -325,9 +340,11 @@ pub fn adopt(
     requires later { AreLater t.old }
     requires ready { IsReady t.old }
     requires learns { 0 < spare t.old.cache }
-    requires asked { (me : Owner) × (node_type : ℕ) × (early_fault (plain_of t.old) me load kind node_type references.items ≡ None) }
+    requires asked { (me : Owner) × (node_type : ℕ) × (early_fault (plain_of t.old) me load kind node_type
+        references.items ≡ None) }
     requires unknown { usable (plain_of t.old) kind.0 key ≡ None }
-    ensures { Does t.old (λ w w'. IsNext result w × (lists ≡ not w.closed → Alike (adopted w load kind key (first_key kind.0 key) references.items) w')) t.new }
+    ensures { Does t.old (λ w w'. IsNext result w × (lists ≡ not w.closed
+        → Alike (adopted w load kind key (first_key kind.0 key) references.items) w')) t.new }
 {
     let own_key = if is_pinned_kind(kind) { key.get() } else { 0 };
     learn_new(t, load, kind, key, own_key, references, lists)

@@ -59,7 +59,8 @@ pub enum Unended {
 fn root_fault(t: &Tables, me: Owner, load: LoadNumber, node_type: u32) -> Option<Error>
     requires { IsWhole t.now }
     ensures { (storage : StorageView)
-        → result ≡ if_there (λ (load : OpenLoad). root_fault (core_of t.now storage) me node_type load.root) None ((core_of t.now storage).loads load.0) }
+        → result ≡ if_there (λ (load : OpenLoad). root_fault (core_of t.now storage) me node_type load.root) None
+        ((core_of t.now storage).loads load.0) }
 {
     let LoadRoot::Cell(_, cell_type, handle) = load_table::load_of(&t.loads, load.0)?.root else {
         return Some(Error::WrongMode);
@@ -109,7 +110,8 @@ pub fn prepare_end(
     references: &[ArcRef],
 ) -> Result<Ending, Unended>
     requires { IsWhole t.old }
-    ensures ready { IfOk result (λ e. (storage : StorageView) → IsEndReady (core_of t.new storage) me load node_type references.now e) }
+    ensures ready { IfOk result (λ e. (storage : StorageView)
+        → IsEndReady (core_of t.new storage) me load node_type references.now e) }
     ensures place { IfOk result (λ e. HasPlace t.new load e) }
     ensures unended { IfErr result (λ u. (storage : StorageView)
         → Unends (core_of t.old storage) me load node_type references.now u (core_of t.new storage)) }
@@ -144,7 +146,8 @@ pub fn prepare_end(
 fn join(t: &mut RefCounts, node: NodeNumber, references: Vec<ArcRef>, comes: bool)
     requires sound { AreSound t.old.handles }
     requires live { IsSome (counts_at t.old.nodes node.0) }
-    ensures handles { Becomes t.old.handles (moved (is_named_by (coming comes references.items)) (owner_value node.0) (live t.old.handles.places.items)) t.new.handles }
+    ensures handles { Becomes t.old.handles (moved (is_named_by (coming comes references.items)) (owner_value node.0)
+        (live t.old.handles.places.items)) t.new.handles }
     ensures counts { (n : ℕ) → counts_at t.new.nodes n ≡ counts_at t.old.nodes n }
     ensures work { (n : ℕ) → work_at t.new.nodes n ≡ work_at t.old.nodes n }
     ensures here { comes ≡ true → refs_at t.new.nodes node.0 ≡ references.items }
@@ -172,12 +175,15 @@ fn install_up_to<N: Drop>(
     lists: bool,
 ) -> HandleNumber
     requires whole { IsWhole t.old }
-    requires ready { (storage : StorageView) → IsEndReady (core_of t.old storage) me load node_type references.items ending }
+    requires ready { (storage : StorageView) → IsEndReady (core_of t.old storage) me load node_type references.items
+        ending }
     requires place { 1 ≤ room t.old.ref_counts.handles }
     requires above { IsOwnedAbove t.old load ending.load.since }
     requires up_to { IsOwnedUpTo t.old load until }
-    ensures does { Does t.old (λ w w'. lists ≡ not w.closed → Installs w me load ending.row.node ending.row.number result references.items w') t.new }
-    ensures sheds { ShedsBeside ending.row.node (counts_at t.old.ref_counts.nodes) (row_by values.old) (counts_at t.new.ref_counts.nodes) (row_by values.new) }
+    ensures does { Does t.old (λ w w'. lists ≡ not w.closed
+        → Installs w me load ending.row.node ending.row.number result references.items w') t.new }
+    ensures sheds { ShedsBeside ending.row.node (counts_at t.old.ref_counts.nodes) (row_by values.old)
+        (counts_at t.new.ref_counts.nodes) (row_by values.new) }
 {
     let Ok(handle) = pin_here(t, me, ending.row) else {
         unreachable!();
@@ -215,10 +221,13 @@ pub fn install<N: Drop>(
 ) -> HandleNumber
     requires whole { IsWhole t.old }
     requires later { AreLater t.old }
-    requires ready { (storage : StorageView) → IsEndReady (core_of t.old storage) me load node_type references.items ending }
+    requires ready { (storage : StorageView) → IsEndReady (core_of t.old storage) me load node_type references.items
+        ending }
     requires place { HasPlace t.old load ending }
-    ensures does { Does t.old (λ w w'. lists ≡ not w.closed → Installs w me load ending.row.node ending.row.number result references.items w') t.new }
-    ensures sheds { ShedsBeside ending.row.node (counts_at t.old.ref_counts.nodes) (row_by values.old) (counts_at t.new.ref_counts.nodes) (row_by values.new) }
+    ensures does { Does t.old (λ w w'. lists ≡ not w.closed
+        → Installs w me load ending.row.node ending.row.number result references.items w') t.new }
+    ensures sheds { ShedsBeside ending.row.node (counts_at t.old.ref_counts.nodes) (row_by values.old)
+        (counts_at t.new.ref_counts.nodes) (row_by values.new) }
 {
     let until = last_of(t, load, ending.load.since);
     install_up_to(

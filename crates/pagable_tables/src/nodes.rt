@@ -201,7 +201,8 @@ pub fn key_in(counts: Option<Counts>) -> OptionalDataKey
 /// Says whether a node with these counts has its value in memory: a handle pins it, or it has no
 /// key.
 pub fn is_here(counts: Option<Counts>) -> bool
-    ensures { result ≡ is_in_memory (pins_in counts) (if_there (λ (cell : Cell). cell.key) OptionalDataKey.None (cell_in counts)) }
+    ensures { result ≡ is_in_memory (pins_in counts) (if_there (λ (cell : Cell). cell.key) OptionalDataKey.None
+        (cell_in counts)) }
 {
     counts.map_or(true, |c| c.pins > 0 || c.key == 0)
 }
@@ -229,7 +230,8 @@ pub fn counts_more(counts: Counts, pinning: bool) -> Counts
 /// Adds one to the node's bound of handles that workers own, if `owner` is a worker.
 pub fn add_work(nodes: &mut Nodes, node: u64, owner: Owner)
     requires { IsSome (counts_at nodes.old node) }
-    ensures here { (k : ℕ) → k < 2 ^ 64 → k ≤ work_at nodes.old node + one (is_worker owner) → k ≤ work_at nodes.new node }
+    ensures here { (k : ℕ) → k < 2 ^ 64 → k ≤ work_at nodes.old node + one (is_worker owner)
+        → k ≤ work_at nodes.new node }
     ensures others { (q : ℕ) → work_at nodes.old q ≤ work_at nodes.new q }
     ensures counts { (q : ℕ) → counts_at nodes.new q ≡ counts_at nodes.old q }
     ensures refs { (q : ℕ) → refs_at nodes.new q ≡ refs_at nodes.old q }

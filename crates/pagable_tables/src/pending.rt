@@ -56,7 +56,8 @@ pub fn schedule_for_paging<N: Drop>(
 fn reach_to(workers: &mut Workers, me: Owner, handle: HandleNumber)
     ensures at_work { (v : ℕ) → is_some (worker_at workers.new v) ≡ is_some (worker_at workers.old v) }
     ensures less { IsNoLess workers.old workers.new }
-    ensures here { (v : ℕ) → 0 < handle.0 → is_owner (owner_worker v) me ≡ true → InReach (reach_at workers.new v) handle.0 }
+    ensures here { (v : ℕ) → 0 < handle.0 → is_owner (owner_worker v) me ≡ true
+        → InReach (reach_at workers.new v) handle.0 }
 {
     let Owner::Worker(worker) = me else {
         return;

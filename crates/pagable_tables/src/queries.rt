@@ -38,7 +38,8 @@ pub fn node_of(t: &Tables, handle: HandleNumber) -> Result<NodeNumber, Error>
 /// - `NoSuchHandle` if the handle isn't live.
 pub fn pinned_node(t: &Tables, handle: HandleNumber) -> Result<Option<NodeNumber>, Error>
     requires { IsWhole t.now }
-    ensures { (storage : StorageView) → Looks (core_of t.now storage) handle (λ node row. node ≡ (if is_pinning row.mode then Some row.node else None)) result }
+    ensures { (storage : StorageView) → Looks (core_of t.now storage) handle
+        (λ node row. node ≡ (if is_pinning row.mode then Some row.node else None)) result }
 {
     let at = handle_table::look(&t.ref_counts.handles, handle).ok_or(Error::NoSuchHandle)?;
     Ok(pins(at.row.mode).then_some(at.row.node))
@@ -91,7 +92,8 @@ pub fn is_paged_out(t: &Tables, handle: HandleNumber) -> Result<bool, Error>
 /// - `NoSuchHandle` if the handle isn't live.
 pub fn is_loose(t: &Tables, handle: HandleNumber) -> Result<bool, Error>
     requires { IsWhole t.now }
-    ensures { (storage : StorageView) → Looks (core_of t.now storage) handle (λ loose row. loose ≡ is_loose row.mode) result }
+    ensures { (storage : StorageView) → Looks (core_of t.now storage) handle (λ loose row. loose ≡ is_loose row.mode)
+        result }
 {
     let at = handle_table::look(&t.ref_counts.handles, handle).ok_or(Error::NoSuchHandle)?;
     Ok(is_loose_mode(at.row.mode))
@@ -109,7 +111,8 @@ pub fn node_live(t: &Tables, node: NodeNumber) -> Option<u32>
 #[tactic(auto, using(crate::proofs::CascadeStep::counting))]
 pub fn entry(t: &Tables, place: usize) -> Option<(HandleRow, u32, OptionalDataKey)>
     requires { IsWhole t.now }
-    ensures found { IfSome result (λ e. (storage : StorageView) → IsEntry (core_of t.now storage) place e.0.number e.0 e.1) }
+    ensures found { IfSome result (λ e. (storage : StorageView)
+        → IsEntry (core_of t.now storage) place e.0.number e.0 e.1) }
     ensures keyed { IfSome result (λ e. (storage : StorageView) → key_at (core_of t.now storage) e.0.node.0 ≡ e.2) }
     ensures past { IfNone result (length t.now.ref_counts.list.items ≤ place) }
 {

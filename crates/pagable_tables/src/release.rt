@@ -78,7 +78,8 @@ fn last(
 ) -> Option<HandleAt>
     requires { AreSound handles.now }
     ensures last { IfSome result (IsLast handles.now.places.items loads.now giving (λ q. since < q) left) }
-    ensures none { IfNone result ((w : Core) (q : ℕ) → LoadsAre loads.now w → since < q → q ≤ left → passes_in (gives_row w giving) (live handles.now.places.items) q ≡ false) }
+    ensures none { IfNone result ((w : Core) (q : ℕ) → LoadsAre loads.now w → since < q → q ≤ left
+        → passes_in (gives_row w giving) (live handles.now.places.items) q ≡ false) }
 {
     let mut place = handle_table::up_to_from(&handles.places, left, guess);
     while place > 0 {
@@ -97,7 +98,8 @@ fn last(
 
 /// Says whether the set is that of a worker at a node of which no worker owns a handle.
 fn is_done(nodes: &Nodes, giving: ReleaseSet) -> bool
-    ensures { result ≡ true → (v : WorkerNumber) × (n : NodeNumber) × (giving ≡ ReleaseSet.AtNode v n) × (work_at nodes.now n.0 ≡ 0) }
+    ensures { result ≡ true → (v : WorkerNumber) × (n : NodeNumber) × (giving ≡ ReleaseSet.AtNode v n)
+        × (work_at nodes.now n.0 ≡ 0) }
 {
     match giving {
         ReleaseSet::AtNode(_, node) => nodes::work_of(nodes, node.0) == 0,
@@ -118,7 +120,8 @@ fn last_given(
     requires sound { AreSound handles.now }
     requires worked { AreAtWork (live handles.now.places.items) nodes.now }
     ensures last { IfSome result (IsLast handles.now.places.items loads.now giving (InReach reach) left) }
-    ensures none { IfNone result ((w : Core) (q : ℕ) → LoadsAre loads.now w → InReach reach q → q ≤ left → passes_in (gives_row w giving) (live handles.now.places.items) q ≡ false) }
+    ensures none { IfNone result ((w : Core) (q : ℕ) → LoadsAre loads.now w → InReach reach q → q ≤ left
+        → passes_in (gives_row w giving) (live handles.now.places.items) q ≡ false) }
 {
     if is_done(nodes, giving) {
         return None;
@@ -162,8 +165,11 @@ pub fn release_owned<N: Drop>(
     requires steady { IsFalling t.old [] owns_nothing }
     requires listed { giving ≡ ReleaseSet.Listed → (lists ≡ false) × (t.old.list.items ≡ []) }
     ensures steady { IsFalling t.new [] owns_nothing }
-    ensures falls { (before u w : Core) → LoadsAre loads.now w → SoFar before u nobody lists (record t.old { unlisted = None }) → length (live t.old.handles.places.items) ≤ length u.rows
-        → ((q : ℕ) → passes_in (gives_row w giving) u.rows q ≡ true → InReach reach q × (q ≤ until)) → Falls before u (passes_in (gives_row w giving) u.rows) result (with_tables u t.new) }
+    ensures falls { (before u w : Core) → LoadsAre loads.now w
+        → SoFar before u nobody lists (record t.old { unlisted = None })
+        → length (live t.old.handles.places.items) ≤ length u.rows
+        → ((q : ℕ) → passes_in (gives_row w giving) u.rows q ≡ true → InReach reach q × (q ≤ until))
+        → Falls before u (passes_in (gives_row w giving) u.rows) result (with_tables u t.new) }
     ensures sheds { Sheds (counts_at t.old.nodes) (row_by values.old) (counts_at t.new.nodes) (row_by values.new) }
 {
     t.unlisted = None;
@@ -181,10 +187,12 @@ pub fn release_owned<N: Drop>(
 /// entries and runs the cascade. No cell is listed by that. It takes no memory.
 pub fn close<N: Drop>(t: &mut Tables, values: &mut Arcs<N>)
     requires whole { IsWhole t.old }
-    ensures closed { (storage : StorageView) (failures : ℕ) → storage.failures ≤ failures → CloseCall (core_of t.old storage) (Ok tt) (core_of t.new (shut_view failures)) }
+    ensures closed { (storage : StorageView) (failures : ℕ) → storage.failures ≤ failures
+        → CloseCall (core_of t.old storage) (Ok tt) (core_of t.new (shut_view failures)) }
     ensures whole { IsWhole t.new }
     ensures later { AreLater t.old → AreLater t.new }
-    ensures sheds { Sheds (counts_at t.old.ref_counts.nodes) (row_by values.old) (counts_at t.new.ref_counts.nodes) (row_by values.new) }
+    ensures sheds { Sheds (counts_at t.old.ref_counts.nodes) (row_by values.old) (counts_at t.new.ref_counts.nodes)
+        (row_by values.new) }
 {
     t.cache.clear();
     t.ref_counts.list.clear();
@@ -214,7 +222,9 @@ pub fn release_if_owned<N: Drop>(
     requires { IsFalling t.old [] owns_nothing }
     ensures steady { IsFalling t.new [] owns_nothing }
     ensures fewer { length (live t.new.handles.places.items) ≤ length (live t.old.handles.places.items) }
-    ensures so_far { (before w : Core) (given : ℕ → Bool) → SoFar before w given lists t.old → length (live t.old.handles.places.items) ≤ length w.rows → SoFar before w (λ q. given q || (q == handle.0 && is_owned_in w (Owner.Load load) q)) lists t.new }
+    ensures so_far { (before w : Core) (given : ℕ → Bool) → SoFar before w given lists t.old
+        → length (live t.old.handles.places.items) ≤ length w.rows
+        → SoFar before w (λ q. given q || (q == handle.0 && is_owned_in w (Owner.Load load) q)) lists t.new }
     ensures sheds { Sheds (counts_at t.old.nodes) (row_by values.old) (counts_at t.new.nodes) (row_by values.new) }
 {
     if let Some(at) = handle_table::look(&t.handles, handle) {
@@ -242,7 +252,8 @@ pub fn try_release_at<N: Drop>(
     requires plain { is_valued at.row.owner ≡ false }
     requires free { is_owner Owner.List at.row.owner ≡ false }
     ensures steady { IsFalling t.new [] owns_nothing }
-    ensures falls { (before w : Core) → SoFar before w nobody lists (record t.old { unlisted = None }) → length (live t.old.handles.places.items) ≤ length w.rows
+    ensures falls { (before w : Core) → SoFar before w nobody lists (record t.old { unlisted = None })
+        → length (live t.old.handles.places.items) ≤ length w.rows
         → Falls before w (only_handle at.row.number) result (with_tables w t.new) }
     ensures sheds { Sheds (counts_at t.old.nodes) (row_by values.old) (counts_at t.new.nodes) (row_by values.new) }
 {

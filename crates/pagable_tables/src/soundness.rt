@@ -175,7 +175,8 @@ fn has_value<N: Drop>(values: &Arcs<N>, node: u64) -> bool
 }
 
 fn is_number_sound<N: Drop>(t: &Tables, values: &Arcs<N>, node: u64) -> bool
-    ensures { result ≡ is_node_sound t.now node (is_some (row_by values.now node)) (counts_at t.now.ref_counts.nodes node) }
+    ensures { result ≡ is_node_sound t.now node (is_some (row_by values.now node))
+        (counts_at t.now.ref_counts.nodes node) }
 {
     is_node_sound(t, node, has_value(values, node))
 }

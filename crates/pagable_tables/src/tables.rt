@@ -59,7 +59,8 @@ pub fn new(alloc: Global) -> Tables
     ensures cache { (kind key : ℕ) → known_at result.cache kind key ≡ None }
     ensures loads { (l : ℕ) → load_at result.loads l ≡ None }
     ensures workers { (v : ℕ) → worker_at result.workers v ≡ None }
-    ensures last { (result.last_node ≡ 0) × (result.ref_counts.last_handle ≡ 0) × (result.last_load ≡ 0) × (result.last_worker ≡ 0) }
+    ensures last { (result.last_node ≡ 0) × (result.ref_counts.last_handle ≡ 0) × (result.last_load ≡ 0)
+        × (result.last_worker ≡ 0) }
     ensures whole { IsWhole result }
     ensures later { AreLater result }
 {

@@ -30,7 +30,8 @@ pub fn worker_begin(t: &mut Tables) -> Result<WorkerNumber, Error>
     requires { IsWhole t.old }
     ensures does { Does t.old (λ w w'. BeginsWorker w result w') t.new }
     ensures number { IfOk result (λ v. (v.0 ≡ t.old.last_worker + 1) × (t.new.last_worker ≡ t.old.last_worker + 1)) }
-    ensures more { IfOk result (λ v. (q : ℕ) → is_some (worker_at t.new.workers q) ≡ updated (t.old.last_worker + 1) true (λ u. is_some (worker_at t.old.workers u)) q) }
+    ensures more { IfOk result (λ v. (q : ℕ) → is_some (worker_at t.new.workers q)
+        ≡ updated (t.old.last_worker + 1) true (λ u. is_some (worker_at t.old.workers u)) q) }
     ensures same { t.new ≡ record t.old { workers = t.new.workers; last_worker = t.new.last_worker } }
 {
     if t.last_worker == u64::MAX {
@@ -75,7 +76,8 @@ pub fn release_node<N: Drop>(
 )
     requires whole { IsWhole t.old }
     requires later { AreLater t.old }
-    ensures { DoesShed lists t.old values.old (λ w w'. FallsAnyhow w w (is_workers_at w worker.0 node.0) w') t.new values.new }
+    ensures { DoesShed lists t.old values.old (λ w w'. FallsAnyhow w w (is_workers_at w worker.0 node.0) w') t.new
+        values.new }
 {
     let giving = ReleaseSet::AtNode(worker, node);
     let reach = reach_of(&t.workers, worker);

@@ -28,7 +28,8 @@ module _ {X : Type 0} (failed : Bool) (before after : ℕ) where
       → IfErr r (RefusesStore blob found closed (failures_of failed before) (failures_of failed after))
   store_refused x0 blob found closed h = grind (arith, passed-on)
 
-  pub store_may_refuse : (r : Result X Error) (blob : Blob) (closed : Bool) → IfErr r (λ e. (found : Option Blob) × RefusesStore blob found closed before after e)
+  pub store_may_refuse : (r : Result X Error) (blob : Blob) (closed : Bool)
+      → IfErr r (λ e. (found : Option Blob) × RefusesStore blob found closed before after e)
       → IfErr r (λ e. (found : Option Blob) × RefusesStore blob found closed (failures_of failed before) (failures_of failed after) e)
   store_may_refuse (Ok x) blob closed h = tt
   store_may_refuse (Err e) blob closed h = (h.0, store_refused (Err e) blob h.0 closed h.1)
@@ -47,7 +48,8 @@ module _ {X : Type 0} (c : ℕ) where
   pub fetch_passed : (r : Result X Error) (key : ℕ) (found : Option Blob) → IfErr r (RefusesFetch key found 0 0) → IfErr r (RefusesFetch key found c c)
   fetch_passed x0 key found h = grind (arith, never)
 
-  pub store_passed : (r : Result X Error) (blob : Blob) (found : Option Blob) (closed : Bool) → IfErr r (RefusesStore blob found closed 0 0) → IfErr r (RefusesStore blob found closed c c)
+  pub store_passed : (r : Result X Error) (blob : Blob) (found : Option Blob) (closed : Bool) → IfErr r (RefusesStore blob found closed 0 0)
+      → IfErr r (RefusesStore blob found closed c c)
   store_passed x0 blob found closed h = grind (arith, never)
 
   pub store_may_be_passed : (r : Result X Error) (blob : Blob) (closed : Bool) → IfErr r (λ e. (found : Option Blob) × RefusesStore blob found closed 0 0 e)

@@ -20,7 +20,12 @@ abbrev pub plain : {T : Type 0} → Shape → (T → Meaning ArcRef) → WriteCa
 plain s meaning causes = record { shape = s; means = exactly meaning; single = λ x m is. is; writes = causes }
 
 abbrev pub two : {A B : Type 0} → Spelled A → Spelled B → Spelled (A × B)
-two a b = record { shape = both a.shape b.shape; means = pairs a.means b.means; single = pairs_single a.means b.means a.single b.single; writes = writes_either a.writes b.writes }
+two a b = record {
+  shape = both a.shape b.shape;
+  means = pairs a.means b.means;
+  single = pairs_single a.means b.means a.single b.single;
+  writes = writes_either a.writes b.writes;
+}
 
 abbrev string : Spelled (String Global)
 string = plain text (λ t. meanings.text (string_bytes t)) (writes_long_or writes_memory)
@@ -32,7 +37,12 @@ abbrev pub one : (kind : ℕ) → Spelled (RawRef kind)
 one kind = plain (reference kind) (plain_means kind) writes_memory
 
 abbrev at_most_one : (kind : ℕ) → Spelled (Chain kind)
-at_most_one kind = record { shape = optional (reference kind); means = chain_means kind; single = chain_single kind; writes = one_writes }
+at_most_one kind = record {
+  shape = optional (reference kind);
+  means = chain_means kind;
+  single = chain_single kind;
+  writes = one_writes;
+}
 
 abbrev pub many : (kind : ℕ) → Spelled (Vec (RawRef kind))
 many kind = record {
@@ -42,7 +52,8 @@ many kind = record {
   writes = writes_long_or (writes_memory_or writes_memory);
 }
 
-abbrev pub mixed : Spelled (ℕ × (Vec (RawRef 6) × (Vec (RawRef 7) × (Vec (RawRef 8) × (Vec (RawRef 1) × Vec (RawRef 0))))))
+abbrev pub mixed : Spelled (ℕ × (Vec (RawRef 6) × (Vec (RawRef 7)
+    × (Vec (RawRef 8) × (Vec (RawRef 1) × Vec (RawRef 0))))))
 mixed = two byte (two (many 6) (two (many 7) (two (many 8) (two (many 1) (many 0)))))
 
 -- a byte refers to nothing

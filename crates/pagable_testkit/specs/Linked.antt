@@ -42,24 +42,32 @@ many-single : {T : Type 0} (meaning : T → Meaning ArcRef) → AreSingle (many 
 many-single meaning v = lists_single (exactly meaning) (λ a m is. is) v.items
 
 abbrev pub bundle_means : Meanings Bundle
-bundle_means = seen_by (λ b. (b.shared, (b.loose, b.pinned))) (pairs (many (holding_means 1 false)) (pairs (many (loose_means 0)) (many (holding_means 0 true))))
+bundle_means = seen_by (λ b. (b.shared, (b.loose, b.pinned)))
+    (pairs (many (holding_means 1 false)) (pairs (many (loose_means 0)) (many (holding_means 0 true))))
 
 pub bundle_single : AreSingle bundle_means
-bundle_single b = pairs_single (many (holding_means 1 false)) (pairs (many (loose_means 0)) (many (holding_means 0 true))) (many-single (holding_means 1 false))
-    (pairs_single (many (loose_means 0)) (many (holding_means 0 true)) (many-single (loose_means 0)) (many-single (holding_means 0 true))) (b.shared, (b.loose, b.pinned))
+bundle_single b = pairs_single (many (holding_means 1 false))
+    (pairs (many (loose_means 0)) (many (holding_means 0 true))) (many-single (holding_means 1 false))
+    (pairs_single (many (loose_means 0)) (many (holding_means 0 true)) (many-single (loose_means 0))
+    (many-single (holding_means 0 true))) (b.shared, (b.loose, b.pinned))
 
 -- what holds for a list of references of any kind, and for a pair if it holds for its parts, holds for a bundle
-in-bundle : (P : Shape → Type 0) → ((s t : Shape) → P s → P t → P (both s t)) → ((kind : ℕ) → P (list (reference kind))) → P bundle_shape
-in-bundle P pairs lists = pairs (list (reference 3)) (both (list (reference 1)) (list (reference 2))) (lists 3) (pairs (list (reference 1)) (list (reference 2)) (lists 1) (lists 2))
+in-bundle : (P : Shape → Type 0) → ((s t : Shape) → P s → P t → P (both s t)) → ((kind : ℕ) → P (list (reference kind)))
+    → P bundle_shape
+in-bundle P pairs lists = pairs (list (reference 3)) (both (list (reference 1)) (list (reference 2))) (lists 3)
+    (pairs (list (reference 1)) (list (reference 2)) (lists 1) (lists 2))
 
 pub bundle_has_one_form : HasOneFormThroughout no_parts bundle_shape
-bundle_has_one_form = in-bundle (HasOneFormThroughout no_parts) (λ s t. two_has_one_form (refl, refl)) (λ kind. over_has_one_form refl (reference_has_one_form no_parts kind))
+bundle_has_one_form = in-bundle (HasOneFormThroughout no_parts) (λ s t. two_has_one_form (refl, refl))
+    (λ kind. over_has_one_form refl (reference_has_one_form no_parts kind))
 
 pub bundle_is_read : IsReadThroughout no_parts bundle_shape
-bundle_is_read = in-bundle (IsReadThroughout no_parts) (λ s t. two_is_read (refl, refl)) (λ kind. over_is_read refl (reference_is_read no_parts kind))
+bundle_is_read = in-bundle (IsReadThroughout no_parts) (λ s t. two_is_read (refl, refl))
+    (λ kind. over_is_read refl (reference_is_read no_parts kind))
 
 pub bundle_in_order : ListsInOrder no_parts bundle_shape
-bundle_in_order = in-bundle (ListsInOrder no_parts) (both_in_order no_parts) (λ kind. list_in_order no_parts (reference kind) (reference_in_order no_parts kind))
+bundle_in_order = in-bundle (ListsInOrder no_parts) (both_in_order no_parts)
+    (λ kind. list_in_order no_parts (reference kind) (reference_in_order no_parts kind))
 
 -- all errors of writing at most one reference, and of writing a list of them, of which a bundle has three; and the
 -- errors of reading a bundle other than faults of the input and of references
@@ -67,10 +75,12 @@ abbrev pub one_writes : WriteCauses
 one_writes = writes_memory_or writes_memory
 
 abbrev pub bundle_writes : WriteCauses
-bundle_writes = writes_either (writes_long_or one_writes) (writes_either (writes_long_or one_writes) (writes_long_or one_writes))
+bundle_writes = writes_either (writes_long_or one_writes)
+    (writes_either (writes_long_or one_writes) (writes_long_or one_writes))
 
 abbrev pub bundle_reads : ReadCauses
-bundle_reads = reads_either (reads_memory_or reads_unlent) (reads_either (reads_memory_or reads_never) (reads_memory_or reads_unlent))
+bundle_reads = reads_either (reads_memory_or reads_unlent)
+    (reads_either (reads_memory_or reads_never) (reads_memory_or reads_unlent))
 
 -- ---- nodes
 
@@ -85,7 +95,8 @@ pub record Case (shape_of : ℕ → Option Shape) : Type 1 where
   pub refs : List ArcRef
   pub refers : (m : Meaning ArcRef) → means m → SameReferences refs (references_in m)
 
-abbrev pub node_case : {T : Type 0} (shape_of : ℕ → Option Shape) (number : ℕ) (s : Shape) → shape_of number ≡ Some s → (M : Meanings T) → AreSingle M → T → Case shape_of
+abbrev pub node_case : {T : Type 0} (shape_of : ℕ → Option Shape) (number : ℕ) (s : Shape) → shape_of number ≡ Some s
+    → (M : Meanings T) → AreSingle M → T → Case shape_of
 node_case shapes t s is M single x = record {
   number = t;
   shape = s;
@@ -104,7 +115,8 @@ shape_of (suc (suc (suc n))) = None
 
 abbrev pub told : LinkedNode → Case shape_of
 told (nodes.Link c) = node_case shape_of 0 (optional (reference 1)) refl (chain_means 1) (chain_single 1) (arc_value c)
-told (nodes.ArcLink c) = node_case shape_of 1 (optional (reference 3)) refl (chain_means 3) (chain_single 3) (arc_value c)
+told (nodes.ArcLink c) = node_case shape_of 1 (optional (reference 3)) refl (chain_means 3) (chain_single 3)
+    (arc_value c)
 told (nodes.Bundle b) = node_case shape_of 2 bundle_shape refl bundle_means bundle_single (arc_value b)
 
 -- all errors of writing a type's values, and the errors of reading them other than faults of the input and of
@@ -151,8 +163,10 @@ holds_bundle _ = holds-none (λ e. omega (arith, e))
 abbrev many-beside : {T : Type 0} → Beside LinkedNode T → Beside LinkedNode (Vec T)
 many-beside B v = lists_beside B v.items
 
-abbrev pub fields_beside : {shared pin : ℕ} → Beside LinkedNode (Vec (HoldingArc (Chain 3) shared) × (Vec (PagableArc (Chain 1)) × Vec (HoldingArc (Chain 1) pin)))
-fields_beside = pairs_beside (many-beside (holding_beside 1 false arc_link_in)) (pairs_beside (many-beside (λ x r y. Unit {0})) (many-beside (holding_beside 0 true link_in)))
+abbrev pub fields_beside : {shared pin : ℕ} → Beside LinkedNode
+    (Vec (HoldingArc (Chain 3) shared) × (Vec (PagableArc (Chain 1)) × Vec (HoldingArc (Chain 1) pin)))
+fields_beside = pairs_beside (many-beside (holding_beside 1 false arc_link_in))
+    (pairs_beside (many-beside (λ x r y. Unit {0})) (many-beside (holding_beside 0 true link_in)))
 
 abbrev pub bundle_beside : Beside LinkedNode Bundle
 bundle_beside b = fields_beside (b.shared, (b.loose, b.pinned))

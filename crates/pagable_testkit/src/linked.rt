@@ -42,8 +42,10 @@ pub fn write_with_refs<E: Env, T: Refers<E> + PagableSerialize<E>, S: PagableSer
     value: &T,
     serializer: &mut S,
 ) -> Result<(), Error>
-    ensures wrote { Wrote E.Env S.PagableSerializer (form (T.means.of value.now) (T.shape (S.environment serializer.old))) T.write_causes.are serializer.old serializer.new result }
-    ensures listed { OnOk result ((S.out serializer.new).refs ≡ (S.out serializer.old).refs ++ references_in (T.means.meaning value.now)) }
+    ensures wrote { Wrote E.Env S.PagableSerializer (form (T.means.of value.now)
+        (T.shape (S.environment serializer.old))) T.write_causes.are serializer.old serializer.new result }
+    ensures listed { OnOk result ((S.out serializer.new).refs ≡ (S.out serializer.old).refs
+        ++ references_in (T.means.meaning value.now)) }
 {
     value.pagable_serialize(serializer)
 }

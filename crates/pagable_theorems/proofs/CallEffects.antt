@@ -13,7 +13,8 @@ use Rattle.pagable_pager_spec.specs.{World.{of_key, usable}, declared.{pinning.P
 -- ---- each call, and what loads do, by whoever asks
 
 module _ {me : Owner} {lists : Bool} {Asks Leaves : Type 0} {c : Change} where
-  pub made-handle : {w w' : Core} (node : NodeNumber) (mode : Mode) (owner : Owner) → Alike (with_handle w node mode owner) w' → Effect me lists Asks Leaves false c w w'
+  pub made-handle : {w w' : Core} (node : NodeNumber) (mode : Mode) (owner : Owner) → Alike (with_handle w node mode owner) w'
+      → Effect me lists Asks Leaves false c w w'
   made-handle {w = w} node mode owner a = like (handle (none w) node mode owner) a
 
   -- at most a failure of the storage was noted
@@ -25,22 +26,26 @@ module _ {me : Owner} {lists : Bool} {Asks Leaves : Type 0} {c : Change} where
 
   pub stores : {digest : Blob → ℕ} {w w' : Core} {blob : Blob} → (r : Result ℕ Error) → StoreCall digest w blob r w' → Effect me lists Asks Leaves false c w w'
   stores {w = w} {w'} (Ok key) x =
-      let s = x.stores.1 in like (beside w w'.stored w'.failures (λ q b is. let adds = s.adds in grind (arith, same-number)) (λ is. absurd (let a = is.0 in let b = s.stands_open in cc))) s.leaves
+      let s = x.stores.1 in like (beside w w'.stored w'.failures (λ q b is. let adds = s.adds in grind (arith, same-number))
+      (λ is. absurd (let a = is.0 in let b = s.stands_open in cc))) s.leaves
   stores (Err e) x = was-asked x.refused.0
 
   pub clones : {w w' : Core} {h : HandleNumber} (r : Result HandleNumber Error) → CloneCall w me h r w' → Effect me lists Asks Leaves false c w w'
   clones x0 x = grind (arith, nat_tests, made-handle, stays {me = me} {lists = lists} {Asks = Asks} {Leaves = Leaves} {c = c})
 
-  pub recalls : {w w' : Core} {kind : Kind} {key : ℕ} (r : Result (Option HandleNumber) Error) → RecallCall w me kind key r w' → Effect me lists Asks Leaves false c w w'
+  pub recalls : {w w' : Core} {kind : Kind} {key : ℕ} (r : Result (Option HandleNumber) Error) → RecallCall w me kind key r w'
+      → Effect me lists Asks Leaves false c w w'
   recalls x0 x = grind (arith, nat_tests, made-handle, stays {me = me} {lists = lists} {Asks = Asks} {Leaves = Leaves} {c = c})
 
-  pub gets-known : {w w' : Core} {l : LoadNumber} {kind : Kind} {key : ℕ} {k : HandleNumber} → GetsKnown w l kind key k w' → Effect me lists Asks Leaves false c w w'
+  pub gets-known : {w w' : Core} {l : LoadNumber} {kind : Kind} {key : ℕ} {k : HandleNumber} → GetsKnown w l kind key k w'
+      → Effect me lists Asks Leaves false c w w'
   gets-known g = made-handle _ _ _ g.leaves
 
   pub asks : {w w' : Core} {l : LoadNumber} {want : Want} (r : Result Given Error) → AskCall w me l want r w' → Effect me lists Asks Leaves false c w w'
   asks x0 x = grind (arith, nat_tests, was-asked, gets-known, same_some, stays {me = me} {lists = lists} {Asks = Asks} {Leaves = Leaves} {c = c})
 
-  pub closes : {w w' : Core} (l : LoadNumber) {r : Result (Unit {0}) Error} → (Asks → IsMine w me l) → LoadCloses w l r w' → Effect me lists Asks Leaves false c w w'
+  pub closes : {w w' : Core} (l : LoadNumber) {r : Result (Unit {0}) Error} → (Asks → IsMine w me l) → LoadCloses w l r w'
+      → Effect me lists Asks Leaves false c w w'
   closes {w = w} l mine f = fell (shuts (none w) l mine) f (load-owns w l)
 
   -- one that is known is left, and what the other one refers to is given up
@@ -60,7 +65,8 @@ module _ {me : Owner} {lists : Bool} {Asks Leaves : Type 0} {c : Change} where
     ]
     schedules h (Err e) x = stays x.refused.stays
 
-    pub hands-over : {w w' : Core} (l : LoadNumber) (hs : List HandleNumber) (r : Result (Unit {0}) Error) → HandOverCall w me l hs r w' → Effect me lists Asks Leaves false c w w'
+    pub hands-over : {w w' : Core} (l : LoadNumber) (hs : List HandleNumber) (r : Result (Unit {0}) Error) → HandOverCall w me l hs r w'
+        → Effect me lists Asks Leaves false c w w'
     hands-over {w = w} l hs (Ok u) x =
         let named = both-none _ _ x.hands.0 in
         let mine : IsMine w me l = λ load is. let may = named.0 in grind (arith, nat_tests) in
@@ -69,7 +75,8 @@ module _ {me : Owner} {lists : Bool} {Asks Leaves : Type 0} {c : Change} where
     hands-over l hs (Err e) x = stays x.refused.1
 
     -- the caller's handle was not a load's, and isn't one's after references have moved to the value
-    pub ends-load : {N : Type 0} {w w' : Core} {x : N} {t : ℕ} {references : List ArcRef} (l : LoadNumber) (r : Result HandleNumber (Error × Option N)) → EndCall w me l x t references r w'
+    pub ends-load : {N : Type 0} {w w' : Core} {x : N} {t : ℕ} {references : List ArcRef} (l : LoadNumber) (r : Result HandleNumber (Error × Option N))
+        → EndCall w me l x t references r w'
         → Effect me lists Asks Leaves false c w w'
     ends-load {w = w} {w'} {references = references} l (Ok k) e =
         let (p, h, may, i) = e.installs in
@@ -77,13 +84,17 @@ module _ {me : Owner} {lists : Bool} {Asks Leaves : Type 0} {c : Change} where
         let own-free : (r : HandleRow) → find_row h.0 w.rows ≡ Some r → NotLoads r.owner =
         λ r found. subst NotLoads (sym (ap (λ (x : HandleRow). x.owner) (same_some _ _ (sym found ∙ i.owned.live)) ∙ i.owned.own)) free in
         let pinned-free : (r : HandleRow) → find_row h.0 (moved (is_named_by references) (owner_value p.0) w.rows) ≡ Some r → NotLoads r.owner = λ r found l is.
-        let c = found-changed (λ (r : HandleRow). is_named_by references r.number.0) (λ row. record row { owner = owner_value p.0 }) (λ r. refl) h.0 w.rows r found in
+        let c = found-changed (λ (r : HandleRow). is_named_by references r.number.0) (λ row. record row { owner = owner_value p.0 })
+        (λ r. refl) h.0 w.rows r found in
         grind (arith, nat_tests, found-changed, same_some, own-free) in
         elim i.falls [
           | inl (away, f) ↦ fell
-              (handle (turned (moves closed (is_named_by references) (owner_value p.0) w.list (λ l is. absurd (cc)) (load-named w l references (good w (Owner.Load l) [] references may.good)))
-              h Mode.LoosePinned refl (own-handle h i.row i.owned) pinned-free) p Mode.Pinned me) f.falls (but (is_owned_in w (Owner.Load l)) (is_named_by references) (load-owns w l))
-          | inr (there, f) ↦ fell (handle (turned closed h Mode.LoosePinned refl (own-handle h i.row i.owned) own-free) p Mode.Pinned me) f.falls (load-owns w l)
+              (handle (turned (moves closed (is_named_by references) (owner_value p.0) w.list (λ l is. absurd (cc))
+              (load-named w l references (good w (Owner.Load l) [] references may.good)))
+              h Mode.LoosePinned refl (own-handle h i.row i.owned) pinned-free) p Mode.Pinned me) f.falls
+              (but (is_owned_in w (Owner.Load l)) (is_named_by references) (load-owns w l))
+          | inr (there, f) ↦ fell (handle (turned closed h Mode.LoosePinned refl (own-handle h i.row i.owned) own-free) p Mode.Pinned me) f.falls
+              (load-owns w l)
         ]
     ends-load l (Err (e, Some y)) x = stays x.refused.1.stays
     ends-load l (Err (e, None)) x = closes l (λ own. owned-mine x.refused.may.owned) x.refused.closes
@@ -103,11 +114,13 @@ module _ {me : Owner} {lists : Bool} {Asks Leaves : Type 0} where
   begins x0 x = grind (arith, nat_tests, stays {me = me} {lists = lists} {Asks = Asks} {Leaves = Leaves} {c = nothing_felt})
 
   pub begins-key : {w w' : Core} {key : ℕ} (r : Result Beginning Error) → BeginKeyCall w me key r w' → Effect me lists Asks Leaves false nothing_felt w w'
-  begins-key {w} {key = key} (Ok (Beginning.Load l k)) x = like (opens (none w) key of_key (begun nothing_felt w key of_key me (λ node t h is. absurd (cc)))) x.begins.2
+  begins-key {w} {key = key} (Ok (Beginning.Load l k)) x = like (opens (none w) key of_key (begun nothing_felt w key of_key me (λ node t h is. absurd (cc))))
+      x.begins.2
   begins-key x0 x = grind (arith, nat_tests, stays {me = me} {lists = lists} {Asks = Asks} {Leaves = Leaves} {c = nothing_felt})
 
   -- a node that a load adopts, which the cache gets to know while the storage is open
-  pub adopts : {w w' : Core} (l : LoadNumber) (kind : Kind) (key : ℕ) (own : OptionalDataKey) (references : List ArcRef) → usable w kind.0 key ≡ None → AreGood w (Owner.Load l) references
+  pub adopts : {w w' : Core} (l : LoadNumber) (kind : Kind) (key : ℕ) (own : OptionalDataKey) (references : List ArcRef) → usable w kind.0 key ≡ None
+      → AreGood w (Owner.Load l) references
       → Alike (adopted w l kind key own references) w' → Effect me lists Asks Leaves false (bears_known kind.0 key own) w w'
   adopts {w} l kind key own references unknown right a = search (rules, like, cached-if, handle, node, load-named)
 
@@ -124,7 +137,8 @@ module _ {N B W : Type 0} (m : Seen N B W) (w : Core) (me : Owner) (free : NotLo
     pub does : Effect me true (Unit {0}) (LeavesCache {N = N} {B = B} {W = W} (Event.Call call)) false change w w'
     pub feels : CallFeels m.values w me call reply w' change
 
-  so : {call : Call N B} {reply : Reply N B} (c : Change) → Effect me true (Unit {0}) (LeavesCache {N = N} {B = B} {W = W} (Event.Call call)) false c w w' → CallFeels m.values w me call reply w' c → CallGoes call reply
+  so : {call : Call N B} {reply : Reply N B} (c : Change) → Effect me true (Unit {0}) (LeavesCache {N = N} {B = B} {W = W} (Event.Call call)) false c w w'
+      → CallFeels m.values w me call reply w' c → CallGoes call reply
   so c does feels = record { change = c; does = does; feels = feels }
 
   -- nothing is felt, and the call brings no value
@@ -138,13 +152,15 @@ module _ {N B W : Type 0} (m : Seen N B W) (w : Core) (me : Owner) (free : NotLo
       let references = m.values.references x in
       let t = m.values.node_type x in
       let right = good w me [] references c.made.0 in
-      so (bears_node t OptionalDataKey.None) (like (handle (node w t OptionalDataKey.None references (refl, refl) (own-named w references right)) (next_node w) mode me) c.made.3)
+      so (bears_node t OptionalDataKey.None) (like (handle (node w t OptionalDataKey.None references (refl, refl) (own-named w references right))
+      (next_node w) mode me) c.made.3)
       (feels-birth x brings right)
   births call x mode brings (Err e) c = quiet (λ n y b. inl (brings n y b).1) (stays c.refused.1.stays)
 
   pub calls-go : (call : Call N B) (reply : Reply N B) → KeepsOpen {N = N} {B = B} {W = W} (Event.Call call) → Does m w me call reply w' → CallGoes call reply
   calls-go (Call.NewPagedOut t key) (Reply.Handle (Ok k)) still c = so (bears_node t (OptionalDataKey.Some key))
-      (like (handle (node w t (OptionalDataKey.Some key) [] (refl, refl) (own-named w [] (none-named w me))) (next_node w) Mode.LooseUnpinned me) c.made.2) (feels-away t key k)
+      (like (handle (node w t (OptionalDataKey.Some key) [] (refl, refl) (own-named w [] (none-named w me))) (next_node w) Mode.LooseUnpinned me) c.made.2)
+      (feels-away t key k)
   calls-go (Call.Clone h) (Reply.Handle r) still c = quiet (λ n x b. absurd b) (clones r c)
   calls-go (Call.Pin h) (Reply.Pin r) still c = quiet (λ n x b. absurd b) (pins free r c)
   calls-go (Call.Unpin h) (Reply.Done r) still c = quiet (λ n x b. absurd b) (elim c.does [
@@ -153,9 +169,11 @@ module _ {N B W : Type 0} (m : Seen N B W) (w : Core) (me : Owner) (free : NotLo
     | inr (row, owns, inr (mode, f)) ↦ fell (own-mode free w h row owns Mode.LooseUnpinned refl) f no-one
   ])
   calls-go (Call.Release h) (Reply.Done r) still c = quiet (λ n x b. absurd b) (releases h r c)
-  calls-go (Call.IntoPagable h) (Reply.Handle (Ok k)) still c = quiet (λ n x b. absurd b) (like (own-mode free w h c.turned.0 c.turned.1 Mode.LoosePinned refl) c.turned.3)
+  calls-go (Call.IntoPagable h) (Reply.Handle (Ok k)) still c = quiet (λ n x b. absurd b)
+      (like (own-mode free w h c.turned.0 c.turned.1 Mode.LoosePinned refl) c.turned.3)
   calls-go (Call.ScheduleForPaging h) (Reply.Done r) still c = quiet (λ n x b. absurd b) (schedules free h r c)
-  calls-go (Call.TakePending i) (Reply.TakenPending (Some h)) still c = quiet (λ n x b. absurd b) (like (moves (none w) (only_handle h) me _ free (entry refl i h c.0)) c.1)
+  calls-go (Call.TakePending i) (Reply.TakenPending (Some h)) still c = quiet (λ n x b. absurd b)
+      (like (moves (none w) (only_handle h) me _ free (entry refl i h c.0)) c.1)
   calls-go (Call.CacheGet kind key) (Reply.FromCache r) still c = quiet (λ n x b. absurd b) (recalls r c)
   calls-go Call.CacheClear (Reply.Done r) still c = quiet (λ n x b. absurd b) (like (forgets w (λ leaves. leaves)) c.leaves)
   calls-go (Call.Store b) (Reply.Stored r) still c = quiet (λ n x b. absurd b) (stores r c)
@@ -168,7 +186,8 @@ module _ {N B W : Type 0} (m : Seen N B W) (w : Core) (me : Owner) (free : NotLo
   calls-go (Call.SetDataKey h key) (Reply.Done r) still c = elim c.does [
     | inl refused ↦ quiet (λ n x b. absurd b) (stays refused.stays)
     | inr (row, owns, inl (mode, told, a)) ↦ quiet (λ n x b. absurd b) (stays a)
-    | inr (row, owns, inr (loose, f)) ↦ so (sets_key row.node.0 key) (fell (with-key w row.node key) f no-one) (feels-key h key row (record { live = owns.live; own = owns.own; as_asked = loose }))
+    | inr (row, owns, inr (loose, f)) ↦ so (sets_key row.node.0 key) (fell (with-key w row.node key) f no-one)
+        (feels-key h key row (record { live = owns.live; own = owns.own; as_asked = loose }))
   ]
   calls-go (Call.OnArcDeserialized kind key h) (Reply.FromCache (Ok None)) still c =
       let row : HandleRow = c.answers.0 in
@@ -183,23 +202,29 @@ module _ {N B W : Type 0} (m : Seen N B W) (w : Core) (me : Owner) (free : NotLo
       let right = good w (Owner.Load l) [] (m.values.references x) c.adopts.good in
       elim c.adopts.makes [
         | inl (n, usable, f) ↦ quiet (λ n y b. inl b.1) (adopts-known l kind n (m.values.references x) right f)
-        | inr (unknown, few, a) ↦ so (bears_known kind.0 key (first_key kind.0 key)) (adopts l kind key (first_key kind.0 key) (m.values.references x) unknown right a)
+        | inr (unknown, few, a) ↦ so (bears_known kind.0 key (first_key kind.0 key))
+            (adopts l kind key (first_key kind.0 key) (m.values.references x) unknown right a)
             (feels-adopted l kind key x k c.adopts.typed right)
       ]
   calls-go (Call.LoadLazy l kind key) (Reply.Handle (Ok k)) still c = elim c.makes.3 [
     | inl known ↦ quiet (λ n x b. absurd b) (gets-known known)
-    | inr (unknown, few, next, a) ↦ so (bears_known kind.0 key (OptionalDataKey.Some key)) (adopts l kind key (OptionalDataKey.Some key) [] unknown (none-named w (Owner.Load l)) a)
+    | inr (unknown, few, next, a) ↦ so (bears_known kind.0 key (OptionalDataKey.Some key))
+        (adopts l kind key (OptionalDataKey.Some key) [] unknown (none-named w (Owner.Load l)) a)
         (feels-lazy l kind key k)
   ]
-  calls-go (Call.LoadEnd l x) (Reply.LoadEnded (Ok k)) still c = so nothing_felt (ends-load free l (Ok k) c) (feels-end l x k (good w (Owner.Load l) [] (m.values.references x) c.installs.2.good))
-  calls-go (Call.LoadEnd l x) (Reply.LoadEnded (Err (e, Some y))) still c = quiet (λ n z b. inr (alike-away c.refused.1.stays n)) (ends-load free l (Err (e, Some y)) c)
-  calls-go (Call.LoadEnd l x) (Reply.LoadEnded (Err (e, None))) still c = quiet (λ n z b. inr (fell-away c.refused.closes n)) (ends-load free l (Err (e, None)) c)
+  calls-go (Call.LoadEnd l x) (Reply.LoadEnded (Ok k)) still c = so nothing_felt (ends-load free l (Ok k) c)
+      (feels-end l x k (good w (Owner.Load l) [] (m.values.references x) c.installs.2.good))
+  calls-go (Call.LoadEnd l x) (Reply.LoadEnded (Err (e, Some y))) still c =
+      quiet (λ n z b. inr (alike-away c.refused.1.stays n)) (ends-load free l (Err (e, Some y)) c)
+  calls-go (Call.LoadEnd l x) (Reply.LoadEnded (Err (e, None))) still c =
+      quiet (λ n z b. inr (fell-away c.refused.closes n)) (ends-load free l (Err (e, None)) c)
   calls-go _ reply still c =
       let unmoved : Alike w w' → Effect me true (Unit {0}) (Unit {0}) false nothing_felt w w' = stays in
       let asked : Asked w w' → Effect me true (Unit {0}) (Unit {0}) false nothing_felt w w' = was-asked in
       grind (arith, nat_tests, quiet, unmoved, asked, births)
 
 -- the cache gets to know an old node only where the caller puts it there
-pub call-knows : (W : Type 0) {N B : Type 0} {v : Values N} {w w' : Core} {me : Owner} {call : Call N B} {reply : Reply N B} {c : Change} → CallFeels v w me call reply w' c
+pub call-knows : (W : Type 0) {N B : Type 0} {v : Values N} {w w' : Core} {me : Owner} {call : Call N B} {reply : Reply N B} {c : Change}
+    → CallFeels v w me call reply w' c
     → LeavesCache {N = N} {B = B} {W = W} (Event.Call call) → KnowsNext c w
 call-knows x0 x1 leaves = grind (arith, nat_tests)

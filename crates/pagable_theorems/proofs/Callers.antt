@@ -26,8 +26,13 @@ load-works {N} {v = v} s s' reading answer frames step q =
 load-left : {N E : Type 0} {v : Values N} {reading : Reading} {s s' : PagerState N E} {answer : LoadAnswer N} (run : LoadRun v Owner.Caller reading s answer s')
     → LoadAsksWell run → NobodyWorks s.core → LoadLeft v s'
 unfolding LoadAsksWell
-load-left (load-ends reading answer s s' step) asks nobody = record { well = step.whole; settled = asks.0; nobody = λ q. load-works s s' reading (Some answer) [] step q ∙ nobody q }
-load-left (load-goes-on reading frames answer s mid s' step more) asks nobody = load-left more asks.2 (λ q. load-works s mid reading None frames step q ∙ nobody q)
+load-left (load-ends reading answer s s' step) asks nobody = record {
+  well = step.whole;
+  settled = asks.0;
+  nobody = λ q. load-works s s' reading (Some answer) [] step q ∙ nobody q;
+}
+load-left (load-goes-on reading frames answer s mid s' step more) asks nobody =
+    load-left more asks.2 (λ q. load-works s mid reading None frames step q ∙ nobody q)
 
 -- the load is of a node's cell, and the handle that it answers pins this
 record LoadPins (w : Core) (l : LoadNumber) (k : HandleNumber) (w' : Core) : Type 0 where
@@ -100,7 +105,11 @@ module _ {N E B W : Type 0} (m : Seen N B W) (lawful : IsLawful m.values) where
   plainly call reply c is = record { step = is c.step; moves = no-value m lawful call c.moves; whole = c.whole }
 
   abbrev stays-so : {s s' : PagerState N E} {trees trees' : ℕ → Tree} → After m.values s trees s' trees' → LoadLeft m.values s' → Stays m.values s trees s'
-  stays-so {trees' = trees'} after left = record { trees' = trees'; after = after; now = record { well = left.well; nobody = left.nobody; settled = left.settled; stands = after.stands } }
+  stays-so {trees' = trees'} after left = record {
+    trees' = trees';
+    after = after;
+    now = record { well = left.well; nobody = left.nobody; settled = left.settled; stands = after.stands };
+  }
 
   pin-stays : {s s' : PagerState N E} {trees : ℕ → Tree} {h : HandleNumber} {r : Result HandleNumber Error} (run : PinRun m.values s h r s')
       → Stands m.values s trees → PinAsksWell run
@@ -157,7 +166,8 @@ module _ {N E B W : Type 0} (m : Seen N B W) (lawful : IsLawful m.values) where
   all-right : {s s' : PagerState N E} (trees : ℕ → Tree) (operations : Operations m s s') → Stands m.values s trees → AreRight trees operations
   unfolding AreRight
   all-right trees (is-done s) at = tt
-  all-right trees (goes-on s mid s' one more) at = λ asks. let (a, right) = operation-stays one at asks in (a.trees', a.after.same, a.after.stands, right, all-right a.trees' more a.now)
+  all-right trees (goes-on s mid s' one more) at = λ asks. let (a, right) =
+      operation-stays one at asks in (a.trees', a.after.same, a.after.stands, right, all-right a.trees' more a.now)
 
 module _ {N E B W : Type 0} (m : Seen N B W) (lawful : IsLawful m.values) where
   -- from one moment to any later one

@@ -40,7 +40,8 @@ module _ (rows : List HandleRow) (keyed : ℕ → Bool) (entries : List HandleRo
 
   -- a handle that a value owns that goes is in the greater set
   comes : (s : ℕ → Bool) (h : HandleRow) (n : ℕ) → Among rows h → is_owner (owner_value n) h.owner ≡ true → lost s n ≡ true → more s h.number.0 ≡ true
-  comes s h n among is goes = let a = owned-by (lost s) n h.owner is goes in let c = at-most-sum (follows (lost s) h.number.0) rows h among in grind (arith, nat_tests)
+  comes s h n among is goes = let a = owned-by (lost s) n h.owner is goes in let c =
+      at-most-sum (follows (lost s) h.number.0) rows h among in grind (arith, nat_tests)
 
   -- where no more follows, the set is closed
   closed-if : (s : ℕ → Bool) → sum_by (outside s) rows ≤ sum_by (outside (more s)) rows → IsClosed rows keyed entries s
@@ -62,14 +63,16 @@ module _ (rows : List HandleRow) (keyed : ℕ → Bool) (entries : List HandleRo
       grind (arith, nat_tests)
 
   -- what isn't given, and is owned by no value that goes, doesn't fall
-  module _ (given gone stay : ℕ → Bool) (least : IsLeast rows keyed entries given gone) (free : (h : HandleRow) → Among rows h → given h.number.0 ≡ true → stay h.number.0 ≡ false)
+  module _ (given gone stay : ℕ → Bool) (least : IsLeast rows keyed entries given gone)
+      (free : (h : HandleRow) → Among rows h → given h.number.0 ≡ true → stay h.number.0 ≡ false)
       (apart : (n : ℕ) (h : HandleRow) → Among rows h → is_owner (owner_value n) h.owner ≡ true → lost gone n ≡ true → stay h.number.0 ≡ false) where
     abbrev but : ℕ → Bool
     but q = gone q && not (stay q)
 
     pub outlast : (h : HandleRow) → Among rows h → stay h.number.0 ≡ true → gone h.number.0 ≡ false
     outlast h among is =
-        let holds : IsWithin rows given but = sum-zero (only_in given but) rows (λ h among. grind (arith, nat_tests, inside given gone h least.holds among, free h among)) in
+        let holds : IsWithin rows given but = sum-zero (only_in given but) rows
+        (λ h among. grind (arith, nat_tests, inside given gone h least.holds among, free h among)) in
         let closed : IsClosed rows keyed entries but = λ n goes.
         let lost_too = wider but gone n (sum-zero (only_in but gone) rows (λ h among. grind (arith, nat_tests))) goes in
         let none = least.closed n lost_too in sum-zero (owned_out but n) rows (λ h among.
@@ -80,7 +83,8 @@ module _ (rows : List HandleRow) (keyed : ℕ → Bool) (entries : List HandleRo
   -- what follows is in each closed set
   stays : (s t : ℕ → Bool) → IsWithin rows s t → IsClosed rows keyed entries t → IsWithin rows (more s) t
   stays s t within closed =
-      let of-value : (h x : HandleRow) → Among rows x → x.number.0 ≡ h.number.0 → (n : ℕ) × (is_owner (owner_value n) x.owner ≡ true) × (lost s n ≡ true) → t h.number.0 ≡ true =
+      let of-value : (h x : HandleRow) → Among rows x → x.number.0 ≡ h.number.0 → (n : ℕ) × (is_owner (owner_value n) x.owner ≡ true) × (lost s n ≡ true)
+      → t h.number.0 ≡ true =
       λ h x among number (n, is, goes).
       let none : sum_by (owned_out t n) rows ≡ 0 = closed n (wider s t n within goes) in
       let at : owned_out t n x ≤ sum_by (owned_out t n) rows = at-most-sum (owned_out t n) rows x among in
@@ -90,25 +94,35 @@ module _ (rows : List HandleRow) (keyed : ℕ → Bool) (entries : List HandleRo
       sum-zero (only_in (more s) t) rows (λ h among. grind (arith, nat_tests, inside s t h within among, owned h among))
 
   -- a set that is in each closed one is the least once it is closed itself; until then it grows
-  grows : (given : ℕ → Bool) (k : ℕ) (s : ℕ → Bool) → sum_by (outside s) rows ≤ k → IsWithin rows given s → ((t : ℕ → Bool) → IsWithin rows given t → IsClosed rows keyed entries t → IsWithin rows s t)
+  grows : (given : ℕ → Bool) (k : ℕ) (s : ℕ → Bool) → sum_by (outside s) rows ≤ k → IsWithin rows given s
+      → ((t : ℕ → Bool) → IsWithin rows given t → IsClosed rows keyed entries t → IsWithin rows s t)
       → (s : ℕ → Bool) × IsLeast rows keyed entries given s
   grows given zero s few holds least = (s, record { holds = holds; closed = closed-if s (omega arith); least = least })
   grows given (suc k) s few holds least = elim (cases_lt (sum_by (outside (more s)) rows) (sum_by (outside s) rows)) [
     | inl fewer ↦ grows given k (more s) (omega arith)
-        (sum-zero (only_in given (more s)) rows (λ h among. let a = at-most-sum (only_in given s) rows h among in grind (arith, nat_tests))) (λ t h c. stays s t (least t h c) c)
+        (sum-zero (only_in given (more s)) rows (λ h among. let a = at-most-sum (only_in given s) rows h among in grind (arith, nat_tests)))
+        (λ t h c. stays s t (least t h c) c)
     | inr enough ↦ (s, record { holds = holds; closed = closed-if s (omega arith); least = least })
   ]
 
   pub within-self : (given : ℕ → Bool) → IsWithin rows given given
   within-self given = sum-zero (only_in given given) rows (λ h among. grind (arith, nat_tests))
 
-  pub least_is_one : (given s t : ℕ → Bool) (h : HandleRow) → IsLeast rows keyed entries given s → IsLeast rows keyed entries given t → Among rows h → s h.number.0 ≡ t h.number.0
-  least_is_one given s t h a b among = grind (arith, nat_tests, inside s t h (a.least t b.holds b.closed) among, inside t s h (b.least s a.holds a.closed) among)
+  pub least_is_one : (given s t : ℕ → Bool) (h : HandleRow) → IsLeast rows keyed entries given s → IsLeast rows keyed entries given t → Among rows h
+      → s h.number.0 ≡ t h.number.0
+  least_is_one given s t h a b among = grind (
+    arith,
+    nat_tests,
+    inside s t h (a.least t b.holds b.closed) among,
+    inside t s h (b.least s a.holds a.closed) among,
+  )
 
 -- so the given handles are the least set, and no more fall
-given-least : (rows : List HandleRow) (keyed : ℕ → Bool) (entries : List HandleRow) (given : ℕ → Bool) → OwnsNothing rows → IsLeast rows keyed entries given given
+given-least : (rows : List HandleRow) (keyed : ℕ → Bool) (entries : List HandleRow) (given : ℕ → Bool) → OwnsNothing rows
+    → IsLeast rows keyed entries given given
 given-least rows keyed entries given nothing =
-    let closed : IsClosed rows keyed entries given = λ n goes. let none : sum_by (λ h. one (is_owner (owner_value n) h.owner)) rows ≡ 0 = nothing n in grind (arith, nat_tests, and_parts, sum-le) in
+    let closed : IsClosed rows keyed entries given = λ n goes. let none : sum_by (λ h. one (is_owner (owner_value n) h.owner)) rows ≡ 0 =
+    nothing n in grind (arith, nat_tests, and_parts, sum-le) in
     search (within-self rows keyed entries given, closed)
 
 pub and-false : (b : Bool) → one (b && false) ≡ 0
@@ -132,9 +146,11 @@ fell stored = record {
 pub fall_laws : FallLaws
 unfolding find_row
 fall_laws = record {
-  least_set_is_there = λ rows keyed entries given. grows rows keyed entries given (sum_by (outside given) rows) given (omega arith) (within-self rows keyed entries given) (λ t holds closed. holds);
+  least_set_is_there = λ rows keyed entries given. grows rows keyed entries given (sum_by (outside given) rows) given (omega arith)
+      (within-self rows keyed entries given) (λ t holds closed. holds);
   least_set_is_one = least_is_one;
-  given_fall_alone = λ rows keyed entries given s h nothing least among. least_is_one rows keyed entries given s given h least (given-least rows keyed entries given nothing) among;
+  given_fall_alone = λ rows keyed entries given s h nothing least among. least_is_one rows keyed entries given s given h least
+      (given-least rows keyed entries given nothing) among;
   pins_are_a_filter = λ n rows. sym (length-filter (λ (h : HandleRow). h.node.0 == n && is_pinning h.mode) rows);
   two_levels_fall = record {
     holds = refl;
@@ -142,10 +158,17 @@ fall_laws = record {
     least = λ t holds closed. let f : owned_outside two_rows t 1 ≡ 0 = closed 1 (grind (arith, nat_tests)) in omega arith;
   };
   not_less = λ least. let fallen = least.closed 1 refl in absurd (omega arith);
-  lone_is_listed = λ stored. record { does = inr (row_of 1 first_node Mode.LoosePinned Owner.Caller, record { live = refl; own = refl; as_asked = refl }, inr (refl, fell stored)) };
+  lone_is_listed = λ stored. record {
+    does = inr (
+      row_of 1 first_node Mode.LoosePinned Owner.Caller,
+      record { live = refl; own = refl; as_asked = refl },
+      inr (refl, fell stored),
+    );
+  };
   not_unlisted = λ stored call. elim call.does [
     | inl refused ↦ absurd (cc)
-    | inr (row, own, inl (is, told, alike)) ↦ let pins_are : pins 1 (lone_unlisted stored).rows ≡ pins 1 (lone stored).rows = ap (pins 1) alike.rows in absurd (omega arith)
+    | inr (row, own, inl (is, told, alike)) ↦ let pins_are : pins 1 (lone_unlisted stored).rows ≡ pins 1 (lone stored).rows =
+        ap (pins 1) alike.rows in absurd (omega arith)
     | inr (row, own, inr (is, falls)) ↦
         let last : 1 ≡ 1 + length falls.entries = ap (λ (l : Last). l.handle) falls.leaves.last in
         let few : held 1 falls.entries ≤ length falls.entries = grind (arith, nat_tests, sum_by-cons, one-small) in

@@ -22,10 +22,19 @@ module _ {c : Change} {w w' : Core} (goes : CoreGoes c w w') where
   pub stands-on : {r : ArcRef} {h : HandleNumber} → StandsAt w r h → StandsAt w' r h
   stands-on {r} {h} s =
       let a = s.node_given in let b = goes.nodes in let c = s.given in let d = goes.handles in
-      record { node_given = omega arith; given = omega arith; is = λ row live. let was = goes.rows h.0 row live s.given in let old = s.is was.was was.live in grind (arith, nat_tests) }
+      record {
+        node_given = omega arith;
+        given = omega arith;
+        is = λ row live. let was = goes.rows h.0 row live s.given in let old = s.is was.was was.live in
+            grind (arith, nat_tests);
+      }
 
   pub key-on : {n : ℕ} → KeyIsSet w n → KeyIsSet w' n
-  key-on {n} s = let a = s.given in let b = goes.nodes in record { given = omega arith; keyed = λ cell live. let c = goes.cells n cell live in let was = s.keyed in grind (arith, nat_tests) }
+  key-on {n} s = let a = s.given in let b = goes.nodes in record {
+    given = omega arith;
+    keyed = λ cell live. let c = goes.cells n cell live in
+        let was = s.keyed in grind (arith, nat_tests);
+  }
 
   pub waits-on : (todo : List Todo) → WaitsHeld w todo → WaitsHeld w' todo
   waits-on (to_finish o ∷ below) (h, waits) = (stands-on h, waits-on below waits)
@@ -59,14 +68,16 @@ module _ {w : Core} (whole : HandlesAreWhole w) where
   -- a clone stands for what its handle stands for
   pub clone-stands : {w' : Core} {me : Owner} (r : ArcRef) (k : HandleNumber) → StandsAt w r r.handle → CloneCall w me r.handle (Ok k) w' → StandsAt w' r k
   clone-stands {w'} {me} r k s call =
-      let row : HandleRow = call.made.0 in let old = s.is row call.made.1 in let above : k.0 ≡ w.last.handle + 1 = call.made.2.above in let a = call.made.3 in let b = s.node_given in
+      let row : HandleRow = call.made.0 in let old = s.is row call.made.1 in let above : k.0 ≡ w.last.handle + 1 = call.made.2.above in let a =
+      call.made.3 in let b = s.node_given in
       let s_made = stands-new w.last.handle w.rows (row_of (w.last.handle + 1) row.node row.mode me) (λ h among. (whole.numbered h among).1) refl in
       grind (arith, nat_tests, find_row, among-found, found-number, above, is_loose)
 
 -- ---- what workers hold they hold after each event, and each cell whose key was published by a loose reference has a key
 
 module _ (w : Core) (v : ℕ) where
-  started : (place : ℕ) (rs : List ArcRef) (x : Todo) (below : List Todo) → Holds w v x → WaitsHeld w below → WaitsHeld w (x ∷ below) → AllHold w v (next_start place rs ++ x ∷ below)
+  started : (place : ℕ) (rs : List ArcRef) (x : Todo) (below : List Todo) → Holds w v x → WaitsHeld w below → WaitsHeld w (x ∷ below)
+      → AllHold w v (next_start place rs ++ x ∷ below)
   started place x1 x below h waits all = grind (arith, nat_tests)
 
   given : (r : ArcRef) (key height : ℕ) (below : List Todo) → WaitsHeld w below → AllHold w v (give r key height below)
@@ -79,11 +90,13 @@ module _ (w : Core) (v : ℕ) where
 still-held : {w w' : Core} (v : ℕ) (r : ArcRef) (through : HandleNumber) (key : ℕ) (u : Unit {0}) → HandlesAreWhole w → StandsAt w r through
     → SetKeyCall w (owner_worker v) through key (Ok u) w' → HasHandle w' v r.node.0
 still-held {w} {w'} v r through key u whole s call =
-    let held : (row : HandleRow) → Owns w (owner_worker v) through any_mode row → Stands w'.last.handle w'.rows through.0 row → HasHandle w' v r.node.0 = λ row owns stands.
+    let held : (row : HandleRow) → Owns w (owner_worker v) through any_mode row → Stands w'.last.handle w'.rows through.0 row → HasHandle w' v r.node.0 =
+    λ row owns stands.
     record { h = through; row = row; live = stands.live; own = owns.own; at = ap (λ (n : NodeNumber). n.0) (s.is row owns.live).0 } in elim call.does [
       | inl refused ↦ let f = refused.told in absurd (cc)
       | inr (row, owns, inl (other, told, a)) ↦ held row owns (stands-alike a (stands-whole whole through.0 row owns.live))
-      | inr (row, owns, inr (loose, f)) ↦ let s : Stands (with_key w row.node key).last.handle (with_key w row.node key).rows through.0 row = stands-whole whole through.0 row owns.live in
+      | inr (row, owns, inr (loose, f)) ↦ let s : Stands (with_key w row.node key).last.handle (with_key w row.node key).rows through.0 row =
+          stands-whole whole through.0 row owns.live in
           held row owns (stands-fell f (λ n is. let f : owner_worker v ≡ Owner.Value n = sym owns.own ∙ is in absurd (cc)) refl s)
     ]
 
@@ -110,18 +123,24 @@ module _ {N B W : Type 0} (m : Seen N B W) (v : ℕ) (s s' : Site) (whole : Hand
   stays : ((i : Identity) → s'.shelf.slots i ≡ s.shelf.slots i) → {next : List Todo} → s'.todo ≡ next → AllHold s'.core v next → Leaves
   stays same e all = leaves e all (λ i key height p. inl (keys-same (λ j. sym (same j)) i key height p))
 
-  stepped : {c : Change} (todo : List Todo) (step : Action W) → s.todo ≡ todo → Does m v s todo step s' → CoreGoes c s.core s'.core → AllHold s.core v todo → Leaves
+  stepped : {c : Change} (todo : List Todo) (step : Action W) → s.todo ≡ todo → Does m v s todo step s' → CoreGoes c s.core s'.core → AllHold s.core v todo
+      → Leaves
   stepped (to_start r place ∷ below) (Action.Claim i (Ok Claim.Claimed)) e (is, c) f (h, waits) =
       let t = c.finds.1.2 in
       leaves t.list_is (stands-on f (claimed-stands whole r c.finds.0), waits-on f below waits) (grind (arith, put-cases, known))
   stepped (to_pin r place ∷ below) (Action.Pin i (Ok (PinStep.Held k))) e (is, p) f (h, waits) = let t = p.pins.2 in
       let stands : StandsAt s'.core r p.pins.0 = elim p.pins.1 [
         | inl (row, same, clone) ↦ subst (λ h. StandsAt s'.core r h) (sym same) (clone-stands whole r k h clone)
-        | inr (row, (mid, clone, pin)) ↦ stands-on (pins {lists = false} {Asks = Unit {0}} {Leaves = Unit {0}} {c = nothing_felt} (works-free v) (Ok (Pinning.Pinned k)) pin).goes
+        | inr (row, (mid, clone, pin)) ↦ stands-on (pins {lists = false} {Asks = Unit {0}} {Leaves = Unit {0}} {c = nothing_felt} (works-free v)
+            (Ok (Pinning.Pinned k)) pin).goes
             (clone-stands whole r p.pins.0 h clone)
       ] in stays t.table_stays.slots t.list_is (stands, waits-on f below waits)
   stepped (to_pin r place ∷ below) (Action.Pin i (Ok (PinStep.LoadBegun l))) e (is, p) f (h, waits) = let t = p.pins.2 in
-      stays t.table_stays.slots t.list_is (stands-on (begin-goes (Ok (Beginning.Load l p.pins.1.1.1)) p.pins.1.1.3) (clone-stands whole r p.pins.0 h p.pins.1.1.2), waits-on f below waits)
+      stays t.table_stays.slots t.list_is (
+        stands-on (begin-goes (Ok (Beginning.Load l p.pins.1.1.1)) p.pins.1.1.3)
+            (clone-stands whole r p.pins.0 h p.pins.1.1.2),
+        waits-on f below waits,
+      )
   stepped (to_load r place through reading ∷ below) (Action.Pin i (Ok (PinStep.Held k))) e (is, p) f (h, waits) = let t = p.goes.1 in
       stays t.table_stays.slots t.list_is (stands-on f h, waits-on f below waits)
   stepped (to_load r place through reading ∷ below) (Action.Pin i (Ok PinStep.LoadWent)) e (is, p) f (h, waits) = let t = p.goes.2 in
@@ -130,43 +149,55 @@ module _ {N B W : Type 0} (m : Seen N B W) (v : ℕ) (s s' : Site) (whole : Hand
       let t = p.writes in
       leaves t.list_is
       (started s'.core v place (m.written_of out).references _ below (stands-on f h) (waits-on f below waits) (stands-on f h, waits-on f below waits))
-      (changed-reveals s.shelf s'.shelf KeyThere (identity_of r) (λ slot. record slot { references = Some (m.written_of out).references }) t.table_is (λ old key height is. inl is))
-  stepped (to_finish o ∷ below) (Action.Store i (Ok key)) e (is, p) f (h, waits) = let t = p.goes in stays t.table_stays.slots t.list_is (stands-on f h, waits-on f below waits)
+      (changed-reveals s.shelf s'.shelf KeyThere (identity_of r) (λ slot. record slot { references = Some (m.written_of out).references }) t.table_is
+      (λ old key height is. inl is))
+  stepped (to_finish o ∷ below) (Action.Store i (Ok key)) e (is, p) f (h, waits) = let t =
+      p.goes in stays t.table_stays.slots t.list_is (stands-on f h, waits-on f below waits)
   stepped (to_set r through key height ∷ below) (Action.SetKey i (Ok u)) e (is, p) f (h, waits) = let t = p.goes in
       stays t.table_stays.slots t.list_is (
         elim p.sets.does [
-          | inl (kind, sets) ↦ (let there : is_loose_kind r.kind.0 ≡ true → KeyIsSet s'.core r.node.0 = grind (arith, nat_tests, goes-quiet, fell, updated-at) in λ loose. (there loose, still-held v r through key u whole h sets))
+          | inl (kind, sets) ↦ (let there : is_loose_kind r.kind.0 ≡ true
+              → KeyIsSet s'.core r.node.0 = grind (arith, nat_tests, goes-quiet, fell, updated-at) in
+              λ loose. (there loose, still-held v r through key u whole h sets))
           | inr (held, done, a) ↦ λ loose. absurd (cc)
         ],
         waits-on f below waits,
       )
   stepped (to_publish r key height ∷ below) (Action.Publish i k q) e (is, same_key, same_height, t) f (h, waits) = leaves t.list_is (tt, waits-on f below waits)
-      (changed-reveals s.shelf s'.shelf KeyThere (identity_of r) (with_outcome (published key height)) t.table_is (λ old k2 h2 known. inr (λ kind. key-on f (h kind).0)))
+      (changed-reveals s.shelf s'.shelf KeyThere (identity_of r) (with_outcome (published key height)) t.table_is
+      (λ old k2 h2 known. inr (λ kind. key-on f (h kind).0)))
   stepped _ step e does f all = grind (arith, nat_tests, stays, leaves, same_some, known, waits-on f, given)
 
-module _ {N B W : Type 0} (m : Seen N B W) (u u' : World) {c : Change} (goes : CoreGoes c u.core u'.core) (held : KeysHeld u) (whole : HandlesAreWhole u.core) where
+module _ {N B W : Type 0} (m : Seen N B W) (u u' : World) {c : Change} (goes : CoreGoes c u.core u'.core) (held : KeysHeld u)
+    (whole : HandlesAreWhole u.core) where
   abbrev SlotsHeld : Shelf → Type 0
   SlotsHeld shelf = (i : Identity) (key height : ℕ) → IsPublished shelf i key height → is_loose_kind i.kind.0 ≡ true → KeyIsSet u'.core i.node.0
 
   a-step : StandsIn u' → (k : WorkerNumber) (r : WorkerReply W) (s : WorkerSteps m u k r u') → SlotsHeld s.after.shelf × AllHold u'.core k.0 s.after.todo
   a-step work k r s =
       let w : Walking = s.walking in
-      let l = stepped m k.0 (site_of u w) s.after whole w.todo r.action refl s.does.does (walk-goes m k.0 (site_of u w) s.after w.todo r.action s.does.does).goes (held.walks k.0 w s.at) in
+      let l = stepped m k.0 (site_of u w) s.after whole w.todo r.action refl s.does.does
+      (walk-goes m k.0 (site_of u w) s.after w.todo r.action s.does.does).goes (held.walks k.0 w s.at) in
       let ends = quiet-goes nothing_felt (ends-quiet r.answer k.0 s.ends) in
       let slots : SlotsHeld s.after.shelf = λ i key height p kind.
       elim (l.reveals i key height p) [ inl was ↦ key-on goes (held.slots w.table i key height was kind) | inr set ↦ key-on ends (set kind) ] in
       (slots, after (all-on ends) l.all r.answer s.ends refl)
     where
       -- where it has answered nothing is left to be done, and where it hasn't it keeps what it has
-      after : ((v : ℕ) → ((n : ℕ) → HasHandle s.after.core v n → HasHandle u'.core v n) → (todo : List Todo) → AllHold s.after.core v todo → AllHold u'.core v todo)
-          → AllHold s.after.core k.0 s.after.todo → (a : Option WorkerAnswer) → Ends a k.0 s.after.core u'.core → r.answer ≡ a → AllHold u'.core k.0 s.after.todo
+      after : ((v : ℕ) → ((n : ℕ) → HasHandle s.after.core v n → HasHandle u'.core v n) → (todo : List Todo) → AllHold s.after.core v todo
+          → AllHold u'.core v todo)
+          → AllHold s.after.core k.0 s.after.todo → (a : Option WorkerAnswer) → Ends a k.0 s.after.core u'.core → r.answer ≡ a
+          → AllHold u'.core k.0 s.after.todo
       after on all None e none = on k.0 (λ n h. (grind (arith, nat_tests, find_row))) s.after.todo all
-      after on all (Some a) e is = subst (λ todo. AllHold u'.core k.0 todo) (sym ((work.workers k.0 _ (s.work.same_walkings k.0 ∙ updated-at k.0 _ u.work.walkings)).done a is)) tt
+      after on all (Some a) e is = subst (λ todo. AllHold u'.core k.0 todo)
+          (sym ((work.workers k.0 _ (s.work.same_walkings k.0 ∙ updated-at k.0 _ u.work.walkings)).done a is)) tt
 
-  keys-hold : (event : Event N B W) (reply : EventReply N B W) → EventTurns m u event reply u' → StandsIn u' → ((n : ℕ) → step_of n event reply ≡ [] → Spares (owner_worker n) u.core u'.core)
+  keys-hold : (event : Event N B W) (reply : EventReply N B W) → EventTurns m u event reply u' → StandsIn u'
+      → ((n : ℕ) → step_of n event reply ≡ [] → Spares (owner_worker n) u.core u'.core)
       → KeysHeld u'
   keys-hold event reply turns work spares =
-      let h = turns-keep m turns SlotsHeld (λ n shelf w. AllHold u'.core n w.todo) (λ a b same slots i key height p. slots i key height (keys-same (λ j. sym (same j)) i key height p))
+      let h = turns-keep m turns SlotsHeld (λ n shelf w. AllHold u'.core n w.todo)
+      (λ a b same slots i key height p. slots i key height (keys-same (λ j. sym (same j)) i key height p))
       (λ a b more slots n w all. all)
       (λ t shelf more same i key height p kind. key-on goes (held.slots t i key height (keys-same (λ j. sym (same j)) i key height p) kind))
       (λ n w none there. all-on goes n (λ q. λ h. let s = (spares n none).each h.h.0 h.row h.own (stands-whole whole h.h.0 h.row h.live) in
@@ -179,7 +210,8 @@ keys-ready v s trees fit held k key row sets =
     let there = sets.there in let todo = sets.sets in let owns = sets.owns in grind (arith, nat_tests, same_some, tree_readable)
 
 module _ {N E B W : Type 0} (m : Seen N B W) (s : MachineState N E) (trees : ℕ → Tree) where
-  reading-takes : (event : Event N B W) (reply : EventReply N B W) (reading : Reading) → IsSteppedReading (world_of s) event reading → IsWellAsked m.values s trees event reply
+  reading-takes : (event : Event N B W) (reply : EventReply N B W) (reading : Reading) → IsSteppedReading (world_of s) event reading
+      → IsWellAsked m.values s trees event reply
       → TakesWell m.values s.pager reading
   reading-takes x0 reply reading x3 well = grind (arith, nat_tests)
 
@@ -187,7 +219,8 @@ module _ {N E B W : Type 0} (m : Seen N B W) (s : MachineState N E) (trees : ℕ
     pub event-fits : (lawful : IsLawful m.values) (s' : MachineState N E) → HoldsSettled m.values s.pager → IsMachineWhole m.values s
         → IsMachineWhole m.values s' → KeysAreReady m.values s trees
         → (event : Event N B W) (reply : EventReply N B W) {c : Change} → CoreGoes c s.pager.core s'.pager.core → IsWellAsked m.values s trees event reply
-        → EventFeels m.values (world_of s) event reply (world_of s') c → (trees' : ℕ → Tree) × ChangeFits m.values c (EventBrings m.values (world_of s) event) s.pager s'.pager trees trees'
+        → EventFeels m.values (world_of s) event reply (world_of s') c → (trees' : ℕ → Tree)
+        × ChangeFits m.values c (EventBrings m.values (world_of s) event) s.pager s'.pager trees trees'
     event-fits lawful s' settled whole whole' ready event reply goes well (by-call c call answer called replied feels keeps) =
         let asked = rw (called, replied) at well in
         let f = call-fits lawful settled whole.pager whole'.pager stands.pager c call answer goes asked feels in (f.0, rw called f.1)
@@ -197,8 +230,11 @@ module _ {N E B W : Type 0} (m : Seen N B W) (s : MachineState N E) (trees : ℕ
         (given-nodes reading.frames g.held) goes opens feels in
         (f.0, (grind (arith, nat_tests)))
     event-fits lawful s' settled whole whole' ready event reply goes well (by-key k key row is sets keeps) =
-        let reads = ready k key row sets in
-        (trees, fits-key lawful settled whole.pager whole'.pager stands.pager _ row.node.0 key (λ n x brings. (grind (arith, nat_tests, same_some))) (tree-stays goes.stored reads))
+        let reads = ready k key row sets in (
+          trees,
+          fits-key lawful settled whole.pager whole'.pager stands.pager _ row.node.0 key (λ n x brings. (grind (arith, nat_tests, same_some)))
+              (tree-stays goes.stored reads),
+        )
     event-fits lawful s' settled whole whole' ready event reply goes well (by-nothing stays keeps) =
         let none = none-comes lawful settled whole.pager whole'.pager stands.pager in
         (trees, fits-nothing lawful settled whole.pager whole'.pager stands.pager _ (λ n x brings unset is. absurd (none n x goes unset is (stays n x brings))))
@@ -207,9 +243,11 @@ module _ {N E B W : Type 0} (m : Seen N B W) (s : MachineState N E) (trees : ℕ
 
 -- ---- a machine that stands for trees stands for them after each event, with all that its loads read
 
-module _ {N E B W : Type 0} (m : Seen N B W) (s s' : MachineState N E) (trees trees' : ℕ → Tree) (whole : IsMachineWhole m.values s') (stands : StandsFor m.values s' trees') where
+module _ {N E B W : Type 0} (m : Seen N B W) (s s' : MachineState N E) (trees trees' : ℕ → Tree) (whole : IsMachineWhole m.values s')
+    (stands : StandsFor m.values s' trees') where
   pin-gives : (event : Event N B W) (reply : EventReply N B W) → PinHolds event reply s'.pager.core → PinGives m.values s trees event reply s' trees'
-  pin-gives x0 x1 pinned = let given = λ (k : HandleNumber) (h : HasPin s'.pager.core k). pin_stands s'.pager trees' k h.row whole.pager stands.pager h.live h.is in grind (arith, nat_tests, given)
+  pin-gives x0 x1 pinned = let given = λ (k : HandleNumber) (h : HasPin s'.pager.core k). pin_stands s'.pager trees' k h.row whole.pager stands.pager h.live
+      h.is in grind (arith, nat_tests, given)
 
 -- what holds of a machine and its trees along a chain
 pub record IsGoingOn {N E : Type 0} (v : Values N) (s : MachineState N E) (trees : ℕ → Tree) : Type 0 where
@@ -222,26 +260,31 @@ pub record IsGoingOn {N E : Type 0} (v : Values N) (s : MachineState N E) (trees
   pub held : KeysHeld (world_of s)
 
 module _ {N E B W : Type 0} (m : Seen N B W) (lawful : IsLawful m.values) where
-  pub idle-goes : (s : MachineState N E) (trees : ℕ → Tree) → IsMachineWhole m.values s → IsIdle s → HoldsSettled m.values s.pager → StandsFor m.values s trees → IsGoingOn m.values s trees
+  pub idle-goes : (s : MachineState N E) (trees : ℕ → Tree) → IsMachineWhole m.values s → IsIdle s → HoldsSettled m.values s.pager → StandsFor m.values s trees
+      → IsGoingOn m.values s trees
   idle-goes s trees whole idle settled stands = grind (arith, nat_tests, idle-stands)
 
   pub goes : (s : MachineState N E) (trees : ℕ → Tree) (x : Moment N E B W) → IsGoingOn m.values s trees → DoesMoment m s x.event x.reply x.after
-      → IsPremised m.values s trees x.event x.reply x.after → (trees' : ℕ → Tree) × TreesAfter m (IsRight m.values) s trees x.event x.reply x.after trees' × IsGoingOn m.values x.after trees'
+      → IsPremised m.values s trees x.event x.reply x.after → (trees' : ℕ → Tree) × TreesAfter m (IsRight m.values) s trees x.event x.reply x.after trees'
+      × IsGoingOn m.values x.after trees'
   goes s trees x on does premised =
       let g = event-goes m (world_of s) (world_of x.after) x.event x.reply premised.stays_open does.step.happens in
       let felt = g.feels on.whole.pager.whole (λ n w is. (on.work.workers n w is).waits) in
       let ready = keys-ready m.values s trees on.fits on.held in
       let f = event-fits m s trees on.stands on.readings lawful x.after on.settled on.whole does.whole ready x.event x.reply g.goes premised.well felt in
       let pager = trees-go-on lawful on.settled on.whole.pager does.whole.pager on.stands.pager does.moves g.goes f.1 in
-      let readings = readings-on (Going m.values x.after.pager f.0) (λ reading is. going-on on.whole.pager does.whole.pager on.stands.pager g.goes f.1 reading (on.readings reading is))
+      let readings = readings-on (Going m.values x.after.pager f.0) (λ reading is. going-on on.whole.pager does.whole.pager on.stands.pager g.goes f.1 reading
+      (on.readings reading is))
       (λ reading new. going-new x.after.pager f.0 reading new.0 new.2) (λ reading frames load is at read.
       going-step on.whole.pager does.whole.pager on.stands.pager g.goes f.1 reading frames load at (going-of s trees on.readings reading is) read) felt in
       let stands : StandsFor m.values x.after f.0 = record { pager = pager; readings = λ reading is. (readings reading is).fits } in
-      let turns = event-turns m (world_of s) (world_of x.after) on.work (λ v w there. (on.whole.walkings v w there).table.1) x.event x.reply does.step.happens in
+      let turns = event-turns m (world_of s) (world_of x.after) on.work (λ v w there. (on.whole.walkings v w there).table.1) x.event x.reply
+      does.step.happens in
       let fits = fits-on m s x.after trees f.0 (record { kept = g.goes.stored; last = g.goes.nodes; trees = f.1.same }) on.fits on.whole on.stands.pager
       on.settled lawful on.work x.event x.reply turns does.writes premised.well in
       let work = turns-stand m turns on.work in
-      let held = keys-hold m (world_of s) (world_of x.after) g.goes on.held on.whole.pager.whole.handles x.event x.reply turns work (λ n others. g.spares n on.whole.pager.whole.owners_there others) in
+      let held = keys-hold m (world_of s) (world_of x.after) g.goes on.held on.whole.pager.whole.handles x.event x.reply turns work
+      (λ n others. g.spares n on.whole.pager.whole.owners_there others) in
       let pins = pins-hold m (world_of s) (world_of x.after) x.event x.reply on.whole.pager.whole.handles does.step.happens in
       let keys = keys-right m s x.after trees f.0 on.fits fits on.whole does.whole stands on.held held x.event x.reply does.step.happens in
       let asked = premised.well in
@@ -250,10 +293,12 @@ module _ {N E B W : Type 0} (m : Seen N B W) (lawful : IsLawful m.values) where
 
   -- what follows of each moment, and of what stays true of the machine and of the moments that are left, holds along each chain
   pub along-with : (P : Fact N E B W) (I : MachineState N E → List (Moment N E B W) → Type 0)
-      → ((s : MachineState N E) (trees trees' : ℕ → Tree) (x : Moment N E B W) (xs : List (Moment N E B W)) → IsGoingOn m.values s trees → I s (x ∷ xs) → IsMachineWhole m.values x.after
+      → ((s : MachineState N E) (trees trees' : ℕ → Tree) (x : Moment N E B W) (xs : List (Moment N E B W)) → IsGoingOn m.values s trees → I s (x ∷ xs)
+      → IsMachineWhole m.values x.after
       → Happens m (world_of s) x.event x.reply (world_of x.after) → IsWellAsked m.values s trees x.event x.reply
       → IsRight m.values s trees x.event x.reply x.after trees' → P s trees x.event x.reply x.after trees' × I x.after xs)
-      → (s : MachineState N E) (trees : ℕ → Tree) (moments : List (Moment N E B W)) → IsGoingOn m.values s trees → I s moments → AreMoments m s moments → TreesAlong m P s trees moments
+      → (s : MachineState N E) (trees : ℕ → Tree) (moments : List (Moment N E B W)) → IsGoingOn m.values s trees → I s moments → AreMoments m s moments
+      → TreesAlong m P s trees moments
   along-with P I follows s trees [] on so does = tt
   along-with P I follows s trees (x ∷ xs) on so (does, more) = λ premised.
       let (trees', a, after) = goes s trees x on does premised in
@@ -279,7 +324,21 @@ module _ {N B W : Type 0} (walkings : ℕ → Option Walking) (t : ℕ) (i : Ide
       → times (is_claim_of {W = W} i) (steps_of n happened replied) ≤ claims_made walkings t i happened replied
   unfolding steps_of claims_made
   own-claims n w there on (event ∷ more) (reply ∷ rest) =
-      grind (arith, nat_tests, sum_by-append, one, is_claim_of, step_of, steps_of, claims-cons, times, is_on_table, sum_by-cons, claim_made, own-claims n w there on more rest)
+      grind (
+        arith,
+        nat_tests,
+        sum_by-append,
+        one,
+        is_claim_of,
+        step_of,
+        steps_of,
+        claims-cons,
+        times,
+        is_on_table,
+        sum_by-cons,
+        claim_made,
+        own-claims n w there on more rest,
+      )
   own-claims n w there on x4 x5 = grind (arith, nat_tests)
 
   -- each event claims what wasn't claimed, where workers keep their tables
@@ -305,9 +364,11 @@ module _ {N E B W : Type 0} (m : Seen N B W) where
     keeps : (v : ℕ) (w : Walking) → s.work.walkings v ≡ Some w → KeepsTask s'.work.walkings v w
     gone : (n : ℕ) (past : List (Action W)) → HasGone m.written_of n s.work.shelves (s.work.walkings n) past
         → HasGone m.written_of n s'.work.shelves (s'.work.walkings n) (past ++ steps_of n happened replied)
-    claims : (t : ℕ) (i : Identity) → one (is_some ((s.work.shelves t).slots i)) + claims_made s'.work.walkings t i happened replied ≤ one (is_some ((s'.work.shelves t).slots i))
+    claims : (t : ℕ) (i : Identity) → one (is_some ((s.work.shelves t).slots i)) + claims_made s'.work.walkings t i happened replied ≤ one
+        (is_some ((s'.work.shelves t).slots i))
 
-  arrives : (s : MachineState N E) (moments : List (Moment N E B W)) → AreMoments m s moments → IsMachineWhole m.values s → StandsIn (world_of s) → LoadsStand m.values.types (world_of s)
+  arrives : (s : MachineState N E) (moments : List (Moment N E B W)) → AreMoments m s moments → IsMachineWhole m.values s → StandsIn (world_of s)
+      → LoadsStand m.values.types (world_of s)
       → Arrives s (state_after s moments) (events_of moments) (replies_of moments) × StepsAreWithin m.values s moments
   unfolding state_after steps_of claims_made
   arrives s [] chain whole work loads = (grind (arith, nat_tests, append-nil), tt)
@@ -316,17 +377,31 @@ module _ {N E B W : Type 0} (m : Seen N B W) where
       event-turns m (world_of s) (world_of x.after) work (λ v w there. (whole.walkings v w there).table.1) x.event x.reply does.step.happens in
       let t = turns.turned in let last = (state_after x.after xs).work.walkings in
       let waits = λ (n : ℕ) (w : Walking) (is : s.work.walkings n ≡ Some w). (work.workers n w is).waits in
-      let (rest, within) = arrives x.after xs chain does.whole (turns-stand m turns work) (event-on m s x.after whole x.event x.reply does.step.happens waits loads) in
+      let (rest, within) = arrives x.after xs chain does.whole (turns-stand m turns work)
+      (event-on m s x.after whole x.event x.reply does.step.happens waits loads) in
       let on : (v : ℕ) (w : Walking) → s.work.walkings v ≡ Some w → KeepsTask last v w = λ v w there.
-      let k = keeps-task turns.who s.work.shelves x.after.work.shelves s.work.walkings x.after.work.walkings t v w there in let l = rest.keeps v k.now k.there in
+      let k = keeps-task turns.who s.work.shelves x.after.work.shelves s.work.walkings x.after.work.walkings t v w there in let l =
+      rest.keeps v k.now k.there in
       record { now = l.now; there = l.there; table = l.table ∙ k.table; task = l.task ∙ k.task } in
       let gone = λ (n : ℕ) (past : List (Action W)) (gone : HasGone m.written_of n s.work.shelves (s.work.walkings n) past).
-      subst (λ k. HasGone m.written_of n (state_after x.after xs).work.shelves (last n) k) (append_assoc past (step_of n x.event x.reply) (steps_of n (events_of xs) (replies_of xs)))
+      subst (λ k. HasGone m.written_of n (state_after x.after xs).work.shelves (last n) k)
+      (append_assoc past (step_of n x.event x.reply) (steps_of n (events_of xs) (replies_of xs)))
       (rest.gone n (past ++ step_of n x.event x.reply) (goes-on m (world_of s) (world_of x.after) x.event x.reply work turns n past gone)) in
       let each = λ (q : ℕ) (i : Identity).
-      event-claims last q i m (world_of s) (world_of x.after) (λ p. grows turns.who (s.work.shelves p) (x.after.work.shelves p) (t.changes p)) on x.event x.reply does.step.happens in
-      let cons = λ (q : ℕ) (i : Identity). claims-cons last q i x.event x.reply (events_of xs) (replies_of xs) in let now = step-within m s x.after whole loads x.event x.reply does.step.happens in
-      (record { work = rest.work; whole = rest.whole; loads = rest.loads; keeps = on; gone = gone; claims = λ q i. omega (arith, cons q i, each q i, rest.claims q i) }, (now, within))
+      event-claims last q i m (world_of s) (world_of x.after) (λ p. grows turns.who (s.work.shelves p) (x.after.work.shelves p) (t.changes p)) on x.event
+      x.reply does.step.happens in
+      let cons = λ (q : ℕ) (i : Identity). claims-cons last q i x.event x.reply (events_of xs) (replies_of xs) in let now =
+      step-within m s x.after whole loads x.event x.reply does.step.happens in (
+        record {
+          work = rest.work;
+          whole = rest.whole;
+          loads = rest.loads;
+          keeps = on;
+          gone = gone;
+          claims = λ q i. omega (arith, cons q i, each q i, rest.claims q i);
+        },
+        (now, within),
+      )
 
 -- all that steps have come to
 module _ {N E B W : Type 0} (m : Seen N B W) (s end : MachineState N E) (happened : List (Event N B W)) (replied : List (EventReply N B W)) (idle : IsIdle s)
@@ -335,10 +410,12 @@ module _ {N E B W : Type 0} (m : Seen N B W) (s end : MachineState N E) (happene
   worker n walking there =
       let let_go : (answer : WorkerAnswer) → walking.answer ≡ Some answer → HasLetGo (world_of end) n (end.work.shelves walking.table) = λ answer is.
       let rests : end.pager.core.workers n ≡ false = (all.whole.walkings n walking there).at_work ∙ ap is_none is in
-      let own : (h : HandleRow) → Among end.pager.core.rows h → (b : Bool) → is_owner (owner_worker n) h.owner ≡ b → one (is_owner (owner_worker n) h.owner) ≡ 0 =
+      let own : (h : HandleRow) → Among end.pager.core.rows h → (b : Bool) → is_owner (owner_worker n) h.owner ≡ b → one (is_owner (owner_worker n) h.owner)
+      ≡ 0 =
       λ h among b e. grind (arith, nat_tests, true-false, all.whole.pager.whole.owners_there.workers h n among, rests) in
       grind (arith, nat_tests, own, all.work.workers n walking there, sum-zero, false_from_ne_true, true-false, rests) in
-      let nobody : HasGone m.written_of n s.work.shelves (s.work.walkings n) [] = subst (λ o. HasGone m.written_of n s.work.shelves o []) (sym (idle.walkings n)) refl in
+      let nobody : HasGone m.written_of n s.work.shelves (s.work.walkings n) [] =
+      subst (λ o. HasGone m.written_of n s.work.shelves o []) (sym (idle.walkings n)) refl in
       let went = rw there at (all.gone n [] nobody) in
       let order : InOrder m.written_of walking.task (steps_of n happened replied) = record { left = walking.todo; leads = went.leads } in
       let few : (i : Identity) → times (is_claim_of i) (steps_of n happened replied) ≤ 1 =

@@ -26,7 +26,8 @@ got-alike : (got : List ArcRef) (place : ℕ) → AnswersAlike (answer_of (slice
 got-alike (r ∷ rs) (suc place) kind = got-alike rs place kind
 got-alike x0 x1 kind = grind (arith, nat_tests, both-not, both-looked-up)
 
-answers-alike : (got : List ArcRef) (place : ℕ) (keys : List ℕ) → AllTwo AnswersAlike (answers_from got place keys) (answers_from (some_of (kinds_of got)) place keys)
+answers-alike : (got : List ArcRef) (place : ℕ) (keys : List ℕ) → AllTwo AnswersAlike (answers_from got place keys)
+    (answers_from (some_of (kinds_of got)) place keys)
 unfolding answers_from
 answers-alike got place [] = no-two
 answers-alike got place (key ∷ keys) = more-two _ _ _ _ (got-alike got place) (answers-alike got (place + 1) keys)
@@ -37,11 +38,13 @@ answers-two : {Y : Type 0} (R : Answer → Y → Type 0) (got : List ArcRef) (pl
 unfolding answers_from
 answers-two R got place [] [] few all = no-two
 answers-two R got place (k ∷ ks) (y ∷ ys) few all =
-    more-two _ y _ ys (all 0 y refl place (omega arith)) (answers-two R got (place + 1) ks ys (omega arith) (λ i z is n at. all (suc i) z is n (omega (arith, at))))
+    more-two _ y _ ys (all 0 y refl place (omega arith)) (answers-two R got (place + 1) ks ys (omega arith)
+    (λ i z is n at. all (suc i) z is n (omega (arith, at))))
 answers-two R got place _ _ few all = absurd (omega arith)
 
 -- the same next, but for the references in what is read
-by-alike : (key : Option ℕ) {first second : Result (Meaning ArcRef × Rest Answer) Error} → Out one_cause (AllTwo AnswersAlike) (Along (Unit {0}) (λ r q. Unit {0})) first second
+by-alike : (key : Option ℕ) {first second : Result (Meaning ArcRef × Rest Answer) Error}
+    → Out one_cause (AllTwo AnswersAlike) (Along (Unit {0}) (λ r q. Unit {0})) first second
     → ((own : Meaning ArcRef) → next_by key first ≡ reads own → ⊥) → next_by key second ≡ next_by key first
 by-alike key (both-given p q v s) isnt = absurd (isnt p.0 refl)
 by-alike key (both-faulty e sober) isnt = refl
@@ -53,14 +56,17 @@ next-alike : (types : Types) (t : ℕ) (blob : Blob) (got : List ArcRef) → ((o
 next-alike types t blob got isnt =
     let two = typed_par {E = one_cause} {F = Unit {0}} {T = AllTwo AnswersAlike} {R = (λ r q. Unit {0})} {parts = types.parts} answer_at answer_at
     (each _ _ (λ kind a b h. h kind)) 0 (types.nodes t) (λ s is. inl tt)
-    (rest blob.bytes (answers_from got 0 blob.keys)) (rest blob.bytes (answers_from (some_of (kinds_of got)) 0 blob.keys)) (record { bytes = refl; refs = answers-alike got 0 blob.keys }) in
-    ap (λ n. next_by (slice_get blob.keys n) (read_with types t blob (some_of (kinds_of got)))) (length-map (kinds_of got) _ ∙ length-map got _) ∙ by-alike _ two isnt
+    (rest blob.bytes (answers_from got 0 blob.keys)) (rest blob.bytes (answers_from (some_of (kinds_of got)) 0 blob.keys))
+    (record { bytes = refl; refs = answers-alike got 0 blob.keys }) in
+    ap (λ n. next_by (slice_get blob.keys n) (read_with types t blob (some_of (kinds_of got)))) (length-map (kinds_of got) _ ∙ length-map got _)
+    ∙ by-alike _ two isnt
 
 pub asks-by-kinds : (types : Types) (t : ℕ) (blob : Blob) (got : List ArcRef) (kind : Kind) (key : ℕ) → next_of types t blob got ≡ asks kind key
     → after_kinds types t blob (kinds_of got) ≡ asks kind key
 asks-by-kinds types t blob got kind key is = next-alike types t blob got (λ own e. let f : reads own ≡ asks kind key = sym e ∙ is in cc) ∙ is
 
-pub faulty-by-kinds : (types : Types) (t : ℕ) (blob : Blob) (got : List ArcRef) (e : Error) → next_of types t blob got ≡ is_faulty e → after_kinds types t blob (kinds_of got) ≡ is_faulty e
+pub faulty-by-kinds : (types : Types) (t : ℕ) (blob : Blob) (got : List ArcRef) (e : Error) → next_of types t blob got ≡ is_faulty e
+    → after_kinds types t blob (kinds_of got) ≡ is_faulty e
 faulty-by-kinds types t blob got e is = next-alike types t blob got (λ own o. let f : reads own ≡ is_faulty e = sym o ∙ is in cc) ∙ is
 
 pub kinds-pushed : (got : List ArcRef) (r : ArcRef) → kinds_of (got ++ r ∷ []) ≡ kinds_of got ++ r.kind.0 ∷ []
@@ -75,16 +81,19 @@ at-place [] g back = refl
 at-place (x ∷ xs) g back = at-place xs g back
 
 -- what is looked up of references, the first of which were got: the first of those that are left is refused
-looked : (front back done : List ArcRef) (q : ArcRef) (more : List ArcRef) (keys : List ℕ) → kinds_of back ≡ kinds_of done → length keys ≡ length (done ++ q ∷ more)
+looked : (front back done : List ArcRef) (q : ArcRef) (more : List ArcRef) (keys : List ℕ) → kinds_of back ≡ kinds_of done → length keys
+    ≡ length (done ++ q ∷ more)
     → Looked look_kind (λ k. k) (answers_from (front ++ back) (length front) keys) (map kind_of_arc (done ++ q ∷ more)) (Err (Error.Storage q.kind.0))
 unfolding answers_from
-looked front [] [] q more (key ∷ keys) same few = not-looked _ _ _ _ _ (rw (slice_get_past (front ++ []) (length front) (omega (arith, length-append front []))) refl)
+looked front [] [] q more (key ∷ keys) same few = not-looked _ _ _ _ _ (rw (slice_get_past (front ++ []) (length front) (omega (arith, length-append front [])))
+    refl)
 looked front (g ∷ back) (d ∷ done) q more (key ∷ keys) same few =
     let one : g.kind.0 ≡ d.kind.0 = cc in
     let others : kinds_of back ≡ kinds_of done = cc in
     let all = map kind_of_arc (done ++ q ∷ more) in
     let tail = looked (front ++ g ∷ []) back done q more keys others (omega arith) in
-    let moved = subst (λ gs. Looked look_kind (λ k. k) (answers_from gs (length (front ++ g ∷ [])) keys) all (Err (Error.Storage q.kind.0))) (append_assoc front (g ∷ []) back) tail in
+    let moved = subst (λ gs. Looked look_kind (λ k. k) (answers_from gs (length (front ++ g ∷ [])) keys) all (Err (Error.Storage q.kind.0)))
+    (append_assoc front (g ∷ []) back) tail in
     one-looked _ _ _ _ _ (let there = at-place front g back in grind (arith, self-number))
     (subst (λ n. Looked look_kind (λ k. k) (answers_from (front ++ g ∷ back) n keys) all (Err (Error.Storage q.kind.0))) (length-append front (g ∷ [])) moved)
 looked front x1 x2 q more x4 same few = grind (arith, nat_tests)
@@ -109,33 +118,38 @@ record InPlace (got refs : List ArcRef) (g r : ArcRef) : Type 0 where
 abbrev own_look : ℕ → ArcRef → Result ArcRef Error
 own_look kind r = if r.kind.0 == kind then Ok r else Err Error.WrongKind
 
-kind-at : (got refs : List ArcRef) → kinds_of got ≡ kinds_of refs → (place : ℕ) (r : ArcRef) → slice_get refs place ≡ Some r → (g : ArcRef) × (slice_get got place ≡ Some g) × (g.kind.0 ≡ r.kind.0)
+kind-at : (got refs : List ArcRef) → kinds_of got ≡ kinds_of refs → (place : ℕ) (r : ArcRef) → slice_get refs place ≡ Some r → (g : ArcRef)
+    × (slice_get got place ≡ Some g) × (g.kind.0 ≡ r.kind.0)
 kind-at got [] same place r is = absurd (cc)
 kind-at [] (x ∷ refs) same place r is = absurd (cc)
 kind-at (g ∷ got) (x ∷ refs) same zero r is = (g, refl, cc)
 kind-at (g ∷ got) (x ∷ refs) same (suc place) r is = kind-at got refs (cc) place r is
 
 -- what was read in the one way was read in the other
-pub given-too : {A B X Y : Type 0} {E : Error → Error → Type 0} {T : List A → List B → Type 0} {V : X → Y → Type 0} {x : X} {after : Rest A} {first : Result (X × Rest A) Error} {second : Result (Y × Rest B) Error}
+pub given-too : {A B X Y : Type 0} {E : Error → Error → Type 0} {T : List A → List B → Type 0} {V : X → Y → Type 0} {x : X} {after : Rest A}
+    {first : Result (X × Rest A) Error} {second : Result (Y × Rest B) Error}
     → Out E T V first second → first ≡ Ok (x, after) → (y : Y) × (left : Rest B) × (second ≡ Ok (y, left)) × V x y
 given-too x0 e = grind (arith, nat_tests, both-given)
 
 -- What was got for a blob was asked for, one reference after another.
 pub data GotAsked (types : Types) (t : ℕ) (blob : Blob) : List ArcRef → Type 0 where
   none-got : (got : List ArcRef) → got ≡ [] → GotAsked types t blob got
-  one-got : (got more : List ArcRef) (r : ArcRef) (key : ℕ) → GotAsked types t blob got → next_of types t blob got ≡ asks r.kind key → more ≡ got ++ r ∷ [] → GotAsked types t blob more
+  one-got : (got more : List ArcRef) (r : ArcRef) (key : ℕ) → GotAsked types t blob got → next_of types t blob got ≡ asks r.kind key → more ≡ got ++ r ∷ []
+      → GotAsked types t blob more
 
 -- What each blob has got was asked for, and each blob but the root's was asked for by the one below it, through a reference that is read together with it.
 unfoldable pub FramesAsked : Types → List Frame → Type 0
 FramesAsked types [] = Unit {0}
 FramesAsked types (frame ∷ []) = GotAsked types frame.node_type frame.blob frame.got
 FramesAsked types (frame ∷ below ∷ rest) =
-    GotAsked types frame.node_type frame.blob frame.got × (is_eager frame.kind.0 ≡ true) × (next_in types below ≡ asks frame.kind frame.key) × FramesAsked types (below ∷ rest)
+    GotAsked types frame.node_type frame.blob frame.got × (is_eager frame.kind.0 ≡ true) × (next_in types below ≡ asks frame.kind frame.key)
+    × FramesAsked types (below ∷ rest)
 
 -- What comes next where the first of the form's references were got: it is read, and all were got, or it asks for one more.
 pub data Ahead (types : Types) (t : ℕ) (blob : Blob) (refs got : List ArcRef) : Type 0 where
   all-done : (own : Meaning ArcRef) → next_of types t blob got ≡ reads own → kinds_of got ≡ kinds_of refs → Ahead types t blob refs got
-  one-left : (done left : List ArcRef) (q : ArcRef) (key : ℕ) → refs ≡ done ++ q ∷ left → kinds_of got ≡ kinds_of done → slice_get blob.keys (length done) ≡ Some key
+  one-left : (done left : List ArcRef) (q : ArcRef) (key : ℕ) → refs ≡ done ++ q ∷ left → kinds_of got ≡ kinds_of done → slice_get blob.keys (length done)
+      ≡ Some key
       → next_of types t blob got ≡ asks q.kind key → Ahead types t blob refs got
 
 module _ (types : Types) (t : ℕ) (blob : Blob) (refs : List ArcRef) (f : IsFormOf types t blob refs) where
@@ -151,16 +165,22 @@ module _ (types : Types) (t : ℕ) (blob : Blob) (refs : List ArcRef) (f : IsFor
   unfolding read
   asks-next got done q more split same =
       let few : length blob.keys ≡ length (done ++ q ∷ more) = f.as_many ∙ ap length split in
-      let stops = subst (λ (rs : List ArcRef). Looked look_kind (λ k. k) (answers_from got 0 blob.keys) (map kind_of_arc rs) (Err (Error.Storage q.kind.0))) (sym split)
+      let stops = subst (λ (rs : List ArcRef). Looked look_kind (λ k. k) (answers_from got 0 blob.keys) (map kind_of_arc rs) (Err (Error.Storage q.kind.0)))
+      (sym split)
       (looked [] got done q more blob.keys same few) in
-      let stopped = form-again [] (keeps_forms kind_of_arc kind_of_arc (λ k. k) types.parts deepest f.shape f.own blob.bytes refs (λ a. refl) f.form) stops f.can in
+      let stopped = form-again [] (keeps_forms kind_of_arc kind_of_arc (λ k. k) types.parts deepest f.shape f.own blob.bytes refs (λ a. refl) f.form) stops
+      f.can in
       let refused : read (at 0 look_kind types.parts) f.shape (input got) ≡ Err (Error.Storage q.kind.0) = rw append-nil at stopped in
       let as_read = sym (renamed kind_of_arc answer_at 0 types.parts f.shape (input got)) ∙ refused in
       let first : read (handles_at 0 types.parts) f.shape (input got) ≡ Err (Error.Storage q.kind.0) = grind (arith, nat_tests) in
       let there = slice_get-get_or blob.keys (length done) 0 (let long = length-append done (q ∷ more) in omega arith) in
       let kind = λ (r : ArcRef). r.kind.0 in
-      let gotten : length got ≡ length done = sym (length-map got kind) ∙ ap length same ∙ length-map done kind in
-      (_, there, ap (λ r. next_by (slice_get blob.keys (length got)) r) (by-shape got ∙ first) ∙ ap (λ o. next_by o (Err (Error.Storage q.kind.0))) (ap (slice_get blob.keys) gotten ∙ there))
+      let gotten : length got ≡ length done = sym (length-map got kind) ∙ ap length same ∙ length-map done kind in (
+        _,
+        there,
+        ap (λ r. next_by (slice_get blob.keys (length got)) r) (by-shape got ∙ first)
+            ∙ ap (λ o. next_by o (Err (Error.Storage q.kind.0))) (ap (slice_get blob.keys) gotten ∙ there),
+      )
 
   module _ (got : List ArcRef) (same : kinds_of got ≡ kinds_of refs) where
     abbrev Answers : Answer → ArcRef → Type 0
@@ -173,7 +193,8 @@ module _ (types : Types) (t : ℕ) (blob : Blob) (refs : List ArcRef) (f : IsFor
         let all : AllTwo (λ r a. Answers a r) refs (answers_from got 0 blob.keys) = swap-two (answers-two Answers got 0 blob.keys refs f.as_many (λ i r is n at.
         let g = kind-at got refs same i r is in let here : n ≡ i = omega (arith, at) in
         subst (λ o. Answers (λ kind. answer_of o kind) r) (sym (ap (slice_get got) here ∙ g.1)) (grind (arith, both-looked-up, both-not)))) in
-        let par = read_par {E = one_cause} {F = ⊥} {T = AllTwo (λ r a. Answers a r)} {R = λ r g. InPlace got refs g r} own_look answer_at (each _ _ (λ kind r a h. h kind)) 0 f.shape (inr f.can) in
+        let par = read_par {E = one_cause} {F = ⊥} {T = AllTwo (λ r a. Answers a r)} {R = λ r g. InPlace got refs g r} own_look answer_at
+        (each _ _ (λ kind r a h. h kind)) 0 f.shape (inr f.can) in
         let whole : read (record { levels = 0; look = own_look; parts = types.parts }) f.shape (rest blob.bytes refs) ≡ Ok (f.own, rest [] []) =
         rw (append-nil, append-nil) at (read_again types.parts f.shape f.can 0 own_look kind_of_arc f.own blob.bytes [] refs refs []
         (looks-itself (λ r. let e = self-number r.kind.0 in rw e refl) refs) f.form) in
@@ -200,7 +221,8 @@ module _ (types : Types) (t : ℕ) (blob : Blob) (refs : List ArcRef) (f : IsFor
 abbrev pub AreApart : List ArcRef → Type 0
 AreApart got = (i j : ℕ) (r q : ArcRef) → slice_get got i ≡ Some r → slice_get got j ≡ Some q → r.handle.0 ≡ q.handle.0 → i ≡ j
 
-module _ (types : Types) (t : ℕ) (blob : Blob) (refs got : List ArcRef) (f : IsFormOf types t blob refs) (same : kinds_of got ≡ kinds_of refs) (apart : AreApart got) where
+module _ (types : Types) (t : ℕ) (blob : Blob) (refs got : List ArcRef) (f : IsFormOf types t blob refs) (same : kinds_of got ≡ kinds_of refs)
+    (apart : AreApart got) where
   -- where a handle was got, all that is named by it was one reference
   no-more : (q : ℕ) (r : ArcRef) (g : ArcRef) → InPlace got refs g r → g.handle.0 ≡ q → {xs ys : List ArcRef} → AllTwo (InPlace got refs) xs ys
       → times (λ (x : ArcRef). x.handle.0 == q) xs ≤ times (λ (y : ArcRef). y.handle.0 == r.handle.0) ys
@@ -225,7 +247,8 @@ module _ (types : Types) (t : ℕ) (blob : Blob) (refs got : List ArcRef) (f : I
 
 -- ---- nothing is said against references that are good and apart
 
-pub fine : (w : Core) (owner : Owner) (seen : List ℕ) (rs : List ArcRef) → ((r : ArcRef) → Among rs r → IsReference w owner r) → ((r : ArcRef) → Among rs r → is_in seen r.handle.0 ≡ false)
+pub fine : (w : Core) (owner : Owner) (seen : List ℕ) (rs : List ArcRef) → ((r : ArcRef) → Among rs r → IsReference w owner r)
+    → ((r : ArcRef) → Among rs r → is_in seen r.handle.0 ≡ false)
     → ((q : ℕ) → times (λ (r : ArcRef). r.handle.0 == q) rs ≤ 1) → references_fault w owner seen rs ≡ None
 unfolding references_fault is_in
 fine w owner seen [] good new once = refl
@@ -236,17 +259,22 @@ fine w owner seen (r ∷ rs) good new once =
     let b = sum_by-cons (λ (x : ArcRef). one (x.handle.0 == q.handle.0)) r rs in
     let c = at-most-sum (λ (x : ArcRef). one (x.handle.0 == q.handle.0)) rs q among in
     let d : one (q.handle.0 == q.handle.0) ≡ 1 = ap one (self-number q.handle.0) in
-    elim (cases_Bool (r.handle.0 == q.handle.0)) [ inl e ↦ absurd (let z : one (r.handle.0 == q.handle.0) ≡ 1 = ap one e in omega (arith, a, b, c, d, z)) | inr e ↦ rw (e, n) refl ])
+    elim (cases_Bool (r.handle.0 == q.handle.0)) [
+      | inl e ↦ absurd (let z : one (r.handle.0 == q.handle.0) ≡ 1 = ap one e in omega (arith, a, b, c, d, z))
+      | inr e ↦ rw (e, n) refl
+    ])
     (λ q. let a = once q in let b = sum_by-cons (λ (x : ArcRef). one (x.handle.0 == q)) r rs in omega (arith, a, b)) in
     let first : reference_fault w owner seen r ≡ None = let is = good r (zero, refl) in let isnt = new r (zero, refl) in grind (arith, self-number) in
     rw first rest
 
-pub read-gives : (key : Option ℕ) (r : Result (Meaning ArcRef × Rest Answer) Error) (own : Meaning ArcRef) → next_by key r ≡ reads own → (after : Rest Answer) × (r ≡ Ok (own, after))
+pub read-gives : (key : Option ℕ) (r : Result (Meaning ArcRef × Rest Answer) Error) (own : Meaning ArcRef) → next_by key r ≡ reads own → (after : Rest Answer)
+    × (r ≡ Ok (own, after))
 read-gives key (Ok (m, after)) own is = let same : m ≡ own = cc in (after, rw same refl)
 read-gives key (Err e) own is = absurd (grind (arith, nat_tests))
 
 -- the key that a blob asks for next is the next of its keys
-pub asks_next : (types : Types) (frame : Frame) (kind : Kind) (key : ℕ) → next_in types frame ≡ asks kind key → slice_get frame.blob.keys (length frame.got) ≡ Some key
+pub asks_next : (types : Types) (frame : Frame) (kind : Kind) (key : ℕ) → next_in types frame ≡ asks kind key → slice_get frame.blob.keys (length frame.got)
+    ≡ Some key
 asks_next types frame kind key is = grind (arith, nat_tests)
 
 -- ---- what is answered, place by place
@@ -271,20 +299,25 @@ module _ {types : Types} {stored : ℕ → Option Blob} {trees : ℕ → Tree} {
   answer-of x0 key h kind = grind (arith, nat_tests, first-not, both-looked-up, same-number)
 
   -- what was read leads to a tree, to which the bare keys lead too
-  leads-follows : {x : Meaning ArcRef} {m : Meaning KeyRef} → Along ⊥ (Found types stored trees got) x m → (a : Meaning ⊥) × LeadsTo trees x a × IsFollowed (ReadsAs stored types) m a
+  leads-follows : {x : Meaning ArcRef} {m : Meaning KeyRef} → Along ⊥ (Found types stored trees got) x m → (a : Meaning ⊥) × LeadsTo trees x a
+      × IsFollowed (ReadsAs stored types) m a
   leads-follows (number-along n) = (number n, number-leads n, number-followed n)
   leads-follows (integer-along z) = (integer z, integer-leads z, integer-followed z)
   leads-follows (text-along t) = (text t, text-leads t, text-followed t)
   leads-follows (pattern-along t) = (pattern t, pattern-leads t, pattern-followed t)
   leads-follows none-along = (none, none-leads, none-followed)
-  leads-follows (pair-along x y a b h g) = let p = leads-follows h in let q = leads-follows g in (pair p.0 q.0, pair-leads x y p.0 q.0 p.1 q.1, pair-followed a b p.0 q.0 p.2 q.2)
+  leads-follows (pair-along x y a b h g) = let p = leads-follows h in let q =
+      leads-follows g in (pair p.0 q.0, pair-leads x y p.0 q.0 p.1 q.1, pair-followed a b p.0 q.0 p.2 q.2)
   leads-follows (variant-along n x a h) = let p = leads-follows h in (variant n p.0, variant-leads n x p.0 p.1, variant-followed n a p.0 p.2)
   leads-follows (reference-along r k f) =
       let t = trees r.node.0 in let read = f.tree_read in
       let typed : t.type ≡ type_of k.kind = read.typed ∙ ap type_of (sym f.kind) in
       let own = subst (λ n. ReadsAs stored types n k.key read.reads.own) typed read.reads.reads in
-      let led = reference-followed k read.reads.own t.meaning own read.reads.follows in
-      (followed r.kind.0 t.meaning, reference-leads r t.meaning read.typed refl, subst (λ n. IsFollowed (ReadsAs stored types) (reference k) (followed n t.meaning)) f.kind led)
+      let led = reference-followed k read.reads.own t.meaning own read.reads.follows in (
+        followed r.kind.0 t.meaning,
+        reference-leads r t.meaning read.typed refl,
+        subst (λ n. IsFollowed (ReadsAs stored types) (reference k) (followed n t.meaning)) f.kind led,
+      )
   leads-follows (followed-along kind x a n h) = absurd n
 
 -- ---- a value's references are among those of its meaning
@@ -305,8 +338,13 @@ module _ {N : Type 0} {v : Values N} (lawful : IsLawful v) {stored : ℕ → Opt
   decodes frame x readable fits decoded =
       let given = read-gives _ _ decoded.own decoded.read in
       let all = answers-two (AnswersFor v.types stored trees frame.got) frame.got 0 frame.blob.keys frame.blob.keys refl (λ i key is n at.
-      answer-of (slice_get frame.got n) key (λ r there. ((n, there), let same : n ≡ i = omega (arith, at) in fits.got i key r (subst (λ k. slice_get frame.got k ≡ Some r) same there) is))) in
-      let both = typed_par {E = any_cause} {F = ⊥} {T = AllTwo (AnswersFor v.types stored trees frame.got)} {R = Found v.types stored trees frame.got} {parts = v.types.parts} answer_at
+      answer-of (slice_get frame.got n) key (λ r there. (
+        (n, there),
+        let same : n ≡ i = omega (arith, at) in
+            fits.got i key r (subst (λ k. slice_get frame.got k ≡ Some r) same there) is,
+      ))) in
+      let both = typed_par {E = any_cause} {F = ⊥} {T = AllTwo (AnswersFor v.types stored trees frame.got)} {R = Found v.types stored trees frame.got}
+      {parts = v.types.parts} answer_at
       (λ kind key. Ok (key_ref kind key)) (each _ _ (λ kind a key h. h kind)) 0 (v.types.nodes frame.node_type) (λ s is. inr (readable s is))
       (rest frame.blob.bytes (answers_from frame.got 0 frame.blob.keys)) (rest_of frame.blob) (record { bytes = refl; refs = all }) in
       let two = given-too both given.1 in
@@ -331,7 +369,8 @@ among-right (x ∷ xs) ys i r is = let a = among-right xs ys i r is in (suc a.0,
 
 module _ {N E : Type 0} {v : Values N} {s : PagerState N E} {trees : ℕ → Tree} where
   -- a meaning that leads to a tree stands for it where the nodes that it refers to do
-  pub leads-stands : {x : Meaning ArcRef} {a : Meaning ⊥} → LeadsTo trees x a → ((r : ArcRef) → Among (references_in x) r → NodeStands v s r.node.0 (trees r.node.0)) → MeaningStands v s x a
+  pub leads-stands : {x : Meaning ArcRef} {a : Meaning ⊥} → LeadsTo trees x a
+      → ((r : ArcRef) → Among (references_in x) r → NodeStands v s r.node.0 (trees r.node.0)) → MeaningStands v s x a
   unfolding references_in
   leads-stands (pair-leads x y a b f g) h =
       let left = leads-stands f (λ r among. h r (among-left (references_in x) (references_in y) among.0 r among.1)) in
@@ -339,7 +378,8 @@ module _ {N E : Type 0} {v : Values N} {s : PagerState N E} {trees : ℕ → Tre
       pair-stands x y a b left right
   leads-stands (variant-leads i x a f) h = variant-stands i x a (leads-stands f h)
   leads-stands (followed-leads kind x a n f) h = followed-stands kind x a (leads-stands f h)
-  leads-stands (reference-leads r a typed meant) h = reference-stands r a (subst (λ (t : Tree). NodeStands v s r.node.0 t) (tree_is _ _ _ _ typed meant) (h r (zero, refl)))
+  leads-stands (reference-leads r a typed meant) h = reference-stands r a
+      (subst (λ (t : Tree). NodeStands v s r.node.0 t) (tree_is _ _ _ _ typed meant) (h r (zero, refl)))
   leads-stands l h = search (number-stands, integer-stands, text-stands, pattern-stands, none-stands)
 
 -- a value that was read of a blob stands for each tree of its type that the key reads as, where the nodes of its references stand for theirs
@@ -351,4 +391,9 @@ read_stands {v = v} lawful s trees frame x t readable fits decoded nodes typed r
     let read = decodes lawful frame x readable fits decoded in let led = read.leads in
     let same : read.t ≡ t = one_tree s.core.stored v.types frame.key read.t t (read.typed ∙ sym typed) read.reads reads_tree in
     let meant = leads-stands led.leads (λ r among. nodes r (meant-refs _ _ (λ is. sym (lawful.refers x led.own led.means is)) r among)) in
-    record { own = led.own; typed = led.typed ∙ ap (λ (z : Tree). z.type) same; means = led.means; stands = subst (λ (z : Tree). MeaningStands v s led.own z.meaning) same meant }
+    record {
+      own = led.own;
+      typed = led.typed ∙ ap (λ (z : Tree). z.type) same;
+      means = led.means;
+      stands = subst (λ (z : Tree). MeaningStands v s led.own z.meaning) same meant;
+    }

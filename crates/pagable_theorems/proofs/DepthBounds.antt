@@ -34,22 +34,27 @@ record Part (trees : ℕ → Tree) (m : Meaning ⊥) (r : ArcRef) : Type 0 where
   small : suc (size (trees r.node.0).meaning) ≤ size m
 
 module _ (trees : ℕ → Tree) (rs : List ArcRef) (whole : Meaning ⊥) where
-  parts-along : {own : Meaning ArcRef} {n : Meaning ⊥} → FollowsTo trees rs own n → height n ≤ height whole → deepest_path n ≤ deepest_path whole → size n ≤ size whole
+  parts-along : {own : Meaning ArcRef} {n : Meaning ⊥} → FollowsTo trees rs own n → height n ≤ height whole → deepest_path n ≤ deepest_path whole
+      → size n ≤ size whole
       → Along ⊥ (λ r other. (other ≡ r) × Part trees whole r) own own
   unfolding height deepest_path size
-  parts-along (pair-leads x y a b f g) h d s = pair-along _ _ _ _ (parts-along f (omega arith) (omega arith) (omega arith)) (parts-along g (omega arith) (omega arith) (omega arith))
+  parts-along (pair-leads x y a b f g) h d s = pair-along _ _ _ _ (parts-along f (omega arith) (omega arith) (omega arith))
+      (parts-along g (omega arith) (omega arith) (omega arith))
   parts-along (variant-leads i x a f) h d s = variant-along _ _ _ (parts-along f h d s)
   parts-along (reference-leads r a among is) h d s = grind (arith, reference-along, size)
   parts-along (followed-leads kind x a none f) h d s = absurd none
   parts-along x0 h d s = grind (arith, nat_tests, number-along, integer-along, text-along, pattern-along, none-along)
 
-part-of : {types : Types} {g : Ground} {n : ℕ} {written : Written} → WroteTree types g n written → (r : ArcRef) → Among written.references r → Part g.trees (g.trees n).meaning r
+part-of : {types : Types} {g : Ground} {n : ℕ} {written : Written} → WroteTree types g n written → (r : ArcRef) → Among written.references r
+    → Part g.trees (g.trees n).meaning r
 part-of {g = g} {n} {written} w r among =
-    let p = form-along (λ x y h. ap kind_of_arc h.0) w.form (parts-along g.trees written.references (g.trees n).meaning w.follows (omega arith) (omega arith) (omega arith)) in
+    let p = form-along (λ x y h. ap kind_of_arc h.0) w.form (parts-along g.trees written.references (g.trees n).meaning w.follows (omega arith) (omega arith)
+    (omega arith)) in
     (each-two p.each r among).1.1
 
 -- a height and a depth go up with the place
-climbs : (e : Bool) (place h d top deep : ℕ) → (if e then h + 1 else 0) ≤ top → d ≤ deep → h ≤ d → longest_path < max ((if e then place + 1 else 0) + h) d → longest_path < max (place + top) deep
+climbs : (e : Bool) (place h d top deep : ℕ) → (if e then h + 1 else 0) ≤ top → d ≤ deep → h ≤ d → longest_path < max ((if e then place + 1 else 0) + h) d
+    → longest_path < max (place + top) deep
 climbs x0 place h d top deep le few within long = grind (arith, nat_tests)
 
 module _ {N E : Type 0} (v : Values N) (s : MachineState N E) (trees : ℕ → Tree) (fit : WorkFits v s trees) (t : ℕ) where
@@ -63,10 +68,12 @@ module _ {N E : Type 0} (v : Values N) (s : MachineState N E) (trees : ℕ → T
     pub stands : BlobStands v (ground_of s trees) shelf i.node.0 written key height
 
   pub known : (i : Identity) (key height : ℕ) → IsPublished shelf i key height → Known i key height
-  known i key height p = let f = fit.slots t i p.slot p.claimed in let b = f.publishes key height p.known in record { written = b.0; typed = f.typed; stands = b.2 }
+  known i key height p = let f = fit.slots t i p.slot p.claimed in let b =
+      f.publishes key height p.known in record { written = b.0; typed = f.typed; stands = b.2 }
 
   -- a height that references add is no more than that of the tree
-  attained-height : (n : ℕ) (i : Identity) (h : ℕ) → size (trees i.node.0).meaning ≤ n → (written : Written) → WroteTree v.types (ground_of s trees) i.node.0 written
+  attained-height : (n : ℕ) (i : Identity) (h : ℕ) → size (trees i.node.0).meaning ≤ n → (written : Written)
+      → WroteTree v.types (ground_of s trees) i.node.0 written
       → IsAttained shelf h written.references → h ≤ height (trees i.node.0).meaning
   attained-height n i h few written w (inl is) = omega arith
   attained-height zero i h few written w (inr a) = let part = part-of w a.r a.among in absurd (omega arith)
@@ -86,7 +93,8 @@ module _ {N E : Type 0} (v : Values N) (s : MachineState N E) (trees : ℕ → T
       let part = part-of (f.writes o.written.references claim.written_so).1 r (next-among shelf o.written.references o.keys r more e) in
       let m = (trees r.node.0).meaning in
       let above_it = (trees o.reference.node.0).meaning in
-      let up = climbs (is_eager r.kind.0) o.place (height m) (deepest_path m) (height above_it) (deepest_path above_it) part.top part.deep (height-within m) long in
+      let up = climbs (is_eager r.kind.0) o.place (height m) (deepest_path m) (height above_it) (deepest_path above_it) part.top part.deep
+      (height-within m) long in
       leads-down n task o.reference below expects waits all (subst (λ q. longest_path < max (q + height above_it) (deepest_path above_it)) place up)
   leads-down n task r (to_item written keys ∷ below) (more, e) (is, known) all long =
       let m = (trees r.node.0).meaning in
@@ -94,7 +102,8 @@ module _ {N E : Type 0} (v : Values N) (s : MachineState N E) (trees : ℕ → T
   leads-down n x1 r x3 x4 x5 x6 long = grind (arith, nat_tests, height-within)
 
   -- a worker comes upon no claim of its own that it is at: a tree is no part of itself
-  not-below : (n : ℕ) (task : Task) (q : Identity) (r : ArcRef) (below : List Todo) → size (trees q.node.0).meaning ≤ size (trees r.node.0).meaning → Expects task r below → Waits shelf task below
+  not-below : (n : ℕ) (task : Task) (q : Identity) (r : ArcRef) (below : List Todo) → size (trees q.node.0).meaning ≤ size (trees r.node.0).meaning
+      → Expects task r below → Waits shelf task below
       → AllStand shelf n task below → is_open_in q below ≡ true → ⊥
   unfolding Waits
   not-below n task q r (to_finish o ∷ below) few (more, e) (known, attained, place, reach, expects, waits) (stands, apart, all) is =
@@ -120,7 +129,8 @@ module _ {N E : Type 0} (v : Values N) (s : MachineState N E) (trees : ℕ → T
         let few = attained-height (size (trees (identity_of r).node.0).meaning) (identity_of r) h (omega arith) k.written k.stands.wrote k.stands.attained in
         inl (grind (arith, nat_tests, leads-down))
     | inr (inl (none_there, is, inr (inr (slot, still, back)))) ↦
-        let other : slot.worker ≢ n = λ own. not-below n task (identity_of r) r below (omega arith) expects waits all (covers (identity_of r) slot still.claimed own still.no_result_yet) in
+        let other : slot.worker ≢ n = λ own. not-below n task (identity_of r) r below (omega arith) expects waits all
+        (covers (identity_of r) slot still.claimed own still.no_result_yet) in
         inr (record { slot = slot; still = still; another = other; back = back })
     | inr (inr (inl spent)) ↦ absurd (cc)
     | inr (inr (inr memory)) ↦ absurd (cc)
@@ -129,10 +139,16 @@ module _ {N E : Type 0} (v : Values N) (s : MachineState N E) (trees : ℕ → T
   -- ---- where a key is known, no path from its tree is too long
 
   -- what a meaning's references lead to is low, so the meaning is: its height is within this, and no path in it is too long
-  shallow : (limit : ℕ) (rs : List ArcRef) → limit ≤ longest_path → AllLow shelf limit rs → {own : Meaning ArcRef} {n : Meaning ⊥} → FollowsTo trees rs own n → (m : Meaning ⊥) → n ≡ m
+  shallow : (limit : ℕ) (rs : List ArcRef) → limit ≤ longest_path → AllLow shelf limit rs → {own : Meaning ArcRef} {n : Meaning ⊥} → FollowsTo trees rs own n
+      → (m : Meaning ⊥) → n ≡ m
       → (height m ≤ limit) × (deepest_path m ≤ longest_path)
   unfolding height deepest_path
-  shallow limit rs le lows (pair-leads x y a b h g) (pair c d) e = grind (arith, nat_tests, shallow limit rs le lows h c (cc), shallow limit rs le lows g d (cc))
+  shallow limit rs le lows (pair-leads x y a b h g) (pair c d) e = grind (
+    arith,
+    nat_tests,
+    shallow limit rs le lows h c (cc),
+    shallow limit rs le lows g d (cc),
+  )
   shallow limit rs le lows (variant-leads i x a h) (variant j c) e = grind (arith, nat_tests, shallow limit rs le lows h c (cc))
   shallow limit rs le lows (reference-leads r a among is) (followed kind c) e =
       let l = lows r among in
@@ -145,8 +161,10 @@ module _ {N E : Type 0} (v : Values N) (s : MachineState N E) (trees : ℕ → T
   shallow limit rs le lows follows x5 e = grind (arith, nat_tests)
 
   -- so is the tree of an identity whose key is known
-  shallow-tree : (i : Identity) (key h : ℕ) → IsPublished shelf i key h → (height (trees i.node.0).meaning ≤ h) × (deepest_path (trees i.node.0).meaning ≤ longest_path)
-  shallow-tree i key h p = let k = known i key h p in shallow h k.written.references k.stands.within k.stands.low k.stands.wrote.follows (trees i.node.0).meaning refl
+  shallow-tree : (i : Identity) (key h : ℕ) → IsPublished shelf i key h → (height (trees i.node.0).meaning ≤ h)
+      × (deepest_path (trees i.node.0).meaning ≤ longest_path)
+  shallow-tree i key h p = let k = known i key h p in shallow h k.written.references k.stands.within k.stands.low k.stands.wrote.follows
+      (trees i.node.0).meaning refl
 
   -- ---- and the tree has a form, and so has each that it reaches
 
@@ -157,7 +175,8 @@ module _ {N E : Type 0} (v : Values N) (s : MachineState N E) (trees : ℕ → T
       formless.none_within k.written.bytes kids (subst (λ x. TreeForm v.types x (trees i.node.0).meaning k.written.bytes kids) same (tree-form k.stands.wrote))
 
   -- and so has each that it reaches
-  below-has-form : {i : Identity} {key height : ℕ} (j : Known i key height) {own : Meaning ArcRef} {m n : Meaning ⊥} {u : Tree} → Reaches n u → FollowsTo trees j.written.references own m
+  below-has-form : {i : Identity} {key height : ℕ} (j : Known i key height) {own : Meaning ArcRef} {m n : Meaning ⊥} {u : Tree} → Reaches n u
+      → FollowsTo trees j.written.references own m
       → n ≡ m → HasNoForm v.types u → ⊥
   below-has-form j (refers kind b) (reference-leads r a among is) e formless =
       let p = known-of shelf j.written.references j.stands.keys j.stands.known r among in
@@ -189,16 +208,20 @@ module _ {N E : Type 0} (v : Values N) (s : MachineState N E) (trees : ℕ → T
   )
   task-is-fine (of_entry h i) key (top, p) = (λ long. let d = (shallow-tree i key top p).1 in absurd (omega arith), has-forms i key top p)
 
-module _ {N B W E : Type 0} (m : Seen N B W) (s s' : MachineState N E) (trees trees' : ℕ → Tree) (fit : WorkFits m.values s trees) (work : StandsIn (world_of s)) where
-  pub key-is-shallow : (event : Event N B W) (reply : EventReply N B W) → Happens m (world_of s) event reply (world_of s') → KeyIsShallow m.values s trees event reply s' trees'
+module _ {N B W E : Type 0} (m : Seen N B W) (s s' : MachineState N E) (trees trees' : ℕ → Tree) (fit : WorkFits m.values s trees)
+    (work : StandsIn (world_of s)) where
+  pub key-is-shallow : (event : Event N B W) (reply : EventReply N B W) → Happens m (world_of s) event reply (world_of s')
+      → KeyIsShallow m.values s trees event reply s' trees'
   key-is-shallow (Event.WorkerStep n) (EventReply.WorkerMoved (Ok reply)) is = λ walking key there e.
       let w = is.moves in
-      let a = answered m n.0 (ground_of s trees) w.walking.task (site_of (world_of s) w.walking) w.after w.walking.todo reply.action w.does.does (fit.walks n.0 w.walking w.at) key (sym w.answers ∙ e) in
+      let a = answered m n.0 (ground_of s trees) w.walking.task (site_of (world_of s) w.walking) w.after w.walking.todo reply.action w.does.does
+      (fit.walks n.0 w.walking w.at) key (sym w.answers ∙ e) in
       let fine = task-is-fine m.values s trees fit w.walking.table w.walking.task key a.0 in grind (arith, nat_tests, same_some)
   key-is-shallow event reply is = tt
 
   -- what a worker answers that leads down so, and met no other refusal
-  pub depth-is-told : (event : Event N B W) (reply : EventReply N B W) → Happens m (world_of s) event reply (world_of s') → KeyIsShallow m.values s trees event reply s' trees'
+  pub depth-is-told : (event : Event N B W) (reply : EventReply N B W) → Happens m (world_of s) event reply (world_of s')
+      → KeyIsShallow m.values s trees event reply s' trees'
       → DepthIsTold m s trees event reply s' trees'
   depth-is-told (Event.WorkerStep n) (EventReply.WorkerMoved (Ok reply)) is shallow = λ start moments walking answer whole idle chain ends there e alone deep.
       let w = is.moves in
@@ -209,7 +232,8 @@ module _ {N B W E : Type 0} (m : Seen N B W) (s s' : MachineState N E) (trees tr
       of _ _ answer alone e met (λ key k.
       let fine = shallow walking key there k in elim deep [ inl long ↦ fine.0 long | inr formless ↦ fine.1 formless ])
     where
-      of : (shelf : Shelf) (steps : List (Action W)) (answer : WorkerAnswer) → MetDepthAlone steps → reply.answer ≡ Some answer → IsMetFailure shelf n.0 steps answer
+      of : (shelf : Shelf) (steps : List (Action W)) (answer : WorkerAnswer) → MetDepthAlone steps → reply.answer ≡ Some answer
+          → IsMetFailure shelf n.0 steps answer
           → ((key : ℕ) → ¬ (reply.answer ≡ Some (WorkerAnswer.Key key))) → answer ≡ WorkerAnswer.Failed Error.TooDeep
       of _ steps (WorkerAnswer.Key key) alone e met none = absurd (none key e)
       of _ steps (WorkerAnswer.Failed f) alone e (step, among, is) none = ap WorkerAnswer.Failed (alone.0 step f among is)
@@ -220,14 +244,16 @@ module _ {N B W E : Type 0} (m : Seen N B W) (s s' : MachineState N E) (trees tr
     abbrev site : Site
     site = site_of (world_of s) walking
 
-    of-claim : (after : Site) (todo : List Todo) (i : Identity) → Does m n site todo (Action.Claim i (Err Error.TooDeep)) after → AllStand site.shelf n walking.task todo → Covers site.shelf n todo
+    of-claim : (after : Site) (todo : List Todo) (i : Identity) → Does m n site todo (Action.Claim i (Err Error.TooDeep)) after
+        → AllStand site.shelf n walking.task todo → Covers site.shelf n todo
         → Walks m.values (ground_of s trees) site.shelf walking.task todo → IsTooDeepTask trees walking.task ⊎ WaitsForAsker site.shelf n i
     of-claim after (to_start r place ∷ below) i (is, c) (stands, apart, all) covers (at, (expects, waits)) =
         subst (λ (j : Identity). IsTooDeepTask trees walking.task ⊎ WaitsForAsker site.shelf n j) (sym is)
         (claim-deep m.values s trees fit walking.table n walking.task s.pager.core walking.todo r place below after c expects waits all covers at)
     of-claim after todo i does all covers walks = absurd does
 
-  pub claim-is-deep : (event : Event N B W) (reply : EventReply N B W) → Happens m (world_of s) event reply (world_of s') → ClaimIsDeep s trees event reply s' trees'
+  pub claim-is-deep : (event : Event N B W) (reply : EventReply N B W) → Happens m (world_of s) event reply (world_of s')
+      → ClaimIsDeep s trees event reply s' trees'
   claim-is-deep x0 x1 is = grind (arith, nat_tests, same_some, of-claim)
 
 module _ {N B W E : Type 0} (m : Seen N B W) (lawful : IsLawful m.values) (P : Fact N E B W) where

@@ -25,7 +25,8 @@ module _ {A : Type 0} where
       let whole = read_again parts s can 0 (λ kind a. Ok a) kind_of m b [] k k [] (looks-itself (λ a. refl) k) f in
       let par = read_par {E = one_cause} {F = ⊥} {T = AllTwo (λ a c. Among k a)} {R = λ a c. Among k a} (λ kind a. Ok a) (λ kind a. Ok a)
       (each _ _ (λ kind a c s. both-looked-up a c s)) 0 s (inr can) in
-      let (n, left, is, along) = given-too (par.out (rest b k) (rest b k) (record { bytes = refl; refs = each-among (λ a. Among k a) k (λ a among. among) })) (rw (append-nil, append-nil) at whole) in
+      let (n, left, is, along) = given-too (par.out (rest b k) (rest b k) (record { bytes = refl; refs = each-among (λ a. Among k a) k (λ a among. among) }))
+      (rw (append-nil, append-nil) at whole) in
       (n, along)
 
 -- ---- a node stands for one tree of its type
@@ -36,7 +37,8 @@ module _ {N E : Type 0} {v : Values N} {s : PagerState N E} (settled : HoldsSett
     one-node (here n x own t held typed means stands fits) (here n2 y own2 u held2 typed2 means2 stands2 fits2) e =
         let same : y ≡ x = same_some _ _ (sym held2 ∙ held) in
         one-meaning stands stands2 (sym (settled n x held own own2 means (subst (λ z. v.means z own2) same means2)))
-    one-node (away n key t none_there keyed fits) (away n2 key2 u none2 keyed2 fits2) e = ap (λ (z : Tree). z.meaning) (one_tree s.core.stored v.types key t u e (fits key keyed) (fits2 key keyed))
+    one-node (away n key t none_there keyed fits) (away n2 key2 u none2 keyed2 fits2) e =
+        ap (λ (z : Tree). z.meaning) (one_tree s.core.stored v.types key t u e (fits key keyed) (fits2 key keyed))
     one-node (here n x own t held typed means stands fits) (away n2 key2 u none2 keyed2 fits2) e = absurd (cc)
     one-node (away n key t none_there keyed fits) (here n2 y own2 u held2 typed2 means2 stands2 fits2) e = absurd (cc)
 
@@ -58,12 +60,14 @@ module _ {w : Core} (whole : HandlesAreWhole w) (n : ℕ) where
   pub given-of : {t : ℕ} → type_at w n ≡ Some t → (0 < held n w.rows) × (n ≤ w.last.node)
   given-of {t} is = let there : is_some (w.cells n) ≡ true = grind arith in (held-of there, (whole.nodes_numbered n there).1)
 
-rows-once : (q : ℕ) (rows : List HandleRow) → ((i j : ℕ) (a b : HandleRow) → i < j → slice_get rows i ≡ Some a → slice_get rows j ≡ Some b → a.number.0 < b.number.0) → times (is_handle q) rows ≤ 1
+rows-once : (q : ℕ) (rows : List HandleRow) → ((i j : ℕ) (a b : HandleRow) → i < j → slice_get rows i ≡ Some a → slice_get rows j ≡ Some b
+    → a.number.0 < b.number.0) → times (is_handle q) rows ≤ 1
 rows-once q [] apart = omega arith
 rows-once q (h ∷ hs) apart =
     let rest = rows-once q hs (λ i j a b lt x y. apart (suc i) (suc j) a b (omega (arith, lt)) x y) in
     let sum = sum_by-cons (λ (x : HandleRow). one (is_handle q x)) h hs in
-    let off : h.number.0 ≡ q → times (is_handle q) hs ≡ 0 = λ same. sum-zero (λ x. one (is_handle q x)) hs (λ x (i, there). let lt = apart 0 (suc i) h x (omega arith) refl there in grind (arith, nat_tests, same-number)) in
+    let off : h.number.0 ≡ q → times (is_handle q) hs ≡ 0 = λ same. sum-zero (λ x. one (is_handle q x)) hs
+    (λ x (i, there). let lt = apart 0 (suc i) h x (omega arith) refl there in grind (arith, nat_tests, same-number)) in
     grind (arith, nat_tests, one, same-number)
 
 pub one-less : (a b : Bool) → one (a && b) ≤ one a
@@ -91,18 +95,22 @@ leads-on (reference-leads r a p meant) h = let q = h r (zero, refl) p in referen
 leads-on l h = search (number-leads, integer-leads, text-leads, pattern-leads, none-leads)
 
 -- what it stands for it leads to, where what the node of each reference stands for is the node's tree
-pub stands-leads : {N E : Type 0} {v : Values N} {s : PagerState N E} {trees : ℕ → Tree} {F : Type 0} {P : ArcRef → Type 0} {R : ArcRef → ArcRef → Type 0} {x n : Meaning ArcRef} {a : Meaning ⊥}
+pub stands-leads : {N E : Type 0} {v : Values N} {s : PagerState N E} {trees : ℕ → Tree} {F : Type 0} {P : ArcRef → Type 0} {R : ArcRef → ArcRef → Type 0}
+    {x n : Meaning ArcRef} {a : Meaning ⊥}
     → MeaningStands v s x a → Along F R x n
-    → ((r : ArcRef) → Among (references_in x) r → (c : ArcRef) → R r c → (b : Meaning ⊥) → NodeStands v s r.node.0 (tree (type_of r.kind.0) b) → P r × ((trees r.node.0).meaning ≡ b))
+    → ((r : ArcRef) → Among (references_in x) r → (c : ArcRef) → R r c → (b : Meaning ⊥) → NodeStands v s r.node.0 (tree (type_of r.kind.0) b) → P r
+    × ((trees r.node.0).meaning ≡ b))
     → LeadsBy F P trees x a
 unfolding references_in
-stands-leads (pair-stands x y a b f g) (pair-along x2 y2 a2 b2 k l) h = let p = halves (references_in x) (references_in y) h in pair-leads x y a b (stands-leads f k p.0) (stands-leads g l p.1)
+stands-leads (pair-stands x y a b f g) (pair-along x2 y2 a2 b2 k l) h = let p =
+    halves (references_in x) (references_in y) h in pair-leads x y a b (stands-leads f k p.0) (stands-leads g l p.1)
 stands-leads (variant-stands i x a f) (variant-along j x2 a2 k) h = variant-leads i x a (stands-leads f k h)
 stands-leads (followed-stands i x a f) (followed-along j x2 a2 n k) h = followed-leads i x a n (stands-leads f k h)
 stands-leads (reference-stands r a node) (reference-along r2 c same) h = let is = h r (zero, refl) c same a node in reference-leads r a is.0 is.1
 stands-leads f k h = search (number-leads, integer-leads, text-leads, pattern-leads, none-leads)
 
-module _ {N E : Type 0} {v : Values N} {s : PagerState N E} {trees : ℕ → Tree} (represents : Represents v s trees) (whole : WellFormed v s) (settled : HoldsSettled v s)
+module _ {N E : Type 0} {v : Values N} {s : PagerState N E} {trees : ℕ → Tree} (represents : Represents v s trees) (whole : WellFormed v s)
+    (settled : HoldsSettled v s)
     (lawful : IsLawful v) where
   refers : (n : ℕ) (x : N) (r : ArcRef) → s.values n ≡ Some x → Among (v.references x) r
       → (r.node.0 ≤ s.core.last.node) × ((b : Meaning ⊥) → NodeStands v s r.node.0 (tree (type_of r.kind.0) b) → (trees r.node.0).meaning ≡ b)
@@ -116,15 +124,22 @@ module _ {N E : Type 0} {v : Values N} {s : PagerState N E} {trees : ℕ → Tre
   wrote-of n written t readable is (here n2 x own t2 there typed means stands fits) w =
       let same : w.x ≡ x = same_some _ _ (sym w.held ∙ there) in
       let own_is : own ≡ w.form.own = settled n w.x w.held w.form.own own w.form.means (subst (λ z. v.means z own) (sym same) means) in
-      let meant : MeaningStands v s w.form.own (trees n).meaning = subst (λ (z : Tree). MeaningStands v s w.form.own z.meaning) is (subst (λ m. MeaningStands v s m t.meaning) own_is stands) in
+      let meant : MeaningStands v s w.form.own (trees n).meaning = subst (λ (z : Tree). MeaningStands v s w.form.own z.meaning) is
+      (subst (λ m. MeaningStands v s m t.meaning) own_is stands) in
       let shape_is : v.types.nodes (trees n).type ≡ Some w.form.shape = rw (← is, ← typed, ← same) w.form.is in
-      let of-value : (r : ArcRef) → Among written.references r → Among (v.references w.x) r = λ r among. subst (λ (rs : List ArcRef). Among rs r) w.listed among in
+      let of-value : (r : ArcRef) → Among written.references r → Among (v.references w.x) r =
+      λ r among. subst (λ (rs : List ArcRef). Among rs r) w.listed among in
       let alone = references-among (readable w.form.shape shape_is) w.form.form in
       let follows : FollowsTo trees written.references w.form.own (trees n).meaning =
       stands-leads meant alone.1 (λ r own c among b stands. (among, (refers n w.x r w.held (of-value r among)).1 b stands)) in
       let given : (r : ArcRef) → Among written.references r → r.node.0 ≤ s.core.last.node = λ r among. (refers n w.x r w.held (of-value r among)).0 in
       let once : (q : ℕ) → times (λ (r : ArcRef). r.handle.0 == q) (references_in w.form.own) ≤ 1 =
-      λ q. omega (arith, lawful.refers w.x w.form.own w.form.means (λ r. r.handle.0 == q), whole.inside n w.x q w.held, owned-once whole.whole.handles (owner_value n) q) in
+      λ q. omega (
+        arith,
+        lawful.refers w.x w.form.own w.form.means (λ r. r.handle.0 == q),
+        whole.inside n w.x q w.held,
+        owned-once whole.whole.handles (owner_value n) q,
+      ) in
       search (shape_is, readable, w.form.form, follows, given, once)
   wrote-of n written t readable is (away n2 key t2 none_there keyed fits) w = let f = w.held in absurd (cc)
 
@@ -173,11 +188,13 @@ module _ {N : Type 0} {v : Values N} {g : Ground} {shelf : Shelf} (right : (i : 
   follows-keys rs keys known (reference-leads r a among is) =
       let p = known-of shelf rs keys known r among in
       let stands = right (identity_of r) p.0 p.1.0 p.1.1 in
-      reference-followed (keyed_by shelf r) stands.right.stands.own a (rw (known-key shelf r p.0 p.1.0 p.1.1, ← stands.typed) stands.right.stands.stands) (rw is at stands.right.stands.follows)
+      reference-followed (keyed_by shelf r) stands.right.stands.own a (rw (known-key shelf r p.0 p.1.0 p.1.1, ← stands.typed) stands.right.stands.stands)
+      (rw is at stands.right.stands.follows)
   follows-keys rs keys known (followed-leads kind x a none h) = absurd none
   follows-keys rs keys known h = search (number-followed, integer-followed, text-followed, pattern-followed, none-followed)
 
-renamed-kids : (trees : ℕ → Tree) (rs : List ArcRef) {x : Meaning ArcRef} {a : Meaning ⊥} → FollowsTo trees rs x a → rename (λ (r : ArcRef). kid r.kind.0 (trees r.node.0).meaning) x ≡ unfolded a
+renamed-kids : (trees : ℕ → Tree) (rs : List ArcRef) {x : Meaning ArcRef} {a : Meaning ⊥} → FollowsTo trees rs x a
+    → rename (λ (r : ArcRef). kid r.kind.0 (trees r.node.0).meaning) x ≡ unfolded a
 unfolding rename unfolded
 renamed-kids trees rs (pair-leads x y a b h k) = rw (renamed-kids trees rs h, renamed-kids trees rs k) refl
 renamed-kids trees rs (variant-leads i x a h) = rw (renamed-kids trees rs h) refl
@@ -189,8 +206,10 @@ renamed-kids trees rs _ = refl
 pub tree-form : {types : Types} {g : Ground} {n : ℕ} {written : Written} → (w : WroteTree types g n written)
     → TreeForm types w.shape (g.trees n).meaning written.bytes (kids_of g.trees written.references)
 tree-form {types} {g} {n} {written} w =
-    let f = keeps_forms (λ (r : ArcRef). kid r.kind.0 (g.trees r.node.0).meaning) kind_of_arc kind_of_kid types.parts deepest w.shape w.own written.bytes written.references (λ r. refl) w.form in
-    subst (λ m. Form Kid kind_of_kid types.parts deepest w.shape m written.bytes (kids_of g.trees written.references)) (renamed-kids g.trees written.references w.follows) f
+    let f = keeps_forms (λ (r : ArcRef). kid r.kind.0 (g.trees r.node.0).meaning) kind_of_arc kind_of_kid types.parts deepest w.shape w.own written.bytes
+    written.references (λ r. refl) w.form in
+    subst (λ m. Form Kid kind_of_kid types.parts deepest w.shape m written.bytes (kids_of g.trees written.references))
+    (renamed-kids g.trees written.references w.follows) f
 
 -- the types of all that it leads to are read back, where those of its references' trees are
 followed-read : (types : Types) {trees : ℕ → Tree} (rs : List ArcRef) {x : Meaning ArcRef} {a : Meaning ⊥} → FollowsTo trees rs x a
@@ -206,14 +225,17 @@ followed-read types rs _ h = tt
 -- its blob is of the tree's key, under which the tree is stored
 pub key-stands : {N : Type 0} {v : Values N} {g : Ground} {shelf : Shelf} {n key : ℕ} {written : Written} (keys : List ℕ)
     → ((i : Identity) (k h : ℕ) → IsPublished shelf i k h → IdentityStands v g i k)
-    → WroteTree v.types g n written → AreKeysOf shelf written.references keys → g.stored key ≡ Some (blob_of written.bytes keys) → key ≡ digest v (blob_of written.bytes keys)
+    → WroteTree v.types g n written → AreKeysOf shelf written.references keys → g.stored key ≡ Some (blob_of written.bytes keys) → key
+    ≡ digest v (blob_of written.bytes keys)
     → KeyStands v g.stored (g.trees n) key
 key-stands {v = v} {g} {shelf} {n} {key} {written} keys right w known is_stored is =
     let form = keeps_forms (keyed_by shelf) kind_of_arc kind_of_ref v.types.parts deepest w.shape w.own written.bytes written.references (λ r. refl) w.form in
     let is_key : KeyOf v.hash v.types (g.trees n) key =
-    rw is (key-of (g.trees n) w.shape written.bytes (kids_of g.trees written.references) keys w.is (tree-form w) (keys-of right written.references keys known)) in
+    rw is (key-of (g.trees n) w.shape written.bytes (kids_of g.trees written.references) keys w.is (tree-form w) (keys-of right written.references keys known))
+    in
     let all : EachType (IsReadableType v.types) (g.trees n).meaning =
-    followed-read v.types written.references w.follows (λ r among. let p = (known-of shelf written.references keys known r among).1 in let i = right (identity_of r) _ p.0 p.1 in
+    followed-read v.types written.references w.follows (λ r among. let p = (known-of shelf written.references keys known r among).1 in
+    let i = right (identity_of r) _ p.0 p.1 in
     (i.typed, i.right.can)) in
     let spells : StoredAs g.stored v.types (g.trees n).type key (rename (keyed_by shelf) w.own) =
     search (w.is, form, is_stored ∙ ap (λ ks. Some (blob_of written.bytes ks)) (keys-are shelf written.references keys known)) in

@@ -39,16 +39,24 @@ pub next-above : (q last : ℕ) → q ≡ last + 1 → last < q
 next-above q last next = omega arith
 
 pub rows-self : (last : ℕ) (rows rows' : List HandleRow) → rows' ≡ rows → RowsGo last rows rows'
-rows-self last rows rows' same q row found few = record { was = row; live = subst (λ r. find_row q r ≡ Some row) same found; at = refl; mine = λ l is. refl; loose = λ is. is }
+rows-self last rows rows' same q row found few = record {
+  was = row;
+  live = subst (λ r. find_row q r ≡ Some row) same found;
+  at = refl;
+  mine = λ l is. refl;
+  loose = λ is. is;
+}
 
 pub rows-then : (last more : ℕ) (rows mid rows' : List HandleRow) → last ≤ more → RowsGo last rows mid → RowsGo more mid rows' → RowsGo last rows rows'
-rows-then last more rows mid rows' le first second q row found few = let b = second q row found (omega arith) in let a = first q b.was b.live few in grind (arith, nat_tests)
+rows-then last more rows mid rows' le first second q row found few = let b = second q row found (omega arith) in let a =
+    first q b.was b.live few in grind (arith, nat_tests)
 
 pub found-number : (q : ℕ) (rows : List HandleRow) (row : HandleRow) → find_row q rows ≡ Some row → row.number.0 ≡ q
 found-number q rows row found = (found-among q rows row found).1
 
 -- a handle that is found in a changed row was found before
-pub found-changed : (test : HandleRow → Bool) (f : HandleRow → HandleRow) → ((h : HandleRow) → (f h).number ≡ h.number) → (q : ℕ) (rows : List HandleRow) (row : HandleRow)
+pub found-changed : (test : HandleRow → Bool) (f : HandleRow → HandleRow) → ((h : HandleRow) → (f h).number ≡ h.number)
+    → (q : ℕ) (rows : List HandleRow) (row : HandleRow)
     → find_row q (changed test f rows) ≡ Some row → (was : HandleRow) × (find_row q rows ≡ Some was) × (row ≡ (if test was then f was else was))
 unfolding find_row
 found-changed test f same q [] row found = absurd (cc)
@@ -57,7 +65,8 @@ found-changed test f same q (h ∷ hs) row found = grind (arith, nat_tests, is_h
 abbrev pub NotLoads : Owner → Type 0
 NotLoads o = (l : LoadNumber) → o ≡ Owner.Load l → ⊥
 
-pub rows-mode : (last : ℕ) (rows : List HandleRow) (h : HandleNumber) (mode : Mode) → is_loose mode ≡ true → ((r : HandleRow) → find_row h.0 rows ≡ Some r → NotLoads r.owner)
+pub rows-mode : (last : ℕ) (rows : List HandleRow) (h : HandleNumber) (mode : Mode) → is_loose mode ≡ true
+    → ((r : HandleRow) → find_row h.0 rows ≡ Some r → NotLoads r.owner)
     → RowsGo last rows (changed (is_handle h.0) (λ row. record row { mode = mode }) rows)
 rows-mode last rows h mode is_so free q row found few = grind (arith, nat_tests, found-changed, found-number)
 
@@ -72,12 +81,14 @@ find-both q (h ∷ hs) ys = grind (arith, nat_tests, find-both q hs ys)
 -- handles that come at the end have greater numbers
 pub rows-more : (last : ℕ) (rows more : List HandleRow) → ((q : ℕ) → q ≤ last → find_row q more ≡ None) → RowsGo last rows (rows ++ more)
 rows-more last rows more new q row found few =
-    let back : find_row q rows ≡ Some row = grind (arith, nat_tests, find-both, new q few) in record { was = row; live = back; at = refl; mine = λ l is. refl; loose = λ is. is }
+    let back : find_row q rows ≡ Some row = grind (arith, nat_tests, find-both, new q few) in
+    record { was = row; live = back; at = refl; mine = λ l is. refl; loose = λ is. is }
 
 pub none-in-new : (last q : ℕ) (entries : List HandleRow) → AreNewEntries last entries → q ≤ last → find_row q entries ≡ None
 unfolding find_row
 none-in-new last q [] new few = refl
-none-in-new last q (h ∷ hs) (number, mode, owner, new) few = let a : is_handle q h ≡ false = grind (arith, nat_tests) in rw a (none-in-new (last + 1) q hs new (omega arith))
+none-in-new last q (h ∷ hs) (number, mode, owner, new) few = let a : is_handle q h ≡ false =
+    grind (arith, nat_tests) in rw a (none-in-new (last + 1) q hs new (omega arith))
 
 pub none-in-next : (last q : ℕ) (h : HandleRow) → h.number.0 ≡ last + 1 → q ≤ last → find_row q (h ∷ []) ≡ None
 unfolding find_row
@@ -98,10 +109,20 @@ pub alike : {w w' : Core} → Alike w w' → Quiet w w'
 alike {w} {w'} a = grind (arith, le-of, rows-self)
 
 -- nodes and what is stored stay, and what is said of the other parts is so
-pub parts : {w : Core} {rows : List HandleRow} {list : List HandleNumber} {cells : ℕ → Option Cell} {loads : ℕ → Option OpenLoad} {cache : ℕ → ℕ → Option ℕ} {workers : ℕ → Bool} {last worker : ℕ}
-    → w.last.handle ≤ last → w.last.worker ≤ worker → ((n : ℕ) (cell : Cell) → cells n ≡ Some cell → w.cells n ≡ Some cell) → ((l : ℕ) (load : OpenLoad) → loads l ≡ Some load → w.loads l ≡ Some load)
+pub parts : {w : Core} {rows : List HandleRow} {list : List HandleNumber} {cells : ℕ → Option Cell} {loads : ℕ → Option OpenLoad} {cache : ℕ → ℕ → Option ℕ}
+    {workers : ℕ → Bool} {last worker : ℕ}
+    → w.last.handle ≤ last → w.last.worker ≤ worker → ((n : ℕ) (cell : Cell) → cells n ≡ Some cell → w.cells n ≡ Some cell)
+    → ((l : ℕ) (load : OpenLoad) → loads l ≡ Some load → w.loads l ≡ Some load)
     → ((kind key n : ℕ) → cache kind key ≡ Some n → w.cache kind key ≡ Some n) → RowsGo w.last.handle w.rows rows
-    → Quiet w (record w { rows = rows; list = list; cells = cells; loads = loads; cache = cache; workers = workers; last = record w.last { handle = last; worker = worker } })
+    → Quiet w (record w {
+      rows = rows;
+      list = list;
+      cells = cells;
+      loads = loads;
+      cache = cache;
+      workers = workers;
+      last = record w.last { handle = last; worker = worker };
+    })
 parts {w} handles workers cells loads cache go = grind (arith, le-self)
 
 pub quiet-self : (w : Core) → Quiet w w
@@ -122,7 +143,8 @@ pub fell-anyhow : {before w w' : Core} {given : ℕ → Bool} → FallsAnyhow be
 fell-anyhow f = fell f.falls
 
 pub a-handle : (w : Core) (node : NodeNumber) (mode : Mode) (owner : Owner) → Quiet w (with_handle w node mode owner)
-a-handle w node mode owner = only-rows (rows-more w.last.handle w.rows _ (λ q few. none-in-next w.last.handle q (row_of (w.last.handle + 1) node mode owner) refl few)) (le-more _ _)
+a-handle w node mode owner = only-rows (rows-more w.last.handle w.rows _
+    (λ q few. none-in-next w.last.handle q (row_of (w.last.handle + 1) node mode owner) refl few)) (le-more _ _)
 
 pub quiet-goes : (c : Change) {w w' : Core} → Quiet w w' → Goes c w w'
 quiet-goes c q = grind arith
@@ -142,10 +164,14 @@ born c w t key references bears = grind (arith, le-more, le-self, at-updated, ro
 pub keyed : (w : Core) (node : NodeNumber) (key : ℕ) → Goes (sets_key node.0 key) w (with_key w node key)
 keyed w node key = grind (arith, le-self, at-updated, rows-self)
 
-pub begun : (c : Change) (w : Core) (key : ℕ) (root : Root) (me : Owner) → BeginsWell w (record { owner = me; key = key; root = root }) → Goes c w (with_load w key root me)
+pub begun : (c : Change) (w : Core) (key : ℕ) (root : Root) (me : Owner) → BeginsWell w (record { owner = me; key = key; root = root })
+    → Goes c w (with_load w key root me)
 begun c w key root me well =
     let loads : (l : ℕ) (load : OpenLoad) → (with_load w key root me).loads l ≡ Some load → (w.loads l ≡ Some load) ⊎ ((w.last.load < l) × BeginsWell w load) =
-    λ l load is. elim (at-updated _ _ w.loads l load is) [ inl (at, e) ↦ inr (next-above l w.last.load at, rw (← same_some _ _ e) well) | inr there ↦ inl there ] in
+    λ l load is. elim (at-updated _ _ w.loads l load is) [
+      | inl (at, e) ↦ inr (next-above l w.last.load at, rw (← same_some _ _ e) well)
+      | inr there ↦ inl there
+    ] in
     grind (arith, nat_tests, le-self, le-more, rows-self, loads)
 
 -- where nothing is felt, a cell was there as it is
@@ -155,21 +181,26 @@ was-there a n cell is = grind (arith, nat_tests, a.cells n cell is)
 -- two steps of which nothing is felt: the cells that the first leaves are those that a load that the second begins is of
 pub goes-then : {w m w' : Core} → Goes nothing_felt w m → Goes nothing_felt m w' → Goes nothing_felt w w'
 goes-then {w} {m} {w'} a b =
-    let cells : (n : ℕ) (cell : Cell) → w'.cells n ≡ Some cell → Kept nothing_felt w n cell ⊎ ((n ≡ w.last.node + 1) × Bears nothing_felt cell.node_type cell.key) =
+    let cells : (n : ℕ) (cell : Cell) → w'.cells n ≡ Some cell → Kept nothing_felt w n cell
+    ⊎ ((n ≡ w.last.node + 1) × Bears nothing_felt cell.node_type cell.key) =
     λ n cell is. inl (record { was = cell; live = was-there a n cell (was-there b n cell is); typed = refl; key = inl refl }) in
-    let begins : (load : OpenLoad) → BeginsWell m load → BeginsWell w load = λ load well node t h root. let k = well node t h root in let was = was-there a node.0 in grind (arith, nat_tests) in
+    let begins : (load : OpenLoad) → BeginsWell m load → BeginsWell w load = λ load well node t h root. let k = well node t h root in let was =
+    was-there a node.0 in grind (arith, nat_tests) in
     let loads : (l : ℕ) (load : OpenLoad) → w'.loads l ≡ Some load → (w.loads l ≡ Some load) ⊎ ((w.last.load < l) × BeginsWell w load) = λ l load is.
     elim (b.loads l load is) [ inl there ↦ a.loads l load there | inr (above, well) ↦ inr (let c = a.loads_last in omega arith, begins load well) ] in
     let cache : (kind key n : ℕ) → w'.cache kind key ≡ Some n → (w.cache kind key ≡ Some n) ⊎ Knows nothing_felt w kind key n = λ kind key n is.
     elim (b.cache kind key n is) [ inl there ↦ a.cache kind key n there | inr known ↦ absurd known ] in
     search (rules, rows-then, le_trans, cells, loads, cache, a.stored, b.stored, a.shut, b.shut)
 
-pub goes-known : {c : Change} {w m : Core} → Goes c w m → (kind : Kind) (key : ℕ) (n : NodeNumber) → Knows c w kind.0 key n.0 → Goes c w (with_cached m kind key n)
+pub goes-known : {c : Change} {w m : Core} → Goes c w m → (kind : Kind) (key : ℕ) (n : NodeNumber) → Knows c w kind.0 key n.0
+    → Goes c w (with_cached m kind key n)
 goes-known {c} {w} {m} a kind key n knows = grind (arith, same-number)
 
-pub adopts : (w : Core) (l : LoadNumber) (kind : Kind) (key : ℕ) (own : OptionalDataKey) (references : List ArcRef) → Goes (bears_known kind.0 key own) w (adopted w l kind key own references)
+pub adopts : (w : Core) (l : LoadNumber) (kind : Kind) (key : ℕ) (own : OptionalDataKey) (references : List ArcRef)
+    → Goes (bears_known kind.0 key own) w (adopted w l kind key own references)
 adopts w l kind key own references =
-    let made = goes-quiet (born (bears_known kind.0 key own) w (type_of kind.0) own references (refl, refl)) (a-handle _ (next_node w) (mode_of kind.0) (Owner.Load l)) in
+    let made = goes-quiet (born (bears_known kind.0 key own) w (type_of kind.0) own references (refl, refl))
+    (a-handle _ (next_node w) (mode_of kind.0) (Owner.Load l)) in
     let known = goes-known made kind key (next_node w) (refl, refl, refl) in grind (arith, nat_tests)
 
 abbrev pub NotValues : Owner → Type 0
@@ -188,7 +219,8 @@ among-found q rows row found = (found-among q rows row found).0
 pub none-found : (q : ℕ) (rows : List HandleRow) (h : HandleRow) → find_row q rows ≡ None → Among rows h → h.number.0 ≡ q → ⊥
 unfolding find_row
 none-found q [] h none among is = absurd (cc)
-none-found q (x ∷ xs) h none among is = let rest : (find_row q xs ≡ None → Among xs h → ⊥) = λ no there. none-found q xs h no there is in grind (arith, nat_tests, self-number, rest)
+none-found q (x ∷ xs) h none among is = let rest : (find_row q xs ≡ None → Among xs h → ⊥) =
+    λ no there. none-found q xs h no there is in grind (arith, nat_tests, self-number, rest)
 
 -- no number of a row is above this one
 abbrev pub AreUpTo : ℕ → List HandleRow → Type 0
@@ -203,7 +235,11 @@ pub stands-whole : {w : Core} → HandlesAreWhole w → (q : ℕ) (row : HandleR
 stands-whole {w} whole q row found =
     let among = among-found q w.rows row found in
     let number = found-number q w.rows row found in
-    record { live = found; only = λ h there is. once w.rows whole.ordered h row there among (is ∙ sym number); given = subst (λ n. n ≤ w.last.handle) number (whole.numbered row among).1 }
+    record {
+      live = found;
+      only = λ h there is. once w.rows whole.ordered h row there among (is ∙ sym number);
+      given = subst (λ n. n ≤ w.last.handle) number (whole.numbered row among).1;
+    }
 
 pub record Has (w : Core) (owner : Owner) (h : HandleNumber) : Type 0 where
   pub row : HandleRow
@@ -214,7 +250,8 @@ pub has-alike : {w w' : Core} {owner : Owner} {h : HandleNumber} → Alike w w' 
 has-alike {h = h} a has = record { row = has.row; live = subst (λ rows. find_row h.0 rows ≡ Some has.row) (sym a.rows) has.live; own = has.own }
 
 pub stands-alike : {w w' : Core} {q : ℕ} {row : HandleRow} → Alike w w' → Stands w.last.handle w.rows q row → Stands w'.last.handle w'.rows q row
-stands-alike {w} {w'} {q} {row} a s = subst (λ l. Stands l w'.rows q row) (sym (ap (λ (l : Last). l.handle) a.last)) (subst (λ rows. Stands w.last.handle rows q row) (sym a.rows) s)
+stands-alike {w} {w'} {q} {row} a s = subst (λ l. Stands l w'.rows q row) (sym (ap (λ (l : Last). l.handle) a.last))
+    (subst (λ rows. Stands w.last.handle rows q row) (sym a.rows) s)
 
 module _ (test : HandleRow → Bool) (f : HandleRow → HandleRow) (same : (h : HandleRow) → (f h).number ≡ h.number) where
   abbrev after : HandleRow → HandleRow
@@ -235,25 +272,32 @@ module _ (test : HandleRow → Bool) (f : HandleRow → HandleRow) (same : (h : 
       record { live = found-after q rows row s.live; only = only; given = s.given }
 
 -- where rows of greater numbers come; and such a row itself
-pub stands-more : {last more_last : ℕ} {rows : List HandleRow} {q : ℕ} {row : HandleRow} (more : List HandleRow) → last ≤ more_last → find_row q more ≡ None → Stands last rows q row
+pub stands-more : {last more_last : ℕ} {rows : List HandleRow} {q : ℕ} {row : HandleRow} (more : List HandleRow) → last ≤ more_last → find_row q more ≡ None
+    → Stands last rows q row
     → Stands more_last (rows ++ more) q row
 stands-more {last} {more_last} {rows} {q} {row} more le none s =
     let only : (h : HandleRow) → Among (rows ++ more) h → h.number.0 ≡ q → h ≡ row = λ h (i, at) is.
     elim (among-either rows more i h at) [ inl a ↦ s.only h a is | inr b ↦ absurd (none-found q more h none b is) ] in
     let g = s.given in record { live = find-both q rows more ∙ ap (λ x. or_else x (find_row q more)) s.live; only = only; given = omega arith }
 
-pub stands-new : (last : ℕ) (rows : List HandleRow) (row : HandleRow) → AreUpTo last rows → row.number.0 ≡ last + 1 → Stands (last + 1) (rows ++ row ∷ []) row.number.0 row
+pub stands-new : (last : ℕ) (rows : List HandleRow) (row : HandleRow) → AreUpTo last rows → row.number.0 ≡ last + 1
+    → Stands (last + 1) (rows ++ row ∷ []) row.number.0 row
 unfolding find_row
 stands-new last rows row few next =
     let none = none-above last row.number.0 rows few (omega arith) in
     record {
-      live = find-both row.number.0 rows (row ∷ []) ∙ (ap (λ x. or_else x (find_row row.number.0 (row ∷ []))) none ∙ (let e = self-number row.number.0 in rw e refl));
-      only = λ h (i, at) is. elim (among-either rows (row ∷ []) i h at) [ inl a ↦ absurd (none-found row.number.0 rows h none a is) | inr b ↦ only-one row h b ];
+      live = find-both row.number.0 rows (row ∷ []) ∙ (ap (λ x. or_else x (find_row row.number.0 (row ∷ []))) none
+          ∙ (let e = self-number row.number.0 in rw e refl));
+      only = λ h (i, at) is. elim (among-either rows (row ∷ []) i h at) [
+        | inl a ↦ absurd (none-found row.number.0 rows h none a is)
+        | inr b ↦ only-one row h b
+      ];
       given = omega arith;
     }
 
 -- a handle that isn't gone keeps its row
-pub stands-left : {before w w' : Core} {given : ℕ → Bool} {r : _} (f : Falls before w given r w') {q : ℕ} {row : HandleRow} → f.gone q ≡ false → Stands w.last.handle w.rows q row
+pub stands-left : {before w w' : Core} {given : ℕ → Bool} {r : _} (f : Falls before w given r w') {q : ℕ} {row : HandleRow} → f.gone q ≡ false
+    → Stands w.last.handle w.rows q row
     → Stands w'.last.handle w'.rows q row
 stands-left {w = w} f {q} {row} kept s =
     let left : Stands w.last.handle (left_rows f.gone w.rows) q row =
@@ -298,7 +342,13 @@ alike-away {w} {w'} a n = grind (arith, alike)
 pins-left : (n : ℕ) (gone : ℕ → Bool) (rows more : List HandleRow) → pins n more ≡ 0 → pins n (left_rows gone rows ++ more) ≤ pins n rows
 pins-left n gone [] more none = grind arith
 pins-left n gone (h ∷ hs) more none =
-    grind (arith, nat_tests, sum_by-cons (λ x. one (is_pin n x)) h hs, sum_by-cons (λ x. one (is_pin n x)) h (left_rows gone hs ++ more), pins-left n gone hs more none)
+    grind (
+      arith,
+      nat_tests,
+      sum_by-cons (λ x. one (is_pin n x)) h hs,
+      sum_by-cons (λ x. one (is_pin n x)) h (left_rows gone hs ++ more),
+      pins-left n gone hs more none,
+    )
 
 pub no-pins : (n last : ℕ) (entries : List HandleRow) → AreNewEntries last entries → pins n entries ≡ 0
 no-pins n last [] new = refl
@@ -331,8 +381,13 @@ pub record PinOf (w : Core) (me : Owner) (node : NodeNumber) (k : HandleNumber) 
   pub own : pin.row.owner ≡ me
   pub at : pin.row.node ≡ node
 
-pub pins-by : {last : ℕ} (w : Core) {row : HandleRow} (k : HandleNumber) (q : ℕ) → k.0 ≡ q → Stands last w.rows q row → is_pinning row.mode ≡ true → PinOf w row.owner row.node k
-pins-by w {row = row} k q is s pins = record { pin = record { row = row; live = subst (λ n. find_row n w.rows ≡ Some row) (sym is) s.live; is = pins }; own = refl; at = refl }
+pub pins-by : {last : ℕ} (w : Core) {row : HandleRow} (k : HandleNumber) (q : ℕ) → k.0 ≡ q → Stands last w.rows q row → is_pinning row.mode ≡ true
+    → PinOf w row.owner row.node k
+pins-by w {row = row} k q is s pins = record {
+  pin = record { row = row; live = subst (λ n. find_row n w.rows ≡ Some row) (sym is) s.live; is = pins };
+  own = refl;
+  at = refl;
+}
 
 -- the pin that is made of a loose handle
 pinned-new : (u : Core) (h : HandleNumber) (node : NodeNumber) (me : Owner) → AreLow u
@@ -342,7 +397,8 @@ pinned-new u h node me low = new-handle (with_mode u h Mode.LoosePinned) node Mo
 
 module _ (w w' : Core) (low : AreLow w) where
   pub pin-call : (me : Owner) (h k : HandleNumber) (c : PinCall w me h (Ok (Pinning.Pinned k)) w') → PinOf w' me c.pins.0.node k
-  pin-call me h k c = pins-by w' k (w.last.handle + 1) c.pins.2.1.above (stands-alike {w = with_pin w h c.pins.0.node me} c.pins.2.2 (pinned-new w h c.pins.0.node me low)) refl
+  pin-call me h k c = pins-by w' k (w.last.handle + 1) c.pins.2.1.above (stands-alike {w = with_pin w h c.pins.0.node me} c.pins.2.2
+      (pinned-new w h c.pins.0.node me low)) refl
 
   pub clone-call : (me : Owner) (h k : HandleNumber) → CloneCall w me h (Ok k) w'
       → (row : HandleRow) × (row_at w h ≡ Some row) × Stands w'.last.handle w'.rows (w.last.handle + 1) (row_of (w.last.handle + 1) row.node row.mode me)
@@ -352,19 +408,22 @@ module _ (w w' : Core) (low : AreLow w) where
   pub owned-none : (l : LoadNumber) → is_owned_in w (Owner.Load l) (w.last.handle + 1) ≡ false
   owned-none l = let none = none-above w.last.handle (w.last.handle + 1) w.rows low (omega arith) in rw none refl
 
-  pin-stays : (u : Core) (h : HandleNumber) (node : NodeNumber) (me : Owner) (k : HandleNumber) (given : ℕ → Bool) → NotValues me → AreLow u → u.last.handle ≡ w.last.handle
+  pin-stays : (u : Core) (h : HandleNumber) (node : NodeNumber) (me : Owner) (k : HandleNumber) (given : ℕ → Bool) → NotValues me → AreLow u → u.last.handle
+      ≡ w.last.handle
       → k.0 ≡ w.last.handle + 1 → given (w.last.handle + 1) ≡ false → FallsAnyhow w (with_pin u h node me) given w' → PinOf w' me node k
   pin-stays u h node me k given free low' same next kept f =
       let q : u.last.handle + 1 ≡ w.last.handle + 1 = ap (λ n. n + 1) same in
       pins-by w' k (u.last.handle + 1) (next ∙ sym q) (stands-fell f.falls free (ap given q ∙ kept) (pinned-new u h node me low')) refl
 
-  pub end-call : {N : Type 0} (me : Owner) (l : LoadNumber) (x : N) (t : ℕ) (references : List ArcRef) (k : HandleNumber) → NotValues me → (c : EndCall w me l x t references (Ok k) w')
+  pub end-call : {N : Type 0} (me : Owner) (l : LoadNumber) (x : N) (t : ℕ) (references : List ArcRef) (k : HandleNumber) → NotValues me
+      → (c : EndCall w me l x t references (Ok k) w')
       → PinOf w' me c.installs.0 k
   end-call me l x t references k free c =
       let (node, h, may, i) = c.installs in
       elim i.falls [
         | inl (away, f) ↦ pin-stays (record (without_load w l) { rows = moved (is_named_by references) (Owner.Value node) w.rows }) h node me k _ free
-            (low-changed w.last.handle w.rows (λ r. is_named_by references r.number.0) (λ r. record r { owner = Owner.Value node }) (λ r. refl) low) refl i.next.above
+            (low-changed w.last.handle w.rows (λ r. is_named_by references r.number.0) (λ r. record r { owner = Owner.Value node }) (λ r. refl) low) refl
+            i.next.above
             (ap (λ b. b && not (is_named_by references (w.last.handle + 1))) (owned-none l)) f
         | inr (there, f) ↦ pin-stays (without_load w l) h node me k (is_owned_in w (Owner.Load l)) free low refl i.next.above (owned-none l) f
       ]
@@ -394,10 +453,13 @@ module _ {N B W : Type 0} (m : Seen N B W) (v : ℕ) (s s' : Site) (low : AreLow
   held _ i k does = absurd does
 
 -- each pin of an event that answers one
-pub pins-hold : {N B W : Type 0} (m : Seen N B W) (u u' : World) (event : Event N B W) (reply : EventReply N B W) → HandlesAreWhole u.core → Happens m u event reply u' → PinHolds event reply u'.core
-pins-hold m u u' (Event.Call (Call.Pin h)) (EventReply.CallReply (Reply.Pin (Ok (Pinning.Pinned k)))) whole happens = (pin-call u.core u'.core (low-whole whole) Owner.Caller h k happens.step.does).pin
+pub pins-hold : {N B W : Type 0} (m : Seen N B W) (u u' : World) (event : Event N B W) (reply : EventReply N B W) → HandlesAreWhole u.core
+    → Happens m u event reply u' → PinHolds event reply u'.core
+pins-hold m u u' (Event.Call (Call.Pin h)) (EventReply.CallReply (Reply.Pin (Ok (Pinning.Pinned k)))) whole happens =
+    (pin-call u.core u'.core (low-whole whole) Owner.Caller h k happens.step.does).pin
 pins-hold m u u' (Event.LoadStep l) (EventReply.LoadMoved (Ok reply)) whole happens = λ k is.
-    let e = rw is at happens.moves.does.does in (end-call u.core u'.core (low-whole whole) Owner.Caller happens.moves.reading.load e.0.x _ _ k (λ n is. absurd (cc)) e.0.ended).pin
+    let e = rw is at happens.moves.does.does in (end-call u.core u'.core (low-whole whole) Owner.Caller happens.moves.reading.load e.0.x _ _ k
+    (λ n is. absurd (cc)) e.0.ended).pin
 pins-hold m u u' (Event.Call (Call.LoadEnd l x)) (EventReply.CallReply (Reply.LoadEnded (Ok k))) whole happens =
     (end-call u.core u'.core (low-whole whole) Owner.Caller l x _ _ k (λ n is. absurd (cc)) happens.step.does).pin
 pins-hold {W = W} m u u' (Event.WorkerStep n) (EventReply.WorkerMoved (Ok reply)) whole happens = λ i k is.

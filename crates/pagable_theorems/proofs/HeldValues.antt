@@ -18,7 +18,8 @@ some-of : {X : Type 0} (o : Option X) → is_some o ≡ true → (z : X) × (o �
 some-of (Some z) is = (z, refl)
 some-of None is = absurd cc
 
-module _ {N E : Type 0} (v : Values N) {s : PagerState N E} (whole : WellFormed v s) {owner : Owner} (r : ArcRef) (ref : IsReference s.core owner r) (eager : is_eager r.kind.0 ≡ true) where
+module _ {N E : Type 0} (v : Values N) {s : PagerState N E} (whole : WellFormed v s) {owner : Owner} (r : ArcRef) (ref : IsReference s.core owner r)
+    (eager : is_eager r.kind.0 ≡ true) where
   pinning : is_pinning ref.row.mode ≡ true
   pinning = eager-pins r.kind.0 ref.row.mode eager ref.fits
 
@@ -38,7 +39,11 @@ module _ {N E : Type 0} (v : Values N) {s s' : PagerState N E} (whole : WellForm
       elim (moves.each n p.0 p.1) [ inl same ↦ p.1 ∙ (sym same ∙ was) | inr (none, came) ↦ let no : None ≡ Some y = sym none ∙ was in absurd cc ]
 
   kept : (n : ℕ) (x : N) (r : ArcRef) → s'.values n ≡ Some x → Among (v.references x) r → is_eager r.kind.0 ≡ true → HoldsNode v s x r → HoldsNode v s' x r
-  kept n x r is among eager h = record { y = h.y; there = stays r.node.0 h.y h.there (there v whole r (whole.references n x r is among) eager); beside = h.beside }
+  kept n x r is among eager h = record {
+    y = h.y;
+    there = stays r.node.0 h.y h.there (there v whole r (whole.references n x r is among) eager);
+    beside = h.beside;
+  }
 
 pub held_law : {N : Type 0} (E : Type 0) (v : Values N) → HeldLaw E v
 held_law E v s s' whole moves held = record {
@@ -63,8 +68,13 @@ module _ {N E : Type 0} (v : Values N) where
   comes-held : {s s' : PagerState N E} → WellFormed v s' → Moves (λ n x. HoldsItsNodes v s x) s s' → Held v s → Held v s'
   comes-held well moves h = record { well = well; held = held_law E v _ _ well moves h.held }
 
-  nothing-comes : {comes : ℕ → N → Type 0} {s s' : PagerState N E} → ((n : ℕ) (x : N) → comes n x → ⊥) → WellFormed v s' → Moves comes s s' → Held v s → Held v s'
-  nothing-comes none well moves h = comes-held well (record { each = λ n x is. elim (moves.each n x is) [ inl was ↦ inl was | inr came ↦ absurd (none n x came.1) ]; environment = moves.environment }) h
+  nothing-comes : {comes : ℕ → N → Type 0} {s s' : PagerState N E} → ((n : ℕ) (x : N) → comes n x → ⊥) → WellFormed v s' → Moves comes s s' → Held v s
+      → Held v s'
+  nothing-comes none well moves h = comes-held well (record {
+    each = λ n x is. elim (moves.each n x is)
+        [ inl was ↦ inl was | inr came ↦ absurd (none n x came.1) ];
+    environment = moves.environment;
+  }) h
 
   called-held : {does : Core → Type 0} {s s' : PagerState N E} → Called v does s s' → Held v s → Held v s'
   called-held c h = nothing-comes (λ n x came. came) c.whole c.moves h
@@ -73,7 +83,8 @@ module _ {N E : Type 0} (v : Values N) where
   load-held (load-ends reading answer s s' step) h = comes-held step.whole (step.holds h.well) h
   load-held (load-goes-on reading frames answer s mid s' step more) h = load-held more (comes-held step.whole (step.holds h.well) h)
 
-  load-reads-held : {me : Owner} {reading : Reading} {s s' : PagerState N E} {answer : LoadAnswer N} → LoadRun v me reading s answer s' → IfReads (Some answer) (HoldsPinned v s')
+  load-reads-held : {me : Owner} {reading : Reading} {s s' : PagerState N E} {answer : LoadAnswer N} → LoadRun v me reading s answer s'
+      → IfReads (Some answer) (HoldsPinned v s')
   load-reads-held (load-ends reading answer s s' step) = step.answers
   load-reads-held (load-goes-on reading frames answer s mid s' step more) = load-reads-held more
 
@@ -90,7 +101,8 @@ module _ {N E : Type 0} (v : Values N) where
   read-held (reading-fails e l mid s' starts run) = λ h. load-held run (called-held starts h)
 
 module _ {N E B W : Type 0} (m : Seen N B W) where
-  worker-held : {n : ℕ} {todo : List Todo} {s s' : AccessState N E} {steps : List (Action W)} {answer : WorkerAnswer} → WorkerRun m n todo s steps answer s' → Held m.values s.pager → Held m.values s'.pager
+  worker-held : {n : ℕ} {todo : List Todo} {s s' : AccessState N E} {steps : List (Action W)} {answer : WorkerAnswer} → WorkerRun m n todo s steps answer s'
+      → Held m.values s.pager → Held m.values s'.pager
   worker-held (worker-ends todo next step answer s s' does is) h = comes-held m.values does.whole does.holds h
   worker-held (worker-goes-on todo next step steps answer s mid s' does is more) h = worker-held more (comes-held m.values does.whole does.holds h)
 
@@ -105,13 +117,18 @@ module _ {N E B W : Type 0} (m : Seen N B W) where
 
   list-held : {i : ℕ} {s s' : PagerState N E} {answer : Result (Unit {0}) WorkerAnswer} → ListRun m i s answer s' → Held m.values s → Held m.values s'
   list-held (no-more s) was = was
-  list-held (skips i place key h told answer s mid low s' is has takes releases more) was = list-held more (called-held m.values releases (called-held m.values takes was))
+  list-held (skips i place key h told answer s mid low s' is has takes releases more) was =
+      list-held more (called-held m.values releases (called-held m.values takes was))
   list-held (pages i place key h answer s mid s' is has run more) was = list-held more (entry-held run was)
   list-held (fails i place h e s s' is has run) was = entry-held run was
 
   operation-held : {s s' : PagerState N E} (operation : Operation m s s') → OperationBringsHeld operation → Held m.values s → Held m.values s'
   operation-held (calls call reply s s' c) brings h =
-      comes-held m.values c.whole (record { each = λ n x is. elim (c.moves.each n x is) [ inl was ↦ inl was | inr (none, came) ↦ inr (none, brings n x came is) ]; environment = c.moves.environment }) h
+      comes-held m.values c.whole (record {
+        each = λ n x is. elim (c.moves.each n x is)
+            [ inl was ↦ inl was | inr (none, came) ↦ inr (none, brings n x came is) ];
+        environment = c.moves.environment;
+      }) h
   operation-held (pins-by h r s s' run) brings was = pin-held m.values run was
   operation-held (reads-key key t r s s' run) brings was = read-held m.values run was
   operation-held (pages-item item answer s s' new run) brings was = item-held run was
@@ -136,9 +153,14 @@ read_holds_law E v s s' key t x run = by run refl
 -- ---- along the moments of a machine
 
 module _ {N E B W : Type 0} (m : Seen N B W) where
-  moment-held : (s s' : MachineState N E) (event : Event N B W) (reply : EventReply N B W) → Does m s event reply s' → MomentBringsHeld m.values s.pager event s'.pager → Held m.values s.pager → Held m.values s'.pager
+  moment-held : (s s' : MachineState N E) (event : Event N B W) (reply : EventReply N B W) → Does m s event reply s'
+      → MomentBringsHeld m.values s.pager event s'.pager → Held m.values s.pager → Held m.values s'.pager
   moment-held s s' (Event.Call call) reply d brings h =
-      comes-held m.values d.whole.pager (record { each = λ n x is. elim (d.moves.each n x is) [ inl was ↦ inl was | inr (none, came) ↦ inr (none, brings n x came is) ]; environment = d.moves.environment }) h
+      comes-held m.values d.whole.pager (record {
+        each = λ n x is. elim (d.moves.each n x is)
+            [ inl was ↦ inl was | inr (none, came) ↦ inr (none, brings n x came is) ];
+        environment = d.moves.environment;
+      }) h
   moment-held s s' (Event.LoadStep l) reply d brings h = comes-held m.values d.whole.pager d.holds h
   moment-held s s' (Event.WorkerStep k) reply d brings h = comes-held m.values d.whole.pager d.holds h
   moment-held s s' (Event.LoadStart through) reply d brings h = nothing-comes m.values (λ n x came. came) d.whole.pager d.moves h
@@ -147,7 +169,8 @@ module _ {N E B W : Type 0} (m : Seen N B W) where
   moment-held s s' (Event.WorkerItem t item) reply d brings h = nothing-comes m.values (λ n x came. came) d.whole.pager d.moves h
   moment-held s s' (Event.WorkerListed t i) reply d brings h = nothing-comes m.values (λ n x came. came) d.whole.pager d.moves h
 
-  moments-held : (s : MachineState N E) (moments : List (Moment N E B W)) → AreMoments m s moments → MomentsBringHeld m.values s moments → Held m.values s.pager → HoldsItsValues m.values (state_after s moments).pager
+  moments-held : (s : MachineState N E) (moments : List (Moment N E B W)) → AreMoments m s moments → MomentsBringHeld m.values s moments → Held m.values s.pager
+      → HoldsItsValues m.values (state_after s moments).pager
   unfolding state_after
   moments-held s [] chain brings h = h.held
   moments-held s (x ∷ xs) (does, chain) (own, brings) h = moments-held x.after xs chain brings (moment-held s x.after x.event x.reply does own h)

@@ -41,7 +41,8 @@ module _ {N E : Type 0} (v : Values N) (s : MachineState N E) (trees : ℕ → T
     keys : AreKeysOf shelf refs frame.blob.keys
     lows : AllLow shelf height refs
 
-  known-frame : (frame : Frame) (i : Identity) (height : ℕ) → IsPublished shelf i frame.key height → frame.node_type ≡ (trees i.node.0).type → stored frame.key ≡ Some frame.blob → IsKnown frame height
+  known-frame : (frame : Frame) (i : Identity) (height : ℕ) → IsPublished shelf i frame.key height → frame.node_type ≡ (trees i.node.0).type → stored frame.key
+      ≡ Some frame.blob → IsKnown frame height
   known-frame frame i height p typed is =
       let f = fit.slots table i p.slot p.claimed in let b = f.publishes frame.key height p.known in
       let written : Written = b.0 in let w = b.2.wrote in
@@ -56,7 +57,11 @@ module _ {N E : Type 0} (v : Values N) (s : MachineState N E) (trees : ℕ → T
         as-many-keys shelf written.references b.2.keys b.2.known,
         w.once,
       ) in
-      search (subst (λ (x : Blob). IsFormOf v.types frame.node_type x written.references) same form, subst (λ (x : Blob). AreKeysOf shelf written.references x.keys) same b.2.known, b.2.low)
+      search (
+        subst (λ (x : Blob). IsFormOf v.types frame.node_type x written.references) same form,
+        subst (λ (x : Blob). AreKeysOf shelf written.references x.keys) same b.2.known,
+        b.2.low,
+      )
 
   -- what is asked for has a key that is known
   record IsAsked (kind : Kind) (key height : ℕ) : Type 0 where
@@ -66,7 +71,8 @@ module _ {N E : Type 0} (v : Values N) (s : MachineState N E) (trees : ℕ → T
     of_kind : r.kind ≡ kind
     within : above kind.0 below ≤ height
 
-  asked-known : (frame : Frame) (height : ℕ) (k : IsKnown frame height) → Ahead v.types frame.node_type frame.blob k.refs frame.got → (kind : Kind) (key : ℕ) → next_in v.types frame ≡ asks kind key
+  asked-known : (frame : Frame) (height : ℕ) (k : IsKnown frame height) → Ahead v.types frame.node_type frame.blob k.refs frame.got → (kind : Kind) (key : ℕ)
+      → next_in v.types frame ≡ asks kind key
       → IsAsked kind key height
   asked-known frame height k (all-done own is all) kind key next = absurd (let e : reads own ≡ asks kind key = sym is ∙ next in cc)
   asked-known frame height k (one-left done left r q split same there is) kind key next =
@@ -75,7 +81,14 @@ module _ {N E : Type 0} (v : Values N) (s : MachineState N E) (trees : ℕ → T
       let keys : q ≡ key = cc in let g = known-of shelf k.refs frame.blob.keys k.keys r (length done, at) in
       let p = subst (λ x. (h : ℕ) × IsPublished shelf (identity_of r) x h) (same_some _ _ (sym g.2 ∙ there) ∙ keys) g.1 in let l = k.lows r (length done, at) in
       let h : l.below ≡ p.0 = let k = l.known in grind (arith, same_some) in
-      record { r = r; below = p.0; known = p.1; of_kind = kinds; within = subst (λ (x : Kind). above x.0 p.0 ≤ height) kinds (subst (λ x. above r.kind.0 x ≤ height) h l.within) }
+      record {
+        r = r;
+        below = p.0;
+        known = p.1;
+        of_kind = kinds;
+        within = subst (λ (x : Kind). above x.0 p.0 ≤ height) kinds
+            (subst (λ x. above r.kind.0 x ≤ height) h l.within);
+      }
 
   module _ (root_key root_type : ℕ) (i : Identity) (limit : ℕ) (p : IsPublished shelf i root_key limit) (typed : (trees i.node.0).type ≡ root_type) where
     first-asked : (frame : Frame) (below : List Frame) → FramesAsked v.types (frame ∷ below) → GotAsked v.types frame.node_type frame.blob frame.got
@@ -91,25 +104,36 @@ module _ {N E : Type 0} (v : Values N) (s : MachineState N E) (trees : ℕ → T
         (limit, k, omega arith)
     top-known frame (under ∷ rest) (fits, of_type, next, more) (got, eager, next2, more_asked) =
         let (height, known, left) = top-known under rest more more_asked in
-        let a = asked-known under height known (comes-to v.types under.node_type under.blob known.refs known.form (first-asked under rest more_asked)) frame.kind frame.key next in
+        let a = asked-known under height known (comes-to v.types under.node_type under.blob known.refs known.form (first-asked under rest more_asked))
+        frame.kind frame.key next in
         let f = fit.slots table (identity_of a.r) a.known.slot a.known.claimed in
         let right : frame.node_type ≡ (trees a.r.node.0).type = of_type ∙ ap (λ (x : Kind). type_of x.0) (sym a.of_kind) ∙ sym f.typed in
         let k = known-frame frame (identity_of a.r) a.below a.known right fits.is in
         (a.below, k, omega (arith, above-eager frame.kind.0 a.below height eager a.within, left))
 
     -- what a load needs that reads it
-    pub needed : (frames : List Frame) → FramesFit v.types stored trees root_key root_type frames → FramesAsked v.types frames → (kind : Kind) (key : ℕ) → Needs v.types frames kind key
+    pub needed : (frames : List Frame) → FramesFit v.types stored trees root_key root_type frames → FramesAsked v.types frames → (kind : Kind) (key : ℕ)
+        → Needs v.types frames kind key
         → (blob : Blob) × (stored key ≡ Some blob) × (is_eager kind.0 ≡ true → length frames ≤ longest_path)
     needed (frame ∷ below) fits got kind key needs =
         let (height, known, left) = top-known frame below fits got in
         let k = comes-to v.types frame.node_type frame.blob known.refs known.form (first-asked frame below got) in
         let a = asked-known frame height known k kind key (asked below (next_in v.types frame) kind key needs) in
-        let b = (fit.slots table (identity_of a.r) a.known.slot a.known.claimed).publishes key a.below a.known.known in
-        (_, b.2.is_stored, λ eager. omega (arith, above-eager kind.0 a.below height eager a.within, left, ((fit.slots table i p.slot p.claimed).publishes root_key limit p.known).2.within))
+        let b = (fit.slots table (identity_of a.r) a.known.slot a.known.claimed).publishes key a.below a.known.known in (
+          _,
+          b.2.is_stored,
+          λ eager. omega (
+            arith,
+            above-eager kind.0 a.below height eager a.within,
+            left,
+            ((fit.slots table i p.slot p.claimed).publishes root_key limit p.known).2.within,
+          ),
+        )
     needed x0 fits got kind key x5 = grind (arith, nat_tests)
 
     -- the innermost blob is so, where it is read
-    pub formed : (frame : Frame) (below : List Frame) → FramesFit v.types stored trees root_key root_type (frame ∷ below) → FramesAsked v.types (frame ∷ below) → (own : Meaning ArcRef)
+    pub formed : (frame : Frame) (below : List Frame) → FramesFit v.types stored trees root_key root_type (frame ∷ below) → FramesAsked v.types (frame ∷ below)
+        → (own : Meaning ArcRef)
         → next_in v.types frame ≡ reads own → IsForm v frame
     formed frame below fits got own is =
         let known = (top-known frame below fits got).1 in
@@ -117,7 +141,8 @@ module _ {N E : Type 0} (v : Values N) (s : MachineState N E) (trees : ℕ → T
         record { refs = known.refs; form = known.form; kinds = grind (arith, nat_tests, next) }
 
     -- nothing of it is refused as faulty
-    pub not-broken : (frames : List Frame) → FramesFit v.types stored trees root_key root_type frames → FramesAsked v.types frames → (e : Error) → need_of v.types frames ≡ is_broken e → ⊥
+    pub not-broken : (frames : List Frame) → FramesFit v.types stored trees root_key root_type frames → FramesAsked v.types frames → (e : Error)
+        → need_of v.types frames ≡ is_broken e → ⊥
     not-broken [] fits got e is = cc
     not-broken (frame ∷ below) fits got e is =
         let known = (top-known frame below fits got).1 in
@@ -142,7 +167,8 @@ only-if P x0 f p e is = grind (arith, nat_tests)
 pub only-node : (P : Error → Type 0) (w : Core) (kind : Kind) (key : ℕ) → P Error.NumbersSpent → Only P (node_fault w kind key)
 only-node P w kind key p e is = grind (arith, nat_tests, only-if P, only-earlier {P = P})
 
-pub only-refused : {P : Error → Type 0} {cause before : Option Error} {full : Type 0} {w w' : Core} (e : Error) → Refused cause before full w e w' → Only P cause → P Error.OutOfMemory → P e
+pub only-refused : {P : Error → Type 0} {cause before : Option Error} {full : Type 0} {w w' : Core} (e : Error) → Refused cause before full w e w'
+    → Only P cause → P Error.OutOfMemory → P e
 only-refused {P} e r by memory = elim r.why [ inl is ↦ by e is | inr wanting ↦ subst P (sym wanting.0) memory ]
 
 never : (b : Bool) (f e : Error) → b ≡ false → refused_if b f ≡ Some e → ⊥
@@ -153,7 +179,8 @@ pub data Cause {N : Type 0} (v : Values N) (w : Core) (load : OpenLoad) (reading
   by-chance : IsOfChance e → Cause v w load reading e
   by-references : (frame : Frame) (below : List Frame) (x : N) → reading.frames ≡ frame ∷ below → (decoded : IsDecoded v frame x) → IsForm v frame
       → references_fault w (Owner.Load reading.load) [] (v.references x) ≡ Some e → Cause v w load reading e
-  by-handle : (node : NodeNumber) (t : ℕ) (h : HandleNumber) → load.root ≡ of_cell node t h → handle_fault w Owner.Caller h any_mode ≡ Some e → Cause v w load reading e
+  by-handle : (node : NodeNumber) (t : ℕ) (h : HandleNumber) → load.root ≡ of_cell node t h → handle_fault w Owner.Caller h any_mode ≡ Some e
+      → Cause v w load reading e
 
 module _ {N E : Type 0} (v : Values N) (s : MachineState N E) (trees : ℕ → Tree) (on : IsGoingOn v s trees) (lawful : IsLawful v) where
   abbrev w : Core
@@ -193,7 +220,8 @@ module _ {N E : Type 0} (v : Values N) (s : MachineState N E) (trees : ℕ → T
     no-load-fault : (P : Error → Type 0) → Only P (load_fault w Owner.Caller reading.load)
     no-load-fault P e is = absurd (let f = ap (load_fault w Owner.Caller) number ∙ may in cc)
 
-    need-there : (kind : Kind) (key : ℕ) → Needs v.types reading.frames kind key → (blob : Blob) × (w.stored key ≡ Some blob) × (is_eager kind.0 ≡ true → length reading.frames ≤ longest_path)
+    need-there : (kind : Kind) (key : ℕ) → Needs v.types reading.frames kind key → (blob : Blob) × (w.stored key ≡ Some blob)
+        × (is_eager kind.0 ≡ true → length reading.frames ≤ longest_path)
     need-there = needed v s trees on.fits out.t load.key reading.node_type out.i out.height out.known typed reading.frames fits going.asked
 
     -- the front of what is needed
@@ -202,29 +230,36 @@ module _ {N E : Type 0} (v : Values N) (s : MachineState N E) (trees : ℕ → T
 
     form-of : (frame : Frame) (below : List Frame) → reading.frames ≡ frame ∷ below → (x : N) → IsDecoded v frame x → IsForm v frame
     form-of frame below is x decoded = formed v s trees on.fits out.t load.key reading.node_type out.i out.height out.known typed frame below
-        (subst (λ fs. FramesFit v.types w.stored trees load.key reading.node_type fs) is fits) (subst (λ fs. FramesAsked v.types fs) is going.asked) decoded.own decoded.read
+        (subst (λ fs. FramesFit v.types w.stored trees load.key reading.node_type fs) is fits) (subst (λ fs. FramesAsked v.types fs) is going.asked) decoded.own
+        decoded.read
 
     ask-chance : (want : Want) (mid : Core) (e : Error)
-        → Refused (ask_fault w Owner.Caller reading.load want) (ask_fault w Owner.Caller reading.load want) ((is_known w want ≡ true) × AreHandlesFull w) w e mid → IsOfChance e
+        → Refused (ask_fault w Owner.Caller reading.load want) (ask_fault w Owner.Caller reading.load want) ((is_known w want ≡ true) × AreHandlesFull w) w e
+        mid → IsOfChance e
     ask-chance want mid e r = only-refused {P = IsOfChance} e r (only-earlier _ _ (no-load-fault _) (λ e is. grind (arith, nat_tests, only-if IsOfChance))) tt
 
-    nested-asked : (kind : Kind) (key : ℕ) (blob : Blob) (mid : Core) (e : Error) → w.stored key ≡ Some blob → AskCall w Owner.Caller reading.load (Want.Nested kind key) (Err e) mid → IsOfChance e
+    nested-asked : (kind : Kind) (key : ℕ) (blob : Blob) (mid : Core) (e : Error) → w.stored key ≡ Some blob
+        → AskCall w Owner.Caller reading.load (Want.Nested kind key) (Err e) mid → IsOfChance e
     nested-asked kind key blob mid e is c = elim c.refused [
       | inl r ↦ ask-chance (Want.Nested kind key) mid e r
       | inr (other, owned, vain) ↦ (grind (arith, nat_tests))
     ]
 
-    of-lazy : (mid : Core) (e : Error) (kind : Kind) (key : ℕ) → need_of v.types reading.frames ≡ needs_lazy kind key → LazyCall w Owner.Caller reading.load kind key (Err e) mid → IsOfChance e
+    of-lazy : (mid : Core) (e : Error) (kind : Kind) (key : ℕ) → need_of v.types reading.frames ≡ needs_lazy kind key
+        → LazyCall w Owner.Caller reading.load kind key (Err e) mid → IsOfChance e
     of-lazy mid e kind key needs c = only-refused {P = IsOfChance} e c.refused
-        (only-earlier _ _ (no-load-fault _) (only-earlier _ _ (λ f so. absurd (never _ Error.WrongKind f (grind (arith, nat_tests)) so)) (only-node IsOfChance w kind key tt))) tt
+        (only-earlier _ _ (no-load-fault _) (only-earlier _ _ (λ f so. absurd (never _ Error.WrongKind f (grind (arith, nat_tests)) so))
+        (only-node IsOfChance w kind key tt))) tt
 
     of-node : (mid : Core) (e : Error) → RefusesNode v w Owner.Caller reading e mid → C e
     unfolding FramesFit FramesAsked
     of-node mid e r =
         let n = r.reads_node in
         let right : (is_eager n.top.kind.0 ≡ true) × (n.top.node_type ≡ type_of n.top.kind.0) = grind (arith, nat_tests, fits, going, adopted-over) in
-        only-refused {P = C} e r.adopted.refused.1 (only-earlier _ _ (no-load-fault _) (only-earlier _ _ (λ f so. absurd (never _ Error.WrongMode f (grind (arith, nat_tests)) so))
-        (only-earlier _ _ (λ f so. absurd (never _ Error.WrongKind f (ap (λ x. not (x == (type_of n.top.kind.0))) (n.decoded.typed ∙ right.1) ∙ ap not (self-number (type_of n.top.kind.0))) so))
+        only-refused {P = C} e r.adopted.refused.1 (only-earlier _ _ (no-load-fault _)
+        (only-earlier _ _ (λ f so. absurd (never _ Error.WrongMode f (grind (arith, nat_tests)) so))
+        (only-earlier _ _ (λ f so. absurd (never _ Error.WrongKind f (ap (λ x. not (x == (type_of n.top.kind.0))) (n.decoded.typed ∙ right.1)
+        ∙ ap not (self-number (type_of n.top.kind.0))) so))
         (only-earlier _ _ (λ f a. by-references n.top n.below r.x n.frames n.decoded (form-of n.top n.below n.frames r.x n.decoded) a)
         (λ f a. by-chance (only-node IsOfChance w n.top.kind n.top.key tt f a)))))) (by-chance tt)
 
@@ -236,7 +271,8 @@ module _ {N E : Type 0} (v : Values N) (s : MachineState N E) (trees : ℕ → T
           absurd (subst IsOfKey (ap (λ (x : OpenLoad). x.root) same ∙ paged.3) is.sort)
       | inl (is, ended) ↦ only-refused {P = C} e ended.refused.1 (only-earlier _ _ (no-load-fault _) (only-earlier _ _
           (λ f a. by-chance (grind (arith, nat_tests, number, fits, of-type, either, never, only-if IsOfChance, self-number)))
-          (λ f a. by-references r.reads_root.root [] r.x r.reads_root.frames r.reads_root.decoded (form-of r.reads_root.root [] r.reads_root.frames r.x r.reads_root.decoded) a)))
+          (λ f a. by-references r.reads_root.root [] r.x r.reads_root.frames r.reads_root.decoded
+          (form-of r.reads_root.root [] r.reads_root.frames r.x r.reads_root.decoded) a)))
           (by-chance tt)
     ]
 
@@ -247,10 +283,16 @@ module _ {N E : Type 0} (v : Values N) (s : MachineState N E) (trees : ℕ → T
         by-handle c.node (v.node_type r.x) c.h (ap (λ (x : OpenLoad). x.root) (sym same) ∙ c.may.of_node) c.why
     cause w' e (inl gives) = elim gives.meets [
       | inl (refuses, a) ↦
-          by-chance (grind (arith, nat_tests, not-broken v s trees on.fits out.t load.key reading.node_type out.i out.height out.known typed reading.frames fits going.asked))
+          by-chance (grind (
+            arith,
+            nat_tests,
+            not-broken v s trees on.fits out.t load.key reading.node_type out.i out.height out.known typed reading.frames fits
+                going.asked,
+          ))
       | inr (inl (first, asked)) ↦ by-chance (grind (arith, nat_tests, ask-chance, same_some, number, found))
       | inr (inr (inl (kind, key, needs, inl asked))) ↦ let n = need-there kind key (inl needs) in by-chance (nested-asked kind key n.0 gives.mid e n.1 asked)
-      | inr (inr (inl (kind, key, needs, inr (blob, is, deep, asked)))) ↦ absurd (let n = (need-there kind key (inl needs)).2 (front reading.frames kind key needs) in omega arith)
+      | inr (inr (inl (kind, key, needs, inr (blob, is, deep, asked)))) ↦
+          absurd (let n = (need-there kind key (inl needs)).2 (front reading.frames kind key needs) in omega arith)
       | inr (inr (inr (inl (kind, key, needs, asked)))) ↦ by-chance (of-lazy gives.mid e kind key needs asked)
       | inr (inr (inr (inr (inl node)))) ↦ of-node gives.mid e node
       | inr (inr (inr (inr (inr root)))) ↦ of-root gives.mid e root
@@ -291,9 +333,11 @@ module _ (types : Types) (stored : ℕ → Option Blob) where
   -- a path goes on by one more reference
   goes-further : {t key n u last : ℕ} (blob : Blob) (kinds : List ℕ) (kind : Kind) (child : ℕ) → LeadsDown types stored t key n u last → stored last ≡ Some blob
       → after_kinds types u blob kinds ≡ asks kind child → is_eager kind.0 ≡ true → LeadsDown types stored t key (n + 1) (type_of kind.0) child
-  goes-further blob kinds kind child (is-there t key) is next eager = goes-down t key child 0 (0 + 1) (type_of kind.0) child blob kinds kind refl is next eager (is-there (type_of kind.0) child)
+  goes-further blob kinds kind child (is-there t key) is next eager = goes-down t key child 0 (0 + 1) (type_of kind.0) child blob kinds kind refl is next eager
+      (is-there (type_of kind.0) child)
   goes-further blob kinds kind child (goes-down t key c n longer u last b ks k e at step own more) is next eager =
-      goes-down t key c (n + 1) (longer + 1) (type_of kind.0) child b ks k (omega (arith, e)) at step own (goes-further blob kinds kind child more is next eager)
+      goes-down t key c (n + 1) (longer + 1) (type_of kind.0) child b ks k (omega (arith, e)) at step own
+      (goes-further blob kinds kind child more is next eager)
 
   module _ (trees : ℕ → Tree) (root_key root_type : ℕ) where
     -- the path comes down to each frame's blob, which is stored
@@ -337,8 +381,10 @@ module _ {N B W : Type 0} (m : Seen N B W) (lawful : IsLawful m.values) (w : Cor
     | inl (refuses, a) ↦ (grind (arith, nat_tests, down-to, kinds_of, faulty-by-kinds, next_in))
     | inr (inl (first, c)) ↦ absurd (not-asked Want.Root gives.mid c)
     | inr (inr (inl nested)) ↦ nested-deep gives.mid nested
-    | inr (inr (inr (inl (kind, key, needs, c)))) ↦ absurd (not-refused c.refused (search (rules, only-earlier {P = NotDeep}, only-load, only-if NotDeep, only-node NotDeep)))
-    | inr (inr (inr (inr (inl node)))) ↦ absurd (not-refused node.adopted.refused.1 (search (rules, only-earlier {P = NotDeep}, only-load, only-if NotDeep, by-references-not, only-node NotDeep)))
+    | inr (inr (inr (inl (kind, key, needs, c)))) ↦ absurd (not-refused c.refused
+        (search (rules, only-earlier {P = NotDeep}, only-load, only-if NotDeep, only-node NotDeep)))
+    | inr (inr (inr (inr (inl node)))) ↦ absurd (not-refused node.adopted.refused.1
+        (search (rules, only-earlier {P = NotDeep}, only-load, only-if NotDeep, by-references-not, only-node NotDeep)))
     | inr (inr (inr (inr (inr root)))) ↦ absurd (elim root.refuses [
       | inl (is, ended) ↦ not-refused ended.refused.1 (only-earlier _ _ (only-load w me reading.load)
           (only-earlier _ _ (λ e is. grind (arith, nat_tests, only-earlier {P = NotDeep}, only-if NotDeep)) (by-references-not root.x)))
@@ -349,26 +395,32 @@ module _ {N B W : Type 0} (m : Seen N B W) (lawful : IsLawful m.values) (w : Cor
 
 module _ {N B W E : Type 0} (m : Seen N B W) (lawful : IsLawful m.values) (s s' : MachineState N E) (trees trees' : ℕ → Tree)
     (on : IsGoingOn m.values s trees) where
-  pub load-cause : (l : LoadNumber) (reply : LoadReply N) (x : LoadSteps m.values (world_of s) l reply (world_of s')) (load : OpenLoad) (e : Error) → s.pager.core.loads l.0 ≡ Some load
+  pub load-cause : (l : LoadNumber) (reply : LoadReply N) (x : LoadSteps m.values (world_of s) l reply (world_of s')) (load : OpenLoad) (e : Error)
+      → s.pager.core.loads l.0 ≡ Some load
       → IsLoadOfPagedOut s load → reply.ended ≡ Some (LoadAnswer.Refused e) → Cause m.values s.pager.core load x.reading e
   load-cause l reply x load e open_load paged is =
       let fails = subst (λ a. Does m.values s.pager.core Owner.Caller x.reading a x.frames s'.pager.core) is x.does.does in
       cause m.values s trees on lawful l x.reading load x.at x.may open_load paged s'.pager.core e fails.0
 
-  pub load-faultless : (event : Event N B W) (reply : EventReply N B W) → Happens m (world_of s) event reply (world_of s') → LoadIsFaultless s trees event reply s' trees'
+  pub load-faultless : (event : Event N B W) (reply : EventReply N B W) → Happens m (world_of s) event reply (world_of s')
+      → LoadIsFaultless s trees event reply s' trees'
   load-faultless (Event.LoadStep l) (EventReply.LoadMoved (Ok reply)) is = λ load e open_load paged ended.
       let why = load-cause l reply is.moves load e open_load paged ended in grind (arith, nat_tests, by-all, by-handle-row)
   load-faultless event reply is = tt
 
-  by-reading : (me : Owner) (reading : Reading) (load : OpenLoad) → IsReadingOf s.work reading ⊎ IsFresh s.pager.core reading → s.pager.core.loads reading.load.0 ≡ Some load → (w' : Core)
+  by-reading : (me : Owner) (reading : Reading) (load : OpenLoad) → IsReadingOf s.work reading ⊎ IsFresh s.pager.core reading
+      → s.pager.core.loads reading.load.0 ≡ Some load → (w' : Core)
       → Fails m.values s.pager.core me reading Error.TooDeep w' → ReadsTooDeep m.values.types s.pager.core.stored reading.node_type load.key
   by-reading me reading load stands open_load w' fails =
-      let g = going-of s trees on.readings reading stands in fails-deep m lawful s.pager.core me reading trees load.key reading.node_type (g.fits load open_load) g.asked w' fails
+      let g = going-of s trees on.readings reading stands in fails-deep m lawful s.pager.core me reading trees load.key reading.node_type
+      (g.fits load open_load) g.asked w' fails
 
-  pub load-deep : (event : Event N B W) (reply : EventReply N B W) → Happens m (world_of s) event reply (world_of s') → LoadIsDeep m.values s trees event reply s' trees'
+  pub load-deep : (event : Event N B W) (reply : EventReply N B W) → Happens m (world_of s) event reply (world_of s')
+      → LoadIsDeep m.values s trees event reply s' trees'
   load-deep (Event.LoadStep l) (EventReply.LoadMoved (Ok reply)) is = λ reading load at open_load ended.
       let x = is.moves in let same : x.reading ≡ reading = same_some _ _ (sym x.at ∙ at) in let fails = rw (same, ended) at x.does.does in
-      by-reading Owner.Caller reading load (reading-stands (world_of s) on.whole.pager.whole l reading at) (reading-open s on.whole l reading at open_load) s'.pager.core fails.0
+      by-reading Owner.Caller reading load (reading-stands (world_of s) on.whole.pager.whole l reading at) (reading-open s on.whole l reading at open_load)
+      s'.pager.core fails.0
   load-deep (Event.WorkerStep n) (EventReply.WorkerMoved (Ok reply)) is = λ walking r place through reading below load i there todo open_load taken.
       let x = is.moves in let same : x.walking ≡ walking = same_some _ _ (sym x.at ∙ there) in let step = rw (same, todo, taken) at x.does.does in
       by-reading (owner_worker n.0) reading load (inl (of_worker n.0 place walking r through below there todo)) open_load x.after.core step.1.refused.0.does.0

@@ -20,7 +20,8 @@ use Rattle.{pagable_theorems.specs.TreeSteps.{reading-ends, reads-blob, reads-ro
 abbrev pub AllGot : (ArcRef → Type 0) → List Frame → Type 0
 AllGot P frames = (frame : Frame) (r : ArcRef) → Among frames frame → Among frame.got r → P r
 
-pub asked : (below : List Frame) (next : Next) (kind : Kind) (key : ℕ) → (need_at below next ≡ needs_nested kind key) ⊎ (need_at below next ≡ needs_lazy kind key) → next ≡ asks kind key
+pub asked : (below : List Frame) (next : Next) (kind : Kind) (key : ℕ) → (need_at below next ≡ needs_nested kind key)
+    ⊎ (need_at below next ≡ needs_lazy kind key) → next ≡ asks kind key
 asked x0 x1 kind key x4 = grind (arith, nat_tests)
 
 pub pushed : {X : Type 0} (xs : List X) (y : X) (i : ℕ) (x : X) → slice_get (xs ++ y ∷ []) i ≡ Some x → (slice_get xs i ≡ Some x) ⊎ ((i ≡ length xs) × (y ≡ x))
@@ -31,46 +32,68 @@ module _ {stored stored' : ℕ → Option Blob} {types : Types} (kept : KeepsSto
   pub tree-stays : {key : ℕ} {t : Tree} → ReadsTree stored types key t → ReadsTree stored' types key t
   tree-stays {t = t} h = record { own = h.own; reads = grind (arith, nat_tests); follows = followed-all (λ n key m r. grind (arith, nat_tests)) h.follows }
 
-  pub node-stays : {trees trees' : ℕ → Tree} {key t n : ℕ} → trees' n ≡ trees n → ReadsNodeTree types stored trees key t n → ReadsNodeTree types stored' trees' key t n
-  node-stays {key = key} same h = record { typed = ap (λ (z : Tree). z.type) same ∙ h.typed; reads = subst (λ (z : Tree). ReadsTree stored' types key z) (sym same) (tree-stays h.reads) }
+  pub node-stays : {trees trees' : ℕ → Tree} {key t n : ℕ} → trees' n ≡ trees n → ReadsNodeTree types stored trees key t n
+      → ReadsNodeTree types stored' trees' key t n
+  node-stays {key = key} same h = record {
+    typed = ap (λ (z : Tree). z.type) same ∙ h.typed;
+    reads = subst (λ (z : Tree). ReadsTree stored' types key z) (sym same) (tree-stays h.reads);
+  }
 
   frame-stays : {trees trees' : ℕ → Tree} {frame : Frame} (last : ℕ) → SameTrees last trees trees' → ((r : ArcRef) → Among frame.got r → r.node.0 ≤ last)
       → FrameFits types stored trees frame → FrameFits types stored' trees' frame
   frame-stays {frame = frame} last same given h =
-      record { is = kept frame.key frame.blob h.is; few = h.few; got = λ place key r is at. node-stays (same r.node.0 (given r (place, is))) (h.got place key r is at) }
+      record {
+        is = kept frame.key frame.blob h.is;
+        few = h.few;
+        got = λ place key r is at. node-stays (same r.node.0 (given r (place, is)))
+            (h.got place key r is at);
+      }
 
 module _ {types : Types} {stored : ℕ → Option Blob} {trees : ℕ → Tree} where
   new-fits : (frame : Frame) → frame.got ≡ [] → stored frame.key ≡ Some frame.blob → FrameFits types stored trees frame
   new-fits frame none_got is = grind arith
 
-  got-fits : (frame : Frame) (q : ArcRef) (key : ℕ) → slice_get frame.blob.keys (length frame.got) ≡ Some key → ReadsNodeTree types stored trees key (type_of q.kind.0) q.node.0
+  got-fits : (frame : Frame) (q : ArcRef) (key : ℕ) → slice_get frame.blob.keys (length frame.got) ≡ Some key
+      → ReadsNodeTree types stored trees key (type_of q.kind.0) q.node.0
       → FrameFits types stored trees frame → FrameFits types stored trees (record frame { got = frame.got ++ q ∷ [] })
   got-fits frame q key next read h = record {
     is = h.is;
     few = let a = length-append frame.got (q ∷ []) in let b = slice_get_within frame.blob.keys (length frame.got) key next in omega (arith, a, b);
-    got = λ place k r is at. elim (pushed frame.got q place r is) [ inl old ↦ h.got place k r old at | inr new ↦ let same : k ≡ key = cc in rw (same, ← new.1) read ];
+    got = λ place k r is at. elim (pushed frame.got q place r is) [
+      | inl old ↦ h.got place k r old at
+      | inr new ↦ let same : k ≡ key = cc in
+          rw (same, ← new.1) read
+    ];
   }
 
 module _ (types : Types) (root_key root_type : ℕ) where
   -- what was read goes on fitting where what was stored stays and each node that was given keeps its tree
-  pub frames-stay : (stored stored' : ℕ → Option Blob) (trees trees' : ℕ → Tree) (last : ℕ) (frames : List Frame) → KeepsStored stored stored' → SameTrees last trees trees'
+  pub frames-stay : (stored stored' : ℕ → Option Blob) (trees trees' : ℕ → Tree) (last : ℕ) (frames : List Frame) → KeepsStored stored stored'
+      → SameTrees last trees trees'
       → AllGot (λ r. r.node.0 ≤ last) frames → FramesFit types stored trees root_key root_type frames → FramesFit types stored' trees' root_key root_type frames
   unfolding FramesFit
   frames-stay stored stored' trees trees' last [] kept same given h = tt
-  frames-stay stored stored' trees trees' last (frame ∷ []) kept same given (fits, key, typed) = (frame-stays kept last same (λ r among. given frame r (zero, refl) among) fits, key, typed)
+  frames-stay stored stored' trees trees' last (frame ∷ []) kept same given (fits, key, typed) =
+      (frame-stays kept last same (λ r among. given frame r (zero, refl) among) fits, key, typed)
   frames-stay stored stored' trees trees' last (frame ∷ next ∷ rest) kept same given (fits, typed, next_is, more) =
       let below = frames-stay stored stored' trees trees' last (next ∷ rest) kept same (λ f r among got. given f r (suc among.0, among.1) got) more in
       (frame-stays kept last same (λ r among. given frame r (zero, refl) among) fits, typed, next_is, below)
 
   module _ (stored : ℕ → Option Blob) (trees : ℕ → Tree) where
     -- and with a handle that the innermost blob gets, of a node whose tree the key reads as
-    grown : (frame : Frame) (below : List Frame) (kind : Kind) (key : ℕ) (row : HandleRow) → next_in types frame ≡ asks kind key → ReadsNodeTree types stored trees key (type_of kind.0) row.node.0
+    grown : (frame : Frame) (below : List Frame) (kind : Kind) (key : ℕ) (row : HandleRow) → next_in types frame ≡ asks kind key
+        → ReadsNodeTree types stored trees key (type_of kind.0) row.node.0
         → FramesFit types stored trees root_key root_type (frame ∷ below) → FramesAsked types (frame ∷ below)
         → FramesFit types stored trees root_key root_type (with_got kind row (frame ∷ below)) × FramesAsked types (with_got kind row (frame ∷ below))
     unfolding FramesFit FramesAsked
-    grown frame [] kind key row next read (fits, key_is, typed) got = ((got-fits frame _ key (asks_next types frame kind key next) read fits, key_is, typed), one-got frame.got _ _ key got next refl)
-    grown frame (under ∷ rest) kind key row next read (fits, typed, over, more) (got, eager, asked, below) =
-        ((got-fits frame _ key (asks_next types frame kind key next) read fits, typed, over, more), (one-got frame.got _ _ key got next refl, eager, asked, below))
+    grown frame [] kind key row next read (fits, key_is, typed) got = (
+      (got-fits frame _ key (asks_next types frame kind key next) read fits, key_is, typed),
+      one-got frame.got _ _ key got next refl,
+    )
+    grown frame (under ∷ rest) kind key row next read (fits, typed, over, more) (got, eager, asked, below) = (
+      (got-fits frame _ key (asks_next types frame kind key next) read fits, typed, over, more),
+      (one-got frame.got _ _ key got next refl, eager, asked, below),
+    )
 
     pub first-fits : (top : Frame) (below : List Frame) → FramesFit types stored trees root_key root_type (top ∷ below) → FrameFits types stored trees top
     unfolding FramesFit
@@ -84,24 +107,28 @@ module _ (P : ArcRef → Type 0) where
   all-new frame frames bare all f r (zero, is) (place, there) = grind (arith, nat_tests)
   all-new frame frames bare all f r (suc i, is) among = all f r (i, is) among
 
-  pub all-more : (frames : List Frame) (kind : Kind) (row : HandleRow) → P (record { kind = kind; node = row.node; handle = row.number }) → AllGot P frames → AllGot P (with_got kind row frames)
+  pub all-more : (frames : List Frame) (kind : Kind) (row : HandleRow) → P (record { kind = kind; node = row.node; handle = row.number }) → AllGot P frames
+      → AllGot P (with_got kind row frames)
   all-more [] kind row new all frame r (i, is) got = absurd (cc)
   all-more (top ∷ below) kind row new all frame r (suc i, is) got = all frame r (suc i, is) got
   all-more (top ∷ below) kind row new all frame r (zero, is) (j, there) =
       let grown : record top { got = top.got ++ record { kind = kind; node = row.node; handle = row.number } ∷ [] } ≡ frame = cc in
-      elim (pushed top.got _ j r (subst (λ (f : Frame). slice_get f.got j ≡ Some r) (sym grown) there)) [ inl old ↦ all top r (zero, refl) (j, old) | inr last ↦ subst P last.1 new ]
+      elim (pushed top.got _ j r (subst (λ (f : Frame). slice_get f.got j ≡ Some r) (sym grown) there))
+      [ inl old ↦ all top r (zero, refl) (j, old) | inr last ↦ subst P last.1 new ]
 
 pub row-held : (w : Core) (k : HandleNumber) (row : HandleRow) → row_at w k ≡ Some row → 0 < held row.node.0 w.rows
 row-held w k row is = let a = at-most-sum (λ h. one (is_at row.node.0 h)) w.rows row (among-found k.0 w.rows row is) in grind (arith, nat_tests, self-number)
 
 pub row-pins : (w : Core) (k : HandleNumber) (row : HandleRow) → row_at w k ≡ Some row → is_pinning row.mode ≡ true → 0 < pins row.node.0 w.rows
-row-pins w k row is pinning = let a = at-most-sum (λ h. one (is_pin row.node.0 h)) w.rows row (among-found k.0 w.rows row is) in grind (arith, nat_tests, self-number)
+row-pins w k row is pinning = let a = at-most-sum (λ h. one (is_pin row.node.0 h)) w.rows row (among-found k.0 w.rows row is) in
+    grind (arith, nat_tests, self-number)
 
 pub stands-here : {N E : Type 0} {v : Values N} {s : PagerState N E} {n : ℕ} {t : Tree} {x : N} → NodeStands v s n t → s.values n ≡ Some x → ValueStands v s x t
 stands-here x0 is = grind (arith, nat_tests)
 
 -- each handle that pins gives the tree that its node was made with
-pub pin_stands : {N E : Type 0} {v : Values N} (s : PagerState N E) (trees : ℕ → Tree) (k : HandleNumber) (row : HandleRow) → WellFormed v s → Represents v s trees → row_at s.core k ≡ Some row
+pub pin_stands : {N E : Type 0} {v : Values N} (s : PagerState N E) (trees : ℕ → Tree) (k : HandleNumber) (row : HandleRow) → WellFormed v s
+    → Represents v s trees → row_at s.core k ≡ Some row
     → is_pinning row.mode ≡ true → GivesTree v s trees k
 pin_stands {N} s trees k row whole represents live pinning =
     let held_there = row-held s.core k row live in
@@ -126,7 +153,8 @@ frames-on goes l frames held frame r among got =
 
 got-new : {w w' : Core} (l : LoadNumber) (kind : Kind) (n : ℕ) (row : HandleRow) → HandlesAreWhole w' → GetsRow w w' kind n row
     → GotStands w' l (record { kind = kind; node = row.node; handle = row.number })
-got-new {w' = w'} l kind n row whole g = let few = (whole.nodes_numbered row.node.0 (cell-of whole row.node.0 (row-held w' row.number row g.live))).1 in grind (arith, nat_tests)
+got-new {w' = w'} l kind n row whole g = let few = (whole.nodes_numbered row.node.0 (cell-of whole row.node.0 (row-held w' row.number row g.live))).1 in
+    grind (arith, nat_tests)
 
 -- what was read fits, what was got names nodes as it should, and was asked for
 pub record FitAfter {N : Type 0} (v : Values N) (w : Core) (trees : ℕ → Tree) (reading : Reading) (load : OpenLoad) (frames : List Frame) : Type 0 where
@@ -144,12 +172,14 @@ pub record Going {N E : Type 0} (v : Values N) (s : PagerState N E) (trees : ℕ
   pub asked : FramesAsked v.types reading.frames
 
 -- one that has just begun
-pub going-new : {N E : Type 0} {v : Values N} (s : PagerState N E) (trees : ℕ → Tree) (reading : Reading) → reading.frames ≡ [] → reading.load.0 ≤ s.core.last.load → Going v s trees reading
+pub going-new : {N E : Type 0} {v : Values N} (s : PagerState N E) (trees : ℕ → Tree) (reading : Reading) → reading.frames ≡ []
+    → reading.load.0 ≤ s.core.last.load → Going v s trees reading
 unfolding FramesFit FramesAsked
 going-new {v = v} s trees reading bare within = search (bare, all-none, within)
 
 -- one that makes a step: the machine's, or one that has just begun
-pub going-of : {N E : Type 0} {v : Values N} (s : MachineState N E) (trees : ℕ → Tree) → ((reading : Reading) → IsReadingOf s.work reading → Going v s.pager trees reading) → (reading : Reading)
+pub going-of : {N E : Type 0} {v : Values N} (s : MachineState N E) (trees : ℕ → Tree)
+    → ((reading : Reading) → IsReadingOf s.work reading → Going v s.pager trees reading) → (reading : Reading)
     → IsReadingOf s.work reading ⊎ IsFresh s.pager.core reading → Going v s.pager trees reading
 going-of s trees readings reading (inl is) = readings reading is
 going-of s trees readings reading (inr new) = going-new s.pager trees reading new.0 new.2
@@ -158,7 +188,8 @@ going-of s trees readings reading (inr new) = going-new s.pager trees reading ne
 pub was-open : {c : Change} {w w' : Core} → CoreGoes c w w' → (l : ℕ) (load : OpenLoad) → l ≤ w.last.load → w'.loads l ≡ Some load → w.loads l ≡ Some load
 was-open goes l load within is = elim (goes.loads l load is) [ inl was ↦ was | inr (above, begins) ↦ absurd (omega (arith, within, above)) ]
 
-module _ {N E : Type 0} {v : Values N} {s s' : PagerState N E} {trees trees' : ℕ → Tree} (whole : WellFormed v s) (whole' : WellFormed v s') (stands : Represents v s trees) where
+module _ {N E : Type 0} {v : Values N} {s s' : PagerState N E} {trees trees' : ℕ → Tree} (whole : WellFormed v s) (whole' : WellFormed v s')
+    (stands : Represents v s trees) where
   module _ (reading : Reading) (load : OpenLoad) where
     -- the blob of the reference that it needs is read
     fit-nested : (frames : List Frame) (kind : Kind) (key : ℕ) (blob : Blob) → need_of v.types frames ≡ needs_nested kind key → s'.core.stored key ≡ Some blob
@@ -172,20 +203,25 @@ module _ {N E : Type 0} {v : Values N} {s s' : PagerState N E} {trees trees' : �
         record { fit = (new-fits (nested_frame kind key blob) refl is, refl, next, f.fit); held = held; asked = (none-got [] refl, asked, next, f.asked) }
 
     -- the innermost blob gets what it asks for next
-    fit-grown : (top : Frame) (below : List Frame) (kind : Kind) (key n : ℕ) (row : HandleRow) → next_in v.types top ≡ asks kind key → GetsRow s.core s'.core kind n row
+    fit-grown : (top : Frame) (below : List Frame) (kind : Kind) (key n : ℕ) (row : HandleRow) → next_in v.types top ≡ asks kind key
+        → GetsRow s.core s'.core kind n row
         → ReadsNodeTree v.types s'.core.stored trees' key (type_of kind.0) n → FitAfter v s'.core trees' reading load (top ∷ below)
         → FitAfter v s'.core trees' reading load (with_got kind row (top ∷ below))
     fit-grown top below kind key n row next got reads_n f =
         let read = subst (λ m. ReadsNodeTree v.types s'.core.stored trees' key (type_of kind.0) m) (sym got.at) reads_n in
         let held = all-more (GotStands s'.core reading.load) (top ∷ below) kind row (got-new reading.load kind n row whole'.whole.handles got) f.held in
-        let both = grown v.types load.key reading.node_type s'.core.stored trees' top below kind key row next read f.fit f.asked in search (both.0, held, both.1)
+        let both = grown v.types load.key reading.node_type s'.core.stored trees' top below kind key row next read f.fit f.asked in
+        search (both.0, held, both.1)
 
     fit-got : (frames : List Frame) (kind : Kind) (key n : ℕ) (row : HandleRow) → Needs v.types frames kind key → GetsRow s.core s'.core kind n row
-        → ReadsNodeTree v.types s'.core.stored trees' key (type_of kind.0) n → FitAfter v s'.core trees' reading load frames → FitAfter v s'.core trees' reading load (with_got kind row frames)
+        → ReadsNodeTree v.types s'.core.stored trees' key (type_of kind.0) n → FitAfter v s'.core trees' reading load frames
+        → FitAfter v s'.core trees' reading load (with_got kind row frames)
     fit-got [] kind key n row needs got reads_n f = f
-    fit-got (top ∷ below) kind key n row needs got reads_n f = fit-grown top below kind key n row (asked below (next_in v.types top) kind key needs) got reads_n f
+    fit-got (top ∷ below) kind key n row needs got reads_n f = fit-grown top below kind key n row (asked below (next_in v.types top) kind key needs) got reads_n
+        f
 
-    fit-made : (top : Frame) (below : List Frame) (n : ℕ) (row : HandleRow) → GetsRow s.core s'.core top.kind n row → ReadsNodeTree v.types s'.core.stored trees' top.key (type_of top.kind.0) n
+    fit-made : (top : Frame) (below : List Frame) (n : ℕ) (row : HandleRow) → GetsRow s.core s'.core top.kind n row
+        → ReadsNodeTree v.types s'.core.stored trees' top.key (type_of top.kind.0) n
         → FitAfter v s'.core trees' reading load (top ∷ below) → FitAfter v s'.core trees' reading load (with_got top.kind row below)
     unfolding FramesFit FramesAsked
     fit-made top [] n row got reads_n f = record { fit = tt; held = all-none (GotStands s'.core reading.load) [] refl; asked = tt }
@@ -197,26 +233,33 @@ module _ {N E : Type 0} {v : Values N} {s s' : PagerState N E} {trees trees' : �
     known-reads kind key n known = node-stays goes.stored (fits.same n (whole.whole.cache kind.0 key n known).given) (stands.cache kind.0 key n known)
 
     -- what it had read fits still
-    fit-still : (reading : Reading) (load : OpenLoad) (frames : List Frame) → FitAfter v s.core trees reading load frames → FitAfter v s'.core trees' reading load frames
+    fit-still : (reading : Reading) (load : OpenLoad) (frames : List Frame) → FitAfter v s.core trees reading load frames
+        → FitAfter v s'.core trees' reading load frames
     fit-still reading load frames f = search (frames-stay, goes.stored, fits.same, given-nodes, f.held, f.fit, frames-on, goes, f.asked)
 
-  felt-after : (reading : Reading) (load : OpenLoad) (frames : List Frame) {c : Change} {comes : ℕ → N → Type 0} → CoreGoes c s.core s'.core → ChangeFits v c comes s s' trees trees'
+  felt-after : (reading : Reading) (load : OpenLoad) (frames : List Frame) {c : Change} {comes : ℕ → N → Type 0} → CoreGoes c s.core s'.core
+      → ChangeFits v c comes s s' trees trees'
       → s.core.loads reading.load.0 ≡ Some load → ReadingFeels v s.core reading None frames s'.core c → FitAfter v s'.core trees' reading load reading.frames
       → FitAfter v s'.core trees' reading load frames
   unfolding FramesFit FramesAsked
-  felt-after reading load frames goes fits open_load (reads-root l blob none_read at stored answer is) g = grind (arith, nat_tests, same_some, root_frame, new-fits, none-got, held, all-new, all-none)
+  felt-after reading load frames goes fits open_load (reads-root l blob none_read at stored answer is) g =
+      grind (arith, nat_tests, same_some, root_frame, new-fits, none-got, held, all-new, all-none)
   felt-after reading load frames goes fits open_load (reads-blob kind key blob needs stored answer is) g =
       subst (FitAfter v s'.core trees' reading load) (sym is) (fit-nested reading load reading.frames kind key blob needs (goes.stored key blob stored) g)
   felt-after reading load frames goes fits open_load (gets-known kind key n row needs known got answer is) g =
-      subst (FitAfter v s'.core trees' reading load) (sym is) (fit-got reading load reading.frames kind key n row needs got (known-reads goes fits kind key n known) g)
+      subst (FitAfter v s'.core trees' reading load) (sym is) (fit-got reading load reading.frames kind key n row needs got
+      (known-reads goes fits kind key n known) g)
   felt-after reading load frames goes fits open_load (gets-lazy kind key row needs got answer is) g =
-      subst (FitAfter v s'.core trees' reading load) (sym is) (fit-got reading load reading.frames kind key _ row (inr needs) got (fits.knows kind.0 key _ (refl, refl, refl)) g)
+      subst (FitAfter v s'.core trees' reading load) (sym is) (fit-got reading load reading.frames kind key _ row (inr needs) got
+      (fits.knows kind.0 key _ (refl, refl, refl)) g)
   felt-after reading load frames goes fits open_load (makes-known x made n row known got answer is) g =
       let before = subst (FitAfter v s'.core trees' reading load) made.frames g in
-      subst (FitAfter v s'.core trees' reading load) (sym is) (fit-made reading load made.top made.below n row got (known-reads goes fits made.top.kind made.top.key n known) before)
+      subst (FitAfter v s'.core trees' reading load) (sym is) (fit-made reading load made.top made.below n row got
+      (known-reads goes fits made.top.kind made.top.key n known) before)
   felt-after reading load frames goes fits open_load (makes-node x made row got answer is) g =
       let before = subst (FitAfter v s'.core trees' reading load) made.frames g in
-      subst (FitAfter v s'.core trees' reading load) (sym is) (fit-made reading load made.top made.below _ row got (fits.knows made.top.kind.0 made.top.key _ (refl, refl, refl)) before)
+      subst (FitAfter v s'.core trees' reading load) (sym is) (fit-made reading load made.top made.below _ row got
+      (fits.knows made.top.kind.0 made.top.key _ (refl, refl, refl)) before)
   felt-after reading load frames goes fits open_load (reading-ends end answer is) g = absurd (cc)
 
   module _ {c : Change} {comes : ℕ → N → Type 0} (goes : CoreGoes c s.core s'.core) (fits : ChangeFits v c comes s s' trees trees') where
@@ -236,13 +279,15 @@ module _ {N E : Type 0} {v : Values N} {s s' : PagerState N E} {trees trees' : �
         let before = fit-still goes fits reading load reading.frames (record { fit = g.fits load opened; held = g.held; asked = g.asked }) in
         let after = felt-after reading load frames goes fits opened feels before in
         let fit : ReadingFits v s' trees' (gone_on reading frames) = λ other at.
-        subst (λ (z : OpenLoad). FramesFit v.types s'.core.stored trees' z.key reading.node_type frames) (same_some _ _ (sym opened ∙ was-open goes reading.load.0 other g.within at)) after.fit in
+        subst (λ (z : OpenLoad). FramesFit v.types s'.core.stored trees' z.key reading.node_type frames)
+        (same_some _ _ (sym opened ∙ was-open goes reading.load.0 other g.within at)) after.fit in
         search (still-within reading.load.0 g.within, fit, after.held, after.asked)
 
 pub adopted-over : (below : List Frame) (next : Next) → need_at below next ≡ to_adopt → (frame : Frame) × (rest : List Frame) × (below ≡ frame ∷ rest)
 adopted-over x0 x1 is = grind (arith, nat_tests)
 
-pub root-key : (types : Types) (stored : ℕ → Option Blob) (trees : ℕ → Tree) (k t : ℕ) (frame : Frame) → FramesFit types stored trees k t (frame ∷ []) → frame.key ≡ k
+pub root-key : (types : Types) (stored : ℕ → Option Blob) (trees : ℕ → Tree) (k t : ℕ) (frame : Frame) → FramesFit types stored trees k t (frame ∷ [])
+    → frame.key ≡ k
 unfolding FramesFit
 root-key types stored trees k t frame h = h.1
 
@@ -255,7 +300,8 @@ module _ {N : Type 0} {v : Values N} (lawful : IsLawful v) where
   node-decoded stored trees k t reading x r readable fit = grind (arith, nat_tests, adopted-over, decodes, first-fits)
 
 -- a meaning whose references' nodes have trees of their kinds' types leads to one
-pub led : {trees : ℕ → Tree} (x : Meaning ArcRef) → ((r : ArcRef) → Among (references_in x) r → (trees r.node.0).type ≡ type_of r.kind.0) → (a : Meaning ⊥) × LeadsTo trees x a
+pub led : {trees : ℕ → Tree} (x : Meaning ArcRef) → ((r : ArcRef) → Among (references_in x) r → (trees r.node.0).type ≡ type_of r.kind.0) → (a : Meaning ⊥)
+    × LeadsTo trees x a
 unfolding references_in
 led (number i) h = (number i, number-leads i)
 led (integer z) h = (integer z, integer-leads z)
@@ -274,7 +320,8 @@ led (followed kind x) h = let l = led x h in (followed kind l.0, followed-leads 
 -- ---- from what the pager stands for to what its values lead to
 
 -- the references of a value's meaning are its own
-pub own-refs : {N : Type 0} {v : Values N} → IsLawful v → (x : N) (own : Meaning ArcRef) → v.means x own → (r : ArcRef) → Among (references_in own) r → Among (v.references x) r
+pub own-refs : {N : Type 0} {v : Values N} → IsLawful v → (x : N) (own : Meaning ArcRef) → v.means x own → (r : ArcRef) → Among (references_in own) r
+    → Among (v.references x) r
 own-refs lawful x own means r among = meant-refs _ _ (λ is. sym (lawful.refers x own means is)) r among
 
 -- a value whose references were given leads to its tree where those nodes keep their trees
@@ -305,12 +352,15 @@ module _ {N E : Type 0} {v : Values N} {s : PagerState N E} {trees : ℕ → Tre
 abbrev pub AreLive : Core → Meaning ArcRef → Type 0
 AreLive w x = (r : ArcRef) → Among (references_in x) r → 0 < held r.node.0 w.rows
 
-module _ {N E : Type 0} {v : Values N} {s : PagerState N E} {trees : ℕ → Tree} (lawful : IsLawful v) (well : WellFormed v s) (all : (n : ℕ) → 0 < held n s.core.rows → NodeLeads v s trees n) where
+module _ {N E : Type 0} {v : Values N} {s : PagerState N E} {trees : ℕ → Tree} (lawful : IsLawful v) (well : WellFormed v s)
+    (all : (n : ℕ) → 0 < held n s.core.rows → NodeLeads v s trees n) where
   node-by : (n : ℕ) (o : Option N) → s.values n ≡ o → 0 < held n s.core.rows
-      → ((own : Meaning ArcRef) → LeadsTo trees own (trees n).meaning → AreLive s.core own → MeaningStands v s own (trees n).meaning) → NodeStands v s n (trees n)
+      → ((own : Meaning ArcRef) → LeadsTo trees own (trees n).meaning → AreLive s.core own → MeaningStands v s own (trees n).meaning)
+      → NodeStands v s n (trees n)
   node-by n (Some x) is live follow =
       let l = (all n live).valued x is in
-      let refs : AreLive s.core l.own = λ r among. (given-of well.whole.handles r.node.0 (well.references n x r is (own-refs lawful x l.own l.means r among)).typed).0 in
+      let refs : AreLive s.core l.own = λ r among. (given-of well.whole.handles r.node.0
+      (well.references n x r is (own-refs lawful x l.own l.means r among)).typed).0 in
       here n x l.own (trees n) is l.typed l.means (follow l.own l.leads refs) (all n live).keyed
   -- what has no value in memory has a key
   node-by n None is live follow =
@@ -328,12 +378,14 @@ module _ {N E : Type 0} {v : Values N} {s : PagerState N E} {trees : ℕ → Tre
   stand (followed j c) (followed-leads kind x a n f) e h = let same : c ≡ a = cc in followed-stands kind x a (stand c f same h)
   stand (followed j c) (reference-leads r a typed meant) e h =
       let same : c ≡ (trees r.node.0).meaning = (let f : c ≡ a = cc in f ∙ sym meant) in
-      reference-stands r a (subst (λ (t : Tree). NodeStands v s r.node.0 t) (tree_is _ _ _ _ typed meant) (node-by r.node.0 _ refl (h r (zero, refl)) (λ z l k. stand c l same k)))
+      reference-stands r a (subst (λ (t : Tree). NodeStands v s r.node.0 t) (tree_is _ _ _ _ typed meant)
+      (node-by r.node.0 _ refl (h r (zero, refl)) (λ z l k. stand c l same k)))
   stand m (number-leads i) e h = number-stands i
   stand m l e h = first_of (search (integer-stands, text-stands, pattern-stands, none-stands), cc)
 
 module _ {N E : Type 0} {v : Values N} {c : Change} {comes : ℕ → N → Type 0} {s s' : PagerState N E} {trees trees' : ℕ → Tree} (lawful : IsLawful v)
-    (settled : HoldsSettled v s) (well : WellFormed v s) (well' : WellFormed v s') (stands : Represents v s trees) (moves : Moves comes s s') (goes : CoreGoes c s.core s'.core)
+    (settled : HoldsSettled v s) (well : WellFormed v s) (well' : WellFormed v s') (stands : Represents v s trees) (moves : Moves comes s s')
+    (goes : CoreGoes c s.core s'.core)
     (fits : ChangeFits v c comes s s' trees trees') where
   moved-tree : (n : ℕ) {key : ℕ} → n ≤ s.core.last.node → ReadsTree s'.core.stored v.types key (trees n) → ReadsTree s'.core.stored v.types key (trees' n)
   moved-tree n {key} within reads = subst (λ t. ReadsTree s'.core.stored v.types key t) (sym (fits.same n within)) reads
@@ -342,11 +394,13 @@ module _ {N E : Type 0} {v : Values N} {c : Change} {comes : ℕ → N → Type 
   moved-value n x is =
       let live = given-of well.whole.handles n (well.typed n x is) in
       subst (λ z. ValueLeads v trees' x z) (sym (fits.same n live.1)) (value-on lawful s.core.last.node fits.same
-      (λ r among. (given-of well.whole.handles r.node.0 (well.references n x r is among).typed).1) ((node-leads lawful settled well stands (stands.stands n live.0) refl).valued x is))
+      (λ r among. (given-of well.whole.handles r.node.0 (well.references n x r is among).typed).1)
+      ((node-leads lawful settled well stands (stands.stands n live.0) refl).valued x is))
 
   keyed-old : (n : ℕ) → n ≤ s.core.last.node → SameNode c s.core s'.core n → KeyFits v s' n (trees' n)
   keyed-old n within same key is = elim same.key [
-    | inl stays ↦ moved-tree n within (tree-stays goes.stored ((node-leads lawful settled well stands (stands.stands n (held-of well.whole.handles n same.was)) refl).keyed key (sym stays ∙ is)))
+    | inl stays ↦ moved-tree n within (tree-stays goes.stored ((node-leads lawful settled well stands (stands.stands n (held-of well.whole.handles n same.was))
+        refl).keyed key (sym stays ∙ is)))
     | inr (k, sets, set) ↦ let e : k ≡ key = (cc) in subst (λ q. ReadsTree s'.core.stored v.types q (trees' n)) e (moved-tree n within (fits.sets n k sets))
   ]
 
@@ -358,7 +412,8 @@ module _ {N E : Type 0} {v : Values N} {c : Change} {comes : ℕ → N → Type 
     stands = λ n live. node-by lawful well' leads-again n _ refl live (λ z l k. stand lawful well' leads-again (trees' n).meaning l refl k);
     typed = λ n live. grind (arith, nat_tests, old-node goes, new-node goes well.whole.handles);
     loads = λ l load node t h is root. elim (goes.loads l load is) [
-      | inl stays ↦ node-stays goes.stored (fits.same node.0 (well.whole.loads.roots l load node t h stays root).given.1) (stands.loads l load node t h stays root)
+      | inl stays ↦ node-stays goes.stored (fits.same node.0 (well.whole.loads.roots l load node t h stays root).given.1)
+          (stands.loads l load node t h stays root)
       | inr (above, begins) ↦
           let b = begins node t h root in
           let live = given-of well.whole.handles node.0 b.0 in
@@ -366,8 +421,10 @@ module _ {N E : Type 0} {v : Values N} {c : Change} {comes : ℕ → N → Type 
           let reads = (node-leads lawful settled well stands (stands.stands node.0 live.0) refl).keyed load.key b.1 in
           node-stays goes.stored {trees = trees} (fits.same node.0 live.1) (record { typed = typed; reads = reads })
     ];
-    cache = λ kind key n is. elim (goes.cache kind key n is)
-        [ inl stays ↦ node-stays goes.stored (fits.same n (well.whole.cache kind key n stays).given) (stands.cache kind key n stays) | inr knows ↦ fits.knows kind key n knows ];
+    cache = λ kind key n is. elim (goes.cache kind key n is) [
+      | inl stays ↦ node-stays goes.stored (fits.same n (well.whole.cache kind key n stays).given) (stands.cache kind key n stays)
+      | inr knows ↦ fits.knows kind key n knows
+    ];
   }
 
 pub with-below : (last : ℕ) (t : Tree) (trees : ℕ → Tree) → SameTrees last trees (updated (last + 1) t trees)
@@ -376,7 +433,8 @@ with-below last t trees n within = let e : (n == last + 1) ≡ false = grind (ar
 pub first-of : (b : Bool) (key k : ℕ) → (if b then OptionalDataKey.Some key else OptionalDataKey.None) ≡ OptionalDataKey.Some k → k ≡ key
 first-of x0 key k e = grind (arith, nat_tests)
 
-module _ {N E : Type 0} {v : Values N} {s s' : PagerState N E} {trees : ℕ → Tree} (lawful : IsLawful v) (settled : HoldsSettled v s) (well : WellFormed v s) (well' : WellFormed v s')
+module _ {N E : Type 0} {v : Values N} {s s' : PagerState N E} {trees : ℕ → Tree} (lawful : IsLawful v) (settled : HoldsSettled v s) (well : WellFormed v s)
+    (well' : WellFormed v s')
     (stands : Represents v s trees) where
   abbrev last : ℕ
   last = s.core.last.node
@@ -386,7 +444,8 @@ module _ {N E : Type 0} {v : Values N} {s s' : PagerState N E} {trees : ℕ → 
   live-after n x is = cell-of well'.whole.handles n (given-of well'.whole.handles n (well'.typed n x is)).0
 
   -- where nothing is born and no value can come to an old node, none comes
-  pub none-comes : (n : ℕ) (x : N) → CoreGoes nothing_felt s.core s'.core → s.values n ≡ None → s'.values n ≡ Some x → IsNewNode s.core n ⊎ StaysAway s.core s'.core n → ⊥
+  pub none-comes : (n : ℕ) (x : N) → CoreGoes nothing_felt s.core s'.core → s.values n ≡ None → s'.values n ≡ Some x → IsNewNode s.core n
+      ⊎ StaysAway s.core s'.core n → ⊥
   none-comes n x goes x3 is x5 = grind (arith, nat_tests, live-after, cases_lt, old-node goes, new-node goes well.whole.handles)
 
   -- nothing is felt, and what comes to an old node fits
@@ -394,7 +453,8 @@ module _ {N E : Type 0} {v : Values N} {s s' : PagerState N E} {trees : ℕ → 
       → ChangeFits v nothing_felt comes s s' trees trees
   fits-nothing comes fit = grind (arith, nat_tests)
 
-  pub fits-key : (comes : ℕ → N → Type 0) (m k : ℕ) → ((n : ℕ) (x : N) → comes n x → ⊥) → ReadsTree s'.core.stored v.types k (trees m) → ChangeFits v (sets_key m k) comes s s' trees trees
+  pub fits-key : (comes : ℕ → N → Type 0) (m k : ℕ) → ((n : ℕ) (x : N) → comes n x → ⊥) → ReadsTree s'.core.stored v.types k (trees m)
+      → ChangeFits v (sets_key m k) comes s s' trees trees
   fits-key comes m k unset reads = grind arith
 
   module _ (t0 : Tree) where
@@ -402,50 +462,77 @@ module _ {N E : Type 0} {v : Values N} {s s' : PagerState N E} {trees : ℕ → 
     more = updated (last + 1) t0 trees
 
     -- a node is born of this type and key, of a tree as which the key reads if it has one
-    pub fits-born : (comes : ℕ → N → Type 0) (t : ℕ) (own : OptionalDataKey) → t0.type ≡ t → ((key : ℕ) → own ≡ OptionalDataKey.Some key → ReadsTree s'.core.stored v.types key t0)
-        → ((n : ℕ) (x : N) → comes n x → s.values n ≡ None → s'.values n ≡ Some x → ValueLeads v more x (more n)) → ChangeFits v (bears_node t own) comes s s' trees more
+    pub fits-born : (comes : ℕ → N → Type 0) (t : ℕ) (own : OptionalDataKey) → t0.type ≡ t
+        → ((key : ℕ) → own ≡ OptionalDataKey.Some key → ReadsTree s'.core.stored v.types key t0)
+        → ((n : ℕ) (x : N) → comes n x → s.values n ≡ None → s'.values n ≡ Some x → ValueLeads v more x (more n))
+        → ChangeFits v (bears_node t own) comes s s' trees more
     fits-born comes t own typed reads fit = grind (arith, nat_tests, with-below, updated-at)
 
-    pub fits-born-known : (comes : ℕ → N → Type 0) (k q : ℕ) (own : OptionalDataKey) → t0.type ≡ type_of k → ((key : ℕ) → own ≡ OptionalDataKey.Some key → key ≡ q)
+    pub fits-born-known : (comes : ℕ → N → Type 0) (k q : ℕ) (own : OptionalDataKey) → t0.type ≡ type_of k
+        → ((key : ℕ) → own ≡ OptionalDataKey.Some key → key ≡ q)
         → ReadsTree s'.core.stored v.types q t0
-        → ((n : ℕ) (x : N) → comes n x → s.values n ≡ None → s'.values n ≡ Some x → ValueLeads v more x (more n)) → ChangeFits v (bears_known k q own) comes s s' trees more
+        → ((n : ℕ) (x : N) → comes n x → s.values n ≡ None → s'.values n ≡ Some x → ValueLeads v more x (more n))
+        → ChangeFits v (bears_known k q own) comes s s' trees more
     fits-born-known comes k q own typed same_key reads fit = grind (arith, nat_tests, with-below, updated-at)
 
     -- the value of the node that is born leads to that tree
     pub value-born : (c : Change) (n : ℕ) (x y : N) → CoreGoes c s.core s'.core → s'.values n ≡ Some x → x ≡ y → IsNewNode s.core n
         → ((r : ArcRef) → Among (v.references y) r → r.node.0 ≤ last) → ValueLeads v trees y t0 → ValueLeads v more x (more n)
     value-born c n x y goes is same new few l =
-        rw (same, (new-node goes well.whole.handles n new (live-after n x is)).next, updated-at (last + 1) t0 trees) (value-on lawful last (with-below last t0 trees) few l)
+        rw (same, (new-node goes well.whole.handles n new (live-after n x is)).next, updated-at (last + 1) t0 trees)
+        (value-on lawful last (with-below last t0 trees) few l)
 
   -- some trees after a call fit what it brings
   pub call-fits : {B : Type 0} (c : Change) (call : Call N B) (reply : Reply N B) → CoreGoes c s.core s'.core → AsksWell v s trees call reply
       → CallFeels v s.core Owner.Caller call reply s'.core c → (after : ℕ → Tree) × ChangeFits v c (CallBrings s.core call) s s' trees after
-  call-fits c call reply goes asked (feels-nothing stays) = (_, fits-nothing _ (λ n x brings unset is. absurd (none-comes n x goes unset is (stays n x brings))))
+  call-fits c call reply goes asked (feels-nothing stays) = (
+    _,
+    fits-nothing _
+        (λ n x brings unset is. absurd (none-comes n x goes unset is (stays n x brings))),
+  )
   call-fits c call reply goes asked (feels-birth x brought good) =
       let some = lawful.some x in
       let l = led {trees = trees} some.0 (λ r among. let is = (good r (own-refs lawful x some.0 some.1 r among)).typed in
       same_some _ _ (sym (stands.typed r.node.0 (given-of well.whole.handles r.node.0 is).0) ∙ is)) in
-      let born : (t : Tree) × (t.type ≡ v.node_type x) × ValueLeads v trees x t = (tree (v.node_type x) l.0, refl, record { own = some.0; typed = refl; means = some.1; leads = l.1 }) in
-      let few = λ (r : ArcRef) (among : Among (v.references x) r). (given-of well.whole.handles r.node.0 (good r among).typed).1 in
-      (_, fits-born born.0 _ _ OptionalDataKey.None born.1 (λ key is. absurd (cc)) (λ n y brings unset is. let b = brought n y brings in value-born born.0 _ n y x goes is b.0 b.1 few born.2))
+      let born : (t : Tree) × (t.type ≡ v.node_type x) × ValueLeads v trees x t =
+      (tree (v.node_type x) l.0, refl, record { own = some.0; typed = refl; means = some.1; leads = l.1 }) in
+      let few = λ (r : ArcRef) (among : Among (v.references x) r). (given-of well.whole.handles r.node.0 (good r among).typed).1 in (
+        _,
+        fits-born born.0 _ _ OptionalDataKey.None born.1 (λ key is. absurd (cc)) (λ n y brings unset is. let b = brought n y brings in
+            value-born born.0 _ n y x goes is b.0 b.1 few born.2),
+      )
   call-fits c call reply goes asked (feels-away t key k) =
-      let reads = tree-stays goes.stored asked.reads in
-      (_, fits-born asked.read _ _ (OptionalDataKey.Some key) asked.typed (λ q is. let e : key ≡ q = cc in rw (← e) reads) (λ n y brings unset is. absurd brings))
+      let reads = tree-stays goes.stored asked.reads in (
+        _,
+        fits-born asked.read _ _ (OptionalDataKey.Some key) asked.typed (λ q is. let e : key ≡ q = cc in rw (← e) reads)
+            (λ n y brings unset is. absurd brings),
+      )
   call-fits c call reply goes asked (feels-key h key row owns) = (_, fits-key _ row.node.0 key (λ n y brings. brings) (tree-stays goes.stored (asked row owns)))
   call-fits c call reply goes asked (feels-known kind key h row owns typed) =
       let live = given-of well.whole.handles row.node.0 typed in
       let is_typed : (trees row.node.0).type ≡ type_of kind.0 = same_some _ _ (sym (stands.typed row.node.0 live.0) ∙ typed) in
-      let reads : ReadsNodeTree v.types s'.core.stored trees key (type_of kind.0) row.node.0 = record { typed = is_typed; reads = tree-stays goes.stored (asked row owns) } in (trees, grind arith)
+      let reads : ReadsNodeTree v.types s'.core.stored trees key (type_of kind.0) row.node.0 =
+      record { typed = is_typed; reads = tree-stays goes.stored (asked row owns) } in (trees, grind arith)
   call-fits c call reply goes asked (feels-adopted l kind key x k typed good) =
-      let leads = value-leads lawful settled well stands x asked.stands.own asked.read (Owner.Load l) asked.stands.typed asked.stands.means asked.stands.stands good in
+      let leads = value-leads lawful settled well stands x asked.stands.own asked.read (Owner.Load l) asked.stands.typed asked.stands.means asked.stands.stands
+      good in
       let same = sym asked.stands.typed ∙ typed in let reads = tree-stays goes.stored asked.reads in
-      let few = λ (r : ArcRef) (among : Among (v.references x) r). (given-of well.whole.handles r.node.0 (good r among).typed).1 in
-      (_, fits-born-known asked.read _ kind.0 key _ same (first-of (is_pinned_kind kind.0) key) reads (λ n y brings unset is. value-born asked.read _ n y x goes is brings.0 brings.1 few leads))
-  call-fits c call reply goes asked (feels-lazy l kind key k) =
-      (_, fits-born-known asked.read _ kind.0 key (OptionalDataKey.Some key) asked.typed (λ q is. cc) (tree-stays goes.stored asked.reads) (λ n y brings unset is. absurd brings))
+      let few = λ (r : ArcRef) (among : Among (v.references x) r). (given-of well.whole.handles r.node.0 (good r among).typed).1 in (
+        _,
+        fits-born-known asked.read _ kind.0 key _ same (first-of (is_pinned_kind kind.0) key) reads
+            (λ n y brings unset is. value-born asked.read _ n y x goes is brings.0 brings.1 few leads),
+      )
+  call-fits c call reply goes asked (feels-lazy l kind key k) = (
+    _,
+    fits-born-known asked.read _ kind.0 key (OptionalDataKey.Some key) asked.typed (λ q is. cc) (tree-stays goes.stored asked.reads)
+        (λ n y brings unset is. absurd brings),
+  )
   call-fits c call reply goes asked (feels-end l x k good) =
-      let leads = value-leads lawful settled well stands x in
-      (_, fits-nothing _ (λ n y brings unset is. let meant = asked n brings.1 in rw brings.0 (leads meant.own (trees n) (Owner.Load l) meant.typed meant.means meant.stands good)))
+      let leads = value-leads lawful settled well stands x in (
+        _,
+        fits-nothing _ (λ n y brings unset is. let meant = asked n brings.1 in
+            rw brings.0 (leads meant.own (trees n) (Owner.Load l) meant.typed meant.means meant.stands good)),
+      )
 
   module _ (reading : Reading) (takes : TakesWell v s reading) (fits : ReadingFits v s trees reading) (given : AllGot
       (λ r. r.node.0 ≤ last) reading.frames) where
@@ -460,10 +547,13 @@ module _ {N E : Type 0} {v : Values N} {s s' : PagerState N E} {trees : ℕ → 
           let here = rw root.frames at (fits cell.load cell.open_load) in
           let d = decodes lawful root.root x (takes.types root.root (rw root.frames (zero, refl)))
           (first-fits v.types cell.load.key reading.node_type s.core.stored trees root.root [] here) root.decoded in
-          let under = subst (λ q. ReadsTree s.core.stored v.types q d.t) (root-key v.types s.core.stored trees cell.load.key reading.node_type root.root here) d.reads in
-          let within : n ≤ last = subst (λ m. m ≤ last) cell.is (well.whole.loads.roots reading.load.0 cell.load cell.node cell.t cell.h cell.open_load cell.root).given.1 in
+          let under = subst (λ q. ReadsTree s.core.stored v.types q d.t) (root-key v.types s.core.stored trees cell.load.key reading.node_type root.root here)
+          d.reads in
+          let within : n ≤ last = subst (λ m. m ≤ last) cell.is (well.whole.loads.roots reading.load.0 cell.load cell.node cell.t cell.h cell.open_load
+          cell.root).given.1 in
           let old = old-node goes n within (live-after n x is) in
-          let typed : (trees n).type ≡ v.node_type x = same_some _ _ (sym (stands.typed n (held-of well.whole.handles n old.was)) ∙ sym old.typed ∙ well'.typed n x is) in
+          let typed : (trees n).type ≡ v.node_type x = same_some _ _ (sym (stands.typed n (held-of well.whole.handles n old.was)) ∙ sym old.typed
+          ∙ well'.typed n x is) in
           let cells = rw cell.is at (stands.loads reading.load.0 cell.load cell.node cell.t cell.h cell.open_load cell.root).reads in
           let same : d.t ≡ trees n = one_tree s.core.stored v.types cell.load.key d.t (trees n) (sym d.leads.typed ∙ sym typed) under cells in
           (within, subst (λ z. ValueLeads v trees x z) same d.leads, λ r among. given root.root r (rw root.frames (zero, refl)) (d.got r among))
@@ -472,7 +562,8 @@ module _ {N E : Type 0} {v : Values N} {s s' : PagerState N E} {trees : ℕ → 
       quiet n x nothing x3 is = grind (arith, nat_tests, live-after, root-leads, new-node goes well.whole.handles)
 
       -- a node is born, and the root's value comes to an old one
-      root-on : (t0 : Tree) (n : ℕ) (x : N) → s'.values n ≡ Some x → ReadsRoot v reading x → IsCellOf s.core reading.load n → ValueLeads v (more t0) x (more t0 n)
+      root-on : (t0 : Tree) (n : ℕ) (x : N) → s'.values n ≡ Some x → ReadsRoot v reading x → IsCellOf s.core reading.load n
+          → ValueLeads v (more t0) x (more t0 n)
       root-on t0 n x is root cell =
           let r = root-leads n x is root cell in let same = with-below last t0 trees in
           subst (λ z. ValueLeads v (more t0) x z) (sym (same n r.0)) (value-on lawful last same r.2 r.1)
@@ -482,7 +573,8 @@ module _ {N E : Type 0} {v : Values N} {s s' : PagerState N E} {trees : ℕ → 
         → ReadingFeels v s.core reading answer frames s'.core c → (after : ℕ → Tree) × ChangeFits v c (ReadingBrings v s.core reading) s s' trees after
     reading-fits goes opens (gets-lazy kind key row needs got answer is) =
         let asked = takes.keys kind key needs in
-        let fit = fits-born-known asked.read (ReadingBrings v s.core reading) kind.0 key (OptionalDataKey.Some key) asked.typed (λ q e. cc) (tree-stays goes.stored asked.reads) in
+        let fit = fits-born-known asked.read (ReadingBrings v s.core reading) kind.0 key (OptionalDataKey.Some key) asked.typed (λ q e. cc)
+        (tree-stays goes.stored asked.reads) in
         (_, fit (λ n x brings unset at. elim brings [ inl (reads, new) ↦ absurd (cc) | inr (root, cell) ↦ root-on goes asked.read n x at root cell ]))
     reading-fits goes opens (makes-node x reads row got answer is) =
         let load = opens answer in
@@ -496,9 +588,12 @@ module _ {N E : Type 0} {v : Values N} {s s' : PagerState N E} {trees : ℕ → 
             | inl (reads2, new) ↦
                 let other = (node-decoded lawful s.core.stored trees load.0.key reading.node_type reading y reads2 (top-read y reads2) fit).0 in
                 let top : reads2.top ≡ reads.top = (cc) in
-                let moved : ReadsTree s.core.stored v.types reads.top.key other.t = subst (λ (f : Frame). ReadsTree s.core.stored v.types f.key other.t) top other.reads in
-                let same : other.t ≡ t0 = one_tree s.core.stored v.types reads.top.key other.t t0 (other.typed ∙ ap (λ (f : Frame). f.node_type) top ∙ sym made.0.typed) moved made.0.reads in
-                let few = λ (r : ArcRef) (among : Among (v.references y) r). given reads2.top r (subst (λ fs. Among fs reads2.top) (sym reads2.frames) (zero, refl)) (other.got r among) in
+                let moved : ReadsTree s.core.stored v.types reads.top.key other.t =
+                subst (λ (f : Frame). ReadsTree s.core.stored v.types f.key other.t) top other.reads in
+                let same : other.t ≡ t0 = one_tree s.core.stored v.types reads.top.key other.t t0
+                (other.typed ∙ ap (λ (f : Frame). f.node_type) top ∙ sym made.0.typed) moved made.0.reads in
+                let few = λ (r : ArcRef) (among : Among (v.references y) r). given reads2.top r
+                (subst (λ fs. Among fs reads2.top) (sym reads2.frames) (zero, refl)) (other.got r among) in
                 value-born t0 _ n y y goes at refl new few (subst (λ z. ValueLeads v trees y z) same other.leads)
             | inr (root, cell) ↦ root-on goes t0 n y at root cell
           ]),

@@ -46,7 +46,8 @@ rows-then last more first mid rows le f g q row is small =
 pub rows-stay : (last : ℕ) (rows : List HandleRow) → RowsGo last rows rows
 rows-stay last rows q row is small = record { was = row; live = is; at = refl; mine = λ l own. refl; loose = λ is. is }
 
-pub after-then : {N E : Type 0} {v : Values N} {s m t : PagerState N E} {trees mid after : ℕ → Tree} → After v s trees m mid → After v m mid t after → After v s trees t after
+pub after-then : {N E : Type 0} {v : Values N} {s m t : PagerState N E} {trees mid after : ℕ → Tree} → After v s trees m mid → After v m mid t after
+    → After v s trees t after
 after-then a b = record {
   same = λ n within. b.same n (let c = a.nodes in omega (arith, within, c)) ∙ a.same n within;
   nodes = let c = a.nodes in let d = b.nodes in omega (arith, c, d);
@@ -57,13 +58,15 @@ after-then a b = record {
 
 module _ {N E : Type 0} {v : Values N} (lawful : IsLawful v) where
   -- what a step comes to: a load that goes on is so again, and the value that it answers is that of its key
-  record Stepped (s : PagerState N E) (trees : ℕ → Tree) (key : ℕ) (reading : Reading) (answer : Option (LoadAnswer N)) (frames : List Frame) (s' : PagerState N E) : Type 0 where
+  record Stepped (s : PagerState N E) (trees : ℕ → Tree) (key : ℕ) (reading : Reading) (answer : Option (LoadAnswer N)) (frames : List Frame)
+      (s' : PagerState N E) : Type 0 where
     pub trees' : ℕ → Tree
     pub after : After v s trees s' trees'
     pub still : answer ≡ None → Under v s' trees' key (gone_on reading frames)
     pub right : (x : N) → answer ≡ Some (LoadAnswer.Read x) → ReadIsRight v s' key x
 
-  stepped : (s s' : PagerState N E) (trees : ℕ → Tree) (key : ℕ) (reading : Reading) (answer : Option (LoadAnswer N)) (frames : List Frame) → Under v s trees key reading → HoldsSettled v s' → TakesWell v s reading
+  stepped : (s s' : PagerState N E) (trees : ℕ → Tree) (key : ℕ) (reading : Reading) (answer : Option (LoadAnswer N)) (frames : List Frame)
+      → Under v s trees key reading → HoldsSettled v s' → TakesWell v s reading
       → ReadingStep v Owner.Caller reading s answer frames s' → Stepped s trees key reading answer frames s'
   stepped s s' trees key reading answer frames u settled' takes step =
       let seen : Seen N Blob Written = record { values = v; blob_of = λ b. b; written_of = λ w. w } in
@@ -79,7 +82,13 @@ module _ {N E : Type 0} {v : Values N} (lawful : IsLawful v) where
             let load = felt.opens none in
             let going = going-step u.well step.whole u.stands felt.does.goes fit.1 reading frames load.0 load.1 u.going
             (subst (λ (o : Option (LoadAnswer N)). ReadingFeels v s.core reading o frames s'.core felt.change) none feels) in
-            record { settled = settled'; well = step.whole; stands = stands; going = going; keyed = λ other there. u.keyed other (was-open felt.does.goes reading.load.0 other u.going.within there) };
+            record {
+              settled = settled';
+              well = step.whole;
+              stands = stands;
+              going = going;
+              keyed = λ other there. u.keyed other (was-open felt.does.goes reading.load.0 other u.going.within there);
+            };
         right = λ x is.
             let read = (subst (λ (o : Option (LoadAnswer N)). LoadDoes v s.core Owner.Caller reading o frames s'.core) is step.does.does).0 in
             let load = read.of_key_load in subst (λ q. ReadIsRight v s' q x) (u.keyed load.load load.open_load)
@@ -88,7 +97,8 @@ module _ {N E : Type 0} {v : Values N} (lawful : IsLawful v) where
             (hands reading.load (v.references x) u.well.whole.handles read.handed));
       }
 
-  comes : {reading : Reading} {s s' : PagerState N E} {answer : LoadAnswer N} (run : LoadRun v Owner.Caller reading s answer s') → LoadAsksWell run → (trees : ℕ → Tree) (key : ℕ) → Under v s trees key reading → Stepped s trees key reading (Some answer) [] s'
+  comes : {reading : Reading} {s s' : PagerState N E} {answer : LoadAnswer N} (run : LoadRun v Owner.Caller reading s answer s') → LoadAsksWell run
+      → (trees : ℕ → Tree) (key : ℕ) → Under v s trees key reading → Stepped s trees key reading (Some answer) [] s'
   unfolding LoadAsksWell
   comes (load-ends reading answer s s' step) asks trees key u = stepped s s' trees key reading (Some answer) [] u asks.0 asks.1 step
   comes (load-goes-on reading frames answer s mid s' step more) asks trees key u =
@@ -96,7 +106,8 @@ module _ {N E : Type 0} {v : Values N} (lawful : IsLawful v) where
       let rest = comes more asks.2 a.trees' key (a.still refl) in
       record { trees' = rest.trees'; after = after-then a.after rest.after; still = λ none. absurd (cc); right = rest.right }
 
-  module _ (s mid : PagerState N E) (trees : ℕ → Tree) (well : WellFormed v s) (settled : HoldsSettled v s) (stands : Represents v s trees) (does : Goes nothing_felt s.core mid.core) (moves : Moves (λ n x. ⊥) s mid) (whole : WellFormed v mid) where
+  module _ (s mid : PagerState N E) (trees : ℕ → Tree) (well : WellFormed v s) (settled : HoldsSettled v s) (stands : Represents v s trees)
+      (does : Goes nothing_felt s.core mid.core) (moves : Moves (λ n x. ⊥) s mid) (whole : WellFormed v mid) where
     begun : After v s trees mid trees
     begun = search (
       does.nodes,
@@ -106,7 +117,8 @@ module _ {N E : Type 0} {v : Values N} (lawful : IsLawful v) where
           (fits-nothing lawful settled well whole stands (λ n x. ⊥) (λ n x comes none is. absurd comes)),
     )
 
-    under : (w : Core) (l : LoadNumber) (t key : ℕ) (root : Root) → l.0 ≡ w.last.load + 1 → Alike (with_load w key root Owner.Caller) mid.core → Under v mid trees key (fresh l t)
+    under : (w : Core) (l : LoadNumber) (t key : ℕ) (root : Root) → l.0 ≡ w.last.load + 1 → Alike (with_load w key root Owner.Caller) mid.core
+        → Under v mid trees key (fresh l t)
     unfolding FramesFit
     under w l t key root next a =
         let still : HoldsSettled v mid = λ n x has. elim (moves.each n x has) [ inl was ↦ settled n x was | inr came ↦ absurd came.1 ] in
@@ -114,7 +126,8 @@ module _ {N E : Type 0} {v : Values N} (lawful : IsLawful v) where
         grind (arith, nat_tests, same_some, still, whole, begun.stands, going)
 
 -- a load of a cell by one call keeps trees
-pub pin-after : {N E : Type 0} (v : Values N) (s mid s' : PagerState N E) (h : HandleNumber) (reading : Reading) (answer : LoadAnswer N) (run : LoadRun v Owner.Caller reading mid answer s') → WellFormed v s
+pub pin-after : {N E : Type 0} (v : Values N) (s mid s' : PagerState N E) (h : HandleNumber) (reading : Reading) (answer : LoadAnswer N)
+    (run : LoadRun v Owner.Caller reading mid answer s') → WellFormed v s
     → LoadStarts v s h reading mid → LoadAsksWell run → IsLawful v → HoldsSettled v s → (trees : ℕ → Tree) → Represents v s trees
     → (trees' : ℕ → Tree) × After v s trees s' trees'
 pin-after v s mid s' h reading answer run well starts asks lawful settled trees stands =
@@ -127,7 +140,8 @@ pin-after v s mid s' h reading answer run well starts asks lawful settled trees 
     (r.trees', after-then first r.after)
 
 -- so does a load of a key, and a value that it reads stands for the tree that the key reads as
-pub read-after : {N E : Type 0} (v : Values N) (s mid s' : PagerState N E) (key t : ℕ) (l : LoadNumber) (answer : LoadAnswer N) (run : LoadRun v Owner.Caller (fresh l t) mid answer s') → WellFormed v s
+pub read-after : {N E : Type 0} (v : Values N) (s mid s' : PagerState N E) (key t : ℕ) (l : LoadNumber) (answer : LoadAnswer N)
+    (run : LoadRun v Owner.Caller (fresh l t) mid answer s') → WellFormed v s
     → KeyStarts v s key l mid → LoadAsksWell run → IsLawful v → HoldsSettled v s → (trees : ℕ → Tree) → Represents v s trees
     → (trees' : ℕ → Tree) × After v s trees s' trees' × ((x : N) → answer ≡ LoadAnswer.Read x → ReadIsRight v s' key x)
 read-after v s mid s' key t l answer run well starts asks lawful settled trees stands =
@@ -177,7 +191,8 @@ module _ (k : ℕ) (i : Identity) where
       → (all-left (next_start place rs ++ x ∷ below) ≡ all-left (x ∷ below)) × IsWay (next_start place rs ++ x ∷ below)
   started place x1 x2 below more = grind (arith, nat_tests, zero-add)
 
-  given : (r : ArcRef) (key height : ℕ) (below : List Todo) → AllWait below → (all-left (give r key height below) ≡ all-left below) × IsWay (give r key height below)
+  given : (r : ArcRef) (key height : ℕ) (below : List Todo) → AllWait below → (all-left (give r key height below) ≡ all-left below)
+      × IsWay (give r key height below)
   given r key height x3 waits = grind (arith, nat_tests, started)
 
   -- whether the reference is of the identity
@@ -190,7 +205,8 @@ module _ (k : ℕ) (i : Identity) where
   ends : (p : ℕ) (r : ArcRef) (m n : ℕ) → m ≤ n → one (k == p && at r) + m ≤ 0 + (from k p (at r) + n)
   ends p r m n few = grind (arith, nat_tests)
 
-  failed : {next : List Todo} {fault : Fault} {back : Option HandleNumber} (todo : List Todo) → next ≡ to_fail fault back ∷ [] → (one false + all-left next ≤ one false + all-left todo) × IsWay next
+  failed : {next : List Todo} {fault : Fault} {back : Option HandleNumber} (todo : List Todo) → next ≡ to_fail fault back ∷ []
+      → (one false + all-left next ≤ one false + all-left todo) × IsWay next
   failed todo e = rw e (omega arith, tt)
 
   module _ {W : Type 0} (f : W → Written) where
@@ -207,15 +223,18 @@ module _ (k : ℕ) (i : Identity) where
         let a = goes todo step mid way follows in let more = along mid steps last a.1 leads in
         omega (arith, sum_by-cons (λ s. one (is_later_of k i s)) step steps, sum_by-cons (λ s. one (is_claim_of i s)) step steps)
 
-    after-release : (r : ArcRef) (key height : ℕ) (steps : List (Action W)) (last : List Todo) → Leads f (to_release r key height ∷ []) steps last → times (is_later_of k i) steps ≤ 1
+    after-release : (r : ArcRef) (key height : ℕ) (steps : List (Action W)) (last : List Todo) → Leads f (to_release r key height ∷ []) steps last
+        → times (is_later_of k i) steps ≤ 1
     after-release r key height (Action.Release j ∷ x ∷ more) last (mid, (is, e), (after, follows, leads)) = absurd (subst (λ m. Follows f m x after) e follows)
     after-release r key height x3 last x5 = grind (arith, nat_tests)
 
     -- a step that neither claims nor is of the stage
-    once-more : (step : Action W) (steps : List (Action W)) → one (is_later_of k i step) ≡ 0 → times (is_later_of k i) steps ≤ 1 → times (is_later_of k i) (step ∷ steps) ≤ 1
+    once-more : (step : Action W) (steps : List (Action W)) → one (is_later_of k i step) ≡ 0 → times (is_later_of k i) steps ≤ 1
+        → times (is_later_of k i) (step ∷ steps) ≤ 1
     once-more step steps is few = grind (arith, nat_tests)
 
-    few-claims : (step : Action W) (steps : List (Action W)) → times (is_claim_of i) (step ∷ steps) ≤ 1 → one (is_claim_of i step) + times (is_claim_of i) steps ≤ 1
+    few-claims : (step : Action W) (steps : List (Action W)) → times (is_claim_of i) (step ∷ steps) ≤ 1
+        → one (is_claim_of i step) + times (is_claim_of i) steps ≤ 1
     few-claims step steps few = subst (λ n. n ≤ 1) (sum_by-cons (λ s. one (is_claim_of i s)) step steps) few
 
     -- what is left to be done is no more than was claimed
@@ -223,7 +242,8 @@ module _ (k : ℕ) (i : Identity) where
     bounded t d s n c less few most = omega arith
 
     -- the entry of a listed cell, which may be known already
-    entry : (r : ArcRef) (place : ℕ) (steps : List (Action W)) (last : List Todo) → Leads f (to_start r place ∷ []) steps last → times (is_claim_of i) steps ≤ 1 → times (is_later_of k i) steps ≤ 1
+    entry : (r : ArcRef) (place : ℕ) (steps : List (Action W)) (last : List Todo) → Leads f (to_start r place ∷ []) steps last → times (is_claim_of i) steps ≤ 1
+        → times (is_later_of k i) steps ≤ 1
     entry r place [] last leads few = omega arith
     entry r place (Action.Claim j (Ok Claim.Claimed) ∷ steps) last (mid, (is, e), leads) few =
         let few_left : one (at r) + times (is_claim_of i) steps ≤ 1 = subst (λ j. one (is_identity i j) + times (is_claim_of i) steps ≤ 1) is
@@ -235,12 +255,14 @@ module _ (k : ℕ) (i : Identity) where
     entry r place (step ∷ steps) last (mid, follows, leads) few = grind (arith, nat_tests, once-more, bounded, along, few-claims, after-release)
 
     -- what the automaton accepts, with no identity claimed twice, has each stage at most once after its claim
-    pub at-once : (task : Task) (steps : List (Action W)) (last : List Todo) → Leads f (first_todo task) steps last → times (is_claim_of i) steps ≤ 1 → times (is_later_of k i) steps ≤ 1
+    pub at-once : (task : Task) (steps : List (Action W)) (last : List Todo) → Leads f (first_todo task) steps last → times (is_claim_of i) steps ≤ 1
+        → times (is_later_of k i) steps ≤ 1
     at-once x0 steps last leads few = grind (arith, nat_tests, started, bounded, along, zero-add, entry)
 
 module _ {N B W : Type 0} (m : Seen N B W) (n : ℕ) (g : Ground) (task : Task) (s s' : Site) where
   -- what the answer of a key comes from
-  pub answered : (todo : List Todo) (step : Action W) → Does m n s todo step s' → Walks m.values g s.shelf task todo → (key : ℕ) → answer_after todo step ≡ Some (WorkerAnswer.Key key)
+  pub answered : (todo : List Todo) (step : Action W) → Does m n s todo step s' → Walks m.values g s.shelf task todo → (key : ℕ) → answer_after todo step
+      ≡ Some (WorkerAnswer.Key key)
       → IsDone m.values s.shelf task key × ((i : Identity) → s'.shelf.slots i ≡ s.shelf.slots i)
   unfolding Waits
   answered (to_item written ks ∷ below) (Action.Store i (Ok k)) (is, p) (of_it, known) key e =
@@ -248,7 +270,8 @@ module _ {N B W : Type 0} (m : Seen N B W) (n : ℕ) (g : Ground) (task : Task) 
       let done : IsDone m.values s.shelf task key = subst (λ t. IsDone m.values s.shelf t key) (sym of_it)
       (ks, all-known s.shelf longest_path written.references ks p.all known, sym to ∙ b.0, all-low s.shelf longest_path written.references ks p.all known) in
       let t = p.goes in search (done, t.table_stays.slots)
-  answered (to_release r k h ∷ []) (Action.Release i) (is, falls, t) (p, reach, (expects, waits)) key e = let to : k ≡ key = cc in (grind (arith, nat_tests), t.table_stays.slots)
+  answered (to_release r k h ∷ []) (Action.Release i) (is, falls, t) (p, reach, (expects, waits)) key e = let to : k ≡ key =
+      cc in (grind (arith, nat_tests), t.table_stays.slots)
   answered x0 x1 x2 x3 key e = grind (arith, nat_tests)
 
 module _ {N E : Type 0} (v : Values N) (s : MachineState N E) (trees : ℕ → Tree) (fit : WorkFits v s trees) (t : ℕ) where
@@ -261,10 +284,12 @@ module _ {N E : Type 0} (v : Values N) (s : MachineState N E) (trees : ℕ → T
       let k : KeyOfItem v.hash v.types written.bytes (kids_of trees written.references) key = record { keys = keys; each = each; is = is } in
       (k, λ canonical other o. one_item_key.one v.hash v.types written.bytes (kids_of trees written.references) other key canonical o k)
   is-key (of_entry h i) key (height, p) =
-      let k = (stands-for v (ground_of s trees) shelf (fit.slots t) i key height p).right.is_key in (k, λ canonical other o. one_key v.hash v.types (trees i.node.0) other key canonical o k)
+      let k = (stands-for v (ground_of s trees) shelf (fit.slots t) i key height p).right.is_key in
+      (k, λ canonical other o. one_key v.hash v.types (trees i.node.0) other key canonical o k)
 
   met : (task : Task) (key : ℕ) → IsDone v shelf task key → (i : Identity) → Meets shelf task i → (k : ℕ) × ((h : ℕ) × IsPublished shelf i k h)
-  met task key done i (meets-of-item written r is among) = let d = subst (λ x. IsDone v shelf x key) is done in let p = known-of shelf written.references d.0 d.1 r among in (p.0, p.1)
+  met task key done i (meets-of-item written r is among) = let d = subst (λ x. IsDone v shelf x key) is done in let p =
+      known-of shelf written.references d.0 d.1 r among in (p.0, p.1)
   met task key done i (meets-entry h j is) = let d = subst (λ x. IsDone v shelf x key) is done in (key, d)
   met task key done i (meets-below j slot references r above there wrote among) =
       let p = met task key done j above in let q = p.1.1 in
@@ -279,24 +304,31 @@ key-known w n set live = elim (key_at w n) as (λ own. has_key own ≡ true → 
     [ OptionalDataKey.Some key ↦ λ is. (key, refl) | OptionalDataKey.None ↦ λ is. absurd (cc) ] (let keyed = set.keyed in grind (arith, nat_tests, if_there))
 
 -- a cell whose key is published has one by then
-set-by-then : {N B W : Type 0} (m : Seen N B W) (n : ℕ) (s s' : Site) (todo : List Todo) (i : Identity) (key height : ℕ) → Does m n s todo (Action.Publish i key height) s' → AllHold s.core n todo
-    → ((k : ℕ) → HasHandle s.core n k → is_some (s.core.cells k) ≡ true) → is_loose_kind i.kind.0 ≡ true → (set : ℕ) × (key_at s.core i.node.0 ≡ OptionalDataKey.Some set)
-set-by-then m n s s' (to_publish r k h ∷ below) i key height does all live kind = subst (λ (j : Identity). (set : ℕ) × (key_at s.core j.node.0 ≡ OptionalDataKey.Some set)) (sym does.0)
+set-by-then : {N B W : Type 0} (m : Seen N B W) (n : ℕ) (s s' : Site) (todo : List Todo) (i : Identity) (key height : ℕ)
+    → Does m n s todo (Action.Publish i key height) s' → AllHold s.core n todo
+    → ((k : ℕ) → HasHandle s.core n k → is_some (s.core.cells k) ≡ true) → is_loose_kind i.kind.0 ≡ true → (set : ℕ)
+    × (key_at s.core i.node.0 ≡ OptionalDataKey.Some set)
+set-by-then m n s s' (to_publish r k h ∷ below) i key height does all live kind =
+    subst (λ (j : Identity). (set : ℕ) × (key_at s.core j.node.0 ≡ OptionalDataKey.Some set)) (sym does.0)
     (let at = all.0 (subst (λ (j : Identity). is_loose_kind j.kind.0 ≡ true) does.0 kind) in key-known s.core r.node.0 at.0 (live r.node.0 at.1))
 set-by-then m n s s' todo i key height does all live kind = absurd does
 
-module _ {N B W E : Type 0} (m : Seen N B W) (s s' : MachineState N E) (trees trees' : ℕ → Tree) (before : WorkFits m.values s trees) (after : WorkFits m.values s' trees')
+module _ {N B W E : Type 0} (m : Seen N B W) (s s' : MachineState N E) (trees trees' : ℕ → Tree) (before : WorkFits m.values s trees)
+    (after : WorkFits m.values s' trees')
     (earlier : IsMachineWhole m.values s) (whole : IsMachineWhole m.values s')
     (stands : StandsFor m.values s' trees') (held_before : KeysHeld (world_of s)) (held : KeysHeld (world_of s')) where
   module _ (n : WorkerNumber) (reply : WorkerReply W) (w : WorkerSteps m (world_of s) n reply (world_of s')) where
     done : (key : ℕ) → reply.answer ≡ Some (WorkerAnswer.Key key) → IsDone m.values (s'.work.shelves w.walking.table) w.walking.task key
     done key is =
-        let a = answered m n.0 (ground_of s trees) w.walking.task (site_of (world_of s) w.walking) w.after w.walking.todo reply.action w.does.does (before.walks n.0 w.walking w.at) key (sym w.answers ∙ is) in
-        done-on (keys-same (λ i. (w.work.same_shelves w.walking.table).slots i ∙ ap (λ (x : Shelf). x.slots i) (updated-at w.walking.table w.after.shelf s.work.shelves) ∙ a.1 i))
+        let a = answered m n.0 (ground_of s trees) w.walking.task (site_of (world_of s) w.walking) w.after w.walking.todo reply.action w.does.does
+        (before.walks n.0 w.walking w.at) key (sym w.answers ∙ is) in
+        done-on (keys-same (λ i. (w.work.same_shelves w.walking.table).slots i
+        ∙ ap (λ (x : Shelf). x.slots i) (updated-at w.walking.table w.after.shelf s.work.shelves) ∙ a.1 i))
         m.values w.walking.task key a.0
 
     -- the worker as it is afterwards
-    is-after : (P : Walking → Type 0) → P (record w.walking { todo = w.after.todo; steps = reply.steps; answer = reply.answer }) → (walking : Walking) → s'.work.walkings n.0 ≡ Some walking → P walking
+    is-after : (P : Walking → Type 0) → P (record w.walking { todo = w.after.todo; steps = reply.steps; answer = reply.answer }) → (walking : Walking)
+        → s'.work.walkings n.0 ≡ Some walking → P walking
     is-after P p walking there = grind (arith, nat_tests, same_some, updated-at)
 
   left-all : (t : ℕ) (task : Task) (key : ℕ) → IsDone m.values (s'.work.shelves t) task key → LeavesAll m.values s'.pager (s'.work.shelves t) trees' task
@@ -312,13 +344,15 @@ module _ {N B W E : Type 0} (m : Seen N B W) (s s' : MachineState N E) (trees tr
 
   -- each key that is published is its tree's, and a cell had one by then; each that is answered is its task's, and what was met then is left paged out, with keys of its cells
   pub keys-right : (event : Event N B W) (reply : EventReply N B W) → Happens m (world_of s) event reply (world_of s')
-      → PublishIsKey m.values s trees event reply s' trees' × AnswerIsKey m.values s trees event reply s' trees' × AnswerLeavesAll m.values s trees event reply s' trees'
+      → PublishIsKey m.values s trees event reply s' trees' × AnswerIsKey m.values s trees event reply s' trees'
+      × AnswerLeavesAll m.values s trees event reply s' trees'
   keys-right (Event.WorkerStep n) (EventReply.WorkerMoved (Ok reply)) is =
       let w = is.moves in (
         λ i key height e.
             let does = subst (λ (k : Action W). Does m n.0 (site_of (world_of s) w.walking) w.walking.todo k w.after) e w.does.does in
             let set = set-by-then m n.0 (site_of (world_of s) w.walking) w.after w.walking.todo i key height does (held_before.walks n.0 w.walking w.at) (λ k h.
-            subst (λ k. is_some (s.pager.core.cells k) ≡ true) h.at (cell-of earlier.pager.whole.handles h.row.node.0 (row-held s.pager.core h.h h.row h.live))) in (grind (arith, nat_tests), set),
+            subst (λ k. is_some (s.pager.core.cells k) ≡ true) h.at (cell-of earlier.pager.whole.handles h.row.node.0 (row-held s.pager.core h.h h.row h.live)))
+            in (grind (arith, nat_tests), set),
         λ walking key there e. is-after n reply w (λ x. IsKeyOfTask m.values trees' x.task key)
             (is-key m.values s' trees' after w.walking.table w.walking.task key (done n reply w key e)) walking there,
         λ walking key there e. is-after n reply w (λ x. LeavesAll m.values s'.pager (s'.work.shelves x.table) trees' x.task)
@@ -327,23 +361,28 @@ module _ {N B W E : Type 0} (m : Seen N B W) (s s' : MachineState N E) (trees tr
   keys-right event reply is = (tt, tt, tt)
 
 module _ {N E B W : Type 0} (m : Seen N B W) (n : ℕ) (task : Task) (C : Type 0) where
-  went : {todo next : List Todo} {s s' : AccessState N E} {step : Action W} → WalkStep m n todo s step next s' → AllStand s.shelf n task todo → Covers s.shelf n todo
+  went : {todo next : List Todo} {s s' : AccessState N E} {step : Action W} → WalkStep m n todo s step next s' → AllStand s.shelf n task todo
+      → Covers s.shelf n todo
       → ShelfGoes n task s.shelf (answer_after todo step) s'.shelf next
   went {todo} {next} {s} {s'} {step} w all covers = subst (λ t. ShelfGoes n task s.shelf (answer_after todo step) s'.shelf t) (sym w.goes_on)
       (goes-same n task s.shelf w.after.shelf s'.shelf _ w.after.todo w.shelf_is.slots
       (stands-on m n task (record { core = s.pager.core; shelf = s.shelf; todo = todo }) w.after todo refl all covers step w.does.does))
 
   -- What a worker leaves with its answer: of its own claims, and of others'. And what it failed with was met where, if C, what its list fails with was met, and none of its claims had failed.
-  at-answer : {todo : List Todo} {s s' : AccessState N E} {steps : List (Action W)} {answer : WorkerAnswer} → WorkerRun m n todo s steps answer s' → (past : List (Action W)) → AllStand s.shelf n task todo
+  at-answer : {todo : List Todo} {s s' : AccessState N E} {steps : List (Action W)} {answer : WorkerAnswer} → WorkerRun m n todo s steps answer s'
+      → (past : List (Action W)) → AllStand s.shelf n task todo
       → Covers s.shelf n todo → (C → HasNoFailed s.shelf n × FailsMet n s.shelf past todo)
       → ((i : Identity) (slot : Slot) → s'.shelf.slots i ≡ Some slot → slot.worker ≡ n → is_open_outcome slot.outcome ≡ false)
-      × ((i : Identity) (slot : Slot) → s'.shelf.slots i ≡ Some slot → nat_eq slot.worker n ≡ false → s.shelf.slots i ≡ Some slot) × (C → IsMetFailure s'.shelf n (past ++ steps) answer)
+      × ((i : Identity) (slot : Slot) → s'.shelf.slots i ≡ Some slot → nat_eq slot.worker n ≡ false → s.shelf.slots i ≡ Some slot)
+      × (C → IsMetFailure s'.shelf n (past ++ steps) answer)
   at-answer (worker-ends todo next step answer s s' w is) past all covers met =
       let g = went w all covers in let grown = grows n s.shelf s'.shelf g.changes in (
         λ i slot there own.
-            let none : (slot.outcome ≡ no_result → false ≡ true) = λ still. subst (λ t. Covers s'.shelf n t) (g.done answer is) g.covers i slot there own still in grind (arith, nat_tests),
+            let none : (slot.outcome ≡ no_result → false ≡ true) = λ still. subst (λ t. Covers s'.shelf n t) (g.done answer is) g.covers i slot there own
+            still in grind (arith, nat_tests),
         λ i slot there other. grind (arith, nat_tests, some-same),
-        λ c. was-answered n s'.shelf (past ++ step ∷ []) todo step answer is (fails-stay n s.shelf s'.shelf past _ todo grown (λ x (i, at). among-left past (step ∷ []) i x at) (met c).1),
+        λ c. was-answered n s'.shelf (past ++ step ∷ []) todo step answer is
+            (fails-stay n s.shelf s'.shelf past _ todo grown (λ x (i, at). among-left past (step ∷ []) i x at) (met c).1),
       )
   at-answer (worker-goes-on todo next step steps answer s mid s' w is more) past all covers met =
       let g = went w all covers in let grown = grows n s.shelf mid.shelf g.changes in
@@ -351,23 +390,31 @@ module _ {N E B W : Type 0} (m : Seen N B W) (n : ℕ) (task : Task) (C : Type 0
       let on : C → HasNoFailed mid.shelf n × FailsMet n mid.shelf (past ++ step ∷ []) next = λ c.
       let (clean, fails) = met c in
       let already : (i : Identity) → step ≡ Action.Claim i (Ok Claim.AlreadyFailed) → FailedElsewhere mid.shelf n i =
-      λ i is. failed-stays n s.shelf mid.shelf i grown (failed-elsewhere m n site w.after todo i (subst (λ (x : Action W). Does m n site todo x w.after) is w.does.does) clean) in
-      let follows = follows-met n mid.shelf (past ++ step ∷ []) m.written_of todo step w.after.todo (steps_follow m n site w.after step w.does) (among-right past (step ∷ []) 0 step refl) already
+      λ i is. failed-stays n s.shelf mid.shelf i grown (failed-elsewhere m n site w.after todo i
+      (subst (λ (x : Action W). Does m n site todo x w.after) is w.does.does) clean) in
+      let follows = follows-met n mid.shelf (past ++ step ∷ []) m.written_of todo step w.after.todo (steps_follow m n site w.after step w.does)
+      (among-right past (step ∷ []) 0 step refl) already
       (fails-stay n s.shelf mid.shelf past _ todo grown (λ x (i, at). among-left past (step ∷ []) i x at) fails) in
       (g.unfailed is clean, subst (λ t. FailsMet n mid.shelf (past ++ step ∷ []) t) (sym w.goes_on) follows) in
       let a = at-answer more (past ++ step ∷ []) g.all g.covers on in
-      let met : C → IsMetFailure s'.shelf n (past ++ step ∷ steps) answer = λ c. subst (λ past. IsMetFailure s'.shelf n past answer) (append_assoc past (step ∷ []) steps) (a.2 c) in
+      let met : C → IsMetFailure s'.shelf n (past ++ step ∷ steps) answer =
+      λ c. subst (λ past. IsMetFailure s'.shelf n past answer) (append_assoc past (step ∷ []) steps) (a.2 c) in
       grind (arith, nat_tests, some-same, a.0, a.1, met)
 
 -- of an item: where each claim of its table had a result, each has one
 pub item-answered : {N E B W : Type 0} (m : Seen N B W) (n : ℕ) (item : Written) {s s' : AccessState N E} {steps : List (Action W)} {answer : WorkerAnswer}
     → WorkerRun m n (first_todo (of_item item)) s steps answer s' → AllHaveResults s.shelf → AllHaveResults s'.shelf
 item-answered m n item {s} {s'} run all =
-    let a = at-answer m n (of_item item) ⊥ run [] (first-stands s.shelf n (of_item item)) (λ i slot there own still. absurd (let e = all i slot there in grind arith)) (λ c. absurd c) in
-    (λ i slot there. elim (cases_Bool (nat_eq slot.worker n)) [ inl e ↦ a.0 i slot there (same-number slot.worker n e) | inr e ↦ all i slot (a.1 i slot there e) ])
+    let a = at-answer m n (of_item item) ⊥ run [] (first-stands s.shelf n (of_item item))
+    (λ i slot there own still. absurd (let e = all i slot there in grind arith)) (λ c. absurd c) in
+    (λ i slot there. elim (cases_Bool (nat_eq slot.worker n)) [
+      | inl e ↦ a.0 i slot there (same-number slot.worker n e)
+      | inr e ↦ all i slot (a.1 i slot there e)
+    ])
 
 -- of an entry, on a table of no claims: nobody had failed before
-pub entry-answered : {N E B W : Type 0} (m : Seen N B W) (n : ℕ) (h : HandleNumber) (j : Identity) {s s' : AccessState N E} {steps : List (Action W)} {answer : WorkerAnswer}
+pub entry-answered : {N E B W : Type 0} (m : Seen N B W) (n : ℕ) (h : HandleNumber) (j : Identity) {s s' : AccessState N E} {steps : List (Action W)}
+    {answer : WorkerAnswer}
     → WorkerRun m n (first_todo (of_entry h j)) s steps answer s' → ((i : Identity) → s.shelf.slots i ≡ None) → answer ≡ WorkerAnswer.AlreadyFailed → ⊥
 entry-answered {W = W} m n h j {s} {s'} {steps} run none is =
     let a = at-answer m n (of_entry h j) (Unit {0}) run [] (first-stands s.shelf n (of_entry h j)) (λ i slot there own still. some-none there (none i))

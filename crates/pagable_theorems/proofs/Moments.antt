@@ -38,14 +38,23 @@ abbrev pub with-table : Work → Shelf → Work
 with-table work shelf = record work { shelves = updated (work.last_table + 1) shelf work.shelves; last_table = work.last_table + 1 }
 
 pub with-table-rests : (work : Work) (shelf : Shelf) → IsAtRest work → IsAtRest (with-table work shelf)
-with-table-rests work shelf rests = record { unread = rests.unread; answered = λ q w is. let r = rests.answered q w is in (r.0, r.1, let le = r.2 in omega (arith, le)) }
+with-table-rests work shelf rests = record {
+  unread = rests.unread;
+  answered = λ q w is. let r = rests.answered q w is in
+      (r.0, r.1, let le = r.2 in omega (arith, le));
+}
 
 abbrev pub walking-on : ℕ → Task → List Todo → ℕ → Option WorkerAnswer → Walking
 walking-on t task todo count answer = record { table = t; task = task; todo = todo; steps = count; answer = answer }
 
 -- what is worked where the worker n is so far on the table t
 abbrev pub with-worker-at : Work → ℕ → ℕ → Shelf → Walking → Work
-with-worker-at base n t shelf walking = record { shelves = updated t shelf base.shelves; last_table = base.last_table; readings = λ l. None; walkings = updated n (Some walking) base.walkings }
+with-worker-at base n t shelf walking = record {
+  shelves = updated t shelf base.shelves;
+  last_table = base.last_table;
+  readings = λ l. None;
+  walkings = updated n (Some walking) base.walkings;
+}
 
 abbrev pub reply-of : {W : Type 0} → List Todo → ℕ → Action W → WorkerReply W
 reply-of todo count step = record { action = step; answer = answer_after todo step; steps = steps_after count (is_counted todo step) }
@@ -107,7 +116,10 @@ module _ {N E B W : Type 0} (m : Seen N B W) where
       walkings = λ q w is. elim (cases_Bool (q == n)) [
         | inl e ↦
             let same : walking-on t task todo count answer ≡ w = same_some _ _ (rw (e) at is) in
-            record { table = subst (λ (x : Walking). (0 < x.table) × (x.table ≤ base.last_table)) same there; at_work = ap s.pager.core.workers (same-number q n e) ∙ alone.self ∙ ap (λ (x : Walking). is_none x.answer) same }
+            record {
+              table = subst (λ (x : Walking). (0 < x.table) × (x.table ≤ base.last_table)) same there;
+              at_work = ap s.pager.core.workers (same-number q n e) ∙ alone.self ∙ ap (λ (x : Walking). is_none x.answer) same;
+            }
         | inr e ↦ let r = rests.answered q w (rw (e) at is) in record { table = (r.1, r.2); at_work = alone.others q e ∙ sym r.0 }
       ];
       all_there = λ q is. elim (cases_Bool (q == n)) [ inl e ↦ rw (e) refl | inr e ↦ absurd (let f = alone.others q e in cc) ];
@@ -115,14 +127,18 @@ module _ {N E B W : Type 0} (m : Seen N B W) where
 
     -- a worker begins, for an item or for an entry of the list
     starts-so : (core : Core) (s : AccessState N E) (mid : PagerState N E) → base.shelves t ≡ s.shelf → WorkerStarts m.values core s.pager n mid
-        → Starts (world_of (at-rest s.pager base)) (record { 0 = t }) task core (record { 0 = n }) (world_of (at-work (record { pager = mid; shelf = s.shelf }) (first_todo task) 0 None))
+        → Starts (world_of (at-rest s.pager base)) (record { 0 = t }) task core (record { 0 = n })
+        (world_of (at-work (record { pager = mid; shelf = s.shelf }) (first_todo task) 0 None))
     starts-so core s mid on starts = record {
       table = there;
       next = starts.next;
       pager = starts.begins.step;
       readings = λ l. (let f = rests.unread l in (grind (arith, nat_tests)));
       work = record {
-        same_shelves = λ q. elim (cases_Bool (q == t)) [ inl e ↦ rw (e) (same-shelf (sym (ap base.shelves (same-number q t e) ∙ on))) | inr e ↦ rw (e) (same-shelf refl) ];
+        same_shelves = λ q. elim (cases_Bool (q == t)) [
+          | inl e ↦ rw (e) (same-shelf (sym (ap base.shelves (same-number q t e) ∙ on)))
+          | inr e ↦ rw (e) (same-shelf refl)
+        ];
         last_is = refl;
         same_walkings = λ q. refl;
       };
@@ -145,17 +161,21 @@ module _ {N E B W : Type 0} (m : Seen N B W) where
 
     pub item-began : (item : W) (s : AccessState N E) (mid : PagerState N E) → task ≡ of_item (m.written_of item) → base.shelves t ≡ s.shelf
         → WorkerStarts m.values s.pager.core s.pager n mid → NobodyWorks s.pager.core
-        → DoesMoment m (at-rest s.pager base) (Event.WorkerItem (record { 0 = t }) item) (EventReply.WorkerMade (Ok (record { 0 = n }))) (at-work (record { pager = mid; shelf = s.shelf }) (first_todo task) 0 None)
-    item-began item s mid is on starts nobody = began s.pager.core s mid (Event.WorkerItem (record { 0 = t }) item) (EventReply.WorkerMade (Ok (record { 0 = n }))) starts nobody refl (record {
-      starts = subst (λ (x : Task). Starts (world_of (at-rest s.pager base)) (record { 0 = t }) x s.pager.core (record { 0 = n }) (world_of (at-work (record { pager = mid; shelf = s.shelf }) (first_todo task) 0 None))) is
-          (starts-so s.pager.core s mid on starts);
-      refused = tt;
-    }) tt
+        → DoesMoment m (at-rest s.pager base) (Event.WorkerItem (record { 0 = t }) item) (EventReply.WorkerMade (Ok (record { 0 = n })))
+        (at-work (record { pager = mid; shelf = s.shelf }) (first_todo task) 0 None)
+    item-began item s mid is on starts nobody = began s.pager.core s mid (Event.WorkerItem (record { 0 = t }) item)
+        (EventReply.WorkerMade (Ok (record { 0 = n }))) starts nobody refl (record {
+          starts = subst (λ (x : Task). Starts (world_of (at-rest s.pager base)) (record { 0 = t }) x s.pager.core (record { 0 = n })
+              (world_of (at-work (record { pager = mid; shelf = s.shelf }) (first_todo task) 0 None))) is
+              (starts-so s.pager.core s mid on starts);
+          refused = tt;
+        }) tt
 
     pub entry-began : (place : ℕ) (h : HandleNumber) (row : HandleRow) (type : ℕ) (s : AccessState N E) (mid : PagerState N E) → task ≡ entry_task h row type
         → base.shelves t ≡ s.shelf → IsEntry s.pager.core place h row type → HasKinds type
         → WorkerStarts m.values (with_entry_taken s.pager.core place h (record { 0 = n })) s.pager n mid → NobodyWorks s.pager.core
-        → DoesMoment m (at-rest s.pager base) (Event.WorkerListed (record { 0 = t }) place) (EventReply.WorkerMade (Ok (record { 0 = n }))) (at-work (record { pager = mid; shelf = s.shelf }) (first_todo task) 0 None)
+        → DoesMoment m (at-rest s.pager base) (Event.WorkerListed (record { 0 = t }) place) (EventReply.WorkerMade (Ok (record { 0 = n })))
+        (at-work (record { pager = mid; shelf = s.shelf }) (first_todo task) 0 None)
     entry-began place h row type s mid is on entry kinds starts nobody =
         let core = with_entry_taken s.pager.core place h (record { 0 = n }) in
         began core s mid (Event.WorkerListed (record { 0 = t }) place) (EventReply.WorkerMade (Ok (record { 0 = n }))) starts nobody refl (record {
@@ -172,7 +192,8 @@ module _ {N E B W : Type 0} (m : Seen N B W) where
         }) tt
 
     -- and makes a step
-    pub moved : (s s' : AccessState N E) (todo next : List Todo) (count : ℕ) (step : Action W) → WalkStep m n todo s step next s' → WorksAlone s.pager.core n true
+    pub moved : (s s' : AccessState N E) (todo next : List Todo) (count : ℕ) (step : Action W) → WalkStep m n todo s step next s'
+        → WorksAlone s.pager.core n true
         → DoesMoment m (at-work s todo count None) (Event.WorkerStep (record { 0 = n })) (EventReply.WorkerMoved (Ok (reply-of todo count step)))
         (at-work s' next (steps_after count (is_counted todo step)) (answer_after todo step))
         × WorksAlone s'.pager.core n (is_none (answer_after todo step))
@@ -191,7 +212,8 @@ module _ {N E B W : Type 0} (m : Seen N B W) where
                   after = w.after;
                   at = at;
                   at_work = refl;
-                  does = subst (λ (x : Shelf). WalkDoes m n (record { core = s.pager.core; shelf = x; todo = todo }) step w.after) (sym (updated-at t s.shelf base.shelves)) w.does;
+                  does = subst (λ (x : Shelf). WalkDoes m n (record { core = s.pager.core; shelf = x; todo = todo }) step w.after)
+                      (sym (updated-at t s.shelf base.shelves)) w.does;
                   answers = refl;
                   counts = refl;
                   ends = w.ends;
@@ -200,7 +222,8 @@ module _ {N E B W : Type 0} (m : Seen N B W) where
                     same_shelves = λ q. elim (cases_Bool (q == t)) [ inl e ↦ rw (e) w.shelf_is | inr e ↦ rw (e) (same-shelf refl) ];
                     last_is = refl;
                     same_walkings = λ q. elim (cases_Bool (q == n)) [
-                      | inl e ↦ rw (e) (ap (λ list. Some (walking-on t task list (steps_after count (is_counted todo step)) (answer_after todo step))) w.goes_on)
+                      | inl e ↦ rw (e) (ap (λ list. Some (walking-on t task list (steps_after count (is_counted todo step)) (answer_after todo step)))
+                          w.goes_on)
                       | inr e ↦ rw (e) refl
                     ];
                   };
@@ -222,7 +245,8 @@ module _ {N E B W : Type 0} (m : Seen N B W) where
 -- ---- where the pager stands for trees, so it does afterwards
 
 -- after a worker's answer: where that is a key, all that its task met is left paged out
-pub record Ended {N E : Type 0} (v : Values N) (s : PagerState N E) (trees : ℕ → Tree) (answer : WorkerAnswer) (task : Task) (s' : AccessState N E) : Type 0 where
+pub record Ended {N E : Type 0} (v : Values N) (s : PagerState N E) (trees : ℕ → Tree) (answer : WorkerAnswer) (task : Task)
+    (s' : AccessState N E) : Type 0 where
   pub trees' : ℕ → Tree
   pub after : After v s trees s'.pager trees'
   pub well : WellFormed v s'.pager
@@ -304,7 +328,8 @@ module _ {N E B W : Type 0} (m : Seen N B W) (lawful : IsLawful m.values) where
           out = λ key same.
               let e : answer_after todo step ≡ Some (WorkerAnswer.Key key) = is ∙ ap Some same in
               record {
-                leaves = subst (λ (x : Shelf). LeavesAll m.values s'.pager x c.trees' task) (updated-at t s'.shelf base.shelves) (c.right.leaves now key there_now e);
+                leaves = subst (λ (x : Shelf). LeavesAll m.values s'.pager x c.trees' task) (updated-at t s'.shelf base.shelves)
+                    (c.right.leaves now key there_now e);
                 is_key = c.right.key now key there_now e;
               };
         }
@@ -347,7 +372,8 @@ module _ {N E B W : Type 0} (m : Seen N B W) (lawful : IsLawful m.values) (s : A
       (record { settled = settled; reads_settled = λ x is. absurd (cc); stays_open = tt; well = tt })
 
   -- what the worker's run on it leaves
-  on-new : (n : ℕ) (task : Task) (core : Core) (mid : PagerState N E) (s' : AccessState N E) (steps : List (Action W)) (answer : WorkerAnswer) (event : Event N B W)
+  on-new : (n : ℕ) (task : Task) (core : Core) (mid : PagerState N E) (s' : AccessState N E) (steps : List (Action W)) (answer : WorkerAnswer)
+      (event : Event N B W)
       → DoesMoment m (at-rest m s.pager tabled) event (EventReply.WorkerMade (Ok (record { 0 = n })))
       (at-work m tabled tabled-rests n 1 (omega arith, omega arith) task (record { pager = mid; shelf = s.shelf }) (first_todo task) 0 None)
       → KeepsOpen event → IsWellAsked m.values (at-rest m s.pager tabled) with-a-table.trees' event (EventReply.WorkerMade (Ok (record { 0 = n })))
@@ -371,9 +397,11 @@ module _ {N E B W : Type 0} (m : Seen N B W) (lawful : IsLawful m.values) (s : A
   item-walks item {n} {mid} {s'} {steps} {answer} starts run asks =
       let task = of_item (m.written_of item) in
       on-new n task s.pager.core mid s' steps answer (Event.WorkerItem (record { 0 = 1 }) item)
-      (item-began m tabled tabled-rests n 1 (omega arith, omega arith) task item s mid refl (updated-at 1 s.shelf no_work.shelves) starts nobody) tt tt starts nobody refl run asks
+      (item-began m tabled tabled-rests n 1 (omega arith, omega arith) task item s mid refl (updated-at 1 s.shelf no_work.shelves) starts nobody) tt tt starts
+      nobody refl run asks
 
-  entry-walks : (place : ℕ) (h : HandleNumber) (row : HandleRow) (type n : ℕ) (mid : PagerState N E) {s' : AccessState N E} {steps : List (Action W)} {answer : WorkerAnswer}
+  entry-walks : (place : ℕ) (h : HandleNumber) (row : HandleRow) (type n : ℕ) (mid : PagerState N E) {s' : AccessState N E} {steps : List (Action W)}
+      {answer : WorkerAnswer}
       → IsEntry s.pager.core place h row type → HasKinds type
       → WorkerStarts m.values (with_entry_taken s.pager.core place h (record { 0 = n })) s.pager n mid
       → (run : WorkerRun m n (first_todo (entry_task h row type)) (record { pager = mid; shelf = s.shelf }) steps answer s') → WorkerAsksWell run
@@ -381,14 +409,16 @@ module _ {N E B W : Type 0} (m : Seen N B W) (lawful : IsLawful m.values) (s : A
   entry-walks place h row type n mid {s'} {steps} {answer} entry kinds starts run asks =
       let task = entry_task h row type in
       on-new n task (with_entry_taken s.pager.core place h (record { 0 = n })) mid s' steps answer (Event.WorkerListed (record { 0 = 1 }) place)
-      (entry-began m tabled tabled-rests n 1 (omega arith, omega arith) task place h row type s mid refl (updated-at 1 s.shelf no_work.shelves) entry kinds starts nobody) tt tt starts nobody refl run asks
+      (entry-began m tabled tabled-rests n 1 (omega arith, omega arith) task place h row type s mid refl (updated-at 1 s.shelf no_work.shelves) entry kinds
+      starts nobody) tt tt starts nobody refl run asks
 
 -- ---- calls
 
 module _ {N E B W : Type 0} (m : Seen N B W) where
   pub call-nobody : {s s' : PagerState N E} {call : Call N B} {reply : Reply N B} → IsCall m s call reply s'
       → KeepsOpen {N = N} {B = B} {W = W} (Event.Call call) → NobodyWorks s.core → NobodyWorks s'.core
-  call-nobody {s} {s'} {call} {reply} c stays nobody q = (calls-go m s.core Owner.Caller caller-free s'.core call reply stays c.step.does).does.workers q ∙ nobody q
+  call-nobody {s} {s'} {call} {reply} c stays nobody q = (calls-go m s.core Owner.Caller caller-free s'.core call reply stays c.step.does).does.workers q
+      ∙ nobody q
 
   pub called : (s s' : PagerState N E) (work : Work) (call : Call N B) (reply : Reply N B) → IsAtRest work → IsCall m s call reply s' → NobodyWorks s'.core
       → DoesMoment m (at-rest m s work) (Event.Call call) (EventReply.CallReply reply) (at-rest m s' work)
@@ -471,7 +501,8 @@ module _ {N E B W : Type 0} (m : Seen N B W) (lawful : IsLawful m.values) where
 
   pub item-stays : {s s' : AccessState N E} {answer : WorkerAnswer} {trees : ℕ → Tree} (item : W) → Stands m.values s.pager trees → SameShelf no_shelf s.shelf
       → (run : ItemRun m s (m.written_of item) answer s') → ItemAsksWell run
-      → (a : Stays m.values s.pager trees s'.pager) × ((key : ℕ) → answer ≡ WorkerAnswer.Key key → LeavesPagedOut m.values s'.pager s'.shelf a.trees' (of_item (m.written_of item)) key)
+      → (a : Stays m.values s.pager trees s'.pager) × ((key : ℕ) → answer ≡ WorkerAnswer.Key key
+      → LeavesPagedOut m.values s'.pager s'.shelf a.trees' (of_item (m.written_of item)) key)
   item-stays item at new (no-worker e s' why c same_shelf) asks = (unchanged at c, λ key same. absurd (cc))
   item-stays {s} {trees = trees} item at new (item-is-walked n steps answer mid s' starts run) asks =
       let r = item-walks m lawful s at.well at.nobody new at.settled trees at.stands item starts run asks in
@@ -483,9 +514,12 @@ module _ {N E B W : Type 0} (m : Seen N B W) (lawful : IsLawful m.values) where
   unfolding ListAsksWell EachIsPagedOut
   list-stays {trees = trees} (no-more s) at asks = (stays-same at, tt)
   list-stays (skips i place key h told answer s mid low s' is has takes releases more) at asks =
-      let a = (call-stays (Call.TakePending place) (Reply.TakenPending (Some h)) at (record { step = record { does = takes.step }; moves = no-value (Call.TakePending place) takes.moves; whole = takes.whole }) tt tt (still-settled at takes)).0 in
+      let a = (call-stays (Call.TakePending place) (Reply.TakenPending (Some h)) at
+      (record { step = record { does = takes.step }; moves = no-value (Call.TakePending place) takes.moves; whole = takes.whole }) tt tt
+      (still-settled at takes)).0 in
       let b = (call-stays (Call.Release h) (Reply.Done told) a.now
-      (record { step = record { does = releases.step }; moves = no-value (Call.Release h) releases.moves; whole = releases.whole }) tt tt (still-settled a.now releases)).0 in
+      (record { step = record { does = releases.step }; moves = no-value (Call.Release h) releases.moves; whole = releases.whole }) tt tt
+      (still-settled a.now releases)).0 in
       let r = list-stays more b.now asks in
       let both = after-then a.after b.after in
       (record { trees' = r.0.trees'; after = after-then both r.0.after; now = r.0.now }, (b.trees', both.same, both.stands, r.1))

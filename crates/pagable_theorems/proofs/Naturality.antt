@@ -56,11 +56,13 @@ module _ {I : Type 0} {plus : I → I → I} {end : I} {K : Error → Type 0} (j
   refuses A e known = record { comes = λ i. (known, inr (λ x. refl)) }
 
   -- one of two
-  pub either : {A : Type 0} (t : Bool) {get other : I → Result (A × I) Error} → Tame plus K get → Tame plus K other → Tame plus K (λ i. if t then get i else other i)
+  pub either : {A : Type 0} (t : Bool) {get other : I → Result (A × I) Error} → Tame plus K get → Tame plus K other
+      → Tame plus K (λ i. if t then get i else other i)
   either x0 h g = grind (arith, nat_tests)
 
   -- one after the other
-  module _ {A B : Type 0} {get : I → Result (A × I) Error} (f : A → I → Result (B × I) Error) (whole : I → Result (B × I) Error) (is : (i : I) → whole i ≡ (get i >>= λ p. f p.0 p.1))
+  module _ {A B : Type 0} {get : I → Result (A × I) Error} (f : A → I → Result (B × I) Error) (whole : I → Result (B × I) Error)
+      (is : (i : I) → whole i ≡ (get i >>= λ p. f p.0 p.1))
       (h : Tame plus K get) (g : (v : A) → Tame plus K (f v)) where
     after : (i : I) (p : A × I) → Front plus get i p.0 p.1 → (r : Result (B × I) Error) → Comes plus K (f p.0) p.1 r → Comes plus K whole i r
     after i p a x3 x4 = grind (arith, nat_tests)
@@ -71,7 +73,8 @@ module _ {I : Type 0} {plus : I → I → I} {end : I} {K : Error → Type 0} (j
   -- one whose value is tested, and seen by view
   pub tested : {A B : Type 0} {get : I → Result (A × I) Error} {whole : I → Result (B × I) Error} (pass : A → Bool) (view : A → B) (e : Error)
       → ((i : I) → whole i ≡ (get i >>= λ p. if pass p.0 then Ok (view p.0, p.1) else Err e)) → Tame plus K get → K e → Tame plus K whole
-  tested {B = B} {whole = whole} pass view e is h known = and_then (λ v i. if pass v then Ok (view v, i) else Err e) whole is h (λ v. either (pass v) (gives (view v)) (refuses B e known))
+  tested {B = B} {whole = whole} pass view e is h known = and_then (λ v i. if pass v then Ok (view v, i) else Err e) whole is h
+      (λ v. either (pass v) (gives (view v)) (refuses B e known))
 
 pub bytes_join : Joins {I = List ℕ} ◌++◌ []
 bytes_join = record { assoc = append_assoc; start = λ a. refl }
@@ -80,16 +83,26 @@ pub byte_tame : Tame ◌++◌ Sober byte_at
 byte_tame = record { comes = elim [ [] ↦ (tt, inl (inl refl)) | b ∷ bs ↦ record { used = b ∷ []; whole = refl; reads = λ y. refl } ] }
 
 front_of : (n : ℕ) (bs : List ℕ) → n ≤ length bs → Front ◌++◌ (bytes_at n) bs (take n bs) (drop n bs)
-front_of n bs le = record { used = take n bs; whole = sym (take-append-drop n bs); reads = λ y. grind (arith, nat_tests, le-ltb, length-append, take_at, drop_at, length-take-le n bs le) }
+front_of n bs le = record {
+  used = take n bs;
+  whole = sym (take-append-drop n bs);
+  reads = λ y. grind (arith, nat_tests, le-ltb, length-append, take_at, drop_at, length-take-le n bs le);
+}
 
 pub bytes_tame : (n : ℕ) → Tame ◌++◌ Sober (bytes_at n)
-bytes_tame n = record { comes = λ bs. elim (cases_lt (length bs) n) [ inl lt ↦ rw (lt-ltb (length bs) n lt) (tt, inl (inl refl)) | inr le ↦ rw (le-ltb (length bs) n le) (front_of n bs le) ] }
+bytes_tame n = record {
+  comes = λ bs. elim (cases_lt (length bs) n) [
+    | inl lt ↦ rw (lt-ltb (length bs) n lt) (tt, inl (inl refl))
+    | inr le ↦ rw (le-ltb (length bs) n le) (front_of n bs le)
+  ];
+}
 
 varint_tame : (more last : ℕ) → Tame ◌++◌ Sober (varint_at more last)
 unfolding varint_at
 varint_tame zero last = tested bytes_join (λ b. nat_le b last) (λ b. b) Error.BadVarint (grind (arith, nat_tests)) byte_tame tt
 varint_tame (suc more) last =
-    and_then bytes_join (λ b bs. if nat_lt b 128 then Ok (b, bs) else (varint_at more last bs >>= λ high. Ok (b - 128 + 128 * high.0, high.1))) _ (grind (arith, nat_tests)) byte_tame
+    and_then bytes_join (λ b bs. if nat_lt b 128 then Ok (b, bs) else (varint_at more last bs >>= λ high. Ok (b - 128 + 128 * high.0, high.1))) _
+    (grind (arith, nat_tests)) byte_tame
     (λ b. either bytes_join (nat_lt b 128) (gives bytes_join b)
     (and_then bytes_join (λ high bs. Ok (b - 128 + 128 * high, bs)) _ (λ bs. refl) (varint_tame more last) (λ high. gives bytes_join (b - 128 + 128 * high))))
 
@@ -120,7 +133,8 @@ char_tame = tested bytes_join (λ t. length (chars t) == 1) (λ t. get_or (chars
 pub duration_tame : Tame ◌++◌ Sober duration_at
 unfolding duration_at
 duration_tame = and_then bytes_join (λ s bs. unsigned_at w32 bs >>= λ n. carried s n.0 n.1) _ (λ bs. refl) (unsigned_tame w64)
-    (λ s. tested bytes_join (λ n. nat_lt (s + n / nanos_of_second) (2 ^ 64)) (λ n. (s + n / nanos_of_second, n % nanos_of_second)) Error.BadDuration (λ bs. refl) (unsigned_tame w32) tt)
+    (λ s. tested bytes_join (λ n. nat_lt (s + n / nanos_of_second) (2 ^ 64)) (λ n. (s + n / nanos_of_second, n % nanos_of_second)) Error.BadDuration
+    (λ bs. refl) (unsigned_tame w32) tt)
 
 -- causes of two refusals: one for both; and any, where what comes of a refusal isn't asked
 abbrev pub one_cause : Error → Error → Type 0
@@ -150,12 +164,14 @@ module _ {A X Y : Type 0} (read : List ℕ → Read X) (view : X → Y) where
   bytes_come i (Err e) (sober, inr stays) = (tt, inr (λ x. rw stays refl))
 
 module _ {A B : Type 0} (look : Look A B) where
-  reference_comes : (kind : ℕ) (bytes : List ℕ) (refs : List A) → Comes more Any (λ i. reference_at look kind i.refs i) (rest bytes refs) (reference_at look kind refs (rest bytes refs))
+  reference_comes : (kind : ℕ) (bytes : List ℕ) (refs : List A) → Comes more Any (λ i. reference_at look kind i.refs i) (rest bytes refs)
+      (reference_at look kind refs (rest bytes refs))
   reference_comes kind bytes [] = (tt, inl (inr refl))
   reference_comes kind bytes (a ∷ refs) = by (look kind a) refl
     where
       by : (r : Result B Error) → look kind a ≡ r
-          → Comes more Any (λ i. reference_at look kind i.refs i) (rest bytes (a ∷ refs)) (r >>= λ b. let z : Result (Meaning B × Rest A) Error = Ok (meanings.reference b, rest bytes refs) in z)
+          → Comes more Any (λ i. reference_at look kind i.refs i) (rest bytes (a ∷ refs))
+          (r >>= λ b. let z : Result (Meaning B × Rest A) Error = Ok (meanings.reference b, rest bytes refs) in z)
       by (Ok b) e = record { used = rest [] (a ∷ []); whole = refl; reads = λ y. rw e refl }
       by (Err f) e = (tt, inr (λ x. rw e refl))
 
@@ -165,21 +181,25 @@ pub record SameRest {A B : Type 0} (T : List A → List B → Type 0) (r : Rest 
   pub refs : T r.refs q.refs
 
 -- Both give what V relates, or are refused for one fault of the bytes, or for causes that E relates; for one that it relates to all the first may also be refused alone.
-pub data Out {A B X Y : Type 0} (E : Error → Error → Type 0) (T : List A → List B → Type 0) (V : X → Y → Type 0) : Result (X × Rest A) Error → Result (Y × Rest B) Error → Type 0 where
+pub data Out {A B X Y : Type 0} (E : Error → Error → Type 0) (T : List A → List B → Type 0) (V : X → Y → Type 0) : Result (X × Rest A) Error
+    → Result (Y × Rest B) Error → Type 0 where
   both-given : (p : X × Rest A) (q : Y × Rest B) → V p.0 q.0 → SameRest T p.1 q.1 → Out E T V (Ok p) (Ok q)
   both-faulty : (e : Error) → Sober e → Out E T V (Err e) (Err e)
   both-refused : (e f : Error) → E e f → Out E T V (Err e) (Err f)
   first-refused : (e : Error) (r : Result (Y × Rest B) Error) → ((f : Error) → E e f) → Out E T V (Err e) r
 
 -- readers that do so on related inputs, the first of which is local: its faults stay, and what it reads of a front it reads of the whole
-pub record Par {A B X Y : Type 0} (E : Error → Error → Type 0) (T : List A → List B → Type 0) (V : X → Y → Type 0) (get : Gets A X) (get2 : Gets B Y) : Type 0 where
+pub record Par {A B X Y : Type 0} (E : Error → Error → Type 0) (T : List A → List B → Type 0) (V : X → Y → Type 0) (get : Gets A X)
+    (get2 : Gets B Y) : Type 0 where
   pub out : (r : Rest A) (q : Rest B) → SameRest T r q → Out E T V (get r) (get2 q)
   pub tame : Tame more Any get
 
 module _ {A B : Type 0} {E : Error → Error → Type 0} {T : List A → List B → Type 0} where
-  bind-out : {X Y U W : Type 0} {V : X → Y → Type 0} {V2 : U → W → Type 0} {first : Result (X × Rest A) Error} {second : Result (Y × Rest B) Error} (f : X × Rest A → Result (U × Rest A) Error)
+  bind-out : {X Y U W : Type 0} {V : X → Y → Type 0} {V2 : U → W → Type 0} {first : Result (X × Rest A) Error} {second : Result (Y × Rest B) Error}
+      (f : X × Rest A → Result (U × Rest A) Error)
       (g : Y × Rest B → Result (W × Rest B) Error)
-      → Out E T V first second → ((p : X × Rest A) (q : Y × Rest B) → V p.0 q.0 → SameRest T p.1 q.1 → Out E T V2 (f p) (g q)) → Out E T V2 (first >>= f) (second >>= g)
+      → Out E T V first second → ((p : X × Rest A) (q : Y × Rest B) → V p.0 q.0 → SameRest T p.1 q.1 → Out E T V2 (f p) (g q))
+      → Out E T V2 (first >>= f) (second >>= g)
   bind-out f g (both-given p q v s) k = k p q v s
   bind-out f g (both-faulty e sober) k = both-faulty e sober
   bind-out f g (both-refused e d c) k = both-refused e d c
@@ -189,24 +209,31 @@ module _ {A B : Type 0} {E : Error → Error → Type 0} {T : List A → List B 
       → Par E T V (λ i. let r : Result (X × Rest A) Error = Ok (v, i) in r) (λ i. let r : Result (Y × Rest B) Error = Ok (w, i) in r)
   gives_par v w h = record { out = λ r q s. both-given (v, r) (w, q) h s; tame = gives joins v }
 
-  pub refuses_par : {X Y : Type 0} (V : X → Y → Type 0) (e : Error) → Sober e → Par E T V (λ i. let r : Result (X × Rest A) Error = Err e in r) (λ i. let r : Result (Y × Rest B) Error = Err e in r)
+  pub refuses_par : {X Y : Type 0} (V : X → Y → Type 0) (e : Error) → Sober e
+      → Par E T V (λ i. let r : Result (X × Rest A) Error = Err e in r) (λ i. let r : Result (Y × Rest B) Error = Err e in r)
   refuses_par {X} V e sober = record { out = λ r q s. both-faulty e sober; tame = refuses joins X e tt }
 
   -- one after the other
-  module _ {X Y U W : Type 0} {V : X → Y → Type 0} {V2 : U → W → Type 0} {get : Gets A X} {get2 : Gets B Y} (f : X → Gets A U) (g : Y → Gets B W) (h : Par E T V get get2)
+  module _ {X Y U W : Type 0} {V : X → Y → Type 0} {V2 : U → W → Type 0} {get : Gets A X} {get2 : Gets B Y} (f : X → Gets A U) (g : Y → Gets B W)
+      (h : Par E T V get get2)
       (k : (v : X) (w : Y) → V v w → Par E T V2 (f v) (g w)) (t : (v : X) → Tame more Any (f v)) where
     pub then_par : Par E T V2 (λ i. get i >>= λ p. f p.0 p.1) (λ i. get2 i >>= λ p. g p.0 p.1)
     then_par = record { out = λ r q s. bind-out _ _ (h.out r q s) (λ p o v t. (k p.0 o.0 v).out p.1 o.1 t); tame = and_then joins f _ (λ i. refl) h.tame t }
 
   -- one after the other, where both give the same first
-  pub then_same : {X U W : Type 0} {V2 : U → W → Type 0} {get : Gets A X} {get2 : Gets B X} {f : X → Gets A U} {g : X → Gets B W} → Par E T (λ (v w : X). v ≡ w) get get2
+  pub then_same : {X U W : Type 0} {V2 : U → W → Type 0} {get : Gets A X} {get2 : Gets B X} {f : X → Gets A U} {g : X → Gets B W}
+      → Par E T (λ (v w : X). v ≡ w) get get2
       → ((v : X) → Par E T V2 (f v) (g v)) → Par E T V2 (λ i. get i >>= λ p. f p.0 p.1) (λ i. get2 i >>= λ p. g p.0 p.1)
   then_same {X} {V2 = V2} {f = f} {g} h k = then_par f g h (λ v w e. let P : X → Type 0 = λ z. Par E T V2 (f v) (g z) in subst P e (k v)) (λ v. (k v).tame)
 
-  pub bytes_par : {X Y Z : Type 0} {V : X → Y → Type 0} (read : List ℕ → Read Z) → Tame ◌++◌ Sober read → (view : Z → X) (view2 : Z → Y) → ((z : Z) → V (view z) (view2 z))
+  pub bytes_par : {X Y Z : Type 0} {V : X → Y → Type 0} (read : List ℕ → Read Z) → Tame ◌++◌ Sober read → (view : Z → X) (view2 : Z → Y)
+      → ((z : Z) → V (view z) (view2 z))
       → Par E T V (bytes_of read view) (bytes_of read view2)
   bytes_par {X} {Y} {Z} {V} read t view view2 h =
-      record { out = λ r q s. rw s.bytes (by r q s.refs (read r.bytes) (t.comes r.bytes)); tame = record { comes = λ i. bytes_come read view i (read i.bytes) (t.comes i.bytes) } }
+      record {
+        out = λ r q s. rw s.bytes (by r q s.refs (read r.bytes) (t.comes r.bytes));
+        tame = record { comes = λ i. bytes_come read view i (read i.bytes) (t.comes i.bytes) };
+      }
     where
       by : (r : Rest A) (q : Rest B) → T r.refs q.refs → (first : Read Z) → Comes ◌++◌ Sober read r.bytes first
           → Out E T V (first >>= λ z. let o : Result (X × Rest A) Error = Ok (view z.0, record r { bytes = z.1 }) in o)
@@ -219,23 +246,30 @@ module _ {A B : Type 0} {E : Error → Error → Type 0} {T : List A → List B 
 
   pub seen_par : {X Y U W : Type 0} {V : X → Y → Type 0} {V2 : U → W → Type 0} {get : Gets A X} {get2 : Gets B Y} (view : X → U) (view2 : Y → W)
       → ((v : X) (w : Y) → V v w → V2 (view v) (view2 w)) → Par E T V get get2 → Par E T V2 (seen view get) (seen view2 get2)
-  seen_par view view2 k h = then_par (λ v i. Ok (view v, i)) (λ w i. Ok (view2 w, i)) h (λ v w r. gives_par (view v) (view2 w) (k v w r)) (λ v. gives joins (view v))
+  seen_par view view2 k h = then_par (λ v i. Ok (view v, i)) (λ w i. Ok (view2 w, i)) h (λ v w r. gives_par (view v) (view2 w) (k v w r))
+      (λ v. gives joins (view v))
 
   -- what is read first says which of two is read then
-  known_par : {X Y Z : Type 0} {V : X → Y → Type 0} (read : List ℕ → Read Z) → Tame ◌++◌ Sober read → (known : Z → Bool) {get other : Z → Gets A X} {get2 other2 : Z → Gets B Y}
+  known_par : {X Y Z : Type 0} {V : X → Y → Type 0} (read : List ℕ → Read Z) → Tame ◌++◌ Sober read
+      → (known : Z → Bool) {get other : Z → Gets A X} {get2 other2 : Z → Gets B Y}
       → ((z : Z) → known z ≡ true → Par E T V (get z) (get2 z)) → ((z : Z) → Par E T V (other z) (other2 z))
-      → Par E T V (λ i. bytes_of read (λ z. z) i >>= λ p. choose (known p.0) (get p.0) (other p.0) p.1) (λ i. bytes_of read (λ z. z) i >>= λ p. choose (known p.0) (get2 p.0) (other2 p.0) p.1)
-  known_par read t known {get} {other} {get2} {other2} h g = then_same {f = λ z. choose (known z) (get z) (other z)} {g = λ z. choose (known z) (get2 z) (other2 z)} (bytes_same read t)
+      → Par E T V (λ i. bytes_of read (λ z. z) i >>= λ p. choose (known p.0) (get p.0) (other p.0) p.1)
+      (λ i. bytes_of read (λ z. z) i >>= λ p. choose (known p.0) (get2 p.0) (other2 p.0) p.1)
+  known_par read t known {get} {other} {get2} {other2} h g = then_same {f = λ z. choose (known z) (get z) (other z)}
+      {g = λ z. choose (known z) (get2 z) (other2 z)} (bytes_same read t)
       (λ z. elim (cases_Bool (known z)) [ inl e ↦ rw e (h z e) | inr e ↦ rw e (g z) ])
 
-  pub items_par : {X Y : Type 0} {V : X → Y → Type 0} {get : Gets A X} {get2 : Gets B Y} → Par E T V get get2 → (n : ℕ) → Par E T (AllTwo V) (items get n) (items get2 n)
+  pub items_par : {X Y : Type 0} {V : X → Y → Type 0} {get : Gets A X} {get2 : Gets B Y} → Par E T V get get2 → (n : ℕ)
+      → Par E T (AllTwo V) (items get n) (items get2 n)
   unfolding items
   items_par h zero = gives_par [] [] no-two
   items_par {X} {Y} {V} {get} {get2} h (suc n) =
       let o = items_par h n in
-      then_par (λ v. seen (λ vs. v ∷ vs) (items get n)) (λ w. seen (λ ws. w ∷ ws) (items get2 n)) h (λ v w r. seen_par _ _ (λ vs ws rs. more-two v w vs ws r rs) o) (seen_tame (λ v vs. v ∷ vs) o.tame)
+      then_par (λ v. seen (λ vs. v ∷ vs) (items get n)) (λ w. seen (λ ws. w ∷ ws) (items get2 n)) h
+      (λ v w r. seen_par _ _ (λ vs ws rs. more-two v w vs ws r rs) o) (seen_tame (λ v vs. v ∷ vs) o.tame)
 
-  pub counted_par : {X Y : Type 0} {V : X → Y → Type 0} {get : Gets A X} {get2 : Gets B Y} → Par E T V get get2 → Par E T (AllTwo V) (counted get) (counted get2)
+  pub counted_par : {X Y : Type 0} {V : X → Y → Type 0} {get : Gets A X} {get2 : Gets B Y} → Par E T V get get2
+      → Par E T (AllTwo V) (counted get) (counted get2)
   counted_par h = then_same (bytes_same length_at length_tame) (λ n. items_par h n)
 
 -- it is read throughout, or F says that references may stand followed in what is read
@@ -252,7 +286,8 @@ pub data OutLook {A B : Type 0} (E : Error → Error → Type 0) (R : A → B �
   first-not : (e : Error) (r : Result B Error) → ((f : Error) → E e f) → OutLook E R (Err e) r
 
 -- readers of parts below that are related
-pub data DeeperPar {A B C D : Type 0} (E : Error → Error → Type 0) (F : Type 0) (T : List A → List B → Type 0) (R : C → D → Type 0) (parts : ℕ → Shape) : Deeper A C → Deeper B D → Type 0 where
+pub data DeeperPar {A B C D : Type 0} (E : Error → Error → Type 0) (F : Type 0) (T : List A → List B → Type 0) (R : C → D → Type 0)
+    (parts : ℕ → Shape) : Deeper A C → Deeper B D → Type 0 where
   no-deeper : DeeperPar E F T R parts None None
   one-deeper : (get : Shape → Gets A (Meaning C)) (get2 : Shape → Gets B (Meaning D)) → ((s : Shape) → Covers F parts s → Par E T (Along F R) (get s) (get2 s))
       → DeeperPar E F T R parts (Some get) (Some get2)
@@ -270,14 +305,17 @@ module _ {A B C D : Type 0} {E : Error → Error → Type 0} {F : Type 0} {S : A
     of_lists kind r q e no-two = both-faulty Error.NoMoreKeys tt
     of_lists kind r q e (more-two a b k l s h) = look_par (record { bytes = e; refs = h }) (alike kind a b s)
 
-    pub each : (kind : ℕ) (r : Rest A) (q : Rest B) → SameRest (AllTwo S) r q → Out E (AllTwo S) (Along F R) (reference_at look kind r.refs r) (reference_at look2 kind q.refs q)
+    pub each : (kind : ℕ) (r : Rest A) (q : Rest B) → SameRest (AllTwo S) r q
+        → Out E (AllTwo S) (Along F R) (reference_at look kind r.refs r) (reference_at look2 kind q.refs q)
     each kind r q s = of_lists kind r q s.bytes s.refs
 
 module _ {A B C D : Type 0} {E : Error → Error → Type 0} {F : Type 0} {T : List A → List B → Type 0} {R : C → D → Type 0} where
-  entry_par : {get : Gets A (Meaning C)} {get2 : Gets B (Meaning D)} {other : Gets A (Meaning C)} {other2 : Gets B (Meaning D)} → Par E T (Along F R) get get2 → Par E T (Along F R) other other2
+  entry_par : {get : Gets A (Meaning C)} {get2 : Gets B (Meaning D)} {other : Gets A (Meaning C)} {other2 : Gets B (Meaning D)} → Par E T (Along F R) get get2
+      → Par E T (Along F R) other other2
       → Par E T (EntryAlong F R) (two get other) (two get2 other2)
   entry_par {get} {get2} {other} {other2} h g =
-      then_par (λ v. seen (λ y. (v, y)) other) (λ v. seen (λ y. (v, y)) other2) h (λ m n r. seen_par _ _ (λ x y q. record { key = r; value = q }) g) (seen_tame (λ v y. (v, y)) g.tame)
+      then_par (λ v. seen (λ y. (v, y)) other) (λ v. seen (λ y. (v, y)) other2) h (λ m n r. seen_par _ _ (λ x y q. record { key = r; value = q }) g)
+      (seen_tame (λ v y. (v, y)) g.tame)
 
   registered_par : (registry : List (Meaning ⊥)) → F ⊎ AllByRecursion HasNoReference registry → (n : ℕ)
       → Par E T (Along F R) (λ (i : Rest A). registered registry n >>= λ m. let z : Result (Meaning C × Rest A) Error = Ok (lifted m, i) in z)
@@ -287,33 +325,40 @@ module _ {A B C D : Type 0} {E : Error → Error → Type 0} {F : Type 0} {T : L
   registered_par (m ∷ ms) h (suc n) = registered_par ms (elim h [ inl f ↦ inl f | inr all ↦ inr all.1 ]) n
 
   module _ {parts : ℕ → Shape} where
-    enter_par : {X Y : Type 0} {V : X → Y → Type 0} {d : Deeper A C} {d2 : Deeper B D} (part : (Shape → Gets A (Meaning C)) → Gets A X) (part2 : (Shape → Gets B (Meaning D)) → Gets B Y)
+    enter_par : {X Y : Type 0} {V : X → Y → Type 0} {d : Deeper A C} {d2 : Deeper B D} (part : (Shape → Gets A (Meaning C)) → Gets A X)
+        (part2 : (Shape → Gets B (Meaning D)) → Gets B Y)
         → DeeperPar E F T R parts d d2
-        → ((get : Shape → Gets A (Meaning C)) (get2 : Shape → Gets B (Meaning D)) → ((s : Shape) → Covers F parts s → Par E T (Along F R) (get s) (get2 s)) → Par E T V (part get) (part2 get2))
+        → ((get : Shape → Gets A (Meaning C)) (get2 : Shape → Gets B (Meaning D)) → ((s : Shape) → Covers F parts s → Par E T (Along F R) (get s) (get2 s))
+        → Par E T V (part get) (part2 get2))
         → Par E T V (λ i. enter d part i) (λ i. enter d2 part2 i)
     enter_par {X} {Y} {V} part part2 no-deeper k = refuses_par V Error.TooDeep tt
     enter_par part part2 (one-deeper get get2 h) k = k get get2 h
 
-    json_par : {d : Deeper A C} {d2 : Deeper B D} → DeeperPar E F T R parts d d2 → (case : JsonCase) → Par E T (Along F R) (λ i. json_part d case i) (λ i. json_part d2 case i)
+    json_par : {d : Deeper A C} {d2 : Deeper B D} → DeeperPar E F T R parts d d2 → (case : JsonCase)
+        → Par E T (Along F R) (λ i. json_part d case i) (λ i. json_part d2 case i)
     unfolding IsReadable LiesIn
     json_par h null_case = gives_par _ _ (variant-along _ _ _ none-along)
     json_par h flag_case = bytes_par bool_at bool_tame _ _ (λ b. variant-along _ _ _ (flag-same b))
     json_par h number_case = known_par bool_at bool_tame (λ float. float) (λ float e. refuses_par (Along F R) Error.JsonNumber tt)
         (λ float. bytes_par (signed_at w64) (signed_tame w64) _ _ (λ z. variant-along _ _ _ (integer-along z)))
     json_par h text_case = bytes_par text_at text_tame _ _ (λ t. variant-along _ _ _ (text-along t))
-    json_par h array_case = then_same (bytes_same length_at length_tame) (λ count. enter_par (λ get. seen (λ ms. variant 4 (sequence ms)) (items (get json) count))
+    json_par h array_case = then_same (bytes_same length_at length_tame)
+        (λ count. enter_par (λ get. seen (λ ms. variant 4 (sequence ms)) (items (get json) count))
         (λ get. seen (λ ms. variant 4 (sequence ms)) (items (get json) count)) h
         (λ get get2 g. seen_par _ _ (λ ms ns r. variant-along _ _ _ (sequence-two r)) (items_par (g json (inr (alone (λ n d. tt) tt))) count)))
     json_par {d} {d2} h object_case =
-        then_same {f = λ count. enter d (λ get. seen (λ es. variant 5 (of_entries (put_all (put_sorted text_order) [] es))) (items (two (get shapes.text) (get json)) count))}
-        {g = λ count. enter d2 (λ get. seen (λ es. variant 5 (of_entries (put_all (put_sorted text_order) [] es))) (items (two (get shapes.text) (get json)) count))}
+        then_same {f = λ count. enter d (λ get. seen (λ es. variant 5 (of_entries (put_all (put_sorted text_order) [] es)))
+        (items (two (get shapes.text) (get json)) count))}
+        {g = λ count. enter d2 (λ get. seen (λ es. variant 5 (of_entries (put_all (put_sorted text_order) [] es)))
+        (items (two (get shapes.text) (get json)) count))}
         (bytes_same length_at length_tame)
         (λ count. enter_par _ _ h (λ get get2 g. seen_par _ _ (λ es fs r. variant-along _ _ _ (sorted-two text_order r))
         (items_par (entry_par (g shapes.text (inr (alone (λ n d. tt) tt))) (g json (inr (alone (λ n d. tt) tt)))) count)))
 
     -- where the next references are read alike
     module _ (look : Look A C) (look2 : Look B D)
-        (alike : (kind : ℕ) (r : Rest A) (q : Rest B) → SameRest T r q → Out E T (Along F R) (reference_at look kind r.refs r) (reference_at look2 kind q.refs q)) where
+        (alike : (kind : ℕ) (r : Rest A) (q : Rest B) → SameRest T r q → Out E T (Along F R) (reference_at look kind r.refs r)
+        (reference_at look2 kind q.refs q)) where
       pub with_par : {d : Deeper A C} {d2 : Deeper B D} → DeeperPar E F T R parts d d2 → (s : Shape) → Covers F parts s
           → Par E T (Along F R) (λ i. read_with look parts d s i) (λ i. read_with look2 parts d2 s i)
       unfolding read_with IsReadable LiesIn
@@ -328,9 +373,11 @@ module _ {A B C D : Type 0} {E : Error → Error → Type 0} {F : Type 0} {T : L
       with_par {d} {d2} h json t = then_same (bytes_same (unsigned_at w64) (unsigned_tame w64)) (λ n.
           elim (json_case n) as (λ c. IfErr c Sober → Par E T (Along F R) (λ i. c >>= λ case. json_part d case i) (λ i. c >>= λ case. json_part d2 case i))
           [ Ok case ↦ λ s. json_par h case | Err e ↦ refuses_par (Along F R) e ] (grind (arith, nat_tests)))
-      with_par h (optional s) t = known_par bool_at bool_tame (λ some. some) (λ some e. seen_par present present (λ m n r. variant-along _ _ _ r) (with_par h s (over (λ p. p) (λ n d l. l) t)))
+      with_par h (optional s) t = known_par bool_at bool_tame (λ some. some)
+          (λ some e. seen_par present present (λ m n r. variant-along _ _ _ r) (with_par h s (over (λ p. p) (λ n d l. l) t)))
           (λ some. gives_par absent absent (variant-along _ _ _ none-along))
-      with_par h (outcome s s2) t = known_par bool_at bool_tame (λ ok. ok) (λ ok e. seen_par success success (λ m n r. variant-along _ _ _ r) (with_par h s (over (λ p. p.0) (λ n d l. l.0) t)))
+      with_par h (outcome s s2) t = known_par bool_at bool_tame (λ ok. ok)
+          (λ ok e. seen_par success success (λ m n r. variant-along _ _ _ r) (with_par h s (over (λ p. p.0) (λ n d l. l.0) t)))
           (λ ok. seen_par failure failure (λ m n r. variant-along _ _ _ r) (with_par h s2 (over (λ p. p.1) (λ n d l. l.1) t)))
       with_par h (list s) t = seen_par sequence sequence (λ ms ns r. sequence-two r) (counted_par (with_par h s (over (λ p. p) (λ n d l. l) t)))
       with_par h (run s) t = refuses_par (Along F R) Error.WrongKind tt
@@ -339,17 +386,21 @@ module _ {A B C D : Type 0} {E : Error → Error → Type 0} {F : Type 0} {T : L
           (entry_par (with_par h s (over (λ p. p.0) (λ n d l. l.0) t)) (with_par h s2 (over (λ p. p.1) (λ n d l. l.1) t)))
       with_par h (sorted_map order s s2) t = seen_par _ _ (λ es fs r. sorted-two order r)
           (counted_par (entry_par (with_par h s (over (λ p. p.0) (λ n d l. l.0) t)) (with_par h s2 (over (λ p. p.1) (λ n d l. l.1) t))))
-      with_par h (placed_map s s2) t = seen_par _ _ (λ es fs r. entries-two (put_all-two _ _ one-two (λ x u y w acc acc2 v g k l. search (rules, more-two, plain-along)) r no-two))
+      with_par h (placed_map s s2) t = seen_par _ _ (λ es fs r. entries-two
+          (put_all-two _ _ one-two (λ x u y w acc acc2 v g k l. search (rules, more-two, plain-along)) r no-two))
           (counted_par (entry_par (with_par h s (over (λ p. p.0) (λ n d l. l.0) t)) (with_par h s2 (over (λ p. p.1) (λ n d l. l.1) t))))
       with_par h (hash_map s s2) t = seen_par of_hash_map of_hash_map (λ es fs r. sorted-two code_order r)
           (counted_par (entry_par (with_par h s (over (λ p. p.0) (λ n d l. l.0) t)) (with_par h s2 (over (λ p. p.1) (λ n d l. l.1) t))))
-      with_par h (sorted_set order s) t = seen_par _ _ (λ ms ns r. sequence-two (put_all-two {V = Along F R} (put_sorted_item order) (put_sorted_item order) one-two
+      with_par h (sorted_set order s) t = seen_par _ _ (λ ms ns r. sequence-two
+          (put_all-two {V = Along F R} (put_sorted_item order) (put_sorted_item order) one-two
           (λ x u y w acc acc2 v g k l. search (rules, more-two, plain-along)) r no-two)) (counted_par (with_par h s (over (λ p. p) (λ n d l. l) t)))
       with_par h (placed_set s) t = seen_par _ _ (λ ms ns r. sequence-two (put_all-two {V = Along F R} put_placed_item put_placed_item one-two
           (λ x u y w acc acc2 v g k l. search (rules, more-two, plain-along)) r no-two)) (counted_par (with_par h s (over (λ p. p) (λ n d l. l) t)))
-      with_par h (static_value registry) t = then_same (bytes_same (unsigned_at w32) (unsigned_tame w32)) (λ n. registered_par registry (grind (arith, nat_tests, here)) n)
+      with_par h (static_value registry) t = then_same (bytes_same (unsigned_at w32) (unsigned_tame w32))
+          (λ n. registered_par registry (grind (arith, nat_tests, here)) n)
       with_par h (tagged written known body) t = known_par text_at text_tame known
-          (λ tag e. seen_par (of_tagged tag) (of_tagged tag) (λ m n r. pair-along _ _ _ _ (text-along tag) r) (with_par h (body tag) (over (λ p. p.1 tag e) (λ n d l. l.1 tag e) t)))
+          (λ tag e. seen_par (of_tagged tag) (of_tagged tag) (λ m n r. pair-along _ _ _ _ (text-along tag) r)
+          (with_par h (body tag) (over (λ p. p.1 tag e) (λ n d l. l.1 tag e) t)))
           (λ tag. refuses_par (Along F R) Error.UnknownTag tt)
       with_par h (cases w known part) t = known_par (unsigned_at w) (unsigned_tame w) known
           (λ n e. seen_par (variant n) (variant n) (λ x y r. variant-along _ _ _ r) (with_par h (part n) (over (λ p. p n e) (λ nodes d l. l n e) t)))
@@ -363,12 +414,14 @@ module _ {A B C D : Type 0} {E : Error → Error → Type 0} {F : Type 0} {T : L
       below_par (suc left) = one-deeper _ _ (with_par (below_par left))
 
       pub read_par : (levels : ℕ) (s : Shape) → Covers F parts s
-          → Par E T (Along F R) (read (record { levels = levels; look = look; parts = parts }) s) (read (record { levels = levels; look = look2; parts = parts }) s)
+          → Par E T (Along F R) (read (record { levels = levels; look = look; parts = parts }) s)
+          (read (record { levels = levels; look = look2; parts = parts }) s)
       unfolding read
       read_par levels s t = with_par (below_par (deepest - levels)) s t
 
       -- so do they read a type that may not be known
-      pub typed_par : (levels : ℕ) (o : Option Shape) → ((s : Shape) → o ≡ Some s → Covers F parts s) → (r : Rest A) (q : Rest B) → SameRest T r q → Out E T (Along F R)
+      pub typed_par : (levels : ℕ) (o : Option Shape) → ((s : Shape) → o ≡ Some s → Covers F parts s) → (r : Rest A) (q : Rest B) → SameRest T r q
+          → Out E T (Along F R)
           (read_typed (record { levels = levels; look = look; parts = parts }) o r) (read_typed (record { levels = levels; look = look2; parts = parts }) o q)
       typed_par levels None t r q same = both-faulty Error.WrongKind tt
       typed_par levels (Some s) t r q same = (read_par levels s (t s refl)).out r q same
@@ -376,12 +429,14 @@ module _ {A B C D : Type 0} {E : Error → Error → Type 0} {F : Type 0} {T : L
 -- ---- reading is local: what is read of a front is read of the whole, a fault stays, and what was used reads alone
 
 -- what comes of an input that is read so
-comes-of : {A B : Type 0} (context : Context A B) (s : Shape) (input : Rest A) {r : Result (Meaning B × Rest A) Error} → read context s input ≡ r → Comes more Any (read context s) input r
+comes-of : {A B : Type 0} (context : Context A B) (s : Shape) (input : Rest A) {r : Result (Meaning B × Rest A) Error} → read context s input ≡ r
+    → Comes more Any (read context s) input r
 comes-of {A} {B} context s input e =
     -- what is looked up stands for itself
     let alike : (k : ℕ) (a b : A) → a ≡ b → OutLook any_cause (λ (c d : B). Unit {0}) (context.look k a) (context.look k b) = λ k a b is. rw is
     (elim (context.look k b) as (λ r. OutLook any_cause (λ (c d : B). Unit {0}) r r) [ Ok c ↦ both-looked-up c c tt | Err e ↦ both-not e e tt ]) in
-    let par = read_par {E = any_cause} {F = Unit {0}} {T = AllTwo (λ a b. a ≡ b)} {R = λ c d. Unit {0}} {parts = context.parts} context.look context.look (each _ _ alike) context.levels s (inl tt) in
+    let par = read_par {E = any_cause} {F = Unit {0}} {T = AllTwo (λ a b. a ≡ b)} {R = λ c d. Unit {0}} {parts = context.parts} context.look context.look
+    (each _ _ alike) context.levels s (inl tt) in
     subst (Comes more Any (read context s) input) e (par.tame.comes input)
 
 pub local : {A B : Type 0} → IsLocal A B
@@ -394,7 +449,8 @@ used context s input after m e =
     record { bytes = f.used.bytes; refs = f.used.refs; whole = f.whole; alone = rw alone at (f.reads (rest [] [])) }
 
 pub lasting : {A B : Type 0} → IsLasting A B
-lasting context s front x y e is not_end not_keys = elim (comes-of context s front is).1 [ inl end ↦ absurd (grind (arith, nat_tests)) | inr stays ↦ stays (rest x y) ]
+lasting context s front x y e is not_end not_keys = elim (comes-of context s front is).1
+    [ inl end ↦ absurd (grind (arith, nat_tests)) | inr stays ↦ stays (rest x y) ]
 
 -- ---- reading is natural in what stands for references, and forms are
 
@@ -435,7 +491,8 @@ natural-out f g (first-refused e r h) = absurd (no_cause h)
 
 pub natural : {A B C D : Type 0} → IsNatural A B C D
 natural {A} {B} {C} {D} f g look other levels parts s input h =
-    let alike : (kind : ℕ) (a : A) (c : C) → f a ≡ c → OutLook one_cause (Leads g) (look kind a) (other kind c) = λ kind a c e. (grind (arith, nat_tests, both-looked-up, both-not)) in
+    let alike : (kind : ℕ) (a : A) (c : C) → f a ≡ c → OutLook one_cause (Leads g) (look kind a) (other kind c) =
+    λ kind a c e. (grind (arith, nat_tests, both-looked-up, both-not)) in
     let par = read_par look other (each look other alike) levels s (inl tt) in
     natural-out f g (par.out input (rest input.bytes (map f input.refs)) (record { bytes = refl; refs = all-map f input.refs }))
 
@@ -447,26 +504,32 @@ rename_same (followed kind a) = rw (rename_same a) refl
 rename_same _ = refl
 
 pub read_over : {A B C : Type 0} → IsReadOver A B C
-read_over f look levels parts s input = natural f (λ b. b) (λ kind a. look kind (f a)) look levels parts s input (λ kind a. grind (arith, nat_tests)) ∙ (grind (arith, nat_tests, rename_same))
+read_over f look levels parts s input = natural f (λ b. b) (λ kind a. look kind (f a)) look levels parts s input (λ kind a. grind (arith, nat_tests))
+    ∙ (grind (arith, nat_tests, rename_same))
 
 pub renamed : {A B D : Type 0} → IsRenamed A B D
 renamed {A} {B} {D} g look levels parts s input =
     let all = natural (λ a. a) g look (λ kind a. look kind a >>= λ b. Ok (g b)) levels parts s input (λ kind a. refl) in
-    ap (λ (k : List A). read (at levels (λ kind a. look kind a >>= λ b. Ok (g b)) parts) s (rest input.bytes k)) (sym (map-id input.refs)) ∙ all ∙ (grind (arith, nat_tests, map-id))
+    ap (λ (k : List A). read (at levels (λ kind a. look kind a >>= λ b. Ok (g b)) parts) s (rest input.bytes k)) (sym (map-id input.refs)) ∙ all
+    ∙ (grind (arith, nat_tests, map-id))
 
 pub keeps_forms : {A B : Type 0} → KeepsForms A B
 keeps_forms {A} {B} f kind_of kind_of2 parts left s m b k kinds h =
     let p = form-along {R = Leads f} (λ a c e. rw (← e) (kinds a)) h (along-rename f m) in
     let P : List B → Type 0 = λ l. Form B kind_of2 parts left s (rename f m) b l in subst P (map-all f p.each) p.form
 
-through-out : {A B C D : Type 0} (f : A → C) (g : B → D) (m : Meaning B) (after : Rest A) {first : Result (Meaning B × Rest A) Error} {second : Result (Meaning D × Rest C) Error}
-    → Out any_cause (AllTwo (Leads f)) (Along (Unit {0}) (Leads g)) first second → first ≡ Ok (m, after) → second ≡ Ok (rename g m, rest after.bytes (map f after.refs))
+through-out : {A B C D : Type 0} (f : A → C) (g : B → D) (m : Meaning B) (after : Rest A) {first : Result (Meaning B × Rest A) Error}
+    {second : Result (Meaning D × Rest C) Error}
+    → Out any_cause (AllTwo (Leads f)) (Along (Unit {0}) (Leads g)) first second → first ≡ Ok (m, after) → second
+    ≡ Ok (rename g m, rest after.bytes (map f after.refs))
 through-out f g m after x4 e = grind (arith, nat_tests, rename-along, map-all)
 
 pub read_through : {A B C D : Type 0} → IsReadThrough A B C D
 read_through {A} {B} {C} {D} f g look other levels parts s input after m h e =
     let alike : (kind : ℕ) (a : A) (c : C) → f a ≡ c → OutLook any_cause (Leads g) (look kind a) (other kind c) = λ kind a c i.
-    elim (look kind a) as (λ r. look kind a ≡ r → OutLook any_cause (Leads g) r (other kind c))
-    [ Ok b ↦ λ j. (let q : other kind c ≡ Ok (g b) = rw (← i) (h kind a b j) in rw q (both-looked-up b (g b) refl)) | Err x ↦ λ j. first-not x (other kind c) (λ d. tt) ] refl in
+    elim (look kind a) as (λ r. look kind a ≡ r → OutLook any_cause (Leads g) r (other kind c)) [
+      | Ok b ↦ λ j. (let q : other kind c ≡ Ok (g b) = rw (← i) (h kind a b j) in rw q (both-looked-up b (g b) refl))
+      | Err x ↦ λ j. first-not x (other kind c) (λ d. tt)
+    ] refl in
     let par = read_par look other (each look other alike) levels s (inl tt) in
     through-out f g m after (par.out input (rest input.bytes (map f input.refs)) (record { bytes = refl; refs = all-map f input.refs })) e

@@ -15,11 +15,14 @@ use Rattle.std.{proofs.lemmas.List.Sums.sum_by-append, specs.List.sum_by}
 -- ---- whatever a worker does, what stands of its list and of its table stands afterwards
 
 module _ {N B W : Type 0} (m : Seen N B W) (v : ℕ) (task : Task) (s s' : Site) where
-  to-list : {answer : Option WorkerAnswer} {todo : List Todo} → s'.todo ≡ todo → Goes v task s.shelf answer s'.shelf todo → Goes v task s.shelf answer s'.shelf s'.todo
+  to-list : {answer : Option WorkerAnswer} {todo : List Todo} → s'.todo ≡ todo → Goes v task s.shelf answer s'.shelf todo
+      → Goes v task s.shelf answer s'.shelf s'.todo
   to-list {answer = answer} e goes = subst (λ t. Goes v task s.shelf answer s'.shelf t) (sym e) goes
 
-  released : (r : ArcRef) (key height : ℕ) (below : List Todo) → AllStand s.shelf v task (to_release r key height ∷ below) → CoversBy v task s.shelf (to_release r key height ∷ below)
-      → ((i : Identity) → s'.shelf.slots i ≡ s.shelf.slots i) → (step : Action W) → Goes v task s.shelf (answer_after (to_release r key height ∷ below) step) s'.shelf (give r key height below)
+  released : (r : ArcRef) (key height : ℕ) (below : List Todo) → AllStand s.shelf v task (to_release r key height ∷ below)
+      → CoversBy v task s.shelf (to_release r key height ∷ below)
+      → ((i : Identity) → s'.shelf.slots i ≡ s.shelf.slots i) → (step : Action W)
+      → Goes v task s.shelf (answer_after (to_release r key height ∷ below) step) s'.shelf (give r key height below)
   released r key height below (stands, apart, rest) covers same step =
       plain v task s.shelf s'.shelf same _ (give r key height below) (λ a is. grind (arith, nat_tests)) (gives v task s.shelf r key height below rest)
       (λ i slot there own still. given-open v task s.shelf i r key height below ∙ covers i slot there own still)
@@ -36,15 +39,21 @@ module _ {N B W : Type 0} (m : Seen N B W) (v : ℕ) (task : Task) (s s' : Site)
       (grind (arith, nat_tests, put-cases, identity_of, is_open_in, or_right, is_identity, or_left, is-self)))
   -- the key of the reference was known
   stands-on (to_start r place ∷ []) e (meets, apart, rest) covers (Action.Claim i (Ok (Claim.Known key height))) (is, c) = to-list c.finds.1.2.list_is
-      (plain v task s.shelf s'.shelf c.finds.1.2.table_is.slots None (to_release r key height ∷ []) (λ a is. absurd (cc)) ((meets, c.finds.1.1), (λ i no. absurd (cc)), tt) covers)
+      (plain v task s.shelf s'.shelf c.finds.1.2.table_is.slots None (to_release r key height ∷ []) (λ a is. absurd (cc)) (
+        (meets, c.finds.1.1),
+        (λ i no. absurd (cc)),
+        tt,
+      ) covers)
   stands-on (to_start r place ∷ x ∷ below) e (meets, apart, rest) covers (Action.Claim i (Ok (Claim.Known key height))) (is, c) = to-list c.finds.1.2.list_is
-      (plain v task s.shelf s'.shelf c.finds.1.2.table_is.slots None (give r key height (x ∷ below)) (λ a is. absurd (cc)) (gives v task s.shelf r key height (x ∷ below) rest)
+      (plain v task s.shelf s'.shelf c.finds.1.2.table_is.slots None (give r key height (x ∷ below)) (λ a is. absurd (cc))
+      (gives v task s.shelf r key height (x ∷ below) rest)
       (λ i slot there own still. given-open v task s.shelf i r key height (x ∷ below) ∙ covers i slot there own still))
   stands-on (to_start r place ∷ below) e all covers (Action.Claim i (Ok Claim.Waiting)) (is, c) = to-list (c.finds.1.2.list_is ∙ e)
       (plain v task s.shelf s'.shelf c.finds.1.2.table_is.slots None (to_start r place ∷ below) (λ a is. absurd (cc)) all covers)
   stands-on (to_write r place through ∷ below) e ((meets, c), apart, rest) covers (Action.Write i (Ok out)) (is, p) =
       let new : Slot = record c.slot { references = Some (m.written_of out).references } in
-      let puts = changes-slot s.shelf s'.shelf (identity_of r) c.slot (λ slot. record slot { references = Some (m.written_of out).references }) c.claimed p.writes.table_is in
+      let puts = changes-slot s.shelf s'.shelf (identity_of r) c.slot (λ slot. record slot { references = Some (m.written_of out).references }) c.claimed
+      p.writes.table_is in
       let o : Open = record { reference = r; place = place; through = through; written = m.written_of out; keys = []; height = 0 } in
       to-list p.writes.list_is (own-goes v task s.shelf s'.shelf (identity_of r) new (settle (to_finish o ∷ below)) puts
       (is-changed c.slot new c.claimed c.own refl (grind (arith, nat_tests, some-none))) meets (ap is_failed c.no_result_yet)
@@ -53,9 +62,12 @@ module _ {N B W : Type 0} (m : Seen N B W) (v : ℕ) (task : Task) (s s' : Site)
   stands-on (to_publish r key height ∷ below) e ((meets, c), apart, rest) covers (Action.Publish i k h) (is, same_key, same_height, t) =
       let new : Slot = with_outcome (published key height) c.slot in
       let puts = changes-slot s.shelf s'.shelf (identity_of r) c.slot (with_outcome (published key height)) c.claimed t.table_is in
-      to-list t.list_is (own-goes v task s.shelf s'.shelf (identity_of r) new (to_release r key height ∷ below) puts (is-changed c.slot new c.claimed c.own refl (grind arith)) meets (grind arith)
-      (λ changes now. (grind (arith, nat_tests, all-stay, grows, false_from_ne_true, true-false, is-same, is-self))) (grind (arith, nat_tests, put-cases, or_cases, true-false, is-same, is-self)))
-  stands-on (to_fail fault back ∷ below) e all covers Action.Fail (back_is, table_is, list_is) = to-list list_is (failed-goes v task s.shelf s'.shelf (answer_of_fault fault) table_is)
+      to-list t.list_is (own-goes v task s.shelf s'.shelf (identity_of r) new (to_release r key height ∷ below) puts
+      (is-changed c.slot new c.claimed c.own refl (grind arith)) meets (grind arith)
+      (λ changes now. (grind (arith, nat_tests, all-stay, grows, false_from_ne_true, true-false, is-same, is-self)))
+      (grind (arith, nat_tests, put-cases, or_cases, true-false, is-same, is-self)))
+  stands-on (to_fail fault back ∷ below) e all covers Action.Fail (back_is, table_is, list_is) =
+      to-list list_is (failed-goes v task s.shelf s'.shelf (answer_of_fault fault) table_is)
   stands-on _ e all covers step does = grind (arith, nat_tests, to-list, fails, swaps, plain, released)
 
 abbrev pub StandsIn : World → Type 0
@@ -64,7 +76,8 @@ StandsIn u = WorkStands u.work.shelves u.work.walkings u.core.last.worker
 -- what an event does to the worker that it touches, which makes these steps
 pub data OwnTurn {N B W : Type 0} (m : Seen N B W) (u : World) (v : ℕ) (taken : List (Action W)) (u' : World) : Type 0 where
   rests : taken ≡ [] → SameSlots u.work.shelves u'.work.shelves → u'.work.walkings v ≡ u.work.walkings v → OwnTurn m u v taken u'
-  begins : (t : TableNumber) (task : Task) → taken ≡ [] → SameSlots u.work.shelves u'.work.shelves → u.work.walkings v ≡ None → u'.work.walkings v ≡ Some (new_walking t task) → OwnTurn m u v taken u'
+  begins : (t : TableNumber) (task : Task) → taken ≡ [] → SameSlots u.work.shelves u'.work.shelves → u.work.walkings v ≡ None → u'.work.walkings v
+      ≡ Some (new_walking t task) → OwnTurn m u v taken u'
   steps : (k : WorkerNumber) (reply : WorkerReply W) → k.0 ≡ v → taken ≡ reply.action ∷ [] → WorkerSteps m u k reply u' → OwnTurn m u v taken u'
 
 pub record EventTurns {N B W : Type 0} (m : Seen N B W) (u : World) (event : Event N B W) (reply : EventReply N B W) (u' : World) : Type 0 where
@@ -78,11 +91,13 @@ pub record EventTurns {N B W : Type 0} (m : Seen N B W) (u : World) (event : Eve
 updated-off : {X : Type 0} (n : ℕ) (x : X) (f : ℕ → X) (q : ℕ) → nat_eq q n ≡ false → updated n x f q ≡ f q
 updated-off n x f q e = let a : (q == n) ≡ false = grind (arith, nat_tests) in ap (λ b. if b then x else f q) a
 
-pub goes-same : (v : ℕ) (task : Task) (shelf mid shelf' : Shelf) (answer : Option WorkerAnswer) (todo : List Todo) → ((i : Identity) → shelf'.slots i ≡ mid.slots i)
+pub goes-same : (v : ℕ) (task : Task) (shelf mid shelf' : Shelf) (answer : Option WorkerAnswer) (todo : List Todo)
+    → ((i : Identity) → shelf'.slots i ≡ mid.slots i)
     → Goes v task shelf answer mid todo → Goes v task shelf answer shelf' todo
 goes-same v task shelf mid shelf' answer todo same g =
     let more : ShelfGrows mid shelf' = grows v mid shelf' (same-slots v mid shelf' same) in
-    let changes : (i : Identity) → SlotChanges v (shelf.slots i) (shelf'.slots i) = λ i. subst (λ o. SlotChanges v (shelf.slots i) o) (sym (same i)) (g.changes i) in
+    let changes : (i : Identity) → SlotChanges v (shelf.slots i) (shelf'.slots i) =
+    λ i. subst (λ o. SlotChanges v (shelf.slots i) o) (sym (same i)) (g.changes i) in
     grind (arith, changes, all-stay v task mid shelf' more todo (λ i is slot there own. same i ∙ there) g.all, same, meets-grow mid shelf' task)
 
 module _ {N B W : Type 0} (m : Seen N B W) (u u' : World) (work : StandsIn u) where
@@ -93,29 +108,35 @@ module _ {N B W : Type 0} (m : Seen N B W) (u u' : World) (work : StandsIn u) wh
       | inr closes ↦ (let c = subst (λ e. Happens m u e reply u') closes h in grind (arith, nat_tests, le-of))
     ]
 
-    quiet : ((n : ℕ) → step_of n event reply ≡ []) → SameSlots u.work.shelves u'.work.shelves → ((v : ℕ) → u'.work.walkings v ≡ u.work.walkings v) → EventTurns m u event reply u'
+    quiet : ((n : ℕ) → step_of n event reply ≡ []) → SameSlots u.work.shelves u'.work.shelves → ((v : ℕ) → u'.work.walkings v ≡ u.work.walkings v)
+        → EventTurns m u event reply u'
     quiet no_step same stay = grind (arith, nat_tests, is-quiet, last-on)
 
     by-work : ((n : ℕ) → step_of n event reply ≡ []) → WorkStays u.work u'.work → EventTurns m u event reply u'
     by-work no_step w = quiet no_step (λ t i. (w.shelves t).slots i) w.walkings
 
-    starts : ((n : ℕ) → step_of n event reply ≡ []) → (t : TableNumber) (task : Task) (core : Core) (v : WorkerNumber) → core.last.worker ≡ u.core.last.worker → Starts u t task core v u'
+    starts : ((n : ℕ) → step_of n event reply ≡ []) → (t : TableNumber) (task : Task) (core : Core) (v : WorkerNumber) → core.last.worker ≡ u.core.last.worker
+        → Starts u t task core v u'
         → EventTurns m u event reply u'
     starts no_step t task core v same s =
         let above : u.core.last.worker < v.0 = let e = s.next in omega arith in
         let last : u'.core.last.worker ≡ core.last.worker + 1 = ap (λ l. l.worker) s.pager.last in
         let new : u'.work.walkings v.0 ≡ Some (new_walking t task) = s.work.same_walkings v.0 ∙ updated-at v.0 (Some (new_walking t task)) u.work.walkings in
         let turned = is-started u.work.shelves u'.work.shelves u.work.walkings u'.work.walkings u.core.last.worker work (λ q i. (s.work.same_shelves q).slots i)
-        v.0 (new_walking t task) above refl refl new (λ n other. s.work.same_walkings n ∙ updated-off v.0 (Some (new_walking t task)) u.work.walkings n other) in
-        let own : OwnTurn m u v.0 (step_of v.0 event reply) u' = begins t task (no_step v.0) (λ q i. (s.work.same_shelves q).slots i) (grind (arith, nat_tests)) new in
+        v.0 (new_walking t task) above refl refl new (λ n other. s.work.same_walkings n
+        ∙ updated-off v.0 (Some (new_walking t task)) u.work.walkings n other) in
+        let own : OwnTurn m u v.0 (step_of v.0 event reply) u' = begins t task (no_step v.0) (λ q i. (s.work.same_shelves q).slots i)
+        (grind (arith, nat_tests)) new in
         record { who = v.0; turned = turned; last = last-on; small = omega (arith, s.next); others = λ n other. no_step n; own = own }
 
-  pub event-turns : ((v : ℕ) (w : Walking) → u.work.walkings v ≡ Some w → w.table ≤ u.work.last_table) → (event : Event N B W) (reply : EventReply N B W) → Happens m u event reply u'
+  pub event-turns : ((v : ℕ) (w : Walking) → u.work.walkings v ≡ Some w → w.table ≤ u.work.last_table) → (event : Event N B W) (reply : EventReply N B W)
+      → Happens m u event reply u'
       → EventTurns m u event reply u'
   event-turns tables Event.TableNew (EventReply.TableMade (Ok t)) h =
       let w = h.made.3 in let next = h.made.0 in let nothing : (i : Identity) (slot : Slot) → (u.work.shelves t.0).slots i ≡ Some slot → ⊥ =
       λ i slot there. let s = work.slots t.0 i slot there in let few = tables slot.worker s.walking s.there in let on = s.on_table in absurd (omega arith) in
-      quiet _ _ h (λ n. refl) (λ q i. let same = (w.same_shelves q).slots i in grind (arith, nat_tests, cases_Bool (nat_eq q t.0), same-number q t.0, nothing i)) w.same_walkings
+      quiet _ _ h (λ n. refl) (λ q i. let same = (w.same_shelves q).slots i in
+      grind (arith, nat_tests, cases_Bool (nat_eq q t.0), same-number q t.0, nothing i)) w.same_walkings
   event-turns tables (Event.WorkerItem t item) (EventReply.WorkerMade (Ok v)) h = starts _ _ h (λ n. refl) t _ u.core v refl h.starts
   event-turns tables (Event.WorkerListed t i) (EventReply.WorkerMade (Ok v)) h = starts _ _ h (λ n. refl) t _ _ v refl h.starts.5
   event-turns tables (Event.WorkerStep v) (EventReply.WorkerMoved (Ok reply)) h =
@@ -126,22 +147,33 @@ module _ {N B W : Type 0} (m : Seen N B W) (u u' : World) (work : StandsIn u) wh
       let shelf_is : (i : Identity) → (u'.work.shelves w.table).slots i ≡ s.after.shelf.slots i =
       λ i. (s.work.same_shelves w.table).slots i ∙ ap (λ (x : Shelf). x.slots i) (updated-at w.table s.after.shelf u.work.shelves) in
       let turned : Turned v.0 u.work.shelves u'.work.shelves u.work.walkings u'.work.walkings =
-      is-stepped v.0 u.work.shelves u'.work.shelves u.work.walkings u'.work.walkings w now s.at (s.work.same_walkings v.0 ∙ updated-at v.0 (Some now) u.work.walkings) refl refl
+      is-stepped v.0 u.work.shelves u'.work.shelves u.work.walkings u'.work.walkings w now s.at
+      (s.work.same_walkings v.0 ∙ updated-at v.0 (Some now) u.work.walkings) refl refl
       (λ n other. s.work.same_walkings n ∙ updated-off v.0 (Some now) u.work.walkings n other)
       (λ t other i. (s.work.same_shelves t).slots i ∙ ap (λ (x : Shelf). x.slots i) (updated-off w.table s.after.shelf u.work.shelves t other))
-      (stands.unfailed s.at_work) (follows-waits m.written_of w.todo reply.action s.after.todo (steps_follow m v.0 (site_of u w) s.after reply.action s.does) stands.waits)
+      (stands.unfailed s.at_work) (follows-waits m.written_of w.todo reply.action s.after.todo (steps_follow m v.0 (site_of u w) s.after reply.action s.does)
+      stands.waits)
       (goes-same v.0 w.task (u.work.shelves w.table) s.after.shelf (u'.work.shelves w.table) reply.answer s.after.todo shelf_is (rw s.answers goes)) in
       let few = work.numbered v.0 w s.at in let last = last-on (Event.WorkerStep v) (EventReply.WorkerMoved (Ok reply)) h in
-      record { who = v.0; turned = turned; last = last; small = omega (arith, few, last); others = λ n other. grind (arith, nat_tests); own = steps v reply refl (grind (arith, nat_tests)) s }
+      record {
+        who = v.0;
+        turned = turned;
+        last = last;
+        small = omega (arith, few, last);
+        others = λ n other. grind (arith, nat_tests);
+        own = steps v reply refl (grind (arith, nat_tests)) s;
+      }
   event-turns tables x1 x2 h = grind (arith, nat_tests, by-work)
 
 -- one of two: at the number, or elsewhere
 at-number : {X : Type 0} (P : X → Type 0) (k : ℕ) (x : X) (f : ℕ → X) (q : ℕ) → P x → P (f q) → P (updated k x f q)
 at-number P k x f q here there = grind (arith, nat_tests)
 
-pub turns-stand : {N B W : Type 0} (m : Seen N B W) {u u' : World} {event : Event N B W} {reply : EventReply N B W} → EventTurns m u event reply u' → StandsIn u → StandsIn u'
+pub turns-stand : {N B W : Type 0} (m : Seen N B W) {u u' : World} {event : Event N B W} {reply : EventReply N B W} → EventTurns m u event reply u' → StandsIn u
+    → StandsIn u'
 turns-stand m {u} {u'} turns work =
-    work-stands turns.who u.work.shelves u'.work.shelves u.work.walkings u'.work.walkings turns.turned u.core.last.worker u'.core.last.worker turns.last turns.small work
+    work-stands turns.who u.work.shelves u'.work.shelves u.work.walkings u'.work.walkings turns.turned u.core.last.worker u'.core.last.worker turns.last
+    turns.small work
 
 abbrev SameAs : Shelf → Shelf → Type 0
 SameAs a b = (i : Identity) → b.slots i ≡ a.slots i
@@ -167,24 +199,30 @@ module _ {N B W : Type 0} (m : Seen N B W) {u u' : World} {event : Event N B W} 
       (step : (k : WorkerNumber) (r : WorkerReply W) (s : WorkerSteps m u k r u') → k.0 ≡ turns.who → step_of turns.who event reply ≡ r.action ∷ []
       → ShelfGrows (u.work.shelves s.walking.table) s.after.shelf
       → Slots s.after.shelf × Walk k.0 s.after.shelf (record s.walking { todo = s.after.todo; steps = r.steps; answer = r.answer })) where
-    all-hold : ((t : ℕ) → Slots (u'.work.shelves t)) → ((w : Walking) → u'.work.walkings turns.who ≡ Some w → Walk turns.who (u'.work.shelves w.table) w) → HoldsOfAll u' Slots Walk
+    all-hold : ((t : ℕ) → Slots (u'.work.shelves t)) → ((w : Walking) → u'.work.walkings turns.who ≡ Some w → Walk turns.who (u'.work.shelves w.table) w)
+        → HoldsOfAll u' Slots Walk
     all-hold slots own = search (rules, nat_eq, true, false)
 
     pub turns-keep : OwnTurn m u turns.who (step_of turns.who event reply) u' → HoldsOfAll u' Slots Walk
-    turns-keep (rests none same still) = all-hold (λ t. stay t (u'.work.shelves t) (turns-grow t) (same t)) (λ w there. rest turns.who w none (sym still ∙ there))
+    turns-keep (rests none same still) = all-hold (λ t. stay t (u'.work.shelves t) (turns-grow t) (same t))
+        (λ w there. rest turns.who w none (sym still ∙ there))
     turns-keep (begins t task none same nobody new) =
         all-hold (λ q. stay q (u'.work.shelves q) (turns-grow q) (same q))
         (λ w there. subst (λ x. Walk turns.who (u'.work.shelves x.table) x) (some-same new there) (begin turns.who (u'.work.shelves t.0) t task))
     turns-keep (steps k r at one s) =
         let w = s.walking in
         let now : Walking = record w { todo = s.after.todo; steps = r.steps; answer = r.answer } in
-        let at_now : u'.work.walkings turns.who ≡ Some now = sym (ap u'.work.walkings at) ∙ s.work.same_walkings k.0 ∙ updated-at k.0 (Some now) u.work.walkings in
-        let table : SameAs s.after.shelf (u'.work.shelves w.table) = λ i. (s.work.same_shelves w.table).slots i ∙ ap (λ (z : Shelf). z.slots i) (updated-at w.table s.after.shelf u.work.shelves) in
+        let at_now : u'.work.walkings turns.who ≡ Some now = sym (ap u'.work.walkings at) ∙ s.work.same_walkings k.0
+        ∙ updated-at k.0 (Some now) u.work.walkings in
+        let table : SameAs s.after.shelf (u'.work.shelves w.table) = λ i. (s.work.same_shelves w.table).slots i
+        ∙ ap (λ (z : Shelf). z.slots i) (updated-at w.table s.after.shelf u.work.shelves) in
         let d = step k r s at one (λ i slot there. let a = turns-grow w.table i slot there in (a.0, sym (table i) ∙ a.1, a.2)) in
         all-hold
-        (λ t. at-number (λ shelf. SameAs shelf (u'.work.shelves t) → Slots (u'.work.shelves t)) w.table s.after.shelf u.work.shelves t (λ same. alike s.after.shelf (u'.work.shelves t) same d.0)
+        (λ t. at-number (λ shelf. SameAs shelf (u'.work.shelves t) → Slots (u'.work.shelves t)) w.table s.after.shelf u.work.shelves t
+        (λ same. alike s.after.shelf (u'.work.shelves t) same d.0)
         (stay t (u'.work.shelves t) (turns-grow t)) (s.work.same_shelves t).slots)
-        (λ x there. rw (← some-same at_now there, ← at) (onward s.after.shelf (u'.work.shelves w.table) (same-grow s.after.shelf (u'.work.shelves w.table) table) d.0 k.0 now d.1))
+        (λ x there. rw (← some-same at_now there, ← at) (onward s.after.shelf (u'.work.shelves w.table)
+        (same-grow s.after.shelf (u'.work.shelves w.table) table) d.0 k.0 now d.1))
 
 -- and so it does where nobody works yet
 pub idle-stands : {N E : Type 0} (s : MachineState N E) → IsIdle s → StandsIn (world_of s)
@@ -213,19 +251,22 @@ all-due [] = 0
 all-due (x ∷ below) = due x below + all-due below
 
 -- what waits starts the first of the references that are left, if there is one
-started-due : (place : ℕ) (rs : List ArcRef) (x : Todo) (below : List Todo) → all-due (next_start place rs ++ x ∷ below) + (length rs - 1) ≤ length rs + all-due (x ∷ below)
+started-due : (place : ℕ) (rs : List ArcRef) (x : Todo) (below : List Todo)
+    → all-due (next_start place rs ++ x ∷ below) + (length rs - 1) ≤ length rs + all-due (x ∷ below)
 started-due place x1 x below = grind (arith, nat_tests)
 
 given-due : (r : ArcRef) (key height : ℕ) (below : List Todo) → all-due (give r key height below) ≤ all-due below
 given-due r key height x3 = grind (arith, nat_tests, started-due, length-drop, length-append)
 
-first-due : (written : Written) (below : List Todo) → all-due (next_start 0 written.references ++ to_item written [] ∷ below) ≤ 2 + length written.references + all-due below
+first-due : (written : Written) (below : List Todo) → all-due (next_start 0 written.references ++ to_item written [] ∷ below) ≤ 2 + length written.references +
+    all-due below
 first-due written below = grind (arith, started-due)
 
 -- one step pays for itself: out of what was due, of its claim, or of the references that it wrote
 pub pays : {W : Type 0} (f : W → Written) (todo : List Todo) (step : Action W) (next : List Todo) → Follows f todo step next
     → one (is_counted todo step) + all-due next ≤ 8 * one (is_claim step) + references_written f step + all-due todo
-pays f (to_start r place ∷ x ∷ xs) (Action.Claim j (Ok (Claim.Known key height))) next (is, e) = rw e (let le = given-due r key height (x ∷ xs) in omega (arith, le))
+pays f (to_start r place ∷ x ∷ xs) (Action.Claim j (Ok (Claim.Known key height))) next (is, e) =
+    rw e (let le = given-due r key height (x ∷ xs) in omega (arith, le))
 pays f (to_write r place through ∷ below) (Action.Write j (Ok out)) next (is, e) = grind (arith, started-due, length-drop)
 pays f (to_release r key height ∷ below) (Action.Release j) next (is, e) = rw e (let le = given-due r key height below in omega (arith, le))
 pays f _ step next follows = grind (arith, nat_tests, given-due)
@@ -236,7 +277,8 @@ pub failed-stays : (n : ℕ) (shelf shelf' : Shelf) (i : Identity) → ShelfGrow
 failed-stays n shelf shelf' i more was = grind arith
 
 module _ {W : Type 0} (n : ℕ) where
-  pub met-stays : (shelf shelf' : Shelf) (past more : List (Action W)) (answer : WorkerAnswer) → ShelfGrows shelf shelf' → ((x : Action W) → Among past x → Among more x)
+  pub met-stays : (shelf shelf' : Shelf) (past more : List (Action W)) (answer : WorkerAnswer) → ShelfGrows shelf shelf'
+      → ((x : Action W) → Among past x → Among more x)
       → IsMetFailure shelf n past answer → IsMetFailure shelf' n more answer
   met-stays shelf shelf' past more x4 grown on x7 = grind (arith, nat_tests, on, failed-stays)
 
@@ -245,10 +287,12 @@ module _ {W : Type 0} (n : ℕ) where
   FailsMet shelf past (to_fail fault back ∷ below) = IsMetFailure shelf n past (answer_of_fault fault) × FailsMet shelf past below
   FailsMet shelf past (x ∷ below) = FailsMet shelf past below
 
-  pub fails-stay : (shelf shelf' : Shelf) (past more : List (Action W)) (todo : List Todo) → ShelfGrows shelf shelf' → ((x : Action W) → Among past x → Among more x)
+  pub fails-stay : (shelf shelf' : Shelf) (past more : List (Action W)) (todo : List Todo) → ShelfGrows shelf shelf'
+      → ((x : Action W) → Among past x → Among more x)
       → FailsMet shelf past todo → FailsMet shelf' more todo
   fails-stay shelf shelf' past more [] grown on met = tt
-  fails-stay shelf shelf' past more (x ∷ below) grown on met = let rest = fails-stay shelf shelf' past more below grown on in grind (arith, nat_tests, rest, met-stays)
+  fails-stay shelf shelf' past more (x ∷ below) grown on met = let rest =
+      fails-stay shelf shelf' past more below grown on in grind (arith, nat_tests, rest, met-stays)
 
   module _ (shelf : Shelf) (past : List (Action W)) where
     started : (place : ℕ) (rs : List ArcRef) (todo : List Todo) → FailsMet shelf past todo → FailsMet shelf past (next_start place rs ++ todo)
@@ -280,7 +324,8 @@ module _ {W : Type 0} (n : ℕ) where
     follows-met f _ step next follows among already met = grind (arith, nat_tests, on, given, started, drop)
 
     -- the answer is what the list was about to fail with, or a key
-    pub answered : (todo : List Todo) (step : Action W) (answer : WorkerAnswer) → answer_after todo step ≡ Some answer → FailsMet shelf past todo → IsMetFailure shelf n past answer
+    pub answered : (todo : List Todo) (step : Action W) (answer : WorkerAnswer) → answer_after todo step ≡ Some answer → FailsMet shelf past todo
+        → IsMetFailure shelf n past answer
     answered x0 x1 answer is x4 = grind (arith, nat_tests)
 
 -- of a worker and its steps: they lead to its list, whatever it fails with was met, and they are within their bound
@@ -295,13 +340,15 @@ abbrev pub HasGone : {W : Type 0} → (W → Written) → ℕ → (ℕ → Shelf
 HasGone f n shelves None past = past ≡ []
 HasGone f n shelves (Some w) past = Went f n (shelves w.table) w past
 
-leads-more : {W : Type 0} (f : W → Written) (todo : List Todo) (past : List (Action W)) (mid : List Todo) (step : Action W) (last : List Todo) → Leads f todo past mid → Follows f mid step last
+leads-more : {W : Type 0} (f : W → Written) (todo : List Todo) (past : List (Action W)) (mid : List Todo) (step : Action W) (last : List Todo)
+    → Leads f todo past mid → Follows f mid step last
     → Leads f todo (past ++ step ∷ []) last
 leads-more f todo [] mid step last is follows = (last, subst (λ t. Follows f t step last) is follows, refl)
 leads-more f todo (x ∷ past) mid step last (next, first, leads) follows = (next, first, leads-more f next past mid step last leads follows)
 
 -- where a claim finds one that has failed, it is another's
-pub failed-elsewhere : {N B W : Type 0} (m : Seen N B W) (v : ℕ) (s s' : Site) (todo : List Todo) (i : Identity) → Does m v s todo (Action.Claim i (Ok Claim.AlreadyFailed)) s'
+pub failed-elsewhere : {N B W : Type 0} (m : Seen N B W) (v : ℕ) (s s' : Site) (todo : List Todo) (i : Identity)
+    → Does m v s todo (Action.Claim i (Ok Claim.AlreadyFailed)) s'
     → HasNoFailed s.shelf v → FailedElsewhere s.shelf v i
 failed-elsewhere m v s s' (to_start r place ∷ below) i (is, c) clean =
     let found = c.finds.1.1 in
@@ -315,17 +362,27 @@ module _ {N B W : Type 0} (m : Seen N B W) (u u' : World) (grow : (t : ℕ) → 
   abbrev f : W → Written
   f = m.written_of
 
-  stays : (n : ℕ) (o o' : Option Walking) (past taken : List (Action W)) → o' ≡ o → taken ≡ [] → HasGone f n u.work.shelves o past → HasGone f n u'.work.shelves o' (past ++ taken)
+  stays : (n : ℕ) (o o' : Option Walking) (past taken : List (Action W)) → o' ≡ o → taken ≡ [] → HasGone f n u.work.shelves o past
+      → HasGone f n u'.work.shelves o' (past ++ taken)
   stays n None o' past taken same none gone = rw (same, none, append-nil past) gone
   stays n (Some w) o' past taken same none gone =
-      let met = λ (answer : WorkerAnswer). met-stays n (u.work.shelves w.table) (u'.work.shelves w.table) past past answer (grow w.table) (λ x among. among) in rw (same, none, append-nil past)
-      (search (gone.leads, fails-stay n (u.work.shelves w.table) (u'.work.shelves w.table) past past w.todo (grow w.table) (λ x among. among) gone.fails, met, gone.met, gone.within))
+      let met = λ (answer : WorkerAnswer). met-stays n (u.work.shelves w.table) (u'.work.shelves w.table) past past answer (grow w.table) (λ x among. among) in
+      rw (same, none, append-nil past)
+      (search (
+        gone.leads,
+        fails-stay n (u.work.shelves w.table) (u'.work.shelves w.table) past past w.todo (grow w.table) (λ x among. among) gone.fails,
+        met,
+        gone.met,
+        gone.within,
+      ))
 
-  begun : (n : ℕ) (t : TableNumber) (task : Task) (past taken : List (Action W)) → taken ≡ [] → u.work.walkings n ≡ None → u'.work.walkings n ≡ Some (new_walking t task)
+  begun : (n : ℕ) (t : TableNumber) (task : Task) (past taken : List (Action W)) → taken ≡ [] → u.work.walkings n ≡ None → u'.work.walkings n
+      ≡ Some (new_walking t task)
       → HasGone f n u.work.shelves (u.work.walkings n) past → HasGone f n u'.work.shelves (u'.work.walkings n) (past ++ taken)
   begun n t task past taken none nobody new gone = search (rules, f, new_walking, fails, first-met, first-due, append-nil)
 
-  went-on : StandsIn u → (k : WorkerNumber) (reply : WorkerReply W) (past : List (Action W)) → WorkerSteps m u k reply u' → HasGone f k.0 u.work.shelves (u.work.walkings k.0) past
+  went-on : StandsIn u → (k : WorkerNumber) (reply : WorkerReply W) (past : List (Action W)) → WorkerSteps m u k reply u'
+      → HasGone f k.0 u.work.shelves (u.work.walkings k.0) past
       → HasGone f k.0 u'.work.shelves (u'.work.walkings k.0) (past ++ reply.action ∷ [])
   went-on work k reply past s gone =
       let w : Walking = s.walking in
@@ -335,19 +392,27 @@ module _ {N B W : Type 0} (m : Seen N B W) (u u' : World) (grow : (t : ℕ) → 
       let new : u'.work.walkings k.0 ≡ Some now = s.work.same_walkings k.0 ∙ updated-at k.0 (Some now) u.work.walkings in
       let was : Went f k.0 shelf w past = subst (λ o. HasGone f k.0 u.work.shelves o past) s.at gone in
       let follows = steps_follow m k.0 (site_of u w) s.after reply.action s.does in
-      let fails = fails-stay k.0 shelf shelf' past (past ++ reply.action ∷ []) w.todo (grow w.table) (λ x (i, at). among-left past (reply.action ∷ []) i x at) was.fails in
-      let already : (i : Identity) → reply.action ≡ Action.Claim i (Ok Claim.AlreadyFailed) → FailedElsewhere shelf' k.0 i = λ i is. failed-stays k.0 shelf shelf' i (grow w.table)
-      (failed-elsewhere m k.0 (site_of u w) s.after w.todo i (subst (λ step. Does m k.0 (site_of u w) w.todo step s.after) is s.does.does) ((work.workers k.0 w s.at).unfailed s.at_work)) in
+      let fails = fails-stay k.0 shelf shelf' past (past ++ reply.action ∷ []) w.todo (grow w.table) (λ x (i, at). among-left past (reply.action ∷ []) i x at)
+      was.fails in
+      let already : (i : Identity) → reply.action ≡ Action.Claim i (Ok Claim.AlreadyFailed) → FailedElsewhere shelf' k.0 i =
+      λ i is. failed-stays k.0 shelf shelf' i (grow w.table)
+      (failed-elsewhere m k.0 (site_of u w) s.after w.todo i (subst (λ step. Does m k.0 (site_of u w) w.todo step s.after) is s.does.does)
+      ((work.workers k.0 w s.at).unfailed s.at_work)) in
       let leads = leads-more f (first_todo w.task) past w.todo reply.action s.after.todo was.leads follows in
-      let left = follows-met k.0 shelf' (past ++ reply.action ∷ []) f w.todo reply.action s.after.todo follows (among-right past (reply.action ∷ []) 0 reply.action refl) already fails in
-      let met = λ (answer : WorkerAnswer) (is : reply.answer ≡ Some answer). answered k.0 shelf' (past ++ reply.action ∷ []) w.todo reply.action answer (sym s.answers ∙ is) fails in
+      let left = follows-met k.0 shelf' (past ++ reply.action ∷ []) f w.todo reply.action s.after.todo follows
+      (among-right past (reply.action ∷ []) 0 reply.action refl) already fails in
+      let met = λ (answer : WorkerAnswer) (is : reply.answer ≡ Some answer). answered k.0 shelf' (past ++ reply.action ∷ []) w.todo reply.action answer
+      (sym s.answers ∙ is) fails in
       let counts = s.counts in let was_so = was.within in let paid = pays f w.todo reply.action s.after.todo follows in
       rw new (record { leads = leads; fails = left; met = met; within = grind (arith, nat_tests, sum_by-append, sum_by-cons) })
 
 -- whatever an event does, its steps are added
-pub goes-on : {N B W : Type 0} (m : Seen N B W) (u u' : World) (event : Event N B W) (reply : EventReply N B W) → StandsIn u → EventTurns m u event reply u' → (n : ℕ) (past : List (Action W))
-    → HasGone m.written_of n u.work.shelves (u.work.walkings n) past → HasGone m.written_of n u'.work.shelves (u'.work.walkings n) (past ++ step_of n event reply)
+pub goes-on : {N B W : Type 0} (m : Seen N B W) (u u' : World) (event : Event N B W) (reply : EventReply N B W) → StandsIn u → EventTurns m u event reply u'
+    → (n : ℕ) (past : List (Action W))
+    → HasGone m.written_of n u.work.shelves (u.work.walkings n) past → HasGone m.written_of n u'.work.shelves (u'.work.walkings n)
+    (past ++ step_of n event reply)
 goes-on {W = W} m u u' event reply work turns n past gone = elim (cases_Bool (nat_eq n turns.who)) [
   | inl e ↦ let is = same-number n turns.who e in let before = rw is at gone in rw is (grind (arith, nat_tests, stays, begun, went-on))
-  | inr e ↦ stays m u u' (turns-grow m turns) n (u.work.walkings n) (u'.work.walkings n) past (step_of n event reply) (turns.turned.others n e) (turns.others n e) gone
+  | inr e ↦ stays m u u' (turns-grow m turns) n (u.work.walkings n) (u'.work.walkings n) past (step_of n event reply) (turns.turned.others n e)
+      (turns.others n e) gone
 ]

@@ -16,10 +16,12 @@ use Rattle.pagable_pager_spec.specs.{Events.with_worker, Kinds.is_loose, Loads.{
 use Rattle.pagable_pager_spec.specs.{Pager.{OwnersAreThere, TodoBrings, of_caller, of_worker}, Refusals.Owns, Workers.{fresh, next_start, without_worker}, World.{Cell, digest, usable}}
 use Rattle.pagable_pager_spec.specs.declared.{pinning.Pinning.Pinning, events.{PinStep.PinStep, TableNumber.TableNumber}}
 
-pub cached-rows : (w : Core) (kind : Kind) (key : ℕ) (n : NodeNumber) → ((with_cached_if_open w kind key n).rows ≡ w.rows) × ((with_cached_if_open w kind key n).last ≡ w.last)
+pub cached-rows : (w : Core) (kind : Kind) (key : ℕ) (n : NodeNumber) → ((with_cached_if_open w kind key n).rows ≡ w.rows)
+    × ((with_cached_if_open w kind key n).last ≡ w.last)
 cached-rows w kind key n = grind (arith, nat_tests)
 
-module _ {w w' : Core} (whole : HandlesAreWhole w) (kind : Kind) (k : HandleNumber) (row : HandleRow) (made : row_at w' k ≡ Some row) (next : k.0 ≡ w.last.handle + 1) where
+module _ {w w' : Core} (whole : HandlesAreWhole w) (kind : Kind) (k : HandleNumber) (row : HandleRow) (made : row_at w' k ≡ Some row)
+    (next : k.0 ≡ w.last.handle + 1) where
   gets : (rows : List HandleRow) (node : NodeNumber) (owner : Owner) → AreUpTo w.last.handle rows → w.last.handle + 1 ≤ w'.last.handle
       → find_row k.0 (rows ++ row_of (w.last.handle + 1) node (mode_of kind.0) owner ∷ []) ≡ Some row → GetsRow w w' kind node.0 row
   gets rows node owner low few found =
@@ -33,13 +35,16 @@ module _ {w w' : Core} (whole : HandlesAreWhole w) (kind : Kind) (k : HandleNumb
   got-known n owner a = grind (arith, nat_tests, gets w.rows (record { 0 = n }) owner (low-whole whole))
 
   -- of such a one, where others were given up then
-  pub got-fallen : (n : ℕ) (owner : Owner) {before : Core} {given : ℕ → Bool} → FallsAnyhow before (with_known w kind n owner) given w' → GetsRow w w' kind n row
+  pub got-fallen : (n : ℕ) (owner : Owner) {before : Core} {given : ℕ → Bool} → FallsAnyhow before (with_known w kind n owner) given w'
+      → GetsRow w w' kind n row
   got-fallen n owner f = grind (arith, nat_tests, find-both, gets w.rows (record { 0 = n }) owner (low-whole whole), next-above, find-left, none-in-new)
 
   -- of the next node
-  pub got-born : (l : LoadNumber) (key : ℕ) (own : OptionalDataKey) (references : List ArcRef) → Alike (adopted w l kind key own references) w' → GetsRow w w' kind (w.last.node + 1) row
+  pub got-born : (l : LoadNumber) (key : ℕ) (own : OptionalDataKey) (references : List ArcRef) → Alike (adopted w l kind key own references) w'
+      → GetsRow w w' kind (w.last.node + 1) row
   got-born l key own references a =
-      let low = low-changed w.last.handle w.rows (λ h. is_named_by references h.number.0) (λ h. record h { owner = owner_value (w.last.node + 1) }) (λ h. refl) (low-whole whole) in
+      let low = low-changed w.last.handle w.rows (λ h. is_named_by references h.number.0) (λ h. record h { owner = owner_value (w.last.node + 1) }) (λ h. refl)
+      (low-whole whole) in
       grind (arith, nat_tests, gets (moved (is_named_by references) (owner_value (w.last.node + 1)) w.rows) (next_node w) (Owner.Load l) low)
 
 -- what can be used is in the cache
@@ -49,15 +54,19 @@ is-cached w kind key n is = grind (arith, nat_tests)
 -- A load's step in the machine: which reading makes it, and that no other goes on by it.
 
 -- a reading that makes a step is the machine's, or has just begun at an open load
-pub reading-stands : (u : World) → IsWhole u.core → (l : LoadNumber) (reading : Reading) → reading_at u l ≡ Some reading → IsReadingOf u.work reading ⊎ IsFresh u.core reading
+pub reading-stands : (u : World) → IsWhole u.core → (l : LoadNumber) (reading : Reading) → reading_at u l ≡ Some reading → IsReadingOf u.work reading
+    ⊎ IsFresh u.core reading
 reading-stands u whole l reading at =
-    let cases : (u.work.readings l.0 ≡ Some reading) ⊎ IsFresh u.core reading = grind (arith, nat_tests) in elim cases [ inl there ↦ inl (of_caller l.0 there) | inr new ↦ inr new ]
+    let cases : (u.work.readings l.0 ≡ Some reading) ⊎ IsFresh u.core reading =
+    grind (arith, nat_tests) in elim cases [ inl there ↦ inl (of_caller l.0 there) | inr new ↦ inr new ]
 
 -- it is of the load with this number
-pub reading-number : {N E : Type 0} {v : Values N} (s : MachineState N E) → IsMachineWhole v s → (l : LoadNumber) (reading : Reading) → reading_at (world_of s) l ≡ Some reading → reading.load ≡ l
+pub reading-number : {N E : Type 0} {v : Values N} (s : MachineState N E) → IsMachineWhole v s → (l : LoadNumber) (reading : Reading)
+    → reading_at (world_of s) l ≡ Some reading → reading.load ≡ l
 reading-number s whole l reading at = grind (arith, nat_tests, whole.readings l.0 reading)
 
-pub reading-open : {N E : Type 0} {v : Values N} (s : MachineState N E) → IsMachineWhole v s → (l : LoadNumber) (reading : Reading) {load : OpenLoad} → reading_at (world_of s) l ≡ Some reading
+pub reading-open : {N E : Type 0} {v : Values N} (s : MachineState N E) → IsMachineWhole v s → (l : LoadNumber) (reading : Reading) {load : OpenLoad}
+    → reading_at (world_of s) l ≡ Some reading
     → s.pager.core.loads l.0 ≡ Some load → s.pager.core.loads reading.load.0 ≡ Some load
 reading-open s whole l reading at open_load = ap (λ (k : LoadNumber). s.pager.core.loads k.0) (reading-number s whole l reading at) ∙ open_load
 
@@ -69,13 +78,16 @@ front_reading todo = None
 -- what is read afterwards was read before, or is new: of the caller, or at the front of a worker's list
 read-after : {readings : ℕ → Option Reading} {walkings : ℕ → Option Walking} (u u' : World) (New : Reading → Type 0) → ReadingsAre readings u'
     → ((n : ℕ) → u'.work.walkings n ≡ walkings n) → ((q : ℕ) (after : Reading) → readings q ≡ Some after → (u.work.readings q ≡ Some after) ⊎ New after)
-    → ((n : ℕ) (walking : Walking) (after : Reading) → walkings n ≡ Some walking → (u.work.walkings n ≡ Some walking) ⊎ (front_reading walking.todo ≡ Some after → New after))
+    → ((n : ℕ) (walking : Walking) (after : Reading) → walkings n ≡ Some walking → (u.work.walkings n ≡ Some walking)
+    ⊎ (front_reading walking.todo ≡ Some after → New after))
     → (after : Reading) → IsReadingOf u'.work after → IsReadingOf u.work after ⊎ New after
-read-after {readings} u u' New are same callers workers after (of_caller q is) = elim (callers q after (grind (arith, nat_tests))) [ inl old ↦ inl (of_caller q old) | inr new ↦ inr new ]
-read-after u u' New are same callers workers after (of_worker n place walking r through below there todo) = elim (workers n walking after (sym (same n) ∙ there)) [
-  | inl old ↦ inl (of_worker n place walking r through below old todo)
-  | inr new ↦ inr (new (ap front_reading todo))
-]
+read-after {readings} u u' New are same callers workers after (of_caller q is) =
+    elim (callers q after (grind (arith, nat_tests))) [ inl old ↦ inl (of_caller q old) | inr new ↦ inr new ]
+read-after u u' New are same callers workers after (of_worker n place walking r through below there todo) =
+    elim (workers n walking after (sym (same n) ∙ there)) [
+      | inl old ↦ inl (of_worker n place walking r through below old todo)
+      | inr new ↦ inr (new (ap front_reading todo))
+    ]
 
 -- what it answers and reads, and that it stands in the worker's list afterwards only where it goes on
 pub record LoadsTodo {N : Type 0} (v : Values N) (me : Owner) (s s' : Site) (reading : Reading) : Type 0 where
@@ -85,7 +97,8 @@ pub record LoadsTodo {N : Type 0} (v : Values N) (me : Owner) (s s' : Site) (rea
   pub next : (after : Reading) → front_reading s'.todo ≡ Some after → (answer ≡ None) × (after ≡ gone_on reading frames)
 
 -- the reading that makes the step is the machine's, or has just begun
-pub is-reading-of : {N B W : Type 0} (u : World) (event : Event N B W) (reading : Reading) → IsSteppedReading u event reading → IsReadingOf u.work reading ⊎ IsFresh u.core reading
+pub is-reading-of : {N B W : Type 0} (u : World) (event : Event N B W) (reading : Reading) → IsSteppedReading u event reading → IsReadingOf u.work reading
+    ⊎ IsFresh u.core reading
 is-reading-of u (Event.LoadStep l) reading stepped = stepped.1
 is-reading-of u (Event.WorkerStep k) reading (walking, r, place, through, below, there, todo) = inl (of_worker k.0 place walking r through below there todo)
 is-reading-of u event reading stepped = absurd stepped
@@ -93,22 +106,28 @@ is-reading-of u event reading stepped = absurd stepped
 -- what holds of each reading afterwards: of those that were there, of one that begins, and of one that goes on
 pub readings-on : {N B W : Type 0} {v : Values N} {u u' : World} {event : Event N B W} {reply : EventReply N B W} {c : Change} (P : Reading → Type 0)
     → ((reading : Reading) → IsReadingOf u.work reading → P reading) → ((reading : Reading) → IsFresh u'.core reading → P reading)
-    → ((reading : Reading) (frames : List Frame) (load : OpenLoad) → IsReadingOf u.work reading ⊎ IsFresh u.core reading → u.core.loads reading.load.0 ≡ Some load
-    → ReadingFeels v u.core reading None frames u'.core c → P (gone_on reading frames)) → EventFeels v u event reply u' c → (reading : Reading) → IsReadingOf u'.work reading → P reading
-readings-on P old fresh gone (by-call c call answer called replied feels keeps) reading is = elim (keeps reading is) [ inl was ↦ old reading was | inr new ↦ fresh reading new ]
-readings-on P old fresh gone (by-key k key row happened sets keeps) reading is = elim (keeps reading is) [ inl was ↦ old reading was | inr new ↦ fresh reading new ]
+    → ((reading : Reading) (frames : List Frame) (load : OpenLoad) → IsReadingOf u.work reading ⊎ IsFresh u.core reading → u.core.loads reading.load.0
+    ≡ Some load
+    → ReadingFeels v u.core reading None frames u'.core c → P (gone_on reading frames)) → EventFeels v u event reply u' c → (reading : Reading)
+    → IsReadingOf u'.work reading → P reading
+readings-on P old fresh gone (by-call c call answer called replied feels keeps) reading is =
+    elim (keeps reading is) [ inl was ↦ old reading was | inr new ↦ fresh reading new ]
+readings-on P old fresh gone (by-key k key row happened sets keeps) reading is =
+    elim (keeps reading is) [ inl was ↦ old reading was | inr new ↦ fresh reading new ]
 readings-on P old fresh gone (by-nothing stays keeps) reading is = elim (keeps reading is) [ inl was ↦ old reading was | inr new ↦ fresh reading new ]
 readings-on {v = v} {u} {u'} {event} P old fresh gone (by-reading c before answer frames stepped opens feels steps) reading is = elim (steps reading is) [
   | inl was ↦ old reading was
   | inr (none, same) ↦
       let load = opens none in
-      subst P (sym same) (gone before frames load.0 (is-reading-of u event before stepped) load.1 (subst (λ a. ReadingFeels v u.core before a frames u'.core c) none feels))
+      subst P (sym same) (gone before frames load.0 (is-reading-of u event before stepped) load.1
+      (subst (λ a. ReadingFeels v u.core before a frames u'.core c) none feels))
 ]
 
 -- A load's step, as trees feel it: one change, what it does to the plain world with it, and how the load's own blobs grow.
 
 -- some change, what the step does to the world with it, and how it is felt; a load that goes on is open
-pub record ReadingFelt {N : Type 0} (v : Values N) (w : Core) (me : Owner) (reading : Reading) (answer : Option (LoadAnswer N)) (frames : List Frame) (w' : Core) : Type 0 where
+pub record ReadingFelt {N : Type 0} (v : Values N) (w : Core) (me : Owner) (reading : Reading) (answer : Option (LoadAnswer N)) (frames : List Frame)
+    (w' : Core) : Type 0 where
   pub change : Change
   pub does : Effect me false (IsMine w me reading.load) (Unit {0}) false change w w'
   pub opens : answer ≡ None → (load : OpenLoad) × (w.loads reading.load.0 ≡ Some load)
@@ -119,14 +138,18 @@ caller-free l is = absurd (cc)
 
 module _ {N B W : Type 0} (m : Seen N B W) (w : Core) (me : Owner) (free : NotLoads me) (w' : Core) (reading : Reading) where
   -- a load that is open goes on
-  on : {frames : List Frame} (c : Change) (load : OpenLoad) → w.loads reading.load.0 ≡ Some load → Effect me false (IsMine w me reading.load) (Unit {0}) false c w w'
+  on : {frames : List Frame} (c : Change) (load : OpenLoad) → w.loads reading.load.0 ≡ Some load
+      → Effect me false (IsMine w me reading.load) (Unit {0}) false c w w'
       → (HandlesAreWhole w → ReadingFeels m.values w reading None frames w' c) → ReadingFelt m.values w me reading None frames w'
   on c load opened does feels = record { change = c; does = does; opens = λ none. (load, opened); feels = feels }
 
   -- the handle of a node that the cache knew
-  knew : {frames : List Frame} (kind : Kind) (key : ℕ) (k : HandleNumber) (row : HandleRow) (load : OpenLoad) → w.loads reading.load.0 ≡ Some load → Needs m.values.types reading.frames kind key
-      → GetsKnown w reading.load kind key k w' → row_at w' k ≡ Some row → frames ≡ with_got kind row reading.frames → ReadingFelt m.values w me reading None frames w'
-  knew kind key k row load opened needs c made goes = on nothing_felt load opened (was-known c) (λ whole. gets-known kind key c.n row needs (is-cached w kind.0 key c.n c.known)
+  knew : {frames : List Frame} (kind : Kind) (key : ℕ) (k : HandleNumber) (row : HandleRow) (load : OpenLoad) → w.loads reading.load.0 ≡ Some load
+      → Needs m.values.types reading.frames kind key
+      → GetsKnown w reading.load kind key k w' → row_at w' k ≡ Some row → frames ≡ with_got kind row reading.frames
+      → ReadingFelt m.values w me reading None frames w'
+  knew kind key k row load opened needs c made goes = on nothing_felt load opened (was-known c)
+      (λ whole. gets-known kind key c.n row needs (is-cached w kind.0 key c.n c.known)
       (got-known whole kind k row made c.next.above c.n (Owner.Load reading.load) c.leaves) refl goes)
 
   makes : (frames : List Frame) → MakesNode m.values w me reading frames w' → ReadingFelt m.values w me reading None frames w'
@@ -134,29 +157,34 @@ module _ {N B W : Type 0} (m : Seen N B W) (w : Core) (me : Owner) (free : NotLo
       let r = g.reads_node in let c = g.adopted.adopts in
       let right = good w (Owner.Load reading.load) [] (m.values.references g.x) c.good in elim c.makes [
         | inl (n, usable, f) ↦ on nothing_felt c.load c.owned.stands_open (adopts-known reading.load r.top.kind n (m.values.references g.x) right f)
-            (λ whole. makes-known g.x r n g.row (is-cached w r.top.kind.0 r.top.key n usable) (got-fallen whole r.top.kind g.k g.row g.made c.next.above n (Owner.Load reading.load) f) refl g.goes)
+            (λ whole. makes-known g.x r n g.row (is-cached w r.top.kind.0 r.top.key n usable)
+            (got-fallen whole r.top.kind g.k g.row g.made c.next.above n (Owner.Load reading.load) f) refl g.goes)
         | inr (unknown, few, a) ↦ on (bears_known r.top.kind.0 r.top.key (first_key r.top.kind.0 r.top.key)) c.load c.owned.stands_open
             (adopts reading.load r.top.kind r.top.key (first_key r.top.kind.0 r.top.key) (m.values.references g.x) unknown right a)
-            (λ whole. makes-node g.x r g.row (got-born whole r.top.kind g.k g.row g.made c.next.above reading.load r.top.key (first_key r.top.kind.0 r.top.key) (m.values.references g.x) a) refl g.goes)
+            (λ whole. makes-node g.x r g.row (got-born whole r.top.kind g.k g.row g.made c.next.above reading.load r.top.key (first_key r.top.kind.0 r.top.key)
+            (m.values.references g.x) a) refl g.goes)
       ]
 
   ended : (end : LoadAnswer N) (frames : List Frame) → frames ≡ [] → Effect me false (IsMine w me reading.load) (Unit {0}) false nothing_felt w w'
       → ReadingFelt m.values w me reading (Some end) frames w'
   ended end frames none e = record { change = nothing_felt; does = e; opens = λ is. absurd (cc); feels = λ whole. reading-ends end refl none }
 
-  pub reading-feels : (answer : Option (LoadAnswer N)) (frames : List Frame) → ReadingDoes m.values w me reading answer frames w' → ReadingFelt m.values w me reading answer frames w'
+  pub reading-feels : (answer : Option (LoadAnswer N)) (frames : List Frame) → ReadingDoes m.values w me reading answer frames w'
+      → ReadingFelt m.values w me reading answer frames w'
   reading-feels None frames d = elim d.does [
     | inl g ↦
         let same : g.asked.gives.0 ≡ g.load = same_some _ _ (sym g.asked.gives.1.stands_open ∙ g.open_load) in
         on nothing_felt g.load g.open_load (asks _ g.asked)
         (λ whole. reads-root g.load g.blob g.first g.open_load (subst (λ (x : OpenLoad). w.stored x.key ≡ Some g.blob) same g.asked.gives.2.found) refl g.goes)
     | inr (inl g) ↦ knew g.kind g.key g.k g.row g.asked.gives.0 g.asked.gives.1.stands_open (inl g.needs) g.asked.gives.2 g.made g.goes
-    | inr (inr (inl g)) ↦ on nothing_felt g.asked.gives.0 g.asked.gives.1.stands_open (asks _ g.asked) (λ whole. reads-blob g.kind g.key g.blob g.needs g.asked.gives.2.1.found refl g.goes)
+    | inr (inr (inl g)) ↦ on nothing_felt g.asked.gives.0 g.asked.gives.1.stands_open (asks _ g.asked)
+        (λ whole. reads-blob g.kind g.key g.blob g.needs g.asked.gives.2.1.found refl g.goes)
     | inr (inr (inr (inl g))) ↦ elim g.asked.makes.3 [
       | inl k ↦ knew g.kind g.key g.k g.row g.asked.makes.0 g.asked.makes.1.stands_open (inr g.needs) k g.made g.goes
       | inr (unknown, few, next, a) ↦ on (bears_known g.kind.0 g.key (OptionalDataKey.Some g.key)) g.asked.makes.0 g.asked.makes.1.stands_open
           (adopts reading.load g.kind g.key (OptionalDataKey.Some g.key) [] unknown (none-named w (Owner.Load reading.load)) a)
-          (λ whole. gets-lazy g.kind g.key g.row g.needs (got-born whole g.kind g.k g.row g.made next.above reading.load g.key (OptionalDataKey.Some g.key) [] a) refl g.goes)
+          (λ whole. gets-lazy g.kind g.key g.row g.needs (got-born whole g.kind g.k g.row g.made next.above reading.load g.key (OptionalDataKey.Some g.key)
+          [] a) refl g.goes)
     ]
     | inr (inr (inr (inr made))) ↦ makes frames made
   ]
@@ -173,7 +201,8 @@ module _ {N B W : Type 0} (m : Seen N B W) (w : Core) (me : Owner) (free : NotLo
           | inr (inr (inr (inr (inl n)))) ↦ let does = n.adopted in search (rules)
           | inr (inr (inr (inr (inr r)))) ↦ elim r.refuses [ inl h ↦ let does = h.1 in search (rules) | inr h ↦ let does = h.1 in search (rules) ]
         ] in
-        one-then (λ kind key n h. subst (IsHeldFor kind key n) (sym a.1.rows) h) (λ mine load is. mine load (sym (a.1.loads reading.load.0) ∙ is)) (noted a.0 a.1)
+        one-then (λ kind key n h. subst (IsHeldFor kind key n) (sym a.1.rows) h) (λ mine load is. mine load (sym (a.1.loads reading.load.0) ∙ is))
+        (noted a.0 a.1)
         (closes reading.load (λ mine. mine) gives.closes)
     | inr ended ↦ ends-load free reading.load (Err (e, None)) ended.ended
   ])
@@ -208,7 +237,8 @@ LoadsAnew s = (reading : Reading) → front_reading s.todo ≡ Some reading → 
 no-load : (s : Site) (todo : List Todo) → s.todo ≡ todo → front_reading todo ≡ None → LoadsAnew s
 no-load s todo is none reading e = let f : front_reading todo ≡ Some reading = ap front_reading (sym is) ∙ e in absurd (cc)
 
-pub started : (place : ℕ) (rs : List ArcRef) (x : Todo) (below : List Todo) → front_reading (x ∷ below) ≡ None → front_reading (next_start place rs ++ x ∷ below) ≡ None
+pub started : (place : ℕ) (rs : List ArcRef) (x : Todo) (below : List Todo) → front_reading (x ∷ below) ≡ None
+    → front_reading (next_start place rs ++ x ∷ below) ≡ None
 started place x1 x below x4 = grind (arith, nat_tests)
 
 given : (r : ArcRef) (key height : ℕ) (below : List Todo) → AllWait below → front_reading (give r key height below) ≡ None
@@ -216,11 +246,13 @@ given r key height x3 well = grind (arith, nat_tests, started)
 
 -- A load makes its step; the key is set through the worker's own loose handle; or nothing is felt. But for the first, a load at the front afterwards has just begun.
 pub data WalkFeels {N B W : Type 0} (m : Seen N B W) (v : ℕ) (s s' : Site) (todo : List Todo) : Change → Type 0 where
-  walk-loads : (c : Change) (r : ArcRef) (place : ℕ) (through : HandleNumber) (reading : Reading) (below : List Todo) → todo ≡ to_load r place through reading ∷ below
+  walk-loads : (c : Change) (r : ArcRef) (place : ℕ) (through : HandleNumber) (reading : Reading) (below : List Todo) → todo ≡ to_load r place through reading
+      ∷ below
       → (t : LoadsTodo m.values (owner_worker v) s s' reading) → (t.answer ≡ None → (load : OpenLoad) × (s.core.loads reading.load.0 ≡ Some load))
       → (HandlesAreWhole s.core → ReadingFeels m.values s.core reading t.answer t.frames s'.core c) → WalkFeels m v s s' todo c
   walk-sets : (r : ArcRef) (through : HandleNumber) (key height : ℕ) (below : List Todo) (row : HandleRow)
-      → todo ≡ to_set r through key height ∷ below → Owns s.core (owner_worker v) through is_loose row → LoadsAnew s' → WalkFeels m v s s' todo (sets_key row.node.0 key)
+      → todo ≡ to_set r through key height ∷ below → Owns s.core (owner_worker v) through is_loose row → LoadsAnew s'
+      → WalkFeels m v s s' todo (sets_key row.node.0 key)
   walk-rests : ((n : ℕ) (x : N) → TodoBrings m.values s.core todo n x → ⊥) → LoadsAnew s' → WalkFeels m v s s' todo nothing_felt
 
 -- the load that stands at the front is the worker's own
@@ -238,8 +270,14 @@ pub record WalkFelt {N B W : Type 0} (m : Seen N B W) (v : ℕ) (s s' : Site) (t
 
 module _ {Asks : Type 0} {w w' : Core} (v : ℕ) where
   -- a handle is cloned, and something is done then
-  then-clone : {m : Core} {h k : HandleNumber} → CloneCall w (owner_worker v) h (Ok k) m → Effect (owner_worker v) false Asks (Unit {0}) false nothing_felt m w' → Effect (owner_worker v) false Asks (Unit {0}) false nothing_felt w w'
-  then-clone {m} c rest = one-then (λ kind key n h. record { row = h.row; live = subst (λ rows. Among rows h.row) (sym c.made.3.rows) (among-left w.rows _ h.live.0 h.row h.live.1); at = h.at; pins_it = h.pins_it })
+  then-clone : {m : Core} {h k : HandleNumber} → CloneCall w (owner_worker v) h (Ok k) m → Effect (owner_worker v) false Asks (Unit {0}) false nothing_felt m w'
+      → Effect (owner_worker v) false Asks (Unit {0}) false nothing_felt w w'
+  then-clone {m} c rest = one-then (λ kind key n h. record {
+    row = h.row;
+    live = subst (λ rows. Among rows h.row) (sym c.made.3.rows) (among-left w.rows _ h.live.0 h.row h.live.1);
+    at = h.at;
+    pins_it = h.pins_it;
+  })
       (λ a. a) (clones (Ok _) c) rest
 
 module _ {N B W : Type 0} (m : Seen N B W) (v : ℕ) (s s' : Site) where
@@ -247,8 +285,15 @@ module _ {N B W : Type 0} (m : Seen N B W) (v : ℕ) (s s' : Site) where
   WE todo c = Effect (owner_worker v) false (FrontMine s.core (owner_worker v) todo) (Unit {0}) false c s.core s'.core
 
   -- nothing is felt
-  quiet : {todo : List Todo} → ((n : ℕ) (x : N) → TodoBrings m.values s.core todo n x → ⊥) → (s.todo ≡ todo → WaitsWell todo → LoadsAnew s') → WE todo nothing_felt → WalkFelt m v s s' todo
-  quiet none anew e = record { change = nothing_felt; does = e; goes = e.goes; feels = λ front well. walk-rests none (anew front well); knows = λ whole k q n known. absurd known }
+  quiet : {todo : List Todo} → ((n : ℕ) (x : N) → TodoBrings m.values s.core todo n x → ⊥) → (s.todo ≡ todo → WaitsWell todo → LoadsAnew s')
+      → WE todo nothing_felt → WalkFelt m v s s' todo
+  quiet none anew e = record {
+    change = nothing_felt;
+    does = e;
+    goes = e.goes;
+    feels = λ front well. walk-rests none (anew front well);
+    knows = λ whole k q n known. absurd known;
+  }
 
   -- and this stands at the front afterwards
   rests : {todo : List Todo} (next : List Todo) → ((n : ℕ) (x : N) → TodoBrings m.values s.core todo n x → ⊥)
@@ -256,24 +301,28 @@ module _ {N B W : Type 0} (m : Seen N B W) (v : ℕ) (s s' : Site) where
   rests next none is other e = quiet none (λ front well. no-load s' next is (other well)) e
 
   sets : (r : ArcRef) (through : HandleNumber) (key height : ℕ) (below next : List Todo) (told : Result (Unit {0}) Error)
-      → KeySetFor s.core (owner_worker v) r through key told s'.core → s'.todo ≡ next → front_reading next ≡ None → WalkFelt m v s s' (to_set r through key height ∷ below)
+      → KeySetFor s.core (owner_worker v) r through key told s'.core → s'.todo ≡ next → front_reading next ≡ None
+      → WalkFelt m v s s' (to_set r through key height ∷ below)
   sets r through key height below next told c is other = elim c.does [
     | inr (kind, done, a) ↦ rests next (λ n x b. b) is (λ well. other) (stays a)
     | inl (kind, call) ↦ elim call.does [
       | inl refused ↦ rests next (λ n x b. b) is (λ well. other) (stays refused.stays)
       | inr (row, owns, inl (mode, done, a)) ↦ rests next (λ n x b. b) is (λ well. other) (stays a)
-      | inr (row, owns, inr (loose, f)) ↦ let e : WE (to_set r through key height ∷ below) (sets_key row.node.0 key) = fell (with-key s.core row.node key) f no-one in record {
-        change = sets_key row.node.0 key;
-        does = e;
-        goes = e.goes;
-        feels = λ front well. walk-sets r through key height below row refl (record { live = owns.live; own = owns.own; as_asked = loose }) (no-load s' next is other);
-        knows = λ whole k q n known. absurd known;
-      }
+      | inr (row, owns, inr (loose, f)) ↦ let e : WE (to_set r through key height ∷ below) (sets_key row.node.0 key) =
+          fell (with-key s.core row.node key) f no-one in record {
+            change = sets_key row.node.0 key;
+            does = e;
+            goes = e.goes;
+            feels = λ front well. walk-sets r through key height below row refl (record { live = owns.live; own = owns.own; as_asked = loose })
+                (no-load s' next is other);
+            knows = λ whole k q n known. absurd known;
+          }
     ]
   ]
 
   pub walk-goes : (todo : List Todo) (step : Action W) → Does m v s todo step s' → WalkFelt m v s s' todo
-  walk-goes (to_start r place ∷ below) (Action.Claim i (Ok Claim.Waiting)) (is, c) = let t = c.finds.1.2 in quiet (λ n x b. b) (λ front well. no-load s' _ (t.list_is ∙ front) refl) (stays t.pager_stays)
+  walk-goes (to_start r place ∷ below) (Action.Claim i (Ok Claim.Waiting)) (is, c) = let t =
+      c.finds.1.2 in quiet (λ n x b. b) (λ front well. no-load s' _ (t.list_is ∙ front) refl) (stays t.pager_stays)
   walk-goes (to_pin r place ∷ below) (Action.Pin i (Ok (PinStep.Held k))) (is, p) = rests _ (λ n x b. b) p.pins.2.list_is (λ well. refl) (elim p.pins.1 [
     | inl (row, same, clone) ↦ clones (Ok k) clone
     | inr (row, (mid, clone, pin)) ↦ then-clone v clone (pins (works-free v) (Ok (Pinning.Pinned k)) pin)
@@ -290,34 +339,50 @@ module _ {N B W : Type 0} (m : Seen N B W) (v : ℕ) (s s' : Site) where
   walk-goes (to_load r place through reading ∷ below) step does =
       let t : LoadsTodo m.values (owner_worker v) s s' reading = grind (arith, nat_tests) in
       let f = reading-feels m s.core (owner_worker v) (works-free v) s'.core reading t.answer t.frames t.does in
-      record { change = f.change; does = f.does; goes = f.does.goes; feels = λ front well. walk-loads f.change r place through reading below refl t f.opens f.feels; knows = λ whole. reading-knows (f.feels whole) }
+      record {
+        change = f.change;
+        does = f.does;
+        goes = f.does.goes;
+        feels = λ front well. walk-loads f.change r place through reading below refl t f.opens
+            f.feels;
+        knows = λ whole. reading-knows (f.feels whole);
+      }
   walk-goes (to_set r through key height ∷ below) (Action.SetKey i (Ok u)) (is, p) = sets r through key height below _ (Ok u) p.sets p.goes.list_is refl
   walk-goes (to_set r through key height ∷ below) (Action.SetKey i (Err f)) (is, p) = sets r through key height below _ (Err f) p.sets p.refused.list_is refl
-  walk-goes (to_release r key height ∷ below) (Action.Release i) (is, falls, g) = rests _ (λ n x b. b) g.list_is (given r key height below) (fell (none s.core) falls.falls (λ mine o. released-free mine o.apart v o.other s.core r.node.0))
+  walk-goes (to_release r key height ∷ below) (Action.Release i) (is, falls, g) =
+      rests _ (λ n x b. b) g.list_is (given r key height below) (fell (none s.core) falls.falls
+      (λ mine o. released-free mine o.apart v o.other s.core r.node.0))
   walk-goes (to_fail fault None ∷ below) Action.Fail (same, shelf, list_is) = rests _ (λ n x b. b) list_is (λ well. refl) (stays same)
-  walk-goes (to_fail fault (Some h) ∷ below) Action.Fail ((told, c), shelf, list_is) = rests _ (λ n x b. b) list_is (λ well. refl) (schedules (works-free v) h told c)
+  walk-goes (to_fail fault (Some h) ∷ below) Action.Fail ((told, c), shelf, list_is) =
+      rests _ (λ n x b. b) list_is (λ well. refl) (schedules (works-free v) h told c)
   walk-goes _ step does =
       let unmoved : Alike s.core s'.core → Effect (owner_worker v) false (Unit {0}) (Unit {0}) false nothing_felt s.core s'.core = stays in
-      let stored : (blob : Blob) (r : Result ℕ Error) → StoreCall (digest m.values) s.core blob r s'.core → Effect (owner_worker v) false (Unit {0}) (Unit {0}) false nothing_felt s.core s'.core =
+      let stored : (blob : Blob) (r : Result ℕ Error) → StoreCall (digest m.values) s.core blob r s'.core
+      → Effect (owner_worker v) false (Unit {0}) (Unit {0}) false nothing_felt s.core s'.core =
       λ blob r c. stores r c in
       grind (arith, nat_tests, rests, unmoved, stored, given, started)
 
 -- What trees feel of each event that doesn't close the storage.
 
 -- workers come and go, and loads go
-others-work : (w : Core) (loads : ℕ → Option OpenLoad) (workers : ℕ → Bool) (worker : ℕ) → w.last.worker ≤ worker → ((l : ℕ) (load : OpenLoad) → loads l ≡ Some load → w.loads l ≡ Some load)
+others-work : (w : Core) (loads : ℕ → Option OpenLoad) (workers : ℕ → Bool) (worker : ℕ) → w.last.worker ≤ worker
+    → ((l : ℕ) (load : OpenLoad) → loads l ≡ Some load → w.loads l ≡ Some load)
     → Quiet w (record w { loads = loads; workers = workers; last = record w.last { worker = worker } })
-others-work w loads workers worker more fewer = parts (le-self _) more (λ n cell is. is) fewer (λ kind key n is. is) (rows-self w.last.handle w.rows w.rows refl)
+others-work w loads workers worker more fewer = parts (le-self _) more (λ n cell is. is) fewer (λ kind key n is. is)
+    (rows-self w.last.handle w.rows w.rows refl)
 
 pub ends-quiet : {w w' : Core} (answer : Option WorkerAnswer) (v : ℕ) → Ends answer v w w' → Quiet w w'
 ends-quiet None v e = alike e
 ends-quiet {w} (Some answer) v f =
-    quiet-then (others-work w (without_worker w v).loads (without_worker w v).workers w.last.worker (omega arith) (λ l load is. grind (arith, nat_tests))) (fell-anyhow f)
+    quiet-then (others-work w (without_worker w v).loads (without_worker w v).workers w.last.worker (omega arith) (λ l load is. grind (arith, nat_tests)))
+    (fell-anyhow f)
 
 -- it gives up what it has: what others own stays, and what is held then was held before
-pub ends-spare : (mine : Owner) → IsApart mine → (v : ℕ) → (owner_worker v ≡ mine → ⊥) → (answer : Option WorkerAnswer) {w m w' : Core} → Ends answer v m w' → Spares mine w m → Spares mine w w'
+pub ends-spare : (mine : Owner) → IsApart mine → (v : ℕ) → (owner_worker v ≡ mine → ⊥) → (answer : Option WorkerAnswer) {w m w' : Core} → Ends answer v m w'
+    → Spares mine w m → Spares mine w w'
 ends-spare mine apart v other None e a = then-alike mine e a
-ends-spare mine apart v other (Some answer) {m = m} f a = spares-then mine a (then-fell mine apart f.falls (record { each = λ q row own s. s }) (ended-free mine apart v other m))
+ends-spare mine apart v other (Some answer) {m = m} f a = spares-then mine a
+    (then-fell mine apart f.falls (record { each = λ q row own s. s }) (ended-free mine apart v other m))
 
 ends-last : (kind key n : ℕ) (answer : Option WorkerAnswer) (v : ℕ) {w m w' : Core} → Ends answer v m w' → Lasts kind key n w m → Lasts kind key n w w'
 ends-last kind key n None v e a = record { lasts = λ i h h'. stays-alike kind key n e (a.lasts i h (subst (IsHeldFor kind key n) e.rows h')) h' }
@@ -350,11 +415,14 @@ module _ {N B W : Type 0} (m : Seen N B W) (u u' : World) where
   callers v e = absurd (cc)
 
   -- a step of the caller's, as it is felt
-  felt : {event : Event N B W} {reply : EventReply N B W} {lists : Bool} {Asks Leaves : Type 0} {c : Change} → Effect Owner.Caller lists Asks Leaves false c u.core u'.core → (LeavesCache event → Leaves)
-      → (IsWhole u.core → AllWaitWell u → EventFeels m.values u event reply u' c) → (IsWhole u.core → LeavesCache event → KnowsNext c u.core) → EventGoes m u event reply u'
+  felt : {event : Event N B W} {reply : EventReply N B W} {lists : Bool} {Asks Leaves : Type 0} {c : Change}
+      → Effect Owner.Caller lists Asks Leaves false c u.core u'.core → (LeavesCache event → Leaves)
+      → (IsWhole u.core → AllWaitWell u → EventFeels m.values u event reply u' c) → (IsWhole u.core → LeavesCache event → KnowsNext c u.core)
+      → EventGoes m u event reply u'
   felt {c = c} e leaves feels knows = search (e.goes, e.spares, worker-apart, callers, e.lasts, leaves)
 
-  event-rests : {event : Event N B W} {reply : EventReply N B W} → ((n : ℕ) (x : N) → EventBrings m.values u event n x → IsNewNode u.core n ⊎ StaysAway u.core u'.core n)
+  event-rests : {event : Event N B W} {reply : EventReply N B W} → ((n : ℕ) (x : N) → EventBrings m.values u event n x → IsNewNode u.core n
+      ⊎ StaysAway u.core u'.core n)
       → KeepsReadings u u' → Effect Owner.Caller true (Unit {0}) (Unit {0}) false nothing_felt u.core u'.core → EventGoes m u event reply u'
   event-rests brings keeps e = felt e (λ left. tt) (λ whole well. by-nothing brings keeps) (λ whole leaves k q n known. absurd known)
 
@@ -363,15 +431,19 @@ module _ {N B W : Type 0} (m : Seen N B W) (u u' : World) where
 
   -- a worker begins, after this was done
   starts : {event : Event N B W} {reply : EventReply N B W} → ((n : ℕ) (x : N) → EventBrings m.values u event n x → ⊥)
-      → (t : TableNumber) (task : Task) (core : Core) (v : WorkerNumber) → Effect Owner.Caller true (Unit {0}) (Unit {0}) true nothing_felt u.core core → Starts u t task core v u'
+      → (t : TableNumber) (task : Task) (core : Core) (v : WorkerNumber) → Effect Owner.Caller true (Unit {0}) (Unit {0}) true nothing_felt u.core core
+      → Starts u t task core v u'
       → EventGoes m u event reply u'
   starts brings t task core v e s = record {
     change = nothing_felt;
-    goes = goes-quiet e.goes (quiet-then (others-work core core.loads (with_worker core).workers (core.last.worker + 1) (omega arith) (λ l load is. is)) (alike s.pager));
+    goes = goes-quiet e.goes (quiet-then (others-work core core.loads (with_worker core).workers (core.last.worker + 1) (omega arith) (λ l load is. is))
+        (alike s.pager));
     spares = λ q there others.
-        let a = e.spares (owner_worker q) (record { apart = worker-apart q; other = callers q; unlisted = λ yes. (refl, there) }) in then-alike (owner_worker q) s.pager (record { each = a.each });
+        let a = e.spares (owner_worker q) (record { apart = worker-apart q; other = callers q; unlisted = λ yes. (refl, there) }) in
+        then-alike (owner_worker q) s.pager (record { each = a.each });
     lasts = λ left kind key n. record { lasts = λ i h h'. stays-alike kind key n s.pager (e.lasts tt kind key n i h (λ f. absurd (cc))) h' };
-    feels = λ whole well. by-nothing (λ n x b. absurd (brings n x b)) (keeps-but s.readings v.0 (new_walking t task) s.work.same_walkings (λ reading is. absurd (grind (arith, nat_tests, started))));
+    feels = λ whole well. by-nothing (λ n x b. absurd (brings n x b)) (keeps-but s.readings v.0 (new_walking t task) s.work.same_walkings
+        (λ reading is. absurd (grind (arith, nat_tests, started))));
     knows = λ whole leaves k q n known. absurd known;
   }
 
@@ -388,12 +460,21 @@ module _ {N B W : Type 0} (m : Seen N B W) (u u' : World) where
         let none : reply.answer ≡ None = s.answers ∙ ap (λ x. answer_after x reply.action) todo in
         let last : Alike s.after.core u'.core = subst (λ a. Ends a k.0 s.after.core u'.core) none s.ends in
         by-reading c reading t.answer t.frames (s.walking, r, place, through, below, s.at, todo) opens (feels-alike (feels whole.handles) last)
-        (read-after u u' (λ after. (t.answer ≡ None) × (after ≡ gone_on reading t.frames)) s.readings s.work.same_walkings (λ q after is. inl is) (λ n w after there.
-        grind (arith, nat_tests, at-updated k.0 (Some (record s.walking { todo = s.after.todo; steps = reply.steps; answer = reply.answer })) u.work.walkings, same_some, t.next)))
+        (read-after u u' (λ after. (t.answer ≡ None) × (after ≡ gone_on reading t.frames)) s.readings s.work.same_walkings (λ q after is. inl is)
+        (λ n w after there.
+        grind (
+          arith,
+          nat_tests,
+          at-updated k.0 (Some (record s.walking { todo = s.after.todo; steps = reply.steps; answer = reply.answer })) u.work.walkings,
+          same_some,
+          t.next,
+        )))
     worker-feels c (walk-sets r through key height below row todo owns anew) whole =
-        by-key k key row refl (record { walking = s.walking; r = r; through = through; height = height; below = below; there = s.at; sets = todo; owns = owns }) (now anew)
+        by-key k key row refl (record { walking = s.walking; r = r; through = through; height = height; below = below; there = s.at; sets = todo; owns = owns })
+        (now anew)
     worker-feels c (walk-rests none anew) whole =
-        by-nothing (λ n x (walking, at, brings). absurd (none n x (subst (λ (z : Walking). TodoBrings m.values u.core z.todo n x) (same_some _ _ (sym at ∙ s.at)) brings))) (now anew)
+        by-nothing (λ n x (walking, at, brings). absurd (none n x (subst (λ (z : Walking). TodoBrings m.values u.core z.todo n x)
+        (same_some _ _ (sym at ∙ s.at)) brings))) (now anew)
 
     worker-steps : EventGoes m u (Event.WorkerStep k) (EventReply.WorkerMoved (Ok reply)) u'
     worker-steps =
@@ -413,23 +494,30 @@ module _ {N B W : Type 0} (m : Seen N B W) (u u' : World) where
   pub event-goes : (event : Event N B W) (reply : EventReply N B W) → KeepsOpen event → Happens m u event reply u' → EventGoes m u event reply u'
   event-goes (Event.Call call) (EventReply.CallReply r) open_still is =
       let g = calls-go m u.core Owner.Caller caller-free u'.core call r open_still is.step.does in
-      felt g.does (λ left. left) (λ whole well. by-call g.change call r refl refl g.feels (keeps-all is.readings is.work.walkings)) (λ whole leaves. call-knows W g.feels leaves)
+      felt g.does (λ left. left) (λ whole well. by-call g.change call r refl refl g.feels (keeps-all is.readings is.work.walkings))
+      (λ whole leaves. call-knows W g.feels leaves)
   event-goes (Event.LoadStep l) (EventReply.LoadMoved (Ok reply)) open_still is =
       let x = is.moves in
       let f = reading-feels m u.core Owner.Caller caller-free u'.core x.reading reply.ended x.frames x.does in
-      let steps : StepsReading u x.reading reply.ended x.frames u' = read-after u u' (λ after. (reply.ended ≡ None) × (after ≡ gone_on x.reading x.frames)) x.readings x.work.walkings
-      (λ q r there. grind (arith, nat_tests, at-updated l.0 (reading_after reply.ended x.reading x.frames) u.work.readings q r there, same_some)) (λ n w r there. inl there) in
+      let steps : StepsReading u x.reading reply.ended x.frames u' = read-after u u' (λ after. (reply.ended ≡ None) × (after ≡ gone_on x.reading x.frames))
+      x.readings x.work.walkings
+      (λ q r there. grind (arith, nat_tests, at-updated l.0 (reading_after reply.ended x.reading x.frames) u.work.readings q r there, same_some))
+      (λ n w r there. inl there) in
       felt f.does (λ left. tt)
       (λ whole well. by-reading f.change x.reading reply.ended x.frames (x.at, reading-stands u whole l x.reading x.at) f.opens (f.feels whole.handles) steps)
       (λ whole leaves. reading-knows (f.feels whole.handles))
-  event-goes (Event.LoadStart h) (EventReply.Started r) open_still is = event-rests (λ n x b. absurd b) (keeps-all is.readings is.work.walkings) (begins r is.step)
-  event-goes (Event.LoadKey key t) (EventReply.Started (Err e)) open_still is = event-rests (λ n x b. absurd b) (keeps-all is.refused is.work.walkings) (begins-key (Err e) is.step)
+  event-goes (Event.LoadStart h) (EventReply.Started r) open_still is = event-rests (λ n x b. absurd b) (keeps-all is.readings is.work.walkings)
+      (begins r is.step)
+  event-goes (Event.LoadKey key t) (EventReply.Started (Err e)) open_still is =
+      event-rests (λ n x b. absurd b) (keeps-all is.refused is.work.walkings) (begins-key (Err e) is.step)
   event-goes (Event.LoadKey key t) (EventReply.Started (Ok Beginning.InMemory)) open_still is = absurd is.step.begins
   event-goes (Event.LoadKey key t) (EventReply.Started (Ok (Beginning.Load l k))) open_still is =
       let next = is.step.begins.1.above in let last = ap (λ (x : Last). x.load) is.step.begins.2.last in
       event-rests (λ n x b. absurd b) (read-after u u' (λ r. IsFresh u'.core r) is.begun is.work.walkings
-      (λ q r there. grind (arith, nat_tests, at-updated l.0 (Some (fresh l t)) u.work.readings, same_some, next, last)) (λ n w r there. inl there)) (begins-key (Ok (Beginning.Load l k)) is.step)
-  event-goes Event.TableNew (EventReply.TableMade (Ok t)) open_still is = let x = is.made in event-rests (λ n x b. absurd b) (keeps-all x.2 x.3.same_walkings) (stays x.1)
+      (λ q r there. grind (arith, nat_tests, at-updated l.0 (Some (fresh l t)) u.work.readings, same_some, next, last)) (λ n w r there. inl there))
+      (begins-key (Ok (Beginning.Load l k)) is.step)
+  event-goes Event.TableNew (EventReply.TableMade (Ok t)) open_still is = let x =
+      is.made in event-rests (λ n x b. absurd b) (keeps-all x.2 x.3.same_walkings) (stays x.1)
   event-goes (Event.WorkerItem t item) (EventReply.WorkerMade (Ok v)) open_still is = starts (λ n x b. b) t _ u.core v (none u.core) is.starts
   event-goes (Event.WorkerListed t i) (EventReply.WorkerMade (Ok v)) open_still is = let x = is.starts in
       starts (λ n x b. b) t _ _ v (moves (none u.core) (only_handle x.0) (Owner.Worker v) _ (λ l is. absurd (cc)) (entry refl i x.0 x.3.listed)) x.5
@@ -442,5 +530,12 @@ module _ {c : Change} {w w' : Core} (g : Goes c w w') where
   pub new-node : HandlesAreWhole w → (n : ℕ) → w.last.node < n → is_some (w'.cells n) ≡ true → NewNode c w w' n
   new-node whole n above there = let c : (cell : Cell) × (w'.cells n ≡ Some cell) = grind (arith, nat_tests) in let cell = c.0 in elim (g.cells n cell c.1) [
     | inl kept ↦ absurd (let few = (whole.nodes_numbered n (ap is_some kept.live)).1 in omega (arith, few, above))
-    | inr (next, bears) ↦ record { t = cell.node_type; own = cell.key; born = bears; next = next; typed = grind (arith, nat_tests); key = grind (arith, nat_tests) }
+    | inr (next, bears) ↦ record {
+      t = cell.node_type;
+      own = cell.key;
+      born = bears;
+      next = next;
+      typed = grind (arith, nat_tests);
+      key = grind (arith, nat_tests);
+    }
   ]

@@ -39,7 +39,8 @@ module _ {P : Shape → Type 0} {parts : ℕ → Shape} where
   alone {s} l p = throughout-alone P parts s p (λ those. l (λ n. Unit {0}) those)
 
 -- of what the shape refers to
-pub lower : (nodes : ℕ → Type 0) {parts : ℕ → Shape} {s t : Shape} → Under s t → Throughout (LiesIn nodes (λ n. Unit {0})) parts s → Throughout (LiesIn nodes (λ n. Unit {0})) parts t
+pub lower : (nodes : ℕ → Type 0) {parts : ℕ → Shape} {s t : Shape} → Under s t → Throughout (LiesIn nodes (λ n. Unit {0})) parts s
+    → Throughout (LiesIn nodes (λ n. Unit {0})) parts t
 lower nodes u h = narrowed h (u nodes (λ n. Unit {0})) u
 
 -- ---- whole numbers are read again
@@ -56,7 +57,8 @@ unsigned-again x0 n rest h = grind (arith, nat_tests, varint-again)
 
 -- a number with a sign is one without, and back
 pub signed-again : (w : Width) (z : ℤ) (rest : List ℕ) → IsSigned w z → signed_at w (signed_form w z ++ rest) ≡ Ok (z, rest)
-signed-again w z rest h = let back : signed_from w (unsigned_of w z) ≡ z = grind (arith, nat_tests) in rw (unsigned-again w (unsigned_of w z) rest (grind (arith, nat_tests)), back) refl
+signed-again w z rest h = let back : signed_from w (unsigned_of w z) ≡ z =
+    grind (arith, nat_tests) in rw (unsigned-again w (unsigned_of w z) rest (grind (arith, nat_tests)), back) refl
 
 -- ---- flags, lengths, texts, characters and durations are read again
 
@@ -79,7 +81,8 @@ char-again c rest s =
     let one : chars (encode_utf8 c) ≡ c ∷ [] = rw (← append-nil (encode_utf8 c)) (chars-encodes (c ∷ []) (rw s refl)) in
     rw (text-again (encode_utf8 c) rest (IsUtf8-encode c s) (omega (arith, length-encode c, small)), one) refl
 
-pub duration-again : (seconds nanos : ℕ) (rest : List ℕ) → seconds < 2 ^ 64 → nanos < nanos_of_second → duration_at (duration_form seconds nanos ++ rest) ≡ Ok ((seconds, nanos), rest)
+pub duration-again : (seconds nanos : ℕ) (rest : List ℕ) → seconds < 2 ^ 64 → nanos < nanos_of_second → duration_at (duration_form seconds nanos ++ rest)
+    ≡ Ok ((seconds, nanos), rest)
 unfolding duration_at
 duration-again seconds nanos rest h l =
     let whole : nanos / nanos_of_second ≡ 0 = omega arith in let same : nanos % nanos_of_second ≡ nanos = omega arith in
@@ -95,7 +98,8 @@ last-after R y x [] xs h = h.0
 last-after R y x (z ∷ acc) xs h = last-after R y x acc xs h.1
 
 -- where one that is put in goes behind each that it comes after, each does
-module _ {X : Type 0} (put : List X → X → List X) (R : X → X → Type 0) (start : (x : X) → put [] x ≡ x ∷ []) (later : (y x : X) (acc : List X) → R x y → put (y ∷ acc) x ≡ y ∷ put acc x) where
+module _ {X : Type 0} (put : List X → X → List X) (R : X → X → Type 0) (start : (x : X) → put [] x ≡ x ∷ [])
+    (later : (y x : X) (acc : List X) → R x y → put (y ∷ acc) x ≡ y ∷ put acc x) where
   put_end : (acc : List X) (x : X) (xs : List X) → Apart R (acc ++ x ∷ xs) → put acc x ≡ acc ++ x ∷ []
   unfolding Apart
   put_end [] x xs h = start x
@@ -112,13 +116,15 @@ ascending-kept order es h = put_on (put_sorted order) (λ e f. ordered order e.0
 -- ---- a form is read again, whatever follows it
 
 -- nothing that is written has a shape without cases
-pub no_case-form : {A : Type 0} {kind_of : A → ℕ} {parts : ℕ → Shape} {left : ℕ} {s : Shape} {m : Meaning A} {b : List ℕ} {k : List A} → Form A kind_of parts left s m b k → HasNoCase s → ⊥
+pub no_case-form : {A : Type 0} {kind_of : A → ℕ} {parts : ℕ → Shape} {left : ℕ} {s : Shape} {m : Meaning A} {b : List ℕ} {k : List A}
+    → Form A kind_of parts left s m b k → HasNoCase s → ⊥
 no_case-form x0 h = grind (arith, nat_tests, case-form)
 
 -- What is left where what stands for references is looked up, one after another, as far as there are references; or why one is refused.
 pub data Looked {A B : Type 0} (look : Look A B) (kind_of : B → ℕ) : List A → List B → Result (List A) Error → Type 0 where
   all-looked : (r : List A) → Looked look kind_of r [] (Ok r)
-  one-looked : (a : A) (r : List A) (b : B) (k : List B) (c : Result (List A) Error) → look (kind_of b) a ≡ Ok b → Looked look kind_of r k c → Looked look kind_of (a ∷ r) (b ∷ k) c
+  one-looked : (a : A) (r : List A) (b : B) (k : List B) (c : Result (List A) Error) → look (kind_of b) a ≡ Ok b → Looked look kind_of r k c
+      → Looked look kind_of (a ∷ r) (b ∷ k) c
   not-looked : (a : A) (r : List A) (b : B) (k : List B) (e : Error) → look (kind_of b) a ≡ Err e → Looked look kind_of (a ∷ r) (b ∷ k) (Err e)
 
 module _ {A B : Type 0} {look : Look A B} {kind_of : B → ℕ} where
@@ -126,7 +132,10 @@ module _ {A B : Type 0} {look : Look A B} {kind_of : B → ℕ} where
   split : (k l : List B) {r : List A} {c : Result (List A) Error} → Looked look kind_of r (k ++ l) c
       → ((y : List A) × Looked look kind_of r k (Ok y) × Looked look kind_of y l c) ⊎ ((e : Error) × Looked look kind_of r k (Err e) × (c ≡ Err e))
   split [] l {r} h = inl (r, all-looked r, h)
-  split (b ∷ k) l (one-looked a r b2 k2 c is h) = elim (split k l h) [ inl (y, f, g) ↦ inl (y, one-looked _ _ _ _ (Ok y) is f, g) | inr (e, f, same) ↦ inr (e, one-looked _ _ _ _ (Err e) is f, same) ]
+  split (b ∷ k) l (one-looked a r b2 k2 c is h) = elim (split k l h) [
+    | inl (y, f, g) ↦ inl (y, one-looked _ _ _ _ (Ok y) is f, g)
+    | inr (e, f, same) ↦ inr (e, one-looked _ _ _ _ (Err e) is f, same)
+  ]
   split (b ∷ k) l (not-looked a r b2 k2 e is) = inr (e, not-looked a r b k e is, refl)
 
   none-left : {r : List A} {c : Result (List A) Error} → Looked look kind_of r [] c → c ≡ Ok r
@@ -147,7 +156,8 @@ module _ {A B : Type 0} {look : Look A B} {kind_of : B → ℕ} {parts : ℕ →
   mutual
     unfolding read_with below items IsReadable LiesIn varint_at bool_at
 
-    pub form-again : (x : List ℕ) {r : List A} {c : Result (List A) Error} {left : ℕ} {s : Shape} {m : Meaning B} {b : List ℕ} {k : List B} → Form B kind_of parts left s m b k
+    pub form-again : (x : List ℕ) {r : List A} {c : Result (List A) Error} {left : ℕ} {s : Shape} {m : Meaning B} {b : List ℕ} {k : List B}
+        → Form B kind_of parts left s m b k
         → Looked look kind_of r k c → Throughout IsReadable parts s → read_at look parts left s (rest (b ++ x) r) ≡ (c >>= λ y. Ok (m, rest x y))
     form-again x (unsigned-form left w n h) u t = rw (none-left u, unsigned-again w n x h) refl
     form-again x (signed-form left w z h) u t = rw (none-left u, signed-again w z x h) refl
@@ -159,21 +169,52 @@ module _ {A B : Type 0} {look : Look A B} {kind_of : B → ℕ} {parts : ℕ →
     form-again x (some-form left s m b k h) u t = rw (form-again x h u (narrowed t (λ p. p) (λ n d l. l)), bind-then) refl
     form-again x (err-form left s s2 m b k h) u t = rw (form-again x h u (narrowed t (λ p. p.1) (λ n d l. l.1)), bind-then) refl
     form-again x (ok-form left s s2 m b k h) u t = rw (form-again x h u (narrowed t (λ p. p.0) (λ n d l. l.0)), bind-then) refl
-    form-again x (list-form left s ms b k le h) u t = rw (append_assoc, length-again (length ms) (b ++ x) le, forms-again x h u (narrowed t (λ p. p) (λ n d l. l)), bind-then) refl
+    form-again x (list-form left s ms b k le h) u t = rw (
+      append_assoc,
+      length-again (length ms) (b ++ x) le,
+      forms-again x h u (narrowed t (λ p. p) (λ n d l. l)),
+      bind-then,
+    ) refl
     form-again x (run-form left s ms b k le h) u t = absurd (here t)
     form-again x (array-form left n s ms b k e h) u t = rw (← e, forms-again x h u (narrowed t (λ p. p) (λ n d l. l)), bind-then) refl
     form-again x (both-form left s s2 m n b c k l h g) u t = elim (split k l u) [
-      | inl (y, f, i) ↦ rw (append_assoc, form-again (c ++ x) h f (narrowed t (λ p. p.0) (λ n d l. l.0)), form-again x g i (narrowed t (λ p. p.1) (λ n d l. l.1)), bind-then, bind-then) refl
+      | inl (y, f, i) ↦ rw (
+        append_assoc,
+        form-again (c ++ x) h f (narrowed t (λ p. p.0) (λ n d l. l.0)),
+        form-again x g i (narrowed t (λ p. p.1) (λ n d l. l.1)),
+        bind-then,
+        bind-then,
+      ) refl
       | inr (e, f, is) ↦ rw (append_assoc, form-again (c ++ x) h f (narrowed t (λ p. p.0) (λ n d l. l.0)), is) refl
     ]
     form-again x (sorted-map-form left order s s2 es b k le up h) u t =
         let kept = ascending-kept order es up in
-        rw (append_assoc, length-again (length es) (b ++ x) le, entries-again x h u (narrowed t (λ p. p.0) (λ n d l. l.0)) (narrowed t (λ p. p.1) (λ n d l. l.1)), bind-then, kept) refl
+        rw (
+          append_assoc,
+          length-again (length es) (b ++ x) le,
+          entries-again x h u (narrowed t (λ p. p.0) (λ n d l. l.0))
+              (narrowed t (λ p. p.1) (λ n d l. l.1)),
+          bind-then,
+          kept,
+        ) refl
     form-again x (placed-map-form left s s2 es b k le up h) u t =
         let kept = put_on put_placed (λ e f. same_key e.0 f.0 ≡ false) (λ e. refl) (λ f e acc r. rw r refl) [] es up in
-        rw (append_assoc, length-again (length es) (b ++ x) le, entries-again x h u (narrowed t (λ p. p.0) (λ n d l. l.0)) (narrowed t (λ p. p.1) (λ n d l. l.1)), bind-then, kept) refl
+        rw (
+          append_assoc,
+          length-again (length es) (b ++ x) le,
+          entries-again x h u (narrowed t (λ p. p.0) (λ n d l. l.0))
+              (narrowed t (λ p. p.1) (λ n d l. l.1)),
+          bind-then,
+          kept,
+        ) refl
     form-again x (hash-map-form left s s2 es b k le up h) u t =
-        rw (append_assoc, length-again (length es) (b ++ x) le, entries-again x h u (narrowed t (λ p. p.0) (λ n d l. l.0)) (narrowed t (λ p. p.1) (λ n d l. l.1)), bind-then) refl
+        rw (
+          append_assoc,
+          length-again (length es) (b ++ x) le,
+          entries-again x h u (narrowed t (λ p. p.0) (λ n d l. l.0))
+              (narrowed t (λ p. p.1) (λ n d l. l.1)),
+          bind-then,
+        ) refl
     form-again x (sorted-set-form left order s ms b k le up h) u t =
         let kept = put_on (put_sorted_item order) (λ m n. ordered order m n ≡ Ordering.Greater) (λ m. refl) (λ n m acc r. rw r refl) [] ms up in
         rw (append_assoc, length-again (length ms) (b ++ x) le, forms-again x h u (narrowed t (λ p. p) (λ n d l. l)), bind-then, kept) refl
@@ -183,7 +224,14 @@ module _ {A B : Type 0} {look : Look A B} {kind_of : B → ℕ} {parts : ℕ →
     form-again x (static-form left registry i m lt e) u t = rw (none-left u, unsigned-again w32 i x lt, e) refl
     form-again x (tagged-form left written known body tag m b k utf8 le f) u t = elim ((here t).0 tag) [
       | inl h ↦ absurd (no_case-form f h)
-      | inr h ↦ rw (append_assoc, text-again tag (b ++ x) utf8 le, h.0, h.1, form-again x f u (narrowed t (λ p. subst IsReadable h.1 (p.1 tag h.0)) (λ n d l. l.0 tag)), bind-then) refl
+      | inr h ↦ rw (
+        append_assoc,
+        text-again tag (b ++ x) utf8 le,
+        h.0,
+        h.1,
+        form-again x f u (narrowed t (λ p. subst IsReadable h.1 (p.1 tag h.0)) (λ n d l. l.0 tag)),
+        bind-then,
+      ) refl
     ]
     form-again x (case-form left w known part n m b k lt is f) u t =
         rw (append_assoc, unsigned-again w n (b ++ x) lt, is, form-again x f u (narrowed t (λ p. p n is) (λ nodes d l. l n is)), bind-then) refl
@@ -193,20 +241,36 @@ module _ {A B : Type 0} {look : Look A B} {kind_of : B → ℕ} {parts : ℕ →
     form-again x (json-flag-form left b) u t = rw (none-left u, bool-again b x) refl
     form-again x (json-number-form left z h) u t = rw (none-left u, signed-again w64 z x h) refl
     form-again x (json-text-form left b h le) u t = rw (none-left u, text-again b x h le) refl
-    form-again x (json-array-form left less ms b k e le h) u t = rw (e, append_assoc, length-again (length ms) (b ++ x) le, forms-again x h u (alone (λ n d. tt) tt), bind-then) refl
+    form-again x (json-array-form left less ms b k e le h) u t = rw (
+      e,
+      append_assoc,
+      length-again (length ms) (b ++ x) le,
+      forms-again x h u (alone (λ n d. tt) tt),
+      bind-then,
+    ) refl
     form-again x (json-object-form left less es b k e le up h) u t =
-        rw (e, append_assoc, length-again (length es) (b ++ x) le, entries-again x h u (alone (λ n d. tt) tt) (alone (λ n d. tt) tt), bind-then, ascending-kept text_order es up) refl
+        rw (
+          e,
+          append_assoc,
+          length-again (length es) (b ++ x) le,
+          entries-again x h u (alone (λ n d. tt) tt) (alone (λ n d. tt) tt),
+          bind-then,
+          ascending-kept text_order es up,
+        ) refl
     form-again x _ u t = rw (none-left u) refl
 
-    pub forms-again : (x : List ℕ) {r : List A} {c : Result (List A) Error} {left : ℕ} {s : Shape} {ms : List (Meaning B)} {b : List ℕ} {k : List B} → Forms B kind_of parts left s ms b k
-        → Looked look kind_of r k c → Throughout IsReadable parts s → items (read_at look parts left s) (length ms) (rest (b ++ x) r) ≡ (c >>= λ y. Ok (ms, rest x y))
+    pub forms-again : (x : List ℕ) {r : List A} {c : Result (List A) Error} {left : ℕ} {s : Shape} {ms : List (Meaning B)} {b : List ℕ} {k : List B}
+        → Forms B kind_of parts left s ms b k
+        → Looked look kind_of r k c → Throughout IsReadable parts s → items (read_at look parts left s) (length ms) (rest (b ++ x) r)
+        ≡ (c >>= λ y. Ok (ms, rest x y))
     forms-again x (no-forms left s) u t = rw (none-left u) refl
     forms-again x (more-forms left s m ms b c k l h g) u t = elim (split k l u) [
       | inl (y, f, i) ↦ rw (append_assoc, form-again (c ++ x) h f t, forms-again x g i t, bind-then) refl
       | inr (e, f, is) ↦ rw (append_assoc, form-again (c ++ x) h f t, is) refl
     ]
 
-    pub entries-again : (x : List ℕ) {r : List A} {c : Result (List A) Error} {left : ℕ} {s s2 : Shape} {es : List (Entry B)} {b : List ℕ} {k : List B} → Entries B kind_of parts left s s2 es b k
+    pub entries-again : (x : List ℕ) {r : List A} {c : Result (List A) Error} {left : ℕ} {s s2 : Shape} {es : List (Entry B)} {b : List ℕ} {k : List B}
+        → Entries B kind_of parts left s s2 es b k
         → Looked look kind_of r k c → Throughout IsReadable parts s → Throughout IsReadable parts s2
         → items (two (read_at look parts left s) (read_at look parts left s2)) (length es) (rest (b ++ x) r) ≡ (c >>= λ y. Ok (es, rest x y))
     entries-again x (no-entries left s s2) u t v = rw (none-left u) refl
@@ -255,22 +319,29 @@ module _ {A : Type 0} {kind_of : A → ℕ} {parts : ℕ → Shape} where
   mutual
     unfolding IsCanonical LiesIn
 
-    pub one-form : {left left2 : ℕ} {s : Shape} {m n : Meaning A} {b c : List ℕ} {k l : List A} → Form A kind_of parts left s m b k → Form A kind_of parts left2 s n c l
+    pub one-form : {left left2 : ℕ} {s : Shape} {m n : Meaning A} {b c : List ℕ} {k l : List A} → Form A kind_of parts left s m b k
+        → Form A kind_of parts left2 s n c l
         → Throughout IsCanonical parts s → m ≡ n → (b ≡ c) × (k ≡ l)
-    one-form (some-form left s m b k h) (some-form left2 s2 m2 b2 k2 h2) r e = joined (1 ∷ []) (1 ∷ []) _ _ [] [] _ _ (refl, refl) (one-form h h2 (narrowed r (λ p. p) (λ n d l. l)) cc)
-    one-form (err-form left s t m b k h) (err-form left2 s2 t2 m2 b2 k2 h2) r e = joined (0 ∷ []) (0 ∷ []) _ _ [] [] _ _ (refl, refl) (one-form h h2 (narrowed r (λ p. p.1) (λ n d l. l.1)) cc)
-    one-form (ok-form left s t m b k h) (ok-form left2 s2 t2 m2 b2 k2 h2) r e = joined (1 ∷ []) (1 ∷ []) _ _ [] [] _ _ (refl, refl) (one-form h h2 (narrowed r (λ p. p.0) (λ n d l. l.0)) cc)
+    one-form (some-form left s m b k h) (some-form left2 s2 m2 b2 k2 h2) r e =
+        joined (1 ∷ []) (1 ∷ []) _ _ [] [] _ _ (refl, refl) (one-form h h2 (narrowed r (λ p. p) (λ n d l. l)) cc)
+    one-form (err-form left s t m b k h) (err-form left2 s2 t2 m2 b2 k2 h2) r e =
+        joined (0 ∷ []) (0 ∷ []) _ _ [] [] _ _ (refl, refl) (one-form h h2 (narrowed r (λ p. p.1) (λ n d l. l.1)) cc)
+    one-form (ok-form left s t m b k h) (ok-form left2 s2 t2 m2 b2 k2 h2) r e =
+        joined (1 ∷ []) (1 ∷ []) _ _ [] [] _ _ (refl, refl) (one-form h h2 (narrowed r (λ p. p.0) (λ n d l. l.0)) cc)
     one-form (list-form left s ms b k le h) (list-form left2 s2 ms2 b2 k2 le2 h2) r e = sized _ _ _ _ _ _ (one-forms h h2 (narrowed r (λ p. p) (λ n d l. l)) e)
     one-form (run-form left s ms b k le h) (run-form left2 s2 ms2 b2 k2 le2 h2) r e = let o = one-forms h h2 (narrowed r (λ p. p) (λ n d l. l)) e in (o.0, o.1)
-    one-form (array-form left n s ms b k q h) (array-form left2 n2 s2 ms2 b2 k2 q2 h2) r e = let o = one-forms h h2 (narrowed r (λ p. p) (λ n d l. l)) e in (o.0, o.1)
+    one-form (array-form left n s ms b k q h) (array-form left2 n2 s2 ms2 b2 k2 q2 h2) r e = let o =
+        one-forms h h2 (narrowed r (λ p. p) (λ n d l. l)) e in (o.0, o.1)
     one-form (both-form left s t m n b c k l h g) (both-form left2 s2 t2 m2 n2 b2 c2 k2 l2 h2 g2) r e =
         joined _ _ _ _ _ _ _ _ (one-form h h2 (narrowed r (λ p. p.0) (λ n d l. l.0)) cc) (one-form g g2 (narrowed r (λ p. p.1) (λ n d l. l.1)) cc)
     one-form (sorted-map-form left o s t es b k le up h) (sorted-map-form left2 o2 s2 t2 es2 b2 k2 le2 up2 h2) r e =
         sized _ _ _ _ _ _ (one-entries h h2 (narrowed r (λ p. p.0) (λ n d l. l.0)) (narrowed r (λ p. p.1) (λ n d l. l.1)) e)
     one-form (placed-map-form left s t es b k le up h) (placed-map-form left2 s2 t2 es2 b2 k2 le2 up2 h2) r e =
         sized _ _ _ _ _ _ (one-entries h h2 (narrowed r (λ p. p.0) (λ n d l. l.0)) (narrowed r (λ p. p.1) (λ n d l. l.1)) e)
-    one-form (sorted-set-form left o s ms b k le up h) (sorted-set-form left2 o2 s2 ms2 b2 k2 le2 up2 h2) r e = sized _ _ _ _ _ _ (one-forms h h2 (narrowed r (λ p. p) (λ n d l. l)) e)
-    one-form (placed-set-form left s ms b k le up h) (placed-set-form left2 s2 ms2 b2 k2 le2 up2 h2) r e = sized _ _ _ _ _ _ (one-forms h h2 (narrowed r (λ p. p) (λ n d l. l)) e)
+    one-form (sorted-set-form left o s ms b k le up h) (sorted-set-form left2 o2 s2 ms2 b2 k2 le2 up2 h2) r e =
+        sized _ _ _ _ _ _ (one-forms h h2 (narrowed r (λ p. p) (λ n d l. l)) e)
+    one-form (placed-set-form left s ms b k le up h) (placed-set-form left2 s2 ms2 b2 k2 le2 up2 h2) r e =
+        sized _ _ _ _ _ _ (one-forms h h2 (narrowed r (λ p. p) (λ n d l. l)) e)
     one-form (tagged-form left written known body tag m b k u h f) (tagged-form left2 written2 known2 body2 tag2 m2 b2 k2 u2 h2 f2) r e =
         let tags : tag ≡ tag2 = cc in
         let f3 = let P : List ℕ → Type 0 = λ t. Form A kind_of parts left2 (written t) m2 b2 k2 in subst P (sym tags) f2 in
@@ -289,7 +360,8 @@ module _ {A : Type 0} {kind_of : A → ℕ} {parts : ℕ → Shape} where
     one-form x0 (nothing-form left) r e = grind (arith, nat_tests)
     one-form x0 x1 r e = grind (arith, nat_tests, here)
 
-    pub one-forms : {left left2 : ℕ} {s : Shape} {ms ns : List (Meaning A)} {b c : List ℕ} {k l : List A} → Forms A kind_of parts left s ms b k → Forms A kind_of parts left2 s ns c l
+    pub one-forms : {left left2 : ℕ} {s : Shape} {ms ns : List (Meaning A)} {b c : List ℕ} {k l : List A} → Forms A kind_of parts left s ms b k
+        → Forms A kind_of parts left2 s ns c l
         → Throughout IsCanonical parts s → sequence ms ≡ sequence ns → (b ≡ c) × (k ≡ l) × (length ms ≡ length ns)
     one-forms (no-forms left s) (no-forms left2 s2) r e = (refl, refl, refl)
     one-forms (more-forms left s m ms b c k l h g) (more-forms left2 s2 m2 ms2 b2 c2 k2 l2 h2 g2) r e =
@@ -297,7 +369,8 @@ module _ {A : Type 0} {kind_of : A → ℕ} {parts : ℕ → Shape} where
         (rw (o.0, p.0) refl, rw (o.1, p.1) refl, ap suc p.2)
     one-forms f g r e = absurd cc
 
-    pub one-entries : {left left2 : ℕ} {s t : Shape} {es fs : List (Entry A)} {b c : List ℕ} {k l : List A} → Entries A kind_of parts left s t es b k → Entries A kind_of parts left2 s t fs c l
+    pub one-entries : {left left2 : ℕ} {s t : Shape} {es fs : List (Entry A)} {b c : List ℕ} {k l : List A} → Entries A kind_of parts left s t es b k
+        → Entries A kind_of parts left2 s t fs c l
         → Throughout IsCanonical parts s → Throughout IsCanonical parts t → of_entries es ≡ of_entries fs → (b ≡ c) × (k ≡ l) × (length es ≡ length fs)
     one-entries (no-entries left s t) (no-entries left2 s2 t2) r q e = (refl, refl, refl)
     one-entries (more-entries left s t m n es b c d j k l h g f) (more-entries left2 s2 t2 m2 n2 es2 b2 c2 d2 j2 k2 l2 h2 g2 f2) r q e =

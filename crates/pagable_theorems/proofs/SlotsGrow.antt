@@ -51,7 +51,8 @@ pub same-slots : (v : ℕ) (shelf shelf' : Shelf) → ((i : Identity) → shelf'
 same-slots v shelf shelf' same i = stays (same i)
 
 pub is-self : (i : Identity) → is_identity i i ≡ true
-is-self i = let a : (i.kind.0 == i.kind.0) ≡ true = grind (arith, nat_tests) in let b : (i.node.0 == i.node.0) ≡ true = grind (arith, nat_tests) in rw (a, b) refl
+is-self i = let a : (i.kind.0 == i.kind.0) ≡ true = grind (arith, nat_tests) in let b : (i.node.0 == i.node.0) ≡ true =
+    grind (arith, nat_tests) in rw (a, b) refl
 
 pub is-same : (i j : Identity) → is_identity i j ≡ true → j ≡ i
 is-same i j is = grind (arith, and_parts, same-number)
@@ -60,20 +61,24 @@ pub record PutsSlot (slots slots' : Identity → Option Slot) (i : Identity) (sl
   pub at : slots' i ≡ Some slot
   pub elsewhere : (j : Identity) → is_identity i j ≡ false → slots' j ≡ slots j
 
-pub puts-slot : (shelf shelf' : Shelf) (i : Identity) (slot : Slot) → SameShelf (with_slot shelf i (Some slot)) shelf' → PutsSlot shelf.slots shelf'.slots i slot
+pub puts-slot : (shelf shelf' : Shelf) (i : Identity) (slot : Slot) → SameShelf (with_slot shelf i (Some slot)) shelf'
+    → PutsSlot shelf.slots shelf'.slots i slot
 puts-slot shelf shelf' i slot same = grind (arith, is-self)
 
-pub changes-slot : (shelf shelf' : Shelf) (i : Identity) (slot : Slot) (f : Slot → Slot) → shelf.slots i ≡ Some slot → SameShelf (with_changed_slot shelf i f) shelf'
+pub changes-slot : (shelf shelf' : Shelf) (i : Identity) (slot : Slot) (f : Slot → Slot) → shelf.slots i ≡ Some slot
+    → SameShelf (with_changed_slot shelf i f) shelf'
     → PutsSlot shelf.slots shelf'.slots i (f slot)
 changes-slot shelf shelf' i slot f there same = grind (arith, puts-slot)
 
 -- what stands there afterwards is this, or stood there
-pub put-cases : (slots slots' : Identity → Option Slot) (i : Identity) (new : Slot) → PutsSlot slots slots' i new → (j : Identity) (slot : Slot) → slots' j ≡ Some slot
+pub put-cases : (slots slots' : Identity → Option Slot) (i : Identity) (new : Slot) → PutsSlot slots slots' i new → (j : Identity) (slot : Slot) → slots' j
+    ≡ Some slot
     → ((j ≡ i) × (slot ≡ new)) ⊎ ((is_identity i j ≡ false) × (slots j ≡ Some slot))
 put-cases slots slots' i new puts j slot there = grind (arith, is-same, some-same)
 
 fails-own : (v : ℕ) (shelf shelf' : Shelf) (i : Identity) (o : Option Slot) → shelf.slots i ≡ o
-    → shelf'.slots i ≡ if_there (λ (slot : Slot). Some (if nat_eq slot.worker v then with_outcome failed slot else slot)) None o → SlotChanges v (shelf.slots i) (shelf'.slots i)
+    → shelf'.slots i ≡ if_there (λ (slot : Slot). Some (if nat_eq slot.worker v then with_outcome failed slot else slot)) None o
+    → SlotChanges v (shelf.slots i) (shelf'.slots i)
 fails-own v shelf shelf' i None none is = stays (is ∙ sym none)
 fails-own v shelf shelf' i (Some slot) there is = elim (cases_Bool (nat_eq slot.worker v)) [
   | inl own ↦ is-changed slot (with_outcome failed slot) there (grind (arith, nat_tests)) (rw own at is) (grind arith)
@@ -145,11 +150,13 @@ Stands shelf v task (to_fail fault back) below = Unit {0}
 -- of all of it; and nothing is to be done twice about one claim
 abbrev pub AllStand : Shelf → ℕ → Task → List Todo → Type 0
 AllStand shelf v task [] = Unit {0}
-AllStand shelf v task (x ∷ below) = Stands shelf v task x below × ((i : Identity) → is_open_of i x ≡ true → is_open_in i below ≡ false) × AllStand shelf v task below
+AllStand shelf v task (x ∷ below) = Stands shelf v task x below × ((i : Identity) → is_open_of i x ≡ true → is_open_in i below ≡ false)
+    × AllStand shelf v task below
 
 -- each claim of the worker's that has no result is to be worked at, unless the walk is about to fail
 abbrev pub Covers : Shelf → ℕ → List Todo → Type 0
-Covers shelf v todo = (i : Identity) (slot : Slot) → shelf.slots i ≡ Some slot → slot.worker ≡ v → slot.outcome ≡ no_result → (is_failing todo || is_open_in i todo) ≡ true
+Covers shelf v todo = (i : Identity) (slot : Slot) → shelf.slots i ≡ Some slot → slot.worker ≡ v → slot.outcome ≡ no_result
+    → (is_failing todo || is_open_in i todo) ≡ true
 
 abbrev pub HasNoFailed : Shelf → ℕ → Type 0
 HasNoFailed shelf v = (i : Identity) (slot : Slot) → shelf.slots i ≡ Some slot → slot.worker ≡ v → is_failed slot.outcome ≡ false
@@ -176,7 +183,8 @@ pub record WorkStands (shelves : ℕ → Shelf) (walkings : ℕ → Option Walki
   pub numbered : (v : ℕ) (walking : Walking) → walkings v ≡ Some walking → v ≤ last
 
 -- below what is done next written nodes and an item wait again after a step
-pub follows-waits : {W : Type 0} (f : W → Written) (todo : List Todo) (step : Action W) (next : List Todo) → Follows f todo step next → WaitsWell todo → WaitsWell next
+pub follows-waits : {W : Type 0} (f : W → Written) (todo : List Todo) (step : Action W) (next : List Todo) → Follows f todo step next → WaitsWell todo
+    → WaitsWell next
 follows-waits f x1 x2 next x4 waits = grind (arith, nat_tests)
 
 -- A worker's step keeps what stands of its to-do list and of its table.
@@ -186,7 +194,8 @@ true-false is other = absurd (cc)
 
 module _ (u : ℕ) (task : Task) (shelf shelf' : Shelf) (more : ShelfGrows shelf shelf') where
   -- where each claim that it is about is kept
-  pub all-stay : (todo : List Todo) → ((i : Identity) → is_open_in i todo ≡ true → (slot : Slot) → shelf.slots i ≡ Some slot → slot.worker ≡ u → shelf'.slots i ≡ Some slot)
+  pub all-stay : (todo : List Todo) → ((i : Identity) → is_open_in i todo ≡ true → (slot : Slot) → shelf.slots i ≡ Some slot → slot.worker ≡ u → shelf'.slots i
+      ≡ Some slot)
       → AllStand shelf u task todo → AllStand shelf' u task todo
   all-stay [] keeps all = tt
   all-stay (x ∷ below) keeps (stands, apart, rest) = (
@@ -204,7 +213,8 @@ module _ (v : ℕ) (task : Task) where
     -- what is open has a slot
     pub open-slot : (todo : List Todo) → AllStand shelf v task todo → is_open_in i todo ≡ true → (slot : Slot) × (shelf.slots i ≡ Some slot)
     open-slot [] all is = absurd (cc)
-    open-slot (x ∷ below) (stands, apart, rest) is = elim (or_cases (is_open_of i x) (is_open_in i below) is) [ inl a ↦ (grind (arith, nat_tests, is-same)) | inr b ↦ open-slot below rest b ]
+    open-slot (x ∷ below) (stands, apart, rest) is = elim (or_cases (is_open_of i x) (is_open_in i below) is)
+        [ inl a ↦ (grind (arith, nat_tests, is-same)) | inr b ↦ open-slot below rest b ]
 
   -- each claim without a result is worked at
   abbrev pub CoversBy : Shelf → List Todo → Type 0
@@ -220,7 +230,8 @@ module _ (v : ℕ) (task : Task) where
     pub met : (i : Identity) (slot : Slot) → shelf.slots i ≡ None → shelf'.slots i ≡ Some slot → Meets shelf' task i
 
   module _ (shelf shelf' : Shelf) (same : (i : Identity) → shelf'.slots i ≡ shelf.slots i) where
-    pub plain : (answer : Option WorkerAnswer) (todo : List Todo) → ((a : WorkerAnswer) → answer ≡ Some a → todo ≡ []) → AllStand shelf v task todo → CoversBy shelf todo
+    pub plain : (answer : Option WorkerAnswer) (todo : List Todo) → ((a : WorkerAnswer) → answer ≡ Some a → todo ≡ []) → AllStand shelf v task todo
+        → CoversBy shelf todo
         → Goes shelf answer shelf' todo
     plain answer todo done all covers = grind (arith, nat_tests, same-slots, all-stay, grows, or_right, is_failing, is_open_in, some-none)
 
@@ -228,9 +239,11 @@ module _ (v : ℕ) (task : Task) where
     fails fault back = grind (arith, nat_tests, same-slots, some-none)
 
     -- what stands at the front becomes something else about the same claim
-    pub swaps : (x y : Todo) (below : List Todo) → AllStand shelf v task (x ∷ below) → CoversBy shelf (x ∷ below) → ((i : Identity) → is_open_of i y ≡ is_open_of i x)
+    pub swaps : (x y : Todo) (below : List Todo) → AllStand shelf v task (x ∷ below) → CoversBy shelf (x ∷ below)
+        → ((i : Identity) → is_open_of i y ≡ is_open_of i x)
         → (Stands shelf v task x below → Stands shelf v task y below) → Goes shelf None shelf' (y ∷ below)
-    swaps x y below (stands, apart, rest) covers about goes = plain None (y ∷ below) (λ a is. absurd (cc)) (goes stands, grind (arith, nat_tests), rest) (grind (arith, nat_tests))
+    swaps x y below (stands, apart, rest) covers about goes = plain None (y ∷ below) (λ a is. absurd (cc)) (goes stands, grind (arith, nat_tests), rest)
+        (grind (arith, nat_tests))
 
   module _ (shelf : Shelf) where
     started : (place : ℕ) (rs : List ArcRef) (todo : List Todo) → ((r : ArcRef) → Among rs r → Meets shelf task (identity_of r)) → AllStand shelf v task todo
@@ -243,7 +256,8 @@ module _ (v : ℕ) (task : Task) where
     pub settles : (o : Open) (below : List Todo) → AllStand shelf v task (to_finish o ∷ below) → AllStand shelf v task (settle (to_finish o ∷ below))
     settles o below x2 = search (rules, started, meets-below, among-drop)
 
-    pub item-settles : (written : Written) (keys : List ℕ) (below : List Todo) → AllStand shelf v task (to_item written keys ∷ below) → AllStand shelf v task (settle (to_item written keys ∷ below))
+    pub item-settles : (written : Written) (keys : List ℕ) (below : List Todo) → AllStand shelf v task (to_item written keys ∷ below)
+        → AllStand shelf v task (settle (to_item written keys ∷ below))
     item-settles written keys below x3 = search (rules, started, meets-of-item, among-drop)
 
     pub gives : (r : ArcRef) (key height : ℕ) (todo : List Todo) → AllStand shelf v task todo → AllStand shelf v task (give r key height todo)
@@ -258,21 +272,27 @@ module _ (v : ℕ) (task : Task) where
 
 module _ (v : ℕ) (task : Task) (shelf shelf' : Shelf) where
   -- an own slot changes, or comes, that hasn't failed and that the task meets
-  pub own-goes : (i : Identity) (new : Slot) (todo : List Todo) → PutsSlot shelf.slots shelf'.slots i new → SlotChanges v (shelf.slots i) (Some new) → Meets shelf task i
-      → is_failed new.outcome ≡ false → (Changes v shelf shelf' → Meets shelf' task i → AllStand shelf' v task todo) → Covers shelf' v todo → Goes v task shelf None shelf' todo
+  pub own-goes : (i : Identity) (new : Slot) (todo : List Todo) → PutsSlot shelf.slots shelf'.slots i new → SlotChanges v (shelf.slots i) (Some new)
+      → Meets shelf task i
+      → is_failed new.outcome ≡ false → (Changes v shelf shelf' → Meets shelf' task i → AllStand shelf' v task todo) → Covers shelf' v todo
+      → Goes v task shelf None shelf' todo
   own-goes i new todo puts at meets good all covers =
-      let changes : Changes v shelf shelf' = λ j. elim (cases_Bool (is_identity i j)) [ inl e ↦ rw (is-same i j e, puts.at) at | inr e ↦ stays (puts.elsewhere j e) ] in
+      let changes : Changes v shelf shelf' = λ j. elim (cases_Bool (is_identity i j))
+      [ inl e ↦ rw (is-same i j e, puts.at) at | inr e ↦ stays (puts.elsewhere j e) ] in
       let now = meets-grow shelf shelf' task i (grows v shelf shelf' changes) meets in
       let stands = all changes now in grind (arith, nat_tests, put-cases, some-none)
 
   pub failed-goes : (answer : WorkerAnswer) → SameShelf (with_failed shelf v) shelf' → Goes v task shelf (Some answer) shelf' []
-  failed-goes answer same = let changes : Changes v shelf shelf' = λ i. fails-own v shelf shelf' i _ refl (same.slots i) in let slots = same.slots in grind (arith, nat_tests, some-none, some-same)
+  failed-goes answer same = let changes : Changes v shelf shelf' = λ i. fails-own v shelf shelf' i _ refl (same.slots i) in let slots =
+      same.slots in grind (arith, nat_tests, some-none, some-same)
 
 -- What stands of all workers and tables goes on to stand, by what an event does to them.
 
 -- one worker, where what it claimed stays as it was
-walking-stays : (v : ℕ) (w : Walking) (shelf shelf' : Shelf) → ShelfGrows shelf shelf' → ((i : Identity) (slot : Slot) → shelf.slots i ≡ Some slot → slot.worker ≡ v → shelf'.slots i ≡ Some slot)
-    → ((i : Identity) (slot : Slot) → shelf'.slots i ≡ Some slot → slot.worker ≡ v → shelf.slots i ≡ Some slot) → WalkingStands shelf v w → WalkingStands shelf' v w
+walking-stays : (v : ℕ) (w : Walking) (shelf shelf' : Shelf) → ShelfGrows shelf shelf'
+    → ((i : Identity) (slot : Slot) → shelf.slots i ≡ Some slot → slot.worker ≡ v → shelf'.slots i ≡ Some slot)
+    → ((i : Identity) (slot : Slot) → shelf'.slots i ≡ Some slot → slot.worker ≡ v → shelf.slots i ≡ Some slot) → WalkingStands shelf v w
+    → WalkingStands shelf' v w
 walking-stays v w shelf shelf' more stay were stands = grind (arith, all-stay)
 
 pub record KeepsTask (walkings' : ℕ → Option Walking) (u : ℕ) (w : Walking) : Type 0 where
@@ -301,7 +321,18 @@ module _ (v : ℕ) (shelves shelves' : ℕ → Shelf) (walkings walkings' : ℕ 
       let each : (u : ℕ) (w : Walking) → walkings' u ≡ Some w → WalkingStands (shelves' w.table) u w = λ u w there.
       let c = turned.changes w.table in
       let more = grows v (shelves w.table) (shelves' w.table) c in
-      grind (arith, nat_tests, cases_Bool (nat_eq u v), same-number, walking-stays u w (shelves w.table) (shelves' w.table) more, c, some-none, some-same, turned.others u, work.workers u w) in
+      grind (
+        arith,
+        nat_tests,
+        cases_Bool (nat_eq u v),
+        same-number,
+        walking-stays u w (shelves w.table) (shelves' w.table) more,
+        c,
+        some-none,
+        some-same,
+        turned.others u,
+        work.workers u w,
+      ) in
       grind (arith, nat_tests, each, met-stays, some-same, cases_Bool, nat_eq, same-number)
 
 pub first-stands : (shelf : Shelf) (v : ℕ) (task : Task) → AllStand shelf v task (first_todo task)
@@ -311,7 +342,8 @@ first-stands shelf v (of_entry h i) = (meets-entry h i refl, (λ j is. absurd (c
 abbrev pub SameSlots : (ℕ → Shelf) → (ℕ → Shelf) → Type 0
 SameSlots shelves shelves' = (t : ℕ) (i : Identity) → (shelves' t).slots i ≡ (shelves t).slots i
 
-module _ (shelves shelves' : ℕ → Shelf) (walkings walkings' : ℕ → Option Walking) (last : ℕ) (work : WorkStands shelves walkings last) (same : SameSlots shelves shelves') where
+module _ (shelves shelves' : ℕ → Shelf) (walkings walkings' : ℕ → Option Walking) (last : ℕ) (work : WorkStands shelves walkings last)
+    (same : SameSlots shelves shelves') where
   -- nothing is done to workers, and no claim is made
   pub is-quiet : ((u : ℕ) → walkings' u ≡ walkings u) → Turned 0 shelves shelves' walkings walkings'
   is-quiet stay =
@@ -326,16 +358,24 @@ module _ (shelves shelves' : ℕ → Shelf) (walkings walkings' : ℕ → Option
   is-started v new above first none at others =
       -- a worker that has no number yet has claimed nothing
       let unclaimed : (i : Identity) (slot : Slot) → (shelves' new.table).slots i ≡ Some slot → slot.worker ≡ v → ⊥ =
-      λ i slot there own. let s = work.slots new.table i slot (sym (same new.table i) ∙ there) in omega (arith, above, own, work.numbered slot.worker s.walking s.there) in
+      λ i slot there own. let s = work.slots new.table i slot (sym (same new.table i) ∙ there) in
+      omega (arith, above, own, work.numbered slot.worker s.walking s.there) in
       let changes : (t : ℕ) → Changes v (shelves t) (shelves' t) = λ t. same-slots v (shelves t) (shelves' t) (same t) in
-      let stands : (w : Walking) → walkings' v ≡ Some w → WalkingStands (shelves' w.table) v w = λ w there. subst (λ x. WalkingStands (shelves' x.table) v x) (some-same at there)
+      let stands : (w : Walking) → walkings' v ≡ Some w → WalkingStands (shelves' w.table) v w =
+      λ w there. subst (λ x. WalkingStands (shelves' x.table) v x) (some-same at there)
       (let all = first-stands (shelves' new.table) v new.task in grind (arith, nat_tests, all, unclaimed, some-none)) in
       grind (arith, nat_tests, some-none, changes, stands, work.numbered v)
 
-pub is-stepped : (v : ℕ) (shelves shelves' : ℕ → Shelf) (walkings walkings' : ℕ → Option Walking) (w now : Walking) → walkings v ≡ Some w → walkings' v ≡ Some now → now.table ≡ w.table
-    → now.task ≡ w.task → ((u : ℕ) → nat_eq u v ≡ false → walkings' u ≡ walkings u) → ((t : ℕ) → nat_eq t w.table ≡ false → (i : Identity) → (shelves' t).slots i ≡ (shelves t).slots i)
-    → HasNoFailed (shelves w.table) v → WaitsWell now.todo → Goes v w.task (shelves w.table) now.answer (shelves' w.table) now.todo → Turned v shelves shelves' walkings walkings'
+pub is-stepped : (v : ℕ) (shelves shelves' : ℕ → Shelf) (walkings walkings' : ℕ → Option Walking) (w now : Walking) → walkings v ≡ Some w → walkings' v
+    ≡ Some now → now.table ≡ w.table
+    → now.task ≡ w.task → ((u : ℕ) → nat_eq u v ≡ false → walkings' u ≡ walkings u)
+    → ((t : ℕ) → nat_eq t w.table ≡ false → (i : Identity) → (shelves' t).slots i ≡ (shelves t).slots i)
+    → HasNoFailed (shelves w.table) v → WaitsWell now.todo → Goes v w.task (shelves w.table) now.answer (shelves' w.table) now.todo
+    → Turned v shelves shelves' walkings walkings'
 is-stepped v shelves shelves' walkings walkings' w now at at_now same_table same_task others elsewhere clean waits goes =
     let changes : (t : ℕ) → Changes v (shelves t) (shelves' t) = λ t.
-    elim (cases_Bool (nat_eq t w.table)) [ inl e ↦ rw (same-number t w.table e) goes.changes | inr e ↦ same-slots v (shelves t) (shelves' t) (elsewhere t e) ] in
+    elim (cases_Bool (nat_eq t w.table)) [
+      | inl e ↦ rw (same-number t w.table e) goes.changes
+      | inr e ↦ same-slots v (shelves t) (shelves' t) (elsewhere t e)
+    ] in
     grind (arith, nat_tests, same-number, some-none, some-same, changes)

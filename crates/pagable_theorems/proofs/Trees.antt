@@ -71,7 +71,8 @@ module _ {P Q : ℕ → ℕ → Meaning KeyRef → Type 0} (C : ℕ → Type 0) 
   followed-on c h = search (number-followed, integer-followed, text-followed, pattern-followed, none-followed)
 
 -- so it is where it says so of all
-pub followed-all : {P Q : ℕ → ℕ → Meaning KeyRef → Type 0} → ((t key : ℕ) (m : Meaning KeyRef) → P t key m → Q t key m) → {m : Meaning KeyRef} {a : Meaning ⊥} → IsFollowed P m a → IsFollowed Q m a
+pub followed-all : {P Q : ℕ → ℕ → Meaning KeyRef → Type 0} → ((t key : ℕ) (m : Meaning KeyRef) → P t key m → Q t key m) → {m : Meaning KeyRef} {a : Meaning ⊥}
+    → IsFollowed P m a → IsFollowed Q m a
 followed-all on {a = a} h = followed-on (λ t. Unit {0}) (λ t key m all p. on t key m p) (each-type (λ t. tt) a) h
 
 module _ {store : ℕ → Option Blob} {types : Types} where
@@ -81,7 +82,8 @@ module _ {store : ℕ → Option Blob} {types : Types} where
   same-followed : {m n : Meaning KeyRef} {a b : Meaning ⊥} → IsFollowed (ReadsAs store types) m a → IsFollowed (ReadsAs store types) n b → m ≡ n → a ≡ b
   same-followed {a = a} h g e = one-followed (λ t. Unit {0}) (λ t key m n u p q. same-reading p q) (each-type (λ t. tt) a) h g e
 
-pub one_tree : (store : ℕ → Option Blob) (types : Types) (key : ℕ) (t u : Tree) → t.type ≡ u.type → ReadsTree store types key t → ReadsTree store types key u → t ≡ u
+pub one_tree : (store : ℕ → Option Blob) (types : Types) (key : ℕ) (t u : Tree) → t.type ≡ u.type → ReadsTree store types key t → ReadsTree store types key u
+    → t ≡ u
 one_tree store types key t u e h g = search (rules, same-followed, same-reading)
 
 -- the same meaning but for its references, which are as R says; references that are followed already stand in it only if F
@@ -129,7 +131,8 @@ refs-two (followed-along kind x a n h) = absurd n
 refs-two _ = no-two
 
 -- a relation of items goes over to those that they are along with
-pub apart-two : {X Y : Type 0} {V : X → Y → Type 0} (R : X → X → Type 0) (S : Y → Y → Type 0) → ((x x2 : X) (y y2 : Y) → V x y → V x2 y2 → R x x2 → S y y2) → {xs : List X} {ys : List Y}
+pub apart-two : {X Y : Type 0} {V : X → Y → Type 0} (R : X → X → Type 0) (S : Y → Y → Type 0) → ((x x2 : X) (y y2 : Y) → V x y → V x2 y2 → R x x2 → S y y2)
+    → {xs : List X} {ys : List Y}
     → AllTwo V xs ys → Apart R xs → Apart S ys
 unfolding Apart AllAfter
 apart-two R S k no-two a = tt
@@ -191,20 +194,24 @@ to_nothing f = record { refs = []; each = no-two; form = f }
 then_to : {A B : Type 0} {R : A → B → Type 0} {k : List A} {G H : List B → Type 0} → To R k G → ((refs : List B) → G refs → H refs) → To R k H
 then_to p f = record { refs = p.refs; each = p.each; form = f p.refs p.form }
 
-two_to : {A B : Type 0} {R : A → B → Type 0} {k l : List A} {G H K : List B → Type 0} → To R k G → To R l H → ((refs more : List B) → G refs → H more → K (refs ++ more)) → To R (k ++ l) K
+two_to : {A B : Type 0} {R : A → B → Type 0} {k l : List A} {G H K : List B → Type 0} → To R k G → To R l H
+    → ((refs more : List B) → G refs → H more → K (refs ++ more)) → To R (k ++ l) K
 two_to p q f = record { refs = p.refs ++ q.refs; each = append-two p.each q.each; form = f p.refs q.refs p.form q.form }
 
 pub one-two : {X Y : Type 0} {V : X → Y → Type 0} (x : X) (y : Y) → V x y → AllTwo V (x ∷ []) (y ∷ [])
 one-two x y v = more-two x y [] [] v no-two
 
 -- what is put into lists that go along goes along, where it does in front of what goes along behind
-module _ {X Y : Type 0} {V : X → Y → Type 0} (put : List X → X → List X) (put2 : List Y → Y → List Y) (first : (x : X) (y : Y) → V x y → AllTwo V (put [] x) (put2 [] y))
-    (later : (x u : X) (y w : Y) (acc : List X) (acc2 : List Y) → V x y → V u w → AllTwo V acc acc2 → AllTwo V (put acc x) (put2 acc2 y) → AllTwo V (put (u ∷ acc) x) (put2 (w ∷ acc2) y)) where
+module _ {X Y : Type 0} {V : X → Y → Type 0} (put : List X → X → List X) (put2 : List Y → Y → List Y)
+    (first : (x : X) (y : Y) → V x y → AllTwo V (put [] x) (put2 [] y))
+    (later : (x u : X) (y w : Y) (acc : List X) (acc2 : List Y) → V x y → V u w → AllTwo V acc acc2 → AllTwo V (put acc x) (put2 acc2 y)
+    → AllTwo V (put (u ∷ acc) x) (put2 (w ∷ acc2) y)) where
   put-two : (x : X) (y : Y) → V x y → {acc : List X} {acc2 : List Y} → AllTwo V acc acc2 → AllTwo V (put acc x) (put2 acc2 y)
   put-two x y v no-two = first x y v
   put-two x y v (more-two u w acc acc2 g h) = later x u y w acc acc2 v g h (put-two x y v h)
 
-  pub put_all-two : {xs : List X} {ys : List Y} {acc : List X} {acc2 : List Y} → AllTwo V xs ys → AllTwo V acc acc2 → AllTwo V (put_all put acc xs) (put_all put2 acc2 ys)
+  pub put_all-two : {xs : List X} {ys : List Y} {acc : List X} {acc2 : List Y} → AllTwo V xs ys → AllTwo V acc acc2
+      → AllTwo V (put_all put acc xs) (put_all put2 acc2 ys)
   unfolding put_all
   put_all-two no-two h = h
   put_all-two (more-two x y xs ys v g) h = put_all-two g (put-two x y v h)
@@ -251,28 +258,46 @@ module _ {A B : Type 0} {F : Type 0} {R : A → B → Type 0} where
   entries-along [] none-along = record { items = []; each = no-two; whole = refl }
   entries-along (e ∷ es) (pair-along x y a b (pair-along u v c d h k) g) =
       let rest = entries-along es g in
-      record { items = (c, d) ∷ rest.items; each = more-two e (c, d) es rest.items (record { key = h; value = k }) rest.each; whole = ap (λ (z : Meaning B). pair (pair c d) z) rest.whole }
+      record {
+        items = (c, d) ∷ rest.items;
+        each = more-two e (c, d) es rest.items (record { key = h; value = k }) rest.each;
+        whole = ap (λ (z : Meaning B). pair (pair c d) z) rest.whole;
+      }
 
   -- ---- a hash map's entries, put in order
 
-  same_order : {e x : Entry A} {f y : Entry B} {o : Ordering} → EntryAlong F R e f → EntryAlong F R x y → ordered code_order e.0 x.0 ≡ o → ordered code_order f.0 y.0 ≡ o
+  same_order : {e x : Entry A} {f y : Entry B} {o : Ordering} → EntryAlong F R e f → EntryAlong F R x y → ordered code_order e.0 x.0 ≡ o
+      → ordered code_order f.0 y.0 ≡ o
   same_order r s q = rw (← plain-along r.key, ← plain-along s.key) q
 
-  unput : (acc : List (Entry A)) (e : Entry A) {fs : List (Entry B)} → Differs acc e → AllTwo (EntryAlong F R) (put_sorted code_order acc e) fs → Unput F R acc e fs
+  unput : (acc : List (Entry A)) (e : Entry A) {fs : List (Entry B)} → Differs acc e → AllTwo (EntryAlong F R) (put_sorted code_order acc e) fs
+      → Unput F R acc e fs
   unput [] e h (more-two x f xs ys r no-two) = record { before = []; entry = f; each = no-two; one = r; put = refl }
   unput (x ∷ acc) e h a = at (λ gs g. unput acc e {fs = gs} h.1 g) (ordered code_order e.0 x.0) refl a
     where
-      at : ((gs : List (Entry B)) → AllTwo (EntryAlong F R) (put_sorted code_order acc e) gs → Unput F R acc e gs) → (o : Ordering) → ordered code_order e.0 x.0 ≡ o
-          → {fs : List (Entry B)} → AllTwo (EntryAlong F R) (match_ordering o (e ∷ x ∷ acc) ((x.0, e.1) ∷ acc) (x ∷ put_sorted code_order acc e)) fs → Unput F R (x ∷ acc) e fs
-      at back Ordering.Less q (more-two u f us vs r (more-two w y ws ys s g)) = record { before = y ∷ ys; entry = f; each = more-two x y acc ys s g; one = r; put = rw (same_order r s q) refl }
-      at back Ordering.Equal q b = absurd ((let test : eq_by_cmp code_order (plain e.0) (plain x.0) ≡ true = rw q refl in let same = is_eq-slice_cmp (code (plain e.0)) (code (plain x.0)) in cc))
+      at : ((gs : List (Entry B)) → AllTwo (EntryAlong F R) (put_sorted code_order acc e) gs → Unput F R acc e gs) → (o : Ordering) → ordered code_order e.0 x.0
+          ≡ o
+          → {fs : List (Entry B)} → AllTwo (EntryAlong F R) (match_ordering o (e ∷ x ∷ acc) ((x.0, e.1) ∷ acc) (x ∷ put_sorted code_order acc e)) fs
+          → Unput F R (x ∷ acc) e fs
+      at back Ordering.Less q (more-two u f us vs r (more-two w y ws ys s g)) =
+          record { before = y ∷ ys; entry = f; each = more-two x y acc ys s g; one = r; put = rw (same_order r s q) refl }
+      at back Ordering.Equal q b = absurd ((let test : eq_by_cmp code_order (plain e.0) (plain x.0) ≡ true = rw q refl in
+          let same = is_eq-slice_cmp (code (plain e.0)) (code (plain x.0)) in cc))
       at back Ordering.Greater q (more-two u y us ys s g) =
           let r = back ys g in
-          record { before = y ∷ r.before; entry = r.entry; each = more-two x y acc r.before s r.each; one = r.one; put = rw (same_order r.one s q) (ap (λ (z : List (Entry B)). y ∷ z) r.put) }
+          record {
+            before = y ∷ r.before;
+            entry = r.entry;
+            each = more-two x y acc r.before s r.each;
+            one = r.one;
+            put = rw (same_order r.one s q) (ap (λ (z : List (Entry B)). y ∷ z) r.put);
+          }
 
   -- and when several were put in, one after another
-  unput_all : (es acc : List (Entry A)) {fs : List (Entry B)} → Each (Differs acc) es → Apart apart es → AllTwo (EntryAlong F R) (put_all (put_sorted code_order) acc es) fs
-      → (before entries : List (Entry B)) × AllTwo (EntryAlong F R) acc before × AllTwo (EntryAlong F R) es entries × (put_all (put_sorted code_order) before entries ≡ fs)
+  unput_all : (es acc : List (Entry A)) {fs : List (Entry B)} → Each (Differs acc) es → Apart apart es
+      → AllTwo (EntryAlong F R) (put_all (put_sorted code_order) acc es) fs
+      → (before entries : List (Entry B)) × AllTwo (EntryAlong F R) acc before × AllTwo (EntryAlong F R) es entries
+      × (put_all (put_sorted code_order) before entries ≡ fs)
   unfolding Apart put_all
   unput_all [] acc {fs} h d a = (fs, [], a, no-two, refl)
   unput_all (e ∷ es) acc h d a =
@@ -309,13 +334,17 @@ module _ {A B : Type 0} {F : Type 0} {R : A → B → Type 0} where
   lifted-same none none-along = refl
 
 -- what is written with its count goes along, in front of which this stands
-with_count : {A B X Y : Type 0} {R : A → B → Type 0} {V : X → Y → Type 0} {make : List Y → Meaning B} {xs : List X} {n : Meaning B} {H : List B → Type 0} {k : List A} {kind_of : B → ℕ}
-    {parts : ℕ → Shape} {left : ℕ} {s : Shape} (front : List ℕ) (wrap : Meaning B → Meaning B) (b : List ℕ) (q : Made V make xs n) → length xs ≤ longest → To R k H
-    → ((refs : List B) → length q.items ≤ longest → H refs → Form B kind_of parts left s (wrap (make q.items)) (front ++ (length_form (length q.items) ++ b)) refs)
+with_count : {A B X Y : Type 0} {R : A → B → Type 0} {V : X → Y → Type 0} {make : List Y → Meaning B} {xs : List X} {n : Meaning B} {H : List B → Type 0}
+    {k : List A} {kind_of : B → ℕ}
+    {parts : ℕ → Shape} {left : ℕ} {s : Shape} (front : List ℕ) (wrap : Meaning B → Meaning B) (b : List ℕ) (q : Made V make xs n) → length xs ≤ longest
+    → To R k H
+    → ((refs : List B) → length q.items ≤ longest → H refs → Form B kind_of parts left s (wrap (make q.items)) (front ++ (length_form (length q.items) ++ b))
+    refs)
     → To R k (λ refs. Form B kind_of parts left s (wrap n) (front ++ (length_form (length xs) ++ b)) refs)
 with_count front wrap b q le p f = let long = length-two q.each in rw (q.whole, long) (then_to p (λ refs h. f refs (rw long at le) h))
 
-module _ {A B : Type 0} {F : Type 0} {R : A → B → Type 0} {kind_of : A → ℕ} {kind_of2 : B → ℕ} {parts : ℕ → Shape} (kinds : (a : A) (b : B) → R a b → kind_of2 b ≡ kind_of a) where
+module _ {A B : Type 0} {F : Type 0} {R : A → B → Type 0} {kind_of : A → ℕ} {kind_of2 : B → ℕ} {parts : ℕ → Shape}
+    (kinds : (a : A) (b : B) → R a b → kind_of2 b ≡ kind_of a) where
   mutual
     pub form-along : {left : ℕ} {s : Shape} {m : Meaning A} {n : Meaning B} {b : List ℕ} {k : List A} → Form A kind_of parts left s m b k → Along F R m n
         → To R k (λ refs. Form B kind_of2 parts left s n b refs)
@@ -323,17 +352,24 @@ module _ {A B : Type 0} {F : Type 0} {R : A → B → Type 0} {kind_of : A → �
     form-along (some-form left s m b k h) (variant-along n x y a) = then_to (form-along h a) (λ refs f. some-form left s y b refs f)
     form-along (err-form left s t m b k h) (variant-along n x y a) = then_to (form-along h a) (λ refs f. err-form left s t y b refs f)
     form-along (ok-form left s t m b k h) (variant-along n x y a) = then_to (form-along h a) (λ refs f. ok-form left s t y b refs f)
-    form-along (list-form left s ms b k le h) a = let q = sequence-along ms a in with_count [] (λ m. m) b q le (forms-along h q.each) (λ refs l f. list-form left s q.items b refs l f)
-    form-along (run-form left s ms b k le h) a = let q = sequence-along ms a in rw q.whole (then_to (forms-along h q.each) (λ refs f. run-form left s q.items b refs (rw (length-two q.each) at le) f))
+    form-along (list-form left s ms b k le h) a = let q = sequence-along ms a in
+        with_count [] (λ m. m) b q le (forms-along h q.each) (λ refs l f. list-form left s q.items b refs l f)
+    form-along (run-form left s ms b k le h) a = let q = sequence-along ms a in
+        rw q.whole (then_to (forms-along h q.each) (λ refs f. run-form left s q.items b refs (rw (length-two q.each) at le) f))
     form-along (array-form left n s ms b k e h) a =
-        let q = sequence-along ms a in rw q.whole (then_to (forms-along h q.each) (λ refs f. array-form left n s q.items b refs (sym (length-two q.each) ∙ e) f))
-    form-along (both-form left s t m n b c k l h g) (pair-along x y u v a d) = two_to (form-along h a) (form-along g d) (λ refs more f e. both-form left s t u v b c refs more f e)
+        let q = sequence-along ms a in rw q.whole (then_to (forms-along h q.each)
+        (λ refs f. array-form left n s q.items b refs (sym (length-two q.each) ∙ e) f))
+    form-along (both-form left s t m n b c k l h g) (pair-along x y u v a d) =
+        two_to (form-along h a) (form-along g d) (λ refs more f e. both-form left s t u v b c refs more f e)
     form-along (sorted-map-form left o s t es b k le up h) a =
-        let q = entries-along es a in with_count [] (λ m. m) b q le (entries_form-along h q.each) (λ refs l f. sorted-map-form left o s t q.items b refs l (ascend-two o q.each up) f)
+        let q = entries-along es a in with_count [] (λ m. m) b q le (entries_form-along h q.each)
+        (λ refs l f. sorted-map-form left o s t q.items b refs l (ascend-two o q.each up) f)
     form-along (placed-map-form left s t es b k le up h) a =
-        let q = entries-along es a in with_count [] (λ m. m) b q le (entries_form-along h q.each) (λ refs l f. placed-map-form left s t q.items b refs l (differ-two q.each up) f)
+        let q = entries-along es a in with_count [] (λ m. m) b q le (entries_form-along h q.each)
+        (λ refs l f. placed-map-form left s t q.items b refs l (differ-two q.each up) f)
     form-along (hash-map-form left s t es b k le up h) a =
-        let q = hash_map-along es up a in with_count [] (λ m. m) b q le (entries_form-along h q.each) (λ refs l f. hash-map-form left s t q.items b refs l (differ-two q.each up) f)
+        let q = hash_map-along es up a in with_count [] (λ m. m) b q le (entries_form-along h q.each)
+        (λ refs l f. hash-map-form left s t q.items b refs l (differ-two q.each up) f)
     form-along (sorted-set-form left o s ms b k le up h) a =
         let q = sequence-along ms a in with_count [] (λ m. m) b q le (forms-along h q.each) (λ refs l f. sorted-set-form left o s q.items b refs l
         (apart-two {V = Along F R} _ _ (λ x x2 y y2 v w r. rw (← plain-along v, ← plain-along w) r) q.each up) f)
@@ -343,15 +379,19 @@ module _ {A B : Type 0} {F : Type 0} {R : A → B → Type 0} {kind_of : A → �
     form-along (static-form left registry i m lt e) a = rw (lifted-same m a) (to_nothing (static-form left registry i m lt e))
     form-along (tagged-form left written known body tag m b k u le h) (pair-along x y c d (text-along t) a) =
         then_to (form-along h a) (λ refs f. tagged-form left written known body tag d b refs u le f)
-    form-along (case-form left w known part n m b k lt is h) (variant-along i x y a) = then_to (form-along h a) (λ refs f. case-form left w known part n y b refs lt is f)
-    form-along (reference-form left kind x e) (reference-along x2 y r) = record { refs = y ∷ []; each = more-two x y [] [] r no-two; form = reference-form left kind y (kinds x y r ∙ e) }
+    form-along (case-form left w known part n m b k lt is h) (variant-along i x y a) =
+        then_to (form-along h a) (λ refs f. case-form left w known part n y b refs lt is f)
+    form-along (reference-form left kind x e) (reference-along x2 y r) =
+        record { refs = y ∷ []; each = more-two x y [] [] r no-two; form = reference-form left kind y (kinds x y r ∙ e) }
     form-along (nested-form left less n m b k e h) a = then_to (form-along h a) (λ refs f. nested-form left less n _ b refs e f)
     form-along (json-flag-form left b) (variant-along n x y a) = rw (flag-along b a) (to_nothing (json-flag-form left b))
     form-along (json-array-form left less ms b k e le h) (variant-along n x y a) =
-        let q = sequence-along ms a in with_count (4 ∷ []) (λ m. variant 4 m) b q le (forms-along h q.each) (λ refs l f. json-array-form left less q.items b refs e l f)
+        let q = sequence-along ms a in with_count (4 ∷ []) (λ m. variant 4 m) b q le (forms-along h q.each)
+        (λ refs l f. json-array-form left less q.items b refs e l f)
     form-along (json-object-form left less es b k e le up h) (variant-along n x y a) =
         let q = entries-along es a in
-        with_count (5 ∷ []) (λ m. variant 5 m) b q le (entries_form-along h q.each) (λ refs l f. json-object-form left less q.items b refs e l (ascend-two text_order q.each up) f)
+        with_count (5 ∷ []) (λ m. variant 5 m) b q le (entries_form-along h q.each)
+        (λ refs l f. json-object-form left less q.items b refs e l (ascend-two text_order q.each up) f)
     form-along (duration-form left seconds nanos h l) (pair-along x y a b (number-along i) (number-along j)) = to_nothing (duration-form left seconds nanos h l)
     form-along (none-form left s) (variant-along n x a none-along) = to_nothing (none-form left s)
     form-along (json-null-form left) (variant-along n x a none-along) = to_nothing (json-null-form left)
@@ -364,17 +404,24 @@ module _ {A B : Type 0} {F : Type 0} {R : A → B → Type 0} {kind_of : A → �
     form-along (letter-form left c u) (number-along x) = to_nothing (letter-form left c u)
     form-along (pattern-form left t u h) (pattern-along x) = to_nothing (pattern-form left t u h)
 
-    pub forms-along : {left : ℕ} {s : Shape} {ms : List (Meaning A)} {ns : List (Meaning B)} {b : List ℕ} {k : List A} → Forms A kind_of parts left s ms b k → AllTwo (Along F R) ms ns
+    pub forms-along : {left : ℕ} {s : Shape} {ms : List (Meaning A)} {ns : List (Meaning B)} {b : List ℕ} {k : List A} → Forms A kind_of parts left s ms b k
+        → AllTwo (Along F R) ms ns
         → To R k (λ refs. Forms B kind_of2 parts left s ns b refs)
     forms-along (no-forms left s) no-two = record { refs = []; each = no-two; form = no-forms left s }
-    forms-along (more-forms left s m ms b c k l h g) (more-two x y xs ys a d) = two_to (form-along h a) (forms-along g d) (λ refs more f e. more-forms left s y ys b c refs more f e)
+    forms-along (more-forms left s m ms b c k l h g) (more-two x y xs ys a d) =
+        two_to (form-along h a) (forms-along g d) (λ refs more f e. more-forms left s y ys b c refs more f e)
 
-    pub entries_form-along : {left : ℕ} {s t : Shape} {es : List (Entry A)} {fs : List (Entry B)} {b : List ℕ} {k : List A} → Entries A kind_of parts left s t es b k
+    pub entries_form-along : {left : ℕ} {s t : Shape} {es : List (Entry A)} {fs : List (Entry B)} {b : List ℕ} {k : List A}
+        → Entries A kind_of parts left s t es b k
         → AllTwo (EntryAlong F R) es fs → To R k (λ refs. Entries B kind_of2 parts left s t fs b refs)
     entries_form-along (no-entries left s t) no-two = record { refs = []; each = no-two; form = no-entries left s t }
     entries_form-along (more-entries left s t m n es b c d j k l h g f) (more-two x y xs ys a i) =
         let p = form-along h a.key in let q = form-along g a.value in let r = entries_form-along f i in
-        record { refs = p.refs ++ (q.refs ++ r.refs); each = append-two p.each (append-two q.each r.each); form = more-entries left s t y.0 y.1 ys b c d p.refs q.refs r.refs p.form q.form r.form }
+        record {
+          refs = p.refs ++ (q.refs ++ r.refs);
+          each = append-two p.each (append-two q.each r.each);
+          form = more-entries left s t y.0 y.1 ys b c d p.refs q.refs r.refs p.form q.form r.form;
+        }
 
 plain_lifted : (A : Type 0) (m : Meaning ⊥) → plain (let x : Meaning A = lifted m in x) ≡ m
 unfolding plain rename
@@ -397,9 +444,25 @@ module _ {X : Type 0} where
   unfolding put_all last_value
   all_found q acc [] = refl
   all_found q acc (e ∷ es) =
-      grind (arith, nat_tests, put, code_order, option_or, last_value, find-put, on_texts code, find, eq_by_cmp, cond, is_eq-slice_cmp, code, all_found q (put code_order e.0 e.1 acc) es)
+      grind (
+        arith,
+        nat_tests,
+        put,
+        code_order,
+        option_or,
+        last_value,
+        find-put,
+        on_texts code,
+        find,
+        eq_by_cmp,
+        cond,
+        is_eq-slice_cmp,
+        code,
+        all_found q (put code_order e.0 e.1 acc) es,
+      )
 
-all_along : {X U : Type 0} (u : X → U) (put_x : List X → X → List X) (put_u : List U → U → List U) → ((acc : List X) (x : X) → put_u (map u acc) (u x) ≡ map u (put_x acc x))
+all_along : {X U : Type 0} (u : X → U) (put_x : List X → X → List X) (put_u : List U → U → List U)
+    → ((acc : List X) (x : X) → put_u (map u acc) (u x) ≡ map u (put_x acc x))
     → (acc xs : List X) → put_all put_u (map u acc) (map u xs) ≡ map u (put_all put_x acc xs)
 unfolding put_all
 all_along u put_x put_u h acc [] = refl
@@ -409,18 +472,21 @@ module _ {A : Type 0} where
   abbrev lift_key : Meaning ⊥ × Meaning A → Entry A
   lift_key e = (lifted e.0, e.1)
 
-  put_along : (acc : List (Meaning ⊥ × Meaning A)) (e : Meaning ⊥ × Meaning A) → put_sorted code_order (map lift_key acc) (lift_key e) ≡ map lift_key (put_in acc e)
+  put_along : (acc : List (Meaning ⊥ × Meaning A)) (e : Meaning ⊥ × Meaning A) → put_sorted code_order (map lift_key acc) (lift_key e)
+      ≡ map lift_key (put_in acc e)
   put_along [] e = refl
   put_along (x ∷ acc) e = rw (plain_lifted A e.0, plain_lifted A x.0, put_along acc e) (grind (arith, nat_tests))
 
 pub any_order : {A : Type 0} → IsAnyOrder A
 any_order {A} es fs h =
     let puts = all_along lift_key put_in (put_sorted code_order) put_along [] in
-    let same = same_entries code_order (on_texts code) (λ a b e. one-meaning a b (exact_bytes (code a) (code b) e)) _ _ (all_sorted [] es tt) (all_sorted [] fs tt)
+    let same = same_entries code_order (on_texts code) (λ a b e. one-meaning a b (exact_bytes (code a) (code b) e)) _ _ (all_sorted [] es tt)
+    (all_sorted [] fs tt)
     (λ q. all_found q [] es ∙ ap (λ (o : Option (Meaning A)). option_or o None) (h q) ∙ sym (all_found q [] fs)) in
     ap of_entries (puts es ∙ ap (map lift_key) same ∙ sym (puts fs))
 
-joins : {N E B W : Type 0} (m : Seen N B W) (s : MachineState N E) (xs ys : List (Moment N E B W)) → AreMoments m s xs → AreMoments m (state_after s xs) ys → AreMoments m s (xs ++ ys)
+joins : {N E B W : Type 0} (m : Seen N B W) (s : MachineState N E) (xs ys : List (Moment N E B W)) → AreMoments m s xs → AreMoments m (state_after s xs) ys
+    → AreMoments m s (xs ++ ys)
 unfolding state_after
 joins m s [] ys first second = second
 joins m s (x ∷ xs) ys (does, first) second = (does, joins m x.after xs ys first second)

@@ -18,18 +18,21 @@ abbrev GotOnce : List Frame → Type 0
 GotOnce [] = Unit {0}
 GotOnce (frame ∷ below) = AreApart frame.got × ((r : ArcRef) → Among frame.got r → AllGot (λ q. q.handle.0 ≡ r.handle.0 → ⊥) below) × GotOnce below
 
-once-got : (frames : List Frame) (kind : Kind) (row : HandleRow) → AllGot (λ r. r.handle.0 < row.number.0) frames → GotOnce frames → GotOnce (with_got kind row frames)
+once-got : (frames : List Frame) (kind : Kind) (row : HandleRow) → AllGot (λ r. r.handle.0 < row.number.0) frames → GotOnce frames
+    → GotOnce (with_got kind row frames)
 once-got [] kind row small o = o
 once-got (top ∷ below) kind row small o =
     let new : ArcRef = record { kind = kind; node = row.node; handle = row.number } in
     -- one of the old ones isn't the new one
-    let old-isnt : (frame : Frame) (r q : ArcRef) → Among (top ∷ below) frame → Among frame.got r → new ≡ q → r.handle.0 ≡ q.handle.0 → ⊥ = λ frame r q among got is same.
+    let old-isnt : (frame : Frame) (r q : ArcRef) → Among (top ∷ below) frame → Among frame.got r → new ≡ q → r.handle.0 ≡ q.handle.0 → ⊥ =
+    λ frame r q among got is same.
     let lt = small frame r among got in let e = ap (λ (g : ArcRef). g.handle.0) is in omega (arith, lt, e, same) in (
       λ j l r q at there same. elim (pushed top.got new j r at) [
         | inl a ↦ elim (pushed top.got new l q there) [ inl b ↦ o.0 j l r q a b same | inr b ↦ absurd (old-isnt top r q (zero, refl) (j, a) b.1 same) ]
         | inr a ↦ elim (pushed top.got new l q there) [ inl b ↦ absurd (old-isnt top q r (zero, refl) (l, b) a.1 (sym same)) | inr b ↦ a.0 ∙ sym b.0 ]
       ],
-      λ r (j, at) frame q (i, is) got same. elim (pushed top.got new j r at) [ inl a ↦ o.1 r (j, a) frame q (i, is) got same | inr a ↦ old-isnt frame q r (suc i, is) got a.1 same ],
+      λ r (j, at) frame q (i, is) got same. elim (pushed top.got new j r at)
+          [ inl a ↦ o.1 r (j, a) frame q (i, is) got same | inr a ↦ old-isnt frame q r (suc i, is) got a.1 same ],
       o.2,
     )
 
@@ -41,16 +44,21 @@ module _ (w w' : Core) (l : LoadNumber) (kind : Kind) (key : ℕ) (own : Optiona
   abbrev known : Core
   known = adopted w l kind key own references
 
-  to-known : {q : ℕ} {row : HandleRow} → let m = with_handle born (next_node w) (mode_of kind.0) (Owner.Load l) in Stands m.last.handle m.rows q row → Stands known.last.handle known.rows q row
+  to-known : {q : ℕ} {row : HandleRow} → let m = with_handle born (next_node w) (mode_of kind.0) (Owner.Load l) in
+      Stands m.last.handle m.rows q row → Stands known.last.handle known.rows q row
   to-known {q} {row} s = grind (arith, nat_tests, cached-rows)
 
-  adopted-keeps : {q : ℕ} {row : HandleRow} → Alike known w' → is_named_by references q ≡ false → Stands w.last.handle w.rows q row → Stands w'.last.handle w'.rows q row
+  adopted-keeps : {q : ℕ} {row : HandleRow} → Alike known w' → is_named_by references q ≡ false → Stands w.last.handle w.rows q row
+      → Stands w'.last.handle w'.rows q row
   adopted-keeps {q} {row} a free s =
-      stands-alike a (to-known (with-one born (next_node w) (mode_of kind.0) (Owner.Load l) (moved-free (Owner.Load l) (is_named_by references) (owner_value (w.last.node + 1)) free s)))
+      stands-alike a (to-known (with-one born (next_node w) (mode_of kind.0) (Owner.Load l)
+      (moved-free (Owner.Load l) (is_named_by references) (owner_value (w.last.node + 1)) free s)))
 
-  adopted-new : HandlesAreWhole w → Alike known w' → Stands w'.last.handle w'.rows (w.last.handle + 1) (row_of (w.last.handle + 1) (next_node w) (mode_of kind.0) (Owner.Load l))
+  adopted-new : HandlesAreWhole w → Alike known w' → Stands w'.last.handle w'.rows (w.last.handle + 1)
+      (row_of (w.last.handle + 1) (next_node w) (mode_of kind.0) (Owner.Load l))
   adopted-new whole a = stands-alike a (to-known (new-handle born (next_node w) (mode_of kind.0) (Owner.Load l)
-      (low-changed w.last.handle w.rows (λ h. is_named_by references h.number.0) (λ h. record h { owner = owner_value (w.last.node + 1) }) (λ h. refl) (low-whole whole))))
+      (low-changed w.last.handle w.rows (λ h. is_named_by references h.number.0) (λ h. record h { owner = owner_value (w.last.node + 1) }) (λ h. refl)
+      (low-whole whole))))
 
 pub not-named : (rs : List ArcRef) (q : ℕ) → ((g : ArcRef) → Among rs g → g.handle.0 ≡ q → ⊥) → is_named_by rs q ≡ false
 not-named rs q none = false_from_ne_true (is_named_by rs q) (λ e. let (r, among, same) = named-among rs q e in none r among same)
@@ -70,7 +78,8 @@ TypesAreRead v reading = (frame : Frame) → Among reading.frames frame → IsRe
 module _ {N : Type 0} (v : Values N) (lawful : IsLawful v) (w w' : Core) (reading : Reading) (takes : TypesAreRead v reading) (load : OpenLoad)
     (trees : ℕ → Tree) (root_key root_type : ℕ)
     (whole : HandlesAreWhole w)
-    (ready : LoadReady w reading.load load reading.frames) (held : FramesHeld w reading.load reading.frames) (fit : FramesFit v.types w.stored trees root_key root_type reading.frames) where
+    (ready : LoadReady w reading.load load reading.frames) (held : FramesHeld w reading.load reading.frames)
+    (fit : FramesFit v.types w.stored trees root_key root_type reading.frames) where
   abbrev l : LoadNumber
   l = reading.load
 
@@ -80,22 +89,30 @@ module _ {N : Type 0} (v : Values N) (lawful : IsLawful v) (w w' : Core) (readin
 
   has-on : (named : ℕ → Bool) → Keeps named → (owner : Owner) → NotValues owner → (h : HandleNumber) → named h.0 ≡ false → Has w owner h → Has w' owner h
   has-on named keeps owner own h free has =
-      let s = keeps h.0 has.row free (subst NotValues (sym has.own) own) (stands-whole whole h.0 has.row has.live) in record { row = has.row; live = s.live; own = has.own }
+      let s = keeps h.0 has.row free (subst NotValues (sym has.own) own) (stands-whole whole h.0 has.row has.live) in
+      record { row = has.row; live = s.live; own = has.own }
 
   -- what these frames have got, and the handle that began the load, stay
-  still-ready : (named : ℕ → Bool) → Keeps named → (fs : List Frame) → ((h : HandleNumber) → Has w Owner.Caller h → named h.0 ≡ false) → AllGot (λ r. named r.handle.0 ≡ false) fs
+  still-ready : (named : ℕ → Bool) → Keeps named → (fs : List Frame) → ((h : HandleNumber) → Has w Owner.Caller h → named h.0 ≡ false)
+      → AllGot (λ r. named r.handle.0 ≡ false) fs
       → AllGot (λ r. Has w (Owner.Load l) r.handle) fs → GotOnce fs → LoadReady w' l load fs
   still-ready named keeps fs callers frees live once =
-      let stay = λ (frame : Frame) (r : ArcRef) (among : Among fs frame) (got : Among frame.got r). has-on named keeps (Owner.Load l) (λ n is. absurd (cc)) r.handle (frees frame r among got)
+      let stay = λ (frame : Frame) (r : ArcRef) (among : Among fs frame) (got : Among frame.got r). has-on named keeps (Owner.Load l)
+      (λ n is. absurd (cc)) r.handle (frees frame r among got)
       (live frame r among got) in
-      record { begun = λ node t h root. let has = ready.begun node t h root in has-on named keeps Owner.Caller (λ n is. absurd (cc)) h (callers h has) has; live = stay; once = once }
+      record {
+        begun = λ node t h root. let has = ready.begun node t h root in has-on named keeps Owner.Caller (λ n is. absurd (cc)) h (callers h has) has;
+        live = stay;
+        once = once;
+      }
 
   small : AllGot (λ r. r.handle.0 < w.last.handle + 1) reading.frames
   small frame r among got = let g = (held frame r among got).given in omega (arith, g)
 
   -- a handle was got
   got-ready : (fs : List Frame) (kind : Kind) (row : HandleRow) (k : HandleNumber) (new : HandleRow) → row_at w' k ≡ Some row → k.0 ≡ w.last.handle + 1
-      → Stands w'.last.handle w'.rows (w.last.handle + 1) new → new.owner ≡ Owner.Load l → AllGot (λ r. r.handle.0 < w.last.handle + 1) fs → LoadReady w' l load fs
+      → Stands w'.last.handle w'.rows (w.last.handle + 1) new → new.owner ≡ Owner.Load l → AllGot (λ r. r.handle.0 < w.last.handle + 1) fs
+      → LoadReady w' l load fs
       → LoadReady w' l load (with_got kind row fs)
   got-ready fs kind row k new made next s own below still =
       let same : row ≡ new = same_some _ _ (sym made ∙ ap (λ n. find_row n w'.rows) next ∙ s.live) in
@@ -110,13 +127,16 @@ module _ {N : Type 0} (v : Values N) (lawful : IsLawful v) (w w' : Core) (readin
   all-ready : Keeps (λ q. false) → LoadReady w' l load reading.frames
   all-ready keeps = still-ready (λ q. false) keeps reading.frames (λ h has. refl) (λ frame r among got. refl) ready.live ready.once
 
-  known-ready : (kind : Kind) (key : ℕ) (k : HandleNumber) (row : HandleRow) → GetsKnown w l kind key k w' → row_at w' k ≡ Some row → LoadReady w' l load (with_got kind row reading.frames)
+  known-ready : (kind : Kind) (key : ℕ) (k : HandleNumber) (row : HandleRow) → GetsKnown w l kind key k w' → row_at w' k ≡ Some row
+      → LoadReady w' l load (with_got kind row reading.frames)
   known-ready kind key k row c made =
       let new = stands-alike c.leaves (new-handle w (record { 0 = c.n }) (mode_of kind.0) (Owner.Load l) (low-whole whole)) in
-      got-ready reading.frames kind row k _ made c.next.above new refl small (all-ready (λ q x free own s. stands-alike c.leaves (with-one w (record { 0 = c.n }) (mode_of kind.0) (Owner.Load l) s)))
+      got-ready reading.frames kind row k _ made c.next.above new refl small
+      (all-ready (λ q x free own s. stands-alike c.leaves (with-one w (record { 0 = c.n }) (mode_of kind.0) (Owner.Load l) s)))
 
   -- what was read became a node: its references go, and what was got for the blobs below stays
-  node-ready : (frames : List Frame) (g : MakesNode v w Owner.Caller reading frames w') → LoadReady w' l load (with_got g.reads_node.top.kind g.row g.reads_node.below)
+  node-ready : (frames : List Frame) (g : MakesNode v w Owner.Caller reading frames w')
+      → LoadReady w' l load (with_got g.reads_node.top.kind g.row g.reads_node.below)
   node-ready frames g =
       let top = g.reads_node.top in let below = g.reads_node.below in let is = g.reads_node.frames in
       let c = g.adopted.adopts in let refs = v.references g.x in
@@ -128,15 +148,18 @@ module _ {N : Type 0} (v : Values N) (lawful : IsLawful v) (w w' : Core) (readin
       -- no reference names the handle that comes
       let new-free : is_named_by refs (w.last.handle + 1) ≡ false = not-named refs (w.last.handle + 1)
       (λ x named same. let lt = small_all top x (zero, refl) (was_got x named) in omega (arith, lt, same)) in
-      let by : (new : HandleRow) → Stands w'.last.handle w'.rows (w.last.handle + 1) new → new.owner ≡ Owner.Load l → Keeps (is_named_by refs) → LoadReady w' l load (with_got top.kind g.row below) =
+      let by : (new : HandleRow) → Stands w'.last.handle w'.rows (w.last.handle + 1) new → new.owner ≡ Owner.Load l → Keeps (is_named_by refs)
+      → LoadReady w' l load (with_got top.kind g.row below) =
       λ new s own keeps. got-ready below top.kind g.row g.k new g.made c.next.above s own (λ frame r (i, e) got. small_all frame r (suc i, e) got)
       (still-ready (is_named_by refs) keeps below caller-free
       (λ frame r among got. not-named refs r.handle.0 (λ x named same. now.once.1 x (was_got x named) frame r among got (sym same)))
       (λ frame r (i, e) got. now.live frame r (suc i, e) got) now.once.2) in
       elim c.makes [
-        | inl (n, usable, f) ↦ by _ (stands-fell f.falls (λ m e. cc) new-free (new-handle w (record { 0 = n }) (mode_of top.kind.0) (Owner.Load l) (low-whole whole))) refl
+        | inl (n, usable, f) ↦ by _ (stands-fell f.falls (λ m e. cc) new-free
+            (new-handle w (record { 0 = n }) (mode_of top.kind.0) (Owner.Load l) (low-whole whole))) refl
             (λ q x free no s. stands-fell f.falls no free (with-one w (record { 0 = n }) (mode_of top.kind.0) (Owner.Load l) s))
-        | inr (none, few, a) ↦ by _ (adopted-new w w' l top.kind top.key _ refs whole a) refl (λ q x free no s. adopted-keeps w w' l top.kind top.key _ refs a free s)
+        | inr (none, few, a) ↦ by _ (adopted-new w w' l top.kind top.key _ refs whole a) refl
+            (λ q x free no s. adopted-keeps w w' l top.kind top.key _ refs a free s)
       ]
 
   -- a blob was read
@@ -164,14 +187,17 @@ begin-turn n x1 x2 is = grind (arith, nat_tests)
 
 -- the load, if it is open and read, is ready
 abbrev Ready : {N E : Type 0} → MachineState N E → LoadNumber → Type 0
-Ready s l = (reading : Reading) (load : OpenLoad) → reading_at (world_of s) l ≡ Some reading → s.pager.core.loads l.0 ≡ Some load → LoadReady s.pager.core l load reading.frames
+Ready s l = (reading : Reading) (load : OpenLoad) → reading_at (world_of s) l ≡ Some reading → s.pager.core.loads l.0 ≡ Some load
+    → LoadReady s.pager.core l load reading.frames
 
 module _ {N B W E : Type 0} (m : Seen N B W) (s s' : MachineState N E) (whole : IsMachineWhole m.values s) (whole' : IsMachineWhole m.values s') where
-  by-call : (h : HandleNumber) (k l : LoadNumber) (key : ℕ) → BeginCall s.pager.core Owner.Caller h (Ok (Beginning.Load k key)) s'.pager.core → ReadingsAre s.work.readings (world_of s')
+  by-call : (h : HandleNumber) (k l : LoadNumber) (key : ℕ) → BeginCall s.pager.core Owner.Caller h (Ok (Beginning.Load k key)) s'.pager.core
+      → ReadingsAre s.work.readings (world_of s')
       → k.0 ≡ l.0 → Ready s' l
   by-call h k l key b are same = λ reading load at open_load.
       let g = b.begins in let row : HandleRow = g.0 in let next = g.2.2.above in let a = g.2.4.2 in
-      let there : s'.pager.core.loads l.0 ≡ Some (record { owner = Owner.Caller; key = key; root = of_cell row.node g.2.4.0 h }) = grind (arith, nat_tests, updated-at) in
+      let there : s'.pager.core.loads l.0 ≡ Some (record { owner = Owner.Caller; key = key; root = of_cell row.node g.2.4.0 h }) =
+      grind (arith, nat_tests, updated-at) in
       let is : record { owner = Owner.Caller; key = key; root = of_cell row.node g.2.4.0 h } ≡ load = same_some _ _ (sym there ∙ open_load) in
       let st = stands-alike a (with-one s.pager.core row.node Mode.LooseUnpinned (Owner.Load k) (stands-whole whole.pager.whole.handles h.0 row g.1.live)) in
       -- a load of a number that wasn't given yet isn't read
@@ -179,14 +205,20 @@ module _ {N B W E : Type 0} (m : Seen N B W) (s s' : MachineState N E) (whole : 
       let few = (whole.pager.whole.loads.numbered l.0 (ap is_some (whole.readings l.0 r e).open_load)).1 in absurd (omega (arith, same, next, few)) in
       let empty : reading.frames ≡ [] = grind (arith, nat_tests, unread) in
       rw empty (record {
-        begun = λ node t q root. let hs : h ≡ q = cc in record { row = row; live = subst (λ (x : HandleNumber). row_at s'.pager.core x ≡ Some row) hs st.live; own = g.1.own };
+        begun = λ node t q root. let hs : h ≡ q = cc in record {
+          row = row;
+          live = subst (λ (x : HandleNumber). row_at s'.pager.core x ≡ Some row) hs st.live;
+          own = g.1.own;
+        };
         live = λ frame r among got. absurd (let e = among.1 in cc);
         once = tt;
       })
 
-  begin-ready : (l : LoadNumber) (event : Event N B W) (reply : EventReply N B W) → IsBeginOf l.0 event reply → Happens m (world_of s) event reply (world_of s') → Ready s' l
+  begin-ready : (l : LoadNumber) (event : Event N B W) (reply : EventReply N B W) → IsBeginOf l.0 event reply → Happens m (world_of s) event reply (world_of s')
+      → Ready s' l
   begin-ready l (Event.LoadStart h) (EventReply.Started (Ok (Beginning.Load k key))) is x = by-call h k l key x.step x.readings is
-  begin-ready l (Event.Call (Call.LoadBegin h)) (EventReply.CallReply (Reply.Begun (Ok (Beginning.Load k key)))) is x = by-call h k l key x.step.does x.readings is
+  begin-ready l (Event.Call (Call.LoadBegin h)) (EventReply.CallReply (Reply.Begun (Ok (Beginning.Load k key)))) is x =
+      by-call h k l key x.step.does x.readings is
   begin-ready l event reply is x = grind (arith, nat_tests)
 
 -- a load's own step, where the chain goes on
@@ -204,7 +236,8 @@ module _ {N B W E : Type 0} (m : Seen N B W) (lawful : IsLawful m.values) (s s' 
   step-ready l reply (Some end) e x asks ready reading load at open_load = grind (arith, nat_tests, updated-at, reading-number s on.whole l x.reading x.at)
   step-ready l reply None e x asks ready reading load at open_load =
       let number = reading-number s on.whole l x.reading x.at in
-      let was : core.loads l.0 ≡ Some load = grind (arith, nat_tests) in let a = going-of s trees on.readings x.reading (reading-stands (world_of s) on.whole.pager.whole l x.reading x.at) in
+      let was : core.loads l.0 ≡ Some load = grind (arith, nat_tests) in let a =
+      going-of s trees on.readings x.reading (reading-stands (world_of s) on.whole.pager.whole l x.reading x.at) in
       let before = subst (λ k. LoadReady core k load x.reading.frames) (sym number) (ready x.reading load x.at was) in
       let go = subst (λ o. Does m.values core Owner.Caller x.reading o x.frames s'.pager.core) e x.does.does in
       let fits = a.fits load (reading-open s on.whole l x.reading x.at was) in
@@ -220,16 +253,25 @@ module _ {N B W E : Type 0} (m : Seen N B W) (lawful : IsLawful m.values) (s s' 
   unfolding is_in
   references-fine l reading load asks at open_load ready frame below x is decoded form =
       let a = going-of s trees on.readings reading (reading-stands (world_of s) on.whole.pager.whole l reading at) in
-      let fits = first-fits m.values.types load.key reading.node_type core.stored trees frame below (rw is at (a.fits load (reading-open s on.whole l reading at open_load))) in
+      let fits = first-fits m.values.types load.key reading.node_type core.stored trees frame below
+      (rw is at (a.fits load (reading-open s on.whole l reading at open_load))) in
       let front : Among reading.frames frame = subst (λ fs. Among fs frame) (sym is) (zero, refl) in
       let good-one : (r : ArcRef) → Among (m.values.references x) r → IsReference core (Owner.Load reading.load) r = λ r among.
       let got = (decodes lawful frame x ((asks reading at).types frame front) fits decoded).got r among in let b = ready.live frame r front got in
       let own : b.row.owner ≡ Owner.Load reading.load = b.own ∙ ap (λ (k : LoadNumber). Owner.Load k) (sym (reading-number s on.whole l reading at)) in
       let stood = (a.held frame r front got).is b.row b.live own in
       let live = subst (λ (n : NodeNumber). 0 < held n.0 core.rows) stood.0 (row-held core r.handle b.row b.live) in
-      record { row = b.row; live = b.live; at = stood.0; owned = own; fits = stood.1; typed = on.stands.pager.typed r.node.0 live ∙ ap (λ (n : ℕ). Some n) (got-typed frame fits r got) } in
+      record {
+        row = b.row;
+        live = b.live;
+        at = stood.0;
+        owned = own;
+        fits = stood.1;
+        typed = on.stands.pager.typed r.node.0 live ∙ ap (λ (n : ℕ). Some n) (got-typed frame fits r got);
+      } in
       fine core (Owner.Load reading.load) [] (m.values.references x) good-one (λ r among. refl) (λ q.
-      let few = reads-once m.values.types frame.node_type frame.blob form.refs frame.got form.form form.kinds (subst GotOnce is ready.once).0 decoded.own decoded.read q in
+      let few = reads-once m.values.types frame.node_type frame.blob form.refs frame.got form.form form.kinds (subst GotOnce is ready.once).0 decoded.own
+      decoded.read q in
       omega (arith, lawful.refers x decoded.own decoded.means (λ r. r.handle.0 == q), few))
 
   sound : (l : LoadNumber) (reply : LoadReply N) → LoadSteps m.values (world_of s) l reply (world_of s') → LoadAsked l → Ready s l
@@ -251,7 +293,8 @@ module _ {N B W E : Type 0} (m : Seen N B W) (lawful : IsLawful m.values) (s s' 
   load-step-ready l (EventReply.LoadMoved (Err e)) is asks ready reading load at open_load =
       let st = is.refused.1 in
       let was : core.loads l.0 ≡ Some load = sym (st.core.loads l.0) ∙ open_load in
-      let same : s'.work.readings l.0 ≡ s.work.readings l.0 = st.readings l.0 ∙ ap (λ (o : Option OpenLoad). if_there (λ (z : OpenLoad). s.work.readings l.0) None o) open_load in
+      let same : s'.work.readings l.0 ≡ s.work.readings l.0 = st.readings l.0
+      ∙ ap (λ (o : Option OpenLoad). if_there (λ (z : OpenLoad). s.work.readings l.0) None o) open_load in
       let here : reading_at (world_of s) l ≡ Some reading = rw (same, st.core.loads l.0) at at in
       let b = ready reading load here was in search (rules, has-alike, st.core, b.begun, b.live, b.once)
   load-step-ready l reply is asks ready reading load at open_load = absurd is

@@ -65,7 +65,8 @@ module _ {N E : Type 0} {v : Values N} {s : PagerState N E} (is : WellFormed v s
   sits n = at (s.values n) refl
     where
       at : (o : Option N) → s.values n ≡ o → At v s.core n o
-      at None e = λ h among own. let none = is.bare n e in let some = some-there (is_owned_by (owner_value n)) s.core.rows h among (owned-test n h.owner own) in absurd (omega (arith, none, some))
+      at None e = λ h among own. let none = is.bare n e in let some = some-there (is_owned_by (owner_value n)) s.core.rows h among (owned-test n h.owner own) in
+          absurd (omega (arith, none, some))
       at (Some x) e = record {
         typed = is.typed n x e;
         names = λ r among. let a = is.references n x r e among in record { is = a; stands = stands-whole is.whole.handles r.handle.0 a.row a.live };
@@ -77,7 +78,8 @@ module _ {N E : Type 0} {v : Values N} {s : PagerState N E} (is : WellFormed v s
       }
 
 -- and nothing else of values
-pub settled : {N E : Type 0} {v : Values N} (s : PagerState N E) → ((n : ℕ) → At v s.core n (s.values n)) → ((n : ℕ) → is_some (s.values n) ≡ holds_value s.core n)
+pub settled : {N E : Type 0} {v : Values N} (s : PagerState N E) → ((n : ℕ) → At v s.core n (s.values n))
+    → ((n : ℕ) → is_some (s.values n) ≡ holds_value s.core n)
     → ((n : ℕ) → s.counts n ≡ pins n s.core.rows) → IsWhole s.core → WellFormed v s
 settled {N} {v = v} s all valued counts whole = record {
   whole = whole;
@@ -186,16 +188,20 @@ pub unmoved : {w w' : Core} → Alike w w' → IsShut w → Rests w w'
 unmoved a shut = rests-then (spares-same refl (λ n. refl) refl) a shut
 
 -- the cache may learn a node
-pub rests-cached : {m w' : Core} (kind : Kind) (key : ℕ) (n : NodeNumber) (b : Bool) → Alike (if b then m else with_cached m kind key n) w' → m.closed ≡ b → IsShut m → Rests m w'
+pub rests-cached : {m w' : Core} (kind : Kind) (key : ℕ) (n : NodeNumber) (b : Bool) → Alike (if b then m else with_cached m kind key n) w' → m.closed ≡ b
+    → IsShut m → Rests m w'
 rests-cached kind key n x3 a e shut = grind (arith, nat_tests, unmoved, rests-then, spares-same)
 
-pub spared : {N E : Type 0} {v : Values N} {s s' : PagerState N E} → WellFormed v s → Rests s.core s'.core → ((n : ℕ) → s'.values n ≡ s.values n) → IsRight s' → WellFormed v s'
+pub spared : {N E : Type 0} {v : Values N} {s s' : PagerState N E} → WellFormed v s → Rests s.core s'.core → ((n : ℕ) → s'.values n ≡ s.values n) → IsRight s'
+    → WellFormed v s'
 spared {v = v} {s} {s'} is rests same right =
-    settled s' (λ n. subst (At v s'.core n) (sym (same n)) (sits-on v (rests.spares.owns n) (s.values n) (sits is n))) (λ n. ap is_some (same n) ∙ is.valued n ∙ sym (rests.spares.holds n))
+    settled s' (λ n. subst (At v s'.core n) (sym (same n)) (sits-on v (rests.spares.owns n) (s.values n) (sits is n)))
+    (λ n. ap is_some (same n) ∙ is.valued n ∙ sym (rests.spares.holds n))
     right.counted (right.whole rests.shut)
 
 pub stayed : {N E : Type 0} {v : Values N} {s s' : PagerState N E} → WellFormed v s → Rests s.core s'.core → Leaves s.values s' → WellFormed v s'
-stayed {N} {v = v} {s} {s'} is rests left = spared is rests (λ n. left.swept n ∙ (let e = is.valued n ∙ sym (rests.spares.holds n) in grind (arith, nat_tests))) left.right
+stayed {N} {v = v} {s} {s'} is rests left = spared is rests (λ n. left.swept n ∙ (let e = is.valued n ∙ sym (rests.spares.holds n) in grind (arith, nat_tests)))
+    left.right
 
 pub sum-mapped : {X : Type 0} (f : X → X) (g h : X → ℕ) (xs : List X) → ((x : X) → Among xs x → g (f x) ≡ h x) → sum_by g (map f xs) ≡ sum_by h xs
 sum-mapped f g h [] each = refl
@@ -214,7 +220,8 @@ module _ (w : Core) (node : NodeNumber) (mode : Mode) (me : Owner) (free : NotVa
   pub spares-handle : (is_pinning mode ≡ true → is_here w node.0 ≡ true) → Spares w (with_handle w node mode me)
   spares-handle may = record {
     owns = owns-handle;
-    holds = λ n. ap (λ p. is_some (w.cells n) && is_in_memory p (key_at w n)) (sum_by_push (λ h. one (is_pin n h)) w.rows (row_of (w.last.handle + 1) node mode me))
+    holds = λ n. ap (λ p. is_some (w.cells n) && is_in_memory p (key_at w n))
+        (sum_by_push (λ h. one (is_pin n h)) w.rows (row_of (w.last.handle + 1) node mode me))
         ∙ (let f = same-number node.0 n in grind (arith, nat_tests));
   }
 
@@ -224,7 +231,10 @@ module _ (w : Core) (test : HandleRow → Bool) (f : HandleRow → HandleRow) (n
   pub owns-changed : {list : List HandleNumber} → OwnsAlike n w (record w { rows = changed test f w.rows; list = list })
   owns-changed = record {
     typed = λ p t is. is;
-    spares = record { each = λ q row own s. effects.unchanged (owner_value n) test f numbers (false_from_ne_true (test row) (λ is. (free row (among-found q w.rows row s.live) is).0 own)) s };
+    spares = record {
+      each = λ q row own s. effects.unchanged (owner_value n) test f numbers
+          (false_from_ne_true (test row) (λ is. (free row (among-found q w.rows row s.live) is).0 own)) s;
+    };
     owned = λ h among own.
         let a = among-changed (λ x. if test x then f x else x) w.rows h among in
         let no = free a.0 a.1 in
@@ -236,7 +246,8 @@ pub moved-pins : (rows : List HandleRow) (set : ℕ → Bool) (owner : Owner) (n
 moved-pins rows set owner n = grind (arith, nat_tests, sum-mapped)
 
 -- handles that aren't values' move to another who is none
-pub spares-moved : (w : Core) (set : ℕ → Bool) (owner : Owner) {list : List HandleNumber} → NotValues owner → AreFree w set → Spares w (record w { rows = moved set owner w.rows; list = list })
+pub spares-moved : (w : Core) (set : ℕ → Bool) (owner : Owner) {list : List HandleNumber} → NotValues owner → AreFree w set
+    → Spares w (record w { rows = moved set owner w.rows; list = list })
 spares-moved w set owner free before = search (owns-changed, moved-pins)
 
 -- the one row of a handle that isn't a value's takes another mode
@@ -248,15 +259,18 @@ module _ (w : Core) (h : HandleNumber) (mode : Mode) (row : HandleRow) (stands :
   is-row x among is = stands.only x among (same-number _ _ is)
 
   pub mode-owns : NotValues row.owner → (n : ℕ) → OwnsAlike n w (with_mode w h mode)
-  mode-owns free n = owns-changed w (is_handle h.0) to (λ x. refl) n (λ x among is. let f = subst (λ (y : HandleRow). NotValues y.owner) (sym (is-row x among is)) free (record { 0 = n }) in (f, f))
+  mode-owns free n = owns-changed w (is_handle h.0) to (λ x. refl) n (λ x among is. let f = subst (λ (y : HandleRow). NotValues y.owner)
+      (sym (is-row x among is)) free (record { 0 = n }) in (f, f))
 
   pub mode-others : (n : ℕ) → (row.node.0 == n) ≡ false → pins n (with_mode w h mode).rows ≡ pins n w.rows
-  mode-others n other = sum-mapped (λ x. if is_handle h.0 x then to x else x) (λ x. one (is_pin n x)) (λ x. one (is_pin n x)) w.rows (λ x among. (let r = is-row x among in grind (arith, nat_tests)))
+  mode-others n other = sum-mapped (λ x. if is_handle h.0 x then to x else x) (λ x. one (is_pin n x)) (λ x. one (is_pin n x)) w.rows
+      (λ x among. (let r = is-row x among in grind (arith, nat_tests)))
 
   pub mode-here : is_pinning mode ≡ true → is_here (with_mode w h mode) row.node.0 ≡ true
   mode-here pinning =
       let number : is_handle h.0 row ≡ true = ap (λ n. n == h.0) (found-number h.0 w.rows row stands.live) ∙ self-number h.0 in
-      row-here (with_mode w h mode) h (to row) (found-after (is_handle h.0) to (λ x. refl) h.0 w.rows row stands.live ∙ ap (λ b. Some (if b then to row else row)) number) pinning
+      row-here (with_mode w h mode) h (to row) (found-after (is_handle h.0) to (λ x. refl) h.0 w.rows row stands.live
+      ∙ ap (λ b. Some (if b then to row else row)) number) pinning
 
   pub spares-mode : NotValues row.owner → is_pinning mode ≡ true → is_here w row.node.0 ≡ true → Spares w (with_mode w h mode)
   spares-mode free pinning here = record {
@@ -284,10 +298,12 @@ module _ {w : Core} (whole : IsWhole w) where
   begins-key x0 c = grind (arith, nat_tests, rests-then, spares-same, unmoved)
 
   pub rowed : (given : ℕ → Bool) → ((n : NodeNumber) → effects.Free (Owner.Value n) w given) → AreFree w given
-  rowed given free h among is n own = let no = (free n).each h.number.0 h own (stands-whole whole.handles h.number.0 h (found whole.handles h.number.0 h among refl)) in cc
+  rowed given free h among is n own = let no = (free n).each h.number.0 h own
+      (stands-whole whole.handles h.number.0 h (found whole.handles h.number.0 h among refl)) in cc
 
   -- handles whose rows pass a test that no value's passes
-  pub by-row : (test : HandleRow → Bool) → ((h : HandleRow) (n : NodeNumber) → h.owner ≡ Owner.Value n → test h ≡ false) → AreFree w (λ q. if_there test false (find_row q w.rows))
+  pub by-row : (test : HandleRow → Bool) → ((h : HandleRow) (n : NodeNumber) → h.owner ≡ Owner.Value n → test h ≡ false)
+      → AreFree w (λ q. if_there test false (find_row q w.rows))
   by-row test none = rowed _ (λ n. record { each = λ q row own s. ap (if_there test false) s.live ∙ none row n own })
 
   pub load-free : (l : LoadNumber) → AreFree w (is_owned_in w (Owner.Load l))
@@ -301,21 +317,26 @@ module _ {w : Core} (whole : IsWhole w) where
   listed-free i h at = rowed (only_handle h) (λ n. effects.listed-free (Owner.Value n) refl whole.owners_there i h at)
 
   listed-open : (i : ℕ) (h : HandleNumber) → slice_get w.list i ≡ Some h → w.closed ≡ true → ⊥
-  listed-open i h at closed = let some = slice_get_within w.list i h at in let none = ap (λ (hs : List HandleNumber). length hs) (whole.shut closed).0 in omega (arith, some, none)
+  listed-open i h at closed = let some = slice_get_within w.list i h at in let none =
+      ap (λ (hs : List HandleNumber). length hs) (whole.shut closed).0 in omega (arith, some, none)
 
   -- a worker comes for an entry, which moves to it
-  pub starts-listed : {w' : Core} (i : ℕ) (h : HandleNumber) (v : WorkerNumber) → slice_get w.list i ≡ Some h → Alike (with_worker (with_entry_taken w i h v)) w' → Rests w w'
+  pub starts-listed : {w' : Core} (i : ℕ) (h : HandleNumber) (v : WorkerNumber) → slice_get w.list i ≡ Some h
+      → Alike (with_worker (with_entry_taken w i h v)) w' → Rests w w'
   starts-listed i h v at a =
-      rests-then (spares-then {m = with_entry_taken w i h v} (spares-moved w (only_handle h) (Owner.Worker v) (λ n e. cc) (listed-free i h at)) (spares-same refl (λ n. refl) refl)) a
+      rests-then (spares-then {m = with_entry_taken w i h v} (spares-moved w (only_handle h) (Owner.Worker v) (λ n e. cc) (listed-free i h at))
+      (spares-same refl (λ n. refl) refl)) a
       (λ e. absurd (listed-open i h at e))
 
   module _ {me : Owner} (free : NotValues me) where
     pub clones : {w' : Core} {h : HandleNumber} (r : Result HandleNumber Error) → CloneCall w me h r w' → Rests w w'
-    clones {h = h} (Ok k) c = let row : HandleRow = c.made.0 in rests-then (spares-handle w row.node row.mode me free (row-here w h row c.made.1)) c.made.3 whole.shut
+    clones {h = h} (Ok k) c = let row : HandleRow = c.made.0 in rests-then (spares-handle w row.node row.mode me free (row-here w h row c.made.1)) c.made.3
+        whole.shut
     clones (Err e) c = unmoved c.refused.stays whole.shut
 
     -- a handle of the asker's in a mode that pins
-    pub turned : {fits : Mode → Bool} (h : HandleNumber) (row : HandleRow) → Owns w me h fits row → is_here w row.node.0 ≡ true → Spares w (with_mode w h Mode.LoosePinned)
+    pub turned : {fits : Mode → Bool} (h : HandleNumber) (row : HandleRow) → Owns w me h fits row → is_here w row.node.0 ≡ true
+        → Spares w (with_mode w h Mode.LoosePinned)
     turned h row owns here = spares-mode w h Mode.LoosePinned row (stands-whole whole.handles h.0 row owns.live) (subst NotValues (sym owns.own) free) refl here
 
     pub pins-it : {w' : Core} {h : HandleNumber} (r : Result Pinning Error) → PinCall w me h r w' → Rests w w'
@@ -353,6 +374,7 @@ module _ {w : Core} (whole : IsWhole w) where
   pub spares-known : {owner : Owner} (kind : Kind) (key n : ℕ) → NotValues owner → usable w kind.0 key ≡ Some n → Spares w (with_known w kind n owner)
   spares-known {owner} kind key n free known = spares-handle w (record { 0 = n }) (mode_of kind.0) owner free (known-here kind.0 key n known)
 
-  pub recalls : {w' : Core} {me : Owner} {kind : Kind} {key : ℕ} → NotValues me → (r : Result (Option HandleNumber) Error) → RecallCall w me kind key r w' → Rests w w'
+  pub recalls : {w' : Core} {me : Owner} {kind : Kind} {key : ℕ} → NotValues me → (r : Result (Option HandleNumber) Error) → RecallCall w me kind key r w'
+      → Rests w w'
   recalls {kind = kind} {key} free (Ok (Some k)) c = rests-then (spares-known kind key c.answers.0 free c.answers.1) c.answers.3 whole.shut
   recalls free x0 c = grind (arith, nat_tests, unmoved)

@@ -22,7 +22,13 @@ pub use Rattle.pagable_theorems.proofs.ValueRows.{spares-same, starts-listed, st
 
 times-left : (t : HandleRow → Bool) (gone : ℕ → Bool) (rows : List HandleRow) → times t (left_rows gone rows) ≡ times (λ h. t h && is_outside gone h) rows
 times-left t gone [] = refl
-times-left t gone (x ∷ xs) = grind (arith, nat_tests, sum_by-cons (λ h. one (t h)) x (left_rows gone xs), sum_by-cons (λ h. one (t h && is_outside gone h)) x xs, times-left t gone xs)
+times-left t gone (x ∷ xs) = grind (
+  arith,
+  nat_tests,
+  sum_by-cons (λ h. one (t h)) x (left_rows gone xs),
+  sum_by-cons (λ h. one (t h && is_outside gone h)) x xs,
+  times-left t gone xs,
+)
 
 listed : (last : ℕ) (entries : List HandleRow) → AreNewEntries last entries → (h : HandleRow) → Among entries h → h.owner ≡ Owner.List
 listed last (x ∷ xs) (number, mode, owner, new) h (suc i, is) = listed (last + 1) xs new h (i, is)
@@ -41,11 +47,13 @@ module _ {before w w' : Core} {given : ℕ → Bool} {r : _} (f : Falls before w
   loses : (n : ℕ) (cell : Cell) → w.cells n ≡ Some cell → loses_value w.rows (is_keyed w) f.entries f.gone n ≡ not (holds_value w' n)
   loses n cell live =
       let counts : (t : HandleRow → Bool) → times t w'.rows ≡ times (λ h. t h && is_outside f.gone h) w.rows + times t f.entries =
-      λ t. ap (times t) f.leaves.rows ∙ (sum_by-append (λ h. one (t h)) (left_rows f.gone w.rows) f.entries ∙ ap (λ k. k + times t f.entries) (times-left t f.gone w.rows)) in
+      λ t. ap (times t) f.leaves.rows ∙ (sum_by-append (λ h. one (t h)) (left_rows f.gone w.rows) f.entries
+      ∙ ap (λ k. k + times t f.entries) (times-left t f.gone w.rows)) in
       let h = counts (is_at n) in
       let p = counts (is_pin n) in
       let none = no-pins n w.last.handle f.entries f.new in
-      let fewer = sum-le (λ h. one (is_pin n h && is_outside f.gone h)) (λ h. one (is_at n h && is_outside f.gone h)) w.rows (λ h among. grind (arith, nat_tests)) in
+      let fewer = sum-le (λ h. one (is_pin n h && is_outside f.gone h)) (λ h. one (is_at n h && is_outside f.gone h)) w.rows
+      (λ h among. grind (arith, nat_tests)) in
       let cells : w'.cells n ≡ (if nat_lt 0 (held n w'.rows) then Some cell else None) = f.leaves.cells n ∙ rw (f.leaves.rows, live) refl in
       grind (arith, nat_tests)
 
@@ -65,8 +73,10 @@ module _ {before w w' : Core} {given : ℕ → Bool} {r : _} (f : Falls before w
   pub shut-fell : IsShut w → IsShut w'
   shut-fell shut closed =
       let e : w.closed ≡ true = sym f.leaves.closed ∙ closed in
-      let none : f.entries ≡ [] = no-entries f.entries (λ n some. let open_still = (f.only n some).0.stands_open in absurd (let x : true ≡ false = sym e ∙ open_still in cc)) in
-      let listed = ap (λ (qs : List HandleNumber). filter (λ (q : HandleNumber). not (f.gone q.0)) qs ++ map (λ (h : HandleRow). h.number) f.entries) (shut e).0 in
+      let none : f.entries ≡ [] = no-entries f.entries (λ n some. let open_still = (f.only n some).0.stands_open in
+      absurd (let x : true ≡ false = sym e ∙ open_still in cc)) in
+      let listed = ap (λ (qs : List HandleNumber). filter (λ (q : HandleNumber). not (f.gone q.0)) qs ++ map (λ (h : HandleRow). h.number) f.entries)
+      (shut e).0 in
       shut-alike {w = fallen w f.gone f.entries} f.leaves (λ c. (listed ∙ ap (map (λ (h : HandleRow). h.number)) none, (shut e).1)) closed
 
   module _ {N : Type 0} (v : Values N) (values : ℕ → Option N) (at : (n : ℕ) → At v w n (values n)) (free : AreFree w given) where
@@ -106,9 +116,20 @@ module _ {before w w' : Core} {given : ℕ → Bool} {r : _} (f : Falls before w
               names = λ r among.
                   let is = (a.names r among).is in
                   let s = stands-left f (kept n x e still r among) (a.names r among).stands in
-                  let c = typed-cell w r.node.0 _ is.typed in let some = subst (λ (k : _). 0 < held k w'.rows) (ap (λ k. k.0) is.at) (row-held w' r.handle is.row s.live) in
+                  let c = typed-cell w r.node.0 _ is.typed in let some =
+                  subst (λ (k : _). 0 < held k w'.rows) (ap (λ k. k.0) is.at) (row-held w' r.handle is.row s.live) in
                   let there : is_some (w'.cells r.node.0) ≡ true = grind (arith, nat_tests, held, nat_lt, left_rows, is_some) in
-                  record { is = record { row = is.row; live = s.live; at = is.at; owned = is.owned; fits = is.fits; typed = same-type r.node.0 there ∙ is.typed }; stands = s };
+                  record {
+                    is = record {
+                      row = is.row;
+                      live = s.live;
+                      at = is.at;
+                      owned = is.owned;
+                      fits = is.fits;
+                      typed = same-type r.node.0 there ∙ is.typed;
+                    };
+                    stands = s;
+                  };
               once = a.once;
               owned = λ h among own. a.owned h (was n h among own).0 own;
             }
@@ -122,8 +143,10 @@ module _ {before w w' : Core} {given : ℕ → Bool} {r : _} (f : Falls before w
         by None e false goes = λ h among own. subst (At v w n) e (at n) h (was n h among own).0 own
 
 -- Where values stand in the world between, and each node in memory there has one, a pager is in step after the cascade.
-pub fell-from : {N E : Type 0} {v : Values N} {m : Core} {values : ℕ → Option N} → ((n : ℕ) → At v m n (values n)) → ((n : ℕ) → holds_value m n ≡ true → is_some (values n) ≡ true)
-    → {before : Core} {given : ℕ → Bool} {r : _} (s' : PagerState N E) → Falls before m given r s'.core → IsShut m → AreFree m given → Leaves values s' → WellFormed v s'
+pub fell-from : {N E : Type 0} {v : Values N} {m : Core} {values : ℕ → Option N} → ((n : ℕ) → At v m n (values n))
+    → ((n : ℕ) → holds_value m n ≡ true → is_some (values n) ≡ true)
+    → {before : Core} {given : ℕ → Bool} {r : _} (s' : PagerState N E) → Falls before m given r s'.core → IsShut m → AreFree m given → Leaves values s'
+    → WellFormed v s'
 fell-from {N} {v = v} {m} {values} at there s' f shut free l = settled s' (λ n. subst (At v s'.core n) (sym (l.swept n)) (at-left f v values at free n))
     (λ n.
     let was : holds_value s'.core n ≡ true → holds_value m n ≡ true = λ is.
@@ -131,10 +154,12 @@ fell-from {N} {v = v} {m} {values} at there s' f shut free l = settled s' (λ n.
     ap is_some (l.swept n) ∙ (let t = there n in grind (arith, nat_tests))) l.right.counted (l.right.whole (shut-fell f shut))
 
 -- The handles go from a world where values stand as they stood, and none of them is a value's.
-pub fell : {N E : Type 0} {v : Values N} {s s' : PagerState N E} {before m : Core} {given : ℕ → Bool} {r : _} → WellFormed v s → Keeps s.core m → Falls before m given r s'.core → IsShut m
+pub fell : {N E : Type 0} {v : Values N} {s s' : PagerState N E} {before m : Core} {given : ℕ → Bool} {r : _} → WellFormed v s → Keeps s.core m
+    → Falls before m given r s'.core → IsShut m
     → AreFree s.core given → Leaves s.values s' → WellFormed v s'
 fell {v = v} {s} {s'} is k f shut free =
-    fell-from (λ n. sits-on v (k.owns n) (s.values n) (sits is n)) (λ n held. is.valued n ∙ k.held n held) s' f shut (λ h among given n own. free h ((k.owns n.0).owned h among own) given n own)
+    fell-from (λ n. sits-on v (k.owns n) (s.values n) (sits is n)) (λ n held. is.valued n ∙ k.held n held) s' f shut
+    (λ h among given n own. free h ((k.owns n.0).owned h among own) given n own)
 
 module _ {N E : Type 0} {v : Values N} {s s' : PagerState N E} (is : WellFormed v s) (left : Leaves s.values s') where
   stays : Alike s.core s'.core → WellFormed v s'
@@ -147,7 +172,8 @@ module _ {N E : Type 0} {v : Values N} {s s' : PagerState N E} (is : WellFormed 
   dropped {l = l} c = elim c.does [ inl refused ↦ stays refused.stays | inr (load, owned, f) ↦ load_closed l f ]
 
   -- what was read is dropped, since the cache gives a node
-  pub adopted_known : {me : Owner} {l : LoadNumber} {kind : Kind} {key t n : ℕ} {references : List ArcRef} {k : HandleNumber} → Adopts s.core me l kind key t references k s'.core
+  pub adopted_known : {me : Owner} {l : LoadNumber} {kind : Kind} {key t n : ℕ} {references : List ArcRef} {k : HandleNumber}
+      → Adopts s.core me l kind key t references k s'.core
       → usable s.core kind.0 key ≡ Some n → WellFormed v s'
   adopted_known {l = l} {kind} {key} {references = references} a known = elim a.makes [
     | inl (n, usable, f) ↦
@@ -158,7 +184,8 @@ module _ {N E : Type 0} {v : Values N} {s s' : PagerState N E} (is : WellFormed 
   ]
 
   pub closed : {r : Result (Unit {0}) Error} → CloseCall s.core r s'.core → WellFormed v s'
-  closed c = fell is (spares-keeps (spares-same refl (λ n. refl) refl)) c.falls.falls (λ e. (refl, λ kind key. refl)) (grind (arith, nat_tests, counted, listed-free)) left
+  closed c = fell is (spares-keeps (spares-same refl (λ n. refl) refl)) c.falls.falls (λ e. (refl, λ kind key. refl))
+      (grind (arith, nat_tests, counted, listed-free)) left
 
   -- a worker releases the node that it has walked
   pub worker_released : (u n : ℕ) → FallsAnyhow s.core s.core (is_workers_at s.core u n) s'.core → WellFormed v s'
@@ -167,12 +194,17 @@ module _ {N E : Type 0} {v : Values N} {s s' : PagerState N E} (is : WellFormed 
 
   pub worker_ended : (u : ℕ) → WorkerEnds s.core u s'.core → WellFormed v s'
   worker_ended u f =
-      let free = by-row is.whole (λ row. is_owner (owner_worker u) row.owner || is_load_of s.core u row.owner) (λ h m own. ap (λ o. is_owner (owner_worker u) o || is_load_of s.core u o) own) in
+      let free = by-row is.whole (λ row. is_owner (owner_worker u) row.owner || is_load_of s.core u row.owner)
+      (λ h m own. ap (λ o. is_owner (owner_worker u) o || is_load_of s.core u o) own) in
       fell is (spares-keeps (spares-same refl (λ n. refl) refl)) f.falls is.whole.shut free left
 
   module _ {me : Owner} (none : NotValues me) where
     pub released : {h : HandleNumber} {r : Result (Unit {0}) Error} → ReleaseCall s.core me h r s'.core → WellFormed v s'
-    released {h} c = elim c.does [ inl e ↦ stays e.stays | inr (row, own, f) ↦ fell is (spares-keeps (spares-same refl (λ n. refl) refl)) f is.whole.shut (own-free is.whole h row none own) left ]
+    released {h} c = elim c.does [
+      | inl e ↦ stays e.stays
+      | inr (row, own, f) ↦ fell is (spares-keeps (spares-same refl (λ n. refl) refl)) f is.whole.shut
+          (own-free is.whole h row none own) left
+    ]
 
     pub unpinned : {h : HandleNumber} {r : Result (Unit {0}) Error} → UnpinCall s.core me h r s'.core → WellFormed v s'
     unpinned {h} c = elim c.does [
@@ -182,7 +214,8 @@ module _ {N E : Type 0} {v : Values N} {s s' : PagerState N E} (is : WellFormed 
           let stood = stands-whole is.whole.handles h.0 row owns.live in
           let keeps : Keeps s.core (with_mode s.core h Mode.LooseUnpinned) = record {
             owns = mode-owns s.core h Mode.LooseUnpinned row stood (subst NotValues (sym owns.own) none);
-            held = λ n e. (let here = row-here s.core h row owns.live (ap is_pinning mode) in let other = mode-others s.core h Mode.LooseUnpinned row stood n in grind (arith, nat_tests, same-number));
+            held = λ n e. (let here = row-here s.core h row owns.live (ap is_pinning mode) in let other = mode-others s.core h Mode.LooseUnpinned row stood n in
+                grind (arith, nat_tests, same-number));
           } in
           fell is keeps f is.whole.shut (λ x among e. absurd (cc)) left
     ]
@@ -192,7 +225,10 @@ module _ {N E : Type 0} {v : Values N} {s s' : PagerState N E} (is : WellFormed 
       | inl refused ↦ stays refused.stays
       | inr (row, owns, inl (mode, told, a)) ↦ stays a
       | inr (row, owns, inr (loose, f)) ↦
-          let keeps : Keeps s.core (with_key s.core row.node key) = record { owns = λ n. owns-same refl refl (λ p t e. grind (arith, nat_tests)); held = λ n e. grind (arith, nat_tests) } in
+          let keeps : Keeps s.core (with_key s.core row.node key) = record {
+            owns = λ n. owns-same refl refl (λ p t e. grind (arith, nat_tests));
+            held = λ n e. grind (arith, nat_tests);
+          } in
           fell is keeps f is.whole.shut (λ x among e. absurd (cc)) left
     ]
 
@@ -205,8 +241,10 @@ module _ {N E : Type 0} {v : Values N} {s s' : PagerState N E} (is : WellFormed 
     ]
     scheduled (Err e) c = stays c.refused.stays
 
-    pub offered : {kind : Kind} {key : ℕ} {h : HandleNumber} (r : Result (Option HandleNumber) Error) → OfferCall s.core me kind key h r s'.core → WellFormed v s'
-    offered (Ok None) c = stayed is (rests-then (spares-same refl (λ n. refl) refl) c.answers.3.2 (λ e. absurd (let x : true ≡ false = sym e ∙ c.answers.3.0 in cc))) left
+    pub offered : {kind : Kind} {key : ℕ} {h : HandleNumber} (r : Result (Option HandleNumber) Error) → OfferCall s.core me kind key h r s'.core
+        → WellFormed v s'
+    offered (Ok None) c = stayed is (rests-then (spares-same refl (λ n. refl) refl) c.answers.3.2
+        (λ e. absurd (let x : true ≡ false = sym e ∙ c.answers.3.0 in cc))) left
     offered {kind} {key} {h} (Ok (Some k)) c = elim c.answers.3 [
       | inl (shut, same, a) ↦ stays a
       | inr (open_still, (n, usable, next, f)) ↦ fell is (spares-keeps (spares-known is.whole kind key n none usable)) f.falls is.whole.shut
@@ -226,7 +264,8 @@ module _ {N E : Type 0} {v : Values N} {s s' : PagerState N E} (is : WellFormed 
 -- ---- a value comes to a node that had none: the handles that it names move to it, and it owns each once
 
 -- references that nothing is to be said against name each handle once at most, and none that was seen
-named-once : (w : Core) (owner : Owner) (seen : List ℕ) (rs : List ArcRef) (q : ℕ) → references_fault w owner seen rs ≡ None → times (λ (r : ArcRef). r.handle.0 == q) rs ≤ one (not (is_in seen q))
+named-once : (w : Core) (owner : Owner) (seen : List ℕ) (rs : List ArcRef) (q : ℕ) → references_fault w owner seen rs ≡ None
+    → times (λ (r : ArcRef). r.handle.0 == q) rs ≤ one (not (is_in seen q))
 unfolding references_fault is_in
 named-once w owner seen [] q none = omega arith
 named-once w owner seen (r ∷ rs) q none =
@@ -245,11 +284,18 @@ pub record Receives {N : Type 0} (v : Values N) (w given : Core) (values : ℕ �
   pub named : (h : HandleRow) → Among given.rows h → h.owner ≡ owner_value p → is_named_by references h.number.0 ≡ true
   pub before : (n : ℕ) → (n == p) ≡ false → OwnsAlike n w given
 
-module _ {N E : Type 0} {v : Values N} {s : PagerState N E} (is : WellFormed v s) {me : Owner} (free : NotValues me) (references : List ArcRef) (fine : references_fault s.core me [] references ≡ None)
-    (p : ℕ) (cells : ℕ → Option Cell) (loads : ℕ → Option OpenLoad) (node : ℕ) (typed : (n t : ℕ) → type_at s.core n ≡ Some t → type_at (record s.core { cells = cells }) n ≡ Some t)
+module _ {N E : Type 0} {v : Values N} {s : PagerState N E} (is : WellFormed v s) {me : Owner} (free : NotValues me) (references : List ArcRef)
+    (fine : references_fault s.core me [] references ≡ None)
+    (p : ℕ) (cells : ℕ → Option Cell) (loads : ℕ → Option OpenLoad) (node : ℕ)
+    (typed : (n t : ℕ) → type_at s.core n ≡ Some t → type_at (record s.core { cells = cells }) n ≡ Some t)
     (no_value : s.values p ≡ None) where
   abbrev given : Core
-  given = record s.core { rows = moved (is_named_by references) (owner_value p) s.core.rows; cells = cells; loads = loads; last = record s.core.last { node = node } }
+  given = record s.core {
+    rows = moved (is_named_by references) (owner_value p) s.core.rows;
+    cells = cells;
+    loads = loads;
+    last = record s.core.last { node = node };
+  }
 
   abbrev named : HandleRow → Bool
   named h = is_named_by references h.number.0
@@ -259,12 +305,16 @@ module _ {N E : Type 0} {v : Values N} {s : PagerState N E} (is : WellFormed v s
 
   others : (n : ℕ) → (n == p) ≡ false → OwnsAlike n s.core given
   others n other =
-      let apart : owner_value p ≡ owner_value n → ⊥ = λ own. let same = same-value (owner_value p) refl own in let e = self-number p in grind (arith, nat_tests) in
-      let before = rowed is.whole (is_named_by references) (λ m. effects.named-free (Owner.Value m) s.core me references (free m) (good s.core me [] references fine)) in
-      owns-then (owns-changed s.core named given_row (λ h. refl) n (λ h among is. (before h among is (record { 0 = n }), apart)) {list = s.core.list}) (owns-same refl refl typed)
+      let apart : owner_value p ≡ owner_value n → ⊥ = λ own. let same = same-value (owner_value p) refl own in let e =
+      self-number p in grind (arith, nat_tests) in
+      let before = rowed is.whole (is_named_by references) (λ m. effects.named-free (Owner.Value m) s.core me references (free m)
+      (good s.core me [] references fine)) in
+      owns-then (owns-changed s.core named given_row (λ h. refl) n (λ h among is. (before h among is (record { 0 = n }), apart)) {list = s.core.list})
+      (owns-same refl refl typed)
 
   owned : (h : HandleRow) → Among given.rows h → h.owner ≡ owner_value p → named h ≡ true
-  owned h among own = let a = among-changed (λ x. if named x then given_row x else x) s.core.rows h among in let none = subst (At v s.core p) no_value (sits is p) a.0 a.1 in grind (arith, nat_tests)
+  owned h among own = let a = among-changed (λ x. if named x then given_row x else x) s.core.rows h among in let none =
+      subst (At v s.core p) no_value (sits is p) a.0 a.1 in grind (arith, nat_tests)
 
   new : (x : N) → v.references x ≡ references → type_at given p ≡ Some (v.node_type x) → Has v given p x
   unfolding is_in
@@ -272,10 +322,14 @@ module _ {N E : Type 0} {v : Values N} {s : PagerState N E} (is : WellFormed v s
     typed = its_type;
     names = λ r among.
         let a = good s.core me [] references fine r (subst (λ rs. Among rs r) same among) in
-        let hit : named a.row ≡ true = ap (is_named_by references) (found-number r.handle.0 s.core.rows a.row a.live) ∙ among-named references r (subst (λ rs. Among rs r) same among) in
+        let hit : named a.row ≡ true = ap (is_named_by references) (found-number r.handle.0 s.core.rows a.row a.live)
+        ∙ among-named references r (subst (λ rs. Among rs r) same among) in
         let kept = stands-changed named given_row (λ h. refl) (stands-whole is.whole.handles r.handle.0 a.row a.live) in
         let stands = subst (λ b. Stands s.core.last.handle given.rows r.handle.0 (if b then given_row a.row else a.row)) hit kept in
-        record { is = record { row = given_row a.row; live = stands.live; at = a.at; owned = refl; fits = a.fits; typed = typed _ _ a.typed }; stands = stands };
+        record {
+          is = record { row = given_row a.row; live = stands.live; at = a.at; owned = refl; fits = a.fits; typed = typed _ _ a.typed };
+          stands = stands;
+        };
     once = λ q. subst (λ (rs : List ArcRef). times (λ (r : ArcRef). r.handle.0 == q) rs ≤ 1) (sym same) (named-once s.core me [] references q fine);
     owned = λ h among own. named-among (v.references x) h.number.0 (ap (λ rs. is_named_by rs h.number.0) same ∙ owned h among own);
   }
@@ -292,7 +346,8 @@ module _ {N E : Type 0} {v : Values N} {s : PagerState N E} (is : WellFormed v s
     before = others;
   }
 
-module _ {N E : Type 0} {v : Values N} {s : PagerState N E} (s' : PagerState N E) (is : WellFormed v s) {me : Owner} (free : NotValues me) (t : ℕ) (own : OptionalDataKey)
+module _ {N E : Type 0} {v : Values N} {s : PagerState N E} (s' : PagerState N E) (is : WellFormed v s) {me : Owner} (free : NotValues me) (t : ℕ)
+    (own : OptionalDataKey)
     (references : List ArcRef) (mode : Mode) (fine : references_fault s.core me [] references ≡ None)
     (like : Rests (with_handle (with_node s.core t own references) (next_node s.core) mode me) s'.core) where
   abbrev next : ℕ
@@ -314,22 +369,28 @@ module _ {N E : Type 0} {v : Values N} {s : PagerState N E} (s' : PagerState N E
   receives-it = receives is free references fine next bearing.cells s.core.loads next (λ n u has. grind (arith, nat_tests, no-cell)) no-value
 
   pins-made : (n : ℕ) → pins n made.rows ≡ pins n s.core.rows + one ((next == n) && is_pinning mode)
-  pins-made n = sum_by_push (λ h. one (is_pin n h)) bearing.rows (row_of (s.core.last.handle + 1) (next_node s.core) mode me) ∙ ap (λ p. p + one ((next == n) && is_pinning mode)) (receives-it.pins n)
+  pins-made n = sum_by_push (λ h. one (is_pin n h)) bearing.rows (row_of (s.core.last.handle + 1) (next_node s.core) mode me)
+      ∙ ap (λ p. p + one ((next == n) && is_pinning mode)) (receives-it.pins n)
 
   new-cell : bearing.cells next ≡ Some (record { node_type = t; key = own })
   new-cell = ap (λ b. if b then Some (record { node_type = t; key = own }) else s.core.cells next) (self-number next)
 
-  comes : (o : Option N) → At v bearing next o → is_some o ≡ is_here made next → ((n : ℕ) → s'.values n ≡ (if n == next then o else s.values n)) → IsRight s' → WellFormed v s'
+  comes : (o : Option N) → At v bearing next o → is_some o ≡ is_here made next → ((n : ℕ) → s'.values n ≡ (if n == next then o else s.values n)) → IsRight s'
+      → WellFormed v s'
   comes o new here values right =
-      settled s' (λ n. subst (At v s'.core n) (sym (values n)) (sits-on v (owns-then (owns-handle bearing (next_node s.core) mode me free n) (like.spares.owns n)) _ (receives-it.all o new n)))
+      settled s' (λ n. subst (At v s'.core n) (sym (values n)) (sits-on v
+      (owns-then (owns-handle bearing (next_node s.core) mode me free n) (like.spares.owns n)) _ (receives-it.all o new n)))
       (λ n.
-      let valued : is_some (if n == next then o else s.values n) ≡ holds_value made n = let v = is.valued n in let h = new-cell in let p = pins-made n in grind (arith, nat_tests, same-number) in
+      let valued : is_some (if n == next then o else s.values n) ≡ holds_value made n = let v = is.valued n in let h = new-cell in let p =
+      pins-made n in grind (arith, nat_tests, same-number) in
       ap is_some (values n) ∙ (valued ∙ sym (like.spares.holds n))) right.counted (right.whole like.shut)
 
-  comes-with : (x : N) → v.node_type x ≡ t → v.references x ≡ references → is_pinning mode ≡ true → ((n : ℕ) → s'.values n ≡ (if n == next then Some x else s.values n)) → IsRight s' → WellFormed v s'
+  comes-with : (x : N) → v.node_type x ≡ t → v.references x ≡ references → is_pinning mode ≡ true
+      → ((n : ℕ) → s'.values n ≡ (if n == next then Some x else s.values n)) → IsRight s' → WellFormed v s'
   comes-with x is_typed named pinning = grind (arith, nat_tests, comes, receives-it, new-cell, pinned-here, pins-made, self-number)
 
-  comes-away : (key : ℕ) → own ≡ OptionalDataKey.Some key → references ≡ [] → is_pinning mode ≡ false → ((n : ℕ) → s'.values n ≡ s.values n) → IsRight s' → WellFormed v s'
+  comes-away : (key : ℕ) → own ≡ OptionalDataKey.Some key → references ≡ [] → is_pinning mode ≡ false → ((n : ℕ) → s'.values n ≡ s.values n) → IsRight s'
+      → WellFormed v s'
   unfolding is_named_by
   comes-away key keyed nothing unpinned same =
       let no-pins : pins next s.core.rows ≡ 0 = grind (arith, nat_tests, sum-le, one-less, no-cell) in
@@ -338,12 +399,15 @@ module _ {N E : Type 0} {v : Values N} {s : PagerState N E} (s' : PagerState N E
       (λ n. let a = same n in grind (arith, nat_tests, no-value))
 
 module _ {N E : Type 0} {v : Values N} {s s' : PagerState N E} (is : WellFormed v s) where
-  pub born : {me : Owner} {x : N} {mode : Mode} {k : HandleNumber} → NotValues me → is_pinning mode ≡ true → BirthCall s.core me x (v.node_type x) (v.references x) mode (Ok k) s'.core
+  pub born : {me : Owner} {x : N} {mode : Mode} {k : HandleNumber} → NotValues me → is_pinning mode ≡ true
+      → BirthCall s.core me x (v.node_type x) (v.references x) mode (Ok k) s'.core
       → ((n : ℕ) → s'.values n ≡ (if n == s.core.last.node + 1 then Some x else s.values n)) → IsRight s' → WellFormed v s'
-  born {x = x} {mode} free pinning b = comes-with s' is free (v.node_type x) OptionalDataKey.None (v.references x) mode b.made.0 (unmoved b.made.3 is.whole.shut) x refl refl pinning
+  born {x = x} {mode} free pinning b = comes-with s' is free (v.node_type x) OptionalDataKey.None (v.references x) mode b.made.0
+      (unmoved b.made.3 is.whole.shut) x refl refl pinning
 
   -- what a load read becomes a node, where the cache gives none
-  pub adopts-new : {me : Owner} {l : LoadNumber} {kind : Kind} {key : ℕ} {x : N} {k : HandleNumber} → Adopts s.core me l kind key (v.node_type x) (v.references x) k s'.core
+  pub adopts-new : {me : Owner} {l : LoadNumber} {kind : Kind} {key : ℕ} {x : N} {k : HandleNumber}
+      → Adopts s.core me l kind key (v.node_type x) (v.references x) k s'.core
       → usable s.core kind.0 key ≡ None → ((n : ℕ) → s'.values n ≡ (if n == s.core.last.node + 1 then Some x else s.values n)) → IsRight s' → WellFormed v s'
   adopts-new {l = l} {kind} {key} {x} a unknown = elim a.makes [
     | inl (n, known, f) ↦ absurd (let e : None ≡ Some n = sym unknown ∙ known in cc)
@@ -354,7 +418,8 @@ module _ {N E : Type 0} {v : Values N} {s s' : PagerState N E} (is : WellFormed 
   pub born-away : {me : Owner} {t key : ℕ} (r : Result HandleNumber Error) → NotValues me → AwayBirthCall s.core me t key r s'.core
       → ((n : ℕ) → s'.values n ≡ s.values n) → IsRight s' → WellFormed v s'
   unfolding references_fault
-  born-away {me} {t} {key} (Ok k) free b = comes-away s' is free t (OptionalDataKey.Some key) [] Mode.LooseUnpinned refl (unmoved b.made.2 is.whole.shut) key refl refl refl
+  born-away {me} {t} {key} (Ok k) free b = comes-away s' is free t (OptionalDataKey.Some key) [] Mode.LooseUnpinned refl
+      (unmoved b.made.2 is.whole.shut) key refl refl refl
   born-away (Err e) free b = spared is (unmoved b.refused.stays is.whole.shut)
 
   pub lazily : {me : Owner} {l : LoadNumber} {kind : Kind} {key : ℕ} (r : Result HandleNumber Error) → LazyCall s.core me l kind key r s'.core
@@ -381,8 +446,10 @@ module _ {N E : Type 0} {v : Values N} {s : PagerState N E} (is : WellFormed v s
   there-keeps : is_here s.core node.0 ≡ true → Keeps s.core (with_pin (without_load s.core l) h node me)
   there-keeps there =
       let first = turned is.whole free.0 h row own (subst (λ (m : NodeNumber). is_here s.core m.0 ≡ true) (sym at_node) there) in
-      let here = subst (λ (m : NodeNumber). is_here (with_mode s.core h Mode.LoosePinned) m.0 ≡ true) at_node (mode-here s.core h Mode.LoosePinned row stands refl) in
-      spares-keeps (spares-then first (spares-then (spares-handle (with_mode s.core h Mode.LoosePinned) node Mode.Pinned me free.0 (λ e. here)) (spares-same refl (λ n. refl) refl)))
+      let here = subst (λ (m : NodeNumber). is_here (with_mode s.core h Mode.LoosePinned) m.0 ≡ true) at_node
+      (mode-here s.core h Mode.LoosePinned row stands refl) in
+      spares-keeps (spares-then first (spares-then (spares-handle (with_mode s.core h Mode.LoosePinned) node Mode.Pinned me free.0 (λ e. here))
+      (spares-same refl (λ n. refl) refl)))
 
   module _ (away : is_here s.core node.0 ≡ false) where
     -- the load is closed, and what the value names is its own
@@ -400,10 +467,12 @@ module _ {N E : Type 0} {v : Values N} {s : PagerState N E} (is : WellFormed v s
         effects.moved-free me (is_named_by (v.references x)) (owner_value node.0) unnamed stands
 
     after : (n : ℕ) → OwnsAlike n closed-given (with_pin closed-given h node me)
-    after n = owns-then (mode-owns closed-given h Mode.LoosePinned row stands-still (subst NotValues (sym own.own) free.0) n) (owns-handle _ node Mode.Pinned me free.0 n)
+    after n = owns-then (mode-owns closed-given h Mode.LoosePinned row stands-still (subst NotValues (sym own.own) free.0) n)
+        (owns-handle _ node Mode.Pinned me free.0 n)
 
     takes-it : Receives v s.core closed-given s.values (v.references x) node.0
-    takes-it = receives is (not-load l) (v.references x) may.good node.0 s.core.cells closed-given.loads s.core.last.node (λ n t e. e) (grind (arith, nat_tests))
+    takes-it = receives is (not-load l) (v.references x) may.good node.0 s.core.cells closed-given.loads s.core.last.node (λ n t e. e)
+        (grind (arith, nat_tests))
 
     sits-all : (n : ℕ) → At v (with_pin closed-given h node me) n (values n)
     sits-all n = sits-on v (after n) (values n) (takes-it.all (Some x) (takes-it.value x refl (grind (arith, nat_tests, row-held))) n)
@@ -427,12 +496,14 @@ module _ {N E : Type 0} {v : Values N} {s : PagerState N E} (is : WellFormed v s
           | inl e ↦ let named = takes-it.named q before (mine ∙ ap owner_value (same-number n.0 node.0 e)) in cc
           | inr e ↦
               let row_found = found is.whole.handles q.number.0 q ((takes-it.before n.0 e).owned q before mine) refl in
-              let other : is_owned_in s.core (Owner.Load l) q.number.0 ≡ is_owner (Owner.Load l) q.owner = ap (if_there (is_owned_by (Owner.Load l)) false) row_found in
+              let other : is_owned_in s.core (Owner.Load l) q.number.0 ≡ is_owner (Owner.Load l) q.owner =
+              ap (if_there (is_owned_by (Owner.Load l)) false) row_found in
               let f = ap (is_owner (Owner.Load l)) mine in
               cc
         ]
 
-module _ {N E : Type 0} {v : Values N} {s s' : PagerState N E} (is : WellFormed v s) {me : Owner} {l : LoadNumber} {node : NodeNumber} {h k : HandleNumber} {x : N}
+module _ {N E : Type 0} {v : Values N} {s s' : PagerState N E} (is : WellFormed v s) {me : Owner} {l : LoadNumber} {node : NodeNumber} {h k : HandleNumber}
+    {x : N}
     (may : MayEnd s.core me l node h (v.node_type x) (v.references x)) (i : Installs s.core me l node h k (v.references x) s'.core) where
   pub installed_there : is_here s.core node.0 ≡ true → Leaves s.values s' → WellFormed v s'
   installed_there there left = elim i.falls [

@@ -74,7 +74,8 @@ lists_none before w gone n = nat_lt 0 (pins n before.rows) && (nat_eq (pins n (f
 abbrev pub takes_more : Core → (ℕ → Bool) → ℕ → Bool
 takes_more w given n = loses_value w.rows (is_keyed w) [] given n && nat_lt 0 (owned_outside w.rows given n)
 
-pub falls-so : (before w : Core) (given gone : ℕ → Bool) → IsLow before → nat_le w.last.handle 9 ≡ true → agree_below (lists_none before w gone) (λ n. false) 4 ≡ true
+pub falls-so : (before w : Core) (given gone : ℕ → Bool) → IsLow before → nat_le w.last.handle 9 ≡ true → agree_below (lists_none before w gone) (λ n. false) 4
+    ≡ true
     → IsLeast w.rows (is_keyed w) [] given gone → Falls before w given (Ok tt) (fallen w gone [])
 falls-so before w given gone low few none least =
     let no-must : (n : ℕ) → MustList before w (fallen w gone []) n → ⊥ = λ n must.
@@ -86,7 +87,8 @@ falls-so before w given gone low few none least =
 -- the given handles fall alone, if no value that goes owns another
 abbrev pub AreAlone : Core → Core → (ℕ → Bool) → Type 0
 AreAlone before w given =
-    IsLow before × IsLow w × (nat_le w.last.handle 9 ≡ true) × (agree_below (lists_none before w given) (λ n. false) 4 ≡ true) × (agree_below (takes_more w given) (λ n. false) 4 ≡ true)
+    IsLow before × IsLow w × (nat_le w.last.handle 9 ≡ true) × (agree_below (lists_none before w given) (λ n. false) 4 ≡ true)
+    × (agree_below (takes_more w given) (λ n. false) 4 ≡ true)
 
 pub falls-alone : (before w : Core) (given : ℕ → Bool) → AreAlone before w given → Falls before w given (Ok tt) (fallen w given [])
 falls-alone before w given (low_before, low, few, none, ok) = falls-so before w given given low_before few none (record {
@@ -112,7 +114,8 @@ Rises low (h ∷ hs) = (nat_lt low h.number.0 ≡ true) × Rises h.number.0 hs
 
 ordered : (low : ℕ) (rows : List HandleRow) → Rises low rows → AllPairs IsHandleBefore rows × All (λ (h : HandleRow). low < h.number.0) rows
 ordered low [] ok = (λ i j d lt within. absurd (omega arith), λ j d within. absurd (omega arith))
-ordered low (h ∷ hs) (first, more) = let rest = ordered h.number.0 hs more in (AllPairs-cons IsHandleBefore h hs rest.1 rest.0, let others = rest.1 in λ i d within. grind (arith, nat_tests))
+ordered low (h ∷ hs) (first, more) = let rest = ordered h.number.0 hs more in
+    (AllPairs-cons IsHandleBefore h hs rest.1 rest.0, let others = rest.1 in λ i d within. grind (arith, nat_tests))
 
 -- a handle's number was given, and its owner is there
 abbrev pub OwnerThere : Core → Owner → Type 0
@@ -124,7 +127,8 @@ abbrev pub RowThere : Core → HandleRow → Type 0
 RowThere w h = (nat_lt 0 h.number.0 ≡ true) × (nat_le h.number.0 w.last.handle ≡ true) × OwnerThere w h.owner
 
 abbrev pub RootFits : Core → Root → Type 0
-RootFits w (of_cell node t h) = IfSome (type_at w node.0) (λ u. u ≡ t) × IfSome (row_at w h) (λ (row : HandleRow). (row.node ≡ node) × (is_loose row.mode ≡ true))
+RootFits w (of_cell node t h) = IfSome (type_at w node.0) (λ u. u ≡ t) × IfSome (row_at w h)
+    (λ (row : HandleRow). (row.node ≡ node) × (is_loose row.mode ≡ true))
     × (nat_le h.0 w.last.handle ≡ true) × (nat_le node.0 w.last.node ≡ true)
 RootFits w of_key = Unit {0}
 
@@ -226,7 +230,8 @@ module _ (w : Core) (vs : List (Option Sample)) (few : Few w) (p : Passes w vs) 
             places = (grind (arith, nat_tests), let e : length w.list ≡ 0 = ap length p.stands.list in omega arith);
           };
           owners_there = record {
-            listed = λ q. subst (λ hs. times (λ h. h.0 == q) hs ≡ times (λ h. is_handle q h && is_owned_by Owner.List h) w.rows) (sym p.stands.list) (sym (grind (arith, nat_tests, none-pass, low)));
+            listed = λ q. subst (λ hs. times (λ h. h.0 == q) hs ≡ times (λ h. is_handle q h && is_owned_by Owner.List h) w.rows) (sym p.stands.list)
+                (sym (grind (arith, nat_tests, none-pass, low)));
             waiting = λ h among is. absurd (subst (λ o. OwnerLow o) is (low h among).2);
             loads = λ h l among is. subst (λ o. OwnerThere w o) is (row h among).2;
             workers = λ h v among is. subst (λ o. OwnerThere w o) is (row h among).2;
@@ -270,13 +275,15 @@ HasKind (Some r) = r.kind.0 ≡ 4
 
 abbrev Asks : Core → Shelf → List Todo → Type 0
 Asks w s (to_start r place ∷ below) = (nat_le place 0 ≡ true) × (claim_fault w r ≡ None) × (s.slots (identity_of r) ≡ None)
-Asks w s (to_pin r place ∷ below) = (row_at w r.handle ≡ Some (row_of r.handle.0 r.node Mode.LoosePinned (if_there (λ (row : HandleRow). row.owner) Owner.Caller (row_at w r.handle))))
+Asks w s (to_pin r place ∷ below) = (row_at w r.handle ≡ Some (row_of r.handle.0 r.node Mode.LoosePinned
+    (if_there (λ (row : HandleRow). row.owner) Owner.Caller (row_at w r.handle))))
     × (row_at (two.cloned w r.node) (two.handle (w.last.handle + 1)) ≡ Some (row_of (w.last.handle + 1) r.node Mode.LoosePinned (owner_worker 1)))
     × (is_here (two.cloned w r.node) r.node.0 ≡ true)
     × (nat_le w.last.handle 6 ≡ true)
 Asks w s (to_write r place through ∷ below) = (value_at two.two_values r.node.0 ≡ Some (two.value_of r.node)) × HasKind (two.value_of r.node)
 Asks w s (to_finish o ∷ below) = CanStore w o.written o.keys
-Asks w s (to_set r through key height ∷ below) = (is_loose_kind r.kind.0 ≡ true) × (row_at w through ≡ Some (row_of through.0 r.node Mode.LoosePinned (owner_worker 1))) × AreAlone w (with_key w r.node key) nobody
+Asks w s (to_set r through key height ∷ below) = (is_loose_kind r.kind.0 ≡ true)
+    × (row_at w through ≡ Some (row_of through.0 r.node Mode.LoosePinned (owner_worker 1))) × AreAlone w (with_key w r.node key) nobody
 Asks w s (to_publish r key height ∷ below) = Unit {0}
 Asks w s (to_release r key height ∷ below) = AreAlone w w (is_workers_at w 1 r.node.0)
 Asks w s (to_item written keys ∷ below) = CanStore w written keys
@@ -289,7 +296,8 @@ does-so w s (to_pin r place ∷ below) (live, clone_live, here, few) =
     let next : IsNext (two.handle (w.last.handle + 1)) w = record { above = refl; is_left = omega arith } in
     let cloned : CloneCall w (owner_worker 1) r.handle (Ok (two.handle (w.last.handle + 1))) (two.cloned w r.node) = search (live, next, alike-self) in
     grind (arith, nat_tests, cloned, alike-self, same-shelf)
-does-so w s (to_set r through key height ∷ below) (loose, live, alone) = let f = falls-alone w (with_key w r.node key) nobody alone in grind (arith, nat_tests, f, same-shelf)
+does-so w s (to_set r through key height ∷ below) (loose, live, alone) = let f =
+    falls-alone w (with_key w r.node key) nobody alone in grind (arith, nat_tests, f, same-shelf)
 does-so w s (to_release r key height ∷ below) alone = search (same-shelf, falls-alone w w (is_workers_at w 1 r.node.0) alone)
 does-so w s todo ok = grind (arith, nat_tests, alike-self, same-shelf)
 
@@ -297,8 +305,14 @@ does-so w s todo ok = grind (arith, nat_tests, alike-self, same-shelf)
 few-next : (w : Core) (s : Shelf) (todo : List Todo) (answer : Option WorkerAnswer) → Few w → let a = two.next_step w s todo in Few (two.ended answer a.1)
 few-next w s x2 x3 few = grind (arith, nat_tests, updated-past)
 
-writes-so : (w : Core) (s : Shelf) (work : _) (todo : List Todo) → Asks w s todo → let a = two.next_step w s todo in TookWrites two.sample (λ w. w) (two.machine w two.two_values work).pager a.0
-writes-so w s work (to_write r place through ∷ below) (held, kind) = record { x = two.value_of r.node; held = held; form = form-of (two.value_of r.node) kind; listed = refl }
+writes-so : (w : Core) (s : Shelf) (work : _) (todo : List Todo) → Asks w s todo → let a =
+    two.next_step w s todo in TookWrites two.sample (λ w. w) (two.machine w two.two_values work).pager a.0
+writes-so w s work (to_write r place through ∷ below) (held, kind) = record {
+  x = two.value_of r.node;
+  held = held;
+  form = form-of (two.value_of r.node) kind;
+  listed = refl;
+}
   where
     form-of : (x : two.Sample) → HasKind x → HasForm two.sample x (two.sample_written x)
     form-of None ok = record { shape = _; own = _; is = refl; means = refl; form = nothing-form _ }
@@ -317,7 +331,8 @@ unfoldable pub AllAsk : ℕ → two.Working → Type 0
 AllAsk zero x = Unit {0}
 AllAsk (suc n) x =
     let a = two.next_step x.core x.shelf x.todo in let y = two.next x in
-    (x.answer ≡ None) × Asks x.core x.shelf x.todo × (y.steps ≡ steps_after x.steps (is_counted x.todo a.0)) × EndsSo y.answer a.1 × Passes y.core two.two_values
+    (x.answer ≡ None) × Asks x.core x.shelf x.todo × (y.steps ≡ steps_after x.steps (is_counted x.todo a.0)) × EndsSo y.answer a.1
+    × Passes y.core two.two_values
     × (y.core.workers 1 ≡ is_none y.answer) × AllAsk n y
 
 pub none-there : {X Y : Type 0} (found : Option Y) (x : Option X) → x ≡ None → x ≡ if_there (λ (y : Y). x) None found
@@ -327,20 +342,37 @@ pub again : {X : Type 0} (n : ℕ) (x y : X) (f : ℕ → X) (q : ℕ) → updat
 again n x y f q = grind (arith, nat_tests)
 
 -- what happens, what values come, and that the machine is good afterwards
-does : (s : MachineState two.Sample (Unit {0})) (event : Event two.Sample Blob Written) (reply : EventReply two.Sample Blob Written) (w : Core) (vs : List (Option two.Sample)) (shelf : Shelf)
-    (walking : Option Walking) (reading : Option Reading) → let s' = two.machine w vs (two.work_of shelf walking reading) in Happens two.sample_seen (world_of s) event reply (world_of s')
-    → ((n : ℕ) (x : two.Sample) → value_at vs n ≡ Some x → (s.pager.values n ≡ Some x) ⊎ ((s.pager.values n ≡ None) × EventBrings two.sample (world_of s) event n x))
-    → ReplyWrites two.sample_seen s.pager reply → Good w vs → FitsWalking w walking → IfSome reading (λ r. IsReadingWhole w r.load.0 r) → Does two.sample_seen s event reply s'
+does : (s : MachineState two.Sample (Unit {0})) (event : Event two.Sample Blob Written) (reply : EventReply two.Sample Blob Written) (w : Core)
+    (vs : List (Option two.Sample)) (shelf : Shelf)
+    (walking : Option Walking) (reading : Option Reading) → let s' = two.machine w vs (two.work_of shelf walking reading) in
+    Happens two.sample_seen (world_of s) event reply (world_of s')
+    → ((n : ℕ) (x : two.Sample) → value_at vs n ≡ Some x → (s.pager.values n ≡ Some x)
+    ⊎ ((s.pager.values n ≡ None) × EventBrings two.sample (world_of s) event n x))
+    → ReplyWrites two.sample_seen s.pager reply → Good w vs → FitsWalking w walking → IfSome reading (λ r. IsReadingWhole w r.load.0 r)
+    → Does two.sample_seen s event reply s'
 does s event reply w vs shelf walking reading happens come writes (few, p) walks reads =
     let whole : IsMachineWhole two.sample (two.machine w vs (two.work_of shelf walking reading)) =
     record { pager = whole-so w vs few p; readings = grind (arith, nat_tests); walkings = grind (arith, nat_tests); all_there = grind (arith, nat_tests) } in
     let holds : Moves (λ n x. EventHolds two.sample s.pager event x) s.pager (two.machine w vs (two.work_of shelf walking reading)).pager =
-    record { each = λ n x is. elim (come n x is) [ inl was ↦ inl was | inr (none, came) ↦ inr (none, loose-holds s.pager event x (loose-at vs n x p.stands.loose is)) ]; environment = refl } in
+    record {
+      each = λ n x is. elim (come n x is) [
+        | inl was ↦ inl was
+        | inr (none, came) ↦
+            inr (none, loose-holds s.pager event x (loose-at vs n x p.stands.loose is))
+      ];
+      environment = refl;
+    } in
     search (whole, holds)
 
-asked : (s : MachineState two.Sample (Unit {0})) (x : two.Happening) → KeepsOpen x.event → ((trees : ℕ → Tree) → IsWellAsked two.sample s trees x.event x.reply) → (trees : ℕ → Tree)
+asked : (s : MachineState two.Sample (Unit {0})) (x : two.Happening) → KeepsOpen x.event → ((trees : ℕ → Tree) → IsWellAsked two.sample s trees x.event x.reply)
+    → (trees : ℕ → Tree)
     → IsPremised two.sample s trees x.event x.reply x.after
-asked s x open_still well trees = record { settled = λ n x is a b own other. other ∙ sym own; reads_settled = λ x is a b own other. other ∙ sym own; stays_open = open_still; well = well trees }
+asked s x open_still well trees = record {
+  settled = λ n x is a b own other. other ∙ sym own;
+  reads_settled = λ x is a b own other. other ∙ sym own;
+  stays_open = open_still;
+  well = well trees;
+}
 
 -- each type of the sample is read back
 reads-types : (n : ℕ) → IsReadableType two.sample_types n
@@ -352,7 +384,8 @@ infixr 3 ◌⨾◌
 ◌⨾◌ : {A B : Type 0} → A → B → A × B
 a ⨾ b = (a, b)
 
-pages : (n : ℕ) (x : two.Working) (xs : List two.Happening) → Few x.core → AllAsk n x → AreMoments two.sample_seen (two.at_work (two.walked n x)) xs × ArePremised (two.at_work (two.walked n x)) xs
+pages : (n : ℕ) (x : two.Working) (xs : List two.Happening) → Few x.core → AllAsk n x → AreMoments two.sample_seen (two.at_work (two.walked n x)) xs
+    × ArePremised (two.at_work (two.walked n x)) xs
     → AreMoments two.sample_seen (two.at_work x) (two.page_out n x ++ xs) × ArePremised (two.at_work x) (two.page_out n x ++ xs)
 unfolding two.page_out two.walked AllAsk
 pages zero x xs few ok rest = rest
@@ -360,7 +393,8 @@ pages (suc n) x xs few (works, asks, counts, ends, passes, at_work, ok) rest =
     let a = two.next_step x.core x.shelf x.todo in let y = two.next x in let few_then = few-next x.core x.shelf x.todo y.answer few in
     let (moments, premised) = pages n y xs few_then ok rest in (
       does _ _ _ y.core two.two_values y.shelf (Some (two.walking y)) None
-          (let d = does-so x.core x.shelf x.todo asks in let e = ends-so _ _ ends in search (arith, d, e, works, counts, none-there, again, same-shelf)) (λ n x is. inl is)
+          (let d = does-so x.core x.shelf x.todo asks in let e = ends-so _ _ ends in search (arith, d, e, works, counts, none-there, again, same-shelf))
+          (λ n x is. inl is)
           (writes-so x.core x.shelf (two.work_of x.shelf (Some (two.walking x)) None) x.todo asks) (few_then, passes) (refl, at_work) tt ⨾ moments,
       asked _ _ tt (λ trees w is. subst (λ (w : Walking). TodoAsksWell two.sample (two.at_work x).pager w.todo) (same_some _ _ is)
           (grind (arith, nat_tests, reads-types))) ⨾ premised,
@@ -374,7 +408,8 @@ pub births-good : Good two.new_core [] × Good two.child_born (None ∷ Some Non
 unfolding is_named_by find_row references_fault is_in
 births-good = (search (arith, none-cached), search (arith, none-cached), search (arith, none-cached), search (arith, none-cached))
 
-loads-good : Good two.evicted [] × Good two.loading [] × Good two.child_got [] × Good two.loaded two.last_values × Good two.key_loading two.last_values × Good two.read_back two.last_values
+loads-good : Good two.evicted [] × Good two.loading [] × Good two.child_got [] × Good two.loaded two.last_values × Good two.key_loading two.last_values
+    × Good two.read_back two.last_values
 unfolding two.walked is_named_by find_row preimage references_fault is_in
 loads-good = (
   (search (arith, none-cached), search arith),
@@ -385,20 +420,25 @@ loads-good = (
   (search (arith, none-cached), record { handles = search arith; stands = search arith; numbers = search arith }),
 )
 
-same-work : (shelf : Shelf) (walking : Option Walking) (reading reading' : Option Reading) → WorkStays (two.work_of shelf walking reading) (two.work_of shelf walking reading')
+same-work : (shelf : Shelf) (walking : Option Walking) (reading reading' : Option Reading)
+    → WorkStays (two.work_of shelf walking reading) (two.work_of shelf walking reading')
 same-work shelf walking reading reading' = record { shelves = λ t. same-shelf _; last_table = refl; walkings = λ v. refl }
 
 -- the one reading goes on, or is over
-reads-on : (w : Core) (r : Reading) (before : ℕ → Option Reading) → is_some (w.loads r.load.0) ≡ true → ((l : ℕ) → (l == r.load.0) ≡ false → before l ≡ None) → (l : ℕ)
+reads-on : (w : Core) (r : Reading) (before : ℕ → Option Reading) → is_some (w.loads r.load.0) ≡ true → ((l : ℕ) → (l == r.load.0) ≡ false → before l ≡ None)
+    → (l : ℕ)
     → two.reads (Some r) l ≡ if_there (λ (load : OpenLoad). updated r.load.0 (Some r) before l) None (w.loads l)
 reads-on w r before there other l = grind (arith, nat_tests, none-there)
 
 pub births-do : (xs : List two.Happening) → AreMoments two.sample_seen (two.at_work two.begun) xs → AreMoments two.sample_seen two.new_one (two.births ++ xs)
 unfolding find_row is_named_by is_in references_fault
 births-do xs rest = does _ _ _ two.new_core [] no_shelf None None (grind (arith, nat_tests, alike-self, same-shelf)) (λ n x is. inl is) tt births-good.0 refl tt
-    ⨾ does _ _ _ two.child_born _ no_shelf None None (grind (arith, nat_tests, alike-self, same-work, none-there)) (grind (arith, nat_tests)) tt births-good.1 refl tt
-    ⨾ does _ _ _ two.both_born _ no_shelf None None (grind (arith, nat_tests, alike-self, same-work, none-there)) (λ n x is. grind (arith, nat_tests)) tt births-good.2 refl tt
-    ⨾ does _ _ _ two.begun.core _ no_shelf (Some (two.walking two.begun)) None (grind (arith, nat_tests, alike-self, same-shelf, none-there, again)) (λ n x is. inl is) tt births-good.3 (refl, refl) tt
+    ⨾ does _ _ _ two.child_born _ no_shelf None None (grind (arith, nat_tests, alike-self, same-work, none-there)) (grind (arith, nat_tests)) tt births-good.1
+    refl tt
+    ⨾ does _ _ _ two.both_born _ no_shelf None None (grind (arith, nat_tests, alike-self, same-work, none-there))
+    (λ n x is. grind (arith, nat_tests)) tt births-good.2 refl tt
+    ⨾ does _ _ _ two.begun.core _ no_shelf (Some (two.walking two.begun)) None (grind (arith, nat_tests, alike-self, same-shelf, none-there, again))
+    (λ n x is. inl is) tt births-good.3 (refl, refl) tt
     ⨾ rest
 
 -- with the parent's last pin its value goes, and with this the child
@@ -411,29 +451,54 @@ evicts =
       closed = λ n goes. let a = and-false (2 == n) in omega arith;
       least = λ t holds closed. let fallen : owned_outside w.rows t 2 ≡ 0 = closed 2 refl in omega arith;
     } in
-    record { does = inr (row_of 2 (two.node 2) Mode.LoosePinned Owner.Caller, search arith, inr (refl, falls-so two.answered.core w nobody outer (search arith) refl refl set)) }
+    record {
+      does = inr (
+        row_of 2 (two.node 2) Mode.LoosePinned Owner.Caller,
+        search arith,
+        inr (refl, falls-so two.answered.core w nobody outer (search arith) refl refl set),
+      );
+    }
 
 -- the child's cell is made with its key, and nothing is read of it
 gets-child : ReadingDoes two.sample two.loading Owner.Caller two.parent_fetched None two.parent_read.frames two.child_got
 unfolding two.walked is_named_by find_row preimage grammar.read grammar.read_with answers_from
 gets-child =
-    let asked : LazyCall two.loading Owner.Caller (two.load_number 1) (record { 0 = 4 }) 8 (Ok (two.handle 8)) two.child_got = grind (arith, nat_tests, alike-self) in
+    let asked : LazyCall two.loading Owner.Caller (two.load_number 1) (record { 0 = 4 }) 8 (Ok (two.handle 8)) two.child_got =
+    grind (arith, nat_tests, alike-self) in
     let row = row_of 8 (two.node 3) Mode.LooseUnpinned (Owner.Load (two.load_number 1)) in
-    record { does = inr (inr (inr (inl (record { kind = record { 0 = 4 }; key = 8; k = two.handle 8; row = row; needs = refl; asked = asked; made = refl; goes = refl })))) }
+    record {
+      does = inr (inr (inr (inl (record {
+        kind = record { 0 = 4 };
+        key = 8;
+        k = two.handle 8;
+        row = row;
+        needs = refl;
+        asked = asked;
+        made = refl;
+        goes = refl;
+      }))));
+    }
 
 ends-pinned : ReadingDoes two.sample two.child_got Owner.Caller two.parent_read (Some (LoadAnswer.Pinned (two.handle 9))) [] two.loaded
 unfolding two.walked is_named_by find_row preimage references_fault is_in grammar.read grammar.read_with answers_from
 ends-pinned =
     let i : Installs two.child_got Owner.Caller (two.load_number 1) (two.node 2) (two.handle 2) (two.handle 9) (two.to_leaf 3 8 ∷ []) two.loaded =
     let row = row_of 2 (two.node 2) Mode.LooseUnpinned Owner.Caller in
-    record { row = row; owned = search arith; at = refl; next = search arith; falls = inl (refl, record { told = Ok tt; falls = falls-alone _ _ _ (search arith) }) } in
+    record {
+      row = row;
+      owned = search arith;
+      at = refl;
+      next = search arith;
+      falls = inl (refl, record { told = Ok tt; falls = falls-alone _ _ _ (search arith) });
+    } in
     let ended : EndCall two.child_got Owner.Caller (two.load_number 1) (Some (two.to_leaf 3 8)) 0 (two.to_leaf 3 8 ∷ []) (Ok (two.handle 9)) two.loaded =
     record { installs = (two.node 2, two.handle 2, search arith, i); refused = tt } in
     search (arith, ended)
 
 reads-out : ReadingDoes two.sample two.key_loading Owner.Caller two.child_fetched (Some (LoadAnswer.Read None)) [] two.read_back
 unfolding two.walked is_named_by find_row preimage is_in named_fault grammar.read grammar.read_with answers_from
-reads-out = let falls = falls-alone two.key_loading (two.handed two.key_loading) (two.left_over two.key_loading 2 (is_in [])) (search arith) in search (arith, falls)
+reads-out = let falls = falls-alone two.key_loading (two.handed two.key_loading) (two.left_over two.key_loading 2 (is_in [])) (search arith) in
+    search (arith, falls)
 
 pub loads-do : AreMoments two.sample_seen (two.at_work two.answered) (two.loads ++ two.counts 2)
 unfolding two.walked is_named_by find_row preimage is_in references_fault grammar.read grammar.read_with answers_from
@@ -445,30 +510,40 @@ loads-do =
     record { begins = (row_of 2 (two.node 2) Mode.LooseUnpinned Owner.Caller, search arith, search (arith, alike-self)); refused = tt } in
     search (arith, b, same-work, none-there)) (λ n x is. inl is) tt loads-good.1 (refl, refl) tt
     ⨾ does _ _ _ two.loading [] _ done (Some two.parent_fetched)
-    (let d : ReadingDoes two.sample two.loading Owner.Caller (fresh (two.load_number 1) 0) None two.parent_fetched.frames two.loading = grind (arith, nat_tests, alike-self) in
-    let r = reads-on two.loading two.parent_fetched (λ l. None) refl (λ l e. refl) in search (arith, d, r, same-work)) (λ n x is. inl is) tt loads-good.1 (refl, refl) (search arith)
+    (let d : ReadingDoes two.sample two.loading Owner.Caller (fresh (two.load_number 1) 0) None two.parent_fetched.frames two.loading =
+    grind (arith, nat_tests, alike-self) in
+    let r = reads-on two.loading two.parent_fetched (λ l. None) refl (λ l e. refl) in search (arith, d, r, same-work)) (λ n x is. inl is) tt loads-good.1
+    (refl, refl) (search arith)
     ⨾ does _ _ _ two.child_got [] _ done (Some two.parent_read)
     (let r = reads-on two.child_got two.parent_read (two.reads (Some two.parent_fetched)) refl (λ l e. rw e refl) in search (arith, gets-child, r, same-work))
     (λ n x is. inl is) tt loads-good.2 (refl, refl) (search arith)
     ⨾ does _ _ _ two.loaded two.last_values _ done None
-    (let r : ReadingsAre (updated 1 None (two.reads (Some two.parent_read))) (world_of (two.afterwards two.loaded two.last_values None)) = grind (arith, nat_tests, none-there) in
+    (let r : ReadingsAre (updated 1 None (two.reads (Some two.parent_read))) (world_of (two.afterwards two.loaded two.last_values None)) =
+    grind (arith, nat_tests, none-there) in
     search (arith, ends-pinned, r, same-work)) parent-comes tt loads-good.3 (refl, refl) tt
-    ⨾ does _ _ _ two.key_loading _ _ done (Some (fresh (two.load_number 2) 1)) (grind (arith, nat_tests, alike-self, same-work, reads-on)) (λ n x is. inl is) tt loads-good.4 (refl, refl)
+    ⨾ does _ _ _ two.key_loading _ _ done (Some (fresh (two.load_number 2) 1)) (grind (arith, nat_tests, alike-self, same-work, reads-on))
+    (λ n x is. inl is) tt loads-good.4 (refl, refl)
     (search arith)
     ⨾ does _ _ _ two.key_loading two.last_values _ done (Some two.child_fetched)
-    (let d : ReadingDoes two.sample two.key_loading Owner.Caller (fresh (two.load_number 2) 1) None two.child_fetched.frames two.key_loading = grind (arith, nat_tests, alike-self) in
+    (let d : ReadingDoes two.sample two.key_loading Owner.Caller (fresh (two.load_number 2) 1) None two.child_fetched.frames two.key_loading =
+    grind (arith, nat_tests, alike-self) in
     let r = reads-on two.key_loading two.child_fetched (two.reads (Some (fresh (two.load_number 2) 1))) refl (λ l e. rw e refl) in
     search (arith, d, r, same-work)) (λ n x is. inl is) tt loads-good.4 (refl, refl) (search arith)
     ⨾ does _ _ _ two.read_back two.last_values _ done None
-    (let r : ReadingsAre (updated 2 None (two.reads (Some two.child_fetched))) (world_of (two.afterwards two.read_back two.last_values None)) = grind (arith, nat_tests, none-there) in
+    (let r : ReadingsAre (updated 2 None (two.reads (Some two.child_fetched))) (world_of (two.afterwards two.read_back two.last_values None)) =
+    grind (arith, nat_tests, none-there) in
     search (arith, reads-out, r, same-work)) (λ n x is. inl is) tt loads-good.5 (refl, refl) tt
     ⨾ does _ _ _ two.read_back _ _ done None
-    (let c : CountCall two.read_back (two.handle 2) (Ok 2) = record { found = (row_of 2 (two.node 2) Mode.LoosePinned Owner.Caller, refl, refl); refused = tt } in
+    (let c : CountCall two.read_back (two.handle 2) (Ok 2) = record {
+      found = (row_of 2 (two.node 2) Mode.LoosePinned Owner.Caller, refl, refl);
+      refused = tt;
+    } in
     search (arith, c, alike-self, same-work, none-there)) (λ n x is. inl is) tt loads-good.5 (refl, refl) tt
     ⨾ tt
   where
     parent-comes : (n : ℕ) (x : two.Sample) → value_at two.last_values n ≡ Some x → (value_at [] n ≡ Some x) ⊎ ((value_at [] n ≡ None)
-        × ((r : Reading) × (reading_at (world_of (two.afterwards two.child_got [] (Some two.parent_read))) (two.load_number 1) ≡ Some r) × ReadingBrings two.sample two.child_got r n x))
+        × ((r : Reading) × (reading_at (world_of (two.afterwards two.child_got [] (Some two.parent_read))) (two.load_number 1) ≡ Some r)
+        × ReadingBrings two.sample two.child_got r n x))
     parent-comes n x is =
         let b : (n ≡ 2) × (x ≡ Some (two.to_leaf 3 8)) = grind (arith, nat_tests) in
         let cell : IsCellOf two.child_got (two.load_number 1) n = record { load = _; node = _; t = _; h = _; open_load = refl; root = refl; is = sym b.0 } in
@@ -487,7 +562,11 @@ unfolding grammar.read grammar.read_with
 child-reads s stored = record {
   read = tree 1 meanings.none;
   typed = refl;
-  reads = record { own = meanings.none; reads = record { blob = (blob_of [] []); stored = stored; rest = rest_of (blob_of [] []); reads = refl }; follows = none-followed };
+  reads = record {
+    own = meanings.none;
+    reads = record { blob = (blob_of [] []); stored = stored; rest = rest_of (blob_of [] []); reads = refl };
+    follows = none-followed;
+  };
 }
 
 takes-well : (s : PagerState two.Sample (Unit {0})) (reading : Reading)
@@ -507,7 +586,8 @@ loads-asked =
     ⨾ asked _ _ tt (λ trees reading is. takes-well _ reading (grind (arith, nat_tests, child-reads)))
     ⨾ asked _ _ tt (λ trees. tt) ⨾ tt
 
-later : (s : MachineState two.Sample (Unit {0})) (xs ys : List two.Happening) → AreMoments two.sample_seen s (xs ++ ys) → AreMoments two.sample_seen (state_after s xs) ys
+later : (s : MachineState two.Sample (Unit {0})) (xs ys : List two.Happening) → AreMoments two.sample_seen s (xs ++ ys)
+    → AreMoments two.sample_seen (state_after s xs) ys
 unfolding state_after
 later s [] ys all = all
 later s (x ∷ xs) ys (does, rest) = later x.after xs ys rest
@@ -515,13 +595,15 @@ later s (x ∷ xs) ys (does, rest) = later x.after xs ys rest
 no-other : (n : ℕ) → AreMoments two.sample_seen two.new_one (two.moments n) → n ≡ 2
 unfolding two.walked two.page_out preimage find_row is_named_by is_in state_after
 no-other n all =
-    let worked = later (two.at_work two.begun) (two.page_out 15 two.begun) (two.loads ++ two.counts n) (later two.new_one two.births (two.page_out 15 two.begun ++ (two.loads ++ two.counts n)) all) in
+    let worked = later (two.at_work two.begun) (two.page_out 15 two.begun) (two.loads ++ two.counts n)
+    (later two.new_one two.births (two.page_out 15 two.begun ++ (two.loads ++ two.counts n)) all) in
     let counted = later (two.at_work two.answered) two.loads (two.counts n) worked in
     let (row, is, told) = counted.0.step.happens.step.does.0.found in (grind (arith, nat_tests))
 
 pub headline_met : TwoLevelsMeetTheHeadline
 headline_met =
-    let new = new_whole (Unit {0}) two.sample in let worked = pages 15 two.begun (two.loads ++ two.counts 2) births-good.3.0 begun-asks (loads-do, loads-asked) in
+    let new = new_whole (Unit {0}) two.sample in let worked = pages 15 two.begun (two.loads ++ two.counts 2) births-good.3.0 begun-asks
+    (loads-do, loads-asked) in
     let start : StartsWell two.sample two.new_one = new.starts two.new_one (new.new _ _ tt) (new.idle _ _ tt) lawful in
     let whole = start.whole in let idle = start.idle in let stands = start.stands in let settled = start.settled in
     let premised : ArePremised two.new_one (two.moments 2) =

@@ -8,7 +8,8 @@ use Rattle.pagable_pager_spec.specs.{World.{IsLawful, SameShelf, Seen, Values, o
 use Rattle.pagable_pager_spec.specs.declared.handle_row.Owner.{Owner}
 
 -- a call of the pager: its step, and the value that it brings into memory
-pub record IsCall {N E B W : Type 0} (m : Seen N B W) (s : PagerState N E) (call : Call N B) (reply : Reply N B) (s' : PagerState N E) : Type 0 where
+pub record IsCall {N E B W : Type 0} (m : Seen N B W) (s : PagerState N E) (call : Call N B) (reply : Reply N B)
+    (s' : PagerState N E) : Type 0 where
   pub step : CallStep m s.core Owner.Caller call reply s'.core
   pub moves : Moves (CallBrings s.core call) s s'
   pub whole : WellFormed m.values s'
@@ -16,30 +17,39 @@ pub record IsCall {N E B W : Type 0} (m : Seen N B W) (s : PagerState N E) (call
 -- one call of the pager; or a pin; or a read; or a page-out of an item on a new table, or of the list's first i entries
 pub data Operation {N E B W : Type 0} (m : Seen N B W) : PagerState N E → PagerState N E → Type 0 where
   calls : (call : Call N B) (reply : Reply N B) (s s' : PagerState N E) → IsCall m s call reply s' → Operation m s s'
-  pins : (h : HandleNumber) (r : Result HandleNumber Error) (s s' : PagerState N E) → PinRun m.values s h r s' → Operation m s s'
-  reads-key : (key t : ℕ) (r : Result N Error) (s s' : PagerState N E) → ReadRun m.values s key t r s' → Operation m s s'
-  pages-item : (item : W) (answer : WorkerAnswer) (s s' : AccessState N E) → SameShelf no_shelf s.shelf → ItemRun m s (m.written_of item) answer s'
+  pins : (h : HandleNumber) (r : Result HandleNumber Error) (s s' : PagerState N E) → PinRun m.values s h r s'
+      → Operation m s s'
+  reads-key : (key t : ℕ) (r : Result N Error) (s s' : PagerState N E) → ReadRun m.values s key t r s'
+      → Operation m s s'
+  pages-item : (item : W) (answer : WorkerAnswer) (s s' : AccessState N E) → SameShelf no_shelf s.shelf
+      → ItemRun m s (m.written_of item) answer s'
       → Operation m s.pager s'.pager
-  pages-list : (i : ℕ) (answer : Result (Unit {0}) WorkerAnswer) (s s' : PagerState N E) → ListRun m i s answer s' → Operation m s s'
+  pages-list : (i : ℕ) (answer : Result (Unit {0}) WorkerAnswer) (s s' : PagerState N E) → ListRun m i s answer s'
+      → Operation m s s'
 
 -- operations, one after the other
 pub data Operations {N E B W : Type 0} (m : Seen N B W) : PagerState N E → PagerState N E → Type 0 where
   is-done : (s : PagerState N E) → Operations m s s
   goes-on : (s mid s' : PagerState N E) → Operation m s mid → Operations m mid s' → Operations m s s'
 
-abbrev pub PinAsksWell : {N E : Type 0} {v : Values N} {s s' : PagerState N E} {h : HandleNumber} {r : Result HandleNumber Error} → PinRun v s h r s' → Type 0
+abbrev pub PinAsksWell : {N E : Type 0} {v : Values N} {s s' : PagerState N E} {h : HandleNumber}
+    {r : Result HandleNumber Error} → PinRun v s h r s' → Type 0
 PinAsksWell (load-pins k reading mid s' starts run) = LoadAsksWell run
 PinAsksWell (load-fails e reading mid s' starts run) = LoadAsksWell run
 PinAsksWell run = Unit {0}
 
-abbrev pub ReadAsksWell : {N E : Type 0} {v : Values N} {s s' : PagerState N E} {key t : ℕ} {r : Result N Error} → ReadRun v s key t r s' → Type 0
+abbrev pub ReadAsksWell : {N E : Type 0} {v : Values N} {s s' : PagerState N E} {key t : ℕ} {r : Result N Error}
+    → ReadRun v s key t r s' → Type 0
 ReadAsksWell (load-reads x l mid s' starts run) = LoadAsksWell run
 ReadAsksWell (reading-fails e l mid s' starts run) = LoadAsksWell run
 ReadAsksWell run = Unit {0}
 
 -- what the headline asks of an operation, for the trees before it
-abbrev pub OperationAsksWell : {N E B W : Type 0} {m : Seen N B W} {s s' : PagerState N E} → (ℕ → Tree) → Operation m s s' → Type 0
-OperationAsksWell {N} {E} {B} {W} {m = m} trees (calls call reply s s' c) = KeepsOpen {N = N} {B = B} {W = W} (Event.Call call) × AsksWell m.values s trees call reply × HoldsSettled m.values s'
+abbrev pub OperationAsksWell : {N E B W : Type 0} {m : Seen N B W} {s s' : PagerState N E} → (ℕ → Tree)
+    → Operation m s s' → Type 0
+OperationAsksWell {N} {E} {B} {W} {m = m} trees (calls call reply s s' c) =
+    KeepsOpen {N = N} {B = B} {W = W} (Event.Call call) × AsksWell m.values s trees call reply
+    × HoldsSettled m.values s'
 OperationAsksWell trees (pins h r s s' run) = PinAsksWell run
 OperationAsksWell trees (reads-key key t r s s' run) = ReadAsksWell run
 OperationAsksWell trees (pages-item item answer s s' new run) = ItemAsksWell run
@@ -60,37 +70,45 @@ CallIsRight v s trees (Call.LoadEnd l x) (Reply.LoadEnded (Ok k)) = GivesTree v 
 CallIsRight v s trees call reply = Unit {0}
 
 -- what an operation gives, for the trees before and after it
-abbrev pub OperationIsRight : {N E B W : Type 0} {m : Seen N B W} {s s' : PagerState N E} → (trees trees' : ℕ → Tree) → Operation m s s' → Type 0
+abbrev pub OperationIsRight : {N E B W : Type 0} {m : Seen N B W} {s s' : PagerState N E} → (trees trees' : ℕ → Tree)
+    → Operation m s s' → Type 0
 OperationIsRight {m = m} trees trees' (calls call reply s s' c) = CallIsRight m.values s' trees' call reply
 OperationIsRight {m = m} trees trees' (pins h r s s' run) = PinIsRight m.values s' trees' r
 OperationIsRight {m = m} trees trees' (reads-key key t r s s' run) = ReadingIsRight m.values s' key r
 OperationIsRight {m = m} trees trees' (pages-item item answer s s' new run) =
-    (key : ℕ) → answer ≡ WorkerAnswer.Key key → LeavesPagedOut m.values s'.pager s'.shelf trees' (of_item (m.written_of item)) key
+    (key : ℕ) → answer ≡ WorkerAnswer.Key key → LeavesPagedOut m.values s'.pager s'.shelf trees'
+    (of_item (m.written_of item)) key
 OperationIsRight trees trees' (pages-list i answer s s' run) = EachIsPagedOut run trees
 
 -- trees after each operation, which each node keeps, as long as the operations satisfy what is asked of them
-unfoldable pub AreRight : {N E B W : Type 0} {m : Seen N B W} {s s' : PagerState N E} → (ℕ → Tree) → Operations m s s' → Type 0
+unfoldable pub AreRight : {N E B W : Type 0} {m : Seen N B W} {s s' : PagerState N E} → (ℕ → Tree) → Operations m s s'
+    → Type 0
 AreRight trees (is-done s) = Unit {0}
 AreRight {m = m} trees (goes-on s mid s' one more) =
     OperationAsksWell trees one
-    → (trees' : ℕ → Tree) × SameTrees s.core.last.node trees trees' × Represents m.values mid trees' × OperationIsRight trees trees' one × AreRight trees' more
+    → (trees' : ℕ → Tree) × SameTrees s.core.last.node trees trees' × Represents m.values mid trees'
+    × OperationIsRight trees trees' one × AreRight trees' more
 
 -- what the headline asks of each operation, whatever the trees before it
 unfoldable pub AskWell : {N E B W : Type 0} {m : Seen N B W} {s s' : PagerState N E} → Operations m s s' → Type 0
 AskWell (is-done s) = Unit {0}
-AskWell {m = m} (goes-on s mid s' one more) = ((trees : ℕ → Tree) → Represents m.values s trees → OperationAsksWell trees one) × AskWell more
+AskWell {m = m} (goes-on s mid s' one more) = ((trees : ℕ → Tree) → Represents m.values s trees
+    → OperationAsksWell trees one) × AskWell more
 
 -- The law of pinning again: the values that two pins by the same handle give, with any operations between them, stand
 -- for one tree.
 abbrev pub PinnedAgainLaw : {N B W : Type 0} → (E : Type 0) → Seen N B W → Type 0
 PinnedAgainLaw {N} {B} {W} E m = (s mid later s' : PagerState N E) (trees : ℕ → Tree) (h k l : HandleNumber) (x y : N)
-    (first : PinRun m.values s h (Ok k) mid) (between : Operations m mid later) (again : PinRun m.values later h (Ok l) s')
-    → WellFormed m.values s → NobodyWorks s.core → IsLawful m.values → HoldsSettled m.values s → Represents m.values s trees
+    (first : PinRun m.values s h (Ok k) mid) (between : Operations m mid later)
+    (again : PinRun m.values later h (Ok l) s')
+    → WellFormed m.values s → NobodyWorks s.core → IsLawful m.values → HoldsSettled m.values s
+    → Represents m.values s trees
     → PinAsksWell first → AskWell between → PinAsksWell again → IsValueOf mid k x → IsValueOf s' l y
     → (t : Tree) × ValueStands m.values mid x t × ValueStands m.values s' y t
 
 -- The law, for any operations on a pager on which nobody else works.
 abbrev pub CallerLaw : {N B W : Type 0} → (E : Type 0) → Seen N B W → Type 0
-CallerLaw {N} {B} {W} E m = (s s' : PagerState N E) (trees : ℕ → Tree) (operations : Operations m s s') → WellFormed m.values s → NobodyWorks s.core
+CallerLaw {N} {B} {W} E m = (s s' : PagerState N E) (trees : ℕ → Tree) (operations : Operations m s s')
+    → WellFormed m.values s → NobodyWorks s.core
     → IsLawful m.values
     → HoldsSettled m.values s → Represents m.values s trees → AreRight trees operations

@@ -9,9 +9,11 @@ use Rattle.pagable_pager_spec.specs.{World.{Shelf, Slot, Todo, Values, Walking, 
 
 -- P holds of each event along the chain, if the chain begins at a machine that satisfies its invariant and on which
 -- nobody works yet.
-abbrev pub HoldsOf : {N E B W : Type 0} → (m : Seen N B W) → Fact N E B W → MachineState N E → List (Moment N E B W) → Type 0
+abbrev pub HoldsOf : {N E B W : Type 0} → (m : Seen N B W) → Fact N E B W → MachineState N E → List (Moment N E B W)
+    → Type 0
 HoldsOf m P start moments =
-    (trees : ℕ → Tree) → IsMachineWhole m.values start → IsIdle start → AreMoments m start moments → StandsFor m.values start trees → IsLawful m.values
+    (trees : ℕ → Tree) → IsMachineWhole m.values start → IsIdle start → AreMoments m start moments
+    → StandsFor m.values start trees → IsLawful m.values
     → HoldsSettled m.values start.pager → TreesAlong m P start trees moments
 
 -- so it is for every chain
@@ -29,7 +31,8 @@ pub record WaitsForAsker (shelf : Shelf) (n : ℕ) (i : Identity) : Type 0 where
 -- and waits for this one
 abbrev pub ClaimIsDeep : {N E B W : Type 0} → Fact N E B W
 ClaimIsDeep s trees (Event.WorkerStep n) (EventReply.WorkerMoved (Ok reply)) s' trees' =
-    (walking : Walking) (i : Identity) → s.work.walkings n.0 ≡ Some walking → reply.action ≡ Action.Claim i (Err Error.TooDeep)
+    (walking : Walking) (i : Identity) → s.work.walkings n.0 ≡ Some walking → reply.action
+    ≡ Action.Claim i (Err Error.TooDeep)
     → IsTooDeepTask trees walking.task ⊎ WaitsForAsker (s.work.shelves walking.table) n.0 i
 ClaimIsDeep s trees event reply s' trees' = Unit {0}
 
@@ -45,38 +48,47 @@ IsOfHandles e = ⊥
 -- caller has changed: never by a blob, a key or a path.
 abbrev pub LoadIsFaultless : {N E B W : Type 0} → Fact N E B W
 LoadIsFaultless s trees (Event.LoadStep l) (EventReply.LoadMoved (Ok reply)) s' trees' =
-    (load : OpenLoad) (e : Error) → s.pager.core.loads l.0 ≡ Some load → IsLoadOfPagedOut s load → reply.ended ≡ Some (LoadAnswer.Refused e) → IsOfChance e ⊎ IsOfHandles e
+    (load : OpenLoad) (e : Error) → s.pager.core.loads l.0 ≡ Some load → IsLoadOfPagedOut s load → reply.ended
+    ≡ Some (LoadAnswer.Refused e) → IsOfChance e ⊎ IsOfHandles e
 LoadIsFaultless s trees event reply s' trees' = Unit {0}
 
 -- A load of the caller or of a worker fails as too deep only if reading its key reaches a blob that is too deep, or one
 -- that enters a level too many.
 abbrev pub LoadIsDeep : {N E B W : Type 0} → Values N → Fact N E B W
 LoadIsDeep v s trees (Event.LoadStep l) (EventReply.LoadMoved (Ok reply)) s' trees' =
-    (reading : Reading) (load : OpenLoad) → reading_at (world_of s) l ≡ Some reading → s.pager.core.loads l.0 ≡ Some load → reply.ended ≡ Some (LoadAnswer.Refused Error.TooDeep)
+    (reading : Reading) (load : OpenLoad) → reading_at (world_of s) l ≡ Some reading → s.pager.core.loads l.0
+    ≡ Some load → reply.ended ≡ Some (LoadAnswer.Refused Error.TooDeep)
     → ReadsTooDeep v.types s.pager.core.stored reading.node_type load.key
 LoadIsDeep v s trees (Event.WorkerStep n) (EventReply.WorkerMoved (Ok reply)) s' trees' =
-    (walking : Walking) (r : ArcRef) (place : ℕ) (through : HandleNumber) (reading : Reading) (below : List Todo) (load : OpenLoad) (i : Identity) → s.work.walkings n.0 ≡ Some walking
-    → walking.todo ≡ to_load r place through reading ∷ below → s.pager.core.loads reading.load.0 ≡ Some load → reply.action ≡ Action.Pin i (Err Error.TooDeep)
+    (walking : Walking) (r : ArcRef) (place : ℕ) (through : HandleNumber) (reading : Reading) (below : List Todo)
+    (load : OpenLoad) (i : Identity) → s.work.walkings n.0 ≡ Some walking
+    → walking.todo ≡ to_load r place through reading ∷ below → s.pager.core.loads reading.load.0 ≡ Some load
+    → reply.action ≡ Action.Pin i (Err Error.TooDeep)
     → ReadsTooDeep v.types s.pager.core.stored reading.node_type load.key
 LoadIsDeep v s trees event reply s' trees' = Unit {0}
 
 -- For a key under which a tree is stored, reading the key goes too deep exactly if a path of too many references leads
 -- down from the tree's root.
 abbrev pub DepthIsHeight : Type 0
-DepthIsHeight = (types : Types) (store : ℕ → Option Blob) (t : Tree) (key : ℕ) → IsReadableTree types t → StoredTree store types key t
+DepthIsHeight = (types : Types) (store : ℕ → Option Blob) (t : Tree) (key : ℕ) → IsReadableTree types t
+    → StoredTree store types key t
     → ReadsTooDeep types store t.type key ↔ (longest_path < height t.meaning)
 
 -- no step of the worker failed except as too deep, and no other worker had failed at an identity that it needed
 abbrev pub MetDepthAlone : {W : Type 0} → List (Action W) → Type 0
-MetDepthAlone {W} steps = ((step : Action W) (e : Error) → Among steps step → MetError step e → e ≡ Error.TooDeep) × ((i : Identity) → ¬ Among steps (Action.Claim i (Ok Claim.AlreadyFailed)))
+MetDepthAlone {W} steps = ((step : Action W) (e : Error) → Among steps step → MetError step e → e ≡ Error.TooDeep)
+    × ((i : Identity) → ¬ Among steps (Action.Claim i (Ok Claim.AlreadyFailed)))
 
 -- A worker whose item or cell leads down too long a path, or to a value without a form, fails with TooDeep, if none of
 -- its steps failed otherwise; whatever chain led there.
 abbrev pub DepthIsTold : {N E B W : Type 0} → Seen N B W → Fact N E B W
 DepthIsTold {N} {E} {B} {W} m s trees (Event.WorkerStep n) (EventReply.WorkerMoved (Ok reply)) s' trees' =
-    (start : MachineState N E) (moments : List (Moment N E B W)) (walking : Walking) (answer : WorkerAnswer) → IsMachineWhole m.values start → IsIdle start → AreMoments m start moments
-    → state_after start moments ≡ s' → s.work.walkings n.0 ≡ Some walking → reply.answer ≡ Some answer → MetDepthAlone (steps_of n.0 (events_of moments) (replies_of moments))
-    → IsTooDeepTask trees walking.task ⊎ IsFormlessTask m.values.types trees walking.task → answer ≡ WorkerAnswer.Failed Error.TooDeep
+    (start : MachineState N E) (moments : List (Moment N E B W)) (walking : Walking) (answer : WorkerAnswer)
+    → IsMachineWhole m.values start → IsIdle start → AreMoments m start moments
+    → state_after start moments ≡ s' → s.work.walkings n.0 ≡ Some walking → reply.answer ≡ Some answer
+    → MetDepthAlone (steps_of n.0 (events_of moments) (replies_of moments))
+    → IsTooDeepTask trees walking.task ⊎ IsFormlessTask m.values.types trees walking.task → answer
+    ≡ WorkerAnswer.Failed Error.TooDeep
 DepthIsTold m s trees event reply s' trees' = Unit {0}
 
 -- the load with this number begins
@@ -98,4 +110,5 @@ pub record HasBegun {N E B W : Type 0} (moments : List (Moment N E B W)) (n k : 
 -- begun earlier in the chain and no load is interrupted.
 abbrev pub SoundLaw : {N B W : Type 0} → (E : Type 0) → Seen N B W → Type 0
 SoundLaw {N} {B} {W} E m = (start : MachineState N E) (moments : List (Moment N E B W)) → StandTogether moments
-    → ((k : ℕ) (c : Moment N E B W) (l : LoadNumber) → slice_get moments k ≡ Some c → c.event ≡ Event.LoadStep l → HasBegun moments l.0 k) → HoldsOf m LoadIsSound start moments
+    → ((k : ℕ) (c : Moment N E B W) (l : LoadNumber) → slice_get moments k ≡ Some c → c.event ≡ Event.LoadStep l
+    → HasBegun moments l.0 k) → HoldsOf m LoadIsSound start moments

@@ -7,11 +7,13 @@ use Rattle.pagable_pager_spec.specs.{Runs.{AreMoments, Moment, state_after}, Wor
 -- The law, for any step: if the step brings only values into memory that hold their nodes' values, and each value in
 -- memory did before, each does afterwards.
 abbrev pub HeldLaw : {N : Type 0} → (E : Type 0) → Values N → Type 0
-HeldLaw {N} E v = (s s' : PagerState N E) → WellFormed v s' → Moves (λ n x. HoldsItsNodes v s x) s s' → HoldsItsValues v s → HoldsItsValues v s'
+HeldLaw {N} E v = (s s' : PagerState N E) → WellFormed v s' → Moves (λ n x. HoldsItsNodes v s x) s s'
+    → HoldsItsValues v s → HoldsItsValues v s'
 
 -- A value that holds what the handles of its references pin holds its nodes' values, if its references have no fault.
 abbrev pub PinnedLaw : {N : Type 0} → (E : Type 0) → Values N → Type 0
-PinnedLaw {N} E v = (s : PagerState N E) (owner : Owner) (x : N) → WellFormed v s → references_fault s.core owner [] (v.references x) ≡ None → HoldsPinned v s x → HoldsItsNodes v s x
+PinnedLaw {N} E v = (s : PagerState N E) (owner : Owner) (x : N) → WellFormed v s
+    → references_fault s.core owner [] (v.references x) ≡ None → HoldsPinned v s x → HoldsItsNodes v s x
 
 -- a value that the call brings into memory holds its nodes' values, as they were before the call
 abbrev pub BringsHeld : {N E B : Type 0} → Values N → PagerState N E → Call N B → PagerState N E → Type 0
@@ -22,14 +24,16 @@ abbrev pub OperationBringsHeld : {N E B W : Type 0} {m : Seen N B W} {s s' : Pag
 OperationBringsHeld {m = m} (calls call reply s s' c) = BringsHeld m.values s call s'
 OperationBringsHeld operation = Unit {0}
 
-unfoldable pub CallersBringHeld : {N E B W : Type 0} {m : Seen N B W} {s s' : PagerState N E} → Operations m s s' → Type 0
+unfoldable pub CallersBringHeld : {N E B W : Type 0} {m : Seen N B W} {s s' : PagerState N E} → Operations m s s'
+    → Type 0
 CallersBringHeld (is-done s) = Unit {0}
 CallersBringHeld (goes-on s mid s' one more) = OperationBringsHeld one × CallersBringHeld more
 
 -- The law, for any operations: each value in memory holds its nodes' values, if each did at first and each that a
 -- caller brings does.
 abbrev pub HeldByCallersLaw : {N B W : Type 0} → (E : Type 0) → Seen N B W → Type 0
-HeldByCallersLaw {N} {B} {W} E m = (s s' : PagerState N E) (operations : Operations m s s') → WellFormed m.values s → CallersBringHeld operations → HoldsItsValues m.values s → HoldsItsValues m.values s'
+HeldByCallersLaw {N} {B} {W} E m = (s s' : PagerState N E) (operations : Operations m s s') → WellFormed m.values s
+    → CallersBringHeld operations → HoldsItsValues m.values s → HoldsItsValues m.values s'
 
 -- asked of calls only: a value that the call brings into memory holds its nodes' values, as they were before the call
 abbrev pub MomentBringsHeld : {N E B W : Type 0} → Values N → PagerState N E → Event N B W → PagerState N E → Type 0
@@ -43,7 +47,8 @@ MomentsBringHeld v s (x ∷ xs) = MomentBringsHeld v s.pager x.event x.after.pag
 -- The law, for every chain of moments: each value in memory holds its nodes' values at the end, if each did at first
 -- and each that a caller brings does.
 abbrev pub HeldByMomentsLaw : {N B W : Type 0} → (E : Type 0) → Seen N B W → Type 0
-HeldByMomentsLaw {N} {B} {W} E m = (s : MachineState N E) (moments : List (Moment N E B W)) → IsMachineWhole m.values s → AreMoments m s moments → MomentsBringHeld m.values s moments
+HeldByMomentsLaw {N} {B} {W} E m = (s : MachineState N E) (moments : List (Moment N E B W)) → IsMachineWhole m.values s
+    → AreMoments m s moments → MomentsBringHeld m.values s moments
     → HoldsItsValues m.values s.pager → HoldsItsValues m.values (state_after s moments).pager
 
 -- The law of a read of a key: the value that it returns holds what the handles of its references pin.

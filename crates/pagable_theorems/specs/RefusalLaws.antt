@@ -14,10 +14,12 @@ IsOfLoad e = (number_of e ≢ 14) × (number_of e ≢ 24) × (number_of e ≢ 25
 
 -- a pin that needs no load fails; below: the begin of a load fails
 abbrev pub PinsRefusedLaw : Type 0
-PinsRefusedLaw = (w : Core) (me : Owner) (h : HandleNumber) (e : Error) (w' : Core) → PinCall w me h (Err e) w' → IsOfPin e
+PinsRefusedLaw = (w : Core) (me : Owner) (h : HandleNumber) (e : Error) (w' : Core) → PinCall w me h (Err e) w'
+    → IsOfPin e
 
 abbrev pub BeginsRefusedLaw : Type 0
-BeginsRefusedLaw = (w : Core) (me : Owner) (h : HandleNumber) (e : Error) (w' : Core) → BeginCall w me h (Err e) w' → IsOfPin e
+BeginsRefusedLaw = (w : Core) (me : Owner) (h : HandleNumber) (e : Error) (w' : Core) → BeginCall w me h (Err e) w'
+    → IsOfPin e
 
 -- each step in which a load fails, a caller's or a worker's
 abbrev pub LoadsRefusedLaw : {N : Type 0} → Values N → Type 0
@@ -83,6 +85,7 @@ refusal_of (EventReply.WorkerMoved (Err e)) = Some e
 
 -- so it is for every event, in any state
 abbrev pub StorageIsTold : {N B W : Type 0} → Seen N B W → Type 0
-StorageIsTold {N} {B} {W} m = IsLawful m.values → (u : World) (event : Event N B W) (reply : EventReply N B W) (u' : World) (e : Error)
+StorageIsTold {N} {B} {W} m = IsLawful m.values → (u : World) (event : Event N B W) (reply : EventReply N B W)
+    (u' : World) (e : Error)
     → Step m u event reply u' → refusal_of reply ≡ Some e
     → TellsOfStorage u.core u'.core e

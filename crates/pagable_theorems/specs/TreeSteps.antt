@@ -20,10 +20,14 @@ pub data LeadsBy (F : Type 0) (P : ArcRef → Type 0) (trees : ℕ → Tree) : M
   text-leads : (t : List ℕ) → LeadsBy F P trees (text t) (text t)
   pattern-leads : (t : List ℕ) → LeadsBy F P trees (pattern t) (pattern t)
   none-leads : LeadsBy F P trees none none
-  pair-leads : (x y : Meaning ArcRef) (a b : Meaning ⊥) → LeadsBy F P trees x a → LeadsBy F P trees y b → LeadsBy F P trees (pair x y) (pair a b)
-  variant-leads : (i : ℕ) (x : Meaning ArcRef) (a : Meaning ⊥) → LeadsBy F P trees x a → LeadsBy F P trees (variant i x) (variant i a)
-  followed-leads : (kind : ℕ) (x : Meaning ArcRef) (a : Meaning ⊥) → F → LeadsBy F P trees x a → LeadsBy F P trees (followed kind x) (followed kind a)
-  reference-leads : (r : ArcRef) (a : Meaning ⊥) → P r → (trees r.node.0).meaning ≡ a → LeadsBy F P trees (reference r) (followed r.kind.0 a)
+  pair-leads : (x y : Meaning ArcRef) (a b : Meaning ⊥) → LeadsBy F P trees x a → LeadsBy F P trees y b
+      → LeadsBy F P trees (pair x y) (pair a b)
+  variant-leads : (i : ℕ) (x : Meaning ArcRef) (a : Meaning ⊥) → LeadsBy F P trees x a
+      → LeadsBy F P trees (variant i x) (variant i a)
+  followed-leads : (kind : ℕ) (x : Meaning ArcRef) (a : Meaning ⊥) → F → LeadsBy F P trees x a
+      → LeadsBy F P trees (followed kind x) (followed kind a)
+  reference-leads : (r : ArcRef) (a : Meaning ⊥) → P r → (trees r.node.0).meaning ≡ a
+      → LeadsBy F P trees (reference r) (followed r.kind.0 a)
 
 -- leads to the meaning, if each node is of the type of its reference's kind
 abbrev pub LeadsTo : (ℕ → Tree) → Meaning ArcRef → Meaning ⊥ → Type 0
@@ -42,7 +46,8 @@ pub record ValueLeads {N : Type 0} (v : Values N) (trees : ℕ → Tree) (x : N)
 
 -- about a value that was decoded from the frame: the frame's key reads as a tree, and the value leads to it by
 -- references that the frame has got
-pub record Decoded {N : Type 0} (v : Values N) (stored : ℕ → Option Blob) (trees : ℕ → Tree) (frame : Frame) (x : N) : Type 0 where
+pub record Decoded {N : Type 0} (v : Values N) (stored : ℕ → Option Blob) (trees : ℕ → Tree) (frame : Frame)
+    (x : N) : Type 0 where
   pub t : Tree
   pub typed : t.type ≡ frame.node_type
   pub reads : ReadsTree stored v.types frame.key t
@@ -51,7 +56,8 @@ pub record Decoded {N : Type 0} (v : Values N) (stored : ℕ → Option Blob) (t
 
 -- the load needs a reference of this kind and key, to be loaded or not
 abbrev pub Needs : Types → List Frame → Kind → ℕ → Type 0
-Needs types frames kind key = (need_of types frames ≡ needs_nested kind key) ⊎ (need_of types frames ≡ needs_lazy kind key)
+Needs types frames kind key = (need_of types frames ≡ needs_nested kind key)
+    ⊎ (need_of types frames ≡ needs_lazy kind key)
 
 -- what was stored stays stored
 abbrev pub KeepsStored : (ℕ → Option Blob) → (ℕ → Option Blob) → Type 0
@@ -62,7 +68,8 @@ KeepsStored stored stored' = (key : ℕ) (b : Blob) → stored key ≡ Some b �
 pub record GotStands (w : Core) (l : LoadNumber) (r : ArcRef) : Type 0 where
   pub given : r.handle.0 ≤ w.last.handle
   pub node_given : r.node.0 ≤ w.last.node
-  pub is : (row : HandleRow) → row_at w r.handle ≡ Some row → row.owner ≡ Owner.Load l → (row.node ≡ r.node) × (fits_mode r.kind.0 row.mode ≡ true)
+  pub is : (row : HandleRow) → row_at w r.handle ≡ Some row → row.owner ≡ Owner.Load l → (row.node ≡ r.node)
+      × (fits_mode r.kind.0 row.mode ≡ true)
 
 abbrev pub FramesHeld : Core → LoadNumber → List Frame → Type 0
 FramesHeld w l frames = (frame : Frame) (r : ArcRef) → Among frames frame → Among frame.got r → GotStands w l r
@@ -100,7 +107,8 @@ Bears change type key = ⊥
 
 -- a load of a cell reads the key that its cell has, and is of the cell's type
 abbrev pub BeginsWell : Core → OpenLoad → Type 0
-BeginsWell w load = (node : NodeNumber) (t : ℕ) (h : HandleNumber) → load.root ≡ of_cell node t h → (type_at w node.0 ≡ Some t) × (key_at w node.0 ≡ OptionalDataKey.Some load.key)
+BeginsWell w load = (node : NodeNumber) (t : ℕ) (h : HandleNumber) → load.root ≡ of_cell node t h
+    → (type_at w node.0 ≡ Some t) × (key_at w node.0 ≡ OptionalDataKey.Some load.key)
 
 -- a node that existed is the same, except that it may have got a key
 pub record SameNode (c : Change) (w w' : Core) (n : ℕ) : Type 0 where
@@ -146,9 +154,11 @@ pub record CoreGoes (c : Change) (w w' : Core) : Type 0 where
   pub handles : w.last.handle ≤ w'.last.handle
   pub loads_last : w.last.load ≤ w'.last.load
   pub workers_last : w.last.worker ≤ w'.last.worker
-  pub cells : (n : ℕ) (cell : Cell) → w'.cells n ≡ Some cell → Kept c w n cell ⊎ ((n ≡ w.last.node + 1) × Bears c cell.node_type cell.key)
+  pub cells : (n : ℕ) (cell : Cell) → w'.cells n ≡ Some cell → Kept c w n cell
+      ⊎ ((n ≡ w.last.node + 1) × Bears c cell.node_type cell.key)
   pub stored : (q : ℕ) (b : Blob) → w.stored q ≡ Some b → w'.stored q ≡ Some b
-  pub loads : (l : ℕ) (load : OpenLoad) → w'.loads l ≡ Some load → (w.loads l ≡ Some load) ⊎ ((w.last.load < l) × BeginsWell w load)
+  pub loads : (l : ℕ) (load : OpenLoad) → w'.loads l ≡ Some load → (w.loads l ≡ Some load)
+      ⊎ ((w.last.load < l) × BeginsWell w load)
   pub cache : (kind key n : ℕ) → w'.cache kind key ≡ Some n → (w.cache kind key ≡ Some n) ⊎ Knows c w kind key n
   pub rows : RowsGo w.last.handle w.rows w'.rows
   pub shut : IsShut w → IsShut w'
@@ -163,19 +173,31 @@ StaysAway w w' n = is_here w n ≡ false → is_some (w'.cells n) ≡ true → i
 
 -- The effect of a call on trees. A value is brought to a new node only if one is made, and to an old one only by the
 -- end of a load.
-pub data CallFeels {N B : Type 0} (v : Values N) (w : Core) (me : Owner) : Call N B → Reply N B → Core → Change → Type 0 where
-  feels-nothing : {call : Call N B} {reply : Reply N B} {w' : Core} → ((n : ℕ) (x : N) → CallBrings w call n x → IsNewNode w n ⊎ StaysAway w w' n) → CallFeels v w me call reply w' nothing_felt
-  feels-birth : {call : Call N B} {reply : Reply N B} {w' : Core} (x : N) → ((n : ℕ) (y : N) → CallBrings w call n y → (y ≡ x) × IsNewNode w n) → AreGood w me (v.references x)
+pub data CallFeels {N B : Type 0} (v : Values N) (w : Core) (me : Owner) : Call N B → Reply N B → Core → Change
+    → Type 0 where
+  feels-nothing : {call : Call N B} {reply : Reply N B} {w' : Core}
+      → ((n : ℕ) (x : N) → CallBrings w call n x → IsNewNode w n ⊎ StaysAway w w' n)
+      → CallFeels v w me call reply w' nothing_felt
+  feels-birth : {call : Call N B} {reply : Reply N B} {w' : Core} (x : N)
+      → ((n : ℕ) (y : N) → CallBrings w call n y → (y ≡ x) × IsNewNode w n) → AreGood w me (v.references x)
       → CallFeels v w me call reply w' (bears_node (v.node_type x) OptionalDataKey.None)
-  feels-away : {w' : Core} (t key : ℕ) (k : HandleNumber) → CallFeels v w me (Call.NewPagedOut t key) (Reply.Handle (Ok k)) w' (bears_node t (OptionalDataKey.Some key))
-  feels-key : {reply : Reply N B} {w' : Core} (h : HandleNumber) (key : ℕ) (row : HandleRow) → Owns w me h is_loose row → CallFeels v w me (Call.SetDataKey h key) reply w' (sets_key row.node.0 key)
-  feels-known : {w' : Core} (kind : Kind) (key : ℕ) (h : HandleNumber) (row : HandleRow) → Owns w me h any_mode row → type_at w row.node.0 ≡ Some (type_of kind.0)
-      → CallFeels v w me (Call.OnArcDeserialized kind key h) (Reply.FromCache (Ok None)) w' (knows_node kind.0 key row.node.0)
-  feels-adopted : {w' : Core} (l : LoadNumber) (kind : Kind) (key : ℕ) (x : N) (k : HandleNumber) → v.node_type x ≡ type_of kind.0 → AreGood w (Owner.Load l) (v.references x)
-      → CallFeels v w me (Call.LoadAdopt l kind key x) (Reply.Made (Ok k)) w' (bears_known kind.0 key (first_key kind.0 key))
+  feels-away : {w' : Core} (t key : ℕ) (k : HandleNumber)
+      → CallFeels v w me (Call.NewPagedOut t key) (Reply.Handle (Ok k)) w' (bears_node t (OptionalDataKey.Some key))
+  feels-key : {reply : Reply N B} {w' : Core} (h : HandleNumber) (key : ℕ) (row : HandleRow) → Owns w me h is_loose row
+      → CallFeels v w me (Call.SetDataKey h key) reply w' (sets_key row.node.0 key)
+  feels-known : {w' : Core} (kind : Kind) (key : ℕ) (h : HandleNumber) (row : HandleRow) → Owns w me h any_mode row
+      → type_at w row.node.0 ≡ Some (type_of kind.0)
+      → CallFeels v w me (Call.OnArcDeserialized kind key h) (Reply.FromCache (Ok None)) w'
+      (knows_node kind.0 key row.node.0)
+  feels-adopted : {w' : Core} (l : LoadNumber) (kind : Kind) (key : ℕ) (x : N) (k : HandleNumber) → v.node_type x
+      ≡ type_of kind.0 → AreGood w (Owner.Load l) (v.references x)
+      → CallFeels v w me (Call.LoadAdopt l kind key x) (Reply.Made (Ok k)) w'
+      (bears_known kind.0 key (first_key kind.0 key))
   feels-lazy : {w' : Core} (l : LoadNumber) (kind : Kind) (key : ℕ) (k : HandleNumber)
-      → CallFeels v w me (Call.LoadLazy l kind key) (Reply.Handle (Ok k)) w' (bears_known kind.0 key (OptionalDataKey.Some key))
-  feels-end : {w' : Core} (l : LoadNumber) (x : N) (k : HandleNumber) → AreGood w (Owner.Load l) (v.references x) → CallFeels v w me (Call.LoadEnd l x) (Reply.LoadEnded (Ok k)) w' nothing_felt
+      → CallFeels v w me (Call.LoadLazy l kind key) (Reply.Handle (Ok k)) w'
+      (bears_known kind.0 key (OptionalDataKey.Some key))
+  feels-end : {w' : Core} (l : LoadNumber) (x : N) (k : HandleNumber) → AreGood w (Owner.Load l) (v.references x)
+      → CallFeels v w me (Call.LoadEnd l x) (Reply.LoadEnded (Ok k)) w' nothing_felt
 
 -- the row of a handle, of this node, that a load has just got
 pub record GetsRow (w w' : Core) (kind : Kind) (n : ℕ) (row : HandleRow) : Type 0 where
@@ -186,20 +208,33 @@ pub record GetsRow (w w' : Core) (kind : Kind) (n : ℕ) (row : HandleRow) : Typ
   pub fits : fits_mode kind.0 row.mode ≡ true
 
 -- The effect of a load's step on trees.
-pub data ReadingFeels {N : Type 0} (v : Values N) (w : Core) (reading : Reading) (answer : Option (LoadAnswer N)) (frames : List Frame) (w' : Core) : Change → Type 0 where
-  reads-root : (load : OpenLoad) (blob : Blob) → reading.frames ≡ [] → w.loads reading.load.0 ≡ Some load → w.stored load.key ≡ Some blob → answer ≡ None
-      → frames ≡ root_frame load.key reading.node_type blob ∷ [] → ReadingFeels v w reading answer frames w' nothing_felt
-  reads-blob : (kind : Kind) (key : ℕ) (blob : Blob) → need_of v.types reading.frames ≡ needs_nested kind key → w.stored key ≡ Some blob → answer ≡ None
+pub data ReadingFeels {N : Type 0} (v : Values N) (w : Core) (reading : Reading) (answer : Option (LoadAnswer N))
+    (frames : List Frame) (w' : Core) : Change → Type 0 where
+  reads-root : (load : OpenLoad) (blob : Blob) → reading.frames ≡ [] → w.loads reading.load.0 ≡ Some load
+      → w.stored load.key ≡ Some blob → answer ≡ None
+      → frames ≡ root_frame load.key reading.node_type blob ∷ []
+      → ReadingFeels v w reading answer frames w' nothing_felt
+  reads-blob : (kind : Kind) (key : ℕ) (blob : Blob) → need_of v.types reading.frames ≡ needs_nested kind key
+      → w.stored key ≡ Some blob → answer ≡ None
       → frames ≡ nested_frame kind key blob ∷ reading.frames → ReadingFeels v w reading answer frames w' nothing_felt
-  gets-known : (kind : Kind) (key n : ℕ) (row : HandleRow) → Needs v.types reading.frames kind key → w.cache kind.0 key ≡ Some n → GetsRow w w' kind n row → answer ≡ None
+  gets-known : (kind : Kind) (key n : ℕ) (row : HandleRow) → Needs v.types reading.frames kind key → w.cache kind.0 key
+      ≡ Some n → GetsRow w w' kind n row → answer ≡ None
       → frames ≡ with_got kind row reading.frames → ReadingFeels v w reading answer frames w' nothing_felt
-  gets-lazy : (kind : Kind) (key : ℕ) (row : HandleRow) → need_of v.types reading.frames ≡ needs_lazy kind key → GetsRow w w' kind (w.last.node + 1) row → answer ≡ None
-      → frames ≡ with_got kind row reading.frames → ReadingFeels v w reading answer frames w' (bears_known kind.0 key (OptionalDataKey.Some key))
-  makes-known : (x : N) (reads : ReadsNode v reading x) (n : ℕ) (row : HandleRow) → w.cache reads.top.kind.0 reads.top.key ≡ Some n → GetsRow w w' reads.top.kind n row
-      → answer ≡ None → frames ≡ with_got reads.top.kind row reads.below → ReadingFeels v w reading answer frames w' nothing_felt
-  makes-node : (x : N) (reads : ReadsNode v reading x) (row : HandleRow) → GetsRow w w' reads.top.kind (w.last.node + 1) row → answer ≡ None → frames ≡ with_got reads.top.kind row reads.below
-      → ReadingFeels v w reading answer frames w' (bears_known reads.top.kind.0 reads.top.key (first_key reads.top.kind.0 reads.top.key))
-  reading-ends : (end : LoadAnswer N) → answer ≡ Some end → frames ≡ [] → ReadingFeels v w reading answer frames w' nothing_felt
+  gets-lazy : (kind : Kind) (key : ℕ) (row : HandleRow) → need_of v.types reading.frames ≡ needs_lazy kind key
+      → GetsRow w w' kind (w.last.node + 1) row → answer ≡ None
+      → frames ≡ with_got kind row reading.frames → ReadingFeels v w reading answer frames w'
+      (bears_known kind.0 key (OptionalDataKey.Some key))
+  makes-known : (x : N) (reads : ReadsNode v reading x) (n : ℕ) (row : HandleRow)
+      → w.cache reads.top.kind.0 reads.top.key ≡ Some n → GetsRow w w' reads.top.kind n row
+      → answer ≡ None → frames ≡ with_got reads.top.kind row reads.below
+      → ReadingFeels v w reading answer frames w' nothing_felt
+  makes-node : (x : N) (reads : ReadsNode v reading x) (row : HandleRow)
+      → GetsRow w w' reads.top.kind (w.last.node + 1) row → answer ≡ None → frames
+      ≡ with_got reads.top.kind row reads.below
+      → ReadingFeels v w reading answer frames w' (bears_known reads.top.kind.0 reads.top.key
+      (first_key reads.top.kind.0 reads.top.key))
+  reading-ends : (end : LoadAnswer N) → answer ≡ Some end → frames ≡ []
+      → ReadingFeels v w reading answer frames w' nothing_felt
 
 -- the load has just begun
 abbrev pub IsFresh : Core → Reading → Type 0
@@ -207,17 +242,21 @@ IsFresh w reading = (reading.frames ≡ []) × (reading.steps ≡ 0) × (reading
 
 -- each reading afterwards was there before, or has just begun
 abbrev pub KeepsReadings : World → World → Type 0
-KeepsReadings u u' = (reading : Reading) → IsReadingOf u'.work reading → IsReadingOf u.work reading ⊎ IsFresh u'.core reading
+KeepsReadings u u' = (reading : Reading) → IsReadingOf u'.work reading → IsReadingOf u.work reading
+    ⊎ IsFresh u'.core reading
 
 -- each reading afterwards was there before, or is this one after its step
 abbrev pub StepsReading : {N : Type 0} → World → Reading → Option (LoadAnswer N) → List Frame → World → Type 0
-StepsReading u reading answer frames u' = (after : Reading) → IsReadingOf u'.work after → IsReadingOf u.work after ⊎ ((answer ≡ None) × (after ≡ gone_on reading frames))
+StepsReading u reading answer frames u' = (after : Reading) → IsReadingOf u'.work after → IsReadingOf u.work after
+    ⊎ ((answer ≡ None) × (after ≡ gone_on reading frames))
 
 -- the reading whose step the event makes: one of the machine's, or of an open load that has just begun
 abbrev pub IsSteppedReading : {N B W : Type 0} → World → Event N B W → Reading → Type 0
-IsSteppedReading u (Event.LoadStep l) reading = (reading_at u l ≡ Some reading) × (IsReadingOf u.work reading ⊎ IsFresh u.core reading)
+IsSteppedReading u (Event.LoadStep l) reading = (reading_at u l ≡ Some reading)
+    × (IsReadingOf u.work reading ⊎ IsFresh u.core reading)
 IsSteppedReading u (Event.WorkerStep k) reading =
-    (walking : Walking) × (r : ArcRef) × (place : ℕ) × (through : HandleNumber) × (below : List Todo) × (u.work.walkings k.0 ≡ Some walking) × (walking.todo ≡ to_load r place through reading ∷ below)
+    (walking : Walking) × (r : ArcRef) × (place : ℕ) × (through : HandleNumber) × (below : List Todo)
+    × (u.work.walkings k.0 ≡ Some walking) × (walking.todo ≡ to_load r place through reading ∷ below)
 IsSteppedReading u event reading = ⊥
 
 -- the worker sets the key by its own loose handle
@@ -232,14 +271,20 @@ pub record SetsThrough (u : World) (k : WorkerNumber) (key : ℕ) (row : HandleR
   pub owns : Owns u.core (owner_worker k.0) through is_loose row
 
 -- The effect of an event on trees. Steps other than calls and steps of loads bring no value to any node.
-pub data EventFeels {N B W : Type 0} (v : Values N) (u : World) (event : Event N B W) (reply : EventReply N B W) (u' : World) : Change → Type 0 where
-  by-call : (c : Change) (call : Call N B) (answer : Reply N B) → event ≡ Event.Call call → reply ≡ EventReply.CallReply answer → CallFeels v u.core Owner.Caller call answer u'.core c
+pub data EventFeels {N B W : Type 0} (v : Values N) (u : World) (event : Event N B W) (reply : EventReply N B W)
+    (u' : World) : Change → Type 0 where
+  by-call : (c : Change) (call : Call N B) (answer : Reply N B) → event ≡ Event.Call call → reply
+      ≡ EventReply.CallReply answer → CallFeels v u.core Owner.Caller call answer u'.core c
       → KeepsReadings u u' → EventFeels v u event reply u' c
-  by-reading : (c : Change) (reading : Reading) (answer : Option (LoadAnswer N)) (frames : List Frame) → IsSteppedReading u event reading
-      → (answer ≡ None → (load : OpenLoad) × (u.core.loads reading.load.0 ≡ Some load)) → ReadingFeels v u.core reading answer frames u'.core c → StepsReading u reading answer frames u'
+  by-reading : (c : Change) (reading : Reading) (answer : Option (LoadAnswer N)) (frames : List Frame)
+      → IsSteppedReading u event reading
+      → (answer ≡ None → (load : OpenLoad) × (u.core.loads reading.load.0 ≡ Some load))
+      → ReadingFeels v u.core reading answer frames u'.core c → StepsReading u reading answer frames u'
       → EventFeels v u event reply u' c
-  by-key : (k : WorkerNumber) (key : ℕ) (row : HandleRow) → event ≡ Event.WorkerStep k → SetsThrough u k key row → KeepsReadings u u' → EventFeels v u event reply u' (sets_key row.node.0 key)
-  by-nothing : ((n : ℕ) (x : N) → EventBrings v u event n x → IsNewNode u.core n ⊎ StaysAway u.core u'.core n) → KeepsReadings u u' → EventFeels v u event reply u' nothing_felt
+  by-key : (k : WorkerNumber) (key : ℕ) (row : HandleRow) → event ≡ Event.WorkerStep k → SetsThrough u k key row
+      → KeepsReadings u u' → EventFeels v u event reply u' (sets_key row.node.0 key)
+  by-nothing : ((n : ℕ) (x : N) → EventBrings v u event n x → IsNewNode u.core n ⊎ StaysAway u.core u'.core n)
+      → KeepsReadings u u' → EventFeels v u event reply u' nothing_felt
 
 -- A handle that pins; below: each of these references, which the load owned, is the caller's now.
 pub record HasPin (w : Core) (k : HandleNumber) : Type 0 where
@@ -249,35 +294,44 @@ pub record HasPin (w : Core) (k : HandleNumber) : Type 0 where
 
 abbrev pub HandsOver : Core → LoadNumber → List ArcRef → Core → Type 0
 HandsOver w l references w' = (r : ArcRef) → Among references r
-    → (row : HandleRow) × (row_at w r.handle ≡ Some row) × (row.owner ≡ Owner.Load l) × (row_at w' r.handle ≡ Some (record row { owner = Owner.Caller }))
+    → (row : HandleRow) × (row_at w r.handle ≡ Some row) × (row.owner ≡ Owner.Load l)
+    × (row_at w' r.handle ≡ Some (record row { owner = Owner.Caller }))
 
 abbrev pub PinHolds : {N B W : Type 0} → Event N B W → EventReply N B W → Core → Type 0
 PinHolds (Event.Call (Call.Pin h)) (EventReply.CallReply (Reply.Pin (Ok (Pinning.Pinned k)))) w' = HasPin w' k
-PinHolds (Event.LoadStep l) (EventReply.LoadMoved (Ok reply)) w' = (k : HandleNumber) → reply.ended ≡ Some (LoadAnswer.Pinned k) → HasPin w' k
+PinHolds (Event.LoadStep l) (EventReply.LoadMoved (Ok reply)) w' =
+    (k : HandleNumber) → reply.ended ≡ Some (LoadAnswer.Pinned k) → HasPin w' k
 PinHolds (Event.Call (Call.LoadEnd l x)) (EventReply.CallReply (Reply.LoadEnded (Ok k))) w' = HasPin w' k
-PinHolds (Event.WorkerStep n) (EventReply.WorkerMoved (Ok reply)) w' = (i : Identity) (k : HandleNumber) → reply.action ≡ Action.Pin i (Ok (PinStep.Held k)) → HasPin w' k
+PinHolds (Event.WorkerStep n) (EventReply.WorkerMoved (Ok reply)) w' =
+    (i : Identity) (k : HandleNumber) → reply.action ≡ Action.Pin i (Ok (PinStep.Held k)) → HasPin w' k
 PinHolds event reply w' = Unit {0}
 
 -- the key that a worker is about to set reads as the tree of its handle's node
 abbrev pub KeysAreReady : {N E : Type 0} → Values N → MachineState N E → (ℕ → Tree) → Type 0
-KeysAreReady v s trees = (k : WorkerNumber) (key : ℕ) (row : HandleRow) → SetsThrough (world_of s) k key row → ReadsTree s.pager.core.stored v.types key (trees row.node.0)
+KeysAreReady v s trees = (k : WorkerNumber) (key : ℕ) (row : HandleRow) → SetsThrough (world_of s) k key row
+    → ReadsTree s.pager.core.stored v.types key (trees row.node.0)
 
 -- What a change brings fits the trees afterwards: the key that is set, the key of a new node, what the cache gets, and
 -- each value that is brought into memory.
-pub record ChangeFits {N E : Type 0} (v : Values N) (c : Change) (comes : ℕ → N → Type 0) (s s' : PagerState N E) (trees trees' : ℕ → Tree) : Type 0 where
+pub record ChangeFits {N E : Type 0} (v : Values N) (c : Change) (comes : ℕ → N → Type 0) (s s' : PagerState N E)
+    (trees trees' : ℕ → Tree) : Type 0 where
   pub same : SameTrees s.core.last.node trees trees'
   pub sets : (n key : ℕ) → Sets c n key → ReadsTree s'.core.stored v.types key (trees n)
   pub born : (t : ℕ) (own : OptionalDataKey) → Bears c t own → (trees' (s.core.last.node + 1)).type ≡ t
-  pub keyed : (t key : ℕ) → Bears c t (OptionalDataKey.Some key) → ReadsTree s'.core.stored v.types key (trees' (s.core.last.node + 1))
-  pub knows : (kind key n : ℕ) → Knows c s.core kind key n → ReadsNodeTree v.types s'.core.stored trees' key (type_of kind) n
-  pub comes_well : (n : ℕ) (x : N) → comes n x → s.values n ≡ None → s'.values n ≡ Some x → ValueLeads v trees' x (trees' n)
+  pub keyed : (t key : ℕ) → Bears c t (OptionalDataKey.Some key)
+      → ReadsTree s'.core.stored v.types key (trees' (s.core.last.node + 1))
+  pub knows : (kind key n : ℕ) → Knows c s.core kind key n
+      → ReadsNodeTree v.types s'.core.stored trees' key (type_of kind) n
+  pub comes_well : (n : ℕ) (x : N) → comes n x → s.values n ≡ None → s'.values n ≡ Some x
+      → ValueLeads v trees' x (trees' n)
 
 -- The handle serves for the reference, and both numbers have been given out: while the handle is live, it is of the
 -- reference's node, and loose if the reference's kind is.
 pub record StandsAt (w : Core) (r : ArcRef) (h : HandleNumber) : Type 0 where
   pub node_given : r.node.0 ≤ w.last.node
   pub given : h.0 ≤ w.last.handle
-  pub is : (row : HandleRow) → row_at w h ≡ Some row → (row.node ≡ r.node) × (is_loose_kind r.kind.0 ≡ true → is_loose row.mode ≡ true)
+  pub is : (row : HandleRow) → row_at w h ≡ Some row → (row.node ≡ r.node)
+      × (is_loose_kind r.kind.0 ≡ true → is_loose row.mode ≡ true)
 
 -- the node's number has been given out, and the node has a key as long as it is live
 pub record KeyIsSet (w : Core) (n : ℕ) : Type 0 where
@@ -317,7 +371,8 @@ AllHold w v (x ∷ below) = Holds w v x × WaitsHeld w below
 -- So it is for all workers; and each cell whose key was published for a loose reference has a key.
 pub record KeysHeld (u : World) : Type 0 where
   pub walks : (n : ℕ) (walking : Walking) → u.work.walkings n ≡ Some walking → AllHold u.core n walking.todo
-  pub slots : (t : ℕ) (i : Identity) (key height : ℕ) → IsPublished (u.work.shelves t) i key height → is_loose_kind i.kind.0 ≡ true → KeyIsSet u.core i.node.0
+  pub slots : (t : ℕ) (i : Identity) (key height : ℕ) → IsPublished (u.work.shelves t) i key height
+      → is_loose_kind i.kind.0 ≡ true → KeyIsSet u.core i.node.0
 
 -- what is stored, the number of the last node, and the trees of the nodes
 pub record Ground : Type 0 where
@@ -349,7 +404,8 @@ pub record WroteTree (types : Types) (g : Ground) (n : ℕ) (written : Written) 
 
 -- these references were written of the node, with some bytes
 abbrev pub WroteOver : Types → Ground → ℕ → List ArcRef → Type 0
-WroteOver types g n references = (bytes : List ℕ) × WroteTree types g n (record { bytes = bytes; references = references })
+WroteOver types g n references = (bytes : List ℕ) × WroteTree types g n
+    (record { bytes = bytes; references = references })
 
 -- the reference's key is published, with a height that gives its parent at most this height
 pub record IsLow (shelf : Shelf) (height : ℕ) (r : ArcRef) : Type 0 where
@@ -376,7 +432,8 @@ IsAttained shelf height rs = (height ≡ 0) ⊎ AddsSo shelf height rs
 
 -- The store has, under the node's tree's key, what was written with the published keys of its references. The height is
 -- within the limit, and is the one that the references give.
-pub record BlobStands {N : Type 0} (v : Values N) (g : Ground) (shelf : Shelf) (n : ℕ) (written : Written) (key height : ℕ) : Type 0 where
+pub record BlobStands {N : Type 0} (v : Values N) (g : Ground) (shelf : Shelf) (n : ℕ) (written : Written)
+    (key height : ℕ) : Type 0 where
   pub wrote : WroteTree v.types g n written
   pub keys : List ℕ
   pub known : AreKeysOf shelf written.references keys
@@ -392,19 +449,22 @@ pub record SlotFits {N : Type 0} (v : Values N) (g : Ground) (shelf : Shelf) (i 
   pub given : i.node.0 ≤ g.last
   pub typed : (g.trees i.node.0).type ≡ type_of i.kind.0
   pub writes : (references : List ArcRef) → slot.references ≡ Some references → WroteOver v.types g i.node.0 references
-  pub publishes : (key height : ℕ) → slot.outcome ≡ published key height → (written : Written) × (slot.references ≡ Some written.references) × BlobStands v g shelf i.node.0 written key height
+  pub publishes : (key height : ℕ) → slot.outcome ≡ published key height → (written : Written)
+      × (slot.references ≡ Some written.references) × BlobStands v g shelf i.node.0 written key height
 
 -- keys are published keys of the first of the references, each of which gives its parent at most this height
 abbrev pub KeysSoFar : Shelf → ℕ → List ArcRef → List ℕ → Type 0
 KeysSoFar shelf height rs [] = Unit {0}
 KeysSoFar shelf height [] (k ∷ ks) = ⊥
-KeysSoFar shelf height (r ∷ rs) (k ∷ ks) = ((below : ℕ) × IsPublished shelf (identity_of r) k below × (above r.kind.0 below ≤ height)) × KeysSoFar shelf height rs ks
+KeysSoFar shelf height (r ∷ rs) (k ∷ ks) = ((below : ℕ) × IsPublished shelf (identity_of r) k below
+    × (above r.kind.0 below ≤ height)) × KeysSoFar shelf height rs ks
 
 -- what waits below is waiting for this reference, as the next one after those whose keys are known; if nothing waits,
 -- the reference is the task's entry
 abbrev pub Expects : Task → ArcRef → List Todo → Type 0
 Expects task r (to_finish o ∷ below) = (more : List ArcRef) × (drop (length o.keys) o.written.references ≡ r ∷ more)
-Expects task r (to_item written keys ∷ below) = (more : List ArcRef) × (drop (length keys) written.references ≡ r ∷ more)
+Expects task r (to_item written keys ∷ below) = (more : List ArcRef)
+    × (drop (length keys) written.references ≡ r ∷ more)
 Expects (of_entry h i) r [] = identity_of r ≡ i
 Expects task r below = ⊥
 
@@ -423,9 +483,11 @@ HasRoom r height below = place_over r below + height ≤ longest_path
 unfoldable pub Waits : Shelf → Task → List Todo → Type 0
 Waits shelf task [] = Unit {0}
 Waits shelf task (to_finish o ∷ below) =
-    KeysSoFar shelf o.height o.written.references o.keys × IsAttained shelf o.height o.written.references × (o.place ≡ place_over o.reference below) × HasRoom o.reference o.height below
+    KeysSoFar shelf o.height o.written.references o.keys × IsAttained shelf o.height o.written.references
+    × (o.place ≡ place_over o.reference below) × HasRoom o.reference o.height below
     × Expects task o.reference below × Waits shelf task below
-Waits shelf task (to_item written keys ∷ below) = (task ≡ of_item written) × KeysSoFar shelf longest_path written.references keys
+Waits shelf task (to_item written keys ∷ below) = (task ≡ of_item written)
+    × KeysSoFar shelf longest_path written.references keys
 Waits shelf task (x ∷ below) = ⊥
 
 -- below the reference is what waits for it
@@ -453,9 +515,12 @@ Walks v g shelf task (to_load r place through reading ∷ below) = Placed shelf 
 Walks v g shelf task (to_write r place through ∷ below) = Placed shelf task r place below
 Walks v g shelf task (to_finish o ∷ below) = Waits shelf task (to_finish o ∷ below)
 Walks v g shelf task (to_item written keys ∷ below) = Waits shelf task (to_item written keys ∷ below)
-Walks v g shelf task (to_set r through key height ∷ below) = HasBlob v g shelf r key height × HasRoom r height below × Above shelf task r below
-Walks v g shelf task (to_publish r key height ∷ below) = HasBlob v g shelf r key height × HasRoom r height below × Above shelf task r below
-Walks v g shelf task (to_release r key height ∷ below) = IsPublished shelf (identity_of r) key height × HasRoom r height below × Above shelf task r below
+Walks v g shelf task (to_set r through key height ∷ below) =
+    HasBlob v g shelf r key height × HasRoom r height below × Above shelf task r below
+Walks v g shelf task (to_publish r key height ∷ below) =
+    HasBlob v g shelf r key height × HasRoom r height below × Above shelf task r below
+Walks v g shelf task (to_release r key height ∷ below) =
+    IsPublished shelf (identity_of r) key height × HasRoom r height below × Above shelf task r below
 Walks v g shelf task (to_fail fault back ∷ below) = Unit {0}
 
 abbrev pub SlotsFit : {N : Type 0} → Values N → Ground → Shelf → Type 0
@@ -474,11 +539,14 @@ AllWrote types g (x ∷ below) = Wrote types g x × AllWrote types g below
 -- all slots and all workers of the machine fit the trees
 pub record WorkFits {N E : Type 0} (v : Values N) (s : MachineState N E) (trees : ℕ → Tree) : Type 0 where
   pub slots : (t : ℕ) → SlotsFit v (ground_of s trees) (s.work.shelves t)
-  pub walks : (n : ℕ) (walking : Walking) → s.work.walkings n ≡ Some walking → Walks v (ground_of s trees) (s.work.shelves walking.table) walking.task walking.todo
-  pub wrote : (n : ℕ) (walking : Walking) → s.work.walkings n ≡ Some walking → AllWrote v.types (ground_of s trees) walking.todo
+  pub walks : (n : ℕ) (walking : Walking) → s.work.walkings n ≡ Some walking
+      → Walks v (ground_of s trees) (s.work.shelves walking.table) walking.task walking.todo
+  pub wrote : (n : ℕ) (walking : Walking) → s.work.walkings n ≡ Some walking
+      → AllWrote v.types (ground_of s trees) walking.todo
 
 -- the key is the result of the task: of its item's bytes with the published keys of its references, none of which is
 -- too deep; or of its entry
 abbrev pub IsDone : {N : Type 0} → Values N → Shelf → Task → ℕ → Type 0
-IsDone v shelf (of_item written) key = (keys : List ℕ) × AreKeysOf shelf written.references keys × (key ≡ digest v (blob_of written.bytes keys)) × AllLow shelf longest_path written.references
+IsDone v shelf (of_item written) key = (keys : List ℕ) × AreKeysOf shelf written.references keys
+    × (key ≡ digest v (blob_of written.bytes keys)) × AllLow shelf longest_path written.references
 IsDone v shelf (of_entry h i) key = (height : ℕ) × IsPublished shelf i key height

@@ -18,7 +18,10 @@ abbrev pub Sample : Type 0
 Sample = Option ArcRef
 
 abbrev pub sample_types : Types
-sample_types = record { nodes = λ n. if n == 0 then Some (shapes.reference 4) else Some shapes.nothing; parts = λ n. shapes.nothing }
+sample_types = record {
+  nodes = λ n. if n == 0 then Some (shapes.reference 4) else Some shapes.nothing;
+  parts = λ n. shapes.nothing;
+}
 
 -- the hash is the number of bytes, which is different for the three blobs
 abbrev pub sample : Values Sample
@@ -57,7 +60,8 @@ abbrev pub item : Written
 item = record { bytes = 0 ∷ []; references = record { kind = record { 0 = 1 }; node = node 2; handle = handle 2 } ∷ [] }
 
 abbrev pub born : Core → Sample → Core
-born w x = with_handle (with_node w (sample.node_type x) OptionalDataKey.None (sample.references x)) (next_node w) Mode.LoosePinned Owner.Caller
+born w x = with_handle (with_node w (sample.node_type x) OptionalDataKey.None (sample.references x))
+    (next_node w) Mode.LoosePinned Owner.Caller
 
 abbrev pub new_core : Core
 new_core = empty (λ key. None) (record { handles = 9; entries = 0 })
@@ -92,7 +96,13 @@ pub record Working : Type 0 where
   pub answer : Option WorkerAnswer
 
 abbrev pub begun : Working
-begun = record { core = with_worker both_born; shelf = no_shelf; todo = first_todo (of_item item); steps = 0; answer = None }
+begun = record {
+  core = with_worker both_born;
+  shelf = no_shelf;
+  todo = first_todo (of_item item);
+  steps = 0;
+  answer = None;
+}
 
 -- the worker's clone of a loose handle
 abbrev pub cloned : Core → NodeNumber → Core
@@ -108,22 +118,53 @@ value_of n = if_there (λ x. x) None (value_at two_values n.0)
 -- the action of a step; and pager, table and list after it
 abbrev pub next_step : Core → Shelf → List Todo → Action Written × Core × Shelf × List Todo
 next_step w s (to_start r place ∷ below) =
-    let claimed = with_slot (with_wait s 1 None) (identity_of r) (Some (record { worker = 1; references = None; outcome = no_result })) in
+    let claimed = with_slot (with_wait s 1 None) (identity_of r)
+    (Some (record { worker = 1; references = None; outcome = no_result })) in
     (Action.Claim (identity_of r) (Ok Claim.Claimed), w, claimed, to_pin r place ∷ below)
 next_step w s (to_pin r place ∷ below) =
-    let through = handle (w.last.handle + 1) in let pinned = with_handle (with_mode (cloned w r.node) through Mode.LoosePinned) r.node Mode.Pinned (owner_worker 1) in
-    (Action.Pin (identity_of r) (Ok (PinStep.Held (handle (w.last.handle + 1 + 1)))), pinned, s, to_write r place through ∷ below)
+    let through = handle (w.last.handle + 1) in let pinned =
+    with_handle (with_mode (cloned w r.node) through Mode.LoosePinned) r.node Mode.Pinned (owner_worker 1) in (
+      Action.Pin (identity_of r) (Ok (PinStep.Held (handle (w.last.handle + 1 + 1)))),
+      pinned,
+      s,
+      to_write r place through ∷ below,
+    )
 next_step w s (to_write r place through ∷ below) =
-    let written = sample_written (value_of r.node) in
-    (Action.Write (identity_of r) (Ok written), w, with_changed_slot s (identity_of r) (λ slot. record slot { references = Some written.references }), open_node r place through written below)
+    let written = sample_written (value_of r.node) in (
+      Action.Write (identity_of r) (Ok written),
+      w,
+      with_changed_slot s (identity_of r)
+          (λ slot. record slot { references = Some written.references }),
+      open_node r place through written below,
+    )
 next_step w s (to_finish o ∷ below) =
-    let blob = blob_of o.written.bytes o.keys in let key = digest sample blob in
-    (Action.Store (Some (identity_of o.reference)) (Ok key), with_blob w blob, s, to_set o.reference o.through key o.height ∷ below)
-next_step w s (to_set r through key height ∷ below) = (Action.SetKey (identity_of r) (Ok tt), fallen (with_key w r.node key) nobody [], s, to_publish r key height ∷ below)
-next_step w s (to_publish r key height ∷ below) =
-    (Action.Publish (identity_of r) key height, w, with_changed_slot s (identity_of r) (with_outcome (published key height)), to_release r key height ∷ below)
-next_step w s (to_release r key height ∷ below) = (Action.Release (identity_of r), fallen w (is_workers_at w 1 r.node.0) [], s, give r key height below)
-next_step w s (to_item written keys ∷ below) = let blob = blob_of written.bytes keys in (Action.Store None (Ok (digest sample blob)), with_blob w blob, s, [])
+    let blob = blob_of o.written.bytes o.keys in let key = digest sample blob in (
+      Action.Store (Some (identity_of o.reference)) (Ok key),
+      with_blob w blob,
+      s,
+      to_set o.reference o.through key o.height ∷ below,
+    )
+next_step w s (to_set r through key height ∷ below) = (
+  Action.SetKey (identity_of r) (Ok tt),
+  fallen (with_key w r.node key) nobody [],
+  s,
+  to_publish r key height ∷ below,
+)
+next_step w s (to_publish r key height ∷ below) = (
+  Action.Publish (identity_of r) key height,
+  w,
+  with_changed_slot s (identity_of r)
+      (with_outcome (published key height)),
+  to_release r key height ∷ below,
+)
+next_step w s (to_release r key height ∷ below) = (
+  Action.Release (identity_of r),
+  fallen w (is_workers_at w 1 r.node.0) [],
+  s,
+  give r key height below,
+)
+next_step w s (to_item written keys ∷ below) = let blob =
+    blob_of written.bytes keys in (Action.Store None (Ok (digest sample blob)), with_blob w blob, s, [])
 next_step w s todo = (Action.Fail, w, s, [])
 
 -- a worker ends with its result
@@ -151,7 +192,8 @@ evicted = fallen (with_mode answered.core (handle 2) Mode.LooseUnpinned) outer [
 
 -- the caller's load of the parent owns a handle of the parent, and gets a handle of a new cell for the child
 abbrev pub loading : Core
-loading = with_load (with_handle evicted (node 2) Mode.LooseUnpinned (Owner.Load (load_number 1))) 24 (of_cell (node 2) 0 (handle 2)) Owner.Caller
+loading = with_load (with_handle evicted (node 2) Mode.LooseUnpinned (Owner.Load (load_number 1))) 24
+    (of_cell (node 2) 0 (handle 2)) Owner.Caller
 
 abbrev pub child_got : Core
 child_got = adopted loading (load_number 1) (record { 0 = 4 }) 8 (OptionalDataKey.Some 8) []
@@ -164,7 +206,8 @@ left_over w l handed q = is_owned_in w (Owner.Load (load_number l)) q && not (ha
 abbrev pub loaded : Core
 loaded =
     let w = child_got in let named = is_named_by (to_leaf 3 8 ∷ []) in
-    fallen (with_pin (record (without_load w (load_number 1)) { rows = moved named (owner_value 2) w.rows }) (handle 2) (node 2) Owner.Caller) (left_over w 1 named) []
+    fallen (with_pin (record (without_load w (load_number 1)) { rows = moved named (owner_value 2) w.rows }) (handle 2)
+    (node 2) Owner.Caller) (left_over w 1 named) []
 
 -- the caller's load of the child's key, which hands over no handle
 abbrev pub key_loading : Core
@@ -190,10 +233,23 @@ abbrev pub reads : Option Reading → ℕ → Option Reading
 reads reading l = if_there (λ (r : Reading). updated r.load.0 (Some r) (λ q. None) l) None reading
 
 abbrev pub work_of : Shelf → Option Walking → Option Reading → Work
-work_of shelf walking reading = record { shelves = updated 1 shelf (λ t. no_shelf); last_table = 1; readings = reads reading; walkings = updated 1 walking (λ v. None) }
+work_of shelf walking reading = record {
+  shelves = updated 1 shelf (λ t. no_shelf);
+  last_table = 1;
+  readings = reads reading;
+  walkings = updated 1 walking (λ v. None);
+}
 
 abbrev pub machine : Core → List (Option Sample) → Work → MachineState Sample (Unit {0})
-machine core values work = record { pager = record { core = core; counts = λ n. pins n core.rows; values = value_at values; environment = tt }; work = work }
+machine core values work = record {
+  pager = record {
+    core = core;
+    counts = λ n. pins n core.rows;
+    values = value_at values;
+    environment = tt;
+  };
+  work = work;
+}
 
 abbrev pub new_one : MachineState Sample (Unit {0})
 new_one = machine new_core [] no_work
@@ -207,13 +263,17 @@ at_work x = machine x.core two_values (work_of x.shelf (Some (walking x)) None)
 abbrev pub Happening : Type 0
 Happening = Moment Sample (Unit {0}) Blob Written
 
-abbrev pub moment : Event Sample Blob Written → EventReply Sample Blob Written → MachineState Sample (Unit {0}) → Happening
+abbrev pub moment : Event Sample Blob Written → EventReply Sample Blob Written → MachineState Sample (Unit {0})
+    → Happening
 moment event reply after = record { event = event; reply = reply; after = after }
 
 abbrev pub births : List Happening
-births = moment Event.TableNew (EventReply.TableMade (Ok (record { 0 = 1 }))) (machine new_core [] (work_of no_shelf None None))
-    ∷ moment (Event.Call (Call.NewLoose None)) (EventReply.CallReply (Reply.Made (Ok (handle 1)))) (machine child_born (None ∷ Some None ∷ []) (work_of no_shelf None None))
-    ∷ moment (Event.Call (Call.NewLoose (Some (to_leaf 1 1)))) (EventReply.CallReply (Reply.Made (Ok (handle 2)))) (machine both_born two_values (work_of no_shelf None None))
+births = moment Event.TableNew (EventReply.TableMade (Ok (record { 0 = 1 })))
+    (machine new_core [] (work_of no_shelf None None))
+    ∷ moment (Event.Call (Call.NewLoose None)) (EventReply.CallReply (Reply.Made (Ok (handle 1))))
+    (machine child_born (None ∷ Some None ∷ []) (work_of no_shelf None None))
+    ∷ moment (Event.Call (Call.NewLoose (Some (to_leaf 1 1)))) (EventReply.CallReply (Reply.Made (Ok (handle 2))))
+    (machine both_born two_values (work_of no_shelf None None))
     ∷ moment (Event.WorkerItem (record { 0 = 1 }) item) (EventReply.WorkerMade (Ok (record { 0 = 1 }))) (at_work begun)
     ∷ []
 
@@ -223,30 +283,39 @@ page_out zero x = []
 page_out (suc n) x =
     let y = next x in
     moment (Event.WorkerStep (record { 0 = 1 }))
-    (EventReply.WorkerMoved (Ok (record { action = (next_step x.core x.shelf x.todo).0; answer = y.answer; steps = y.steps }))) (at_work y) ∷ page_out n y
+    (EventReply.WorkerMoved (Ok (record {
+      action = (next_step x.core x.shelf x.todo).0;
+      answer = y.answer;
+      steps = y.steps;
+    }))) (at_work y) ∷ page_out n y
 
 -- the machine after the worker has ended; below: a load's step
 abbrev pub afterwards : Core → List (Option Sample) → Option Reading → MachineState Sample (Unit {0})
 afterwards core values reading = machine core values (work_of answered.shelf (Some (walking answered)) reading)
 
 abbrev pub read_step : ℕ → Option (LoadAnswer Sample) → ℕ → MachineState Sample (Unit {0}) → Happening
-read_step l ended steps after = moment (Event.LoadStep (load_number l)) (EventReply.LoadMoved (Ok (record { ended = ended; steps = steps }))) after
+read_step l ended steps after = moment (Event.LoadStep (load_number l))
+    (EventReply.LoadMoved (Ok (record { ended = ended; steps = steps }))) after
 
 -- the eviction, the load of the parent and the load of the child's key
 abbrev pub loads : List Happening
-loads = moment (Event.Call (Call.Unpin (handle 2))) (EventReply.CallReply (Reply.Done (Ok tt))) (afterwards evicted [] None)
-    ∷ moment (Event.LoadStart (handle 2)) (EventReply.Started (Ok (Beginning.Load (load_number 1) 24))) (afterwards loading [] None)
+loads = moment (Event.Call (Call.Unpin (handle 2))) (EventReply.CallReply (Reply.Done (Ok tt)))
+    (afterwards evicted [] None)
+    ∷ moment (Event.LoadStart (handle 2)) (EventReply.Started (Ok (Beginning.Load (load_number 1) 24)))
+    (afterwards loading [] None)
     ∷ read_step 1 None 1 (afterwards loading [] (Some parent_fetched))
     ∷ read_step 1 None 2 (afterwards child_got [] (Some parent_read))
     ∷ read_step 1 (Some (LoadAnswer.Pinned (handle 9))) 3 (afterwards loaded last_values None)
-    ∷ moment (Event.LoadKey 8 1) (EventReply.Started (Ok (Beginning.Load (load_number 2) 8))) (afterwards key_loading last_values (Some (fresh (load_number 2) 1)))
+    ∷ moment (Event.LoadKey 8 1) (EventReply.Started (Ok (Beginning.Load (load_number 2) 8)))
+    (afterwards key_loading last_values (Some (fresh (load_number 2) 1)))
     ∷ read_step 2 None 1 (afterwards key_loading last_values (Some child_fetched))
     ∷ read_step 2 (Some (LoadAnswer.Read None)) 2 (afterwards read_back last_values None)
     ∷ []
 
 -- at the end: a count of the pins of the parent
 abbrev pub counts : ℕ → List Happening
-counts n = moment (Event.Call (Call.Count (handle 2))) (EventReply.CallReply (Reply.Count (Ok n))) (afterwards read_back last_values None) ∷ []
+counts n = moment (Event.Call (Call.Count (handle 2))) (EventReply.CallReply (Reply.Count (Ok n)))
+    (afterwards read_back last_values None) ∷ []
 
 abbrev pub moments : ℕ → List Happening
 moments n = births ++ (page_out 15 begun ++ (loads ++ counts n))
@@ -256,7 +325,8 @@ moments n = births ++ (page_out 15 begun ++ (loads ++ counts n))
 -- what is asked of each moment, for any trees
 abbrev pub ArePremised : MachineState Sample (Unit {0}) → List Happening → Type 0
 ArePremised s [] = Unit {0}
-ArePremised s (x ∷ xs) = ((trees : ℕ → Tree) → IsPremised sample s trees x.event x.reply x.after) × ArePremised x.after xs
+ArePremised s (x ∷ xs) = ((trees : ℕ → Tree) → IsPremised sample s trees x.event x.reply x.after)
+    × ArePremised x.after xs
 
 -- The chain satisfies the headline, from a new machine that stands for any trees; and so is all that the headline asks
 -- of values, of the chain's beginning and of its moments. With any other count at its end it would be no chain.

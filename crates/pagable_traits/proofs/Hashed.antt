@@ -40,7 +40,8 @@ front-set d y [] k lt = absurd (omega arith)
 front-set d y (z ∷ zs) zero lt = two-turned y z zs
 front-set d y (z ∷ zs) (suc k) lt =
     let x = get_or zs k d in
-    and-then _ (z ∷ y ∷ zs) _ (two-turned y z zs) (and-then _ (z ∷ x ∷ set zs k y) _ (same-front z _ _ (front-set d y zs k (omega arith))) (two-turned z x (set zs k y)))
+    and-then _ (z ∷ y ∷ zs) _ (two-turned y z zs) (and-then _ (z ∷ x ∷ set zs k y) _ (same-front z _ _ (front-set d y zs k (omega arith)))
+    (two-turned z x (set zs k y)))
 
 two-set : {X : Type 0} (d : X) (xs : List X) (i j : ℕ) → i < length xs → j < length xs → Reordered xs (set (set xs i (get_or xs j d)) j (get_or xs i d))
 two-set d [] i j p q = absurd (omega arith)
@@ -110,7 +111,8 @@ module _ {K V : Type 0} (cmp : K → K → Ordering) (total : IsTotalOrder cmp) 
   turn acc a b other = let apart : is_eq (cmp a.0 b.0) ≡ false = ties a.0 b.0 ∙ other in grind (arith, turn-less, below, apart)
 
   -- an entry may as well come after others
-  pub put-late : (acc : List (K × V)) (e : K × V) (es : List (K × V)) → AllAfter OtherKey e es → put_all put_key (put_key acc e) es ≡ put_key (put_all put_key acc es) e
+  pub put-late : (acc : List (K × V)) (e : K × V) (es : List (K × V)) → AllAfter OtherKey e es → put_all put_key (put_key acc e) es
+      ≡ put_key (put_all put_key acc es) e
   unfolding put_all AllAfter
   put-late acc e [] other = refl
   put-late acc e (x ∷ xs) other = ap (λ (zs : List (K × V)). put_all put_key zs xs) (sym (turn acc x e other.0)) ∙ put-late (put_key acc x) e xs other.1
@@ -127,9 +129,11 @@ module _ {K V : Type 0} (cmp : K → K → Ordering) (total : IsTotalOrder cmp) 
   put-reordered [] e other = reordered-same (e ∷ [])
   put-reordered (y ∷ ys) e other = by_case (put-reordered ys e other.1) (cmp e.0 y.0) refl
     where
-      by_case : Reordered (e ∷ ys) (put_key ys e) → (o : Ordering) → cmp e.0 y.0 ≡ o → Reordered (e ∷ y ∷ ys) (match_ordering o ((e.0, e.1) ∷ y ∷ ys) ((y.0, e.1) ∷ ys) (y ∷ put_key ys e))
+      by_case : Reordered (e ∷ ys) (put_key ys e) → (o : Ordering) → cmp e.0 y.0 ≡ o
+          → Reordered (e ∷ y ∷ ys) (match_ordering o ((e.0, e.1) ∷ y ∷ ys) ((y.0, e.1) ∷ ys) (y ∷ put_key ys e))
       by_case later Ordering.Less f = reordered-same (e ∷ y ∷ ys)
-      by_case later Ordering.Equal f = let t : is_eq (cmp e.0 y.0) ≡ true = ap is_eq f in let u : is_eq (cmp e.0 y.0) ≡ false = ties e.0 y.0 ∙ other-back y e other.0 in cc
+      by_case later Ordering.Equal f = let t : is_eq (cmp e.0 y.0) ≡ true = ap is_eq f in let u : is_eq (cmp e.0 y.0) ≡ false =
+          ties e.0 y.0 ∙ other-back y e other.0 in cc
       by_case later Ordering.Greater f = and-then _ (y ∷ e ∷ ys) _ (two-turned e y ys) (same-front y _ _ later)
 
   -- entries with different keys are all there once they are put in order
@@ -138,7 +142,8 @@ module _ {K V : Type 0} (cmp : K → K → Ordering) (total : IsTotalOrder cmp) 
   in-order-reordered [] h = no-items
   in-order-reordered (e ∷ es) h =
       let rest = in-order-reordered es h.1 in
-      let moved : Reordered (e ∷ es) (put_key (in_order es) e) = and-then _ (e ∷ in_order es) _ (same-front e _ _ rest) (put-reordered (in_order es) e (after-reordered OtherKey e rest h.0)) in
+      let moved : Reordered (e ∷ es) (put_key (in_order es) e) = and-then _ (e ∷ in_order es) _ (same-front e _ _ rest)
+      (put-reordered (in_order es) e (after-reordered OtherKey e rest h.0)) in
       let P : List (K × V) → Type 0 = λ zs. Reordered (e ∷ es) zs in
       subst P (sym (put-late [] e es h.0)) moved
 
@@ -154,15 +159,18 @@ module _ {K V : Type 0} (cmp : K → K → Ordering) (total : IsTotalOrder cmp) 
   same-after k v y same (x ∷ xs) h = (sym (ties x.0 k) ∙ ap is_eq (alike_right total k y.0 x.0 same) ∙ ties x.0 y.0 ∙ h.0, same-after k v y same xs h.1)
 
   -- a replaced value is one that is put in later
-  pub put-value : (test : K → Bool) (k : K) (v : V) → ((q : K) → is_eq (cmp k q) ≡ test q) → (acc es : List (K × V)) → Apart OtherKey es → is_some (lookup test es) ≡ true → put_all put_key acc (set_value test es v) ≡ put_key (put_all put_key acc es) (k, v)
+  pub put-value : (test : K → Bool) (k : K) (v : V) → ((q : K) → is_eq (cmp k q) ≡ test q) → (acc es : List (K × V)) → Apart OtherKey es
+      → is_some (lookup test es) ≡ true → put_all put_key acc (set_value test es v) ≡ put_key (put_all put_key acc es) (k, v)
   unfolding put_all Apart
   put-value test k v agrees acc [] apart found = cc
   put-value test k v agrees acc (y ∷ ys) apart found = by_case (put-value test k v agrees (put_key acc y) ys apart.1) (test y.0) refl
     where
-      by_case : (is_some (lookup test ys) ≡ true → put_all put_key (put_key acc y) (set_value test ys v) ≡ put_key (put_all put_key (put_key acc y) ys) (k, v)) → (b : Bool) → test y.0 ≡ b → put_all put_key acc (set_value test (y ∷ ys) v) ≡ put_key (put_all put_key acc (y ∷ ys)) (k, v)
+      by_case : (is_some (lookup test ys) ≡ true → put_all put_key (put_key acc y) (set_value test ys v) ≡ put_key (put_all put_key (put_key acc y) ys) (k, v))
+          → (b : Bool) → test y.0 ≡ b → put_all put_key acc (set_value test (y ∷ ys) v) ≡ put_key (put_all put_key acc (y ∷ ys)) (k, v)
       by_case rest true e =
           let same : cmp k y.0 ≡ Ordering.Equal = equal-by (cmp k y.0) (agrees y.0 ∙ e) in
-          rw e (ap (λ (zs : List (K × V)). put_all put_key zs ys) (sym (put-again acc y k v same)) ∙ put-late (put_key acc y) (k, v) ys (same-after k v y same ys apart.0))
+          rw e (ap (λ (zs : List (K × V)). put_all put_key zs ys) (sym (put-again acc y k v same))
+          ∙ put-late (put_key acc y) (k, v) ys (same-after k v y same ys apart.0))
       by_case rest false e = let later : is_some (lookup test ys) ≡ true = rw e at found in rw e (rest later)
 
 -- the order in which a hash map's entries are put in its meaning, and that it tells the keys apart
@@ -177,31 +185,43 @@ ties-alike a b = is_eq-slice_cmp (code (plain a)) (code (plain b))
 
 -- ---- entries in another order mean the same, and their forms are those of the others in another order
 
-alike-reordered : {X Y : Type 0} (P : X → Y → Type 0) {xs zs : List X} → Reordered xs zs → {ys : List Y} → Alike P xs ys → (ws : List Y) × Alike P zs ws × Reordered ys ws
+alike-reordered : {X Y : Type 0} (P : X → Y → Type 0) {xs zs : List X} → Reordered xs zs → {ys : List Y} → Alike P xs ys → (ws : List Y) × Alike P zs ws
+    × Reordered ys ws
 alike-reordered P no-items alike-none = ([], alike-none, no-items)
-alike-reordered P (same-front x xs zs k) (alike-more x2 y xs2 ys h t) = let r = alike-reordered P k t in (y ∷ r.0, alike-more x y zs r.0 h r.1, same-front y _ _ r.2)
-alike-reordered P (two-turned x z xs) (alike-more x2 y xs2 ys h (alike-more z2 w xs3 ws g t)) = (w ∷ y ∷ ws, alike-more z w _ _ g (alike-more x y xs ws h t), two-turned y w ws)
+alike-reordered P (same-front x xs zs k) (alike-more x2 y xs2 ys h t) = let r =
+    alike-reordered P k t in (y ∷ r.0, alike-more x y zs r.0 h r.1, same-front y _ _ r.2)
+alike-reordered P (two-turned x z xs) (alike-more x2 y xs2 ys h (alike-more z2 w xs3 ws g t)) =
+    (w ∷ y ∷ ws, alike-more z w _ _ g (alike-more x y xs ws h t), two-turned y w ws)
 alike-reordered P (and-then xs vs zs k l) h = let r = alike-reordered P k h in let s = alike-reordered P l r.1 in (s.0, s.1, and-then _ _ _ r.2 s.2)
 
-entries-reordered : {parts : ℕ → Shape} {left : ℕ} {s t : Shape} {ds es : List (Entry ArcRef)} {b : List ℕ} {k : List ArcRef} → Reordered ds es → Entries ArcRef kind_of_arc parts left s t ds b k → (c : List ℕ) × (j : List ArcRef) × Entries ArcRef kind_of_arc parts left s t es c j
+entries-reordered : {parts : ℕ → Shape} {left : ℕ} {s t : Shape} {ds es : List (Entry ArcRef)} {b : List ℕ} {k : List ArcRef} → Reordered ds es
+    → Entries ArcRef kind_of_arc parts left s t ds b k → (c : List ℕ) × (j : List ArcRef) × Entries ArcRef kind_of_arc parts left s t es c j
 entries-reordered {b = b} {k = k} no-items f = (b, k, f)
-entries-reordered (same-front x xs ys h) (more-entries d s t m n es b1 b2 c j1 j2 l f g rest) = let r = entries-reordered h rest in (_, _, more-entries d s t m n ys b1 b2 r.0 j1 j2 r.1 f g r.2)
+entries-reordered (same-front x xs ys h) (more-entries d s t m n es b1 b2 c j1 j2 l f g rest) = let r =
+    entries-reordered h rest in (_, _, more-entries d s t m n ys b1 b2 r.0 j1 j2 r.1 f g r.2)
 entries-reordered (two-turned x y xs) (more-entries d s t m n es b1 b2 c j1 j2 l f g (more-entries d2 s2 t2 p q fs b3 b4 c2 j3 j4 l2 h i rest)) =
     (_, _, more-entries d s t p q _ b3 b4 _ j3 j4 _ h i (more-entries d s t m n fs b1 b2 c2 j1 j2 l2 f g rest))
 entries-reordered (and-then xs ys zs h k) f = let r = entries-reordered h f in entries-reordered k r.2
 
-pub hash_maps_mean_alike : {K V : Type 0} (M : K → Meaning ArcRef → Type 0) (N : V → Meaning ArcRef → Type 0) (eq : K → K → Bool) → IsSameOf M eq → (xs ys : List (K × V)) (m : Meaning ArcRef) → IsDistinct eq (keys_of xs) → IsPermutation xs ys → MeansHashMap M N xs m → MeansHashMap M N ys m
+pub hash_maps_mean_alike : {K V : Type 0} (M : K → Meaning ArcRef → Type 0) (N : V → Meaning ArcRef → Type 0) (eq : K → K → Bool) → IsSameOf M eq
+    → (xs ys : List (K × V)) (m : Meaning ArcRef) → IsDistinct eq (keys_of xs) → IsPermutation xs ys → MeansHashMap M N xs m → MeansHashMap M N ys m
 hash_maps_mean_alike M N eq is xs ys m distinct moved means =
     let es = entries-of-pairs M N means.each in
     let same : means.es ≡ es.0 = same-entries means.es es.0 es.1 in
     let r = alike-reordered (EntryMeans M N) (reordered xs ys moved) es.2 in
     let apart = differ M N eq is xs es.0 es.2 distinct in
-    record { es = r.0; each = pairs-of-entries M N r.1; is = means.is ∙ ap of_hash_map same ∙ ap of_entries (any-order of_keys total same_key ties-alike r.2 [] apart) }
+    record {
+      es = r.0;
+      each = pairs-of-entries M N r.1;
+      is = means.is ∙ ap of_hash_map same
+          ∙ ap of_entries (any-order of_keys total same_key ties-alike r.2 [] apart);
+    }
 
 -- ---- writing
 
 -- a form of a map has a form of each entry, whatever their order
-hash-map-parts : (n : Nesting) {s t : Shape} {m : Meaning ArcRef} {b : List ℕ} {k : List ArcRef} (es : List (Entry ArcRef)) → Differ es → FormAt n (hash_map s t) m b k → m ≡ of_hash_map es
+hash-map-parts : (n : Nesting) {s t : Shape} {m : Meaning ArcRef} {b : List ℕ} {k : List ArcRef} (es : List (Entry ArcRef)) → Differ es
+    → FormAt n (hash_map s t) m b k → m ≡ of_hash_map es
     → (length es ≤ longest) × ((c : List ℕ) × (j : List ArcRef) × FormsAt n (both s t) (map entry es) c j)
 hash-map-parts n es differs (hash-map-form l s t ds b k le apart f) e =
     let same : put_all (put_sorted code_order) [] ds ≡ put_all (put_sorted code_order) [] es = same-entries _ _ (sequence-same _ _ e) in
@@ -213,11 +233,13 @@ hash-map-parts n es differs (hash-map-form l s t ds b k le apart f) e =
     let short : length es ≤ longest = rw (← reordered-length moved) le in
     (short, (g.0, g.1, forms-of-entries g.2))
 
-pub wraps_hash_map : {K V : Type 0} (M : K → Meaning ArcRef → Type 0) (N : V → Meaning ArcRef → Type 0) (eq : K → K → Bool) → IsSameOf M eq → (xs : List (K × V)) (n : Nesting) (s t : Shape) → IsDistinct eq (keys_of xs) → Wraps (MeansPair M N) xs (MeansHashMap M N xs) n (hash_map s t) (both s t)
+pub wraps_hash_map : {K V : Type 0} (M : K → Meaning ArcRef → Type 0) (N : V → Meaning ArcRef → Type 0) (eq : K → K → Bool) → IsSameOf M eq
+    → (xs : List (K × V)) (n : Nesting) (s t : Shape) → IsDistinct eq (keys_of xs) → Wraps (MeansPair M N) xs (MeansHashMap M N xs) n (hash_map s t) (both s t)
 wraps_hash_map M N eq is xs n s t distinct = record {
   joins = λ ms b k each le f.
       let w = entries-written M N each f in
-      let form : FormAt n (hash_map s t) (of_hash_map w.es) (length_form (length ms) ++ b) k = rw w.long (hash-map-form _ s t w.es b k (rw (← w.long) le) (differ M N eq is xs w.es w.mean distinct) w.form) in
+      let form : FormAt n (hash_map s t) (of_hash_map w.es) (length_form (length ms) ++ b) k =
+      rw w.long (hash-map-form _ s t w.es b k (rw (← w.long) le) (differ M N eq is xs w.es w.mean distinct) w.form) in
       (of_hash_map w.es, record { es = w.es; each = rw w.is at each; is = refl }, form);
   splits = λ ms each.
       let es = entries-of-pairs M N each in (
@@ -232,17 +254,20 @@ wraps_hash_map M N eq is xs n s t distinct = record {
 
 -- ---- putting in
 
-set-means : {K V : Type 0} (M : K → Meaning ArcRef → Type 0) (N : V → Meaning ArcRef → Type 0) (eq : K → K → Bool) → IsSameOf M eq → (x : K × V) (e : Entry ArcRef) → M x.0 e.0 → N x.1 e.1 → {xs : List (K × V)} {es : List (Entry ArcRef)} → EntriesMean M N xs es
+set-means : {K V : Type 0} (M : K → Meaning ArcRef → Type 0) (N : V → Meaning ArcRef → Type 0) (eq : K → K → Bool) → IsSameOf M eq
+    → (x : K × V) (e : Entry ArcRef) → M x.0 e.0 → N x.1 e.1 → {xs : List (K × V)} {es : List (Entry ArcRef)} → EntriesMean M N xs es
     → EntriesMean M N (set_value (eq x.0) xs x.1) (set_value (same_key e.0) es e.1)
 set-means M N eq is x e first second alike-none = alike-none
 set-means M N eq is x e first second (alike-more y f xs es g t) = grind (arith, entry-more M N, set-means M N eq is x e first second t)
 
-found-alike : {K V : Type 0} (M : K → Meaning ArcRef → Type 0) (N : V → Meaning ArcRef → Type 0) (eq : K → K → Bool) → IsSameOf M eq → (x : K) (e : Meaning ArcRef) → M x e → {xs : List (K × V)} {es : List (Entry ArcRef)} → EntriesMean M N xs es
+found-alike : {K V : Type 0} (M : K → Meaning ArcRef → Type 0) (N : V → Meaning ArcRef → Type 0) (eq : K → K → Bool) → IsSameOf M eq
+    → (x : K) (e : Meaning ArcRef) → M x e → {xs : List (K × V)} {es : List (Entry ArcRef)} → EntriesMean M N xs es
     → is_some (lookup (same_key e) es) ≡ is_some (lookup (eq x) xs)
 found-alike M N eq is x e first alike-none = refl
 found-alike M N eq is x e first (alike-more y f xs es g t) = grind (arith, found-alike M N eq is x e first t)
 
-none-apart : (e : Entry ArcRef) (es : List (Entry ArcRef)) → is_some (lookup (same_key e.0) es) ≡ false → AllAfter (λ (d f : Entry ArcRef). same_key d.0 f.0 ≡ false) e es
+none-apart : (e : Entry ArcRef) (es : List (Entry ArcRef)) → is_some (lookup (same_key e.0) es) ≡ false
+    → AllAfter (λ (d f : Entry ArcRef). same_key d.0 f.0 ≡ false) e es
 unfolding AllAfter
 none-apart e [] h = tt
 none-apart e (f ∷ es) h = let back = other-back of_keys total same_key ties-alike e f in grind (arith, back, none-apart e es)
@@ -254,26 +279,42 @@ record InOrder {K V : Type 0} (M : K → Meaning ArcRef → Type 0) (N : V → M
   is : put_all (put_sorted code_order) [] fs ≡ es
 
 -- one more entry is put in wherever it stands
-one-more : {K V : Type 0} (M : K → Meaning ArcRef → Type 0) (N : V → Meaning ArcRef → Type 0) (eq : K → K → Bool) → IsSameOf M eq → (xs ys : List (K × V)) (es : List (Entry ArcRef)) (x : K × V) (e : Entry ArcRef) → IsDistinct eq (keys_of xs) → EntriesMean M N xs es → M x.0 e.0 → N x.1 e.1
+one-more : {K V : Type 0} (M : K → Meaning ArcRef → Type 0) (N : V → Meaning ArcRef → Type 0) (eq : K → K → Bool) → IsSameOf M eq
+    → (xs ys : List (K × V)) (es : List (Entry ArcRef)) (x : K × V) (e : Entry ArcRef) → IsDistinct eq (keys_of xs) → EntriesMean M N xs es → M x.0 e.0
+    → N x.1 e.1
     → PutsAnywhere eq xs x ys → InOrder M N ys (put_sorted code_order (put_all (put_sorted code_order) [] es) e)
 unfolding Apart put_all
 one-more {K} {V} M N eq is xs ys es x e distinct mean first second puts = by_case (lookup (eq x.0) xs) refl puts.1
   where
-    by_case : (o : Option V) → lookup (eq x.0) xs ≡ o → MatchOption o (IsPermutation (x ∷ xs) ys) (λ _. ys ≡ set_value (eq x.0) xs x.1) → InOrder M N ys (put_sorted code_order (put_all (put_sorted code_order) [] es) e)
+    by_case : (o : Option V) → lookup (eq x.0) xs ≡ o → MatchOption o (IsPermutation (x ∷ xs) ys) (λ _. ys ≡ set_value (eq x.0) xs x.1)
+        → InOrder M N ys (put_sorted code_order (put_all (put_sorted code_order) [] es) e)
     by_case None p moved =
         let r = alike-reordered (EntryMeans M N) (reordered (x ∷ xs) ys moved) (entry-more M N x e xs es first second mean) in
         let none : is_some (lookup (same_key e.0) es) ≡ false = found-alike M N eq is x.0 e.0 first mean ∙ ap is_some p in
         let apart : Differ (e ∷ es) = (none-apart e es none, differ M N eq is xs es mean distinct) in
-        record { fs = r.0; mean = r.1; is = sym (any-order of_keys total same_key ties-alike r.2 [] apart) ∙ put-late of_keys total same_key ties-alike [] e es apart.0 }
+        record {
+          fs = r.0;
+          mean = r.1;
+          is = sym (any-order of_keys total same_key ties-alike r.2 [] apart)
+              ∙ put-late of_keys total same_key ties-alike [] e es apart.0;
+        }
     by_case (Some v) p set =
         let found : is_some (lookup (same_key e.0) es) ≡ true = found-alike M N eq is x.0 e.0 first mean ∙ ap is_some p in
         let apart = differ M N eq is xs es mean distinct in
         let there : EntriesMean M N ys (set_value (same_key e.0) es e.1) = rw set (set-means M N eq is x e first second mean) in
-        record { fs = set_value (same_key e.0) es e.1; mean = there; is = put-value of_keys total same_key ties-alike (same_key e.0) e.0 e.1 (λ q. ties-alike e.0 q) [] es apart found }
+        record {
+          fs = set_value (same_key e.0) es e.1;
+          mean = there;
+          is = put-value of_keys total same_key ties-alike (same_key e.0) e.0 e.1
+              (λ q. ties-alike e.0 q) [] es apart found;
+        }
 
 -- and so are all
-all-more : {K V : Type 0} (M : K → Meaning ArcRef → Type 0) (N : V → Meaning ArcRef → Type 0) (eq : K → K → Bool) → IsSameOf M eq → (acc now : List (K × V)) (ds : List (Entry ArcRef)) {xs : List (K × V)} {es : List (Entry ArcRef)} → IsDistinct eq (keys_of acc) → EntriesMean M N acc ds → EntriesMean M N xs es
-    → PutInTurn (λ old x new. PutsAnywhere eq old x new) acc xs now → InOrder M N now (put_all (put_sorted code_order) (put_all (put_sorted code_order) [] ds) es)
+all-more : {K V : Type 0} (M : K → Meaning ArcRef → Type 0) (N : V → Meaning ArcRef → Type 0) (eq : K → K → Bool) → IsSameOf M eq
+    → (acc now : List (K × V)) (ds : List (Entry ArcRef)) {xs : List (K × V)} {es : List (Entry ArcRef)} → IsDistinct eq (keys_of acc) → EntriesMean M N acc ds
+    → EntriesMean M N xs es
+    → PutInTurn (λ old x new. PutsAnywhere eq old x new) acc xs now → InOrder M N now
+    (put_all (put_sorted code_order) (put_all (put_sorted code_order) [] ds) es)
 unfolding PutInTurn put_all
 all-more M N eq is acc now ds distinct mean alike-none same = record { fs = ds; mean = rw same mean; is = refl }
 all-more {K} {V} M N eq is acc now ds distinct mean (alike-more x e xs es h t) turn =
@@ -284,14 +325,19 @@ all-more {K} {V} M N eq is acc now ds distinct mean (alike-more x e xs es h t) t
 
 -- ---- reading
 
-hash-map-put : {K V : Type 0} (M : K → Meaning ArcRef → Type 0) (N : V → Meaning ArcRef → Type 0) (eq : K → K → Bool) → IsSameOf M eq → (now : List (K × V)) (es : List (Entry ArcRef)) → Collected (MeansPair M N) (λ old x new. PutsAnywhere eq old x new) now (map entry es) → MeansHashMap M N now (of_hash_map es)
+hash-map-put : {K V : Type 0} (M : K → Meaning ArcRef → Type 0) (N : V → Meaning ArcRef → Type 0) (eq : K → K → Bool) → IsSameOf M eq
+    → (now : List (K × V)) (es : List (Entry ArcRef)) → Collected (MeansPair M N) (λ old x new. PutsAnywhere eq old x new) now (map entry es)
+    → MeansHashMap M N now (of_hash_map es)
 unfolding IsDistinct put_all
 hash-map-put M N eq is now es c =
     let put = all-more M N eq is [] now [] tt alike-none (entries-mean M N es c.each) c.is in
     record { es = put.fs; each = pairs-of-entries M N put.mean; is = ap of_entries (sym put.is) }
 
-pub reads_hash_map : {X K V A : Type 0} (own : Error → Type 0) (M : K → Meaning ArcRef → Type 0) (N : V → Meaning ArcRef → Type 0) (eq : K → K → Bool) → IsSameOf M eq → (r : Result X Error) (held : X → List (K × V)) (context : Context A ArcRef) (s t : Shape) (rest last : Rest A)
-    → GivesSome own (λ x. Collected (MeansPair M N) (λ old y new. PutsAnywhere eq old y new) (held x)) last r (counted (read context (both s t)) rest) → GivesSome own (λ x. MeansHashMap M N (held x)) last r (read context (hash_map s t) rest)
+pub reads_hash_map : {X K V A : Type 0} (own : Error → Type 0) (M : K → Meaning ArcRef → Type 0) (N : V → Meaning ArcRef → Type 0) (eq : K → K → Bool)
+    → IsSameOf M eq → (r : Result X Error) (held : X → List (K × V)) (context : Context A ArcRef) (s t : Shape) (rest last : Rest A)
+    → GivesSome own (λ x. Collected (MeansPair M N) (λ old y new. PutsAnywhere eq old y new) (held x)) last r (counted (read context (both s t)) rest)
+    → GivesSome own (λ x. MeansHashMap M N (held x)) last r (read context (hash_map s t) rest)
 unfolding read read_with
 reads_hash_map own M N eq is r held context s t rest last h =
-    reads-entries own (λ x. Collected (MeansPair M N) (λ old y new. PutsAnywhere eq old y new) (held x)) (λ x. MeansHashMap M N (held x)) of_hash_map (λ x es p. hash-map-put M N eq is (held x) es p) r context s t rest last h
+    reads-entries own (λ x. Collected (MeansPair M N) (λ old y new. PutsAnywhere eq old y new) (held x)) (λ x. MeansHashMap M N (held x)) of_hash_map
+    (λ x es p. hash-map-put M N eq is (held x) es p) r context s t rest last h

@@ -38,17 +38,20 @@ module _ (n : Nesting) where
   text-up : {m : Meaning ArcRef} {b : List ℕ} {k : List ArcRef} → FormAt n text m b k → FormAt n json (variant 3 m) (3 ∷ b) k
   text-up (text-form l t u le) = json-text-form _ t u le
 
-  array-up : n.levels < deepest → {m : Meaning ArcRef} {b : List ℕ} {k : List ArcRef} → FormAt (deeper n) (list json) m b k → FormAt n json (variant 4 m) (4 ∷ b) k
+  array-up : n.levels < deepest → {m : Meaning ArcRef} {b : List ℕ} {k : List ArcRef} → FormAt (deeper n) (list json) m b k
+      → FormAt n json (variant 4 m) (4 ∷ b) k
   array-up lt (list-form l s ms b k le f) = json-array-form _ _ ms b k (omega arith) le f
 
-  object-up : n.levels < deepest → {m : Meaning ArcRef} {b : List ℕ} {k : List ArcRef} → FormAt (deeper n) (sorted_map text_order text json) m b k → FormAt n json (variant 5 m) (5 ∷ b) k
+  object-up : n.levels < deepest → {m : Meaning ArcRef} {b : List ℕ} {k : List ArcRef} → FormAt (deeper n) (sorted_map text_order text json) m b k
+      → FormAt n json (variant 5 m) (5 ∷ b) k
   object-up lt (sorted-map-form l o s t es b k le up f) = json-object-form _ _ es b k (omega arith) le up f
 
   no-text : (m : Meaning ArcRef) → NoForm n text m → NoForm n json (variant 3 m)
   no-text m lack b k (json-text-form l t u le) = lack _ [] (text-form _ t u le)
 
   no-array : (m : Meaning ArcRef) → NoForm (deeper n) (list json) m → NoForm n json (variant 4 m)
-  no-array m lack b k (json-array-form l less ms c j p le f) = let here : less ≡ deepest - (n.levels + 1) = omega arith in lack _ j (list-form _ json ms c j le (rw here at f))
+  no-array m lack b k (json-array-form l less ms c j p le f) = let here : less ≡ deepest - (n.levels + 1) =
+      omega arith in lack _ j (list-form _ json ms c j le (rw here at f))
 
   no-object : (m : Meaning ArcRef) → NoForm (deeper n) (sorted_map text_order text json) m → NoForm n json (variant 5 m)
   no-object m lack b k (json-object-form l less es c j p le up f) =
@@ -68,7 +71,8 @@ no-float n x e b k f = grind arith
 
 -- a number that they don't hold has no form
 no-number : (n : Nesting) (x : Num) → (as_i64 x ≡ (let o : Option ℤ = None in o)) → NoForm n json (of_data (number x))
-no-number n (kit.unsigned y) e b k f = let same : nat_lt y (2 ^ 63) ≡ true = lt-ltb y (2 ^ 63) (number-within n (pos y) f refl) in let some = rw same at e in absurd cc
+no-number n (kit.unsigned y) e b k f = let same : nat_lt y (2 ^ 63) ≡ true = lt-ltb y (2 ^ 63) (number-within n (pos y) f refl) in let some =
+    rw same at e in absurd cc
 no-number n (kit.negative z) e b k f = absurd cc
 no-number n (kit.float x) e b k f = no-float n x e b k f
 
@@ -99,24 +103,28 @@ pub no_json_fault : {X : Type 0} (r : Result X Error) (v : Value) (d : Data) (n 
 no_json_fault (Ok x) v d n h = tt
 no_json_fault (Err e) v d n h = (memory_refuses e _ n json h, no_fault e h)
 
-pub text_faults : (F : Error → Type 0) (t : String Global) (n : Nesting) (e : Error) → (NoFormOfSome (Is of_key t) n text → F Error.TooLong) → Refused (Is of_key t) n text e → long_or memory e → IsTrue (is_writing_fault e) → F e
+pub text_faults : (F : Error → Type 0) (t : String Global) (n : Nesting) (e : Error) → (NoFormOfSome (Is of_key t) n text → F Error.TooLong)
+    → Refused (Is of_key t) n text e → long_or memory e → IsTrue (is_writing_fault e) → F e
 text_faults F t n e is l (inl h) = λ fault. subst F (sym h) (is (l fault))
 text_faults F t n e is l (inr h) = no_fault e h
 
-pub long_faults : (F : Error → Type 0) (count len : ℕ) (e : Error) → count ≡ len → (longest < len → F Error.TooLong) → long_or_no_memory count e → IsTrue (is_writing_fault e) → F e
+pub long_faults : (F : Error → Type 0) (count len : ℕ) (e : Error) → count ≡ len → (longest < len → F Error.TooLong) → long_or_no_memory count e
+    → IsTrue (is_writing_fault e) → F e
 long_faults F count len e same is (inl h) = λ fault. subst F (sym h.1) (is (rw same at h.0))
 long_faults F count len e same is (inr h) = no_fault e h
 
 pub deep_faults : (F : Error → Type 0) (count len : ℕ) (e : Error) → count ≡ len → count ≤ longest → (len ≤ longest → F Error.TooDeep) → e ≡ Error.TooDeep → F e
 deep_faults F count len e same le is h = subst F (sym h) (is (rw same at le))
 
-pub item_faults : (xs : List Value) (i : ℕ) (x : Value) (n : Nesting) (old mid : Out) (e : Error) → WritesSomeAll (MeanAll (Is of_value) (take i xs)) n json old mid → i < length xs → x ≡ get_or xs i x → Fault n x e → ItemFault n xs e
+pub item_faults : (xs : List Value) (i : ℕ) (x : Value) (n : Nesting) (old mid : Out) (e : Error)
+    → WritesSomeAll (MeanAll (Is of_value) (take i xs)) n json old mid → i < length xs → x ≡ get_or xs i x → Fault n x e → ItemFault n xs e
 item_faults xs i x n old mid e v lt is fault =
     let P : List Value → Type 0 = λ ys. ItemFault n ys e in
     let Q : Value → Type 0 = λ y. Fault n y e in
     subst P (sym (split_at xs i x lt)) (item-fault n (take i xs) (get_or xs i x) (drop (suc i) xs) e (old, mid, v) (subst Q is fault))
 
-pub member_faults : (all left rest : List (String Global × Value)) (k : String Global) (x : Value) (n : Nesting) (old mid : Out) (e : Error) → Written (MeansPair (Is of_key) (Is of_value)) n (both text json) all left old mid → left ≡ (k, x) ∷ rest → EntryFault n k x e → MemberFault n all e
+pub member_faults : (all left rest : List (String Global × Value)) (k : String Global) (x : Value) (n : Nesting) (old mid : Out) (e : Error)
+    → Written (MeansPair (Is of_key) (Is of_value)) n (both text json) all left old mid → left ≡ (k, x) ∷ rest → EntryFault n k x e → MemberFault n all e
 member_faults all left rest k x n old mid e v f fault =
     let P : List (String Global × Value) → Type 0 = λ ys. MemberFault n ys e in
     let same : all ≡ v.front ++ (k, x) ∷ rest = v.is ∙ ap (λ (ys : List (String Global × Value)). v.front ++ ys) f in
@@ -131,16 +139,19 @@ pub items-mean : (vs : List Value) → of_data (array (items_view vs)) ≡ varia
 items-mean [] = grind arith
 items-mean (v ∷ vs) = grind (arith, items-mean vs)
 
-pub members-mean : (es : List (String Global × Value)) → of_data (object (members_view es)) ≡ variant 5 (sequence (map (λ e. pair (of_key e.0) (of_value e.1)) es))
+pub members-mean : (es : List (String Global × Value)) → of_data (object (members_view es))
+    ≡ variant 5 (sequence (map (λ e. pair (of_key e.0) (of_value e.1)) es))
 members-mean [] = grind arith
 members-mean (e ∷ es) = grind (arith, members-mean es)
 
 pub items-are : (vs : List Value) (m : Meaning ArcRef) → MeansList (Is of_value) vs m → variant 4 m ≡ of_data (array (items_view vs))
 items-are vs m h = ap (λ (x : Meaning ArcRef). variant 4 x) (list_single (Is of_value) of_value (λ v n is. is) vs m h) ∙ sym (items-mean vs)
 
-pub members-are : (es : List (String Global × Value)) (m : Meaning ArcRef) → MeansList (MeansPair (Is of_key) (Is of_value)) es m → variant 5 m ≡ of_data (object (members_view es))
+pub members-are : (es : List (String Global × Value)) (m : Meaning ArcRef) → MeansList (MeansPair (Is of_key) (Is of_value)) es m → variant 5 m
+    ≡ of_data (object (members_view es))
 members-are es m h =
-    ap (λ (x : Meaning ArcRef). variant 5 x) (list_single (MeansPair (Is of_key) (Is of_value)) (λ e. pair (of_key e.0) (of_value e.1)) (pair_single (Is of_key) (Is of_value) of_key of_value (λ k n is. is) (λ v n is. is)) es m h) ∙ sym (members-mean es)
+    ap (λ (x : Meaning ArcRef). variant 5 x) (list_single (MeansPair (Is of_key) (Is of_value)) (λ e. pair (of_key e.0) (of_value e.1))
+    (pair_single (Is of_key) (Is of_value) of_key of_value (λ k n is. is) (λ v n is. is)) es m h) ∙ sym (members-mean es)
 
 -- ---- what a value holds
 
@@ -166,7 +177,8 @@ seen-object v members is = rw is (view-Object members)
 
 -- the order of the keys is that of their bytes
 pub keys-in-order : IsOrderOf (Is of_key) string_cmp text_order
-keys-in-order = key_like (Is of_key) of_key (λ k m is. is) string_cmp (ordered text_order) ordering_reverse (λ x y. text_is_ordered (string_bytes x) (string_bytes y)) string_cmp_total.antisymm
+keys-in-order = key_like (Is of_key) of_key (λ k m is. is) string_cmp (ordered text_order) ordering_reverse
+    (λ x y. text_is_ordered (string_bytes x) (string_bytes y)) string_cmp_total.antisymm
 
 pub value-has : (v : Value) → SomeMeaning (Is of_value v)
 value-has v = (of_value v, refl)
@@ -185,9 +197,11 @@ pub record HoldsBelow (case count : ℕ) (P : Piece) (d : Data) : Type 0 where
   pub long : (n : Nesting) (e : Error) → long_or_no_memory count e → Refused (Is of_data d) n json e
   pub deep : (n : Nesting) (e : Error) → deepest ≤ n.levels → Refused (Is of_data d) n json e
 
-module _ {X : Type 0} (M : X → Meaning ArcRef → Type 0) (has : (x : X) → SomeMeaning (M x)) (ys : List X) (case count : ℕ) (whole item : Shape) (d : Data) (is : (m : Meaning ArcRef) → MeansList M ys m → variant case m ≡ of_data d) where
+module _ {X : Type 0} (M : X → Meaning ArcRef → Type 0) (has : (x : X) → SomeMeaning (M x)) (ys : List X) (case count : ℕ) (whole item : Shape) (d : Data)
+    (is : (m : Meaning ArcRef) → MeansList M ys m → variant case m ≡ of_data d) where
   holds-below : nat_lt case 128 ≡ true → count ≡ length ys → ((n : Nesting) → Wraps M ys (MeansList M ys) n whole item)
-      → ((n : Nesting) → n.levels < deepest → (m : Meaning ArcRef) (b : List ℕ) (k : List ArcRef) → FormAt (deeper n) whole m b k → FormAt n json (variant case m) (case ∷ b) k)
+      → ((n : Nesting) → n.levels < deepest → (m : Meaning ArcRef) (b : List ℕ) (k : List ArcRef) → FormAt (deeper n) whole m b k
+      → FormAt n json (variant case m) (case ∷ b) k)
       → ((n : Nesting) (m : Meaning ArcRef) → NoForm (deeper n) whole m → NoForm n json (variant case m))
       → ((n : Nesting) (m : Meaning ArcRef) → deepest ≤ n.levels → NoForm n json (variant case m)) → HoldsBelow case count (all (MeanAll M ys) item) d
   holds-below small counted wraps up lack deep = record {
@@ -195,64 +209,106 @@ module _ {X : Type 0} (M : X → Meaning ArcRef → Type 0) (has : (x : X) → S
         let first = added old (case ∷ []) [] in
         let part = writes-counted (wraps (deeper n)) (added old (case ∷ []) []) mid new count counted (rw (case-byte case small) at f.1) f.0 w.1 in
         writes_whole n (deeper n) (λ m. variant case m) whole json (MeansList M ys) (Is of_data d) is (case ∷ []) old first new (up n w.0) refl part;
-    lacks = λ n e l. refuses_whole n (deeper n) (λ m. variant case m) whole json (MeansList M ys) (Is of_data d) is e (lack n) (refuses-items (wraps (deeper n)) e l.1);
-    long = λ n e h. let refuses = refuses_whole n (deeper n) (λ m. variant case m) whole json (MeansList M ys) (Is of_data d) is e (lack n) in grind (arith, refuses, refuses-long (wraps (deeper n)) has count counted, memory_refuses);
-    deep = λ n e le. λ fault. let each = items_have_meanings M has ys in record { m = variant case (sequence each.0); is = is _ (record { ms = each.0; each = each.1; is = refl }); no_form = deep n _ le };
+    lacks = λ n e l. refuses_whole n (deeper n) (λ m. variant case m) whole json (MeansList M ys) (Is of_data d) is e (lack n)
+        (refuses-items (wraps (deeper n)) e l.1);
+    long = λ n e h. let refuses = refuses_whole n (deeper n) (λ m. variant case m) whole json (MeansList M ys) (Is of_data d) is e (lack n) in
+        grind (arith, refuses, refuses-long (wraps (deeper n)) has count counted, memory_refuses);
+    deep = λ n e le. λ fault. let each = items_have_meanings M has ys in
+        record { m = variant case (sequence each.0); is = is _ (record { ms = each.0; each = each.1; is = refl }); no_form = deep n _ le };
   }
 
 pub arrays : (vs : List Value) (count : ℕ) → count ≡ length vs → HoldsBelow 4 count (all (MeanAll (Is of_value) vs) json) (array (items_view vs))
-arrays vs count counted = holds-below (Is of_value) value-has vs 4 count (list json) json (array (items_view vs)) (items-are vs) refl counted (λ n. wraps_list (Is of_value) vs n json)
+arrays vs count counted = holds-below (Is of_value) value-has vs 4 count (list json) json (array (items_view vs)) (items-are vs) refl counted
+    (λ n. wraps_list (Is of_value) vs n json)
     (λ n lt m b k f. array-up n lt f) no-array (λ n m le b k f. grind arith)
 
 pub objects : (es : List (String Global × Value)) (count : ℕ) → count ≡ length es → IsStrictlySortedBy string_cmp (keys_of es)
     → HoldsBelow 5 count (all (MeanAll (MeansPair (Is of_key) (Is of_value)) es) (both text json)) (object (members_view es))
 objects es count counted sorted =
-    holds-below (MeansPair (Is of_key) (Is of_value)) member-has es 5 count (sorted_map text_order text json) (both text json) (object (members_view es)) (members-are es) refl counted
-    (λ n. wraps_sorted_map (Is of_key) (Is of_value) string_cmp text_order keys-in-order es n text json sorted) (λ n lt m b k f. object-up n lt f) no-object (λ n m le b k f. grind arith)
+    holds-below (MeansPair (Is of_key) (Is of_value)) member-has es 5 count (sorted_map text_order text json) (both text json) (object (members_view es))
+    (members-are es) refl counted
+    (λ n. wraps_sorted_map (Is of_key) (Is of_value) string_cmp text_order keys-in-order es n text json sorted) (λ n lt m b k f. object-up n lt f) no-object
+    (λ n m le b k f. grind arith)
 
 -- ---- a case, and then a value of another shape
 
 module _ (n : Nesting) (old mid new : Out) where
-  pub flag_written : (b : Bool) → mid ≡ added old (unsigned_form w64 1) [] → WritesSome (Is meanings.flag b) n flag mid new → WritesSome (Is of_data (boolean b)) n json old new
+  pub flag_written : (b : Bool) → mid ≡ added old (unsigned_form w64 1) [] → WritesSome (Is meanings.flag b) n flag mid new
+      → WritesSome (Is of_data (boolean b)) n json old new
   flag_written b e w =
-      writes_whole n n (λ m. variant 1 m) flag json (Is meanings.flag b) (Is of_data (boolean b)) (λ m is. rw is refl) (1 ∷ []) old mid new (λ m b k f. flag-up n f) (rw (case-byte 1 refl) at e) w
+      writes_whole n n (λ m. variant 1 m) flag json (Is meanings.flag b) (Is of_data (boolean b)) (λ m is. rw is refl) (1 ∷ []) old mid new
+      (λ m b k f. flag-up n f) (rw (case-byte 1 refl) at e) w
 
   pub number_written : (first : Out) (a : Num) (i : ℤ) → as_i64 a ≡ Some i → first ≡ added old (unsigned_form w64 2) [] → mid ≡ added first (bool_form false) []
       → WritesSome (Is integer i) n (signed w64) mid new → WritesSome (Is of_data (number a)) n json old new
-  number_written first a i some e f w = writes_whole n n (λ m. variant 2 m) (signed w64) json (Is integer i) (Is of_data (number a)) (λ m is. rw is (sym (whole_number a i some)))
+  number_written first a i some e f w = writes_whole n n (λ m. variant 2 m) (signed w64) json (Is integer i) (Is of_data (number a))
+      (λ m is. rw is (sym (whole_number a i some)))
       (2 ∷ 0 ∷ []) old mid new (λ m b k f. number-up n f) ((then) old first mid _ _ _ _ (rw (case-byte 2 refl) at e) f) w
 
-  pub text_written : (t : String Global) → mid ≡ added old (unsigned_form w64 3) [] → WritesSome (Is of_key t) n text mid new → WritesSome (Is of_data (string (string_bytes t))) n json old new
+  pub text_written : (t : String Global) → mid ≡ added old (unsigned_form w64 3) [] → WritesSome (Is of_key t) n text mid new
+      → WritesSome (Is of_data (string (string_bytes t))) n json old new
   text_written t e w =
-      writes_whole n n (λ m. variant 3 m) text json (Is of_key t) (Is of_data (string (string_bytes t))) (λ m is. rw is refl) (3 ∷ []) old mid new (λ m b k f. text-up n f) (rw (case-byte 3 refl) at e) w
+      writes_whole n n (λ m. variant 3 m) text json (Is of_key t) (Is of_data (string (string_bytes t))) (λ m is. rw is refl) (3 ∷ []) old mid new
+      (λ m b k f. text-up n f) (rw (case-byte 3 refl) at e) w
 
 pub refuses-string : (t : String Global) (n : Nesting) (e : Error) → Refused (Is of_key t) n text e → Refused (Is of_data (string (string_bytes t))) n json e
-refuses-string t n e l = refuses_whole n n (λ m. variant 3 m) text json (Is of_key t) (Is of_data (string (string_bytes t))) (λ m is. rw is refl) e (no-text n) l
+refuses-string t n e l = refuses_whole n n (λ m. variant 3 m) text json (Is of_key t) (Is of_data (string (string_bytes t))) (λ m is. rw is refl) e
+    (no-text n) l
 
 -- ---- steps of the code
 
 module _ {S E N H K V : Type 0} (env : Environments E N H K V) (s : Serializers S E N H K V) where
   -- a case is refused for want of memory
-  pub case-err : {X Y : Type 0} {x y : S} {front : List ℕ} {e : Error} (v : Value) (d : Data) (r : Result Y Error) → IsErrAnd r (λ f. f ≡ e) → Wrote env s (bytes front) memory x y (let p : Result X Error = Err e in p)
+  pub case-err : {X Y : Type 0} {x y : S} {front : List ℕ} {e : Error} (v : Value) (d : Data) (r : Result Y Error) → IsErrAnd r (λ f. f ≡ e)
+      → Wrote env s (bytes front) memory x y (let p : Result X Error = Err e in p)
       → Wrote env s (json_of_value v d) json_causes x y r
   case-err v d r is p = wrote-err env s r is p (λ n l h. (memory_refuses _ _ n json h, no_fault _ h)) (λ h. json-memory _ h)
 
   -- a value is what its data is
-  pub as-value : {Y : Type 0} {x y : S} (v w : Value) (d : Data) (r : Result Y Error) → v ≡ w → view v ≡ d → Wrote env s (json_of_value w d) json_causes x y r → Wrote env s (json_of_value v (view v)) json_causes x y r
-  as-value {x = x} {y = y} v w d r is e h = let P : Value → Data → Type 0 = λ u z. Wrote env s (json_of_value u z) json_causes x y r in subst (λ u. P u (view v)) (sym is) (subst (λ z. P w z) (sym e) h)
+  pub as-value : {Y : Type 0} {x y : S} (v w : Value) (d : Data) (r : Result Y Error) → v ≡ w → view v ≡ d → Wrote env s (json_of_value w d) json_causes x y r
+      → Wrote env s (json_of_value v (view v)) json_causes x y r
+  as-value {x = x} {y = y} v w d r is e h = let P : Value → Data → Type 0 =
+      λ u z. Wrote env s (json_of_value u z) json_causes x y r in subst (λ u. P u (view v)) (sym is) (subst (λ z. P w z) (sym e) h)
 
-  pub null-value : {Y : Type 0} {x y : S} (v : Value) (r : Result Y Error) → v ≡ values.Null → Wrote env s (bytes (unsigned_form w64 0)) memory x y r → Wrote env s (json_of_value v (view v)) json_causes x y r
+  pub null-value : {Y : Type 0} {x y : S} (v : Value) (r : Result Y Error) → v ≡ values.Null → Wrote env s (bytes (unsigned_form w64 0)) memory x y r
+      → Wrote env s (json_of_value v (view v)) json_causes x y r
   null-value v (Ok u) is p =
-      record { ok = record { m = variant 0 none; is = ap of_data (sym (seen-null v is)); wrote = record { bytes = 0 ∷ []; refs = []; form = json-null-form _; grown = rw (case-byte 0 refl) at p.ok } }; refused = tt; only = tt; err = p.err; same_env = p.same_env; same_levels = p.same_levels }
+      record {
+        ok = record {
+          m = variant 0 none;
+          is = ap of_data (sym (seen-null v is));
+          wrote = record { bytes = 0 ∷ []; refs = []; form = json-null-form _; grown = rw (case-byte 0 refl) at p.ok };
+        };
+        refused = tt;
+        only = tt;
+        err = p.err;
+        same_env = p.same_env;
+        same_levels = p.same_levels;
+      }
   null-value v (Err e) is p =
-      record { ok = tt; refused = (memory_refuses e _ _ json p.only, no_fault e p.only); only = json-memory e p.only; err = p.err; same_env = p.same_env; same_levels = p.same_levels }
+      record {
+        ok = tt;
+        refused = (memory_refuses e _ _ json p.only, no_fault e p.only);
+        only = json-memory e p.only;
+        err = p.err;
+        same_env = p.same_env;
+        same_levels = p.same_levels;
+      }
 
-  pub count-wrote : {X Y : Type 0} {x y z : S} {u : X} (case count : ℕ) (r : Result Y Error) → Wrote env s (bytes (unsigned_form w64 case)) memory x y (Ok u) → OnOk r (s.out z ≡ added (s.out y) (length_form count) []) → OnOk r (count ≤ longest) → IfErr r (long_or_memory count) → Grows (s.out y) (s.out z)
+  pub count-wrote : {X Y : Type 0} {x y z : S} {u : X} (case count : ℕ) (r : Result Y Error) → Wrote env s (bytes (unsigned_form w64 case)) memory x y (Ok u)
+      → OnOk r (s.out z ≡ added (s.out y) (length_form count) []) → OnOk r (count ≤ longest) → IfErr r (long_or_memory count) → Grows (s.out y) (s.out z)
       → s.environment z ≡ s.environment y → s.levels z ≡ s.levels y → Wrote env s (front case count) (long_or_no_memory count) x z r
   count-wrote case count r p ok within only err same_env same_levels = grind (arith, grows_trans, counts)
 
 pub no-case : (n : ℕ) → 5 < n → json_case n ≡ Err Error.JsonCase
-no-case n lt = rw (ne_eqb n 0 (λ e. omega arith), ne_eqb n 1 (λ e. omega arith), ne_eqb n 2 (λ e. omega arith), ne_eqb n 3 (λ e. omega arith), ne_eqb n 4 (λ e. omega arith), ne_eqb n 5 (λ e. omega arith)) refl
+no-case n lt = rw (
+  ne_eqb n 0 (λ e. omega arith),
+  ne_eqb n 1 (λ e. omega arith),
+  ne_eqb n 2 (λ e. omega arith),
+  ne_eqb n 3 (λ e. omega arith),
+  ne_eqb n 4 (λ e. omega arith),
+  ne_eqb n 5 (λ e. omega arith),
+) refl
 
 whole-means : (z : ℤ) → of_data (number (of_integer z)) ≡ variant 2 (integer z)
 whole-means (pos n) = refl
@@ -271,7 +327,8 @@ is-whole v z m seen is = rw is (sym (ap of_data seen ∙ whole-means z))
 pub is-array : (v : Vec Value Global) (ms : List (Meaning ArcRef)) → MeanAll (Is of_value) v.items ms → Is of_value (values.Array v) (variant 4 (sequence ms))
 is-array v ms each = items-are v.items (sequence ms) (record { ms = ms; each = each; is = refl }) ∙ ap of_data (sym (seen-array (values.Array v) v refl))
 
-bytes-viewed : {X : Type 0} (at : List ℕ → Read X) (f : X → Meaning ArcRef) (view : Meaning ArcRef → Meaning ArcRef) (rest : Rest Answer) → bytes_of at (λ x. view (f x)) rest ≡ viewed view (bytes_of at f rest)
+bytes-viewed : {X : Type 0} (at : List ℕ → Read X) (f : X → Meaning ArcRef) (view : Meaning ArcRef → Meaning ArcRef) (rest : Rest Answer)
+    → bytes_of at (λ x. view (f x)) rest ≡ viewed view (bytes_of at f rest)
 bytes-viewed at f view rest = grind arith
 
 -- after its case
@@ -302,24 +359,31 @@ module _ (levels : ℕ) (parts : ℕ → Shape) (rest : Rest Answer) where
     unfolding below
     object-deep le = let left : deepest - levels ≡ 0 = omega arith in rw (left, counted) refl
 
-    pub array-seen : levels < deepest → part_of array_case (handles_at levels parts) rest ≡ seen (λ ms. variant 4 (sequence ms)) (items (read (handles_at (levels + 1) parts) json) count) mid
+    pub array-seen : levels < deepest → part_of array_case (handles_at levels parts) rest
+        ≡ seen (λ ms. variant 4 (sequence ms)) (items (read (handles_at (levels + 1) parts) json) count) mid
     unfolding read below
     array-seen lt = let left : deepest - levels ≡ suc (deepest - (levels + 1)) = omega arith in rw (left, counted) refl
 
     -- an object is a map one level further down
-    object-seen : levels < deepest → part_of object_case (handles_at levels parts) rest ≡ viewed (λ m. variant 5 m) (read (handles_at (levels + 1) parts) (sorted_map text_order text json) rest)
+    object-seen : levels < deepest → part_of object_case (handles_at levels parts) rest
+        ≡ viewed (λ m. variant 5 m) (read (handles_at (levels + 1) parts) (sorted_map text_order text json) rest)
     unfolding read read_with below
     object-seen lt = let left : deepest - levels ≡ suc (deepest - (levels + 1)) = omega arith in rw (left, counted) (grind arith)
 
-    pub object-gives : (r : Result Value Error) (after : Rest Answer) → levels < deepest → GivesSome memory ObjectOf after r (items (read (handles_at (levels + 1) parts) (both text json)) count mid) → GivesSome memory (Is of_value) after r (part_of object_case (handles_at levels parts) rest)
+    pub object-gives : (r : Result Value Error) (after : Rest Answer) → levels < deepest
+        → GivesSome memory ObjectOf after r (items (read (handles_at (levels + 1) parts) (both text json)) count mid)
+        → GivesSome memory (Is of_value) after r (part_of object_case (handles_at levels parts) rest)
     unfolding read read_with
     object-gives r after lt g =
         let P : Result (Meaning ArcRef × Rest Answer) Error → Type 0 = λ o. GivesSome memory (Is of_value) after r o in
-        let map = reads-entries memory ObjectOf (λ v m. Is of_value v (variant 5 m)) (λ es. of_entries (put_all (put_sorted text_order) [] es)) means r (handles_at (levels + 1) parts) text json rest after (rw counted g) in
+        let map = reads-entries memory ObjectOf (λ v m. Is of_value v (variant 5 m)) (λ es. of_entries (put_all (put_sorted text_order) [] es)) means r
+        (handles_at (levels + 1) parts) text json rest after (rw counted g) in
         subst P (sym (object-seen lt)) (gives-seen memory (λ v m. Is of_value v (variant 5 m)) (Is of_value) (λ m. variant 5 m) after r _ (λ v m is. is) map)
       where
-        means : (v : Value) (es : List (Entry ArcRef)) → ObjectOf v (map entry es) → Is of_value v (variant 5 (of_entries (put_all (put_sorted text_order) [] es)))
-        means v es o = members-are o.members.entries _ (sorted-map-put (Is of_key) (Is of_value) string_cmp text_order keys-in-order o.members.entries es o.each) ∙ ap of_data (sym (seen-object v o.members o.is))
+        means : (v : Value) (es : List (Entry ArcRef)) → ObjectOf v (map entry es)
+            → Is of_value v (variant 5 (of_entries (put_all (put_sorted text_order) [] es)))
+        means v es o = members-are o.members.entries _ (sorted-map-put (Is of_key) (Is of_value) string_cmp text_order keys-in-order o.members.entries es
+            o.each) ∙ ap of_data (sym (seen-object v o.members o.is))
 
 pub ruleset read_parts = (array-deep, array-seen, object-deep, object-gives, moves_trans)
 

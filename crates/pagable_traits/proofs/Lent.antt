@@ -6,7 +6,8 @@ use Rattle.indexmap.specs.IndexMap as placed_maps
 use Rattle.std.{proofs.lemmas.List.{Elements.{All-cons, All-head, All-nil, All-push, All-tail, All-weaker}, Sorted.All-permutation}, specs.{Arc.arc_value, List.All, Prelude.{IfOk, MatchOption, cond, if◌then◌else◌, option_and_then}}}
 
 -- a reference that took what was lent by it holds that
-pub taken_holds : {N T : Type 0} {sort : ℕ} (t : ℕ) (pins : Bool) (held : N → Option T) {s : Standing N} (lends : Option N) (a : HoldingArc T sort) (r : ArcRef) → holding t pins a ≡ r → ((y : N) → lends ≡ Some y → IsLent s r y)
+pub taken_holds : {N T : Type 0} {sort : ℕ} (t : ℕ) (pins : Bool) (held : N → Option T) {s : Standing N} (lends : Option N) (a : HoldingArc T sort) (r : ArcRef)
+    → holding t pins a ≡ r → ((y : N) → lends ≡ Some y → IsLent s r y)
     → option_and_then held lends ≡ Some (arc_value a.value) → HoldsLent s (holding_beside t pins held) a
 taken_holds t pins held None a r same lent value = absurd cc
 taken_holds t pins held {s} (Some z) a r same lent value = record {
@@ -37,7 +38,8 @@ module _ {N X : Type 0} where
   none_holds = record { each = λ r y only. tt }
 
   -- as a value that is carried as another one
-  pub seen_holds : {Y : Type 0} {B : Beside N Y} {s : Standing N} {x : X} {y : Y} (view : X → Y) → view x ≡ y → HoldsLent s B y → HoldsLent s (λ z. B (view z)) x
+  pub seen_holds : {Y : Type 0} {B : Beside N Y} {s : Standing N} {x : X} {y : Y} (view : X → Y) → view x ≡ y → HoldsLent s B y
+      → HoldsLent s (λ z. B (view z)) x
   seen_holds {B = B} {s = s} view is h = record { each = (subst (HoldsLent s B) (sym is) h).each }
 
 module _ {N X Y : Type 0} {B : Beside N X} {C : Beside N Y} {s t : Standing N} where
@@ -47,7 +49,8 @@ module _ {N X Y : Type 0} {B : Beside N X} {C : Beside N Y} {s t : Standing N} w
   pub failure_holds : {y : Y} → MovesOn s t → HoldsLent t C y → HoldsLent s (results_beside B C) (Err y)
   failure_holds m h = record { each = (held_before m h).each }
 
-pub pair_holds : {N X Y : Type 0} {B : Beside N X} {C : Beside N Y} {s t : Standing N} {x : X} {y : Y} → MovesOn s t → HoldsLent s B x → HoldsLent t C y → HoldsLent s (pairs_beside B C) (x, y)
+pub pair_holds : {N X Y : Type 0} {B : Beside N X} {C : Beside N Y} {s t : Standing N} {x : X} {y : Y} → MovesOn s t → HoldsLent s B x → HoldsLent t C y
+    → HoldsLent s (pairs_beside B C) (x, y)
 pair_holds m h k = record { each = λ r z only. (h.each r z only, (held_before m k).each r z only) }
 
 -- ---- items
@@ -57,39 +60,51 @@ module _ {N T : Type 0} (B : Beside N T) (puts : List T → T → List T → Typ
   unfolding PutInTurn
   none_held {s} e = record { xs = []; each = All-nil (HoldsLent s B); is = e }
 
-  pub more_held : {s t : Standing N} {old new : List T} {x : T} → MovesOn s t → CollectsHeld s B puts old → HoldsLent t B x → puts old x new → CollectsHeld s B puts new
-  more_held {s} {old = old} {new = new} {x = x} m c h p = record { xs = c.xs ++ x ∷ []; each = All-push (HoldsLent s B) c.xs x c.each (held_before m h); is = puts-last puts [] c.xs x old new c.is p }
+  pub more_held : {s t : Standing N} {old new : List T} {x : T} → MovesOn s t → CollectsHeld s B puts old → HoldsLent t B x → puts old x new
+      → CollectsHeld s B puts new
+  more_held {s} {old = old} {new = new} {x = x} m c h p = record {
+    xs = c.xs ++ x ∷ [];
+    each = All-push (HoldsLent s B) c.xs x c.each (held_before m h);
+    is = puts-last puts [] c.xs x old new c.is p;
+  }
 
   earlier : {s t : Standing N} {now : List T} → MovesOn s t → CollectsHeld t B puts now → CollectsHeld s B puts now
   earlier {s} {t} m c = record { xs = c.xs; each = All-weaker (HoldsLent t B) (HoldsLent s B) (λ x h. held_before m h) c.xs c.each; is = c.is }
 
-  pub collected_so : {C : Type 0} (held : C → List T) {s t : Standing N} (r : Result C Error) → MovesOn s t → IfOk r (λ c. CollectsHeld t B puts (held c)) → IfOk r (λ c. CollectsHeld s B puts (held c))
+  pub collected_so : {C : Type 0} (held : C → List T) {s t : Standing N} (r : Result C Error) → MovesOn s t → IfOk r (λ c. CollectsHeld t B puts (held c))
+      → IfOk r (λ c. CollectsHeld s B puts (held c))
   collected_so held (Ok x) m h = earlier m h
   collected_so held (Err e) m h = tt
 
 -- as the items of a list
-pub items_hold : {N T X Y : Type 0} (B : Beside N T) {s : Standing N} {x : X} {y : Y} (items : X → List T) (view : Y → List T) → view y ≡ items x → HoldsLent s (λ v. lists_beside B (items v)) x → HoldsLent s (λ v. lists_beside B (view v)) y
+pub items_hold : {N T X Y : Type 0} (B : Beside N T) {s : Standing N} {x : X} {y : Y} (items : X → List T) (view : Y → List T) → view y ≡ items x
+    → HoldsLent s (λ v. lists_beside B (items v)) x → HoldsLent s (λ v. lists_beside B (view v)) y
 items_hold B items view is h = record { each = λ r z only. rw is (h.each r z only) }
 
 -- What holds of the items that are there, and of one that is put in, holds of those that are left.
 abbrev pub Keeps : {T : Type 0} → (List T → T → List T → Type 0) → (T → Type 0) → Type 0
 Keeps {T} puts P = (old : List T) (x : T) (new : List T) → All P old → P x → puts old x new → All P new
 
-kept-in-turn : {T : Type 0} (puts : List T → T → List T → Type 0) (P : T → Type 0) → Keeps puts P → (acc xs now : List T) → PutInTurn puts acc xs now → All P acc → All P xs → All P now
+kept-in-turn : {T : Type 0} (puts : List T → T → List T → Type 0) (P : T → Type 0) → Keeps puts P → (acc xs now : List T) → PutInTurn puts acc xs now
+    → All P acc → All P xs → All P now
 unfolding PutInTurn
 kept-in-turn puts P keeps acc [] now is there all = rw is there
-kept-in-turn puts P keeps acc (x ∷ xs) now put there all = kept-in-turn puts P keeps put.0 xs now put.2 (keeps acc x put.0 there (All-head P x xs all) put.1) (All-tail P x xs all)
+kept-in-turn puts P keeps acc (x ∷ xs) now put there all = kept-in-turn puts P keeps put.0 xs now put.2 (keeps acc x put.0 there (All-head P x xs all) put.1)
+    (All-tail P x xs all)
 
 -- items that were put in one after another, wherever each went
-pub collection_holds : {N T V : Type 0} (B : Beside N T) (puts : List T → T → List T → Type 0) (s : Standing N) (items : V → List T) (r : Result V Error) → ((q : ArcRef) (y : N) → Keeps puts (λ x. B x q y)) → IfOk r (λ v. CollectsHeld s B puts (items v))
+pub collection_holds : {N T V : Type 0} (B : Beside N T) (puts : List T → T → List T → Type 0) (s : Standing N) (items : V → List T) (r : Result V Error)
+    → ((q : ArcRef) (y : N) → Keeps puts (λ x. B x q y)) → IfOk r (λ v. CollectsHeld s B puts (items v))
     → IfOk r (HoldsLent s (λ v. lists_beside B (items v)))
 collection_holds B puts s items (Ok v) keeps c = record {
-  each = λ q y only. let P : _ → Type 0 = λ x. B x q y in kept-in-turn puts P (keeps q y) [] c.xs (items v) c.is (All-nil P) (All-weaker (HoldsLent s B) P (λ x h. h.each q y only) c.xs c.each);
+  each = λ q y only. let P : _ → Type 0 = λ x. B x q y in kept-in-turn puts P (keeps q y) [] c.xs (items v) c.is (All-nil P)
+      (All-weaker (HoldsLent s B) P (λ x h. h.each q y only) c.xs c.each);
 }
 collection_holds B puts s items (Err e) keeps c = tt
 
 -- items that were put in each at the end
-pub list_holds : {N T V : Type 0} (B : Beside N T) (s : Standing N) (items : V → List T) (r : Result V Error) → IfOk r (λ v. CollectsHeld s B (λ ys y zs. zs ≡ ys ++ y ∷ []) (items v)) → IfOk r (HoldsLent s (λ v. lists_beside B (items v)))
+pub list_holds : {N T V : Type 0} (B : Beside N T) (s : Standing N) (items : V → List T) (r : Result V Error)
+    → IfOk r (λ v. CollectsHeld s B (λ ys y zs. zs ≡ ys ++ y ∷ []) (items v)) → IfOk r (HoldsLent s (λ v. lists_beside B (items v)))
 list_holds B s items r = collection_holds B _ s items r (λ q y old x new all h is. rw is (All-push (λ z. B z q y) old x all h))
 
 -- ---- entries of maps: each key and each value is one that was put in
@@ -102,7 +117,8 @@ module _ {K V : Type 0} (P : K → Type 0) (Q : V → Type 0) where
   sorted-kept cmp [] e all h = All-cons Both e [] h (All-nil Both)
   sorted-kept cmp (f ∷ es) e all h = by (cmp e.0 f.0) (sorted-kept cmp es e (All-tail Both f es all) h)
     where
-      by : (o : Ordering) → All Both (insert_entry cmp es e.0 e.1) → All Both (match_ordering o ((e.0, e.1) ∷ f ∷ es) ((f.0, e.1) ∷ es) (f ∷ insert_entry cmp es e.0 e.1))
+      by : (o : Ordering) → All Both (insert_entry cmp es e.0 e.1) → All Both
+          (match_ordering o ((e.0, e.1) ∷ f ∷ es) ((f.0, e.1) ∷ es) (f ∷ insert_entry cmp es e.0 e.1))
       by Ordering.Less rest = All-cons Both e (f ∷ es) h all
       by Ordering.Equal rest = All-cons Both (f.0, e.1) es ((All-head Both f es all).0, h.1) (All-tail Both f es all)
       by Ordering.Greater rest = All-cons Both f _ (All-head Both f es all) rest
@@ -135,12 +151,15 @@ module _ {N K V M : Type 0} (B : Beside N K) (C : Beside N V) (s : Standing N) (
   HoldsBy puts = IfOk r (λ m. CollectsHeld s (pairs_beside B C) puts (entries m)) → IfOk r (HoldsLent s (λ m. lists_beside (pairs_beside B C) (entries m)))
 
   pub sorted_map_holds : (cmp : K → K → Ordering) → HoldsBy (λ es e fs. fs ≡ insert_entry cmp es e.0 e.1)
-  sorted_map_holds cmp = collection_holds (pairs_beside B C) _ s entries r (λ q y es e fs all h is. rw is (sorted-kept (λ k. B k q y) (λ v. C v q y) cmp es e all h))
+  sorted_map_holds cmp = collection_holds (pairs_beside B C) _ s entries r
+      (λ q y es e fs all h is. rw is (sorted-kept (λ k. B k q y) (λ v. C v q y) cmp es e all h))
 
   pub placed_map_holds : (eq : K → K → Bool) → HoldsBy (λ es e fs. fs ≡ placed_maps.insert_entry eq es e.0 e.1)
-  placed_map_holds eq = collection_holds (pairs_beside B C) _ s entries r (λ q y es e fs all h is. rw is (placed-kept (λ k. B k q y) (λ v. C v q y) eq es e all h))
+  placed_map_holds eq = collection_holds (pairs_beside B C) _ s entries r
+      (λ q y es e fs all h is. rw is (placed-kept (λ k. B k q y) (λ v. C v q y) eq es e all h))
 
   pub hash_map_holds : (eq : K → K → Bool) → HoldsBy (λ es e fs. PutsAnywhere eq es e fs)
-  hash_map_holds eq = collection_holds (pairs_beside B C) _ s entries r (λ q y es e fs all h put. anywhere-kept (λ k. B k q y) (λ v. C v q y) eq es e fs all h put)
+  hash_map_holds eq = collection_holds (pairs_beside B C) _ s entries r (λ q y es e fs all h put. anywhere-kept (λ k. B k q y)
+      (λ v. C v q y) eq es e fs all h put)
 
 pub ruleset lent = (holds_nothing, some_holds, none_holds, seen_holds, pair_holds, success_holds, failure_holds)

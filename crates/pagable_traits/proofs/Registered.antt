@@ -17,14 +17,17 @@ pub ruleset lengths = (length-map)
 pub none_below : {T : Type 0} (same : T → T → Bool) (value : T) (xs : List T) → NoEqualBelow same value xs 0
 none_below same value xs j known lt stands = absurd (omega (arith, lt))
 
-pub below_more : {T : Type 0} (same : T → T → Bool) (value : T) (xs : List T) (i : ℕ) (x : T) → x ≡ get_or xs i x → same value x ≡ false → NoEqualBelow same value xs i → NoEqualBelow same value xs (i + 1)
+pub below_more : {T : Type 0} (same : T → T → Bool) (value : T) (xs : List T) (i : ℕ) (x : T) → x ≡ get_or xs i x → same value x ≡ false
+    → NoEqualBelow same value xs i → NoEqualBelow same value xs (i + 1)
 below_more same value xs i x e differs below j known lt stands =
     let less = below j known in let here = get_or_from_slice_get xs i known x in grind (arith, nat_tests, less, here, e, differs, lt, stands)
 
-pub is_equal : {T : Type 0} (same : T → T → Bool) (value : T) (xs : List T) (i : ℕ) (x : T) → i < length xs → x ≡ get_or xs i x → IsTrue (same value x) → HasEqual same value xs i
+pub is_equal : {T : Type 0} (same : T → T → Bool) (value : T) (xs : List T) (i : ℕ) (x : T) → i < length xs → x ≡ get_or xs i x → IsTrue (same value x)
+    → HasEqual same value xs i
 is_equal same value xs i x lt e equal = record { known = x; stands = slice_get_read xs (length xs) i x refl lt e; equal = equal }
 
-pub none_at_all : {T : Type 0} (same : T → T → Bool) (value : T) (xs : List T) (i : ℕ) → length xs ≤ i → NoEqualBelow same value xs i → NoEqualBelow same value xs (length xs)
+pub none_at_all : {T : Type 0} (same : T → T → Bool) (value : T) (xs : List T) (i : ℕ) → length xs ≤ i → NoEqualBelow same value xs i
+    → NoEqualBelow same value xs (length xs)
 none_at_all same value xs i le below j known lt stands = below j known (omega (arith, lt, le)) stands
 
 pub ruleset finding = (none_below, below_more, is_equal, none_at_all)
@@ -43,14 +46,21 @@ unregistered_at f (y ∷ ys) i le = grind (arith, nat_tests, unregistered_at f y
 pub ruleset steps = (registered_at, unregistered_at)
 
 -- the index of a value that stands there is a form of it
-pub writes_static : {X : Type 0} (meaning : X → Meaning ArcRef) (x : X) (registry : List (Meaning ⊥)) (i : ℕ) (m : Meaning ⊥) (n : Nesting) (old : Out) (w : List ℕ) → meaning x ≡ lifted m → registered registry i ≡ Ok m → i < bound w32 → w ≡ old.bytes ++ unsigned_form w32 i
+pub writes_static : {X : Type 0} (meaning : X → Meaning ArcRef) (x : X) (registry : List (Meaning ⊥)) (i : ℕ) (m : Meaning ⊥) (n : Nesting) (old : Out)
+    (w : List ℕ) → meaning x ≡ lifted m → registered registry i ≡ Ok m → i < bound w32 → w ≡ old.bytes ++ unsigned_form w32 i
     → WritesSome (Is meaning x) n (static_value registry) old (record old { bytes = w })
 writes_static meaning x registry i m n old w is e lt grown =
-    record { m = meaning x; is = refl; wrote = rw is (writes_bytes n (static_value registry) (lifted m) old w (unsigned_form w32 i) grown (static-form _ registry i m lt e)) }
+    record {
+      m = meaning x;
+      is = refl;
+      wrote = rw is (writes_bytes n (static_value registry) (lifted m) old w (unsigned_form w32 i) grown
+          (static-form _ registry i m lt e));
+    }
 
 -- ---- writing
 
-pub writes_tagged : (M : Meaning ArcRef → Type 0) (tag : List ℕ) (n : Nesting) (written : List ℕ → Shape) (known : List ℕ → Bool) (body : List ℕ → Shape) (old mid new : Out) → IsUtf8 tag → length tag ≤ longest → mid ≡ added old (text_form tag) [] → WritesSome M n (written tag) mid new
+pub writes_tagged : (M : Meaning ArcRef → Type 0) (tag : List ℕ) (n : Nesting) (written : List ℕ → Shape) (known : List ℕ → Bool) (body : List ℕ → Shape)
+    (old mid new : Out) → IsUtf8 tag → length tag ≤ longest → mid ≡ added old (text_form tag) [] → WritesSome M n (written tag) mid new
     → WritesSome (MeansTagged tag M) n (tagged written known body) old new
 writes_tagged M tag n written known body old mid new u le e w = record {
   m = of_tagged tag w.m;
@@ -68,12 +78,18 @@ no-tagged : (n : Nesting) (written : List ℕ → Shape) (known : List ℕ → B
     → (length tag ≤ longest → NoForm n (written tag) x) → NoForm n (tagged written known body) (of_tagged tag x)
 no-tagged n written known body tag x h b k (tagged-form l w' k' b' t y c k2 u le f) = h le c k2 f
 
-pub refused_body : {Z : Type 0} (r : Result Z Error) (M : Meaning ArcRef → Type 0) (tag : List ℕ) (n : Nesting) (written : List ℕ → Shape) (known : List ℕ → Bool) (body : List ℕ → Shape)
+pub refused_body : {Z : Type 0} (r : Result Z Error) (M : Meaning ArcRef → Type 0) (tag : List ℕ) (n : Nesting) (written : List ℕ → Shape)
+    (known : List ℕ → Bool) (body : List ℕ → Shape)
     → IfErr r (Refused M n (written tag)) → IfErr r (Refused (MeansTagged tag M) n (tagged written known body))
 refused_body r M tag n written known body h = err_along r h (λ e k fault.
-    let no = k fault in record { m = of_tagged tag no.m; is = record { body = no.m; is_body = no.is; is = refl }; no_form = no-tagged n written known body tag no.m (λ le. no.no_form) })
+    let no = k fault in record {
+      m = of_tagged tag no.m;
+      is = record { body = no.m; is_body = no.is; is = refl };
+      no_form = no-tagged n written known body tag no.m (λ le. no.no_form);
+    })
 
-pub refused_tag : {Z T : Type 0} (r : Result Z Error) (M : Meanings T) (x : T) (tag : List ℕ) (n : Nesting) (written : List ℕ → Shape) (known : List ℕ → Bool) (body : List ℕ → Shape)
+pub refused_tag : {Z T : Type 0} (r : Result Z Error) (M : Meanings T) (x : T) (tag : List ℕ) (n : Nesting) (written : List ℕ → Shape) (known : List ℕ → Bool)
+    (body : List ℕ → Shape)
     → IfErr r (long_or_memory (length tag)) → IfErr r (Refused (MeansTagged tag (M.of x)) n (tagged written known body))
 refused_tag r M x tag n written known body h = err_along r h (λ e k. elim k [
   | inl long ↦ λ fault. record {
@@ -98,10 +114,13 @@ at_place view xs i x lt e = slice_get-map view xs i ∙ rw (slice_get_read xs (l
 pub none_past : {R F : Type 0} (view : R → List ℕ × F) (tag : List ℕ) (xs : List R) (i : ℕ) → length xs ≤ i → NoneFrom tag (map view xs) i
 none_past view tag xs i le j r past stands = absurd (omega (arith, le, past, slice_get_within (map view xs) j r stands, length-map xs view))
 
-pub none_from_less : {R F : Type 0} (view : R → List ℕ × F) (tag : List ℕ) (xs : List R) (i k : ℕ) (x : R) → k + 1 ≡ i → k < length xs → x ≡ get_or xs k x → bytes_eq tag (view x).0 ≡ false → NoneFrom tag (map view xs) i → NoneFrom tag (map view xs) k
-none_from_less view tag xs i k x s lt e differs from j r le stands = let at = at_place view xs k x lt e in let later = from j r in grind (arith, nat_tests, at, later, differs, stands, s, le)
+pub none_from_less : {R F : Type 0} (view : R → List ℕ × F) (tag : List ℕ) (xs : List R) (i k : ℕ) (x : R) → k + 1 ≡ i → k < length xs → x ≡ get_or xs k x
+    → bytes_eq tag (view x).0 ≡ false → NoneFrom tag (map view xs) i → NoneFrom tag (map view xs) k
+none_from_less view tag xs i k x s lt e differs from j r le stands = let at = at_place view xs k x lt e in let later =
+    from j r in grind (arith, nat_tests, at, later, differs, stands, s, le)
 
-pub is_last : {R F : Type 0} (view : R → List ℕ × F) (tag : List ℕ) (xs : List R) (i k : ℕ) (x : R) → k + 1 ≡ i → k < length xs → x ≡ get_or xs k x → bytes_eq tag (view x).0 ≡ true → NoneFrom tag (map view xs) i → IsLastFor tag (map view xs) (view x).1
+pub is_last : {R F : Type 0} (view : R → List ℕ × F) (tag : List ℕ) (xs : List R) (i k : ℕ) (x : R) → k + 1 ≡ i → k < length xs → x ≡ get_or xs k x
+    → bytes_eq tag (view x).0 ≡ true → NoneFrom tag (map view xs) i → IsLastFor tag (map view xs) (view x).1
 is_last {R} {F} view tag xs i k x s lt e equal from =
     let same : tag ≡ (view x).0 = (bytes_eq-Decides tag (view x).0).0 equal in
     let P : List ℕ → Type 0 = λ t. slice_get (map view xs) k ≡ Some (t, (view x).1) in
@@ -112,7 +131,8 @@ is_last {R} {F} view tag xs i k x s lt e equal from =
 is-same : (tag : List ℕ) → bytes_eq tag tag ≡ true
 is-same tag = (bytes_eq-Decides tag tag).1 refl
 
-not-registered : {X : Type 0} (f : X → List ℕ × Shape) (xs : List X) (tag : List ℕ) → ((j : ℕ) (x : X) → slice_get xs j ≡ Some x → bytes_eq tag (f x).0 ≡ false) → is_registered (map f xs) tag ≡ false
+not-registered : {X : Type 0} (f : X → List ℕ × Shape) (xs : List X) (tag : List ℕ) → ((j : ℕ) (x : X) → slice_get xs j ≡ Some x → bytes_eq tag (f x).0 ≡ false)
+    → is_registered (map f xs) tag ≡ false
 not-registered f [] tag h = refl
 not-registered f (x ∷ xs) tag h = rw (not-registered f xs tag (λ j y e. h (suc j) y e)) (h 0 x refl)
 
@@ -121,39 +141,51 @@ is-last : {X : Type 0} (f : X → List ℕ × Shape) (xs : List X) (tag : List �
     → (is_registered (map f xs) tag ≡ true) × (body_of (map f xs) tag ≡ (f x).1)
 is-last f [] tag x place e equal last = absurd cc
 is-last f (y ∷ ys) tag x zero e equal last = let none = not-registered f ys tag (λ j z stands. last (suc j) z (omega arith) stands) in grind (arith, none)
-is-last f (y ∷ ys) tag x (suc place) e equal last = let p = is-last f ys tag x place e equal (λ j z less stands. last (suc j) z (omega (arith, less)) stands) in (rw p.0 refl, rw p.0 p.1)
+is-last f (y ∷ ys) tag x (suc place) e equal last = let p = is-last f ys tag x place e equal (λ j z less stands. last (suc j) z (omega (arith, less)) stands) in
+    (rw p.0 refl, rw p.0 p.1)
 
 -- ---- reading
 
-read-known : {A B F V : Type 0} (context : Context A B) (written : List ℕ → Shape) (grammar : F → V → Shape) (env : V) (readers : List (List ℕ × F)) (tag : List ℕ) (f : F) (rest mid : Rest A) → bytes_of text_at (λ t. t) rest ≡ Ok (tag, mid) → IsLastFor tag readers f
+read-known : {A B F V : Type 0} (context : Context A B) (written : List ℕ → Shape) (grammar : F → V → Shape) (env : V) (readers : List (List ℕ × F))
+    (tag : List ℕ) (f : F) (rest mid : Rest A) → bytes_of text_at (λ t. t) rest ≡ Ok (tag, mid) → IsLastFor tag readers f
     → read context (tagged_by written (grammars grammar env readers)) rest ≡ (read context (grammar f env) mid >>= λ y. Ok (of_tagged tag y.0, y.1))
 unfolding read read_with
 read-known context written grammar env readers tag f rest mid e last =
     let p = is-last (λ r. (r.0, grammar r.1 env)) readers tag (tag, f) last.place last.stands (is-same tag) last.last in rw (e, p.0, p.1) refl
 
-read-unknown : {A B F V : Type 0} (context : Context A B) (written : List ℕ → Shape) (grammar : F → V → Shape) (env : V) (readers : List (List ℕ × F)) (tag : List ℕ) (rest mid : Rest A) → bytes_of text_at (λ t. t) rest ≡ Ok (tag, mid) → NoneFor tag readers
+read-unknown : {A B F V : Type 0} (context : Context A B) (written : List ℕ → Shape) (grammar : F → V → Shape) (env : V) (readers : List (List ℕ × F))
+    (tag : List ℕ) (rest mid : Rest A) → bytes_of text_at (λ t. t) rest ≡ Ok (tag, mid) → NoneFor tag readers
     → read context (tagged_by written (grammars grammar env readers)) rest ≡ Err Error.UnknownTag
 unfolding read read_with
 read-unknown context written grammar env readers tag rest mid e none = rw (e, not-registered (λ r. (r.0, grammar r.1 env)) readers tag none) refl
 
 -- a tag as bytes give it
-pub text_is_read : {X : Type 0} (bytes_in : X → List ℕ) (r : Result X Error) (rest last : Rest Answer) (bytes after : List ℕ) → rest.bytes ≡ bytes → last ≡ record rest { bytes = after } → Gives memory (λ t. (bytes_in t, after)) r (text_at bytes)
+pub text_is_read : {X : Type 0} (bytes_in : X → List ℕ) (r : Result X Error) (rest last : Rest Answer) (bytes after : List ℕ) → rest.bytes ≡ bytes → last
+    ≡ record rest { bytes = after } → Gives memory (λ t. (bytes_in t, after)) r (text_at bytes)
     → Gives memory (λ t. (bytes_in t, last)) r (bytes_of text_at (λ t. t) rest)
 text_is_read bytes_in r rest last bytes after e f h = grind (arith, nat_tests, e, f, h)
 
 module _ {D E R N H K V : Type 0} (d : Deserializers D E R N H K V) where
   -- what a reader of a part or of the whole owes
   abbrev pub Tells : Type 0 → D → D → Type 0
-  Tells gives old new = record { gives : gives; moves : MovesOn (d.standing old) (d.standing new); same_env : d.environment new ≡ d.environment old; same_levels : d.levels new ≡ d.levels old }
+  Tells gives old new = record {
+    gives : gives;
+    moves : MovesOn (d.standing old) (d.standing new);
+    same_env : d.environment new ≡ d.environment old;
+    same_levels : d.levels new ≡ d.levels old;
+  }
 
-module _ {D E R N H K V T F : Type 0} (env : Environments E N H K V) (d : Deserializers D E R N H K V) (own : Error → Type 0) (tag_of : T → List ℕ) (M : T → Meaning ArcRef → Type 0) (grammar : F → E → Shape) where
+module _ {D E R N H K V T F : Type 0} (env : Environments E N H K V) (d : Deserializers D E R N H K V) (own : Error → Type 0) (tag_of : T → List ℕ)
+    (M : T → Meaning ArcRef → Type 0) (grammar : F → E → Shape) where
   -- what a reader of a tagged value owes
   abbrev pub TellsTagged : List (List ℕ × F) → D → D → Result T Error → Type 0
   TellsTagged readers a b r =
-      (written : List ℕ → Shape) → Reads env d (memory_or own) (λ x. MeansTagged (tag_of x) (M x)) (λ c. read c (tagged_by written (grammars grammar (d.environment a) readers))) a b r
+      (written : List ℕ → Shape) → Reads env d (memory_or own) (λ x. MeansTagged (tag_of x) (M x))
+      (λ c. read c (tagged_by written (grammars grammar (d.environment a) readers))) a b r
 
   -- no reader is registered
-  pub unknown_read : {a b : D} {tag : List ℕ} (readers known : List (List ℕ × F)) (named : List ℕ) → Tells d (bytes_of text_at (λ t. t) (d.rest a) ≡ Ok (tag, d.rest b)) a b → named ≡ tag
+  pub unknown_read : {a b : D} {tag : List ℕ} (readers known : List (List ℕ × F)) (named : List ℕ)
+      → Tells d (bytes_of text_at (λ t. t) (d.rest a) ≡ Ok (tag, d.rest b)) a b → named ≡ tag
       → known ≡ readers → NoneFor named known → TellsTagged readers a b (Err Error.UnknownTag)
   unknown_read {a} {b} {tag} readers known named told same all none written = record {
     gives = inl (read-unknown _ written grammar (d.environment a) readers tag _ _ told.gives (rw (same, all) at none));
@@ -162,14 +194,22 @@ module _ {D E R N H K V T F : Type 0} (env : Environments E N H K V) (d : Deseri
     same_levels = told.same_levels;
   }
 
-  after-tag : {P : Type 0} {N : T → Meaning ArcRef → Type 0} {get whole : Context Answer ArcRef → Gets Answer (Meaning ArcRef)} {causes : Error → Type 0} {a b c : D}
+  after-tag : {P : Type 0} {N : T → Meaning ArcRef → Type 0} {get whole : Context Answer ArcRef → Gets Answer (Meaning ArcRef)} {causes : Error → Type 0}
+      {a b c : D}
       (r : Result T Error) → Tells d P a b → Reads env d own M get b c r
-      → (GivesSome own M (d.rest c) r (get (context_in env d b) (d.rest b)) → GivesSome causes N (d.rest c) r (whole (context_in env d a) (d.rest a))) → Reads env d causes N whole a c r
+      → (GivesSome own M (d.rest c) r (get (context_in env d b) (d.rest b)) → GivesSome causes N (d.rest c) r (whole (context_in env d a) (d.rest a)))
+      → Reads env d causes N whole a c r
   after-tag r first told f =
-      record { gives = f told.gives; moves = moves_trans _ _ _ first.moves told.moves; same_env = told.same_env ∙ first.same_env; same_levels = told.same_levels ∙ first.same_levels }
+      record {
+        gives = f told.gives;
+        moves = moves_trans _ _ _ first.moves told.moves;
+        same_env = told.same_env ∙ first.same_env;
+        same_levels = told.same_levels ∙ first.same_levels;
+      }
 
   -- the body is read, or refused
-  pub body_read : {a b c : D} {tag : List ℕ} (readers known : List (List ℕ × F)) (named its : List ℕ) (f : F) (r : Result T Error) → Tells d (bytes_of text_at (λ t. t) (d.rest a) ≡ Ok (tag, d.rest b)) a b
+  pub body_read : {a b c : D} {tag : List ℕ} (readers known : List (List ℕ × F)) (named its : List ℕ) (f : F) (r : Result T Error)
+      → Tells d (bytes_of text_at (λ t. t) (d.rest a) ≡ Ok (tag, d.rest b)) a b
       → named ≡ tag → known ≡ readers → IsLastFor named known f → its ≡ named
       → Reads env d own M (λ x. read x (grammar f (d.environment b))) b c r → IfOk r (λ x. tag_of x ≡ its) → TellsTagged readers a c r
   body_read {a = a} {tag = tag} readers known named its f (Ok x) first same all last its_own told of_tag written =
@@ -191,15 +231,18 @@ module _ {D E R N H K V T F : Type 0} (env : Environments E N H K V) (d : Deseri
 -- ---- distinct tags
 
 -- a registered tag is read by its own registration
-own-registration : (rs : List (List ℕ × Shape)) (i : ℕ) (tag : List ℕ) (s : Shape) → HasDistinctTags rs → slice_get rs i ≡ Some (tag, s) → (is_registered rs tag ≡ true) × (body_of rs tag ≡ s)
+own-registration : (rs : List (List ℕ × Shape)) (i : ℕ) (tag : List ℕ) (s : Shape) → HasDistinctTags rs → slice_get rs i ≡ Some (tag, s)
+    → (is_registered rs tag ≡ true) × (body_of rs tag ≡ s)
 own-registration rs i tag s distinct stands =
-    rw (map-id rs) at (is-last (λ x. x) rs tag (tag, s) i stands (is-same tag) (λ j r less there. let one = distinct i j (tag, s) r stands there in grind (arith, nat_tests, one, less)))
+    rw (map-id rs) at (is-last (λ x. x) rs tag (tag, s) i stands (is-same tag) (λ j r less there. let one = distinct i j (tag, s) r stands there in
+    grind (arith, nat_tests, one, less)))
 
 registered-place : (rs : List (List ℕ × Shape)) (tag : List ℕ) → is_registered rs tag ≡ true → (i : ℕ) × (slice_get rs i ≡ Some (tag, body_of rs tag))
 registered-place [] tag e = absurd cc
 registered-place (r ∷ rs) tag e = go (is_registered rs tag) refl (λ known. registered-place rs tag known)
   where
-    go : (b : Bool) → is_registered rs tag ≡ b → (is_registered rs tag ≡ true → (i : ℕ) × (slice_get rs i ≡ Some (tag, body_of rs tag))) → (i : ℕ) × (slice_get (r ∷ rs) i ≡ Some (tag, body_of (r ∷ rs) tag))
+    go : (b : Bool) → is_registered rs tag ≡ b → (is_registered rs tag ≡ true → (i : ℕ) × (slice_get rs i ≡ Some (tag, body_of rs tag))) → (i : ℕ)
+        × (slice_get (r ∷ rs) i ≡ Some (tag, body_of (r ∷ rs) tag))
     go true known later = let p = later known in (suc p.0, rw known p.1)
     go false unknown later =
         let here : bytes_eq tag r.0 ≡ true = rw unknown at e in
@@ -211,7 +254,8 @@ unfolding LiesIn
 no_case-lies nodes parts (cases w known part) h = λ n e. let no : false ≡ true = sym (h n) ∙ e in absurd cc
 no_case-lies nodes parts s h = absurd h
 
-pub distinct_is_read : (parts : ℕ → Shape) (written : List ℕ → Shape) (rs : List (List ℕ × Shape)) → HasDistinctTags rs → ReadsWhatIsWritten parts written rs → Throughout IsReadable parts (tagged_by written rs)
+pub distinct_is_read : (parts : ℕ → Shape) (written : List ℕ → Shape) (rs : List (List ℕ × Shape)) → HasDistinctTags rs → ReadsWhatIsWritten parts written rs
+    → Throughout IsReadable parts (tagged_by written rs)
 unfolding IsReadable LiesIn Within
 distinct_is_read parts written rs distinct reads = record { within = within }
   where
@@ -238,5 +282,6 @@ distinct_is_read parts written rs distinct reads = record { within = within }
     within (suc steps) = (readable, below steps)
 
 -- a tagged value means something where its body does
-pub tagged_means : {T : Type 0} (tag : T → List ℕ) (body : T → Meaning ArcRef → Type 0) → ((x : T) → SomeMeaning (body x)) → (x : T) → SomeMeaning (MeansTagged (tag x) (body x))
+pub tagged_means : {T : Type 0} (tag : T → List ℕ) (body : T → Meaning ArcRef → Type 0) → ((x : T) → SomeMeaning (body x)) → (x : T)
+    → SomeMeaning (MeansTagged (tag x) (body x))
 tagged_means tag body has x = (of_tagged (tag x) (has x).0, record { body = (has x).0; is_body = (has x).1; is = refl })

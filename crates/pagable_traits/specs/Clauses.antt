@@ -17,7 +17,11 @@ abbrev pub bytes : List ℕ → Piece
 bytes b = record { wrote = λ n old new. new ≡ added old b []; lacks = λ n e. Unit {0} }
 
 abbrev pub front : ℕ → ℕ → Piece
-front case count = record { wrote = λ n old new. (count ≤ longest) × (new ≡ added (added old (unsigned_form w64 case) []) (length_form count) []); lacks = λ n e. Unit {0} }
+front case count = record {
+  wrote = λ n old new. (count ≤ longest)
+      × (new ≡ added (added old (unsigned_form w64 case) []) (length_form count) []);
+  lacks = λ n e. Unit {0};
+}
 
 abbrev pub value : (Meaning ArcRef → Type 0) → Shape → Piece
 value M shape = record { wrote = λ n. WritesSome M n shape; lacks = λ n. Refused M n shape }
@@ -30,7 +34,8 @@ module _ {S E N H K V : Type 0} (env : Environments E N H K V) (s : Serializers 
   nested_in x = nesting (s.levels x) (env.parts (s.environment x))
 
   -- the contract of `PagableSerialize`
-  pub record Wrote {X : Type 0} (piece : Piece) (causes : Error → Type 0) (old new : S) (result : Result X Error) : Type 0 where
+  pub record Wrote {X : Type 0} (piece : Piece) (causes : Error → Type 0) (old new : S) (result : Result X Error) : Type
+      0 where
     pub ok : OnOk result (piece.wrote (nested_in old) (s.out old) (s.out new))
     pub refused : IfErr result (piece.lacks (nested_in old))
     pub only : IfErr result causes
@@ -43,7 +48,8 @@ module _ {D E R N H K V : Type 0} (env : Environments E N H K V) (d : Deserializ
   context_in x = handles_at (d.levels x) (env.parts (d.environment x))
 
   -- the contract of `PagableDeserialize`
-  pub record Reads {X Y : Type 0} (causes : Error → Type 0) (means : X → Y → Type 0) (get : Context Answer ArcRef → Gets Answer Y) (old new : D) (result : Result X Error) : Type 0 where
+  pub record Reads {X Y : Type 0} (causes : Error → Type 0) (means : X → Y → Type 0)
+      (get : Context Answer ArcRef → Gets Answer Y) (old new : D) (result : Result X Error) : Type 0 where
     pub gives : GivesSome causes means (d.rest new) result (get (context_in old) (d.rest old))
     pub moves : MovesOn (d.standing old) (d.standing new)
     pub same_env : d.environment new ≡ d.environment old
@@ -57,4 +63,5 @@ part_of case c = json_part (below answer_at c.parts (deepest - c.levels)) case
 pub record ObjectOf (v : Value) (ms : List (Meaning ArcRef)) : Type 0 where
   pub members : BTreeMap (String Global) Value
   pub is : v ≡ values.Object members
-  pub each : Collected (MeansPair (Is of_key) (Is of_value)) (λ es e fs. fs ≡ insert_entry string_cmp es e.0 e.1) members.entries ms
+  pub each : Collected (MeansPair (Is of_key) (Is of_value)) (λ es e fs. fs ≡ insert_entry string_cmp es e.0 e.1)
+      members.entries ms

@@ -23,7 +23,8 @@ abbrev pub lists_beside : {N T : Type 0} → Beside N T → Beside N (List T)
 lists_beside B xs r y = All (λ x. B x r y) xs
 
 -- the result of adding items one after another, each of which holds what the deserializer lent
-pub record CollectsHeld {N T : Type 0} (s : Standing N) (B : Beside N T) (puts : List T → T → List T → Type 0) (now : List T) : Type 0 where
+pub record CollectsHeld {N T : Type 0} (s : Standing N) (B : Beside N T) (puts : List T → T → List T → Type 0)
+    (now : List T) : Type 0 where
   pub xs : List T
   pub each : All (HoldsLent s B) xs
   pub is : PutInTurn puts [] xs now

@@ -6,46 +6,65 @@ use Rattle.pagable_value_spec.specs.Shape as shapes
 use Rattle.pagable_traits.specs.Meanings.{Meanings, exactly, lists, options, pairs, results, seen_by}
 
 -- two values are equal exactly if they mean the same, and in no environment does a value refer to anything
-pub record IsKey {X E : Type 0} (M : Meanings X) (eq : X → X → Bool) (parts : E → ℕ → Shape) (shape : E → Shape) : Type 0 where
+pub record IsKey {X E : Type 0} (M : Meanings X) (eq : X → X → Bool) (parts : E → ℕ → Shape)
+    (shape : E → Shape) : Type 0 where
   pub same : (x y : X) → eq x y ≡ same_key (M.meaning x) (M.meaning y)
   pub refers_to_nothing : (e : E) → RefersToNothing (parts e) (shape e)
 
 module _ {X E : Type 0} {M : Meanings X} {eq : X → X → Bool} {parts : E → ℕ → Shape} {s : E → Shape} where
   -- for values that are seen as keys
-  abbrev pub key_seen : {Z : Type 0} (view : Z → X) → IsKey M eq parts s → IsKey (seen_by view M) (λ x y. eq (view x) (view y)) parts s
+  abbrev pub key_seen : {Z : Type 0} (view : Z → X) → IsKey M eq parts s
+      → IsKey (seen_by view M) (λ x y. eq (view x) (view y)) parts s
   key_seen view k = record { same = λ x y. k.same (view x) (view y); refers_to_nothing = k.refers_to_nothing }
 
   -- for values with another test of equality that has the same results
-  abbrev pub key_alike : {test : X → X → Bool} → ((x y : X) → test x y ≡ eq x y) → IsKey M eq parts s → IsKey M test parts s
+  abbrev pub key_alike : {test : X → X → Bool} → ((x y : X) → test x y ≡ eq x y) → IsKey M eq parts s
+      → IsKey M test parts s
   key_alike alike k = record { same = λ x y. alike x y ∙ k.same x y; refers_to_nothing = k.refers_to_nothing }
 
   abbrev pub option_key : IsKey M eq parts s → IsKey (options M) (option_eq eq) parts (λ e. optional (s e))
-  option_key k = record { same = option_is_same eq M.meaning k.same; refers_to_nothing = λ e. over_refers_to_nothing refl (k.refers_to_nothing e) }
+  option_key k = record {
+    same = option_is_same eq M.meaning k.same;
+    refers_to_nothing = λ e. over_refers_to_nothing refl (k.refers_to_nothing e);
+  }
 
   -- for lists, in a shape made of their items' shape
-  abbrev pub list_key : {whole : E → Shape} → ((e : E) → IsOver (s e) (whole e)) → IsKey M eq parts s → IsKey (lists M) (pointwise eq) parts whole
-  list_key over k = record { same = list_is_same eq M.meaning k.same; refers_to_nothing = λ e. over_refers_to_nothing (over e) (k.refers_to_nothing e) }
+  abbrev pub list_key : {whole : E → Shape} → ((e : E) → IsOver (s e) (whole e)) → IsKey M eq parts s
+      → IsKey (lists M) (pointwise eq) parts whole
+  list_key over k = record {
+    same = list_is_same eq M.meaning k.same;
+    refers_to_nothing = λ e. over_refers_to_nothing (over e) (k.refers_to_nothing e);
+  }
 
   module _ {Y : Type 0} {N : Meanings Y} {like : Y → Y → Bool} {t : E → Shape} where
-    abbrev pub result_key : IsKey M eq parts s → IsKey N like parts t → IsKey (results M N) (result_eq eq like) parts (λ e. outcome (s e) (t e))
-    result_key k l = record { same = result_is_same eq like M.meaning N.meaning k.same l.same; refers_to_nothing = λ e. two_refers_to_nothing (refl, refl) (k.refers_to_nothing e) (l.refers_to_nothing e) }
+    abbrev pub result_key : IsKey M eq parts s → IsKey N like parts t
+        → IsKey (results M N) (result_eq eq like) parts (λ e. outcome (s e) (t e))
+    result_key k l = record {
+      same = result_is_same eq like M.meaning N.meaning k.same l.same;
+      refers_to_nothing = λ e. two_refers_to_nothing (refl, refl) (k.refers_to_nothing e) (l.refers_to_nothing e);
+    }
 
-    abbrev pub pair_key : IsKey M eq parts s → IsKey N like parts t → IsKey (pairs M N) (λ p q. eq p.0 q.0 && like p.1 q.1) parts (λ e. both (s e) (t e))
+    abbrev pub pair_key : IsKey M eq parts s → IsKey N like parts t
+        → IsKey (pairs M N) (λ p q. eq p.0 q.0 && like p.1 q.1) parts (λ e. both (s e) (t e))
     pair_key k l = record {
-      same = λ p q. pair_is_same (eq p.0 q.0) (like p.1 q.1) (M.meaning p.0) (N.meaning p.1) (M.meaning q.0) (N.meaning q.1) (k.same p.0 q.0) (l.same p.1 q.1);
+      same = λ p q. pair_is_same (eq p.0 q.0) (like p.1 q.1) (M.meaning p.0) (N.meaning p.1) (M.meaning q.0)
+          (N.meaning q.1) (k.same p.0 q.0) (l.same p.1 q.1);
       refers_to_nothing = λ e. two_refers_to_nothing (refl, refl) (k.refers_to_nothing e) (l.refers_to_nothing e);
     }
 
     -- for entries, in a shape made of their keys' and their values' shapes
-    abbrev pub entries_key : {whole : E → Shape} → ((e : E) → IsOfTwo (s e) (t e) (whole e)) → IsKey M eq parts s → IsKey N like parts t → IsKey (lists (pairs M N)) (pointwise (λ p q. eq p.0 q.0 && like p.1 q.1)) parts whole
+    abbrev pub entries_key : {whole : E → Shape} → ((e : E) → IsOfTwo (s e) (t e) (whole e)) → IsKey M eq parts s
+        → IsKey N like parts t → IsKey (lists (pairs M N)) (pointwise (λ p q. eq p.0 q.0 && like p.1 q.1)) parts whole
     entries_key over k l = record {
       same = list_is_same (λ p q. eq p.0 q.0 && like p.1 q.1) (pairs M N).meaning (pair_key k l).same;
       refers_to_nothing = λ e. two_refers_to_nothing (over e) (k.refers_to_nothing e) (l.refers_to_nothing e);
     }
 
 -- for whole numbers, and for texts
-abbrev pub number_key : {E : Type 0} {parts : E → ℕ → Shape} {w : Width} → IsKey (exactly number) nat_eq parts (λ (e : E). unsigned w)
+abbrev pub number_key : {E : Type 0} {parts : E → ℕ → Shape} {w : Width}
+    → IsKey (exactly number) nat_eq parts (λ (e : E). unsigned w)
 number_key = record { same = number_is_same; refers_to_nothing = λ e. basic_refers_to_nothing tt }
 
-abbrev pub text_key : {E : Type 0} {parts : E → ℕ → Shape} → IsKey (exactly text) bytes_eq parts (λ (e : E). shapes.text)
+abbrev pub text_key : {E : Type 0} {parts : E → ℕ → Shape}
+    → IsKey (exactly text) bytes_eq parts (λ (e : E). shapes.text)
 text_key = record { same = text_is_same; refers_to_nothing = λ e. basic_refers_to_nothing tt }

@@ -30,16 +30,33 @@ abbrev pub options : {T : Type 0} → Meanings T → Meanings (Option T)
 options M = record { of = MeansOption M.of; meaning = of_option M.meaning; is = option_is_meaning M.of M.meaning M.is }
 
 abbrev pub results : {T X : Type 0} → Meanings T → Meanings X → Meanings (Result T X)
-results M N = record { of = MeansResult M.of N.of; meaning = of_result M.meaning N.meaning; is = result_is_meaning M.of N.of M.meaning N.meaning M.is N.is }
+results M N = record {
+  of = MeansResult M.of N.of;
+  meaning = of_result M.meaning N.meaning;
+  is = result_is_meaning M.of N.of M.meaning N.meaning M.is N.is;
+}
 
 abbrev pub lists : {T : Type 0} → Meanings T → Meanings (List T)
-lists M = record { of = MeansList M.of; meaning = λ xs. sequence (map M.meaning xs); is = list_is_meaning M.of M.meaning M.is }
+lists M = record {
+  of = MeansList M.of;
+  meaning = λ xs. sequence (map M.meaning xs);
+  is = list_is_meaning M.of M.meaning M.is;
+}
 
 abbrev pub pairs : {A B : Type 0} → Meanings A → Meanings B → Meanings (A × B)
-pairs M N = record { of = MeansPair M.of N.of; meaning = λ p. pair (M.meaning p.0) (N.meaning p.1); is = pair_is_meaning M.of N.of M.meaning N.meaning M.is N.is }
+pairs M N = record {
+  of = MeansPair M.of N.of;
+  meaning = λ p. pair (M.meaning p.0) (N.meaning p.1);
+  is = pair_is_meaning M.of N.of M.meaning N.meaning M.is N.is;
+}
 
 abbrev pub hash_maps : {K V : Type 0} → Meanings K → Meanings V → Meanings (List (K × V))
-hash_maps M N = record { of = MeansHashMap M.of N.of; meaning = λ xs. of_hash_map (map (λ x. (M.meaning x.0, N.meaning x.1)) xs); is = hash_map_is_meaning M.of N.of M.meaning N.meaning M.is N.is }
+hash_maps M N = record {
+  of = MeansHashMap M.of N.of;
+  meaning = λ xs. of_hash_map
+      (map (λ x. (M.meaning x.0, N.meaning x.1)) xs);
+  is = hash_map_is_meaning M.of N.of M.meaning N.meaning M.is N.is;
+}
 
 pub options_single : {T : Type 0} (M : Meanings T) → AreSingle M → AreSingle (options M)
 options_single M s = option_single M.of M.meaning s

@@ -19,7 +19,10 @@ abbrev pub reads_memory_or : ReadCauses → ReadCauses
 reads_memory_or part = record { are = memory_or part.are; own = memory_or_is_own_reading part.are part.own }
 
 abbrev pub reads_either : ReadCauses → ReadCauses → ReadCauses
-reads_either first second = record { are = either first.are second.are; own = either_is_own_reading first.are second.are first.own second.own }
+reads_either first second = record {
+  are = either first.are second.are;
+  own = either_is_own_reading first.are second.are first.own second.own;
+}
 
 -- each cause is an error that a writer may return
 pub record WriteCauses : Type 1 where
@@ -36,7 +39,10 @@ abbrev pub writes_memory_or : WriteCauses → WriteCauses
 writes_memory_or part = record { are = memory_or part.are; may = memory_or_may_refuse_writing part.are part.may }
 
 abbrev pub writes_either : WriteCauses → WriteCauses → WriteCauses
-writes_either first second = record { are = either first.are second.are; may = either_may_refuse_writing first.are second.are first.may second.may }
+writes_either first second = record {
+  are = either first.are second.are;
+  may = either_may_refuse_writing first.are second.are first.may second.may;
+}
 
 abbrev pub writes_long_or : WriteCauses → WriteCauses
 writes_long_or part = record { are = long_or part.are; may = long_or_may_refuse_writing part.are part.may }

@@ -8,17 +8,24 @@ abbrev pub IsReadThroughout : (ℕ → Shape) → Shape → Type 0
 IsReadThroughout parts s = Throughout IsReadable parts s
 
 pub basic_is_read : {parts : ℕ → Shape} {s : Shape} → IsBasic s → IsReadThroughout parts s
-basic_is_read {parts} {s} h = throughout-alone IsReadable parts s (basic-follows any any s h).readable (λ those. (basic-follows any those s h).lies)
+basic_is_read {parts} {s} h = throughout-alone IsReadable parts s (basic-follows any any s h).readable
+    (λ those. (basic-follows any those s h).lies)
 
-pub over_is_read : {parts : ℕ → Shape} {s whole : Shape} → IsOver s whole → IsReadThroughout parts s → IsReadThroughout parts whole
-over_is_read {parts} {s} {whole} e h = throughout-over IsReadable parts s whole (over-follows any any s whole e).readable (λ those. (over-follows any those s whole e).lies) h
+pub over_is_read : {parts : ℕ → Shape} {s whole : Shape} → IsOver s whole → IsReadThroughout parts s
+    → IsReadThroughout parts whole
+over_is_read {parts} {s} {whole} e h = throughout-over IsReadable parts s whole
+    (over-follows any any s whole e).readable (λ those. (over-follows any those s whole e).lies) h
 
-pub two_is_read : {parts : ℕ → Shape} {s t whole : Shape} → IsOfTwo s t whole → IsReadThroughout parts s → IsReadThroughout parts t → IsReadThroughout parts whole
-two_is_read {parts} {s} {t} {whole} e h k = throughout-two IsReadable parts s t whole (two-follows any any s t whole e).readable (λ those. (two-follows any those s t whole e).lies) h k
+pub two_is_read : {parts : ℕ → Shape} {s t whole : Shape} → IsOfTwo s t whole → IsReadThroughout parts s
+    → IsReadThroughout parts t → IsReadThroughout parts whole
+two_is_read {parts} {s} {t} {whole} e h k = throughout-two IsReadable parts s t whole
+    (two-follows any any s t whole e).readable (λ those. (two-follows any those s t whole e).lies) h k
 
-pub hash_map_is_read : {parts : ℕ → Shape} {s t : Shape} → IsReadThroughout parts s → IsReadThroughout parts t → IsReadThroughout parts (hash_map s t)
+pub hash_map_is_read : {parts : ℕ → Shape} {s t : Shape} → IsReadThroughout parts s → IsReadThroughout parts t
+    → IsReadThroughout parts (hash_map s t)
 unfolding IsReadable LiesIn
-hash_map_is_read {parts} {s} {t} h k = throughout-two IsReadable parts s t (hash_map s t) (λ c d. (c, d)) (λ those l m. (l, m)) h k
+hash_map_is_read {parts} {s} {t} h k = throughout-two IsReadable parts s t (hash_map s t) (λ c d. (c, d))
+    (λ those l m. (l, m)) h k
 
 -- each of these shapes is read throughout
 abbrev pub AreRead : (ℕ → Shape) → List Shape → Type 0

@@ -6,7 +6,8 @@ use Rattle.pagable_value_spec.specs.Shape as shapes
 
 -- each form of the shape lists the references of what it is a form of, in their order
 abbrev pub ListsInOrder : (ℕ → Shape) → Shape → Type 0
-ListsInOrder parts s = (left : ℕ) (m : Meaning ArcRef) (b : List ℕ) (k : List ArcRef) → Form ArcRef kind_of_arc parts left s m b k → k ≡ references_in m
+ListsInOrder parts s = (left : ℕ) (m : Meaning ArcRef) (b : List ℕ) (k : List ArcRef)
+    → Form ArcRef kind_of_arc parts left s m b k → k ≡ references_in m
 
 pub reference_in_order : (parts : ℕ → Shape) (kind : ℕ) → ListsInOrder parts (shapes.reference kind)
 unfolding references_in
@@ -21,19 +22,24 @@ unfolding references_in
 optional_in_order parts s h left _ _ _ (none-form _ _) = refl
 optional_in_order parts s h left _ _ _ (some-form _ _ m b k f) = h left m b k f
 
-pub both_in_order : (parts : ℕ → Shape) (s t : Shape) → ListsInOrder parts s → ListsInOrder parts t → ListsInOrder parts (both s t)
+pub both_in_order : (parts : ℕ → Shape) (s t : Shape) → ListsInOrder parts s → ListsInOrder parts t
+    → ListsInOrder parts (both s t)
 unfolding references_in
 both_in_order parts s t h i left _ _ _ (both-form _ _ _ m n b c k l f g) = rw (h left m b k f, i left n c l g) refl
 
-forms-in-order : (parts : ℕ → Shape) (s : Shape) → ListsInOrder parts s → (left : ℕ) (ms : List (Meaning ArcRef)) (b : List ℕ) (k : List ArcRef) → Forms ArcRef kind_of_arc parts left s ms b k → k ≡ references_in (sequence ms)
+forms-in-order : (parts : ℕ → Shape) (s : Shape) → ListsInOrder parts s
+    → (left : ℕ) (ms : List (Meaning ArcRef)) (b : List ℕ) (k : List ArcRef)
+    → Forms ArcRef kind_of_arc parts left s ms b k → k ≡ references_in (sequence ms)
 unfolding references_in
 forms-in-order parts s h left _ _ _ (no-forms _ _) = refl
-forms-in-order parts s h left _ _ _ (more-forms _ _ m ms b c k l f fs) = rw (h left m b k f, forms-in-order parts s h left ms c l fs) refl
+forms-in-order parts s h left _ _ _ (more-forms _ _ m ms b c k l f fs) =
+    rw (h left m b k f, forms-in-order parts s h left ms c l fs) refl
 
 pub list_in_order : (parts : ℕ → Shape) (s : Shape) → ListsInOrder parts s → ListsInOrder parts (list s)
 list_in_order parts s h left _ _ _ (list-form _ _ ms b k le fs) = forms-in-order parts s h left ms b k fs
 
-pub outcome_in_order : (parts : ℕ → Shape) (s t : Shape) → ListsInOrder parts s → ListsInOrder parts t → ListsInOrder parts (outcome s t)
+pub outcome_in_order : (parts : ℕ → Shape) (s t : Shape) → ListsInOrder parts s → ListsInOrder parts t
+    → ListsInOrder parts (outcome s t)
 unfolding references_in
 outcome_in_order parts s t h i left _ _ _ (err-form _ _ _ m b k f) = i left m b k f
 outcome_in_order parts s t h i left _ _ _ (ok-form _ _ _ m b k f) = h left m b k f

@@ -4,18 +4,21 @@ use Rattle.pagable_value_spec.specs.{BasicValues.{length_form, longest}, Lengths
 use Rattle.{pagable_value_spec.specs.declared.{error.Error.Error, numbers.ArcRef.ArcRef}, pagable_traits.specs.Clauses.Piece}
 
 -- the iterator yielded these items and then no more, and each was written
-pub record WritesEach {W T : Type 0} (next : W → Option T → W → Type 0) (M : T → Meaning ArcRef → Type 0) (walk : W) (n : Nesting) (s : Shape) (old new : Out) : Type 0 where
+pub record WritesEach {W T : Type 0} (next : W → Option T → W → Type 0) (M : T → Meaning ArcRef → Type 0) (walk : W)
+    (n : Nesting) (s : Shape) (old new : Out) : Type 0 where
   pub xs : List T
   pub all : Drains next walk xs
   pub wrote : WritesSomeAll (MeanAll M xs) n s old new
 
 -- the count was written, and then each item
-pub record WritesCounted {W T : Type 0} (next : W → Option T → W → Type 0) (M : T → Meaning ArcRef → Type 0) (walk : W) (count : ℕ) (n : Nesting) (s : Shape) (old new : Out) : Type 0 where
+pub record WritesCounted {W T : Type 0} (next : W → Option T → W → Type 0) (M : T → Meaning ArcRef → Type 0) (walk : W)
+    (count : ℕ) (n : Nesting) (s : Shape) (old new : Out) : Type 0 where
   pub within : count ≤ longest
   pub each : WritesEach next M walk n s (added old (length_form count) []) new
 
 -- an item that the iterator yielded after these fails
-pub record RefusedAmong {W T : Type 0} (next : W → Option T → W → Type 0) (M : T → Meaning ArcRef → Type 0) (walk : W) (n : Nesting) (s : Shape) (e : Error) : Type 0 where
+pub record RefusedAmong {W T : Type 0} (next : W → Option T → W → Type 0) (M : T → Meaning ArcRef → Type 0) (walk : W)
+    (n : Nesting) (s : Shape) (e : Error) : Type 0 where
   pub before : List T
   pub x : T
   pub after : W
@@ -23,12 +26,17 @@ pub record RefusedAmong {W T : Type 0} (next : W → Option T → W → Type 0) 
   pub refused : Refused (M x) n s e
 
 -- the count or an item fails
-abbrev pub RefusedCounted : {W T : Type 0} → (W → Option T → W → Type 0) → (T → Meaning ArcRef → Type 0) → W → ℕ → Nesting → Shape → Error → Type 0
+abbrev pub RefusedCounted : {W T : Type 0} → (W → Option T → W → Type 0) → (T → Meaning ArcRef → Type 0) → W → ℕ
+    → Nesting → Shape → Error → Type 0
 RefusedCounted next M walk count n s e = long_or_memory count e ⊎ RefusedAmong next M walk n s e
 
 -- the forms of the items that an iterator yields; and those behind their count
 abbrev pub each : {W T : Type 0} → (W → Option T → W → Type 0) → (T → Meaning ArcRef → Type 0) → W → Shape → Piece
 each next M walk s = record { wrote = λ n. WritesEach next M walk n s; lacks = λ n. RefusedAmong next M walk n s }
 
-abbrev pub counted : {W T : Type 0} → (W → Option T → W → Type 0) → (T → Meaning ArcRef → Type 0) → W → ℕ → Shape → Piece
-counted next M walk count s = record { wrote = λ n. WritesCounted next M walk count n s; lacks = λ n. RefusedCounted next M walk count n s }
+abbrev pub counted : {W T : Type 0} → (W → Option T → W → Type 0) → (T → Meaning ArcRef → Type 0) → W → ℕ → Shape
+    → Piece
+counted next M walk count s = record {
+  wrote = λ n. WritesCounted next M walk count n s;
+  lacks = λ n. RefusedCounted next M walk count n s;
+}

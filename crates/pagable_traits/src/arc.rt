@@ -73,7 +73,8 @@ impl<T, const PINS: bool> HoldingArc<T, PINS> {
     where
         T: OfNode<E>,
         ensures ok { IfOk result (λ a. (holding T.TYPE PINS a ≡ reference) × (arc_value a.value ≡ arc_value value)) }
-        ensures back { IfErr result (λ v. (reference.kind.0 ≢ holding_kind T.TYPE PINS) × (arc_value v ≡ arc_value value)) }
+        ensures back { IfErr result (λ v. (reference.kind.0 ≢ holding_kind T.TYPE PINS)
+            × (arc_value v ≡ arc_value value)) }
     {
         if reference.kind != holding_kind_of::<E, T>(PINS) {
             return Err(value);

@@ -86,7 +86,8 @@ pub trait ArcErase<E: Env>: Sized {
     ) -> Result<Vec<ArcRef>, Error>
     where
         Self::Value: Refers<E> + Drop,
-        ensures ok { IfOk result (λ list. (x : Self.Value) × refers_to self.now (S.told storage.now) x × (list.items ≡ references_in (Self.Value.Carried.means.meaning x))) }
+        ensures ok { IfOk result (λ list. (x : Self.Value) × refers_to self.now (S.told storage.now) x
+            × (list.items ≡ references_in (Self.Value.Carried.means.meaning x))) }
         ensures only { IfErr result (inner_causes is_paged memory) };
 
     /// Sets the key of the reference's cell, as `Storage::set_data_key` does. A reference that
@@ -219,7 +220,8 @@ impl<E: Env, T: OfNode<E>> ArcErase<E> for PagableArc<T> {
     ) -> Result<Vec<ArcRef>, Error>
     where
         T: Refers<E> + Drop,
-        ensures ok { IfOk result (λ list. (x : T) × IsToldAt T.held (S.told storage.now) self.now.handle.0 x × (list.items ≡ references_in (T.Carried.means.meaning x))) }
+        ensures ok { IfOk result (λ list. (x : T) × IsToldAt T.held (S.told storage.now) self.now.handle.0 x
+            × (list.items ≡ references_in (T.Carried.means.meaning x))) }
         ensures only { IfErr result (inner_causes true memory) }
     {
         match self.follow(rt, alloc, storage) {
@@ -316,7 +318,8 @@ impl<E: Env, T: OfNode<E>, const PINS: bool> ArcErase<E> for HoldingArc<T, PINS>
     ) -> Result<Vec<ArcRef>, Error>
     where
         T: Refers<E> + Drop,
-        ensures ok { IfOk result (λ list. (x : T) × (x ≡ arc_value self.now.value) × (list.items ≡ references_in (T.Carried.means.meaning x))) }
+        ensures ok { IfOk result (λ list. (x : T) × (x ≡ arc_value self.now.value)
+            × (list.items ≡ references_in (T.Carried.means.meaning x))) }
         ensures only { IfErr result (inner_causes false memory) }
     {
         references_of(alloc, self.get())
@@ -362,7 +365,8 @@ fn read_held<E: Env<Node: NodeSet<E>>, T: OfNode<E> + Drop, D: PagableDeserializ
     alloc: Global,
     deserializer: &mut D,
 ) -> Result<Shared<T>, Error>
-    ensures { Reads E.Env D.PagableDeserializer any_cause (λ v m. (n : E.Node) × (T.held n ≡ Some (arc_value v)) × E.Node.means n m)
+    ensures { Reads E.Env D.PagableDeserializer any_cause
+        (λ v m. (n : E.Node) × (T.held n ≡ Some (arc_value v)) × E.Node.means n m)
         (λ c. read_typed c (E.Node.shape_of (D.environment deserializer.old) T.TYPE))
         deserializer.old deserializer.new result }
 {
@@ -398,7 +402,8 @@ impl<T> PagableArc<T> {
     where
         T: OfNode<E> + Drop,
         ensures { Reads E.Env D.PagableDeserializer any_cause
-            (λ a m. (x : T) × IsToldAt T.held (S.told storage.now) a.handle.0 x × ((n : E.Node) × (T.held n ≡ Some x) × E.Node.means n m))
+            (λ a m. (x : T) × IsToldAt T.held (S.told storage.now) a.handle.0 x
+            × ((n : E.Node) × (T.held n ≡ Some x) × E.Node.means n m))
             (λ c. read_typed c (E.Node.shape_of (D.environment deserializer.old) T.TYPE))
             deserializer.old deserializer.new result }
     {
@@ -462,7 +467,8 @@ pub fn deserialize_arc<
     A: ArcErase<E> + PagableDeserialize<'de, E>,
     D: PagableDeserializer<E>,
 >(alloc: Global, deserializer: &mut D) -> Result<A, Error>
-    ensures reads { Reads E.Env D.PagableDeserializer A.read_causes.are A.means.of (λ c. read c (A.shape (D.environment deserializer.old))) deserializer.old deserializer.new result }
+    ensures reads { Reads E.Env D.PagableDeserializer A.read_causes.are A.means.of
+        (λ c. read c (A.shape (D.environment deserializer.old))) deserializer.old deserializer.new result }
     ensures holds { IfOk result (HoldsLent (D.standing deserializer.old) A.beside) }
 {
     A::pagable_deserialize(alloc, deserializer)

@@ -256,7 +256,8 @@ impl<E: Env, K: PagableKey<E>, L: PagableKey<E>> PagableKey<E> for Result<K, L> 
 impl<E: Env, K: PagableOrdKey<E>, L: PagableOrdKey<E>> PagableOrdKey<E> for Result<K, L> {
     ghost order = { outcome_order K.order L.order };
 
-    ghost is_order = { result_is_ordered K.order L.order K.cmp L.cmp K.means.meaning L.means.meaning K.is_order L.is_order };
+    ghost is_order = { result_is_ordered K.order L.order K.cmp L.cmp K.means.meaning L.means.meaning K.is_order
+        L.is_order };
 }
 
 impl<E: Env, A: PagableKey<E>, B: PagableKey<E>> PagableKey<E> for (A, B) {
@@ -267,11 +268,13 @@ impl<E: Env, A: PagableKey<E>, B: PagableKey<E>> PagableKey<E> for (A, B) {
 impl<E: Env, A: PagableOrdKey<E>, B: PagableOrdKey<E>> PagableOrdKey<E> for (A, B) {
     ghost order = { pair_order A.order B.order };
 
-    ghost is_order = { λ x y. pair_is_ordered A.order B.order (A.cmp x.0 y.0) (B.cmp x.1 y.1) (A.means.meaning x.0) (B.means.meaning x.1) (A.means.meaning y.0) (B.means.meaning y.1) (A.is_order x.0 y.0) (B.is_order x.1 y.1) };
+    ghost is_order = { λ x y. pair_is_ordered A.order B.order (A.cmp x.0 y.0) (B.cmp x.1 y.1) (A.means.meaning x.0)
+        (B.means.meaning x.1) (A.means.meaning y.0) (B.means.meaning y.1) (A.is_order x.0 y.0) (B.is_order x.1 y.1) };
 }
 
 impl<E: Env, A: PagableKey<E>, B: PagableKey<E>, C: PagableKey<E>> PagableKey<E> for (A, B, C) {
-    ghost key = { key_alike (λ x y. and_assoc (A.eq x.0 y.0) (B.eq x.1 y.1) (C.eq x.2 y.2)) (key_seen (λ p. (p.0, (p.1, p.2))) (pair_key A.key (pair_key B.key C.key))) };
+    ghost key = { key_alike (λ x y. and_assoc (A.eq x.0 y.0) (B.eq x.1 y.1) (C.eq x.2 y.2))
+        (key_seen (λ p. (p.0, (p.1, p.2))) (pair_key A.key (pair_key B.key C.key))) };
 }
 
 /// A tuple is ordered as the pair of its first part and the tuple of the others.
@@ -279,12 +282,16 @@ impl<E: Env, A: PagableOrdKey<E>, B: PagableOrdKey<E>, C: PagableOrdKey<E>> Paga
     for (A, B, C) {
     ghost order = { pair_order A.order (pair_order B.order C.order) };
 
-    ghost is_order = { λ x y. triple_is_ordered A.order B.order C.order (A.cmp x.0 y.0) (B.cmp x.1 y.1) (C.cmp x.2 y.2) (A.means.meaning x.0) (B.means.meaning x.1) (C.means.meaning x.2) (A.means.meaning y.0) (B.means.meaning y.1) (C.means.meaning y.2) (A.is_order x.0 y.0) (B.is_order x.1 y.1) (C.is_order x.2 y.2) };
+    ghost is_order = { λ x y. triple_is_ordered A.order B.order C.order (A.cmp x.0 y.0) (B.cmp x.1 y.1) (C.cmp x.2 y.2)
+        (A.means.meaning x.0) (B.means.meaning x.1) (C.means.meaning x.2) (A.means.meaning y.0) (B.means.meaning y.1)
+        (C.means.meaning y.2) (A.is_order x.0 y.0) (B.is_order x.1 y.1) (C.is_order x.2 y.2) };
 }
 
 impl<E: Env, A: PagableKey<E>, B: PagableKey<E>, C: PagableKey<E>, D: PagableKey<E>> PagableKey<E>
     for (A, B, C, D) {
-    ghost key = { key_alike (λ x y. and_assoc ((A.eq x.0 y.0) && (B.eq x.1 y.1)) (C.eq x.2 y.2) (D.eq x.3 y.3) ∙ and_assoc (A.eq x.0 y.0) (B.eq x.1 y.1) ((C.eq x.2 y.2) && (D.eq x.3 y.3))) (key_seen (λ p. (p.0, (p.1, (p.2, p.3)))) (pair_key A.key (pair_key B.key (pair_key C.key D.key)))) };
+    ghost key = { key_alike (λ x y. and_assoc ((A.eq x.0 y.0) && (B.eq x.1 y.1)) (C.eq x.2 y.2) (D.eq x.3 y.3)
+        ∙ and_assoc (A.eq x.0 y.0) (B.eq x.1 y.1) ((C.eq x.2 y.2) && (D.eq x.3 y.3)))
+        (key_seen (λ p. (p.0, (p.1, (p.2, p.3)))) (pair_key A.key (pair_key B.key (pair_key C.key D.key)))) };
 }
 
 impl<
@@ -296,7 +303,10 @@ impl<
 > PagableOrdKey<E> for (A, B, C, D) {
     ghost order = { pair_order A.order (pair_order B.order (pair_order C.order D.order)) };
 
-    ghost is_order = { λ x y. quadruple_is_ordered A.order B.order C.order D.order (A.cmp x.0 y.0) (B.cmp x.1 y.1) (C.cmp x.2 y.2) (D.cmp x.3 y.3) (A.means.meaning x.0) (B.means.meaning x.1) (C.means.meaning x.2) (D.means.meaning x.3) (A.means.meaning y.0) (B.means.meaning y.1) (C.means.meaning y.2) (D.means.meaning y.3) (A.is_order x.0 y.0) (B.is_order x.1 y.1) (C.is_order x.2 y.2) (D.is_order x.3 y.3) };
+    ghost is_order = { λ x y. quadruple_is_ordered A.order B.order C.order D.order (A.cmp x.0 y.0) (B.cmp x.1 y.1)
+        (C.cmp x.2 y.2) (D.cmp x.3 y.3) (A.means.meaning x.0) (B.means.meaning x.1) (C.means.meaning x.2)
+        (D.means.meaning x.3) (A.means.meaning y.0) (B.means.meaning y.1) (C.means.meaning y.2) (D.means.meaning y.3)
+        (A.is_order x.0 y.0) (B.is_order x.1 y.1) (C.is_order x.2 y.2) (D.is_order x.3 y.3) };
 }
 
 impl<
@@ -307,7 +317,11 @@ impl<
     D: PagableKey<E>,
     F: PagableKey<E>,
 > PagableKey<E> for (A, B, C, D, F) {
-    ghost key = { key_alike (λ x y. and_assoc (((A.eq x.0 y.0) && (B.eq x.1 y.1)) && (C.eq x.2 y.2)) (D.eq x.3 y.3) (F.eq x.4 y.4) ∙ and_assoc ((A.eq x.0 y.0) && (B.eq x.1 y.1)) (C.eq x.2 y.2) ((D.eq x.3 y.3) && (F.eq x.4 y.4)) ∙ and_assoc (A.eq x.0 y.0) (B.eq x.1 y.1) ((C.eq x.2 y.2) && ((D.eq x.3 y.3) && (F.eq x.4 y.4)))) (key_seen (λ p. (p.0, (p.1, (p.2, (p.3, p.4))))) (pair_key A.key (pair_key B.key (pair_key C.key (pair_key D.key F.key))))) };
+    ghost key = { key_alike (λ x y. and_assoc (((A.eq x.0 y.0) && (B.eq x.1 y.1)) && (C.eq x.2 y.2)) (D.eq x.3 y.3)
+        (F.eq x.4 y.4) ∙ and_assoc ((A.eq x.0 y.0) && (B.eq x.1 y.1)) (C.eq x.2 y.2) ((D.eq x.3 y.3) && (F.eq x.4 y.4))
+        ∙ and_assoc (A.eq x.0 y.0) (B.eq x.1 y.1) ((C.eq x.2 y.2) && ((D.eq x.3 y.3) && (F.eq x.4 y.4))))
+        (key_seen (λ p. (p.0, (p.1, (p.2, (p.3, p.4)))))
+        (pair_key A.key (pair_key B.key (pair_key C.key (pair_key D.key F.key))))) };
 }
 
 impl<
@@ -320,7 +334,11 @@ impl<
 > PagableOrdKey<E> for (A, B, C, D, F) {
     ghost order = { pair_order A.order (pair_order B.order (pair_order C.order (pair_order D.order F.order))) };
 
-    ghost is_order = { λ x y. quintuple_is_ordered A.order B.order C.order D.order F.order (A.cmp x.0 y.0) (B.cmp x.1 y.1) (C.cmp x.2 y.2) (D.cmp x.3 y.3) (F.cmp x.4 y.4) (A.means.meaning x.0) (B.means.meaning x.1) (C.means.meaning x.2) (D.means.meaning x.3) (F.means.meaning x.4) (A.means.meaning y.0) (B.means.meaning y.1) (C.means.meaning y.2) (D.means.meaning y.3) (F.means.meaning y.4) (A.is_order x.0 y.0) (B.is_order x.1 y.1) (C.is_order x.2 y.2) (D.is_order x.3 y.3) (F.is_order x.4 y.4) };
+    ghost is_order = { λ x y. quintuple_is_ordered A.order B.order C.order D.order F.order (A.cmp x.0 y.0)
+        (B.cmp x.1 y.1) (C.cmp x.2 y.2) (D.cmp x.3 y.3) (F.cmp x.4 y.4) (A.means.meaning x.0) (B.means.meaning x.1)
+        (C.means.meaning x.2) (D.means.meaning x.3) (F.means.meaning x.4) (A.means.meaning y.0) (B.means.meaning y.1)
+        (C.means.meaning y.2) (D.means.meaning y.3) (F.means.meaning y.4) (A.is_order x.0 y.0) (B.is_order x.1 y.1)
+        (C.is_order x.2 y.2) (D.is_order x.3 y.3) (F.is_order x.4 y.4) };
 }
 
 impl<E: Env, K: PagableKey<E>> PagableKey<E> for Vec<K> {
@@ -340,7 +358,8 @@ impl<E: Env, K: PagableKey<E>> PagableKey<E> for BoxedSlice<K> {
 impl<E: Env, K: PagableOrdKey<E>> PagableOrdKey<E> for BoxedSlice<K> {
     ghost order = { list_order K.order };
 
-    ghost is_order = { λ x y. list_is_ordered K.order K.cmp K.means.meaning K.is_order (boxed_slice_items x) (boxed_slice_items y) };
+    ghost is_order = { λ x y. list_is_ordered K.order K.cmp K.means.meaning K.is_order (boxed_slice_items x)
+        (boxed_slice_items y) };
 }
 
 impl<E: Env, K: PagableKey<E>, const N: usize> PagableKey<E> for [K; N] {
@@ -380,16 +399,25 @@ impl<E: Env, K: PagableOrdKey<E>, V: PagableKey<E>> PagableKey<E> for BTreeMap<K
 impl<E: Env, K: PagableOrdKey<E>, V: PagableOrdKey<E>> PagableOrdKey<E> for BTreeMap<K, V> {
     ghost order = { list_order (pair_order K.order V.order) };
 
-    ghost is_order = { λ x y. list_is_ordered (pair_order K.order V.order) (λ e f. ordering_then (K.cmp e.0 f.0) (V.cmp e.1 f.1)) (λ e. pair (K.means.meaning e.0) (V.means.meaning e.1)) (λ e f. pair_is_ordered K.order V.order (K.cmp e.0 f.0) (V.cmp e.1 f.1) (K.means.meaning e.0) (V.means.meaning e.1) (K.means.meaning f.0) (V.means.meaning f.1) (K.is_order e.0 f.0) (V.is_order e.1 f.1)) x.entries y.entries };
+    ghost is_order = { λ x y. list_is_ordered (pair_order K.order V.order)
+        (λ e f. ordering_then (K.cmp e.0 f.0) (V.cmp e.1 f.1)) (λ e. pair (K.means.meaning e.0) (V.means.meaning e.1))
+        (λ e f. pair_is_ordered K.order V.order (K.cmp e.0 f.0) (V.cmp e.1 f.1) (K.means.meaning e.0)
+        (V.means.meaning e.1) (K.means.meaning f.0) (V.means.meaning f.1) (K.is_order e.0 f.0) (V.is_order e.1 f.1))
+        x.entries y.entries };
 }
 
 impl<E: Env, H: PagableKey<E>, T: PagableKey<E>> PagableKey<E> for Thin<H, T> {
-    ghost key = { key_seen (λ t. (t.header, t.items)) (pair_key H.key (key_seen (λ v. v.items) (list_key (λ e. refl) T.key))) };
+    ghost key = { key_seen (λ t. (t.header, t.items)) (pair_key H.key
+        (key_seen (λ v. v.items) (list_key (λ e. refl) T.key))) };
 }
 
 /// A header decides before the list behind it.
 impl<E: Env, H: PagableOrdKey<E>, T: PagableOrdKey<E>> PagableOrdKey<E> for Thin<H, T> {
     ghost order = { pair_order H.order (list_order T.order) };
 
-    ghost is_order = { λ x y. pair_is_ordered H.order (list_order T.order) (H.cmp x.header y.header) (slice_cmp T.cmp x.items.items y.items.items) (H.means.meaning x.header) (sequence (map T.means.meaning x.items.items)) (H.means.meaning y.header) (sequence (map T.means.meaning y.items.items)) (H.is_order x.header y.header) (list_is_ordered T.order T.cmp T.means.meaning T.is_order x.items.items y.items.items) };
+    ghost is_order = { λ x y. pair_is_ordered H.order (list_order T.order) (H.cmp x.header y.header)
+        (slice_cmp T.cmp x.items.items y.items.items) (H.means.meaning x.header)
+        (sequence (map T.means.meaning x.items.items)) (H.means.meaning y.header)
+        (sequence (map T.means.meaning y.items.items)) (H.is_order x.header y.header)
+        (list_is_ordered T.order T.cmp T.means.meaning T.is_order x.items.items y.items.items) };
 }

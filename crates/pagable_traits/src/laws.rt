@@ -34,7 +34,8 @@ pub fn hash_map_is_carried<
     V: PagableSerialize<E> + PagableDeserialize<'static, E> + Drop,
 >()
     ensures means { (x : _) (m : Meaning Reference) → ⟦<HashMap<K, V> as Carried<E>>⟧.means.of x m ↔ MeansHashMap K.Carried.means.of V.Carried.means.of x.entries m }
-    ensures any_order { (x y : _) (m : Meaning Reference) → IsUnique K.eq x → IsPermutation x.entries y.entries → ⟦<HashMap<K, V> as Carried<E>>⟧.means.of x m → ⟦<HashMap<K, V> as Carried<E>>⟧.means.of y m }
+    ensures any_order { (x y : _) (m : Meaning Reference) → IsUnique K.eq x → IsPermutation x.entries y.entries
+        → ⟦<HashMap<K, V> as Carried<E>>⟧.means.of x m → ⟦<HashMap<K, V> as Carried<E>>⟧.means.of y m }
 {}
 
 /// Each type is read throughout if its parts are: then its forms are read back, whatever bytes
@@ -49,23 +50,33 @@ pub fn carried_types_are_read<
     O: EncodedAs<Other = T>,
     const N: usize,
 >()
-    ensures numbers { (e : E) → AreRead (E.parts e) (⟦<u8 as Carried<E>>⟧.shape e ∷ ⟦<u16 as Carried<E>>⟧.shape e ∷ ⟦<u32 as Carried<E>>⟧.shape e
-        ∷ ⟦<u64 as Carried<E>>⟧.shape e ∷ ⟦<u128 as Carried<E>>⟧.shape e ∷ ⟦<i8 as Carried<E>>⟧.shape e ∷ ⟦<i16 as Carried<E>>⟧.shape e
-        ∷ ⟦<i32 as Carried<E>>⟧.shape e ∷ ⟦<i64 as Carried<E>>⟧.shape e ∷ ⟦<i128 as Carried<E>>⟧.shape e ∷ ⟦<AtomicI64 as Carried<E>>⟧.shape e ∷ []) }
-    ensures basic { (e : E) → AreRead (E.parts e) (⟦<() as Carried<E>>⟧.shape e ∷ ⟦<bool as Carried<E>>⟧.shape e ∷ ⟦<char as Carried<E>>⟧.shape e
+    ensures numbers { (e : E) → AreRead (E.parts e) (⟦<u8 as Carried<E>>⟧.shape e ∷ ⟦<u16 as Carried<E>>⟧.shape e
+        ∷ ⟦<u32 as Carried<E>>⟧.shape e
+        ∷ ⟦<u64 as Carried<E>>⟧.shape e ∷ ⟦<u128 as Carried<E>>⟧.shape e ∷ ⟦<i8 as Carried<E>>⟧.shape e
+        ∷ ⟦<i16 as Carried<E>>⟧.shape e
+        ∷ ⟦<i32 as Carried<E>>⟧.shape e ∷ ⟦<i64 as Carried<E>>⟧.shape e ∷ ⟦<i128 as Carried<E>>⟧.shape e
+        ∷ ⟦<AtomicI64 as Carried<E>>⟧.shape e ∷ []) }
+    ensures basic { (e : E) → AreRead (E.parts e) (⟦<() as Carried<E>>⟧.shape e ∷ ⟦<bool as Carried<E>>⟧.shape e
+        ∷ ⟦<char as Carried<E>>⟧.shape e
         ∷ ⟦<String as Carried<E>>⟧.shape e ∷ ⟦<BoxedStr as Carried<E>>⟧.shape e ∷ ⟦<PathText as Carried<E>>⟧.shape e
         ∷ ⟦<Duration as Carried<E>>⟧.shape e ∷ ⟦<Value as Carried<E>>⟧.shape e ∷ []) }
-    ensures over { (e : E) → IsReadThroughout (E.parts e) (T.shape e) → AreRead (E.parts e) (⟦<Option<T> as Carried<E>>⟧.shape e
+    ensures over { (e : E) → IsReadThroughout (E.parts e) (T.shape e)
+        → AreRead (E.parts e) (⟦<Option<T> as Carried<E>>⟧.shape e
         ∷ ⟦<OnceLock<T> as Carried<E>>⟧.shape e ∷ ⟦<Vec<T> as Carried<E>>⟧.shape e ∷ ⟦<SmallVec<T, N> as Carried<E>>⟧.shape e
         ∷ ⟦<[T; N] as Carried<E>>⟧.shape e ∷ ⟦<BoxedSlice<T> as Carried<E>>⟧.shape e ∷ []) }
-    ensures alike { (e : E) → IsReadThroughout (E.parts e) (T.shape e) → IsReadThroughout (E.parts e) (⟦<O as Carried<E>>⟧.shape e) }
-    ensures sets { (e : E) → (IsReadThroughout (E.parts e) (K.shape e) → IsReadThroughout (E.parts e) (⟦<BTreeSet<K> as Carried<E>>⟧.shape e))
-        × (IsReadThroughout (E.parts e) (H.shape e) → IsReadThroughout (E.parts e) (⟦<IndexSet<H> as Carried<E>>⟧.shape e)) }
+    ensures alike { (e : E) → IsReadThroughout (E.parts e) (T.shape e)
+        → IsReadThroughout (E.parts e) (⟦<O as Carried<E>>⟧.shape e) }
+    ensures sets { (e : E) → (IsReadThroughout (E.parts e) (K.shape e)
+        → IsReadThroughout (E.parts e) (⟦<BTreeSet<K> as Carried<E>>⟧.shape e))
+        × (IsReadThroughout (E.parts e) (H.shape e) → IsReadThroughout (E.parts e)
+        (⟦<IndexSet<H> as Carried<E>>⟧.shape e)) }
     ensures two { (e : E) → IsReadThroughout (E.parts e) (T.shape e) → IsReadThroughout (E.parts e) (X.shape e)
         → AreRead (E.parts e) (⟦<Result<T, X> as Carried<E>>⟧.shape e ∷ ⟦<(T, X) as Carried<E>>⟧.shape e ∷ ⟦<Thin<T, X> as Carried<E>>⟧.shape e ∷ []) }
     ensures maps { (e : E) → IsReadThroughout (E.parts e) (T.shape e)
-        → (IsReadThroughout (E.parts e) (K.shape e) → IsReadThroughout (E.parts e) (⟦<BTreeMap<K, T> as Carried<E>>⟧.shape e))
-        × (IsReadThroughout (E.parts e) (H.shape e) → AreRead (E.parts e) (⟦<IndexMap<H, T> as Carried<E>>⟧.shape e ∷ ⟦<HashMap<H, T> as Carried<E>>⟧.shape e ∷ [])) }
+        → (IsReadThroughout (E.parts e) (K.shape e) → IsReadThroughout (E.parts e)
+        (⟦<BTreeMap<K, T> as Carried<E>>⟧.shape e))
+        × (IsReadThroughout (E.parts e) (H.shape e) → AreRead (E.parts e)
+        (⟦<IndexMap<H, T> as Carried<E>>⟧.shape e ∷ ⟦<HashMap<H, T> as Carried<E>>⟧.shape e ∷ [])) }
 {}
 
 /// The forms of a static value are read back.
@@ -77,7 +88,8 @@ pub fn static_value_is_carried<E: Env, T: HasStaticValueRegistry<E>>()
 /// Each index of a registered value is read as that value.
 #[tactic(auto, using(crate::proofs::Registered::registered_at))]
 pub fn static_values_are_read_again<E: Env, T: HasStaticValueRegistry<E>>()
-    ensures { (e : E) (i : ℕ) (known : T) → slice_get (T.known e) i ≡ Some known → registered (meanings_of T.plain (T.known e)) i ≡ Ok (T.plain known) }
+    ensures { (e : E) (i : ℕ) (known : T) → slice_get (T.known e) i ≡ Some known
+        → registered (meanings_of T.plain (T.known e)) i ≡ Ok (T.plain known) }
 {}
 
 /// A tagged value means its tag with something that its body means. A tagged type needs this law

@@ -21,7 +21,8 @@ pub fn write_reference<E: Env, S: PagableSerializer<E>>(
     reference: ArcRef,
     serializer: &mut S,
 ) -> Result<(), Error>
-    ensures { Wrote E.Env S.PagableSerializer (form (Is meaning_of reference) (reference_shape reference.kind.0)) memory serializer.old serializer.new result }
+    ensures { Wrote E.Env S.PagableSerializer (form (Is meaning_of reference) (reference_shape reference.kind.0)) memory
+        serializer.old serializer.new result }
 {
     serializer.serialize_arc(reference)
 }
@@ -38,8 +39,10 @@ pub fn read_reference<E: Env, D: PagableDeserializer<E>>(
     deserializer: &mut D,
 ) -> Result<ArcRef, Error>
     ensures of_kind { IfOk result (λ r. r.kind ≡ kind) }
-    ensures lent { IfOk result (λ r. (y : E.Node) → D.lends deserializer.new r ≡ Some y → IsLent (D.standing deserializer.old) r y) }
-    ensures reads { Reads E.Env D.PagableDeserializer never (Is meaning_of) (λ c. read c (reference_shape kind.0)) deserializer.old deserializer.new result }
+    ensures lent { IfOk result (λ r. (y : E.Node) → D.lends deserializer.new r ≡ Some y
+        → IsLent (D.standing deserializer.old) r y) }
+    ensures reads { Reads E.Env D.PagableDeserializer never (Is meaning_of) (λ c. read c (reference_shape kind.0))
+        deserializer.old deserializer.new result }
 {
     let reference = deserializer.deserialize_arc(kind)?;
     Ok(reference)

@@ -22,7 +22,8 @@ pub trait Refers<E: Env>: OneMeaning<E> {
     ///
     /// - `OutOfMemory` only: some of the references may be appended.
     fn list_references(&self, list: &mut Vec<ArcRef>) -> Result<(), Error>
-        ensures ok { OnOk result (list.new.items ≡ list.old.items ++ references_in (Self.Carried.means.meaning self.now)) }
+        ensures ok { OnOk result (list.new.items ≡ list.old.items
+            ++ references_in (Self.Carried.means.meaning self.now)) }
         ensures only { IfErr result memory };
 
     // Each form lists the references in this order.
@@ -79,7 +80,8 @@ impl<E: Env, A: Refers<E>, B: Refers<E>> Refers<E> for (A, B) {
         self.1.list_references(list)
     }
 
-    ghost in_order = { λ e. both_in_order (E.parts e) (A.Carried.shape e) (B.Carried.shape e) (A.in_order e) (B.in_order e) };
+    ghost in_order = { λ e. both_in_order (E.parts e) (A.Carried.shape e) (B.Carried.shape e) (A.in_order e)
+        (B.in_order e) };
 }
 
 /// A boxed value refers to what the value refers to.
@@ -100,7 +102,8 @@ impl<E: Env, T: Refers<E>, X: Refers<E>> Refers<E> for Result<T, X> {
         }
     }
 
-    ghost in_order = { λ e. outcome_in_order (E.parts e) (T.Carried.shape e) (X.Carried.shape e) (T.in_order e) (X.in_order e) };
+    ghost in_order = { λ e. outcome_in_order (E.parts e) (T.Carried.shape e) (X.Carried.shape e) (T.in_order e)
+        (X.in_order e) };
 }
 
 /// A longer tuple refers to what the pair of its first value and the others refers to.
@@ -111,7 +114,8 @@ impl<E: Env, A: Refers<E>, B: Refers<E>, C: Refers<E>> Refers<E> for (A, B, C) {
         Refers::<E>::list_references(&(first, (second, third)), list)
     }
 
-    ghost in_order = { λ e. both_in_order (E.parts e) (A.Carried.shape e) (both (B.Carried.shape e) (C.Carried.shape e)) (A.in_order e) (both_in_order (E.parts e) (B.Carried.shape e) (C.Carried.shape e) (B.in_order e) (C.in_order e)) };
+    ghost in_order = { λ e. both_in_order (E.parts e) (A.Carried.shape e) (both (B.Carried.shape e) (C.Carried.shape e))
+        (A.in_order e) (both_in_order (E.parts e) (B.Carried.shape e) (C.Carried.shape e) (B.in_order e) (C.in_order e)) };
 }
 
 impl<E: Env, A: Refers<E>, B: Refers<E>, C: Refers<E>, D: Refers<E>> Refers<E> for (A, B, C, D) {
@@ -121,8 +125,10 @@ impl<E: Env, A: Refers<E>, B: Refers<E>, C: Refers<E>, D: Refers<E>> Refers<E> f
         Refers::<E>::list_references(&(first, (second, (third, fourth))), list)
     }
 
-    ghost in_order = { λ e. both_in_order (E.parts e) (A.Carried.shape e) (both (B.Carried.shape e) (both (C.Carried.shape e) (D.Carried.shape e))) (A.in_order e)
-        (both_in_order (E.parts e) (B.Carried.shape e) (both (C.Carried.shape e) (D.Carried.shape e)) (B.in_order e) (both_in_order (E.parts e) (C.Carried.shape e) (D.Carried.shape e) (C.in_order e) (D.in_order e))) };
+    ghost in_order = { λ e. both_in_order (E.parts e) (A.Carried.shape e)
+        (both (B.Carried.shape e) (both (C.Carried.shape e) (D.Carried.shape e))) (A.in_order e)
+        (both_in_order (E.parts e) (B.Carried.shape e) (both (C.Carried.shape e) (D.Carried.shape e)) (B.in_order e)
+        (both_in_order (E.parts e) (C.Carried.shape e) (D.Carried.shape e) (C.in_order e) (D.in_order e))) };
 }
 
 /// Returns the references in a value, in the order in which they are written.
@@ -141,7 +147,8 @@ pub fn references_of<E: Env, T: Refers<E>>(alloc: Global, value: &T) -> Result<V
 
 /// Appends the references of the items, one item after another. Fails with `OutOfMemory` only.
 fn list_each<E: Env, T: Refers<E>>(items: &[T], list: &mut Vec<ArcRef>) -> Result<(), Error>
-    ensures ok { OnOk result (list.new.items ≡ list.old.items ++ references_in (sequence (map T.Carried.means.meaning items.now))) }
+    ensures ok { OnOk result (list.new.items ≡ list.old.items
+        ++ references_in (sequence (map T.Carried.means.meaning items.now))) }
     ensures only { IfErr result memory }
 {
     for item in items {
@@ -161,5 +168,6 @@ impl<E: Env, T: Refers<E>> Refers<E> for Vec<T> {
 /// References are read throughout, as `carried_types_are_read` states for other types.
 #[tactic(auto, using(crate::specs::References::reference_is_read))]
 pub fn references_are_read<E: Env, T: OfNode<E>, const PINS: bool, const KIND: u32>()
-    ensures { (e : E) → AreRead (E.parts e) (⟦<HoldingArc<T, PINS> as Carried<E>>⟧.shape e ∷ ⟦<PagableArc<T> as Carried<E>>⟧.shape e ∷ ⟦<RawRef<KIND> as Carried<E>>⟧.shape e ∷ []) }
+    ensures { (e : E) → AreRead (E.parts e) (⟦<HoldingArc<T, PINS> as Carried<E>>⟧.shape e ∷ ⟦<PagableArc<T> as Carried<E>>⟧.shape e ∷ ⟦<RawRef<KIND> as Carried<E>>⟧.shape e
+        ∷ []) }
 {}

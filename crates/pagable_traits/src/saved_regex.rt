@@ -134,7 +134,8 @@ impl<E: Env> PagableKey<E> for SavedRegex {
 /// 4,294,967,295 bytes, else only with `OutOfMemory`.
 #[tactic(auto, using(pagable_codec::proofs::Writing::parts, crate::proofs::Parts::writes_pattern, crate::proofs::Parts::refused_pattern))]
 fn write_text<E: Env, S: PagableSerializer<E>>(text: &str, serializer: &mut S) -> Result<(), Error>
-    ensures { Wrote E.Env S.PagableSerializer (form (Is pattern text.now) shapes.pattern) (long_or memory) serializer.old serializer.new result }
+    ensures { Wrote E.Env S.PagableSerializer (form (Is pattern text.now) shapes.pattern)
+        (long_or memory) serializer.old serializer.new result }
 {
     serializer.serde().write_str(text)
 }
@@ -153,7 +154,8 @@ fn read_text<E: Env, D: PagableDeserializer<E>>(
     alloc: Global,
     deserializer: &mut D,
 ) -> Result<String, Error>
-    ensures reads { Reads E.Env D.PagableDeserializer memory (Is (λ t. pattern (string_bytes t))) (λ c. read c shapes.pattern) deserializer.old deserializer.new result }
+    ensures reads { Reads E.Env D.PagableDeserializer memory (Is (λ t. pattern (string_bytes t)))
+        (λ c. read c shapes.pattern) deserializer.old deserializer.new result }
     ensures unbuilt { IfErr result (λ e. e ≢ RegexRefused) }
 {
     deserializer.serde().read_string(alloc)
@@ -173,10 +175,12 @@ impl<'de, E: Env> PagableDeserialize<'de, E> for SavedRegex {
         alloc: Global,
         deserializer: &mut D,
     ) -> Result<Self, Error>
-        ensures reads { Reads E.Env D.PagableDeserializer pattern_causes (Is pattern) (λ c. read c shapes.pattern) deserializer.old deserializer.new result }
+        ensures reads { Reads E.Env D.PagableDeserializer pattern_causes (Is pattern)
+            (λ c. read c shapes.pattern) deserializer.old deserializer.new result }
         ensures holds { IfOk result (HoldsLent (D.standing deserializer.old) (λ x r y. Unit {0})) }
         ensures refused { IfErr result (λ e. e ≡ RegexRefused → ReadsNoPattern
-            (read (handles_at (D.levels deserializer.old) (E.parts (D.environment deserializer.old))) shapes.pattern (D.rest deserializer.old))) }
+            (read (handles_at (D.levels deserializer.old) (E.parts (D.environment deserializer.old))) shapes.pattern
+            (D.rest deserializer.old))) }
     {
         let text = read_text(alloc, deserializer)?;
         let built = build(alloc, text.as_str())?;

@@ -214,7 +214,8 @@ pub fn registered_value<E: Env, T: HasStaticValueRegistry<E>>(
     index: u32,
     env: &E,
 ) -> Result<StaticValue<T>, Error>
-    ensures gives { Gives never (λ v. T.plain v.0.value) result (registered (meanings_of T.plain (T.known env.now)) index) }
+    ensures gives { Gives never (λ v. T.plain v.0.value) result
+        (registered (meanings_of T.plain (T.known env.now)) index) }
     ensures same_index { IfOk result (λ v. v.0.index ≡ index) }
 {
     T::registry(env).get(index).ok_or(Error::BadStaticIndex)
@@ -245,7 +246,10 @@ impl<E: Env, T: HasStaticValueRegistry<E>> OneMeaning<E> for StaticValue<T> {
 /// Two static values are the same key if their values are equal, whatever their indices, as for
 /// equality and hash.
 impl<E: Env, T: HasStaticValueRegistry<E>> PagableKey<E> for StaticValue<T> {
-    ghost key = { record { same = λ x y. static_is_same T.eq T.plain T.same_meaning T.same_value x.0.value y.0.value; refers_to_nothing = λ e. static_refers_to_nothing (E.parts e) (meanings_of T.plain (T.known e)) } };
+    ghost key = { record {
+      same = λ x y. static_is_same T.eq T.plain T.same_meaning T.same_value x.0.value y.0.value;
+      refers_to_nothing = λ e. static_refers_to_nothing (E.parts e) (meanings_of T.plain (T.known e));
+    } };
 }
 
 impl<E: Env, T: HasStaticValueRegistry<E>> PagableSerialize<E> for StaticValue<T> {
@@ -259,10 +263,14 @@ impl<E: Env, T: HasStaticValueRegistry<E>> PagableSerialize<E> for StaticValue<T
     /// - `OutOfMemory`.
     #[tactic(auto, using(pagable_codec::proofs::Writing::parts, crate::proofs::Registered::writes_static))]
     fn pagable_serialize<S: PagableSerializer<E>>(&self, serializer: &mut S) -> Result<(), Error>
-        ensures wrote { Wrote E.Env S.PagableSerializer (form (Is (λ v. lifted (T.plain v.0.value)) self.now) (static_value (meanings_of T.plain (T.known (S.environment serializer.old)))))
+        ensures wrote { Wrote E.Env S.PagableSerializer
+            (form (Is (λ v. lifted (T.plain v.0.value)) self.now)
+            (static_value (meanings_of T.plain (T.known (S.environment serializer.old)))))
             (memory_or unregistered) serializer.old serializer.new result }
-        ensures unregistered { IfErr result (λ e. e ≡ Error.Unregistered → ¬ StandsAt T.plain (T.known (S.environment serializer.old)) self.now.0.value self.now.0.index) }
-        ensures missing { ¬ StandsAt T.plain (T.known (S.environment serializer.old)) self.now.0.value self.now.0.index → result ≡ Err Error.Unregistered }
+        ensures unregistered { IfErr result (λ e. e ≡ Error.Unregistered
+            → ¬ StandsAt T.plain (T.known (S.environment serializer.old)) self.now.0.value self.now.0.index) }
+        ensures missing { ¬ StandsAt T.plain (T.known (S.environment serializer.old)) self.now.0.value self.now.0.index
+            → result ≡ Err Error.Unregistered }
     {
         if !is_registered(self, serializer.env()) {
             return Err(Error::Unregistered);
@@ -284,10 +292,12 @@ impl<'de, E: Env, T: HasStaticValueRegistry<E>> PagableDeserialize<'de, E> for S
         alloc: Global,
         deserializer: &mut D,
     ) -> Result<Self, Error>
-        ensures reads { Reads E.Env D.PagableDeserializer never (Is (λ v. lifted (T.plain v.0.value))) (λ c. read c (static_value (meanings_of T.plain (T.known (D.environment deserializer.old)))))
+        ensures reads { Reads E.Env D.PagableDeserializer never (Is (λ v. lifted (T.plain v.0.value)))
+            (λ c. read c (static_value (meanings_of T.plain (T.known (D.environment deserializer.old)))))
             deserializer.old deserializer.new result }
         ensures holds { IfOk result (HoldsLent (D.standing deserializer.old) (λ v r y. Unit {0})) }
-        ensures stands { IfOk result (λ v. StandsAt T.plain (T.known (D.environment deserializer.old)) v.0.value v.0.index) }
+        ensures stands { IfOk result (λ v. StandsAt T.plain (T.known (D.environment deserializer.old)) v.0.value
+            v.0.index) }
     {
         let index = <u32 as PagableDeserialize<E>>::pagable_deserialize(alloc, deserializer)?;
         let value = registered_value::<E, T>(index, deserializer.env())?;

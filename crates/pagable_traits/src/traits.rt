@@ -37,7 +37,8 @@ pub trait PagableSerialize<E: Env>: Carried<E> {
     /// - `TooLong`, `TooDeep`, `JsonNumber` only if the value has no form.
     /// - the type's other causes (`write_causes`).
     fn pagable_serialize<S: PagableSerializer<E>>(&self, serializer: &mut S) -> Result<(), Error>
-        ensures { Wrote E.Env S.PagableSerializer (form (Self.means.of self.now) (Self.shape (S.environment serializer.old))) write_causes.are serializer.old serializer.new result };
+        ensures { Wrote E.Env S.PagableSerializer (form (Self.means.of self.now)
+            (Self.shape (S.environment serializer.old))) write_causes.are serializer.old serializer.new result };
 }
 
 /// A type whose values can be read.
@@ -60,7 +61,8 @@ pub trait PagableDeserialize<'de, E: Env>: Carried<E> + Sized {
         alloc: Global,
         deserializer: &mut D,
     ) -> Result<Self, Error>
-        ensures reads { Reads E.Env D.PagableDeserializer read_causes.are Self.means.of (λ c. read c (Self.shape (D.environment deserializer.old))) deserializer.old deserializer.new result }
+        ensures reads { Reads E.Env D.PagableDeserializer read_causes.are Self.means.of
+            (λ c. read c (Self.shape (D.environment deserializer.old))) deserializer.old deserializer.new result }
         ensures holds { IfOk result (HoldsLent (D.standing deserializer.old) Self.beside) };
 }
 
@@ -107,7 +109,8 @@ pub trait PagableBoxDeserialize<'de, E: Env>: Carried<E> + Sized {
         alloc: Global,
         deserializer: &mut D,
     ) -> Result<Box<Self>, Error>
-        ensures reads { Reads E.Env D.PagableDeserializer box_causes.are (λ b. Self.means.of b.value) (λ c. read c (Self.shape (D.environment deserializer.old))) deserializer.old deserializer.new result }
+        ensures reads { Reads E.Env D.PagableDeserializer box_causes.are (λ b. Self.means.of b.value)
+            (λ c. read c (Self.shape (D.environment deserializer.old))) deserializer.old deserializer.new result }
         ensures holds { IfOk result (HoldsLent (D.standing deserializer.old) (λ b. Self.beside b.value)) };
 }
 
@@ -148,7 +151,9 @@ pub trait PagableEagerSerialize<E: Env>: EagerlyCarried<E> {
         &self,
         serializer: &mut S,
     ) -> Result<(), Error>
-        ensures wrote { Wrote E.Env S.PagableSerializer (form (Self.eager_means.of self.now) (Self.eager_shape (S.environment serializer.old))) eager_write_causes.are
+        ensures wrote { Wrote E.Env S.PagableSerializer
+            (form (Self.eager_means.of self.now) (Self.eager_shape (S.environment serializer.old)))
+            eager_write_causes.are
             serializer.old serializer.new result }
         ensures no_references { (S.out serializer.new).refs ≡ (S.out serializer.old).refs };
 }
@@ -167,7 +172,8 @@ pub trait PagableEagerDeserialize<'de, E: Env>: EagerlyCarried<E> + Sized {
         alloc: Global,
         deserializer: &mut D,
     ) -> Result<Self, Error>
-        ensures reads { Reads E.Env D.PagableDeserializer eager_read_causes.are Self.eager_means.of (λ c. read c (Self.eager_shape (D.environment deserializer.old)))
+        ensures reads { Reads E.Env D.PagableDeserializer eager_read_causes.are Self.eager_means.of
+            (λ c. read c (Self.eager_shape (D.environment deserializer.old)))
             deserializer.old deserializer.new result }
         ensures no_references { (D.rest deserializer.new).refs ≡ (D.rest deserializer.old).refs };
 }
@@ -180,13 +186,16 @@ pub trait InNode<E: Env<Node: NodeSet<E>>>: OfNode<E>
     + PagableDeserialize<'static, E> {
     // A node that holds a value is of this type and means what the value means; a node that holds
     // none is of another type.
-    ghost holds: { (n : E.Node) → Holds Self.Carried.means.of Self.OfNode.TYPE (E.Node.type_of n) (E.Node.means n) (Self.OfNode.held n) };
+    ghost holds: { (n : E.Node) → Holds Self.Carried.means.of Self.OfNode.TYPE (E.Node.type_of n) (E.Node.means n)
+        (Self.OfNode.held n) };
 
     ghost shape_is: { (e : E) → E.Node.shape_of e Self.OfNode.TYPE ≡ Some (Self.Carried.shape e) };
 
     // A node of this type is written with the type's own errors, and read with those or
     // `OutOfMemory`.
-    ghost writes_as: { (e : Refusal) → E.Node.write_causes Self.OfNode.TYPE e → Self.PagableSerialize.write_causes.are e };
+    ghost writes_as: { (e : Refusal) → E.Node.write_causes Self.OfNode.TYPE e
+        → Self.PagableSerialize.write_causes.are e };
 
-    ghost reads_as: { (e : Refusal) → E.Node.read_causes Self.OfNode.TYPE e → memory_or Self.PagableDeserialize.read_causes.are e };
+    ghost reads_as: { (e : Refusal) → E.Node.read_causes Self.OfNode.TYPE e
+        → memory_or Self.PagableDeserialize.read_causes.are e };
 }

@@ -40,7 +40,8 @@ pub trait PagableTagged<E: Env>: Sized {
         &self,
         serializer: &mut S,
     ) -> Result<(), Error>
-        ensures { Wrote E.Env S.PagableSerializer (form (body_means.of self.now) (bodies (S.environment serializer.old) (tag self.now))) body_causes.are serializer.old serializer.new result };
+        ensures { Wrote E.Env S.PagableSerializer (form (body_means.of self.now)
+            (bodies (S.environment serializer.old) (tag self.now))) body_causes.are serializer.old serializer.new result };
 
     /// Writes the tag and then the body, whichever tags are registered.
     ///
@@ -55,7 +56,8 @@ pub trait PagableTagged<E: Env>: Sized {
         serializer: &mut S,
     ) -> Result<(), Error>
         ensures { (known : List ℕ → Bool) (read : List ℕ → Shape) → Wrote E.Env S.PagableSerializer
-            (form (MeansTagged (tag self.now) (body_means.of self.now)) (tagged (bodies (S.environment serializer.old)) known read)) (long_or (memory_or body_causes.are))
+            (form (MeansTagged (tag self.now) (body_means.of self.now))
+            (tagged (bodies (S.environment serializer.old)) known read)) (long_or (memory_or body_causes.are))
             serializer.old serializer.new result }
     {
         write_tag(self.pagable_type_tag(), serializer)?;
@@ -102,7 +104,8 @@ pub trait TagReader<E: Env, T: PagableTagged<E>>: ForTag {
         alloc: Global,
         deserializer: &mut D,
     ) -> Result<T, Error>
-        ensures reads { Reads E.Env D.PagableDeserializer read_causes.are T.body_means.of (λ c. read c (grammar self.now (D.environment deserializer.old))) deserializer.old deserializer.new result }
+        ensures reads { Reads E.Env D.PagableDeserializer read_causes.are T.body_means.of
+            (λ c. read c (grammar self.now (D.environment deserializer.old))) deserializer.old deserializer.new result }
         ensures of_tag { IfOk result (λ x. T.tag x ≡ Self.own_tag self.now) }
         ensures holds { IfOk result (HoldsLent (D.standing deserializer.old) T.body_beside) };
 }
@@ -179,8 +182,10 @@ impl<T, F: ForTag> TypetagRegistry<T, F> {
     where
         T: PagableTagged<E>,
         F: TagReader<E, T>,
-        ensures reads { (written : List ℕ → Shape) → Reads E.Env D.PagableDeserializer (memory_or F.read_causes.are) (λ x. MeansTagged (T.tag x) (T.body_means.of x))
-            (λ c. read c (tagged_by written (grammars F.grammar (D.environment deserializer.old) self.now))) deserializer.old deserializer.new result }
+        ensures reads { (written : List ℕ → Shape) → Reads E.Env D.PagableDeserializer (memory_or F.read_causes.are)
+            (λ x. MeansTagged (T.tag x) (T.body_means.of x))
+            (λ c. read c (tagged_by written (grammars F.grammar (D.environment deserializer.old) self.now)))
+            deserializer.old deserializer.new result }
         ensures holds { IfOk result (HoldsLent (D.standing deserializer.old) T.body_beside) }
     {
         let tag = read_tag(alloc, deserializer)?;
@@ -198,7 +203,8 @@ fn last_reader<'r, T, F: ForTag>(
     registrations: &'r [TypetagRegistration<T, F>],
     tag: &str,
 ) -> Option<&'r F>
-    ensures found { IfSome result (λ f. IsLastFor tag.now (map (λ x. (string_bytes x.tag, x.deserialize)) registrations.now) f.now) }
+    ensures found { IfSome result (λ f. IsLastFor tag.now
+        (map (λ x. (string_bytes x.tag, x.deserialize)) registrations.now) f.now) }
     ensures own { IfSome result (λ f. F.own_tag f.now ≡ tag.now) }
     ensures missing { IfNone result (NoneFor tag.now (map (λ x. (string_bytes x.tag, x.deserialize)) registrations.now)) }
 {
@@ -216,7 +222,8 @@ fn read_tag<E: Env, D: PagableDeserializer<E>>(
     alloc: Global,
     deserializer: &mut D,
 ) -> Result<String, Error>
-    ensures gives { Gives memory (λ t. (string_bytes t, D.rest deserializer.new)) result (bytes_of text_at (λ t. t) (D.rest deserializer.old)) }
+    ensures gives { Gives memory (λ t. (string_bytes t, D.rest deserializer.new)) result
+        (bytes_of text_at (λ t. t) (D.rest deserializer.old)) }
     ensures moves { MovesOn (D.standing deserializer.old) (D.standing deserializer.new) }
     ensures same_env { D.environment deserializer.new ≡ D.environment deserializer.old }
     ensures same_levels { D.levels deserializer.new ≡ D.levels deserializer.old }
@@ -259,8 +266,10 @@ pub fn deserialize_tagged<E: Env, T: HasTypetagRegistry<E>, D: PagableDeserializ
     alloc: Global,
     deserializer: &mut D,
 ) -> Result<T, Error>
-    ensures reads { (written : List ℕ → Shape) → Reads E.Env D.PagableDeserializer (memory_or T.Reader.read_causes.are) (λ x. MeansTagged (T.tag x) (T.body_means.of x))
-        (λ c. read c (tagged_by written (grammars T.Reader.grammar (D.environment deserializer.old) (T.readers (D.environment deserializer.old))))) deserializer.old deserializer.new result }
+    ensures reads { (written : List ℕ → Shape) → Reads E.Env D.PagableDeserializer (memory_or T.Reader.read_causes.are)
+        (λ x. MeansTagged (T.tag x) (T.body_means.of x))
+        (λ c. read c (tagged_by written (grammars T.Reader.grammar (D.environment deserializer.old)
+        (T.readers (D.environment deserializer.old))))) deserializer.old deserializer.new result }
     ensures holds { IfOk result (HoldsLent (D.standing deserializer.old) T.body_beside) }
 {
     let tag = read_tag(alloc, deserializer)?;
@@ -276,5 +285,7 @@ pub fn deserialize_tagged<E: Env, T: HasTypetagRegistry<E>, D: PagableDeserializ
 /// `forms_are_read_again` of `pagable` requires.
 #[tactic(auto, using(crate::proofs::Registered::distinct_is_read))]
 pub fn distinct_tags_are_read_again()
-    ensures { (parts : ℕ → Shape) (written : List ℕ → Shape) (registrations : List (List ℕ × Shape)) → HasDistinctTags registrations → ReadsWhatIsWritten parts written registrations → IsReadThroughout parts (tagged_by written registrations) }
+    ensures { (parts : ℕ → Shape) (written : List ℕ → Shape) (registrations : List (List ℕ × Shape))
+        → HasDistinctTags registrations → ReadsWhatIsWritten parts written registrations
+        → IsReadThroughout parts (tagged_by written registrations) }
 {}

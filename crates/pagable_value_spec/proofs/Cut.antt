@@ -11,12 +11,18 @@ le_or_more a b = grind arith
 
 -- a boundary of a text's own is one of the two together
 boundary-front : (f t : List ℕ) (i : ℕ) → i < length f → IsCharBoundary f i → IsCharBoundary (f ++ t) i
-boundary-front f t i less b =
-    (let n = length-append f t in omega arith, λ l h. subst (λ x. 192 ≤ x) (sym (get_or_append_left f t 0 i less)) (b.1 less (subst (λ x. 128 ≤ x) (get_or_append_left f t 0 i less) h)))
+boundary-front f t i less b = (
+  let n = length-append f t in omega arith,
+  λ l h. subst (λ x. 192 ≤ x) (sym (get_or_append_left f t 0 i less))
+      (b.1 less (subst (λ x. 128 ≤ x) (get_or_append_left f t 0 i less) h)),
+)
 
 front-boundary : (f t : List ℕ) (i : ℕ) → i < length f → IsCharBoundary (f ++ t) i → IsCharBoundary f i
-front-boundary f t i less b =
-    (omega arith, λ l h. subst (λ x. 192 ≤ x) (get_or_append_left f t 0 i less) (b.1 (let n = length-append f t in omega arith) (subst (λ x. 128 ≤ x) (sym (get_or_append_left f t 0 i less)) h)))
+front-boundary f t i less b = (
+  omega arith,
+  λ l h. subst (λ x. 192 ≤ x) (get_or_append_left f t 0 i less)
+      (b.1 (let n = length-append f t in omega arith) (subst (λ x. 128 ≤ x) (sym (get_or_append_left f t 0 i less)) h)),
+)
 
 rest-boundary : (f t : List ℕ) (i : ℕ) → length f ≤ i → IsCharBoundary (f ++ t) i → IsCharBoundary t (i - length f)
 rest-boundary f t i le b =
@@ -40,12 +46,16 @@ take-both (x ∷ f) t c =
     subst (λ n. take n (x ∷ (f ++ t)) ≡ x ∷ (f ++ take c t)) (sym e) (ap (λ xs. x ∷ xs) (take-both f t c))
 
 -- Two texts, of which the first is cut at a boundary, and the second where that leaves room.
-pub cut_in_two : (f t kept : List ℕ) (a c room : ℕ) → length f ≤ 61 → room ≡ 59 - length f → a ≤ 59 → IsCharBoundary f a → ((i : ℕ) → a < i → i ≤ 59 → IsCharBoundary f i → ⊥) →
+pub cut_in_two : (f t kept : List ℕ) (a c room : ℕ) → length f ≤ 61 → room ≡ 59 - length f → a ≤ 59 → IsCharBoundary f a
+    → ((i : ℕ) → a < i → i ≤ 59 → IsCharBoundary f i → ⊥) →
     c ≤ room → IsCharBoundary t c → ((i : ℕ) → c < i → i ≤ room → IsCharBoundary t i → ⊥) → kept ≡ take a f ++ take c t ++ (46 ∷ 46 ∷ []) → IsCut (f ++ t) kept
 cut_in_two f t kept a c room within is-room low front front-last small rest rest-last told = elim (le_or_more (length f) 59) [
   | inl short ↦
       let below : a ≤ length f = front.0 in
-      let whole : a ≡ length f = elim (le_or_more (length f) a) [ inl high ↦ omega arith | inr less ↦ absurd (front-last (length f) less short (IsCharBoundary-end f)) ] in
+      let whole : a ≡ length f = elim (le_or_more (length f) a) [
+        | inl high ↦ omega arith
+        | inr less ↦ absurd (front-last (length f) less short (IsCharBoundary-end f))
+      ] in
       record {
         count = length f + c;
         few = omega arith;
@@ -60,7 +70,8 @@ cut_in_two f t kept a c room within is-room low front front-last small rest rest
         few = low;
         boundary = boundary-front f t a (omega arith) front;
         last = λ i more le b. front-last i more le (front-boundary f t i (omega arith) b);
-        is = told ∙ ap (λ n. take a f ++ take n t ++ (46 ∷ 46 ∷ [])) none ∙ ap (λ xs. xs ++ (46 ∷ 46 ∷ [])) (append-nil (take a f)) ∙ ap (λ xs. xs ++ (46 ∷ 46 ∷ [])) (sym (take-append-le a f t (omega arith)));
+        is = told ∙ ap (λ n. take a f ++ take n t ++ (46 ∷ 46 ∷ [])) none ∙ ap (λ xs. xs ++ (46 ∷ 46 ∷ [])) (append-nil (take a f))
+            ∙ ap (λ xs. xs ++ (46 ∷ 46 ∷ [])) (sym (take-append-le a f t (omega arith)));
       }
 ]
 
@@ -79,14 +90,20 @@ cut-further all text kept long was-cut =
 -- a reason that was cut keeps what it has
 pub kept_cut : (all text : List ℕ) (r : Reason) → r.is_cut ≡ true → IsKept all r → IsKept (all ++ text) r
 kept_cut all text r was-cut k =
-    let long : 61 < length all = elim (le_or_more (length all) 61) [ inl short ↦ absurd (true-not-false (sym was-cut ∙ (k.whole short).1)) | inr long ↦ long ] in
+    let long : 61 < length all = elim (le_or_more (length all) 61) [
+      | inl short ↦ absurd (true-not-false (sym was-cut ∙ (k.whole short).1))
+      | inr long ↦ long
+    ] in
     let n = length-append all text in
     record { whole = λ short. absurd (omega arith); cut = λ more. (cut-further all text (kept_of r) long (k.cut long).0, was-cut) }
 
 -- and one that is whole gets what is added
 pub kept_whole : (all text : List ℕ) (old new : Reason) → old.is_cut ≡ false → IsKept (kept_of old ++ text) new → IsKept all old → IsKept (all ++ text) new
 kept_whole all text old new was-whole added k =
-    let short : length all ≤ 61 = elim (le_or_more (length all) 61) [ inl short ↦ short | inr long ↦ absurd (true-not-false (sym (k.cut long).1 ∙ was-whole)) ] in
+    let short : length all ≤ 61 = elim (le_or_more (length all) 61) [
+      | inl short ↦ short
+      | inr long ↦ absurd (true-not-false (sym (k.cut long).1 ∙ was-whole))
+    ] in
     subst (λ xs. IsKept (xs ++ text) new) (k.whole short).0 added
 
 -- a text for which there was room
@@ -98,7 +115,9 @@ pub kept_no_room : (text : List ℕ) (r : Reason) → 61 < length text → IsCut
 kept_no_room text r long told was-cut = record { whole = λ short. absurd (omega arith); cut = λ x. (told, was-cut) }
 
 -- a text behind another one
-pub both_whole : (old new text copied : List ℕ) (n : ℕ) → take (n + length copied) new ≡ take n old ++ copied → copied ≡ text → is_utf8 (take n old) ≡ true → IsUtf8 text → is_utf8 (take (n + length text) new) ≡ true
+pub both_whole : (old new text copied : List ℕ) (n : ℕ) → take (n + length copied) new ≡ take n old ++ copied → copied ≡ text → is_utf8 (take n old) ≡ true
+    → IsUtf8 text → is_utf8 (take (n + length text) new) ≡ true
 both_whole old new text copied n is same front u =
     let e : take (n + length text) new ≡ take n old ++ text = subst (λ x. take (n + length x) new ≡ take n old ++ x) same is in
-    subst (λ xs. is_utf8 xs ≡ true) (sym e) (is_utf8-from_IsUtf8 (take n old ++ text) (IsUtf8-append (take n old) text (IsUtf8-from_is_utf8 (take n old) front) u))
+    subst (λ xs. is_utf8 xs ≡ true) (sym e) (is_utf8-from_IsUtf8 (take n old ++ text)
+    (IsUtf8-append (take n old) text (IsUtf8-from_is_utf8 (take n old) front) u))

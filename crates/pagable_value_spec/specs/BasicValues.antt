@@ -68,7 +68,8 @@ duration_form seconds nanos = unsigned_form w64 seconds ++ unsigned_form w32 nan
 
 -- seconds and nanoseconds: whole seconds among the nanoseconds are added to the seconds
 abbrev pub carried : ℕ → ℕ → List ℕ → Read (ℕ × ℕ)
-carried seconds nanos rest = let total = seconds + nanos / nanos_of_second in if nat_lt total (2 ^ 64) then Ok ((total, nanos % nanos_of_second), rest) else Err Error.BadDuration
+carried seconds nanos rest = let total = seconds + nanos / nanos_of_second in
+    if nat_lt total (2 ^ 64) then Ok ((total, nanos % nanos_of_second), rest) else Err Error.BadDuration
 
 unfoldable pub duration_at : List ℕ → Read (ℕ × ℕ)
 duration_at bytes = unsigned_at w64 bytes >>= λ s. unsigned_at w32 s.1 >>= λ n. carried s.0 n.0 n.1

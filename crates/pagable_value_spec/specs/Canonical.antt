@@ -18,7 +18,8 @@ IsCanonical (hash_map s t) = ⊥
 IsCanonical (sorted_set order s) = IsCanonical s
 IsCanonical (placed_set s) = IsCanonical s
 IsCanonical (static_value registry) = ⊥
-IsCanonical (tagged written known body) = ((tag : List ℕ) → IsCanonical (written tag)) × ((tag : List ℕ) → known tag ≡ true → IsCanonical (body tag))
+IsCanonical (tagged written known body) = ((tag : List ℕ) → IsCanonical (written tag))
+    × ((tag : List ℕ) → known tag ≡ true → IsCanonical (body tag))
 IsCanonical (cases w known part) = (n : ℕ) → known n ≡ true → IsCanonical (part n)
 IsCanonical _ = Unit {0}
 
@@ -54,7 +55,8 @@ IsReadable (hash_map s t) = IsReadable s × IsReadable t
 IsReadable (sorted_set order s) = IsReadable s
 IsReadable (placed_set s) = IsReadable s
 IsReadable (static_value registry) = AllByRecursion HasNoReference registry
-IsReadable (tagged written known body) = ((tag : List ℕ) → HasNoCase (written tag) ⊎ ((known tag ≡ true) × (body tag ≡ written tag))) × ((tag : List ℕ) → known tag ≡ true → IsReadable (body tag))
+IsReadable (tagged written known body) = ((tag : List ℕ) → HasNoCase (written tag)
+    ⊎ ((known tag ≡ true) × (body tag ≡ written tag))) × ((tag : List ℕ) → known tag ≡ true → IsReadable (body tag))
 IsReadable (cases w known part) = (n : ℕ) → known n ≡ true → IsReadable (part n)
 IsReadable _ = Unit {0}
 
@@ -71,7 +73,8 @@ LiesIn nodes parts (placed_map s t) = LiesIn nodes parts s × LiesIn nodes parts
 LiesIn nodes parts (hash_map s t) = LiesIn nodes parts s × LiesIn nodes parts t
 LiesIn nodes parts (sorted_set order s) = LiesIn nodes parts s
 LiesIn nodes parts (placed_set s) = LiesIn nodes parts s
-LiesIn nodes parts (tagged written known body) = ((tag : List ℕ) → LiesIn nodes parts (written tag)) × ((tag : List ℕ) → known tag ≡ true → LiesIn nodes parts (body tag))
+LiesIn nodes parts (tagged written known body) = ((tag : List ℕ) → LiesIn nodes parts (written tag))
+    × ((tag : List ℕ) → known tag ≡ true → LiesIn nodes parts (body tag))
 LiesIn nodes parts (cases w known part) = (n : ℕ) → known n ≡ true → LiesIn nodes parts (part n)
 LiesIn nodes parts (reference kind) = nodes (type_of kind)
 LiesIn nodes parts (nested n) = parts n
@@ -88,7 +91,8 @@ pub record Throughout (P : Shape → Type 0) (parts : ℕ → Shape) (s : Shape)
 
 -- no meaning of the shape has two forms
 abbrev pub HasOneForm : {A : Type 0} → (A → ℕ) → (ℕ → Shape) → Shape → Type 0
-HasOneForm {A} kind_of parts s = (left : ℕ) (m : Meaning A) (b c : List ℕ) (k l : List A) → Form A kind_of parts left s m b k → Form A kind_of parts left s m c l → (b ≡ c) × (k ≡ l)
+HasOneForm {A} kind_of parts s = (left : ℕ) (m : Meaning A) (b c : List ℕ) (k l : List A)
+    → Form A kind_of parts left s m b k → Form A kind_of parts left s m c l → (b ≡ c) × (k ≡ l)
 
 -- no value of this node type of the environment has two forms
 abbrev pub IsCanonicalType : Types → ℕ → Type 0
@@ -116,10 +120,12 @@ IsReadableTree types t = IsReadableType types t.type × EachType (IsReadableType
 -- A set of node types that no reference leads out of: the references in a value of each of them lead to types of the
 -- set.
 abbrev pub IsClosed : Types → (ℕ → Type 0) → Type 0
-IsClosed types nodes = (n : ℕ) (s : Shape) → nodes n → types.nodes n ≡ Some s → Throughout (LiesIn nodes (λ part. Unit {0})) types.parts s
+IsClosed types nodes = (n : ℕ) (s : Shape) → nodes n → types.nodes n ≡ Some s
+    → Throughout (LiesIn nodes (λ part. Unit {0})) types.parts s
 
 -- LiesIn holds for any greater set of parts too
-lies-along : {parts more : ℕ → Type 0} → ((n : ℕ) → parts n → more n) → (s : Shape) → LiesIn (λ n. Unit {0}) parts s → LiesIn (λ n. Unit {0}) more s
+lies-along : {parts more : ℕ → Type 0} → ((n : ℕ) → parts n → more n) → (s : Shape) → LiesIn (λ n. Unit {0}) parts s
+    → LiesIn (λ n. Unit {0}) more s
 unfolding LiesIn
 lies-along f (optional s) h = lies-along f s h
 lies-along f (outcome s t) h = (lies-along f s h.0, lies-along f t h.1)
@@ -132,13 +138,18 @@ lies-along f (placed_map s t) h = (lies-along f s h.0, lies-along f t h.1)
 lies-along f (hash_map s t) h = (lies-along f s h.0, lies-along f t h.1)
 lies-along f (sorted_set order s) h = lies-along f s h
 lies-along f (placed_set s) h = lies-along f s h
-lies-along f (tagged written known body) h = (λ tag. lies-along f (written tag) (h.0 tag), λ tag e. lies-along f (body tag) (h.1 tag e))
+lies-along f (tagged written known body) h = (
+  λ tag. lies-along f (written tag) (h.0 tag),
+  λ tag e. lies-along f (body tag) (h.1 tag e),
+)
 lies-along f (cases w known part) h = λ n e. lies-along f (part n) (h n e)
 lies-along f (nested n) h = f n h
 lies-along f _ h = tt
 
 -- P holds throughout a shape if its numbered parts lie in a set whose members have P and whose own parts lie in the set
-pub throughout-in : (P : Shape → Type 0) (parts : ℕ → Shape) (those : ℕ → Type 0) → ((n : ℕ) → those n → P (parts n) × LiesIn (λ n. Unit {0}) those (parts n)) → (s : Shape) → P s → LiesIn (λ n. Unit {0}) those s → Throughout P parts s
+pub throughout-in : (P : Shape → Type 0) (parts : ℕ → Shape) (those : ℕ → Type 0)
+    → ((n : ℕ) → those n → P (parts n) × LiesIn (λ n. Unit {0}) those (parts n)) → (s : Shape) → P s
+    → LiesIn (λ n. Unit {0}) those s → Throughout P parts s
 unfolding Within
 throughout-in P parts those closed s p l = record { within = λ steps. steps_in steps s p l }
   where

@@ -19,7 +19,8 @@ code-apart (text s) (text t) x y e = let parts = cut s t x y (cc) (cc) in (ap te
 code-apart (pattern s) (pattern t) x y e = let parts = cut s t x y (cc) (cc) in (ap pattern parts.0, parts.1)
 code-apart (pair a b) (pair c d) x y e =
     let tails : (code a ++ code b) ++ x ≡ (code c ++ code d) ++ y = cc in
-    let first = code-apart a c (code b ++ x) (code d ++ y) (sym (append_assoc (code a) (code b) x) ∙ tails ∙ append_assoc (code c) (code d) y) in
+    let first = code-apart a c (code b ++ x) (code d ++ y)
+    (sym (append_assoc (code a) (code b) x) ∙ tails ∙ append_assoc (code c) (code d) y) in
     let second = code-apart b d x y first.1 in
     (cc, second.1)
 code-apart (variant m a) (variant n b) x y e = let part = code-apart a b x y (cc) in (cc, part.1)

@@ -9,7 +9,8 @@ PutInTurn puts acc [] now = now ≡ acc
 PutInTurn {X} puts acc (x ∷ xs) now = (mid : List X) × puts acc x mid × PutInTurn puts mid xs now
 
 -- `now` may result if items with these meanings are put, one after another, into an empty collection
-pub record Collected {T : Type 0} (M : T → Meaning ArcRef → Type 0) (puts : List T → T → List T → Type 0) (now : List T) (ms : List (Meaning ArcRef)) : Type 0 where
+pub record Collected {T : Type 0} (M : T → Meaning ArcRef → Type 0) (puts : List T → T → List T → Type 0) (now : List T)
+    (ms : List (Meaning ArcRef)) : Type 0 where
   pub xs : List T
   pub each : MeanAll M xs ms
   pub is : PutInTurn puts [] xs now

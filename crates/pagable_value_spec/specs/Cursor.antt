@@ -55,7 +55,8 @@ pub record Gave {Y R : Type 0} (M : Y → Type 0) (after : R) (read : Result (Y 
 
 -- The function returned a value with the meaning that reading gives. If it failed, the error is the first fault that
 -- reading meets (an error of a reference's look-up included), or one of the causes of the type's own.
-abbrev pub GivesSome : {X Y R : Type 0} → (Error → Type 0) → (X → Y → Type 0) → R → Result X Error → Result (Y × R) Error → Type 0
+abbrev pub GivesSome : {X Y R : Type 0} → (Error → Type 0) → (X → Y → Type 0) → R → Result X Error
+    → Result (Y × R) Error → Type 0
 GivesSome own means after (Ok x) read = Gave (means x) after read
 GivesSome own means after (Err e) read = (read ≡ Err e) ⊎ own e
 

@@ -25,16 +25,19 @@ blob_of bytes keys = record { bytes = bytes; keys = keys }
 mutual
   -- the tree's key: that of the blob of some form of its value and of a key for each child
   pub data KeyOf (hash : List ℕ → List ℕ) (types : Types) : Tree → ℕ → Type 0 where
-    key-of : (tree : Tree) (s : Shape) (bytes : List ℕ) (kids : List Kid) (keys : List ℕ) → types.nodes tree.type ≡ Some s → TreeForm types s tree.meaning bytes kids
+    key-of : (tree : Tree) (s : Shape) (bytes : List ℕ) (kids : List Kid) (keys : List ℕ) → types.nodes tree.type
+        ≡ Some s → TreeForm types s tree.meaning bytes kids
         → KeysOf hash types kids keys → KeyOf hash types tree (key_of hash (blob_of bytes keys))
 
   -- a key for each child
   pub data KeysOf (hash : List ℕ → List ℕ) (types : Types) : List Kid → List ℕ → Type 0 where
     no-keys : KeysOf hash types [] []
-    more-keys : (k : Kid) (kids : List Kid) (key : ℕ) (keys : List ℕ) → KeyOf hash types (tree_of_kid k) key → KeysOf hash types kids keys → KeysOf hash types (k ∷ kids) (key ∷ keys)
+    more-keys : (k : Kid) (kids : List Kid) (key : ℕ) (keys : List ℕ) → KeyOf hash types (tree_of_kid k) key
+        → KeysOf hash types kids keys → KeysOf hash types (k ∷ kids) (key ∷ keys)
 
 -- the key of an item: of its bytes as they are, and a key for each child
-pub record KeyOfItem (hash : List ℕ → List ℕ) (types : Types) (bytes : List ℕ) (kids : List Kid) (key : ℕ) : Type 0 where
+pub record KeyOfItem (hash : List ℕ → List ℕ) (types : Types) (bytes : List ℕ) (kids : List Kid)
+    (key : ℕ) : Type 0 where
   pub keys : List ℕ
   pub each : KeysOf hash types kids keys
   pub is : key ≡ key_of hash (blob_of bytes keys)

@@ -23,7 +23,8 @@ varint (suc more) n = if nat_lt n 128 then n ∷ [] else (128 + n % 128) ∷ var
 unfoldable pub varint_at : ℕ → ℕ → List ℕ → Read ℕ
 varint_at more last [] = Err Error.UnexpectedEnd
 varint_at zero last (b ∷ rest) = if nat_le b last then Ok (b, rest) else Err Error.BadVarint
-varint_at (suc more) last (b ∷ rest) = if nat_lt b 128 then Ok (b, rest) else (varint_at more last rest >>= λ high. Ok (b - 128 + 128 * high.0, high.1))
+varint_at (suc more) last (b ∷ rest) = if nat_lt b 128 then Ok
+    (b, rest) else (varint_at more last rest >>= λ high. Ok (b - 128 + 128 * high.0, high.1))
 
 -- every number that varint_at can read is below this
 unfoldable pub varint_limit : ℕ → ℕ → ℕ

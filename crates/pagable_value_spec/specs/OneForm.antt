@@ -62,25 +62,36 @@ abbrev pub HasOneFormThroughout : (ℕ → Shape) → Shape → Type 0
 HasOneFormThroughout parts s = Throughout IsCanonical parts s
 
 pub basic_has_one_form : {parts : ℕ → Shape} {s : Shape} → IsBasic s → HasOneFormThroughout parts s
-basic_has_one_form {parts} {s} h = throughout-alone IsCanonical parts s (basic-follows any any s h).canonical (λ those. (basic-follows any those s h).lies)
+basic_has_one_form {parts} {s} h = throughout-alone IsCanonical parts s (basic-follows any any s h).canonical
+    (λ those. (basic-follows any those s h).lies)
 
-pub over_has_one_form : {parts : ℕ → Shape} {s whole : Shape} → IsOver s whole → HasOneFormThroughout parts s → HasOneFormThroughout parts whole
-over_has_one_form {parts} {s} {whole} e h = throughout-over IsCanonical parts s whole (over-follows any any s whole e).canonical (λ those. (over-follows any those s whole e).lies) h
+pub over_has_one_form : {parts : ℕ → Shape} {s whole : Shape} → IsOver s whole → HasOneFormThroughout parts s
+    → HasOneFormThroughout parts whole
+over_has_one_form {parts} {s} {whole} e h = throughout-over IsCanonical parts s whole
+    (over-follows any any s whole e).canonical (λ those. (over-follows any those s whole e).lies) h
 
-pub two_has_one_form : {parts : ℕ → Shape} {s t whole : Shape} → IsOfTwo s t whole → HasOneFormThroughout parts s → HasOneFormThroughout parts t → HasOneFormThroughout parts whole
-two_has_one_form {parts} {s} {t} {whole} e h k = throughout-two IsCanonical parts s t whole (two-follows any any s t whole e).canonical (λ those. (two-follows any those s t whole e).lies) h k
+pub two_has_one_form : {parts : ℕ → Shape} {s t whole : Shape} → IsOfTwo s t whole → HasOneFormThroughout parts s
+    → HasOneFormThroughout parts t → HasOneFormThroughout parts whole
+two_has_one_form {parts} {s} {t} {whole} e h k = throughout-two IsCanonical parts s t whole
+    (two-follows any any s t whole e).canonical (λ those. (two-follows any those s t whole e).lies) h k
 
-pub run_has_one_form : {parts : ℕ → Shape} {s : Shape} → HasOneFormThroughout parts s → HasOneFormThroughout parts (run s)
+pub run_has_one_form : {parts : ℕ → Shape} {s : Shape} → HasOneFormThroughout parts s
+    → HasOneFormThroughout parts (run s)
 unfolding IsCanonical LiesIn
 run_has_one_form {parts} {s} h = throughout-over IsCanonical parts s (run s) (λ c. c) (λ those l. l) h
 
 -- ---- no value of the shape holds a reference
 
 pub basic_refers_to_nothing : {parts : ℕ → Shape} {s : Shape} → IsBasic s → RefersToNothing parts s
-basic_refers_to_nothing {parts} {s} h = throughout-alone (LiesIn (λ n. ⊥) any) parts s (basic-follows (λ n. ⊥) any s h).lies (λ those. (basic-follows any those s h).lies)
+basic_refers_to_nothing {parts} {s} h = throughout-alone (LiesIn (λ n. ⊥) any) parts s
+    (basic-follows (λ n. ⊥) any s h).lies (λ those. (basic-follows any those s h).lies)
 
-pub over_refers_to_nothing : {parts : ℕ → Shape} {s whole : Shape} → IsOver s whole → RefersToNothing parts s → RefersToNothing parts whole
-over_refers_to_nothing {parts} {s} {whole} e h = throughout-over (LiesIn (λ n. ⊥) any) parts s whole (over-follows (λ n. ⊥) any s whole e).lies (λ those. (over-follows any those s whole e).lies) h
+pub over_refers_to_nothing : {parts : ℕ → Shape} {s whole : Shape} → IsOver s whole → RefersToNothing parts s
+    → RefersToNothing parts whole
+over_refers_to_nothing {parts} {s} {whole} e h = throughout-over (LiesIn (λ n. ⊥) any) parts s whole
+    (over-follows (λ n. ⊥) any s whole e).lies (λ those. (over-follows any those s whole e).lies) h
 
-pub two_refers_to_nothing : {parts : ℕ → Shape} {s t whole : Shape} → IsOfTwo s t whole → RefersToNothing parts s → RefersToNothing parts t → RefersToNothing parts whole
-two_refers_to_nothing {parts} {s} {t} {whole} e h k = throughout-two _ parts s t whole (two-follows (λ n. ⊥) any s t whole e).lies (λ those. (two-follows any those s t whole e).lies) h k
+pub two_refers_to_nothing : {parts : ℕ → Shape} {s t whole : Shape} → IsOfTwo s t whole → RefersToNothing parts s
+    → RefersToNothing parts t → RefersToNothing parts whole
+two_refers_to_nothing {parts} {s} {t} {whole} e h k = throughout-two _ parts s t whole
+    (two-follows (λ n. ⊥) any s t whole e).lies (λ those. (two-follows any those s t whole e).lies) h k

@@ -82,17 +82,21 @@ pub data JsonCase : Type 0 where
 
 abbrev pub json_case : ℕ → Result JsonCase Error
 json_case n = if n == 0 then Ok null_case else if n == 1 then Ok flag_case else if n == 2 then Ok number_case else
-    if n == 3 then Ok text_case else if n == 4 then Ok array_case else if n == 5 then Ok object_case else Err Error.JsonCase
+    if n == 3 then Ok text_case else if n == 4 then Ok array_case else if n == 5 then Ok object_case else Err
+    Error.JsonCase
 
 -- A JSON value after its case. An array or object enters its level after its length was read.
 abbrev pub json_part : {A B : Type 0} → Deeper A B → JsonCase → Gets A (Meaning B)
 json_part deeper null_case rest = Ok (variant 0 none, rest)
 json_part deeper flag_case rest = bytes_of bool_at (λ b. variant 1 (meanings.flag b)) rest
-json_part deeper number_case rest = bytes_of bool_at (λ b. b) rest >>= λ float. choose float.0 (λ r. Err Error.JsonNumber) (bytes_of (signed_at w64) (λ z. variant 2 (integer z))) float.1
+json_part deeper number_case rest = bytes_of bool_at (λ b. b) rest >>= λ float. choose float.0
+    (λ r. Err Error.JsonNumber) (bytes_of (signed_at w64) (λ z. variant 2 (integer z))) float.1
 json_part deeper text_case rest = bytes_of text_at (λ t. variant 3 (meanings.text t)) rest
-json_part deeper array_case rest = bytes_of length_at (λ n. n) rest >>= λ count. enter deeper (λ get. seen (λ ms. variant 4 (sequence ms)) (items (get json) count.0)) count.1
+json_part deeper array_case rest = bytes_of length_at (λ n. n) rest >>= λ count. enter deeper
+    (λ get. seen (λ ms. variant 4 (sequence ms)) (items (get json) count.0)) count.1
 json_part deeper object_case rest = bytes_of length_at (λ n. n) rest >>= λ count.
-    enter deeper (λ get. seen (λ es. variant 5 (of_entries (put_all (put_sorted text_order) [] es))) (items (two (get text) (get json)) count.0)) count.1
+    enter deeper (λ get. seen (λ es. variant 5 (of_entries (put_all (put_sorted text_order) [] es)))
+    (items (two (get text) (get json)) count.0)) count.1
 
 -- reads a value of a shape; `deeper` reads the parts one level further down
 unfoldable pub read_with : {A B : Type 0} → Look A B → (ℕ → Shape) → Deeper A B → Shape → Gets A (Meaning B)
@@ -104,25 +108,37 @@ read_with look parts deeper text rest = bytes_of text_at meanings.text rest
 read_with look parts deeper letter rest = bytes_of char_at number rest
 read_with look parts deeper duration rest = bytes_of duration_at (λ d. of_duration d.0 d.1) rest
 read_with look parts deeper pattern rest = bytes_of text_at meanings.pattern rest
-read_with look parts deeper json rest = bytes_of (unsigned_at w64) (λ n. n) rest >>= λ n. json_case n.0 >>= λ case. json_part deeper case n.1
-read_with look parts deeper (optional s) rest = bytes_of bool_at (λ b. b) rest >>= λ some. choose some.0 (seen present (read_with look parts deeper s)) (λ r. Ok (absent, r)) some.1
-read_with look parts deeper (outcome s t) rest = bytes_of bool_at (λ b. b) rest >>= λ ok. choose ok.0 (seen success (read_with look parts deeper s)) (seen failure (read_with look parts deeper t)) ok.1
+read_with look parts deeper json rest = bytes_of (unsigned_at w64) (λ n. n) rest >>= λ n. json_case n.0 >>= λ case.
+    json_part deeper case n.1
+read_with look parts deeper (optional s) rest = bytes_of bool_at (λ b. b) rest >>= λ some. choose some.0
+    (seen present (read_with look parts deeper s)) (λ r. Ok (absent, r)) some.1
+read_with look parts deeper (outcome s t) rest = bytes_of bool_at (λ b. b) rest >>= λ ok. choose ok.0
+    (seen success (read_with look parts deeper s)) (seen failure (read_with look parts deeper t)) ok.1
 read_with look parts deeper (list s) rest = seen sequence (counted (read_with look parts deeper s)) rest
 -- no type that is read has this shape
 read_with look parts deeper (run s) rest = Err Error.WrongKind
 read_with look parts deeper (array n s) rest = seen sequence (items (read_with look parts deeper s) n) rest
-read_with look parts deeper (both s t) rest = seen entry (two (read_with look parts deeper s) (read_with look parts deeper t)) rest
+read_with look parts deeper (both s t) rest = seen entry
+    (two (read_with look parts deeper s) (read_with look parts deeper t)) rest
 read_with look parts deeper (sorted_map order s t) rest =
-    seen (λ es. of_entries (put_all (put_sorted order) [] es)) (counted (two (read_with look parts deeper s) (read_with look parts deeper t))) rest
-read_with look parts deeper (placed_map s t) rest = seen (λ es. of_entries (put_all put_placed [] es)) (counted (two (read_with look parts deeper s) (read_with look parts deeper t))) rest
-read_with look parts deeper (hash_map s t) rest = seen of_hash_map (counted (two (read_with look parts deeper s) (read_with look parts deeper t))) rest
-read_with look parts deeper (sorted_set order s) rest = seen (λ ms. sequence (put_all (put_sorted_item order) [] ms)) (counted (read_with look parts deeper s)) rest
-read_with look parts deeper (placed_set s) rest = seen (λ ms. sequence (put_all put_placed_item [] ms)) (counted (read_with look parts deeper s)) rest
-read_with look parts deeper (static_value registry) rest = bytes_of (unsigned_at w32) (λ i. i) rest >>= λ i. registered registry i.0 >>= λ m. Ok (lifted m, i.1)
+    seen (λ es. of_entries (put_all (put_sorted order) [] es))
+    (counted (two (read_with look parts deeper s) (read_with look parts deeper t))) rest
+read_with look parts deeper (placed_map s t) rest = seen (λ es. of_entries (put_all put_placed [] es))
+    (counted (two (read_with look parts deeper s) (read_with look parts deeper t))) rest
+read_with look parts deeper (hash_map s t) rest = seen of_hash_map
+    (counted (two (read_with look parts deeper s) (read_with look parts deeper t))) rest
+read_with look parts deeper (sorted_set order s) rest =
+    seen (λ ms. sequence (put_all (put_sorted_item order) [] ms)) (counted (read_with look parts deeper s)) rest
+read_with look parts deeper (placed_set s) rest = seen (λ ms. sequence (put_all put_placed_item [] ms))
+    (counted (read_with look parts deeper s)) rest
+read_with look parts deeper (static_value registry) rest =
+    bytes_of (unsigned_at w32) (λ i. i) rest >>= λ i. registered registry i.0 >>= λ m. Ok (lifted m, i.1)
 read_with look parts deeper (tagged written known body) rest =
-    bytes_of text_at (λ t. t) rest >>= λ tag. choose (known tag.0) (seen (of_tagged tag.0) (read_with look parts deeper (body tag.0))) (λ r. Err Error.UnknownTag) tag.1
+    bytes_of text_at (λ t. t) rest >>= λ tag. choose (known tag.0)
+    (seen (of_tagged tag.0) (read_with look parts deeper (body tag.0))) (λ r. Err Error.UnknownTag) tag.1
 read_with look parts deeper (cases w known part) rest =
-    bytes_of (unsigned_at w) (λ n. n) rest >>= λ n. choose (known n.0) (seen (variant n.0) (read_with look parts deeper (part n.0))) (λ r. Err Error.UnknownTag) n.1
+    bytes_of (unsigned_at w) (λ n. n) rest >>= λ n. choose (known n.0)
+    (seen (variant n.0) (read_with look parts deeper (part n.0))) (λ r. Err Error.UnknownTag) n.1
 read_with look parts deeper (reference kind) rest = reference_at look kind rest.refs rest
 read_with look parts deeper (nested n) rest = enter deeper (λ get. get (parts n)) rest
 

@@ -14,7 +14,8 @@ pub record HasEqual {T : Type 0} (same : T → T → Bool) (value : T) (registry
 
 -- the registry has no equal value below this index
 abbrev pub NoEqualBelow : {T : Type 0} → (T → T → Bool) → T → List T → ℕ → Type 0
-NoEqualBelow {T} same value registry i = (j : ℕ) (known : T) → j < i → slice_get registry j ≡ Some known → same value known ≡ false
+NoEqualBelow {T} same value registry i = (j : ℕ) (known : T) → j < i → slice_get registry j ≡ Some known
+    → same value known ≡ false
 
 -- the registry has a value of this meaning under this index
 abbrev pub StandsAt : {T : Type 0} → (T → Meaning ⊥) → List T → T → ℕ → Type 0

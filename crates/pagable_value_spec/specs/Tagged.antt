@@ -23,10 +23,13 @@ abbrev pub NoneFor : {F : Type 0} → List ℕ → List (List ℕ × F) → Type
 NoneFor {F} tag readers = (j : ℕ) (r : List ℕ × F) → slice_get readers j ≡ Some r → bytes_eq tag r.0 ≡ false
 
 abbrev pub HasDistinctTags : List (List ℕ × Shape) → Type 0
-HasDistinctTags registrations = (i j : ℕ) (r s : List ℕ × Shape) → slice_get registrations i ≡ Some r → slice_get registrations j ≡ Some s → bytes_eq r.0 s.0 ≡ true → i ≡ j
+HasDistinctTags registrations = (i j : ℕ) (r s : List ℕ × Shape) → slice_get registrations i ≡ Some r
+    → slice_get registrations j ≡ Some s → bytes_eq r.0 s.0 ≡ true → i ≡ j
 
 -- Each tag under which a body has a form is registered; and each registered reader reads what is written under its tag,
 -- and all of its forms can be read.
-pub record ReadsWhatIsWritten (parts : ℕ → Shape) (written : List ℕ → Shape) (registrations : List (List ℕ × Shape)) : Type 0 where
-  pub each : (i : ℕ) (tag : List ℕ) (s : Shape) → slice_get registrations i ≡ Some (tag, s) → (s ≡ written tag) × Throughout IsReadable parts s
+pub record ReadsWhatIsWritten (parts : ℕ → Shape) (written : List ℕ → Shape)
+    (registrations : List (List ℕ × Shape)) : Type 0 where
+  pub each : (i : ℕ) (tag : List ℕ) (s : Shape) → slice_get registrations i ≡ Some (tag, s) → (s ≡ written tag)
+      × Throughout IsReadable parts s
   pub all : (tag : List ℕ) → HasNoCase (written tag) ⊎ ((i : ℕ) × (slice_get registrations i ≡ Some (tag, written tag)))

@@ -49,9 +49,12 @@ pub data IsFollowed (own : ℕ → ℕ → Meaning KeyRef → Type 0) : Meaning 
   text-followed : (t : List ℕ) → IsFollowed own (text t) (text t)
   pattern-followed : (t : List ℕ) → IsFollowed own (pattern t) (pattern t)
   none-followed : IsFollowed own none none
-  pair-followed : (x y : Meaning KeyRef) (a b : Meaning ⊥) → IsFollowed own x a → IsFollowed own y b → IsFollowed own (pair x y) (pair a b)
-  variant-followed : (n : ℕ) (x : Meaning KeyRef) (a : Meaning ⊥) → IsFollowed own x a → IsFollowed own (variant n x) (variant n a)
-  reference-followed : (r : KeyRef) (x : Meaning KeyRef) (a : Meaning ⊥) → own (type_of r.kind) r.key x → IsFollowed own x a → IsFollowed own (reference r) (followed r.kind a)
+  pair-followed : (x y : Meaning KeyRef) (a b : Meaning ⊥) → IsFollowed own x a → IsFollowed own y b
+      → IsFollowed own (pair x y) (pair a b)
+  variant-followed : (n : ℕ) (x : Meaning KeyRef) (a : Meaning ⊥) → IsFollowed own x a
+      → IsFollowed own (variant n x) (variant n a)
+  reference-followed : (r : KeyRef) (x : Meaning KeyRef) (a : Meaning ⊥) → own (type_of r.kind) r.key x
+      → IsFollowed own x a → IsFollowed own (reference r) (followed r.kind a)
 
 -- The store holds the tree under the key. With a ring of keys it holds none.
 pub record ReadsTree (store : ℕ → Option Blob) (types : Types) (key : ℕ) (tree : Tree) : Type 0 where

@@ -70,14 +70,17 @@ one_word line lacks pending pageout PageOut h = pageout h
 
 module _ (word name : List ℕ) (lacks : LacksSpace word) (whole : LacksSpace name) where
   -- a line of two words: the second is a name, and the first is one of those that a name alone may follow
-  pub two_words : (command : Command) → Spells (word ++ 32 ∷ name) command → IsName name × ((word ≡ codes "new") ⊎ ((word ≡ codes "release") ⊎ ((verb : Verb) × (word ≡ word_of verb))))
-  two_words (New n text) (named, inl e) = absurd (uncut n.now name text.now whole (sym (cut word (codes "new") name (n.now ++ 32 ∷ text.now) lacks new_lacks e).1))
+  pub two_words : (command : Command) → Spells (word ++ 32 ∷ name) command → IsName name
+      × ((word ≡ codes "new") ⊎ ((word ≡ codes "release") ⊎ ((verb : Verb) × (word ≡ word_of verb))))
+  two_words (New n text) (named, inl e) = absurd (uncut n.now name text.now whole
+      (sym (cut word (codes "new") name (n.now ++ 32 ∷ text.now) lacks new_lacks e).1))
   two_words (New n text) (named, inr e) =
       let parts = cut word (codes "new") name n.now lacks new_lacks e.0 in (subst IsName (sym parts.1) named, inl parts.0)
   two_words (Pin n new) h = absurd (uncut n.now name new.now whole (sym (cut word (codes "pin") name (n.now ++ 32 ∷ new.now) lacks pin_lacks h.2).1))
   two_words (Clone n new) h = absurd (uncut n.now name new.now whole (sym (cut word (codes "clone") name (n.now ++ 32 ∷ new.now) lacks clone_lacks h.2).1))
   two_words (Release n) h = let parts = cut word (codes "release") name n.now lacks release_lacks h.1 in (subst IsName (sym parts.1) h.0, inr (inl parts.0))
-  two_words (Of verb n) h = let parts = cut word (word_of verb) name n.now lacks (word_lacks verb) h.1 in (subst IsName (sym parts.1) h.0, inr (inr (verb, parts.0)))
+  two_words (Of verb n) h = let parts = cut word (word_of verb) name n.now lacks (word_lacks verb) h.1 in
+      (subst IsName (sym parts.1) h.0, inr (inr (verb, parts.0)))
   two_words Pending h = absurd (uncut word (codes "pending") name pending_lacks h)
   two_words PageOut h = absurd (uncut word (codes "pageout") name pageout_lacks h)
 
@@ -87,15 +90,20 @@ module _ (word name : List ℕ) (lacks : LacksSpace word) (whole : LacksSpace na
   more_words behind (New n text) (named, inl e) =
       let parts = cut word (codes "new") (name ++ 32 ∷ behind) (n.now ++ 32 ∷ text.now) lacks new_lacks e in
       let named_parts = cut name n.now behind text.now whole (name_lacks n.now named) parts.1 in (subst IsName (sym named_parts.0) named, inl parts.0)
-  more_words behind (New n text) (named, inr e) = absurd (uncut name n.now behind (name_lacks n.now named) (cut word (codes "new") (name ++ 32 ∷ behind) n.now lacks new_lacks e.0).1)
+  more_words behind (New n text) (named, inr e) = absurd (uncut name n.now behind (name_lacks n.now named)
+      (cut word (codes "new") (name ++ 32 ∷ behind) n.now lacks new_lacks e.0).1)
   more_words behind (Pin n new) h =
       let parts = cut word (codes "pin") (name ++ 32 ∷ behind) (n.now ++ 32 ∷ new.now) lacks pin_lacks h.2 in
-      let named = cut name n.now behind new.now whole (name_lacks n.now h.0) parts.1 in (subst IsName (sym named.0) h.0, inr (subst IsName (sym named.1) h.1, inl parts.0))
+      let named = cut name n.now behind new.now whole (name_lacks n.now h.0) parts.1 in
+      (subst IsName (sym named.0) h.0, inr (subst IsName (sym named.1) h.1, inl parts.0))
   more_words behind (Clone n new) h =
       let parts = cut word (codes "clone") (name ++ 32 ∷ behind) (n.now ++ 32 ∷ new.now) lacks clone_lacks h.2 in
-      let named = cut name n.now behind new.now whole (name_lacks n.now h.0) parts.1 in (subst IsName (sym named.0) h.0, inr (subst IsName (sym named.1) h.1, inr parts.0))
-  more_words behind (Release n) h = absurd (uncut name n.now behind (name_lacks n.now h.0) (cut word (codes "release") (name ++ 32 ∷ behind) n.now lacks release_lacks h.1).1)
-  more_words behind (Of verb n) h = absurd (uncut name n.now behind (name_lacks n.now h.0) (cut word (word_of verb) (name ++ 32 ∷ behind) n.now lacks (word_lacks verb) h.1).1)
+      let named = cut name n.now behind new.now whole (name_lacks n.now h.0) parts.1 in
+      (subst IsName (sym named.0) h.0, inr (subst IsName (sym named.1) h.1, inr parts.0))
+  more_words behind (Release n) h = absurd (uncut name n.now behind (name_lacks n.now h.0)
+      (cut word (codes "release") (name ++ 32 ∷ behind) n.now lacks release_lacks h.1).1)
+  more_words behind (Of verb n) h = absurd (uncut name n.now behind (name_lacks n.now h.0)
+      (cut word (word_of verb) (name ++ 32 ∷ behind) n.now lacks (word_lacks verb) h.1).1)
   more_words behind Pending h = absurd (uncut word (codes "pending") (name ++ 32 ∷ behind) pending_lacks h)
   more_words behind PageOut h = absurd (uncut word (codes "pageout") (name ++ 32 ∷ behind) pageout_lacks h)
 

@@ -22,7 +22,8 @@ word_of Out = codes "out"
 
 -- the line is the command's: its word, and its names and text, with one space before each; an empty text may lack its space
 abbrev pub Spells : List ℕ → Command → Type 0
-Spells line (New name text) = IsName name.now × ((line ≡ codes "new " ++ (name.now ++ 32 ∷ text.now)) ⊎ ((line ≡ codes "new " ++ name.now) × (text.now ≡ [])))
+Spells line (New name text) = IsName name.now × ((line ≡ codes "new " ++ (name.now ++ 32 ∷ text.now))
+    ⊎ ((line ≡ codes "new " ++ name.now) × (text.now ≡ [])))
 Spells line (Pin name new) = IsName name.now × IsName new.now × (line ≡ codes "pin " ++ (name.now ++ 32 ∷ new.now))
 Spells line (Clone name new) = IsName name.now × IsName new.now × (line ≡ codes "clone " ++ (name.now ++ 32 ∷ new.now))
 Spells line (Release name) = IsName name.now × (line ≡ codes "release " ++ name.now)
@@ -32,7 +33,8 @@ Spells line PageOut = line ≡ codes "pageout"
 
 -- the answer to a line: its command, and none where it is no command's
 abbrev pub AnswersLine : List ℕ → Option Command → Type 0
-AnswersLine line answer = MatchOption answer ((command : Command) → ¬ (Spells line command)) (λ command. Spells line command)
+AnswersLine line answer = MatchOption answer ((command : Command) → ¬ (Spells line command))
+    (λ command. Spells line command)
 
 abbrev pub LacksSpace : List ℕ → Type 0
 LacksSpace [] = Unit {0}

@@ -13,11 +13,13 @@ IsFree name names = get_by_text names.handles name ≡ None
 
 -- each name has the handle that it had, if any
 abbrev pub SameNames : Names → Names → Type 0
-SameNames old new = (name : String Global) → get_by_text new.handles (string_bytes name) ≡ get_by_text old.handles (string_bytes name)
+SameNames old new = (name : String Global) → get_by_text new.handles (string_bytes name)
+    ≡ get_by_text old.handles (string_bytes name)
 
 -- the same of each name but this one
 abbrev pub OtherNames : List ℕ → Names → Names → Type 0
-OtherNames name old new = (other : String Global) → string_bytes other ≢ name → get_by_text new.handles (string_bytes other) ≡ get_by_text old.handles (string_bytes other)
+OtherNames name old new = (other : String Global) → string_bytes other ≢ name
+    → get_by_text new.handles (string_bytes other) ≡ get_by_text old.handles (string_bytes other)
 
 -- the name was free and has a handle now, and each other has the handle that it had
 abbrev pub IsNamed : List ℕ → Names → Names → Type 0

@@ -140,7 +140,8 @@ impl<S: Roots<Records> + Drop> RecordStore<S> {
     ///   stands for the key of the last flush.
     pub fn save(&mut self, name: &str, handle: HandleNumber) -> Result<(), Error>
         ensures flushed { IsTrue (S.PagableStorage.is_honest self.new.pager.storage)
-            → OnOk result (S.PagableStorage.flushed self.new.pager.storage ≡ S.PagableStorage.stored self.new.pager.storage) }
+            → OnOk result (S.PagableStorage.flushed self.new.pager.storage
+            ≡ S.PagableStorage.stored self.new.pager.storage) }
     {
         let key = self.key(handle)?;
         self.pager.set_root(self.alloc, name, Some(key))?;

@@ -44,7 +44,8 @@ module _ {N S E : Type 0} {tells : Telling S} where
         between = between;
         again = run_again;
         shown_again = shown_again;
-        same = λ nobody settled trees stands asks others last. pinned_again_law E (plain v) (state_in tells p) (state_in tells mid) (state_in tells later) (state_in tells q) trees h k l x y
+        same = λ nobody settled trees stands asks others last. pinned_again_law E (plain v) (state_in tells p) (state_in tells mid) (state_in tells later)
+            (state_in tells q) trees h k l x y
             run between run_again well nobody lawful settled stands asks others last shown shown_again;
       }
 

@@ -20,7 +20,8 @@ pub fn stored_again<E: Env<Node: NodeSet<E>>, S: PagableStorage<E>>(
     pager: &mut Pager<E, S>,
     blob: PagableData,
 ) -> Result<Arc<PagableData>, Error>
-    ensures same { IsTrue (S.is_honest pager.new.storage) → IfOk result (λ found. blob_of (arc_value found) ≡ blob_of blob) }
+    ensures same { IsTrue (S.is_honest pager.new.storage)
+        → IfOk result (λ found. blob_of (arc_value found) ≡ blob_of blob) }
 {
     let key = blob.compute_key::<E::Hash>();
     pager.store(alloc, blob)?;
@@ -47,7 +48,8 @@ pub fn look_up<E: Env<Node: NodeSet<E>>, S: PagableStorage<E>>(
 pub trait Work<E: Env<Node: NodeSet<E>>, S: PagableStorage<E>> {
     /// Does the work.
     fn run(&mut self, alloc: Global, pager: &mut Pager<E, S>) -> Result<(), Error>
-        ensures operates { IsTrue (S.is_honest pager.new.storage) → Operations (plain (values_at E.Node.NodeSet E.Env E.Hash.KeyHash pager.old.environment))
+        ensures operates { IsTrue (S.is_honest pager.new.storage)
+            → Operations (plain (values_at E.Node.NodeSet E.Env E.Hash.KeyHash pager.old.environment))
             (state_in (storage_view S.PagableStorage) pager.old) (state_in (storage_view S.PagableStorage) pager.new) }
         ensures honest { IsTrue (S.is_honest pager.new.storage) → IsTrue (S.is_honest pager.old.storage) };
 }
@@ -77,8 +79,10 @@ pub fn pinned_again<E: Env<Node: NodeSet<E>>, S: PagableStorage<E>, W: Work<E, S
     handle: HandleNumber,
     work: &mut W,
 ) -> Result<(Arc<E::Node>, (HandleNumber, Arc<E::Node>)), Error>
-    ensures same { IsTrue (S.is_honest pager.new.storage) → IfOk result (λ shown. ShowsSame (values_at E.Node.NodeSet E.Env E.Hash.KeyHash pager.old.environment)
-        (state_in (storage_view S.PagableStorage) pager.old) handle (arc_value shown.0) shown.1.0 (arc_value shown.1.1) (state_in (storage_view S.PagableStorage) pager.new)) }
+    ensures same { IsTrue (S.is_honest pager.new.storage)
+        → IfOk result (λ shown. ShowsSame (values_at E.Node.NodeSet E.Env E.Hash.KeyHash pager.old.environment)
+        (state_in (storage_view S.PagableStorage) pager.old) handle (arc_value shown.0) shown.1.0 (arc_value shown.1.1)
+        (state_in (storage_view S.PagableStorage) pager.new)) }
 {
     pager.is_whole();
     let (pinned, first) = pin(alloc, pager, handle)?;

@@ -32,10 +32,13 @@ impl<'de, R> PagableDeserializerImpl<'de, PagableSlice<'de>, R> {
     ) -> PagableDeserializerImpl<'de, PagableSlice<'de>, R>
     where
         R: References<E>,
-        ensures standing { ⟦<PagableDeserializerImpl<'de, PagableSlice<'de>, R> as PagableDeserializer<E>>⟧.standing result ≡ at_front (R.answer references) (R.lends_at references) bytes.now arcs.now }
-        ensures levels { ⟦<PagableDeserializerImpl<'de, PagableSlice<'de>, R> as PagableDeserializer<E>>⟧.levels result ≡ 0 }
+        ensures standing { ⟦<PagableDeserializerImpl<'de, PagableSlice<'de>, R> as PagableDeserializer<E>>⟧.standing result
+            ≡ at_front (R.answer references) (R.lends_at references) bytes.now arcs.now }
+        ensures levels { ⟦<PagableDeserializerImpl<'de, PagableSlice<'de>, R> as PagableDeserializer<E>>⟧.levels result
+            ≡ 0 }
         ensures env { ⟦<PagableDeserializerImpl<'de, PagableSlice<'de>, R> as PagableDeserializer<E>>⟧.environment result ≡ R.environment references }
-        ensures lends { ⟦<PagableDeserializerImpl<'de, PagableSlice<'de>, R> as PagableDeserializer<E>>⟧.lends result ≡ R.lends references }
+        ensures lends { ⟦<PagableDeserializerImpl<'de, PagableSlice<'de>, R> as PagableDeserializer<E>>⟧.lends result
+            ≡ R.lends references }
     {
         PagableDeserializerImpl {
             reader: PagableSlice::new(bytes),
@@ -61,7 +64,8 @@ impl<'de, E: Env, B: Reader, R: References<E>> PagableDeserializer<E>
 
     ghost standing = { λ s. standing_of (R.answer s.references) (R.lends_at s.references) s.keys (B.track s.reader) };
 
-    ghost rest = { λ s. rest_at (standing_of (R.answer s.references) (R.lends_at s.references) s.keys (B.track s.reader)) };
+    ghost rest = { λ s. rest_at (standing_of (R.answer s.references) (R.lends_at s.references) s.keys
+        (B.track s.reader)) };
 
     ghost levels = { λ s. s.levels };
 
@@ -79,7 +83,8 @@ impl<'de, E: Env, B: Reader, R: References<E>> PagableDeserializer<E>
 
     ghost rest_of_with = { λ s r. refl };
 
-    ghost moves_of_with = { λ s r goes. moves_of (R.answer s.references) (R.lends_at s.references) s.keys (B.track s.reader) (B.track r) goes };
+    ghost moves_of_with = { λ s r goes. moves_of (R.answer s.references) (R.lends_at s.references) s.keys
+        (B.track s.reader) (B.track r) goes };
 
     ghost levels_of_with = { λ s r. refl };
 

@@ -34,7 +34,8 @@ pub trait References<E: Env> {
     fn reference(&mut self, place: usize, key: DataKey, kind: Kind) -> Result<ArcRef, Error>
         ensures of_kind { IfOk result (λ r. r.kind ≡ kind) }
         ensures answer { result ≡ answer self.old place key kind.0 }
-        ensures lent { IfOk result (λ r. (y : E.Node) → lends self.new r ≡ Some y → lends_at self.old place ≡ Some (r, y)) }
+        ensures lent { IfOk result (λ r. (y : E.Node) → lends self.new r ≡ Some y → lends_at self.old place
+            ≡ Some (r, y)) }
         ensures same_env { environment self.new ≡ environment self.old }
         ensures same_answers { answer self.new ≡ answer self.old }
         ensures same_lent { lends_at self.new ≡ lends_at self.old };
@@ -45,7 +46,8 @@ pub trait References<E: Env> {
         ensures { option_map (λ x. x.now) result ≡ lends self.now reference };
 
     // An error is one that a reference may have.
-    ghost refusals: { (s : Self) (place key kind : ℕ) (e : Refusal) → answer s place key kind ≡ Err e → may_refuse_reference e ≡ true };
+    ghost refusals: { (s : Self) (place key kind : ℕ) (e : Refusal) → answer s place key kind ≡ Err e
+        → may_refuse_reference e ≡ true };
 }
 
 /// An environment whose values hold no references: `reference` fails with `WrongKind` for each.

@@ -74,7 +74,8 @@ fn put(
     key: DataKey,
     blob: PagableData,
 ) -> Result<(), Error>
-    ensures ok { OnOk result ((q : ℕ) → stored_in blobs.new q ≡ (if q == key then Some (blob_of blob) else stored_in blobs.old q)) }
+    ensures ok { OnOk result ((q : ℕ) → stored_in blobs.new q
+        ≡ (if q == key then Some (blob_of blob) else stored_in blobs.old q)) }
     ensures only { IfErr result memory }
     ensures err { OnErr result (stored_in blobs.new ≡ stored_in blobs.old) }
 {

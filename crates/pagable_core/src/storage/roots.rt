@@ -23,11 +23,16 @@ pub trait Roots<E: Env>: PagableStorage<E> {
     /// - `OutOfMemory`.
     /// - `Storage` only if the call raised the storage's count of failures.
     fn root(&mut self, name: &str) -> Result<Option<DataKey>, Error>
-        ensures ok { IsTrue (Self.PagableStorage.is_honest self.new) → IfOk result (λ key. key ≡ roots self.old name.now) }
-        ensures only { IfErr result (RefusesFlush (Self.PagableStorage.failed self.old) (Self.PagableStorage.failed self.new)) }
+        ensures ok { IsTrue (Self.PagableStorage.is_honest self.new)
+            → IfOk result (λ key. key ≡ roots self.old name.now) }
+        ensures only { IfErr result (RefusesFlush (Self.PagableStorage.failed self.old)
+            (Self.PagableStorage.failed self.new)) }
         ensures same { IsTrue (Self.PagableStorage.is_honest self.new) → roots self.new ≡ roots self.old }
-        ensures stays { IsTrue (Self.PagableStorage.is_honest self.new) → (Self.PagableStorage.stored self.new ≡ Self.PagableStorage.stored self.old) × (Self.PagableStorage.flushed self.new ≡ Self.PagableStorage.flushed self.old) }
-        ensures honest { IsTrue (Self.PagableStorage.is_honest self.new) → IsTrue (Self.PagableStorage.is_honest self.old) }
+        ensures stays { IsTrue (Self.PagableStorage.is_honest self.new)
+            → (Self.PagableStorage.stored self.new ≡ Self.PagableStorage.stored self.old)
+            × (Self.PagableStorage.flushed self.new ≡ Self.PagableStorage.flushed self.old) }
+        ensures honest { IsTrue (Self.PagableStorage.is_honest self.new)
+            → IsTrue (Self.PagableStorage.is_honest self.old) }
         ensures open { Self.PagableStorage.is_closed self.new ≡ Self.PagableStorage.is_closed self.old }
         ensures later { Self.PagableStorage.failed self.old ≤ Self.PagableStorage.failed self.new };
 
@@ -42,13 +47,21 @@ pub trait Roots<E: Env>: PagableStorage<E> {
     /// - `OutOfMemory`.
     /// - `Storage` only if the call raised the storage's count of failures.
     fn set_root(&mut self, alloc: Global, name: &str, key: Option<DataKey>) -> Result<(), Error>
-        ensures sets { IsTrue (Self.PagableStorage.is_honest self.new) → OnOk result (Sets name.now key (roots self.old) (roots self.new)) }
-        ensures stands { IsTrue (Self.PagableStorage.is_honest self.new) → OnOk result (Stands (Self.PagableStorage.stored self.old) key) }
+        ensures sets { IsTrue (Self.PagableStorage.is_honest self.new)
+            → OnOk result (Sets name.now key (roots self.old) (roots self.new)) }
+        ensures stands { IsTrue (Self.PagableStorage.is_honest self.new)
+            → OnOk result (Stands (Self.PagableStorage.stored self.old) key) }
         ensures was_open { OnOk result (Self.PagableStorage.is_closed self.old ≡ false) }
-        ensures only { IsTrue (Self.PagableStorage.is_honest self.new) → IfErr result (RefusesRoot key (Self.PagableStorage.stored self.old) (Self.PagableStorage.is_closed self.old) (Self.PagableStorage.failed self.old) (Self.PagableStorage.failed self.new)) }
+        ensures only { IsTrue (Self.PagableStorage.is_honest self.new)
+            → IfErr result (RefusesRoot key (Self.PagableStorage.stored self.old)
+            (Self.PagableStorage.is_closed self.old) (Self.PagableStorage.failed self.old)
+            (Self.PagableStorage.failed self.new)) }
         ensures err { IsTrue (Self.PagableStorage.is_honest self.new) → OnErr result (roots self.new ≡ roots self.old) }
-        ensures stays { IsTrue (Self.PagableStorage.is_honest self.new) → (Self.PagableStorage.stored self.new ≡ Self.PagableStorage.stored self.old) × (Self.PagableStorage.flushed self.new ≡ Self.PagableStorage.flushed self.old) }
-        ensures honest { IsTrue (Self.PagableStorage.is_honest self.new) → IsTrue (Self.PagableStorage.is_honest self.old) }
+        ensures stays { IsTrue (Self.PagableStorage.is_honest self.new)
+            → (Self.PagableStorage.stored self.new ≡ Self.PagableStorage.stored self.old)
+            × (Self.PagableStorage.flushed self.new ≡ Self.PagableStorage.flushed self.old) }
+        ensures honest { IsTrue (Self.PagableStorage.is_honest self.new)
+            → IsTrue (Self.PagableStorage.is_honest self.old) }
         ensures open { Self.PagableStorage.is_closed self.new ≡ Self.PagableStorage.is_closed self.old }
         ensures later { Self.PagableStorage.failed self.old ≤ Self.PagableStorage.failed self.new };
 
@@ -61,9 +74,13 @@ pub trait Roots<E: Env>: PagableStorage<E> {
     /// - `Storage` only if the call raised the storage's count of failures.
     fn root_names(&mut self, alloc: Global) -> Result<Vec<String>, Error>
         ensures same { IsTrue (Self.PagableStorage.is_honest self.new) → roots self.new ≡ roots self.old }
-        ensures stays { IsTrue (Self.PagableStorage.is_honest self.new) → (Self.PagableStorage.stored self.new ≡ Self.PagableStorage.stored self.old) × (Self.PagableStorage.flushed self.new ≡ Self.PagableStorage.flushed self.old) }
-        ensures only { IfErr result (RefusesFlush (Self.PagableStorage.failed self.old) (Self.PagableStorage.failed self.new)) }
-        ensures honest { IsTrue (Self.PagableStorage.is_honest self.new) → IsTrue (Self.PagableStorage.is_honest self.old) }
+        ensures stays { IsTrue (Self.PagableStorage.is_honest self.new)
+            → (Self.PagableStorage.stored self.new ≡ Self.PagableStorage.stored self.old)
+            × (Self.PagableStorage.flushed self.new ≡ Self.PagableStorage.flushed self.old) }
+        ensures only { IfErr result (RefusesFlush (Self.PagableStorage.failed self.old)
+            (Self.PagableStorage.failed self.new)) }
+        ensures honest { IsTrue (Self.PagableStorage.is_honest self.new)
+            → IsTrue (Self.PagableStorage.is_honest self.old) }
         ensures open { Self.PagableStorage.is_closed self.new ≡ Self.PagableStorage.is_closed self.old }
         ensures later { Self.PagableStorage.failed self.old ≤ Self.PagableStorage.failed self.new };
 }

@@ -45,11 +45,14 @@ pub trait PagableStorage<E: Env>: Sized {
         alloc: Global,
         key: DataKey,
     ) -> Result<Arc<PagableData>, Error>
-        ensures ok { IsTrue (is_honest self.new) → IfOk result (λ found. stored self.old key ≡ Some (blob_of (arc_value found))) }
+        ensures ok { IsTrue (is_honest self.new) → IfOk result
+            (λ found. stored self.old key ≡ Some (blob_of (arc_value found))) }
         ensures named { IfOk result (λ found. key_of E.Hash.digest (blob_of (arc_value found)) ≡ key) }
         ensures refused { IfErr result (RefusesFetch key None (failed self.old) (failed self.new)) }
-        ensures only { IsTrue (is_honest self.new) → IfErr result (RefusesFetch key (stored self.old key) (failed self.old) (failed self.new)) }
-        ensures same { IsTrue (is_honest self.new) → (stored self.new ≡ stored self.old) × (flushed self.new ≡ flushed self.old) }
+        ensures only { IsTrue (is_honest self.new) → IfErr result
+            (RefusesFetch key (stored self.old key) (failed self.old) (failed self.new)) }
+        ensures same { IsTrue (is_honest self.new) → (stored self.new ≡ stored self.old)
+            × (flushed self.new ≡ flushed self.old) }
         ensures honest { IsTrue (is_honest self.new) → IsTrue (is_honest self.old) }
         ensures open { is_closed self.new ≡ is_closed self.old }
         ensures later { failed self.old ≤ failed self.new };
@@ -68,11 +71,14 @@ pub trait PagableStorage<E: Env>: Sized {
         alloc: Global,
         key: DataKey,
     ) -> Poll<Result<Arc<PagableData>, Error>>
-        ensures ok { IsTrue (is_honest self.new) → IfReady result (λ r. IfOk r (λ found. stored self.old key ≡ Some (blob_of (arc_value found)))) }
+        ensures ok { IsTrue (is_honest self.new) → IfReady result
+            (λ r. IfOk r (λ found. stored self.old key ≡ Some (blob_of (arc_value found)))) }
         ensures named { IfReady result (λ r. IfOk r (λ found. key_of E.Hash.digest (blob_of (arc_value found)) ≡ key)) }
         ensures refused { IfReady result (λ r. IfErr r (RefusesFetch key None (failed self.old) (failed self.new))) }
-        ensures only { IsTrue (is_honest self.new) → IfReady result (λ r. IfErr r (RefusesFetch key (stored self.old key) (failed self.old) (failed self.new))) }
-        ensures same { IsTrue (is_honest self.new) → (stored self.new ≡ stored self.old) × (flushed self.new ≡ flushed self.old) }
+        ensures only { IsTrue (is_honest self.new) → IfReady result
+            (λ r. IfErr r (RefusesFetch key (stored self.old key) (failed self.old) (failed self.new))) }
+        ensures same { IsTrue (is_honest self.new) → (stored self.new ≡ stored self.old)
+            × (flushed self.new ≡ flushed self.old) }
         ensures honest { IsTrue (is_honest self.new) → IsTrue (is_honest self.old) }
         ensures open { is_closed self.new ≡ is_closed self.old }
         ensures later { failed self.old ≤ failed self.new }
@@ -92,10 +98,14 @@ pub trait PagableStorage<E: Env>: Sized {
     /// - `Storage` only if the call raised the count of failures.
     fn store_data(&mut self, alloc: Global, blob: PagableData) -> Result<DataKey, Error>
         ensures key { IfOk result (λ key. key ≡ key_of E.Hash.digest (blob_of blob)) }
-        ensures adds { IsTrue (is_honest self.new) → OnOk result (Adds (key_of E.Hash.digest (blob_of blob)) (blob_of blob) (stored self.old) (stored self.new)) }
+        ensures adds { IsTrue (is_honest self.new) → OnOk result
+            (Adds (key_of E.Hash.digest (blob_of blob)) (blob_of blob) (stored self.old) (stored self.new)) }
         ensures was_open { OnOk result (is_closed self.old ≡ false) }
-        ensures refused { IfErr result (λ e. (found : Option Blob) × RefusesStore (blob_of blob) found (is_closed self.old) (failed self.old) (failed self.new) e) }
-        ensures only { IsTrue (is_honest self.new) → IfErr result (RefusesStore (blob_of blob) (stored self.old (key_of E.Hash.digest (blob_of blob))) (is_closed self.old) (failed self.old) (failed self.new)) }
+        ensures refused { IfErr result (λ e. (found : Option Blob)
+            × RefusesStore (blob_of blob) found (is_closed self.old) (failed self.old) (failed self.new) e) }
+        ensures only { IsTrue (is_honest self.new) → IfErr result
+            (RefusesStore (blob_of blob) (stored self.old (key_of E.Hash.digest (blob_of blob))) (is_closed self.old)
+            (failed self.old) (failed self.new)) }
         ensures err { IsTrue (is_honest self.new) → OnErr result (stored self.new ≡ stored self.old) }
         ensures keeps { IsTrue (is_honest self.new) → Keeps (flushed self.old) (flushed self.new) }
         ensures honest { IsTrue (is_honest self.new) → IsTrue (is_honest self.old) }
@@ -117,10 +127,14 @@ pub trait PagableStorage<E: Env>: Sized {
     ) -> Result<DataKey, Error>
         requires { key ≡ key_of E.Hash.digest (blob_of blob) }
         ensures key { IfOk result (λ answer. answer ≡ key_of E.Hash.digest (blob_of blob)) }
-        ensures adds { IsTrue (is_honest self.new) → OnOk result (Adds (key_of E.Hash.digest (blob_of blob)) (blob_of blob) (stored self.old) (stored self.new)) }
+        ensures adds { IsTrue (is_honest self.new) → OnOk result
+            (Adds (key_of E.Hash.digest (blob_of blob)) (blob_of blob) (stored self.old) (stored self.new)) }
         ensures was_open { OnOk result (is_closed self.old ≡ false) }
-        ensures refused { IfErr result (λ e. (found : Option Blob) × RefusesStore (blob_of blob) found (is_closed self.old) (failed self.old) (failed self.new) e) }
-        ensures only { IsTrue (is_honest self.new) → IfErr result (RefusesStore (blob_of blob) (stored self.old (key_of E.Hash.digest (blob_of blob))) (is_closed self.old) (failed self.old) (failed self.new)) }
+        ensures refused { IfErr result (λ e. (found : Option Blob)
+            × RefusesStore (blob_of blob) found (is_closed self.old) (failed self.old) (failed self.new) e) }
+        ensures only { IsTrue (is_honest self.new) → IfErr result
+            (RefusesStore (blob_of blob) (stored self.old (key_of E.Hash.digest (blob_of blob))) (is_closed self.old)
+            (failed self.old) (failed self.new)) }
         ensures err { IsTrue (is_honest self.new) → OnErr result (stored self.new ≡ stored self.old) }
         ensures keeps { IsTrue (is_honest self.new) → Keeps (flushed self.old) (flushed self.new) }
         ensures honest { IsTrue (is_honest self.new) → IsTrue (is_honest self.old) }

@@ -57,7 +57,8 @@ pub(super) fn wide_varint_of(bytes: &[u8], more: usize, last: u8) -> Result<(u12
 impl<'de> PagableSlice<'de> {
     // Reads the next byte if its top bit isn't set; otherwise leaves the position.
     pub(super) fn short(&mut self) -> Option<u8>
-        ensures reads { MatchOption result (self.new ≡ self.old) (λ b. (b < 128) × (byte_at (left self.old) ≡ Ok (b, left self.new))) }
+        ensures reads { MatchOption result (self.new ≡ self.old)
+            (λ b. (b < 128) × (byte_at (left self.old) ≡ Ok (b, left self.new))) }
         ensures goes { GoesOn self.old self.new }
     {
         if self.position == self.bytes.len() || self.bytes[self.position] >= 128 {

@@ -46,7 +46,8 @@ impl<E: Env<Node: NodeSet<E>>, S: PagableStorage<E>> Pager<E, S> {
     /// - `NumbersSpent` if no number is left for a handle.
     /// - `OutOfMemory` if the handle can't be allocated.
     pub fn clone(&mut self, handle: HandleNumber) -> Result<HandleNumber, Error>
-        ensures { Calls OnlyTables (storage_view S.PagableStorage) self.old (λ w w'. CloneCall w Owner.Caller handle result w') self.new }
+        ensures { Calls OnlyTables (storage_view S.PagableStorage) self.old
+            (λ w w'. CloneCall w Owner.Caller handle result w') self.new }
     {
         self.clone_by(Owner::Caller, handle)
     }
@@ -57,7 +58,8 @@ impl<E: Env<Node: NodeSet<E>>, S: PagableStorage<E>> Pager<E, S> {
         handle: HandleNumber,
     ) -> Result<HandleNumber, Error>
         requires { is_at_work (core_in (storage_view S.PagableStorage) self.old) me ≡ true }
-        ensures { Calls OnlyTables (storage_view S.PagableStorage) self.old (λ w w'. CloneCall w me handle result w') self.new }
+        ensures { Calls OnlyTables (storage_view S.PagableStorage) self.old (λ w w'. CloneCall w me handle result w')
+            self.new }
     {
         create::clone(&mut self.tables, me, handle)
     }
@@ -70,7 +72,8 @@ impl<E: Env<Node: NodeSet<E>>, S: PagableStorage<E>> Pager<E, S> {
     /// - `NotYours` if another than the caller has it.
     /// - `WrongMode` if it isn't Pinned.
     pub fn into_pagable(&mut self, handle: HandleNumber) -> Result<HandleNumber, Error>
-        ensures { Calls OnlyTables (storage_view S.PagableStorage) self.old (λ w w'. LoosenCall w Owner.Caller handle result w') self.new }
+        ensures { Calls OnlyTables (storage_view S.PagableStorage) self.old
+            (λ w w'. LoosenCall w Owner.Caller handle result w') self.new }
     {
         create::into_pagable(&mut self.tables, Owner::Caller, handle)
     }
@@ -87,14 +90,16 @@ impl<E: Env<Node: NodeSet<E>>, S: PagableStorage<E>> Pager<E, S> {
     /// - `NumbersSpent` if no number is left for a handle.
     /// - `OutOfMemory` if the handle can't be allocated.
     pub fn pin(&mut self, handle: HandleNumber) -> Result<Pinning, Error>
-        ensures { Calls OnlyTables (storage_view S.PagableStorage) self.old (λ w w'. PinCall w Owner.Caller handle result w') self.new }
+        ensures { Calls OnlyTables (storage_view S.PagableStorage) self.old
+            (λ w w'. PinCall w Owner.Caller handle result w') self.new }
     {
         self.pin_by(Owner::Caller, handle)
     }
 
     pub(crate) fn pin_by(&mut self, me: Owner, handle: HandleNumber) -> Result<Pinning, Error>
         requires { is_at_work (core_in (storage_view S.PagableStorage) self.old) me ≡ true }
-        ensures { Calls OnlyTables (storage_view S.PagableStorage) self.old (λ w w'. PinCall w me handle result w') self.new }
+        ensures { Calls OnlyTables (storage_view S.PagableStorage) self.old (λ w w'. PinCall w me handle result w')
+            self.new }
     {
         create::pin(&mut self.tables, me, handle)
     }
@@ -153,7 +158,8 @@ impl<E: Env<Node: NodeSet<E>>, S: PagableStorage<E>> Pager<E, S> {
     // Makes the reference of this kind by a live handle. If the handle isn't live, the reference
     // names no node.
     pub(crate) fn reference(&self, kind: Kind, handle: HandleNumber) -> ArcRef
-        ensures made { IsSome (row_at (core_in (storage_view S.PagableStorage) self.now) handle) → IsMade (core_in (storage_view S.PagableStorage) self.now) kind result }
+        ensures made { IsSome (row_at (core_in (storage_view S.PagableStorage) self.now) handle)
+            → IsMade (core_in (storage_view S.PagableStorage) self.now) kind result }
         ensures handle { result.handle ≡ handle }
     {
         let node = match self.node_of(handle) {
@@ -176,7 +182,8 @@ impl<E: Env<Node: NodeSet<E>>, S: PagableStorage<E>> Pager<E, S> {
     /// Returns the type as which an open load of a cell reads its root; None if it is a load of a
     /// key, or isn't open.
     pub fn load_type(&self, load: LoadNumber) -> Option<u32>
-        ensures { result ≡ option_map (λ (r : Reading). r.node_type) (reading_of_load load ((core_in (storage_view S.PagableStorage) self.now).loads load.0)) }
+        ensures { result ≡ option_map (λ (r : Reading). r.node_type)
+            (reading_of_load load ((core_in (storage_view S.PagableStorage) self.now).loads load.0)) }
     {
         let row = load_table::load_of(&self.tables.loads, load.0)?;
         cell_type(row.root)
@@ -189,7 +196,8 @@ impl<E: Env<Node: NodeSet<E>>, S: PagableStorage<E>> Pager<E, S> {
     ///
     /// - those of `pin` and `load_begin`.
     pub fn begin_pin(&mut self, handle: HandleNumber) -> Result<PinStart, Error>
-        ensures { Calls OnlyTables (storage_view S.PagableStorage) self.old (λ w w'. StartsPin w Owner.Caller handle result w') self.new }
+        ensures { Calls OnlyTables (storage_view S.PagableStorage) self.old
+            (λ w w'. StartsPin w Owner.Caller handle result w') self.new }
     {
         self.begin_pin_by(Owner::Caller, handle)
     }
@@ -200,7 +208,8 @@ impl<E: Env<Node: NodeSet<E>>, S: PagableStorage<E>> Pager<E, S> {
         handle: HandleNumber,
     ) -> Result<PinStart, Error>
         requires { is_at_work (core_in (storage_view S.PagableStorage) self.old) me ≡ true }
-        ensures { Calls OnlyTables (storage_view S.PagableStorage) self.old (λ w w'. StartsPin w me handle result w') self.new }
+        ensures { Calls OnlyTables (storage_view S.PagableStorage) self.old (λ w w'. StartsPin w me handle result w')
+            self.new }
     {
         let was_unpinned = self.is_unpinned(handle);
         if let Ok(true) = self.is_paged_out(handle) {
@@ -221,14 +230,16 @@ impl<E: Env<Node: NodeSet<E>>, S: PagableStorage<E>> Pager<E, S> {
     /// Takes the list entry at this place for the caller, as a loose unpinned handle. Returns None
     /// past the list's end.
     pub fn take_pending(&mut self, place: usize) -> Option<HandleNumber>
-        ensures { Calls OnlyTables (storage_view S.PagableStorage) self.old (λ w w'. TakeCall w Owner.Caller place result w') self.new }
+        ensures { Calls OnlyTables (storage_view S.PagableStorage) self.old
+            (λ w w'. TakeCall w Owner.Caller place result w') self.new }
     {
         self.take_pending_by(Owner::Caller, place)
     }
 
     pub(crate) fn take_pending_by(&mut self, me: Owner, place: usize) -> Option<HandleNumber>
         requires { is_at_work (core_in (storage_view S.PagableStorage) self.old) me ≡ true }
-        ensures { Calls OnlyTables (storage_view S.PagableStorage) self.old (λ w w'. TakeCall w me place result w') self.new }
+        ensures { Calls OnlyTables (storage_view S.PagableStorage) self.old (λ w w'. TakeCall w me place result w')
+            self.new }
     {
         pending::take_pending(&mut self.tables, me, place)
     }
@@ -243,7 +254,8 @@ impl<E: Env<Node: NodeSet<E>>, S: PagableStorage<E>> Pager<E, S> {
     /// - `WrongMode` if it isn't loose and unpinned.
     /// - `OutOfMemory` if the list can't grow.
     pub fn schedule_for_paging(&mut self, handle: HandleNumber) -> Result<(), Error>
-        ensures { Calls OnlyLess (storage_view S.PagableStorage) self.old (λ w w'. ScheduleCall w Owner.Caller handle result w') self.new }
+        ensures { Calls OnlyLess (storage_view S.PagableStorage) self.old
+            (λ w w'. ScheduleCall w Owner.Caller handle result w') self.new }
     {
         self.schedule_for_paging_by(Owner::Caller, handle)
     }
@@ -254,7 +266,8 @@ impl<E: Env<Node: NodeSet<E>>, S: PagableStorage<E>> Pager<E, S> {
         handle: HandleNumber,
     ) -> Result<(), Error>
         requires { is_at_work (core_in (storage_view S.PagableStorage) self.old) me ≡ true }
-        ensures { Settles OnlyLess (storage_view S.PagableStorage) (values_at E.Node.NodeSet E.Env E.Hash.KeyHash) self.old (λ w w'. ScheduleCall w me handle result w') self.new }
+        ensures { Settles OnlyLess (storage_view S.PagableStorage) (values_at E.Node.NodeSet E.Env E.Hash.KeyHash)
+            self.old (λ w w'. ScheduleCall w me handle result w') self.new }
     {
         let lists = !self.storage.has_closed();
         pending::schedule_for_paging(&mut self.tables, &mut self.values, me, handle, lists)
@@ -268,7 +281,8 @@ impl<E: Env<Node: NodeSet<E>>, S: PagableStorage<E>> Pager<E, S> {
     /// - `NumbersSpent` if no number is left for a handle.
     /// - `OutOfMemory` if the handle can't be allocated.
     pub fn cache_get(&mut self, kind: Kind, key: DataKey) -> Result<Option<HandleNumber>, Error>
-        ensures { Calls OnlyTables (storage_view S.PagableStorage) self.old (λ w w'. RecallCall w Owner.Caller kind key result w') self.new }
+        ensures { Calls OnlyTables (storage_view S.PagableStorage) self.old
+            (λ w w'. RecallCall w Owner.Caller kind key result w') self.new }
     {
         cache::cache_get(&mut self.tables, Owner::Caller, kind, key)
     }
@@ -291,7 +305,8 @@ impl<E: Env<Node: NodeSet<E>>, S: PagableStorage<E>> Pager<E, S> {
         key: DataKey,
         handle: HandleNumber,
     ) -> Result<Option<HandleNumber>, Error>
-        ensures { Calls OnlyLess (storage_view S.PagableStorage) self.old (λ w w'. OfferCall w Owner.Caller kind key handle result w') self.new }
+        ensures { Calls OnlyLess (storage_view S.PagableStorage) self.old
+            (λ w w'. OfferCall w Owner.Caller kind key handle result w') self.new }
     {
         let lists = !self.storage.has_closed();
         let (tables, values) = (&mut self.tables, &mut self.values);
@@ -319,7 +334,8 @@ impl<E: Env<Node: NodeSet<E>>, S: PagableStorage<E>> Pager<E, S> {
     ///
     /// - `OutOfMemory` if the allocation fails.
     pub fn reserve(&mut self, more: usize) -> Result<(), Error>
-        ensures { Calls OnlyTables (storage_view S.PagableStorage) self.old (λ w w'. ReserveCall w more result w') self.new }
+        ensures { Calls OnlyTables (storage_view S.PagableStorage) self.old (λ w w'. ReserveCall w more result w')
+            self.new }
     {
         tables::reserve(&mut self.tables, more)
     }
@@ -343,14 +359,16 @@ impl<E: Env<Node: NodeSet<E>>, S: PagableStorage<E>> Pager<E, S> {
     /// - `NumbersSpent` or `OutOfMemory` if a cell that has to be listed isn't: the handle is
     ///   unpinned all the same.
     pub fn unpin(&mut self, handle: HandleNumber) -> Result<(), Error>
-        ensures { Calls OnlyLess (storage_view S.PagableStorage) self.old (λ w w'. UnpinCall w Owner.Caller handle result w') self.new }
+        ensures { Calls OnlyLess (storage_view S.PagableStorage) self.old
+            (λ w w'. UnpinCall w Owner.Caller handle result w') self.new }
     {
         self.unpin_by(Owner::Caller, handle)
     }
 
     pub(crate) fn unpin_by(&mut self, me: Owner, handle: HandleNumber) -> Result<(), Error>
         requires { is_at_work (core_in (storage_view S.PagableStorage) self.old) me ≡ true }
-        ensures { Settles OnlyLess (storage_view S.PagableStorage) (values_at E.Node.NodeSet E.Env E.Hash.KeyHash) self.old (λ w w'. UnpinCall w me handle result w') self.new }
+        ensures { Settles OnlyLess (storage_view S.PagableStorage) (values_at E.Node.NodeSet E.Env E.Hash.KeyHash)
+            self.old (λ w w'. UnpinCall w me handle result w') self.new }
     {
         let lists = !self.storage.has_closed();
         release::unpin(&mut self.tables, &mut self.values, me, handle, lists)
@@ -366,14 +384,16 @@ impl<E: Env<Node: NodeSet<E>>, S: PagableStorage<E>> Pager<E, S> {
     /// - `NumbersSpent` or `OutOfMemory` if a cell that has to be listed isn't: the handle is
     ///   released all the same.
     pub fn release(&mut self, handle: HandleNumber) -> Result<(), Error>
-        ensures { Calls OnlyLess (storage_view S.PagableStorage) self.old (λ w w'. ReleaseCall w Owner.Caller handle result w') self.new }
+        ensures { Calls OnlyLess (storage_view S.PagableStorage) self.old
+            (λ w w'. ReleaseCall w Owner.Caller handle result w') self.new }
     {
         self.release_by(Owner::Caller, handle)
     }
 
     pub(crate) fn release_by(&mut self, me: Owner, handle: HandleNumber) -> Result<(), Error>
         requires { is_at_work (core_in (storage_view S.PagableStorage) self.old) me ≡ true }
-        ensures { Settles OnlyLess (storage_view S.PagableStorage) (values_at E.Node.NodeSet E.Env E.Hash.KeyHash) self.old (λ w w'. ReleaseCall w me handle result w') self.new }
+        ensures { Settles OnlyLess (storage_view S.PagableStorage) (values_at E.Node.NodeSet E.Env E.Hash.KeyHash)
+            self.old (λ w w'. ReleaseCall w me handle result w') self.new }
     {
         let lists = !self.storage.has_closed();
         release::release(&mut self.tables, &mut self.values, me, handle, lists)
@@ -389,7 +409,8 @@ impl<E: Env<Node: NodeSet<E>>, S: PagableStorage<E>> Pager<E, S> {
     /// - `NumbersSpent` or `OutOfMemory` if a cell that has to be listed isn't: the key is set all
     ///   the same.
     pub fn set_data_key(&mut self, handle: HandleNumber, key: DataKey) -> Result<(), Error>
-        ensures { Calls OnlyLess (storage_view S.PagableStorage) self.old (λ w w'. SetKeyCall w Owner.Caller handle key result w') self.new }
+        ensures { Calls OnlyLess (storage_view S.PagableStorage) self.old
+            (λ w w'. SetKeyCall w Owner.Caller handle key result w') self.new }
     {
         self.set_data_key_by(Owner::Caller, handle, key)
     }
@@ -401,7 +422,8 @@ impl<E: Env<Node: NodeSet<E>>, S: PagableStorage<E>> Pager<E, S> {
         key: DataKey,
     ) -> Result<(), Error>
         requires { is_at_work (core_in (storage_view S.PagableStorage) self.old) me ≡ true }
-        ensures { Settles OnlyLess (storage_view S.PagableStorage) (values_at E.Node.NodeSet E.Env E.Hash.KeyHash) self.old (λ w w'. SetKeyCall w me handle key result w') self.new }
+        ensures { Settles OnlyLess (storage_view S.PagableStorage) (values_at E.Node.NodeSet E.Env E.Hash.KeyHash)
+            self.old (λ w w'. SetKeyCall w me handle key result w') self.new }
     {
         let lists = !self.storage.has_closed();
         release::set_data_key(&mut self.tables, &mut self.values, me, handle, key, lists)
@@ -416,13 +438,15 @@ impl<E: Env<Node: NodeSet<E>>, S: PagableStorage<E>> Pager<E, S> {
     /// - `NumbersSpent` or `OutOfMemory` if a cell that has to be listed isn't: the load is dropped
     ///   all the same.
     pub fn load_drop(&mut self, load: LoadNumber) -> Result<(), Error>
-        ensures { Calls OnlyLess (storage_view S.PagableStorage) self.old (λ w w'. DropCall w Owner.Caller load result w') self.new }
+        ensures { Calls OnlyLess (storage_view S.PagableStorage) self.old
+            (λ w w'. DropCall w Owner.Caller load result w') self.new }
     {
         self.load_drop_by(Owner::Caller, load)
     }
 
     pub(crate) fn load_drop_by(&mut self, me: Owner, load: LoadNumber) -> Result<(), Error>
-        ensures { Settles OnlyLess (storage_view S.PagableStorage) (values_at E.Node.NodeSet E.Env E.Hash.KeyHash) self.old (λ w w'. DropCall w me load result w') self.new }
+        ensures { Settles OnlyLess (storage_view S.PagableStorage) (values_at E.Node.NodeSet E.Env E.Hash.KeyHash)
+            self.old (λ w w'. DropCall w me load result w') self.new }
     {
         let lists = !self.storage.has_closed();
         load_end::load_drop(&mut self.tables, &mut self.values, me, load, lists)
@@ -438,7 +462,8 @@ impl<E: Env<Node: NodeSet<E>>, S: PagableStorage<E>> Pager<E, S> {
     ///   handle, or a handle is named twice.
     /// - `WrongMode` if it is a load of a cell.
     pub fn load_take(&mut self, load: LoadNumber, named: &[HandleNumber]) -> Result<(), Error>
-        ensures { Calls OnlyLess (storage_view S.PagableStorage) self.old (λ w w'. HandOverCall w Owner.Caller load named.now result w') self.new }
+        ensures { Calls OnlyLess (storage_view S.PagableStorage) self.old
+            (λ w w'. HandOverCall w Owner.Caller load named.now result w') self.new }
     {
         self.load_take_by(Owner::Caller, load, named)
     }
@@ -450,7 +475,8 @@ impl<E: Env<Node: NodeSet<E>>, S: PagableStorage<E>> Pager<E, S> {
         named: &[HandleNumber],
     ) -> Result<(), Error>
         requires { is_at_work (core_in (storage_view S.PagableStorage) self.old) me ≡ true }
-        ensures { Settles OnlyLess (storage_view S.PagableStorage) (values_at E.Node.NodeSet E.Env E.Hash.KeyHash) self.old (λ w w'. HandOverCall w me load named.now result w') self.new }
+        ensures { Settles OnlyLess (storage_view S.PagableStorage) (values_at E.Node.NodeSet E.Env E.Hash.KeyHash)
+            self.old (λ w w'. HandOverCall w me load named.now result w') self.new }
     {
         let lists = !self.storage.has_closed();
         load_end::load_take(&mut self.tables, &mut self.values, me, load, named, lists)
@@ -458,7 +484,8 @@ impl<E: Env<Node: NodeSet<E>>, S: PagableStorage<E>> Pager<E, S> {
 
     /// Returns whether a handle is loose. Fails with NoSuchHandle only.
     pub(crate) fn is_loose(&self, handle: HandleNumber) -> Result<bool, Error>
-        ensures { Looks (core_in (storage_view S.PagableStorage) self.now) handle (λ loose row. loose ≡ is_loose row.mode) result }
+        ensures { Looks (core_in (storage_view S.PagableStorage) self.now) handle
+            (λ loose row. loose ≡ is_loose row.mode) result }
     {
         queries::is_loose(&self.tables, handle)
     }
@@ -466,7 +493,8 @@ impl<E: Env<Node: NodeSet<E>>, S: PagableStorage<E>> Pager<E, S> {
     /// Returns the handle at this place of the list, with type and key of its cell; None past the
     /// list's end.
     pub(crate) fn entry(&self, place: usize) -> Option<(HandleRow, u32, OptionalDataKey)>
-        ensures found { IfSome result (λ e. IsEntry (core_in (storage_view S.PagableStorage) self.now) place e.0.number e.0 e.1) }
+        ensures found { IfSome result (λ e. IsEntry (core_in (storage_view S.PagableStorage) self.now) place e.0.number
+            e.0 e.1) }
         ensures keyed { IfSome result (λ e. key_at (core_in (storage_view S.PagableStorage) self.now) e.0.node.0 ≡ e.2) }
         ensures past { IfNone result (length (core_in (storage_view S.PagableStorage) self.now).list ≤ place) }
     {
@@ -484,7 +512,8 @@ impl<E: Env<Node: NodeSet<E>>, S: PagableStorage<E>> Pager<E, S> {
     /// NumbersSpent or OutOfMemory.
     pub(crate) fn worker_take(&mut self, place: usize) -> Result<WorkerNumber, Error>
         requires { place < length (core_in (storage_view S.PagableStorage) self.old).list }
-        ensures { Calls OnlyTables (storage_view S.PagableStorage) self.old (λ w w'. TakesWorker w place result w') self.new }
+        ensures { Calls OnlyTables (storage_view S.PagableStorage) self.old (λ w w'. TakesWorker w place result w')
+            self.new }
     {
         workers::worker_take(&mut self.tables, place)
     }
@@ -494,8 +523,11 @@ impl<E: Env<Node: NodeSet<E>>, S: PagableStorage<E>> Pager<E, S> {
     /// with WrongKind if the kinds of the cell's type don't fit 32 bits, and with NumbersSpent or
     /// OutOfMemory.
     pub(crate) fn worker_listed(&mut self, place: usize) -> Result<(WorkerNumber, ArcRef), Error>
-        ensures begins { IfOk result (λ b. TakesEntry (core_in (storage_view S.PagableStorage) self.old) place b.0 b.1 (core_in (storage_view S.PagableStorage) self.new)) }
-        ensures refused { IfErr result (λ e. EntryFault (core_in (storage_view S.PagableStorage) self.old) place e × Alike (core_in (storage_view S.PagableStorage) self.old) (core_in (storage_view S.PagableStorage) self.new)) }
+        ensures begins { IfOk result (λ b. TakesEntry (core_in (storage_view S.PagableStorage) self.old) place b.0 b.1
+            (core_in (storage_view S.PagableStorage) self.new)) }
+        ensures refused { IfErr result (λ e. EntryFault (core_in (storage_view S.PagableStorage) self.old) place e
+            × Alike (core_in (storage_view S.PagableStorage) self.old)
+            (core_in (storage_view S.PagableStorage) self.new)) }
         ensures only { OnlyTables self.old self.new }
     {
         let Some((row, node_type, _)) = self.entry(place) else {
@@ -511,7 +543,8 @@ impl<E: Env<Node: NodeSet<E>>, S: PagableStorage<E>> Pager<E, S> {
 
     /// Releases all handles that a worker has of a node, with all that follows.
     pub(crate) fn release_node(&mut self, worker: WorkerNumber, node: NodeNumber)
-        ensures { Settles OnlyLess (storage_view S.PagableStorage) (values_at E.Node.NodeSet E.Env E.Hash.KeyHash) self.old
+        ensures { Settles OnlyLess (storage_view S.PagableStorage) (values_at E.Node.NodeSet E.Env E.Hash.KeyHash)
+            self.old
             (λ w w'. FallsAnyhow w w (is_workers_at w worker.0 node.0) w') self.new }
     {
         let lists = !self.storage.has_closed();
@@ -521,7 +554,8 @@ impl<E: Env<Node: NodeSet<E>>, S: PagableStorage<E>> Pager<E, S> {
     /// Ends a worker: closes its loads and releases what it and they still own, with all that
     /// follows.
     pub(crate) fn worker_end(&mut self, worker: WorkerNumber)
-        ensures { Settles OnlyLess (storage_view S.PagableStorage) (values_at E.Node.NodeSet E.Env E.Hash.KeyHash) self.old (λ w w'. WorkerEnds w worker.0 w') self.new }
+        ensures { Settles OnlyLess (storage_view S.PagableStorage) (values_at E.Node.NodeSet E.Env E.Hash.KeyHash)
+            self.old (λ w w'. WorkerEnds w worker.0 w') self.new }
     {
         let lists = !self.storage.has_closed();
         workers::worker_end(&mut self.tables, &mut self.values, worker, lists);
@@ -535,7 +569,8 @@ impl<E: Env<Node: NodeSet<E>>, S: PagableStorage<E>> Pager<E, S> {
         reference: ArcRef,
     ) -> Result<PinnedOrLoading, Error>
         requires { is_at_work (core_in (storage_view S.PagableStorage) self.old) me ≡ true }
-        ensures step { TakesReference (core_in (storage_view S.PagableStorage) self.old) me reference result (core_in (storage_view S.PagableStorage) self.new) }
+        ensures step { TakesReference (core_in (storage_view S.PagableStorage) self.old) me reference result
+            (core_in (storage_view S.PagableStorage) self.new) }
         ensures only { OnlyTables self.old self.new }
     {
         let loose = self.is_loose(reference.handle);

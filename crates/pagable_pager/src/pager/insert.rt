@@ -56,8 +56,10 @@ impl<E: Env<Node: NodeSet<E>>, S: PagableStorage<E>> Pager<E, S> {
         mode: Mode,
     ) -> Result<HandleNumber, (Error, E::Node)>
         requires { is_pinning mode ≡ true }
-        ensures step { BirthCall (core_in (storage_view S.PagableStorage) self.old) Owner.Caller node (E.Node.type_of node) (E.Node.refs_of node) mode result (core_in (storage_view S.PagableStorage) self.new) }
-        ensures moves { Moves (λ n x. (x ≡ node) × IsNewNode (core_in (storage_view S.PagableStorage) self.old) n) (state_in (storage_view S.PagableStorage) self.old) (state_in (storage_view S.PagableStorage) self.new) }
+        ensures step { BirthCall (core_in (storage_view S.PagableStorage) self.old) Owner.Caller node
+            (E.Node.type_of node) (E.Node.refs_of node) mode result (core_in (storage_view S.PagableStorage) self.new) }
+        ensures moves { Moves (λ n x. (x ≡ node) × IsNewNode (core_in (storage_view S.PagableStorage) self.old) n)
+            (state_in (storage_view S.PagableStorage) self.old) (state_in (storage_view S.PagableStorage) self.new) }
         ensures storage { self.new.storage ≡ self.old.storage }
     {
         let references = match node.refs(alloc) {
@@ -93,8 +95,11 @@ impl<E: Env<Node: NodeSet<E>>, S: PagableStorage<E>> Pager<E, S> {
         alloc: Global,
         node: E::Node,
     ) -> Result<HandleNumber, (Error, E::Node)>
-        ensures step { BirthCall (core_in (storage_view S.PagableStorage) self.old) Owner.Caller node (E.Node.type_of node) (E.Node.refs_of node) Mode.Pinned result (core_in (storage_view S.PagableStorage) self.new) }
-        ensures moves { Moves (λ n x. (x ≡ node) × IsNewNode (core_in (storage_view S.PagableStorage) self.old) n) (state_in (storage_view S.PagableStorage) self.old) (state_in (storage_view S.PagableStorage) self.new) }
+        ensures step { BirthCall (core_in (storage_view S.PagableStorage) self.old) Owner.Caller node
+            (E.Node.type_of node) (E.Node.refs_of node) Mode.Pinned result
+            (core_in (storage_view S.PagableStorage) self.new) }
+        ensures moves { Moves (λ n x. (x ≡ node) × IsNewNode (core_in (storage_view S.PagableStorage) self.old) n)
+            (state_in (storage_view S.PagableStorage) self.old) (state_in (storage_view S.PagableStorage) self.new) }
         ensures storage { self.new.storage ≡ self.old.storage }
     {
         self.new_node(alloc, node, Mode::Pinned)
@@ -110,8 +115,11 @@ impl<E: Env<Node: NodeSet<E>>, S: PagableStorage<E>> Pager<E, S> {
         alloc: Global,
         node: E::Node,
     ) -> Result<HandleNumber, (Error, E::Node)>
-        ensures step { BirthCall (core_in (storage_view S.PagableStorage) self.old) Owner.Caller node (E.Node.type_of node) (E.Node.refs_of node) Mode.LoosePinned result (core_in (storage_view S.PagableStorage) self.new) }
-        ensures moves { Moves (λ n x. (x ≡ node) × IsNewNode (core_in (storage_view S.PagableStorage) self.old) n) (state_in (storage_view S.PagableStorage) self.old) (state_in (storage_view S.PagableStorage) self.new) }
+        ensures step { BirthCall (core_in (storage_view S.PagableStorage) self.old) Owner.Caller node
+            (E.Node.type_of node) (E.Node.refs_of node) Mode.LoosePinned result
+            (core_in (storage_view S.PagableStorage) self.new) }
+        ensures moves { Moves (λ n x. (x ≡ node) × IsNewNode (core_in (storage_view S.PagableStorage) self.old) n)
+            (state_in (storage_view S.PagableStorage) self.old) (state_in (storage_view S.PagableStorage) self.new) }
         ensures storage { self.new.storage ≡ self.old.storage }
     {
         self.new_node(alloc, node, Mode::LoosePinned)
@@ -128,8 +136,11 @@ impl<E: Env<Node: NodeSet<E>>, S: PagableStorage<E>> Pager<E, S> {
         alloc: Global,
         node: E::Node,
     ) -> Result<HandleNumber, (Error, E::Node)>
-        ensures step { BirthCall (core_in (storage_view S.PagableStorage) self.old) Owner.Caller node (E.Node.type_of node) (E.Node.refs_of node) Mode.Shared result (core_in (storage_view S.PagableStorage) self.new) }
-        ensures moves { Moves (λ n x. (x ≡ node) × IsNewNode (core_in (storage_view S.PagableStorage) self.old) n) (state_in (storage_view S.PagableStorage) self.old) (state_in (storage_view S.PagableStorage) self.new) }
+        ensures step { BirthCall (core_in (storage_view S.PagableStorage) self.old) Owner.Caller node
+            (E.Node.type_of node) (E.Node.refs_of node) Mode.Shared result
+            (core_in (storage_view S.PagableStorage) self.new) }
+        ensures moves { Moves (λ n x. (x ≡ node) × IsNewNode (core_in (storage_view S.PagableStorage) self.old) n)
+            (state_in (storage_view S.PagableStorage) self.old) (state_in (storage_view S.PagableStorage) self.new) }
         ensures storage { self.new.storage ≡ self.old.storage }
     {
         self.new_node(alloc, node, Mode::Shared)
@@ -148,7 +159,8 @@ impl<E: Env<Node: NodeSet<E>>, S: PagableStorage<E>> Pager<E, S> {
         node_type: u32,
         key: DataKey,
     ) -> Result<HandleNumber, Error>
-        ensures { Calls OnlyTables (storage_view S.PagableStorage) self.old (λ w w'. AwayBirthCall w Owner.Caller node_type key result w') self.new }
+        ensures { Calls OnlyTables (storage_view S.PagableStorage) self.old
+            (λ w w'. AwayBirthCall w Owner.Caller node_type key result w') self.new }
     {
         create::insert_paged_out(&mut self.tables, alloc, Owner::Caller, node_type, key)
     }
@@ -167,10 +179,13 @@ impl<E: Env<Node: NodeSet<E>>, S: PagableStorage<E>> Pager<E, S> {
         node: E::Node,
     ) -> Result<HandleNumber, (Error, E::Node)>
         requires listed { references.items ≡ E.Node.refs_of node }
-        requires fresh { (storage : StorageView) → early_fault (core_of self.old.tables storage) me load kind (E.Node.type_of node) references.items ≡ None }
+        requires fresh { (storage : StorageView) → early_fault (core_of self.old.tables storage) me load kind
+            (E.Node.type_of node) references.items ≡ None }
         requires unknown { usable (plain_of self.old.tables) kind.0 key ≡ None }
-        ensures step { AdoptCall (core_in (storage_view S.PagableStorage) self.old) me load kind key node (E.Node.type_of node) (E.Node.refs_of node) result (core_in (storage_view S.PagableStorage) self.new) }
-        ensures moves { Moves (λ n x. (x ≡ node) × IsNewNode (core_in (storage_view S.PagableStorage) self.old) n) (state_in (storage_view S.PagableStorage) self.old) (state_in (storage_view S.PagableStorage) self.new) }
+        ensures step { AdoptCall (core_in (storage_view S.PagableStorage) self.old) me load kind key node
+            (E.Node.type_of node) (E.Node.refs_of node) result (core_in (storage_view S.PagableStorage) self.new) }
+        ensures moves { Moves (λ n x. (x ≡ node) × IsNewNode (core_in (storage_view S.PagableStorage) self.old) n)
+            (state_in (storage_view S.PagableStorage) self.old) (state_in (storage_view S.PagableStorage) self.new) }
         ensures storage { self.new.storage ≡ self.old.storage }
     {
         if let Err(e) = create::make_ready_to_learn(&mut self.tables) {
@@ -188,8 +203,10 @@ impl<E: Env<Node: NodeSet<E>>, S: PagableStorage<E>> Pager<E, S> {
     /// Returns why a value that a load has read can't be used, if memory for its references ran
     /// out: NoSuchHandle if the load isn't open, and otherwise `e`.
     fn unlisted(&self, me: Owner, load: LoadNumber, e: Error) -> Error
-        ensures { e ≡ Error.OutOfMemory → (later : Option Error) → Refused (earlier (load_fault (core_in (storage_view S.PagableStorage) self.now) me load) later)
-            (closed_fault (core_in (storage_view S.PagableStorage) self.now) load) (Unit {0}) (core_in (storage_view S.PagableStorage) self.now) result
+        ensures { e ≡ Error.OutOfMemory → (later : Option Error)
+            → Refused (earlier (load_fault (core_in (storage_view S.PagableStorage) self.now) me load) later)
+            (closed_fault (core_in (storage_view S.PagableStorage) self.now) load) (Unit {0})
+            (core_in (storage_view S.PagableStorage) self.now) result
             (core_in (storage_view S.PagableStorage) self.now) }
     {
         match load_table::load_of(&self.tables.loads, load.0) {
@@ -221,8 +238,10 @@ impl<E: Env<Node: NodeSet<E>>, S: PagableStorage<E>> Pager<E, S> {
         key: DataKey,
         node: E::Node,
     ) -> Result<HandleNumber, (Error, E::Node)>
-        ensures step { AdoptCall (core_in (storage_view S.PagableStorage) self.old) Owner.Caller load kind key node (E.Node.type_of node) (E.Node.refs_of node) result (core_in (storage_view S.PagableStorage) self.new) }
-        ensures moves { Moves (λ n x. (x ≡ node) × IsNewNode (core_in (storage_view S.PagableStorage) self.old) n) (state_in (storage_view S.PagableStorage) self.old) (state_in (storage_view S.PagableStorage) self.new) }
+        ensures step { AdoptCall (core_in (storage_view S.PagableStorage) self.old) Owner.Caller load kind key node
+            (E.Node.type_of node) (E.Node.refs_of node) result (core_in (storage_view S.PagableStorage) self.new) }
+        ensures moves { Moves (λ n x. (x ≡ node) × IsNewNode (core_in (storage_view S.PagableStorage) self.old) n)
+            (state_in (storage_view S.PagableStorage) self.old) (state_in (storage_view S.PagableStorage) self.new) }
         ensures storage { self.new.storage ≡ self.old.storage }
     {
         self.load_adopt_by(Owner::Caller, alloc, load, kind, key, node)
@@ -237,8 +256,10 @@ impl<E: Env<Node: NodeSet<E>>, S: PagableStorage<E>> Pager<E, S> {
         key: DataKey,
         node: E::Node,
     ) -> Result<HandleNumber, (Error, E::Node)>
-        ensures step { AdoptCall (core_in (storage_view S.PagableStorage) self.old) me load kind key node (E.Node.type_of node) (E.Node.refs_of node) result (core_in (storage_view S.PagableStorage) self.new) }
-        ensures moves { Moves (λ n x. (x ≡ node) × IsNewNode (core_in (storage_view S.PagableStorage) self.old) n) (state_in (storage_view S.PagableStorage) self.old) (state_in (storage_view S.PagableStorage) self.new) }
+        ensures step { AdoptCall (core_in (storage_view S.PagableStorage) self.old) me load kind key node
+            (E.Node.type_of node) (E.Node.refs_of node) result (core_in (storage_view S.PagableStorage) self.new) }
+        ensures moves { Moves (λ n x. (x ≡ node) × IsNewNode (core_in (storage_view S.PagableStorage) self.old) n)
+            (state_in (storage_view S.PagableStorage) self.old) (state_in (storage_view S.PagableStorage) self.new) }
         ensures storage { self.new.storage ≡ self.old.storage }
     {
         let references = match node.refs(alloc) {
@@ -279,8 +300,10 @@ impl<E: Env<Node: NodeSet<E>>, S: PagableStorage<E>> Pager<E, S> {
         load: LoadNumber,
         value: E::Node,
     ) -> Result<HandleNumber, (Error, Option<E::Node>)>
-        ensures step { EndCall (core_in (storage_view S.PagableStorage) self.old) Owner.Caller load value (E.Node.type_of value) (E.Node.refs_of value) result (core_in (storage_view S.PagableStorage) self.new) }
-        ensures moves { Moves (λ n x. (x ≡ value) × IsCellOf (core_in (storage_view S.PagableStorage) self.old) load n) (state_in (storage_view S.PagableStorage) self.old) (state_in (storage_view S.PagableStorage) self.new) }
+        ensures step { EndCall (core_in (storage_view S.PagableStorage) self.old) Owner.Caller load value
+            (E.Node.type_of value) (E.Node.refs_of value) result (core_in (storage_view S.PagableStorage) self.new) }
+        ensures moves { Moves (λ n x. (x ≡ value) × IsCellOf (core_in (storage_view S.PagableStorage) self.old) load n)
+            (state_in (storage_view S.PagableStorage) self.old) (state_in (storage_view S.PagableStorage) self.new) }
         ensures storage { self.new.storage ≡ self.old.storage }
     {
         self.load_end_by(Owner::Caller, alloc, load, value)
@@ -300,8 +323,10 @@ impl<E: Env<Node: NodeSet<E>>, S: PagableStorage<E>> Pager<E, S> {
         load: LoadNumber,
         value: E::Node,
     ) -> Result<HandleNumber, (Error, Option<E::Node>)>
-        ensures step { EndCall (core_in (storage_view S.PagableStorage) self.old) me load value (E.Node.type_of value) (E.Node.refs_of value) result (core_in (storage_view S.PagableStorage) self.new) }
-        ensures moves { Moves (λ n x. (x ≡ value) × IsCellOf (core_in (storage_view S.PagableStorage) self.old) load n) (state_in (storage_view S.PagableStorage) self.old) (state_in (storage_view S.PagableStorage) self.new) }
+        ensures step { EndCall (core_in (storage_view S.PagableStorage) self.old) me load value (E.Node.type_of value)
+            (E.Node.refs_of value) result (core_in (storage_view S.PagableStorage) self.new) }
+        ensures moves { Moves (λ n x. (x ≡ value) × IsCellOf (core_in (storage_view S.PagableStorage) self.old) load n)
+            (state_in (storage_view S.PagableStorage) self.old) (state_in (storage_view S.PagableStorage) self.new) }
         ensures storage { self.new.storage ≡ self.old.storage }
     {
         let references = match value.refs(alloc) {

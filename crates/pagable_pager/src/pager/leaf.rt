@@ -30,7 +30,8 @@ pub(crate) fn read_leaf<E: Env<Node: NodeSet<E>>, A: Access<E>>(
     blob: &PagableData,
     node_type: u32,
 ) -> Option<E::Node>
-    ensures read { IfSome result (IsReadAs (values_at E.Node.NodeSet E.Env E.Hash.KeyHash (A.acting access.now).environment) node_type (blob_of blob.now) []) }
+    ensures read { IfSome result (IsReadAs (values_at E.Node.NodeSet E.Env E.Hash.KeyHash
+        (A.acting access.now).environment) node_type (blob_of blob.now) []) }
     ensures bare { IfSome result (λ x. E.Node.refs_of x ≡ []) }
 {
     if !blob.arcs.is_empty() {
@@ -68,12 +69,18 @@ impl<E: Env<Node: NodeSet<E>>, S: PagableStorage<E>> Pager<E, S> {
     ) -> Result<Option<(Leaf, Arc<PagableData>)>, Error>
         ensures none { IfOk result (λ found. IfNone found (self.new ≡ self.old)) }
         ensures number { IfOk result (λ found. IfSome found (λ f. f.0.row.number ≡ handle)) }
-        ensures leaf { IfOk result (λ found. IfSome found (λ f. IsLeaf (core_in (storage_view S.PagableStorage) self.new) Owner.Caller f.0)) }
+        ensures leaf { IfOk result (λ found. IfSome found
+            (λ f. IsLeaf (core_in (storage_view S.PagableStorage) self.new) Owner.Caller f.0)) }
         ensures place { IfOk result (λ found. IfSome found (λ f. 1 ≤ room self.new.tables.ref_counts.handles)) }
-        ensures fetched { IsTrue (S.is_honest self.new.storage) → IfOk result (λ found. IfSome found (λ f. LeafFetched (values_at E.Node.NodeSet E.Env E.Hash.KeyHash self.old.environment)
-            (state_in (storage_view S.PagableStorage) self.old) f.0 (blob_of (arc_value f.1)) (state_in (storage_view S.PagableStorage) self.new))) }
-        ensures refused { IsTrue (S.is_honest self.new.storage) → IfErr result (λ e. PinRun (values_at E.Node.NodeSet E.Env E.Hash.KeyHash self.old.environment)
-            (state_in (storage_view S.PagableStorage) self.old) handle (Err e) (state_in (storage_view S.PagableStorage) self.new)) }
+        ensures fetched { IsTrue (S.is_honest self.new.storage)
+            → IfOk result (λ found. IfSome found (λ f. LeafFetched
+            (values_at E.Node.NodeSet E.Env E.Hash.KeyHash self.old.environment)
+            (state_in (storage_view S.PagableStorage) self.old) f.0 (blob_of (arc_value f.1))
+            (state_in (storage_view S.PagableStorage) self.new))) }
+        ensures refused { IsTrue (S.is_honest self.new.storage)
+            → IfErr result (λ e. PinRun (values_at E.Node.NodeSet E.Env E.Hash.KeyHash self.old.environment)
+            (state_in (storage_view S.PagableStorage) self.old) handle (Err e)
+            (state_in (storage_view S.PagableStorage) self.new)) }
         ensures honest { IsTrue (S.is_honest self.new.storage) → IsTrue (S.is_honest self.old.storage) }
         ensures environment { self.new.environment ≡ self.old.environment }
     {
@@ -99,10 +106,13 @@ impl<E: Env<Node: NodeSet<E>>, S: PagableStorage<E>> Pager<E, S> {
     pub(crate) fn begin_leaf(&mut self, leaf: Leaf) -> Result<LoadNumber, Error>
         requires leaf { IsLeaf (core_in (storage_view S.PagableStorage) self.old) Owner.Caller leaf }
         requires place { 1 ≤ room self.old.tables.ref_counts.handles }
-        ensures begun { IfOk result (λ l. LeafBegun (values_at E.Node.NodeSet E.Env E.Hash.KeyHash self.old.environment) (state_in (storage_view S.PagableStorage) self.old) leaf l
+        ensures begun { IfOk result (λ l. LeafBegun (values_at E.Node.NodeSet E.Env E.Hash.KeyHash self.old.environment)
+            (state_in (storage_view S.PagableStorage) self.old) leaf l
             (state_in (storage_view S.PagableStorage) self.new)) }
-        ensures dropped { IfErr result (λ e. (e ≡ Error.OutOfMemory) × LeafUnbegun (values_at E.Node.NodeSet E.Env E.Hash.KeyHash self.old.environment)
-            (state_in (storage_view S.PagableStorage) self.old) leaf (state_in (storage_view S.PagableStorage) self.new)) }
+        ensures dropped { IfErr result (λ e. (e ≡ Error.OutOfMemory)
+            × LeafUnbegun (values_at E.Node.NodeSet E.Env E.Hash.KeyHash self.old.environment)
+            (state_in (storage_view S.PagableStorage) self.old) leaf
+            (state_in (storage_view S.PagableStorage) self.new)) }
         ensures storage { self.new.storage ≡ self.old.storage }
         ensures environment { self.new.environment ≡ self.old.environment }
     {
@@ -131,10 +141,13 @@ impl<E: Env<Node: NodeSet<E>>, S: PagableStorage<E>> Pager<E, S> {
         requires place { 1 ≤ room self.old.tables.ref_counts.handles }
         requires typed { E.Node.type_of value ≡ leaf.node_type }
         requires bare { E.Node.refs_of value ≡ [] }
-        ensures pinned { IfOk result (λ k. LeafPinned (values_at E.Node.NodeSet E.Env E.Hash.KeyHash self.old.environment) (state_in (storage_view S.PagableStorage) self.old) leaf value k
+        ensures pinned { IfOk result (λ k. LeafPinned (values_at E.Node.NodeSet E.Env E.Hash.KeyHash
+            self.old.environment) (state_in (storage_view S.PagableStorage) self.old) leaf value k
             (state_in (storage_view S.PagableStorage) self.new)) }
-        ensures dropped { IfErr result (λ e. (e ≡ Error.OutOfMemory) × LeafDropped (values_at E.Node.NodeSet E.Env E.Hash.KeyHash self.old.environment)
-            (state_in (storage_view S.PagableStorage) self.old) leaf (state_in (storage_view S.PagableStorage) self.new)) }
+        ensures dropped { IfErr result (λ e. (e ≡ Error.OutOfMemory)
+            × LeafDropped (values_at E.Node.NodeSet E.Env E.Hash.KeyHash self.old.environment)
+            (state_in (storage_view S.PagableStorage) self.old) leaf
+            (state_in (storage_view S.PagableStorage) self.new)) }
         ensures storage { self.new.storage ≡ self.old.storage }
         ensures environment { self.new.environment ≡ self.old.environment }
     {

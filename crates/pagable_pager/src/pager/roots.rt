@@ -19,9 +19,12 @@ impl<E: Env<Node: NodeSet<E>>, S: Roots<E>> Pager<E, S> {
     /// - `Storage` if the storage fails.
     pub fn root(&mut self, name: &str) -> Result<Option<DataKey>, Error>
         ensures asks { AsksStorage S.PagableStorage.is_honest (storage_view S.PagableStorage) self.old Asked self.new }
-        ensures ok { IsTrue (S.PagableStorage.is_honest self.new.storage) → IfOk result (λ key. key ≡ S.Roots.roots self.old.storage name.now) }
-        ensures same { IsTrue (S.PagableStorage.is_honest self.new.storage) → S.Roots.roots self.new.storage ≡ S.Roots.roots self.old.storage }
-        ensures refused { IfErr result (RefusesFlush (S.PagableStorage.failed self.old.storage) (S.PagableStorage.failed self.new.storage)) }
+        ensures ok { IsTrue (S.PagableStorage.is_honest self.new.storage)
+            → IfOk result (λ key. key ≡ S.Roots.roots self.old.storage name.now) }
+        ensures same { IsTrue (S.PagableStorage.is_honest self.new.storage) → S.Roots.roots self.new.storage
+            ≡ S.Roots.roots self.old.storage }
+        ensures refused { IfErr result (RefusesFlush (S.PagableStorage.failed self.old.storage)
+            (S.PagableStorage.failed self.new.storage)) }
     {
         self.storage.root(name)
     }
@@ -39,10 +42,16 @@ impl<E: Env<Node: NodeSet<E>>, S: Roots<E>> Pager<E, S> {
     /// - `Storage` if the storage fails.
     pub fn set_root(&mut self, alloc: Global, name: &str, key: Option<DataKey>) -> Result<(), Error>
         ensures asks { AsksStorage S.PagableStorage.is_honest (storage_view S.PagableStorage) self.old Asked self.new }
-        ensures sets { IsTrue (S.PagableStorage.is_honest self.new.storage) → OnOk result (Sets name.now key (S.Roots.roots self.old.storage) (S.Roots.roots self.new.storage)) }
-        ensures stands { IsTrue (S.PagableStorage.is_honest self.new.storage) → OnOk result (Stands (S.PagableStorage.stored self.old.storage) key) }
-        ensures refused { IsTrue (S.PagableStorage.is_honest self.new.storage) → IfErr result (RefusesRoot key (S.PagableStorage.stored self.old.storage) (S.PagableStorage.is_closed self.old.storage) (S.PagableStorage.failed self.old.storage) (S.PagableStorage.failed self.new.storage)) }
-        ensures kept { IsTrue (S.PagableStorage.is_honest self.new.storage) → OnErr result (S.Roots.roots self.new.storage ≡ S.Roots.roots self.old.storage) }
+        ensures sets { IsTrue (S.PagableStorage.is_honest self.new.storage)
+            → OnOk result (Sets name.now key (S.Roots.roots self.old.storage) (S.Roots.roots self.new.storage)) }
+        ensures stands { IsTrue (S.PagableStorage.is_honest self.new.storage)
+            → OnOk result (Stands (S.PagableStorage.stored self.old.storage) key) }
+        ensures refused { IsTrue (S.PagableStorage.is_honest self.new.storage)
+            → IfErr result (RefusesRoot key (S.PagableStorage.stored self.old.storage)
+            (S.PagableStorage.is_closed self.old.storage) (S.PagableStorage.failed self.old.storage)
+            (S.PagableStorage.failed self.new.storage)) }
+        ensures kept { IsTrue (S.PagableStorage.is_honest self.new.storage)
+            → OnErr result (S.Roots.roots self.new.storage ≡ S.Roots.roots self.old.storage) }
     {
         self.storage.set_root(alloc, name, key)
     }

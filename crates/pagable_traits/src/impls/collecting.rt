@@ -86,7 +86,9 @@ pub fn collect_items<
     C: Collects<T> + Drop,
     D: PagableDeserializer<E>,
 >(alloc: Global, count: usize, deserializer: &mut D) -> Result<C, Error>
-    ensures reads { Reads E.Env D.PagableDeserializer (memory_or T.read_causes.are) (λ c. Collected T.means.of C.puts (C.held c)) (λ x. items (read x (T.shape (D.environment deserializer.old))) count) deserializer.old deserializer.new result }
+    ensures reads { Reads E.Env D.PagableDeserializer (memory_or T.read_causes.are)
+        (λ c. Collected T.means.of C.puts (C.held c)) (λ x. items (read x (T.shape (D.environment deserializer.old)))
+        count) deserializer.old deserializer.new result }
     ensures holds { IfOk result (λ c. CollectsHeld (D.standing deserializer.old) T.beside C.puts (C.held c)) }
 {
     let mut collected: C = with_room(alloc, count, deserializer)?;
@@ -111,7 +113,9 @@ pub fn read_collected<
     C: Collects<T> + Drop,
     D: PagableDeserializer<E>,
 >(alloc: Global, deserializer: &mut D) -> Result<C, Error>
-    ensures reads { Reads E.Env D.PagableDeserializer (memory_or T.read_causes.are) (λ c. Collected T.means.of C.puts (C.held c)) (λ x. counted (read x (T.shape (D.environment deserializer.old)))) deserializer.old deserializer.new result }
+    ensures reads { Reads E.Env D.PagableDeserializer (memory_or T.read_causes.are)
+        (λ c. Collected T.means.of C.puts (C.held c)) (λ x. counted (read x (T.shape (D.environment deserializer.old))))
+        deserializer.old deserializer.new result }
     ensures holds { IfOk result (λ c. CollectsHeld (D.standing deserializer.old) T.beside C.puts (C.held c)) }
 {
     let count = read_count(deserializer)?;
@@ -131,7 +135,8 @@ pub fn write_each<
 >(walk: W, serializer: &mut S) -> Result<(), Error>
     requires can { W.can_next walk }
     requires ends { IsFinite (W.remaining walk) }
-    ensures { Wrote E.Env S.PagableSerializer (each W.next_gives T.means.of walk (T.shape (S.environment serializer.old))) T.write_causes.are serializer.old serializer.new result }
+    ensures { Wrote E.Env S.PagableSerializer (each W.next_gives T.means.of walk
+        (T.shape (S.environment serializer.old))) T.write_causes.are serializer.old serializer.new result }
 {
     for item in walk {
         item.pagable_serialize(serializer)?;
@@ -155,7 +160,8 @@ pub fn write_counted<
 >(count: usize, walk: W, serializer: &mut S) -> Result<(), Error>
     requires can { W.can_next walk }
     requires ends { IsFinite (W.remaining walk) }
-    ensures { Wrote E.Env S.PagableSerializer (walked W.next_gives T.means.of walk count (T.shape (S.environment serializer.old))) (long_or (memory_or T.write_causes.are))
+    ensures { Wrote E.Env S.PagableSerializer (walked W.next_gives T.means.of walk count
+        (T.shape (S.environment serializer.old))) (long_or (memory_or T.write_causes.are))
         serializer.old serializer.new result }
 {
     write_count(count, serializer)?;

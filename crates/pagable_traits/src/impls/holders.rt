@@ -136,7 +136,8 @@ impl<E: Env, T: Carried<E>, X: Carried<E>> Carried<E> for Result<T, X> {
 }
 
 impl<E: Env, T: OneMeaning<E>, X: OneMeaning<E>> OneMeaning<E> for Result<T, X> {
-    ghost single = { result_single T.Carried.means.of X.Carried.means.of T.Carried.means.meaning X.Carried.means.meaning T.single X.single };
+    ghost single = { result_single T.Carried.means.of X.Carried.means.of T.Carried.means.meaning X.Carried.means.meaning
+        T.single X.single };
 }
 
 impl<E: Env, T: PagableSerialize<E>, X: PagableSerialize<E>> PagableSerialize<E> for Result<T, X> {
@@ -225,7 +226,8 @@ impl<E: Env, H: Carried<E>, T: Carried<E>> Carried<E> for Thin<H, T> {
 }
 
 impl<E: Env, H: OneMeaning<E>, T: OneMeaning<E>> OneMeaning<E> for Thin<H, T> {
-    ghost single = { λ t. pairs_single H.Carried.means (seen_by (λ v. v.items) (lists T.Carried.means)) H.single (λ v. lists_single T.Carried.means T.single v.items) (t.header, t.items) };
+    ghost single = { λ t. pairs_single H.Carried.means (seen_by (λ v. v.items) (lists T.Carried.means)) H.single
+        (λ v. lists_single T.Carried.means T.single v.items) (t.header, t.items) };
 }
 
 impl<E: Env, H: PagableSerialize<E>, T: PagableSerialize<E>> PagableSerialize<E> for Thin<H, T> {
@@ -314,7 +316,8 @@ impl<
     C: PagableSerialize<E>,
     D: PagableSerialize<E>,
 > PagableSerialize<E> for (A, B, C, D) {
-    ghost write_causes = { writes_either A.write_causes (writes_either B.write_causes (writes_either C.write_causes D.write_causes)) };
+    ghost write_causes = { writes_either A.write_causes
+        (writes_either B.write_causes (writes_either C.write_causes D.write_causes)) };
 
     #[tactic(auto, using(crate::proofs::Parts::alike))]
     fn pagable_serialize<S: PagableSerializer<E>>(&self, serializer: &mut S) -> Result<(), Error> {
@@ -330,7 +333,8 @@ impl<
     D: PagableSerialize<E>,
     F: PagableSerialize<E>,
 > PagableSerialize<E> for (A, B, C, D, F) {
-    ghost write_causes = { writes_either A.write_causes (writes_either B.write_causes (writes_either C.write_causes (writes_either D.write_causes F.write_causes))) };
+    ghost write_causes = { writes_either A.write_causes
+        (writes_either B.write_causes (writes_either C.write_causes (writes_either D.write_causes F.write_causes))) };
 
     #[tactic(auto, using(crate::proofs::Parts::alike))]
     fn pagable_serialize<S: PagableSerializer<E>>(&self, serializer: &mut S) -> Result<(), Error> {
@@ -381,7 +385,11 @@ fn once_of<T: Drop>(value: Option<T>) -> OnceLock<T>
 impl<E: Env> Carried<E> for AtomicI64 {
     ghost shape = { λ e. atomic_i64 };
 
-    ghost means = { record { of = MeansAtomic; meaning = λ x. (atomic_has_meaning x).0; is = λ x. (atomic_has_meaning x).1 } };
+    ghost means = { record {
+      of = MeansAtomic;
+      meaning = λ x. (atomic_has_meaning x).0;
+      is = λ x. (atomic_has_meaning x).1;
+    } };
 }
 
 impl<E: Env> PagableSerialize<E> for AtomicI64 {
@@ -407,7 +415,11 @@ impl<'de, E: Env> PagableDeserialize<'de, E> for AtomicI64 {
 impl<E: Env, T: Carried<E>> Carried<E> for OnceLock<T> {
     ghost shape = { λ e. once_lock (T.shape e) };
 
-    ghost means = { record { of = MeansOnce T.means.of; meaning = λ x. (once_has_meaning T.means.of x).0; is = λ x. (once_has_meaning T.means.of x).1 } };
+    ghost means = { record {
+      of = MeansOnce T.means.of;
+      meaning = λ x. (once_has_meaning T.means.of x).0;
+      is = λ x. (once_has_meaning T.means.of x).1;
+    } };
 }
 
 impl<E: Env, T: PagableSerialize<E>> PagableSerialize<E> for OnceLock<T> {

@@ -37,7 +37,8 @@ impl<'de, E: Env> PagableDeserialize<'de, E> for Value {
 }
 
 fn read_case<E: Env, D: PagableDeserializer<E>>(deserializer: &mut D) -> Result<usize, Error>
-    ensures gives { Gives never (λ n. (n, D.rest deserializer.new)) result (bytes_of (unsigned_at w64) (λ n. n) (D.rest deserializer.old)) }
+    ensures gives { Gives never (λ n. (n, D.rest deserializer.new)) result
+        (bytes_of (unsigned_at w64) (λ n. n) (D.rest deserializer.old)) }
     ensures moves { MovesOn (D.standing deserializer.old) (D.standing deserializer.new) }
     ensures same_env { D.environment deserializer.new ≡ D.environment deserializer.old }
     ensures same_levels { D.levels deserializer.new ≡ D.levels deserializer.old }
@@ -59,7 +60,8 @@ pub fn read_value<E: Env, D: PagableDeserializer<E>>(
     alloc: Global,
     deserializer: &mut D,
 ) -> Result<Value, Error>
-    ensures { Reads E.Env D.PagableDeserializer memory (Is of_value) (λ c. read c json) deserializer.old deserializer.new result }
+    ensures { Reads E.Env D.PagableDeserializer memory (Is of_value) (λ c. read c json) deserializer.old
+        deserializer.new result }
 {
     let case = read_case(deserializer)?;
     match case {
@@ -92,7 +94,8 @@ fn array_part<E: Env, D: PagableDeserializer<E>>(
     alloc: Global,
     deserializer: &mut D,
 ) -> Result<Value, Error>
-    ensures { Reads E.Env D.PagableDeserializer memory (Is of_value) (part_of array_case) deserializer.old deserializer.new result }
+    ensures { Reads E.Env D.PagableDeserializer memory (Is of_value) (part_of array_case) deserializer.old
+        deserializer.new result }
 {
     let count = read_count(deserializer)?;
     deserializer.enter()?;
@@ -109,7 +112,9 @@ fn read_items<E: Env, D: PagableDeserializer<E>>(
     count: usize,
     deserializer: &mut D,
 ) -> Result<Value, Error>
-    ensures { Reads E.Env D.PagableDeserializer memory (Is of_value) (λ c. seen (λ ms. variant 4 (sequence ms)) (items_at (read c json) count)) deserializer.old deserializer.new result }
+    ensures { Reads E.Env D.PagableDeserializer memory (Is of_value)
+        (λ c. seen (λ ms. variant 4 (sequence ms)) (items_at (read c json) count)) deserializer.old deserializer.new
+        result }
 {
     let values = with_room(alloc, count, deserializer)?;
     fill_array(values, alloc, count, deserializer)
@@ -126,7 +131,9 @@ fn fill_array<E: Env, D: PagableDeserializer<E>>(
 ) -> Result<Value, Error>
     requires empty { values.items ≡ [] }
     requires few { vec_capacity values ≤ length (D.rest deserializer.old).bytes }
-    ensures { Reads E.Env D.PagableDeserializer memory (Is of_value) (λ c. seen (λ ms. variant 4 (sequence ms)) (items_at (read c json) count)) deserializer.old deserializer.new result }
+    ensures { Reads E.Env D.PagableDeserializer memory (Is of_value)
+        (λ c. seen (λ ms. variant 4 (sequence ms)) (items_at (read c json) count)) deserializer.old deserializer.new
+        result }
 {
     for index in 0..count {
         let value = read_value(alloc, deserializer)?;
@@ -142,7 +149,8 @@ fn object_part<E: Env, D: PagableDeserializer<E>>(
     alloc: Global,
     deserializer: &mut D,
 ) -> Result<Value, Error>
-    ensures { Reads E.Env D.PagableDeserializer memory (Is of_value) (part_of object_case) deserializer.old deserializer.new result }
+    ensures { Reads E.Env D.PagableDeserializer memory (Is of_value) (part_of object_case) deserializer.old
+        deserializer.new result }
 {
     let count = read_count(deserializer)?;
     deserializer.enter()?;
@@ -159,7 +167,8 @@ fn read_members<E: Env, D: PagableDeserializer<E>>(
     count: usize,
     deserializer: &mut D,
 ) -> Result<Value, Error>
-    ensures { Reads E.Env D.PagableDeserializer memory ObjectOf (λ c. items_at (read c (both text json)) count) deserializer.old deserializer.new result }
+    ensures { Reads E.Env D.PagableDeserializer memory ObjectOf (λ c. items_at (read c (both text json)) count)
+        deserializer.old deserializer.new result }
 {
     let mut members = BTreeMap::new(alloc);
     for index in 0..count {
@@ -176,7 +185,8 @@ fn read_member<E: Env, D: PagableDeserializer<E>>(
     alloc: Global,
     deserializer: &mut D,
 ) -> Result<(String, Value), Error>
-    ensures { Reads E.Env D.PagableDeserializer memory (MeansPair (Is of_key) (Is of_value)) (λ c. read c (both text json)) deserializer.old deserializer.new result }
+    ensures { Reads E.Env D.PagableDeserializer memory (MeansPair (Is of_key) (Is of_value))
+        (λ c. read c (both text json)) deserializer.old deserializer.new result }
 {
     let key = String::pagable_deserialize(alloc, deserializer)?;
     let value = read_value(alloc, deserializer)?;

@@ -19,8 +19,10 @@ impl<E: Env> PagableSerialize<E> for Value {
 
     /// Appends the value. Fails with the value's first fault, as `write_value` does.
     fn pagable_serialize<S: PagableSerializer<E>>(&self, serializer: &mut S) -> Result<(), Error>
-        ensures wrote { Wrote E.Env S.PagableSerializer (form (Is of_value self.now) json) json_causes serializer.old serializer.new result }
-        ensures first { IfErr result (λ e. IsTrue (is_writing_fault e) → Fault (nested_in E.Env S.PagableSerializer serializer.old) self.now e) }
+        ensures wrote { Wrote E.Env S.PagableSerializer (form (Is of_value self.now) json) json_causes serializer.old
+            serializer.new result }
+        ensures first { IfErr result (λ e. IsTrue (is_writing_fault e)
+            → Fault (nested_in E.Env S.PagableSerializer serializer.old) self.now e) }
     {
         write_value(self, serializer)
     }
@@ -28,7 +30,8 @@ impl<E: Env> PagableSerialize<E> for Value {
 
 #[tactic(auto, using(pagable_codec::proofs::Writing::parts, pagable_codec::proofs::Writing::steps, crate::proofs::Parts::err_along))]
 fn write_case<E: Env, S: PagableSerializer<E>>(case: usize, serializer: &mut S) -> Result<(), Error>
-    ensures { Wrote E.Env S.PagableSerializer (bytes (unsigned_form w64 case)) memory serializer.old serializer.new result }
+    ensures { Wrote E.Env S.PagableSerializer (bytes (unsigned_form w64 case)) memory serializer.old serializer.new
+        result }
 {
     serializer.serde().write_usize(case)
 }
@@ -40,14 +43,16 @@ fn write_front<E: Env, S: PagableSerializer<E>>(
     count: usize,
     serializer: &mut S,
 ) -> Result<(), Error>
-    ensures { Wrote E.Env S.PagableSerializer (front case count) (long_or_no_memory count) serializer.old serializer.new result }
+    ensures { Wrote E.Env S.PagableSerializer (front case count) (long_or_no_memory count) serializer.old serializer.new
+        result }
 {
     write_case(case, serializer)?;
     parts::write_count(count, serializer)
 }
 
 fn write_flag<E: Env, S: PagableSerializer<E>>(flag: bool, serializer: &mut S) -> Result<(), Error>
-    ensures { Wrote E.Env S.PagableSerializer (json_of_value (values.Bool flag) (boolean flag)) json_causes serializer.old serializer.new result }
+    ensures { Wrote E.Env S.PagableSerializer (json_of_value (values.Bool flag) (boolean flag)) json_causes
+        serializer.old serializer.new result }
 {
     write_case(1, serializer)?;
     flag.pagable_serialize(serializer)
@@ -59,7 +64,8 @@ fn write_number<E: Env, S: PagableSerializer<E>>(
     value: &Number,
     serializer: &mut S,
 ) -> Result<(), Error>
-    ensures { Wrote E.Env S.PagableSerializer (json_of_value (values.Number value.now) (number (number_view value.now))) json_causes serializer.old serializer.new result }
+    ensures { Wrote E.Env S.PagableSerializer (json_of_value (values.Number value.now) (number (number_view value.now)))
+        json_causes serializer.old serializer.new result }
 {
     let Some(whole) = value.as_i64() else {
         return Err(Error::JsonNumber);
@@ -74,7 +80,8 @@ fn write_text<E: Env, S: PagableSerializer<E>>(
     text: &String,
     serializer: &mut S,
 ) -> Result<(), Error>
-    ensures { Wrote E.Env S.PagableSerializer (json_of_value (values.String text.now) (string (string_bytes text.now))) json_causes serializer.old serializer.new result }
+    ensures { Wrote E.Env S.PagableSerializer (json_of_value (values.String text.now) (string (string_bytes text.now)))
+        json_causes serializer.old serializer.new result }
 {
     write_case(3, serializer)?;
     text.pagable_serialize(serializer)
@@ -97,7 +104,8 @@ pub fn write_value<E: Env, S: PagableSerializer<E>>(
     value: &Value,
     serializer: &mut S,
 ) -> Result<(), Error>
-    ensures { Wrote E.Env S.PagableSerializer (json_of_value value.now (view value.now)) json_causes serializer.old serializer.new result }
+    ensures { Wrote E.Env S.PagableSerializer (json_of_value value.now (view value.now)) json_causes serializer.old
+        serializer.new result }
 {
     match value {
         Value::Null => write_case(0, serializer),
@@ -114,7 +122,8 @@ fn write_array<E: Env, S: PagableSerializer<E>>(
     items: &Vec<Value>,
     serializer: &mut S,
 ) -> Result<(), Error>
-    ensures { Wrote E.Env S.PagableSerializer (json_of_value (values.Array items.now) (array (items_view items.now.items))) json_causes serializer.old serializer.new result }
+    ensures { Wrote E.Env S.PagableSerializer (json_of_value (values.Array items.now)
+        (array (items_view items.now.items))) json_causes serializer.old serializer.new result }
 {
     write_front(4, items.len(), serializer)?;
     serializer.enter()?;
@@ -128,7 +137,8 @@ fn write_items<E: Env, S: PagableSerializer<E>>(
     items: &Vec<Value>,
     serializer: &mut S,
 ) -> Result<(), Error>
-    ensures { Wrote E.Env S.PagableSerializer (refused_as (λ n. ItemFault n items.now.items) (all (MeanAll (Is of_value) items.now.items) json)) json_causes serializer.old serializer.new result }
+    ensures { Wrote E.Env S.PagableSerializer (refused_as (λ n. ItemFault n items.now.items)
+        (all (MeanAll (Is of_value) items.now.items) json)) json_causes serializer.old serializer.new result }
 {
     for item in items {
         write_value(item, serializer)?;
@@ -141,7 +151,8 @@ fn write_object<E: Env, S: PagableSerializer<E>>(
     members: &BTreeMap<String, Value>,
     serializer: &mut S,
 ) -> Result<(), Error>
-    ensures { Wrote E.Env S.PagableSerializer (json_of_value (values.Object members.now) (object (members_view members.now.entries))) json_causes serializer.old serializer.new result }
+    ensures { Wrote E.Env S.PagableSerializer (json_of_value (values.Object members.now)
+        (object (members_view members.now.entries))) json_causes serializer.old serializer.new result }
 {
     write_front(5, members.len(), serializer)?;
     serializer.enter()?;
@@ -156,7 +167,9 @@ fn write_members<E: Env, S: PagableSerializer<E>>(
     members: &BTreeMap<String, Value>,
     serializer: &mut S,
 ) -> Result<(), Error>
-    ensures { Wrote E.Env S.PagableSerializer (refused_as (λ n. MemberFault n members.now.entries) (all (MeanAll (MeansPair (Is of_key) (Is of_value)) members.now.entries) (both text json))) json_causes serializer.old serializer.new result }
+    ensures { Wrote E.Env S.PagableSerializer (refused_as (λ n. MemberFault n members.now.entries)
+        (all (MeanAll (MeansPair (Is of_key) (Is of_value)) members.now.entries) (both text json))) json_causes
+        serializer.old serializer.new result }
 {
     for (key, value) in members.iter() {
         write_member(key, value, serializer)?;
@@ -170,7 +183,9 @@ fn write_member<E: Env, S: PagableSerializer<E>>(
     value: &Value,
     serializer: &mut S,
 ) -> Result<(), Error>
-    ensures { Wrote E.Env S.PagableSerializer (refused_as (λ n. EntryFault n key.now value.now) (form (MeansPair (Is of_key) (Is of_value) (key.now, value.now)) (both text json))) json_causes serializer.old serializer.new result }
+    ensures { Wrote E.Env S.PagableSerializer (refused_as (λ n. EntryFault n key.now value.now)
+        (form (MeansPair (Is of_key) (Is of_value) (key.now, value.now)) (both text json))) json_causes serializer.old
+        serializer.new result }
 {
     key.pagable_serialize(serializer)?;
     write_value(value, serializer)

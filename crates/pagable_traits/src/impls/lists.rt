@@ -24,7 +24,8 @@ pub fn write_items<E: Env, T: PagableSerialize<E>, S: PagableSerializer<E>>(
     values: &[T],
     serializer: &mut S,
 ) -> Result<(), Error>
-    ensures { Wrote E.Env S.PagableSerializer (all (MeanAll T.means.of values.now) (T.shape (S.environment serializer.old))) T.write_causes.are serializer.old serializer.new result }
+    ensures { Wrote E.Env S.PagableSerializer (all (MeanAll T.means.of values.now)
+        (T.shape (S.environment serializer.old))) T.write_causes.are serializer.old serializer.new result }
 {
     write_each(values.iter(), serializer)
 }
@@ -40,7 +41,8 @@ pub fn serialize_slice<E: Env, T: PagableSerialize<E>, S: PagableSerializer<E>>(
     values: &[T],
     serializer: &mut S,
 ) -> Result<(), Error>
-    ensures { Wrote E.Env S.PagableSerializer (form (MeansList T.means.of values.now) (list (T.shape (S.environment serializer.old)))) (long_or (memory_or T.write_causes.are))
+    ensures { Wrote E.Env S.PagableSerializer (form (MeansList T.means.of values.now)
+        (list (T.shape (S.environment serializer.old)))) (long_or (memory_or T.write_causes.are))
         serializer.old serializer.new result }
 {
     write_counted(values.len(), values.iter(), serializer)

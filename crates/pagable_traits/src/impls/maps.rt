@@ -28,7 +28,8 @@ pub fn write_entry<E: Env, K: PagableSerialize<E>, V: PagableSerialize<E>, S: Pa
     serializer: &mut S,
 ) -> Result<(), Error>
     ensures { Wrote E.Env S.PagableSerializer (form (MeansPair K.means.of V.means.of (key.now, value.now))
-        (both (K.shape (S.environment serializer.old)) (V.shape (S.environment serializer.old)))) (either K.write_causes.are V.write_causes.are)
+        (both (K.shape (S.environment serializer.old)) (V.shape (S.environment serializer.old))))
+        (either K.write_causes.are V.write_causes.are)
         serializer.old serializer.new result }
 {
     key.pagable_serialize(serializer)?;
@@ -65,7 +66,8 @@ impl<E: Env, K: PagableOrdKey<E>, V: Carried<E>> Carried<E> for BTreeMap<K, V> {
 }
 
 impl<E: Env, K: PagableOrdKey<E>, V: OneMeaning<E>> OneMeaning<E> for BTreeMap<K, V> {
-    ghost single = { λ m. lists_single (pairs K.Carried.means V.Carried.means) (pairs_single K.Carried.means V.Carried.means K.single V.single) m.entries };
+    ghost single = { λ m. lists_single (pairs K.Carried.means V.Carried.means)
+        (pairs_single K.Carried.means V.Carried.means K.single V.single) m.entries };
 }
 
 impl<E: Env, K: PagableOrdKey<E> + PagableSerialize<E>, V: PagableSerialize<E>> PagableSerialize<E>
@@ -177,7 +179,8 @@ impl<E: Env, K: PagableKey<E> + Hash, V: Carried<E>> Carried<E> for IndexMap<K, 
 }
 
 impl<E: Env, K: PagableKey<E> + Hash, V: OneMeaning<E>> OneMeaning<E> for IndexMap<K, V> {
-    ghost single = { λ m. lists_single (pairs K.Carried.means V.Carried.means) (pairs_single K.Carried.means V.Carried.means K.single V.single) m.entries };
+    ghost single = { λ m. lists_single (pairs K.Carried.means V.Carried.means)
+        (pairs_single K.Carried.means V.Carried.means K.single V.single) m.entries };
 }
 
 impl<
@@ -295,7 +298,8 @@ impl<E: Env, K: PagableKey<E> + Hash, V: Carried<E>> Carried<E> for HashMap<K, V
 }
 
 impl<E: Env, K: PagableKey<E> + Hash, V: OneMeaning<E>> OneMeaning<E> for HashMap<K, V> {
-    ghost single = { λ m. hash_map_single K.Carried.means.of V.Carried.means.of K.Carried.means.meaning V.Carried.means.meaning K.single V.single m.entries };
+    ghost single = { λ m. hash_map_single K.Carried.means.of V.Carried.means.of K.Carried.means.meaning
+        V.Carried.means.meaning K.single V.single m.entries };
 }
 
 impl<

@@ -377,7 +377,8 @@ fn write_span(span: Duration, writer: &mut PagableVecFlavor) -> Result<(), Error
 // seconds overflow.
 #[tactic(auto, unfolding(pagable_value_spec::specs::BasicValues::duration_at), using(crate::proofs::Parts::span_overflows, crate::proofs::Parts::span_read))]
 fn read_span<R: Reader>(reader: &mut R) -> Result<Duration, Error>
-    ensures gives { Gives never (λ d. ((seconds_of d, nanos_of d), left (R.track reader.new))) result (duration_at (left (R.track reader.old))) }
+    ensures gives { Gives never (λ d. ((seconds_of d, nanos_of d), left (R.track reader.new))) result
+        (duration_at (left (R.track reader.old))) }
     ensures goes { GoesOn (R.track reader.old) (R.track reader.new) }
 {
     let seconds = reader.read_u64()?;

@@ -21,7 +21,8 @@ pub fn serialize_str<E: Env, S: PagableSerializer<E>>(
     text: &str,
     serializer: &mut S,
 ) -> Result<(), Error>
-    ensures { Wrote E.Env S.PagableSerializer (form (Is text_meaning text.now) text_shape) (long_or memory) serializer.old serializer.new result }
+    ensures { Wrote E.Env S.PagableSerializer (form (Is text_meaning text.now) text_shape)
+        (long_or memory) serializer.old serializer.new result }
 {
     serializer.serde().write_str(text)
 }

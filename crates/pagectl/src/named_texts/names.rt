@@ -60,7 +60,8 @@ impl Names {
     /// Makes room for a new name, before its handle is made, so that no handle is left without one. Refused with
     /// BadName, and with OutOfMemory.
     pub fn make_room(&mut self, alloc: Global, name: &str) -> Result<String, Refusal>
-        ensures room { IfOk result (λ new. (string_bytes new ≡ name.now) × IsFree name.now self.old × (0 < spare self.new.handles)) }
+        ensures room { IfOk result (λ new. (string_bytes new ≡ name.now) × IsFree name.now self.old
+            × (0 < spare self.new.handles)) }
         ensures same { SameNames self.old self.new }
     {
         let new = String::from_str(alloc, name)?;

@@ -16,6 +16,7 @@ returns-in-Ok-schedule_for_paging g c = clone-waits c.in_ok-clone.clone _ _ _
     c.in-Ok.ensures c.in-Ok-schedule_for_paging.ensures
 
 pub returns-in-Err-schedule_for_paging : goal.returns-in-Err-schedule_for_paging
-returns-in-Err-schedule_for_paging g c = clone-is-unlisted c.in_ok-clone.clone c.in-Err-schedule_for_paging.e c.release-told-in-Err-schedule_for_paging.result _ _ _ _
+returns-in-Err-schedule_for_paging g c = clone-is-unlisted c.in_ok-clone.clone c.in-Err-schedule_for_paging.e c.release-told-in-Err-schedule_for_paging.result _
+    _ _ _
     (record { mid = c.clone.new.self; told = c.into_pagable-loosened.result; clones = c.in_ok-clone.ensures; loosens = c.into_pagable-loosened.ensures })
     c.in-Ok.ensures c.in-Err-schedule_for_paging.ensures c.release-told-in-Err-schedule_for_paging.ensures

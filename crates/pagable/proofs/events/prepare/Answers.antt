@@ -11,7 +11,11 @@ returns-in_err-reserve-clause-kept c = unprepared _ _ _ (λ q. ap (lookup (nat_e
 pub returns-in_err-reserve-clause-short : goal.returns-in_err-reserve-clause-short
 returns-in_err-reserve-clause-short c =
     let unkept : kept_at c.args.readings.now c.args.load.0 ≡ None = grind (arith, nat_tests) in
-    rw (failed c.from_residual.result c.from_residual.ensures.1) (refl, ap (lookup (nat_eq c.args.load.0)) c.reserve.ensures.entries ∙ unkept, ap is_none c.in-Some.is)
+    rw (failed c.from_residual.result c.from_residual.ensures.1) (
+      refl,
+      ap (lookup (nat_eq c.args.load.0)) c.reserve.ensures.entries ∙ unkept,
+      ap is_none c.in-Some.is,
+    )
 
 pub returns-clause-placed : goal.returns-clause-placed
 returns-clause-placed c = λ none. let e : Some c.new.result ≡ None = sym c.put.ensures.here ∙ none in absurd (cc)
@@ -20,7 +24,8 @@ pub returns-clause-kept : goal.returns-clause-kept
 returns-clause-kept c =
     let unkept : kept_at c.args.readings.now c.args.load.0 ≡ None = grind (arith, nat_tests) in
     record {
-      taken = λ own is. subst (λ x. IsTaken (kept_at c.args.readings.now) c.args.load c.args.key c.args.cell_type x) (same_some _ _ (sym c.put.ensures.here ∙ is))
+      taken = λ own is. subst (λ x. IsTaken (kept_at c.args.readings.now) c.args.load c.args.key c.args.cell_type x)
+          (same_some _ _ (sym c.put.ensures.here ∙ is))
           (record { why = inr (unkept, (c.in-Some.node_type, c.in-Some.is, c.new.ensures.reading), c.new.ensures.key, c.new.ensures.for_cell) });
       full = λ none. let e : Some c.new.result ≡ None = sym c.put.ensures.here ∙ none in absurd (cc);
       others = (keeps-after (λ q. ap (lookup (nat_eq q)) c.reserve.ensures.entries) c.put.ensures).others;

@@ -2,7 +2,8 @@ use Rattle.std.proofs.{Common.{rules, ◌≡◌, ◌-◌, ◌∙◌, refl, sym, 
 
 pub returns : Rattle.pagable.proofs.workers.walk_on.Goals.returns
 returns g c =
-    let ends : c.step_by-moved.new.lent.pager.now ≡ c.pager-1.given.0 = sym (c.pager-1.given.1 (sym (c.step_by-moved.ensures.lender ∙ c.for_worker-lent.ensures.lent))) in
+    let ends : c.step_by-moved.new.lent.pager.now ≡ c.pager-1.given.0 = sym
+    (c.pager-1.given.1 (sym (c.step_by-moved.ensures.lender ∙ c.for_worker-lent.ensures.lent))) in
     let count = length-set c.args.tables.now.items (c.args.walk.now.table - 1) c.step_by-moved.new.table in
     record {
       walks = λ is. record {
@@ -13,7 +14,8 @@ returns g c =
         place = c.args.walk.now.table - 1;
         had = search rules;
         on = omega (arith, c.requires.on_table.table);
-        there = slice_get_read c.args.tables.now.items _ _ c.index_mut-table.result.now refl (omega (arith, c.requires.on_table.table)) c.index_mut-table.ensures.value;
+        there = slice_get_read c.args.tables.now.items _ _ c.index_mut-table.result.now refl (omega (arith, c.requires.on_table.table))
+            c.index_mut-table.ensures.value;
         sets = refl;
         steps = (rw ends at (rw c.for_worker-lent.ensures.same at c.step_by-moved.ensures.step)) is;
         way = c.step_by-moved.ensures.way;

@@ -3,11 +3,13 @@ use Rattle.pagable.proofs.{Keeping.{at-work, nothing-done, one-on, refused, refu
 use Rattle.pagable.proofs.workers.worker_step.Goals as goal
 
 pub returns-then-is_done : goal.returns-then-is_done
-returns-then-is_done g c = refuses c.requires refl (omega arith) (λ q. refl) (λ serving. refused _ serving c.is_whole.ensures (nothing-done _ c.is_whole.ensures) (λ l. refl) refl (λ q. refl) _ _ (λ q. refl)
+returns-then-is_done g c = refuses c.requires refl (omega arith) (λ q. refl)
+    (λ serving. refused _ serving c.is_whole.ensures (nothing-done _ c.is_whole.ensures) (λ l. refl) refl (λ q. refl) _ _ (λ q. refl)
     (λ stays. record { moves = tt; refused = (refl, search rules, stays) }) tt)
 
 pub returns-then-not-has_worker : goal.returns-then-not-has_worker
-returns-then-not-has_worker g c = refuses c.requires refl (omega arith) (λ q. refl) (λ serving. let works = at-work serving c.args.worker.0 (search rules) in absurd (grind (arith, nat_tests, works)))
+returns-then-not-has_worker g c = refuses c.requires refl (omega arith) (λ q. refl) (λ serving. let works = at-work serving c.args.worker.0 (search rules) in
+    absurd (grind (arith, nat_tests, works)))
 
 pub walk_on-requires-clause-on_table : goal.walk_on-requires-clause-on_table
 walk_on-requires-clause-on_table g c = c.requires.on_tables.each _ _ (sym c.in-Some.ensures.value)
@@ -18,7 +20,8 @@ returns g c =
     let keeps : KeepsOne (kept_at c.args.held.now.walks) c.args.worker.0 (Some c.walk_on.new.walk) (kept_at (c.get_mut.follows.lender c.walk_on.new.walk)) =
     record { here = writes.1; others = λ q other. writes.2 q (apart c.args.worker.0 q (λ is. other (sym is))) } in
     record {
-      makes = λ is. worker-moved (values_at g.E.Node.NodeSet g.E.Env g.E.Hash.KeyHash c.args.pager.now.environment) _ _ _ (c.requires.serving (c.walk_on.ensures.honest is)) c.is_whole.ensures c.args.worker
+      makes = λ is. worker-moved (values_at g.E.Node.NodeSet g.E.Env g.E.Hash.KeyHash c.args.pager.now.environment) _ _ _
+          (c.requires.serving (c.walk_on.ensures.honest is)) c.is_whole.ensures c.args.worker
           _ c.walk_on.new.walk (sym c.in-Some.ensures.value) c.walk_on.result (c.walk_on.ensures.walks is) keeps;
       honest = c.walk_on.ensures.honest;
       on_tables = one-on c.requires.on_tables c.args.worker.0 c.walk_on.new.walk keeps c.walk_on.ensures.count c.walk_on.ensures.on_table;

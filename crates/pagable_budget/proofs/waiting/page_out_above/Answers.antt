@@ -5,4 +5,5 @@ pub returns-then-pending-most-clause-pages : goal.returns-then-pending-most-clau
 returns-then-pending-most-clause-pages g c = λ honest. few-wait (subst (λ n. n ≤ c.args.most) c.pending.ensures c.if-pending-most.true)
 
 pub returns-clause-pages : goal.returns-clause-pages
-returns-clause-pages g c = λ honest. many-wait _ _ (subst (λ n. c.args.most < n) c.pending.ensures c.if-pending-most.false) (c.page_out_pending.ensures.pages honest)
+returns-clause-pages g c = λ honest. many-wait _ _ (subst (λ n. c.args.most < n) c.pending.ensures c.if-pending-most.false)
+    (c.page_out_pending.ensures.pages honest)

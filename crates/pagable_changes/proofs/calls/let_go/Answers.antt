@@ -4,7 +4,8 @@ use Rattle.pagable_changes.proofs.calls.let_go.Goals as goal
 
 pub returns-then-pin-through-clause-lets : goal.returns-then-pin-through-clause-lets
 returns-then-pin-through-clause-lets g c =
-    both-go _ _ _ _ c.release-unpinned.ensures.called (at-same (values_at g.E.Node.NodeSet g.E.Env g.E.Hash.KeyHash) c.release-unpinned.ensures.keeps.environment c.release-released.ensures.called)
+    both-go _ _ _ _ c.release-unpinned.ensures.called (at-same (values_at g.E.Node.NodeSet g.E.Env g.E.Hash.KeyHash)
+    c.release-unpinned.ensures.keeps.environment c.release-released.ensures.called)
 
 pub returns-else-pin-through-clause-lets : goal.returns-else-pin-through-clause-lets
 returns-else-pin-through-clause-lets g c =

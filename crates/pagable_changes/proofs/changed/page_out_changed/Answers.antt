@@ -3,7 +3,8 @@ use Rattle.pagable_changes.proofs.changed.page_out_changed.Goals as goal
 
 pub returns-clause-reads : goal.returns-clause-reads
 returns-clause-reads g c = λ honest.
-    changed_law g.row.E.Denot (values_at g.E.Node.NodeSet g.E.Env g.E.Hash.KeyHash c.args.pager.now.environment) _ _ _ _ (c.page_out_root.ensures.pages honest) c.is_whole.ensures
+    changed_law g.row.E.Denot (values_at g.E.Node.NodeSet g.E.Env g.E.Hash.KeyHash c.args.pager.now.environment) _ _ _ _
+    (c.page_out_root.ensures.pages honest) c.is_whole.ensures
     (record {
       some = g.met.E.Node.NodeSet.has_meaning;
       refers = g.met.E.Node.NodeSet.refers;

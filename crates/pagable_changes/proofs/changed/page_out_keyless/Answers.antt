@@ -10,4 +10,5 @@ returns-in-Err-enter-clause-pages g c = λ honest. root-is-refused _ _ _ c.in-Ok
 
 pub returns-clause-pages : goal.returns-clause-pages
 returns-clause-pages g c = λ honest.
-    root-is-walked _ _ _ _ _ c.in-Ok.ensures c.in-Ok-enter.ensures.enters (walks-same (values_at g.E.Node.NodeSet g.E.Env g.E.Hash.KeyHash) c.in-Ok-enter.ensures.keeps.environment (c.walk.ensures.walks honest))
+    root-is-walked _ _ _ _ _ c.in-Ok.ensures c.in-Ok-enter.ensures.enters
+    (walks-same (values_at g.E.Node.NodeSet g.E.Env g.E.Hash.KeyHash) c.in-Ok-enter.ensures.keeps.environment (c.walk.ensures.walks honest))

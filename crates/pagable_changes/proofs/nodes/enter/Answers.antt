@@ -7,4 +7,5 @@ returns-in-Err-clause-fails g c = isnt-taken _ _ c.in-Err.ensures.fails
 
 pub returns-in-Err-write_taken-clause-fails : goal.returns-in-Err-write_taken-clause-fails
 returns-in-Err-write_taken-clause-fails g c =
-    isnt-written _ _ _ _ _ c.in-Ok.ensures.takes (lets-same (values_at g.E.Node.NodeSet g.E.Env g.E.Hash.KeyHash) c.in-Ok.ensures.keeps.environment c.let_go.ensures.lets)
+    isnt-written _ _ _ _ _ c.in-Ok.ensures.takes (lets-same (values_at g.E.Node.NodeSet g.E.Env g.E.Hash.KeyHash) c.in-Ok.ensures.keeps.environment
+    c.let_go.ensures.lets)

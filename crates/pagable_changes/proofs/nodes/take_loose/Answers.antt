@@ -10,12 +10,14 @@ returns-in_err-through-clause-fails g c = rw (failed c.from_residual.result c.fr
 pub returns-in-Ok-clause-takes : goal.returns-in-Ok-clause-takes
 returns-in-Ok-clause-takes g c =
     let first = c.in_ok-through.ensures.keeps.environment in
-    cell-is-taken _ _ _ _ _ _ c.requires.loose c.in_ok-through.ensures.called (at-same (values_at g.E.Node.NodeSet g.E.Env g.E.Hash.KeyHash) first c.loosen-turned.ensures.called)
+    cell-is-taken _ _ _ _ _ _ c.requires.loose c.in_ok-through.ensures.called
+    (at-same (values_at g.E.Node.NodeSet g.E.Env g.E.Hash.KeyHash) first c.loosen-turned.ensures.called)
     (pins-same (values_at g.E.Node.NodeSet g.E.Env g.E.Hash.KeyHash) (c.loosen-turned.ensures.keeps.environment ∙ first) c.in-Ok.ensures.pins)
 
 pub returns-in-Err-clause-fails : goal.returns-in-Err-clause-fails
 returns-in-Err-clause-fails g c =
     let first = c.in_ok-through.ensures.keeps.environment in
     let then = c.loosen-turned.ensures.keeps.environment ∙ first in
-    pin-is-refused _ _ _ _ _ _ _ _ c.in_ok-through.ensures.called (at-same (values_at g.E.Node.NodeSet g.E.Env g.E.Hash.KeyHash) first c.loosen-turned.ensures.called) (pins-same (values_at g.E.Node.NodeSet g.E.Env g.E.Hash.KeyHash) then c.in-Err.ensures.pins)
+    pin-is-refused _ _ _ _ _ _ _ _ c.in_ok-through.ensures.called (at-same (values_at g.E.Node.NodeSet g.E.Env g.E.Hash.KeyHash) first
+    c.loosen-turned.ensures.called) (pins-same (values_at g.E.Node.NodeSet g.E.Env g.E.Hash.KeyHash) then c.in-Err.ensures.pins)
     (at-same (values_at g.E.Node.NodeSet g.E.Env g.E.Hash.KeyHash) (c.in-Err.ensures.keeps.environment ∙ then) c.release-released.ensures.called)

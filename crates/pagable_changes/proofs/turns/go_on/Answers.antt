@@ -9,7 +9,9 @@ pub returns-in-Some-clause-turns : goal.returns-in-Some-clause-turns
 returns-in-Some-clause-turns g c = has-key _ _ refl
 
 pub returns-in-None-clause-turns : goal.returns-in-None-clause-turns
-returns-in-None-clause-turns g c = down-by (values_at g.E.Node.NodeSet g.E.Env g.E.Hash.KeyHash c.args.pager.now.environment) _ _ _ _ _ _ _ c.requires.next (rw c.in-None.is at c.in-Ok.ensures) c.go_down.result c.go_down.ensures.goes
+returns-in-None-clause-turns g c = down-by (values_at g.E.Node.NodeSet g.E.Env g.E.Hash.KeyHash c.args.pager.now.environment) _ _ _ _ _ _ _ c.requires.next
+    (rw c.in-None.is at c.in-Ok.ensures) c.go_down.result c.go_down.ensures.goes
 
 pub returns-in-None-clause-fails : goal.returns-in-None-clause-fails
-returns-in-None-clause-fails g c = nowhere-by (values_at g.E.Node.NodeSet g.E.Env g.E.Hash.KeyHash c.args.pager.now.environment) _ _ c.args.path.now.items c.args.path.now.items c.args.node.now c.args.node.now _ c.requires.next (rw c.in-None.is at c.in-Ok.ensures) c.go_down.result c.go_down.ensures.fails
+returns-in-None-clause-fails g c = nowhere-by (values_at g.E.Node.NodeSet g.E.Env g.E.Hash.KeyHash c.args.pager.now.environment) _ _ c.args.path.now.items
+    c.args.path.now.items c.args.node.now c.args.node.now _ c.requires.next (rw c.in-None.is at c.in-Ok.ensures) c.go_down.result c.go_down.ensures.fails

@@ -9,7 +9,8 @@ pub loop-left-preserved : goal.loop-left-preserved
 loop-left-preserved g c =
     let i = c.loop-left.invariant in
     record {
-      so = λ honest. next-stage (values_at g.E.Node.NodeSet g.E.Env g.E.Hash.KeyHash c.args.pager.now.environment) (i.so (c.in-Ok.ensures.honest honest)) (turned-same (values_at g.E.Node.NodeSet g.E.Env g.E.Hash.KeyHash) i.environment (rw c.in-None.is at c.in-Ok.ensures.turns honest));
+      so = λ honest. next-stage (values_at g.E.Node.NodeSet g.E.Env g.E.Hash.KeyHash c.args.pager.now.environment) (i.so (c.in-Ok.ensures.honest honest))
+          (turned-same (values_at g.E.Node.NodeSet g.E.Env g.E.Hash.KeyHash) i.environment (rw c.in-None.is at c.in-Ok.ensures.turns honest));
       honest = λ honest. i.honest (c.in-Ok.ensures.honest honest);
       environment = c.in-Ok.ensures.environment ∙ i.environment;
     }
@@ -17,7 +18,12 @@ loop-left-preserved g c =
 pub returns-in-Some-clause-turns : goal.returns-in-Some-clause-turns
 returns-in-Some-clause-turns g c = λ honest.
     let i = c.loop-left.invariant in
-    record { last = _; so = i.so (c.in-Ok.ensures.honest honest); out = turned-same (values_at g.E.Node.NodeSet g.E.Env g.E.Hash.KeyHash) i.environment (rw c.in-Some.is at c.in-Ok.ensures.turns honest) }
+    record {
+      last = _;
+      so = i.so (c.in-Ok.ensures.honest honest);
+      out = turned-same (values_at g.E.Node.NodeSet g.E.Env g.E.Hash.KeyHash) i.environment
+          (rw c.in-Some.is at c.in-Ok.ensures.turns honest);
+    }
 
 pub returns-in-Err-clause-fails : goal.returns-in-Err-clause-fails
 returns-in-Err-clause-fails g c = λ honest.

@@ -5,4 +5,5 @@ returns g c =
     let law = g.met.D.PagableDeserializer in
     let old = c.args.deserializer.now in
     let told = rw c.serde.ensures.value at c.read_bool.ensures in
-    part_read _ c.read_bool.result (law.bytes_are old) (law.rest_of_with old _) (law.moves_of_with old _) (law.environment_of_with old _) (law.levels_of_with old _) told
+    part_read _ c.read_bool.result (law.bytes_are old) (law.rest_of_with old _) (law.moves_of_with old _) (law.environment_of_with old _)
+    (law.levels_of_with old _) told

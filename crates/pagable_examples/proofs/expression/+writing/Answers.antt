@@ -6,13 +6,15 @@ use Rattle.pagable_examples.proofs.expression.+writing.Goals as goal
 pub write_below-returns-in_err-enter : goal.write_below-returns-in_err-enter
 write_below-returns-in_err-enter g t c =
     let h = c.in_err-enter.ensures in
-    wrote-deep _ g.S.PagableSerializer c.from_residual.result c.from_residual.ensures.1 (wrote-nothing _ g.S.PagableSerializer {P = nothing} {causes = memory} refl) h.err h.same_out h.same_env
+    wrote-deep _ g.S.PagableSerializer c.from_residual.result c.from_residual.ensures.1
+    (wrote-nothing _ g.S.PagableSerializer {P = nothing} {causes = memory} refl) h.err h.same_out h.same_env
     (λ n le. refused-deep nodes 0 _ _ _ n.levels refl le) (λ e. inl e)
 
 pub write_below-returns : goal.write_below-returns
 write_below-returns g t c =
     let entered = c.in_ok-enter.ensures in
-    written_down _ g.S.PagableSerializer _ c.write_node-done.result entered.ok entered.same_out entered.same_env c.write_node-done.ensures c.leave.ensures.up c.leave.ensures.same_out c.leave.ensures.same_env
+    written_down _ g.S.PagableSerializer _ c.write_node-done.result entered.ok entered.same_out entered.same_env c.write_node-done.ensures c.leave.ensures.up
+    c.leave.ensures.same_out c.leave.ensures.same_env
 
 pub write_node-returns-in_ok-write_flag-in-Number : goal.write_node-returns-in_ok-write_flag-in-Number
 write_node-returns-in_ok-write_flag-in-Number g t c =
@@ -27,7 +29,8 @@ write_node-returns-in_err-write_below-in-Sum g t c =
     let f = c.in_ok-write_flag-in-Sum.ensures in
     left_unwritten _ g.S.PagableSerializer c.in-Sum.left.value c.in-Sum.right.value _ (rw c.in-Sum.is refl)
     (record { ok = f.ok; refused = tt; only = tt; err = f.err; same_env = f.same_env; same_levels = f.same_levels })
-    c.from_residual-in_err-write_below-in-Sum.result c.from_residual-in_err-write_below-in-Sum.ensures.1 (rw c.deref.ensures at c.in_err-write_below-in-Sum.ensures)
+    c.from_residual-in_err-write_below-in-Sum.result c.from_residual-in_err-write_below-in-Sum.ensures.1
+    (rw c.deref.ensures at c.in_err-write_below-in-Sum.ensures)
 
 pub write_node-returns-in_ok-write_below-in-Sum : goal.write_node-returns-in_ok-write_below-in-Sum
 write_node-returns-in_ok-write_below-in-Sum g t c =

@@ -16,7 +16,8 @@ keys-preserved g c =
           let here = subst (λ (f : ℕ → Option Blob). AreCopied f (g.T.PagableStorage.stored l.to) l.copied) (sym same) was in
           subst (λ (f : ℕ → Option Blob). AreCopied f to copied) same (c.in_ok-make_visit.ensures.copied from_honest to_honest here);
       same = λ h. visit.same h ∙ l.invariant.same (visit.honest h);
-      keeps = λ h. keeps_then (g.T.PagableStorage.stored c.args.to.now) (g.T.PagableStorage.stored l.to) to (l.invariant.keeps (visit.honest_copy h)) (visit.keeps h);
+      keeps = λ h. keeps_then (g.T.PagableStorage.stored c.args.to.now) (g.T.PagableStorage.stored l.to) to (l.invariant.keeps (visit.honest_copy h))
+          (visit.keeps h);
       honest = λ h. l.invariant.honest (visit.honest h);
       honest_copy = λ h. l.invariant.honest_copy (visit.honest_copy h);
     }

@@ -17,7 +17,8 @@ loop-at-preserved g c =
           key_at_name (λ (n : String Global). wanted (string_bytes n)) names c.args.keys.now l.at name key within c.index-names-at.is c.index-keys-at.is keys in
           let is : key ≡ wanted c.as_str.result.now = own ∙ ap wanted (sym c.as_str.ensures.value) in
           let here = subst (Matches c.args.copied.now wanted new) c.as_str.ensures.value (c.in_ok-set_copied.ensures.set honest wanted is) in
-          set_more (λ (n : String Global). string_bytes n) c.args.copied.now wanted (g.T.Roots.roots l.to) new names l.at name within c.index-names-at.is (c.in_ok-set_copied.ensures.others honest wanted is) here
+          set_more (λ (n : String Global). string_bytes n) c.args.copied.now wanted (g.T.Roots.roots l.to) new names l.at name within c.index-names-at.is
+          (c.in_ok-set_copied.ensures.others honest wanted is) here
           (l.invariant.set (c.set_copied.ensures.honest honest) wanted keys);
       same = λ h. c.set_copied.ensures.same h ∙ l.invariant.same (c.set_copied.ensures.honest h);
       honest = λ h. l.invariant.honest (c.set_copied.ensures.honest h);

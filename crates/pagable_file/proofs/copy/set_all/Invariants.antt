@@ -6,7 +6,8 @@ use Rattle.pagable_file.proofs.copy.set_all.Given as goal
 -- the names so far stand for what is wanted
 abbrev pub invariant-loop-at : goal.invariant-loop-at
 invariant-loop-at g l = record {
-  set : IsTrue (g.T.PagableStorage.is_honest l.to) → (wanted : List ℕ → Option ℕ) → l.keys ≡ map (λ name. wanted (string_bytes name)) l.names → AllByRecursion (λ name. Matches l.copied wanted (g.T.Roots.roots l.to) (string_bytes name)) (take l.at l.names);
+  set : IsTrue (g.T.PagableStorage.is_honest l.to) → (wanted : List ℕ → Option ℕ) → l.keys ≡ map (λ name. wanted (string_bytes name)) l.names
+      → AllByRecursion (λ name. Matches l.copied wanted (g.T.Roots.roots l.to) (string_bytes name)) (take l.at l.names);
   same : IsTrue (g.T.PagableStorage.is_honest l.to) → g.T.PagableStorage.stored l.to ≡ g.T.PagableStorage.stored l.fn.to;
   honest : IsTrue (g.T.PagableStorage.is_honest l.to) → IsTrue (g.T.PagableStorage.is_honest l.fn.to);
 }

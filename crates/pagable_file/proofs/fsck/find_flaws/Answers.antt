@@ -16,11 +16,14 @@ returns-clause-exact g c sure =
     let mid = c.test_rows.new.flaws.items in
     let end = c.test_roots.new.flaws.items in
     exactly of (first.committed blob_tree) (first.committed root_tree) end
-    (whole_found of first listed tested named last c.in_ok-places.places.items c.in_ok-places-2.places.items c.new-flaws.result.items mid end c.new-flaws.ensures.items c.all_places.ensures.stays c.test_rows.ensures.stays
+    (whole_found of first listed tested named last c.in_ok-places.places.items c.in_ok-places-2.places.items c.new-flaws.result.items mid end
+    c.new-flaws.ensures.items c.all_places.ensures.stays c.test_rows.ensures.stays
     c.all_places-2.ensures.stays c.test_roots.ensures.stays sure c.in_ok-places.ensures.found
-    (λ s. subst (λ (places : List ℤ). Tested (IsFlaw of (listed.committed blob_tree) (listed.committed root_tree)) c.new-flaws.result.items mid (AllByRecursion (IsSoundPlace of (listed.committed blob_tree)) places)) c.as_slice.ensures.value
+    (λ s. subst (λ (places : List ℤ). Tested (IsFlaw of (listed.committed blob_tree) (listed.committed root_tree)) c.new-flaws.result.items mid
+    (AllByRecursion (IsSoundPlace of (listed.committed blob_tree)) places)) c.as_slice.ensures.value
     (c.in_ok-test_rows.ensures.tested s)) c.in_ok-places-2.ensures.found
-    (λ s. subst (λ (places : List ℤ). Tested (IsFlaw of (named.committed blob_tree) (named.committed root_tree)) mid end (AllByRecursion (IsSoundRoot (named.committed blob_tree) (named.committed root_tree)) places)) c.as_slice-2.ensures.value
+    (λ s. subst (λ (places : List ℤ). Tested (IsFlaw of (named.committed blob_tree) (named.committed root_tree)) mid end
+    (AllByRecursion (IsSoundRoot (named.committed blob_tree) (named.committed root_tree)) places)) c.as_slice-2.ensures.value
     (c.in_ok-test_roots.ensures.tested of s)))
 
 pub returns-clause-real : goal.returns-clause-real
@@ -33,10 +36,13 @@ returns-clause-real g c sure =
     let last = g.S.Store.view c.test_roots.new.store in
     let mid = c.test_rows.new.flaws.items in
     let end = c.test_roots.new.flaws.items in
-    let found = whole_found of first listed tested named last c.in_ok-places.places.items c.in_ok-places-2.places.items c.new-flaws.result.items mid end c.new-flaws.ensures.items c.all_places.ensures.stays c.test_rows.ensures.stays
+    let found = whole_found of first listed tested named last c.in_ok-places.places.items c.in_ok-places-2.places.items c.new-flaws.result.items mid end
+    c.new-flaws.ensures.items c.all_places.ensures.stays c.test_rows.ensures.stays
     c.all_places-2.ensures.stays c.test_roots.ensures.stays sure c.in_ok-places.ensures.found
-    (λ s. subst (λ (places : List ℤ). Tested (IsFlaw of (listed.committed blob_tree) (listed.committed root_tree)) c.new-flaws.result.items mid (AllByRecursion (IsSoundPlace of (listed.committed blob_tree)) places)) c.as_slice.ensures.value
+    (λ s. subst (λ (places : List ℤ). Tested (IsFlaw of (listed.committed blob_tree) (listed.committed root_tree)) c.new-flaws.result.items mid
+    (AllByRecursion (IsSoundPlace of (listed.committed blob_tree)) places)) c.as_slice.ensures.value
     (c.in_ok-test_rows.ensures.tested s)) c.in_ok-places-2.ensures.found
-    (λ s. subst (λ (places : List ℤ). Tested (IsFlaw of (named.committed blob_tree) (named.committed root_tree)) mid end (AllByRecursion (IsSoundRoot (named.committed blob_tree) (named.committed root_tree)) places)) c.as_slice-2.ensures.value
+    (λ s. subst (λ (places : List ℤ). Tested (IsFlaw of (named.committed blob_tree) (named.committed root_tree)) mid end
+    (AllByRecursion (IsSoundRoot (named.committed blob_tree) (named.committed root_tree)) places)) c.as_slice-2.ensures.value
     (c.in_ok-test_roots.ensures.tested of s)) in
     found.real tt

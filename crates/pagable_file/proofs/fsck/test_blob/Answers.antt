@@ -14,5 +14,7 @@ returns-clause-tested g c sure at =
     let blob = blob_of c.args.blob.now in
     let same = c.as_slice.ensures.value in
     let children = subst (AllByRecursion (IsChild rows c.args.key)) (sym same) (are_children rows c.args.key blob at) in
-    blob_tested (IsFlaw of rows roots) of rows c.args.flaws.now.items c.test_key.new.flaws.items c.test_children.new.flaws.items c.args.key blob (c.in_ok-test_key.ensures rows roots at)
-    (subst (λ (keys : List ℕ). Tested (IsFlaw of rows roots) c.test_key.new.flaws.items c.test_children.new.flaws.items (AllByRecursion (IsThere rows) keys)) same (c.in_ok-test_children.ensures.tested of sure children))
+    blob_tested (IsFlaw of rows roots) of rows c.args.flaws.now.items c.test_key.new.flaws.items c.test_children.new.flaws.items c.args.key blob
+    (c.in_ok-test_key.ensures rows roots at)
+    (subst (λ (keys : List ℕ). Tested (IsFlaw of rows roots) c.test_key.new.flaws.items c.test_children.new.flaws.items (AllByRecursion (IsThere rows) keys))
+    same (c.in_ok-test_children.ensures.tested of sure children))

@@ -11,7 +11,8 @@ loop-child-preserved g c =
     let now = g.S.Store.view l.store in
     let next = g.S.Store.view c.test_child.new.store in (
       stays_then first now next l.invariant.0 c.test_child.ensures.stays,
-      λ of sure all. child_found of first now next c.args.key c.args.flaws.now.items l.flaws.items c.test_child.new.flaws.items c.args.children.now l.child-index c.child-item.result c.loop-child-test.true c.child-item.is l.invariant.0
+      λ of sure all. child_found of first now next c.args.key c.args.flaws.now.items l.flaws.items c.test_child.new.flaws.items c.args.children.now
+          l.child-index c.child-item.result c.loop-child-test.true c.child-item.is l.invariant.0
           c.test_child.ensures.stays sure (λ s. l.invariant.1 of s) (λ s. c.in_ok-test_child.ensures.tested of s) all,
     )
 

@@ -11,4 +11,5 @@ invariant-loop-child g l =
     let now = g.S.Store.view l.store in
     let rows = first.committed blob_tree in
     let so_far = take l.child-index l.children in
-    StaysPut first now × ((of : Blob → ℕ) → IsTrue (is_sure now) → AllByRecursion (IsChild rows l.key) so_far → Tested (IsFlaw of rows (first.committed root_tree)) l.fn.flaws.items l.flaws.items (AllByRecursion (IsThere rows) so_far))
+    StaysPut first now × ((of : Blob → ℕ) → IsTrue (is_sure now) → AllByRecursion (IsChild rows l.key) so_far
+    → Tested (IsFlaw of rows (first.committed root_tree)) l.fn.flaws.items l.flaws.items (AllByRecursion (IsThere rows) so_far))

@@ -15,7 +15,8 @@ returns-in_default-key_at-clause-tested g c of sure =
     let at = row_there (row_at roots place) row c.in_ok-look.field-0 (c.in_ok-look.ensures.found sure) c.if-not-branch.false in
     let own : IsNameAt place row (Some c.in-Some.name) = subst (IsNameAt place row) c.in-Some.is c.in_ok-name.ensures in
     subst (λ (p : ℤ). Tested (IsFlaw of rows roots) old old (IsSoundRoot rows roots p)) (to_z-of_z fits)
-    (passed (IsFlaw of rows roots) old (IsSoundRoot rows roots place) (root_none rows roots place row c.in-Some.name at own (sym c.key_at.ensures ∙ c.in_default-key_at.is)))
+    (passed (IsFlaw of rows roots) old (IsSoundRoot rows roots place) (root_none rows roots place row c.in-Some.name at own
+    (sym c.key_at.ensures ∙ c.in_default-key_at.is)))
 
 pub returns-clause-tested : goal.returns-clause-tested
 returns-clause-tested g c of sure =
@@ -32,4 +33,5 @@ returns-clause-tested g c of sure =
     let own : IsNameAt place row (Some c.in-Some.name) = subst (IsNameAt place row) c.in-Some.is c.in_ok-name.ensures in
     subst (λ (p : ℤ). Tested (IsFlaw of rows roots) old new (IsSoundRoot rows roots p)) (to_z-of_z fits)
     (root_found of first now next place row c.in-Some.name c.in-Some-key_at.key old new c.look.ensures.stays c.test_named.ensures.stays sure
-    (λ s. row_there (row_at roots place) row c.in_ok-look.field-0 (c.in_ok-look.ensures.found s) c.if-not-branch.false) own (sym c.key_at.ensures ∙ c.in-Some-key_at.is) (c.in_ok-test_named.ensures.tested of))
+    (λ s. row_there (row_at roots place) row c.in_ok-look.field-0 (c.in_ok-look.ensures.found s) c.if-not-branch.false) own
+    (sym c.key_at.ensures ∙ c.in-Some-key_at.is) (c.in_ok-test_named.ensures.tested of))

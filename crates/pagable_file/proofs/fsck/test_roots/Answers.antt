@@ -17,9 +17,11 @@ loop-place-preserved g c =
     let fits : SFits w64 place = search rules in
     let new = c.test_root.new.flaws.items in (
       stays_then first now next l.invariant.0 c.test_root.ensures.stays,
-      λ of sure. next_found of (λ (rows roots : List Row). IsSoundRoot rows roots) first now next c.args.flaws.now.items l.flaws.items new places l.place-index place c.loop-place-test.true (read_once places l.place-index (pos 0) place c.loop-place-test.true)
+      λ of sure. next_found of (λ (rows roots : List Row). IsSoundRoot rows roots) first now next c.args.flaws.now.items l.flaws.items new places l.place-index
+          place c.loop-place-test.true (read_once places l.place-index (pos 0) place c.loop-place-test.true)
           l.invariant.0 c.test_root.ensures.stays sure (l.invariant.1 of)
-          (λ s. subst (λ (p : ℤ). Tested (IsFlaw of rows roots) l.flaws.items new (IsSoundRoot rows roots p)) (to_z-of_z fits) (c.in_ok-test_root.ensures.tested of s)),
+          (λ s. subst (λ (p : ℤ). Tested (IsFlaw of rows roots) l.flaws.items new (IsSoundRoot rows roots p)) (to_z-of_z fits)
+          (c.in_ok-test_root.ensures.tested of s)),
     )
 
 pub returns-clause-tested : goal.returns-clause-tested
@@ -27,4 +29,5 @@ returns-clause-tested g c of sure =
     let l = c.loop-place in
     let rows = (g.S.Store.view c.args.store.now).committed blob_tree in
     let roots = (g.S.Store.view c.args.store.now).committed root_tree in
-    each_tested (IsFlaw of rows roots) (IsSoundRoot rows roots) c.args.flaws.now.items l.flaws.items c.args.places.now l.place-index c.loop-place-test.false (l.invariant.1 of sure)
+    each_tested (IsFlaw of rows roots) (IsSoundRoot rows roots) c.args.flaws.now.items l.flaws.items c.args.places.now l.place-index c.loop-place-test.false
+    (l.invariant.1 of sure)

@@ -11,4 +11,5 @@ invariant-loop-place g l =
     let now = g.S.Store.view l.store in
     let rows = first.committed blob_tree in
     let roots = first.committed root_tree in
-    StaysPut first now × ((of : Blob → ℕ) → IsTrue (is_sure now) → Tested (IsFlaw of rows roots) l.fn.flaws.items l.flaws.items (AllByRecursion (IsSoundRoot rows roots) (take l.place-index l.places)))
+    StaysPut first now × ((of : Blob → ℕ) → IsTrue (is_sure now) → Tested (IsFlaw of rows roots) l.fn.flaws.items l.flaws.items
+    (AllByRecursion (IsSoundRoot rows roots) (take l.place-index l.places)))

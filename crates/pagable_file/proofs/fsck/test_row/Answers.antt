@@ -19,5 +19,6 @@ returns-in_ok-test_blob-in-Some-clause-tested g c sure =
     let fits : SFits w64 c.args.place = search rules in
     subst (λ (p : ℤ). Tested (IsFlaw of rows (first.committed root_tree)) old new (IsSoundPlace of rows p)) (to_z-of_z fits)
     (row_found of first now next place row c.in-Some.found.0 (blob_of c.in-Some.found.1) old new c.look.ensures.stays c.test_blob.ensures.stays sure
-    (λ s. row_there (row_at rows place) row c.in_ok-look.field-0 (c.in_ok-look.ensures.found s) c.if-not-branch.false) (sym (rw c.in-Some.is at c.in_ok-found.ensures))
+    (λ s. row_there (row_at rows place) row c.in_ok-look.field-0 (c.in_ok-look.ensures.found s) c.if-not-branch.false)
+    (sym (rw c.in-Some.is at c.in_ok-found.ensures))
     c.in_ok-test_blob-in-Some.ensures.tested)

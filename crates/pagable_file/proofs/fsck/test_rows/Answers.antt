@@ -18,7 +18,9 @@ loop-place-preserved g c =
     let fits : SFits w64 place = search rules in
     let new = c.test_row.new.flaws.items in (
       stays_then first now next l.invariant.0 c.test_row.ensures.stays,
-      λ sure. next_found of (λ (rows roots : List Row). IsSoundPlace of rows) first now next c.args.flaws.now.items l.flaws.items new places l.place-index place c.loop-place-test.true (read_once places l.place-index (pos 0) place c.loop-place-test.true)
+      λ sure. next_found of (λ (rows roots : List Row). IsSoundPlace of rows) first now next c.args.flaws.now.items l.flaws.items new places l.place-index place
+          c.loop-place-test.true (read_once places l.place-index (pos 0) place c.loop-place-test.true)
           l.invariant.0 c.test_row.ensures.stays sure l.invariant.1
-          (λ s. subst (λ (p : ℤ). Tested (IsFlaw of rows (now.committed root_tree)) l.flaws.items new (IsSoundPlace of rows p)) (to_z-of_z fits) (c.in_ok-test_row.ensures.tested s)),
+          (λ s. subst (λ (p : ℤ). Tested (IsFlaw of rows (now.committed root_tree)) l.flaws.items new (IsSoundPlace of rows p)) (to_z-of_z fits)
+          (c.in_ok-test_row.ensures.tested s)),
     )

@@ -11,4 +11,5 @@ invariant-loop-place g l =
     let now = g.S.Store.view l.store in
     let rows = first.committed blob_tree in
     let of = key_of g.H.KeyHash.digest in
-    StaysPut first now × (IsTrue (is_sure now) → Tested (IsFlaw of rows (first.committed root_tree)) l.fn.flaws.items l.flaws.items (AllByRecursion (IsSoundPlace of rows) (take l.place-index l.places)))
+    StaysPut first now × (IsTrue (is_sure now) → Tested (IsFlaw of rows (first.committed root_tree)) l.fn.flaws.items l.flaws.items
+    (AllByRecursion (IsSoundPlace of rows) (take l.place-index l.places)))

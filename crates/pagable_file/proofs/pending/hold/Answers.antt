@@ -9,4 +9,5 @@ returns-clause-ok c =
     let it : Pending = record { key = c.args.key; blob = c.args.blob } in
     let fits : SFits w64 c.place_of.result = search rules in
     holds c.args.waiting.now c.insert.new.self c.args.key it refl
-    (λ q. subst (λ (p : ℤ). get int_eq c.insert.new.self q ≡ (if int_eq p q then Some it else get int_eq c.args.waiting.now q)) (to_z-of_z fits ∙ c.place_of.ensures) (c.in_ok-insert.ensures.updates.0 q))
+    (λ q. subst (λ (p : ℤ). get int_eq c.insert.new.self q ≡ (if int_eq p q then Some it else get int_eq c.args.waiting.now q))
+    (to_z-of_z fits ∙ c.place_of.ensures) (c.in_ok-insert.ensures.updates.0 q))

@@ -12,5 +12,6 @@ returns-in_ok-found-in-Ok g c sure =
     let flushed = c.in-Ok.ensures.sure again in
     let rows = (view c.in_ok-flushed.flushed.store).committed blob_tree in
     let now = (view c.in-Ok.again.store).committed blob_tree in
-    found_last c.in-Ok.again.closed c.in-Ok.again.waiting rows now c.in_ok-flushed.key (blob_of c.args.blob) (blob_of (arc_value c.in_ok-found-in-Ok.found.1)) (c.in_ok-flushed.ensures flushed) c.in-Ok.ensures.open c.in-Ok.ensures.nothing_waits.0
+    found_last c.in-Ok.again.closed c.in-Ok.again.waiting rows now c.in_ok-flushed.key (blob_of c.args.blob) (blob_of (arc_value c.in_ok-found-in-Ok.found.1))
+    (c.in_ok-flushed.ensures flushed) c.in-Ok.ensures.open c.in-Ok.ensures.nothing_waits.0
     (c.in-Ok.ensures.blobs again) here

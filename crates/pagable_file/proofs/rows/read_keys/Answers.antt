@@ -20,7 +20,8 @@ loop-at-preserved c =
     let next : suc left ≡ length c.args.bytes.now / 16 - l.at = omega (arith, c.loop-at-test.true) in
     let front : key_in (take 16 l.rest.now) ≡ Some key = ap key_in (sym c.split_at.ensures.front) ∙ sym c.read_key.ensures ∙ c.in-Some.is in (
       omega (arith, c.split_at.ensures.back_len, l.invariant.0),
-      ap (λ (ks : List ℕ). joined ks (keys_from left c.split_at.result.1.now)) c.in_ok-push.ensures.items ∙ ap (λ (r : List ℕ). joined (l.keys.items ++ key ∷ []) (keys_from left r)) c.split_at.ensures.back
+      ap (λ (ks : List ℕ). joined ks (keys_from left c.split_at.result.1.now)) c.in_ok-push.ensures.items
+          ∙ ap (λ (r : List ℕ). joined (l.keys.items ++ key ∷ []) (keys_from left r)) c.split_at.ensures.back
           ∙ one_more l.keys.items left key l.rest.now front ∙ ap (λ n. joined l.keys.items (keys_from n l.rest.now)) next ∙ l.invariant.1,
     )
 
@@ -28,10 +29,12 @@ pub returns-then-is_empty : goal.returns-then-is_empty
 returns-then-is_empty c =
     let l = c.loop-at in
     let done : 0 ≡ length c.args.bytes.now / 16 - l.at = omega (arith, c.loop-at-test.false) in
-    sym (at_end l.keys.items l.rest.now (is_zero (length l.rest.now) c.is_empty.result c.is_empty.ensures c.if-is_empty.true)) ∙ ap (λ n. joined l.keys.items (keys_from n l.rest.now)) done ∙ l.invariant.1
+    sym (at_end l.keys.items l.rest.now (is_zero (length l.rest.now) c.is_empty.result c.is_empty.ensures c.if-is_empty.true))
+    ∙ ap (λ n. joined l.keys.items (keys_from n l.rest.now)) done ∙ l.invariant.1
 
 pub returns-else-is_empty : goal.returns-else-is_empty
 returns-else-is_empty c =
     let l = c.loop-at in
     let done : 0 ≡ length c.args.bytes.now / 16 - l.at = omega (arith, c.loop-at-test.false) in
-    sym (more_behind l.keys.items l.rest.now (not_zero (length l.rest.now) c.is_empty.result c.is_empty.ensures c.if-is_empty.false)) ∙ ap (λ n. joined l.keys.items (keys_from n l.rest.now)) done ∙ l.invariant.1
+    sym (more_behind l.keys.items l.rest.now (not_zero (length l.rest.now) c.is_empty.result c.is_empty.ensures c.if-is_empty.false))
+    ∙ ap (λ n. joined l.keys.items (keys_from n l.rest.now)) done ∙ l.invariant.1

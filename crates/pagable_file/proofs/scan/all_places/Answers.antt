@@ -15,4 +15,5 @@ returns-in-Ok-clause-stays g c = moved (g.S.Store.view c.args.store.now) (g.S.St
 
 pub returns-in-Err-clause-stays : goal.returns-in-Err-clause-stays
 returns-in-Err-clause-stays g c =
-    rolled_back (g.S.Store.view c.args.store.now) (g.S.Store.view c.places.new.store) (g.S.Store.view c.rollback.new.self) c.in-Err.ensures.err c.rollback.ensures.undone c.places.ensures.clean c.rollback.ensures.quiet.clean
+    rolled_back (g.S.Store.view c.args.store.now) (g.S.Store.view c.places.new.store) (g.S.Store.view c.rollback.new.self) c.in-Err.ensures.err
+    c.rollback.ensures.undone c.places.ensures.clean c.rollback.ensures.quiet.clean

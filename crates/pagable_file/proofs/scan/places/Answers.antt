@@ -10,7 +10,8 @@ rows-init g c =
     let first = g.S.Store.view c.args.store.now in
     let now = g.S.Store.view c.seek.new.self in (
       c.in_ok-seek.ensures.live,
-      λ clean. listing_starts first now (order_of (first.shape c.args.table)) c.clear.new.self (first.trees c.args.table) c.new-places.result.items c.clear.ensures c.new-places.ensures.items (c.in_ok-seek.ensures.ok clean),
+      λ clean. listing_starts first now (order_of (first.shape c.args.table)) c.clear.new.self (first.trees c.args.table) c.new-places.result.items
+          c.clear.ensures c.new-places.ensures.items (c.in_ok-seek.ensures.ok clean),
       c.seek.ensures.quiet.clean,
       λ db h. c.seek.ensures.quiet.outcomes db h,
     )
@@ -22,12 +23,14 @@ rows-preserved g c =
     let now = g.S.Store.view l.store in
     let next = g.S.Store.view c.next.new.self in
     let fits : SFits w64 c.in-Int.place = search rules in
-    let pushed : c.push.new.self.items ≡ l.places.items ++ c.in-Int.place ∷ [] = c.in_ok-push.ensures.items ∙ ap (λ (p : ℤ). l.places.items ++ p ∷ []) (to_z-of_z fits) in
+    let pushed : c.push.new.self.items ≡ l.places.items ++ c.in-Int.place ∷ [] =
+    c.in_ok-push.ensures.items ∙ ap (λ (p : ℤ). l.places.items ++ p ∷ []) (to_z-of_z fits) in
     let id : rowid c.next.new.row ≡ Int c.in-Int.place = sym c.in-Int.ensures in (
       c.in_ok-next.ensures.stay 0 l.invariant.0,
       λ clean.
           let there : Advances now next 0 c.next.new.row true = rw c.if-not-branch.false at (c.in_ok-next.ensures.ok clean) in
-          listing_goes_on first now next (first.trees c.args.table) l.places.items c.push.new.self.items c.next.new.row c.in-Int.place (l.invariant.1 (omega (arith, c.next.ensures.quiet.clean, clean))) there id pushed,
+          listing_goes_on first now next (first.trees c.args.table) l.places.items c.push.new.self.items c.next.new.row c.in-Int.place
+          (l.invariant.1 (omega (arith, c.next.ensures.quiet.clean, clean))) there id pushed,
       omega (arith, l.invariant.2, c.next.ensures.quiet.clean),
       λ db h. l.invariant.3 db (c.next.ensures.quiet.outcomes db h),
     )

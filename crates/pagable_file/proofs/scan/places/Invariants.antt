@@ -8,4 +8,5 @@ abbrev pub invariant-rows : goal.invariant-rows
 invariant-rows g l =
     let first = g.S.Store.view l.fn.store in
     let now = g.S.Store.view l.store in
-    IsSome (now.cursors 0) × (IsClean now → Listing first now (first.trees l.table) l.places.items) × (doubt first.is_clean ≤ doubt now.is_clean) × ((db : Trees) → g.S.Store.recovers l.store db → g.S.Store.recovers l.fn.store db)
+    IsSome (now.cursors 0) × (IsClean now → Listing first now (first.trees l.table) l.places.items) × (doubt first.is_clean ≤ doubt now.is_clean)
+    × ((db : Trees) → g.S.Store.recovers l.store db → g.S.Store.recovers l.fn.store db)

@@ -22,8 +22,11 @@ returns-clause-pins c storage =
     let is = c.take_numbers.ensures.does.does storage in
     let a : Alike (with_handle (with_mode (with_numbers w) row.number Mode.LoosePinned) row.node Mode.Pinned c.args.me) w' =
     subst (λ (v : Core). Alike (with_handle (with_mode v row.number Mode.LoosePinned) row.node Mode.Pinned c.args.me) w') is p.1 in
-    pins-leaf t c.pin_here.new.t storage (not storage.closed) c.requires.whole c.in-Ok.ensures.does.whole refl c.args.me row c.args.leaf.key c.args.leaf.node_type
-    (record { live = leaf.owned.live; own = leaf.owned.own; as_asked = leaf.owned.as_asked }) a (λ kind k. ap (λ (u : Tables). (core_of u storage).cache kind k) (c.in-Ok.ensures.same) ∙ ap (λ (u : Tables). (core_of u storage).cache kind k) c.take_numbers.ensures.same)
+    pins-leaf t c.pin_here.new.t storage (not storage.closed) c.requires.whole c.in-Ok.ensures.does.whole refl c.args.me row c.args.leaf.key
+    c.args.leaf.node_type
+    (record { live = leaf.owned.live; own = leaf.owned.own; as_asked = leaf.owned.as_asked }) a
+    (λ kind k. ap (λ (u : Tables). (core_of u storage).cache kind k) (c.in-Ok.ensures.same)
+    ∙ ap (λ (u : Tables). (core_of u storage).cache kind k) c.take_numbers.ensures.same)
     leaf.away leaf.keyed leaf.typed leaf.load_left leaf.handles_left c.in-Ok.handle (p.0.above ∙ ap (λ (v : Core). v.last.handle + 1) is)
 
 pub returns-clause-come : goal.returns-clause-come

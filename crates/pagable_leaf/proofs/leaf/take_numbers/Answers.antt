@@ -21,16 +21,31 @@ returns-clause-does c =
             unkeyed = h.unkeyed;
             places = h.places;
           };
-          owners_there = record { listed = w.owners_there.listed; waiting = w.owners_there.waiting; loads = w.owners_there.loads; workers = w.owners_there.workers };
+          owners_there = record {
+            listed = w.owners_there.listed;
+            waiting = w.owners_there.waiting;
+            loads = w.owners_there.loads;
+            workers = w.owners_there.workers;
+          };
           loads = record {
             numbered = λ l some. (let n = w.loads.numbered l some in (n.0, omega arith));
             owned = w.loads.owned;
-            roots = λ l load node k q e root. (let r = w.loads.roots l load node k q e root in record { typed = r.typed; begun = r.begun; given = grind (arith, nat_tests, r.given) });
+            roots = λ l load node k q e root. (let r = w.loads.roots l load node k q e root in
+                record { typed = r.typed; begun = r.begun; given = grind (arith, nat_tests, r.given) });
           };
           cache = λ kind key n known. (let k = w.cache kind key n known in record { given = k.given; typed = k.typed; shares = k.shares });
           workers_numbered = w.workers_numbered;
           shut = w.shut;
         };
       };
-      later = λ later. record { given = λ l load at. (let g = later.given l load at in omega arith); since = later.since; begun = λ v. (let b = later.begun v in omega arith); reach = later.reach; loads = later.loads; noted = (let n = later.noted in omega arith); until = later.until };
+      later = λ later. record {
+        given = λ l load at. (let g = later.given l load at in omega arith);
+        since = later.since;
+        begun = λ v. (let b = later.begun v in omega arith);
+        reach = later.reach;
+        loads = later.loads;
+        noted = (let n = later.noted in omega arith);
+        until =
+            later.until;
+      };
     }

@@ -22,5 +22,7 @@ loop-end-preserved g c =
       (let a = inv.2 in let b = c.merge.ensures.parts in omega (arith, a, b, count, one)),
       next.0 ∙ search rules,
       omega (arith, lt, within, count),
-      snoc-each (λ i q. AnswersEach (IsAnswerOf g.E.Hash.KeyHash.digest (values_at g.E.Node.NodeSet g.E.Env g.E.Hash.KeyHash)) (items_of c.args.workers i 0 c.args.items.now) q.items) lists.items more.items c.in_ok-keys.keys k (vec_len more) items (search rules) (search rules) inv.5 (search rules),
+      snoc-each (λ i q. AnswersEach (IsAnswerOf g.E.Hash.KeyHash.digest (values_at g.E.Node.NodeSet g.E.Env g.E.Hash.KeyHash))
+          (items_of c.args.workers i 0 c.args.items.now) q.items) lists.items more.items c.in_ok-keys.keys k (vec_len more) items (search rules)
+          (search rules) inv.5 (search rules),
     )

@@ -10,4 +10,5 @@ invariant-loop-end g l =
     × (l.all.share.parts ≡ l.initial.all.share.parts + vec_len l.lists)
     × (l.end-iterator.rest.items ≡ drop (vec_len l.lists) l.fn.ends.items)
     × (vec_len l.lists ≤ l.workers)
-    × ((i : ℕ) (d : _) → i < vec_len l.lists → AnswersEach (IsAnswerOf g.E.Hash.KeyHash.digest (values_at g.E.Node.NodeSet g.E.Env g.E.Hash.KeyHash)) (items_of l.workers i 0 l.items) (slice_index_or l.lists.items i d).items)
+    × ((i : ℕ) (d : _) → i < vec_len l.lists → AnswersEach (IsAnswerOf g.E.Hash.KeyHash.digest (values_at g.E.Node.NodeSet g.E.Env g.E.Hash.KeyHash))
+    (items_of l.workers i 0 l.items) (slice_index_or l.lists.items i d).items)

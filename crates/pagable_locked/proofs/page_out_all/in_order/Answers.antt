@@ -7,7 +7,9 @@ use Rattle.pagable_locked.proofs.page_out_all.in_order.Goals as goal
 pub unreachable-requires : goal.unreachable-requires
 unreachable-requires g c =
     let d = c.index_mut.result.now in
-    not-empty (IsAnswerOf g.E.Hash.KeyHash.digest (values_at g.E.Node.NodeSet g.E.Env g.E.Hash.KeyHash)) (λ q. q.items) c.args.workers c.args.items.now c.loop-i.i (omega arith) c.loop-i.lists.items d (ap (λ q. q.items) (sym c.index_mut.ensures.value) ∙ search rules) c.loop-i.invariant.each c.requires.some
+    not-empty (IsAnswerOf g.E.Hash.KeyHash.digest (values_at g.E.Node.NodeSet g.E.Env g.E.Hash.KeyHash)) (λ q. q.items) c.args.workers c.args.items.now
+    c.loop-i.i (omega arith) c.loop-i.lists.items d (ap (λ q. q.items) (sym c.index_mut.ensures.value) ∙ search rules) c.loop-i.invariant.each
+    c.requires.some
 
 pub loop-i-preserved : goal.loop-i-preserved
 loop-i-preserved g c =
@@ -17,7 +19,12 @@ loop-i-preserved g c =
     let is = ap (λ x. x.items) (sym c.index_mut.ensures.value) ∙ search rules in
     record {
       count = search rules;
-      each = rest-keyed (IsAnswerOf g.E.Hash.KeyHash.digest (values_at g.E.Node.NodeSet g.E.Env g.E.Hash.KeyHash)) (λ x. x.items) c.args.workers c.args.items.now c.loop-i.i (omega arith) c.loop-i.lists.items q k d (search rules) is c.loop-i.invariant.each c.requires.some;
-      keyed = subst (AnswersEach (IsAnswerOf g.E.Hash.KeyHash.digest (values_at g.E.Node.NodeSet g.E.Env g.E.Hash.KeyHash)) (take (c.loop-i.i + 1) c.args.items.now)) (search rules)
-          (more-keyed (IsAnswerOf g.E.Hash.KeyHash.digest (values_at g.E.Node.NodeSet g.E.Env g.E.Hash.KeyHash)) (λ x. x.items) c.args.workers c.args.items.now c.loop-i.i (omega arith) c.loop-i.lists.items q k d (search rules) is c.loop-i.invariant.each c.requires.some c.loop-i.keys.items c.loop-i.invariant.keyed);
+      each = rest-keyed (IsAnswerOf g.E.Hash.KeyHash.digest (values_at g.E.Node.NodeSet g.E.Env g.E.Hash.KeyHash))
+          (λ x. x.items) c.args.workers c.args.items.now c.loop-i.i (omega arith) c.loop-i.lists.items q k d (search rules) is c.loop-i.invariant.each
+          c.requires.some;
+      keyed = subst (AnswersEach (IsAnswerOf g.E.Hash.KeyHash.digest (values_at g.E.Node.NodeSet g.E.Env g.E.Hash.KeyHash))
+          (take (c.loop-i.i + 1) c.args.items.now)) (search rules)
+          (more-keyed (IsAnswerOf g.E.Hash.KeyHash.digest (values_at g.E.Node.NodeSet g.E.Env g.E.Hash.KeyHash)) (λ x. x.items) c.args.workers c.args.items.now
+          c.loop-i.i (omega arith) c.loop-i.lists.items q k d (search rules) is c.loop-i.invariant.each c.requires.some c.loop-i.keys.items
+          c.loop-i.invariant.keyed);
     }

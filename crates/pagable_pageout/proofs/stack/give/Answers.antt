@@ -10,11 +10,13 @@ returns-clause-gives g c =
       x = waiting_todo w;
       rest = rest;
       was = ap todos c.in-Some.ensures.items ∙ todos-more c.pop.new.self.items w;
-      is = c.settle.ensures.todo ∙ ap (λ t. settle (t ∷ rest)) c.with_result.ensures ∙ sym (give-is w.node (written_of (arc_value w.written)) (keys_of w.children.items) rest d.reference d.found.key d.found.height);
+      is = c.settle.ensures.todo ∙ ap (λ t. settle (t ∷ rest)) c.with_result.ensures
+          ∙ sym (give-is w.node (written_of (arc_value w.written)) (keys_of w.children.items) rest d.reference d.found.key d.found.height);
     }
 
 pub with_result-requires : Rattle.pagable_pageout.proofs.stack.give.Goals.with_result-requires
 with_result-requires g c =
     let w = c.in-Some.waiting in
     let e = ap todos c.in-Some.ensures.items ∙ todos-more c.pop.new.self.items w in
-    takes-next w.node (written_of (arc_value w.written)) (keys_of w.children.items) (todos c.pop.new.self.items) c.args.done.reference c.args.done.found.height (rw e at c.requires)
+    takes-next w.node (written_of (arc_value w.written)) (keys_of w.children.items) (todos c.pop.new.self.items) c.args.done.reference c.args.done.found.height
+    (rw e at c.requires)

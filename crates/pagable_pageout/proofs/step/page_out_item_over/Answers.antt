@@ -13,8 +13,11 @@ returns-in-Ok-worker_begin-clause-acts g c =
     let item = written_of (arc_value c.args.item) in
     let acting = g.A.Access.acting c.args.access.now in
     let v = values_at g.E.Node.NodeSet g.E.Env g.E.Hash.KeyHash acting.environment in
-    rw c.told.ensures (both-on (both-first {R = λ a s q s' q'. WorkerStarts (values_at g.E.Node.NodeSet g.E.Env g.E.Hash.KeyHash a.environment) s.core s c.in-Ok-worker_begin.worker.0 s' × (q ≡ q')} (λ q. acts_map c.in-Ok-worker_begin.ensures.begins (λ s t starts. (starts, refl))) no_shelf) c.run.ensures.acts
-    (λ s mid s' x y z starts run. subst (λ q. PagesItem v q item z c.run.result s s') (sym starts.1) (item-walked v y item _ c.in-Ok-worker_begin.worker.0 c.in-Ok.first.0 (todos c.in-Ok.first.1.items) z c.run.result
+    rw c.told.ensures (both-on (both-first {R = λ a s q s' q'. WorkerStarts (values_at g.E.Node.NodeSet g.E.Env g.E.Hash.KeyHash a.environment) s.core s
+    c.in-Ok-worker_begin.worker.0 s' × (q ≡ q')} (λ q. acts_map c.in-Ok-worker_begin.ensures.begins (λ s t starts. (starts, refl))) no_shelf)
+    c.run.ensures.acts
+    (λ s mid s' x y z starts run. subst (λ q. PagesItem v q item z c.run.result s s') (sym starts.1)
+    (item-walked v y item _ c.in-Ok-worker_begin.worker.0 c.in-Ok.first.0 (todos c.in-Ok.first.1.items) z c.run.result
     refl c.in-Ok.ensures.plain c.in-Ok.ensures.todo s mid s' starts.0 run)) (is-caller acting c.requires.caller))
 
 pub returns-in-Err-worker_begin-clause-acts : goal.returns-in-Err-worker_begin-clause-acts

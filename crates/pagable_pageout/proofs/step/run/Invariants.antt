@@ -7,7 +7,9 @@ abbrev pub invariant-loop-next : goal.invariant-loop-next
 invariant-loop-next g l = record {
   way : IsWay (todo_of l.task ∷ todos l.path.items);
   ends : (w : Written) → EndsWith w (todo_of l.fn.first ∷ todos l.fn.path.items) → EndsWith w (todo_of l.task ∷ todos l.path.items);
-  walked : ActsBoth g.A.Access.told g.A.Access.acting g.T.Claims.shelf l.fn.access l.fn.table l.access l.table (λ a. a) (λ a s q s' q'. HasWalked (values_at g.E.Node.NodeSet g.E.Env g.E.Hash.KeyHash a.environment) a.me l.worker.0 q l.fn.first (todos l.fn.path.items) q' l.task (todos l.path.items) s s');
+  walked : ActsBoth g.A.Access.told g.A.Access.acting g.T.Claims.shelf l.fn.access l.fn.table l.access l.table (λ a. a)
+      (λ a s q s' q'. HasWalked (values_at g.E.Node.NodeSet g.E.Env g.E.Hash.KeyHash a.environment) a.me l.worker.0 q l.fn.first
+      (todos l.fn.path.items) q' l.task (todos l.path.items) s s');
 }
 
 abbrev pub decreases-loop-next : goal.decreases-loop-next

@@ -7,6 +7,9 @@ returns-clause-acts g c =
     let moved = c.turn-moved.result in
     let after = plan moved.turn c.turn-moved.new.path.items in
     both-on c.turn-moved.ensures.acts
-    (both-first {R = λ a s q s' q'. Closes (values_at g.E.Node.NodeSet g.E.Env g.E.Hash.KeyHash a.environment) c.args.worker.0 moved.turn s s' × (q ≡ q')} (λ q. acts_map c.end_answered.ensures (λ s t close. (close, refl))) no_shelf)
-    (λ s mid s' x y z turns close. let v = values_at g.E.Node.NodeSet g.E.Env g.E.Hash.KeyHash (g.A.Access.acting c.args.access.now).environment in let me = (g.A.Access.acting c.args.access.now).me in
-    subst (λ q. StepsTo v me c.args.worker.0 x c.args.task below q moved after s s') close.1 (steps-to v c.args.worker.0 me x y c.args.task below after moved s mid s' turns close.0)) refl
+    (both-first {R = λ a s q s' q'. Closes (values_at g.E.Node.NodeSet g.E.Env g.E.Hash.KeyHash a.environment) c.args.worker.0 moved.turn s s' × (q ≡ q')}
+    (λ q. acts_map c.end_answered.ensures (λ s t close. (close, refl))) no_shelf)
+    (λ s mid s' x y z turns close. let v = values_at g.E.Node.NodeSet g.E.Env g.E.Hash.KeyHash (g.A.Access.acting c.args.access.now).environment in
+    let me = (g.A.Access.acting c.args.access.now).me in
+    subst (λ q. StepsTo v me c.args.worker.0 x c.args.task below q moved after s s') close.1
+    (steps-to v c.args.worker.0 me x y c.args.task below after moved s mid s' turns close.0)) refl

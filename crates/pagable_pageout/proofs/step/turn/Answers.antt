@@ -7,8 +7,10 @@ pub returns-in-Start-clause-acts : goal.returns-in-Start-clause-acts
 returns-in-Start-clause-acts g c =
     let below = todos c.args.path.now.items in
     let after = c.after_claim in
-    rw (c.in-Start.is, c.named.ensures, c.found-told.ensures.counts, c.found-told.ensures.found) (both-second c.check_reference-checked.ensures c.claim-claim.ensures.step
-    (λ s x y fault step. start-turns _ _ c.args.worker.0 x y c.in-Start.reference c.in-Start.place below _ c.claim-claim.result after.result after.ensures.todo after.ensures.leaves s (step s.core below fault)))
+    rw (c.in-Start.is, c.named.ensures, c.found-told.ensures.counts, c.found-told.ensures.found)
+    (both-second c.check_reference-checked.ensures c.claim-claim.ensures.step
+    (λ s x y fault step. start-turns _ _ c.args.worker.0 x y c.in-Start.reference c.in-Start.place below _ c.claim-claim.result after.result after.ensures.todo
+    after.ensures.leaves s (step s.core below fault)))
 
 pub returns-in-Pin-clause-acts : goal.returns-in-Pin-clause-acts
 returns-in-Pin-clause-acts g c = rw c.in-Pin.is (both-first (λ q. c.pin.ensures.acts c.args.worker.0 q) no_shelf)
@@ -28,7 +30,8 @@ returns-in-SetKey-clause-acts g c = rw c.in-SetKey.is (both-first (λ q. c.set_k
 pub returns-in-Publish-clause-acts : goal.returns-in-Publish-clause-acts
 returns-in-Publish-clause-acts g c =
     let d = c.in-Publish.done in
-    rw (c.in-Publish.is, c.named-in-Publish.ensures, c.key.ensures) (both-second {P = λ s. Unit {0}} (tells_all (λ s. tt)) c.publish.ensures (λ s x y u same. publishes _ _ c.args.worker.0 x (todos c.args.path.now.items) d y d.found.identity d.found.key d.found.height d.own refl refl same s))
+    rw (c.in-Publish.is, c.named-in-Publish.ensures, c.key.ensures) (both-second {P = λ s. Unit {0}} (tells_all (λ s. tt)) c.publish.ensures
+    (λ s x y u same. publishes _ _ c.args.worker.0 x (todos c.args.path.now.items) d y d.found.identity d.found.key d.found.height d.own refl refl same s))
 
 pub returns-in-Release-clause-acts : goal.returns-in-Release-clause-acts
 returns-in-Release-clause-acts g c = rw c.in-Release.is (both-first (λ q. c.release.ensures.acts q) no_shelf)
@@ -56,7 +59,8 @@ pub returns-in-Release-clause-ends : goal.returns-in-Release-clause-ends
 returns-in-Release-clause-ends g c = rw c.in-Release.is c.release.ensures.ends
 
 pub returns-in-Start-clause-ends : goal.returns-in-Start-clause-ends
-returns-in-Start-clause-ends g c = rw c.in-Start.is (claimed-ends c.in-Start.reference c.in-Start.place (todos c.args.path.now.items) _ (found_as c.claim-claim.result) c.after_claim.result c.after_claim.ensures.todo)
+returns-in-Start-clause-ends g c = rw c.in-Start.is (claimed-ends c.in-Start.reference c.in-Start.place (todos c.args.path.now.items) _
+    (found_as c.claim-claim.result) c.after_claim.result c.after_claim.ensures.todo)
 
 pub returns-in-Publish-clause-ends : goal.returns-in-Publish-clause-ends
 returns-in-Publish-clause-ends g c = rw c.in-Publish.is (goes-ends _ _ _ (λ w h. h))

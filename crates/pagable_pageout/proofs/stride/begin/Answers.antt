@@ -9,4 +9,5 @@ returns-clause-ends g c = c.start.ensures.ends
 
 pub returns-clause-acts : goal.returns-clause-acts
 returns-clause-acts g c =
-    both-as (λ s s' x y walked. walk-strides _ _ c.args.worker.0 x (Task.Start c.args.reference c.args.place) (todos c.args.path.now.items) y c.start.result (todos c.start.new.path.items) s s' walked) c.start.ensures.acts
+    both-as (λ s s' x y walked. walk-strides _ _ c.args.worker.0 x (Task.Start c.args.reference c.args.place) (todos c.args.path.now.items) y c.start.result
+    (todos c.start.new.path.items) s s' walked) c.start.ensures.acts

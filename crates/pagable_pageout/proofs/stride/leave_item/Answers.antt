@@ -19,7 +19,8 @@ returns-in-Err-clause-acts g c n shelf =
 pub returns-in-Ok-clause-ends : goal.returns-in-Ok-clause-ends
 returns-in-Ok-clause-ends g c =
     let w = c.args.waiting in
-    stored-ends w.node (written_of (arc_value w.written)) (keys_of w.children.items) c.in-Ok.key c.stored.result c.args.path.now.items c.stored.ensures.stored c.stored.ensures.over
+    stored-ends w.node (written_of (arc_value w.written)) (keys_of w.children.items) c.in-Ok.key c.stored.result c.args.path.now.items c.stored.ensures.stored
+    c.stored.ensures.over
 
 pub returns-in-Err-clause-ends : goal.returns-in-Err-clause-ends
 returns-in-Err-clause-ends g c = refused-ends _ _ c.refuse.result _ _ c.refuse.ensures.todo

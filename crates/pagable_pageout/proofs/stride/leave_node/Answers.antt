@@ -14,7 +14,8 @@ publish-requires g c =
 pub returns-in-Ok-clause-ends : goal.returns-in-Ok-clause-ends
 returns-in-Ok-clause-ends g c =
     let w = c.args.waiting in
-    ends-as _ _ _ _ (λ x h. subst (λ o. EndsWith x (waits_as o (written_of (arc_value w.written)) (keys_of w.children.items) ∷ todos c.args.path.now.items)) c.requires.node h) c.publish.ensures.ends
+    ends-as _ _ _ _ (λ x h. subst (λ o. EndsWith x (waits_as o (written_of (arc_value w.written)) (keys_of w.children.items) ∷ todos c.args.path.now.items))
+    c.requires.node h) c.publish.ensures.ends
 
 pub returns-in-Ok-clause-goes : goal.returns-in-Ok-clause-goes
 returns-in-Ok-clause-goes g c =
@@ -22,18 +23,22 @@ returns-in-Ok-clause-goes g c =
     let d = c.done_with.result in
     record {
       way = c.publish.ensures.goes.way;
-      leads = leads-waiting c.publish.result w.node (written_of (arc_value w.written)) (keys_of w.children.items) (todos c.args.path.now.items) (plan c.publish.result c.publish.new.path.items) (due (to_publish d.reference d.found.key d.found.height ∷ todos c.args.path.now.items)) (omega arith) c.publish.ensures.goes.leads;
+      leads = leads-waiting c.publish.result w.node (written_of (arc_value w.written)) (keys_of w.children.items) (todos c.args.path.now.items)
+          (plan c.publish.result c.publish.new.path.items) (due (to_publish d.reference d.found.key d.found.height ∷ todos c.args.path.now.items))
+          (omega arith) c.publish.ensures.goes.leads;
     }
 
 pub returns-in-Ok-clause-acts : goal.returns-in-Ok-clause-acts
 returns-in-Ok-clause-acts g c =
     let says = c.done_with.ensures in
     both-each c.in-Ok.ensures.acts c.publish.ensures.table
-    (λ s s' x y left same. node-left _ _ c.args.worker.0 x c.args.path.now.items c.args.waiting c.requires.way c.args.node c.requires.node c.done_with.result c.in-Ok.key says.reference says.key says.height y c.publish.result _ c.publish.ensures.hands s s' left same)
+    (λ s s' x y left same. node-left _ _ c.args.worker.0 x c.args.path.now.items c.args.waiting c.requires.way c.args.node c.requires.node c.done_with.result
+    c.in-Ok.key says.reference says.key says.height y c.publish.result _ c.publish.ensures.hands s s' left same)
 
 pub returns-clause-acts : goal.returns-clause-acts
 returns-clause-acts g c =
-    both-first (λ q. acts_map c.in-Err.ensures.acts (λ s t left. node-refused _ _ c.args.worker.0 q c.args.path.now.items c.args.waiting c.requires.way c.args.node c.requires.node refl c.in-Err.e c.refuse.result _ c.refuse.ensures.plain c.refuse.ensures.todo s t left)) no_shelf
+    both-first (λ q. acts_map c.in-Err.ensures.acts (λ s t left. node-refused _ _ c.args.worker.0 q c.args.path.now.items c.args.waiting c.requires.way
+    c.args.node c.requires.node refl c.in-Err.e c.refuse.result _ c.refuse.ensures.plain c.refuse.ensures.todo s t left)) no_shelf
 
 pub returns-clause-ends : goal.returns-clause-ends
 returns-clause-ends g c = refused-ends _ _ c.refuse.result _ _ c.refuse.ensures.todo

@@ -12,4 +12,5 @@ pub returns-in-Ok-clause-ends : goal.returns-in-Ok-clause-ends
 returns-in-Ok-clause-ends g c = ends-as _ _ _ _ (λ w h. h) (given-ends _ _ _ _ _ c.in-Ok.task c.in-Ok.ensures.gives)
 
 pub returns-in-Err-clause-ends : goal.returns-in-Err-clause-ends
-returns-in-Err-clause-ends g c = ends-as _ _ _ _ (λ w h. h) (alone-ends c.args.done.reference c.args.done.found.key c.args.done.found.height _ _ c.in-Err.ensures.none.0)
+returns-in-Err-clause-ends g c = ends-as _ _ _ _ (λ w h. h) (alone-ends c.args.done.reference c.args.done.found.key c.args.done.found.height _ _
+    c.in-Err.ensures.none.0)

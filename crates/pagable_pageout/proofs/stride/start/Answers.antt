@@ -16,11 +16,16 @@ returns-in-Ok-Claimed-clause-acts g c =
     let n = c.args.worker.0 in
     let below = todos c.args.path.now.items in
     let is : c.claim-found.result ≡ Ok ClaimResult.Claimed = c.in-Ok-Claimed.is ∙ ap (λ x. Ok x) (rw c.in-Ok-Claimed.is at c.in-Ok-Claimed.field-0-is) in
-    both-on (both-second {D = λ a s q s' q'. HasWalked {g = g.E.Env} {gh = g.E.Hash.KeyHash} {go = g.E.CtxKey.Ord} {gq = g.E.CtxKey.PartialEq} {gp = g.E.CtxKey.PartialOrd} {gn = g.E.Node.NodeSet} (values_at g.E.Node.NodeSet g.E.Env g.E.Hash.KeyHash a.environment) a.me c.args.worker.0 q (Task.Start c.args.reference c.args.place) (todos c.args.path.now.items) q' (Task.Pin c.args.reference c.args.place) (todos c.args.path.now.items) s s'}
+    both-on (both-second {D = λ a s q s' q'. HasWalked {g = g.E.Env} {gh = g.E.Hash.KeyHash} {go = g.E.CtxKey.Ord} {gq = g.E.CtxKey.PartialEq}
+    {gp = g.E.CtxKey.PartialOrd} {gn = g.E.Node.NodeSet} (values_at g.E.Node.NodeSet g.E.Env g.E.Hash.KeyHash a.environment) a.me c.args.worker.0 q
+    (Task.Start c.args.reference c.args.place) (todos c.args.path.now.items) q' (Task.Pin c.args.reference c.args.place) (todos c.args.path.now.items) s s'}
     c.check_reference-checked.ensures (rw is at c.claim-found.ensures.step)
-    (λ s x y fault step. turn-walked _ _ n x (Task.Start r place) below y (Task.Pin r place) below _ _ s s (start-turns _ _ n x y r place below (to_pin r place ∷ below) (Ok ClaimResult.Claimed) (Task.Pin r place) refl refl s (step s.core below fault)) refl refl))
+    (λ s x y fault step. turn-walked _ _ n x (Task.Start r place) below y (Task.Pin r place) below _ _ s s
+    (start-turns _ _ n x y r place below (to_pin r place ∷ below) (Ok ClaimResult.Claimed) (Task.Pin r place) refl refl s (step s.core below fault)) refl
+    refl))
     (c.take.ensures.acts n)
-    (λ s mid s' x y z one two. walked-on _ _ n x (Task.Start r place) below y z (Task.Pin r place) c.take.result below (todos c.take.new.path.items) s mid s' one two) refl
+    (λ s mid s' x y z one two. walked-on _ _ n x (Task.Start r place) below y z (Task.Pin r place) c.take.result below
+    (todos c.take.new.path.items) s mid s' one two) refl
 
 pub returns-in-Ok-Waiting-clause-ends : goal.returns-in-Ok-Waiting-clause-ends
 returns-in-Ok-Waiting-clause-ends g c = refused-ends _ _ c.unclaimed.result _ _ c.unclaimed.ensures.todo
@@ -32,14 +37,25 @@ returns-in-Ok-Waiting-clause-acts g c =
     let n = c.args.worker.0 in
     let below = todos c.args.path.now.items in
     let is : c.claim-found.result ≡ Ok ClaimResult.Waiting = c.in-Ok-Waiting.is ∙ ap (λ x. Ok x) (rw c.in-Ok-Waiting.is at c.in-Ok-Waiting.field-0-is) in
-    both-on (both-second {D = λ a s q s' q'. StepsTo {g = g.E.Env} {gh = g.E.Hash.KeyHash} {go = g.E.CtxKey.Ord} {gq = g.E.CtxKey.PartialEq} {gp = g.E.CtxKey.PartialOrd} {gn = g.E.Node.NodeSet} (values_at g.E.Node.NodeSet g.E.Env g.E.Hash.KeyHash a.environment) a.me c.args.worker.0 q (Task.Start c.args.reference c.args.place) (todos c.args.path.now.items) q' (record { action = Action.Claim (identity_of c.args.reference) (Ok Claim.Waiting); turn = Turn.Goes (Task.Start c.args.reference c.args.place); counted = false }) (to_start c.args.reference c.args.place ∷ todos c.args.path.now.items) s s'}
+    both-on (both-second {D = λ a s q s' q'. StepsTo {g = g.E.Env} {gh = g.E.Hash.KeyHash} {go = g.E.CtxKey.Ord} {gq = g.E.CtxKey.PartialEq}
+    {gp = g.E.CtxKey.PartialOrd} {gn = g.E.Node.NodeSet} (values_at g.E.Node.NodeSet g.E.Env g.E.Hash.KeyHash a.environment) a.me c.args.worker.0 q
+    (Task.Start c.args.reference c.args.place) (todos c.args.path.now.items) q'
+    (record {
+      action = Action.Claim (identity_of c.args.reference) (Ok Claim.Waiting);
+      turn = Turn.Goes (Task.Start c.args.reference c.args.place);
+      counted = false;
+    }) (to_start c.args.reference c.args.place ∷ todos c.args.path.now.items) s s'}
     c.check_reference-checked.ensures (rw is at c.claim-found.ensures.step)
-    (λ s x y fault step. steps-to _ n _ x y (Task.Start r place) below (to_start r place ∷ below) _ s s s (start-turns _ _ n x y r place below (to_start r place ∷ below) (Ok ClaimResult.Waiting) (Task.Start r place) refl tt s (step s.core below fault)) (record { closes = refl })))
+    (λ s x y fault step. steps-to _ n _ x y (Task.Start r place) below (to_start r place ∷ below) _ s s s
+    (start-turns _ _ n x y r place below (to_start r place ∷ below) (Ok ClaimResult.Waiting) (Task.Start r place) refl tt s (step s.core below fault))
+    (record { closes = refl })))
     (both-second {P = λ s. Unit {0}} {D = λ a s q s' q'. Unit {0}} (tells_all (λ s. tt)) c.unclaimed.ensures.table (λ s x y u same. tt))
-    (λ s mid s' x y z step none. waits-walked _ _ n x r place below y z _ (todos c.unclaimed.new.path.items) _ Error.TooDeep c.unclaimed.result s mid s' step refl) refl
+    (λ s mid s' x y z step none. waits-walked _ _ n x r place below y z _ (todos c.unclaimed.new.path.items) _ Error.TooDeep c.unclaimed.result s mid s' step
+    refl) refl
 
 pub returns-in_default-clause-ends : goal.returns-in_default-clause-ends
-returns-in_default-clause-ends g c = claimed-ends c.args.reference c.args.place (todos c.args.path.now.items) _ (found_as c.claim-found.result) c.after_claim.result c.after_claim.ensures.todo
+returns-in_default-clause-ends g c = claimed-ends c.args.reference c.args.place (todos c.args.path.now.items) _
+    (found_as c.claim-found.result) c.after_claim.result c.after_claim.ensures.todo
 
 pub returns-in_default-clause-acts : goal.returns-in_default-clause-acts
 returns-in_default-clause-acts g c =

@@ -12,7 +12,8 @@ returns-then-left-eq0-clause-acts g c =
     let says = c.unclaimed.ensures in
     rw c.in-Start.is (both-second {P = λ s. Unit {0}} (tells_all (λ s. tt)) says.table
     (λ s x y u same. walk-strides _ _ n x (Task.Start r place) below y c.unclaimed.result (todos c.unclaimed.new.path.items) s s
-    (turn-walked _ _ n x (Task.Start r place) below y c.unclaimed.result (todos c.unclaimed.new.path.items) _ _ s s (start-refused _ _ n x y r place below _ c.unclaimed.result says.todo says.plain same s) refl refl)))
+    (turn-walked _ _ n x (Task.Start r place) below y c.unclaimed.result (todos c.unclaimed.new.path.items) _ _ s s
+    (start-refused _ _ n x y r place below _ c.unclaimed.result says.todo says.plain same s) refl refl)))
 
 pub returns-then-left-eq0-clause-ends : goal.returns-then-left-eq0-clause-ends
 returns-then-left-eq0-clause-ends g c = rw c.in-Start.is (refused-ends _ _ c.unclaimed.result _ _ c.unclaimed.ensures.todo)
@@ -25,7 +26,8 @@ returns-else-left-eq0-clause-acts g c = rw c.in-Start.is c.begin.ensures.acts
 
 pub returns-in-Finish-clause-falls : goal.returns-in-Finish-clause-falls
 returns-in-Finish-clause-falls g c =
-    rw c.in-Finish.is (other-falls (Task.Finish c.in-Finish.waiting) (λ r place is. absurd (cc)) c.leave-last.result c.args.left.now (todos c.args.path.now.items) (plan c.leave-last.result c.leave-last.new.path.items) c.leave-last.ensures.goes.leads)
+    rw c.in-Finish.is (other-falls (Task.Finish c.in-Finish.waiting) (λ r place is. absurd (cc)) c.leave-last.result c.args.left.now
+    (todos c.args.path.now.items) (plan c.leave-last.result c.leave-last.new.path.items) c.leave-last.ensures.goes.leads)
 
 pub returns-in-Finish-clause-ends : goal.returns-in-Finish-clause-ends
 returns-in-Finish-clause-ends g c = rw c.in-Finish.is c.leave-last.ensures.ends
@@ -39,9 +41,12 @@ returns-in-Finish-clause-acts g c =
     let last = c.leave-last.result in
     let by = g.A.Access.acting c.args.access.now in
     rw c.in-Finish.is (both-on c.leave-last.ensures.acts
-    (both-first {R = λ a s q s' q'. Closes (values_at g.E.Node.NodeSet g.E.Env g.E.Hash.KeyHash a.environment) c.args.worker.0 c.leave-last.result s s' × (q ≡ q')} (λ q. acts_map c.end_answered.ensures (λ s t close. (close, refl))) no_shelf)
-    (λ s mid s' x y z comes close. subst (λ q. Strides (values_at g.E.Node.NodeSet g.E.Env g.E.Hash.KeyHash by.environment) by.me n x task below q last (todos path) s s') close.1 (comes-strides _ _ n x task below y last path s mid s' comes close.0)) refl)
+    (both-first {R = λ a s q s' q'. Closes (values_at g.E.Node.NodeSet g.E.Env g.E.Hash.KeyHash a.environment) c.args.worker.0 c.leave-last.result s s'
+    × (q ≡ q')} (λ q. acts_map c.end_answered.ensures (λ s t close. (close, refl))) no_shelf)
+    (λ s mid s' x y z comes close. subst (λ q. Strides (values_at g.E.Node.NodeSet g.E.Env g.E.Hash.KeyHash by.environment) by.me n x task below q last
+    (todos path) s s') close.1 (comes-strides _ _ n x task below y last path s mid s' comes close.0)) refl)
 
 pub returns-in_default-clause-acts : goal.returns-in_default-clause-acts
 returns-in_default-clause-acts g c =
-    both-as (λ s s' x y step. step-strides _ _ c.args.worker.0 x c.args.task (todos c.args.path.now.items) y c.step-turn.result c.step-turn.new.path.items s s' step) c.step-turn.ensures.acts
+    both-as (λ s s' x y step. step-strides _ _ c.args.worker.0 x c.args.task (todos c.args.path.now.items) y c.step-turn.result c.step-turn.new.path.items s s'
+    step) c.step-turn.ensures.acts

@@ -3,16 +3,19 @@ use Rattle.{pagable_load.proofs.LoadSteps.acts_map, pagable_pageout.{proofs.Turn
 
 pub returns-in-Ok-clause-acts : Rattle.pagable_pageout.proofs.turns.finish.Goals.returns-in-Ok-clause-acts
 returns-in-Ok-clause-acts g c n shelf = rw c.named_by-identity.ensures (acts_map c.in-Ok.ensures.acts
-    (finish-stores _ _ n shelf (todos c.args.path.now.items) c.args.waiting c.requires c.in-Ok.key c.stored.result c.args.path.now.items refl c.stored.ensures.stored))
+    (finish-stores _ _ n shelf (todos c.args.path.now.items) c.args.waiting c.requires c.in-Ok.key c.stored.result c.args.path.now.items refl
+    c.stored.ensures.stored))
 
 pub returns-in-Err-clause-acts : Rattle.pagable_pageout.proofs.turns.finish.Goals.returns-in-Err-clause-acts
 returns-in-Err-clause-acts g c n shelf = rw c.named_by-identity.ensures (acts_map c.in-Err.ensures.acts
-    (finish-fails _ _ n shelf (todos c.args.path.now.items) c.args.waiting c.requires c.in-Err.e c.refuse.result _ c.refuse.ensures.plain c.refuse.ensures.todo))
+    (finish-fails _ _ n shelf (todos c.args.path.now.items) c.args.waiting c.requires c.in-Err.e c.refuse.result _ c.refuse.ensures.plain
+    c.refuse.ensures.todo))
 
 pub returns-in-Ok-clause-ends : Rattle.pagable_pageout.proofs.turns.finish.Goals.returns-in-Ok-clause-ends
 returns-in-Ok-clause-ends g c =
     let w = c.args.waiting in
-    stored-ends w.node (written_of (arc_value w.written)) (keys_of w.children.items) c.in-Ok.key c.stored.result c.args.path.now.items c.stored.ensures.stored c.stored.ensures.over
+    stored-ends w.node (written_of (arc_value w.written)) (keys_of w.children.items) c.in-Ok.key c.stored.result c.args.path.now.items c.stored.ensures.stored
+    c.stored.ensures.over
 
 pub returns-in-Err-clause-ends : Rattle.pagable_pageout.proofs.turns.finish.Goals.returns-in-Err-clause-ends
 returns-in-Err-clause-ends g c = refused-ends _ _ c.refuse.result _ _ c.refuse.ensures.todo

@@ -17,7 +17,8 @@ returns-then-node_type-reference-clause-forms g c s pin shared =
 
 pub returns-in-Ok-None-clause-forms : goal.returns-in-Ok-None-clause-forms
 returns-in-Ok-None-clause-forms g c s pin shared =
-    let is : c.args.shared ≡ Ok None = c.in-Ok-None.is ∙ ap (λ x. Ok x) c.in-Ok-None.field-0-is in forms-none _ s c.args.reference pin arc_value _ (rw is at shared)
+    let is : c.args.shared ≡ Ok None = c.in-Ok-None.is ∙ ap (λ x. Ok x) c.in-Ok-None.field-0-is in
+    forms-none _ s c.args.reference pin arc_value _ (rw is at shared)
 
 pub returns-in-Err-clause-forms : goal.returns-in-Err-clause-forms
 returns-in-Err-clause-forms g c s pin shared = forms-unshared _ s c.args.reference pin arc_value c.in-Err.e (rw c.in-Err.is at shared)

@@ -3,16 +3,20 @@ use Rattle.{pagable_load.proofs.LoadSteps.acts_map, pagable_pageout.{proofs.Turn
 
 pub returns-in-Held-clause-acts : Rattle.pagable_pageout.proofs.turns.pin.Goals.returns-in-Held-clause-acts
 returns-in-Held-clause-acts g c n shelf =
-    rw c.named-identity.ensures (acts_map (rw c.in-Held.is at c.in-Ok.ensures) (pin-holds _ _ n shelf c.args.reference c.args.place (todos c.args.path.now.items) c.in-Held.through c.in-Held.pin))
+    rw c.named-identity.ensures (acts_map (rw c.in-Held.is at c.in-Ok.ensures)
+    (pin-holds _ _ n shelf c.args.reference c.args.place (todos c.args.path.now.items) c.in-Held.through c.in-Held.pin))
 
 pub returns-in-Begun-clause-acts : Rattle.pagable_pageout.proofs.turns.pin.Goals.returns-in-Begun-clause-acts
 returns-in-Begun-clause-acts g c n shelf =
     let says = c.new-reading.ensures in
-    rw c.named-identity.ensures (acts_map (rw c.in-Begun.is at c.in-Ok.ensures) (pin-begins _ _ n shelf c.args.reference c.args.place (todos c.args.path.now.items) c.in-Begun.through c.in-Begun.load c.in-Begun.key c.new-reading.result says.reading says.key says.for_cell))
+    rw c.named-identity.ensures (acts_map (rw c.in-Begun.is at c.in-Ok.ensures)
+    (pin-begins _ _ n shelf c.args.reference c.args.place (todos c.args.path.now.items) c.in-Begun.through c.in-Begun.load c.in-Begun.key
+    c.new-reading.result says.reading says.key says.for_cell))
 
 pub returns-in-Err-clause-acts : Rattle.pagable_pageout.proofs.turns.pin.Goals.returns-in-Err-clause-acts
 returns-in-Err-clause-acts g c n shelf = rw c.named-identity.ensures (acts_map c.in-Err.ensures
-    (pin-fails _ _ n shelf c.args.reference c.args.place (todos c.args.path.now.items) c.in-Err.e c.refuse.result _ c.refuse.ensures.plain c.refuse.ensures.todo))
+    (pin-fails _ _ n shelf c.args.reference c.args.place (todos c.args.path.now.items) c.in-Err.e c.refuse.result _ c.refuse.ensures.plain
+    c.refuse.ensures.todo))
 
 pub returns-in-Held-clause-ends : Rattle.pagable_pageout.proofs.turns.pin.Goals.returns-in-Held-clause-ends
 returns-in-Held-clause-ends g c = goes-ends _ _ _ (λ w h. h)

@@ -5,7 +5,12 @@ use Rattle.pagable_pageout.proofs.turns.stored.Goals as goal
 
 pub returns-clause-stored : goal.returns-clause-stored
 returns-clause-stored g c =
-    let says = c.done_with.ensures in rw c.in-Some.is (Task.SetKey c.done_with.result c.in-Some.node.through, refl, rw (says.reference, says.key, says.height) refl, tt)
+    let says = c.done_with.ensures in rw c.in-Some.is (
+      Task.SetKey c.done_with.result c.in-Some.node.through,
+      refl,
+      rw (says.reference, says.key, says.height) refl,
+      tt,
+    )
 
 pub returns-in_default-clause-over : goal.returns-in_default-clause-over
 returns-in_default-clause-over g c =

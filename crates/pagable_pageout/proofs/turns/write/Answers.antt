@@ -8,7 +8,8 @@ use Rattle.pagable_pageout.proofs.turns.write.Goals as goal
 pub returns-in-Ok-clause-goes : goal.returns-in-Ok-clause-goes
 returns-in-Ok-clause-goes g c =
     let node = just_open c.args.reference c.args.place c.args.through (written_of (arc_value c.in-Ok.told)) in
-    let e = c.settle.ensures.todo ∙ ap (λ t. settle (t ∷ todos c.prepare.new.path.items)) c.in-Ok.ensures.open ∙ ap (λ ps. settle (to_finish node ∷ todos ps)) c.in-Ok.ensures.path in
+    let e = c.settle.ensures.todo ∙ ap (λ t. settle (t ∷ todos c.prepare.new.path.items)) c.in-Ok.ensures.open
+    ∙ ap (λ ps. settle (to_finish node ∷ todos ps)) c.in-Ok.ensures.path in
     record {
       way = subst IsWay (sym e) (settle-way node (todos c.args.path.now.items) (omega arith) c.requires.0 (omega (arith, c.requires.1)));
       leads = let same = ap (λ ps. length (todos ps)) c.in-Ok.ensures.path in let less = c.settle.ensures.less in omega (arith, same, less);
@@ -20,19 +21,23 @@ returns-in-Ok-clause-step g c n =
     let e = c.settle.ensures.todo ∙ ap (λ t. settle (t ∷ todos c.prepare.new.path.items)) c.in-Ok.ensures.open
     ∙ ap (λ ps. settle (to_finish (just_open c.args.reference c.args.place c.args.through w) ∷ todos ps)) c.in-Ok.ensures.path in
     let noted = rw c.in-Ok.ensures.listed at c.note_written.ensures in
-    rw c.named-identity.ensures (both-second (tells_map (λ s h. c.in-Ok.ensures.forms s c.args.pin h) c.share-shared.ensures) (rw c.named-identity.ensures at noted)
-    (λ s x y forms same. write-turns _ _ n x y c.args.reference c.args.place c.args.through c.args.pin (todos c.args.path.now.items) _ c.settle.result c.settle.ensures.plain s c.in-Ok.told forms same e))
+    rw c.named-identity.ensures (both-second (tells_map (λ s h. c.in-Ok.ensures.forms s c.args.pin h) c.share-shared.ensures)
+    (rw c.named-identity.ensures at noted)
+    (λ s x y forms same. write-turns _ _ n x y c.args.reference c.args.place c.args.through c.args.pin (todos c.args.path.now.items) _ c.settle.result
+    c.settle.ensures.plain s c.in-Ok.told forms same e))
 
 pub returns-in-Err-clause-step : goal.returns-in-Err-clause-step
 returns-in-Err-clause-step g c n =
     let e = c.refuse.ensures.todo ∙ ap (λ ps. fails (was_refused c.in-Err.e) (back_of None (todos ps))) c.in-Err.ensures.path in
     rw c.named-identity.ensures (both-stays (tells_map (λ s h. c.in-Err.ensures.forms s c.args.pin h) c.share-shared.ensures)
-    (λ s x forms. write-fails _ _ n x x c.args.reference c.args.place c.args.through c.args.pin (todos c.args.path.now.items) _ c.refuse.result c.refuse.ensures.plain s c.in-Err.e forms (same-shelf x) e))
+    (λ s x forms. write-fails _ _ n x x c.args.reference c.args.place c.args.through c.args.pin (todos c.args.path.now.items) _ c.refuse.result
+    c.refuse.ensures.plain s c.in-Err.e forms (same-shelf x) e))
 
 pub returns-in-Ok-clause-ends : goal.returns-in-Ok-clause-ends
 returns-in-Ok-clause-ends g c =
     let node = just_open c.args.reference c.args.place c.args.through (written_of (arc_value c.in-Ok.told)) in
-    let e = c.settle.ensures.todo ∙ ap (λ t. settle (t ∷ todos c.prepare.new.path.items)) c.in-Ok.ensures.open ∙ ap (λ ps. settle (to_finish node ∷ todos ps)) c.in-Ok.ensures.path in
+    let e = c.settle.ensures.todo ∙ ap (λ t. settle (t ∷ todos c.prepare.new.path.items)) c.in-Ok.ensures.open
+    ∙ ap (λ ps. settle (to_finish node ∷ todos ps)) c.in-Ok.ensures.path in
     written-ends _ node (todos c.args.path.now.items) _ c.settle.result (λ w h. h) e
 
 pub returns-in-Err-clause-ends : goal.returns-in-Err-clause-ends

@@ -3,7 +3,8 @@ use Rattle.pagable_tables.proofs.{CallsKeepWhole.known-suits, OwnedByLoad.does-a
 use Rattle.pagable_tables.proofs.cache.cache_get.Goals as goal
 
 pub make-requires-clause-suits : goal.make-requires-clause-suits
-make-requires-clause-suits c = rw c.mode_of.ensures (known-suits c.requires.whole.core c.args.kind.0 c.args.key c.in-Some.node.0 (sym (c.in-Some.ensures no_blobs)))
+make-requires-clause-suits c = rw c.mode_of.ensures (known-suits c.requires.whole.core c.args.kind.0 c.args.key c.in-Some.node.0
+    (sym (c.in-Some.ensures no_blobs)))
 
 pub returns-clause-does : goal.returns-clause-does
 returns-clause-does c = does-as c.in_ok-make.ensures.does

@@ -8,7 +8,8 @@ use Rattle.pagable_tables.proofs.cache.forget_gone.Goals as goal
 abbrev number : Option NodeNumber → Option ℕ
 number o = option_map (λ (n : NodeNumber). n.0) o
 
-left : (at : ℕ → Option Counts) (known : Option NodeNumber) → number (living at known) ≡ if_there (λ n. if is_some (cell_in (at n)) then Some n else None) None (number known)
+left : (at : ℕ → Option Counts) (known : Option NodeNumber) → number (living at known)
+    ≡ if_there (λ n. if is_some (cell_in (at n)) then Some n else None) None (number known)
 left at known = grind (arith, nat_tests)
 
 pub returns-clause-does : goal.returns-clause-does
@@ -22,5 +23,13 @@ returns-clause-does c =
     record {
       does = forgets;
       whole = whole-so c.requires.steady (told-whole (plain_of t1) c.requires.core refl (λ n. refl) refl plain.cache.only (λ l. refl) (λ v. refl) refl);
-      later = λ later. record { given = later.given; since = later.since; begun = later.begun; reach = later.reach; loads = later.loads; noted = later.noted; until = later.until };
+      later = λ later. record {
+        given = later.given;
+        since = later.since;
+        begun = later.begun;
+        reach = later.reach;
+        loads = later.loads;
+        noted = later.noted;
+        until = later.until;
+      };
     }

@@ -9,7 +9,8 @@ use Rattle.pagable_tables.proofs.Words.{plain_of, recall_fault, refl, sym, true,
 use Rattle.pagable_tables.proofs.cache.offer.Goals as goal
 
 pub make-requires-clause-suits : goal.make-requires-clause-suits
-make-requires-clause-suits g c = rw c.mode_of.ensures (known-suits c.requires.whole.core c.args.kind.0 c.args.key c.in-Some.node.0 (sym (c.in-Some.ensures no_blobs)))
+make-requires-clause-suits g c = rw c.mode_of.ensures (known-suits c.requires.whole.core c.args.kind.0 c.args.key c.in-Some.node.0
+    (sym (c.in-Some.ensures no_blobs)))
 
 pub unreachable-requires : goal.unreachable-requires
 unreachable-requires g c =
@@ -18,10 +19,12 @@ unreachable-requires g c =
     grind (arith, nat_tests, again, owner-self, c.in_ok-row.ensures.owns.own, c.in_default-own.ensures.fault no_blobs any_mode)
 
 pub try_release_at-requires-clause-plain : goal.try_release_at-requires-clause-plain
-try_release_at-requires-clause-plain g c = ap is_valued (owner-same c.args.me c.in-Ok.at.row.owner c.in-Ok.ensures.owner) ∙ not-a-value (plain_of c.args.t.now) c.args.me c.requires.holder
+try_release_at-requires-clause-plain g c = ap is_valued (owner-same c.args.me c.in-Ok.at.row.owner c.in-Ok.ensures.owner)
+    ∙ not-a-value (plain_of c.args.t.now) c.args.me c.requires.holder
 
 pub try_release_at-requires-clause-free : goal.try_release_at-requires-clause-free
-try_release_at-requires-clause-free g c = ap (is_owner Owner.List) (owner-same c.args.me c.in-Ok.at.row.owner c.in-Ok.ensures.owner) ∙ not-list (plain_of c.args.t.now) c.args.me c.requires.holder
+try_release_at-requires-clause-free g c = ap (is_owner Owner.List) (owner-same c.args.me c.in-Ok.at.row.owner c.in-Ok.ensures.owner)
+    ∙ not-list (plain_of c.args.t.now) c.args.me c.requires.holder
 
 pub returns : goal.returns
 returns g c =
@@ -29,7 +32,8 @@ returns g c =
     let t1 = c.make.new.t in
     let node = c.in-Some.node in
     let made = c.in_ok-known.ensures.does in
-    let went = lone-falling {w = plain_of t1} made.whole.core (c.try_release_at.ensures.falls (plain_of t1) (plain_of t1) (begun-whole t1 no_blobs true made.whole refl) (omega arith)) in
+    let went = lone-falling {w = plain_of t1} made.whole.core (c.try_release_at.ensures.falls (plain_of t1) (plain_of t1)
+    (begun-whole t1 no_blobs true made.whole refl) (omega arith)) in
     record {
       offered = λ storage e.
           (let w = core_of t storage in
@@ -42,11 +46,21 @@ returns g c =
           let given = found-among c.args.handle.0 w.rows c.in_ok-row.row owns.live in
           let spared : only_handle c.args.handle (w.last.handle + 1) ≡ false =
           let a = (c.requires.whole.core.handles.numbered c.in_ok-row.row given.0).1 in let b = given.1 in grind (arith, nat_tests) in
-          let falls = falls-made t t1 storage node (mode_of c.args.kind.0) c.args.me made.whole alike c.in_ok-known.ensures.same (not-a-value (plain_of t) c.args.me c.requires.holder)
-          c.try_release_at.new.t (rw c.in-Ok.ensures.number at (c.try_release_at.ensures.falls u u begun (let a = ap length alike.rows in omega arith))) spared in
+          let falls = falls-made t t1 storage node (mode_of c.args.kind.0) c.args.me made.whole alike c.in_ok-known.ensures.same
+          (not-a-value (plain_of t) c.args.me c.requires.holder)
+          c.try_release_at.new.t (rw c.in-Ok.ensures.number at (c.try_release_at.ensures.falls u u begun (let a = ap length alike.rows in omega arith)))
+          spared in
           let is = sym (c.in-Some.ensures storage) in
           rw (closed-is c.args.lists storage.closed e ∙ ap not c.if-not-lists.false)
-          (record { answers = (c.in_ok-row.row, owns, c.in_ok-row.ensures.typed, inr (refl, (node.0, is, m.0, record { told = c.try_release_at.result; falls = falls }))); refused = tt }));
+          (record {
+            answers = (
+              c.in_ok-row.row,
+              owns,
+              c.in_ok-row.ensures.typed,
+              inr (refl, (node.0, is, m.0, record { told = c.try_release_at.result; falls = falls })),
+            );
+            refused = tt;
+          }));
       whole = whole-so c.try_release_at.ensures.steady went.whole;
       sheds = λ there.
           stays-first (λ n. c.in_ok-known.ensures.values n (λ eq pins. ap (λ k. has_value (counts_at t.ref_counts.nodes k)) eq
@@ -60,7 +74,8 @@ forget_gone-requires g c =
     let owns : Owns w c.args.me c.args.handle (fits_mode c.args.kind.0) c.in_ok-row.row = grind (arith, nat_tests, c.in_ok-row.ensures.owns) in
     let alike : Alike (with_cached w c.args.kind c.args.key c.in_ok-row.row.node) (plain_of (record c.args.t.now { cache = c.put.new.cache })) =
     grind (arith, nat_tests, same-cache, c.in_ok-put.ensures.here, c.in_ok-put.ensures.others) in
-    whole-so c.requires.whole.steady (learns-whole c.args.me c.args.kind c.args.key c.args.handle c.in_ok-row.row c.requires.whole.core owns c.in_ok-row.ensures.typed alike)
+    whole-so c.requires.whole.steady (learns-whole c.args.me c.args.kind c.args.key c.args.handle c.in_ok-row.row c.requires.whole.core owns
+    c.in_ok-row.ensures.typed alike)
 
 pub returns-in_default-clause-offered : goal.returns-in_default-clause-offered
 returns-in_default-clause-offered g c storage e =
@@ -69,7 +84,15 @@ returns-in_default-clause-offered g c storage e =
     let alike : Alike (with_cached w c.args.kind c.args.key c.in_ok-row.row.node) (core_of (record c.args.t.now { cache = c.put.new.cache }) storage) =
     grind (arith, nat_tests, same-cache, c.in_ok-put.ensures.here, c.in_ok-put.ensures.others) in
     rw (closed-is c.args.lists storage.closed e ∙ ap not c.if-not-lists.false)
-    (record { answers = (c.in_ok-row.row, owns, c.in_ok-row.ensures.typed, (refl, sym (c.in_default.ensures storage), alike-on alike (c.forget_gone.ensures.does.does storage))); refused = tt })
+    (record {
+      answers = (
+        c.in_ok-row.row,
+        owns,
+        c.in_ok-row.ensures.typed,
+        (refl, sym (c.in_default.ensures storage), alike-on alike (c.forget_gone.ensures.does.does storage)),
+      );
+      refused = tt;
+    })
 
 pub returns-in_default-clause-whole : goal.returns-in_default-clause-whole
 returns-in_default-clause-whole g c = c.forget_gone.ensures.does.whole
@@ -85,11 +108,22 @@ returns-in_err-known-clause-offered g c storage e =
     let w = core_of c.args.t.now storage in
     let owns : Owns w c.args.me c.args.handle (fits_mode c.args.kind.0) c.in_ok-row.row = grind (arith, nat_tests, c.in_ok-row.ensures.owns) in
     let is = sym (c.in-Some.ensures storage) in
-    let call = not-recalled w c.args.me c.args.kind c.args.key c.in-Some.node c.mode_of.result _ is c.mode_of.ensures _ (c.in_err-known.ensures.does.does storage) in
-    let cause : offer_fault w c.args.me c.args.kind c.args.key c.args.handle ≡ recall_fault w c.args.kind c.args.key = grind (arith, nat_tests, c.in_ok-row.ensures.typed) in
-    rw (closed-is c.args.lists storage.closed e ∙ ap not c.if-not-lists.false) (rw (failed c.from_residual-in_err-known.result c.from_residual-in_err-known.ensures.1)
-    record { answers = tt; refused = record { why = elim call.refused.why [ inl a ↦ inl (cause ∙ a) | inr b ↦ inr (b.0, cause ∙ b.1, (refl, inr b.2.1)) ]; stays = call.refused.stays } })
+    let call = not-recalled w c.args.me c.args.kind c.args.key c.in-Some.node c.mode_of.result _ is c.mode_of.ensures _
+    (c.in_err-known.ensures.does.does storage) in
+    let cause : offer_fault w c.args.me c.args.kind c.args.key c.args.handle ≡ recall_fault w c.args.kind c.args.key =
+    grind (arith, nat_tests, c.in_ok-row.ensures.typed) in
+    rw (closed-is c.args.lists storage.closed e ∙ ap not c.if-not-lists.false)
+    (rw (failed c.from_residual-in_err-known.result c.from_residual-in_err-known.ensures.1)
+    record {
+      answers = tt;
+      refused = record {
+        why = elim call.refused.why [ inl a ↦ inl (cause ∙ a) | inr b ↦ inr (b.0, cause ∙ b.1, (refl, inr b.2.1)) ];
+        stays = call.refused.stays;
+      };
+    })
 
 pub returns-in_err-known-clause-sheds : goal.returns-in_err-known-clause-sheds
-returns-in_err-known-clause-sheds g c there = stays-first (λ n. c.in_err-known.ensures.values n (λ eq pins. ap (λ k. has_value (counts_at c.args.t.now.ref_counts.nodes k)) eq
-    ∙ there c.in-Some.node.0 (sym (c.in-Some.ensures no_blobs)) (ap is_pinning (sym c.mode_of.ensures) ∙ pins))) (sheds-still c.make.new.t.ref_counts _ c.in_err-known.ensures.does.whole.steady)
+returns-in_err-known-clause-sheds g c there = stays-first (λ n. c.in_err-known.ensures.values n
+    (λ eq pins. ap (λ k. has_value (counts_at c.args.t.now.ref_counts.nodes k)) eq
+    ∙ there c.in-Some.node.0 (sym (c.in-Some.ensures no_blobs)) (ap is_pinning (sym c.mode_of.ensures) ∙ pins)))
+    (sheds-still c.make.new.t.ref_counts _ c.in_err-known.ensures.does.whole.steady)

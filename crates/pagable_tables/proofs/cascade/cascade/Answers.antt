@@ -6,7 +6,8 @@ fall-preserved g c =
     let s : Steps c.fall.t i.0 c.args.lists c.step-done.result c.step-done.new.t = c.step-done.ensures i.0 i.1 in
     let so-far = c.fall.invariant.3 in (
       (s.rest, s.falling, omega (arith, i.2)),
-      λ before w given f. steps-on before w given c.args.lists c.fall.t c.step-done.new.t i.0 c.step-done.result (c.fall.invariant.1 before w given f) i.1 c.fall-test.true s,
+      λ before w given f. steps-on before w given c.args.lists c.fall.t c.step-done.new.t i.0 c.step-done.result (c.fall.invariant.1 before w given f) i.1
+          c.fall-test.true s,
       λ kept n. lasts-on (is_node c.step-done.result n) (counts_at c.fall.t.nodes n)
           (counts_at c.step-done.new.t.nodes n) _ _ _ (c.drop_value.ensures n) (λ other. s.values n (λ eq. absurd (grind (arith, nat_tests))))
           (λ is. let gone = s.gone in grind (arith, nat_tests)) (c.fall.invariant.2 kept n),
@@ -16,4 +17,5 @@ fall-preserved g c =
 
 pub returns-clause-falls : Rattle.pagable_tables.proofs.cascade.cascade.Goals.returns-clause-falls
 returns-clause-falls g c before w given so-far =
-    ended before w given c.args.lists c.fall.t (c.fall.invariant.1 before w given so-far) (none-falls c.fall.t c.fall.invariant.0.0 c.fall.invariant.0.1 (omega arith))
+    ended before w given c.args.lists c.fall.t (c.fall.invariant.1 before w given so-far)
+    (none-falls c.fall.t c.fall.invariant.0.0 c.fall.invariant.0.1 (omega arith))

@@ -6,7 +6,8 @@ use Rattle.pagable_tables.proofs.cascade.cascade.Given as goal
 abbrev pub invariant-fall : goal.invariant-fall
 invariant-fall g l = ((stack : List ℕ) × IsFalling l.t stack owns_nothing × (2 * valued (live l.t.handles.places.items) + length stack ≤ l.left))
     × ((before w : Core) (given : ℕ → Bool) → SoFar before w given l.lists l.initial.t → SoFar before w given l.lists l.t)
-    × (AreKept (counts_at l.initial.t.nodes) (row_by l.initial.values) → (n : ℕ) → Lasting (counts_at l.t.nodes n) (row_by l.initial.values n) (row_by l.values n))
+    × (AreKept (counts_at l.initial.t.nodes) (row_by l.initial.values) → (n : ℕ)
+    → Lasting (counts_at l.t.nodes n) (row_by l.initial.values n) (row_by l.values n))
     × (length (live l.t.handles.places.items) ≤ length (live l.initial.t.handles.places.items))
     × (l.lists ≡ false → l.t.list.items ≡ l.initial.t.list.items)
 

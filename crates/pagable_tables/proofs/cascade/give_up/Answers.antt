@@ -19,18 +19,28 @@ returns c stack w =
     let left : c.counts_after-left.result ≡ after counts (is_pinning x.mode) stays listed old.top = grind (arith, nat_tests, c.counts_after-left.ensures) in
     let b = is_fallen_by counts (is_pinning x.mode) (counts.pins - one (is_pinning x.mode)) ((if stays then counts.holds else counts.holds - 1) + one listed) in
     let k = c.leave_work.ensures in
-    let here : counts_at c.leave_work.new.nodes n ≡ Some (after counts (is_pinning x.mode) stays listed old.top) = k.counts n ∙ c.set_counts.ensures.here ∙ ap Some left in
-    let others : (m : ℕ) → m ≢ n → counts_at c.leave_work.new.nodes m ≡ counts_at old.nodes m = λ m ne. k.counts m ∙ c.set_counts.ensures.others m ne ∙ ap (λ s. counts_at s m) e.nodes in
+    let here : counts_at c.leave_work.new.nodes n ≡ Some (after counts (is_pinning x.mode) stays listed old.top) =
+    k.counts n ∙ c.set_counts.ensures.here ∙ ap Some left in
+    let others : (m : ℕ) → m ≢ n → counts_at c.leave_work.new.nodes m ≡ counts_at old.nodes m =
+    λ m ne. k.counts m ∙ c.set_counts.ensures.others m ne ∙ ap (λ s. counts_at s m) e.nodes in
     let same : (m : ℕ) → refs_at c.leave_work.new.nodes m ≡ refs_at old.nodes m = λ m. k.refs m ∙ c.set_counts.ensures.refs m ∙ ap (λ s. refs_at s m) e.nodes in
     let some : one (is_pinning x.mode) ≤ counts.pins =
-    omega (arith, w.fits.pinned n, ap pins_in is, row-le-live (λ h. one (is_pin n h)) old.handles.places.items c.args.at.place x c.requires.place, pin-here x) in
+    omega (
+      arith,
+      w.fits.pinned n,
+      ap pins_in is,
+      row-le-live (λ h. one (is_pin n h)) old.handles.places.items c.args.at.place x c.requires.place,
+      pin-here x,
+    ) in
     let live' : 1 ≤ counts.holds = grind (arith, nat_tests, row-le-live, held-here, c.requires.place) in
     let top : c.top_after-t.result ≡ (if b then n else old.top) = grind (arith, nat_tests, c.top_after-t.ensures) in
     let at' = counts_at c.leave_work.new.nodes in
     let refs' = refs_at c.leave_work.new.nodes in
     let rows' = live mid.handles.places.items in
-    let sums : (f : HandleRow → ℕ) → sum_by f rows' + f x ≡ sum_by f (live old.handles.places.items) + (if stays then f (unpinned x) else 0) + (if listed then f (entry (old.last_handle + 1) x.node) else 0) =
-    λ f. let a = c.remove_or_unpin.ensures.sums f in let d = ap (sum_by f) e.rows in let g = with-entry f (live c.remove_or_unpin.new.handles.places.items) listed (old.last_handle + 1) x.node in omega arith in
+    let sums : (f : HandleRow → ℕ) → sum_by f rows' + f x ≡ sum_by f (live old.handles.places.items) + (if stays then f (unpinned x) else 0) +
+    (if listed then f (entry (old.last_handle + 1) x.node) else 0) =
+    λ f. let a = c.remove_or_unpin.ensures.sums f in let d = ap (sum_by f) e.rows in let g =
+    with-entry f (live c.remove_or_unpin.new.handles.places.items) listed (old.last_handle + 1) x.node in omega arith in
     let plain = λ (so : stays ≡ true) (m q : ℕ). owned-by-none m q x (c.requires.plain so) in
     record {
       left = c.remove_or_unpin.new.handles;
@@ -48,7 +58,8 @@ returns c stack w =
         sound = e.sound;
         next = e.next;
         fits = subst (λ t. Fits at' refs' rows' t (if b then n ∷ stack else stack) owns_nothing) (sym top)
-            (given-fits _ at' _ refs' _ rows' old.top stack x counts stays listed (old.last_handle + 1) w.fits is plain sums here others same some live' b refl);
+            (given-fits _ at' _ refs' _ rows' old.top stack x counts stays listed (old.last_handle + 1) w.fits is plain sums here others same some live' b
+            refl);
         worked = λ m.
             let was = c.set_counts.ensures.work m ∙ ap (λ s. work_at s m) e.nodes in
             let sum = sums (λ h. one (is_work m h)) in

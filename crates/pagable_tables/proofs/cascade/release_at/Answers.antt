@@ -5,7 +5,8 @@ pub give_up-requires-clause-falling : goal.give_up-requires-clause-falling
 give_up-requires-clause-falling g c = ([], unowned c.args.t.now c.args.at.row [] c.requires.plain c.requires.steady)
 
 pub cascade-requires : goal.cascade-requires
-cascade-requires g c = let e = c.give_up.ensures [] (unowned c.args.t.now c.args.at.row [] c.requires.plain c.requires.steady) in record { falling = (e.more, e.falling, omega (arith, e.long)) }
+cascade-requires g c = let e = c.give_up.ensures [] (unowned c.args.t.now c.args.at.row [] c.requires.plain c.requires.steady) in
+    record { falling = (e.more, e.falling, omega (arith, e.long)) }
 
 pub returns : goal.returns
 returns g c =
@@ -14,7 +15,8 @@ returns g c =
     record {
       steady = c.cascade.ensures.whole;
       fewer = omega (arith, c.cascade.ensures.fewer, gives-fewer e);
-      so_far = λ before w given f few free. c.cascade.ensures.so_far before w _ (gives-on before w given c.args.lists c.args.t.now c.give_up.new.t [] c.args.at.row f s.fits.pinned free few e);
+      so_far = λ before w given f few free. c.cascade.ensures.so_far before w _
+          (gives-on before w given c.args.lists c.args.t.now c.give_up.new.t [] c.args.at.row f s.fits.pinned free few e);
       unlisting = λ none. c.cascade.ensures.unlisting none ∙ gives-unlisted none e;
       sheds = stays-first e.values c.cascade.ensures.sheds;
     }

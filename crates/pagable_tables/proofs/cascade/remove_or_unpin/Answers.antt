@@ -5,4 +5,8 @@ returns-then-stays c =
     let old = c.args.handles.now in
     let at = c.args.at in
     let changes = changed-known old.places.items at.place at.row c.requires.sound.ordered c.requires.place unpinned in
-    rw c.if-stays.true (record { becomes = subst (λ rows. Becomes old rows c.set.new.handles) changes c.set.ensures.becomes; sums = c.set.ensures.sums; there = λ f. row-le-live f old.places.items at.place at.row c.requires.place })
+    rw c.if-stays.true (record {
+      becomes = subst (λ rows. Becomes old rows c.set.new.handles) changes c.set.ensures.becomes;
+      sums = c.set.ensures.sums;
+      there = λ f. row-le-live f old.places.items at.place at.row c.requires.place;
+    })

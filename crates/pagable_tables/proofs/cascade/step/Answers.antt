@@ -9,17 +9,29 @@ use Rattle.pagable_tables.specs.{CascadeInvariant.is_work, Nodes.work_at}
 use Rattle.pagable_tables.proofs.cascade.step.Goals as goal
 
 -- the first node that falls has this reference, which was taken
-module _ (t mid : RefCounts) (ns : List ℕ) (p : ArcRef) (i : ℕ) (x : HandleRow) (w : IsFalling t (t.top ∷ ns) owns_nothing) (popped : refs_at t.nodes t.top ≡ refs_at mid.nodes t.top ++ p ∷ [])
+module _ (t mid : RefCounts) (ns : List ℕ) (p : ArcRef) (i : ℕ) (x : HandleRow) (w : IsFalling t (t.top ∷ ns) owns_nothing)
+    (popped : refs_at t.nodes t.top ≡ refs_at mid.nodes t.top ++ p ∷ [])
     (others : (m : ℕ) → m ≢ t.top → refs_at mid.nodes m ≡ refs_at t.nodes m) (same : (m : ℕ) → counts_at mid.nodes m ≡ counts_at t.nodes m)
-    (work : (m : ℕ) → work_at mid.nodes m ≡ work_at t.nodes m) (at : slice_get t.handles.places.items i ≡ Some (alive x)) (number : x.number.0 ≡ p.handle.0) where
+    (work : (m : ℕ) → work_at mid.nodes m ≡ work_at t.nodes m) (at : slice_get t.handles.places.items i ≡ Some (alive x))
+    (number : x.number.0 ≡ p.handle.0) where
   taken : (x.owner ≡ owner_value t.top) × IsFalling (record t { nodes = mid.nodes }) (t.top ∷ ns) (owns x)
   taken =
-      let a = taken-owned (counts_at t.nodes) (counts_at mid.nodes) (refs_at t.nodes) (refs_at mid.nodes) (live t.handles.places.items) t.top ns p w.fits popped others same in
+      let a = taken-owned (counts_at t.nodes) (counts_at mid.nodes) (refs_at t.nodes) (refs_at mid.nodes) (live t.handles.places.items) t.top ns p w.fits popped
+      others same in
       let b = only-row (is_owned t.top p.handle.0) t.handles.places.items i x w.sound.ordered at (λ h. grind (arith, nat_tests)) in
       let its : is_owned t.top p.handle.0 x ≡ 1 = grind (arith, nat_tests) in
       let o : (x.owner ≡ owner_value t.top) × ((m r : ℕ) → is_owned m r x ≡ one (t.top == m && p.handle.0 == r)) = grind (arith, nat_tests) in
-      let fits = taken-fits (counts_at t.nodes) (counts_at mid.nodes) (refs_at t.nodes) (refs_at mid.nodes) (live t.handles.places.items) t.top ns p w.fits popped others same x o.1 in
-      (o.0, record { sound = w.sound; next = w.next; fits = fits; worked = work-more (live t.handles.places.items) t.nodes mid.nodes (λ m. rw (work m) (omega arith)) w.worked })
+      let fits = taken-fits (counts_at t.nodes) (counts_at mid.nodes) (refs_at t.nodes) (refs_at mid.nodes) (live t.handles.places.items) t.top ns p w.fits
+      popped others same x o.1 in (
+        o.0,
+        record {
+          sound = w.sound;
+          next = w.next;
+          fits = fits;
+          worked = work-more (live t.handles.places.items) t.nodes mid.nodes
+              (λ m. rw (work m) (omega arith)) w.worked;
+        },
+      )
 
 pub give_up-requires-clause-falling : goal.give_up-requires-clause-falling
 give_up-requires-clause-falling c =
@@ -27,8 +39,11 @@ give_up-requires-clause-falling c =
     let s = top-stands t c.requires.falling.0 c.requires.some c.requires.falling.1 in
     let e = c.in-Some.ensures in
     let f = c.in-Some-look.ensures in
-    let number = ap (λ (n : HandleNumber). n.0) f.number in
-    (t.top ∷ s.0, (taken t (record t { nodes = c.pop_reference.new.nodes }) s.0 c.in-Some.reference c.in-Some-look.at.place c.in-Some-look.at.row s.2 e.here e.others e.counts e.work f.place number).1)
+    let number = ap (λ (n : HandleNumber). n.0) f.number in (
+      t.top ∷ s.0,
+      (taken t (record t { nodes = c.pop_reference.new.nodes }) s.0 c.in-Some.reference c.in-Some-look.at.place c.in-Some-look.at.row s.2 e.here
+          e.others e.counts e.work f.place number).1,
+    )
 
 pub unreachable-requires : goal.unreachable-requires
 unreachable-requires c =
@@ -41,7 +56,8 @@ unreachable-requires c =
 
 -- nothing was taken
 untouched : (t mid : RefCounts) (stack : List ℕ) → IsFalling t stack owns_nothing → refs_at t.nodes t.top ≡ refs_at mid.nodes t.top ++ []
-    → ((m : ℕ) → m ≢ t.top → refs_at mid.nodes m ≡ refs_at t.nodes m) → ((m : ℕ) → counts_at mid.nodes m ≡ counts_at t.nodes m) → ((m : ℕ) → work_at mid.nodes m ≡ work_at t.nodes m)
+    → ((m : ℕ) → m ≢ t.top → refs_at mid.nodes m ≡ refs_at t.nodes m) → ((m : ℕ) → counts_at mid.nodes m ≡ counts_at t.nodes m)
+    → ((m : ℕ) → work_at mid.nodes m ≡ work_at t.nodes m)
     → IsFalling (record t { nodes = mid.nodes }) stack owns_nothing
 untouched t mid stack w here others same work =
     let refs : (m : ℕ) → refs_at mid.nodes m ≡ refs_at t.nodes m = λ m. grind (arith, nat_tests, cases_eq, append-nil) in
@@ -83,7 +99,20 @@ returns-in-Some-look c stack w =
       gone = tt;
       fewer = gives-fewer g;
       unlisting = λ none. gives-unlisted none g;
-      what = inr (x, t.top, refl, record { owner = o.0; fallen = fallen _ (refs_at t.nodes) _ t.top s.0 s.2.fits; popped = mid; same = refl; counts = e.counts; stack = t.top ∷ s.0; gives = g });
+      what = inr (
+        x,
+        t.top,
+        refl,
+        record {
+          owner = o.0;
+          fallen = fallen _ (refs_at t.nodes) _ t.top s.0 s.2.fits;
+          popped = mid;
+          same = refl;
+          counts = e.counts;
+          stack = t.top ∷ s.0;
+          gives = g;
+        },
+      );
     }
 
 pub returns-in-None : goal.returns-in-None
@@ -96,7 +125,8 @@ returns-in-None c stack w =
     let l = c.finish_node.ensures in
     let s = top-stands mid stack c.requires.some (untouched t mid stack w e.here e.others e.counts e.work) in
     let is : at t.top ≡ Some c.unwrap-counts.result = sym c.counts_of.ensures ∙ c.unwrap-counts.ensures in
-    let done = done-fits at new (refs_at mid.nodes) (refs_at c.finish_node.new.nodes) _ t.top s.0 c.unwrap-counts.result s.2.fits is l.here e.none l.others l.refs c.requires.some in
+    let done = done-fits at new (refs_at mid.nodes) (refs_at c.finish_node.new.nodes) _ t.top s.0 c.unwrap-counts.result s.2.fits is l.here e.none l.others
+    l.refs c.requires.some in
     record {
       rest = s.0;
       falling = record {
@@ -110,8 +140,10 @@ returns-in-None c stack w =
       };
       less = omega (arith, ap length s.1);
       cells = λ m some. grind (arith, nat_tests, cases_eq m t.top, is, l.here, l.others m, e.counts m);
-      values = λ m ne. let other = l.others m (λ eq. ne (ap (λ k. Some (record { 0 = k })) (sym eq))) in subst (λ o. ValueStays o (new m)) (other ∙ e.counts m) (λ falls. (falls, refl));
-      gone = done-gone at new (refs_at mid.nodes) (refs_at c.finish_node.new.nodes) _ t.top s.0 c.unwrap-counts.result s.2.fits is l.here e.none l.others l.refs c.requires.some;
+      values = λ m ne. let other = l.others m (λ eq. ne (ap (λ k. Some (record { 0 = k })) (sym eq))) in
+          subst (λ o. ValueStays o (new m)) (other ∙ e.counts m) (λ falls. (falls, refl));
+      gone = done-gone at new (refs_at mid.nodes) (refs_at c.finish_node.new.nodes) _ t.top s.0 c.unwrap-counts.result s.2.fits is l.here e.none l.others l.refs
+          c.requires.some;
       fewer = omega arith;
       unlisting = λ none. refl;
       what = inl (refl, refl);

@@ -14,13 +14,17 @@ loop-i-preserved c =
     record {
       seen = (get_or rs l.i blank).handle.0 ∷ l.invariant.seen;
       same = seen-more l.invariant.seen rs l.i blank (omega arith) l.invariant.same;
-      lowest = λ q below. named-other rs l.i blank q (omega (arith, c.min-lowest.ensures)) (omega arith) (l.invariant.lowest q (omega (arith, c.min-lowest.ensures)));
-      highest = λ q above. named-other rs l.i blank q (omega (arith, c.max-highest.ensures)) (omega arith) (l.invariant.highest q (omega (arith, c.max-highest.ensures)));
-      rest = λ storage. l.invariant.rest storage ∙ fault-at (core_of c.args.t.now storage) c.args.me l.invariant.seen rs l.i blank None (omega arith) (none storage);
+      lowest = λ q below. named-other rs l.i blank q (omega (arith, c.min-lowest.ensures)) (omega arith)
+          (l.invariant.lowest q (omega (arith, c.min-lowest.ensures)));
+      highest = λ q above. named-other rs l.i blank q (omega (arith, c.max-highest.ensures)) (omega arith)
+          (l.invariant.highest q (omega (arith, c.max-highest.ensures)));
+      rest = λ storage. l.invariant.rest storage ∙ fault-at (core_of c.args.t.now storage) c.args.me l.invariant.seen rs l.i blank None (omega arith)
+          (none storage);
     }
 
 pub returns-in-Some : Rattle.pagable_tables.proofs.checks.references_fault.Goals.returns-in-Some
 returns-in-Some c storage =
     let l = c.loop-i in
     let fault = sym (c.fault_of.ensures storage l.invariant.seen (l.invariant.same _ ∙ sym c.is_named-is_seen.ensures)) ∙ c.in-Some.is in
-    sym (l.invariant.rest storage ∙ fault-at (core_of c.args.t.now storage) c.args.me l.invariant.seen c.args.references.now l.i _ (Some c.in-Some.e) (omega arith) fault)
+    sym (l.invariant.rest storage ∙ fault-at (core_of c.args.t.now storage) c.args.me l.invariant.seen c.args.references.now l.i _ (Some c.in-Some.e)
+    (omega arith) fault)

@@ -8,5 +8,6 @@ invariant-loop-i l = record {
   same : (q : ℕ) → is_in seen q ≡ is_named_by (take l.i l.references) q;
   lowest : (q : ℕ) → q < l.lowest → is_named_by (take l.i l.references) q ≡ false;
   highest : (q : ℕ) → l.highest < q → is_named_by (take l.i l.references) q ≡ false;
-  rest : (storage : StorageView) → references_fault (core_of l.t storage) l.me [] l.references ≡ references_fault (core_of l.t storage) l.me seen (drop l.i l.references);
+  rest : (storage : StorageView) → references_fault (core_of l.t storage) l.me [] l.references
+      ≡ references_fault (core_of l.t storage) l.me seen (drop l.i l.references);
 }

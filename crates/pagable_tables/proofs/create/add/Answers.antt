@@ -19,7 +19,8 @@ returns c =
       made = λ w. record {
         made = (
           record { above = refl; is_left = search rules },
-          alike _ _ c.in_ok-push.ensures.rows (λ q. grind (arith, nat_tests, cases_eq q m, is, here, e.others q, k.counts q)) refl (record { handles = c.push.ensures.capacity; entries = omega arith }) refl,
+          alike _ _ c.in_ok-push.ensures.rows (λ q. grind (arith, nat_tests, cases_eq q m, is, here, e.others q, k.counts q)) refl
+              (record { handles = c.push.ensures.capacity; entries = omega arith }) refl,
         );
         refused = tt;
       };
@@ -27,9 +28,11 @@ returns c =
       steady = record {
         sound = c.push.ensures.sound;
         next = c.in_ok-push.ensures.next;
-        fits = rows-told _ _ _ _ t.top c.in_ok-push.ensures.rows (come-fits _ _ _ _ _ t.top x y fits is here (λ q ne. k.counts q ∙ e.others q ne) (λ q. k.refs q ∙ e.refs q) c.requires.owner);
+        fits = rows-told _ _ _ _ t.top c.in_ok-push.ensures.rows (come-fits _ _ _ _ _ t.top x y fits is here (λ q ne. k.counts q ∙ e.others q ne)
+            (λ q. k.refs q ∙ e.refs q) c.requires.owner);
         worked = work-told c.add_work.new.nodes (rows ++ x ∷ []) (live c.push.new.handles.places.items) c.in_ok-push.ensures.rows
             (work-push rows x t.nodes c.add_work.new.nodes c.requires.steady.worked (λ n. let a = k.others n in let b = e.work n in omega arith)
-            (k.here _ (let a = work-few m rows in let b = length-live-le t.handles.places.items in grind (arith, nat_tests)) (let a = c.requires.steady.worked m in let b = e.work m in omega arith)));
+            (k.here _ (let a = work-few m rows in let b = length-live-le t.handles.places.items in grind (arith, nat_tests))
+            (let a = c.requires.steady.worked m in let b = e.work m in omega arith)));
       };
     }

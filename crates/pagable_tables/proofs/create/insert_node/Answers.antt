@@ -22,17 +22,21 @@ returns-clause-does c =
     let others : (q : ℕ) → q ≢ n → counts_at c.put.new.self q ≡ at q = λ q ne. ap (option_map (λ (r : NodeRow). r.counts)) (c.put.ensures.others q ne) in
     let refers = λ (o : Option NodeRow). option_map_or (λ (r : NodeRow). r.references.items) o [] in
     let free : at n ≡ None = let given = w.core.handles.nodes_numbered n in grind (arith, nat_tests) in
-    let rows = c.in-Ok.ensures.rows ∙ ap (λ l. l ++ x ∷ []) (c.hand_over_all.ensures.rows ∙ ap (λ l. moved (is_named_by l) (owner_value n) (live t.handles.places.items)) c.deref.ensures.value) in
+    let rows = c.in-Ok.ensures.rows ∙ ap (λ l. l ++ x ∷ []) (c.hand_over_all.ensures.rows
+    ∙ ap (λ l. moved (is_named_by l) (owner_value n) (live t.handles.places.items)) c.deref.ensures.value) in
     let given = moved (is_named_by rs) (owner_value n) (live t.handles.places.items) in
     let works = λ (o : Option NodeRow). option_map_or (λ (r : NodeRow). r.at_work) o 0 in
     let before = work-moved t.nodes (is_named_by rs) (owner_value n) (live t.handles.places.items) refl w.steady.worked in
     let none : work_at t.nodes n ≡ 0 = grind (arith, nat_tests, free) in
     let worker : work_at c.put.new.self n ≡ one (is_worker me) = grind (arith, nat_tests, ap works c.put.ensures.here, c.is_worker.ensures) in
-    let more : (q : ℕ) → work_at t.nodes q ≤ work_at c.put.new.self q = λ q. let a = λ (ne : q ≢ n). ap works (c.put.ensures.others q ne) in grind (arith, nat_tests, cases_eq q n) in
+    let more : (q : ℕ) → work_at t.nodes q ≤ work_at c.put.new.self q = λ q. let a =
+    λ (ne : q ≢ n). ap works (c.put.ensures.others q ne) in grind (arith, nat_tests, cases_eq q n) in
     let worked = work-push given x t.nodes c.put.new.self before more (let a = before n in omega (arith, none, worker)) in
     let unvalued = not-a-value (plain_of u) me c.requires.holder in
-    let fits = born-fits (plain_of u) me rs w.core.handles.ordered c.requires.fit unvalued at (counts_at c.put.new.self) (refs_at t.nodes) (refs_at c.put.new.self) t.top x _ w.steady.fits refl
-    refl (elim c.requires.bare [ inl none ↦ inl none | inr so ↦ inr so.1 ]) (omega arith) free here others (ap refers c.put.ensures.here) (λ q ne. ap refers (c.put.ensures.others q ne)) in
+    let fits = born-fits (plain_of u) me rs w.core.handles.ordered c.requires.fit unvalued at (counts_at c.put.new.self) (refs_at t.nodes)
+    (refs_at c.put.new.self) t.top x _ w.steady.fits refl
+    refl (elim c.requires.bare [ inl none ↦ inl none | inr so ↦ inr so.1 ]) (omega arith) free here others (ap refers c.put.ensures.here)
+    (λ q ne. ap refers (c.put.ensures.others q ne)) in
     does-so (λ storage. grind (arith, nat_tests, same-cache))
     (record {
       sound = c.push.ensures.sound;
@@ -40,4 +44,5 @@ returns-clause-does c =
       fits = rows-told (counts_at c.put.new.self) (refs_at c.put.new.self) _ _ t.top rows fits;
       worked = work-told c.put.new.self (given ++ x ∷ []) (live c.push.new.handles.places.items) rows worked;
     })
-    (bears-goes me c.args.node_type c.args.key rs c.args.mode _ w.core c.requires.holder c.requires.fit c.requires.ready.node_left (elim c.requires.bare [ inl none ↦ λ is. ap (λ k. has_key (key_in k)) none | inr so ↦ λ is. absurd (let a = so.0 in cc) ])) refl refl refl
+    (bears-goes me c.args.node_type c.args.key rs c.args.mode _ w.core c.requires.holder c.requires.fit c.requires.ready.node_left
+    (elim c.requires.bare [ inl none ↦ λ is. ap (λ k. has_key (key_in k)) none | inr so ↦ λ is. absurd (let a = so.0 in cc) ])) refl refl refl

@@ -11,11 +11,21 @@ returns c =
     let row = c.in_ok-at.at.row in
     let number = c.in_ok-at.ensures.number in
     does-as c.set_loose_pinned.ensures.does (λ storage turned. record {
-      turned = (row, record { live = c.in_ok-at.ensures.found; own = owner-same c.args.me row.owner c.in_ok-at.ensures.owner; as_asked = search rules }, number, rw number at turned);
+      turned = (
+        row,
+        record { live = c.in_ok-at.ensures.found; own = owner-same c.args.me row.owner c.in_ok-at.ensures.owner; as_asked = search rules },
+        number,
+        rw number at turned,
+      );
       refused = tt;
     })
 
 pub set_loose_pinned-requires-clause-unlisted : goal.set_loose_pinned-requires-clause-unlisted
 set_loose_pinned-requires-clause-unlisted c =
     let pinned : is_pinned c.in_ok-at.at.row.mode ≡ true = search rules in
-    grind (arith, nat_tests, c.requires.core.owners_there.waiting c.in_ok-at.at.row (found-among c.args.handle.0 _ c.in_ok-at.at.row c.in_ok-at.ensures.found).0)
+    grind (
+      arith,
+      nat_tests,
+      c.requires.core.owners_there.waiting c.in_ok-at.at.row
+          (found-among c.args.handle.0 _ c.in_ok-at.at.row c.in_ok-at.ensures.found).0,
+    )

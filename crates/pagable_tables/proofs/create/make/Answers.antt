@@ -4,7 +4,8 @@ use Rattle.pagable_tables.proofs.Words.{NodeNumber, ap, arith, core_of, counts_a
 pub add-requires-clause-live : Rattle.pagable_tables.proofs.create.make.Goals.add-requires-clause-live
 add-requires-clause-live c =
     let d = c.requires.whole.steady.fits.holding c.args.node.0 in
-    let e = held-some c.args.node.0 (plain_of c.args.t.now).rows c.requires.suits.row c.requires.suits.there (ap (λ (k : NodeNumber). k.0) c.requires.suits.at) in
+    let e = held-some c.args.node.0 (plain_of c.args.t.now).rows c.requires.suits.row c.requires.suits.there
+    (ap (λ (k : NodeNumber). k.0) c.requires.suits.at) in
     some-held (counts_at c.args.t.now.ref_counts.nodes c.args.node.0) (omega arith)
 
 pub returns-clause-does : Rattle.pagable_tables.proofs.create.make.Goals.returns-clause-does

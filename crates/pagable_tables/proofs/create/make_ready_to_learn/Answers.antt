@@ -3,7 +3,8 @@ use Rattle.pagable_tables.proofs.create.make_ready_to_learn.Goals as goal
 
 pub returns-in_err-and-clause-does : goal.returns-in_err-and-clause-does
 returns-in_err-and-clause-does c = widens-does c.args.t.now _ _ _ c.requires c.reserve-handles.ensures.widens
-    (λ n. rw (c.reserve-nodes.ensures.rows n) refl) (λ n. rw (c.reserve-nodes.ensures.rows n) refl) (λ n. rw (c.reserve-nodes.ensures.rows n) refl) (λ kind key. rw c.reserve-cache.ensures.entries refl)
+    (λ n. rw (c.reserve-nodes.ensures.rows n) refl) (λ n. rw (c.reserve-nodes.ensures.rows n) refl) (λ n. rw (c.reserve-nodes.ensures.rows n) refl)
+    (λ kind key. rw c.reserve-cache.ensures.entries refl)
 
 pub returns-in_err-and-clause-refused : goal.returns-in_err-and-clause-refused
 returns-in_err-and-clause-refused c storage = rw (failed c.from_residual.result c.from_residual.ensures.1)
@@ -11,4 +12,5 @@ returns-in_err-and-clause-refused c storage = rw (failed c.from_residual.result 
 
 pub returns-clause-does : goal.returns-clause-does
 returns-clause-does c = widens-does c.args.t.now _ _ _ c.requires c.reserve-handles.ensures.widens
-    (λ n. rw (c.reserve-nodes.ensures.rows n) refl) (λ n. rw (c.reserve-nodes.ensures.rows n) refl) (λ n. rw (c.reserve-nodes.ensures.rows n) refl) (λ kind key. rw c.reserve-cache.ensures.entries refl)
+    (λ n. rw (c.reserve-nodes.ensures.rows n) refl) (λ n. rw (c.reserve-nodes.ensures.rows n) refl) (λ n. rw (c.reserve-nodes.ensures.rows n) refl)
+    (λ kind key. rw c.reserve-cache.ensures.entries refl)

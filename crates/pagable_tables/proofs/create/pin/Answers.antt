@@ -8,7 +8,8 @@ pub returns-in_err-at : goal.returns-in_err-at
 returns-in_err-at c = rw (failed c.from_residual.result c.from_residual.ensures.1) (nothing-does c.requires.whole
     (λ storage.
     let w = core_of c.args.t.now storage in
-    let why = handle-first w c.args.me c.args.handle is_loose c.in_err-at.field-0.0 _ (c.in_err-at.ensures.fault storage is_loose) (λ f so. let a = spent-late w.last.handle _ f so in omega arith) in
+    let why = handle-first w c.args.me c.args.handle is_loose c.in_err-at.field-0.0 _ (c.in_err-at.ensures.fault storage is_loose)
+    (λ f so. let a = spent-late w.last.handle _ f so in omega arith) in
     record { pins = tt; refused = record { why = inl why; stays = still _ } }))
 
 pub returns : goal.returns
@@ -18,7 +19,11 @@ returns c =
     (λ storage m.
     let w = core_of c.args.t.now storage in
     let here : is_here w row.node.0 ≡ true = search rules in
-    let owns : Owns w c.args.me c.args.handle is_loose row = record { live = c.in_ok-at.ensures.found; own = owner-same c.args.me row.owner c.in_ok-at.ensures.owner; as_asked = search rules } in
+    let owns : Owns w c.args.me c.args.handle is_loose row = record {
+      live = c.in_ok-at.ensures.found;
+      own = owner-same c.args.me row.owner c.in_ok-at.ensures.owner;
+      as_asked = search rules;
+    } in
     record { pins = (row, owns, (here, m.pinned.0, rw c.in_ok-at.ensures.number at m.pinned.1)); refused = tt })
 
 pub returns-in_err-pin_here : goal.returns-in_err-pin_here
@@ -29,6 +34,16 @@ returns-in_err-pin_here c =
     let w = core_of c.args.t.now storage in
     let here : is_here w row.node.0 ≡ true = search rules in
     let so : is_handle_here w c.args.handle ≡ true = ap (if_there (λ (row : HandleRow). is_here w row.node.0) false) c.in_ok-at.ensures.found ∙ here in
-    let owns : Owns w c.args.me c.args.handle is_loose row = record { live = c.in_ok-at.ensures.found; own = owner-same c.args.me row.owner c.in_ok-at.ensures.owner; as_asked = search rules } in
+    let owns : Owns w c.args.me c.args.handle is_loose row = record {
+      live = c.in_ok-at.ensures.found;
+      own = owner-same c.args.me row.owner c.in_ok-at.ensures.owner;
+      as_asked = search rules;
+    } in
     let cause : pin_fault w c.args.me c.args.handle ≡ spent w.last.handle = grind (arith, nat_tests) in
-    record { pins = tt; refused = record { why = elim m.refused.why [ inl a ↦ inl (cause ∙ a) | inr b ↦ inr (b.0, cause ∙ b.1, (so, b.2)) ]; stays = m.refused.stays } }))
+    record {
+      pins = tt;
+      refused = record {
+        why = elim m.refused.why [ inl a ↦ inl (cause ∙ a) | inr b ↦ inr (b.0, cause ∙ b.1, (so, b.2)) ];
+        stays = m.refused.stays;
+      };
+    }))

@@ -9,17 +9,20 @@ make-requires-clause-suits c = grind (arith, nat_tests, found-among, loose-unsha
 
 pub unreachable-requires : goal.unreachable-requires
 unreachable-requires c =
-    let again = found-again c.args.row.number.0 _ _ _ c.args.row None c.requires.owns.live ((c.in_ok-handle.ensures.does.does no_blobs).made.1.rows) c.in_default.ensures.none in
+    let again = found-again c.args.row.number.0 _ _ _ c.args.row None c.requires.owns.live ((c.in_ok-handle.ensures.does.does no_blobs).made.1.rows)
+    c.in_default.ensures.none in
     absurd (cc)
 
 pub set_loose_pinned-requires-clause-unshared : goal.set_loose_pinned-requires-clause-unshared
 set_loose_pinned-requires-clause-unshared c =
-    let again = found-again c.args.row.number.0 _ _ _ c.args.row (Some c.in-Some.loose.row) c.requires.owns.live ((c.in_ok-handle.ensures.does.does no_blobs).made.1.rows) c.in-Some.ensures.found in
+    let again = found-again c.args.row.number.0 _ _ _ c.args.row (Some c.in-Some.loose.row) c.requires.owns.live
+    ((c.in_ok-handle.ensures.does.does no_blobs).made.1.rows) c.in-Some.ensures.found in
     grind (arith, nat_tests, loose-unshared, c.requires.owns.as_asked)
 
 pub set_loose_pinned-requires-clause-unlisted : goal.set_loose_pinned-requires-clause-unlisted
 set_loose_pinned-requires-clause-unlisted c =
-    let again = found-again c.args.row.number.0 _ _ _ c.args.row (Some c.in-Some.loose.row) c.requires.owns.live ((c.in_ok-handle.ensures.does.does no_blobs).made.1.rows) c.in-Some.ensures.found in
+    let again = found-again c.args.row.number.0 _ _ _ c.args.row (Some c.in-Some.loose.row) c.requires.owns.live
+    ((c.in_ok-handle.ensures.does.does no_blobs).made.1.rows) c.in-Some.ensures.found in
     grind (arith, nat_tests, not-list (plain_of c.args.t.now) c.args.me c.requires.holder, c.requires.owns.own)
 
 pub returns-clause-does : goal.returns-clause-does
@@ -32,6 +35,13 @@ returns-clause-does c =
     let u = core_of c.make.new.t storage in
     let w' = core_of c.set_loose_pinned.new.t storage in
     let turned = subst (λ q. Alike (with_mode u q Mode.LoosePinned) w') c.in-Some.ensures.number turns in
-    let same = λ (kind key : ℕ). ap (λ (u : Tables). cache u kind key) c.set_loose_pinned.ensures.same ∙ ap (λ (u : Tables). cache u kind key) c.in_ok-handle.ensures.same in
+    let same = λ (kind key : ℕ). ap (λ (u : Tables). cache u kind key) c.set_loose_pinned.ensures.same
+    ∙ ap (λ (u : Tables). cache u kind key) c.in_ok-handle.ensures.same in
     let w = core_of c.args.t.now storage in
-    record { pinned = (record { above = m.made.0.above; is_left = m.made.0.is_left }, pinned-alike w u w' row.number row.node c.args.me numbered.1 same m.made.1 turned); refused = tt })
+    record {
+      pinned = (
+        record { above = m.made.0.above; is_left = m.made.0.is_left },
+        pinned-alike w u w' row.number row.node c.args.me numbered.1 same m.made.1 turned,
+      );
+      refused = tt;
+    })

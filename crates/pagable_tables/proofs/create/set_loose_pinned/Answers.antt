@@ -24,5 +24,6 @@ returns-clause-does c =
     })
     (λ pins.
     let found = (at-place t.handles.places.items c.args.at.place x w.steady.sound.ordered c.requires.place).2 in
-    let turns = moded w.core x.number x Mode.LoosePinned found (sym c.requires.unshared) (λ loose. refl) (λ is. grind (arith, nat_tests, c.requires.unlisted)) in
+    let turns = moded w.core x.number x Mode.LoosePinned found (sym c.requires.unshared) (λ loose. refl)
+    (λ is. grind (arith, nat_tests, c.requires.unlisted)) in
     settled pins turns.0 turns.2) refl refl refl

@@ -4,7 +4,8 @@ use Rattle.pagable_tables.proofs.{HandleTable.{length-live-filter, live-filter},
 pub returns-clause-becomes : Rattle.pagable_tables.proofs.handle_table.compact.Goals.returns-clause-becomes
 returns-clause-becomes c =
     let old = c.args.handles.now.places.items in
-    let e : c.retain.new.self.items ≡ filter is_live_place old = filter_from_retain _ is_live_place (λ p x b q called. search rules) _ old c.retain.new.self.items c.retain.ensures.filtered in
+    let e : c.retain.new.self.items ≡ filter is_live_place old = filter_from_retain _ is_live_place
+    (λ p x b q called. search rules) _ old c.retain.new.self.items c.retain.ensures.filtered in
     record {
       sound = record {
         ordered = subst (AllPairs IsBefore) (sym e) (AllPairs-filter IsBefore is_live_place old c.requires.ordered);

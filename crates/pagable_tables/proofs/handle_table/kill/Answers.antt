@@ -3,7 +3,8 @@ use Rattle.pagable_tables.proofs.{HandleTable.{at-place, next-set, sound-set}, W
 pub clear-requires : Rattle.pagable_tables.proofs.handle_table.kill.Goals.clear-requires
 clear-requires c =
     let lives = ap (λ (p : Place). one p.is_live) c.new.ensures in
-    sound-set c.args.handles.now _ c.args.at.place c.args.at.row c.new.result c.requires.sound c.requires.place (ap (λ (p : Place). p.row.number.0) c.new.ensures) refl (omega arith)
+    sound-set c.args.handles.now _ c.args.at.place c.args.at.row c.new.result c.requires.sound c.requires.place
+    (ap (λ (p : Place). p.row.number.0) c.new.ensures) refl (omega arith)
 
 pub returns-clause-becomes : Rattle.pagable_tables.proofs.handle_table.kill.Goals.returns-clause-becomes
 returns-clause-becomes c =
@@ -13,5 +14,6 @@ returns-clause-becomes c =
       rows = e.rows ∙ ap (λ (p : Place). live (set c.args.handles.now.places.items c.args.at.place p)) c.new.ensures
           ∙ (at-place c.args.handles.now.places.items c.args.at.place c.args.at.row c.requires.sound.ordered c.requires.place).0;
       capacity = e.capacity;
-      next = λ q next. e.next q (next-set q c.args.handles.now.places.items c.args.at.place c.args.at.row c.new.result c.requires.place (ap (λ (p : Place). p.row.number.0) c.new.ensures) next);
+      next = λ q next. e.next q (next-set q c.args.handles.now.places.items c.args.at.place c.args.at.row c.new.result c.requires.place
+          (ap (λ (p : Place). p.row.number.0) c.new.ensures) next);
     }

@@ -11,7 +11,8 @@ use Rattle.pagable_tables.proofs.load.adopt_if_known.Goals as goal
 
 pub returns-in-Some-clause-refused : goal.returns-in-Some-clause-refused
 returns-in-Some-clause-refused g c storage =
-    not-adopted (core_of c.args.t.now storage) c.args.me c.args.load c.args.kind c.args.key c.args.node_type c.args.references.now c.in-Some.e (sym (c.adopt_fault.ensures storage) ∙ c.in-Some.is)
+    not-adopted (core_of c.args.t.now storage) c.args.me c.args.load c.args.kind c.args.key c.args.node_type c.args.references.now c.in-Some.e
+    (sym (c.adopt_fault.ensures storage) ∙ c.in-Some.is)
 
 pub make-requires-clause-suits : goal.make-requires-clause-suits
 make-requires-clause-suits g c = subst (Suits (plain_of c.args.t.now) c.in-Some-usable_of.node) (sym c.mode_of.ensures)
@@ -19,7 +20,8 @@ make-requires-clause-suits g c = subst (Suits (plain_of c.args.t.now) c.in-Some-
 
 pub make-requires-clause-holder : goal.make-requires-clause-holder
 make-requires-clause-holder g c =
-    ap is_some (owner-of (plain_of c.args.t.now) c.args.me c.args.load c.args.kind c.args.key c.args.node_type c.args.references.now (sym (c.adopt_fault.ensures no_blobs) ∙ c.in_default.is)).1.stands_open
+    ap is_some (owner-of (plain_of c.args.t.now) c.args.me c.args.load c.args.kind c.args.key c.args.node_type c.args.references.now
+    (sym (c.adopt_fault.ensures no_blobs) ∙ c.in_default.is)).1.stands_open
 
 pub returns : goal.returns
 returns g c =
@@ -36,7 +38,8 @@ returns g c =
     let free = sym (c.adopt_fault.ensures no_blobs) ∙ c.in_default.is in
     let fit = fitting p me l kind c.args.key c.args.node_type rs free in
     let valued = c.requires.valued node.0 (sym (c.in-Some-usable_of.ensures no_blobs)) (eager p me l kind c.args.key c.args.node_type rs free) in
-    let fell = c.hand_over_named.ensures.falls (listing c.args.lists t1) (listing c.args.lists t1) (begun-whole t1 (no_blobs_of c.args.lists) c.args.lists made.whole (closed-is (not c.args.lists) c.args.lists refl)) (omega arith)
+    let fell = c.hand_over_named.ensures.falls (listing c.args.lists t1) (listing c.args.lists t1)
+    (begun-whole t1 (no_blobs_of c.args.lists) c.args.lists made.whole (closed-is (not c.args.lists) c.args.lists refl)) (omega arith)
     (λ q named. ap (owned owner q) (made.does (no_blobs_of c.args.lists)).made.1.rows ∙ loaded-append l q p.rows _ (named-mine p owner [] rs fit q named)) in
     let went = lone-falling {w = listing c.args.lists t1} made.whole.core fell.falls in
     record {
@@ -46,11 +49,14 @@ returns g c =
           let good = sym (c.adopt_fault.ensures storage) ∙ c.in_default.is in
           let m = (made.does storage).made in
           let a : Alike u (core_of t1 storage) = subst (λ (mode : Mode). Alike (with_handle w node mode owner) (core_of t1 storage)) c.mode_of.ensures m.1 in
-          let some = c.hand_over_named.ensures.falls u u (begun-made t t1 storage node (mode_of kind.0) owner made.whole a c.args.lists e) (let b = ap length a.rows in omega arith)
+          let some = c.hand_over_named.ensures.falls u u (begun-made t t1 storage node (mode_of kind.0) owner made.whole a c.args.lists e)
+          (let b = ap length a.rows in omega arith)
           (λ q named. loaded-append l q w.rows _ (named-mine w owner [] rs (fitting w me l kind c.args.key c.args.node_type rs good) q named)) in
           let kept = not-named p l rs c.requires.whole.core.handles fit (t.ref_counts.last_handle + 1) (omega arith) in
-          let falls = falls-made t t1 storage node (mode_of kind.0) owner made.whole a c.in_ok-handle.ensures.same refl c.hand_over_named.new.t some.falls kept in
-          adopts-known w me l kind c.args.key c.args.node_type rs good node c.in_ok-handle.handle (sym (c.in-Some-usable_of.ensures storage)) m.0 (record { told = some.told; falls = falls }));
+          let falls = falls-made t t1 storage node (mode_of kind.0) owner made.whole a c.in_ok-handle.ensures.same refl c.hand_over_named.new.t some.falls
+          kept in
+          adopts-known w me l kind c.args.key c.args.node_type rs good node c.in_ok-handle.handle (sym (c.in-Some-usable_of.ensures storage)) m.0
+          (record { told = some.told; falls = falls }));
       fresh = λ storage. tt;
       given = (node.0, sym (c.in-Some-usable_of.ensures no_blobs));
       unknown = tt;
@@ -59,16 +65,20 @@ returns g c =
       refused = λ storage. tt;
       whole = whole-so c.hand_over_named.ensures.steady went.whole;
       later = later-on (made.later c.requires.later) went.newer refl refl refl;
-      sheds = stays-first (λ n. c.in_ok-handle.ensures.values n (λ eq pins. ap (λ k. has_value (counts_at t.ref_counts.nodes k)) eq ∙ valued)) c.hand_over_named.ensures.sheds;
+      sheds = stays-first (λ n. c.in_ok-handle.ensures.values n (λ eq pins. ap (λ k. has_value (counts_at t.ref_counts.nodes k)) eq ∙ valued))
+          c.hand_over_named.ensures.sheds;
     }
 
 pub returns-in_err-handle-clause-refused : goal.returns-in_err-handle-clause-refused
 returns-in_err-handle-clause-refused g c storage =
-    rw (failed c.from_residual.result c.from_residual.ensures.1) (refused-known (core_of c.args.t.now storage) c.args.me c.args.load c.args.kind c.args.key c.args.node_type c.args.references.now (sym (c.adopt_fault.ensures storage) ∙ c.in_default.is)
+    rw (failed c.from_residual.result c.from_residual.ensures.1) (refused-known (core_of c.args.t.now storage) c.args.me c.args.load c.args.kind c.args.key
+    c.args.node_type c.args.references.now (sym (c.adopt_fault.ensures storage) ∙ c.in_default.is)
     c.in-Some-usable_of.node.0 (sym (c.in-Some-usable_of.ensures storage)) (c.in_err-handle.ensures.does.does storage).refused)
 
 pub returns-in_err-handle-clause-sheds : goal.returns-in_err-handle-clause-sheds
 returns-in_err-handle-clause-sheds g c =
     let valued = c.requires.valued c.in-Some-usable_of.node.0 (sym (c.in-Some-usable_of.ensures no_blobs))
-    (eager (plain_of c.args.t.now) c.args.me c.args.load c.args.kind c.args.key c.args.node_type c.args.references.now (sym (c.adopt_fault.ensures no_blobs) ∙ c.in_default.is)) in
-    stays-first (λ n. c.in_err-handle.ensures.values n (λ eq pins. ap (λ k. has_value (counts_at c.args.t.now.ref_counts.nodes k)) eq ∙ valued)) (sheds-still c.make.new.t.ref_counts _ c.in_err-handle.ensures.does.whole.steady)
+    (eager (plain_of c.args.t.now) c.args.me c.args.load c.args.kind c.args.key c.args.node_type c.args.references.now
+    (sym (c.adopt_fault.ensures no_blobs) ∙ c.in_default.is)) in
+    stays-first (λ n. c.in_err-handle.ensures.values n (λ eq pins. ap (λ k. has_value (counts_at c.args.t.now.ref_counts.nodes k)) eq ∙ valued))
+    (sheds-still c.make.new.t.ref_counts _ c.in_err-handle.ensures.does.whole.steady)

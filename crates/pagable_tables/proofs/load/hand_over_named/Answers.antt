@@ -4,15 +4,20 @@ use Rattle.pagable_tables.proofs.load.hand_over_named.Goals as goal
 
 pub loop-reference-init : goal.loop-reference-init
 loop-reference-init g c =
-    let t = record c.args.t.now { unlisted = None } in
-    (aside c.args.t.now None [] owns_nothing c.requires, omega arith, λ before w f few. none-given before w c.args.lists t c.args.load c.args.references.now f, sheds-still c.args.t.now _ c.requires)
+    let t = record c.args.t.now { unlisted = None } in (
+      aside c.args.t.now None [] owns_nothing c.requires,
+      omega arith,
+      λ before w f few. none-given before w c.args.lists t c.args.load c.args.references.now f,
+      sheds-still c.args.t.now _ c.requires,
+    )
 
 pub loop-reference-preserved : goal.loop-reference-preserved
 loop-reference-preserved g c =
     let i = c.loop-reference.invariant in (
       c.release_if_owned.ensures.steady,
       omega arith,
-      λ before w f few. one-given before w c.args.lists c.release_if_owned.new.t c.args.load c.args.references.now c.loop-reference.reference-index _ c.loop-reference-test.true (c.release_if_owned.ensures.so_far before w _ (i.2 before w f few) (omega arith)),
+      λ before w f few. one-given before w c.args.lists c.release_if_owned.new.t c.args.load c.args.references.now c.loop-reference.reference-index _
+          c.loop-reference-test.true (c.release_if_owned.ensures.so_far before w _ (i.2 before w f few) (omega arith)),
       sheds-then i.3 c.release_if_owned.ensures.sheds,
     )
 
@@ -22,5 +27,6 @@ returns-clause-falls g c before w f few owned =
     let k = c.loop-reference.reference-index in
     record {
       told = c.fall.result;
-      falls = c.fall.ensures.falls before w _ (all-given before w c.args.lists c.loop-reference.t c.args.load c.args.references.now k (take_all k c.args.references.now (omega arith)) owned (i.2 before w f few));
+      falls = c.fall.ensures.falls before w _ (all-given before w c.args.lists c.loop-reference.t c.args.load c.args.references.now k
+          (take_all k c.args.references.now (omega arith)) owned (i.2 before w f few));
     }

@@ -16,24 +16,37 @@ returns c =
     let t1 = c.insert_node-handle.new.t in
     let born = c.insert_node-handle.ensures.does in
     let new : (storage : StorageView) → c.args.lists ≡ not storage.closed
-    → Alike (adopted (core_of t storage) c.args.load c.args.kind c.args.key (key_in c.args.own_key) rs) (core_of (record t1 { cache = c.learn_if.new.cache }) storage) =
+    → Alike (adopted (core_of t storage) c.args.load c.args.kind c.args.key (key_in c.args.own_key) rs)
+    (core_of (record t1 { cache = c.learn_if.new.cache }) storage) =
     λ storage e.
     (let w = core_of t storage in
     let u = with_handle (with_node w (c.args.kind.0 / 3) (key_in c.args.own_key) rs) (next_node w) (mode_of c.args.kind.0) owner in
     let w' = core_of t1 storage in
     let cache = (core_of (record t1 { cache = c.learn_if.new.cache }) storage).cache in
     let b = born.does storage in
-    let a : Alike u w' = subst (λ m. Alike (with_handle (with_node w (c.args.kind.0 / 3) (key_in c.args.own_key) rs) (next_node w) m owner) w') c.mode_of.ensures b.leaves in
+    let a : Alike u w' = subst (λ m. Alike (with_handle (with_node w (c.args.kind.0 / 3) (key_in c.args.own_key) rs) (next_node w) m owner) w')
+    c.mode_of.ensures b.leaves in
     let node : t1.last_node ≡ t.last_node + 1 = ap (λ (l : Last). l.node) a.last in
     if-open storage.closed u (record w' { cache = cache }) c.args.kind c.args.key (next_node w)
-    (λ shut. subst (λ (m : IndexMap (ℕ × ℕ) NodeNumber _). Alike u (core_of (record t1 { cache = m }) storage)) (sym (c.learn_if.ensures.same (e ∙ ap not shut))) a)
-    (λ stands. learned u w' c.args.kind c.args.key (next_node w) cache a (ap number (c.learn_if.ensures.here (e ∙ ap not stands)) ∙ ap Some node) (λ k q other. ap number (c.learn_if.ensures.others k q other)))) in
+    (λ shut. subst (λ (m : IndexMap (ℕ × ℕ) NodeNumber _). Alike u (core_of (record t1 { cache = m }) storage))
+    (sym (c.learn_if.ensures.same (e ∙ ap not shut))) a)
+    (λ stands. learned u w' c.args.kind c.args.key (next_node w) cache a (ap number (c.learn_if.ensures.here (e ∙ ap not stands)) ∙ ap Some node)
+    (λ k q other. ap number (c.learn_if.ensures.others k q other)))) in
     let r = c.requires in
     let unkeyed : is_shared (mode_of c.args.kind.0) ≡ true → has_key (key_in c.args.own_key) ≡ false =
     elim r.bare [ inl none ↦ λ is. ap (λ k. has_key (key_in k)) none | inr so ↦ λ is. absurd (let a = so.0 in cc) ] in
     record {
       does = λ storage. let n = (born.does storage).next in (record { above = n.above; is_left = n.is_left }, new storage);
-      whole = whole-so born.whole.steady (settles (adopted-whole (core_of t (no_blobs_of c.args.lists)) r.whole.core c.args.load c.args.kind c.args.key (key_in c.args.own_key) rs r.holder r.fit
+      whole = whole-so born.whole.steady (settles (adopted-whole (core_of t (no_blobs_of c.args.lists)) r.whole.core c.args.load c.args.kind c.args.key
+          (key_in c.args.own_key) rs r.holder r.fit
           r.ready.node_left r.ready.handle_left unkeyed) (new (no_blobs_of c.args.lists) (closed-is (not c.args.lists) c.args.lists refl)));
-      later = λ later. let l = born.later later in record { given = l.given; since = l.since; begun = l.begun; reach = l.reach; loads = l.loads; noted = l.noted; until = l.until };
+      later = λ later. let l = born.later later in record {
+        given = l.given;
+        since = l.since;
+        begun = l.begun;
+        reach = l.reach;
+        loads = l.loads;
+        noted = l.noted;
+        until = l.until;
+      };
     }

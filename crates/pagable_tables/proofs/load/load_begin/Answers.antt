@@ -13,17 +13,29 @@ pub returns-in_err-at : goal.returns-in_err-at
 returns-in_err-at c = rw (failed c.from_residual.result c.from_residual.ensures.1) (nothing-does c.requires.whole
     (λ storage.
     let w = core_of c.args.t.now storage in
-    record { begins = tt; refused = record { why = inl (handle-first w c.args.me c.args.handle is_loose _ _ (c.in_err-at.ensures.fault storage is_loose) (λ f is. grind (arith, nat_tests))); stays = still w } }))
+    record {
+      begins = tt;
+      refused = record {
+        why = inl (handle-first w c.args.me c.args.handle is_loose _ _ (c.in_err-at.ensures.fault storage is_loose)
+            (λ f is. grind (arith, nat_tests)));
+        stays = still w;
+      };
+    }))
 
-unbegun : {w w' : Core} (me : Owner) (h : HandleNumber) (row : HandleRow) → find_row h.0 w.rows ≡ Some row → is_owner me row.owner ≡ true → is_loose row.mode ≡ true → is_here w row.node.0 ≡ false
+unbegun : {w w' : Core} (me : Owner) (h : HandleNumber) (row : HandleRow) → find_row h.0 w.rows ≡ Some row → is_owner me row.owner ≡ true → is_loose row.mode
+    ≡ true → is_here w row.node.0 ≡ false
     → w.last.load < greatest → w.last.handle < greatest → Alike w w' → BeginCall w me h (Err Error.OutOfMemory) w'
 unbegun {w} me h row found own loose here loads handles stays =
     let before : begin_fault w me h ≡ None = grind (arith, nat_tests) in
-    record { begins = tt; refused = record { why = inr (refl, before, ap (if_there (λ (r : HandleRow). is_here w r.node.0) false) found ∙ here); stays = stays } }
+    record {
+      begins = tt;
+      refused = record { why = inr (refl, before, ap (if_there (λ (r : HandleRow). is_here w r.node.0) false) found ∙ here); stays = stays };
+    }
 
 pub returns-in_err-open : goal.returns-in_err-open
 returns-in_err-open c = rw (failed c.from_residual-in_err-open.result c.from_residual-in_err-open.ensures.1) (does-by
-    (λ storage. unbegun c.args.me c.args.handle c.in_ok-at.at.row c.in_ok-at.ensures.found c.in_ok-at.ensures.owner (search rules) (search rules) (omega arith) (omega arith)
+    (λ storage. unbegun c.args.me c.args.handle c.in_ok-at.at.row c.in_ok-at.ensures.found c.in_ok-at.ensures.owner (search rules) (search rules) (omega arith)
+    (omega arith)
     (grind (arith, nat_tests, same-cache, c.in_err-open.ensures.err)))
     c.requires.whole.steady (λ begins. settles (roomy-whole c.requires.whole.core) begins.refused.stays)
     (λ begins later. later-less later (newer-alike begins.refused.stays) refl (λ l load is. sym (c.in_err-open.ensures.err l) ∙ is) (still-reaches refl)))
@@ -40,7 +52,8 @@ returns-in-Err c =
     (grind (arith, nat_tests, c.requires.whole.core.loads.numbered, c.in_ok-open.ensures.others, c.close.ensures.gone, c.close.ensures.others)))
     c.add.ensures.steady (λ begins. settles (roomy-whole c.requires.whole.core) begins.refused.stays)
     (λ begins later. later-less later (newer-alike begins.refused.stays) refl
-    (closed-still (load_at t.loads) (load_at c.close.new.rows) (t.last_load + 1) c.close.ensures.gone (λ q other. c.close.ensures.others q other ∙ c.in_ok-open.ensures.others q other)) (still-reaches refl)))
+    (closed-still (load_at t.loads) (load_at c.close.new.rows) (t.last_load + 1) c.close.ensures.gone
+    (λ q other. c.close.ensures.others q other ∙ c.in_ok-open.ensures.others q other)) (still-reaches refl)))
 
 pub returns : goal.returns
 returns c =
@@ -51,15 +64,33 @@ returns c =
     (λ storage.
     let w = core_of t storage in
     let w' = core_of (record t { ref_counts = c.add.new.t; loads = c.open.new.rows; last_load = l }) storage in
-    let own : Owns w c.args.me c.args.handle is_loose row = record { live = c.in_ok-at.ensures.found; own = owner-same c.args.me row.owner c.in_ok-at.ensures.owner; as_asked = search rules } in
+    let own : Owns w c.args.me c.args.handle is_loose row = record {
+      live = c.in_ok-at.ensures.found;
+      own = owner-same c.args.me row.owner c.in_ok-at.ensures.owner;
+      as_asked = search rules;
+    } in
     let away : is_here w row.node.0 ≡ false = search rules in
     let key : key_at w row.node.0 ≡ OptionalDataKey.Some c.unwrap-key.result = grind (arith, nat_tests, c.key_in.ensures, c.unwrap-key.ensures) in
     let typed : type_at w row.node.0 ≡ Some c.unwrap.result.node_type = grind (arith, nat_tests) in
     let a = (c.in_default.ensures.made w').made.1 in
     let opened : Alike (with_load (with_handle w row.node Mode.LooseUnpinned (Owner.Load (record { 0 = l }))) c.unwrap-key.result
     (of_cell row.node c.unwrap.result.node_type row.number) c.args.me) w' = grind (arith, nat_tests, c.in_ok-open.ensures.here, c.in_ok-open.ensures.others) in
-    record { begins = (row, own, (away, key, record { above = refl; is_left = omega arith }, omega arith, (c.unwrap.result.node_type, typed, rw c.in_ok-at.ensures.number at opened))); refused = tt })
+    record {
+      begins = (
+        row,
+        own,
+        (
+          away,
+          key,
+          record { above = refl; is_left = omega arith },
+          omega arith,
+          (c.unwrap.result.node_type, typed, rw c.in_ok-at.ensures.number at opened),
+        ),
+      );
+      refused = tt;
+    })
     c.add.ensures.steady (begin-whole c.args.me c.args.handle c.requires.whole.core c.requires.owner)
-    (λ begins later. let n = newer-then (newer-handle (plain_of t) begins.begins.0.node Mode.LooseUnpinned (Owner.Load (record { 0 = l }))) (newer-alike begins.begins.2.4.2) in
+    (λ begins later. let n = newer-then (newer-handle (plain_of t) begins.begins.0.node Mode.LooseUnpinned (Owner.Load (record { 0 = l })))
+    (newer-alike begins.begins.2.4.2) in
     later-opened c.requires.whole.core later n l _ (grind (arith, nat_tests))
     c.in_ok-open.ensures.here refl c.in_ok-open.ensures.others refl refl)

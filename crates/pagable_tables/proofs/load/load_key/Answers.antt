@@ -7,7 +7,8 @@ returns c =
     let t = c.args.t.now in
     let l = t.last_load + 1 in
     does-by (λ storage. grind (arith, nat_tests, same-cache, c.in_ok-open.ensures.here, c.in_ok-open.ensures.others)) c.requires.whole.steady
-    (λ begins. settles (loaded-whole c.args.key of_key c.args.me c.requires.whole.core c.requires.owner begins.begins.1.is_left (λ node t h is. absurd (cc))) begins.begins.2)
+    (λ begins. settles (loaded-whole c.args.key of_key c.args.me c.requires.whole.core c.requires.owner begins.begins.1.is_left (λ node t h is. absurd (cc)))
+    begins.begins.2)
     (λ begins later. later-opened c.requires.whole.core later (record { last = omega arith; kept = λ o q gives own. inl own }) l _ (grind (arith, nat_tests))
     c.in_ok-open.ensures.here refl c.in_ok-open.ensures.others refl refl)
 

@@ -10,17 +10,20 @@ pub returns-in_err-_row : goal.returns-in_err-_row
 returns-in_err-_row c =
     rw (failed c.from_residual.result c.from_residual.ensures.1) (nothing-does c.requires.whole (λ storage e. let w = core_of c.args.t.now storage in record {
       makes = tt;
-      refused = not-own w c.args.me c.args.load _ _ (c.in_err-_row.ensures.fault storage) (late _ _ 3 (grind (arith, nat_tests)) (λ f is. let a = node-late w c.args.kind c.args.key f is in omega arith));
+      refused = not-own w c.args.me c.args.load _ _ (c.in_err-_row.ensures.fault storage)
+          (late _ _ 3 (grind (arith, nat_tests)) (λ f is. let a = node-late w c.args.kind c.args.key f is in omega arith));
     }))
 
 pub returns-then-not-is_loose_kind : goal.returns-then-not-is_loose_kind
 returns-then-not-is_loose_kind c =
-    nothing-does c.requires.whole (λ storage e. lazy-not-loose _ c.args.me c.args.load (load_in c.in_ok-_row._row) c.args.kind c.args.key (c.in_ok-_row.ensures.own storage) (sym c.if-not-is_loose_kind.ensures))
+    nothing-does c.requires.whole (λ storage e. lazy-not-loose _ c.args.me c.args.load (load_in c.in_ok-_row._row) c.args.kind c.args.key
+    (c.in_ok-_row.ensures.own storage) (sym c.if-not-is_loose_kind.ensures))
 
 pub make-requires-clause-suits : goal.make-requires-clause-suits
 make-requires-clause-suits c =
     let is = sym (c.in-Some.ensures no_blobs) in
-    subst (Suits (plain_of c.args.t.now) c.in-Some.node) (sym c.mode_of.ensures) (known-suits c.requires.whole.core c.args.kind.0 c.args.key c.in-Some.node.0 is)
+    subst (Suits (plain_of c.args.t.now) c.in-Some.node) (sym c.mode_of.ensures)
+    (known-suits c.requires.whole.core c.args.kind.0 c.args.key c.in-Some.node.0 is)
 
 pub returns-in-Some : goal.returns-in-Some
 returns-in-Some c = does-as c.make.ensures.does
@@ -38,13 +41,16 @@ returns c =
     let w1 = core_of c.make_ready_to_learn.new.t storage in
     let w' = core_of c.learn_new.new.t storage in
     let one = subst (λ rs. Alike (adopted w1 l c.args.kind c.args.key (key_in c.get.result) rs) w') c.new.ensures.items (made.1 e) in
-    let two = subst (λ o. Alike (adopted w1 l c.args.kind c.args.key o []) w') (ap key_in c.get.ensures.value ∙ key-is c.args.key (let a = c.get.ensures.value in let b = c.get.ensures.above in omega arith)) one in
-    lazy-new (core_of c.args.t.now storage) c.args.me l (load_in c.in_ok-_row._row) c.args.kind c.args.key (c.in_ok-_row.ensures.own storage) (sym c.if-not-is_loose_kind.ensures) (sym (c.in_default.ensures storage))
+    let two = subst (λ o. Alike (adopted w1 l c.args.kind c.args.key o []) w')
+    (ap key_in c.get.ensures.value ∙ key-is c.args.key (let a = c.get.ensures.value in let b = c.get.ensures.above in omega arith)) one in
+    lazy-new (core_of c.args.t.now storage) c.args.me l (load_in c.in_ok-_row._row) c.args.kind c.args.key (c.in_ok-_row.ensures.own storage)
+    (sym c.if-not-is_loose_kind.ensures) (sym (c.in_default.ensures storage))
     c.learn_new.result (subst (λ (u : Core). u.last.node < greatest) room.same c.in_ok-make_ready_to_learn.ensures.ready.node_left) (next-past room made.0)
     (adopted-past l c.args.kind c.args.key (OptionalDataKey.Some c.args.key) [] room two))
 
 pub returns-in_err-make_ready_to_learn : goal.returns-in_err-make_ready_to_learn
-returns-in_err-make_ready_to_learn c = rw (failed c.from_residual-in_err-make_ready_to_learn.result c.from_residual-in_err-make_ready_to_learn.ensures.1) (does-as c.make_ready_to_learn.ensures.does
+returns-in_err-make_ready_to_learn c = rw (failed c.from_residual-in_err-make_ready_to_learn.result c.from_residual-in_err-make_ready_to_learn.ensures.1)
+    (does-as c.make_ready_to_learn.ensures.does
     (λ storage room e. lazy-not-new (core_of c.args.t.now storage) c.args.me c.args.load (load_in c.in_ok-_row._row) c.args.kind c.args.key
     (c.in_ok-_row.ensures.own storage) (sym c.if-not-is_loose_kind.ensures) (sym (c.in_default.ensures storage))
     (c.in_err-make_ready_to_learn.ensures.refused storage)))

@@ -9,7 +9,12 @@ returns-then-not-is_worker-clause-worked c =
     work-moved c.args.nodes.now (is_in (numbers_of c.args.named.now)) c.args.me (live c.args.handles.now.places.items) none c.requires.worked
 
 pub loop-handle-init : goal.loop-handle-init
-loop-handle-init c = record { counts = λ n. refl; refs = λ n. refl; work = λ n. omega arith; here = λ q row is found. absurd (let none = none-taken c.args.named.now q in cc) }
+loop-handle-init c = record {
+  counts = λ n. refl;
+  refs = λ n. refl;
+  work = λ n. omega arith;
+  here = λ q row is found. absurd (let none = none-taken c.args.named.now q in cc);
+}
 
 pub loop-handle-preserved : goal.loop-handle-preserved
 loop-handle-preserved c =
@@ -33,5 +38,6 @@ returns-clause-worked c =
     let i = c.loop-handle.invariant in
     let hs = c.args.named.now in
     let all = take_all c.loop-handle.handle-index hs (omega arith) in
-    work-comes c.args.nodes.now c.loop-handle.nodes (is_in (numbers_of hs)) c.args.me (live c.args.handles.now.places.items) c.requires.ordered c.requires.worked i.work
+    work-comes c.args.nodes.now c.loop-handle.nodes (is_in (numbers_of hs)) c.args.me (live c.args.handles.now.places.items) c.requires.ordered
+    c.requires.worked i.work
     (λ q row is found. i.here q row (ap (λ l. is_in (numbers_of l) q) all ∙ is) found)

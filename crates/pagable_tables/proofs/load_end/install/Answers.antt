@@ -6,7 +6,8 @@ use Rattle.pagable_tables.proofs.load_end.install.Goals as goal
 pub install_up_to-requires-clause-ready : goal.install_up_to-requires-clause-ready
 install_up_to-requires-clause-ready g c storage =
     let n = c.last_of-until.ensures.notes in
-    subst (λ (w : Core). IsReady w c.args.me c.args.load c.args.node_type c.args.references.items c.args.ending) (sym (core-same c.args.t.now c.last_of-until.new.t n.same n.rows storage))
+    subst (λ (w : Core). IsReady w c.args.me c.args.load c.args.node_type c.args.references.items c.args.ending)
+    (sym (core-same c.args.t.now c.last_of-until.new.t n.same n.rows storage))
     (c.requires.ready storage)
 
 pub install_up_to-requires-clause-place : goal.install_up_to-requires-clause-place
@@ -15,12 +16,14 @@ install_up_to-requires-clause-place g c =
 
 pub install_up_to-requires-clause-above : goal.install_up_to-requires-clause-above
 install_up_to-requires-clause-above g c =
-    above-noted c.args.load c.args.ending.load.since c.last_of-until.ensures.notes (λ q own. c.requires.later.since c.args.load.0 c.args.ending.load q c.requires.place.load own)
+    above-noted c.args.load c.args.ending.load.since c.last_of-until.ensures.notes
+    (λ q own. c.requires.later.since c.args.load.0 c.args.ending.load q c.requires.place.load own)
 
 pub returns-clause-does : goal.returns-clause-does
 returns-clause-does g c = noted-does c.last_of-until.ensures.notes c.install_up_to.ensures.does
 
 pub returns-clause-sheds : goal.returns-clause-sheds
 returns-clause-sheds g c =
-    subst (λ (h : RefCounts). ShedsBeside c.args.ending.row.node (counts_at h.nodes) (row_by c.args.values.now) (counts_at c.install_up_to.new.t.ref_counts.nodes) (row_by c.install_up_to.new.values))
+    subst (λ (h : RefCounts). ShedsBeside c.args.ending.row.node (counts_at h.nodes) (row_by c.args.values.now)
+    (counts_at c.install_up_to.new.t.ref_counts.nodes) (row_by c.install_up_to.new.values))
     (ap (λ (u : Tables). u.ref_counts) c.last_of-until.ensures.notes.same) c.install_up_to.ensures.sheds

@@ -15,10 +15,13 @@ use Rattle.pagable_tables.proofs.WorkCounts.{work-more, work-moved, work-told}
 use Rattle.pagable_tables.proofs.load_end.install_up_to.Goals as goal
 
 -- the load gives up what it owns, and what comes doesn't fall
-falls-so : (b : Bool) (w : Core) (me : Owner) (l : LoadNumber) (row : HandleRow) (rs : List ArcRef) (r : Result (Unit {0}) Error) (w' : Core) → b ≡ not (is_here w row.node.0)
-    → Falls w (with_pin (record (without_load w l) { rows = moved (is_named_by (coming b rs)) (owner_value row.node.0) w.rows }) row.number row.node me) (λ q. is_owned_in w (Owner.Load l) q && not (is_named_by (coming b rs) q)) r w'
+falls-so : (b : Bool) (w : Core) (me : Owner) (l : LoadNumber) (row : HandleRow) (rs : List ArcRef) (r : Result (Unit {0}) Error) (w' : Core) → b
+    ≡ not (is_here w row.node.0)
+    → Falls w (with_pin (record (without_load w l) { rows = moved (is_named_by (coming b rs)) (owner_value row.node.0) w.rows }) row.number row.node me)
+    (λ q. is_owned_in w (Owner.Load l) q && not (is_named_by (coming b rs) q)) r w'
     → ((is_here w row.node.0 ≡ false)
-    × FallsAnyhow w (with_pin (record (without_load w l) { rows = moved (is_named_by rs) (owner_value row.node.0) w.rows }) row.number row.node me) (λ q. is_owned_in w (Owner.Load l) q && not (is_named_by rs q)) w')
+    × FallsAnyhow w (with_pin (record (without_load w l) { rows = moved (is_named_by rs) (owner_value row.node.0) w.rows }) row.number row.node me)
+    (λ q. is_owned_in w (Owner.Load l) q && not (is_named_by rs q)) w')
     ⊎ ((is_here w row.node.0 ≡ true) × FallsAnyhow w (with_pin (without_load w l) row.number row.node me) (is_owned_in w (Owner.Load l)) w')
 falls-so true w me l row rs r w' away falls = inl (not-true _ (sym away), record { told = r; falls = falls })
 falls-so false w me l row rs r w' away falls = inr (not-false _ (sym away), record { told = r; falls = simp (named-none, map-id, and-true) at falls })
@@ -40,12 +43,20 @@ bare-away (Some c) (r ∷ rs) pinned right still same away = absurd (grind (arit
 pub pin_here-requires : goal.pin_here-requires
 pin_here-requires g c =
     let r = c.requires.ready no_blobs in
-    let holder = may-hold (plain_of c.args.t.now) c.args.me (ready-owner c.args.t.now c.args.me c.args.load c.args.node_type c.args.references.items c.args.ending c.requires.whole r) in
+    let holder = may-hold (plain_of c.args.t.now) c.args.me (ready-owner c.args.t.now c.args.me c.args.load c.args.node_type c.args.references.items
+    c.args.ending c.requires.whole r) in
     record { whole = c.requires.whole; holder = holder; owns = r.owned }
 
 pub unreachable-requires : goal.unreachable-requires
 unreachable-requires g c =
-    grind (arith, nat_tests, c.requires.place, c.requires.whole.steady.sound, (c.requires.ready no_blobs).left, (c.in_default.ensures.does.does no_blobs).refused.why)
+    grind (
+      arith,
+      nat_tests,
+      c.requires.place,
+      c.requires.whole.steady.sound,
+      (c.requires.ready no_blobs).left,
+      (c.in_default.ensures.does.does no_blobs).refused.why,
+    )
 
 pub join-requires-clause-live : goal.join-requires-clause-live
 join-requires-clause-live g c =
@@ -85,16 +96,21 @@ release_owned-requires-clause-steady g c =
           let unvalued = not-a-value p me (may-hold p me (ready-owner t me l c.args.node_type rs c.args.ending was r)) in
           let spared = not-named p l rs was.core.handles r.may.good (t.ref_counts.last_handle + 1) (omega arith) in
           let before = changed (is_handle row.number.0) turned (live t.ref_counts.handles.places.items) ++ x ∷ [] in
-          let fits = rows-told (counts_at t1.ref_counts.nodes) (refs_at t1.ref_counts.nodes) (live t1.ref_counts.handles.places.items) before t1.ref_counts.top (sym a.rows) whole.steady.fits in
+          let fits = rows-told (counts_at t1.ref_counts.nodes) (refs_at t1.ref_counts.nodes) (live t1.ref_counts.handles.places.items) before t1.ref_counts.top
+          (sym a.rows) whole.steady.fits in
           let pinned : 0 < sum_by (λ y. one (is_pin n y)) before = grind (arith, nat_tests, pins-here) in
-          let joined = joined-fits p (Owner.Load l) n rs was.core.handles.ordered r.may.good refl none row.number.0 x unvalued spared _ _ _ _ fits pinned (j.here comes) j.others in
+          let joined = joined-fits p (Owner.Load l) n rs was.core.handles.ordered r.may.good refl none row.number.0 x unvalued spared _ _ _ _ fits pinned
+          (j.here comes) j.others in
           let told = fits-same _ _ _ _ _ _ [] joined j.counts (λ m. refl) in
-          let rows = j.handles.rows ∙ ap (λ b. moved (is_named_by (coming b rs)) (owner_value n) (live t1.ref_counts.handles.places.items)) comes ∙ ap (moved (is_named_by rs) (owner_value n)) a.rows in
+          let rows = j.handles.rows ∙ ap (λ b. moved (is_named_by (coming b rs)) (owner_value n) (live t1.ref_counts.handles.places.items)) comes
+          ∙ ap (moved (is_named_by rs) (owner_value n)) a.rows in
           record {
             sound = j.handles.sound;
             next = j.handles.next (k.last_handle + 1) (grind (arith, whole.steady.next, ap (λ (h : RefCounts). h.last_handle) j.same));
-            fits = rows-told (counts_at k.nodes) (refs_at k.nodes) (moved (is_named_by rs) (owner_value n) before) (live k.handles.places.items) k.top rows (grind (arith, told, ap (λ (h : RefCounts). h.top) j.same));
-            worked = work-told k.nodes (moved (is_named_by (coming c.args.ending.is_away rs)) (owner_value n) (live t1.ref_counts.handles.places.items)) (live k.handles.places.items) j.handles.rows
+            fits = rows-told (counts_at k.nodes) (refs_at k.nodes) (moved (is_named_by rs) (owner_value n) before) (live k.handles.places.items) k.top rows
+                (grind (arith, told, ap (λ (h : RefCounts). h.top) j.same));
+            worked = work-told k.nodes (moved (is_named_by (coming c.args.ending.is_away rs)) (owner_value n) (live t1.ref_counts.handles.places.items))
+                (live k.handles.places.items) j.handles.rows
                 (work-moved k.nodes (is_named_by (coming c.args.ending.is_away rs)) (owner_value n) (live t1.ref_counts.handles.places.items) refl
                 (work-more (live t1.ref_counts.handles.places.items) t1.ref_counts.nodes k.nodes (λ m. rw (j.work m) (omega arith)) whole.steady.worked));
           })
@@ -124,16 +140,20 @@ returns-clause-does g c =
       at = refl;
       next = record { above = next.above; is_left = next.is_left };
       falls = falls-so b (core_of t storage) me l row rs c.release_owned.result _ r.away
-          (ended t t1 storage c.args.lists c.requires.whole c.in-Ok.ensures.does.whole e row p.owned.live me (ready-owner t me l c.args.node_type rs c.args.ending c.requires.whole p) l (coming b rs)
-          good (c.in-Ok.ensures.does.does storage).pinned.1 same c.join.new.t j.handles.rows (ap (λ (h : RefCounts). h.list) j.same) (ap (λ (h : RefCounts). h.last_handle) j.same)
+          (ended t t1 storage c.args.lists c.requires.whole c.in-Ok.ensures.does.whole e row p.owned.live me
+          (ready-owner t me l c.args.node_type rs c.args.ending c.requires.whole p) l (coming b rs)
+          good (c.in-Ok.ensures.does.does storage).pinned.1 same c.join.new.t j.handles.rows (ap (λ (h : RefCounts). h.list) j.same)
+          (ap (λ (h : RefCounts). h.last_handle) j.same)
           j.handles.capacity (λ m. ap cell_in (j.counts m)) c.args.ending.load.since c.args.until c.release_owned.new.t (load_at c.close.new.rows)
-          c.release_owned.result (λ before v f few between. c.release_owned.ensures.falls before v (record v { loads = λ m. option_map load_in (load_at c.close.new.rows m) }) (λ m. refl) f few
+          c.release_owned.result (λ before v f few between. c.release_owned.ensures.falls before v
+          (record v { loads = λ m. option_map load_in (load_at c.close.new.rows m) }) (λ m. refl) f few
           (λ q own. let b = between q own in let after = b.0 in ((omega arith, inl after), b.1)))
           (λ q own. (c.requires.above q own, c.requires.up_to q own)) c.close.ensures.gone c.close.ensures.others);
     })
     c.release_owned.ensures.steady
     (λ i. (installs-goes me l row.node row.number c.in-Ok.handle c.args.node_type rs c.requires.whole.core may i).whole)
-    (λ i later. later-less later (installs-goes me l row.node row.number c.in-Ok.handle c.args.node_type rs c.requires.whole.core may i).newer (ap (λ (u : Tables). u.noted) same)
+    (λ i later. later-less later (installs-goes me l row.node row.number c.in-Ok.handle c.args.node_type rs c.requires.whole.core may i).newer
+    (ap (λ (u : Tables). u.noted) same)
     (λ m load is. closed-still (load_at t.loads) (load_at c.close.new.rows) l.0 c.close.ensures.gone
     (λ q other. c.close.ensures.others q other ∙ ap (λ (u : Tables). load_at u.loads q) same) m load is) (still-reaches (ap (λ (u : Tables). u.workers) same)))
 
@@ -142,5 +162,6 @@ returns-clause-sheds g c = record {
   left = λ kept. c.release_owned.ensures.sheds.left (λ n falls. kept n
       ∙ sym (ap has_value (c.join.ensures.counts n)
       ∙ has-come c.args.t.now c.pin_here.new.t (no_blobs_of c.args.lists) c.args.ending.row c.args.me
-      (c.in-Ok.ensures.does.does (no_blobs_of c.args.lists)).pinned.1 c.requires.whole c.in-Ok.ensures.does.whole (c.requires.ready (no_blobs_of c.args.lists)).owned.live n));
+      (c.in-Ok.ensures.does.does (no_blobs_of c.args.lists)).pinned.1 c.requires.whole c.in-Ok.ensures.does.whole
+      (c.requires.ready (no_blobs_of c.args.lists)).owned.live n));
 }

@@ -4,4 +4,9 @@ pub returns-then-comes-clause-handles : Rattle.pagable_tables.proofs.load_end.jo
 returns-then-comes-clause-handles c = rw c.if-comes.true (rw (← c.deref.ensures.value) c.hand_over_all.ensures)
 
 pub returns-else-comes-clause-handles : Rattle.pagable_tables.proofs.load_end.join.Goals.returns-else-comes-clause-handles
-returns-else-comes-clause-handles c = rw c.if-comes.false (record { sound = c.requires.sound; rows = sym (moved-nobody _ _); capacity = refl; next = λ q next. next })
+returns-else-comes-clause-handles c = rw c.if-comes.false (record {
+  sound = c.requires.sound;
+  rows = sym (moved-nobody _ _);
+  capacity = refl;
+  next = λ q next. next;
+})

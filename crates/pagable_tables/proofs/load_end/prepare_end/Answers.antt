@@ -7,7 +7,8 @@ use Rattle.pagable_tables.proofs.{SameViews.{alike, both-none, no-load-fault, ow
 use Rattle.pagable_tables.specs.declared.load_table.LoadRoot.{LoadRoot}
 use Rattle.pagable_tables.proofs.load_end.prepare_end.Goals as goal
 
-ready-placed : (w : Core) (places : Places) (rows : List HandleRow) (me : Owner) (l : LoadNumber) (node_type : ℕ) (refs : List ArcRef) (e : Ending) → rows ≡ w.rows → IsReady w me l node_type refs e
+ready-placed : (w : Core) (places : Places) (rows : List HandleRow) (me : Owner) (l : LoadNumber) (node_type : ℕ) (refs : List ArcRef) (e : Ending) → rows
+    ≡ w.rows → IsReady w me l node_type refs e
     → IsReady (record w { rows = rows; places = places }) me l node_type refs e
 ready-placed w places rows me l node_type refs e same r = grind (arith, nat_tests, references-placed)
 
@@ -22,7 +23,8 @@ unwrap-row-requires c = let none = sym c.in_default.is ∙ c.end_fault.ensures n
 
 pub unreachable-requires : goal.unreachable-requires
 unreachable-requires c =
-    let none = sym c.in_default.is ∙ c.end_fault.ensures no_blobs in let is = sym c.unwrap-row.ensures ∙ c.load_of.ensures in grind (arith, nat_tests, both-none, c.in_default-root.is)
+    let none = sym c.in_default.is ∙ c.end_fault.ensures no_blobs in let is =
+    sym c.unwrap-row.ensures ∙ c.load_of.ensures in grind (arith, nat_tests, both-none, c.in_default-root.is)
 
 pub returns-in-Ok-reserve-clause-ready : goal.returns-in-Ok-reserve-clause-ready
 returns-in-Ok-reserve-clause-ready c storage =
@@ -40,12 +42,23 @@ returns-in-Ok-reserve-clause-ready c storage =
     (sym c.in_default.is ∙ c.end_fault.ensures storage) (sym c.unwrap-row.ensures ∙ c.load_of.ensures) c.in-Cell.is in
     let e : Ending = record { load = c.unwrap-row.result; row = c.in-Ok.at.row; is_away = not c.is_here-is_away.result } in
     let ready : IsReady w me l c.args.node_type c.args.references.now e =
-    grind (arith, nat_tests, owner-same, c.in-Ok.ensures.number, c.in-Ok.ensures.found, c.in-Ok.ensures.owner, c.is_here-is_away.ensures, c.counts_of.ensures, c.requires.steady.fits.pinned) in
+    grind (
+      arith,
+      nat_tests,
+      owner-same,
+      c.in-Ok.ensures.number,
+      c.in-Ok.ensures.found,
+      c.in-Ok.ensures.owner,
+      c.is_here-is_away.ensures,
+      c.counts_of.ensures,
+      c.requires.steady.fits.pinned,
+    ) in
     let w' = core_of (record t { ref_counts = record t.ref_counts { handles = c.reserve.new.handles } }) storage in
     ready-placed w w'.places w'.rows me l c.args.node_type c.args.references.now e c.reserve.ensures.widens.rows ready
 
 pub returns-in-Ok-reserve-clause-does : goal.returns-in-Ok-reserve-clause-does
-returns-in-Ok-reserve-clause-does c = widens-does c.args.t.now c.reserve.new.handles c.args.t.now.ref_counts.nodes c.args.t.now.cache c.requires c.reserve.ensures.widens (λ n. refl) (λ n. refl) (λ n. refl) (λ kind key. refl)
+returns-in-Ok-reserve-clause-does c = widens-does c.args.t.now c.reserve.new.handles c.args.t.now.ref_counts.nodes c.args.t.now.cache c.requires
+    c.reserve.ensures.widens (λ n. refl) (λ n. refl) (λ n. refl) (λ kind key. refl)
 
 pub returns-in-Err-reserve-clause-unended : goal.returns-in-Err-reserve-clause-unended
 returns-in-Err-reserve-clause-unended c storage =
@@ -55,7 +68,8 @@ returns-in-Err-reserve-clause-unended c storage =
     grind (arith, nat_tests, no-load-fault, alike, c.reserve.ensures.widens.rows, c.reserve.ensures.widens.capacity)
 
 pub returns-in-Err-reserve-clause-does : goal.returns-in-Err-reserve-clause-does
-returns-in-Err-reserve-clause-does c = widens-does c.args.t.now c.reserve.new.handles c.args.t.now.ref_counts.nodes c.args.t.now.cache c.requires c.reserve.ensures.widens (λ n. refl) (λ n. refl) (λ n. refl) (λ kind key. refl)
+returns-in-Err-reserve-clause-does c = widens-does c.args.t.now c.reserve.new.handles c.args.t.now.ref_counts.nodes c.args.t.now.cache c.requires
+    c.reserve.ensures.widens (λ n. refl) (λ n. refl) (λ n. refl) (λ kind key. refl)
 
 pub returns-in-Err-clause-unended : goal.returns-in-Err-clause-unended
 returns-in-Err-clause-unended c storage =

@@ -31,7 +31,8 @@ release_owned-requires-clause-steady g c =
       fits = fits-same (counts_at t.nodes) (counts_at nodes) (refs_at t.nodes) (refs_at nodes) rows t.top [] s.fits k.counts k.refs;
       worked = work-more rows t.nodes nodes k.work s.worked;
     } in
-    moved-stands (record t { nodes = nodes }) c.hand_each.new.handles (is_in (numbers_of hs)) c.args.me steady (not-a-value w c.args.me (may-hold w c.args.me can.may))
+    moved-stands (record t { nodes = nodes }) c.hand_each.new.handles (is_in (numbers_of hs)) c.args.me steady
+    (not-a-value w c.args.me (may-hold w c.args.me can.may))
     (λ x among named. ap is_valued (handed-own w c.requires.whole.core.handles.ordered c.args.load hs can.named x among named)) k.worked c.hand_each.ensures
 
 pub returns : goal.returns
@@ -49,12 +50,15 @@ returns g c =
     let w = core_of t storage in
     let w' = core_of (record t { ref_counts = c.release_owned.new.t; loads = c.close.new.rows }) storage in
     let u : Core = record (without_load w l) { rows = moved s me w.rows } in
-    let left : (q : ℕ) → is_owned_in u (Owner.Load l) q ≡ (is_owned_in w (Owner.Load l) q && not (s q)) = λ q. owned-moved s me (Owner.Load l) q w.rows (no-load p me l can.may) in
+    let left : (q : ℕ) → is_owned_in u (Owner.Load l) q ≡ (is_owned_in w (Owner.Load l) q && not (s q)) =
+    λ q. owned-moved s me (Owner.Load l) q w.rows (no-load p me l can.may) in
     let so-far = begun w u c.args.lists (record t.ref_counts { handles = c.hand_each.new.handles; nodes = c.all_may_work.new.nodes; unlisted = None }) e
     (λ p own. moved-times p s me w.rows (λ x. own x me)) (unmixed t c.requires.whole)
-    (λ q. let a = (handed-whole c.requires.whole.core me l hs can).owners_there.listed q in omega arith) c.hand_each.ensures.rows refl refl c.requires.whole.core.handles.within.0
+    (λ q. let a = (handed-whole c.requires.whole.core me l hs can).owners_there.listed q in omega arith) c.hand_each.ensures.rows refl refl
+    c.requires.whole.core.handles.within.0
     (record { handles = let a = c.hand_each.ensures.capacity in omega arith; entries = omega arith }) (λ n. rw (c.all_may_work.ensures.counts n) refl) refl in
-    let falls = c.release_owned.ensures.falls w u (record u { loads = λ m. option_map load_in (load_at c.close.new.rows m) }) (λ m. refl) so-far (let a = ap length c.hand_each.ensures.rows in omega arith)
+    let falls = c.release_owned.ensures.falls w u (record u { loads = λ m. option_map load_in (load_at c.close.new.rows m) }) (λ m. refl) so-far
+    (let a = ap length c.hand_each.ensures.rows in omega arith)
     (λ q own. let mine = and-left (is_owned_in w (Owner.Load l) q) (not (s q)) (sym (left q) ∙ own) in
     let after = c.requires.later.since l.0 c.unwrap-row.result q row mine in ((omega arith, inl after), c.requires.up_to q mine)) in
     record {
@@ -70,7 +74,8 @@ returns g c =
       refused = tt;
     })
     c.release_owned.ensures.steady (hand-over-whole me l hs c.requires.whole.core)
-    (λ hands later. later-handed t later s me (λ m. no-load p me m can.may) _ refl l c.unwrap-row.result row (let own = can.own in grind (arith, nat_tests, row))
+    (λ hands later. later-handed t later s me (λ m. no-load p me m can.may) _ refl l c.unwrap-row.result row
+    (let own = can.own in grind (arith, nat_tests, row))
     (handed-mine p (Owner.Load l) [] hs can.named) (newer-falls hands.hands.1.falls)
     (closed-still (load_at t.loads) (load_at c.close.new.rows) l.0 c.close.ensures.gone c.close.ensures.others) refl refl))
     (stays-first (λ m. rw (c.all_may_work.ensures.counts m) (λ falls. (falls, refl))) c.release_owned.ensures.sheds)

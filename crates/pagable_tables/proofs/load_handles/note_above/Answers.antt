@@ -2,7 +2,11 @@ use Rattle.pagable_tables.proofs.{LastHandles.{raised-same, raised-then, told-on
 use Rattle.pagable_tables.proofs.load_handles.note_above.Goals as goal
 
 pub loop-place-init : goal.loop-place-init
-loop-place-init c = record { rows = λ l. raised-same _; told = λ l row k d at within above own. absurd (let low = c.place_above-start.ensures k d within in omega arith) }
+loop-place-init c = record {
+  rows = λ l. raised-same _;
+  told = λ l row k d at within above own. absurd (let low = c.place_above-start.ensures k d within in
+      omega arith);
+}
 
 pub loop-place-preserved : goal.loop-place-preserved
 loop-place-preserved c =

@@ -10,6 +10,10 @@ returns-clause-notes c =
     record {
       same = refl;
       rows = c.note_above.ensures.rows;
-      whole = record { steady = c.requires.whole.steady; core = subst pager.IsWhole (sym (core-same t t1 refl c.note_above.ensures.rows no_blobs)) c.requires.whole.core };
+      whole = record {
+        steady = c.requires.whole.steady;
+        core = subst pager.IsWhole (sym (core-same t t1 refl c.note_above.ensures.rows no_blobs))
+            c.requires.whole.core;
+      };
       later = noted-later t t1 refl c.note_above.ensures.rows refl c.note_above.ensures.told c.requires.later;
     }

@@ -7,34 +7,59 @@ use Rattle.pagable_tables.proofs.pending.schedule_for_paging.Goals as goal
 
 pub returns-in_err-at : goal.returns-in_err-at
 returns-in_err-at g c =
-    rw (failed c.from_residual.result c.from_residual.ensures.1) (nothing-release_at c.requires.whole (λ storage e. record { moves = tt; refused = record { why = inl (c.in_err-at.ensures.fault storage is_unpinned); stays = still _ } }))
+    rw (failed c.from_residual.result c.from_residual.ensures.1) (nothing-release_at c.requires.whole
+    (λ storage e. record { moves = tt; refused = record { why = inl (c.in_err-at.ensures.fault storage is_unpinned); stays = still _ } }))
 
 pub returns-then-not-lists : goal.returns-then-not-lists
 returns-then-not-lists g c =
     let t = c.args.t.now in
     let row = c.in_ok-at.at.row in
-    sheds-with (lazily-so {lists = c.args.lists} {old = t} {new = record t { ref_counts = c.try_release_at.new.t }} {step = λ w w'. ScheduleCall w c.args.me c.args.handle (Ok tt) w'}
+    sheds-with (lazily-so {lists = c.args.lists} {old = t} {new = record t { ref_counts = c.try_release_at.new.t }}
+    {step = λ w w'. ScheduleCall w c.args.me c.args.handle (Ok tt) w'}
     (λ storage e.
     let w = core_of t storage in
     let falls = rw c.in_ok-at.ensures.number at (c.try_release_at.ensures.falls w w (begun-whole t storage c.args.lists c.requires.whole e) (omega arith)) in
     let own : Owns w c.args.me c.args.handle is_unpinned row =
     record { live = c.in_ok-at.ensures.found; own = owner-same c.args.me row.owner c.in_ok-at.ensures.owner; as_asked = search rules } in
-    record { moves = (row, own, inr (closed-is c.args.lists storage.closed e ∙ ap not c.if-not-lists.true, record { told = c.try_release_at.result; falls = falls })); refused = tt })
+    record {
+      moves = (
+        row,
+        own,
+        inr (
+          closed-is c.args.lists storage.closed e ∙ ap not c.if-not-lists.true,
+          record { told = c.try_release_at.result; falls = falls },
+        ),
+      );
+      refused = tt;
+    })
     c.try_release_at.ensures.steady (schedule-goes c.args.me c.args.handle c.requires.whole.core c.requires.holder) refl refl refl)
     c.try_release_at.ensures.sheds
 
 pub returns : goal.returns
 returns g c =
     let w = c.requires.whole.steady in
-    let unvalued = ap is_valued (owner-same c.args.me c.in_ok-at.at.row.owner c.in_ok-at.ensures.owner) ∙ not-a-value (plain_of c.args.t.now) c.args.me c.requires.holder in
+    let unvalued = ap is_valued (owner-same c.args.me c.in_ok-at.at.row.owner c.in_ok-at.ensures.owner)
+    ∙ not-a-value (plain_of c.args.t.now) c.args.me c.requires.holder in
     let steady = c.hand_over.ensures.stands (record c.args.t.now.ref_counts { list = c.push_back.new.self }) unvalued refl
-    (work-moved c.args.t.now.ref_counts.nodes (only_handle c.in_ok-at.at.row.number) Owner.List (live c.args.t.now.ref_counts.handles.places.items) refl w.worked)
+    (work-moved c.args.t.now.ref_counts.nodes (only_handle c.in_ok-at.at.row.number) Owner.List (live c.args.t.now.ref_counts.handles.places.items) refl
+    w.worked)
     (record { sound = w.sound; next = w.next; fits = w.fits; worked = w.worked }) in
     let t = c.args.t.now in
     let new = record t { ref_counts = record t.ref_counts { list = c.push_back.new.self; handles = c.hand_over.new.handles } } in
     sheds-with (lazily-so {lists = c.args.lists} {old = t} {new = new} {step = λ w w'. ScheduleCall w c.args.me c.args.handle (Ok tt) w'}
     (λ storage e.
-    grind (arith, nat_tests, owner-same, closed-is, alike, c.in_ok-at.ensures.found, c.in_ok-at.ensures.owner, c.if-not-lists.false, c.hand_over.ensures.becomes.rows, c.in_ok-at.ensures.number))
+    grind (
+      arith,
+      nat_tests,
+      owner-same,
+      closed-is,
+      alike,
+      c.in_ok-at.ensures.found,
+      c.in_ok-at.ensures.owner,
+      c.if-not-lists.false,
+      c.hand_over.ensures.becomes.rows,
+      c.in_ok-at.ensures.number,
+    ))
     steady (schedule-goes c.args.me c.args.handle c.requires.whole.core c.requires.holder) refl refl refl)
     (sheds-still c.args.t.now.ref_counts _ c.requires.whole.steady)
 
@@ -46,5 +71,17 @@ returns-in_err-reserve g c =
     let new = record t { ref_counts = record t.ref_counts { list = c.reserve.new.self } } in
     rw (failed c.from_residual-in_err-reserve.result c.from_residual-in_err-reserve.ensures.1) (sheds-with
     (lazily-so {lists = c.args.lists} {old = t} {new = new} {step = λ w w'. ScheduleCall w c.args.me c.args.handle (Err Error.OutOfMemory) w'}
-    (λ storage e1. grind (arith, nat_tests, closed-is, alike, c.in_ok-at.ensures.found, c.in_ok-at.ensures.owner, c.if-not-lists.false, e.items, e.full, e.capacity))
-    (record { sound = w.sound; next = w.next; fits = w.fits; worked = w.worked }) (λ call. alike-goes c.requires.whole.core call.refused.stays) refl refl refl) (sheds-still t.ref_counts _ w))
+    (λ storage e1. grind (
+      arith,
+      nat_tests,
+      closed-is,
+      alike,
+      c.in_ok-at.ensures.found,
+      c.in_ok-at.ensures.owner,
+      c.if-not-lists.false,
+      e.items,
+      e.full,
+      e.capacity,
+    ))
+    (record { sound = w.sound; next = w.next; fits = w.fits; worked = w.worked }) (λ call. alike-goes c.requires.whole.core call.refused.stays) refl refl refl)
+    (sheds-still t.ref_counts _ w))

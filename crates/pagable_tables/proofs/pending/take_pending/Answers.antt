@@ -13,7 +13,8 @@ use Rattle.pagable_tables.specs.CascadeInvariant.{AreAtWork, is_work}
 pub unreachable-requires-in_default-look : Rattle.pagable_tables.proofs.pending.take_pending.Goals.unreachable-requires-in_default-look
 unreachable-requires-in_default-look c =
     let listed = c.requires.whole.core.owners_there.listed c.in-Some.handle.0 in
-    entry-lives c.args.t.now.ref_counts.list.items c.args.t.now.ref_counts.handles.places.items c.args.place c.in-Some.handle (omega arith) c.in-Some.ensures.value listed (search rules)
+    entry-lives c.args.t.now.ref_counts.list.items c.args.t.now.ref_counts.handles.places.items c.args.place c.in-Some.handle
+    (omega arith) c.in-Some.ensures.value listed (search rules)
 
 pub add_work-requires : Rattle.pagable_tables.proofs.pending.take_pending.Goals.add_work-requires
 add_work-requires c =
@@ -30,11 +31,16 @@ returns c =
     let w = c.requires.whole in
     let given = c.hand_over.ensures.becomes.rows ∙ ap (λ q. moved (only_handle q) c.args.me (live t.handles.places.items)) c.in-Some-look.ensures.number in
     let taken : (storage : StorageView) → TakeCall (core_of u storage) c.args.me c.args.place (Some h)
-    (core_of (record u { ref_counts = record t { handles = c.hand_over.new.handles; list = c.remove.new.self; nodes = c.add_work.new.nodes }; workers = c.reach_to.new.workers }) storage) =
+    (core_of (record u {
+      ref_counts = record t { handles = c.hand_over.new.handles; list = c.remove.new.self; nodes = c.add_work.new.nodes };
+      workers = c.reach_to.new.workers;
+    }) storage) =
     λ storage.
-    (let w' = core_of (record u { ref_counts = record t { handles = c.hand_over.new.handles; list = c.remove.new.self; nodes = c.add_work.new.nodes } }) storage in (
+    (let w' = core_of (record u { ref_counts = record t { handles = c.hand_over.new.handles; list = c.remove.new.self; nodes = c.add_work.new.nodes } })
+    storage in (
       slice_get_read t.list.items _ c.args.place h refl (omega arith) c.in-Some.ensures.value,
-      at-work-still (alike _ w' given (λ n. rw (c.add_work.ensures.counts n) refl) c.in-Some.ensures.items (record { handles = omega arith; entries = omega arith }) refl) c.reach_to.ensures.at_work,
+      at-work-still (alike _ w' given (λ n. rw (c.add_work.ensures.counts n) refl) c.in-Some.ensures.items
+          (record { handles = omega arith; entries = omega arith }) refl) c.reach_to.ensures.at_work,
     )) in
     let none = entry-unvalued t.list.items t.handles.places.items c.args.place h (omega arith) c.in-Some.ensures.value (w.core.owners_there.listed h.0) in
     let unvalued = none c.in-Some-look.at.place c.in-Some-look.at.row w.steady.sound.ordered c.in-Some-look.ensures.place c.in-Some-look.ensures.number in
@@ -50,12 +56,14 @@ returns c =
     let long = length-live-le c.hand_over.new.handles.places.items in
     let here = λ (same : n ≡ x.node.0). k.here (times (is_work n) new) in
     grind (arith, nat_tests, cases_eq n x.node.0) in
-    let steady = c.hand_over.ensures.stands (record t { list = c.remove.new.self; nodes = c.add_work.new.nodes }) unvalued (not-a-value (plain_of u) c.args.me c.requires.holder)
+    let steady = c.hand_over.ensures.stands (record t { list = c.remove.new.self; nodes = c.add_work.new.nodes }) unvalued
+    (not-a-value (plain_of u) c.args.me c.requires.holder)
     (subst (λ r. AreAtWork r c.add_work.new.nodes) c.hand_over.ensures.becomes.rows worked)
     (record {
       sound = w.steady.sound;
       next = w.steady.next;
-      fits = fits-same (counts_at t.nodes) (counts_at c.add_work.new.nodes) (refs_at t.nodes) (refs_at c.add_work.new.nodes) rows t.top [] w.steady.fits k.counts k.refs;
+      fits = fits-same (counts_at t.nodes) (counts_at c.add_work.new.nodes) (refs_at t.nodes) (refs_at c.add_work.new.nodes) rows t.top
+          [] w.steady.fits k.counts k.refs;
       worked = work-more rows t.nodes c.add_work.new.nodes k.others w.steady.worked;
     }) in
     record {
@@ -64,9 +72,11 @@ returns c =
       later = λ other later.
           (let row = found-among h.0 (live t.handles.places.items) c.in-Some-look.at.row c.in-Some-look.ensures.found in
           let numbered : 0 < h.0 = (let n = w.core.handles.numbered c.in-Some-look.at.row row.0 in let a = n.0 in let is = row.1 in omega arith) in
-          later-by later (omega arith) refl (λ l load is. is) c.reach_to.ensures.less (λ l q own. inl (load-kept u later (only_handle h) c.args.me other _ given l q own))
+          later-by later (omega arith) refl (λ l load is. is) c.reach_to.ensures.less
+          (λ l q own. inl (load-kept u later (only_handle h) c.args.me other _ given l q own))
           (λ v q own. elim (worker-kept u later (only_handle h) c.args.me other _ given v q own) [
             | inl had ↦ inl had
-            | inr (mine, is) ↦ inr (inr (subst (λ n. InReach (reach_at c.reach_to.new.workers v) n) (grind (arith, nat_tests)) (c.reach_to.ensures.here v numbered mine)))
+            | inr (mine, is) ↦ inr (inr (subst (λ n. InReach (reach_at c.reach_to.new.workers v) n) (grind (arith, nat_tests))
+                (c.reach_to.ensures.here v numbered mine)))
           ]));
     }

@@ -5,4 +5,5 @@ unreachable-requires c =
     let t = c.args.t.now.ref_counts in
     let h = c.in_ok-handle.field-0.now in
     let at = c.in_ok-handle.ensures.lookup in
-    entry-lives t.list.items t.handles.places.items c.args.place h (grind (arith, nat_tests)) at (c.requires.core.owners_there.listed h.0) c.in_default.ensures.none
+    entry-lives t.list.items t.handles.places.items c.args.place h (grind (arith, nat_tests)) at (c.requires.core.owners_there.listed h.0)
+    c.in_default.ensures.none

@@ -18,15 +18,21 @@ returns-clause-closed g c storage failures' le =
     let falls = c.release_owned.ensures.falls w u w (λ l. refl) so-far (omega arith)
     (λ q is. let given = passes-given (is_owned_by Owner.List) (plain_of t) q whole.core.handles is in ((given.0, inl given.0), given.1)) in
     let listed : FallsAnyhow w u (is_listed w) (with_tables u c.release_owned.new.t) =
-    record { told = c.release_owned.result; falls = subst (λ s. Falls w u s c.release_owned.result (with_tables u c.release_owned.new.t)) (λ i q. owned-listed whole.core q i) falls } in
+    record {
+      told = c.release_owned.result;
+      falls = subst (λ s. Falls w u s c.release_owned.result (with_tables u c.release_owned.new.t))
+          (λ i q. owned-listed whole.core q i) falls;
+    } in
     record {
       told = refl;
       fails = le;
-      falls = subst (λ known. FallsAnyhow w u (is_listed w) (record (with_tables u c.release_owned.new.t) { cache = known })) (λ i kind key. sym (ap (option_map (λ (n : NodeNumber). n.0)) (none kind key)) i) listed;
+      falls = subst (λ known. FallsAnyhow w u (is_listed w) (record (with_tables u c.release_owned.new.t) { cache = known }))
+          (λ i kind key. sym (ap (option_map (λ (n : NodeNumber). n.0)) (none kind key)) i) listed;
     }
 
 pub returns-clause-whole : goal.returns-clause-whole
-returns-clause-whole g c = whole-so c.release_owned.ensures.steady (close-whole (Ok tt) c.requires.whole.core (returns-clause-closed g c no_blobs 0 (omega arith)))
+returns-clause-whole g c = whole-so c.release_owned.ensures.steady (close-whole (Ok tt) c.requires.whole.core
+    (returns-clause-closed g c no_blobs 0 (omega arith)))
 
 pub returns-clause-later : goal.returns-clause-later
 returns-clause-later g c later = later-on later (newer-falls (returns-clause-closed g c no_blobs 0 (omega arith)).falls.falls) refl refl refl

@@ -5,7 +5,8 @@ pub returns-then-number-since-clause-none : goal.returns-then-number-since-claus
 returns-then-number-since-clause-none c w q loads above below =
     let ss = c.args.handles.now.places.items in
     none-from (gives_row w c.args.giving) ss c.loop-place.place q c.args.left
-    (λ k d lt. below-to ss (c.loop-place.place - 1) c.index-found.result.now (omega arith) c.index-found.ensures c.args.since q c.requires.ordered (omega arith) above k d (omega arith)) below
+    (λ k d lt. below-to ss (c.loop-place.place - 1) c.index-found.result.now (omega arith) c.index-found.ensures c.args.since q c.requires.ordered
+    (omega arith) above k d (omega arith)) below
     (λ k d. c.loop-place.invariant.passed w k d loads)
 
 pub returns-then-gives-clause-last : goal.returns-then-gives-clause-last
@@ -20,10 +21,12 @@ returns-then-gives-clause-last c =
       gives = λ w loads. grind (arith, nat_tests, c.gives.ensures.gives w loads);
       plain = grind (arith, nat_tests, c.gives.ensures.plain);
       last = λ w q loads asked above below. none-from (gives_row w c.args.giving) ss c.loop-place.place q c.args.left
-          (λ k d lt. below-to ss (c.loop-place.place - 1) p (omega arith) c.index-found.ensures p.row.number.0 q c.requires.ordered (omega arith) (omega arith) k d (omega arith)) below
+          (λ k d lt. below-to ss (c.loop-place.place - 1) p (omega arith) c.index-found.ensures p.row.number.0 q c.requires.ordered (omega arith)
+          (omega arith) k d (omega arith)) below
           (λ k d. c.loop-place.invariant.passed w k d loads);
     }
 
 pub returns-clause-none : goal.returns-clause-none
 returns-clause-none c w q loads above below =
-    none-from (gives_row w c.args.giving) c.args.handles.now.places.items c.loop-place.place q c.args.left (λ k d lt. absurd (omega arith)) below (λ k d. c.loop-place.invariant.passed w k d loads)
+    none-from (gives_row w c.args.giving) c.args.handles.now.places.items c.loop-place.place q c.args.left (λ k d lt. absurd (omega arith)) below
+    (λ k d. c.loop-place.invariant.passed w k d loads)

@@ -4,7 +4,8 @@ use Rattle.pagable_tables.proofs.release.last.Given as goal
 abbrev pub invariant-loop-place : goal.invariant-loop-place
 invariant-loop-place l = record {
   within : l.place ≤ length l.handles.places.items;
-  passed : (w : Core) (k : ℕ) (d : Place) → LoadsAre l.loads w → l.place ≤ k → k < length l.handles.places.items → (get_or l.handles.places.items k d).is_live ≡ true
+  passed : (w : Core) (k : ℕ) (d : Place) → LoadsAre l.loads w → l.place ≤ k → k < length l.handles.places.items → (get_or l.handles.places.items k d).is_live
+      ≡ true
       → gives_row w l.giving (get_or l.handles.places.items k d).row ≡ true → l.left < (get_or l.handles.places.items k d).row.number.0;
 }
 

@@ -5,11 +5,13 @@ use Rattle.pagable_tables.proofs.release.release_if_owned.Goals as goal
 
 pub returns-in_default-clause-so_far : goal.returns-in_default-clause-so_far
 returns-in_default-clause-so_far g c before w given f few =
-    given-none before w given c.args.lists c.args.t.now c.args.load c.args.handle.0 f (ap (if_there (is_owned_by (Owner.Load c.args.load)) false) (c.in_default.ensures.none))
+    given-none before w given c.args.lists c.args.t.now c.args.load c.args.handle.0 f
+    (ap (if_there (is_owned_by (Owner.Load c.args.load)) false) (c.in_default.ensures.none))
 
 pub returns-else-is_owner-clause-so_far : goal.returns-else-is_owner-clause-so_far
 returns-else-is_owner-clause-so_far g c before w given f few =
-    given-none before w given c.args.lists c.args.t.now c.args.load c.args.handle.0 f (ap (if_there (is_owned_by (Owner.Load c.args.load)) false) c.in-Some.ensures.found ∙ sym c.if-is_owner.ensures)
+    given-none before w given c.args.lists c.args.t.now c.args.load c.args.handle.0 f
+    (ap (if_there (is_owned_by (Owner.Load c.args.load)) false) c.in-Some.ensures.found ∙ sym c.if-is_owner.ensures)
 
 pub returns-then-is_owner-clause-so_far : goal.returns-then-is_owner-clause-so_far
 returns-then-is_owner-clause-so_far g c before w given f few =

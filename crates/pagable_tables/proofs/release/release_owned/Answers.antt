@@ -8,7 +8,8 @@ loop-at-init g c = (
   aside c.args.t.now None [] owns_nothing c.requires.steady,
   omega arith,
   λ before u w loads f few between.
-      regiven before u nobody (past_of u w c.args.giving c.args.until) c.args.lists _ f (λ r e. let up = between r in grind (arith, nat_tests)) (λ r e. absurd (cc)),
+      regiven before u nobody (past_of u w c.args.giving c.args.until) c.args.lists _ f (λ r e. let up = between r in grind (arith, nat_tests))
+      (λ r e. absurd (cc)),
   sheds-still c.args.t.now _ c.requires.steady,
   λ none. refl,
 )
@@ -24,7 +25,8 @@ loop-at-preserved g c =
           one-past before u w c.args.lists c.args.giving (λ is. (c.requires.listed is).0) c.args.reach (λ q e. (between q e).0) c.loop-at.t c.release_at.new.t
           c.loop-at.left x b.0.0 b.1 c.in-Some.ensures.last.found (c.in-Some.ensures.last.gives w loads)
           (λ q in-reach above below. c.in-Some.ensures.last.last w q loads in-reach above below)
-          (λ given s. c.release_at.ensures.so_far before u given s (omega arith) (elim (given-plain w c.args.giving x.owner x.node (c.in-Some.ensures.last.gives w loads)) [
+          (λ given s. c.release_at.ensures.so_far before u given s (omega arith)
+          (elim (given-plain w c.args.giving x.owner x.node (c.in-Some.ensures.last.gives w loads)) [
             | inl free ↦ inl free
             | inr is ↦ let l = c.requires.listed is in inr (entry-apart s l.0 x.number.0 (i.4 l.0 ∙ l.1))
           ])) (i.2 before u w loads f few between),
@@ -34,6 +36,8 @@ loop-at-preserved g c =
 
 pub returns-clause-falls : goal.returns-clause-falls
 returns-clause-falls g c before u w loads f few between =
-    c.fall.ensures.falls before u _ (onto before u w c.args.lists c.args.giving (λ is. (c.requires.listed is).0) c.args.reach (λ q e. (between q e).0) c.loop-at.t c.loop-at.left
-    (passes_in (gives_row w c.args.giving) u.rows) (λ r e. e) (λ r e. grind (arith, nat_tests)) (λ r e below. c.in_default.ensures.none w r loads (between r e).0 below)
+    c.fall.ensures.falls before u _ (onto before u w c.args.lists c.args.giving (λ is. (c.requires.listed is).0) c.args.reach
+    (λ q e. (between q e).0) c.loop-at.t c.loop-at.left
+    (passes_in (gives_row w c.args.giving) u.rows) (λ r e. e) (λ r e. grind (arith, nat_tests))
+    (λ r e below. c.in_default.ensures.none w r loads (between r e).0 below)
     (c.loop-at.invariant.2 before u w loads f few between))

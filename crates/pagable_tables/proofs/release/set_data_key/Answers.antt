@@ -8,7 +8,10 @@ use Rattle.pagable_tables.proofs.release.set_data_key.Goals as goal
 
 pub returns-in_err-at : goal.returns-in_err-at
 returns-in_err-at g c =
-    rw (failed c.from_residual.result c.from_residual.ensures.1) (nothing-release_at c.requires.whole (λ storage e. record { does = inl (record { e = c.in_err-at.field-0.0; why = c.in_err-at.ensures.fault storage any_mode; told = refl; stays = still _ }) }))
+    rw (failed c.from_residual.result c.from_residual.ensures.1) (nothing-release_at c.requires.whole
+    (λ storage e. record {
+      does = inl (record { e = c.in_err-at.field-0.0; why = c.in_err-at.ensures.fault storage any_mode; told = refl; stays = still _ });
+    }))
 
 pub fall-requires : goal.fall-requires
 fall-requires g c =
@@ -36,7 +39,8 @@ returns g c =
     let cells : GetsKey (counts_at t.ref_counts.nodes) (counts_at c.set_counts.new.nodes) row.node.0 c.args.key =
     λ m. grind (arith, nat_tests, cases_eq m row.node.0, here, is, c.set_counts.ensures.others m, c.get.ensures.above, c.get.ensures.value) in
     let there = (found-among c.args.handle.0 (plain_of t).rows row c.in_ok-at.ensures.found).0 in
-    let stands = unturned (with_key (plain_of t) row.node c.args.key) (keyed-whole c.requires.whole.core row there c.args.key (loose-unshared row.mode loose)) in
+    let stands = unturned (with_key (plain_of t) row.node c.args.key) (keyed-whole c.requires.whole.core row there c.args.key (loose-unshared row.mode loose))
+    in
     let own = owner-same c.args.me row.owner c.in_ok-at.ensures.owner in
     sheds-with (does-as (lazily-so {lists = c.args.lists} {step = λ w w'. Falls w (with_key w row.node c.args.key) nobody c.fall.result w'}
     (λ storage e. c.fall.ensures.falls _ _ nobody (keyed-on t storage c.args.lists c.requires.whole e row.node c.args.key _ refl cells))

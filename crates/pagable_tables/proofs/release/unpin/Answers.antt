@@ -13,12 +13,14 @@ use Rattle.pagable_tables.proofs.release.unpin.Goals as goal
 
 -- what has gone and come so far where a handle lets its pin go and stays
 lowered-on : (T : Tables) (storage : StorageView) (lists : Bool) → IsWhole T → lists ≡ not storage.closed → (x : HandleRow) (new : RefCounts)
-    → GivesUp (record T.ref_counts { unlisted = None }) [] x true lists new → SoFar (core_of T storage) (with_mode (core_of T storage) x.number Mode.LooseUnpinned) nobody lists new
+    → GivesUp (record T.ref_counts { unlisted = None }) [] x true lists new
+    → SoFar (core_of T storage) (with_mode (core_of T storage) x.number Mode.LooseUnpinned) nobody lists new
 lowered-on T storage lists whole opened x new g =
     let old = core_of T storage in
     let now = with_mode old x.number Mode.LooseUnpinned in
     let f : SoFar old old nobody lists (record T.ref_counts { unlisted = None }) = begun-whole T storage lists whole opened in
-    let less : (p : HandleRow → Bool) → one (p (unpinned x)) ≤ one (p x) → times p now.rows ≤ times p old.rows = λ p le. omega (arith, g.leaves.sums (λ h. one (p h)), ap (times p) g.leaves.becomes.rows) in
+    let less : (p : HandleRow → Bool) → one (p (unpinned x)) ≤ one (p x) → times p now.rows ≤ times p old.rows =
+    λ p le. omega (arith, g.leaves.sums (λ h. one (p h)), ap (times p) g.leaves.becomes.rows) in
     let begins : Begins old now lists =
     record {
       open_storage = opened;
@@ -28,20 +30,38 @@ lowered-on T storage lists whole opened x new g =
       listed = λ q. omega (arith, g.leaves.sums (λ h. one (of_list q h)), ap (times (of_list q)) g.leaves.becomes.rows, f.begins.listed q);
     } in
     let few : new.top ≢ 0 → length (live new.handles.places.items) ≤ length old.rows = λ falls.
-    grind (arith, nat_tests, gives-sums g (λ h. 1), ones (live new.handles.places.items), ones old.rows, g.keyed refl whole.steady.fits.chain falls, g.comes.only, listing-is g.counts x.mode) in
+    grind (
+      arith,
+      nat_tests,
+      gives-sums g (λ h. 1),
+      ones (live new.handles.places.items),
+      ones old.rows,
+      g.keyed refl whole.steady.fits.chain falls,
+      g.comes.only,
+      listing-is g.counts x.mode,
+    ) in
     let long = length-map old.rows (λ y. if is_handle x.number.0 y then unpinned y else y) in
-    entered-on f g (λ n. refl) (λ n. whole.steady.fits.pinned n) (omega arith) now.rows long nobody nobody begins (g.leaves.becomes.rows ∙ sym (append-nil _ ∙ all-kept now.rows)) refl
+    entered-on f g (λ n. refl) (λ n. whole.steady.fits.pinned n) (omega arith) now.rows long nobody nobody begins
+    (g.leaves.becomes.rows ∙ sym (append-nil _ ∙ all-kept now.rows)) refl
     (none-within nobody now.rows) (λ s final bare has closed. none-within s now.rows) (λ falls. let a = few falls in omega (arith, long))
 
-mine : (t : RefCounts) (me : Owner) (x : HandleRow) → IsFalling t [] owns_nothing → is_valued me ≡ false → is_owner me x.owner ≡ true → IsFalling (record t { unlisted = None }) [] (owns x)
+mine : (t : RefCounts) (me : Owner) (x : HandleRow) → IsFalling t [] owns_nothing → is_valued me ≡ false → is_owner me x.owner ≡ true
+    → IsFalling (record t { unlisted = None }) [] (owns x)
 mine t me x w plain own = unowned (record t { unlisted = None }) x [] (ap is_valued (owner-same me x.owner own) ∙ plain) (aside t None [] owns_nothing w)
 
 pub returns-in_err-at : goal.returns-in_err-at
 returns-in_err-at g c =
-    rw (failed c.from_residual.result c.from_residual.ensures.1) (nothing-release_at c.requires.whole (λ storage e. record { does = inl (record { e = c.in_err-at.field-0.0; why = c.in_err-at.ensures.fault storage is_loose; told = refl; stays = still _ }) }))
+    rw (failed c.from_residual.result c.from_residual.ensures.1) (nothing-release_at c.requires.whole
+    (λ storage e. record {
+      does = inl (record { e = c.in_err-at.field-0.0; why = c.in_err-at.ensures.fault storage is_loose; told = refl; stays = still _ });
+    }))
 
 pub give_up-requires-clause-falling : goal.give_up-requires-clause-falling
-give_up-requires-clause-falling g c = ([], mine c.args.t.now.ref_counts c.args.me c.in_ok-at.at.row c.requires.whole.steady c.requires.plain c.in_ok-at.ensures.owner)
+give_up-requires-clause-falling g c = (
+  [],
+  mine c.args.t.now.ref_counts c.args.me c.in_ok-at.at.row c.requires.whole.steady c.requires.plain
+      c.in_ok-at.ensures.owner,
+)
 
 pub fall-requires : goal.fall-requires
 fall-requires g c =
@@ -53,10 +73,17 @@ returns-in-LoosePinned g c =
     let t = c.args.t.now in
     let row = c.in_ok-at.at.row in
     let up = c.give_up.ensures [] (mine t.ref_counts c.args.me row c.requires.whole.steady c.requires.plain c.in_ok-at.ensures.owner) in
-    let turns = moded c.requires.whole.core c.args.handle row Mode.LooseUnpinned c.in_ok-at.ensures.found (ap is_shared (sym c.in-LoosePinned.is)) (λ loose. refl) (λ is. refl) in
+    let turns = moded c.requires.whole.core c.args.handle row Mode.LooseUnpinned c.in_ok-at.ensures.found (ap is_shared (sym c.in-LoosePinned.is))
+    (λ loose. refl) (λ is. refl) in
     let own = owner-same c.args.me row.owner c.in_ok-at.ensures.owner in
     sheds-with (does-as (lazily-so {lists = c.args.lists} {step = λ w w'. Falls w (with_mode w c.args.handle Mode.LooseUnpinned) nobody c.fall.result w'}
     (λ storage e.
     rw c.in_ok-at.ensures.number at (c.fall.ensures.falls _ _ nobody (lowered-on t storage c.args.lists c.requires.whole e row c.give_up.new.t up)))
     c.fall.ensures.steady (λ fell. falling fell turns) refl refl refl)
-    (λ storage fell e. record { does = inr (row, record { live = c.in_ok-at.ensures.found; own = own; as_asked = ap is_loose c.in-LoosePinned.is }, inr (c.in-LoosePinned.is, fell e)) })) (stays-first up.values c.fall.ensures.sheds)
+    (λ storage fell e. record {
+      does = inr (
+        row,
+        record { live = c.in_ok-at.ensures.found; own = own; as_asked = ap is_loose c.in-LoosePinned.is },
+        inr (c.in-LoosePinned.is, fell e),
+      );
+    })) (stays-first up.values c.fall.ensures.sheds)

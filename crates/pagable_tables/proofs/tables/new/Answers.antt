@@ -1,12 +1,14 @@
 use Rattle.pagable_tables.proofs.{CascadeEnd.passes-none, Words.{AreLater, None, Tables, [], ap, arith, known_at, live, load_at, nat_tests, row_by}}
 use Rattle.pagable_tables.{proofs.Words.{refl, worker_at, ℕ, ◌≡◌}, specs.Core.IsWhole}
 
-nothing-whole : (t : Tables) → t.ref_counts.handles.dead ≡ 0 → t.ref_counts.handles.places.items ≡ [] → ((n : ℕ) → row_by t.ref_counts.nodes n ≡ None) → t.ref_counts.list.items ≡ []
+nothing-whole : (t : Tables) → t.ref_counts.handles.dead ≡ 0 → t.ref_counts.handles.places.items ≡ [] → ((n : ℕ) → row_by t.ref_counts.nodes n ≡ None)
+    → t.ref_counts.list.items ≡ []
     → ((kind key : ℕ) → known_at t.cache kind key ≡ None) → ((l : ℕ) → load_at t.loads l ≡ None) → ((v : ℕ) → worker_at t.workers v ≡ None)
     → (t.ref_counts.top ≡ 0) × (t.ref_counts.last_handle ≡ 0) × (t.last_node ≡ 0) × (t.last_load ≡ 0) → IsWhole t
 nothing-whole t dead rows found list cache loads workers last = grind (arith, nat_tests)
 
-nothing-later : (t : Tables) → live t.ref_counts.handles.places.items ≡ [] → ((l : ℕ) → load_at t.loads l ≡ None) → ((v : ℕ) → worker_at t.workers v ≡ None) → t.noted ≡ 0 → AreLater t
+nothing-later : (t : Tables) → live t.ref_counts.handles.places.items ≡ [] → ((l : ℕ) → load_at t.loads l ≡ None) → ((v : ℕ) → worker_at t.workers v ≡ None)
+    → t.noted ≡ 0 → AreLater t
 nothing-later t none loads workers noted = grind (arith, nat_tests, passes-none)
 
 pub returns-clause-later : Rattle.pagable_tables.proofs.tables.new.Goals.returns-clause-later
@@ -14,5 +16,6 @@ returns-clause-later c = nothing-later _ (ap live c.new.ensures.items) (λ l. rw
 
 pub returns-clause-whole : Rattle.pagable_tables.proofs.tables.new.Goals.returns-clause-whole
 returns-clause-whole c =
-    nothing-whole _ refl c.new.ensures.items c.new-2.ensures c.new-3.ensures.items (λ kind key. rw c.new-4.ensures.empty refl) (λ l. rw c.new-5.ensures.empty refl)
+    nothing-whole _ refl c.new.ensures.items c.new-2.ensures c.new-3.ensures.items (λ kind key. rw c.new-4.ensures.empty refl)
+    (λ l. rw c.new-5.ensures.empty refl)
     (λ v. rw c.new-6.ensures.empty refl) (refl, refl, refl, refl)

@@ -6,7 +6,8 @@ use Rattle.pagable_tables.specs.{Core.{Does, IsWhole}, HandleTable.Widens}
 use Rattle.pagable_tables.proofs.tables.reserve.Goals as goal
 
 -- there is room, and all else is as it was
-grown : (t : Tables) (u : RefCounts) → IsWhole t → Widens t.ref_counts.handles u.handles → u.list.items ≡ t.ref_counts.list.items → deque_capacity t.ref_counts.list ≤ deque_capacity u.list
+grown : (t : Tables) (u : RefCounts) → IsWhole t → Widens t.ref_counts.handles u.handles → u.list.items ≡ t.ref_counts.list.items
+    → deque_capacity t.ref_counts.list ≤ deque_capacity u.list
     → Does t Alike (record t { ref_counts = record t.ref_counts { handles = u.handles; list = u.list } })
 grown t u w e items capacity = does-so (λ storage. grind (arith, nat_tests, same-cache, e.rows, items, e.capacity, capacity))
     (record {
@@ -24,10 +25,12 @@ returns-in_err-reserve c = rw (failed c.from_residual.result c.from_residual.ens
 
 pub returns-in_err-reserve_entries : goal.returns-in_err-reserve_entries
 returns-in_err-reserve_entries c = rw (failed c.from_residual-in_err-reserve_entries.result c.from_residual-in_err-reserve_entries.ensures.1)
-    (does-as (grown c.args.t.now (record c.args.t.now.ref_counts { handles = c.reserve.new.handles; list = c.reserve_entries.new.list }) c.requires c.reserve.ensures.widens c.reserve_entries.ensures.items c.reserve_entries.ensures.capacity)
+    (does-as (grown c.args.t.now (record c.args.t.now.ref_counts { handles = c.reserve.new.handles; list = c.reserve_entries.new.list }) c.requires
+    c.reserve.ensures.widens c.reserve_entries.ensures.items c.reserve_entries.ensures.capacity)
     (λ storage grown. record { stays = grown; enough = tt; wanting = (refl, grind (arith, nat_tests, c.in_err-reserve_entries.ensures.err)) }))
 
 pub returns : goal.returns
 returns c =
-    does-as (grown c.args.t.now (record c.args.t.now.ref_counts { handles = c.reserve.new.handles; list = c.reserve_entries.new.list }) c.requires c.reserve.ensures.widens c.reserve_entries.ensures.items c.reserve_entries.ensures.capacity)
+    does-as (grown c.args.t.now (record c.args.t.now.ref_counts { handles = c.reserve.new.handles; list = c.reserve_entries.new.list }) c.requires
+    c.reserve.ensures.widens c.reserve_entries.ensures.items c.reserve_entries.ensures.capacity)
     (λ storage grown. record { stays = grown; enough = grind (arith, nat_tests, c.in_ok-reserve.ensures.ok, c.in_ok-reserve_entries.ensures.ok); wanting = tt })

@@ -16,10 +16,18 @@ returns g c =
     let r = c.release_owned.result in
     let w' = core_of (record t { ref_counts = h; loads = c.close_loads.new.loads; workers = c.close.new.rows }) storage in
     let falls = c.release_owned.ensures.falls w u w (λ l. refl) (begun-less t u.loads u.workers storage c.args.lists c.requires.whole e) (omega arith)
-    (λ q is. (subst (λ r. InReach r q) (sym c.reach_of-reach.ensures) (in-reach t c.requires.whole c.requires.later c.args.worker q is), (passes-given (gives_row w (ReleaseSet.Worker c.args.worker)) (plain_of t) q c.requires.whole.core.handles is).1)) in
+    (λ q is. (
+      subst (λ r. InReach r q) (sym c.reach_of-reach.ensures) (in-reach t c.requires.whole c.requires.later c.args.worker q is),
+      (passes-given (gives_row w (ReleaseSet.Worker c.args.worker)) (plain_of t) q c.requires.whole.core.handles is).1,
+    )) in
     let loads = loads-anew w u (with_tables u h) (is_workers w v) r w'.loads (λ l. let left = c.close_loads.ensures l in grind (arith, nat_tests)) falls in
-    record { told = r; falls = subst (λ s. Falls w u (is_workers w v) r (record (with_tables u h) { loads = w'.loads; workers = s })) (λ i q. updated-by is_some (worker_at t.workers) (worker_at c.close.new.rows) v None c.close.ensures.gone c.close.ensures.others q i) loads })
+    record {
+      told = r;
+      falls = subst (λ s. Falls w u (is_workers w v) r (record (with_tables u h) { loads = w'.loads; workers = s }))
+          (λ i q. updated-by is_some (worker_at t.workers) (worker_at c.close.new.rows) v None c.close.ensures.gone c.close.ensures.others q i) loads;
+    })
     c.release_owned.ensures.steady (worker-end-whole v c.requires.whole.core)
-    (λ ends later. later-less later (newer-falls ends.falls) refl (λ l load is. let left : left_load v (load_at t.loads l) ≡ Some load = sym (c.close_loads.ensures l) ∙ is in grind (arith, nat_tests))
+    (λ ends later. later-less later (newer-falls ends.falls) refl (λ l load is. let left : left_load v (load_at t.loads l)
+    ≡ Some load = sym (c.close_loads.ensures l) ∙ is in grind (arith, nat_tests))
     (grind (arith, nat_tests, cases_eq, c.close.ensures.gone, c.close.ensures.others))))
     c.release_owned.ensures.sheds

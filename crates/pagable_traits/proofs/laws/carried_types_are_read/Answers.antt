@@ -2,14 +2,40 @@ use Rattle.{pagable_traits.specs.ReadBack.{basic_is_read, hash_map_is_read, over
 use Rattle.pagable_traits.proofs.laws.carried_types_are_read.Goals as goal
 
 pub returns-clause-numbers : goal.returns-clause-numbers
-returns-clause-numbers g c e =
-    (basic_is_read tt, (basic_is_read tt, (basic_is_read tt, (basic_is_read tt, (basic_is_read tt, (basic_is_read tt, (basic_is_read tt, (basic_is_read tt, (basic_is_read tt, (basic_is_read tt, (basic_is_read tt, tt)))))))))))
+returns-clause-numbers g c e = (
+  basic_is_read tt,
+  (
+    basic_is_read tt,
+    (
+      basic_is_read tt,
+      (
+        basic_is_read tt,
+        (basic_is_read tt, (basic_is_read tt, (basic_is_read tt, (basic_is_read tt, (basic_is_read tt, (basic_is_read tt, (basic_is_read tt, tt))))))),
+      ),
+    ),
+  ),
+)
 
 pub returns-clause-basic : goal.returns-clause-basic
-returns-clause-basic g c e = (basic_is_read tt, (basic_is_read tt, (basic_is_read tt, (basic_is_read tt, (basic_is_read tt, (basic_is_read tt, (basic_is_read tt, (basic_is_read tt, tt))))))))
+returns-clause-basic g c e = (
+  basic_is_read tt,
+  (
+    basic_is_read tt,
+    (
+      basic_is_read tt,
+      (basic_is_read tt, (basic_is_read tt, (basic_is_read tt, (basic_is_read tt, (basic_is_read tt, tt))))),
+    ),
+  ),
+)
 
 pub returns-clause-over : goal.returns-clause-over
-returns-clause-over g c e t = (over_is_read refl t, (over_is_read refl t, (over_is_read refl t, (over_is_read refl t, (over_is_read refl t, (over_is_read refl t, tt))))))
+returns-clause-over g c e t = (
+  over_is_read refl t,
+  (
+    over_is_read refl t,
+    (over_is_read refl t, (over_is_read refl t, (over_is_read refl t, (over_is_read refl t, tt)))),
+  ),
+)
 
 pub returns-clause-sets : goal.returns-clause-sets
 returns-clause-sets g c e = (λ k. over_is_read refl k, λ h. over_is_read refl h)

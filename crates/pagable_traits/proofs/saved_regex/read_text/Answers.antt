@@ -7,7 +7,8 @@ returns g c =
     let old = c.args.deserializer.now in
     let told = rw c.serde.ensures.value at c.read_string.ensures in
     record {
-      reads = text-read g.E.Env g.D.PagableDeserializer pattern c.read_string.result _ (λ c rest. refl) (law.bytes_are old) (law.rest_of_with old _) (law.moves_of_with old _)
+      reads = text-read g.E.Env g.D.PagableDeserializer pattern c.read_string.result _ (λ c rest. refl) (law.bytes_are old) (law.rest_of_with old _)
+          (law.moves_of_with old _)
           (law.environment_of_with old _) (law.levels_of_with old _) told.gives told.goes;
       unbuilt = text_not_refused _ _ _ told.gives;
     }

@@ -6,7 +6,8 @@ returns-then-eq-clause-found g c =
     let equal : bytes_eq c.args.tag.now (string_bytes known.tag) ≡ true = search rules in
     let count = length c.args.registrations.now in
     let passed = c.loop-passed.passed in
-    is_last (λ x. (string_bytes x.tag, x.deserialize)) c.args.tag.now c.args.registrations.now (count - passed) (count - 1 - passed) known (omega (arith, c.loop-passed-test.true)) (omega (arith, c.loop-passed-test.true)) c.index-registrations-count.is equal c.loop-passed.invariant
+    is_last (λ x. (string_bytes x.tag, x.deserialize)) c.args.tag.now c.args.registrations.now (count - passed) (count - 1 - passed) known
+    (omega (arith, c.loop-passed-test.true)) (omega (arith, c.loop-passed-test.true)) c.index-registrations-count.is equal c.loop-passed.invariant
 
 pub loop-passed-preserved : Rattle.pagable_traits.proofs.typetag.last_reader.Goals.loop-passed-preserved
 loop-passed-preserved g c =
@@ -16,4 +17,5 @@ loop-passed-preserved g c =
     let passed = c.loop-passed.passed in
     let next : count - 1 - passed ≡ count - (passed + 1) = omega arith in
     rw (← next)
-    (none_from_less (λ x. (string_bytes x.tag, x.deserialize)) c.args.tag.now c.args.registrations.now (count - passed) (count - 1 - passed) known (omega (arith, c.loop-passed-test.true)) (omega (arith, c.loop-passed-test.true)) c.index-registrations-count.is differs c.loop-passed.invariant)
+    (none_from_less (λ x. (string_bytes x.tag, x.deserialize)) c.args.tag.now c.args.registrations.now (count - passed) (count - 1 - passed) known
+    (omega (arith, c.loop-passed-test.true)) (omega (arith, c.loop-passed-test.true)) c.index-registrations-count.is differs c.loop-passed.invariant)

@@ -4,7 +4,8 @@ use Rattle.pagable.proofs.machine.Machine.run.Goals as goal
 pub loop-event-init : goal.loop-event-init
 loop-event-init g c = record {
   room = grind arith;
-  run = rw (c.in-Ok.ensures.items, c.from_vec-rest.ensures.items) (at-first _ _ _ _ _ c.self.inside.pager c.self.inside.held (sym c.self.view_is) c.self.invariant);
+  run = rw (c.in-Ok.ensures.items, c.from_vec-rest.ensures.items) (at-first _ _ _ _ _ c.self.inside.pager c.self.inside.held
+      (sym c.self.view_is) c.self.invariant);
 }
 
 pub loop-event-smaller : goal.loop-event-smaller
@@ -13,7 +14,8 @@ loop-event-smaller g c = rw c.in-Some.ensures.items (search rules)
 pub loop-event-preserved : goal.loop-event-preserved
 loop-event-preserved g c = record {
   room = grind arith;
-  run = rw c.push_reserved.ensures.items (one-more _ _ _ _ _ _ c.in-Some.event _ _ _ _ _ _ (rw c.in-Some.ensures.items at c.loop-event.invariant.run) c.serve-reply.ensures);
+  run = rw c.push_reserved.ensures.items (one-more _ _ _ _ _ _ c.in-Some.event _ _ _ _ _ _ (rw c.in-Some.ensures.items at c.loop-event.invariant.run)
+      c.serve-reply.ensures);
 }
 
 pub returns-clause-run : goal.returns-clause-run

@@ -7,7 +7,8 @@ invariant-loop-event g l =
     let tells = storage_view g.S.PagableStorage in
     record {
       room : length l.rest.items + vec_len l.replies ≤ vec_capacity l.replies;
-      run : SoFar g.S.PagableStorage.is_honest tells (λ e. values_at g.E.Node.NodeSet g.E.Env g.E.Hash.KeyHash e) l.fn.self l.fn.events.items l.rest.items l.replies.items l.self-inside.pager l.self-inside.held;
+      run : SoFar g.S.PagableStorage.is_honest tells (λ e. values_at g.E.Node.NodeSet g.E.Env g.E.Hash.KeyHash e) l.fn.self l.fn.events.items l.rest.items
+          l.replies.items l.self-inside.pager l.self-inside.held;
     }
 
 abbrev pub decreases-loop-event : goal.decreases-loop-event

@@ -9,4 +9,5 @@ returns-in-Ok g c =
     clone-is-stored _ _ _ _ (subst (λ n. c.args.cost ≤ n) (ap (λ (b : BudgetView). b.most) c.self.view_is) c.if-cost-self.false) c.in-Ok.ensures c.store.ensures
 
 pub returns-in_default : goal.returns-in_default
-returns-in_default g c = clone-is-refused _ _ (subst (λ n. c.args.cost ≤ n) (ap (λ (b : BudgetView). b.most) c.self.view_is) c.if-cost-self.false) c.in_default.ensures
+returns-in_default g c = clone-is-refused _ _ (subst (λ n. c.args.cost ≤ n) (ap (λ (b : BudgetView). b.most) c.self.view_is) c.if-cost-self.false)
+    c.in_default.ensures

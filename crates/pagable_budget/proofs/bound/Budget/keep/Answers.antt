@@ -11,10 +11,12 @@ admit-requires g c = record {
 
 pub returns-then-touch : goal.returns-then-touch
 returns-then-touch g c =
-    kept-already _ c.args.self.now c.touch.new.self c.args.pager.now c.args.pinned c.args.cost c.in-Ok.cell c.touch.result c.in-Ok.ensures c.touch.ensures.kept c.touch.ensures.touched
+    kept-already _ c.args.self.now c.touch.new.self c.args.pager.now c.args.pinned c.args.cost c.in-Ok.cell c.touch.result c.in-Ok.ensures c.touch.ensures.kept
+    c.touch.ensures.touched
     c.if-touch.true
 
 pub returns : goal.returns
 returns g c =
-    came-new _ c.args.self.now c.touch.new.self c.admit.new.self c.args.pager.now c.admit.new.pager c.args.pinned c.args.cost c.in-Ok.cell c.touch.result c.in-Ok.ensures
+    came-new _ c.args.self.now c.touch.new.self c.admit.new.self c.args.pager.now c.admit.new.pager c.args.pinned c.args.cost c.in-Ok.cell c.touch.result
+    c.in-Ok.ensures
     c.touch.ensures.kept c.touch.ensures.touched c.if-touch.false c.admit.ensures

@@ -2,7 +2,8 @@ use Rattle.{pagable_budget.{proofs.Evicting.{failed, keeps-alone}, specs.Budgets
 use Rattle.pagable_budget.proofs.bound.Budget.pin.Goals as goal
 
 pub returns-in_err-pinned-clause-pins : goal.returns-in_err-pinned-clause-pins
-returns-in_err-pinned-clause-pins g c = λ honest. rw (failed c.from_residual.result c.from_residual.ensures.1) (pin-is-refused _ _ (c.in_err-pinned.ensures.pins honest))
+returns-in_err-pinned-clause-pins g c = λ honest. rw (failed c.from_residual.result c.from_residual.ensures.1)
+    (pin-is-refused _ _ (c.in_err-pinned.ensures.pins honest))
 
 pub returns-clause-pins : goal.returns-clause-pins
 returns-clause-pins g c = λ honest.

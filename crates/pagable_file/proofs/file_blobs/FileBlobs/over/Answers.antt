@@ -9,14 +9,16 @@ returns-clause-blobs g c sure =
     let store = g.S.Store.view c.into_store-store.result in
     let found = c.in_ok-prepare.ensures.found in
     let before = found.sure sure in
-    found.blobs_are sure ∙ ap (λ (t : Trees). t blob_tree) ((c.into_store-store.ensures.undone.kept (sure_clean store before)).committed (sure_open store before))
+    found.blobs_are sure ∙ ap (λ (t : Trees). t blob_tree) ((c.into_store-store.ensures.undone.kept (sure_clean store before)).committed
+    (sure_open store before))
 
 pub returns-clause-roots : goal.returns-clause-roots
 returns-clause-roots g c sure =
     let store = g.S.Store.view c.into_store-store.result in
     let found = c.in_ok-prepare.ensures.found in
     let before = found.sure sure in
-    found.roots_are sure ∙ ap (λ (t : Trees). t root_tree) ((c.into_store-store.ensures.undone.kept (sure_clean store before)).committed (sure_open store before))
+    found.roots_are sure ∙ ap (λ (t : Trees). t root_tree) ((c.into_store-store.ensures.undone.kept (sure_clean store before)).committed
+    (sure_open store before))
 
 pub returns-clause-clean : goal.returns-clause-clean
 returns-clause-clean g c sure =

@@ -15,7 +15,9 @@ returns-in-Some-clause-adds g c honest =
     let blob = blob_of c.args.blob in
     let rows = (g.S.Store.view it.store).committed blob_tree in
     let stored = unless it.closed (stored_with it.waiting rows) in
-    subst (λ (k : ℕ). Adds k blob stored stored) c.compute_key-key.ensures (adds_held it.closed it.waiting rows key c.in-Some.held.now blob c.if-self.false c.in-Some.ensures c.in_ok-is_held.ensures.ok.0 c.in_ok-is_held.ensures.ok.1)
+    subst (λ (k : ℕ). Adds k blob stored stored) c.compute_key-key.ensures
+    (adds_held it.closed it.waiting rows key c.in-Some.held.now blob c.if-self.false c.in-Some.ensures c.in_ok-is_held.ensures.ok.0
+    c.in_ok-is_held.ensures.ok.1)
 
 pub returns-in-Ok-Some-clause-adds : goal.returns-in-Ok-Some-clause-adds
 returns-in-Ok-Some-clause-adds g c honest =
@@ -26,34 +28,41 @@ returns-in-Ok-Some-clause-adds g c honest =
     let new = (g.S.Store.view c.read.new.store).committed blob_tree in
     let free : None ≡ get int_eq it.waiting (place_of key) = search rules in
     subst (λ (k : ℕ). Adds k blob (unless it.closed (stored_with it.waiting old)) (unless it.closed (stored_with it.waiting new))) c.compute_key-key.ensures
-    (adds_found it.closed it.waiting old new key c.in-Ok-Some.found blob c.if-self.false free (rw c.in-Ok-Some.field-0-is at (c.in-Ok-Some.ensures.found honest)) c.in_ok-is_found-in-Ok-Some.ensures.ok (ap (λ (t : Trees). t blob_tree) (c.read.ensures.stays.same honest)))
+    (adds_found it.closed it.waiting old new key c.in-Ok-Some.found blob c.if-self.false free
+    (rw c.in-Ok-Some.field-0-is at (c.in-Ok-Some.ensures.found honest)) c.in_ok-is_found-in-Ok-Some.ensures.ok
+    (ap (λ (t : Trees). t blob_tree) (c.read.ensures.stays.same honest)))
 
 pub invariant_of-self-in-Break-branch-4 : goal.invariant_of-self-in-Break-branch-4
 invariant_of-self-in-Break-branch-4 g c =
     let it = c.args.self.now in
     let arc = c.in_ok-blob.blob in
     let hash = key_of g.E.Hash.KeyHash.digest in
-    let own : c.compute_key-key.result ≡ hash (blob_of (arc_value arc)) = c.compute_key-key.ensures ∙ ap (λ (d : PagableData). hash (blob_of d)) (sym c.in_ok-blob.ensures.ok) in
+    let own : c.compute_key-key.result ≡ hash (blob_of (arc_value arc)) =
+    c.compute_key-key.ensures ∙ ap (λ (d : PagableData). hash (blob_of d)) (sym c.in_ok-blob.ensures.ok) in
     record {
       settled = c.read.ensures.stays.settled it.settled;
-      named = all_keyed hash it.waiting c.hold.new.waiting c.compute_key-key.result (blob_of (arc_value arc)) c.hold.result own it.named c.hold.ensures.ok c.hold.ensures.err;
+      named = all_keyed hash it.waiting c.hold.new.waiting c.compute_key-key.result (blob_of (arc_value arc)) c.hold.result own it.named c.hold.ensures.ok
+          c.hold.ensures.err;
     }
 
 pub returns-in_err-hold-clause-err : goal.returns-in_err-hold-clause-err
 returns-in_err-hold-clause-err g c honest =
     let it = c.args.self.now in
     any_err c.from_residual-in_err-hold.result _
-    (same_entries it.closed it.waiting c.hold.new.waiting ((g.S.Store.view it.store).committed blob_tree) ((g.S.Store.view c.read.new.store).committed blob_tree) c.in_err-hold.ensures.err (ap (λ (t : Trees). t blob_tree) (c.read.ensures.stays.same honest)))
+    (same_entries it.closed it.waiting c.hold.new.waiting ((g.S.Store.view it.store).committed blob_tree)
+    ((g.S.Store.view c.read.new.store).committed blob_tree) c.in_err-hold.ensures.err (ap (λ (t : Trees). t blob_tree) (c.read.ensures.stays.same honest)))
 
 pub invariant_of-self-2 : goal.invariant_of-self-2
 invariant_of-self-2 g c =
     let it = c.args.self.now in
     let arc = c.in_ok-blob.blob in
     let hash = key_of g.E.Hash.KeyHash.digest in
-    let own : c.compute_key-key.result ≡ hash (blob_of (arc_value arc)) = c.compute_key-key.ensures ∙ ap (λ (d : PagableData). hash (blob_of d)) (sym c.in_ok-blob.ensures.ok) in
+    let own : c.compute_key-key.result ≡ hash (blob_of (arc_value arc)) =
+    c.compute_key-key.ensures ∙ ap (λ (d : PagableData). hash (blob_of d)) (sym c.in_ok-blob.ensures.ok) in
     record {
       settled = c.read.ensures.stays.settled it.settled;
-      named = all_keyed hash it.waiting c.hold.new.waiting c.compute_key-key.result (blob_of (arc_value arc)) c.hold.result own it.named c.hold.ensures.ok c.hold.ensures.err;
+      named = all_keyed hash it.waiting c.hold.new.waiting c.compute_key-key.result (blob_of (arc_value arc)) c.hold.result own it.named c.hold.ensures.ok
+          c.hold.ensures.err;
     }
 
 pub returns-clause-adds : goal.returns-clause-adds
@@ -69,12 +78,14 @@ returns-clause-adds g c honest =
     let free : None ≡ get int_eq it.waiting (place_of key) = search rules in
     let same : blob_of (arc_value arc) ≡ blob = ap blob_of c.in_ok-blob.ensures.ok in
     subst (λ (k : ℕ). Adds k blob was is) c.compute_key-key.ensures (subst (λ (b : Blob). Adds key b was is) same
-    (adds_holding it.closed it.waiting c.hold.new.waiting old new key (blob_of (arc_value arc)) c.if-self.false free c.in_ok-hold.ensures.ok (rw c.in-Ok-None.field-0-is at (c.in-Ok-None.ensures.found honest)) (ap (λ (t : Trees). t blob_tree) (c.read.ensures.stays.same honest))))
+    (adds_holding it.closed it.waiting c.hold.new.waiting old new key (blob_of (arc_value arc)) c.if-self.false free c.in_ok-hold.ensures.ok
+    (rw c.in-Ok-None.field-0-is at (c.in-Ok-None.ensures.found honest)) (ap (λ (t : Trees). t blob_tree) (c.read.ensures.stays.same honest))))
 
 pub returns-in_err-is_held-clause-refused : goal.returns-in_err-is_held-clause-refused
 returns-in_err-is_held-clause-refused g c =
     let out = err_from_is_err_and c.from_residual.result c.from_residual.ensures.1 in
-    rw (out.1, out.2) (held_refuses c.in-Some.held.now c.compute_key-key.result (blob_of c.args.blob) c.args.self.now.closed _ _ _ c.in_err-is_held.ensures.only)
+    rw (out.1, out.2) (held_refuses c.in-Some.held.now c.compute_key-key.result (blob_of c.args.blob) c.args.self.now.closed _ _ _
+    c.in_err-is_held.ensures.only)
 
 pub returns-in_err-is_found-in-Ok-Some-clause-refused : goal.returns-in_err-is_found-in-Ok-Some-clause-refused
 returns-in_err-is_found-in-Ok-Some-clause-refused g c =

@@ -14,10 +14,12 @@ pub returns-in_ok-again-in-Ok-clause-blobs : goal.returns-in_ok-again-in-Ok-clau
 returns-in_ok-again-in-Ok-clause-blobs g c sure =
     let found = c.in-Ok.ensures.found (c.in_ok-again-in-Ok.ensures.clean sure) in
     let holds = rw c.into_store.ensures at c.in_ok-files.ensures.holds in
-    c.in_ok-again-in-Ok.ensures.blobs sure ∙ ap (λ (t : Trees). t blob_tree) (found_again c.in-Ok.conn c.in_ok-files.files (view c.args.self.store).committed holds found)
+    c.in_ok-again-in-Ok.ensures.blobs sure ∙ ap (λ (t : Trees). t blob_tree)
+    (found_again c.in-Ok.conn c.in_ok-files.files (view c.args.self.store).committed holds found)
 
 pub returns-in_ok-again-in-Ok-clause-roots : goal.returns-in_ok-again-in-Ok-clause-roots
 returns-in_ok-again-in-Ok-clause-roots g c sure =
     let found = c.in-Ok.ensures.found (c.in_ok-again-in-Ok.ensures.clean sure) in
     let holds = rw c.into_store.ensures at c.in_ok-files.ensures.holds in
-    c.in_ok-again-in-Ok.ensures.roots sure ∙ ap (λ (t : Trees). t root_tree) (found_again c.in-Ok.conn c.in_ok-files.files (view c.args.self.store).committed holds found)
+    c.in_ok-again-in-Ok.ensures.roots sure ∙ ap (λ (t : Trees). t root_tree)
+    (found_again c.in-Ok.conn c.in_ok-files.files (view c.args.self.store).committed holds found)

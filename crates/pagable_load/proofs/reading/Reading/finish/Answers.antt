@@ -3,13 +3,16 @@ use Rattle.std.proofs.lemmas.Result.{err_from_is_err_and}
 use Rattle.pagable_load.proofs.reading.Reading.finish.Goals as goal
 
 pub returns-in-Ok-clause-acts : goal.returns-in-Ok-clause-acts
-returns-in-Ok-clause-acts g c = acts_from c.requires.holds c.in-Ok.ensures (end_pins _ _ _ c.args.self.now c.args.value c.requires.root (search rules) c.in-Ok.handle _ refl)
+returns-in-Ok-clause-acts g c = acts_from c.requires.holds c.in-Ok.ensures
+    (end_pins _ _ _ c.args.self.now c.args.value c.requires.root (search rules) c.in-Ok.handle _ refl)
 
 pub returns-in-Some-clause-acts : goal.returns-in-Some-clause-acts
-returns-in-Some-clause-acts g c = acts_map (rw c.in-Some.is at c.in-Err.ensures) (end_refused _ _ _ c.args.self.now c.args.value c.requires.root (search rules) c.in-Err.e c.in-Some._value _)
+returns-in-Some-clause-acts g c = acts_map (rw c.in-Some.is at c.in-Err.ensures)
+    (end_refused _ _ _ c.args.self.now c.args.value c.requires.root (search rules) c.in-Err.e c.in-Some._value _)
 
 pub returns-in-None-clause-acts : goal.returns-in-None-clause-acts
-returns-in-None-clause-acts g c = acts_from c.requires.holds (rw c.in-None.is at c.in-Err.ensures) (end_closed _ _ _ c.args.self.now c.args.value c.requires.root (search rules) c.in-Err.e _ refl)
+returns-in-None-clause-acts g c = acts_from c.requires.holds (rw c.in-None.is at c.in-Err.ensures)
+    (end_closed _ _ _ c.args.self.now c.args.value c.requires.root (search rules) c.in-Err.e _ refl)
 
 pub returns-in_err-load_take-clause-acts : goal.returns-in_err-load_take-clause-acts
 returns-in_err-load_take-clause-acts g c =

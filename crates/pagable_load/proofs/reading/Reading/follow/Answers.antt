@@ -3,15 +3,21 @@ use Rattle.std.proofs.{Common.{Some, [], ap, length, refl, rules, slice_get, sli
 use Rattle.pagable_load.proofs.reading.Reading.follow.Goals as goal
 
 pub returns-then-is_empty : goal.returns-then-is_empty
-returns-then-is_empty c = follows_new c.args.was_read (frames_of c.args.self.now.top c.args.self.now.below.items) (rows_of c.args.ahead.now) (rows_of c.leave_if.new.self) (frame_of c.in-Some.top)
-    (onto [] c.args.self.now.below.items) c.leave_if.new.self.top c.enter.new.self.top c.leave_if.new.self.below c.enter.new.self.below (search rules) (search (rules, nil_from_length)) refl c.leave_if.ensures
+returns-then-is_empty c = follows_new c.args.was_read (frames_of c.args.self.now.top c.args.self.now.below.items) (rows_of c.args.ahead.now)
+    (rows_of c.leave_if.new.self) (frame_of c.in-Some.top)
+    (onto [] c.args.self.now.below.items) c.leave_if.new.self.top c.enter.new.self.top c.leave_if.new.self.below c.enter.new.self.below (search rules)
+    (search (rules, nil_from_length)) refl c.leave_if.ensures
     c.enter.ensures.top c.enter.ensures.below
 
 pub returns : goal.returns
 returns c =
     let got = c.as_slice-got.result.now in
     let last = slice_get-get_or got (length got - 1) (stand_in 0) (search rules) in
-    follows_got c.args.was_read (frames_of c.args.self.now.top c.args.self.now.below.items) (rows_of c.args.ahead.now) (rows_of c.leave_if.new.self) (frame_of c.in-Some.top)
-    (onto [] c.args.self.now.below.items) c.leave_if.new.self.top.items c.keep_if.new.self.top.items (stacked [] c.keep_if.new.self.below.items) (length got - 1)
-    (slice_index_or got (length got - 1) (stand_in 0)) (search rules) (ap (λ xs. c.leave_if.new.self.top.items ∷ stacked [] xs.items) (sym c.keep_if.ensures.below)) c.leave_if.ensures (search rules)
-    (subst (λ xs. slice_get xs (length got - 1) ≡ Some (slice_index_or got (length got - 1) (stand_in 0))) c.as_slice-got.ensures.value last) c.keep_if.ensures.top
+    follows_got c.args.was_read (frames_of c.args.self.now.top c.args.self.now.below.items) (rows_of c.args.ahead.now) (rows_of c.leave_if.new.self)
+    (frame_of c.in-Some.top)
+    (onto [] c.args.self.now.below.items) c.leave_if.new.self.top.items c.keep_if.new.self.top.items (stacked [] c.keep_if.new.self.below.items)
+    (length got - 1)
+    (slice_index_or got (length got - 1) (stand_in 0)) (search rules) (ap (λ xs. c.leave_if.new.self.top.items ∷ stacked [] xs.items)
+    (sym c.keep_if.ensures.below)) c.leave_if.ensures (search rules)
+    (subst (λ xs. slice_get xs (length got - 1) ≡ Some (slice_index_or got (length got - 1) (stand_in 0))) c.as_slice-got.ensures.value last)
+    c.keep_if.ensures.top

@@ -2,7 +2,10 @@ use Rattle.{pagable_pageout.{proofs.Waits.no-waits, specs.Slots.{is_same, shelf_
 use Rattle.pagable_pageout.proofs.lent_table.LentTable.new.Goals as goal
 
 pub returns : goal.returns
-returns g c = record { slots = λ i. ap (λ es. option_map slot_of (lookup (is_same (i.kind.0, i.node.0)) es)) c.new-slots.ensures.empty; waits = λ v. ap (lookup (nat_eq v)) c.new-waits.ensures.empty }
+returns g c = record {
+  slots = λ i. ap (λ es. option_map slot_of (lookup (is_same (i.kind.0, i.node.0)) es)) c.new-slots.ensures.empty;
+  waits = λ v. ap (lookup (nat_eq v)) c.new-waits.ensures.empty;
+}
 
 pub invariant_of-result : goal.invariant_of-result
 invariant_of-result g c = record {

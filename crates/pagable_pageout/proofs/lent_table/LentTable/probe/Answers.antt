@@ -2,12 +2,31 @@ use Rattle.{pagable_pageout.{proofs.Waits.same-numbers, specs.Slots.{outcome_of,
 use Rattle.pagable_pageout.proofs.lent_table.LentTable.probe.Goals as goal
 
 pub returns-in-Failed-clause-finds : goal.returns-in-Failed-clause-finds
-returns-in-Failed-clause-finds g c = (omega arith, (slot_of c.in-Some.slot.now, ap (option_map slot_of) (sym c.in-Some.ensures.value), ap outcome_of c.in-Failed.is))
+returns-in-Failed-clause-finds g c = (
+  omega arith,
+  (
+    slot_of c.in-Some.slot.now,
+    ap (option_map slot_of) (sym c.in-Some.ensures.value),
+    ap outcome_of c.in-Failed.is,
+  ),
+)
 
 pub returns-then-found-place-clause-refused : goal.returns-then-found-place-clause-refused
 returns-then-found-place-clause-refused g c =
     let found = c.in-Published.found in
-    inl (refl, inr (inl (found.key, found.height, record { slot = slot_of c.in-Some.slot.now; claimed = ap (option_map slot_of) (sym c.in-Some.ensures.value); known = ap outcome_of c.in-Published.is }, omega arith)))
+    inl (
+      refl,
+      inr (inl (
+        found.key,
+        found.height,
+        record {
+          slot = slot_of c.in-Some.slot.now;
+          claimed = ap (option_map slot_of) (sym c.in-Some.ensures.value);
+          known = ap outcome_of c.in-Published.is;
+        },
+        omega arith,
+      )),
+    )
 
 pub returns-else-found-place-clause-finds : goal.returns-else-found-place-clause-finds
 returns-else-found-place-clause-finds g c = (
@@ -26,8 +45,27 @@ returns-else-found-place-clause-own g c =
 
 pub returns-then-would_deadlock-clause-refused : goal.returns-then-would_deadlock-clause-refused
 returns-then-would_deadlock-clause-refused g c =
-    inl (refl, inr (inr (slot_of c.in-Some.slot.now, record { claimed = ap (option_map slot_of) (sym c.in-Some.ensures.value); no_result_yet = ap outcome_of c.in-Open.is }, c.if-would_deadlock.ensures)))
+    inl (
+      refl,
+      inr (inr (
+        slot_of c.in-Some.slot.now,
+        record {
+          claimed = ap (option_map slot_of) (sym c.in-Some.ensures.value);
+          no_result_yet = ap outcome_of c.in-Open.is;
+        },
+        c.if-would_deadlock.ensures,
+      )),
+    )
 
 pub returns-else-would_deadlock-clause-finds : goal.returns-else-would_deadlock-clause-finds
-returns-else-would_deadlock-clause-finds g c =
-    (omega arith, (slot_of c.in-Some.slot.now, record { claimed = ap (option_map slot_of) (sym c.in-Some.ensures.value); no_result_yet = ap outcome_of c.in-Open.is }, c.if-would_deadlock.ensures))
+returns-else-would_deadlock-clause-finds g c = (
+  omega arith,
+  (
+    slot_of c.in-Some.slot.now,
+    record {
+      claimed = ap (option_map slot_of) (sym c.in-Some.ensures.value);
+      no_result_yet = ap outcome_of c.in-Open.is;
+    },
+    c.if-would_deadlock.ensures,
+  ),
+)

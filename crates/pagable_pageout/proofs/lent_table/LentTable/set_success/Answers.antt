@@ -4,7 +4,11 @@ pub returns-in-Some : Rattle.pagable_pageout.proofs.lent_table.LentTable.set_suc
 returns-in-Some g c =
     let w = c.set_success.new.self in
     let at = ((c.get_mut.follows.holds w).3 (search rules)).0 in
-    record { slots = changed-is c.args.self.now.slots (c.get_mut.follows.lender w) c.args.found.identity w at _ c.in-Some.ensures.value _ c.set_success.ensures.slot; waits = λ v. refl }
+    record {
+      slots = changed-is c.args.self.now.slots (c.get_mut.follows.lender w) c.args.found.identity w at _ c.in-Some.ensures.value _
+          c.set_success.ensures.slot;
+      waits = λ v. refl;
+    }
 
 pub invariant_of-self : Rattle.pagable_pageout.proofs.lent_table.LentTable.set_success.Goals.invariant_of-self
 invariant_of-self g c =

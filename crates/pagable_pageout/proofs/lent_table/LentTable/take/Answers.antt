@@ -2,7 +2,10 @@ use Rattle.{std.{proofs.Common.{inl, inr, refl, sym, ap, ◌∙◌}, specs.{Map.
 use Rattle.pagable_pageout.proofs.Waits.{either-way, less-open, own-is, slot-is, taken}
 
 pub returns-clause-ok : Rattle.pagable_pageout.proofs.lent_table.LentTable.take.Goals.returns-clause-ok
-returns-clause-ok g c = record { slots = slot-is c.args.self.now.slots c.insert.new.self c.args.identity _ c.in_ok-insert.ensures.updates.0 _ refl; waits = λ v. refl }
+returns-clause-ok g c = record {
+  slots = slot-is c.args.self.now.slots c.insert.new.self c.args.identity _ c.in_ok-insert.ensures.updates.0 _ refl;
+  waits = λ v. refl;
+}
 
 pub invariant_of-self : Rattle.pagable_pageout.proofs.lent_table.LentTable.take.Goals.invariant_of-self
 invariant_of-self g c =
@@ -18,6 +21,7 @@ invariant_of-self g c =
           }
       | inr same ↦ record {
         own = λ j t there. old.own j t (sym (ap (lookup (is_same (j.kind.0, j.node.0))) same) ∙ there);
-        ends = less-open (shelf_of old) (shelf_in new old.waits) (λ j w e. sym (ap (λ es. open_worker (option_map slot_of (lookup (is_same (j.kind.0, j.node.0)) es))) same) ∙ e) (λ v. refl) old.ends;
+        ends = less-open (shelf_of old) (shelf_in new old.waits) (λ j w e. sym
+            (ap (λ es. open_worker (option_map slot_of (lookup (is_same (j.kind.0, j.node.0)) es))) same) ∙ e) (λ v. refl) old.ends;
       }
     ]

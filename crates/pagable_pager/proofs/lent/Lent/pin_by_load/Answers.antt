@@ -6,7 +6,8 @@ returns g c =
     let told = told-so _ _ _ _ c.read_rest.ensures.step in
     let r = c.rooted-reading.ensures in
     record {
-      loads = λ h. loads-told _ _ _ _ _ c.in_ok-load.ensures.begun c.rooted-reading.result r.load r.key r.of_cell _ _ _ c.requires.caller r.reading (λ e. values_at g.E.Node.NodeSet g.E.Env g.E.Hash.KeyHash e) c.in_ok-load.ensures.environment refl c.read_rest.result (told h).1;
+      loads = λ h. loads-told _ _ _ _ _ c.in_ok-load.ensures.begun c.rooted-reading.result r.load r.key r.of_cell _ _ _ c.requires.caller r.reading
+          (λ e. values_at g.E.Node.NodeSet g.E.Env g.E.Hash.KeyHash e) c.in_ok-load.ensures.environment refl c.read_rest.result (told h).1;
       honest = λ h. subst (λ s. IsTrue (g.S.PagableStorage.is_honest s)) c.in_ok-load.ensures.storage (told h).0;
       lender = lender-is c.read_rest.ensures.acting;
       me = me-is c.read_rest.ensures.acting;

@@ -10,8 +10,10 @@ returns-in_err-adopted g c =
     let tells = storage_view g.S.PagableStorage in
     let e = c.in_err-adopted.ensures in
     record {
-      step = told-if _ _ _ _ (λ h. subst (λ s. IsTrue (g.S.PagableStorage.is_honest s)) c.load_adopt_by-adopted.ensures.storage h) (λ h. brings-so tells (λ e. values_at g.E.Node.NodeSet g.E.Env g.E.Hash.KeyHash e) c.args.self.now.pager.now c.load_adopt_by-adopted.new.self
-          (λ w'. AdoptsValue (core_in tells c.args.self.now.pager.now) c.args.self.now.me c.args.load c.args.kind c.args.key c.args.node (g.E.Node.NodeSet.type_of c.args.node) (g.E.Node.NodeSet.refs_of c.args.node) (c.from_residual.result) w')
+      step = told-if _ _ _ _ (λ h. subst (λ s. IsTrue (g.S.PagableStorage.is_honest s)) c.load_adopt_by-adopted.ensures.storage h)
+          (λ h. brings-so tells (λ e. values_at g.E.Node.NodeSet g.E.Env g.E.Hash.KeyHash e) c.args.self.now.pager.now c.load_adopt_by-adopted.new.self
+          (λ w'. AdoptsValue (core_in tells c.args.self.now.pager.now) c.args.self.now.me c.args.load c.args.kind c.args.key c.args.node
+          (g.E.Node.NodeSet.type_of c.args.node) (g.E.Node.NodeSet.refs_of c.args.node) (c.from_residual.result) w')
           (rw (failed c.from_residual.result c.from_residual.ensures.1) (record { adopted = e.step; made = tt })) e.moves c.is_whole-2.ensures);
       acting = search rules;
     }
@@ -21,8 +23,14 @@ returns g c =
     let tells = storage_view g.S.PagableStorage in
     let e = c.in_ok-adopted.ensures in
     record {
-      step = told-if _ _ _ _ (λ h. subst (λ s. IsTrue (g.S.PagableStorage.is_honest s)) c.load_adopt_by-adopted.ensures.storage h) (λ h. brings-so tells (λ e. values_at g.E.Node.NodeSet g.E.Env g.E.Hash.KeyHash e) c.args.self.now.pager.now c.load_adopt_by-adopted.new.self
-          (λ w'. AdoptsValue (core_in tells c.args.self.now.pager.now) c.args.self.now.me c.args.load c.args.kind c.args.key c.args.node (g.E.Node.NodeSet.type_of c.args.node) (g.E.Node.NodeSet.refs_of c.args.node) (Ok c.reference.result) w')
-          (record { adopted = rw c.reference.ensures.handle e.step; made = c.reference.ensures.made (adopted_live c.is_whole.ensures.whole.handles e.step.adopts) }) e.moves c.is_whole-2.ensures);
+      step = told-if _ _ _ _ (λ h. subst (λ s. IsTrue (g.S.PagableStorage.is_honest s)) c.load_adopt_by-adopted.ensures.storage h)
+          (λ h. brings-so tells (λ e. values_at g.E.Node.NodeSet g.E.Env g.E.Hash.KeyHash e) c.args.self.now.pager.now c.load_adopt_by-adopted.new.self
+          (λ w'. AdoptsValue (core_in tells c.args.self.now.pager.now) c.args.self.now.me c.args.load c.args.kind c.args.key c.args.node
+          (g.E.Node.NodeSet.type_of c.args.node) (g.E.Node.NodeSet.refs_of c.args.node) (Ok c.reference.result) w')
+          (record {
+            adopted = rw c.reference.ensures.handle e.step;
+            made = c.reference.ensures.made
+                (adopted_live c.is_whole.ensures.whole.handles e.step.adopts);
+          }) e.moves c.is_whole-2.ensures);
       acting = search rules;
     }

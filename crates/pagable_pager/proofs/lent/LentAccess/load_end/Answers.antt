@@ -5,8 +5,10 @@ returns g c =
     let tells = storage_view g.S.PagableStorage in
     let e = c.load_end_by-ended.ensures in
     record {
-      step = told-if _ _ _ _ (λ h. subst (λ s. IsTrue (g.S.PagableStorage.is_honest s)) e.storage h) (λ h. brings-so tells (λ e. values_at g.E.Node.NodeSet g.E.Env g.E.Hash.KeyHash e) c.args.self.now.pager.now c.load_end_by-ended.new.self
-          (λ w'. EndCall (core_in tells c.args.self.now.pager.now) c.args.self.now.me c.args.load c.args.value (g.E.Node.NodeSet.type_of c.args.value) (g.E.Node.NodeSet.refs_of c.args.value) c.settled.result w')
+      step = told-if _ _ _ _ (λ h. subst (λ s. IsTrue (g.S.PagableStorage.is_honest s)) e.storage h)
+          (λ h. brings-so tells (λ e. values_at g.E.Node.NodeSet g.E.Env g.E.Hash.KeyHash e) c.args.self.now.pager.now c.load_end_by-ended.new.self
+          (λ w'. EndCall (core_in tells c.args.self.now.pager.now) c.args.self.now.me c.args.load c.args.value (g.E.Node.NodeSet.type_of c.args.value)
+          (g.E.Node.NodeSet.refs_of c.args.value) c.settled.result w')
           (rw c.settled.ensures.same e.step) e.moves c.settled.ensures.whole);
       acting = search rules;
     }

@@ -9,6 +9,7 @@ returns g c =
           (λ h. called_fewer tells (λ e. values_at g.E.Node.NodeSet g.E.Env g.E.Hash.KeyHash e) c.args.self.now.pager.now c.load_lazy_by-taken.new.self
           (λ w'. TakesLazily (core_in tells c.args.self.now.pager.now) c.args.self.now.me c.args.load c.args.kind c.args.key (Ok c.reference.result) w')
           (record { taken = rw c.reference.ensures.handle e.step; made = c.reference.ensures.made (lazy_live e.step) })
-          (all_there tells (λ e. values_at g.E.Node.NodeSet g.E.Env g.E.Hash.KeyHash e) _ _ (record { values = e.only.values; environment = e.only.environment })) c.is_whole.ensures);
+          (all_there tells (λ e. values_at g.E.Node.NodeSet g.E.Env g.E.Hash.KeyHash e) _ _
+          (record { values = e.only.values; environment = e.only.environment })) c.is_whole.ensures);
       acting = search rules;
     }

@@ -10,8 +10,11 @@ returns-in-Left g c =
     let tells = storage_view g.S.PagableStorage in
     let e = c.in_ok-handle.ensures in
     record {
-      step = told-if _ _ _ _ e.honest (λ h. called_fewer tells (λ e. values_at g.E.Node.NodeSet g.E.Env g.E.Hash.KeyHash e) c.args.self.now.pager.now c.load_fetch_by-found.new.self
-          (λ w'. AsksFor (λ d. blob_of (arc_value d)) (core_in tells c.args.self.now.pager.now) c.args.self.now.me c.args.load c.args.kind c.args.key (Ok (Either.Left c.reference.result)) w')
-          (found-made (λ d. blob_of (arc_value d)) c.in_ok-handle.field-0 c.in-Left.is c.reference.ensures.handle c.reference.ensures.made (e.step h)) (all_there tells (λ e. values_at g.E.Node.NodeSet g.E.Env g.E.Hash.KeyHash e) _ _ e.only) c.is_whole.ensures);
+      step = told-if _ _ _ _ e.honest (λ h. called_fewer tells (λ e. values_at g.E.Node.NodeSet g.E.Env g.E.Hash.KeyHash e) c.args.self.now.pager.now
+          c.load_fetch_by-found.new.self
+          (λ w'. AsksFor (λ d. blob_of (arc_value d)) (core_in tells c.args.self.now.pager.now) c.args.self.now.me c.args.load c.args.kind c.args.key
+          (Ok (Either.Left c.reference.result)) w')
+          (found-made (λ d. blob_of (arc_value d)) c.in_ok-handle.field-0 c.in-Left.is c.reference.ensures.handle c.reference.ensures.made (e.step h))
+          (all_there tells (λ e. values_at g.E.Node.NodeSet g.E.Env g.E.Hash.KeyHash e) _ _ e.only) c.is_whole.ensures);
       acting = search rules;
     }

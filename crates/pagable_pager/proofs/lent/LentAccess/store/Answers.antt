@@ -7,8 +7,10 @@ returns-clause-acts g c =
     let asks = c.store.ensures.asks in
     let digest = key_of g.E.Hash.KeyHash.digest in
     record {
-      step = told-if _ _ _ _ asks.honest (λ h. called_fewer tells (λ e. values_at g.E.Node.NodeSet g.E.Env g.E.Hash.KeyHash e) c.args.self.now.pager.now c.store.new.self
+      step = told-if _ _ _ _ asks.honest (λ h. called_fewer tells (λ e. values_at g.E.Node.NodeSet g.E.Env g.E.Hash.KeyHash e) c.args.self.now.pager.now
+          c.store.new.self
           (λ w'. StoreCall digest (core_in tells c.args.self.now.pager.now) (blob_of c.args.blob) c.settled.result w') (rw c.settled.ensures.same (asks.step h))
-          (all_there tells (λ e. values_at g.E.Node.NodeSet g.E.Env g.E.Hash.KeyHash e) _ _ (record { values = asks.only.values; environment = asks.only.environment })) c.settled.ensures.whole);
+          (all_there tells (λ e. values_at g.E.Node.NodeSet g.E.Env g.E.Hash.KeyHash e) _ _
+          (record { values = asks.only.values; environment = asks.only.environment })) c.settled.ensures.whole);
       acting = search rules;
     }

@@ -9,7 +9,9 @@ returns-in_err-stored-clause-acts g c =
 pub returns-in_err-close_node-clause-acts : goal.returns-in_err-close_node-clause-acts
 returns-in_err-close_node-clause-acts g c =
     let p = err_from_is_err_and c.from_residual-in_err-close_node.result c.from_residual-in_err-close_node.ensures.1 in
-    rw (p.1, p.2) (acts_then c.in_ok-stored.ensures.acts c.in_err-close_node.ensures (λ s mid t call closes. record { stores = tt; refused = inr (c.in_ok-stored.stored, mid, call, closes) }))
+    rw (p.1, p.2) (acts_then c.in_ok-stored.ensures.acts c.in_err-close_node.ensures
+    (λ s mid t call closes. record { stores = tt; refused = inr (c.in_ok-stored.stored, mid, call, closes) }))
 
 pub returns-clause-acts : goal.returns-clause-acts
-returns-clause-acts g c = acts_then c.in_ok-stored.ensures.acts c.in_ok-close_node.ensures (λ s mid t call closes. record { stores = (mid, call, closes); refused = tt })
+returns-clause-acts g c = acts_then c.in_ok-stored.ensures.acts c.in_ok-close_node.ensures
+    (λ s mid t call closes. record { stores = (mid, call, closes); refused = tt })

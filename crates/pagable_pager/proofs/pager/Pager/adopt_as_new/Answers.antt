@@ -5,32 +5,41 @@ pub invariant_of-self : goal.invariant_of-self
 invariant_of-self g c = roomier c.self.invariant c.self.inside.values c.make_ready_to_learn.ensures.does (λ n. refl)
 
 pub returns-in-Err-clause-step : goal.returns-in-Err-clause-step
-returns-in-Err-clause-step g c = rw (← c.self.view_is) (new-refused c.self.invariant c.self.view_is _ _ _ _ c.args.node c.requires.listed c.requires.fresh c.requires.unknown (c.in-Err.ensures.refused _ _ _))
+returns-in-Err-clause-step g c = rw (← c.self.view_is) (new-refused c.self.invariant c.self.view_is _ _ _ _ c.args.node c.requires.listed c.requires.fresh
+    c.requires.unknown (c.in-Err.ensures.refused _ _ _))
 
 pub invariant_of-self-in-Err-place : goal.invariant_of-self-in-Err-place
 invariant_of-self-in-Err-place g c = roomier c.self.invariant c.place.new.values c.make_ready_to_learn.ensures.does c.in-Err-place.ensures.kept
 
 pub returns-in-Err-place-clause-step : goal.returns-in-Err-place-clause-step
 returns-in-Err-place-clause-step g c =
-    rw (← c.self.view_is, c.in-Err-place.ensures.only) (new-memory c.self.invariant c.self.view_is _ _ _ _ c.args.node c.requires.listed c.requires.fresh c.requires.unknown c.place.new.values
+    rw (← c.self.view_is, c.in-Err-place.ensures.only) (new-memory c.self.invariant c.self.view_is _ _ _ _ c.args.node c.requires.listed c.requires.fresh
+    c.requires.unknown c.place.new.values
     c.make_ready_to_learn.ensures.does c.in-Err-place.ensures.back)
 
 pub adopt-requires-clause-later : goal.adopt-requires-clause-later
 adopt-requires-clause-later g c = c.make_ready_to_learn.ensures.does.later c.self.invariant.later
 
 pub adopt-requires-clause-asked : goal.adopt-requires-clause-asked
-adopt-requires-clause-asked g c =
-    (c.args.me, _, new-asked c.self.invariant c.self.view_is _ _ _ _ c.args.node c.requires.listed c.requires.fresh c.requires.unknown c.make_ready_to_learn.ensures.does)
+adopt-requires-clause-asked g c = (
+  c.args.me,
+  _,
+  new-asked c.self.invariant c.self.view_is _ _ _ _ c.args.node c.requires.listed c.requires.fresh c.requires.unknown
+      c.make_ready_to_learn.ensures.does,
+)
 
 pub adopt-requires-clause-unknown : goal.adopt-requires-clause-unknown
-adopt-requires-clause-unknown g c = new-unknown c.self.invariant c.self.view_is _ _ _ _ c.args.node c.requires.listed c.requires.fresh c.requires.unknown c.make_ready_to_learn.ensures.does
+adopt-requires-clause-unknown g c = new-unknown c.self.invariant c.self.view_is _ _ _ _ c.args.node c.requires.listed c.requires.fresh c.requires.unknown
+    c.make_ready_to_learn.ensures.does
 
 pub invariant_of-self-2 : goal.invariant_of-self-2
 invariant_of-self-2 g c = new-so c.self.invariant c.self.view_is _ _ _ _ c.args.node c.requires.listed c.requires.fresh c.requires.unknown c.place.new.values
-    c.make_ready_to_learn.ensures.does c.in_default-place.ensures.placed c.adopt.new.t c.has_closed-lists.ensures c.in_default.ensures.ready.node_left c.adopt.ensures
+    c.make_ready_to_learn.ensures.does c.in_default-place.ensures.placed c.adopt.new.t c.has_closed-lists.ensures c.in_default.ensures.ready.node_left
+    c.adopt.ensures
 
 pub returns : goal.returns
 returns g c =
     let new = new-told c.self.invariant c.self.view_is _ _ _ _ c.args.node c.requires.listed c.requires.fresh c.requires.unknown c.place.new.values
-    c.make_ready_to_learn.ensures.does c.in_default-place.ensures.placed c.adopt.new.t c.has_closed-lists.ensures c.in_default.ensures.ready.node_left c.adopt.ensures in
+    c.make_ready_to_learn.ensures.does c.in_default-place.ensures.placed c.adopt.new.t c.has_closed-lists.ensures c.in_default.ensures.ready.node_left
+    c.adopt.ensures in
     rw (← c.self.view_is) (record { step = new.0; moves = new.1; storage = refl })

@@ -6,4 +6,11 @@ invariant_of-self g c = called c.self.invariant c.cache_clear.new.t c.cache_clea
     (λ r. rests-then (spares-same refl (λ n. refl) refl) r.leaves (λ e. ((c.self.invariant.state.whole.shut e).0, λ kind key. refl)))
 
 pub returns : Rattle.pagable_pager.proofs.pager.Pager.cache_clear.Goals.returns
-returns g c = rw (← c.self.view_is) (record { step = c.cache_clear.ensures.does _ _ _; only = record { values = refl {a = c.self.inside.values}; storage = refl {a = c.self.inside.storage}; environment = refl {a = environment_of c.self.inside.setting} } })
+returns g c = rw (← c.self.view_is) (record {
+  step = c.cache_clear.ensures.does _ _ _;
+  only = record {
+    values = refl {a = c.self.inside.values};
+    storage = refl {a = c.self.inside.storage};
+    environment = refl {a = environment_of c.self.inside.setting};
+  };
+})

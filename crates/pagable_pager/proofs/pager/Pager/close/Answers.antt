@@ -4,10 +4,12 @@ pub invariant_of-self : Rattle.pagable_pager.proofs.pager.Pager.close.Goals.inva
 invariant_of-self g c =
     let e = c.close-2.ensures in
     let s = c.close.ensures in
-    shut-pager c.self.invariant c.close.new.self c.close-2.new.t c.close-2.new.values s.empty s.closed (e.closed _ _ _ _ s.later) e.whole e.sheds (e.later c.self.invariant.later)
+    shut-pager c.self.invariant c.close.new.self c.close-2.new.t c.close-2.new.values s.empty s.closed (e.closed _ _ _ _ s.later) e.whole e.sheds
+    (e.later c.self.invariant.later)
 
 pub returns-clause-calls : Rattle.pagable_pager.proofs.pager.Pager.close.Goals.returns-clause-calls
 returns-clause-calls g c =
     let e = c.close-2.ensures in
     let s = c.close.ensures in
-    rw (← c.self.view_is) (shut-told c.self.invariant c.close.new.self c.close-2.new.t c.close-2.new.values s.empty s.closed (e.closed _ _ _ _ s.later) e.whole e.sheds)
+    rw (← c.self.view_is) (shut-told c.self.invariant c.close.new.self c.close-2.new.t c.close-2.new.values s.empty s.closed
+    (e.closed _ _ _ _ s.later) e.whole e.sheds)

@@ -8,4 +8,5 @@ returns-clause-asks g c =
     let e = c.fetch_data_blocking.ensures in
     let s = c.fetch_data_blocking.new.self in
     rw (← c.self.view_is) (asks-it c.self.invariant s e.open e.later
-    (λ h. fetch-call (λ d. blob_of (arc_value d)) _ _ c.args.key c.fetch_data_blocking.result (asked c.self.invariant s e.open e.later (e.same h).0) (e.ok h) (e.only h)) e.honest)
+    (λ h. fetch-call (λ d. blob_of (arc_value d)) _ _ c.args.key c.fetch_data_blocking.result (asked c.self.invariant s e.open e.later (e.same h).0) (e.ok h)
+    (e.only h)) e.honest)

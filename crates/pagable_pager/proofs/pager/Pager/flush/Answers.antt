@@ -7,4 +7,7 @@ pub returns-clause-asks : Rattle.pagable_pager.proofs.pager.Pager.flush.Goals.re
 returns-clause-asks g c =
     let e = c.flush.ensures in
     let s = c.flush.new.self in
-    rw (← c.self.view_is) (asks-it c.self.invariant s e.open e.later (λ h. record { asked = asked c.self.invariant s e.open e.later (e.same h); refused = e.only }) e.honest)
+    rw (← c.self.view_is) (asks-it c.self.invariant s e.open e.later (λ h. record {
+      asked = asked c.self.invariant s e.open e.later (e.same h);
+      refused = e.only;
+    }) e.honest)

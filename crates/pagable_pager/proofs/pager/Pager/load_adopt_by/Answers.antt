@@ -10,7 +10,8 @@ pub invariant_of-self : goal.invariant_of-self
 invariant_of-self g c =
     let e = c.in-Ok-Some.ensures in
     release_at c.self.invariant _ _ e.whole e.later e.sheds
-    (λ left. adopted_known c.self.invariant.state left ((rw c.in-Ok-Some.field-0-is at e.known) _ _ _ (ap not c.has_closed-lists.ensures)) (rw c.in-Ok-Some.field-0-is at e.given).1)
+    (λ left. adopted_known c.self.invariant.state left ((rw c.in-Ok-Some.field-0-is at e.known) _ _ _ (ap not c.has_closed-lists.ensures))
+    (rw c.in-Ok-Some.field-0-is at e.given).1)
 
 pub returns-in-Ok-Some : goal.returns-in-Ok-Some
 returns-in-Ok-Some g c =
@@ -28,7 +29,8 @@ invariant_of-self-in-Ok-None g c = let e = c.in-Ok-None.ensures in none-so c.sel
 pub adopt_as_new-requires-clause-fresh : goal.adopt_as_new-requires-clause-fresh
 adopt_as_new-requires-clause-fresh g c storage =
     let e = c.in-Ok-None.ensures in
-    rw ((rw c.in-Ok-None.field-0-is at e.same), ← c.node_type-node_type.ensures.value, ← c.deref.ensures.value) ((rw c.in-Ok-None.field-0-is at e.fresh) storage)
+    rw ((rw c.in-Ok-None.field-0-is at e.same), ← c.node_type-node_type.ensures.value, ← c.deref.ensures.value)
+    ((rw c.in-Ok-None.field-0-is at e.fresh) storage)
 
 pub adopt_as_new-requires-clause-unknown : goal.adopt_as_new-requires-clause-unknown
 adopt_as_new-requires-clause-unknown g c = let e = c.in-Ok-None.ensures in rw (rw c.in-Ok-None.field-0-is at e.same) (rw c.in-Ok-None.field-0-is at e.unknown)
@@ -36,10 +38,12 @@ adopt_as_new-requires-clause-unknown g c = let e = c.in-Ok-None.ensures in rw (r
 pub returns-in-Ok-None : goal.returns-in-Ok-None
 returns-in-Ok-None g c =
     let e = c.in-Ok-None.ensures in
-    rw (← c.self.view_is, ← (rw c.in-Ok-None.field-0-is at e.same), ← (rw c.in-Ok-None.field-0-is at e.kept)) (record { step = c.adopt_as_new.ensures.step; moves = c.adopt_as_new.ensures.moves; storage = c.adopt_as_new.ensures.storage })
+    rw (← c.self.view_is, ← (rw c.in-Ok-None.field-0-is at e.same), ← (rw c.in-Ok-None.field-0-is at e.kept))
+    (record { step = c.adopt_as_new.ensures.step; moves = c.adopt_as_new.ensures.moves; storage = c.adopt_as_new.ensures.storage })
 
 pub invariant_of-self-in-Err-adopt_if_known : goal.invariant_of-self-in-Err-adopt_if_known
-invariant_of-self-in-Err-adopt_if_known g c = let e = c.in-Err-adopt_if_known.ensures in same-so c.self.invariant _ _ e.whole e.later e.sheds (e.refused _ _ _).stays
+invariant_of-self-in-Err-adopt_if_known g c = let e = c.in-Err-adopt_if_known.ensures in
+    same-so c.self.invariant _ _ e.whole e.later e.sheds (e.refused _ _ _).stays
 
 pub returns-in-Err-adopt_if_known : goal.returns-in-Err-adopt_if_known
 returns-in-Err-adopt_if_known g c =

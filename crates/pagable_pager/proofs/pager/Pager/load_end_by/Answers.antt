@@ -14,28 +14,35 @@ returns-in-Err-Refused-clause-step g c =
 
 pub returns-in-Err-InVain-clause-step : goal.returns-in-Err-InVain-clause-step
 returns-in-Err-InVain-clause-step g c =
-    rw (← c.self.view_is, c.in-Err-InVain.field-0-is) (vain c.args.value c.node_type-node_type.ensures.value (c.deref.ensures.value ∙ c.in-Ok.ensures.ok) c.load_drop_by.result
+    rw (← c.self.view_is, c.in-Err-InVain.field-0-is) (vain c.args.value c.node_type-node_type.ensures.value (c.deref.ensures.value ∙ c.in-Ok.ensures.ok)
+    c.load_drop_by.result
     ((rw c.in-Err-InVain.field-0-is at c.in-Err-InVain.ensures.unended) _ _ _) c.load_drop_by.ensures.called.step)
 
 pub returns-in-Err-InVain-clause-moves : goal.returns-in-Err-InVain-clause-moves
-returns-in-Err-InVain-clause-moves g c = let less = c.load_drop_by.ensures.only in rw (← c.self.view_is) (record { each = λ n x has. inl (less.values n x has); environment = less.environment })
+returns-in-Err-InVain-clause-moves g c = let less = c.load_drop_by.ensures.only in
+    rw (← c.self.view_is) (record { each = λ n x has. inl (less.values n x has); environment = less.environment })
 
 pub invariant_of-self-in-Err-place : goal.invariant_of-self-in-Err-place
 invariant_of-self-in-Err-place g c = roomier c.self.invariant c.place.new.values c.prepare_end.ensures.does c.in-Err-place.ensures.kept
 
 pub returns-in-Err-place-clause-step : goal.returns-in-Err-place-clause-step
-returns-in-Err-place-clause-step g c = rw (← c.self.view_is, c.in-Err-place.ensures.only) (no-room c.self.invariant c.place.new.values c.prepare_end.ensures.does c.in-Err-place.ensures.back (c.in-Ok-prepare_end.ensures.ready _ _ _))
+returns-in-Err-place-clause-step g c = rw (← c.self.view_is, c.in-Err-place.ensures.only)
+    (no-room c.self.invariant c.place.new.values c.prepare_end.ensures.does c.in-Err-place.ensures.back (c.in-Ok-prepare_end.ensures.ready _ _ _))
 
 pub install-requires-clause-ready : goal.install-requires-clause-ready
 install-requires-clause-ready g c storage = ready-told refl c.deref.ensures.value (c.in-Ok-prepare_end.ensures.ready storage)
 
 pub invariant_of-self-2 : goal.invariant_of-self-2
 invariant_of-self-2 g c =
-    ended-so c.self.invariant c.args.value c.place.new.values c.install.new.values c.node_type-node_type.ensures.value c.deref.ensures.value c.in-Ok.ensures.ok c.prepare_end.ensures.does
-    c.prepare_end.ensures.nodes c.in-Ok-prepare_end.ensures.ready c.install.ensures.does c.has_closed-lists.ensures c.in_default.ensures.placed c.install.ensures.sheds
+    ended-so c.self.invariant c.args.value c.place.new.values c.install.new.values c.node_type-node_type.ensures.value c.deref.ensures.value c.in-Ok.ensures.ok
+    c.prepare_end.ensures.does
+    c.prepare_end.ensures.nodes c.in-Ok-prepare_end.ensures.ready c.install.ensures.does c.has_closed-lists.ensures c.in_default.ensures.placed
+    c.install.ensures.sheds
 
 pub returns : goal.returns
 returns g c =
-    let ended = ended-told c.self.invariant c.args.value c.place.new.values c.install.new.values c.node_type-node_type.ensures.value c.deref.ensures.value c.in-Ok.ensures.ok
-    c.prepare_end.ensures.does c.prepare_end.ensures.nodes c.in-Ok-prepare_end.ensures.ready c.install.ensures.does c.has_closed-lists.ensures c.in_default.ensures.placed c.install.ensures.sheds in
+    let ended = ended-told c.self.invariant c.args.value c.place.new.values c.install.new.values c.node_type-node_type.ensures.value c.deref.ensures.value
+    c.in-Ok.ensures.ok
+    c.prepare_end.ensures.does c.prepare_end.ensures.nodes c.in-Ok-prepare_end.ensures.ready c.install.ensures.does c.has_closed-lists.ensures
+    c.in_default.ensures.placed c.install.ensures.sheds in
     rw (← c.self.view_is) (record { step = ended.0; moves = ended.1; storage = refl })

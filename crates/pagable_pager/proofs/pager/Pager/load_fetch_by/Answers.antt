@@ -13,14 +13,25 @@ returns-in_err-row-in-Root-clause-step g c = λ h. rw (← c.self.view_is, c.in-
 })
 
 pub returns-in_err-fetch-in-Root-clause-step : goal.returns-in_err-fetch-in-Root-clause-step
-returns-in_err-fetch-in-Root-clause-step g c = λ h. rw (c.in-Root.is, failed c.from_residual-in_err-fetch-in-Root.result c.from_residual-in_err-fetch-in-Root.ensures.1) (record {
+returns-in_err-fetch-in-Root-clause-step g c = λ h. rw (
+  c.in-Root.is,
+  failed c.from_residual-in_err-fetch-in-Root.result
+      c.from_residual-in_err-fetch-in-Root.ensures.1,
+) (record {
   gives = tt;
   refused = inr (load_in c.in_ok-row-in-Root.row, rw (← c.self.view_is) (c.in_ok-row-in-Root.ensures.own _ _ _), c.in_err-fetch-in-Root.ensures.asks.step h);
 })
 
 pub returns-in_ok-fetch-in-Root-clause-step : goal.returns-in_ok-fetch-in-Root-clause-step
 returns-in_ok-fetch-in-Root-clause-step g c =
-    λ h. rw c.in-Root.is (record { gives = (load_in c.in_ok-row-in-Root.row, rw (← c.self.view_is) (c.in_ok-row-in-Root.ensures.own _ _ _), c.in_ok-fetch-in-Root.ensures.asks.step h); refused = tt })
+    λ h. rw c.in-Root.is (record {
+      gives = (
+        load_in c.in_ok-row-in-Root.row,
+        rw (← c.self.view_is) (c.in_ok-row-in-Root.ensures.own _ _ _),
+        c.in_ok-fetch-in-Root.ensures.asks.step h,
+      );
+      refused = tt;
+    })
 
 pub returns-in_err-known-in-Nested-clause-kept : goal.returns-in_err-known-in-Nested-clause-kept
 returns-in_err-known-in-Nested-clause-kept g c = asks-kept c.load_known.result c.load_known.ensures.step

@@ -12,14 +12,22 @@ invariant_of-self-in-Err-place g c = roomier c.self.invariant c.place.new.values
 pub returns-in-Err-place-clause-step : goal.returns-in-Err-place-clause-step
 returns-in-Err-place-clause-step g c =
     let stays = room-alike (only-room c.self.invariant c.place.new.values c.prepare.ensures.does) in
-    rw (← c.self.view_is) (record { made = tt; refused = (c.in-Err-place.ensures.back, record { why = inr (c.in-Err-place.ensures.only, refl, tt); stays = stays }) })
+    rw (← c.self.view_is) (record {
+      made = tt;
+      refused = (
+        c.in-Err-place.ensures.back,
+        record { why = inr (c.in-Err-place.ensures.only, refl, tt); stays = stays },
+      );
+    })
 
 pub invariant_of-self-2 : goal.invariant_of-self-2
-invariant_of-self-2 g c = born-so c.self.invariant c.place.new.values c.prepare.ensures.does c.insert_node.new.t c.args.node c.in_default-place.ensures.placed c.insert_node.ensures.does
+invariant_of-self-2 g c = born-so c.self.invariant c.place.new.values c.prepare.ensures.does c.insert_node.new.t c.args.node c.in_default-place.ensures.placed
+    c.insert_node.ensures.does
     c.in_default.ensures.ready.node_left c.in_default.ensures.fit c.deref.ensures.value c.node_type-node_type.ensures.value c.in-Ok.ensures.ok c.requires
 
 pub returns : goal.returns
 returns g c =
-    let born = born-told c.self.invariant c.place.new.values c.prepare.ensures.does c.insert_node.new.t c.args.node c.in_default-place.ensures.placed c.insert_node.ensures.does
+    let born = born-told c.self.invariant c.place.new.values c.prepare.ensures.does c.insert_node.new.t c.args.node c.in_default-place.ensures.placed
+    c.insert_node.ensures.does
     c.in_default.ensures.ready.node_left c.in_default.ensures.fit c.deref.ensures.value c.node_type-node_type.ensures.value c.in-Ok.ensures.ok in
     rw (← c.self.view_is) (record { step = born.0; moves = born.1; storage = refl })

@@ -5,7 +5,8 @@ invariant_of-self g c =
     let e = c.offer.ensures in
     let step = e.offered _ _ _ (ap not c.has_closed-lists.ensures) in
     let sheds = e.sheds (λ n known pinning. known-valued c.self.invariant c.args.kind.0 c.args.key n known pinning) in
-    release_at c.self.invariant c.offer.new.t c.offer.new.values e.whole (e.later c.self.invariant.later) sheds (λ left. offered c.self.invariant.state left caller-free c.offer.result step)
+    release_at c.self.invariant c.offer.new.t c.offer.new.values e.whole (e.later c.self.invariant.later) sheds
+    (λ left. offered c.self.invariant.state left caller-free c.offer.result step)
 
 pub returns : Rattle.pagable_pager.proofs.pager.Pager.on_arc_deserialized.Goals.returns
 returns g c =

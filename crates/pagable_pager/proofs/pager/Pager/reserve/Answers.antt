@@ -5,4 +5,11 @@ pub invariant_of-self : Rattle.pagable_pager.proofs.pager.Pager.reserve.Goals.in
 invariant_of-self g c = called c.self.invariant c.reserve.new.t c.reserve.ensures (λ r. unmoved r.stays c.self.invariant.state.whole.shut)
 
 pub returns : Rattle.pagable_pager.proofs.pager.Pager.reserve.Goals.returns
-returns g c = rw (← c.self.view_is) (record { step = c.reserve.ensures.does _ _ _; only = record { values = refl {a = c.self.inside.values}; storage = refl {a = c.self.inside.storage}; environment = refl {a = environment_of c.self.inside.setting} } })
+returns g c = rw (← c.self.view_is) (record {
+  step = c.reserve.ensures.does _ _ _;
+  only = record {
+    values = refl {a = c.self.inside.values};
+    storage = refl {a = c.self.inside.storage};
+    environment = refl {a = environment_of c.self.inside.setting};
+  };
+})

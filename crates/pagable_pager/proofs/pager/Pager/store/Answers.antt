@@ -9,4 +9,5 @@ returns-clause-asks g c =
     let s = c.store_data.new.self in
     let digest = key_of g.E.Hash.KeyHash.digest in
     rw (← c.self.view_is) (asks-it c.self.invariant s e.open e.later
-    (λ h. store-call c.self.invariant s e.open e.later digest (blob_of c.args.blob) c.store_data.result e.key (e.adds h) e.was_open (e.only h) (e.err h)) e.honest)
+    (λ h. store-call c.self.invariant s e.open e.later digest (blob_of c.args.blob) c.store_data.result e.key (e.adds h) e.was_open (e.only h) (e.err h))
+    e.honest)

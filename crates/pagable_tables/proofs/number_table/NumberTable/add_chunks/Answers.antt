@@ -9,6 +9,8 @@ unfolding place_at row_by
 returns-in_ok-resize_with-clause-rows g c n =
     let (ys, last, is, folds) = c.in_ok-resize_with.ensures.items in
     let old = c.args.self.now.chunks.items in
-    let same = more (λ rows. slice_get rows.items (n % 256)) _ ys _ last folds (λ f g x called. let empty : x.items ≡ [] = search rules in ap (λ l. slice_get l (n % 256)) empty) (n / 256) in
-    let place : List (Vec (Option g.row.T.Denot)) → Option (Option g.row.T.Denot) = λ l. option_and_then (λ rows. slice_get rows.items (n % 256)) (slice_get l (n / 256)) in
+    let same = more (λ rows. slice_get rows.items (n % 256)) _ ys _ last folds (λ f g x called. let empty : x.items ≡ [] = search rules in
+    ap (λ l. slice_get l (n % 256)) empty) (n / 256) in
+    let place : List (Vec (Option g.row.T.Denot)) → Option (Option g.row.T.Denot) =
+    λ l. option_and_then (λ rows. slice_get rows.items (n % 256)) (slice_get l (n / 256)) in
     ap (option_and_then (λ row. row)) (ap place is ∙ same ∙ ap place (take_all c.args.many old (omega arith)))

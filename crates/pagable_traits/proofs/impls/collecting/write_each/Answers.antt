@@ -9,7 +9,8 @@ loop-item-preserved g c =
     let i = c.loop-item.invariant in
     let r : Result (Unit {0}) Error = Ok tt in
     wrote-more g.E.Env g.S.PagableSerializer i
-    (as-form g.E.Env g.S.PagableSerializer (g.T.Carried.means.of c.in-Some.item) g.T.Carried.shape g.T.PagableSerialize.write_causes.are r i.same_env c.in_ok-pagable_serialize.ensures)
+    (as-form g.E.Env g.S.PagableSerializer (g.T.Carried.means.of c.in-Some.item) g.T.Carried.shape g.T.PagableSerialize.write_causes.are r i.same_env
+    c.in_ok-pagable_serialize.ensures)
     (λ n old mid new v w. writes-next g.T.Carried.means.of _ _ n _ old mid new v w)
 
 pub returns-in_err-pagable_serialize : goal.returns-in_err-pagable_serialize
@@ -18,8 +19,15 @@ returns-in_err-pagable_serialize g c =
     let r : Result (Unit {0}) Error = Err c.in_err-pagable_serialize.field-0.0 in
     let by = rw c.into_iter-item-iterator.ensures.into_iter_gives at c.loop-item.yielded_by in
     wrote-then-err g.E.Env g.S.PagableSerializer c.from_residual.result c.from_residual.ensures.1 i
-    (as-form g.E.Env g.S.PagableSerializer (g.T.Carried.means.of c.in-Some.item) g.T.Carried.shape g.T.PagableSerialize.write_causes.are r i.same_env c.in_err-pagable_serialize.ensures)
-    (λ n old mid v l h. record { before = c.loop-item.yielded; x = c.in-Some.item; after = c.next.new.self; yields = (c.loop-item.item-iterator, by, c.in-Some.ensures.steps); refused = l }) (λ h. h)
+    (as-form g.E.Env g.S.PagableSerializer (g.T.Carried.means.of c.in-Some.item) g.T.Carried.shape g.T.PagableSerialize.write_causes.are r i.same_env
+    c.in_err-pagable_serialize.ensures)
+    (λ n old mid v l h. record {
+      before = c.loop-item.yielded;
+      x = c.in-Some.item;
+      after = c.next.new.self;
+      yields = (c.loop-item.item-iterator, by, c.in-Some.ensures.steps);
+      refused = l;
+    }) (λ h. h)
 
 pub returns : goal.returns
 returns g c =

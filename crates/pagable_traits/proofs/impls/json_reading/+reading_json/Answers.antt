@@ -9,7 +9,8 @@ pub read_value-returns-in_err-case : goal.read_value-returns-in_err-case
 unfolding read read_with
 read_value-returns-in_err-case g t c =
     let told = c.in_err-case.ensures in
-    read-err g.E.Env g.D.PagableDeserializer c.from_residual.result c.from_residual.ensures.1 told.gives told.moves told.same_env told.same_levels (λ no. absurd no) (λ h. rw h refl)
+    read-err g.E.Env g.D.PagableDeserializer c.from_residual.result c.from_residual.ensures.1 told.gives told.moves told.same_env told.same_levels
+    (λ no. absurd no) (λ h. rw h refl)
 
 pub read_value-returns-in-0 : goal.read_value-returns-in-0
 read_value-returns-in-0 g t c =
@@ -19,56 +20,66 @@ read_value-returns-in-0 g t c =
 pub read_value-returns-in_err-flag-in-1 : goal.read_value-returns-in_err-flag-in-1
 read_value-returns-in_err-flag-in-1 g t c =
     let told = c.in_ok-case.ensures in
-    then-err g.E.Env g.D.PagableDeserializer c.from_residual-in_err-flag-in-1.result (λ m. variant 1 m) c.from_residual-in_err-flag-in-1.ensures.1 told.moves told.same_env told.same_levels c.in_err-flag-in-1.ensures.reads
+    then-err g.E.Env g.D.PagableDeserializer c.from_residual-in_err-flag-in-1.result (λ m. variant 1 m) c.from_residual-in_err-flag-in-1.ensures.1 told.moves
+    told.same_env told.same_levels c.in_err-flag-in-1.ensures.reads
     (flag-part _ _ _ _ _ told.gives c.in-1.is) (λ no. absurd no)
 
 pub read_value-returns-in_ok-flag-in-1 : goal.read_value-returns-in_ok-flag-in-1
 read_value-returns-in_ok-flag-in-1 g t c =
     let told = c.in_ok-case.ensures in
-    then-ok g.E.Env g.D.PagableDeserializer _ (λ m. variant 1 m) told.moves told.same_env told.same_levels c.in_ok-flag-in-1.ensures.reads (flag-part _ _ _ _ _ told.gives c.in-1.is) (λ m is. is-flag _ m is)
+    then-ok g.E.Env g.D.PagableDeserializer _ (λ m. variant 1 m) told.moves told.same_env told.same_levels c.in_ok-flag-in-1.ensures.reads
+    (flag-part _ _ _ _ _ told.gives c.in-1.is) (λ m is. is-flag _ m is)
 
 pub read_value-returns-in_err-text-in-3 : goal.read_value-returns-in_err-text-in-3
 read_value-returns-in_err-text-in-3 g t c =
     let told = c.in_ok-case.ensures in
-    then-err g.E.Env g.D.PagableDeserializer c.from_residual-in_err-text-in-3.result (λ m. variant 3 m) c.from_residual-in_err-text-in-3.ensures.1 told.moves told.same_env told.same_levels c.in_err-text-in-3.ensures.reads
+    then-err g.E.Env g.D.PagableDeserializer c.from_residual-in_err-text-in-3.result (λ m. variant 3 m) c.from_residual-in_err-text-in-3.ensures.1 told.moves
+    told.same_env told.same_levels c.in_err-text-in-3.ensures.reads
     (text-part _ _ _ _ _ told.gives c.in-3.is) (λ h. h)
 
 pub read_value-returns-in_ok-text-in-3 : goal.read_value-returns-in_ok-text-in-3
 read_value-returns-in_ok-text-in-3 g t c =
     let told = c.in_ok-case.ensures in
-    then-ok g.E.Env g.D.PagableDeserializer _ (λ m. variant 3 m) told.moves told.same_env told.same_levels c.in_ok-text-in-3.ensures.reads (text-part _ _ _ _ _ told.gives c.in-3.is) (λ m is. is-text _ m is)
+    then-ok g.E.Env g.D.PagableDeserializer _ (λ m. variant 3 m) told.moves told.same_env told.same_levels c.in_ok-text-in-3.ensures.reads
+    (text-part _ _ _ _ _ told.gives c.in-3.is) (λ m is. is-text _ m is)
 
 pub read_value-returns-in-4 : goal.read_value-returns-in-4
 read_value-returns-in-4 g t c =
     let told = c.in_ok-case.ensures in
-    then-is g.E.Env g.D.PagableDeserializer c.array_part.result told.moves told.same_env told.same_levels c.array_part.ensures (other-part _ _ _ _ _ told.gives array_case (rw c.in-4.is refl))
+    then-is g.E.Env g.D.PagableDeserializer c.array_part.result told.moves told.same_env told.same_levels c.array_part.ensures
+    (other-part _ _ _ _ _ told.gives array_case (rw c.in-4.is refl))
 
 pub read_value-returns-in-5 : goal.read_value-returns-in-5
 read_value-returns-in-5 g t c =
     let told = c.in_ok-case.ensures in
-    then-is g.E.Env g.D.PagableDeserializer c.object_part.result told.moves told.same_env told.same_levels c.object_part.ensures (other-part _ _ _ _ _ told.gives object_case (rw c.in-5.is refl))
+    then-is g.E.Env g.D.PagableDeserializer c.object_part.result told.moves told.same_env told.same_levels c.object_part.ensures
+    (other-part _ _ _ _ _ told.gives object_case (rw c.in-5.is refl))
 
 pub array_part-returns-in_err-count : goal.array_part-returns-in_err-count
 array_part-returns-in_err-count g t c =
     let told = c.in_err-count.ensures in
-    read-err g.E.Env g.D.PagableDeserializer c.from_residual.result c.from_residual.ensures.1 told.gives told.moves told.same_env told.same_levels (λ no. absurd no) (λ h. rw h refl)
+    read-err g.E.Env g.D.PagableDeserializer c.from_residual.result c.from_residual.ensures.1 told.gives told.moves told.same_env told.same_levels
+    (λ no. absurd no) (λ h. rw h refl)
 
 pub array_part-returns-in_err-enter : goal.array_part-returns-in_err-enter
 array_part-returns-in_err-enter g t c =
     let told = c.in_ok-count.ensures in
     let down = c.in_err-enter.ensures in
-    read-deep g.E.Env g.D.PagableDeserializer c.from_residual-in_err-enter.result c.from_residual-in_err-enter.ensures.1 told.moves told.same_env told.same_levels down.err down.same_standing down.same_env (array-deep _ _ _ _ _ told.gives)
+    read-deep g.E.Env g.D.PagableDeserializer c.from_residual-in_err-enter.result c.from_residual-in_err-enter.ensures.1 told.moves told.same_env
+    told.same_levels down.err down.same_standing down.same_env (array-deep _ _ _ _ _ told.gives)
 
 pub object_part-returns-in_err-count : goal.object_part-returns-in_err-count
 object_part-returns-in_err-count g t c =
     let told = c.in_err-count.ensures in
-    read-err g.E.Env g.D.PagableDeserializer c.from_residual.result c.from_residual.ensures.1 told.gives told.moves told.same_env told.same_levels (λ no. absurd no) (λ h. rw h refl)
+    read-err g.E.Env g.D.PagableDeserializer c.from_residual.result c.from_residual.ensures.1 told.gives told.moves told.same_env told.same_levels
+    (λ no. absurd no) (λ h. rw h refl)
 
 pub object_part-returns-in_err-enter : goal.object_part-returns-in_err-enter
 object_part-returns-in_err-enter g t c =
     let told = c.in_ok-count.ensures in
     let down = c.in_err-enter.ensures in
-    read-deep g.E.Env g.D.PagableDeserializer c.from_residual-in_err-enter.result c.from_residual-in_err-enter.ensures.1 told.moves told.same_env told.same_levels down.err down.same_standing down.same_env (object-deep _ _ _ _ _ told.gives)
+    read-deep g.E.Env g.D.PagableDeserializer c.from_residual-in_err-enter.result c.from_residual-in_err-enter.ensures.1 told.moves told.same_env
+    told.same_levels down.err down.same_standing down.same_env (object-deep _ _ _ _ _ told.gives)
 
 pub read_items-returns : goal.read_items-returns
 read_items-returns g t c =
@@ -84,23 +95,29 @@ fill_array-loop-index-preserved g t c = one-more g.E.Env g.D.PagableDeserializer
 
 pub fill_array-returns-in_err-value : goal.fill_array-returns-in_err-value
 fill_array-returns-in_err-value g t c =
-    refused-so-far g.E.Env g.D.PagableDeserializer _ _ _ c.from_residual.result c.from_residual.ensures.1 c.loop-index-test.true c.loop-index.invariant c.in_err-value.ensures (either-memory _) (λ h. rw h refl)
+    refused-so-far g.E.Env g.D.PagableDeserializer _ _ _ c.from_residual.result c.from_residual.ensures.1 c.loop-index-test.true c.loop-index.invariant
+    c.in_err-value.ensures (either-memory _) (λ h. rw h refl)
 
 pub fill_array-returns : goal.fill_array-returns
-fill_array-returns g t c = all-read g.E.Env g.D.PagableDeserializer _ _ _ (values.Array c.loop-index.values) (λ ms. variant 4 (sequence ms)) c.loop-index-test.false c.loop-index.invariant (λ ms each. is-array c.loop-index.values ms each) refl
+fill_array-returns g t c = all-read g.E.Env g.D.PagableDeserializer _ _ _ (values.Array c.loop-index.values)
+    (λ ms. variant 4 (sequence ms)) c.loop-index-test.false c.loop-index.invariant (λ ms each. is-array c.loop-index.values ms each) refl
 
 pub read_members-loop-index-init : goal.read_members-loop-index-init
 read_members-loop-index-init g t c =
-    none-so-far g.E.Env g.D.PagableDeserializer _ _ (collected_none (MeansPair (Is of_key) (Is of_value)) (λ es e fs. fs ≡ insert_entry string_cmp es e.0 e.1) _ (search rules)) refl (moves_refl _) refl refl
+    none-so-far g.E.Env g.D.PagableDeserializer _ _ (collected_none (MeansPair (Is of_key) (Is of_value)) (λ es e fs. fs ≡ insert_entry string_cmp es e.0 e.1) _
+    (search rules)) refl (moves_refl _) refl refl
 
 pub read_members-loop-index-preserved : goal.read_members-loop-index-preserved
 read_members-loop-index-preserved g t c = one-more g.E.Env g.D.PagableDeserializer _ _ _ c.loop-index-test.true c.loop-index.invariant c.in_ok-member.ensures
-    (λ ms m each is. collected_more (MeansPair (Is of_key) (Is of_value)) (λ es e fs. fs ≡ insert_entry string_cmp es e.0 e.1) _ _ ms c.in_ok-member.member m each is c.in_ok-insert.ensures.entries)
+    (λ ms m each is. collected_more (MeansPair (Is of_key) (Is of_value)) (λ es e fs. fs ≡ insert_entry string_cmp es e.0 e.1) _ _ ms c.in_ok-member.member m
+    each is c.in_ok-insert.ensures.entries)
 
 pub read_members-returns-in_err-member : goal.read_members-returns-in_err-member
 read_members-returns-in_err-member g t c =
-    refused-so-far g.E.Env g.D.PagableDeserializer _ _ _ c.from_residual.result c.from_residual.ensures.1 c.loop-index-test.true c.loop-index.invariant c.in_err-member.ensures (either-memory _) (λ h. h)
+    refused-so-far g.E.Env g.D.PagableDeserializer _ _ _ c.from_residual.result c.from_residual.ensures.1 c.loop-index-test.true c.loop-index.invariant
+    c.in_err-member.ensures (either-memory _) (λ h. h)
 
 pub read_members-returns : goal.read_members-returns
 read_members-returns g t c =
-    all-read g.E.Env g.D.PagableDeserializer _ _ _ (values.Object c.loop-index.members) (λ ms. ms) c.loop-index-test.false c.loop-index.invariant (λ ms each. record { members = c.loop-index.members; is = refl; each = each }) (seen-same _)
+    all-read g.E.Env g.D.PagableDeserializer _ _ _ (values.Object c.loop-index.members) (λ ms. ms) c.loop-index-test.false c.loop-index.invariant
+    (λ ms each. record { members = c.loop-index.members; is = refl; each = each }) (seen-same _)

@@ -23,8 +23,10 @@ abbrev pub decreases-read_member : goal.decreases-read_member
 decreases-read_member g l = 4 * (deepest - g.D.PagableDeserializer.levels l.deserializer.now) + 2
 
 abbrev pub invariant-fill_array-loop-index : goal.invariant-fill_array-loop-index
-invariant-fill_array-loop-index g l = SoFar g.E.Env g.D.PagableDeserializer (λ ms. MeanAll (Is of_value) l.values.items ms) (λ c. read c json) l.count l.index l.fn.deserializer l.deserializer
+invariant-fill_array-loop-index g l = SoFar g.E.Env g.D.PagableDeserializer (λ ms. MeanAll (Is of_value) l.values.items ms)
+    (λ c. read c json) l.count l.index l.fn.deserializer l.deserializer
 
 abbrev pub invariant-read_members-loop-index : goal.invariant-read_members-loop-index
 invariant-read_members-loop-index g l =
-    SoFar g.E.Env g.D.PagableDeserializer (λ ms. Collected (MeansPair (Is of_key) (Is of_value)) (λ es e fs. fs ≡ insert_entry string_cmp es e.0 e.1) l.members.entries ms) (λ c. read c (both text json)) l.count l.index l.fn.deserializer l.deserializer
+    SoFar g.E.Env g.D.PagableDeserializer (λ ms. Collected (MeansPair (Is of_key) (Is of_value)) (λ es e fs. fs ≡ insert_entry string_cmp es e.0 e.1)
+    l.members.entries ms) (λ c. read c (both text json)) l.count l.index l.fn.deserializer l.deserializer

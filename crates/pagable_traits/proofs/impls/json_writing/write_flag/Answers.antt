@@ -4,7 +4,8 @@ use Rattle.serde_json.specs.declared.value.Value as values
 use Rattle.pagable_traits.proofs.impls.json_writing.write_flag.Goals as goal
 
 pub returns-in_err-write_case : goal.returns-in_err-write_case
-returns-in_err-write_case g c = case-err g.E.Env g.S.PagableSerializer (values.Bool c.args.flag) (boolean c.args.flag) c.from_residual.result c.from_residual.ensures.1 c.in_err-write_case.ensures
+returns-in_err-write_case g c = case-err g.E.Env g.S.PagableSerializer (values.Bool c.args.flag) (boolean c.args.flag) c.from_residual.result
+    c.from_residual.ensures.1 c.in_err-write_case.ensures
 
 pub returns : goal.returns
 returns g c = wrote-then g.E.Env g.S.PagableSerializer c.pagable_serialize.result c.in_ok-write_case.ensures c.pagable_serialize.ensures

@@ -8,17 +8,26 @@ use Rattle.pagable_traits.proofs.impls.json_writing.write_number.Goals as goal
 pub returns-in_default : goal.returns-in_default
 returns-in_default g c =
     let none : as_i64 (number_view c.args.value.now) ≡ (let o : Option ℤ = None in o) = search rules in
-    record { ok = tt; refused = (refuses-number _ _ Error.JsonNumber none, λ fault. number-fault _ c.args.value.now none); only = inr (inr (inl refl)); err = grows_refl _; same_env = refl; same_levels = refl }
+    record {
+      ok = tt;
+      refused = (refuses-number _ _ Error.JsonNumber none, λ fault. number-fault _ c.args.value.now none);
+      only = inr (inr (inl refl));
+      err = grows_refl _;
+      same_env = refl;
+      same_levels = refl;
+    }
 
 pub returns-in_err-write_case : goal.returns-in_err-write_case
-returns-in_err-write_case g c = case-err g.E.Env g.S.PagableSerializer (values.Number c.args.value.now) (number (number_view c.args.value.now)) c.from_residual.result c.from_residual.ensures.1 c.in_err-write_case.ensures
+returns-in_err-write_case g c = case-err g.E.Env g.S.PagableSerializer (values.Number c.args.value.now)
+    (number (number_view c.args.value.now)) c.from_residual.result c.from_residual.ensures.1 c.in_err-write_case.ensures
 
 pub returns-in_err-write_flag : goal.returns-in_err-write_flag
 returns-in_err-write_flag g c =
     let flag = c.in_err-write_flag.ensures in
     let left = c.from_residual-in_err-write_flag in
     wrote-then-err g.E.Env g.S.PagableSerializer {Z = Unit {0}} {Q = bytes []} {second = memory} left.result left.ensures.1 c.in_ok-write_case.ensures
-    (record { ok = tt; refused = tt; only = flag.only; err = flag.err; same_env = flag.same_env; same_levels = flag.same_levels }) (λ n old mid e l h. (memory_refuses _ _ n json h, no_fault _ h)) (λ h. json-memory _ h)
+    (record { ok = tt; refused = tt; only = flag.only; err = flag.err; same_env = flag.same_env; same_levels = flag.same_levels })
+    (λ n old mid e l h. (memory_refuses _ _ n json h, no_fault _ h)) (λ h. json-memory _ h)
 
 pub returns : goal.returns
 returns g c =
@@ -29,7 +38,8 @@ returns g c =
     let form = rw (to_z-of_z w64 c.in-Some.whole (search rules), flag.same_levels, flag.same_env, first.same_levels, first.same_env) at w.ok in
     record {
       ok = ok_along _ form (λ v. number_written _ _ _ _ _ _ _ whole first.ok flag.ok v);
-      refused = no_json_fault c.pagable_serialize.result (values.Number c.args.value.now) (number (number_view c.args.value.now)) (nested_in g.E.Env g.S.PagableSerializer c.args.serializer.now) w.only;
+      refused = no_json_fault c.pagable_serialize.result (values.Number c.args.value.now) (number (number_view c.args.value.now))
+          (nested_in g.E.Env g.S.PagableSerializer c.args.serializer.now) w.only;
       only = err_along _ w.only json-memory;
       err = grows_trans _ _ _ (grows_trans _ _ _ first.err flag.err) w.err;
       same_env = w.same_env ∙ flag.same_env ∙ first.same_env;

@@ -8,5 +8,6 @@ pub returns : Rattle.pagable_traits.proofs.impls.maps.write_entry.Goals.returns
 returns g c =
     let r = c.pagable_serialize-2.result in
     let key = c.in_ok-pagable_serialize.ensures in
-    let value = as-form g.E.Env g.S.PagableSerializer (g.V.Carried.means.of c.args.value.now) g.V.Carried.shape g.V.PagableSerialize.write_causes.are r key.same_env c.pagable_serialize-2.ensures in
+    let value = as-form g.E.Env g.S.PagableSerializer (g.V.Carried.means.of c.args.value.now) g.V.Carried.shape g.V.PagableSerialize.write_causes.are r
+    key.same_env c.pagable_serialize-2.ensures in
     pair-wrote g.E.Env g.S.PagableSerializer g.K.Carried.means g.V.Carried.means c.args.key.now c.args.value.now _ _ r key value (λ e h. inr h)

@@ -16,10 +16,12 @@ returns-clause-kept c =
     omega (arith, same, taken, within) in
     let kept : c.range-kept.result.now ≡ take first.result front = search rules in
     let more : c.range-more.result.now ≡ take second.result text = search rules in
-    let whole : kept_of c.extended-whole.result ≡ take first.result front = c.extended-whole.ensures.value ∙ ap (λ xs. xs ++ c.range-kept.result.now) c.empty.ensures.value ∙ kept in
+    let whole : kept_of c.extended-whole.result ≡ take first.result front =
+    c.extended-whole.ensures.value ∙ ap (λ xs. xs ++ c.range-kept.result.now) c.empty.ensures.value ∙ kept in
     let both : kept_of c.extended.result ≡ take first.result front ++ take second.result text =
     c.extended.ensures.value ∙ ap (λ xs. xs ++ c.range-more.result.now) whole ∙ ap (λ ys. take first.result front ++ ys) more in
     let cut : IsCut (front ++ text) (kept_of c.extended-2.result) =
-    cut_in_two front text _ first.result second.result c.saturating_sub.result short c.saturating_sub.ensures first.ensures.bound first.ensures.boundary first.ensures.nearest
+    cut_in_two front text _ first.result second.result c.saturating_sub.result short c.saturating_sub.ensures first.ensures.bound first.ensures.boundary
+    first.ensures.nearest
     second.ensures.bound second.ensures.boundary second.ensures.nearest (c.extended-2.ensures.value ∙ ap (λ xs. xs ++ (46 ∷ 46 ∷ [])) both) in
     subst (λ f. IsCut (f ++ text) (kept_of c.extended-2.result)) c.as_str-front.ensures cut

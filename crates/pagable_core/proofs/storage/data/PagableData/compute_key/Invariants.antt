@@ -3,4 +3,5 @@ use Rattle.pagable_core.proofs.storage.data.PagableData.compute_key.Given as goa
 
 -- the hash has the count, the bytes and the keys so far
 abbrev pub invariant-loop-key : goal.invariant-loop-key
-invariant-loop-key g l = g.H.KeyHash.holds l.hash ((to_le_bytes w64 (length l.self.arcs.items) ++ l.self.bytes.items) ++ flat_map (to_le_bytes w128) (take l.key-index l.key-items))
+invariant-loop-key g l = g.H.KeyHash.holds l.hash ((to_le_bytes w64 (length l.self.arcs.items) ++ l.self.bytes.items)
+    ++ flat_map (to_le_bytes w128) (take l.key-index l.key-items))

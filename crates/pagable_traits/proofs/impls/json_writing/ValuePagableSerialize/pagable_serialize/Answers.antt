@@ -3,4 +3,7 @@ use Rattle.pagable_traits.proofs.{JsonSteps.wrote-as, Parts.err_along}
 pub returns : Rattle.pagable_traits.proofs.impls.json_writing.ValuePagableSerialize.pagable_serialize.Goals.returns
 returns g c =
     let told = c.write_value.ensures in
-    record { wrote = wrote-as g.E.Env g.S.PagableSerializer c.write_value.result told (λ n old new w. w) (λ n e l. l.0); first = err_along c.write_value.result told.refused (λ e l. l.1) }
+    record {
+      wrote = wrote-as g.E.Env g.S.PagableSerializer c.write_value.result told (λ n old new w. w) (λ n e l. l.0);
+      first = err_along c.write_value.result told.refused (λ e l. l.1);
+    }
