@@ -1,6 +1,6 @@
 -- A leaf that is loaded in one call: the numbers of a load and of its handle are taken, and the cell is pinned. A load by steps that begins, fetches and ends
 -- leaves the same.
-use Rattle.pagable_tables.specs.Core.StorageView
+use Rattle.pagable_tables.specs.Core.{StorageView}
 use Rattle.pagable_tables.proofs.{CascadeStep.{aside, turned, unmixed}, Counting.{all-kept, kept-more, left-none, of_list, there-is}}
 use Rattle.pagable_tables.proofs.{HandleTable.found-append, OwnedByLoad.{changed-push, seen-before}, RowCounts.{found-among, sum-none}}
 use Rattle.pagable_tables.proofs.CascadeEnd.{ended}

@@ -1,5 +1,5 @@
 -- A load of a cell that begins and is dropped leaves only that its number and that of its handle are taken.
-use Rattle.pagable_tables.specs.Core.StorageView
+use Rattle.pagable_tables.specs.Core.{StorageView}
 use Rattle.pagable_tables.proofs.{CascadeEnd.ended, CascadeStep.{aside, unmixed}, Counting.{all-kept, kept-more, left-none, of_list, there-is}}
 use Rattle.pagable_tables.proofs.{HandleTable.found-append, OwnedByLoad.seen-before, RowCounts.{found-among, sum-none}}
 use Rattle.pagable_leaf.proofs.Words.{Alike, BeginCall, Blob, Bool, Core, Falls, HandleNumber, HandleRow, RefCounts, LoadNumber, Mode, MustList, None, Ok, Option, OptionalDataKey, Owner, Owns}

@@ -1,7 +1,7 @@
 //! Loads of leaves, cells whose blobs have no references, in one call. They leave what a load by
 //! steps leaves that begins, gets the blob and ends, without making its row and its handle.
 
-ghost use Rattle.pagable_tables.specs.Core.StorageView;
+ghost use Rattle.pagable_tables.specs.Core.{StorageView};
 ghost use Rattle.pagable_leaf.specs.Leaf.{DropsLeaf, IsLeaf, PinsLeaf, with_numbers};
 ghost use Rattle.pagable_tables.specs.{Core.{AreLater, Does, IsWhole, OnlyRoom, core_of, plain_of}, EndingLoads.has_come, HandleTable.room};
 ghost use Rattle.pagable_tables.specs.Nodes.{counts_at, has_value};

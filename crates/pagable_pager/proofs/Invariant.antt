@@ -1,7 +1,7 @@
 -- What keeps the pager's invariant: dropping values with their nodes, calls that neither bring nor drop a value, calls of the storage, and bringing a value.
 use Rattle.pagable_tables.specs.Core.{shut_view}
 use Rattle.pagable_tables.specs.Core.{no_blobs}
-use Rattle.pagable_tables.specs.Core.StorageView
+use Rattle.pagable_tables.specs.Core.{StorageView}
 use Rattle.pagable_theorems.proofs.{HandlesKept.{NotValues, among-found, find-both, found-number, good, low-whole, new-handle, stands-fell}, ReadingSteps.cached-rows, StepBounds.{entered-of, named-among}}
 use Rattle.{pagable_theorems.proofs.LoadProgress.{row-held, row-pins}, pagable_load.{proofs.LoadSteps.begun_is, specs.declared.access.PinStart.PinStart}, std.specs.Option.option_map}
 use Rattle.{either.specs.declared.Either.Either, pagable_load.specs.AccessView.{AsksFor, Brings, IsMade}, pagable_value_spec.specs.{Stored.{Adds, RefusesFetch, RefusesStore}, declared.{data_key.OptionalDataKey.OptionalDataKey, numbers.WorkerNumber.WorkerNumber}}}

@@ -1,6 +1,6 @@
 -- Cells that are pinned without a load's row: the load with the same effect keeps the pager's invariant at each step, and is a run of a pin.
 use Rattle.pagable_tables.specs.Core.{no_blobs}
-use Rattle.pagable_tables.specs.Core.StorageView
+use Rattle.pagable_tables.specs.Core.{StorageView}
 use Rattle.pagable_pager.proofs.Invariant.{here-in, here-told, in-step}
 use Rattle.pagable_pager.specs.{Leaf.{LeafBegun, LeafDropped, LeafFetched, LeafLoads, LeafPinned, LeafUnbegun, rooted_reading}, View.{AsksStorage, IsPager, OnlyStorage, OnlyTables, PagerView, Telling, ValuesByNode, core_in, state_in, value_in, with_value}}
 use Rattle.{pagable_leaf.specs.{Leaf.{DropsLeaf, IsLeaf, PinsLeaf}, declared.leaf.Leaf.Leaf}, pagable_load.{proofs.LoadSteps.begun_is, specs.{Decoding.IsReadAs, PinStart.is_unpinned_at, AccessView.Brings}}, pagable_theorems.proofs.ValuesOwned.{IsShut, begins, installed_away, load_closed, pinned-here, spared}}

@@ -1,5 +1,5 @@
 -- After one handle is removed, handles and nodes agree again.
-use Rattle.pagable_tables.specs.Core.StorageView
+use Rattle.pagable_tables.specs.Core.{StorageView}
 use Rattle.pagable_tables.proofs.Counting.{all-kept, and_one, entries-none, of_list, one-le, ones, sum-most, times-left}
 use Rattle.pagable_tables.proofs.{HandleTable.{length-live-le, none-found, only-row, row-le-live}, RowCounts.{found-among, only-at}}
 use Rattle.pagable_tables.proofs.Words.{AllPairs, Among, ArcRef, Blob, Bool, Chain, Core, Counts, Error, Fits, HandleNumber, HandleRow, HasFallen, HasRoom, RefCounts, IsApart, IsBefore, IsClosed}

@@ -1,5 +1,5 @@
 -- When the rows of loads take note of more handles, nothing else changes, so the plain world is the same.
-use Rattle.pagable_tables.specs.Core.StorageView
+use Rattle.pagable_tables.specs.Core.{StorageView}
 use Rattle.pagable_tables.proofs.{HandleTable.le_or_lt, OwnedByLoad.none-passes}
 use Rattle.pagable_tables.proofs.Words.{AreLater, Bool, Core, HandleRow, IndexMap, List, LoadNumber, LoadRow, None, Option, Owner, Place, Some, Tables}
 use Rattle.pagable_tables.proofs.Words.{Blob, ap, arith, cases_Bool, cases_eq, core_of, false, get_or, inl, inr, is_owned_by, is_owned_in, is_owner, length, live, load_at, load_in, nat_tests, option_map, owner_worker, passes_in, plain_of}

@@ -1,5 +1,5 @@
 -- A node is inserted, and its value becomes the owner of its references' handles; and a pinned node without a value gets one, with its references.
-use Rattle.pagable_tables.specs.Core.StorageView
+use Rattle.pagable_tables.specs.Core.{StorageView}
 use Rattle.std.specs.VecDeque.{deque_capacity}
 use Rattle.pagable_tables.proofs.Words.{Alike, AllPairs, Among, ArcRef, Blob, Bool, Core, Counts, Ending, Error, Falls, Fits, HandleNumber, HandleRow, RefCounts, Installs, IsHandleBefore, IsReady}
 use Rattle.pagable_tables.proofs.Words.{Last, List, LoadNumber, LoadRow, MayEnd, MayOwnLoad, Mode, NodeNumber, None, OnlyRoom, Option, Owner, Places, Result, Right, SoFar, Some, Tables, [], ap, arith}

@@ -1,7 +1,7 @@
 -- A load is closed or hands handles over, or a worker ends, and what they still own is released.
 use Rattle.pagable_tables.specs.Core.{no_blobs_of}
 use Rattle.pagable_tables.specs.Core.{no_blobs}
-use Rattle.pagable_tables.specs.Core.StorageView
+use Rattle.pagable_tables.specs.Core.{StorageView}
 use Rattle.pagable_value_spec.specs.declared.numbers.WorkerNumber.{WorkerNumber}
 use Rattle.pagable_tables.proofs.{Counting.{and-left, of_list, there-is, times-left}, HandleTable.{at-place, found-append, le_or_lt}, Wholeness.whole-so}
 use Rattle.pagable_tables.proofs.CascadeStep.{begun, closed-is, is_owned, no-value, none-came, owned-by-none, rows-told, unmixed}

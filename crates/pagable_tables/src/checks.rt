@@ -1,6 +1,6 @@
 //! The checks of a call's handles, references and load. They change nothing.
 
-ghost use Rattle.pagable_tables.specs.Core.StorageView;
+ghost use Rattle.pagable_tables.specs.Core.{StorageView};
 ghost use Rattle.pagable_value_spec.specs.declared.numbers.LoadNumber.{LoadNumber};
 ghost use Rattle.pagable_tables.specs.Core.{IsWhole, core_of, load_in, plain_of, seen};
 ghost use Rattle.pagable_tables.specs.{HandleTable.{AreSound, alive, live}, Indexes.load_at};

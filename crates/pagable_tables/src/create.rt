@@ -1,6 +1,6 @@
 //! Makes nodes, handles of live nodes, and pins.
 
-ghost use Rattle.pagable_tables.specs.Core.StorageView;
+ghost use Rattle.pagable_tables.specs.Core.{StorageView};
 ghost use Rattle.indexmap.specs.IndexMap.{get, spare};
 ghost use Rattle.pagable_value_spec.specs.declared.numbers.NodeNumber.{NodeNumber};
 ghost use Rattle.pagable_tables.specs.CascadeInvariant.{IsFalling, is_valued, is_worker, owns, owns_nothing};

@@ -1,6 +1,6 @@
 //! How a load ends: with a pin, with a hand-over of its handles, or dropped with all that it owns.
 
-ghost use Rattle.pagable_tables.specs.Core.StorageView;
+ghost use Rattle.pagable_tables.specs.Core.{StorageView};
 ghost use Rattle.pagable_value_spec.specs.declared.numbers.{LoadNumber.LoadNumber, NodeNumber.NodeNumber};
 ghost use Rattle.pagable_tables.specs.CascadeInvariant.{AreAtWork, is_worker};
 ghost use Rattle.pagable_tables.specs.Core.{AreLater, Does, DoesShed, IsOwnedAbove, IsOwnedUpTo, IsWhole, OnlyRoom};

@@ -1,6 +1,6 @@
 //! The pending list of cells that wait for page-out: adding entries and taking them.
 
-ghost use Rattle.pagable_tables.specs.Core.StorageView;
+ghost use Rattle.pagable_tables.specs.Core.{StorageView};
 ghost use Rattle.pagable_value_spec.specs.declared.numbers.LoadNumber.{LoadNumber};
 ghost use Rattle.pagable_tables.specs.Core.{AreLater, DoesShed, InReach, IsNoLess, IsWhole, MayHold, core_of};
 ghost use Rattle.pagable_tables.specs.{Core.plain_of, Indexes.{reach_at, worker_at}};

@@ -2,7 +2,7 @@
 //! keys.
 
 ghost use Rattle.pagable_tables.specs.Core.{shut_view};
-ghost use Rattle.pagable_tables.specs.Core.StorageView;
+ghost use Rattle.pagable_tables.specs.Core.{StorageView};
 ghost use Rattle.indexmap.specs.IndexMap.{get};
 ghost use Rattle.pagable_value_spec.specs.declared.numbers.{LoadNumber.LoadNumber, NodeNumber.NodeNumber};
 ghost use Rattle.pagable_value_spec.specs.declared.numbers.WorkerNumber.{WorkerNumber};

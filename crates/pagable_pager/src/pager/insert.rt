@@ -1,6 +1,6 @@
 //! Inserts values, makes nodes of what loads have read, and ends loads of cells with a value.
 
-ghost use Rattle.pagable_tables.specs.Core.StorageView;
+ghost use Rattle.pagable_tables.specs.Core.{StorageView};
 ghost use Rattle.std.specs.Prelude.{Bool, IfErr, None, OnErr, OnOk, Option, true, ℕ, ◌≡◌};
 ghost use Rattle.pagable_pager.specs.View.{Calls, OnlyTables, core_in, state_in, storage_view, value_in, with_value};
 ghost use Rattle.pagable_tables.specs.{Core.{core_of, plain_of}, EndingLoads.early_fault};

@@ -1,5 +1,5 @@
 use Rattle.pagable_tables.specs.Core.{no_blobs}
-use Rattle.pagable_tables.specs.Core.StorageView
+use Rattle.pagable_tables.specs.Core.{StorageView}
 use Rattle.pagable_tables.proofs.{SameViews.forgets-gone, Views.told-whole, Wholeness.whole-so}
 use Rattle.pagable_tables.proofs.Words.{Blob, Bool, Counts, NodeNumber, None, Option, Some, ap, arith, core_of, counts_at, false, if_there, if◌then◌else◌, is_some, known_at, nat_tests, option_map, plain_of, refl, ℕ, ◌≡◌, ◌∙◌}
 use Rattle.pagable_tables.specs.Nodes.{cell_in, living}

@@ -1,4 +1,4 @@
-use Rattle.pagable_tables.specs.Core.StorageView
+use Rattle.pagable_tables.specs.Core.{StorageView}
 use Rattle.pagable_tables.proofs.SameViews.{fault-at, named-other, seen-more}
 use Rattle.pagable_tables.proofs.Words.{ArcRef, Blob, Bool, None, Option, Some, arith, core_of, get_or, sym, ℕ, ◌∙◌, ◌∷◌}
 

@@ -1,4 +1,4 @@
-use Rattle.pagable_tables.specs.Core.StorageView
+use Rattle.pagable_tables.specs.Core.{StorageView}
 use Rattle.pagable_tables.proofs.Words.{◌≡◌, ◌<◌, ℕ, Bool, false, Option, List, [], take, drop, Blob, is_in, references_fault, is_named_by, core_of}
 use Rattle.pagable_tables.proofs.checks.references_fault.Given as goal
 

@@ -1,5 +1,5 @@
 use Rattle.pagable_tables.specs.Core.{no_blobs_of}
-use Rattle.pagable_tables.specs.Core.StorageView
+use Rattle.pagable_tables.specs.Core.{StorageView}
 use Rattle.pagable_tables.proofs.{CallsKeepWhole.adopted-whole, CascadeStep.closed-is, Views.settles, Wholeness.whole-so}
 use Rattle.pagable_tables.proofs.Words.{Alike, Blob, Bool, IndexMap, Last, NodeNumber, None, Option, Owner, Some, adopted, ap}
 use Rattle.pagable_tables.proofs.Words.{core_of, false, has_key, inl, inr, is_shared, key_in, mode_of, next_node, not, option_map, refl, subst, sym, true, with_handle, with_node, ℕ, ◌+◌, ◌/◌, ◌∙◌}

@@ -1,5 +1,5 @@
 use Rattle.pagable_tables.specs.Core.{no_blobs}
-use Rattle.pagable_tables.specs.Core.StorageView
+use Rattle.pagable_tables.specs.Core.{StorageView}
 use Rattle.pagable_tables.proofs.{LoadEnd.references-placed, OwnedByLoad.widens-does}
 use Rattle.pagable_tables.proofs.Words.{ArcRef, Blob, Bool, Core, Ending, HandleNumber, HandleRow, IsReady, List, LoadNumber, LoadRow, MayEnd}
 use Rattle.pagable_tables.proofs.Words.{NodeNumber, None, Option, Owner, Places, Some, Tables, any_mode, ap, arith, core_of, end_fault, false, load_at, load_in, nat_tests, not, of_cell, option_map}

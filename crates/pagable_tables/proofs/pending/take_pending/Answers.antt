@@ -1,5 +1,5 @@
 use Rattle.pagable_tables.specs.Core.{no_blobs}
-use Rattle.pagable_tables.specs.Core.StorageView
+use Rattle.pagable_tables.specs.Core.{StorageView}
 use Rattle.pagable_tables.proofs.{CascadeStep.{entry-lives, entry-unvalued, fits-same, held-here, some-held}, HandleTable.{length-live-le, row-le-live}}
 use Rattle.pagable_tables.proofs.Wholeness.{whole-so}
 use Rattle.pagable_tables.proofs.{CallsKeepWhole.take-whole, OwnedByLoad.{later-by, load-kept, worker-kept}, RowCounts.found-among, Views.not-a-value}

@@ -1,4 +1,4 @@
-use Rattle.pagable_tables.specs.Core.StorageView
+use Rattle.pagable_tables.specs.Core.{StorageView}
 use Rattle.pagable_tables.proofs.Words.{Tables, [], ap, append-nil, arith, core_of, false, if◌then◌else◌, inl, inr, is_handle, is_loose, is_owner, is_pin, is_plain_pin, is_share, is_shared, is_valued}
 use Rattle.pagable_tables.proofs.{CascadeStep.{aside, begun-whole, listing-is, none-within, unowned}, Counting.{all-kept, gives-sums, of_list, ones}}
 use Rattle.pagable_tables.proofs.OwnedByLoad.{does-as, lazily-so, nothing-release_at, sheds-with}
