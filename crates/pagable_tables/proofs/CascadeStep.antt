@@ -285,6 +285,9 @@ abbrev pub begun-whole : (t : Tables) (storage : StorageView) (lists : Bool) →
 begun-whole t storage lists w e = let c = core_of t storage in begun-less t c.loads c.workers storage lists w e
 
 -- cells are listed exactly while the storage is open
+pub opened-view : (s : StorageView) → s.closed ≡ false → s ≡ record s { closed = false }
+opened-view s is = ap (λ (c : Bool). record s { closed = c }) is
+
 pub closed-is : (lists closed : Bool) → lists ≡ not closed → closed ≡ not lists
 closed-is lists x1 e = grind (arith, nat_tests)
 

@@ -1,3 +1,5 @@
+use Rattle.pagable_tables.specs.Core.{StorageView}
+use Rattle.pagable_tables.proofs.CascadeStep.{opened-view}
 use Rattle.pagable_tables.specs.Core.{no_blobs}
 use Rattle.pagable_tables.proofs.{CallsKeepWhole.{known-suits, learns-whole}, CascadeStep.{begun-whole, closed-is}}
 use Rattle.pagable_tables.proofs.{OwnedByLoad.{begun-made, falls-made, found-again, later-on}, RowCounts.found-among, Wholeness.whole-so}
@@ -36,22 +38,22 @@ returns g c =
     (begun-whole t1 no_blobs true made.whole refl) (omega arith)) in
     record {
       offered = λ storage e.
-          (let w = core_of t storage in
-          let opened : true ≡ not storage.closed = grind (arith, nat_tests, e, c.if-not-lists.false) in
+          (let o : StorageView = record storage { closed = false } in
+          let w = core_of t o in
           let u = with_known w c.args.kind node.0 c.args.me in
           let owns : Owns w c.args.me c.args.handle (fits_mode c.args.kind.0) c.in_ok-row.row = grind (arith, nat_tests, c.in_ok-row.ensures.owns) in
-          let m = (made.does storage).made in
-          let alike : Alike u (core_of t1 storage) = rw c.mode_of.ensures at m.1 in
-          let begun = begun-made t t1 storage node (mode_of c.args.kind.0) c.args.me made.whole alike true opened in
+          let m = (made.does o).made in
+          let alike : Alike u (core_of t1 o) = rw c.mode_of.ensures at m.1 in
+          let begun = begun-made t t1 o node (mode_of c.args.kind.0) c.args.me made.whole alike true refl in
           let given = found-among c.args.handle.0 w.rows c.in_ok-row.row owns.live in
           let spared : only_handle c.args.handle (w.last.handle + 1) ≡ false =
           let a = (c.requires.whole.core.handles.numbered c.in_ok-row.row given.0).1 in let b = given.1 in grind (arith, nat_tests) in
-          let falls = falls-made t t1 storage node (mode_of c.args.kind.0) c.args.me made.whole alike c.in_ok-known.ensures.same
+          let falls = falls-made t t1 o node (mode_of c.args.kind.0) c.args.me made.whole alike c.in_ok-known.ensures.same
           (not-a-value (plain_of t) c.args.me c.requires.holder)
           c.try_release_at.new.t (rw c.in-Ok.ensures.number at (c.try_release_at.ensures.falls u u begun (let a = ap length alike.rows in omega arith)))
           spared in
-          let is = sym (c.in-Some.ensures storage) in
-          rw (closed-is c.args.lists storage.closed e ∙ ap not c.if-not-lists.false)
+          let is = sym (c.in-Some.ensures o) in
+          rw (opened-view storage (closed-is c.args.lists storage.closed e ∙ ap not c.if-not-lists.false))
           (record {
             answers = (
               c.in_ok-row.row,
@@ -79,17 +81,18 @@ forget_gone-requires g c =
 
 pub returns-in_default-clause-offered : goal.returns-in_default-clause-offered
 returns-in_default-clause-offered g c storage e =
-    let w = core_of c.args.t.now storage in
+    let o : StorageView = record storage { closed = false } in
+    let w = core_of c.args.t.now o in
     let owns : Owns w c.args.me c.args.handle (fits_mode c.args.kind.0) c.in_ok-row.row = grind (arith, nat_tests, c.in_ok-row.ensures.owns) in
-    let alike : Alike (with_cached w c.args.kind c.args.key c.in_ok-row.row.node) (core_of (record c.args.t.now { cache = c.put.new.cache }) storage) =
+    let alike : Alike (with_cached w c.args.kind c.args.key c.in_ok-row.row.node) (core_of (record c.args.t.now { cache = c.put.new.cache }) o) =
     grind (arith, nat_tests, same-cache, c.in_ok-put.ensures.here, c.in_ok-put.ensures.others) in
-    rw (closed-is c.args.lists storage.closed e ∙ ap not c.if-not-lists.false)
+    rw (opened-view storage (closed-is c.args.lists storage.closed e ∙ ap not c.if-not-lists.false))
     (record {
       answers = (
         c.in_ok-row.row,
         owns,
         c.in_ok-row.ensures.typed,
-        (refl, sym (c.in_default.ensures storage), alike-on alike (c.forget_gone.ensures.does.does storage)),
+        (refl, sym (c.in_default.ensures o), alike-on alike (c.forget_gone.ensures.does.does o)),
       );
       refused = tt;
     })
@@ -105,14 +108,15 @@ returns-in_err-put-clause-whole g c =
 
 pub returns-in_err-known-clause-offered : goal.returns-in_err-known-clause-offered
 returns-in_err-known-clause-offered g c storage e =
-    let w = core_of c.args.t.now storage in
+    let o : StorageView = record storage { closed = false } in
+    let w = core_of c.args.t.now o in
     let owns : Owns w c.args.me c.args.handle (fits_mode c.args.kind.0) c.in_ok-row.row = grind (arith, nat_tests, c.in_ok-row.ensures.owns) in
-    let is = sym (c.in-Some.ensures storage) in
+    let is = sym (c.in-Some.ensures o) in
     let call = not-recalled w c.args.me c.args.kind c.args.key c.in-Some.node c.mode_of.result _ is c.mode_of.ensures _
-    (c.in_err-known.ensures.does.does storage) in
+    (c.in_err-known.ensures.does.does o) in
     let cause : offer_fault w c.args.me c.args.kind c.args.key c.args.handle ≡ recall_fault w c.args.kind c.args.key =
     grind (arith, nat_tests, c.in_ok-row.ensures.typed) in
-    rw (closed-is c.args.lists storage.closed e ∙ ap not c.if-not-lists.false)
+    rw (opened-view storage (closed-is c.args.lists storage.closed e ∙ ap not c.if-not-lists.false))
     (rw (failed c.from_residual-in_err-known.result c.from_residual-in_err-known.ensures.1)
     record {
       answers = tt;
