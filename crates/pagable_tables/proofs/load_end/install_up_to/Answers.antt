@@ -98,7 +98,8 @@ release_owned-requires-clause-steady g c =
           let before = changed (is_handle row.number.0) turned (live t.ref_counts.handles.places.items) ++ x ∷ [] in
           let fits = rows-told (counts_at t1.ref_counts.nodes) (refs_at t1.ref_counts.nodes) (live t1.ref_counts.handles.places.items) before t1.ref_counts.top
           (sym a.rows) whole.steady.fits in
-          let pinned : 0 < sum_by (λ y. one (is_pin n y)) before = grind (arith, nat_tests, pins-here) in
+          let pinned : 0 < sum_by (λ y. one (is_pin n y)) before =
+          subst (λ (rows : List HandleRow). 0 < sum_by (λ y. one (is_pin n y)) rows) a.rows (pins-here t t1 no_blobs row me a) in
           let joined = joined-fits p (Owner.Load l) n rs was.core.handles.ordered r.may.good refl none row.number.0 x unvalued spared _ _ _ _ fits pinned
           (j.here comes) j.others in
           let told = fits-same _ _ _ _ _ _ [] joined j.counts (λ m. refl) in
