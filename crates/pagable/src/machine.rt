@@ -27,7 +27,7 @@ pub struct Machine<E: Env<Node: NodeSet<E>>, S: PagableStorage<E>> {
 
 impl<E: Env<Node: NodeSet<E>>, S: PagableStorage<E>> Model for Machine<E, S> {
     ghost use Rattle.std.specs.Coded.{codes};
-    ghost use Rattle.{pagable_pager.specs.View.telling, pagable.specs.Driving.{IsInStep, MachineView, view_of}, indexmap.specs.Layout.hash_map_code};
+    ghost use Rattle.{pagable_pager.specs.View.storage_view, pagable.specs.Driving.{IsInStep, MachineView, view_of}, indexmap.specs.Layout.hash_map_code};
 
     ghost Value = { MachineView E.Node S E };
 

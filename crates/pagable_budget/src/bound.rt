@@ -4,7 +4,7 @@ ghost use Rattle.std.specs.Map.{lookup};
 ghost use Rattle.std.specs.Prelude.{[], IfOk, IsTrue, None, is_some, length, nat_eq, ◌-◌, ◌≡◌, ◌≤◌};
 ghost use Rattle.pagable_budget.specs.Budgets.{Admits, Clears, Keeps, PinsWithin, Stores, Trims};
 ghost use Rattle.pagable_budget.specs.Budgets.{cost_of, counted, new_budget, touched};
-ghost use Rattle.{pagable_load.specs.AccessView.values_at, pagable_pager.specs.View.telling};
+ghost use Rattle.{pagable_load.specs.AccessView.values_at, pagable_pager.specs.View.storage_view};
 ghost use Rattle.{pagable_pager_spec.specs.World.seen_as, std.specs.Arc.arc_value};
 
 use crate::evictions::{KeptPin, KeptPins, evict_above, evict_all, insert};

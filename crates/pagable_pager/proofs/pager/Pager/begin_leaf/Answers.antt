@@ -1,4 +1,4 @@
-use Rattle.{pagable_leaf.proofs.Prepared.begin-wants, pagable_pager.{proofs.{Invariant.called, Leaf.{begin-told, given-so, given-told, in-memory-never, leaf-in, unbegun-leaf, unbegun-place, unbegun-told}}, specs.View.telling}}
+use Rattle.{pagable_leaf.proofs.Prepared.begin-wants, pagable_pager.{proofs.{Invariant.called, Leaf.{begin-told, given-so, given-told, in-memory-never, leaf-in, unbegun-leaf, unbegun-place, unbegun-told}}, specs.View.storage_view}}
 use Rattle.{pagable_theorems.proofs.ValuesOwned.begins, std.proofs.Common.{refl}}
 use Rattle.pagable_pager.proofs.pager.Pager.begin_leaf.Goals as goal
 

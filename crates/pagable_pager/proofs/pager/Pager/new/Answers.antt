@@ -1,4 +1,4 @@
-use Rattle.{std.proofs.Common.refl, pagable_pager.{proofs.Invariant.is-new, specs.View.telling}}
+use Rattle.{std.proofs.Common.refl, pagable_pager.{proofs.Invariant.is-new, specs.View.storage_view}}
 
 pub returns-clause-empty : Rattle.pagable_pager.proofs.pager.Pager.new.Goals.returns-clause-empty
 returns-clause-empty g c =

@@ -1,4 +1,4 @@
-use Rattle.pagable_pager.{proofs.Leaf.{given-so, given-told, leaf-in, pinned-so, pinned-told}, specs.View.telling}
+use Rattle.pagable_pager.{proofs.Leaf.{given-so, given-told, leaf-in, pinned-so, pinned-told}, specs.View.storage_view}
 use Rattle.pagable_pager.proofs.pager.Pager.pin_leaf.Goals as goal
 
 pub invariant_of-self : goal.invariant_of-self

@@ -1,4 +1,4 @@
-use Rattle.{std.{proofs.Common.refl, specs.Arc.arc_value}, pagable_pager.{proofs.Invariant.is-new, specs.View.telling}}
+use Rattle.{std.{proofs.Common.refl, specs.Arc.arc_value}, pagable_pager.{proofs.Invariant.is-new, specs.View.storage_view}}
 
 pub returns-clause-empty : Rattle.pagable_pager.proofs.pager.Pager.shared.Goals.returns-clause-empty
 returns-clause-empty g c =

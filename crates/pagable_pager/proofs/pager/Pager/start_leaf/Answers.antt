@@ -1,4 +1,4 @@
-use Rattle.{pagable_pager.{proofs.{Invariant.roomier, Leaf.{asked-in, fetch-refused, fetch-told, given-so, given-told, leaf-after, leaf-asked, not-begun, pager-in}}, specs.View.telling}, std.proofs.Common.{refl, ◌≡◌}}
+use Rattle.{pagable_pager.{proofs.{Invariant.roomier, Leaf.{asked-in, fetch-refused, fetch-told, given-so, given-told, leaf-after, leaf-asked, not-begun, pager-in}}, specs.View.storage_view}, std.proofs.Common.{refl, ◌≡◌}}
 use Rattle.pagable_pager.proofs.pager.Pager.start_leaf.Goals as goal
 
 pub invariant_of-self-in-Err : goal.invariant_of-self-in-Err
