@@ -1,6 +1,6 @@
 pub mod Waits
 pub mod Stacks
-pub mod Turns
+pub mod WorkerTurns
 pub mod Pages
 pub mod Joint
 pub mod Strides

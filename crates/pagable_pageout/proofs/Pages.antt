@@ -2,7 +2,7 @@
 use Rattle.pagable_theorems.proofs.{LoadResults.{entry-answered, item-answered}, StepBounds.{Spares, none-shorter, release-spares-list, spares-then, walk-spares-list}}
 use Rattle.pagable_load.{proofs.LoadSteps.{acts_all, acts_from, acts_map, acts_same, acts_then, tells_map}, specs.{AccessView.{Acting, as_caller}, WorkerCalls.{RefusesEntry, StartsEntry}}}
 use Rattle.pagable_value_spec.specs.declared.{data_key.OptionalDataKey.OptionalDataKey, error.Error.Error, numbers.{ArcRef.ArcRef, HandleNumber.HandleNumber, WorkerNumber.WorkerNumber}}
-use Rattle.pagable_pageout.{proofs.Turns.{alike, plain-fits, same-shelf}, specs.{PageOuts.{HasPaged, PagesAt, PagesEntry, PagesEntryIfThere, PagesItem, PagesList, answer_of, there}, Tasks.{IsPlain, todo_of}}}
+use Rattle.pagable_pageout.{proofs.WorkerTurns.{alike, plain-fits, same-shelf}, specs.{PageOuts.{HasPaged, PagesAt, PagesEntry, PagesEntryIfThere, PagesItem, PagesList, answer_of, there}, Tasks.{IsPlain, todo_of}}}
 use Rattle.{pagable_pageout.specs.{Turns.{Fits, IsAlone, RunsTo, Walked, plain}, declared.tasks.{PageOutError.PageOutError, Task.Task}}, pagable_pager_spec.specs.Access.AccessState}
 use Rattle.pagable_pager_spec.specs.Access.{Called, EntryHas, ListRun, WorkerRun, WorkerStarts, entry-is-refused, entry-is-walked, fails, item-is-walked, no-entry-worker, no-more, no-worker, pages}
 use Rattle.pagable_pager_spec.specs.{Access.{skips, worker-ends, worker-goes-on}, Calls.{ReleaseCall, TakeCall}, Events.{entry_task, no_shelf}, Kinds.{identity_of, owner_worker}, Pager.PagerState}

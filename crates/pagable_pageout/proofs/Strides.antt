@@ -1,6 +1,6 @@
 -- Steps that are made together, one after another, and the worker's end.
 use Rattle.{pagable_value_spec.specs.declared.{error.Error.Error, numbers.ArcRef.ArcRef}, pagable_pager_spec.specs.{Kinds.identity_of, declared.events.Action.Action}}
-use Rattle.pagable_pageout.proofs.Turns.{ends-walked, goes-walked, none-walked, steps-alone, steps-to, waits-alone}
+use Rattle.pagable_pageout.proofs.WorkerTurns.{ends-walked, goes-walked, none-walked, steps-alone, steps-to, waits-alone}
 use Rattle.pagable_pageout.specs.{Strides.{ComesTo, Strides}, Tasks.{Ends, EndsWith, IfGoes, LeadsOn, due, todo_of, todos, waits_as}, Turns.{Closes, HasWalked, RunsTo, StepsAlone, StepsTo, TurnsTo, is_waiting, plan}}
 use Rattle.pagable_pageout.specs.declared.tasks.{StepResult.StepResult, Node.Node, Task.Task, Turn.Turn, Waiting.Waiting}
 use Rattle.pagable_pager_spec.specs.{Pager.PagerState, World.{Shelf, Todo, Values, Written}, declared.{events.WorkerAnswer.WorkerAnswer, handle_row.Owner.Owner}}

@@ -23,7 +23,7 @@ use std::alloc::Global;
 use std::sync::Arc;
 
 // Performs one task, by at most one step of the access.
-#[tactic(auto, using(crate::proofs::Turns::turning))]
+#[tactic(auto, using(crate::proofs::WorkerTurns::turning))]
 fn turn<E: Env<Node: NodeSet<E>>, A: WorkerAccess<E>, T: Claims<E>>(
     access: &mut A,
     alloc: Global,
@@ -123,7 +123,7 @@ pub fn step<E: Env<Node: NodeSet<E>>, A: WorkerAccess<E>, T: Claims<E>>(
 /// worker: it fails with `TooDeep` where it would have to, so its contract says nothing if other
 /// workers have claims without a result on the table. It makes at most 2^64 - 1 claims, and fails
 /// with `NumbersSpent` at one more.
-#[tactic(auto, using(crate::proofs::Turns::joining))]
+#[tactic(auto, using(crate::proofs::WorkerTurns::joining))]
 pub fn run<E: Env<Node: NodeSet<E>>, A: WorkerAccess<E>, T: Claims<E>>(
     access: &mut A,
     alloc: Global,

@@ -205,7 +205,7 @@ fn leave_node<E: Env<Node: NodeSet<E>>, A: WorkerAccess<E>, T: Claims<E>>(
 }
 
 // Stores the blob of an item whose references are all done, and answers its key.
-#[tactic(auto, using(crate::proofs::Turns::finishing))]
+#[tactic(auto, using(crate::proofs::WorkerTurns::finishing))]
 fn leave_item<E: Env<Node: NodeSet<E>>, A: WorkerAccess<E>>(
     access: &mut A,
     alloc: Global,

@@ -30,7 +30,7 @@ use std::sync::Arc;
 /// - `TooDeep`, `OutOfMemory` as in `Claims::claim_for`.
 ///
 /// After each error the slots are unchanged, and the worker waits for nothing.
-#[tactic(auto, using(crate::proofs::Turns::claiming))]
+#[tactic(auto, using(crate::proofs::WorkerTurns::claiming))]
 pub fn claim<E: Env<Node: NodeSet<E>>, T: Claims<E>>(
     table: &mut T,
     worker: WorkerNumber,
@@ -145,7 +145,7 @@ pub fn pin<E: Env<Node: NodeSet<E>>, A: WorkerAccess<E>>(
 }
 
 /// Makes the next step of the load of what was claimed.
-#[tactic(auto, using(crate::proofs::Turns::pinning))]
+#[tactic(auto, using(crate::proofs::WorkerTurns::pinning))]
 pub fn load<E: Env<Node: NodeSet<E>>, A: WorkerAccess<E>>(
     access: &mut A,
     alloc: Global,
@@ -237,7 +237,7 @@ fn form<E: Env<Node: NodeSet<E>>>(
 // Writes the value that was shared, and returns the node with room for the results of its
 // references; these references; and what was written, once more. It makes room on the path for the
 // node first. Fails as `form` does, or with OutOfMemory.
-#[tactic(auto, using(crate::proofs::Turns::forming))]
+#[tactic(auto, using(crate::proofs::WorkerTurns::forming))]
 pub(crate) fn prepare<E: Env<Node: NodeSet<E>>, A: WorkerAccess<E>>(
     access: &A,
     alloc: Global,
@@ -441,7 +441,7 @@ pub(crate) fn stored<E: Env<Node: NodeSet<E>>>(waiting: Waiting<E>, key: DataKey
 }
 
 /// Stores the blob of a node or an item whose references are all done.
-#[tactic(auto, using(crate::proofs::Turns::finishing))]
+#[tactic(auto, using(crate::proofs::WorkerTurns::finishing))]
 pub fn finish<E: Env<Node: NodeSet<E>>, A: WorkerAccess<E>>(
     access: &mut A,
     alloc: Global,
@@ -472,7 +472,7 @@ pub fn finish<E: Env<Node: NodeSet<E>>, A: WorkerAccess<E>>(
 
 // Sets the key of what a loose reference names, through the worker's handle. Does nothing for a
 // reference of another kind, even if its handle has become loose meanwhile.
-#[tactic(auto, using(crate::proofs::Turns::keys))]
+#[tactic(auto, using(crate::proofs::WorkerTurns::keys))]
 pub(crate) fn set_key_of<E: Env<Node: NodeSet<E>>, A: WorkerAccess<E>>(
     access: &mut A,
     reference: ArcRef,
@@ -555,7 +555,7 @@ pub fn release<E: Env<Node: NodeSet<E>>, A: WorkerAccess<E>>(
 }
 
 /// Puts an entry back on the list, if there is one and the list can take it.
-#[tactic(auto, using(crate::proofs::Turns::backs))]
+#[tactic(auto, using(crate::proofs::WorkerTurns::backs))]
 pub fn give_back<E: Env<Node: NodeSet<E>>, A: WorkerAccess<E>>(
     access: &mut A,
     back: Option<HandleNumber>,

@@ -1,4 +1,4 @@
-use Rattle.{pagable_pageout.proofs.{Joint.told-as, Turns.{claims-there, refuses}}, std.proofs.Common.sym}
+use Rattle.{pagable_pageout.proofs.{Joint.told-as, WorkerTurns.{claims-there, refuses}}, std.proofs.Common.sym}
 use Rattle.pagable_pageout.proofs.turns.claim.Goals as goal
 
 pub returns-in-Ok-clause-step : goal.returns-in-Ok-clause-step

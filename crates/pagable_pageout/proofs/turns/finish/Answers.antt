@@ -1,5 +1,5 @@
 use Rattle.{pagable_pageout.{proofs.ItemLast.{refused-ends, stored-ends}, specs.Slots.{keys_of, written_of}}, std.specs.Arc.arc_value}
-use Rattle.{pagable_load.proofs.LoadSteps.acts_map, pagable_pageout.{proofs.Turns.{finish-fails, finish-stores}, specs.Tasks.todos}, std.proofs.Common.refl}
+use Rattle.{pagable_load.proofs.LoadSteps.acts_map, pagable_pageout.{proofs.WorkerTurns.{finish-fails, finish-stores}, specs.Tasks.todos}, std.proofs.Common.refl}
 
 pub returns-in-Ok-clause-acts : Rattle.pagable_pageout.proofs.turns.finish.Goals.returns-in-Ok-clause-acts
 returns-in-Ok-clause-acts g c n shelf = rw c.named_by-identity.ensures (acts_map c.in-Ok.ensures.acts

@@ -1,5 +1,5 @@
 use Rattle.{std.{proofs.Common.{None, Ok, Some, ap, ◌∙◌, ◌≡◌}, specs.Arc.arc_value}}
-use Rattle.pagable_pageout.{proofs.Turns.{forms-from, forms-none, forms-other, forms-unshared}, specs.Slots.written_of}
+use Rattle.pagable_pageout.{proofs.WorkerTurns.{forms-from, forms-none, forms-other, forms-unshared}, specs.Slots.written_of}
 use Rattle.pagable_pageout.proofs.turns.form.Goals as goal
 
 pub returns-else-node_type-reference-clause-forms : goal.returns-else-node_type-reference-clause-forms

@@ -1,5 +1,5 @@
 use Rattle.pagable_pageout.proofs.ItemLast.{goes-ends, refused-ends}
-use Rattle.{pagable_load.proofs.LoadSteps.acts_map, pagable_pageout.{proofs.Turns.{load-fails, load-goes, load-pins}, specs.Tasks.todos}, std.proofs.Common.refl}
+use Rattle.{pagable_load.proofs.LoadSteps.acts_map, pagable_pageout.{proofs.WorkerTurns.{load-fails, load-goes, load-pins}, specs.Tasks.todos}, std.proofs.Common.refl}
 use Rattle.pagable_pageout.proofs.turns.load.Goals as goal
 
 pub returns-in-None-clause-acts : goal.returns-in-None-clause-acts

@@ -1,5 +1,5 @@
 use Rattle.pagable_pageout.proofs.ItemLast.{goes-ends, refused-ends}
-use Rattle.{pagable_load.proofs.LoadSteps.acts_map, pagable_pageout.{proofs.Turns.{pin-begins, pin-fails, pin-holds}, specs.Tasks.todos}}
+use Rattle.{pagable_load.proofs.LoadSteps.acts_map, pagable_pageout.{proofs.WorkerTurns.{pin-begins, pin-fails, pin-holds}, specs.Tasks.todos}}
 
 pub returns-in-Held-clause-acts : Rattle.pagable_pageout.proofs.turns.pin.Goals.returns-in-Held-clause-acts
 returns-in-Held-clause-acts g c n shelf =

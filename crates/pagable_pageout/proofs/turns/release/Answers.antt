@@ -1,5 +1,5 @@
 use Rattle.pagable_pageout.proofs.ItemLast.{alone-ends, given-ends}
-use Rattle.{pagable_load.proofs.LoadSteps.acts_map, pagable_pageout.{proofs.Turns.{release-ends, release-gives}, specs.Tasks.todos}}
+use Rattle.{pagable_load.proofs.LoadSteps.acts_map, pagable_pageout.{proofs.WorkerTurns.{release-ends, release-gives}, specs.Tasks.todos}}
 use Rattle.pagable_pageout.proofs.turns.release.Goals as goal
 
 pub returns-in-Ok-clause-acts : goal.returns-in-Ok-clause-acts

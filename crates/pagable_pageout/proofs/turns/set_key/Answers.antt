@@ -1,5 +1,5 @@
 use Rattle.pagable_pageout.proofs.ItemLast.{goes-ends, refused-ends}
-use Rattle.{pagable_load.proofs.LoadSteps.acts_map, pagable_pageout.{proofs.Turns.{set-fails, set-goes}, specs.Tasks.todos}}
+use Rattle.{pagable_load.proofs.LoadSteps.acts_map, pagable_pageout.{proofs.WorkerTurns.{set-fails, set-goes}, specs.Tasks.todos}}
 
 pub returns-in-Ok-clause-acts : Rattle.pagable_pageout.proofs.turns.set_key.Goals.returns-in-Ok-clause-acts
 returns-in-Ok-clause-acts g c n shelf = rw c.named-identity.ensures (acts_map (rw c.key.ensures at c.in-Ok.ensures)

@@ -2,7 +2,7 @@ use Rattle.pagable_pageout.proofs.ItemLast.{refused-ends, written-ends}
 use Rattle.{std.{proofs.Common.{◌∷◌, None, length, ap, ◌∙◌, subst, sym, arith}, specs.Arc.arc_value}, pagable_pageout.specs.Turns.just_open, pagable_pager_spec.specs.Workers.settle}
 use Rattle.pagable_pager_spec.specs.World.{to_finish, was_refused}
 use Rattle.{pagable_load.proofs.LoadSteps.tells_map, pagable_pageout.proofs.Joint.{both-second, both-stays}}
-use Rattle.pagable_pageout.{proofs.{Stacks.settle-way, Turns.{same-shelf, write-fails, write-turns}}, specs.{Slots.written_of, Tasks.{IsWay, back_of, fails, todos}}}
+use Rattle.pagable_pageout.{proofs.{Stacks.settle-way, WorkerTurns.{same-shelf, write-fails, write-turns}}, specs.{Slots.written_of, Tasks.{IsWay, back_of, fails, todos}}}
 use Rattle.pagable_pageout.proofs.turns.write.Goals as goal
 
 pub returns-in-Ok-clause-goes : goal.returns-in-Ok-clause-goes
