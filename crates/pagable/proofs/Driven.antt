@@ -11,7 +11,7 @@ use Rattle.pagable_pager_spec.specs.{Events.{Starts, with_entry_taken, step_faul
 use Rattle.{pagable_pager_spec.specs.Order.step_of, std.specs.{declared.{vec.Vec.Vec, sync.Arc.Arc, alloc.Global.Global}, Prelude.{is_none, is_some, Result, slice_get}, Option.option_map}}
 use Rattle.std.proofs.Common.{Ok, ◌+◌, ◌≤◌, ◌++◌, Some, ℕ, subst, zero, Option, ◌≢◌, ◌∙◌, refl, ◌==◌, ◌≡◌, arith, rules, [], if◌then◌else◌, false, true, inr, ap, length, ◌∷◌, suc, Err, ◌<◌, None, List}
 use Rattle.{std.proofs.{Common.{sym, inl}, lemmas.{Bool.Decides.nat_tests, List.length-append, Grind.common_steps}}, pagable_pager.{proofs.Invariant.less-moves, specs.View.Telling}}
-use Rattle.{pagable_pager.specs.View.{type_of_root, OnlyTables, state_in, core_in, PagerView, OnlyLess, ReadsAs, value_in}, pagable_pageout.{proofs.Turns.plain-fits, specs.Slots.written_of}}
+use Rattle.{pagable_pager.specs.View.{type_of_root, OnlyTables, state_in, core_in, PagerView, OnlyLess, ReadsAs, value_in}, pagable_pageout.{proofs.WorkerTurns.plain-fits, specs.Slots.written_of}}
 use Rattle.{pagable_pageout.specs.{Tasks.IsPlain, Turns.LeavesFit, declared.{lent_table.LentTable.LentTable, tasks.{Task.Task, Turn.Turn}}, Table.shelf_of}, pagable_load.specs.Frames.{IsLoadOf, reading_of, is_cell}}
 use Rattle.{pagable_load.{proofs.LoadSteps.none_comes, specs.{declared.reading.Reading.Reading as Own, WorkerCalls.{RefusesEntry, StartsEntry}}}, pagable_theorems.proofs.{ReadingSteps.{caller-free, reading-feels}, Trees.same_some}}
 use Rattle.{pagable_theorems.proofs.{Trees.same-number, Effects.{owned-mine, IsMine}}, pagable_core.specs.declared.{context.writing.SerializedData.SerializedData, storage.data.PagableData.PagableData}}

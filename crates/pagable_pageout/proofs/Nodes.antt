@@ -1,6 +1,6 @@
 -- At a node whose references are done a worker makes one call of the access and one of its table: these do what its tasks there do one by one.
 use Rattle.{pagable_load.specs.{AccessView.values_at, WorkerCalls.{SetsThrough, StoresNode}}, pagable_value_spec.specs.{Blob.{Blob, key_of}, Merkle.blob_of, declared.{error.Error.Error, numbers.{ArcRef.ArcRef, HandleNumber.HandleNumber}}}}
-use Rattle.pagable_pageout.{proofs.{Strides.{comes-on, turn-comes, turn-walked}, Turns.{finish-fails, finish-stores, key-set, key-unset, publishes, release-ends, release-gives, set-fails, set-goes}}, specs.Strides.{ComesTo, HandsOn, LeavesNode, worker_node}}
+use Rattle.pagable_pageout.{proofs.{Strides.{comes-on, turn-comes, turn-walked}, WorkerTurns.{finish-fails, finish-stores, key-set, key-unset, publishes, release-ends, release-gives, set-fails, set-goes}}, specs.Strides.{ComesTo, HandsOn, LeavesNode, worker_node}}
 use Rattle.pagable_pageout.specs.{Results.{ResultStands, ResultsStand, more-results, no-results, stands-over}, Slots.{ids_of, keys_of, written_of}, Tasks.{Awaits, IsPlain, IsWay, back_of, fails, todo_of, todos, waiting_todo, waits_as}}
 use Rattle.pagable_pageout.specs.Turns.{HasWalked, IsStored, SetsFor, Stores}
 use Rattle.pagable_pageout.specs.declared.{results.SlotResult.SlotResult, tasks.{Done.Done, Node.Node, Task.Task, Turn.Turn, Waiting.Waiting}}

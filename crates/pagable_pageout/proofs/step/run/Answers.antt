@@ -1,4 +1,4 @@
-use Rattle.{pagable_pageout.{proofs.{Joint.{both-all, both-on}, Strides.{walked-on, walked-runs}, Turns.none-walked}, specs.{Tasks.todos, Turns.acting_then}}, std.proofs.Common.{ap}}
+use Rattle.{pagable_pageout.{proofs.{Joint.{both-all, both-on}, Strides.{walked-on, walked-runs}, WorkerTurns.none-walked}, specs.{Tasks.todos, Turns.acting_then}}, std.proofs.Common.{ap}}
 use Rattle.pagable_pageout.proofs.step.run.Goals as goal
 
 pub loop-next-init : goal.loop-next-init

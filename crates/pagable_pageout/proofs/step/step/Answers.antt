@@ -1,4 +1,4 @@
-use Rattle.{pagable_load.{proofs.LoadSteps.acts_map, specs.AccessView.values_at}, pagable_pageout.{proofs.{Joint.{both-first, both-on}, Turns.steps-to}, specs.{Tasks.{todos}, Turns.{Closes, StepsTo, plan}}}}
+use Rattle.{pagable_load.{proofs.LoadSteps.acts_map, specs.AccessView.values_at}, pagable_pageout.{proofs.{Joint.{both-first, both-on}, WorkerTurns.steps-to}, specs.{Tasks.{todos}, Turns.{Closes, StepsTo, plan}}}}
 use Rattle.{pagable_pager_spec.specs.Events.no_shelf, std.proofs.Common.{refl, subst, ◌≡◌}}
 
 pub returns-clause-acts : Rattle.pagable_pageout.proofs.step.step.Goals.returns-clause-acts

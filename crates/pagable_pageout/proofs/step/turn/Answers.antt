@@ -1,6 +1,6 @@
 use Rattle.{pagable_pageout.proofs.ItemLast.{claimed-ends, failed-ends, goes-ends}, pagable_pageout.specs.Table.found_as}
 use Rattle.pagable_load.proofs.LoadSteps.{tells_all}
-use Rattle.{pagable_pageout.{proofs.{Joint.{both-each, both-first, both-second}, Turns.{ends-failed, publishes, start-turns}}, specs.Tasks.todos}, pagable_pager_spec.specs.Events.no_shelf, std.proofs.Common.refl}
+use Rattle.{pagable_pageout.{proofs.{Joint.{both-each, both-first, both-second}, WorkerTurns.{ends-failed, publishes, start-turns}}, specs.Tasks.todos}, pagable_pager_spec.specs.Events.no_shelf, std.proofs.Common.refl}
 use Rattle.pagable_pageout.proofs.step.turn.Goals as goal
 
 pub returns-in-Start-clause-acts : goal.returns-in-Start-clause-acts

@@ -1,5 +1,5 @@
 use Rattle.pagable_load.proofs.LoadSteps.{tells_map}
-use Rattle.pagable_pageout.proofs.{Joint.{both-second, both-stays}, ItemLast.{refused-ends, written-ends}, Stacks.settle-way, Strides.turn-walked, Turns.{same-shelf, write-fails, write-turns}}
+use Rattle.pagable_pageout.proofs.{Joint.{both-second, both-stays}, ItemLast.{refused-ends, written-ends}, Stacks.settle-way, Strides.turn-walked, WorkerTurns.{same-shelf, write-fails, write-turns}}
 use Rattle.{pagable_pageout.specs.{Slots.written_of, Tasks.{IsWay, back_of, fails, todos}, Turns.just_open, declared.tasks.Task.Task}, pagable_pager_spec.specs.{Workers.settle, World.{to_finish, was_refused}}}
 use Rattle.std.{proofs.Common.{None, ap, arith, length, refl, subst, sym, ◌∙◌, ◌∷◌}, specs.Arc.arc_value}
 use Rattle.pagable_pageout.proofs.stride.enter.Goals as goal

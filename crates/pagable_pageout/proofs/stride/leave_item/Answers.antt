@@ -1,4 +1,4 @@
-use Rattle.{pagable_load.proofs.LoadSteps.acts_map, pagable_pageout.proofs.{ItemLast.{refused-ends, stored-ends}, Strides.{turn-comes, turn-comes-as}, Turns.{finish-fails, finish-stores}}}
+use Rattle.{pagable_load.proofs.LoadSteps.acts_map, pagable_pageout.proofs.{ItemLast.{refused-ends, stored-ends}, Strides.{turn-comes, turn-comes-as}, WorkerTurns.{finish-fails, finish-stores}}}
 use Rattle.{pagable_pageout.specs.{Slots.{keys_of, written_of}, Tasks.todos, declared.tasks.Task.Task}, std.{proofs.Common.refl, specs.Arc.arc_value}}
 use Rattle.pagable_pageout.proofs.stride.leave_item.Goals as goal
 

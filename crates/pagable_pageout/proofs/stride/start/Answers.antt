@@ -1,4 +1,4 @@
-use Rattle.{pagable_load.{proofs.LoadSteps.tells_all, specs.{AccessView.values_at}}, pagable_pageout.proofs.{Joint.{both-on, both-second}, ItemLast.{claimed-ends, refused-ends}, Strides.{ends-as, turn-walked, waits-walked, walked-on}, Turns.{start-turns, steps-to}}}
+use Rattle.{pagable_load.{proofs.LoadSteps.tells_all, specs.{AccessView.values_at}}, pagable_pageout.proofs.{Joint.{both-on, both-second}, ItemLast.{claimed-ends, refused-ends}, Strides.{ends-as, turn-walked, waits-walked, walked-on}, WorkerTurns.{start-turns, steps-to}}}
 use Rattle.{pagable_pageout.specs.{Table.found_as, Tasks.todos, Turns.{HasWalked, StepsTo}, declared.{claims.ClaimResult.ClaimResult, tasks.{Task.Task, Turn.Turn}}}, pagable_pager_spec.specs.{Kinds.identity_of, World.{to_pin, to_start}}}
 use Rattle.{pagable_value_spec.specs.declared.error.Error.Error, pagable_pager_spec.specs.declared.events.{Claim.Claim, Action.Action}, std.proofs.Common.{Ok, ap, arith, false, refl, ◌∙◌, ◌∷◌, ◌≡◌}}
 use Rattle.pagable_pageout.proofs.stride.start.Goals as goal

@@ -1,4 +1,4 @@
-use Rattle.{pagable_load.{proofs.LoadSteps.{acts_map, tells_all}, specs.AccessView.values_at}, pagable_pageout.proofs.{Joint.{both-as, both-first, both-on, both-second}, ItemLast.refused-ends, Strides.{comes-strides, step-strides, turn-walked, walk-strides}, Turns.start-refused}}
+use Rattle.{pagable_load.{proofs.LoadSteps.{acts_map, tells_all}, specs.AccessView.values_at}, pagable_pageout.proofs.{Joint.{both-as, both-first, both-on, both-second}, ItemLast.refused-ends, Strides.{comes-strides, step-strides, turn-walked, walk-strides}, WorkerTurns.start-refused}}
 use Rattle.pagable_pageout.proofs.Stacks.{other-falls}
 use Rattle.{pagable_pageout.specs.{Strides.Strides, Tasks.todos, Turns.{Closes, plan}, declared.tasks.Task.Task}, pagable_pager_spec.specs.Events.no_shelf, std.proofs.Common.{refl, subst, ◌≡◌}}
 use Rattle.pagable_pageout.proofs.stride.stride.Goals as goal

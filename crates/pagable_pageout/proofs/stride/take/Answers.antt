@@ -1,4 +1,4 @@
-use Rattle.{pagable_load.{proofs.LoadSteps.acts_map, specs.AccessView.values_at}, pagable_pageout.proofs.{Joint.{both-first, both-on}, ItemLast.{goes-ends, refused-ends}, Strides.{ends-as, leads-on, turn-walked, walked-on}, Turns.{pin-begins, pin-fails, pin-holds}}}
+use Rattle.{pagable_load.{proofs.LoadSteps.acts_map, specs.AccessView.values_at}, pagable_pageout.proofs.{Joint.{both-first, both-on}, ItemLast.{goes-ends, refused-ends}, Strides.{ends-as, leads-on, turn-walked, walked-on}, WorkerTurns.{pin-begins, pin-fails, pin-holds}}}
 use Rattle.{pagable_pageout.specs.{Tasks.{due, todo_of, todos}, Turns.HasWalked, declared.tasks.{Task.Task, Turn.Turn}}, pagable_pager_spec.specs.{Events.no_shelf, World.{to_pin, to_write}}}
 use Rattle.std.proofs.Common.{arith, refl, ◌∷◌}
 use Rattle.pagable_pageout.proofs.stride.take.Goals as goal
