@@ -11,10 +11,10 @@ use pagable::{
     DataKey, Env, Error, LentTable, NodeSet, PagableStorage, PagableVecFlavor, PageOutError, Pager,
     Records, WeighHash, from_bytes, to_bytes,
 };
-use pagable_examples::bytes::{AnyEnv, written};
 use pagable_testkit::cells::CellNode;
 use pagable_testkit::parse_events::item;
 use pagable_testkit::parse_values::node;
+use pagable_value_rows::bytes::{AnyEnv, written};
 use serde_json::Value;
 use std::alloc::Global;
 use std::sync::Arc;
