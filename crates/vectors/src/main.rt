@@ -7,7 +7,6 @@ mod bundles;
 mod calls;
 mod cells;
 mod lines;
-mod quick_start;
 mod rows;
 mod worked;
 
