@@ -19,8 +19,8 @@ import sys
 from pathlib import Path
 
 CRATES = Path(__file__).resolve().parent.parent / "crates"
-# The programs, and the crates of rows and examples, which make refusals of their own to test.
-OTHERS = ("pagectl", "vectors", "pagable_testkit", "pagable_examples")
+# The programs and the crates of rows, which make refusals of their own to test.
+OTHERS = ("pagectl", "vectors", "pagable_testkit", "pagable_value_rows")
 CONVERSION = "fn out_of_memory() -> Error"
 OF_LIBRARY = ("pagable_traits/src/saved_regex.rt", "pagable_file/src/stats.rt")
 NOT_CODE = re.compile(r"//.*|\"(?:\\.|[^\"\\])*\"|^\s*(?:pub )?(?:use|ghost|ensures|requires|invariant|decreases)\b.*")

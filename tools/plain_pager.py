@@ -245,7 +245,7 @@ class Machine:
         self.handles[self.last_handle] = Handle(cell, mode, owner or self.me)
         return self.last_handle
 
-    def bear(self, cell, mode, owner=None):
+    def insert_node(self, cell, mode, owner=None):
         """A new node with one handle. What its value refers to moves to it."""
         cell.number = self.last_node = self.last_node + 1
         self.cells[cell.number] = cell
@@ -268,7 +268,7 @@ class Machine:
             self.drop(value)
             return number
         mode = modes_of(kind)[-1]
-        number = self.bear(Cell(type_of(kind), None if mode == SHARED else key, value), mode, owner)
+        number = self.insert_node(Cell(type_of(kind), None if mode == SHARED else key, value), mode, owner)
         if not self.closed:
             self.cache[kind, key] = self.last_node
         return number
@@ -387,14 +387,14 @@ class Machine:
 
     def birth(self, value, mode):
         refuse_first([self.cause_of_references(CALLER, value.references)], back=True)
-        return self.bear(Cell(value.node_type, None, value), mode)
+        return self.insert_node(Cell(value.node_type, None, value), mode)
 
     new_loose = partialmethod(birth, mode=LOOSE_PINNED)
     new_pinned = partialmethod(birth, mode=PINNED)
     new_shared = partialmethod(birth, mode=SHARED)
 
     def new_paged_out(self, node_type, key):
-        return self.bear(Cell(node_type, key, None), LOOSE_UNPINNED)
+        return self.insert_node(Cell(node_type, key, None), LOOSE_UNPINNED)
 
     def clone(self, number):
         handle = self.live(number)

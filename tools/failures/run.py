@@ -31,8 +31,8 @@ from driver import Server  # noqa: E402
 from naming import Unlike  # noqa: E402
 
 USES = (
-    "failures: pagable pagable_testkit pagable_examples pagable_locked_examples pagable_locked pagable_load pagable_value_spec pagable_traits"
-    " pagable_codec pagable_core anyhow either futures hex indexmap serde_json\n"
+    "failures: pagable pagable_testkit pagable_examples pagable_value_rows pagable_locked_examples pagable_locked pagable_load"
+    " pagable_value_spec pagable_traits pagable_codec pagable_core anyhow either futures hex indexmap serde_json\n"
 )
 # (a test's own calls, in the copy alone)
 COUNTERS = {

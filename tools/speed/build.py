@@ -18,7 +18,7 @@ import sys
 
 HERE = pathlib.Path(__file__).resolve().parent
 TOP = HERE.parent.parent
-USES = "speed: pagable pagable_testkit pagable_examples anyhow indexmap\n"
+USES = "speed: pagable pagable_testkit pagable_value_rows anyhow indexmap\n"
 # What `rt try` adds: bytes put into new variables, and calls of its checks.
 ADDED = re.compile(r"^ *call void @(?:llvm\.memset\.p0\.i64\(ptr %\S+, i8 -86,|\"rattle-llvm-checks::).*\n", re.MULTILINE)
 FAST = ["-Xclang", "-fmerge-functions", "-mllvm", "-mergefunc-use-aliases", "-fno-vectorize", "-fno-slp-vectorize"]

@@ -26,7 +26,7 @@ HERE = pathlib.Path(__file__).resolve().parent
 TOP = HERE.parent.parent
 CRATE = pathlib.Path("crates") / "pagable_locked_examples"
 # What the tests use beside what the crate does.
-USES = " pagable_examples indexmap smallvec"
+USES = " pagable_examples pagable_value_rows indexmap smallvec"
 RESULT = re.compile(r"^test result: (ok|FAILED)\. (\d+) passed; (\d+) failed; 0 ignored", re.MULTILINE)
 CHANGE = re.compile(r"⟦(.*?) ⇒ (.*?)⟧")
 

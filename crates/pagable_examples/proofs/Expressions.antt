@@ -1,4 +1,4 @@
--- Expressions: a number, or two expressions one level further down.
+-- Encodings of expressions: a number, or two expressions one level deeper.
 use Rattle.pagable_value_spec.specs.{BasicValues.bool_form, Form.{err-form, ok-form}, Outcomes.{deep_or, memory}, Composite.MeansPair, Meaning.{Meaning, failure, number, pair, success}, Reading.deepest}
 use Rattle.pagable_value_spec.specs.{Shape.{both, nested, unsigned}, declared.{error.Error.Error, numbers.ArcRef.ArcRef}}
 use Rattle.pagable_traits.proofs.Parts.{no-failure, no-success, refused_second, refuses_first, refuses_whole, writes_pair, writes_whole}

@@ -1,4 +1,4 @@
--- The tags of animals, and what stands under each.
+-- The tags of animals, and the body under each tag.
 use Rattle.std.specs.{Int.w8, Prelude.{List, [], cond, refl, ℕ, ◌∷◌}, Str.bytes_eq}
 use Rattle.{pagable_examples.specs.declared.animal.{Animal.Animal, AnimalReader.AnimalReader}, pagable_value_spec.specs.{CarriedTypes.of_tagged, Meaning.{Meaning, none, number}}}
 use Rattle.{pagable_value_spec.specs.{Shape.{Shape, nothing, unsigned}, Cursor.Is, Tagged.MeansTagged, declared.numbers.ArcRef.ArcRef}, pagable_traits.specs.Meanings.Meanings}
@@ -16,7 +16,7 @@ abbrev pub tag_of : Animal → List ℕ
 tag_of (animals.Dog age) = dog
 tag_of _ = cat
 
--- a dog's age is written, and nothing of a cat
+-- a dog's body is its age, and a cat's is empty
 abbrev pub written : List ℕ → Shape
 written tag = cond (bytes_eq tag dog) (unsigned w8) nothing
 

@@ -1,4 +1,4 @@
--- What a dish means: its name and its weight, one after the other. So it means one thing, and may be a key; and it is read again.
+-- A dish means its name and then its weight: so it has one meaning and may be a key, and it is read back.
 use Rattle.std.specs.{Int.w16, Prelude.{refl, ℕ}, String.string_bytes}
 use Rattle.{pagable_examples.specs.declared.dish.Dish.Dish, pagable_value_spec.specs.{Meaning.{number, text}, Shape.{Shape, both, text as text_shape, unsigned}}}
 use Rattle.pagable_traits.specs.{Meanings.{AreSingle, Meanings, exactly, pairs, seen_by}, ReadBack.{IsReadThroughout, basic_is_read, two_is_read}}

@@ -1,10 +1,10 @@
--- What expressions mean, and how they are spelled.
+-- What expressions mean, and how they are encoded.
 use Rattle.std.specs.{Int.w64, Prelude.{Err, Ok, Result, ℕ, ◌≡◌}}
 use Rattle.{pagable_examples.specs.declared.expression.Expression.{Expression, Number, Sum'}, pagable_value_spec.specs.{Outcomes.memory, Meaning.{Meaning, failure, number, pair, success}}}
 use Rattle.pagable_value_spec.specs.{Shape.{Shape, both, nested, outcome, unsigned}, Cursor.Is, Writing.{Refused, WritesSome, nesting}, declared.{error.Error.Error, numbers.ArcRef.ArcRef}}
 use Rattle.pagable_traits.specs.Clauses.{Piece}
 
--- a number, or two expressions, each one level further down
+-- a number, or two expressions, each one level deeper
 abbrev pub node : Shape
 node = outcome (unsigned w64) (both (nested 0) (nested 0))
 
@@ -16,7 +16,7 @@ abbrev pub of_expression : Expression → Meaning ArcRef
 of_expression (Number n) = success (number n)
 of_expression (Sum' p left q right) = failure (pair (of_expression left) (of_expression right))
 
--- what is written of what means this in a shape, where every part is an expression
+-- the encoding of a value with this meaning in a shape, if every part is an expression
 abbrev pub written : (Meaning ArcRef → Type 0) → Shape → Piece
 written M s = record {
   wrote = λ n. WritesSome M (nesting n.levels nodes) s;

@@ -8,7 +8,7 @@ of_text bytes = text bytes
 abbrev pub of_numbers : List ℕ → Meaning ⊥
 of_numbers bytes = sequence (map number bytes)
 
--- what means one thing exactly if its bytes are equal
+-- two values have equal meanings exactly if their bytes are equal
 module _ (means : List ℕ → Meaning ⊥) (x y : Bor (List ℕ)) where
   pub meets_equal : IsTrue (bytes_eq x.now y.now) → means x.now ≡ means y.now
   meets_equal same = ap means ((bytes_eq-Decides x.now y.now).0 same)

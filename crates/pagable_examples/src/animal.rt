@@ -1,4 +1,4 @@
-//! Animals, which are written as a tag and a body, and the readers of the bodies.
+//! An enum whose values are written as a tag and a body, and the readers of the bodies by their tags.
 
 ghost use Rattle.std.specs.Prelude.{◌≡◌};
 ghost use Rattle.{pagable_examples.specs.Animals.{animal_means, body_of, grammar_of, tag_of, tag_read, written}, pagable_value_spec.specs.{CarriedTypes.tagged_by, Tagged.grammars}};
@@ -12,17 +12,17 @@ use pagable_traits::{
 };
 use std::alloc::Global;
 
-/// An animal. Of a cat of old, its lives were written; it is read, and not written any more.
+/// An animal. Older versions wrote a cat's lives: `OldCat` can still be read, but not written.
 #[derive(Drop)]
 pub enum Animal {
     Cat,
-    /// So many lives.
+    /// Its lives.
     OldCat(u8),
-    /// So many years old.
+    /// Its age in years.
     Dog(u8),
 }
 
-/// The readers of animals.
+/// A reader of an animal's body.
 #[derive(Clone, Copy)]
 pub enum AnimalReader {
     Cat,
@@ -31,7 +31,7 @@ pub enum AnimalReader {
 }
 
 impl AnimalReader {
-    /// The tag of the animals that it reads.
+    /// Returns the tag of the animals that it reads.
     pub fn tag(self) -> &'static str
         ensures { result.now ≡ tag_read self }
     {
@@ -58,7 +58,7 @@ impl PagableTagged<Zoo> for Animal {
         }
     }
 
-    /// Writes nothing of a cat, and a dog's age. A cat of old is refused with Unregistered.
+    /// Writes nothing for a cat, and a dog's age. Fails with `Unregistered` for an `OldCat`.
     #[tactic(auto, using(pagable_codec::proofs::Writing::parts))]
     fn pagable_serialize_body<S: PagableSerializer<Zoo>>(
         &self,

@@ -1,4 +1,4 @@
-//! A struct of named fields: they are written one after the other, and nothing else.
+//! A struct of named fields, which are written one after the other, with nothing between them.
 
 ghost use Rattle.std.specs.{Int.w16, Prelude.refl, String.string_bytes};
 ghost use Rattle.{pagable_examples.specs.Dishes.{dish_means, dish_single}, pagable_value_spec.specs.{OneForm.{basic_has_one_form, two_has_one_form}, Shape.{both, text, unsigned}}};
@@ -17,7 +17,7 @@ use std::alloc::Global;
 #[derive(PartialEq, Eq, Hash, Drop)]
 pub struct Dish {
     pub name: String,
-    /// What it weighs.
+    /// Its weight in grams.
     pub grams: u16,
 }
 
@@ -27,17 +27,17 @@ impl<E: Env> Carried<E> for Dish {
     ghost means = { dish_means };
 }
 
-/// A dish means one thing,
+/// Each dish has one meaning,
 impl<E: Env> OneMeaning<E> for Dish {
     ghost single = { dish_single };
 }
 
-/// so equal dishes are written alike, as a name and a number have one form each;
+/// so equal dishes have equal encodings, since a name and a number have one encoding each;
 impl<E: Env> Canonical<E> for Dish {
     ghost one_form = { λ e. two_has_one_form (refl, refl) (basic_has_one_form tt) (basic_has_one_form tt) };
 }
 
-/// and a dish may be a key of maps and an item of sets.
+/// and a dish may be a key of a map and an item of a set.
 impl<E: Env> PagableKey<E> for Dish {
     ghost key = { key_seen (λ d. (d.name, d.grams)) (pair_key (key_seen string_bytes text_key) number_key) };
 }
@@ -62,7 +62,7 @@ impl<'de, E: Env> PagableDeserialize<'de, E> for Dish {
     }
 }
 
-/// The forms of a dish are read again, since those of a text and of a number are.
+/// Proves that each encoding of a dish is read back, since those of a text and of a number are.
 #[tactic(auto, using(crate::specs::Dishes::dish_is_read))]
 pub fn dishes_are_read<E: Env>()
     ensures { (e : E) → IsReadThroughout (E.parts e) (⟦<Dish as Carried<E>>⟧.shape e) }

@@ -1,4 +1,4 @@
-//! A type that holds values of its own type, each one level further down: sums inside sums.
+//! A type that holds values of its own type, each one level deeper: sums inside sums.
 
 ghost use Rattle.{pagable_examples.specs.Expressions.{IsSum, expression, node, nodes, of_expression}, pagable_value_spec.specs.{Outcomes.{deep_or, memory}, Reading.read, Shape.nested, Cursor.Is}};
 ghost use Rattle.pagable_traits.specs.{Clauses.{Reads, Wrote}, Meanings.exactly, OwnCauses.{reads_memory, writes_deep_or, writes_memory}};
@@ -11,7 +11,7 @@ use pagable_traits::{
 };
 use std::alloc::Global;
 
-/// A number, or the sum of two expressions. Each of the two is one level further down, and at most 128 levels can be
+/// A number, or the sum of two expressions, which are one level deeper. At most 128 levels can be
 /// written or read.
 #[derive(Drop)]
 pub enum Expression {
@@ -35,7 +35,7 @@ impl Env for Sheet {
     ghost parts = { λ e. nodes };
 }
 
-// Writes an expression one level down, and gives the level back whatever the answer is.
+// Enters a level, writes an expression there, and leaves the level whatever the result is.
 #[cycle(writing)]
 fn write_below<S: PagableSerializer<Sheet>>(
     value: &Expression,
@@ -50,7 +50,7 @@ fn write_below<S: PagableSerializer<Sheet>>(
     done
 }
 
-// Writes which case it is, and its parts.
+// Writes which variant it is, and its fields.
 #[cycle(writing)]
 fn write_node<S: PagableSerializer<Sheet>>(
     value: &Expression,
@@ -72,7 +72,7 @@ fn write_node<S: PagableSerializer<Sheet>>(
     }
 }
 
-// Reads an expression one level down, and gives the level back whatever the answer is.
+// Enters a level, reads an expression there, and leaves the level whatever the result is.
 #[cycle(reading)]
 #[tactic(auto, using(crate::proofs::Levels::reading))]
 fn read_below<D: PagableDeserializer<Sheet>>(
@@ -88,7 +88,7 @@ fn read_below<D: PagableDeserializer<Sheet>>(
     read
 }
 
-// The sum of two expressions.
+// Makes the sum of two expressions.
 fn sum_of(alloc: Global, left: Expression, right: Expression) -> Result<Expression, Error>
     ensures { IsSum left right result }
 {
@@ -97,7 +97,7 @@ fn sum_of(alloc: Global, left: Expression, right: Expression) -> Result<Expressi
     Ok(Expression::Sum(left, right))
 }
 
-// Reads which case it is, and its parts.
+// Reads which variant it is, and its fields.
 #[cycle(reading)]
 #[tactic(auto, unfolding(pagable_value_spec::specs::Reading::read, pagable_value_spec::specs::Reading::read_with), using(pagable_traits::proofs::Parts::reads))]
 fn read_node<D: PagableDeserializer<Sheet>>(

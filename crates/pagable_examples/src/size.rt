@@ -1,4 +1,5 @@
-//! An enum of two cases that is carried as an `Option`: the shortest way where one of them has no part.
+//! An enum of two variants that is encoded as an `Option`: the shortest way if one variant has no
+//! field.
 
 ghost use Rattle.std.specs.Prelude.{◌≡◌};
 ghost use Rattle.pagable_examples.specs.Sizes.{tenths_of};
@@ -11,12 +12,12 @@ use pagable_traits::{Env, PagableSerialize, PagableSerializer};
 #[derive(Clone, Copy, PartialEq)]
 pub enum Size {
     Small,
-    /// So many tenths of a litre.
+    /// Its content in tenths of a litre.
     Large(u8),
 }
 
 impl Size {
-    /// How many tenths of a litre a large glass holds.
+    /// Returns how many tenths of a litre a large glass holds.
     pub fn tenths(self) -> Option<u8>
         ensures { result ≡ tenths_of self }
     {

@@ -1,4 +1,5 @@
-//! A type that is written and read eagerly: it holds no reference, and needs not be carried besides.
+//! A type that is written and read eagerly: it holds no reference, and needs no
+//! `Carried`.
 
 ghost use Rattle.std.specs.Int.{w16};
 ghost use Rattle.{pagable_value_spec.specs.{Meaning.number, Shape.unsigned}, pagable_traits.specs.{Meanings.exactly, OwnCauses.{reads_never, writes_memory}}};

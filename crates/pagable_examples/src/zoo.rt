@@ -1,4 +1,4 @@
-//! An environment with registries.
+//! An environment with registries of static values and of tags.
 
 ghost use Rattle.pagable_examples.specs.Words.{is_equal, meets_equal, numbers_apart, numbers_refer_to_nothing, of_numbers, of_text, text_refers_to_nothing, texts_apart};
 ghost use Rattle.pagable_value_spec.specs.Shape.{nothing};
@@ -20,7 +20,7 @@ pub struct Zoo {
     pub animals: TypetagRegistry<Animal, AnimalReader>,
 }
 
-/// The registry of these values. The indices of their entries don't count yet.
+/// Makes the registry of these values. It gives each its index and ignores the one in the entry.
 fn registry_of<T: Copy + Ord>(
     alloc: Global,
     values: &[T],
@@ -35,7 +35,7 @@ fn registry_of<T: Copy + Ord>(
     StaticValueRegistry::from_entries(alloc, entries)
 }
 
-/// A registration of each reader under its own tag, in their order.
+/// Makes a registration of each reader under its own tag, in their order.
 fn registrations_of(
     alloc: Global,
     readers: &[AnimalReader],
@@ -49,8 +49,13 @@ fn registrations_of(
 }
 
 impl Zoo {
-    /// An environment with these static texts and bytes, in which these readers are registered in their order. Refused by
-    /// want of memory, or with TooLong above 4,294,967,295 texts or lists of bytes.
+    /// Makes an environment with these static texts and bytes, and registers these readers in their
+    /// order.
+    ///
+    /// # Errors
+    ///
+    /// - `OutOfMemory`.
+    /// - `TooLong` above 4,294,967,295 texts or lists of bytes.
     pub fn new(
         alloc: Global,
         words: &[&'static str],

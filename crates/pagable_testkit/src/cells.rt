@@ -1,8 +1,8 @@
 //! The values of the test cases, by the numbers of their types.
 
 use crate::linked::chain::Chain;
-use crate::linked::write_with_refs;
 use pagable_flavors::{Error, Reason};
+use pagable_nodes::write_with_refs;
 use pagable_traits::{
     ArcRef, Env, KeyHash, NodeSet, PagableDeserialize, PagableDeserializer, PagableSerialize,
     PagableSerializer, RawRef, references_of,

@@ -1,8 +1,7 @@
 //! Types that refer to each other, and their environment: links refer to links, and a bundle to
 //! links of both sorts by each sort of references.
 
-ghost use Rattle.std.specs.{Arc.arc_value, Prelude.{OnOk, Some, refl, ◌++◌, ◌≡◌}};
-ghost use Rattle.{pagable_value_spec.specs.References.references_in, pagable_traits.specs.Clauses.{Wrote, value as form}};
+ghost use Rattle.std.specs.{Arc.arc_value, Prelude.{Some, refl, ◌≡◌}};
 ghost use Rattle.pagable_testkit.specs.Linked.{arc_link_in, bundle_in, holds_arc_link, holds_bundle};
 ghost use Rattle.pagable_testkit.specs.Linked.{holds_link, link_in, no_parts, numbers_are_small};
 
@@ -13,9 +12,10 @@ use crate::linked::bundle::Bundle;
 use crate::linked::chain::{ArcLink, Link};
 use pagable_core::WeighHash;
 use pagable_flavors::Error;
+use pagable_nodes::write_with_refs;
 use pagable_traits::{
     ArcRef, Env, InNode, NodeSet, OfNode, PagableDeserialize, PagableDeserializer,
-    PagableSerialize, PagableSerializer, Refers, references_of,
+    PagableSerializer, references_of,
 };
 use std::alloc::Global;
 use std::sync::Arc;
@@ -34,20 +34,6 @@ impl Env for Linked {
     type CtxValue = ();
 
     ghost parts = { λ e. no_parts };
-}
-
-/// Writes a value, with the law that a node needs: the serializer lists exactly the references that
-/// the type's `Refers` lists.
-pub fn write_with_refs<E: Env, T: Refers<E> + PagableSerialize<E>, S: PagableSerializer<E>>(
-    value: &T,
-    serializer: &mut S,
-) -> Result<(), Error>
-    ensures wrote { Wrote E.Env S.PagableSerializer (form (T.means.of value.now)
-        (T.shape (S.environment serializer.old))) T.write_causes.are serializer.old serializer.new result }
-    ensures listed { OnOk result ((S.out serializer.new).refs ≡ (S.out serializer.old).refs
-        ++ references_in (T.means.meaning value.now)) }
-{
-    value.pagable_serialize(serializer)
 }
 
 /// A node that holds a value of one of these types.

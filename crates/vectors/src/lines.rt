@@ -2,10 +2,10 @@
 
 use crate::calls::Calls;
 use pagable::Reason;
-use pagable_examples::round_trip::text;
-use pagable_examples::{dispatch, values};
 use pagable_testkit::blobs::{bytes_of, weighed};
 use pagable_testkit::serve;
+use pagable_value_rows::round_trip::text;
+use pagable_value_rows::{dispatch, values};
 use std::alloc::{AllocError, Global};
 use std::fmt::Write;
 

@@ -7,13 +7,12 @@ mod bundles;
 mod calls;
 mod cells;
 mod lines;
-mod quick_start;
 mod rows;
 mod worked;
 
 use crate::calls::{Calls, let_go};
 use anyhow::ensure;
-use pagable_examples::sessions;
+use pagable_value_rows::sessions;
 use std::{env, fs};
 
 /// Compares the rows of a file with what they expect, and tells whether all are answered so.

@@ -3,7 +3,6 @@
 
 use crate::calls::{Calls, let_go, pager_over};
 use crate::lines;
-use crate::quick_start::page_out_and_read_back;
 use crate::rows::print_counts;
 use anyhow::Context;
 use pagable::paging::{page_out_item, page_out_pending, pin};
@@ -11,10 +10,10 @@ use pagable::{
     DataKey, Env, Error, LentTable, NodeSet, PagableStorage, PagableVecFlavor, PageOutError, Pager,
     Records, WeighHash, from_bytes, to_bytes,
 };
-use pagable_examples::bytes::{AnyEnv, written};
 use pagable_testkit::cells::CellNode;
 use pagable_testkit::parse_events::item;
 use pagable_testkit::parse_values::node;
+use pagable_value_rows::bytes::{AnyEnv, written};
 use serde_json::Value;
 use std::alloc::Global;
 use std::sync::Arc;
@@ -125,7 +124,6 @@ where
     match number {
         1 => Ok(are_bytes(alloc)?),
         6 => are_too_deep(alloc),
-        9 => Ok(page_out_and_read_back(alloc, "hello world")?),
         10 => is_item_paged_out(alloc, pager),
         14 => is_stored_once(alloc, pager),
         24 => Ok(write_over(alloc)?),

@@ -1,5 +1,6 @@
-//! The carried types by their names. Each function knows a few, since the check of one grows faster than their number, and
-//! hands the other names on; for an unknown name the answer is None.
+//! Answers for the types that `pagable_traits` encodes, by their names. Each function knows a few
+//! names, since the time to check one grows faster than their number, and hands the others on; for
+//! an unknown name the answer is `None`.
 
 use crate::bytes::{AnyEnv, finished, read, written};
 use crate::round_trip::{Outcome, Taken, replay, shown};
@@ -20,7 +21,7 @@ use std::sync::OnceLock;
 use std::sync::atomic::AtomicI64;
 use std::time::Duration;
 
-/// What a hash map wrote, read again as a map in the order of its keys and written as that one: it must be as long.
+/// Reads what a hash map wrote as a map sorted by key, and writes that one: it must be as long.
 fn sorted(alloc: Global, taken: &Taken) -> Option<Outcome> {
     let bytes = taken.written.as_ref().ok()?;
     let map: BTreeMap<String, i32> = read(alloc, &AnyEnv, bytes.as_slice()).ok()?;
@@ -31,7 +32,7 @@ fn sorted(alloc: Global, taken: &Taken) -> Option<Outcome> {
     Some(Err(None))
 }
 
-/// What comes of a hash map, whose entries may be written in any order.
+/// Reads and writes a hash map, whose entries may be written in any order.
 fn hash_map(alloc: Global, input: &[u8]) -> Option<Outcome> {
     match replay::<HashMap<String, i32>>(alloc, input)? {
         Ok(taken) => sorted(alloc, &taken),
@@ -39,16 +40,16 @@ fn hash_map(alloc: Global, input: &[u8]) -> Option<Outcome> {
     }
 }
 
-// ---- calls that read or write in a way of their own: lent slices, boxes, byte arrays
+// ---- calls that read or write in their own way: lent slices, boxes, byte arrays
 
-/// What `serialize_slice` writes.
+/// Returns what `serialize_slice` writes.
 fn serialized(alloc: Global, numbers: &[i32]) -> Result<Vec<u8>, u32> {
     let mut out = PagableSerializerImpl::testing_new(alloc, &AnyEnv);
     let done = serialize_slice(numbers, &mut out);
     finished(done, out)
 }
 
-/// A list as it is written without its count: as a lent slice, or by `serialize_slice`.
+/// Reads a list and writes it as a slice: as a lent one, without its count, or by `serialize_slice`.
 fn slice(alloc: Global, input: &[u8], is_lent: bool) -> Option<Outcome> {
     let used = replay::<Vec<i32>>(alloc, input)?.ok()?.used;
     let numbers: Vec<i32> = read(alloc, &AnyEnv, input).ok()?;
@@ -60,7 +61,7 @@ fn slice(alloc: Global, input: &[u8], is_lent: bool) -> Option<Outcome> {
     Some(Ok(Taken::new(used, bytes)))
 }
 
-/// What comes of a number that is read into a box.
+/// Reads a number into a box and writes it again.
 fn boxed(alloc: Global, input: &[u8]) -> Outcome {
     let session = SessionContext::new(alloc);
     let mut source = PagableDeserializerImpl::new(input, &[], NoReferences::new(&AnyEnv, &session));
@@ -73,7 +74,7 @@ fn boxed(alloc: Global, input: &[u8]) -> Outcome {
     }
 }
 
-/// What comes of a byte array, of which the reader lends the bytes.
+/// Reads a byte array, whose bytes the reader lends, and writes it again.
 fn bytes(alloc: Global, input: &[u8]) -> Outcome {
     let mut reader = PagableSlice::new(input);
     let found = match reader.read_bytes() {
@@ -90,7 +91,7 @@ fn bytes(alloc: Global, input: &[u8]) -> Outcome {
 
 // ---- the names
 
-/// What comes of a map or a set.
+/// Answers for maps and sets.
 fn map(alloc: Global, name: &str, input: &[u8]) -> Option<Outcome> {
     match name {
         "HashMap<String,i32>" => hash_map(alloc, input),
@@ -112,7 +113,8 @@ fn map(alloc: Global, name: &str, input: &[u8]) -> Option<Outcome> {
     }
 }
 
-/// Arrays, headers with lists, lists that aren't vectors and calls of their own, and what comes after them.
+/// Answers for arrays, headers with lists, lists that aren't vectors, and the calls above; hands
+/// other names on.
 fn array(alloc: Global, name: &str, input: &[u8]) -> Option<Outcome> {
     match name {
         "[u16;2]" => replay::<[u16; 2]>(alloc, input),
@@ -128,7 +130,7 @@ fn array(alloc: Global, name: &str, input: &[u8]) -> Option<Outcome> {
     }
 }
 
-/// What comes of an option, a result, a box or a tuple; other names are handed on.
+/// Answers for options, results, boxes and tuples; hands other names on.
 fn holder(alloc: Global, name: &str, input: &[u8]) -> Option<Outcome> {
     match name {
         "Option<u8>" => replay::<Option<u8>>(alloc, input),
@@ -145,7 +147,7 @@ fn holder(alloc: Global, name: &str, input: &[u8]) -> Option<Outcome> {
     }
 }
 
-/// Texts, cells, spans of time, regular expressions and JSON values, and what comes after them.
+/// Answers for texts, cells, spans of time, regular expressions and JSON values; hands other names on.
 fn text(alloc: Global, name: &str, input: &[u8]) -> Option<Outcome> {
     match name {
         "char" => replay::<char>(alloc, input),
@@ -161,7 +163,7 @@ fn text(alloc: Global, name: &str, input: &[u8]) -> Option<Outcome> {
     }
 }
 
-/// Numbers without a sign and what holds no value, and what comes after them.
+/// Answers for numbers without a sign and types without a value; hands other names on.
 fn unsigned(alloc: Global, name: &str, input: &[u8]) -> Option<Outcome> {
     match name {
         "u8" => replay::<u8>(alloc, input),
@@ -177,7 +179,7 @@ fn unsigned(alloc: Global, name: &str, input: &[u8]) -> Option<Outcome> {
     }
 }
 
-/// What comes of a number with a sign or of a vector; other names are handed on.
+/// Answers for numbers with a sign and vectors; hands other names on.
 pub fn answer(alloc: Global, name: &str, input: &[u8]) -> Option<Outcome> {
     match name {
         "i8" => replay::<i8>(alloc, input),

@@ -1,4 +1,4 @@
-//! Numbers, texts and large inputs that look random and are the same at each run.
+//! Draws numbers, texts and large inputs that look random and are the same in each run.
 
 use pagable_flavors::{Error, PagableVecFlavor};
 use std::alloc::{AllocError, Global};
@@ -10,12 +10,12 @@ pub struct Draws {
 }
 
 impl Draws {
-    /// The generator of this seed.
+    /// Makes the generator of this seed.
     pub fn new(seed: u64) -> Draws {
         Draws { state: seed }
     }
 
-    /// The next number of 64 bits.
+    /// Draws the next number of 64 bits.
     pub fn number(&mut self) -> u64 {
         self.state = self.state.wrapping_add(0x9e37_79b9_7f4a_7c15);
         let mut mixed = self.state;
@@ -24,7 +24,7 @@ impl Draws {
         mixed ^ (mixed >> 31)
     }
 
-    /// A text of so many small letters.
+    /// Draws a text of this many small letters.
     pub fn text(&mut self, alloc: Global, letters: u64) -> Result<String, AllocError> {
         let mut text = String::new(alloc);
         for _ in 0..letters {
@@ -34,10 +34,10 @@ impl Draws {
     }
 }
 
-/// What is drawn for each place of an input.
+/// What each place of an input holds.
 #[derive(Clone, Copy)]
 enum Drawn {
-    /// A number; those of all places have each length from 1 bit to 64.
+    /// A number, of 1 to 64 bits, as the place says.
     Number,
     Byte,
     /// A text of 0 to 31 letters.
@@ -48,7 +48,7 @@ enum Drawn {
     Entry,
 }
 
-/// Appends what is drawn for this place.
+/// Draws what this place holds and appends it.
 fn append(
     alloc: Global,
     drawn: Drawn,
@@ -62,7 +62,7 @@ fn append(
         Drawn::Byte => out.write_u8((number >> 56) as u8),
         Drawn::Text => out.write_bytes(draws.text(alloc, number % 32)?.as_str().as_bytes()),
         Drawn::Map => {
-            // A map of 400 entries, with keys of 48 bits and numbers of each length from 1 bit to 64.
+            // A map of 400 entries, with keys of 48 bits and numbers of 1 to 64 bits.
             out.write_u64(number)?;
             out.write_u32(400)?;
             for place in 0..400u32 {
@@ -78,7 +78,7 @@ fn append(
     }
 }
 
-/// The name of a type, the seed, and what is drawn, by the name of an input.
+/// Returns the type's name, the seed, and what each place holds, for the name of an input.
 fn plan_of(name: &str) -> Option<(&'static str, u64, Drawn)> {
     match name {
         "numbers" => Some(("Vec<u64>", 1, Drawn::Number)),
@@ -90,8 +90,9 @@ fn plan_of(name: &str) -> Option<(&'static str, u64, Drawn)> {
     }
 }
 
-/// The name of a type, and the bytes of a value of it that holds so many drawn ones; None for another name than `numbers`,
-/// `bytes`, `texts`, `maps` and `ordered`. The entries of a map stand in the order in which they are drawn.
+/// Draws a value with `count` places; returns its type's name and its bytes. The name is one of
+/// `numbers`, `bytes`, `texts`, `maps` and `ordered`; for another the answer is `None`. The entries
+/// of a map are in the order in which they were drawn.
 pub fn input_of(
     alloc: Global,
     name: &str,

@@ -1,18 +1,19 @@
-//! Types of one's own, and static and tagged values by an environment's registries.
+//! Answers for the types of `pagable_examples`, and for static and tagged values, which an
+//! environment registers. `types` answers for all other names.
 
-use crate::animal::{Animal, AnimalReader};
 use crate::bytes::{AnyEnv, read, written};
-use crate::dish::Dish;
-use crate::expression::{Expression, Sheet};
 use crate::round_trip::{Outcome, Taken, replay, replay_eagerly, replay_in, with_shown};
-use crate::size::Size;
-use crate::ticket::Ticket;
 use crate::types;
-use crate::zoo::Zoo;
+use pagable_examples::animal::{Animal, AnimalReader};
+use pagable_examples::dish::Dish;
+use pagable_examples::expression::{Expression, Sheet};
+use pagable_examples::size::Size;
+use pagable_examples::ticket::Ticket;
+use pagable_examples::zoo::Zoo;
 use pagable_traits::{StaticBytes, StaticStr};
 use std::alloc::Global;
 
-/// What comes of a static text, which is shown with the least index of an equal one.
+/// Reads a static text and writes it again; shows it with the least index of an equal one.
 fn static_text(alloc: Global, zoo: &Zoo, input: &[u8]) -> Option<Outcome> {
     let outcome = replay_in::<Zoo, StaticStr>(alloc, zoo, input);
     let text = match read::<Zoo, StaticStr>(alloc, zoo, input) {
@@ -25,7 +26,7 @@ fn static_text(alloc: Global, zoo: &Zoo, input: &[u8]) -> Option<Outcome> {
     Some(with_shown(outcome, text))
 }
 
-/// What comes of static bytes, which are shown as a text.
+/// Reads static bytes and writes them again; shows them as a text.
 fn static_bytes(alloc: Global, zoo: &Zoo, input: &[u8]) -> Option<Outcome> {
     let outcome = replay_in::<Zoo, StaticBytes>(alloc, zoo, input);
     let text = match read::<Zoo, StaticBytes>(alloc, zoo, input) {
@@ -35,7 +36,7 @@ fn static_bytes(alloc: Global, zoo: &Zoo, input: &[u8]) -> Option<Outcome> {
     Some(with_shown(outcome, text))
 }
 
-/// An environment with texts and three lists of bytes, in which these readers are registered.
+/// Makes an environment that registers texts, three lists of bytes and the readers of these names.
 fn zoo(alloc: Global, names: &str) -> Option<Zoo> {
     let words: &[&'static str] = match names {
         "twice" => &["b", "a", "b"],
@@ -45,7 +46,7 @@ fn zoo(alloc: Global, names: &str) -> Option<Zoo> {
     Zoo::new(alloc, words, &blobs, readers(names)).ok()
 }
 
-/// What a new animal is written as, a dog of an age or a cat, if it is registered or not.
+/// Writes a new animal: a dog of the age that the input gives, or a cat.
 fn new_animal(alloc: Global, zoo: &Zoo, input: &[u8]) -> Outcome {
     let animal = match input {
         [age] => Animal::Dog(*age),
@@ -54,7 +55,7 @@ fn new_animal(alloc: Global, zoo: &Zoo, input: &[u8]) -> Outcome {
     Ok(Taken::new(input.len(), written(alloc, zoo, &animal)))
 }
 
-/// The readers that a name tells behind a colon, in their order: a tag's later registration counts.
+/// Returns the readers of these names, in their order: of two for one tag the later one counts.
 fn readers(names: &str) -> &'static [AnimalReader] {
     use AnimalReader::{Cat, Dog, OldCat};
     match names {
@@ -65,7 +66,7 @@ fn readers(names: &str) -> &'static [AnimalReader] {
     }
 }
 
-/// What comes of a static value, which is shown, or of a tagged one.
+/// Answers for a static value, which is shown, or for a tagged one.
 fn registered(alloc: Global, zoo: &Zoo, name: &str, input: &[u8]) -> Option<Outcome> {
     match name {
         "StaticStr" => static_text(alloc, zoo, input),
@@ -75,7 +76,7 @@ fn registered(alloc: Global, zoo: &Zoo, name: &str, input: &[u8]) -> Option<Outc
     }
 }
 
-/// What comes of an input of the type of this name; None for an unknown name.
+/// Reads an input as the type of this name and writes it again. Returns `None` for an unknown name.
 pub fn answer(alloc: Global, name: &str, input: &[u8]) -> Option<Outcome> {
     let (word, names) = name.split_once(':').unwrap_or((name, ""));
     match word {

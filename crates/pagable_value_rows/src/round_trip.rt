@@ -1,4 +1,4 @@
-//! What comes of inputs: of values that are read and written again.
+//! Reads values from inputs and writes them again.
 
 use crate::bytes::{AnyEnv, finished, read, written};
 use pagable_core::{NoReferences, PagableDeserializerImpl, PagableSerializerImpl};
@@ -10,23 +10,23 @@ use pagable_traits::{
 use std::alloc::{AllocError, Global};
 use std::fmt::Display;
 
-/// What comes of reading an input and of writing what was read; the number of the refusal, which was met twice; or None, where what should be the
-/// same twice was not.
+/// The value that was read twice alike; or the number of the error that both readings met; or `None`
+/// if the two readings differ.
 pub type Outcome = Result<Taken, Option<u32>>;
 
 /// A value that was read.
 #[derive(Drop)]
 pub struct Taken {
-    /// So many bytes were taken.
+    /// How many bytes of the input it took.
     pub used: usize,
-    /// What was written again, or the number of the refusal.
+    /// Its encoding, or the number of the error.
     pub written: Result<Vec<u8>, u32>,
-    /// What the value shows, where it is shown.
+    /// The value as a text, if it is shown.
     pub shown: Option<String>,
 }
 
 impl Taken {
-    /// One that isn't shown.
+    /// Makes the record of a value that isn't shown.
     pub fn new(used: usize, written: Result<Vec<u8>, u32>) -> Taken {
         Taken {
             used,
@@ -36,19 +36,19 @@ impl Taken {
     }
 }
 
-/// The same with what the value shows.
+/// Adds the value's text to an outcome.
 pub fn with_shown(outcome: Outcome, shown: Option<String>) -> Outcome {
     let taken = outcome?;
     Ok(Taken { shown, ..taken })
 }
 
-/// What was written again, if a value was read and written.
+/// Returns the encoding, if a value was read and written.
 pub fn written_bytes(outcome: &Outcome) -> Option<&[u8]> {
     Some(outcome.as_ref().ok()?.written.as_ref().ok()?.as_slice())
 }
 
-/// The outcome as a text: `ok USED WRITTEN = SHOWN` or `refused N`. What was written is left out where it is what was taken of
-/// the input.
+/// Prints an outcome: `ok USED WRITTEN = SHOWN` or `refused N`. WRITTEN is left out if it is what was
+/// read.
 pub fn text(alloc: Global, outcome: &Outcome, input: &[u8]) -> Result<String, AllocError> {
     let taken = match outcome {
         Ok(taken) => taken,
@@ -62,7 +62,7 @@ pub fn text(alloc: Global, outcome: &Outcome, input: &[u8]) -> Result<String, Al
     }
 }
 
-/// ` WRITTEN` where other bytes were written than were taken.
+/// Prints ` WRITTEN`, or nothing if the bytes written are those that were read.
 fn written_text(
     alloc: Global,
     written: &Result<Vec<u8>, u32>,
@@ -79,8 +79,8 @@ fn written_text(
     }
 }
 
-/// The value at the front, which is read, and again from the same place. Where the first reading was refused, the second one must be refused
-/// alike: the number of the refusal, or None where what should be the same twice was not.
+/// Reads the value at the front twice, from the same place. If the first reading fails, the second
+/// one must fail alike: then it returns the error's number, and `None` if they differ.
 fn read_twice<'de, E: Env, T: PagableDeserialize<'de, E> + Drop, D: PagableDeserializer<E>>(
     alloc: Global,
     source: &mut D,
@@ -96,7 +96,7 @@ fn read_twice<'de, E: Env, T: PagableDeserialize<'de, E> + Drop, D: PagableDeser
     }
 }
 
-/// What comes of an input of the type `T` of an environment, which is read twice from its front.
+/// Reads an input twice as the type `T` of an environment, and writes the value again.
 pub fn replay_in<'de, E: Env, T>(alloc: Global, env: &E, input: &'de [u8]) -> Outcome
 where
     T: PagableSerialize<E> + PagableDeserialize<'de, E> + Drop,
@@ -108,7 +108,7 @@ where
     Ok(Taken::new(used, written(alloc, env, &value)))
 }
 
-/// What comes of an input of the type `T`, which no environment bears on.
+/// Reads an input as the type `T`, which needs no environment, and writes the value again.
 pub fn replay<'de, T>(alloc: Global, input: &'de [u8]) -> Option<Outcome>
 where
     T: PagableSerialize<AnyEnv> + PagableDeserialize<'de, AnyEnv> + Drop,
@@ -116,7 +116,7 @@ where
     Some(replay_in::<AnyEnv, T>(alloc, &AnyEnv, input))
 }
 
-/// As `replay`, with the value shown.
+/// Does what `replay` does, and shows the value.
 pub fn shown<'de, T>(alloc: Global, input: &'de [u8]) -> Option<Outcome>
 where
     T: PagableSerialize<AnyEnv> + PagableDeserialize<'de, AnyEnv> + Display + Drop,
@@ -129,7 +129,7 @@ where
     Some(with_shown(outcome, text))
 }
 
-/// What comes of an input of the type `T` of an environment, which is read and written eagerly.
+/// Reads an input eagerly as the type `T` of an environment, and writes the value eagerly.
 pub fn replay_eagerly<'de, E: Env, T>(alloc: Global, env: &E, input: &'de [u8]) -> Outcome
 where
     T: PagableEagerSerialize<E> + PagableEagerDeserialize<'de, E> + Drop,

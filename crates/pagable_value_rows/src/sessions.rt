@@ -1,4 +1,5 @@
-//! What one session shares among its values: from one thread, from two, and through what values are written to and read from.
+//! Tests of what a session shares: in one thread, between two, and through serializers and
+//! deserializers.
 
 use crate::bytes::AnyEnv;
 use pagable_core::{
@@ -11,17 +12,18 @@ use std::thread::{Threads, join};
 
 type Names = SessionContext<u8, u32>;
 
-/// The number of a name, 1 where it has none yet.
+/// Returns the number of a name; gives it the number 1 if it has none yet.
 fn first<R: Wait>(rt: &R, names: &Names, name: u8) -> Option<u32> {
     names.get_or_insert_with(rt, name, || 1).ok()
 }
 
-/// The number of a name.
+/// Returns the number of a name.
 fn found<R: Wait>(rt: &R, names: &Names, name: u8) -> Option<u32> {
     names.get(rt, &name).ok()?
 }
 
-/// What is found of names: before one has a number, when it gets one, once that is set, when it would get one again, and of another name.
+/// Returns what is found of a name: before it has a number, when it gets one, once another is set,
+/// and when it would get one again; and of another name.
 fn in_one_thread<R: Wait>(rt: &R, names: &Names) -> [Option<u32>; 5] {
     let before = found(rt, names, 7);
     let made = first(rt, names, 7);
@@ -30,7 +32,8 @@ fn in_one_thread<R: Wait>(rt: &R, names: &Names) -> [Option<u32>; 5] {
     [before, made, set, first(rt, names, 7), found(rt, names, 8)]
 }
 
-/// What two threads find that make the name's number, then what one finds after the other has set it.
+/// Returns what two threads find that each give a name its number, what one finds of another name
+/// while the other sets this one's number, and what is found then.
 fn in_two_threads<R: Threads + Wait + Sync>(rt: &R, names: &Names) -> [Option<u32>; 4] {
     let (left, right) = join(rt, || first(rt, names, 7), || first(rt, names, 7));
     let (set, other) = join(rt, || names.set(rt, 7, 2).is_ok(), || first(rt, names, 8));
@@ -38,14 +41,15 @@ fn in_two_threads<R: Threads + Wait + Sync>(rt: &R, names: &Names) -> [Option<u3
     [left, right, other, last]
 }
 
-/// Whether a session has a value already, and gets one if it has none.
+/// Says whether a session has a value, and sets one.
 fn has_one<R: Wait>(rt: &R, session: &SessionContext<(), ()>) -> Option<bool> {
     let found = session.get(rt, &()).ok()?;
     session.set(rt, (), ()).ok()?;
     Some(found.is_some())
 }
 
-/// Whether there is a value in a session, in what a page-out's serializer and a reader lend, and twice in what a serializer has of its own.
+/// Says whether there is a value in a session, in the one that a page-out's serializer lends, in the
+/// one that a deserializer lends, and, asked twice, in the session that a serializer for tests owns.
 fn lent<R: Wait>(rt: &R, alloc: Global) -> [Option<bool>; 5] {
     let session = SessionContext::new(alloc);
     let before = has_one(rt, &session);
@@ -58,7 +62,7 @@ fn lent<R: Wait>(rt: &R, alloc: Global) -> [Option<bool>; 5] {
     [before, paging, reading, has_one(rt, own), has_one(rt, own)]
 }
 
-/// Whether each of these comes out as it has to.
+/// Says whether all of this holds.
 pub fn hold<R: Threads + Wait + Sync>(rt: &R, alloc: Global) -> bool {
     let one = in_one_thread(rt, &Names::new(alloc));
     let two = in_two_threads(rt, &Names::default(alloc));

@@ -1,4 +1,4 @@
-//! Lines about values that need no environment, but for those that are read.
+//! Answers to the verbs that read no input of a named type: `write`, `drawn`, `find` and `reason`.
 
 use crate::bytes::{AnyEnv, written};
 use crate::random::input_of;
@@ -9,7 +9,7 @@ use pagable_traits::SavedRegex;
 use serde_json::Value;
 use std::alloc::{AllocError, Global};
 
-/// What the JSON value of a text is written as.
+/// Prints the encoding of a text's JSON value.
 fn json(alloc: Global, text: &str) -> Result<String, AllocError> {
     let Ok(value) = Value::from_str(alloc, text) else {
         return String::from_str(alloc, "no JSON");
@@ -20,12 +20,12 @@ fn json(alloc: Global, text: &str) -> Result<String, AllocError> {
     }
 }
 
-/// One step of FNV-1a of 64 bits, with a number in place of a byte.
+/// Makes one step of FNV-1a of 64 bits, with a number in place of a byte.
 fn summed(sum: u64, number: u64) -> u64 {
     (sum ^ number).wrapping_mul(0x0000_0100_0000_01b3)
 }
 
-/// The check sum of bytes, with their count before them.
+/// Returns the check sum of bytes, after their count.
 fn sum_of(bytes: &[u8]) -> u64 {
     let mut sum = summed(0xcbf2_9ce4_8422_2325, bytes.len() as u64);
     for byte in bytes {
@@ -34,7 +34,7 @@ fn sum_of(bytes: &[u8]) -> u64 {
     sum
 }
 
-/// What comes of so many drawn values: `NAME N bytes wrote SUM`.
+/// Draws an input, reads it, writes the value again, and prints `NAME N bytes wrote SUM`.
 fn drawn(alloc: Global, name: &str, count: u32) -> anyhow::Result<String> {
     let Some((name_of_type, input)) = input_of(alloc, name, count)? else {
         return Ok(String::from_str(alloc, "no such values")?);
@@ -44,7 +44,7 @@ fn drawn(alloc: Global, name: &str, count: u32) -> anyhow::Result<String> {
     Ok(format!(in alloc; "{name} {} bytes wrote {:016x}", bytes.len(), sum_of(bytes))?)
 }
 
-/// Where a regular expression is found first in a text: from which byte up to which.
+/// Prints where a regular expression first matches in a text: from which byte up to which.
 fn find(alloc: Global, pattern: &str, text: &str) -> anyhow::Result<String> {
     let saved = SavedRegex::new(alloc, pattern)?;
     let mut matcher = saved.regex().matcher(alloc)?;
@@ -54,7 +54,7 @@ fn find(alloc: Global, pattern: &str, text: &str) -> anyhow::Result<String> {
     }
 }
 
-/// The answer to an input of a verb that doesn't read.
+/// Answers an input of a verb.
 pub fn answer(alloc: Global, name: &str, verb: &str, input: &str) -> anyhow::Result<String> {
     match verb {
         "write" => Ok(json(alloc, input)?),

@@ -1,11 +1,11 @@
-//! Values that no environment bears on, written and read.
+//! Writes values to bytes and reads them back, without nodes or references.
 
 use pagable_core::{NoReferences, PagableDeserializerImpl, PagableSerializerImpl, WeighHash};
 use pagable_flavors::Error;
 use pagable_traits::{Env, PagableDeserialize, PagableSerialize, SessionContext};
 use std::alloc::Global;
 
-/// An environment without nodes: the values hold no references, so any will do.
+/// An environment without nodes, for values without references.
 #[derive(Drop)]
 pub struct AnyEnv;
 
@@ -23,7 +23,8 @@ impl Env for AnyEnv {
     ghost parts = { λ e number. nothing };
 }
 
-/// What a writer holds after a writing that came out so, or the number of the refusal.
+/// Returns the bytes that the serializer has written, or the number of the first error: that of
+/// `done`, else that of `finish`.
 pub fn finished<E: Env>(
     done: Result<(), Error>,
     out: PagableSerializerImpl<'_, E>,
@@ -33,7 +34,7 @@ pub fn finished<E: Env>(
     Ok(data.bytes)
 }
 
-/// The bytes of a value, or the number of the refusal.
+/// Returns the encoding of a value, or the number of the error.
 pub fn written<E: Env, T: PagableSerialize<E>>(
     alloc: Global,
     env: &E,
@@ -44,7 +45,7 @@ pub fn written<E: Env, T: PagableSerialize<E>>(
     finished(done, out)
 }
 
-/// The value at the front of an input.
+/// Reads the value at the front of an input.
 pub fn read<'de, E: Env, T: PagableDeserialize<'de, E>>(
     alloc: Global,
     env: &E,
