@@ -2,7 +2,7 @@
 use Rattle.std.specs.declared.sync.Arc.{Arc}
 use Rattle.std.specs.{Arc.arc_value, Global.Global, Option.option_map, Prelude.{Bool, IsTrue, None, Option, Some, false, true, ℕ, ◌+◌, ◌≡◌}}
 use Rattle.{either.specs.declared.Either.Either, pagable_value_spec.specs.declared.numbers.{ArcRef.ArcRef, HandleNumber.HandleNumber, LoadNumber.LoadNumber, WorkerNumber.WorkerNumber}}
-use Rattle.pagable_core.specs.declared.storage.traits.PagableStorage.Ghosts as Storages
+use Rattle.pagable_core.specs.declared.storage.traits.PagableStorage.{Ghosts as Storages}
 use Rattle.pagable_tables.specs.{Core.{AreLater, StorageView, core_of}, Nodes.{counts_at, pins_in}, NumberTable.row_by}
 use Rattle.pagable_tables.specs.declared.{number_table.NumberTable.NumberTable, tables.Tables.Tables}
 use Rattle.pagable_pager_spec.specs.Kinds.{HasKinds, loose_kind}
