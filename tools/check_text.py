@@ -1,18 +1,21 @@
 #!/usr/bin/env python3
-"""Prints where the library's text invents a want of memory, or does more under the pager's lock than one call of it, or where README.md shows other code
-than the file has, as file:line, and nothing else; the status is 1 where it does.
+"""Prints, as file:line, each place where the libraries' text invents a want of memory, does more under the pager's lock
+than one call of it, or where README.md shows other code than the file has. The status is 1 if there is one.
 
-In the src/ of every library crate `Error::OutOfMemory` is written as a value in one function alone, which makes it of a growth that the allocator refused
-(crates/pagable_value_spec/src/error.rt). All others pass such a refusal on, so none says that memory is wanting where no growth was refused. It may stand in
-patterns, clauses and comments. `AllocError` and `AllocFailed`, the refused growth itself, are values nowhere; and only what `regex` and the kit's `sqlite`
-refuse is named by `Error::of_library`, which takes its caller's word.
+In the src/ of every library crate one function alone writes `Error::OutOfMemory` as a value: it makes it of a growth
+that the allocator refused (crates/pagable_value_spec/src/error.rt). All others pass such an error on, so none says that
+memory is wanting where no growth was refused. It may stand in patterns, clauses and comments. `AllocError` and
+`AllocFailed`, the refused growth itself, are values nowhere; and `Error::of_library`, which takes its caller's word, is
+used only for what `regex` and the kit's `sqlite` refuse.
 
-In `pagable_locked` a function that locks the pager takes that lock once and makes one call of `pagable_pager` by it, beside what makes the access of its owner,
-and behind which it may ask the node of the handle that it got, or the blob that the cache didn't know. It has no loop and no macro from there on, and hands the
-guard to nothing but that access, so no value is decoded or written, nothing is waited for and no other lock is taken meanwhile.
+In `pagable_locked` a function that locks the pager takes that lock once and makes one call of `pagable_pager` by it,
+beside what makes the access of its owner. After the call it may ask for the node of the handle that it got, or for the
+blob that the cache didn't have. It has no loop and no macro from there on, and hands the guard to nothing but that
+access: so meanwhile no value is decoded or written, nothing is waited for and no other lock is taken.
 
-What README.md shows of a file (`This is`, its name, and the code) is that file, without the comment at its head and its tests; and what it shows of what a
-program prints (`This is`, the name of its file `stdout`, and indented lines) is that file.
+If README.md shows a file (`This is`, its name, and the code), it shows that file without the comment at its head and
+its tests; if it shows what a program prints (`This is`, the name of its file `stdout`, and indented lines), it shows
+that file.
 """
 import re
 import sys

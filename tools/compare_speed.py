@@ -1,17 +1,20 @@
 #!/usr/bin/env python3
-"""Builds the rows of tools/speed and the same rows on the original crate, times them in turn, and writes the table of docs/PROOFS.md.
+"""Builds the rows of tools/speed and the same rows on the original crate, times them in turn, and writes the table of
+docs/PROOFS.md.
 
     tools/compare_speed.py ORIGINAL WORK [--rounds N] [--rows ROW,..] [--print]
 
-ORIGINAL is a cargo workspace that has the Rust crate `pagable` 0.4.2 as a member, with a module `oracle_access` whose `set_mode` puts SHA-256 in BLAKE3's
-place. It is copied into the folder WORK, with tools/original_speed.rs as one of its examples, and built by cargo twice, each time with LTO, one codegen
-unit and the processor level of the programs here (x86-64-v2): with the processor's SHA instructions, where it has them, and without
-(`sha2`'s feature `force-soft`). Nothing of it comes into the repository. tools/speed/build.py builds the rows here, unproved.
+ORIGINAL is a cargo workspace that has the Rust crate `pagable` 0.4.2 as a member, with a module `oracle_access` whose
+`set_mode` puts SHA-256 in BLAKE3's place. It is copied into the folder WORK, with tools/original_speed.rs as one of its
+examples, and built by cargo twice, each time with LTO, one codegen unit and the processor level of the programs here
+(x86-64-v2): with the processor's SHA instructions, if it has them, and without (`sha2`'s feature `force-soft`). Nothing
+of it comes into the repository. tools/speed/build.py builds the rows here, unproved.
 
-The values of the first five rows come from tools/speed_sums.py; both sides fail where they write another form than they read. Each row runs 9 times, or as
-often as `--rounds` tells, by all three programs in turn, each time in a process of its own; its time is the least of all. The peak of memory is that of such
-a process, by GNU time. `--rows` runs these alone, and `--print` prints the table in place of writing it; `--rows shared` stands
-for those of a storage that threads share, whose keys and claims have to be the same on both sides.
+The values of the first five rows come from tools/speed_sums.py; both sides fail if they write another form than they
+read. Each row runs 9 times, or as often as `--rounds` says, by all three programs in turn, each time in a process of
+its own; its time is the least of all. The peak of memory is that of such a process, by GNU time. `--rows` runs these
+rows alone, and `--print` prints the table instead of writing it. `--rows shared` stands for the rows of a storage that
+threads share, whose keys and claims have to be the same on both sides.
 """
 import argparse
 import datetime

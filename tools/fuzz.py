@@ -1,11 +1,11 @@
 #!/usr/bin/env python3
-"""Draws machines, values and scripts, runs them against the plain models, and shrinks what differs to its smallest
-input.
+"""Draws machines, values and scripts, runs them against the plain models, and shrinks the first difference to its
+smallest input.
 
     tools/fuzz.py SEED COUNT [WORK]
 
-It builds the program of tools/failures, in a folder of its own or in WORK, and draws COUNT inputs of each sort from SEED on. It ends at the
-first difference, with status 1, and prints its smallest input.
+It builds the program of tools/failures, in a folder of its own or in WORK, and draws COUNT inputs of each sort from
+SEED on. It ends at the first difference, with status 1, and prints its smallest input.
 """
 import pathlib
 import random

@@ -1,11 +1,12 @@
 #!/usr/bin/env python3
-"""Picks rows of what the original crate writes and reads, as data of `vectors`, each with the answers that it has to get.
+"""Turns what the original crate writes and reads into rows for `vectors`, each with the result that it has to get.
 
     tools/original_rows.py original.jsonl > crates/vectors/data/original.txt
 
-Each line of the input is a JSON object: a value that the original wrote ("op": "enc"), an input that it read ("op": "dec"), or a tree of blobs that it
-stored ("op": "blob"). docs/PROOFS.md says what the lines of the output mean. A type is added by its name in CARRIED, and by a case of `form` where it is
-a new kind of type. The original's own bytes check `form`: a line that it wrote and `form` doesn't give ends the program.
+Each line of the input is a JSON object: a value that the original wrote ("op": "enc"), an input that it read ("op":
+"dec"), or a tree of blobs that it stored ("op": "blob"). docs/PROOFS.md says what the lines of the output mean. To add
+a type, add its name to CARRIED, and a case to `form` if it is a new kind of type. The original's own bytes check
+`form`: if the original wrote a line that `form` doesn't give, the program ends.
 """
 import itertools
 import json

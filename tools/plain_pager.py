@@ -1,5 +1,7 @@
-"""A plain pager and its machine: short and slow, written from the rules of cells and not from the crates, to be held against
-them by plain_rows.py. What can be counted or looked up is counted and looked up anew each time. Memory is always there."""
+"""A plain pager and its machine: short and slow, written from the rules of cells and not from the crates, for
+plain_rows.py to compare with them. What can be counted or looked up is counted and looked up anew each time. Memory is
+always there.
+"""
 
 import hashlib
 from dataclasses import dataclass, field

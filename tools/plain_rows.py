@@ -1,10 +1,11 @@
 #!/usr/bin/env python3
-"""Rows of events, as the program `vectors` reads them, answered by a plain pager or drawn from a seed.
+"""Rows of events, as the program `vectors` reads them: answers them by a plain pager, or draws them from a seed.
 
-    plain_rows.py answers FILE              prints the file with the answer behind each row that has one, as `vectors` expects it
-    plain_rows.py draw SEED COUNT           prints a new machine, COUNT drawn lists of events and a look
+    plain_rows.py answers FILE      prints the file, each row that has an answer with that of the plain pager
+    plain_rows.py draw SEED COUNT   prints a new machine, COUNT drawn lists of events and a look
 
-A row is one line: a new machine, a look, or calls parted by semicolons. docs/PROOFS.md tells its words, of which `chain` stands in worked rows alone.
+A row is one line: a new machine, a look, or calls separated by semicolons. docs/PROOFS.md tells its words, of which
+`chain` stands in worked rows alone.
 """
 
 import random

@@ -1,4 +1,4 @@
-"""`pagectl` as a plain program over the plain pager, to be held against it by fuzz.py; and drawn scripts."""
+"""`pagectl` as a plain program over the plain pager, for fuzz.py to compare with it; and drawn scripts."""
 
 import re
 

@@ -1,6 +1,6 @@
-"""Values of carried types, read and written again by their rules: short and slow, written from the rules of the wire
-format and not from
-the crates, to be held against them by fuzz.py. A type is spelled as rows spell it."""
+"""Reads and writes values of carried types by their rules: short and slow, written from the rules of the wire format
+and not from the crates, for fuzz.py to compare with them. Types are named as in rows.
+"""
 
 import re
 

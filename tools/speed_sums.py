@@ -1,8 +1,8 @@
 #!/usr/bin/env python3
-"""Works out large values that are drawn, as the wire format spells them. It shares no code with the crates.
+"""Works out large drawn values in the wire format. It shares no code with the crates.
 
-    tools/speed_sums.py            # their check sums, which the rows of crates/vectors/data/drawn.txt expect
-    tools/speed_sums.py FOLDER     # the values themselves, a file for each in FOLDER
+tools/speed_sums.py            # their check sums, which the rows of crates/vectors/data/drawn.txt expect
+tools/speed_sums.py FOLDER     # the values themselves, a file for each in FOLDER
 """
 
 import pathlib

@@ -1,20 +1,23 @@
 #!/usr/bin/env python3
-"""Tries the wrong bodies of tools/wrong_bodies/CRATE.edits: the prover has to refuse each function that one breaks, by itself.
+"""Tries the wrong bodies of tools/wrong_bodies/CRATE.edits: the prover has to refuse, by itself, each function that one
+breaks.
 
 usage: tools/wrong_bodies.py [CRATE..]        (with no word: every crate that has wrong bodies)
 
-Under a line 'file: src/lib.rt' stand the edits of that file, a line 'NAME: TEXT' for each, with a text that stands once in the file, but that for
-'⟦OLD ⇒ NEW⟧' the file has OLD, and gets NEW, either of which may be empty; a line 'and: TEXT' does more of the same edit, on what the line before it
-made. All edits of a crate are tried together, on a copy of the repository over the work that earlier checks kept: one body a function and round, so that one
-check answers many. Where stored answers or invariants don't fit the edited bodies, they are taken out of the copy and it is checked once more, with search
-in their place. Of each edit is told, the first two of which pass:
-  refused                       the check says of its functions that they aren't proved, for a reason of their own
-  refused, without its answers  the same, of a function that lost stored answers or invariants: the contract refuses it, or search finds no answer
+Below a line 'file: src/lib.rt' stand the edits of that file, each a line 'NAME: TEXT'. TEXT stands once in the file,
+but for each '⟦OLD ⇒ NEW⟧' in it the file has OLD and gets NEW, either of which may be empty. A line 'and: TEXT' does
+more of the same edit, on what the line before it made. All edits of a crate are tried together, on a copy of the
+repository over the work that earlier checks kept: one body a function and round, so that one check answers many. If
+stored answers or invariants don't fit the edited bodies, they are taken out of the copy, and it is checked once more,
+with search in their place. Each edit gets one of these results, of which the first two pass:
+  refused                       the check says that its functions aren't proved, for a reason of their own
+  refused, without its answers  the same, of a function that lost stored answers or invariants: the contract refuses it,
+                                or search finds no answer
   answer-only                   without the answers that didn't fit, it is proved
-  unjudged                      its functions aren't proved only since they call one that has no proof
+  unjudged                      its functions aren't proved only because they call one that has no proof
   proved                        the crate is still proved with it
-An edit that isn't refused in its round is tried once more, alone; then it is refused if any function isn't proved for a reason of its own.
-The last line is 'N passed, M failed'; the status is 1 where one failed.
+An edit that isn't refused in its round is tried once more, alone; then it is refused if any function isn't proved for a
+reason of its own. The last line is 'N passed, M failed'; the status is 1 if one failed.
 """
 import os
 import re

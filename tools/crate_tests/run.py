@@ -1,5 +1,5 @@
 #!/usr/bin/env python3
-"""Runs the tests of crates that aren't proved with them, and says how many passed; its status is 0 where all did.
+"""Runs the tests of crates that aren't proved with them, and says how many passed; its status is 0 if all did.
 
     tools/crate_tests/run.py [CRATE..]        (with no word: of every crate that has such tests)
 

@@ -1,4 +1,4 @@
-"""Runs a row while something fails in its middle: what is answered, what is left, and the same again."""
+"""Runs a row while something fails in its middle: what is answered, what is left, and the same row again."""
 
 import re
 import subprocess

@@ -1,5 +1,4 @@
-"""Input that nobody should have written: cut bytes, blobs that are no value's, giant lengths, with each request above
-a MiB refused."""
+"""Hostile input: cut bytes, blobs that are no value's, giant lengths, with each request above a MiB refused."""
 
 import pathlib
 import re

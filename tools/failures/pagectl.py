@@ -1,4 +1,4 @@
-"""Scripts of `pagectl` while a request for memory is refused, a reading or a writing fails, or a line is no line."""
+"""Scripts of `pagectl` while a request for memory is refused, a reading or a writing fails, or a line is malformed."""
 
 import contextlib
 import struct

@@ -1,4 +1,4 @@
-"""Rows of events, with what the plain pager answers to each and leaves behind it."""
+"""Rows of events, with what the plain pager answers to each and what it leaves."""
 
 import pathlib
 import sys

@@ -1,11 +1,11 @@
 #!/usr/bin/env python3
-"""Refuses each request for memory, fails each call of the storage, and reads hostile input; tells how often which
-refusal came.
+"""Refuses each request for memory, fails each call of the storage, and reads hostile input; counts how often each error
+came.
 
     tools/failures/run.py [WORK]
 
-Its program is built unproved, as tools/speed/build.py builds one, in a copy of the crates, in which the pager's counters can be
-set; what refuses is a library before the C library's own allocator (refuse.c).
+Its program is built unproved, as tools/speed/build.py builds one, in a copy of the crates in which the pager's counters
+can be set. What refuses is a library before the C library's own allocator (refuse.c).
 """
 import pathlib
 import re

@@ -1,5 +1,4 @@
-"""Rows of calls on a storage that threads share, while a request for memory is refused or a call of the storage
-fails."""
+"""Rows of calls on a storage that threads share, while a request for memory or a call of the storage fails."""
 
 import re
 

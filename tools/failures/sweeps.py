@@ -1,5 +1,6 @@
-"""Every request for memory of a row refused in turn, every call of its storage failed in turn, and its numbers at
-their end."""
+"""Refuses every request for memory of a row in turn, fails every call of its storage in turn, and lets its numbers run
+out.
+"""
 
 import re
 from collections import Counter

@@ -1,4 +1,4 @@
-"""Each refusal of each call that the rules name, and how often it has to have come: more than never."""
+"""Each error of each call that the rules name, which has to have come more than never."""
 
 NAMES = dict(enumerate((
     "UnexpectedEnd BadVarint BadBool BadUtf8 BadChar TooLong TooDeep JsonCase JsonNumber BadDuration RegexRefused UnknownTag"

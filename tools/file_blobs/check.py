@@ -1,11 +1,11 @@
 #!/usr/bin/env python3
-"""Tries files of blobs as their users may meet them: kills, a full disk, a second writer, damage, and SQLite's own shell.
+"""Tries what users may do to files of blobs: kills, a full disk, a second writer, damage, and SQLite's own shell.
 
     tools/file_blobs/check.py [PROGRAM [KILLS [STEP]]]
 
-PROGRAM is the built `blobctl`; without one it is built here, unproved. It is killed at KILLS drawn moments
-(20), and nothing that a flush had answered may be lost. Each STEP-th byte (50) of a file is turned in turn: the file is
-refused, `fsck` names the damage, or nothing that was kept has changed. The status is 0 where all holds.
+PROGRAM is the built `blobctl`; without one it is built here, unproved. It is killed at KILLS drawn moments (20), and
+nothing that a flush had answered may be lost. Each STEP-th byte (50) of a file is changed in turn: then the file isn't
+opened, `fsck` names the damage, or nothing that was kept has changed. The status is 0 if all holds.
 """
 import hashlib
 import pathlib

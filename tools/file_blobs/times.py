@@ -1,10 +1,10 @@
 #!/usr/bin/env python3
-"""Takes the times of a file of blobs beside those of libsqlite3, in turn: the least of some rounds.
+"""Times a file of blobs and libsqlite3 in turn: the least of some rounds.
 
     tools/file_blobs/times.py WORK [ROUNDS]        # builds both programs in the folder WORK
 
-times.rattle and times.c store and fetch the same 100,000 blobs, of 308 bytes and of 108 to 10,008, a flush after each
-1,000, and both take and test the SHA-256 of each. The one is built unproved, as tools/speed is.
+times.rattle and times.c store and fetch the same 100,000 blobs, of 308 bytes and of 108 to 10,008, with a flush after
+each 1,000, and both compute and test the SHA-256 of each. The first is built unproved, as tools/speed is.
 """
 import pathlib
 import re

@@ -1,6 +1,6 @@
 #!/usr/bin/env python3
 """Runs the three programs whose files last, each several times on one file, and compares what they say and write with
-plain models; its status is 0 where all was as it should be.
+plain models; its status is 0 if all is the same.
 
     tools/programs/run.py [PROGRAM..]        (with no word: build_cache, heap_snapshot and spreadsheet)
 

@@ -1,11 +1,13 @@
 #!/usr/bin/env python3
-"""Builds the program of this folder unproved, as fast as a proved one: by `rt try`, through a toolchain folder of its own.
+"""Builds the program of this folder unproved, as fast as a proved one: by `rt try`, through a toolchain folder of its
+own.
 
-    tools/speed/build.py WORK [REPOSITORY]        # writes WORK/speed, over the crates of this repository or of another copy
+    tools/speed/build.py WORK [REPOSITORY]        # writes WORK/speed, over the crates of this repository or of another
 
-A proved program is compiled by `rt run`, which proves it first. `rt try` compiles without a proof, and puts checks of its own into the code, fills each
-new variable, and links a sanitizer. Here the compiler that `rt try` calls is this script: it takes all that out of the code, and compiles as `rt run`
-does, at -O3 for x86-64-v2. What comes of it is as fast as the proved program, within what one can measure.
+A proved program is compiled by `rt run`, which proves it first. `rt try` compiles without a proof, but puts checks of
+its own into the code, fills each new variable, and links a sanitizer. So here the compiler that `rt try` calls is this
+script: it takes all that out of the code, and compiles as `rt run` does, at -O3 for x86-64-v2. The result is as fast as
+the proved program, within what one can measure.
 
 The files are named X.rattle, since the gate stops at a file X.rt that it doesn't check.
 """

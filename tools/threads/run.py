@@ -1,19 +1,19 @@
 #!/usr/bin/env python3
-"""Runs the tests of a pager that threads share, and says how many passed; its status is 0 where all did.
+"""Runs the tests of a pager that threads share, and says how many passed; its status is 0 if all did.
 
     tools/threads/run.py
     tools/threads/run.py --wrong [NAME+..]      # tries the wrong bodies of wrong.edits, or these
 
-They run unproved, by `rt try`, in a copy of the repository's crates, as modules of `pagable_locked_examples`: a proof of a test
-says no more than that it ends, and these tests would take as long to prove as the calls that they run. The files are
-named X.rattle, since the gate stops at a file X.rt that it doesn't check.
+They run unproved, by `rt try`, in a copy of the repository's crates, as modules of `pagable_locked_examples`: a proof
+of a test says no more than that it ends, and these tests would take as long to prove as the calls that they run. The
+files are named X.rattle, since the gate stops at a file X.rt that it doesn't check.
 
 A wrong body is one that no contract refuses, and that a test has to find. In wrong.edits a line 'NAME: TEXT' stands
-under the line 'file: PATH' of its file, as in tools/wrong_bodies: for '⟦OLD ⇒ NEW⟧' the file has OLD, and gets NEW; a
-line 'and: TEXT' does more of the same edit. Under it a line 'test: MODULE::TEST' stands for each test that has to fail.
-Their modules alone run, on a copy with that edit, or with several whose names are joined by '+', where none bears on
-another's tests: that saves minutes. Of each edit is told 'found', or why it isn't, and the last line is 'N found, M
-not'; the status is 1 where one isn't.
+below the line 'file: PATH' of its file, as in tools/wrong_bodies: for '⟦OLD ⇒ NEW⟧' the file has OLD, and gets NEW; a
+line 'and: TEXT' does more of the same edit. Below it a line 'test: MODULE::TEST' stands for each test that has to fail.
+Only their modules run, on a copy with that edit, or with several whose names are joined by '+', if none bears on
+another's tests: that saves minutes. Each edit is 'found', or the line says why it isn't, and the last line is 'N found,
+M not'; the status is 1 if one isn't.
 """
 import pathlib
 import re

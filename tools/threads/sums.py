@@ -1,10 +1,10 @@
 #!/usr/bin/env python3
-"""Prints the sums of keys and claims that the tests of this folder hold against what the locked calls answer.
+"""Prints the sums of keys and claims with which the tests of this folder compare what the locked calls return.
 
     tools/threads/sums.py
 
-Nothing here is asked of the crates: a blob's key is made by plain_pager.py's `Blob.key`, by Python's hashlib, of a
-value as its `RowTypes.write` writes it, and a claim is an identity, a kind with a node, that references lead to.
+Nothing here is asked of the crates: plain_pager.py's `Blob.key` makes a blob's key, by Python's hashlib, of a value as
+its `RowTypes.write` writes it, and a claim is an identity, a kind with a node, that references lead to.
 """
 import sys
 from pathlib import Path
