@@ -82,3 +82,6 @@ returns-in_err-handle-clause-sheds g c =
     (sym (c.adopt_fault.ensures no_blobs) ∙ c.in_default.is)) in
     stays-first (λ n. c.in_err-handle.ensures.values n (λ eq pins. ap (λ k. has_value (counts_at c.args.t.now.ref_counts.nodes k)) eq ∙ valued))
     (sheds-still c.make.new.t.ref_counts _ c.in_err-handle.ensures.does.whole.steady)
+
+pub returns-in_default-usable_of-clause-unknown : goal.returns-in_default-usable_of-clause-unknown
+returns-in_default-usable_of-clause-unknown g c = sym (c.in_default-usable_of.ensures no_blobs)
