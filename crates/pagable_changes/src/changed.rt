@@ -91,8 +91,8 @@ fn page_out_root<E: Env<Node: NodeSet<E>>, S: PagableStorage<E>>(
 ///
 /// - `NoSuchHandle` if no live handle has this number.
 /// - `WrongMode` if the handle is Shared.
-/// - `TooDeep` if a path of references that are read together is longer than 128, or if a cell
-///   without a key isn't older than what refers to it (so also if it refers to itself).
+/// - `TooDeep` if a path of Pinned and Shared references is longer than 128, or if a loose reference
+///   leads to a cell without a key that was inserted after the value that holds it, or with it.
 /// - as `Pager::clone`, `Pager::pin`, `Pager::store` and the writing of a value.
 pub fn page_out_changed<E: Env<Node: NodeSet<E>>, S: PagableStorage<E>>(
     alloc: Global,

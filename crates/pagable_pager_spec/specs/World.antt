@@ -170,7 +170,7 @@ type_at w n = if_there (λ (cell : Cell). Some cell.node_type) None (w.cells n)
 abbrev pub key_at : Core → ℕ → OptionalDataKey
 key_at w n = if_there (λ (cell : Cell). cell.key) OptionalDataKey.None (w.cells n)
 
--- whether a live node has its value in memory
+-- whether a node is pinned or has no key: then its value has to be in memory
 abbrev pub is_here : Core → ℕ → Bool
 is_here w n = is_in_memory (pins n w.rows) (key_at w n)
 
