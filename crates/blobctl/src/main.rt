@@ -1,5 +1,5 @@
 //! `blobctl FILE COMMAND..` looks at a file of blobs whose keys SHA-256 makes, or changes it; `blobctl FILE` takes one
-//! command from each line of its input.
+//! command from each line of its input. `blobctl texts FILE` answers lines about texts that the file keeps under names.
 //!
 //! A key is shown as the first 32 hex digits of its hash. Each command answers lines, and a refusal one line that begins
 //! with `error`.
@@ -15,9 +15,11 @@ mod reach;
 mod refusal;
 mod serve;
 mod show;
+mod texts;
 
 use crate::command::parse;
 use crate::serve::serve;
+use crate::texts::serve_texts;
 use pagable_core::Sha256Key;
 use pagable_file::{BlobEnv, FileBlobs};
 use sqlite::{File, FileStore};
@@ -26,7 +28,7 @@ use std::{env, io};
 
 const USAGE: &str =
     "usage: blobctl FILE [stat | list | roots | tree KEY | dot KEY | fsck | copy FILE | gc \
-    | put HEX [KEY..] | root NAME KEY | drop NAME | flush]";
+    | put HEX [KEY..] | root NAME KEY | drop NAME | flush]\n       blobctl texts FILE";
 
 /// Collects the words behind the program's name: the first one, and those behind it as a line.
 fn words(rt: &HostRuntime) -> io::Result<Option<(String, String)>> {
@@ -49,14 +51,14 @@ fn answer_words(rt: &HostRuntime) -> io::Result<Option<bool>> {
     let Some((path, line)) = words(rt)? else {
         return Ok(None);
     };
-    if !line.is_empty() && parse(line.as_str()).is_none() {
+    let (path, line) = (path.as_str(), line.as_str());
+    if path == "texts" && !line.is_empty() {
+        return Ok(Some(serve_texts(rt, line)?));
+    }
+    if !line.is_empty() && parse(line).is_none() {
         return Ok(None);
     }
-    let done = serve::<FileBlobs<BlobEnv<Sha256Key>, FileStore<File>>>(
-        rt,
-        path.as_str(),
-        line.as_str(),
-    )?;
+    let done = serve::<FileBlobs<BlobEnv<Sha256Key>, FileStore<File>>>(rt, path, line)?;
     Ok(Some(done))
 }
 

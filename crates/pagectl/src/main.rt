@@ -1,9 +1,7 @@
 //! `pagectl HASH` keeps named texts in a pager, and answers one line for each line that it reads.
 #![tactic(auto)]
 
-mod named_texts;
-
-use crate::named_texts::serve::serve;
+use named_texts::serve::serve;
 use pagable::{KeyHash, Sha256Key, WeighHash};
 use std::io::BufReader;
 use std::process::ExitCode;

@@ -3,18 +3,18 @@ use Rattle.std.proofs.Common.{length, get_or, suc, ◌≡◌, ◌≢◌, ◌⊎�
 use Rattle.std.specs.List.{list_all}
 use Rattle.std.proofs.lemmas.Str.Pattern.{IsSplitOnceResult, split_parts}
 use Rattle.std.specs.Char.{is_ascii_alphanumeric}
-use Rattle.pagectl.specs.Line.{IsName, LacksSpace, Spells, word_of}
-use Rattle.pagectl.specs.declared.named_texts.command.Command.{Command}
-use Rattle.pagectl.specs.declared.named_texts.command.Command.TheVariants.{New, Pin, Clone, Release, Of, Pending, PageOut}
-use Rattle.pagectl.specs.declared.named_texts.command.Verb.{Verb}
-use Rattle.pagectl.specs.declared.named_texts.command.Verb.TheVariants.{Unpin, Loose, Count, Key, Out}
+use Rattle.named_texts.specs.Line.{IsName, LacksSpace, Spells, word_of}
+use Rattle.named_texts.specs.declared.command.Command.{Command}
+use Rattle.named_texts.specs.declared.command.Command.TheVariants.{New, Pin, Clone, Release, Of, Pending, PageOut}
+use Rattle.named_texts.specs.declared.command.Verb.{Verb}
+use Rattle.named_texts.specs.declared.command.Verb.TheVariants.{Unpin, Loose, Count, Key, Out}
 
-letters_lack : (w : List ℕ) → list_all is_ascii_alphanumeric w ≡ true → LacksSpace w
+pub letters_lack : (w : List ℕ) → list_all is_ascii_alphanumeric w ≡ true → LacksSpace w
 letters_lack [] h = tt
 letters_lack (b ∷ w) h = ((λ is. grind arith), letters_lack w (grind arith))
 
 -- what stands before the first space, and what behind it
-cut : (a b x y : List ℕ) → LacksSpace a → LacksSpace b → a ++ 32 ∷ x ≡ b ++ 32 ∷ y → (a ≡ b) × (x ≡ y)
+pub cut : (a b x y : List ℕ) → LacksSpace a → LacksSpace b → a ++ 32 ∷ x ≡ b ++ 32 ∷ y → (a ≡ b) × (x ≡ y)
 cut [] [] x y f g e = grind arith
 cut [] (d ∷ b) x y f g e = absurd (g.0 (grind arith))
 cut (c ∷ a) [] x y f g e = absurd (f.0 (grind arith))
@@ -23,7 +23,7 @@ cut (c ∷ a) (d ∷ b) x y f g e =
     grind arith
 
 -- there is no space to cut at
-uncut : (a b x : List ℕ) → LacksSpace b → a ++ 32 ∷ x ≡ b → ⊥
+pub uncut : (a b x : List ℕ) → LacksSpace b → a ++ 32 ∷ x ≡ b → ⊥
 uncut [] [] x g e = grind arith
 uncut [] (d ∷ b) x g e = g.0 (grind arith)
 uncut (c ∷ a) [] x g e = grind arith
@@ -54,7 +54,7 @@ word_lacks Count = letters_lack (codes "count") refl
 word_lacks Key = letters_lack (codes "key") refl
 word_lacks Out = letters_lack (codes "out") refl
 
-name_lacks : (w : List ℕ) → IsName w → LacksSpace w
+pub name_lacks : (w : List ℕ) → IsName w → LacksSpace w
 name_lacks w h = letters_lack w h.2
 
 -- a line without a space

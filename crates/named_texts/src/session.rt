@@ -1,13 +1,15 @@
 //! Named handles over a storage of texts.
 
-ghost use Rattle.pagectl.specs.Named.{Gives, IsFree, OtherNames, Serves};
+ghost use Rattle.named_texts.specs.Named.{Gives, IsFree, OtherNames, Serves};
 
-use crate::named_texts::command::{Command, Verb};
-use crate::named_texts::names::{Names, Refusal};
+use crate::command::{Command, Verb};
+use crate::counts::Counts;
+use crate::names::{Names, Refusal};
+use crate::text_storage::TextStorage;
 use pagable::storage::handle::Storage;
 use pagable::{
     Env, Error, FirstHandle, HandleNumber, InMemoryBlobs, InMemoryPagableStorage, KeyHash,
-    OptionalDataKey, PagableStorageHandle, PageOutError,
+    OptionalDataKey, PagableStorage, PagableStorageHandle, PageOutError,
 };
 use pagable_testkit::text::{TextEnv, TextNode};
 use std::alloc::Global;
@@ -16,31 +18,37 @@ use std::sync::{Arc, Wait};
 /// What a command answers, in one line.
 #[derive(Drop)]
 pub enum Answer {
+    /// One of the words of the answers.
     Word(&'static str),
+    /// A count, or a key's number.
     Number(u128),
     /// The text of a value that was pinned.
     Value(Arc<TextNode>),
+    /// What the names of roots reach.
+    Counts(Counts),
 }
 
-type TextStorage<H> = PagableStorageHandle<TextEnv<H>, InMemoryBlobs<TextEnv<H>>>;
-
-/// The handles that have names, and the storage that they are of. No text stands outside a cell or a blob.
+/// The handles that have names, and the storage of their cells. Each text is in a cell or a blob.
 #[derive(Drop)]
-pub struct Session<'a, R: Wait, H: KeyHash>
+pub struct Session<'a, R: Wait, H: KeyHash, S: PagableStorage<TextEnv<H>>>
 where
     TextEnv<H>: Env<Node = TextNode, Hash = H, CtxKey = (), CtxValue = ()>,
 {
-    rt: &'a R,
-    names: Names,
-    storage: TextStorage<H>,
+    pub(crate) rt: &'a R,
+    pub(crate) names: Names,
+    pub(crate) storage: TextStorage<H, S>,
 }
 
-impl<'a, R: Wait, H: KeyHash> Session<'a, R, H> {
-    /// Makes a session without names and cells.
+impl<'a, R: Wait, H: KeyHash> Session<'a, R, H, InMemoryBlobs<TextEnv<H>>> {
+    /// Makes a session without names and cells, over blobs in memory.
     ///
     /// # Errors
-    /// - OutOfMemory.
-    pub fn new(rt: &'a R, alloc: Global) -> Result<Session<'a, R, H>, Error> {
+    ///
+    /// - `OutOfMemory`.
+    pub fn in_memory(
+        rt: &'a R,
+        alloc: Global,
+    ) -> Result<Session<'a, R, H, InMemoryBlobs<TextEnv<H>>>, Error> {
         let storage = InMemoryPagableStorage::new(alloc, TextEnv::new())?;
         Ok(Session {
             rt,
@@ -48,19 +56,43 @@ impl<'a, R: Wait, H: KeyHash> Session<'a, R, H> {
             storage: storage.handle()?,
         })
     }
+}
+
+impl<'a, R: Wait, H: KeyHash, S: PagableStorage<TextEnv<H>>> Session<'a, R, H, S> {
+    /// Makes a session without names and cells, over a storage.
+    ///
+    /// # Errors
+    ///
+    /// - `OutOfMemory`: the storage is dropped.
+    pub fn over(rt: &'a R, alloc: Global, storage: S) -> Result<Session<'a, R, H, S>, Error>
+    where
+        S: Drop,
+    {
+        Ok(Session {
+            rt,
+            names: Names::new(alloc),
+            storage: PagableStorageHandle::new(alloc, storage, TextEnv::new())?,
+        })
+    }
 
     /// Runs a command.
+    ///
+    /// # Errors
+    ///
+    /// - `BadName` if a handle has the name already that is to be a new one, `NoName` if none has the
+    ///   name.
+    /// - the errors of the call on the storage that the command makes.
     pub fn run(&mut self, alloc: Global, command: Command<'_>) -> Result<Answer, Refusal> {
         run(self.rt, alloc, &mut self.names, &self.storage, command)
     }
 }
 
-/// Runs a command on these names and the storage that their handles are of.
-fn run<R: Wait, H: KeyHash>(
+/// Runs a command on these names and the storage of their cells.
+fn run<R: Wait, H: KeyHash, S: PagableStorage<TextEnv<H>>>(
     rt: &R,
     alloc: Global,
     names: &mut Names,
-    storage: &TextStorage<H>,
+    storage: &TextStorage<H, S>,
     command: Command<'_>,
 ) -> Result<Answer, Refusal>
     ensures { Serves command.entry result names.old names.new }
@@ -83,12 +115,12 @@ fn run<R: Wait, H: KeyHash>(
     }
 }
 
-/// A new cell with the text, whose loose handle gets the name.
-fn make<R: Wait, H: KeyHash>(
+/// Inserts a cell with a text, and gives its loose handle a new name.
+fn make<R: Wait, H: KeyHash, S: PagableStorage<TextEnv<H>>>(
     rt: &R,
     alloc: Global,
     names: &mut Names,
-    storage: &TextStorage<H>,
+    storage: &TextStorage<H, S>,
     name: &str,
     text: &str,
 ) -> Result<Answer, Refusal>
@@ -101,12 +133,12 @@ fn make<R: Wait, H: KeyHash>(
     Ok(Answer::Word("ok"))
 }
 
-/// Pins the cell of a name, and answers its text. The pin gets the new name.
-fn pin<R: Wait, H: KeyHash>(
+/// Pins the cell of a name, and returns its text. The pin gets the new name.
+fn pin<R: Wait, H: KeyHash, S: PagableStorage<TextEnv<H>>>(
     rt: &R,
     alloc: Global,
     names: &mut Names,
-    storage: &TextStorage<H>,
+    storage: &TextStorage<H, S>,
     name: &str,
     new: &str,
 ) -> Result<Answer, Refusal>
@@ -120,11 +152,11 @@ fn pin<R: Wait, H: KeyHash>(
 }
 
 /// Clones the handle of a name. The clone gets the new name.
-fn clone<R: Wait, H: KeyHash>(
+fn clone<R: Wait, H: KeyHash, S: PagableStorage<TextEnv<H>>>(
     rt: &R,
     alloc: Global,
     names: &mut Names,
-    storage: &TextStorage<H>,
+    storage: &TextStorage<H, S>,
     name: &str,
     new: &str,
 ) -> Result<Answer, Refusal>
@@ -137,12 +169,12 @@ fn clone<R: Wait, H: KeyHash>(
     Ok(Answer::Word("ok"))
 }
 
-/// Gives up the handle of a name, which is free again. All handles that have names are the program's own, so a refusal
-/// says that the cell couldn't be listed: the handle is given up all the same.
-fn release<R: Wait, H: KeyHash>(
+/// Releases the handle of a name, and frees the name. The caller owns each handle that has a name, so
+/// an error says that the cell couldn't be listed: the handle is released all the same.
+fn release<R: Wait, H: KeyHash, S: PagableStorage<TextEnv<H>>>(
     rt: &R,
     names: &mut Names,
-    storage: &TextStorage<H>,
+    storage: &TextStorage<H, S>,
     name: &str,
 ) -> Result<Answer, Refusal>
     ensures is_free { IsFree name.now names.new }
@@ -154,11 +186,11 @@ fn release<R: Wait, H: KeyHash>(
     Ok(Answer::Word("ok"))
 }
 
-/// Gives up a handle's pin, makes a Pinned handle loose, or answers how many handles pin its cell, the number of the
-/// cell's key, or whether the cell's text isn't in memory.
-fn ask<R: Wait, H: KeyHash>(
+/// Unpins a handle, makes a Pinned handle loose, or returns how many handles pin its cell, the number
+/// of the cell's key, or whether the cell is paged out.
+fn ask<R: Wait, H: KeyHash, S: PagableStorage<TextEnv<H>>>(
     rt: &R,
-    storage: &TextStorage<H>,
+    storage: &TextStorage<H, S>,
     verb: Verb,
     handle: HandleNumber,
 ) -> Result<Answer, Error> {

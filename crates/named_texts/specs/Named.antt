@@ -1,11 +1,11 @@
 -- The names of handles, and what a command does to them.
 use Rattle.std.specs.Prelude.{◌≡◌, ◌≢◌, IsSome, List, None, ℕ, Result, String, string_bytes}
 use Rattle.std.specs.Result.{MatchResult}
-use Rattle.pagectl.specs.declared.named_texts.command.Command.{Command}
-use Rattle.pagectl.specs.declared.named_texts.command.Command.TheVariants.{New, Pin, Clone, Release, Of, Pending, PageOut}
+use Rattle.named_texts.specs.declared.command.Command.{Command}
+use Rattle.named_texts.specs.declared.command.Command.TheVariants.{New, Pin, Clone, Release, Of, Pending, PageOut}
 use Rattle.std.specs.HashMap.{get_by_text}
 use Rattle.std.specs.Global.{Global}
-use Rattle.pagectl.specs.declared.named_texts.names.Names.{Names}
+use Rattle.named_texts.specs.declared.names.Names.{Names}
 
 -- nothing has the name
 abbrev pub IsFree : List ℕ → Names → Type 0

@@ -1,20 +1,20 @@
 //! Names of handles.
 
-ghost use Rattle.pagectl.specs.Named.{IsFree, OtherNames, SameNames};
+ghost use Rattle.named_texts.specs.Named.{IsFree, OtherNames, SameNames};
 ghost use Rattle.std.specs.{HashMap.{get_by_text, spare}, Prelude.{IfErr, IfOk, List, Some, string_bytes, ℕ, ◌<◌, ◌≡◌}};
 
 use pagable::{Error, HandleNumber};
 use std::alloc::{AllocError, Global};
 use std::collections::HashMap;
 
-/// Why a command is refused.
+/// Why a command fails.
 #[derive(Drop)]
 pub enum Refusal {
-    /// The name is in use where a new one is wanted.
+    /// A handle has the name already that was to be a new one.
     BadName,
-    /// Nothing has this name.
+    /// No handle has the name, or the root's name stands for no key.
     NoName,
-    /// The pager or the storage refused.
+    /// The pager or the storage failed.
     Error(Error),
 }
 
@@ -25,8 +25,8 @@ impl From<Error> for Refusal {
 }
 
 impl From<AllocError> for Refusal {
-    fn from(_e: AllocError) -> Refusal {
-        Refusal::Error(Error::OutOfMemory)
+    fn from(e: AllocError) -> Refusal {
+        Refusal::Error(Error::from(e))
     }
 }
 
@@ -37,7 +37,7 @@ pub struct Names {
 }
 
 impl Names {
-    /// No names. It takes no memory.
+    /// Makes the names of no handles. It allocates nothing.
     pub fn new(alloc: Global) -> Names
         ensures { (name : List ℕ) → IsFree name result }
     {
@@ -46,7 +46,11 @@ impl Names {
         }
     }
 
-    /// The handle of this name. Refused with NoName.
+    /// Returns the handle of a name.
+    ///
+    /// # Errors
+    ///
+    /// - `NoName` if no handle has it.
     pub fn find(&self, name: &str) -> Result<HandleNumber, Refusal>
         ensures found { IfOk result (λ handle. get_by_text self.now.handles name.now ≡ Some handle) }
         ensures none { IfErr result (λ e. IsFree name.now self.now) }
@@ -57,8 +61,13 @@ impl Names {
         }
     }
 
-    /// Makes room for a new name, before its handle is made, so that no handle is left without one. Refused with
-    /// BadName, and with OutOfMemory.
+    /// Makes room for a new name before its handle is made, so that no handle is left without one.
+    /// Returns a copy of the name.
+    ///
+    /// # Errors
+    ///
+    /// - `BadName` if a handle has the name.
+    /// - `OutOfMemory`. After each error each name has the handle that it had.
     pub fn make_room(&mut self, alloc: Global, name: &str) -> Result<String, Refusal>
         ensures room { IfOk result (λ new. (string_bytes new ≡ name.now) × IsFree name.now self.old
             × (0 < spare self.new.handles)) }
@@ -72,7 +81,7 @@ impl Names {
         Ok(new)
     }
 
-    /// Gives the handle this name, for which there is room.
+    /// Gives a handle a name, for which there is room.
     pub fn give(&mut self, name: String, handle: HandleNumber)
         requires { 0 < spare self.old.handles }
         ensures named { get_by_text self.new.handles (string_bytes name) ≡ Some handle }
@@ -81,7 +90,7 @@ impl Names {
         let _given = self.handles.insert(name, handle);
     }
 
-    /// Frees the name.
+    /// Frees a name, whether a handle has it or not.
     pub fn free(&mut self, name: &str)
         ensures is_free { IsFree name.now self.new }
         ensures others { OtherNames name.now self.old self.new }

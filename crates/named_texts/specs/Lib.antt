@@ -1,2 +1,3 @@
+pub mod Durable
 pub mod Line
 pub mod Named

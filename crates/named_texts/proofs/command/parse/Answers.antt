@@ -1,8 +1,8 @@
 -- What stands before and behind the first two spaces.
 use Rattle.std.proofs.Common.{subst, sym, ap, ◌∙◌, ◌++◌, ◌∷◌}
-use Rattle.pagectl.specs.Line.{AnswersLine}
-use Rattle.pagectl.proofs.Lines.{split_some, split_none}
-use Rattle.pagectl.proofs.named_texts.command.parse.Goals as goal
+use Rattle.named_texts.specs.Line.{AnswersLine}
+use Rattle.named_texts.proofs.Lines.{split_some, split_none}
+use Rattle.named_texts.proofs.command.parse.Goals as goal
 
 pub of_name-requires-clause-word : goal.of_name-requires-clause-word
 of_name-requires-clause-word c = (split_some c.args.line.now (c.in_ok-word.word, c.in_ok-word.rest) c.in_ok-word.ensures.cases).0

@@ -3,10 +3,10 @@ use Rattle.std.specs.Prelude.{◌≡◌, ◌≢◌, ◌⊎◌, ◌≤◌, ◌++�
 use Rattle.std.specs.Option.{MatchOption}
 use Rattle.std.specs.List.{list_all}
 use Rattle.std.specs.Char.{is_ascii_alphanumeric}
-use Rattle.pagectl.specs.declared.named_texts.command.Command.{Command}
-use Rattle.pagectl.specs.declared.named_texts.command.Command.TheVariants.{New, Pin, Clone, Release, Of, Pending, PageOut}
-use Rattle.pagectl.specs.declared.named_texts.command.Verb.{Verb}
-use Rattle.pagectl.specs.declared.named_texts.command.Verb.TheVariants.{Unpin, Loose, Count, Key, Out}
+use Rattle.named_texts.specs.declared.command.Command.{Command}
+use Rattle.named_texts.specs.declared.command.Command.TheVariants.{New, Pin, Clone, Release, Of, Pending, PageOut}
+use Rattle.named_texts.specs.declared.command.Verb.{Verb}
+use Rattle.named_texts.specs.declared.command.Verb.TheVariants.{Unpin, Loose, Count, Key, Out}
 
 -- 1 to 16 ASCII letters and digits
 abbrev pub IsName : List ℕ → Type 0

@@ -1,38 +1,43 @@
-//! The lines that `pagectl` reads.
+//! The lines about named texts, whatever storage is below.
 
-ghost use Rattle.pagectl.specs.{Line.{AnswersLine, IsName, LacksSpace, word_of}, declared.named_texts.command.Verb.Verb};
+ghost use Rattle.named_texts.specs.{Line.{AnswersLine, IsName, LacksSpace, word_of}, declared.command.Verb.Verb};
 ghost use Rattle.std.specs.{Char.is_ascii_alphanumeric, List.list_all, Prelude.{IfNone, IfSome, IsTrue, codes, length, ℕ, ◌++◌, ◌≡◌, ◌↔◌, ◌∷◌, ◌≢◌}};
 
-/// What is asked of the handle of one name.
+/// What a line asks of the handle of one name.
 #[derive(Clone, Copy)]
 pub enum Verb {
+    /// `unpin NAME`: unpins the handle.
     Unpin,
+    /// `loose NAME`: makes a Pinned handle a loose one, which pins.
     Loose,
+    /// `count NAME`: counts the handles that pin its cell.
     Count,
+    /// `key NAME`: shows its cell's key.
     Key,
+    /// `out NAME`: says whether its cell is paged out.
     Out,
 }
 
 /// One line, understood. A name is 1 to 16 ASCII letters and digits.
 #[derive(Clone, Copy)]
 pub enum Command<'a> {
-    /// `new NAME TEXT`: a new cell with the text, under a new name.
+    /// `new NAME TEXT`: inserts a new cell with the text, under a new name.
     New(&'a str, &'a str),
-    /// `pin NAME NEW`: the text; NEW is the pin.
+    /// `pin NAME NEW`: pins the name's cell, and shows its text; NEW names the pin.
     Pin(&'a str, &'a str),
-    /// `clone NAME NEW`: NEW is one more handle of the same mode.
+    /// `clone NAME NEW`: NEW names one more handle of the same mode.
     Clone(&'a str, &'a str),
-    /// `release NAME`: the handle is given up, and the name is free again.
+    /// `release NAME`: releases the handle, and frees the name.
     Release(&'a str),
-    /// `unpin NAME`, `loose NAME`, `count NAME`, `key NAME` or `out NAME`
+    /// `unpin NAME`, `loose NAME`, `count NAME`, `key NAME` or `out NAME`.
     Of(Verb, &'a str),
-    /// `pending`
+    /// `pending`: counts the cells that are listed for page-out.
     Pending,
-    /// `pageout`
+    /// `pageout`: pages out the list.
     PageOut,
 }
 
-/// What a line asks for, or None for a line that isn't one of these. Words are separated by one space.
+/// Returns the command that a line spells, or None if it spells none. One space separates words.
 pub fn parse(line: &str) -> Option<Command<'_>>
     ensures { AnswersLine line.now result }
 {
@@ -48,7 +53,7 @@ pub fn parse(line: &str) -> Option<Command<'_>>
     }
 }
 
-/// What a word and a name ask for.
+/// Returns the command of a word and a name.
 #[tactic(auto, using(crate::proofs::Lines::two_words))]
 fn of_name<'a>(word: &str, name: &'a str) -> Option<Command<'a>>
     requires word { LacksSpace word.now }
@@ -65,7 +70,8 @@ fn of_name<'a>(word: &str, name: &'a str) -> Option<Command<'a>>
     }
 }
 
-/// What a word, a name and what stands behind its space ask for. The text of `new` is all behind that space.
+/// Returns the command of a word, a name and the text behind its space. The text of `new` is all of
+/// that.
 #[tactic(auto, using(crate::proofs::Lines::more_words))]
 fn of_two<'a>(word: &str, name: &'a str, behind: &'a str) -> Option<Command<'a>>
     requires word { LacksSpace word.now }
@@ -84,7 +90,7 @@ fn of_two<'a>(word: &str, name: &'a str, behind: &'a str) -> Option<Command<'a>>
     }
 }
 
-/// What a word asks of a name.
+/// Returns what a word asks of a name.
 fn verb_of(word: &str) -> Option<Verb>
     ensures some { IfSome result (λ verb. word.now ≡ word_of verb) }
     ensures none { IfNone result ((verb : Verb) → word.now ≢ word_of verb) }
@@ -99,15 +105,15 @@ fn verb_of(word: &str) -> Option<Verb>
     }
 }
 
-/// Whether the word is a name.
-fn is_name(word: &str) -> bool
+/// Says whether a word is a name.
+pub(crate) fn is_name(word: &str) -> bool
     ensures { IsTrue result ↔ IsName word.now }
 {
     let fits = word.len() >= 1 && word.len() <= 16;
     fits && has_letters_and_digits_alone(word)
 }
 
-/// Whether each byte of the word is an ASCII letter or digit.
+/// Says whether each byte of a word is an ASCII letter or digit.
 fn has_letters_and_digits_alone(word: &str) -> bool
     ensures { result ≡ list_all is_ascii_alphanumeric word.now }
 {
