@@ -31,8 +31,8 @@ from driver import Server  # noqa: E402
 from naming import Unlike  # noqa: E402
 
 USES = (
-    "failures: pagable pagable_testkit pagable_examples pagable_locked_examples pagable_locked pagable_load pagable_value_spec pagable_traits"
-    " pagable_codec pagable_core anyhow either futures hex indexmap serde_json\n"
+    "failures: pagable named_texts pagable_testkit pagable_examples pagable_locked_examples pagable_locked pagable_load"
+    " pagable_value_spec pagable_traits pagable_codec pagable_core anyhow either futures hex indexmap serde_json\n"
 )
 # (a test's own calls, in the copy alone)
 COUNTERS = {
@@ -52,11 +52,8 @@ def add_counters(crates):
 
 def add_pagectl(crates, source):
     """Puts the program `pagectl` beside, as a module, but for its `main`."""
-    folder = crates / "pagectl" / "src"
-    shutil.copy(folder / "named_texts.rt", source)
-    shutil.copytree(folder / "named_texts", source / "named_texts")
-    text = (folder / "main.rt").read_text(encoding="utf-8")
-    text = re.sub(r"^(#!\[.*|mod named_texts;)\n", "", text, flags=re.MULTILINE).replace("\nfn run<", "\npub fn run<")
+    text = (crates / "pagectl" / "src" / "main.rt").read_text(encoding="utf-8")
+    text = re.sub(r"^#!\[.*\n", "", text, flags=re.MULTILINE).replace("\nfn run<", "\npub fn run<")
     (source / "pagectl.rt").write_text(text[: text.index("fn main(")], encoding="utf-8")
 
 
