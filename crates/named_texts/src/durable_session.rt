@@ -87,7 +87,7 @@ fn run<R: Wait, H: KeyHash, S: Roots<TextEnv<H>>>(
             save(rt, alloc, roots, storage, handle, root)?;
             Ok(Answer::Word("ok"))
         }
-        DurableCommand::Open(root, name) => open(rt, alloc, names, storage, root, name),
+        DurableCommand::Open(root, new) => open_root(rt, alloc, names, storage, root, new),
         DurableCommand::Flush => {
             storage.flush(rt)?;
             Ok(Answer::Word("ok"))
@@ -123,7 +123,7 @@ fn save<R: Wait, H: KeyHash, S: Roots<TextEnv<H>>>(
 
 /// Makes a cell of the key that a root's name stands for. Its loose handle gets the new name. The
 /// call doesn't read the blob.
-fn open<R: Wait, H: KeyHash, S: Roots<TextEnv<H>>>(
+fn open_root<R: Wait, H: KeyHash, S: Roots<TextEnv<H>>>(
     rt: &R,
     alloc: Global,
     names: &mut Names,
