@@ -55,7 +55,7 @@ fn answer_words(rt: &HostRuntime) -> io::Result<Option<bool>> {
     if path == "texts" && !line.is_empty() {
         return Ok(Some(serve_texts(rt, line)?));
     }
-    if !line.is_empty() && parse(line).is_none() {
+    if path == "texts" || (!line.is_empty() && parse(line).is_none()) {
         return Ok(None);
     }
     let done = serve::<FileBlobs<BlobEnv<Sha256Key>, FileStore<File>>>(rt, path, line)?;
