@@ -20,17 +20,25 @@ COMMANDS = {
 
 
 def build(cache, folder):
-    """What a build says and which files it leaves, as long as a cache forgets nothing."""
+    """What a build says, which files it leaves, and why it fails, as long as a cache forgets nothing. A step that ran is
+    kept, whatever becomes of its target and of later rules."""
     said, files, ran = [], {}, 0
     rules = [line.split() for line in (folder / "BUILD").read_text().splitlines()]
     rules = [rule for rule in rules if rule and not rule[0].startswith("#")]
     for target, word, *inputs in rules:
+        missing = [name for name in inputs if name not in files and not (folder / name).exists()]
+        if missing:
+            return "".join(said), files, (target, f"reading {missing[0]}")
+        if word not in COMMANDS:
+            return "".join(said), files, (target, f"no command is called {word}")
         texts = tuple(files[name] if name in files else (folder / name).read_text() for name in inputs)
         said.append(f"{'kept' if (word, texts) in cache else 'ran'} {target}\n")
         ran += (word, texts) not in cache
         cache.add((word, texts))
+        if (folder / target).is_dir():
+            return "".join(said), files, (target, "writing it")
         files[target] = COMMANDS[word]("".join(texts))
-    return "".join(said) + f"{ran} of {len(rules)} commands ran\n", files
+    return "".join(said) + f"{ran} of {len(rules)} commands ran\n", files, None
 
 
 # ---- heap_snapshot: pairs are tuples

@@ -42,20 +42,46 @@ def expect(found, wanted, what):
         sys.exit(f"{what}: {found!r} in place of {wanted!r}")
 
 
+def expect_failure(found, said, why, what):
+    """Ends the program where a run didn't say this, and then fail for a reason with these words."""
+    status, told = found
+    if status != 1 or not told.startswith(said) or not all(it in told[len(said) :] for it in why):
+        sys.exit(f"{what}: {found!r} in place of {said!r} and a failure by {why!r}")
+
+
 def built_once(program, store, folder, cache):
     """Builds a folder by the program and by the model, and compares what is said and what is written."""
-    said, files = models.build(cache, folder)
-    expect(run(program, [store, folder]), (0, said), "build_cache")
+    said, files, why = models.build(cache, folder)
+    if why:
+        expect_failure(run(program, [store, folder]), said, [f"building {why[0]}", why[1]], "build_cache")
+    else:
+        expect(run(program, [store, folder]), (0, said), "build_cache")
     for name, text in files.items():
         expect((folder / name).read_text(), text, name)
     return said
 
 
+def failing(program, folder, store, cache):
+    """Builds that fail behind steps that ran, and builds behind them, which run none of these again."""
+    ended = lambda: built_once(program, store, folder, cache).splitlines()[-1]
+    rules = (folder / "BUILD").read_text()
+    (folder / "BUILD").write_text(rules + "more.txt turn a.txt\nlast.txt sort copy.txt\n")
+    expect(ended(), "kept copy.txt", "a first build that fails")
+    (folder / "BUILD").write_text(rules + "last.txt sort copy.txt\n")
+    (folder / "last.txt").mkdir()
+    expect(ended(), "kept last.txt", "a build that can't write")
+    (folder / "last.txt").rmdir()
+    expect(ended(), "0 of 7 commands ran", "the build after two that failed")
+    (folder / "BUILD").write_text(rules)
+    return 3
+
+
 def build_cache(program, work):
-    """A first build, a second one, edits that change a part and nothing, a lost target, a rule file that is none, and
-    drawn edits."""
+    """A first build, a second one, edits that change a part and nothing, a lost target, builds that fail, and drawn
+    edits and failures."""
     folder, store, cache = work / "folder", work / "build.store", set()
     shutil.copytree(TOP / "crates" / "build_cache" / "data", folder)
+    runs = failing(program, folder, work / "failing.store", set())
     ended = lambda: built_once(program, store, folder, cache).splitlines()[-1]
     expect(ended(), "5 of 6 commands ran", "the first build")
     expect(ended(), "0 of 6 commands ran", "the second build")
@@ -66,15 +92,15 @@ def build_cache(program, work):
     expect(ended(), "0 of 6 commands ran", "the build after the edit was taken back")
     (folder / "report.txt").unlink()
     expect(ended(), "0 of 6 commands ran", "the build after a target was lost")
-    rules = (folder / "BUILD").read_text()
-    (folder / "BUILD").write_text(rules + "more.txt turn a.txt\n")
-    expect(run(program, [store, folder])[0], 1, "the build of a rule with no command")
-    (folder / "BUILD").write_text(rules)
-    for _ in range(20):
+    rules = (folder / "BUILD").read_text().splitlines(keepends=True)
+    for _ in range(30):
         lines = random.choices(["fig\n", "plum\n", "Apfel\n", "\n"], k=random.randrange(4))
         (folder / random.choice(["a.txt", "b.txt"])).write_text("".join(lines))
+        wrong = random.choice([[], ["more.txt turn a.txt\n"], ["more.txt sort none.txt\n"]])
+        place = random.randrange(len(rules) + 1)
+        (folder / "BUILD").write_text("".join(rules[:place] + wrong + rules[place:]))
         built_once(program, store, folder, cache)
-    return 26
+    return runs + 35
 
 
 def heap_snapshot(program, work):

@@ -33,7 +33,7 @@ struct Build<'a, R: RecordCalls> {
     ran: u64,
 }
 
-/// The build of a folder, with the steps of the last build.
+/// The build of a folder, with the steps of the last build. A build that fails saves its steps too.
 #[derive(Drop)]
 pub struct FolderBuild<'a> {
     pub rt: &'a HostRuntime,
@@ -45,11 +45,7 @@ impl<'a> Job for FolderBuild<'a> {
 
     const KEPT_RECORDS: u64 = 100;
 
-    fn run<R: RecordCalls>(
-        &self,
-        store: &mut R,
-        last: Option<HandleNumber>,
-    ) -> Result<HandleNumber> {
+    fn run<R: RecordCalls>(&self, store: &mut R, last: Option<HandleNumber>) -> Result<()> {
         let steps = read_steps(store, last)?;
         let mut build = Build {
             rt: self.rt,
@@ -59,8 +55,10 @@ impl<'a> Job for FolderBuild<'a> {
             targets: BTreeMap::new(self.rt.alloc()),
             ran: 0,
         };
-        build.build_targets()?;
-        build.insert_steps()
+        let built = build.build_targets();
+        let steps = build.insert_steps()?;
+        build.store.save(Self::ROOT, steps)?;
+        built
     }
 }
 
@@ -100,9 +98,9 @@ impl<'a, R: RecordCalls> Build<'a, R> {
             Some(output) => ("kept", output),
             None => ("ran", self.run(rule)?),
         };
+        self.steps.put(step, output)?;
         println!(self.rt; "{word} {}", rule.target)?;
         self.write_target(rule.target, output)?;
-        self.steps.put(step, output)?;
         self.targets
             .insert(String::from_str(self.rt.alloc(), rule.target)?, output)?;
         Ok(())

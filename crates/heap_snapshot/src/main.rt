@@ -23,18 +23,15 @@ impl<'a> Job for Run<'a> {
 
     const KEPT_RECORDS: u64 = 1000;
 
-    fn run<R: RecordCalls>(
-        &self,
-        store: &mut R,
-        last: Option<HandleNumber>,
-    ) -> Result<HandleNumber> {
+    fn run<R: RecordCalls>(&self, store: &mut R, last: Option<HandleNumber>) -> Result<()> {
         let first = match self.program {
             Some(program) => insert_first(store, program)?,
             None => last.context("no machine is saved in this store")?,
         };
         let mut machine = Machine::read(store, first)?;
         self.run_lines(store, &mut machine)?;
-        machine.insert(store)
+        let record = machine.insert(store)?;
+        Ok(store.save(Self::ROOT, record)?)
     }
 }
 

@@ -9,43 +9,36 @@ use std::alloc::Global;
 
 /// The work that a program does in each run, with its records.
 pub trait Job {
-    /// The name of the root that stands for the last run's record.
+    /// The name of the root under which `run` saves its record.
     const ROOT: &'static str;
 
     /// How many records stay in memory beside the new ones.
     const KEPT_RECORDS: u64;
 
-    /// Does the work of a run, and returns the record of this run. `last` is the handle of the last
-    /// run's record, if there is one.
+    /// Does the work of a run, and saves its record under `ROOT`. `last` is the handle of the record
+    /// that was saved there last, if there is one.
     ///
     /// # Errors
     ///
-    /// - the job's own: then nothing is saved.
-    fn run<R: RecordCalls>(
-        &self,
-        store: &mut R,
-        last: Option<HandleNumber>,
-    ) -> Result<HandleNumber>;
+    /// - the job's own: what it saved before stays saved.
+    fn run<R: RecordCalls>(&self, store: &mut R, last: Option<HandleNumber>) -> Result<()>;
 }
 
-/// Runs a job over the records of a storage, and saves the record that it returns there.
+/// Runs a job over the records of a storage.
 ///
 /// # Errors
 ///
-/// - as `RecordStore::open`, `Job::run` and `RecordStore::save`.
+/// - as `RecordStore::open` and `Job::run`.
 pub fn run_over<J: Job, S: Roots<Records> + Drop>(
     alloc: Global,
     storage: S,
     job: &J,
 ) -> Result<()> {
     let (mut store, last) = RecordStore::open(alloc, storage, J::ROOT, J::KEPT_RECORDS)?;
-    let record = job.run(&mut store, last)?;
-    store.save(J::ROOT, record)?;
-    Ok(())
+    job.run(&mut store, last)
 }
 
-/// Runs a job over the records of a file, which it creates if there is none, and saves the record
-/// that the job returns there.
+/// Runs a job over the records of a file, which it creates if there is none.
 ///
 /// # Errors
 ///

@@ -40,7 +40,7 @@ impl<S: PagableStorage<Records>> RecordStore<S> {
     }
 }
 
-impl<S: PagableStorage<Records>> RecordCalls for RecordStore<S> {
+impl<S: Roots<Records>> RecordCalls for RecordStore<S> {
     fn alloc(&self) -> Global {
         self.alloc
     }
@@ -98,6 +98,16 @@ impl<S: PagableStorage<Records>> RecordCalls for RecordStore<S> {
         let arcs = Vec::new(self.alloc);
         Ok(PagableData { bytes, arcs }.compute_key::<Sha256Key>())
     }
+
+    fn save(&mut self, name: &str, handle: HandleNumber) -> Result<(), Error>
+        ensures flushed { IsTrue (S.PagableStorage.is_honest self.new.pager.storage)
+            → OnOk result (S.PagableStorage.flushed self.new.pager.storage
+            ≡ S.PagableStorage.stored self.new.pager.storage) }
+    {
+        let key = self.key(handle)?;
+        self.pager.set_root(self.alloc, name, Some(key))?;
+        self.pager.flush()
+    }
 }
 
 impl<S: Roots<Records> + Drop> RecordStore<S> {
@@ -129,22 +139,5 @@ impl<S: Roots<Records> + Drop> RecordStore<S> {
                 Ok((store, Some(handle)))
             }
         }
-    }
-
-    /// Pages out a handle's record with what changed of all that it reaches, sets the root's name
-    /// to its key, and flushes both together. The store stays open.
-    ///
-    /// # Errors
-    ///
-    /// - as `page_out_changed`, `Pager::set_root` and `Pager::flush`: after another open the name
-    ///   stands for the key of the last flush.
-    pub fn save(&mut self, name: &str, handle: HandleNumber) -> Result<(), Error>
-        ensures flushed { IsTrue (S.PagableStorage.is_honest self.new.pager.storage)
-            → OnOk result (S.PagableStorage.flushed self.new.pager.storage
-            ≡ S.PagableStorage.stored self.new.pager.storage) }
-    {
-        let key = self.key(handle)?;
-        self.pager.set_root(self.alloc, name, Some(key))?;
-        self.pager.flush()
     }
 }

@@ -22,11 +22,7 @@ impl<'a> Job for Lines<'a> {
 
     const KEPT_RECORDS: u64 = 100;
 
-    fn run<R: RecordCalls>(
-        &self,
-        store: &mut R,
-        last: Option<HandleNumber>,
-    ) -> Result<HandleNumber> {
+    fn run<R: RecordCalls>(&self, store: &mut R, last: Option<HandleNumber>) -> Result<()> {
         let root = match last {
             Some(root) => root,
             None => insert_first(store)?,
@@ -42,7 +38,8 @@ impl<'a> Job for Lines<'a> {
             }
         }
         let sums = sheet.spell_sums()?;
-        Ok(store.insert(SHEET, sums.as_str(), &[sheet.version])?)
+        let record = store.insert(SHEET, sums.as_str(), &[sheet.version])?;
+        Ok(store.save(Self::ROOT, record)?)
     }
 }
 
