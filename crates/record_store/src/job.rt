@@ -4,7 +4,7 @@ use crate::calls::RecordCalls;
 use crate::record_store::RecordStore;
 use anyhow::{Context, Result};
 use pagable::{HandleNumber, Records};
-use pagable_file::{FileBlobs, Roots};
+use pagable_file::{FileBlobs, OpenError, Roots};
 use std::alloc::Global;
 
 /// The work that a program does in each run, with its records.
@@ -38,12 +38,21 @@ pub fn run_over<J: Job, S: Roots<Records> + Drop>(
     job.run(&mut store, last)
 }
 
+// Runs a job over the records of a storage, if that was opened. The storage is of any type here, so
+// no way out needs a proof about all that a file of blobs consists of.
+fn run_over_opened<J: Job, S: Roots<Records> + Drop>(
+    alloc: Global,
+    storage: Result<S, OpenError>,
+    job: &J,
+) -> Result<()> {
+    run_over(alloc, storage.context("opening the store")?, job)
+}
+
 /// Runs a job over the records of a file, which it creates if there is none.
 ///
 /// # Errors
 ///
 /// - as `FileBlobs::open` and `run_over`.
 pub fn run_over_file<J: Job>(rt: &HostRuntime, path: &str, job: &J) -> Result<()> {
-    let storage = FileBlobs::open(rt, path).context("opening the store")?;
-    run_over(rt.alloc(), storage, job)
+    run_over_opened(rt.alloc(), FileBlobs::open(rt, path), job)
 }
