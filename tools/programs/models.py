@@ -1,6 +1,7 @@
 """Plain models of the three programs whose files last."""
 import operator
 import random
+import re
 
 
 # ---- build_cache: a step is a command and the texts of its inputs
@@ -95,17 +96,35 @@ class Machine:
 
 # ---- spreadsheet: versions are dicts
 
-NAMES = ["A", "B", "C", "D", "E"]
+NAMES = ["A", "B", "C2", "d_e", "É"]
+WRONG_NAMES = ["=x", "_", "2", "A-B", "A:"]
+WRONG_FORMULAS = ["5x", "=", "=A+", "=A++B", "=A+5", "==A"]
+# A byte that is no UTF-8, as Python's strings stand for it.
+WRONG_BYTE = "\udcff"
 
 
 def line():
     """A drawn line."""
-    name = random.choice(NAMES)
-    number, names = random.randrange(-3, 4), random.choices(NAMES, k=random.randrange(1, 4))
-    formula = random.choice([str(number), "=" + "+".join(names)])
+    name, formula = random.choice(NAMES), str(random.randrange(-3, 4))
+    if random.random() < 0.5:
+        formula = "=" + "+".join(random.choices(NAMES, k=random.randrange(1, 4)))
     if random.random() < 0.1:
-        formula = "5x"
-    return random.choice([f"set {name} {formula}"] * 3 + [f"get {name}"] * 3 + ["undo", "stats", f"put {name}"])
+        name = random.choice(WRONG_NAMES)
+    if random.random() < 0.1:
+        formula = random.choice(WRONG_FORMULAS)
+    lines = [f"set {name} {formula}"] * 3 + [f"get {name}"] * 3 + ["undo", "stats", f"put {name}", f"get {WRONG_BYTE}"]
+    return random.choice(lines)
+
+
+def is_name(word):
+    return word[:1].isalpha() and all(letter.isalnum() or letter == "_" for letter in word)
+
+
+def is_formula(word):
+    """Whether a word is a number, or names that are added up. (No drawn number is a large one.)"""
+    if word.startswith("="):
+        return all(is_name(name) for name in word[1:].split("+"))
+    return re.fullmatch(r"[+-]?[0-9]+", word) is not None
 
 
 class Refused(Exception):
@@ -140,15 +159,17 @@ class Sheet:
         return self.values[name]
 
     def answer(self, line):
-        """What a line is answered."""
+        """What a line is answered: one that isn't UTF-8 as one without words."""
         try:
-            return self.done(*line.split())
+            return self.done(*([] if WRONG_BYTE in line else line.split()))
         except Refused as refused:
             return f"refused: {refused}"
 
-    def done(self, word, *words):
+    def done(self, word="", *words):
         if word == "set":
-            if words[1] == "5x":
+            if not is_name(words[0]):
+                raise Refused("a name is letters, digits and _, a letter first")
+            if not is_formula(words[1]):
                 raise Refused("a formula is a number or =NAME+NAME")
             self.versions.append({**self.versions[-1], words[0]: words[1]})
         elif word == "get":

@@ -32,7 +32,8 @@ def built(folder, name):
 
 def run(program, words, text=""):
     """Runs a program with these words and this input: its status, and what it said."""
-    done = subprocess.run([program, *map(str, words)], input=text, text=True, capture_output=True, timeout=120)
+    how = {"encoding": "utf-8", "errors": "surrogateescape", "capture_output": True, "timeout": 120}
+    done = subprocess.run([program, *map(str, words)], input=text, **how)
     return done.returncode, done.stdout + done.stderr
 
 

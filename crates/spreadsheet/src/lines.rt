@@ -1,9 +1,10 @@
-//! Lines about a sheet, and their answers. Each version of the sheet is a record over the one before it.
+//! Lines about a sheet, and their answers. Each version is a record over the one before it, and one text of all cells.
 
 use crate::sheet::{MOST_LEVELS, Sheet};
 use anyhow::{Context, Result, bail};
 use pagable::HandleNumber;
 use record_store::{Job, RecordCalls};
+use std::io::ErrorKind;
 
 /// The tag of a record of a version: its text is that of its cells.
 const VERSION: u32 = 1;
@@ -11,7 +12,7 @@ const VERSION: u32 = 1;
 /// The tag of a record of a sheet: its text is that of its sums, and it refers to its version.
 const SHEET: u32 = 2;
 
-/// The lines of standard input, which are answered about the sheet of the last run.
+/// The lines of standard input, which are answered about the last run's sheet. One that isn't UTF-8 is read as empty.
 #[derive(Drop)]
 pub struct Lines<'a> {
     pub rt: &'a HostRuntime,
@@ -32,7 +33,10 @@ impl<'a> Job for Lines<'a> {
         let mut sheet = Sheet::read_sums(store.alloc(), version, view.text())?;
         go_to(store, &mut sheet, version)?;
         for line in self.rt.lines(store.alloc()) {
-            let line = line?;
+            let line = match line {
+                Err(error) if error.kind() == ErrorKind::InvalidData => String::new(store.alloc()),
+                line => line?,
+            };
             if let Err(error) = answer(self.rt, store, &mut sheet, line.as_str()) {
                 println!(self.rt; "refused: {error}")?;
             }
@@ -57,28 +61,21 @@ fn answer<R: RecordCalls>(
     line: &str,
 ) -> Result<()> {
     let words: Vec<&str> = line.split_whitespace().collect(store.alloc())?;
-    match *words.as_slice() {
-        ["set", name, formula] => set(store, sheet, name, formula)?,
-        ["undo"] => undo(store, sheet)?,
+    let version = match *words.as_slice() {
+        ["set", name, formula] => {
+            let cells = sheet.spell_next(name, formula)?;
+            store.insert(VERSION, cells.as_str(), &[sheet.version])?
+        }
+        ["undo"] => {
+            let before = store.read(sheet.version)?.first();
+            before.context("there is no version before this one")?
+        }
         ["get", name] => return Ok(rt.println(sheet.evaluate(name, MOST_LEVELS)?)?),
         ["stats"] => return Ok(println!(rt; "{} added, {} known", sheet.added, sheet.known)?),
         _ => bail!("a line is set NAME 5, set NAME =A+B, get NAME, undo or stats"),
-    }
+    };
+    go_to(store, sheet, version)?;
     Ok(rt.println("ok")?)
-}
-
-/// Sets what stands in a cell, by a new version.
-fn set<R: RecordCalls>(store: &mut R, sheet: &mut Sheet, name: &str, formula: &str) -> Result<()> {
-    let cells = sheet.spell_next(name, formula)?;
-    let version = store.insert(VERSION, cells.as_str(), &[sheet.version])?;
-    go_to(store, sheet, version)
-}
-
-/// Goes back to the version before this one.
-fn undo<R: RecordCalls>(store: &mut R, sheet: &mut Sheet) -> Result<()> {
-    let before = store.read(sheet.version)?.first();
-    let before = before.context("there is no version before this one")?;
-    go_to(store, sheet, before)
 }
 
 /// Goes to the version of a record.

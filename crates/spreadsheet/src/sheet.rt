@@ -63,9 +63,14 @@ impl Sheet {
 
     /// Spells the cells of the next version, in which this one holds this formula.
     pub fn spell_next(&self, name: &str, formula: &str) -> Result<String> {
-        if !formula.starts_with("=") {
-            parse_number(formula)?;
+        if !is_name(name) {
+            bail!("a name is letters, digits and _, a letter first");
         }
+        let is_formula = match formula.strip_prefix("=") {
+            Some(names) => names.split("+").all(is_name),
+            None => formula.parse::<i64>().is_ok(),
+        };
+        ensure!(is_formula, "a formula is a number or =NAME+NAME");
         let mut cells = String::new(self.alloc);
         for line in self.cells.as_str().lines() {
             if line.split_once(" ").is_none_or(|(found, _)| found != name) {
@@ -83,9 +88,10 @@ impl Sheet {
             return Ok(*value);
         }
         let formula = self.formula(name)?;
-        let value = match formula.as_str().strip_prefix("=") {
+        let formula = formula.as_str();
+        let value = match formula.strip_prefix("=") {
             Some(names) => self.evaluate_sum(names, levels)?,
-            None => parse_number(formula.as_str())?,
+            None => formula.parse::<i64>().context("no number is stored here")?,
         };
         self.values
             .insert(String::from_str(self.alloc, name)?, value)?;
@@ -133,7 +139,7 @@ impl Sheet {
     }
 }
 
-fn parse_number(text: &str) -> Result<i64> {
-    text.parse::<i64>()
-        .context("a formula is a number or =NAME+NAME")
+/// Tells whether a word is a name: letters, digits and `_`, a letter first.
+fn is_name(word: &str) -> bool {
+    word.starts_with(char::is_alphabetic) && word.chars().all(|c| c.is_alphanumeric() || c == '_')
 }
