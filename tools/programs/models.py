@@ -21,8 +21,8 @@ COMMANDS = {
 
 
 def build(cache, folder):
-    """What a build says, which files it leaves, and why it fails, as long as a cache forgets nothing. A step that ran is
-    kept, whatever becomes of its target and of later rules."""
+    """What a build says, which files it leaves, and why it fails, as long as a cache forgets nothing. A step that ran
+    is kept, whatever becomes of its target and of later rules."""
     said, files, ran = [], {}, 0
     rules = [line.split() for line in (folder / "BUILD").read_text().splitlines()]
     rules = [rule for rule in rules if rule and not rule[0].startswith("#")]

@@ -109,6 +109,8 @@ def heap_snapshot(program, work):
     file = TOP / "crates" / "heap_snapshot" / "data" / "squares.txt"
     machine = models.Machine(file.read_text())
     expect(run(program, [work / "none.store", 1])[0], 1, "a machine that isn't there")
+    why = [f"reading the program {work / 'none.txt'}"]
+    expect_failure(run(program, [work / "none.store", 1, work / "none.txt"]), "", why, "a program that isn't there")
     expect(run(program, [work / "one.store", 10**6, file]), (0, machine.run(10**6)), "one run")
     store, runs, words = work / "heap.store", 0, [file]
     machine = models.Machine(file.read_text())
@@ -116,7 +118,7 @@ def heap_snapshot(program, work):
         most = random.randrange(1, 1000)
         expect(run(program, [store, most, *words]), (0, machine.run(most)), f"run {runs}, of {most} lines")
         runs, words = runs + 1, []
-    return runs + 2
+    return runs + 3
 
 
 def spreadsheet(program, work):

@@ -106,7 +106,9 @@ impl Machine {
 
     /// Tells whether a variable holds the number 0.
     fn is_zero<R: RecordCalls>(&self, store: &mut R, name: &str) -> Result<bool> {
-        Ok(store.read(self.variable(name)?)?.text() == "0")
+        let view = store.read(self.variable(name)?)?;
+        store.release(view.refs.as_slice())?;
+        Ok(view.text() == "0")
     }
 
     /// Finds the number that a word is, or that the variable of this name holds.

@@ -29,6 +29,7 @@ impl<'a> Job for Run<'a> {
             None => last.context("no machine is saved in this store")?,
         };
         let mut machine = Machine::read(store, first)?;
+        store.release(&[first])?;
         self.run_lines(store, &mut machine)?;
         let record = machine.insert(store)?;
         Ok(store.save(Self::ROOT, record)?)
@@ -60,7 +61,11 @@ fn main(rt: HostRuntime) -> Result<()> {
     let words: Vec<String> = env::args(&rt)?.skip(1).collect(rt.alloc())?;
     let (store, most, text) = match words.as_slice() {
         [store, most] => (store, most, None),
-        [store, most, path] => (store, most, Some(fs::read_to_string(&rt, path.as_str())?)),
+        [store, most, path] => {
+            let text = fs::read_to_string(&rt, path.as_str());
+            let text = text.context(format_args!("reading the program {path}"))?;
+            (store, most, Some(text))
+        }
         _ => bail!("usage: heap_snapshot STORE LINES [PROGRAM]"),
     };
     let most = most.as_str().parse::<u64>().context("reading LINES")?;
