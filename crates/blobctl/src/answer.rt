@@ -41,51 +41,30 @@ fn put<B: Blobs>(alloc: Global, blobs: &mut B, words: &str) -> Result<String, Re
     Ok(format!(in alloc; "{key:032x}\n")?)
 }
 
+/// Lets a name stand for a key, or for none, and says so.
+fn set<B: Blobs>(
+    alloc: Global,
+    blobs: &mut B,
+    name: &str,
+    key: Option<DataKey>,
+) -> Result<String, Error> {
+    blobs.set_root(alloc, name, key)?;
+    Ok(String::from_str(alloc, "set\n")?)
+}
+
 /// Lets the name that words spell stand for their key.
-fn root<B: Blobs>(alloc: Global, blobs: &mut B, words: &str) -> Result<(), Refusal> {
+fn root<B: Blobs>(alloc: Global, blobs: &mut B, words: &str) -> Result<String, Refusal> {
     let Some((name, word)) = words.split_once(' ') else {
         return Err(Refusal::BadLine);
     };
     let key = key_of(word)?;
-    blobs.set_root(alloc, name, Some(key))?;
-    Ok(())
+    Ok(set(alloc, blobs, name, Some(key))?)
 }
 
-/// Makes a change, and says what was done.
-fn change<B: Blobs>(
-    alloc: Global,
-    blobs: &mut B,
-    verb: Verb,
-    words: &str,
-) -> Result<String, Refusal> {
-    match verb {
-        Verb::Put => return put(alloc, blobs, words),
-        Verb::Root => root(alloc, blobs, words)?,
-        Verb::Drop => blobs.set_root(alloc, words, None)?,
-        Verb::Flush => {
-            blobs.flush()?;
-            return Ok(String::from_str(alloc, "flushed\n")?);
-        }
-        _ => return Err(Refusal::AmongLines),
-    }
-    Ok(String::from_str(alloc, "set\n")?)
-}
-
-/// Shows something, or makes a change.
-fn look<B: Blobs>(
-    alloc: Global,
-    blobs: &mut B,
-    verb: Verb,
-    words: &str,
-) -> Result<String, Refusal> {
-    match verb {
-        Verb::Stat => Ok(stat(alloc, blobs)?),
-        Verb::List => Ok(list(alloc, blobs)?),
-        Verb::Roots => Ok(roots(alloc, blobs)?),
-        Verb::Tree => Ok(tree(alloc, blobs, key_of(words)?)?),
-        Verb::Dot => Ok(graph(alloc, blobs, key_of(words)?)?),
-        _ => change(alloc, blobs, verb, words),
-    }
+/// Commits what was stored and set, and says so.
+fn flush<B: Blobs>(alloc: Global, blobs: &mut B) -> Result<String, Error> {
+    blobs.flush()?;
+    Ok(String::from_str(alloc, "flushed\n")?)
 }
 
 /// Names each flaw of the file.
@@ -120,6 +99,12 @@ pub fn copy_to<B: InFile>(rt: &HostRuntime, blobs: &mut B, path: &str) -> Result
     Ok(count)
 }
 
+/// Copies what the roots reach into the file of a path, and says how many blobs these are.
+fn copy<B: InFile>(rt: &HostRuntime, blobs: &mut B, path: &str) -> Result<String, Refusal> {
+    let count = copy_to(rt, blobs, path)?;
+    Ok(format!(in rt.alloc(); "{count} blobs copied\n")?)
+}
+
 /// Answers a command.
 ///
 /// # Errors
@@ -127,12 +112,20 @@ pub fn copy_to<B: InFile>(rt: &HostRuntime, blobs: &mut B, path: &str) -> Result
 /// - AmongLines: `gc`.
 /// - Blobs, File: as the file refuses it, or the other one of `copy`.
 pub fn answer<B: InFile>(rt: &HostRuntime, blobs: &mut B, verb: Verb, words: &str) -> Answer {
-    match verb {
-        Verb::Fsck => Ok(fsck(rt, blobs)?),
-        Verb::Copy => {
-            let count = copy_to(rt, blobs, words)?;
-            Ok((format!(in rt.alloc(); "{count} blobs copied\n")?, true))
-        }
-        _ => Ok((look(rt.alloc(), blobs, verb, words)?, true)),
-    }
+    let alloc = rt.alloc();
+    let text = match verb {
+        Verb::Stat => stat(alloc, blobs)?,
+        Verb::List => list(alloc, blobs)?,
+        Verb::Roots => roots(alloc, blobs)?,
+        Verb::Tree => tree(alloc, blobs, key_of(words)?)?,
+        Verb::Dot => graph(alloc, blobs, key_of(words)?)?,
+        Verb::Fsck => return Ok(fsck(rt, blobs)?),
+        Verb::Copy => copy(rt, blobs, words)?,
+        Verb::Gc => return Err(Refusal::AmongLines),
+        Verb::Put => put(alloc, blobs, words)?,
+        Verb::Root => root(alloc, blobs, words)?,
+        Verb::Drop => set(alloc, blobs, words, None)?,
+        Verb::Flush => flush(alloc, blobs)?,
+    };
+    Ok((text, true))
 }
