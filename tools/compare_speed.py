@@ -24,6 +24,7 @@ import re
 import shutil
 import subprocess
 import sys
+import textwrap
 
 sys.dont_write_bytecode = True
 TOP = pathlib.Path(__file__).resolve().parent.parent
@@ -133,7 +134,8 @@ def lines(results):
 def machine():
     model = re.search(r"^model name\s*: (.*)$", pathlib.Path("/proc/cpuinfo").read_text(), re.MULTILINE)[1]
     toolchain, compiler = ran("rt", "version").stdout.strip(), ran("rustc", "--version").stdout.strip()
-    return f"{datetime.date.today()}, {model}, {os.cpu_count()} processors; `{toolchain}`, {compiler}."
+    text = f"{datetime.date.today()}, {model}, {os.cpu_count()} processors; `{toolchain}`, {compiler}."
+    return textwrap.fill(text, 120, break_on_hyphens=False)
 
 
 def asked():

@@ -56,11 +56,6 @@ def nodes_in(look):
     return {int(words[0].rstrip(":")): int(words[1]) for words in parts}
 
 
-def does_list(step):
-    """Whether a cell was listed by this step, as by a worker's that failed."""
-    return len(step.listed)
-
-
 class Run:
     """One run of a row on a new machine, of which one event is disturbed: by a refused request for memory, by
     counters that stand near their end, or, from the start, by a storage that fails once."""
@@ -244,7 +239,9 @@ class Run:
     def entry_back(self, made, at):
         """The entry of a listed cell that was paged out stands at the list's end again; but where the cell had a key
         and was pinned already, it is gone, and is listed anew."""
-        if pending_in(self.looked()) <= pending_in(self.row.steps[at].look) - does_list(self.row.steps[at]):
+        step = self.row.steps[at]
+        # (a worker that failed has listed its cell)
+        if pending_in(self.looked()) <= pending_in(step.look) - len(step.listed):
             self.is_shifted = True
             _, clone = self.told(f"clone {made.listed[0]}")
             self.told(f"schedule_for_paging {clone.split()[1]}", is_renamed=True)

@@ -81,7 +81,8 @@ def written(server, tally):
     counted(tally, "free ok 0 " + server.ask("deep"))
     for line in (DATA / "by_hand.txt").read_text(encoding="utf-8").splitlines():
         if line.startswith("Json write "):
-            counted(tally, "free ok 0 " + server.ask("write Json " + line.removeprefix("Json write ").partition(" ->")[0]))
+            written = line.removeprefix("Json write ").partition(" ->")[0]
+            counted(tally, "free ok 0 " + server.ask(f"write Json {written}"))
 
 
 def cuts(server, tally):

@@ -14,8 +14,8 @@ is_paged_out $a -> yes
 pin $a -> ok $p = hello world
 count $a -> ok 2
 """
-# A cell with a key holds the other's handle, and lets it go with its last pin: the other one is to be listed then, and the
-# list can't grow.
+# A cell with a key holds the other's handle, and lets it go with its last pin: the other one is to be listed then, and
+# the list can't grow.
 BEFORE = "new_loose 3; clone 1; unpin 2; store 00; store 01:1; new_loose 3 10:1:1; set_data_key 3 20"
 AFTER = "is_paged_out 3; is_paged_out 2; count 2; pending; schedule_for_paging 2; pending"
 

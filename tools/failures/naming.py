@@ -3,13 +3,18 @@
 import re
 
 HANDLE_GIVEN = (
-    "new_loose new_pinned new_shared new_paged_out clone pin into_pagable take_pending load_end cache_get on_arc_deserialized"
-    " load_adopt load_lazy load_fetch"
+    "new_loose new_pinned new_shared new_paged_out clone pin into_pagable take_pending load_end cache_get"
+    " on_arc_deserialized load_adopt load_lazy load_fetch"
 ).split()
 # What the second word of an answer `ok N` counts, by the call.
-GIVEN = {"node_of": "node", "table": "table", "item": "worker", "listed": "worker", **dict.fromkeys(HANDLE_GIVEN, "handle")}
+GIVEN = {
+    "node_of": "node", "table": "table", "item": "worker", "listed": "worker", **dict.fromkeys(HANDLE_GIVEN, "handle"),
+}
 # Which of a call's words are numbers, by the call: the rest is plain.
-OF_HANDLE = "clone pin unpin release into_pagable schedule_for_paging load_begin count key is_paged_out node_of set_data_key start"
+OF_HANDLE = (
+    "clone pin unpin release into_pagable schedule_for_paging load_begin count key is_paged_out node_of set_data_key"
+    " start"
+)
 OF_LOAD = "load_fetch load_lazy load_adopt load_end load_drop step"
 TAKEN = {
     "node_live": "n", "load_take": "lhhhhhhhh", "item": "t", "listed": "t", "work": "w", "on_arc_deserialized": "--h",
@@ -74,8 +79,8 @@ class Names:
             self.meet(sort, number, given)
 
     def compare_looks(self, wanted, found):
-        """A look has to be the wanted one but for its numbers, and for the order of what the list owns: handles that are known
-        stand for each other, and the others where they are of one node."""
+        """A look has to be the wanted one but for its numbers, and for the order of what the list owns: handles that
+        are known stand for each other, and the others where they are of one node."""
         (pending, *parts), (length, *others) = wanted.split("; "), found.split("; ")
         if pending != length or len(parts) != len(others):
             raise Unlike(f"`{found}` in the place of `{wanted}`")
@@ -90,8 +95,9 @@ class Names:
         """Whether what a look tells of one handle may be what it tells of another."""
         (plain, numbers), (found, others) = look_marks(part), look_marks(other)
         pairs = [(sort, number, given) for (sort, number), (_, given) in zip(numbers, others)]
-        known = all(self.there[sort].get(number, given) == given for sort, number, given in pairs)
-        return plain == found and known and all(self.back[sort].get(given, number) == number for sort, number, given in pairs)
+        there = all(self.there[sort].get(number, given) == given for sort, number, given in pairs)
+        back = all(self.back[sort].get(given, number) == number for sort, number, given in pairs)
+        return plain == found and there and back
 
 
 def handle_in(part):

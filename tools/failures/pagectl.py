@@ -142,9 +142,9 @@ def each_reading_and_writing(program, library, tally):
 LONG = b"x" * 10_000_000
 BAD = b"bad line"
 HOSTILE = [
-    (b"new a \x00", b"ok"), (b"pin a b", b"\x00"), (b"pending\r", BAD), (b"new c x\r", b"ok"), (b"pin c d", b"x\r"), (b"\r", BAD),
-    (b"\xff", BAD), (b"new e \xc3", BAD), (b"new e " + LONG, BAD), (LONG, BAD), (b"\x00", BAD), (b"", None), (b"count a", b"2"),
-    (b"pageout " + LONG, BAD),
+    (b"new a \x00", b"ok"), (b"pin a b", b"\x00"), (b"pending\r", BAD), (b"new c x\r", b"ok"), (b"pin c d", b"x\r"),
+    (b"\r", BAD), (b"\xff", BAD), (b"new e \xc3", BAD), (b"new e " + LONG, BAD), (LONG, BAD), (b"\x00", BAD),
+    (b"", None), (b"count a", b"2"), (b"pageout " + LONG, BAD),
 ]
 
 

@@ -71,8 +71,8 @@ def loose_handle(pager, number):
     """An unpinned loose handle of the caller's of the same cell as another handle, or 0."""
     cell = pager.handles[number].cell
     of_cell = [other for other, handle in pager.handles.items() if handle.cell is cell]
-    own = (pager.handles[other].owner == "caller" and pager.handles[other].mode == "loose unpinned" for other in of_cell)
-    return next((other for other, is_own in zip(of_cell, own) if is_own), 0)
+    own = (other for other in of_cell if pager.handles[other].owner == "caller")
+    return next((other for other in own if pager.handles[other].mode == "loose unpinned"), 0)
 
 
 def newly_listed(before, plain):
@@ -132,26 +132,15 @@ def worked():
     return values, [row_of(f"row {number}", storage, lines) for number, storage, lines in rows]
 
 
-def listed_in(file):
-    """The rows of a file of our own, without stored answers: a line `= NAME [STORAGE]` begins each."""
+def rows_in(file):
+    """The rows of a file, each on a new machine. One begins with `= NAME`, and behind ` | ` its storage; or, as
+    `vectors` reads a file, with `machine` and its storage."""
     rows = []
     for line in file.read_text(encoding="utf-8").splitlines():
-        if line.startswith("= "):
-            name, _, storage = line[2:].partition(" | ")
+        word, _, rest = line.partition(" ")
+        if word in ("=", "machine"):
+            name, _, storage = (f"machine {len(rows) + 1} | {rest}" if word == "machine" else rest).partition(" | ")
             rows.append((name, storage, []))
-        elif line and not line.startswith("#"):
-            asked, _, wanted = line.partition(" -> ")
-            rows[-1][2].append((asked, wanted.strip() or None))
-    return [row_of(*row) for row in rows]
-
-
-def machines_in(file):
-    """The rows of a file as `vectors` reads it, one for each machine."""
-    rows = []
-    for line in file.read_text(encoding="utf-8").splitlines():
-        word, _, storage = line.partition(" ")
-        if word == "machine":
-            rows.append((f"machine {len(rows) + 1}", storage, []))
         elif line and not line.startswith("#"):
             asked, _, wanted = line.partition(" -> ")
             rows[-1][2].append((asked, wanted or None))

@@ -31,8 +31,9 @@ from driver import Server  # noqa: E402
 from naming import Unlike  # noqa: E402
 
 USES = (
-    "failures: pagable pagable_testkit pagable_examples pagable_value_rows pagable_locked_examples pagable_locked pagable_load"
-    " pagable_value_spec pagable_traits pagable_codec pagable_core anyhow either futures hex indexmap serde_json\n"
+    "pagable named_texts pagable_testkit pagable_examples pagable_value_rows pagable_locked_examples pagable_locked"
+    " pagable_load pagable_value_spec pagable_traits pagable_codec pagable_core anyhow either futures hex indexmap"
+    " serde_json"
 )
 # (a test's own calls, in the copy alone)
 COUNTERS = {
@@ -52,11 +53,8 @@ def add_counters(crates):
 
 def add_pagectl(crates, source):
     """Puts the program `pagectl` beside, as a module, but for its `main`."""
-    folder = crates / "pagectl" / "src"
-    shutil.copy(folder / "named_texts.rt", source)
-    shutil.copytree(folder / "named_texts", source / "named_texts")
-    text = (folder / "main.rt").read_text(encoding="utf-8")
-    text = re.sub(r"^(#!\[.*|mod named_texts;)\n", "", text, flags=re.MULTILINE).replace("\nfn run<", "\npub fn run<")
+    text = (crates / "pagectl" / "src" / "main.rt").read_text(encoding="utf-8")
+    text = re.sub(r"^#!\[.*\n", "", text, flags=re.MULTILINE).replace("\nfn run<", "\npub fn run<")
     (source / "pagectl.rt").write_text(text[: text.index("fn main(")], encoding="utf-8")
 
 
@@ -66,6 +64,8 @@ def built(work):
     crates = source.parent.parent
     add_counters(crates)
     add_pagectl(crates, source)
+    # (the machines of `vectors`, and how it looks at them)
+    shutil.copy(crates / "vectors/src/calls.rt", source)
     library = work / "refuse.so"
     subprocess.run(["cc", "-O2", "-Wall", "-Werror", "-shared", "-fPIC", HERE / "refuse.c", "-o", library], check=True)
     return build.compiled_in(work, source, "-O1"), library
@@ -74,7 +74,7 @@ def built(work):
 def rows_of_events(server, tally):
     """The rows of events, each undisturbed first."""
     values, worked_rows = rows.worked()
-    every = worked_rows + rows.listed_in(HERE / "rows.txt")
+    every = worked_rows + rows.rows_in(HERE / "rows.txt")
     for row in every:
         try:
             sweeps.singly(server, row, tally)
@@ -94,17 +94,19 @@ def rows_of_threads(server, tally):
     for file, run_of in (("shared.txt", shared.SharedRun), ("typed.txt", typed.TypedRun)):
         for row in shared.rows_in(HERE / file):
             try:
-                after = shared.each_request(server, tally, row, run_of)
-                shared.each_call(server, tally, row, after, run_of)
-                shared.each_number(server, tally, row, after, run_of)
+                after = shared.whole(server, tally, row, run_of)
             except Unlike as why:
                 tally.fault(f"{run_of.SORT}, {row[0]}, undisturbed", why)
+                continue
+            for each in (shared.each_request, shared.each_call, shared.each_number):
+                each(server, tally, row, after, run_of)
 
 
 def calls_that_refuse(server, tally):
-    """The lists of calls that stand in `vectors`, and those of this folder, of whose refusals alone something is wanted."""
+    """The lists of calls that stand in `vectors`, and those of this folder, of whose refusals alone something is
+    wanted."""
     for file in (rows.DATA / "calls.txt", rows.DATA / "loads.txt", rows.DATA / "workers.txt", HERE / "refusals.txt"):
-        for row in rows.machines_in(file):
+        for row in rows.rows_in(file):
             try:
                 sweeps.singly(server, row, tally)
             except Unlike as why:

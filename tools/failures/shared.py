@@ -2,7 +2,7 @@
 
 import re
 
-from driver import GIVING, MEMORY, NUMBERS, STORAGE, does_refuse
+from driver import GIVING, MEMORY, NUMBERS, STORAGE, does_refuse, pending_in
 from naming import Unlike
 
 NAME = re.compile(r"\$(\w+)")
@@ -91,7 +91,7 @@ class SharedRun:
 
     def list_anew(self, loose, is_asked):
         """A cell that couldn't be listed is listed now."""
-        if not loose or not is_asked or int(self.peek().split("; ")[0].split()[1]) == self.pending_wanted:
+        if not loose or not is_asked or pending_in(self.peek()) == self.pending_wanted:
             return
         self.list_by(loose)
 
@@ -130,10 +130,6 @@ def whole(server, tally, row, run_of):
     return after
 
 
-def pending_in(peek):
-    return int(peek.split("; ")[0].split()[1])
-
-
 def disturbed(server, tally, row, after, at, place, run_of, number=MEMORY):
     """A row of which one call has a request refused, or too few numbers: whether it was refused."""
     run = run_of(server, tally, number)
@@ -158,23 +154,26 @@ def stands(run, after):
         raise Unlike(f"`{found}` at the end, and `{wanted}` without a refusal")
 
 
-def each_request(server, tally, row, run_of=SharedRun):
-    """Refuses each request of each call in turn."""
-    name = f"{run_of.SORT}, {row[0]}"
-    after = whole(server, tally, row, run_of)
-    for at, step in enumerate(row[1]):
-        for place in range(1, 2000):
-            try:
-                if not disturbed(server, tally, row, after, at, place, run_of):
-                    break
-                tally.places[name, "requests"] += 1
-            except Unlike as why:
-                tally.fault(f"{name}, `{step[0]}`, request {place}", why)
+def places(server, tally, row, after, at, words, run_of, number=MEMORY):
+    """Disturbs a call in each of these ways in turn, as long as something is refused."""
+    name, sort = f"{run_of.SORT}, {row[0]}", "requests" if number == MEMORY else "numbers"
+    for word in words:
+        try:
+            if not disturbed(server, tally, row, after, at, word, run_of, number):
                 break
-    return after
+            tally.places[name, sort] += 1
+        except Unlike as why:
+            tally.fault(f"{name}, `{row[1][at][0]}`, {sort} {word}", why)
+            break
 
 
-def each_call(server, tally, row, after, run_of=SharedRun):
+def each_request(server, tally, row, after, run_of):
+    """Refuses each request of each call in turn."""
+    for at in range(len(row[1])):
+        places(server, tally, row, after, at, range(1, 2000), run_of)
+
+
+def each_call(server, tally, row, after, run_of):
     """Fails each call of the storage in turn, until none is left."""
     name = f"{run_of.SORT}, {row[0]}"
     for call in range(1000):
@@ -190,18 +189,11 @@ def each_call(server, tally, row, after, run_of=SharedRun):
         tally.places[name, "calls"] += 1
 
 
-def each_number(server, tally, row, after, run_of=SharedRun):
+def each_number(server, tally, row, after, run_of):
     """Leaves no number, then one, and so on, of each sort, at each call."""
-    name = f"{run_of.SORT}, {row[0]}"
     for at, step in enumerate(row[1]):
         for word in ("{},-,-,-", "-,0,-,-", "-,-,{},-", "-,-,-,{}"):
             # (a number near the end that stays in use would stand before those that come once the counters are back)
             is_single = "{" not in word or step[0].startswith(GIVING)
-            for left in range(1 if is_single else 1000):
-                try:
-                    if not disturbed(server, tally, row, after, at, word.format(left), run_of, NUMBERS):
-                        break
-                    tally.places[name, "numbers"] += 1
-                except Unlike as why:
-                    tally.fault(f"{name}, `{step[0]}`, numbers left {word.format(left)}", why)
-                    break
+            words = map(word.format, range(1 if is_single else 1000))
+            places(server, tally, row, after, at, words, run_of, NUMBERS)

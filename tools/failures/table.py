@@ -1,9 +1,9 @@
 """Each error of each call that the rules name, which has to have come more than never."""
 
 NAMES = dict(enumerate((
-    "UnexpectedEnd BadVarint BadBool BadUtf8 BadChar TooLong TooDeep JsonCase JsonNumber BadDuration RegexRefused UnknownTag"
-    " BadStaticIndex Unregistered NoMoreKeys NoData WrongKind NoSuchHandle WrongMode NotYours NumbersSpent OutOfMemory Storage"
-    " KeyTaken Closed Custom"
+    "UnexpectedEnd BadVarint BadBool BadUtf8 BadChar TooLong TooDeep JsonCase JsonNumber BadDuration RegexRefused"
+    " UnknownTag BadStaticIndex Unregistered NoMoreKeys NoData WrongKind NoSuchHandle WrongMode NotYours NumbersSpent"
+    " OutOfMemory Storage KeyTaken Closed Custom"
 ).split(), 1))
 # What calls of a pager, events of a machine, steps of a worker, values and calls on a storage that threads share may be
 # refused by. A call that ends in `_shared` stands on such a storage, where one of its name stands on a pager too.

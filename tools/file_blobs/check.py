@@ -1,5 +1,6 @@
 #!/usr/bin/env python3
-"""Tries what users may do to files of blobs: kills, a full disk, a second writer, damage, and SQLite's own shell.
+"""Tries what users may do to files of blobs: kills, a full disk, a second writer, damage, SQLite's own shell, and texts
+that one run saves and the next one opens.
 
     tools/file_blobs/check.py [PROGRAM [KILLS [STEP]]]
 
@@ -37,8 +38,8 @@ def built(work):
 
 def run(program, file, *words, text="", **more):
     """What the program answers to a command, or to lines of input."""
-    return subprocess.run([program, file, *map(str, words)], input=text, capture_output=True, text=True, check=False,
-                          timeout=100, **more)
+    return subprocess.run([program, file, *map(str, words)], input=text, capture_output=True, encoding="utf-8",
+                          check=False, timeout=100, **more)
 
 
 def key_of(data, children):
@@ -66,7 +67,9 @@ def flushes(said):
 
 
 def lost(program, file, roots, answered, batch):
-    """What a file lacks of what flushes had answered, or None."""
+    """What a file lacks of what flushes had answered, or None. (A kill may come before there is a file.)"""
+    if not file.exists() and not answered:
+        return None
     test = run(program, file, "fsck")
     if test.returncode:
         return f"fsck: {test.stdout[-200:]}{test.stderr[-200:]}"
@@ -184,6 +187,86 @@ def shell(program, folder):
     return None
 
 
+# The lines of each run of `blobctl texts`, with their answers. HELLO stands for the number of the key of "hello world";
+# the bytes of a text are its length and its UTF-8. Two runs flush nothing of what they save last.
+TEXTS = (
+    """new a hello world = ok
+    save a main = ok
+    key a = HELLO
+    out a = no
+    unpin a = ok
+    out a = yes
+    pending = 0
+    new b hello world = ok
+    save b other = ok
+    stat = 1 blobs, 12 bytes, 2 names
+    new w waits = ok
+    unpin w = ok
+    new c lost = ok
+    save c side = ok
+    pending = 1
+    stat = 2 blobs, 17 bytes, 3 names
+    save d main = no name
+    open main a = bad name
+    open none z = no name
+    open none a = no name
+    save a = bad line
+    save a b_c = bad line
+    open main = bad line
+    flush now = bad line
+    stat  = bad line""",
+    """stat = 0 blobs, 0 bytes, 0 names
+    open main a = no name
+    new a hello world = ok
+    save a main = ok
+    save a other = ok
+    flush = ok
+    new c lost = ok
+    save c side = ok""",
+    """stat = 1 blobs, 12 bytes, 2 names
+    open side z = no name
+    open main m = ok
+    out m = yes
+    count m = 0
+    key m = HELLO
+    pin m p = hello world
+    count m = 2
+    save p other = ok
+    new n é = ok
+    pin n q = é
+    save q main = ok
+    pending = 0
+    count n = 2
+    open main r = ok
+    pin r s = é
+    flush = ok
+    stat = 2 blobs, 15 bytes, 2 names""",
+    """open main a = ok
+    pin a b = é
+    open other c = ok
+    pin c d = hello world
+    stat = 2 blobs, 15 bytes, 2 names""",
+)
+
+
+def texts(program, folder):
+    """Keeps texts under names, each run of TEXTS in a process of its own."""
+    file, keys = folder / "texts.blobs", [key_of(text, []) for text in (b"\x0bhello world", b"\x02\xc3\xa9")]
+    number = str(int.from_bytes(bytes.fromhex(keys[0]), "little"))
+    for lines in TEXTS:
+        asked = [line.partition(" = ") for line in lines.replace("HELLO", number).replace("\n    ", "\n").split("\n")]
+        said = run(program, "texts", file, text="".join(f"{line}\n" for line, _, _ in asked))
+        if said.returncode or said.stdout != "".join(f"{answer}\n" for _, _, answer in asked):
+            return f"texts: {said.returncode} {said.stdout}{said.stderr}"
+    roots, test = run(program, file, "roots").stdout, run(program, file, "fsck")
+    if sorted(roots.split("\n")) != ["", f"main {keys[1]}", f"other {keys[0]}"] or test.returncode:
+        return f"texts: {roots}{test.stdout}"
+    if run(program, "texts", folder / "none" / "texts.blobs").returncode != 1:
+        return "texts: a file in a folder that isn't there was opened"
+    print(f"texts: {len(TEXTS)} runs, each with what the one before had flushed, and no more")
+    return None
+
+
 def main():
     rounds = int(sys.argv[2]) if len(sys.argv) > 2 else 20
     step = int(sys.argv[3]) if len(sys.argv) > 3 else 50
@@ -191,7 +274,7 @@ def main():
         folder = pathlib.Path(folder)
         program = pathlib.Path(sys.argv[1]).resolve() if len(sys.argv) > 1 else built(folder / "build")
         faults = [kills(program, folder, rounds), full_disk(program, folder), two_writers(program, folder),
-                  damage(program, folder, step), shell(program, folder)]
+                  damage(program, folder, step), shell(program, folder), texts(program, folder)]
     if any(faults):
         sys.exit("\n".join(filter(None, faults)))
 

@@ -1,6 +1,7 @@
 """Plain models of the three programs whose files last."""
 import operator
 import random
+import re
 
 
 # ---- build_cache: a step is a command and the texts of its inputs
@@ -20,17 +21,25 @@ COMMANDS = {
 
 
 def build(cache, folder):
-    """What a build says and which files it leaves, as long as a cache forgets nothing."""
+    """What a build says, which files it leaves, and why it fails, as long as a cache forgets nothing. A step that ran
+    is kept, whatever becomes of its target and of later rules."""
     said, files, ran = [], {}, 0
     rules = [line.split() for line in (folder / "BUILD").read_text().splitlines()]
     rules = [rule for rule in rules if rule and not rule[0].startswith("#")]
     for target, word, *inputs in rules:
+        missing = [name for name in inputs if name not in files and not (folder / name).exists()]
+        if missing:
+            return "".join(said), files, (target, f"reading {missing[0]}")
+        if word not in COMMANDS:
+            return "".join(said), files, (target, f"no command is called {word}")
         texts = tuple(files[name] if name in files else (folder / name).read_text() for name in inputs)
         said.append(f"{'kept' if (word, texts) in cache else 'ran'} {target}\n")
         ran += (word, texts) not in cache
         cache.add((word, texts))
+        if (folder / target).is_dir():
+            return "".join(said), files, (target, "writing it")
         files[target] = COMMANDS[word]("".join(texts))
-    return "".join(said) + f"{ran} of {len(rules)} commands ran\n", files
+    return "".join(said) + f"{ran} of {len(rules)} commands ran\n", files, None
 
 
 # ---- heap_snapshot: pairs are tuples
@@ -87,17 +96,35 @@ class Machine:
 
 # ---- spreadsheet: versions are dicts
 
-NAMES = ["A", "B", "C", "D", "E"]
+NAMES = ["A", "B", "C2", "d_e", "É"]
+WRONG_NAMES = ["=x", "_", "2", "A-B", "A:"]
+WRONG_FORMULAS = ["5x", "=", "=A+", "=A++B", "=A+5", "==A"]
+# A byte that is no UTF-8, as Python's strings stand for it.
+WRONG_BYTE = "\udcff"
 
 
 def line():
     """A drawn line."""
-    name = random.choice(NAMES)
-    number, names = random.randrange(-3, 4), random.choices(NAMES, k=random.randrange(1, 4))
-    formula = random.choice([str(number), "=" + "+".join(names)])
+    name, formula = random.choice(NAMES), str(random.randrange(-3, 4))
+    if random.random() < 0.5:
+        formula = "=" + "+".join(random.choices(NAMES, k=random.randrange(1, 4)))
     if random.random() < 0.1:
-        formula = "5x"
-    return random.choice([f"set {name} {formula}"] * 3 + [f"get {name}"] * 3 + ["undo", "stats", f"put {name}"])
+        name = random.choice(WRONG_NAMES)
+    if random.random() < 0.1:
+        formula = random.choice(WRONG_FORMULAS)
+    lines = [f"set {name} {formula}"] * 3 + [f"get {name}"] * 3 + ["undo", "stats", f"put {name}", f"get {WRONG_BYTE}"]
+    return random.choice(lines)
+
+
+def is_name(word):
+    return word[:1].isalpha() and all(letter.isalnum() or letter == "_" for letter in word)
+
+
+def is_formula(word):
+    """Whether a word is a number, or names that are added up. (No drawn number is a large one.)"""
+    if word.startswith("="):
+        return all(is_name(name) for name in word[1:].split("+"))
+    return re.fullmatch(r"[+-]?[0-9]+", word) is not None
 
 
 class Refused(Exception):
@@ -132,16 +159,18 @@ class Sheet:
         return self.values[name]
 
     def answer(self, line):
-        """What a line is answered."""
+        """What a line is answered: one that isn't UTF-8 as one without words."""
         try:
-            return self.done(*line.split())
+            return self.done(*([] if WRONG_BYTE in line else line.split()))
         except Refused as refused:
             return f"refused: {refused}"
 
-    def done(self, word, *words):
+    def done(self, word="", *words):
         if word == "set":
-            if words[1] == "5x":
-                raise Refused("a formula is a number or =NAME+NAME")
+            if not is_name(words[0]):
+                raise Refused("a name is letters, digits and _, a letter first")
+            if not is_formula(words[1]):
+                raise Refused("a formula is a number up to 9223372036854775807 or =NAME+NAME")
             self.versions.append({**self.versions[-1], words[0]: words[1]})
         elif word == "get":
             return self.value(words[0], 64)

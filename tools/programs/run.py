@@ -32,7 +32,8 @@ def built(folder, name):
 
 def run(program, words, text=""):
     """Runs a program with these words and this input: its status, and what it said."""
-    done = subprocess.run([program, *map(str, words)], input=text, text=True, capture_output=True, timeout=120)
+    how = {"encoding": "utf-8", "errors": "surrogateescape", "capture_output": True, "timeout": 120}
+    done = subprocess.run([program, *map(str, words)], input=text, **how)
     return done.returncode, done.stdout + done.stderr
 
 
@@ -42,20 +43,46 @@ def expect(found, wanted, what):
         sys.exit(f"{what}: {found!r} in place of {wanted!r}")
 
 
+def expect_failure(found, said, why, what):
+    """Ends the program where a run didn't say this, and then fail for a reason with these words."""
+    status, told = found
+    if status != 1 or not told.startswith(said) or not all(it in told[len(said) :] for it in why):
+        sys.exit(f"{what}: {found!r} in place of {said!r} and a failure by {why!r}")
+
+
 def built_once(program, store, folder, cache):
     """Builds a folder by the program and by the model, and compares what is said and what is written."""
-    said, files = models.build(cache, folder)
-    expect(run(program, [store, folder]), (0, said), "build_cache")
+    said, files, why = models.build(cache, folder)
+    if why:
+        expect_failure(run(program, [store, folder]), said, [f"building {why[0]}", why[1]], "build_cache")
+    else:
+        expect(run(program, [store, folder]), (0, said), "build_cache")
     for name, text in files.items():
         expect((folder / name).read_text(), text, name)
     return said
 
 
+def failing(program, folder, store, cache):
+    """Builds that fail behind steps that ran, and builds behind them, which run none of these again."""
+    ended = lambda: built_once(program, store, folder, cache).splitlines()[-1]
+    rules = (folder / "BUILD").read_text()
+    (folder / "BUILD").write_text(rules + "more.txt turn a.txt\nlast.txt sort copy.txt\n")
+    expect(ended(), "kept copy.txt", "a first build that fails")
+    (folder / "BUILD").write_text(rules + "last.txt sort copy.txt\n")
+    (folder / "last.txt").mkdir()
+    expect(ended(), "kept last.txt", "a build that can't write")
+    (folder / "last.txt").rmdir()
+    expect(ended(), "0 of 7 commands ran", "the build after two that failed")
+    (folder / "BUILD").write_text(rules)
+    return 3
+
+
 def build_cache(program, work):
-    """A first build, a second one, edits that change a part and nothing, a lost target, a rule file that is none, and
-    drawn edits."""
+    """A first build, a second one, edits that change a part and nothing, a lost target, builds that fail, and drawn
+    edits and failures."""
     folder, store, cache = work / "folder", work / "build.store", set()
     shutil.copytree(TOP / "crates" / "build_cache" / "data", folder)
+    runs = failing(program, folder, work / "failing.store", set())
     ended = lambda: built_once(program, store, folder, cache).splitlines()[-1]
     expect(ended(), "5 of 6 commands ran", "the first build")
     expect(ended(), "0 of 6 commands ran", "the second build")
@@ -66,15 +93,15 @@ def build_cache(program, work):
     expect(ended(), "0 of 6 commands ran", "the build after the edit was taken back")
     (folder / "report.txt").unlink()
     expect(ended(), "0 of 6 commands ran", "the build after a target was lost")
-    rules = (folder / "BUILD").read_text()
-    (folder / "BUILD").write_text(rules + "more.txt turn a.txt\n")
-    expect(run(program, [store, folder])[0], 1, "the build of a rule with no command")
-    (folder / "BUILD").write_text(rules)
-    for _ in range(20):
+    rules = (folder / "BUILD").read_text().splitlines(keepends=True)
+    for _ in range(30):
         lines = random.choices(["fig\n", "plum\n", "Apfel\n", "\n"], k=random.randrange(4))
         (folder / random.choice(["a.txt", "b.txt"])).write_text("".join(lines))
+        wrong = random.choice([[], ["more.txt turn a.txt\n"], ["more.txt sort none.txt\n"]])
+        place = random.randrange(len(rules) + 1)
+        (folder / "BUILD").write_text("".join(rules[:place] + wrong + rules[place:]))
         built_once(program, store, folder, cache)
-    return 26
+    return runs + 35
 
 
 def heap_snapshot(program, work):
@@ -82,6 +109,8 @@ def heap_snapshot(program, work):
     file = TOP / "crates" / "heap_snapshot" / "data" / "squares.txt"
     machine = models.Machine(file.read_text())
     expect(run(program, [work / "none.store", 1])[0], 1, "a machine that isn't there")
+    why = [f"reading the program {work / 'none.txt'}"]
+    expect_failure(run(program, [work / "none.store", 1, work / "none.txt"]), "", why, "a program that isn't there")
     expect(run(program, [work / "one.store", 10**6, file]), (0, machine.run(10**6)), "one run")
     store, runs, words = work / "heap.store", 0, [file]
     machine = models.Machine(file.read_text())
@@ -89,7 +118,7 @@ def heap_snapshot(program, work):
         most = random.randrange(1, 1000)
         expect(run(program, [store, most, *words]), (0, machine.run(most)), f"run {runs}, of {most} lines")
         runs, words = runs + 1, []
-    return runs + 2
+    return runs + 3
 
 
 def spreadsheet(program, work):

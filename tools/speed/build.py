@@ -7,7 +7,7 @@ own.
 A proved program is compiled by `rt run`, which proves it first. `rt try` compiles without a proof, but puts checks of
 its own into the code, fills each new variable, and links a sanitizer. So here the compiler that `rt try` calls is this
 script: it takes all that out of the code, and compiles as `rt run` does, at -O3 for x86-64-v2. The result is as fast as
-the proved program, within what one can measure.
+the proved program, within what one can measure. Other tools copy crates, and run tests that aren't proved, by it.
 
 The files are named X.rattle, since the gate stops at a file X.rt that it doesn't check.
 """
@@ -20,9 +20,10 @@ import sys
 
 HERE = pathlib.Path(__file__).resolve().parent
 TOP = HERE.parent.parent
-USES = "speed: pagable pagable_testkit pagable_value_rows anyhow indexmap\n"
+USES = "pagable pagable_testkit pagable_value_rows anyhow indexmap"
 # What `rt try` adds: bytes put into new variables, and calls of its checks.
-ADDED = re.compile(r"^ *call void @(?:llvm\.memset\.p0\.i64\(ptr %\S+, i8 -86,|\"rattle-llvm-checks::).*\n", re.MULTILINE)
+ADDED = re.compile(r"(?m)^ *call void @(?:llvm\.memset\.p0\.i64\(ptr %\S+, i8 -86,|\"rattle-llvm-checks::).*\n")
+RESULT = re.compile(r"(?m)^test result: (ok|FAILED)\. (\d+) passed; (\d+) failed; 0 ignored")
 FAST = ["-Xclang", "-fmerge-functions", "-mllvm", "-mergefunc-use-aliases", "-fno-vectorize", "-fno-slp-vectorize"]
 
 
@@ -31,14 +32,17 @@ def compiled(kit, level, words):
     clang = ["clang", *[word for word in words if word != "-fsanitize=address"]]
     real = kit / "toolchain" / "bin" / "clang"
     module = clang[clang.index("ir") + 1]
-    text = [*clang[: clang.index("-c")], "-x", "ir", module, "-S", "-emit-llvm", "-Xclang", "-disable-llvm-passes", "-O0", "-o", "module.ll"]
+    plain = ["-x", "ir", module, "-S", "-emit-llvm", "-Xclang", "-disable-llvm-passes", "-O0", "-o", "module.ll"]
+    text = [*clang[: clang.index("-c")], *plain]
     subprocess.run(text, executable=real, check=True)
     code = ADDED.sub("", pathlib.Path("module.ll").read_text())
     code = code.replace("sanitize_address", "").replace('"frame-pointer"="all"', '"frame-pointer"="none"')
     code = code.replace('"target-cpu"="x86-64"', '"target-cpu"="x86-64-v2"')
     pathlib.Path("module.ll").write_text(code)
     clang[clang.index(module)] = "module.ll"
-    fast = [new for word in clang for new in ([level, *FAST] if word == "-O0" else [word.replace("-march=x86-64", "-march=x86-64-v2")])]
+    fast = []
+    for word in clang:
+        fast += [level, *FAST] if word == "-O0" else [word.replace("-march=x86-64", "-march=x86-64-v2")]
     return subprocess.run(fast, executable=real).returncode
 
 
@@ -81,20 +85,45 @@ def built(work, repository=TOP):
     return compiled_in(work, source_in(work, repository, HERE, USES))
 
 
-def source_in(work, repository, folder, uses):
-    """Copies the crates of a repository, with the program of a folder, which uses these crates: where its files stand."""
+def copied(work, crate, uses, repository=TOP):
+    """Copies the crates of a repository, with one that is new or uses these others too: the folder of its files."""
     work.mkdir(parents=True, exist_ok=True)
     copy = work / "repository"
     shutil.rmtree(copy, ignore_errors=True)
     shutil.copytree(repository / "crates", copy / "crates", ignore=shutil.ignore_patterns("out"))
     shutil.copy(repository / "HANDLES", copy / "HANDLES")
-    (copy / "crates.txt").write_text((repository / "crates.txt").read_text() + uses)
+    line, crates = re.compile(rf"(?m)^{crate}\b.*"), (repository / "crates.txt").read_text(encoding="utf-8")
+    crates = line.sub(rf"\g<0> {uses}", crates) if line.search(crates) else f"{crates}{crate}: {uses}\n"
+    (copy / "crates.txt").write_text(crates, encoding="utf-8")
     subprocess.run(["git", "init", "-q"], cwd=copy, check=True)
-    source = copy / "crates" / uses.partition(":")[0] / "src"
+    return copy / "crates" / crate / "src"
+
+
+def source_in(work, repository, folder, uses):
+    """Copies the crates of a repository, with the program of a folder, which uses these crates: where its files
+    stand."""
+    source = copied(work, folder.name, uses, repository)
     source.mkdir(parents=True)
     for file in folder.glob("*.rattle"):
         shutil.copy(file, source / f"{file.stem}.rt")
     return source
+
+
+def said_by_tests(source):
+    """What a run of the tests of the crate with these files says, by `rt try`."""
+    run = subprocess.run(["rt", "try", "--test"], cwd=source.parent, text=True, capture_output=True)
+    return run.stdout + run.stderr
+
+
+def tested(source, of):
+    """Runs the tests of the crate with these files, which are those of this name, and prints how many passed; ends the
+    program where one didn't."""
+    count = sum(file.read_text(encoding="utf-8").count("#[test]\n") for file in source.glob("*.rt"))
+    said = said_by_tests(source)
+    result = RESULT.search(said)
+    if not result or (result[1], int(result[2])) != ("ok", count):
+        sys.exit(f"{said}tests of {of}: not all of {count} passed")
+    print(f"tests of {of}: {count} passed", flush=True)
 
 
 def compiled_in(work, source, level="-O3"):

@@ -23,11 +23,13 @@ import sys
 import tempfile
 
 HERE = pathlib.Path(__file__).resolve().parent
-TOP = HERE.parent.parent
-CRATE = pathlib.Path("crates") / "pagable_locked_examples"
+sys.dont_write_bytecode = True
+sys.path.insert(0, str(HERE.parent / "speed"))
+import build  # noqa: E402
+
+CRATE = "pagable_locked_examples"
 # What the tests use beside what the crate does.
-USES = " pagable_examples pagable_value_rows indexmap smallvec"
-RESULT = re.compile(r"^test result: (ok|FAILED)\. (\d+) passed; (\d+) failed; 0 ignored", re.MULTILINE)
+USES = "pagable_examples pagable_value_rows indexmap smallvec"
 CHANGE = re.compile(r"⟦(.*?) ⇒ (.*?)⟧")
 
 
@@ -49,24 +51,14 @@ def any_of(module, tests):
 
 
 def copied(folder, tests=None):
-    """The crates in this folder, with all modules of tests or those of these tests; how many tests there are."""
-    shutil.copytree(TOP / "crates", folder / "crates", ignore=shutil.ignore_patterns("out"))
-    shutil.copy(TOP / "HANDLES", folder / "HANDLES")
-    crates = (TOP / "crates.txt").read_text(encoding="utf-8")
-    (folder / "crates.txt").write_text(re.sub(rf"(?m)^{CRATE.name} .*", rf"\g<0>{USES}", crates), encoding="utf-8")
-    subprocess.run(["git", "init", "-q"], cwd=folder, check=True)
-    source = folder / CRATE / "src"
+    """The crates in this folder, with all modules of tests or those of these tests: the crate's files."""
+    source = build.copied(folder, CRATE, USES)
     modules = used(file.stem for file in HERE.glob("*.rattle") if tests is None or any_of(file.stem, tests))
     for module in modules:
         shutil.copy(HERE / f"{module}.rattle", source / f"{module}.rt")
-    if "values" in modules:
-        specs = folder / CRATE / "specs"
-        specs.mkdir()
-        shutil.copy(HERE / "values.specs", specs / "Values.antt")
-        (specs / "Lib.antt").write_text("pub mod Values\n", encoding="utf-8")
     with open(source / "lib.rt", "a", encoding="utf-8") as root:
         root.writelines(f"#[cfg(test)]\nmod {module};\n" for module in modules)
-    return sum(file.read_text(encoding="utf-8").count("#[test]\n") for file in source.glob("*.rt"))
+    return source
 
 
 def check_sums():
@@ -76,12 +68,6 @@ def check_sums():
     missing = [number for number in re.findall(r"\d{20,}", worked_out) if number not in wanted]
     if missing:
         sys.exit(f"tests of threads: no test wants {' '.join(missing)}")
-
-
-def ran(folder):
-    """What the run of the tests in this folder says."""
-    run = subprocess.run(["rt", "try", "--test"], cwd=folder / CRATE, text=True, capture_output=True)
-    return run.stdout + run.stderr
 
 
 class Edit:
@@ -119,13 +105,12 @@ def edits():
 def told(together):
     """What is told of each of these edits, which are tried together: 'found' where each of its tests fails."""
     with tempfile.TemporaryDirectory() as folder:
-        folder = pathlib.Path(folder)
-        copied(folder, {test for edit in together for test in edit.tests})
+        source = copied(pathlib.Path(folder), {test for edit in together for test in edit.tests})
         for edit in together:
-            if why := edit.apply(folder):
+            if why := edit.apply(source.parent.parent.parent):
                 return [f"{edit.name}: {why}" for _ in together]
-        said = ran(folder)
-    if not RESULT.search(said):
+        said = build.said_by_tests(source)
+    if not build.RESULT.search(said):
         return [f"no tests ran: {said[-1000:]}" for _ in together]
     passed = [[test for test in edit.tests if not re.search(rf"{test} \.\.\. FAILED", said)] for edit in together]
     return [f"passed: {' '.join(tests)}" if tests else "found" for tests in passed]
@@ -151,13 +136,7 @@ def main():
         sys.exit(0 if try_wrong(sys.argv[2:]) else 1)
     check_sums()
     with tempfile.TemporaryDirectory() as folder:
-        folder = pathlib.Path(folder)
-        count = copied(folder)
-        said = ran(folder)
-    result = RESULT.search(said)
-    if not result or (result[1], int(result[2])) != ("ok", count):
-        sys.exit(f"{said}tests of threads: not all of {count} passed")
-    print(f"tests of threads: {count} passed")
+        build.tested(copied(pathlib.Path(folder)), "threads")
 
 
 if __name__ == "__main__":

@@ -10,10 +10,10 @@ use pagable_core::PagableData;
 use pagable_flavors::{DataKey, Error};
 use std::alloc::Global;
 
-/// Lines of an answer, and false where they name a flaw.
+/// The lines of an answer, and false if they name a flaw; or why the command fails.
 pub type Answer = Result<(String, bool), Refusal>;
 
-/// Reads keys.
+/// Reads keys, with white space between them.
 fn keys_of(alloc: Global, words: &str) -> Result<Vec<DataKey>, Refusal> {
     let mut keys = Vec::new(alloc);
     for word in words.split_whitespace() {
@@ -24,9 +24,9 @@ fn keys_of(alloc: Global, words: &str) -> Result<Vec<DataKey>, Refusal> {
 
 /// Reads a blob: its bytes in hex, or `-` for none, and its child keys.
 fn blob_of(alloc: Global, words: &str) -> Result<PagableData, Refusal> {
-    let (word, behind) = words.split_once(' ').unwrap_or((words, ""));
+    let (word, children) = words.split_once(' ').unwrap_or((words, ""));
     let digits = if word == "-" { "" } else { word };
-    let arcs = keys_of(alloc, behind)?;
+    let arcs = keys_of(alloc, children)?;
     let mut bytes = vec![in alloc; 0; digits.len() / 2]?;
     match hex::decode_to_slice(digits, bytes.as_mut_slice()) {
         Ok(()) => Ok(PagableData { bytes, arcs }),
@@ -41,54 +41,33 @@ fn put<B: Blobs>(alloc: Global, blobs: &mut B, words: &str) -> Result<String, Re
     Ok(format!(in alloc; "{key:032x}\n")?)
 }
 
-/// Lets the name that words spell stand for their key.
-fn root<B: Blobs>(alloc: Global, blobs: &mut B, words: &str) -> Result<(), Refusal> {
+/// Makes a name stand for a key, or for none, and says so.
+fn set<B: Blobs>(
+    alloc: Global,
+    blobs: &mut B,
+    name: &str,
+    key: Option<DataKey>,
+) -> Result<String, Error> {
+    blobs.set_root(alloc, name, key)?;
+    Ok(String::from_str(alloc, "set\n")?)
+}
+
+/// Makes the name that words spell stand for their key.
+fn root<B: Blobs>(alloc: Global, blobs: &mut B, words: &str) -> Result<String, Refusal> {
     let Some((name, word)) = words.split_once(' ') else {
         return Err(Refusal::BadLine);
     };
     let key = key_of(word)?;
-    blobs.set_root(alloc, name, Some(key))?;
-    Ok(())
+    Ok(set(alloc, blobs, name, Some(key))?)
 }
 
-/// Makes a change, and says what was done.
-fn change<B: Blobs>(
-    alloc: Global,
-    blobs: &mut B,
-    verb: Verb,
-    words: &str,
-) -> Result<String, Refusal> {
-    match verb {
-        Verb::Put => return put(alloc, blobs, words),
-        Verb::Root => root(alloc, blobs, words)?,
-        Verb::Drop => blobs.set_root(alloc, words, None)?,
-        Verb::Flush => {
-            blobs.flush()?;
-            return Ok(String::from_str(alloc, "flushed\n")?);
-        }
-        _ => return Err(Refusal::AmongLines),
-    }
-    Ok(String::from_str(alloc, "set\n")?)
+/// Commits what was stored and set, and says so.
+fn flush<B: Blobs>(alloc: Global, blobs: &mut B) -> Result<String, Error> {
+    blobs.flush()?;
+    Ok(String::from_str(alloc, "flushed\n")?)
 }
 
-/// Shows something, or makes a change.
-fn look<B: Blobs>(
-    alloc: Global,
-    blobs: &mut B,
-    verb: Verb,
-    words: &str,
-) -> Result<String, Refusal> {
-    match verb {
-        Verb::Stat => Ok(stat(alloc, blobs)?),
-        Verb::List => Ok(list(alloc, blobs)?),
-        Verb::Roots => Ok(roots(alloc, blobs)?),
-        Verb::Tree => Ok(tree(alloc, blobs, key_of(words)?)?),
-        Verb::Dot => Ok(graph(alloc, blobs, key_of(words)?)?),
-        _ => change(alloc, blobs, verb, words),
-    }
-}
-
-/// Names each flaw of the file.
+/// Names each flaw of the file, and says how many blobs and flaws there are.
 fn fsck<B: Blobs>(rt: &HostRuntime, blobs: &mut B) -> Result<(String, bool), Error> {
     let mut progress = Progress::new(rt);
     let flaws = blobs.fsck(rt.alloc(), &mut progress)?;
@@ -100,7 +79,7 @@ fn fsck<B: Blobs>(rt: &HostRuntime, blobs: &mut B) -> Result<(String, bool), Err
     Ok((text, flaws.is_empty()))
 }
 
-/// Copies what the roots of one file reach into another.
+/// Copies what the roots of one file reach into another, and returns how many blobs these are.
 fn copy_roots<B: Blobs>(rt: &HostRuntime, from: &mut B, to: &mut B) -> Result<usize, Error> {
     let names = from.root_names(rt.alloc())?;
     let mut progress = Progress::new(rt);
@@ -109,10 +88,12 @@ fn copy_roots<B: Blobs>(rt: &HostRuntime, from: &mut B, to: &mut B) -> Result<us
     Ok(count)
 }
 
-/// Copies what the roots reach into the file of a path, and closes that; answers how many blobs these are.
+/// Copies what the roots reach into the file of a path, closes that, and returns how many blobs these
+/// are.
 ///
 /// # Errors
-/// - Blobs, File: as either file refuses it. Some blobs may have been copied then.
+///
+/// - `Blobs`, `File` as either file fails: some blobs may have been copied.
 pub fn copy_to<B: InFile>(rt: &HostRuntime, blobs: &mut B, path: &str) -> Result<usize, Refusal> {
     let mut to = B::open(rt, path)?;
     let count = copy_roots(rt, blobs, &mut to)?;
@@ -120,19 +101,34 @@ pub fn copy_to<B: InFile>(rt: &HostRuntime, blobs: &mut B, path: &str) -> Result
     Ok(count)
 }
 
+/// Copies what the roots reach into the file of a path, and says how many blobs these are.
+fn copy<B: InFile>(rt: &HostRuntime, blobs: &mut B, path: &str) -> Result<String, Refusal> {
+    let count = copy_to(rt, blobs, path)?;
+    Ok(format!(in rt.alloc(); "{count} blobs copied\n")?)
+}
+
 /// Answers a command.
 ///
 /// # Errors
-/// - BadLine: a word behind the verb is no key or no bytes.
-/// - AmongLines: `gc`.
-/// - Blobs, File: as the file refuses it, or the other one of `copy`.
+///
+/// - `BadLine` if a word after the verb is no key or no bytes.
+/// - `AmongLines` for `gc`.
+/// - `Blobs`, `File` as the file fails, or the other one of `copy`.
 pub fn answer<B: InFile>(rt: &HostRuntime, blobs: &mut B, verb: Verb, words: &str) -> Answer {
-    match verb {
-        Verb::Fsck => Ok(fsck(rt, blobs)?),
-        Verb::Copy => {
-            let count = copy_to(rt, blobs, words)?;
-            Ok((format!(in rt.alloc(); "{count} blobs copied\n")?, true))
-        }
-        _ => Ok((look(rt.alloc(), blobs, verb, words)?, true)),
-    }
+    let alloc = rt.alloc();
+    let text = match verb {
+        Verb::Stat => stat(alloc, blobs)?,
+        Verb::List => list(alloc, blobs)?,
+        Verb::Roots => roots(alloc, blobs)?,
+        Verb::Tree => tree(alloc, blobs, key_of(words)?)?,
+        Verb::Dot => graph(alloc, blobs, key_of(words)?)?,
+        Verb::Fsck => return Ok(fsck(rt, blobs)?),
+        Verb::Copy => copy(rt, blobs, words)?,
+        Verb::Gc => return Err(Refusal::AmongLines),
+        Verb::Put => put(alloc, blobs, words)?,
+        Verb::Root => root(alloc, blobs, words)?,
+        Verb::Drop => set(alloc, blobs, words, None)?,
+        Verb::Flush => flush(alloc, blobs)?,
+    };
+    Ok((text, true))
 }

@@ -1,4 +1,4 @@
-//! What commands ask of a file of blobs.
+//! The calls that commands make on a file of blobs.
 
 use pagable_codec::Env;
 use pagable_core::{PagableData, PagableStorage, Roots};
@@ -10,24 +10,33 @@ use sqlite_trees::store::Store;
 use std::alloc::Global;
 use std::sync::Arc;
 
-/// An open file of blobs. Each call makes the call of `FileBlobs` of that name, and is refused as that is.
+/// An open file of blobs. Each call makes the call of `FileBlobs` with its name, and fails as that does.
 pub trait Blobs: Drop {
+    /// Lists all blobs.
     fn list(&mut self, alloc: Global) -> Result<Vec<Listed>, Error>;
 
+    /// Lists the names that stood for keys at the last flush, and maybe others that once did.
     fn root_names(&mut self, alloc: Global) -> Result<Vec<String>, Error>;
 
+    /// Returns the key that a name stands for, if it stands for one.
     fn root(&mut self, name: &str) -> Result<Option<DataKey>, Error>;
 
+    /// Makes a name stand for a key, or for none.
     fn set_root(&mut self, alloc: Global, name: &str, key: Option<DataKey>) -> Result<(), Error>;
 
+    /// Fetches the blob under a key.
     fn fetch(&mut self, alloc: Global, key: DataKey) -> Result<Arc<PagableData>, Error>;
 
+    /// Stores a blob, and returns its key.
     fn store(&mut self, alloc: Global, blob: PagableData) -> Result<DataKey, Error>;
 
+    /// Commits what was stored, and which names were set.
     fn flush(&mut self) -> Result<(), Error>;
 
+    /// Tests the whole file, and returns its flaws.
     fn fsck<W: Watch>(&mut self, alloc: Global, watch: &mut W) -> Result<Vec<Flaw>, Error>;
 
+    /// Copies what names reach into another file, and returns how many blobs these are.
     fn copy<W: Watch>(
         &mut self,
         alloc: Global,
@@ -37,10 +46,12 @@ pub trait Blobs: Drop {
     ) -> Result<usize, Error>;
 }
 
-/// Blobs that stand in the file of a path.
+/// Blobs in the file of a path.
 pub trait InFile: Blobs {
+    /// Opens the file of a path, which it creates if there is none.
     fn open(rt: &HostRuntime, path: &str) -> Result<Self, OpenError>;
 
+    /// Closes the file, with its log copied into it.
     fn close(self, alloc: Global) -> Result<(), OpenError>;
 }
 

@@ -1,4 +1,4 @@
-//! Lets go of what no root of a file reaches: a new file beside it takes its place.
+//! Drops what no root of a file reaches: a copy beside the file replaces it.
 
 use crate::answer::{Answer, copy_to};
 use crate::blobs::InFile;
@@ -6,7 +6,7 @@ use crate::refusal::Refusal;
 use std::alloc::{AllocError, Global};
 use std::{fs, io};
 
-/// Makes the path of a file with more behind its name.
+/// Returns a path with more at its end.
 fn path_with(alloc: Global, path: &str, more: &str) -> Result<String, AllocError> {
     format!(in alloc; "{path}{more}")
 }
@@ -25,24 +25,25 @@ fn remove_log(rt: &HostRuntime, path: &str) -> io::Result<()> {
     remove(rt, log.as_str())
 }
 
-/// Puts a file that was closed in the place of another one.
+/// Replaces a file by a new one. Both are closed.
 fn replace(rt: &HostRuntime, path: &str, new: &str) -> io::Result<()> {
     remove_log(rt, new)?;
     remove_log(rt, path)?;
     fs::rename(rt, new, path)
 }
 
-/// Copies what the roots reach into a new file, and closes that; answers how many blobs these are.
+/// Copies what the roots reach into a new file, closes that, and returns how many blobs these are.
 fn copy_beside<B: InFile>(rt: &HostRuntime, blobs: &mut B, new: &str) -> Result<usize, Refusal> {
     remove(rt, new)?;
     remove_log(rt, new)?;
     copy_to(rt, blobs, new)
 }
 
-/// Lets go of all blobs that no root reaches, and says how many are kept.
+/// Drops all blobs that no root reaches, and says how many are kept.
 ///
 /// # Errors
-/// - Blobs, File, System: as either file or the system refuses it; the file holds what it held.
+///
+/// - `Blobs`, `File`, `System` as either file or the system fails: the file has what it had.
 pub fn collect<B: InFile>(rt: &HostRuntime, path: &str, mut blobs: B) -> Answer {
     let new = path_with(rt.alloc(), path, ".new")?;
     let count = copy_beside(rt, &mut blobs, new.as_str())?;

@@ -20,22 +20,33 @@ pub enum Verb {
     Fsck,
     /// `copy FILE`: copies what the roots reach into another file.
     Copy,
-    /// `gc`: lets go of what no root reaches.
+    /// `gc`: drops what no root reaches.
     Gc,
     /// `put HEX KEY..`: stores a blob of these bytes and child keys.
     Put,
-    /// `root NAME KEY`: lets a name stand for a key.
+    /// `root NAME KEY`: makes a name stand for a key.
     Root,
-    /// `drop NAME`: lets a name stand for none.
+    /// `drop NAME`: makes a name stand for none.
     Drop,
     /// `flush`: commits what was stored and set.
     Flush,
 }
 
+impl Verb {
+    /// Returns whether the command stores or sets something, so that the file may be a new one.
+    pub fn changes_file(self) -> bool {
+        match self {
+            Verb::Put | Verb::Root | Verb::Drop | Verb::Flush => true,
+            _ => false,
+        }
+    }
+}
+
 /// Reads a key from 32 hex digits.
 ///
 /// # Errors
-/// - BadLine.
+///
+/// - `BadLine` if the word is anything else.
 pub fn key_of(word: &str) -> Result<DataKey, Refusal> {
     let mut bytes = [0; 16];
     if hex::decode_to_slice(word, &mut bytes).is_err() {
@@ -47,7 +58,8 @@ pub fn key_of(word: &str) -> Result<DataKey, Refusal> {
     }
 }
 
-/// Reads the verb of a line, and the words behind it; None for a line that isn't one of these. One space parts words.
+/// Reads the verb of a line, and the words after it. Returns None for a line that is no command. One
+/// space separates words.
 pub fn parse(line: &str) -> Option<(Verb, &str)> {
     let words = line.trim_end();
     match words.split_once(' ') {
@@ -56,7 +68,7 @@ pub fn parse(line: &str) -> Option<(Verb, &str)> {
     }
 }
 
-/// Reads the verb of a word with nothing behind it.
+/// Reads the verb of a word with nothing after it.
 fn of_word(word: &str) -> Option<Verb> {
     match word {
         "stat" => Some(Verb::Stat),
@@ -69,7 +81,7 @@ fn of_word(word: &str) -> Option<Verb> {
     }
 }
 
-/// Reads the verb of a word with more behind it.
+/// Reads the verb of a word with more after it.
 fn of_words(word: &str) -> Option<Verb> {
     match word {
         "tree" => Some(Verb::Tree),

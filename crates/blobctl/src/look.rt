@@ -1,4 +1,4 @@
-//! What is shown of a file of blobs.
+//! The commands that show a file of blobs.
 
 use crate::blobs::Blobs;
 use crate::reach::{Reached, walk_from};
@@ -13,15 +13,26 @@ fn total(all: &[Listed]) -> u64 {
         .fold(0, |sum: u64, blob| sum.saturating_add(blob.bytes))
 }
 
-/// Counts the blobs, their bytes, and the names.
-pub fn stat<B: Blobs>(alloc: Global, blobs: &mut B) -> Result<String, Error> {
-    let all = blobs.list(alloc)?;
-    let names = blobs.root_names(alloc)?;
-    let (count, bytes) = (all.len(), total(all.as_slice()));
-    Ok(format!(in alloc; "{count} blobs, {bytes} bytes, {} names\n", names.len())?)
+/// Counts the names that stand for keys.
+fn count_roots<B: Blobs>(alloc: Global, blobs: &mut B) -> Result<u64, Error> {
+    let mut count: u64 = 0;
+    for name in &blobs.root_names(alloc)? {
+        if blobs.root(name.as_str())?.is_some() {
+            count = count.saturating_add(1);
+        }
+    }
+    Ok(count)
 }
 
-/// Shows a line for each blob.
+/// Counts the blobs, their bytes, and the names that stand for keys.
+pub fn stat<B: Blobs>(alloc: Global, blobs: &mut B) -> Result<String, Error> {
+    let all = blobs.list(alloc)?;
+    let names = count_roots(alloc, blobs)?;
+    let (count, bytes) = (all.len(), total(all.as_slice()));
+    Ok(format!(in alloc; "{count} blobs, {bytes} bytes, {names} names\n")?)
+}
+
+/// Shows each blob on a line.
 pub fn list<B: Blobs>(alloc: Global, blobs: &mut B) -> Result<String, Error> {
     let mut text = String::new(alloc);
     for blob in &blobs.list(alloc)? {
@@ -30,7 +41,7 @@ pub fn list<B: Blobs>(alloc: Global, blobs: &mut B) -> Result<String, Error> {
     Ok(text)
 }
 
-/// Shows a line for each name that stands for a key.
+/// Shows each name that stands for a key on a line.
 pub fn roots<B: Blobs>(alloc: Global, blobs: &mut B) -> Result<String, Error> {
     let mut text = String::new(alloc);
     for name in &blobs.root_names(alloc)? {
@@ -41,7 +52,7 @@ pub fn roots<B: Blobs>(alloc: Global, blobs: &mut B) -> Result<String, Error> {
     Ok(text)
 }
 
-/// Shows a line for each blob that a key reaches.
+/// Shows each blob that a key reaches on a line.
 pub fn tree<B: Blobs>(alloc: Global, blobs: &mut B, key: DataKey) -> Result<String, Error> {
     let mut text = String::new(alloc);
     for reached in &walk_from(alloc, blobs, key)? {

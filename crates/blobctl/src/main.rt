@@ -1,8 +1,9 @@
-//! `blobctl FILE COMMAND..` looks at a file of blobs whose keys SHA-256 makes, or changes it; `blobctl FILE` takes one
-//! command from each line of its input.
+//! `blobctl FILE COMMAND..` shows or changes a file of blobs whose keys SHA-256 makes; `blobctl FILE`
+//! takes one command from each line of its input. `blobctl texts FILE` answers lines about texts that
+//! the file keeps under names.
 //!
-//! A key is shown as the first 32 hex digits of its hash. Each command answers lines, and a refusal one line that begins
-//! with `error`.
+//! A key is shown as the first 32 hex digits of its hash. Each command is answered by lines; one that
+//! fails is answered by one line, `bad line` or one that begins with `error`.
 #![tactic(auto)]
 
 mod answer;
@@ -15,20 +16,24 @@ mod reach;
 mod refusal;
 mod serve;
 mod show;
+mod texts;
 
 use crate::command::parse;
 use crate::serve::serve;
+use crate::texts::serve_texts;
 use pagable_core::Sha256Key;
 use pagable_file::{BlobEnv, FileBlobs};
 use sqlite::{File, FileStore};
 use std::process::ExitCode;
+use std::sync::Wait;
 use std::{env, io};
 
 const USAGE: &str =
     "usage: blobctl FILE [stat | list | roots | tree KEY | dot KEY | fsck | copy FILE | gc \
-    | put HEX [KEY..] | root NAME KEY | drop NAME | flush]";
+    | put HEX [KEY..] | root NAME KEY | drop NAME | flush]\n       blobctl texts FILE";
 
-/// Collects the words behind the program's name: the first one, and those behind it as a line.
+/// Returns the first word after the program's name, and the words after that as a line. Returns None if
+/// there is no word.
 fn words(rt: &HostRuntime) -> io::Result<Option<(String, String)>> {
     let mut words = env::args(rt)?.skip(1);
     let Some(path) = words.next() else {
@@ -44,25 +49,28 @@ fn words(rt: &HostRuntime) -> io::Result<Option<(String, String)>> {
     Ok(Some((path, line)))
 }
 
-/// Serves what the words behind the program's name ask for; None where they ask for nothing that there is.
-fn answer_words(rt: &HostRuntime) -> io::Result<Option<bool>> {
+/// Serves what the words after the program's name ask for. Returns false if that fails, and None if the
+/// words are none of the usage.
+fn answer_words<W: Wait>(rt: &HostRuntime, waits: &W) -> io::Result<Option<bool>> {
     let Some((path, line)) = words(rt)? else {
         return Ok(None);
     };
-    if !line.is_empty() && parse(line.as_str()).is_none() {
+    let (path, line) = (path.as_str(), line.as_str());
+    if path == "texts" && !line.is_empty() {
+        return Ok(Some(serve_texts(rt, waits, line)?));
+    }
+    let is_no_file = path == "texts" || path.starts_with("-");
+    if is_no_file || (!line.is_empty() && parse(line).is_none()) {
         return Ok(None);
     }
-    let done = serve::<FileBlobs<BlobEnv<Sha256Key>, FileStore<File>>>(
-        rt,
-        path.as_str(),
-        line.as_str(),
-    )?;
+    let done = serve::<FileBlobs<BlobEnv<Sha256Key>, FileStore<File>>>(rt, path, line)?;
     Ok(Some(done))
 }
 
-/// Answers the status: 0, 1 where the command is refused or finds a flaw, or 2 where there is none.
-fn status(rt: &HostRuntime) -> io::Result<ExitCode> {
-    match answer_words(rt)? {
+/// Returns the status: 0; 1 if what the words ask for fails or finds a flaw; 2 if they ask for nothing
+/// that there is.
+fn status<W: Wait>(rt: &HostRuntime, waits: &W) -> io::Result<ExitCode> {
+    match answer_words(rt, waits)? {
         Some(true) => Ok(ExitCode::SUCCESS),
         Some(false) => Ok(ExitCode::FAILURE),
         None => {
@@ -73,5 +81,11 @@ fn status(rt: &HostRuntime) -> io::Result<ExitCode> {
 }
 
 fn main(rt: HostRuntime) -> ExitCode {
-    status(&rt).unwrap_or(ExitCode::FAILURE)
+    match status(&rt, &rt) {
+        Ok(status) => status,
+        Err(error) => {
+            let _shown = eprintln!(rt; "blobctl: {error}");
+            ExitCode::FAILURE
+        }
+    }
 }

@@ -1,11 +1,11 @@
-//! How far a long command has come, on standard error.
+//! The progress of a long command, on standard error.
 
 use pagable_file::Watch;
 
-/// After how many blobs a line is shown.
+/// How many blobs go by from one line to the next.
 const STEP: u64 = 10_000;
 
-/// Counts blobs, and shows a line after each 10,000.
+/// Counts blobs, and shows a line after each `STEP`.
 #[derive(Drop)]
 pub struct Progress<'a> {
     rt: &'a HostRuntime,
@@ -13,12 +13,12 @@ pub struct Progress<'a> {
 }
 
 impl<'a> Progress<'a> {
-    /// Begins with no blob.
+    /// Makes the counter, at zero blobs.
     pub fn new(rt: &'a HostRuntime) -> Progress<'a> {
         Progress { rt, done: 0 }
     }
 
-    /// Tells how many blobs were gone over.
+    /// Returns how many blobs were counted.
     pub fn done(&self) -> u64 {
         self.done
     }

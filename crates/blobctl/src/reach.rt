@@ -1,4 +1,4 @@
-//! Walks over all that a key reaches.
+//! A walk over all that a key reaches.
 
 use crate::blobs::Blobs;
 use pagable_file::Listed;
@@ -6,15 +6,16 @@ use pagable_flavors::{DataKey, Error};
 use std::alloc::Global;
 use std::collections::HashMap;
 
-/// A blob that was reached.
+/// A blob that a walk has reached.
 #[derive(Drop)]
 pub struct Reached {
+    /// The blob's key, and how many bytes and children it has.
     pub blob: Listed,
     /// The keys of its children.
     pub children: Vec<DataKey>,
 }
 
-/// How far a walk has come.
+/// The keys that a walk has seen, those that it visits next, and the blobs that it has reached.
 #[derive(Drop)]
 struct Walk {
     seen: HashMap<DataKey, ()>,
@@ -22,7 +23,7 @@ struct Walk {
     found: Vec<Reached>,
 }
 
-/// Goes to a key, unless it was seen, and lets its children be due.
+/// Visits a key, unless the walk has seen it, and makes its children due.
 fn visit<B: Blobs>(
     alloc: Global,
     blobs: &mut B,
@@ -51,7 +52,8 @@ fn visit<B: Blobs>(
 /// Collects the blobs that a key reaches, each once.
 ///
 /// # Errors
-/// - NoData, OutOfMemory, Storage: as the blobs refuse a fetch.
+///
+/// - `NoData`, `OutOfMemory`, `Storage` as a fetch fails.
 pub fn walk_from<B: Blobs>(
     alloc: Global,
     blobs: &mut B,

@@ -1,4 +1,4 @@
-//! Why a command is refused.
+//! Why a command fails.
 
 use crate::show::digits;
 use pagable_file::{Fault, OpenError};
@@ -6,18 +6,18 @@ use pagable_flavors::Error;
 use std::alloc::AllocError;
 use std::{fmt, io};
 
-/// Why a command is refused.
+/// Why a command fails.
 #[derive(Clone, Copy)]
 pub enum Refusal {
     /// The line is no command.
     BadLine,
-    /// `gc` is asked for among lines.
+    /// `gc` came as a line of the input.
     AmongLines,
-    /// The blobs refused.
+    /// A call on the blobs failed.
     Blobs(Error),
-    /// A file isn't opened, or wasn't closed.
+    /// A file couldn't be opened or closed.
     File(OpenError),
-    /// A file isn't moved or removed.
+    /// A file couldn't be moved or removed.
     System(io::Error),
 }
 
@@ -59,7 +59,7 @@ impl fmt::Display for Refusal {
     }
 }
 
-/// Writes why blobs refused.
+/// Writes why a call on the blobs failed.
 fn write_error<W: fmt::Write>(f: &mut fmt::Formatter<W>, error: &Error) -> fmt::Result {
     match error {
         Error::NoData(key) => write!(f, "error: no blob stands under {:032x}", digits(*key)),

@@ -1,14 +1,14 @@
-//! Answers lines, or one command.
+//! The service of one command, or of the lines of the input.
 
 use crate::answer::{Answer, answer};
 use crate::blobs::InFile;
 use crate::collect::collect;
 use crate::command::{Verb, parse};
 use crate::refusal::Refusal;
-use std::io;
 use std::io::{BufRead, BufReader};
+use std::{fs, io};
 
-/// Prints an answer; false where it is a refusal, or names a flaw.
+/// Prints an answer. Returns false if the command failed, or the answer names a flaw.
 fn tell(rt: &HostRuntime, answer: Answer) -> io::Result<bool> {
     match answer {
         Ok((text, is_good)) => {
@@ -22,12 +22,13 @@ fn tell(rt: &HostRuntime, answer: Answer) -> io::Result<bool> {
     }
 }
 
-/// Runs a command over an open file, and prints its answer; false where it is refused, or finds a flaw.
+/// Runs a command over an open file, and prints its answer. Returns false if the command fails or finds
+/// a flaw.
 fn run<B: InFile>(rt: &HostRuntime, blobs: &mut B, verb: Verb, words: &str) -> io::Result<bool> {
     tell(rt, answer(rt, blobs, verb, words))
 }
 
-/// Answers a line; None is one that isn't text.
+/// Answers a line; None stands for one that isn't text.
 fn run_line<B: InFile>(rt: &HostRuntime, blobs: &mut B, line: Option<&str>) -> io::Result<bool> {
     match line.and_then(parse) {
         Some((verb, words)) => run(rt, blobs, verb, words),
@@ -49,7 +50,7 @@ fn run_lines<B: InFile>(rt: &HostRuntime, blobs: &mut B) -> io::Result<bool> {
     Ok(true)
 }
 
-/// Runs one command over a file; what it changes is committed.
+/// Runs one command over a file, and commits what it changes.
 fn run_alone<B: InFile>(
     rt: &HostRuntime,
     blobs: &mut B,
@@ -63,9 +64,26 @@ fn run_alone<B: InFile>(
     }
 }
 
-/// Opens the file of a path, and runs the command of a line, or for an empty one the lines of the input; false where the
-/// file or the command is refused, or a flaw is found.
+/// Returns whether a line is a command that changes nothing, for a file that isn't there.
+fn finds_no_file(rt: &HostRuntime, path: &str, line: &str) -> io::Result<bool> {
+    match parse(line) {
+        Some((verb, _)) if !verb.changes_file() => Ok(!fs::exists(rt, path)?),
+        _ => Ok(false),
+    }
+}
+
+/// Opens the file of a path, and runs the command of a line or, if the line is empty, those of the
+/// input. Returns false if the file can't be opened, the command fails, or it finds a flaw. A command
+/// that changes nothing doesn't create the file.
+///
+/// # Errors
+///
+/// - an error of reading or writing, or of making a buffer.
 pub fn serve<B: InFile>(rt: &HostRuntime, path: &str, line: &str) -> io::Result<bool> {
+    if finds_no_file(rt, path, line)? {
+        eprintln!(rt; "blobctl: {path}: there is no such file")?;
+        return Ok(false);
+    }
     let mut blobs = match B::open(rt, path) {
         Ok(blobs) => blobs,
         Err(error) => {

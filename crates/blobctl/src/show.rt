@@ -5,7 +5,7 @@ use pagable_file::{Flaw, Listed};
 use pagable_flavors::DataKey;
 use std::alloc::AllocError;
 
-/// Reads a key as the number that its hex digits spell.
+/// Returns the number that a key's hex digits spell.
 pub fn digits(key: DataKey) -> u128 {
     key.get().swap_bytes()
 }
@@ -20,7 +20,7 @@ pub fn write_blob(text: &mut String, blob: &Listed) -> Result<(), AllocError> {
     )
 }
 
-/// Adds a blob as a point of a graph, with a line to each child.
+/// Adds a blob as a point of a graph, with an edge to each child.
 pub fn write_point(text: &mut String, reached: &Reached) -> Result<(), AllocError> {
     let key = digits(reached.blob.key);
     writeln!(text, "  \"{key:032x}\";")?;

@@ -1,4 +1,4 @@
-//! A build of a folder, and the steps that last from build to build.
+//! A build of a folder, and the steps that it keeps for the next build.
 
 use crate::rule::{Rule, read_rules, run_command};
 use anyhow::{Context, Result};
@@ -9,34 +9,38 @@ use std::collections::BTreeMap;
 use std::fs;
 use std::num::NonZeroUsize;
 
-/// The tag of a record of a build, which refers to the records of its steps, the last one first.
+/// The tag of a record of a build. It refers to the records of its steps, the last used first.
 const BUILD: u32 = 1;
 
-/// The tag of a record of a step: its command with the keys of its inputs, and a reference to the record of its output.
+/// The tag of a record of a step: its text is the command with the keys of its inputs, and it refers to
+/// the record of its output.
 const STEP: u32 = 2;
 
-/// How many steps a build keeps: those that were used last.
+/// How many steps a build keeps, those that were used last.
 const KEPT_STEPS: usize = 1000;
 
-/// The outputs of steps, by commands and keys of inputs.
+/// The outputs of steps, by their commands and the keys of their inputs.
 type Steps = LruCache<String, HandleNumber>;
 
-/// A build at work.
+/// The state of a build.
 #[derive(Drop)]
 struct Build<'a, R: RecordCalls> {
     rt: &'a HostRuntime,
     folder: &'a str,
     store: &'a mut R,
     steps: Steps,
-    /// The outputs by the names of targets.
+    /// The outputs of this build, by the names of their targets.
     targets: BTreeMap<String, HandleNumber>,
+    /// How many commands it ran.
     ran: u64,
 }
 
-/// The build of a folder, with the steps of the last build.
+/// The job of building a folder. A build that fails saves the steps that it ran, too.
 #[derive(Drop)]
 pub struct FolderBuild<'a> {
+    /// The runtime, for files and output.
     pub rt: &'a HostRuntime,
+    /// The path of the folder.
     pub folder: &'a str,
 }
 
@@ -45,11 +49,7 @@ impl<'a> Job for FolderBuild<'a> {
 
     const KEPT_RECORDS: u64 = 100;
 
-    fn run<R: RecordCalls>(
-        &self,
-        store: &mut R,
-        last: Option<HandleNumber>,
-    ) -> Result<HandleNumber> {
+    fn run<R: RecordCalls>(&self, store: &mut R, last: Option<HandleNumber>) -> Result<()> {
         let steps = read_steps(store, last)?;
         let mut build = Build {
             rt: self.rt,
@@ -59,12 +59,14 @@ impl<'a> Job for FolderBuild<'a> {
             targets: BTreeMap::new(self.rt.alloc()),
             ran: 0,
         };
-        build.build_targets()?;
-        build.insert_steps()
+        let built = build.build_targets();
+        let record = build.insert_steps()?;
+        build.store.save(Self::ROOT, record)?;
+        built
     }
 }
 
-/// Reads the steps of a build, if there is one. No output is read.
+/// Reads the steps of the last build, if there is one. It reads no output.
 fn read_steps<R: RecordCalls>(store: &mut R, build: Option<HandleNumber>) -> Result<Steps> {
     let mut steps = LruCache::new(store.alloc(), NonZeroUsize::new(KEPT_STEPS).unwrap())?;
     let Some(build) = build else {
@@ -80,7 +82,7 @@ fn read_steps<R: RecordCalls>(store: &mut R, build: Option<HandleNumber>) -> Res
 }
 
 impl<'a, R: RecordCalls> Build<'a, R> {
-    /// Builds the targets of all rules, in their order.
+    /// Builds the targets of all rules, in their order, and says how many commands ran.
     fn build_targets(&mut self) -> Result<()> {
         let text = self.read_file("BUILD")?;
         let rules = read_rules(self.rt.alloc(), text.as_str())?;
@@ -92,7 +94,7 @@ impl<'a, R: RecordCalls> Build<'a, R> {
         Ok(())
     }
 
-    /// Builds a target: takes the output of a step that was the same, or runs the command.
+    /// Builds a target: takes the output of the same step, or else runs the command.
     fn build_target(&mut self, rule: &Rule<'_>) -> Result<()> {
         let step = self.spell_step(rule)?;
         let known = self.steps.get(step.as_str()).copied();
@@ -100,9 +102,9 @@ impl<'a, R: RecordCalls> Build<'a, R> {
             Some(output) => ("kept", output),
             None => ("ran", self.run(rule)?),
         };
+        self.steps.put(step, output)?;
         println!(self.rt; "{word} {}", rule.target)?;
         self.write_target(rule.target, output)?;
-        self.steps.put(step, output)?;
         self.targets
             .insert(String::from_str(self.rt.alloc(), rule.target)?, output)?;
         Ok(())
@@ -117,7 +119,7 @@ impl<'a, R: RecordCalls> Build<'a, R> {
         Ok(step)
     }
 
-    /// Finds the key of an input's text.
+    /// Returns the key of an input's text.
     fn input_key(&mut self, input: &str) -> Result<DataKey> {
         if let Some(output) = self.targets.get(input).copied() {
             return Ok(self.store.key(output)?);
@@ -149,7 +151,10 @@ impl<'a, R: RecordCalls> Build<'a, R> {
     /// Reads a file of the folder.
     fn read_file(&self, name: &str) -> Result<String> {
         let path = format!(in self.rt.alloc(); "{}/{name}", self.folder)?;
-        fs::read_to_string(self.rt, path.as_str()).context(format_args!("reading {name}"))
+        fs::read_to_string(self.rt, path.as_str()).context(format_args!(
+            "reading {name} in {}",
+            self.folder
+        ))
     }
 
     /// Writes a target into the folder.
@@ -159,7 +164,7 @@ impl<'a, R: RecordCalls> Build<'a, R> {
         fs::write(self.rt, path.as_str(), view.text()).context("writing it")
     }
 
-    /// Inserts the record of this build.
+    /// Inserts the record of this build, with the steps that it keeps.
     fn insert_steps(&mut self) -> Result<HandleNumber> {
         let mut records = Vec::new(self.rt.alloc());
         for (step, output) in self.steps.iter() {

@@ -1,5 +1,5 @@
-//! A build that remembers what its commands gave: `build_cache STORE FOLDER` builds the targets of the file BUILD of
-//! FOLDER, and runs only commands whose inputs' texts aren't those of a step that STORE has.
+//! A build that remembers the outputs of its commands. `build_cache STORE FOLDER` builds the targets of
+//! FOLDER's file BUILD, and runs a command only if STORE has no step of it with the same input texts.
 #![tactic(auto)]
 
 mod build;

@@ -5,26 +5,34 @@ use pagable::HandleNumber;
 use record_store::{RecordCalls, TEXT};
 use std::collections::BTreeMap;
 
-/// The tag of a record of a number, whose text that is.
+/// The tag of a record of a number. Its text spells the number.
 const NUMBER: u32 = 1;
 
-/// The tag of a record of a pair, which refers to its two parts.
+/// The tag of a record of a pair. It refers to the two parts.
 const PAIR: u32 = 2;
 
-/// The tag of a record of a machine: its text is the place and the names of the variables, and it refers to the program
-/// and to what the variables hold.
+/// The tag of a record of a machine. Its text is the place and the names of the variables; it refers to
+/// the program's text and to what the variables hold.
 const MACHINE: u32 = 3;
 
 /// A machine. It owns the handles of its program's text and of what its variables hold.
 #[derive(Drop)]
 pub struct Machine {
+    /// The record of the program's text.
     pub program: HandleNumber,
+    /// The number of the line that runs next, from 0.
     pub place: usize,
+    /// What the variables hold, by their names.
     variables: BTreeMap<String, HandleNumber>,
 }
 
 impl Machine {
-    /// Reads the machine of a record. What its variables hold isn't read.
+    /// Reads the machine of a record. It doesn't read what the variables hold.
+    ///
+    /// # Errors
+    ///
+    /// - an error that says so, if the record is no machine's.
+    /// - as `RecordCalls::read`; out of memory.
     pub fn read<R: RecordCalls>(store: &mut R, root: HandleNumber) -> Result<Machine> {
         let view = store.read(root)?;
         let mut refs = view.refs.iter().copied();
@@ -45,6 +53,10 @@ impl Machine {
     }
 
     /// Inserts the record of this machine.
+    ///
+    /// # Errors
+    ///
+    /// - as `RecordCalls::insert`; out of memory.
     pub fn insert<R: RecordCalls>(&self, store: &mut R) -> Result<HandleNumber> {
         let mut text = format!(in store.alloc(); "{}", self.place)?;
         let mut refs = vec![in store.alloc(); self.program]?;
@@ -55,7 +67,14 @@ impl Machine {
         Ok(store.insert(MACHINE, text.as_str(), refs.as_slice())?)
     }
 
-    /// Runs the line at the machine's place, and answers the number that it shows, if it shows one.
+    /// Runs the line at the machine's place, and returns the number that it shows, if it shows one. An
+    /// empty line does nothing.
+    ///
+    /// # Errors
+    ///
+    /// - an error that says why, if the line is of no form, names no variable, label or operator, finds
+    ///   no number or pair, or overflows.
+    /// - as the calls of `RecordCalls`; out of memory.
     pub fn step<R: RecordCalls>(
         &mut self,
         store: &mut R,
@@ -65,6 +84,7 @@ impl Machine {
         self.place = self.place.saturating_add(1);
         let words: Vec<&str> = line.split_whitespace().collect(store.alloc())?;
         match *words.as_slice() {
+            [] => {}
             [_label] => {}
             ["show", word] => return Ok(Some(self.number(store, word)?)),
             ["go", label] => self.go(program, label)?,
@@ -82,14 +102,14 @@ impl Machine {
         Ok(None)
     }
 
-    /// Goes on at the line with this label.
+    /// Goes on at the line with a label.
     fn go(&mut self, program: &[&str], label: &str) -> Result<()> {
-        let place = program.iter().position(|line| *line == label);
+        let place = program.iter().position(|line| line.trim() == label);
         self.place = place.context(format_args!("no line is labelled {label}"))?;
         Ok(())
     }
 
-    /// Lets a variable hold a value, and releases the one that it held.
+    /// Makes a variable hold a value, and releases the value that it held.
     fn set<R: RecordCalls>(&mut self, store: &mut R, name: &str, to: HandleNumber) -> Result<()> {
         let name = String::from_str(store.alloc(), name)?;
         if let Some(replaced) = self.variables.insert(name, to)? {
@@ -98,18 +118,20 @@ impl Machine {
         Ok(())
     }
 
-    /// Finds what a variable holds.
+    /// Returns what a variable holds.
     fn variable(&self, name: &str) -> Result<HandleNumber> {
         let value = self.variables.get(name).copied();
-        value.context(format_args!("nothing is called {name}"))
+        value.context(format_args!("no variable is called {name}"))
     }
 
-    /// Tells whether a variable holds the number 0.
+    /// Returns whether a variable holds the number 0.
     fn is_zero<R: RecordCalls>(&self, store: &mut R, name: &str) -> Result<bool> {
-        Ok(store.read(self.variable(name)?)?.text() == "0")
+        let view = store.read(self.variable(name)?)?;
+        store.release(view.refs.as_slice())?;
+        Ok(view.text() == "0")
     }
 
-    /// Finds the number that a word is, or that the variable of this name holds.
+    /// Returns the number that a word spells, or that the variable with its name holds.
     fn number<R: RecordCalls>(&self, store: &mut R, word: &str) -> Result<i64> {
         if let Ok(number) = word.parse::<i64>() {
             return Ok(number);
@@ -119,7 +141,7 @@ impl Machine {
         number.context(format_args!("{word} is no number"))
     }
 
-    /// Reads the pair that a variable holds, and answers a handle of one of its parts.
+    /// Returns a handle of a part of the pair that a variable holds.
     fn part<R: RecordCalls>(&self, store: &mut R, name: &str, at: usize) -> Result<HandleNumber> {
         let view = store.read(self.variable(name)?)?;
         let part = view.refs.as_slice().get(at).copied();
@@ -128,7 +150,7 @@ impl Machine {
         Ok(part)
     }
 
-    /// Computes what stands behind `=`. The answer is a handle of the caller's own.
+    /// Computes what is after `=`. The caller owns the handle that it returns.
     fn evaluate<R: RecordCalls>(&self, store: &mut R, words: &[&str]) -> Result<HandleNumber> {
         match *words {
             [word] => {
@@ -150,6 +172,10 @@ impl Machine {
 }
 
 /// Inserts the record of a machine at the first line of a program.
+///
+/// # Errors
+///
+/// - as `RecordCalls::insert`.
 pub fn insert_first<R: RecordCalls>(store: &mut R, program: &str) -> Result<HandleNumber> {
     let program = store.insert(TEXT, program, &[])?;
     Ok(store.insert(MACHINE, "0", &[program])?)
@@ -167,7 +193,7 @@ fn calculate(left: i64, operator: &str, right: i64) -> Result<i64> {
         "+" => left.checked_add(right),
         "-" => left.checked_sub(right),
         "*" => left.checked_mul(right),
-        _ => None,
+        _ => bail!("{operator} is no operator: there are +, - and *"),
     };
-    number.context(format_args!("{left} {operator} {right} is no number"))
+    number.context(format_args!("{left} {operator} {right} overflows"))
 }

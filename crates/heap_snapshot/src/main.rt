@@ -1,5 +1,6 @@
-//! A machine whose heap outlives the process: `heap_snapshot STORE LINES PROGRAM` runs at most so many lines of the
-//! program in the file PROGRAM and saves the machine in STORE; `heap_snapshot STORE LINES` goes on there.
+//! A machine whose heap outlives the process. `heap_snapshot STORE LINES PROGRAM` runs at most LINES lines
+//! of the program in the file PROGRAM, and saves the machine in STORE; `heap_snapshot STORE LINES` goes
+//! on with the saved machine.
 #![tactic(auto)]
 
 mod machine;
@@ -10,11 +11,13 @@ use pagable::HandleNumber;
 use record_store::{Job, RecordCalls, run_over_file};
 use std::{env, fs};
 
-/// A run of at most so many lines of a program, or of the one that was saved.
+/// The job of running some lines.
 #[derive(Drop)]
 struct Run<'a> {
     rt: &'a HostRuntime,
+    /// The program to begin; None to go on with the saved machine.
     program: Option<&'a str>,
+    /// How many lines to run at most.
     most: u64,
 }
 
@@ -23,23 +26,21 @@ impl<'a> Job for Run<'a> {
 
     const KEPT_RECORDS: u64 = 1000;
 
-    fn run<R: RecordCalls>(
-        &self,
-        store: &mut R,
-        last: Option<HandleNumber>,
-    ) -> Result<HandleNumber> {
+    fn run<R: RecordCalls>(&self, store: &mut R, last: Option<HandleNumber>) -> Result<()> {
         let first = match self.program {
             Some(program) => insert_first(store, program)?,
             None => last.context("no machine is saved in this store")?,
         };
         let mut machine = Machine::read(store, first)?;
+        store.release(&[first])?;
         self.run_lines(store, &mut machine)?;
-        machine.insert(store)
+        let record = machine.insert(store)?;
+        Ok(store.save(Self::ROOT, record)?)
     }
 }
 
 impl<'a> Run<'a> {
-    /// Runs lines, prints the numbers that they show, and lets what isn't held any more go.
+    /// Runs lines, prints the numbers that they show, and drops what no variable holds any more.
     fn run_lines<R: RecordCalls>(&self, store: &mut R, machine: &mut Machine) -> Result<()> {
         let text = store.read(machine.program)?;
         let lines: Vec<&str> = text.text().lines().collect(store.alloc())?;
@@ -63,10 +64,15 @@ fn main(rt: HostRuntime) -> Result<()> {
     let words: Vec<String> = env::args(&rt)?.skip(1).collect(rt.alloc())?;
     let (store, most, text) = match words.as_slice() {
         [store, most] => (store, most, None),
-        [store, most, path] => (store, most, Some(fs::read_to_string(&rt, path.as_str())?)),
+        [store, most, path] => {
+            let text = fs::read_to_string(&rt, path.as_str());
+            let text = text.context(format_args!("reading the program {path}"))?;
+            (store, most, Some(text))
+        }
         _ => bail!("usage: heap_snapshot STORE LINES [PROGRAM]"),
     };
-    let most = most.as_str().parse::<u64>().context("reading LINES")?;
+    let most = most.as_str().parse::<u64>();
+    let most = most.context("LINES is how many lines to run at most")?;
     let program = text.as_ref().map(String::as_str);
     let rt = &rt;
     run_over_file(rt, store.as_str(), &Run { rt, program, most })

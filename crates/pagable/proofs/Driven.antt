@@ -6,12 +6,12 @@ use Rattle.pagable.proofs.Keeping.{event-passes, kept-one, held-anyhow, makes-wi
 use Rattle.{pagable_theorems.proofs.HandlesKept.updated-at, pagable_pager_spec.specs.{LoadCalls.{LoadCloses, DropCall}, declared.{calls.{Call.Call, Reply.Reply}, handle_row.Owner.Owner, events.EventReply.EventReply}}}
 use Rattle.pagable_pager_spec.specs.{declared.{events.{LoadReply.LoadReply, TableNumber.TableNumber, Event.Event, LoadAnswer.LoadAnswer}, pinning.Beginning.Beginning}, World.{Reading, one_more, Alike}}
 use Rattle.pagable_pager_spec.specs.{World.{OpenLoad, Written, of_item, of_key, Frame, of_entry, Seen, Last, Core, Root, Values, SameShelf}, Basics.{updated, or_else}}
-use Rattle.pagable_pager_spec.specs.{Access.{WorkerStarts, ReadingStep}, Pager.{Moves, CallBrings, PagerState, world_of, FitsRoot, WellFormed}, Events.{reading_at, Happens, entry_task, reading_after}}
-use Rattle.pagable_pager_spec.specs.{Events.{Starts, with_entry_taken, step_fault, IsTable, reading_of_root, with_worker, no_shelf, Does}, Kinds.{identity_of, is_owner}, Workers.fresh, Refusals.OwnsLoad}
+use Rattle.pagable_pager_spec.specs.{Access.{WorkerStarts, ReadingStep}, Pager.{Moves, CallBrings, PagerState, world_of, FitsRoot, IsPagerWhole}, Events.{reading_at, Happens, entry_task, reading_after}}
+use Rattle.pagable_pager_spec.specs.{Events.{Starts, with_entry_taken, step_fault, IsTable, reading_of_root, with_worker, no_shelf, CallDoes}, Kinds.{identity_of, is_owner}, Workers.fresh, Refusals.OwnsLoad}
 use Rattle.{pagable_pager_spec.specs.Order.step_of, std.specs.{declared.{vec.Vec.Vec, sync.Arc.Arc, alloc.Global.Global}, Prelude.{is_none, is_some, Result, slice_get}, Option.option_map}}
 use Rattle.std.proofs.Common.{Ok, ◌+◌, ◌≤◌, ◌++◌, Some, ℕ, subst, zero, Option, ◌≢◌, ◌∙◌, refl, ◌==◌, ◌≡◌, arith, rules, [], if◌then◌else◌, false, true, inr, ap, length, ◌∷◌, suc, Err, ◌<◌, None, List}
 use Rattle.{std.proofs.{Common.{sym, inl}, lemmas.{Bool.Decides.nat_tests, List.length-append, Grind.common_steps}}, pagable_pager.{proofs.Invariant.less-moves, specs.View.Telling}}
-use Rattle.{pagable_pager.specs.View.{type_of_root, OnlyTables, state_in, core_in, PagerView, OnlyLess, ReadsAs, value_in}, pagable_pageout.{proofs.WorkerTurns.plain-fits, specs.Slots.written_of}}
+use Rattle.{pagable_pager.specs.View.{type_of_root, OnlyTables, pager_state, pager_core, PagerView, OnlyLess, ReadsAs, value_in}, pagable_pageout.{proofs.WorkerTurns.plain-fits, specs.Slots.written_of}}
 use Rattle.{pagable_pageout.specs.{Tasks.IsPlain, Turns.LeavesFit, declared.{lent_table.LentTable.LentTable, tasks.{Task.Task, Turn.Turn}}, Table.shelf_of}, pagable_load.specs.Frames.{IsLoadOf, reading_of, is_cell}}
 use Rattle.{pagable_load.{proofs.LoadSteps.none_comes, specs.{declared.reading.Reading.Reading as Own, WorkerCalls.{RefusesEntry, StartsEntry}}}, pagable_theorems.proofs.{ReadingSteps.{caller-free, reading-feels}, Trees.same_some}}
 use Rattle.{pagable_theorems.proofs.{Trees.same-number, Effects.{owned-mine, IsMine}}, pagable_core.specs.declared.{context.writing.SerializedData.SerializedData, storage.data.PagableData.PagableData}}
@@ -52,7 +52,7 @@ never-typed s h l load o none untyped = first_of (grind (arith, common_steps, na
 
 module _ {X XN XH XK XV : Type 0} {g : Environments X XN XH XK XV} {gh : Hashes XH} {go : Orders XK} {gq : Equalities XK} {gp : PartialOrders XK}
     {gn : Nodes XN X XN XH XK XV} {N B W E : Type 0} (m : Seen N B W) (s s' : PagerState N E) (h : Holding g gh go gq gp gn) (kept' : Kept)
-    (serving : IsServing s.core h) (was : WellFormed m.values s) where
+    (serving : IsServing s.core h) (was : IsPagerWhole m.values s) where
   steps : (l : LoadNumber) (load : OpenLoad) (reading : Reading) (x : Option Own) (reply : LoadReply N) (frames : List Frame)
       → OwnsLoad s.core Owner.Caller l load → reading_at (world_of (machine_of s h)) l ≡ Some reading
       → ReadingStep m.values Owner.Caller reading s reply.ended frames s'
@@ -122,15 +122,15 @@ begun-fits v w (Turn.Answers answer) plain = tt
 module _ {X XN XH XK XV : Type 0} {g : Environments X XN XH XK XV} {gh : Hashes XH} {go : Orders XK} {gq : Equalities XK} {gp : PartialOrders XK}
     {gn : Nodes XN X XN XH XK XV} {N B W E : Type 0} (m : Seen N B W) (s s' : PagerState N E)
     (h : Holding g gh go gq gp gn) {walks' : ℕ → Option (Walk X XN XH XK XV g gh go gq gp gn)} (serving : IsServing s.core h)
-    (was : WellFormed m.values s)
-    (formed : WellFormed m.values s') (on : Leaves Owner.Caller (updated (s.core.last.worker + 1) true s.core.workers) s.core s'.core)
+    (was : IsPagerWhole m.values s)
+    (formed : IsPagerWhole m.values s') (on : Leaves Owner.Caller (updated (s.core.last.worker + 1) true s.core.workers) s.core s'.core)
     (t : TableNumber) (task : world.Task) (n : WorkerNumber) (k : Walk X XN XH XK XV g gh go gq gp gn) (table : IsTable (world_of (machine_of s h)) t)
     (next : n.0 ≡ s.core.last.worker + 1) (begun : IsBegun t task k)
     (keeps : KeepsOne h.walks n.0 (Some k) walks') where
   abbrev with_walk : Holding g gh go gq gp gn
   with_walk = record h { walks = walks' }
 
-  -- the plain world's worker starts
+  -- the world's worker starts
   starts-so : (core : Core) → Alike (with_worker core) s'.core → Starts (world_of (machine_of s h)) t task core n (world_of (machine_of s' with_walk))
   starts-so core a = first_of (
     grind (arith, common_steps, nat_tests),
@@ -158,8 +158,8 @@ module _ {X XN XH XK XV : Type 0} {g : Environments X XN XH XK XV} {gh : Hashes 
 
 -- a call by which values come, one by which they only go, and one by which they stay
 module _ {N S E : Type 0} {v : Values N} {tells : Telling S} {old new : PagerView N S E} {call : Call N PagableData} {r : Reply N (Arc PagableData Global)}
-    (does : Does (plainly v) (core_in tells old) Owner.Caller call (plain_reply r) (core_in tells new)) where
-  pub serves : Moves (CallBrings (core_in tells old) call) (state_in tells old) (state_in tells new) → Serves v tells old call r new
+    (does : CallDoes (plainly v) (pager_core tells old) Owner.Caller call (plain_reply r) (pager_core tells new)) where
+  pub serves : Moves (CallBrings (pager_core tells old) call) (pager_state tells old) (pager_state tells new) → Serves v tells old call r new
   serves moves = record { step = record { does = does }; moves = moves }
 
   pub serves-less : OnlyLess old new → Serves v tells old call r new
@@ -183,16 +183,16 @@ keeps-after as_was keeps = record { here = keeps.here; others = λ q other. keep
 
 module _ {X XN XH XK XV : Type 0} {g : Environments X XN XH XK XV} {gh : Hashes XH} {go : Orders XK} {gq : Equalities XK} {gp : PartialOrders XK}
     {gn : Nodes XN X XN XH XK XV} {N S E : Type 0} (v : E → Values N) (tells : Telling S) (old new : PagerView N S E)
-    (held : Held X XN XH XK XV g gh go gq gp gn) (serving : IsServing (core_in tells old) (holding held))
-    (was : WellFormed (v old.environment) (state_in tells old)) where
+    (held : Held X XN XH XK XV g gh go gq gp gn) (serving : IsServing (pager_core tells old) (holding held))
+    (was : IsPagerWhole (v old.environment) (pager_state tells old)) where
   abbrev m : Seen N PagableData Written
   m = plainly (v old.environment)
 
   abbrev s : PagerState N E
-  s = state_in tells old
+  s = pager_state tells old
 
   abbrev s' : PagerState N E
-  s' = state_in tells new
+  s' = pager_state tells new
 
   abbrev h : Holding g gh go gq gp gn
   h = holding held
@@ -200,11 +200,11 @@ module _ {X XN XH XK XV : Type 0} {g : Environments X XN XH XK XV} {gh : Hashes 
   abbrev Takes : Given N → Answer N → PagerView N S E → Held X XN XH XK XV g gh go gq gp gn → Type 0
   Takes event reply now left = Served (v old.environment) tells old held event reply now left
 
-  whole-still : {comes : ℕ → N → Type 0} → Moves comes s s' → WellFormed (v new.environment) s' → WellFormed (v old.environment) s'
-  whole-still moves formed = subst (λ e. WellFormed (v e) s') moves.environment formed
+  whole-still : {comes : ℕ → N → Type 0} → Moves comes s s' → IsPagerWhole (v new.environment) s' → IsPagerWhole (v old.environment) s'
+  whole-still moves formed = subst (λ e. IsPagerWhole (v e) s') moves.environment formed
 
   pub start-made : (through : HandleNumber) (r : Result Beginning Error) → Serves (v old.environment) tells old (Call.LoadBegin through) (Reply.Begun r) new
-      → WellFormed (v new.environment) s'
+      → IsPagerWhole (v new.environment) s'
       → Takes (Event.LoadStart through) (EventReply.Started r) new held
   start-made through r serves formed =
       let w = whole-still serves.moves formed in
@@ -221,7 +221,7 @@ module _ {X XN XH XK XV : Type 0} {g : Environments X XN XH XK XV} {gh : Hashes 
     anew = record held { readings = kept' }
 
     pub call-made : (call : Call N PagableData) (reply : Reply N (Arc PagableData Global)) → Serves (v old.environment) tells old call reply new
-        → WellFormed (v new.environment) s'
+        → IsPagerWhole (v new.environment) s'
         → Forgets s'.core (kept_at kept) (kept_at kept') → Takes (Event.Call call) (EventReply.CallReply reply) new anew
     call-made call reply serves formed f =
         let w = whole-still serves.moves formed in
@@ -232,7 +232,7 @@ module _ {X XN XH XK XV : Type 0} {g : Environments X XN XH XK XV} {gh : Hashes 
     -- a load of a key has begun
     pub key-made : (key t : ℕ) (l : LoadNumber) (k : ℕ) (own : Own) → Serves (v old.environment) tells old (Call.LoadKey key)
         (Reply.Begun (Ok (Beginning.Load l k))) new
-        → WellFormed (v new.environment) s' → reading_of own ≡ fresh l t → own.key ≡ key → own.for_cell ≡ false
+        → IsPagerWhole (v new.environment) s' → reading_of own ≡ fresh l t → own.key ≡ key → own.for_cell ≡ false
         → KeepsOne (kept_at kept) l.0 (Some own) (kept_at kept')
         → Takes (Event.LoadKey key t) (EventReply.Started (Ok (Beginning.Load l k))) new anew
     key-made key t l k own serves formed is key_is sort keeps =
@@ -266,7 +266,7 @@ module _ {X XN XH XK XV : Type 0} {g : Environments X XN XH XK XV} {gh : Hashes 
 
     -- or none begins, and the pager is as it was
     pub key-none-made : (key t : ℕ) (e : Error) → Serves (v old.environment) tells old (Call.LoadKey key) (Reply.Begun (Err e)) new
-        → WellFormed (v new.environment) s'
+        → IsPagerWhole (v new.environment) s'
         → ((q : ℕ) → kept_at kept' q ≡ kept_at kept q) → Takes (Event.LoadKey key t) (EventReply.Started (Err e)) new anew
     key-none-made key t e serves formed as_was = as-made (refused m serving was
         (record { step = serves.step.does.refused.stays; moves = serves.moves; whole = whole-still serves.moves formed })
@@ -312,7 +312,7 @@ module _ {X XN XH XK XV : Type 0} {g : Environments X XN XH XK XV} {gh : Hashes 
           only (Some answer) now is = absurd (cc)
 
       pub no-place-made : IsPrepared (kept_at kept) l key t (kept_at kept') → kept_at kept' l.0 ≡ None → is_none t ≡ false
-          → (told : Result (Unit {0}) Error) → DropCall s.core Owner.Caller l told s'.core → OnlyLess old new → WellFormed (v new.environment) s'
+          → (told : Result (Unit {0}) Error) → DropCall s.core Owner.Caller l told s'.core → OnlyLess old new → IsPagerWhole (v new.environment) s'
           → Takes (Event.LoadStep l) (EventReply.LoadMoved (Ok (record { ended = Some (LoadAnswer.Refused Error.OutOfMemory); steps = 1 }))) new anew
       no-place-made ready none of_cell told drop only formed =
           let unkept : kept_at kept l.0 ≡ None = sym (ready.full none l.0) ∙ none in

@@ -1,17 +1,17 @@
 -- A machine's loads and workers agree with its pager after each event: by what each call, step, begin and end leaves, and that it leaves other owners' handles
 -- alone.
-use Rattle.pagable.specs.Driving.{AllKept, AllOnTables, Answer, Drives, IsInStep, IsOnTable, is_done, kept_at, Forgets, Given, Holding, IsKept, IsServing, IsWalkKept, KeepsOne, Kept, Makes, holding, machine_of, plain_answer, plain_event, plainly}
+use Rattle.pagable.specs.Driving.{AllKept, AllOnTables, Answer, Drives, HeldFitsPager, IsOnTable, is_done, kept_at, Forgets, Given, Holding, IsKept, IsServing, IsWalkKept, KeepsOne, Kept, Makes, holding, machine_of, plain_answer, plain_event, plainly}
 use Rattle.{pagable.specs.{Driving.{readings_in, walking_of, work_of}, declared.workers.{Held.Held, Walk.Walk}}, pagable_theorems.proofs.{CallEffects.calls-go, Effects.{Effect, Spares, listed-free}}}
 use Rattle.pagable_theorems.proofs.{Effects.{then-fell, worker-apart}, HandlesKept.{Goes, RowsGo, fell-anyhow, quiet-goes, stands-whole}, ReadingSteps.{caller-free, event-goes}, StepBounds.event-spares}
 use Rattle.{pagable_theorems.{proofs.Trees.{counted, one-true, same-number, same_some, self-number}, specs.TreeSteps.{Change, nothing_felt}}, pagable_load.specs.{Frames.reading_of, AccessView.Acting}}
 use Rattle.{pagable_load.specs.declared.reading.Reading.Reading as Own, pagable_value_spec.specs.declared.numbers.{ArcRef.ArcRef, HandleNumber.HandleNumber}, pagable_pager.specs.View.PagerView}
-use Rattle.pagable_pager.specs.View.{Telling, core_in, state_in}
+use Rattle.pagable_pager.specs.View.{Telling, pager_core, pager_state}
 use Rattle.pagable_tables.proofs.SameViews.{still}
 use Rattle.pagable_pageout.specs.{Joint.both, Turns.{IsOfKind, LeavesFit, TaskFits}}
 use Rattle.pagable_pageout.specs.declared.{lent_table.LentTable.LentTable, tasks.{Task.Task, Turn.Turn}}
-use Rattle.pagable_pager_spec.specs.{Access.{Called, Told}, Calls.{CloseCall, is_listed, shut}, Cascade.fallen, Events.{CallStep, Does, Ends, Happens, ReadingsAre, Stays, WorkStays}, Kinds.is_owner}
+use Rattle.pagable_pager_spec.specs.{Access.{MakesCall, IfBothKnown}, Calls.{CloseCall, is_listed, shut}, Cascade.fallen, Events.{CallStep, CallDoes, Ends, Happens, ReadingsAre, Stays, WorkStays}, Kinds.is_owner}
 use Rattle.pagable_pager_spec.specs.{Kinds.owner_worker, Order.step_of, Pager.{EventBrings, EventHolds, HandlesAreWhole, IsMachineWhole, IsReadingWhole, IsWalkingWhole, IsWhole, Moves, OwnersAreThere, PagerState}}
-use Rattle.pagable_pager_spec.specs.{Pager.{ReplyWrites, WellFormed, world_of}, Basics.{SameAt, if_there, one, times, updated}, World.{Alike, Cell, Core, OpenLoad, Reading, Seen, Values, Walking, World}}
+use Rattle.pagable_pager_spec.specs.{Pager.{ReplyWrites, IsPagerWhole, world_of}, Basics.{SameAt, if_there, one, times, updated}, World.{Alike, Cell, Core, OpenLoad, Reading, Seen, Values, Walking, World}}
 use Rattle.{pagable_pager_spec.specs.declared.{calls.{Call.Call, Reply.Reply}, events.{Event.Event, EventReply.EventReply, WorkerAnswer.WorkerAnswer}, handle_row.Owner.Owner}, std.proofs.Common.{Bool, List, None}}
 use Rattle.std.proofs.Common.{Option, Some, [], ap, arith, false, inl, inr, length, refl, rules, subst, sym, true, ℕ, ◌<◌, ◌==◌, ◌∙◌, ◌≡◌, ◌≢◌, ◌≤◌, ◌⊎◌}
 use Rattle.std.{proofs.lemmas.{Bool.{Decides.nat_tests, false_from_ne_true}, Grind.common_steps}, specs.{Option.option_map, Prelude.{IsTrue, Result, if◌then◌else◌, is_some}}}
@@ -23,7 +23,7 @@ pub lender-is : {E : Type 0} {a b : Acting E} → a ≡ b → a.lender ≡ b.len
 lender-is {E} e = ap (λ (a : Acting E). a.lender) e
 
 -- what is told afterwards was told before
-pub told-so : {A : Type 0} {R : A → A → Type 0} (b b' : Bool) (s t : A) → Told (if b then Some s else None) (if b' then Some t else None) R → IsTrue b'
+pub told-so : {A : Type 0} {R : A → A → Type 0} (b b' : Bool) (s t : A) → IfBothKnown (if b then Some s else None) (if b' then Some t else None) R → IsTrue b'
     → IsTrue b × R s t
 told-so true true s t told is = (refl, told.holds)
 told-so false true s t told is = absurd told.holds
@@ -32,7 +32,7 @@ told-so false false s t told is = absurd (cc)
 
 -- and so of what is told of an access and of a table together
 pub told-both : {A T : Type 0} {R : A × T → A × T → Type 0} (b b' : Bool) (s t : A) (q q' : T)
-    → Told (both (if b then Some s else None) (Some q)) (both (if b' then Some t else None) (Some q')) R → IsTrue b' → IsTrue b × R (s, q) (t, q')
+    → IfBothKnown (both (if b then Some s else None) (Some q)) (both (if b' then Some t else None) (Some q')) R → IsTrue b' → IsTrue b × R (s, q) (t, q')
 told-both true true s t q q' told is = (refl, told.holds)
 told-both false true s t q q' told is = absurd told.holds
 told-both true false s t q q' told is = absurd (cc)
@@ -61,7 +61,7 @@ leaves-so e asks = record {
 }
 
 -- a call of the caller's
-pub call-leaves : (w w' : Core) {N B W : Type 0} (m : Seen N B W) (call : Call N B) (reply : Reply N B) → Does m w Owner.Caller call reply w'
+pub call-leaves : (w w' : Core) {N B W : Type 0} (m : Seen N B W) (call : Call N B) (reply : Reply N B) → CallDoes m w Owner.Caller call reply w'
     → Leaves Owner.Caller w.workers w w'
 call-leaves w w' m Call.Close (Reply.Done r) c = let f = c.falls.falls in like {u = fallen (shut w w'.failures) f.gone f.entries} f.leaves (λ l. refl) refl
 call-leaves w w' m Call.Close reply c = absurd c
@@ -222,13 +222,13 @@ module _ {w : Core} {kept : Kept} (all : AllKept w kept) {me : Owner} {works : �
 
 -- a machine in step with a pager that is whole is whole
 pub machine-whole : {X XN XH XK XV : Type 0} {g : Environments X XN XH XK XV} {gh : Hashes XH} {go : Orders XK} {gq : Equalities XK} {gp : PartialOrders XK}
-    {gn : Nodes XN X XN XH XK XV} {N E : Type 0} (v : Values N) (s : PagerState N E) (h : Holding g gh go gq gp gn) → WellFormed v s → IsServing s.core h
+    {gn : Nodes XN X XN XH XK XV} {N E : Type 0} (v : Values N) (s : PagerState N E) (h : Holding g gh go gq gp gn) → IsPagerWhole v s → IsServing s.core h
     → IsMachineWhole v (machine_of s h)
 machine-whole {X} {g} v s h formed serving = record {
   pager = formed;
   readings = λ l reading is. of l reading (s.core.loads l) refl (h.readings l) refl is;
   walkings = of-walk;
-  all_there = λ n is. let there = serving.all_there n is in grind (arith, nat_tests);
+  each_walks = λ n is. let there = serving.each_walks n is in grind (arith, nat_tests);
 }
   where
     of : (l : ℕ) (reading : Reading) (found : Option OpenLoad) → s.core.loads l ≡ found → (own : Option Own) → h.readings l ≡ own
@@ -251,7 +251,7 @@ held-anyhow moves = record {
 
 -- what is done to a pager, and what is kept afterwards
 pub makes-with : {X XN XH XK XV : Type 0} {g : Environments X XN XH XK XV} {gh : Hashes XH} {go : Orders XK} {gq : Equalities XK} {gp : PartialOrders XK}
-    {gn : Nodes XN X XN XH XK XV} {N B W E : Type 0} (m : Seen N B W) (s s' : PagerState N E) {h h' : Holding g gh go gq gp gn} → WellFormed m.values s'
+    {gn : Nodes XN X XN XH XK XV} {N B W E : Type 0} (m : Seen N B W) (s s' : PagerState N E) {h h' : Holding g gh go gq gp gn} → IsPagerWhole m.values s'
     → (event : Event N B W) (reply : EventReply N B W)
     → Happens m (world_of (machine_of s h)) event reply (world_of (machine_of s' h')) → Moves (EventBrings m.values (world_of (machine_of s h)) event) s s'
     → Moves (λ n x. EventHolds m.values s event x) s s' → ReplyWrites m s reply → IsServing s'.core h' → Makes m s h event reply s' h'
@@ -280,14 +280,14 @@ one-serves {X} {g} {w} {w'} {h} {h'} serving whole v k keeps more readings passe
     | inl (other, was) ↦ walk-on whole (passes q other) more (works q other) (serving.walks q x was)
     | inr (at, same) ↦ subst (λ n. IsWalkKept w' (length h'.tables) n x) (sym at) (subst (λ y. IsWalkKept w' (length h'.tables) v y) (same_some _ _ same) new)
   ];
-  all_there = λ q is. grind (arith, nat_tests, same-number, not-same, serving.all_there, keeps.others, works);
+  each_walks = λ q is. grind (arith, nat_tests, same-number, not-same, serving.each_walks, keeps.others, works);
 }
 
 -- no worker steps, and nothing else is kept of any
 module _ {X XN XH XK XV : Type 0} {g : Environments X XN XH XK XV} {gh : Hashes XH} {go : Orders XK} {gq : Equalities XK} {gp : PartialOrders XK}
     {gn : Nodes XN X XN XH XK XV} {N B W E : Type 0} (m : Seen N B W) (s s' : PagerState N E) {h h' : Holding g gh go gq gp gn} (serving : IsServing s.core h)
-    (was : WellFormed m.values s)
-    (formed : WellFormed m.values s') (more : length h.tables ≤ length h'.tables) (walks : (v : ℕ) → h'.walks v ≡ h.walks v)
+    (was : IsPagerWhole m.values s)
+    (formed : IsPagerWhole m.values s') (more : length h.tables ≤ length h'.tables) (walks : (v : ℕ) → h'.walks v ≡ h.walks v)
     (on : Leaves Owner.Caller s.core.workers s.core s'.core) where
   pub makes : (event : Event N B W) (reply : EventReply N B W) → ((v : ℕ) → step_of v event reply ≡ [])
       → Happens m (world_of (machine_of s h)) event reply (world_of (machine_of s' h'))
@@ -300,13 +300,13 @@ module _ {X XN XH XK XV : Type 0} {g : Environments X XN XH XK XV} {gh : Hashes 
         let passes = event-passes m v (world_of (machine_of s h)) (world_of (machine_of s' h')) was.whole event reply (none v) happens
         (λ l load is own. on.others l load is (was.whole.loads.numbered l (ap is_some is)).1 (ap (is_owner Owner.Caller) own)) in
         walk-on was.whole.handles passes more (on.workers v) (serving.walks v k (sym (walks v) ∙ is));
-    all_there = λ v is. ap is_some (walks v) ∙ serving.all_there v (sym (on.workers v) ∙ is);
+    each_walks = λ v is. ap is_some (walks v) ∙ serving.each_walks v (sym (on.workers v) ∙ is);
   })
 
 module _ {X XN XH XK XV : Type 0} {g : Environments X XN XH XK XV} {gh : Hashes XH} {go : Orders XK} {gq : Equalities XK} {gp : PartialOrders XK}
     {gn : Nodes XN X XN XH XK XV} {N B W E : Type 0} (m : Seen N B W) (s s' : PagerState N E) (h : Holding g gh go gq gp gn) (kept' : Kept)
-    (serving : IsServing s.core h) (was : WellFormed m.values s)
-    (formed : WellFormed m.values s') where
+    (serving : IsServing s.core h) (was : IsPagerWhole m.values s)
+    (formed : IsPagerWhole m.values s') where
   abbrev served : Holding g gh go gq gp gn
   served = record h { readings = kept' }
 
@@ -330,8 +330,8 @@ module _ {X XN XH XK XV : Type 0} {g : Environments X XN XH XK XV} {gh : Hashes 
 
 module _ {X XN XH XK XV : Type 0} {g : Environments X XN XH XK XV} {gh : Hashes XH} {go : Orders XK} {gq : Equalities XK} {gp : PartialOrders XK}
     {gn : Nodes XN X XN XH XK XV} {N B W E : Type 0} (m : Seen N B W) {s s' : PagerState N E} {h h' : Holding g gh go gq gp gn} (serving : IsServing s.core h)
-    (was : WellFormed m.values s)
-    (done : Called m.values (λ w'. Alike s.core w') s s') (readings : (l : ℕ) → h'.readings l ≡ h.readings l) (tables : h'.tables ≡ h.tables)
+    (was : IsPagerWhole m.values s)
+    (done : MakesCall m.values (λ w'. Alike s.core w') s s') (readings : (l : ℕ) → h'.readings l ≡ h.readings l) (tables : h'.tables ≡ h.tables)
     (walks : (v : ℕ) → h'.walks v ≡ h.walks v) where
   on : Leaves Owner.Caller s.core.workers s.core s'.core
   on = like done.step (λ l. refl) refl
@@ -352,7 +352,7 @@ module _ {X XN XH XK XV : Type 0} {g : Environments X XN XH XK XV} {gh : Hashes 
       (kept-on serving.readings on (λ l own is. inl (sym (readings l) ∙ is)))
 
 -- nothing is done to the pager
-pub nothing-done : {N E : Type 0} {v : Values N} (s : PagerState N E) → WellFormed v s → Called v (λ w'. Alike s.core w') s s
+pub nothing-done : {N E : Type 0} {v : Values N} (s : PagerState N E) → IsPagerWhole v s → MakesCall v (λ w'. Alike s.core w') s s
 nothing-done s was = record { step = still s.core; moves = record { each = λ n x is. inl is; environment = refl }; whole = was }
 
 -- ---- workers stay on their tables, whatever the storage answers
@@ -389,35 +389,35 @@ pub record Served {X XN XH XK XV : Type 0} {g : Environments X XN XH XK XV} {gh 
     {gn : Nodes XN X XN XH XK XV} {N S E : Type 0} (v : Values N) (tells : Telling S) (old : PagerView N S E) (held : Held X XN XH XK XV g gh go gq gp gn)
     (event : Given N)
     (reply : Answer N) (new : PagerView N S E) (held' : Held X XN XH XK XV g gh go gq gp gn) : Type 0 where
-  pub made : Makes (plainly v) (state_in tells old) (holding held) (plain_event event) (plain_answer reply) (state_in tells new) (holding held')
+  pub made : Makes (plainly v) (pager_state tells old) (holding held) (plain_event event) (plain_answer reply) (pager_state tells new) (holding held')
 
 pub as-made : {X XN XH XK XV : Type 0} {g : Environments X XN XH XK XV} {gh : Hashes XH} {go : Orders XK} {gq : Equalities XK} {gp : PartialOrders XK}
     {gn : Nodes XN X XN XH XK XV} {N S E : Type 0} {v : Values N} {tells : Telling S} {old new : PagerView N S E}
     {held held' : Held X XN XH XK XV g gh go gq gp gn} {event : Given N} {reply : Answer N}
-    → Makes (plainly v) (state_in tells old) (holding held) (plain_event event) (plain_answer reply) (state_in tells new) (holding held')
+    → Makes (plainly v) (pager_state tells old) (holding held) (plain_event event) (plain_answer reply) (pager_state tells new) (holding held')
     → Served v tells old held event reply new held'
 as-made makes = record { made = makes }
 
 module _ {X XN XH XK XV : Type 0} {g : Environments X XN XH XK XV} {gh : Hashes XH} {go : Orders XK} {gq : Equalities XK} {gp : PartialOrders XK}
     {gn : Nodes XN X XN XH XK XV} {N S E : Type 0} {honest : S → Bool} {v : Values N} {tells : Telling S} {old new : PagerView N S E}
     {held held' : Held X XN XH XK XV g gh go gq gp gn}
-    {event : Given N} {reply : Answer N} (was : IsInStep honest tells old held) where
+    {event : Given N} {reply : Answer N} (was : HeldFitsPager honest tells old held) where
   -- a machine over a pager does what is made of both, as long as the storage is honest
   pub drives : (IsTrue (honest new.storage) → IsTrue (honest old.storage)) → AllOnTables held'.tables.items (kept_at held'.walks)
-      → (IsTrue (honest new.storage) → IsServing (core_in tells old) (holding held) → Served v tells old held event reply new held')
+      → (IsTrue (honest new.storage) → IsServing (pager_core tells old) (holding held) → Served v tells old held event reply new held')
       → Drives honest v tells old held event reply new held'
   drives keeps on_tables does = record { makes = λ is. (does is (was.serving (keeps is))).made; honest = keeps; on_tables = on_tables }
 
   -- the storage isn't asked, and no other worker is kept
   pub drives-beside : new.storage ≡ old.storage → length held.tables.items ≤ length held'.tables.items
-      → ((q : ℕ) → kept_at held'.walks q ≡ kept_at held.walks q) → (IsServing (core_in tells old) (holding held)
+      → ((q : ℕ) → kept_at held'.walks q ≡ kept_at held.walks q) → (IsServing (pager_core tells old) (holding held)
       → Served v tells old held event reply new held')
       → Drives honest v tells old held event reply new held'
   drives-beside same more walks does = drives (λ is. ap honest (sym same) ∙ is) (stay-on was.on_tables walks more) (λ is serving. does serving)
 
   -- and nothing is done
   pub refuses : new.storage ≡ old.storage → length held.tables.items ≤ length held'.tables.items → ((q : ℕ) → kept_at held'.walks q ≡ kept_at held.walks q)
-      → (IsServing (core_in tells old) (holding held) → Makes (plainly v) (state_in tells old) (holding held) (plain_event event) (plain_answer reply)
-      (state_in tells new) (holding held'))
+      → (IsServing (pager_core tells old) (holding held) → Makes (plainly v) (pager_state tells old) (holding held) (plain_event event) (plain_answer reply)
+      (pager_state tells new) (holding held'))
       → Drives honest v tells old held event reply new held'
   refuses same more walks does = drives-beside same more walks (λ serving. as-made (does serving))

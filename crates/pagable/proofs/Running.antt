@@ -1,14 +1,14 @@
 -- A worker's step, and the table that it changes. And a run continues by one more event, and the headline holds of it after whatever was before.
 use Rattle.{pagable.proofs.Keeping.{Leaves, are-these, as-before, at-one, end-leaves, event-passes, kept-on, leaves-so, makes-with, not-same, one-serves, works_after}, std.specs.Prelude.slice_get}
 use Rattle.{pagable.specs.Driving.{Answer, Drives, plain_answer, plain_event, plain_moved, plainly, readings_in, shelf_at, table_view, view_of, walking_of}, std.specs.Map.lookup}
-use Rattle.pagable.specs.Driving.{Given, Holding, IsInStep, IsServing, IsWalkKept, KeepsOne, MachineView, Makes, Runs, WalksOn, claims_at, claims_of, holding, machine_in, machine_of}
+use Rattle.pagable.specs.Driving.{Given, Holding, HeldFitsPager, IsServing, IsWalkKept, KeepsOne, MachineView, Makes, Runs, WalksOn, claims_at, claims_of, holding, machine_in, machine_of}
 use Rattle.{pagable.specs.declared.workers.{Held.Held, Walk.Walk}, pagable_core.specs.declared.{context.writing.SerializedData.SerializedData, storage.data.PagableData.PagableData}}
 use Rattle.{pagable_theorems.proofs.{Chains.headline_law, Effects.owned-mine, HandlesKept.updated-at, ReadingSteps.{FrontMine, walk-goes}, Trees.{chains_join, same-number}}, std.specs.Option.option_map}
-use Rattle.{pagable_value_spec.specs.declared.numbers.WorkerNumber.WorkerNumber, pagable_pager.specs.View.{PagerView, Telling, state_in}, pagable_pageout.specs.{Slots.{is_same, slot_of}, Table.shelf_of}}
-use Rattle.pagable_pageout.specs.{Tasks.{IsWay, todo_of, todos}, Turns.{LeavesFit, Stepped, TaskFits, answer_in, plain, plain_took, plan}}
+use Rattle.{pagable_value_spec.specs.declared.numbers.WorkerNumber.WorkerNumber, pagable_pager.specs.View.{PagerView, Telling, pager_state}, pagable_pageout.specs.{Slots.{is_same, slot_of}, Table.shelf_of}}
+use Rattle.pagable_pageout.specs.{Tasks.{EachIsAwaited, todo_of, todos}, Turns.{LeavesFit, Stepped, TaskFits, answer_in, plain, plain_took, plan}}
 use Rattle.{pagable_pageout.specs.declared.{lent_table.LentTable.LentTable, tasks.{Task.Task, Turn.Turn}}, pagable_pager_spec.specs.{Events.{Ends, Happens, WorkerSteps, no_shelf, steps_after}, Kinds.{is_owner, owner_worker}}}
-use Rattle.pagable_pager_spec.specs.{Pager.{MachineState, PagerState, TodoBrings, WellFormed, world_of}, Basics.{if_there, updated}, Runs.{AreMoments, Does, HasRun, Moment, state_after}}
-use Rattle.pagable_pager_spec.specs.{Workers.{Site, answer_after, is_counted}, World.{Core, SameShelf, Seen, Shelf, Todo, Values, Written}, declared.events.{Event.Event, EventReply.EventReply, Action.Action}}
+use Rattle.pagable_pager_spec.specs.{Pager.{MachineState, PagerState, TodoBrings, IsPagerWhole, world_of}, Basics.{if_there, updated}, Runs.{AreMoments, EventDoes, HasRun, Moment, state_after}}
+use Rattle.pagable_pager_spec.specs.{Workers.{WorkerState, answer_after, is_counted}, World.{Core, SameShelf, Seen, Shelf, Todo, Values, Written}, declared.events.{Event.Event, EventReply.EventReply, Action.Action}}
 use Rattle.{pagable_pager_spec.specs.declared.events.{WorkerAnswer.WorkerAnswer, WorkerReply.WorkerReply}, std.proofs.Common.{Bool, List, None, Ok, Option, Some, [], ap, arith, false, if◌then◌else◌, inl}}
 use Rattle.std.proofs.{Common.{inr, length, map, refl, rules, subst, suc, sym, true, zero, ℕ, ◌++◌, ◌==◌, ◌∙◌, ◌∷◌, ◌≡◌, ◌≢◌, ◌≤◌}, Math.{ListN.set, Path.fun_ext}, lemmas.Bool.Decides.nat_tests}
 use Rattle.std.proofs.lemmas.{Grind.common_steps, List.{append-nil, append_assoc, get_or-set_other, get_or-set_same, length-map, length-set, map-append, nil_from_length}, Map.Made.lookup-map_values}
@@ -36,8 +36,8 @@ set-at xs place q x y is = grind (
 )
 
 -- a worker's step sees no blob
-as-does : {N : Type 0} (v : Values N) (n : ℕ) (s s' : Site) (todo : List Todo) (step : Action Written) → workers.Does (plain v) n s todo step s'
-    → workers.Does (plainly v) n s todo step s'
+as-does : {N : Type 0} (v : Values N) (n : ℕ) (s s' : WorkerState) (todo : List Todo) (step : Action Written) → workers.WorkDoes (plain v) n s todo step s'
+    → workers.WorkDoes (plainly v) n s todo step s'
 as-does v n s s' todo step d = grind (arith, nat_tests)
 
 -- the load that it goes on with is its own
@@ -65,7 +65,7 @@ module _ {X XN XH XK XV : Type 0} {g : Environments X XN XH XK XV} {gh : Hashes 
     {gn : Nodes XN X XN XH XK XV} {N E : Type 0} (v : Values N) (s s' : PagerState N E)
     (h : Holding g gh go gq gp gn) {tables' : List (LentTable X XN XH XK XV g gh go gq gp gn)} {walks' : ℕ → Option (Walk X XN XH XK XV g gh go gq gp gn)}
     (serving : IsServing s.core h)
-    (was : WellFormed v s) (n : WorkerNumber) (k k' : Walk X XN XH XK XV g gh go gq gp gn) (kept : h.walks n.0 ≡ Some k)
+    (was : IsPagerWhole v s) (n : WorkerNumber) (k k' : Walk X XN XH XK XV g gh go gq gp gn) (kept : h.walks n.0 ≡ Some k)
     (reply : WorkerReply (Arc SerializedData Global)) (on : WalksOn v n.0 h.tables k s reply tables' k' s')
     (keeps : KeepsOne h.walks n.0 (Some k') walks') where
   abbrev after : Holding g gh go gq gp gn
@@ -143,7 +143,10 @@ module _ {X XN XH XK XV : Type 0} {g : Environments X XN XH XK XV} {gh : Hashes 
   still =
       let at_work : s.core.workers n.0 ≡ true = mine.at_work ∙ ap (λ t. is_none (answer_in t)) on.had in
       record {
-        stands = record { table = rw (on.after.table, len) mine.stands.table; way = subst (λ t. IsWay (plan t k'.path.items)) (sym on.after.turn) on.way };
+        stands = record {
+          table = rw (on.after.table, len) mine.stands.table;
+          way = subst (λ t. EachIsAwaited (plan t k'.path.items)) (sym on.after.turn) on.way;
+        };
         at_work = grind (arith, nat_tests, at_work, leaves, updated-at);
         fits = subst (λ t. LeavesFit n.0 s'.core t) (sym on.after.turn) done.fits;
       }
@@ -192,7 +195,7 @@ module _ {X XN XH XK XV : Type 0} {g : Environments X XN XH XK XV} {gh : Hashes 
   module _ {N S E : Type 0} (tells : Telling S) (p : PagerView N S E) (h : Held X XN XH XK XV g gh go gq gp gn) where
     -- the machine by what it keeps
     abbrev pub raw_in : MachineState N E
-    raw_in = machine_of (state_in tells p) (holding h)
+    raw_in = machine_of (pager_state tells p) (holding h)
 
     pub view-is : machine_in tells (view_of p h) ≡ raw_in
     view-is =
@@ -204,7 +207,7 @@ module _ {X XN XH XK XV : Type 0} {g : Environments X XN XH XK XV} {gh : Hashes 
 module _ {N E B W : Type 0} (m : Seen N B W) where
   pub run-more : (old mid new : MachineState N E) (happened : List (Event N B W)) (replied : List (EventReply N B W)) (event : Event N B W)
       (reply : EventReply N B W)
-      → HasRun m old happened replied mid → Does m mid event reply new
+      → HasRun m old happened replied mid → EventDoes m mid event reply new
       → HasRun m old (happened ++ event ∷ []) (replied ++ reply ∷ []) new
   unfolding state_after
   run-more old mid new happened replied event reply run does =
@@ -214,7 +217,7 @@ module _ {N E B W : Type 0} (m : Seen N B W) where
         events_are = map-append (λ y. y.event) run.moments (x ∷ []) ∙ ap (λ (ys : List (Event N B W)). ys ++ event ∷ []) run.events_are;
         replies_are = map-append (λ y. y.reply) run.moments (x ∷ []) ∙ ap (λ (ys : List (EventReply N B W)). ys ++ reply ∷ []) run.replies_are;
         ends = (chains_join E m).ends old run.moments (x ∷ []);
-        chain = (chains_join E m).joins old run.moments (x ∷ []) run.chain (subst (λ s. Does m s event reply new) (sym run.ends) does, tt);
+        chain = (chains_join E m).joins old run.moments (x ∷ []) run.chain (subst (λ s. EventDoes m s event reply new) (sym run.ends) does, tt);
       }
 
 module _ {N S E : Type 0} {X XN XH XK XV : Type 0} {g : Environments X XN XH XK XV} {gh : Hashes XH} {go : Orders XK} {gq : Equalities XK}
@@ -227,9 +230,9 @@ module _ {N S E : Type 0} {X XN XH XK XV : Type 0} {g : Environments X XN XH XK 
         (raw_in tells p h)
     pub environment : IsTrue (honest p.storage) → p.environment ≡ old.pager.environment
     pub faithful : IsTrue (honest p.storage) → IsTrue (honest old.pager.storage)
-    pub in_step : IsInStep honest tells p h
+    pub in_step : HeldFitsPager honest tells p h
 
-  pub at-first : (all : List (Given N)) (p : PagerView N S E) (h : Held X XN XH XK XV g gh go gq gp gn) → old ≡ view_of p h → IsInStep honest tells p h
+  pub at-first : (all : List (Given N)) (p : PagerView N S E) (h : Held X XN XH XK XV g gh go gq gp gn) → old ≡ view_of p h → HeldFitsPager honest tells p h
       → SoFar all all [] p h
   unfolding state_after
   at-first all p h is in_step = record {
@@ -251,7 +254,7 @@ module _ {N S E : Type 0} {X XN XH XK XV : Type 0} {g : Environments X XN XH XK 
         left = append_assoc so.done (event ∷ []) rest ∙ so.left;
         run = λ is.
             let same = so.environment (made.honest is) in
-            let does = subst (λ e. Does (plainly (v e)) (raw_in tells p h) (plain_event event) (plain_answer reply) (raw_in tells q h')) same
+            let does = subst (λ e. EventDoes (plainly (v e)) (raw_in tells p h) (plain_event event) (plain_answer reply) (raw_in tells q h')) same
             (made.makes is).does in
             let more = run-more _ _ _ _ _ _ (plain_event event) (plain_answer reply) (so.run (made.honest is)) does in
             rw (map-append plain_event so.done (event ∷ []), map-append plain_answer replies (reply ∷ [])) more;

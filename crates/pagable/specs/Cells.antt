@@ -1,7 +1,7 @@
 -- Calls on one cell that consist of a few calls of the pager.
 use Rattle.std.specs.Prelude.{Bool, Err, IfErr, IfOk, None, Ok, Option, Result, Some, is_some, ℕ, ◌≡◌}
-use Rattle.{either.specs.declared.Either.Either, pagable_value_spec.specs.Stored.RefusesFetch, pagable_pager.specs.View.{Calls, OnlyLess, OnlyTables, PagerView, Telling, core_in, state_in}}
-use Rattle.pagable_pager_spec.specs.{Access.PinsOver, Calls.{Asked, AwayBirthCall, BirthCall, CloneCall, RecallCall, ReleaseCall, UnpinCall}, Pager.{IsNewNode, Moves, ValueCall}}
+use Rattle.{either.specs.declared.Either.Either, pagable_value_spec.specs.Stored.RefusesFetch, pagable_pager.specs.View.{Calls, OnlyLess, OnlyTables, PagerView, Telling, pager_core, pager_state}}
+use Rattle.pagable_pager_spec.specs.{Access.PinsOver, Calls.{Asked, InsertPagedOutCall, InsertCall, CloneCall, RecallCall, ReleaseCall, UnpinCall}, Pager.{IsNewNode, Moves, ValueCall}}
 use Rattle.pagable_pager_spec.specs.{Basics.{Error, HandleNumber, Kind}, World.{Core, Values}, declared.{handle_row.Owner.Owner, mode.Mode.Mode}}
 
 -- the storage was asked whether it has a blob under the key
@@ -14,9 +14,10 @@ module _ {N S E : Type 0} (tells : Telling S) where
   -- a new cell of the value, with a loose handle that pins; or the value is returned
   pub record IsBorn (v : Values N) (old : PagerView N S E) (x : N) (r : Result HandleNumber (Error × N))
       (new : PagerView N S E) : Type 0 where
-    pub step : BirthCall (core_in tells old) Owner.Caller x (v.node_type x) (v.references x) Mode.LoosePinned r
-        (core_in tells new)
-    pub moves : Moves (λ n y. (y ≡ x) × IsNewNode (core_in tells old) n) (state_in tells old) (state_in tells new)
+    pub step : InsertCall (pager_core tells old) Owner.Caller x (v.node_type x) (v.references x) Mode.LoosePinned r
+        (pager_core tells new)
+    pub moves : Moves (λ n y. (y ≡ x) × IsNewNode (pager_core tells old) n) (pager_state tells old)
+        (pager_state tells new)
     pub storage : new.storage ≡ old.storage
 
   abbrev pub Unpins : PagerView N S E → HandleNumber → Result (Unit {0}) Error → PagerView N S E → Type 0
@@ -30,7 +31,7 @@ module _ {N S E : Type 0} (tells : Telling S) where
 
   abbrev pub Pins : (E → Values N) → PagerView N S E → HandleNumber → Result (HandleNumber × N) Error → PagerView N S E
       → Type 0
-  Pins says old h r new = PinsOver (says old.environment) (state_in tells old) h r (state_in tells new)
+  Pins says old h r new = PinsOver (says old.environment) (pager_state tells old) h r (pager_state tells new)
 
   -- A new cell that nothing pins. If the value is inserted and its cell couldn't be listed, the handle is returned with
   -- the error.
@@ -55,7 +56,7 @@ module _ {N S E : Type 0} (tells : Telling S) where
         → OpensCell old number t key (Ok h) new
     cell-is-new : (kind : Kind) (r : Result HandleNumber Error) (mid new : PagerView N S E) → kind.0 ≡ number
         → Recalls old kind key (Ok None) mid
-        → Calls OnlyTables tells mid (λ w w'. AwayBirthCall w Owner.Caller t key r w') new
+        → Calls OnlyTables tells mid (λ w w'. InsertPagedOutCall w Owner.Caller t key r w') new
         → OpensCell old number t key r new
 
   -- a clone of the handle is pinned, and released
@@ -96,9 +97,9 @@ module _ {N S E : Type 0} (tells : Telling S) where
   pub data Looks (says : E → Values N) (old : PagerView N S E) (h : HandleNumber) {Y : Type 0}
       (Shows : N → Y → Type 0) : Result Y Error → PagerView N S E
       → Type 0 where
-    no-handle : (e : Error) → ValueCall (state_in tells old) h (Err e) → Looks says old h Shows (Err e) old
-    lends : (x : N) (y : Y) → ValueCall (state_in tells old) h (Ok (Some x)) → Shows x y
+    no-handle : (e : Error) → ValueCall (pager_state tells old) h (Err e) → Looks says old h Shows (Err e) old
+    lends : (x : N) (y : Y) → ValueCall (pager_state tells old) h (Ok (Some x)) → Shows x y
         → Looks says old h Shows (Ok y) old
-    by-pin : (r : Result Y Error) (new : PagerView N S E) → ValueCall (state_in tells old) h (Ok None)
+    by-pin : (r : Result Y Error) (new : PagerView N S E) → ValueCall (pager_state tells old) h (Ok None)
         → LooksByPin says old h Shows r new
         → Looks says old h Shows r new

@@ -1,17 +1,17 @@
--- A machine's loads, tables and workers as the plain world knows them, and when they agree with its pager; what its
+-- A machine's loads, tables and workers as the definitions know them, and when they agree with its pager; what its
 -- calls, events and runs do.
 use Rattle.std.specs.{Arc.arc_value, HashMap.{HashMap, get}, Map.lookup, Option.option_map, Prelude.{Bool, List, None, Option, Some, is_none, is_some, length, map, nat_eq, set, slice_get, suc}}
 use Rattle.std.specs.{Prelude.{IsTrue, true, zero, ℕ, ◌++◌, ◌<◌, ◌≡◌, ◌≢◌, ◌≤◌, ◌⊎◌}, declared.{alloc.Global.Global, hash.{BuildHasherDefault.BuildHasherDefault, FoldHasher.FoldHasher}, sync.Arc.Arc}}
 use Rattle.{pagable.specs.declared.workers.{Begun.Begun, Held.Held, Walk.Walk}, pagable_core.specs.Data.blob_of, pagable_load.specs.{Frames.{IsLoadOf, is_cell, reading_of}, LoadSteps.IsSameLoad}}
 use Rattle.{pagable_core.specs.declared.{context.writing.SerializedData.SerializedData, storage.data.PagableData.PagableData}, pagable_pager_spec.specs.declared.handle_row.Owner.Owner}
-use Rattle.{pagable_load.specs.declared.reading.Reading.Reading as Own, pagable_value_spec.specs.declared.numbers.LoadNumber.LoadNumber, pagable_pager.specs.View.{PagerView, Telling, core_in, state_in}}
-use Rattle.pagable_pageout.specs.{Slots.{is_same, slot_of, written_of}, Table.shelf_of, Tasks.{IsPlain, IsWay, todos}, Turns.{LeavesFit, StepsTo, answer_in, plain_took, plan}}
+use Rattle.{pagable_load.specs.declared.reading.Reading.Reading as Own, pagable_value_spec.specs.declared.numbers.LoadNumber.LoadNumber, pagable_pager.specs.View.{PagerView, Telling, pager_core, pager_state}}
+use Rattle.pagable_pageout.specs.{Slots.{is_same, slot_of, written_of}, Table.shelf_of, Tasks.{IsPlain, EachIsAwaited, todos}, Turns.{LeavesFit, StepsTo, answer_in, plain_took, plan}}
 use Rattle.pagable_pageout.specs.declared.{lent_table.LentTable.LentTable, tasks.{StepResult.StepResult, Task.Task, Turn.Turn}}
 use Rattle.pagable_pager_spec.specs.{Access.ReadingStep, declared.events.{Event.Event, EventReply.EventReply, LoadAnswer.LoadAnswer, LoadReply.LoadReply, TableNumber.TableNumber, WorkerReply.WorkerReply}}
 use Rattle.pagable_pager_spec.specs.{Events.{CallStep, new_walking, no_shelf, steps_after}, Theorem.Headline, Kinds.{identity_of, owner_worker}}
 use Rattle.pagable_pager_spec.specs.Pager.{CallBrings, FitsRoot, IsIdle, IsMachineWhole, MachineState}
-use Rattle.pagable_pager_spec.specs.{Pager.{Moves, PagerState}, Basics.{Identity, if_there}, Runs.{AreMoments, Does, HasRun, Moment, state_after}, Workers.fresh, World.{Core, OpenLoad, Seen}}
-use Rattle.pagable_pager_spec.specs.{World.{Reading, Shelf, Slot, Values, Walking, Work, Written, of_entry, of_item, one_more, seen_as}, declared.calls.{Call.Call, Found.Found, Reply.Reply}}
+use Rattle.pagable_pager_spec.specs.{Pager.{Moves, PagerState}, Basics.{Identity, if_there}, Runs.{AreMoments, EventDoes, HasRun, Moment, state_after}, Workers.fresh, World.{Core, OpenLoad, Seen}}
+use Rattle.pagable_pager_spec.specs.{World.{Reading, Shelf, Slot, Values, Walking, Work, Written, of_entry, of_item, one_more, result_map}, declared.calls.{Call.Call, Found.Found, Reply.Reply}}
 use Rattle.pagable_pager_spec.specs.World as world
 use Rattle.pagable_codec.specs.declared.{env.Env.Ghosts as Environments, hash.KeyHash.Ghosts as Hashes, nodes.NodeSet.Ghosts as Nodes}
 use Rattle.std.specs.declared.cmp.{Ord.Ghosts as Orders, PartialEq.Ghosts as Equalities, PartialOrd.Ghosts as PartialOrders}
@@ -39,7 +39,7 @@ module _ {X XN XH XK XV : Type 0} {g : Environments X XN XH XK XV} {gh : Hashes 
   -- Its table exists, and its list of tasks is in order.
   pub record IsOnTable (last : ℕ) (k : Walk X XN XH XK XV g gh go gq gp gn) : Type 0 where
     pub table : (0 < k.table) × (k.table ≤ last)
-    pub way : IsWay (plan k.turn k.path.items)
+    pub way : EachIsAwaited (plan k.turn k.path.items)
 
   -- It is on its table, it is running until it has answered, and its task fits.
   pub record IsWalkKept (w : Core) (last v : ℕ) (k : Walk X XN XH XK XV g gh go gq gp gn) : Type 0 where
@@ -50,7 +50,7 @@ module _ {X XN XH XK XV : Type 0} {g : Environments X XN XH XK XV} {gh : Hashes 
   -- a worker that has just begun on this table
   pub record IsBegun (t : TableNumber) (task : world.Task) (k : Walk X XN XH XK XV g gh go gq gp gn) : Type 0 where
     pub walking : walking_of k ≡ new_walking t task
-    pub way : IsWay (plan k.turn k.path.items)
+    pub way : EachIsAwaited (plan k.turn k.path.items)
     pub plain : (x : Task X XN XH XK XV g gh go gq gp gn) → k.turn ≡ Turn.Goes x → IsPlain x
 
   -- the worker after a step
@@ -77,7 +77,7 @@ module _ {X XN XH XK XV : Type 0} {g : Environments X XN XH XK XV} {gh : Hashes 
     pub sets : tables' ≡ set tables place table'
     pub steps : StepsTo v (owner_worker n) n (shelf_of table) task (todos k.path.items) (shelf_of table') moved
         (plan moved.turn k'.path.items) s s'
-    pub way : IsWay (plan moved.turn k'.path.items)
+    pub way : EachIsAwaited (plan moved.turn k'.path.items)
     pub after : IsAfter k moved k'
     pub replies : reply ≡ record { action = moved.action; answer = answer_in moved.turn; steps = k'.steps }
 
@@ -148,13 +148,13 @@ module _ {X XN XH XK XV : Type 0} {g : Environments X XN XH XK XV} {gh : Hashes 
     pub readings : AllKept w h.readings
     pub walks : (v : ℕ) (k : Walk X XN XH XK XV g gh go gq gp gn) → h.walks v ≡ Some k
         → IsWalkKept w (length h.tables) v k
-    pub all_there : (v : ℕ) → w.workers v ≡ true → is_some (h.walks v) ≡ true
+    pub each_walks : (v : ℕ) → w.workers v ≡ true → is_some (h.walks v) ≡ true
 
-  -- One event and its reply: a step of the plain world after which the machine agrees with its pager.
+  -- One event and its reply: a step of the world after which the machine agrees with its pager.
   pub record Makes {N E B W : Type 0} (m : Seen N B W) (s : PagerState N E) (h : Holding g gh go gq gp gn)
       (event : Event N B W) (reply : EventReply N B W) (s' : PagerState N E) (h' : Holding g gh go gq gp gn) : Type 0
     where
-      pub does : Does m (machine_of s h) event reply (machine_of s' h')
+      pub does : EventDoes m (machine_of s h) event reply (machine_of s' h')
       pub serving : IsServing s'.core h'
 
 -- what is kept of an open load stays, and nothing is added
@@ -196,7 +196,7 @@ rest_after (Some answer) own = None
 abbrev pub plainly : {N : Type 0} → Values N → Seen N PagableData Written
 plainly v = record { values = v; blob_of = blob_of; written_of = λ w. w }
 
--- A reply without the place of its blob in memory: the plain world has one type of blobs for calls and replies.
+-- A reply without the place of its blob in memory: the core has one type of blobs for calls and replies.
 abbrev pub plain_found : Found (Arc PagableData Global) → Found PagableData
 plain_found (Found.Cached k) = Found.Cached k
 plain_found (Found.Blob b) = Found.Blob (arc_value b)
@@ -215,13 +215,13 @@ plain_reply (Reply.NodeType t) = Reply.NodeType t
 plain_reply (Reply.Length n) = Reply.Length n
 plain_reply (Reply.TakenPending h) = Reply.TakenPending h
 plain_reply (Reply.FromCache r) = Reply.FromCache r
-plain_reply (Reply.Fetched r) = Reply.Fetched (seen_as arc_value r)
+plain_reply (Reply.Fetched r) = Reply.Fetched (result_map arc_value r)
 plain_reply (Reply.Stored r) = Reply.Stored r
 plain_reply (Reply.Begun r) = Reply.Begun r
-plain_reply (Reply.LoadFound r) = Reply.LoadFound (seen_as plain_found r)
+plain_reply (Reply.LoadFound r) = Reply.LoadFound (result_map plain_found r)
 plain_reply (Reply.LoadEnded r) = Reply.LoadEnded r
 
--- the event and its reply with written values as the plain world has them
+-- the event and its reply with written values as the definitions have them
 abbrev pub plain_event : {N : Type 0} → Event N PagableData SerializedData → Event N PagableData Written
 plain_event (Event.Call call) = Event.Call call
 plain_event (Event.LoadStart h) = Event.LoadStart h
@@ -242,15 +242,15 @@ plain_answer (EventReply.Started r) = EventReply.Started r
 plain_answer (EventReply.LoadMoved r) = EventReply.LoadMoved r
 plain_answer (EventReply.TableMade r) = EventReply.TableMade r
 plain_answer (EventReply.WorkerMade r) = EventReply.WorkerMade r
-plain_answer (EventReply.WorkerMoved r) = EventReply.WorkerMoved (seen_as plain_moved r)
+plain_answer (EventReply.WorkerMoved r) = EventReply.WorkerMoved (result_map plain_moved r)
 
 -- The caller's call does this step, and inserts no value but its own.
 pub record Serves {N S E : Type 0} (v : Values N) (tells : Telling S) (old : PagerView N S E)
     (call : Call N PagableData) (r : Reply N (Arc PagableData Global)) (new : PagerView N S E) : Type 0 where
-  pub step : CallStep (plainly v) (core_in tells old) Owner.Caller call (plain_reply r) (core_in tells new)
-  pub moves : Moves (CallBrings (core_in tells old) call) (state_in tells old) (state_in tells new)
+  pub step : CallStep (plainly v) (pager_core tells old) Owner.Caller call (plain_reply r) (pager_core tells new)
+  pub moves : Moves (CallBrings (pager_core tells old) call) (pager_state tells old) (pager_state tells new)
 
--- ---- a machine over a pager, as a state of the plain world
+-- ---- a machine over a pager, as a world
 
 abbrev pub ByNumber : Type 0 → Type 0
 ByNumber Y = HashMap ℕ Y (BuildHasherDefault FoldHasher)
@@ -283,11 +283,11 @@ claims_at tables (suc t) = if_there claims_of no_shelf (slice_get tables t)
 
 abbrev pub machine_in : {N S E : Type 0} → Telling S → MachineView N S E → MachineState N E
 machine_in tells s = record {
-  pager = state_in tells s.pager;
+  pager = pager_state tells s.pager;
   work = record {
     shelves = claims_at s.tables;
     last_table = length s.tables;
-    readings = readings_in (kept_at s.readings) (core_in tells s.pager);
+    readings = readings_in (kept_at s.readings) (pager_core tells s.pager);
     walkings = λ v. lookup (nat_eq v) s.walks;
   };
 }
@@ -318,17 +318,17 @@ module _ {X XN XH XK XV : Type 0} {g : Environments X XN XH XK XV} {gh : Hashes 
 module _ {N S E : Type 0} {X XN XH XK XV : Type 0} {g : Environments X XN XH XK XV} {gh : Hashes XH} {go : Orders XK}
     {gq : Equalities XK} {gp : PartialOrders XK} {gn : Nodes XN X XN XH XK XV} where
   -- what holds of each machine: whatever its storage answered, and as long as that is honest
-  pub record IsInStep (is_honest : S → Bool) (tells : Telling S) (p : PagerView N S E)
+  pub record HeldFitsPager (is_honest : S → Bool) (tells : Telling S) (p : PagerView N S E)
       (h : Held X XN XH XK XV g gh go gq gp gn) : Type 0 where
     pub on_tables : AllOnTables h.tables.items (kept_at h.walks)
-    pub serving : IsTrue (is_honest p.storage) → IsServing (core_in tells p) (holding h)
+    pub serving : IsTrue (is_honest p.storage) → IsServing (pager_core tells p) (holding h)
 
   -- One event, as long as the storage is honest afterwards. A storage that is honest afterwards was honest before.
   pub record Drives (is_honest : S → Bool) (v : Values N) (tells : Telling S) (old : PagerView N S E)
       (held : Held X XN XH XK XV g gh go gq gp gn) (event : Given N) (reply : Answer N) (new : PagerView N S E)
       (held' : Held X XN XH XK XV g gh go gq gp gn) : Type 0 where
-    pub makes : IsTrue (is_honest new.storage) → Makes (plainly v) (state_in tells old) (holding held)
-        (plain_event event) (plain_answer reply) (state_in tells new) (holding held')
+    pub makes : IsTrue (is_honest new.storage) → Makes (plainly v) (pager_state tells old) (holding held)
+        (plain_event event) (plain_answer reply) (pager_state tells new) (holding held')
     pub honest : IsTrue (is_honest new.storage) → IsTrue (is_honest old.storage)
     pub on_tables : AllOnTables held'.tables.items (kept_at held'.walks)
 

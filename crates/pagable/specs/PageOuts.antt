@@ -1,6 +1,6 @@
 -- Page-out of one cell: the calls that list a clone of its handle, and the page-out of that entry.
 use Rattle.std.specs.Prelude.{Err, None, Ok, Option, Result, Some, length, ℕ, ◌+◌, ◌≡◌}
-use Rattle.{pagable.specs.Cells.{Releases, Unpins}, pagable_pager.specs.View.{Calls, OnlyLess, OnlyTables, PagerView, Telling, core_in, state_in}}
+use Rattle.{pagable.specs.Cells.{Releases, Unpins}, pagable_pager.specs.View.{Calls, OnlyLess, OnlyTables, PagerView, Telling, pager_core, pager_state}}
 use Rattle.pagable_pageout.specs.{PageOuts.PagesEntryIfThere, declared.tasks.PageOutError.PageOutError}
 use Rattle.pagable_pager_spec.specs.{Calls.{CloneCall, KeyCall, LoosenCall, ScheduleCall}, Pager.PagerState, Basics.{Error, HandleNumber, OptionalDataKey}, World.Values, declared.handle_row.Owner.Owner}
 
@@ -53,16 +53,16 @@ module _ {N S E : Type 0} (tells : Telling S) where
     clone-is-not-listed : (e : Error) (new : PagerView N S E) → ListsClone old h (Err e) new
         → PagesOutClone says old h (Err (PageOutError.Failed e)) new
     clone-is-listed : (r : Result ℕ PageOutError) (mid new : PagerView N S E) → ListsClone old h (Ok tt) mid
-        → PagesLast (says mid.environment) (state_in tells mid) r (state_in tells new)
+        → PagesLast (says mid.environment) (pager_state tells mid) r (pager_state tells new)
         → PagesOutClone says old h r new
 
   -- the key of a cell that has one; or its page-out
   pub data PagesOutCell (says : E → Values N) (old : PagerView N S E) (h : HandleNumber) : Result ℕ PageOutError
       → PagerView N S E → Type 0 where
-    no-handle : (e : Error) → KeyCall (core_in tells old) h (Err e)
+    no-handle : (e : Error) → KeyCall (pager_core tells old) h (Err e)
         → PagesOutCell says old h (Err (PageOutError.Failed e)) old
-    has-key : (key : ℕ) → KeyCall (core_in tells old) h (Ok (OptionalDataKey.Some key))
+    has-key : (key : ℕ) → KeyCall (pager_core tells old) h (Ok (OptionalDataKey.Some key))
         → PagesOutCell says old h (Ok key) old
     has-no-key : (r : Result ℕ PageOutError) (new : PagerView N S E)
-        → KeyCall (core_in tells old) h (Ok OptionalDataKey.None) → PagesOutClone says old h r new
+        → KeyCall (pager_core tells old) h (Ok OptionalDataKey.None) → PagesOutClone says old h r new
         → PagesOutCell says old h r new

@@ -1,7 +1,7 @@
 //! Page-out of one cell of a lent pager.
 
 ghost use Rattle.std.specs.Prelude.{IsTrue, ◌≡◌};
-ghost use Rattle.{pagable.specs.PageOuts.{ListsClone, PagesLast, PagesLastEntry, PagesOutCell, PagesOutClone}, pagable_load.specs.AccessView.values_at, pagable_pager.specs.View.{state_in, telling}};
+ghost use Rattle.{pagable.specs.PageOuts.{ListsClone, PagesLast, PagesLastEntry, PagesOutCell, PagesOutClone}, pagable_load.specs.AccessView.values_at, pagable_pager.specs.View.{pager_state, storage_view}};
 ghost use Rattle.pagable_pageout.specs.PageOuts.{PagesEntryIfThere};
 ghost use Rattle.pagable_pager_spec.specs.declared.handle_row.Owner.TheVariants as owners;
 
@@ -20,8 +20,8 @@ fn entry_by<'a, E: Env<Node: NodeSet<E>>, S: PagableStorage<E>>(
     requires caller { lent.old.me ≡ owners.Caller }
     ensures pages { IsTrue (S.is_honest lent.new.pager.now.storage)
         → PagesEntryIfThere (values_at E.Node.NodeSet E.Env E.Hash.KeyHash lent.old.pager.now.environment) place result
-        (state_in (telling S.stored S.is_closed S.failed) lent.old.pager.now)
-        (state_in (telling S.stored S.is_closed S.failed) lent.new.pager.now) }
+        (pager_state (storage_view S.PagableStorage) lent.old.pager.now)
+        (pager_state (storage_view S.PagableStorage) lent.new.pager.now) }
     ensures honest { IsTrue (S.is_honest lent.new.pager.now.storage) → IsTrue (S.is_honest lent.old.pager.now.storage) }
     ensures lender { lent.new.pager.ghost_name ≡ lent.old.pager.ghost_name }
 {
@@ -36,8 +36,8 @@ fn last_entry<E: Env<Node: NodeSet<E>>, S: PagableStorage<E>>(
 ) -> Result<Option<DataKey>, PageOutError>
     ensures pages { IsTrue (S.is_honest pager.new.storage)
         → PagesLastEntry (values_at E.Node.NodeSet E.Env E.Hash.KeyHash pager.old.environment)
-        (state_in (telling S.stored S.is_closed S.failed) pager.old) result
-        (state_in (telling S.stored S.is_closed S.failed) pager.new) }
+        (pager_state (storage_view S.PagableStorage) pager.old) result
+        (pager_state (storage_view S.PagableStorage) pager.new) }
     ensures honest { IsTrue (S.is_honest pager.new.storage) → IsTrue (S.is_honest pager.old.storage) }
 {
     let pending = pager.pending();
@@ -56,8 +56,8 @@ fn last_key<E: Env<Node: NodeSet<E>>, S: PagableStorage<E>>(
 ) -> Result<DataKey, PageOutError>
     ensures pages { IsTrue (S.is_honest pager.new.storage)
         → PagesLast (values_at E.Node.NodeSet E.Env E.Hash.KeyHash pager.old.environment)
-        (state_in (telling S.stored S.is_closed S.failed) pager.old) result
-        (state_in (telling S.stored S.is_closed S.failed) pager.new) }
+        (pager_state (storage_view S.PagableStorage) pager.old) result
+        (pager_state (storage_view S.PagableStorage) pager.new) }
     ensures honest { IsTrue (S.is_honest pager.new.storage) → IsTrue (S.is_honest pager.old.storage) }
 {
     match last_entry(alloc, pager) {
@@ -72,7 +72,7 @@ fn list_clone<E: Env<Node: NodeSet<E>>, S: PagableStorage<E>>(
     pager: &mut Pager<E, S>,
     handle: HandleNumber,
 ) -> Result<(), Error>
-    ensures { ListsClone (telling S.stored S.is_closed S.failed) pager.old handle result pager.new }
+    ensures { ListsClone (storage_view S.PagableStorage) pager.old handle result pager.new }
 {
     let clone = pager.clone(handle)?;
     let _loosened = pager.into_pagable(clone);
@@ -99,8 +99,7 @@ fn page_out_clone<E: Env<Node: NodeSet<E>>, S: PagableStorage<E>>(
     handle: HandleNumber,
 ) -> Result<DataKey, PageOutError>
     ensures pages { IsTrue (S.is_honest pager.new.storage)
-        → PagesOutClone (telling S.stored S.is_closed S.failed) (values_at E.Node.NodeSet E.Env E.Hash.KeyHash)
-        pager.old
+        → PagesOutClone (storage_view S.PagableStorage) (values_at E.Node.NodeSet E.Env E.Hash.KeyHash) pager.old
         handle result pager.new }
     ensures honest { IsTrue (S.is_honest pager.new.storage) → IsTrue (S.is_honest pager.old.storage) }
 {
@@ -125,7 +124,7 @@ pub fn page_out<E: Env<Node: NodeSet<E>>, S: PagableStorage<E>>(
     handle: HandleNumber,
 ) -> Result<DataKey, PageOutError>
     ensures pages { IsTrue (S.is_honest pager.new.storage)
-        → PagesOutCell (telling S.stored S.is_closed S.failed) (values_at E.Node.NodeSet E.Env E.Hash.KeyHash) pager.old
+        → PagesOutCell (storage_view S.PagableStorage) (values_at E.Node.NodeSet E.Env E.Hash.KeyHash) pager.old
         handle result pager.new }
     ensures honest { IsTrue (S.is_honest pager.new.storage) → IsTrue (S.is_honest pager.old.storage) }
 {

@@ -1,10 +1,10 @@
 //! Calls on one cell of a lent pager, each of a few calls of the pager.
 
-ghost use Rattle.std.specs.{Arc.arc_value, Fn.FnOnceReturnsAt, Prelude.{IfErr, IfOk, IsTrue, None, ◌≡◌}};
+ghost use Rattle.std.specs.{Arc.arc_value, Fn.FnOnceReturnsAt, Prelude.{IfErr, IsTrue, None}};
 ghost use Rattle.{pagable.specs.Cells.{AsksWhether, Follows, InsertsCell, Looks, LooksByPin, OpensCell}, pagable_load.specs.AccessView.values_at};
-ghost use Rattle.{pagable_value_spec.specs.Stored.RefusesFetch, pagable_pager.specs.View.{AsksStorage, core_in, state_in, telling}};
+ghost use Rattle.{pagable_value_spec.specs.Stored.RefusesFetch, pagable_pager.specs.View.{AsksStorage, storage_view}};
 ghost use Rattle.pagable_traits.specs.References.{loose_kind};
-ghost use Rattle.pagable_pager_spec.specs.World.{seen_as};
+ghost use Rattle.pagable_pager_spec.specs.World.{result_map};
 
 use crate::paging::pin;
 use either::Either;
@@ -29,7 +29,7 @@ pub fn insert<E: Env<Node: NodeSet<E>>, S: PagableStorage<E>>(
     pager: &mut Pager<E, S>,
     node: E::Node,
 ) -> Result<HandleNumber, (Error, Either<E::Node, HandleNumber>)>
-    ensures { InsertsCell (telling S.stored S.is_closed S.failed)
+    ensures { InsertsCell (storage_view S.PagableStorage)
         (values_at E.Node.NodeSet E.Env E.Hash.KeyHash pager.old.environment) pager.old node result pager.new }
 {
     let handle = match pager.new_loose(alloc, node) {
@@ -54,8 +54,7 @@ pub fn cell_of<T: OfNode<E>, E: Env<Node: NodeSet<E>>, S: PagableStorage<E>>(
     pager: &mut Pager<E, S>,
     key: DataKey,
 ) -> Result<HandleNumber, Error>
-    ensures { OpensCell (telling S.stored S.is_closed S.failed) pager.old (loose_kind T.TYPE) T.TYPE key result
-        pager.new }
+    ensures { OpensCell (storage_view S.PagableStorage) pager.old (loose_kind T.TYPE) T.TYPE key result pager.new }
 {
     let kind = <PagableArc<T> as ArcErase<E>>::kind();
     match pager.cache_get(kind, key)? {
@@ -74,7 +73,7 @@ pub fn contains<E: Env<Node: NodeSet<E>>, S: PagableStorage<E>>(
     pager: &mut Pager<E, S>,
     key: DataKey,
 ) -> Result<bool, Error>
-    ensures asks { AsksStorage S.is_honest (telling S.stored S.is_closed S.failed) pager.old
+    ensures asks { AsksStorage S.is_honest (storage_view S.PagableStorage) pager.old
         (λ w w'. AsksWhether w key result w') pager.new }
     ensures refused { IfErr result (RefusesFetch key None (S.failed pager.old.storage) (S.failed pager.new.storage)) }
 {
@@ -100,8 +99,8 @@ pub fn follow<E: Env<Node: NodeSet<E>>, S: PagableStorage<E>>(
     handle: HandleNumber,
 ) -> Result<(HandleNumber, Arc<E::Node>), Error>
     ensures follows { IsTrue (S.is_honest pager.new.storage)
-        → Follows (telling S.stored S.is_closed S.failed) (values_at E.Node.NodeSet E.Env E.Hash.KeyHash) pager.old
-        handle (seen_as (λ a. (a.0, arc_value a.1)) result) pager.new }
+        → Follows (storage_view S.PagableStorage) (values_at E.Node.NodeSet E.Env E.Hash.KeyHash) pager.old
+        handle (result_map (λ a. (a.0, arc_value a.1)) result) pager.new }
     ensures honest { IsTrue (S.is_honest pager.new.storage) → IsTrue (S.is_honest pager.old.storage) }
 {
     let clone = pager.clone(handle)?;
@@ -130,7 +129,7 @@ where
     F: Drop,
     requires { F.IsAlwaysCallable show }
     ensures looks { IsTrue (S.is_honest pager.new.storage)
-        → LooksByPin (telling S.stored S.is_closed S.failed) (values_at E.Node.NodeSet E.Env E.Hash.KeyHash) pager.old
+        → LooksByPin (storage_view S.PagableStorage) (values_at E.Node.NodeSet E.Env E.Hash.KeyHash) pager.old
         handle (FnOnceReturnsAt F.FnOnce show) result pager.new }
     ensures honest { IsTrue (S.is_honest pager.new.storage) → IsTrue (S.is_honest pager.old.storage) }
 {
@@ -162,7 +161,7 @@ where
     F: Drop,
     requires { F.IsAlwaysCallable show }
     ensures looks { IsTrue (S.is_honest pager.new.storage)
-        → Looks (telling S.stored S.is_closed S.failed) (values_at E.Node.NodeSet E.Env E.Hash.KeyHash) pager.old
+        → Looks (storage_view S.PagableStorage) (values_at E.Node.NodeSet E.Env E.Hash.KeyHash) pager.old
         handle (FnOnceReturnsAt F.FnOnce show) result pager.new }
     ensures honest { IsTrue (S.is_honest pager.new.storage) → IsTrue (S.is_honest pager.old.storage) }
 {

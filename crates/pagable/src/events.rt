@@ -1,11 +1,11 @@
 //! Runs one event of a machine: a call of the pager, or a step of a load or of a worker. Each is a
-//! step of the plain world that leaves the machine whole, as long as the storage is honest
+//! step of the world that leaves the machine whole, as long as the storage is honest
 //! afterwards.
 
 ghost use Rattle.std.specs.{Arc.arc_value, Prelude.{IfErr, IsTrue, None, OnOk, false, is_none, true, ◌*◌, ◌≡◌}};
-ghost use Rattle.pagable.specs.Driving.{Drives, Forgets, IsInStep, IsPrepared, KeepsOne, Serves, Stepped, kept_at, plain_found, rest_after};
-ghost use Rattle.{pagable_core.specs.Data.blob_of, pagable_load.specs.AccessView.values_at, pagable_pager.specs.View.{core_in, given_as, state_in, telling}};
-ghost use Rattle.pagable_pager_spec.specs.{Events.given_of, World.seen_as, declared.handle_row.Owner.Owner};
+ghost use Rattle.pagable.specs.Driving.{Drives, Forgets, HeldFitsPager, IsPrepared, KeepsOne, Serves, Stepped, kept_at, plain_found, rest_after};
+ghost use Rattle.{pagable_core.specs.Data.blob_of, pagable_load.specs.AccessView.values_at, pagable_pager.specs.View.{pager_core, from_cache_or_store, pager_state, storage_view}};
+ghost use Rattle.pagable_pager_spec.specs.{Events.given_of, World.result_map, declared.handle_row.Owner.Owner};
 
 use crate::workers::{Held, put, table_new, worker_item, worker_listed, worker_step};
 use either::Either;
@@ -22,8 +22,8 @@ use std::sync::Arc;
 fn found(
     given: Result<Either<HandleNumber, Arc<PagableData>>, Error>,
 ) -> Result<Found<Arc<PagableData>>, Error>
-    ensures { seen_as (given_of blob_of) (seen_as plain_found result)
-        ≡ seen_as (given_as (λ d. blob_of (arc_value d))) given }
+    ensures { result_map (given_of blob_of) (result_map plain_found result)
+        ≡ result_map (from_cache_or_store (λ d. blob_of (arc_value d))) given }
 {
     match given {
         Ok(Either::Left(known)) => Ok(Found::Cached(known)),
@@ -38,8 +38,8 @@ fn make_call<E: Env<Node: NodeSet<E>>, S: PagableStorage<E>>(
     call: Call<E::Node, PagableData>,
 ) -> Reply<E::Node, Arc<PagableData>>
     ensures serves { IsTrue (S.is_honest pager.new.storage)
-        → Serves (values_at E.Node.NodeSet E.Env E.Hash.KeyHash pager.old.environment)
-        (telling S.stored S.is_closed S.failed) pager.old call result pager.new }
+        → Serves (values_at E.Node.NodeSet E.Env E.Hash.KeyHash pager.old.environment) (storage_view S.PagableStorage)
+        pager.old call result pager.new }
     ensures honest { IsTrue (S.is_honest pager.new.storage) → IsTrue (S.is_honest pager.old.storage) }
 {
     match call {
@@ -138,8 +138,8 @@ fn step_by<'a, E: Env<Node: NodeSet<E>>, S: PagableStorage<E>>(
     ensures step { IsTrue (S.is_honest lent.new.pager.now.storage)
         → Stepped (values_at E.Node.NodeSet E.Env E.Hash.KeyHash lent.old.pager.now.environment) Owner.Caller own.old
         result own.new
-        (state_in (telling S.stored S.is_closed S.failed) lent.old.pager.now)
-        (state_in (telling S.stored S.is_closed S.failed) lent.new.pager.now) }
+        (pager_state (storage_view S.PagableStorage) lent.old.pager.now)
+        (pager_state (storage_view S.PagableStorage) lent.new.pager.now) }
     ensures honest { IsTrue (S.is_honest lent.new.pager.now.storage) → IsTrue (S.is_honest lent.old.pager.now.storage) }
     ensures lender { lent.new.pager.ghost_name ≡ lent.old.pager.ghost_name }
 {
@@ -156,17 +156,17 @@ fn load_step<E: Env<Node: NodeSet<E>>, S: PagableStorage<E>>(
     alloc: Global,
     load: LoadNumber,
 ) -> Result<LoadReply<E::Node>, Error>
-    requires { IsInStep S.is_honest (telling S.stored S.is_closed S.failed) pager.old held.old }
+    requires { HeldFitsPager S.is_honest (storage_view S.PagableStorage) pager.old held.old }
     ensures { Drives S.is_honest (values_at E.Node.NodeSet E.Env E.Hash.KeyHash pager.old.environment)
-        (telling S.stored S.is_closed S.failed)
+        (storage_view S.PagableStorage)
         pager.old held.old (Event.LoadStep load) (EventReply.LoadMoved result) pager.new held.new }
 {
-    pager.is_whole();
+    pager.assert_invariant();
     let (key, cell_type) = pager.load_of(load)?;
     if let Err(e) = prepare(&mut held.readings, alloc, load, key, cell_type) {
         // There is no place for the load's progress, so the load is dropped: this is its only step.
         let _told = pager.load_drop(load);
-        pager.is_whole();
+        pager.assert_invariant();
         return Ok(LoadReply {
             ended: Some(LoadAnswer::Refused(e)),
             steps: 1,
@@ -195,7 +195,7 @@ fn forget<E: Env<Node: NodeSet<E>>, S: PagableStorage<E>>(
     readings: &mut IndexMap<u64, Reading>,
     load: Option<LoadNumber>,
 )
-    ensures { Forgets (core_in (telling S.stored S.is_closed S.failed) pager.now) (kept_at readings.old)
+    ensures { Forgets (pager_core (storage_view S.PagableStorage) pager.now) (kept_at readings.old)
         (kept_at readings.new) }
 {
     let Some(load) = load else {
@@ -213,18 +213,18 @@ fn load_key<E: Env<Node: NodeSet<E>>, S: PagableStorage<E>>(
     key: DataKey,
     node_type: u32,
 ) -> Result<Beginning, Error>
-    requires { IsInStep S.is_honest (telling S.stored S.is_closed S.failed) pager.old held.old }
+    requires { HeldFitsPager S.is_honest (storage_view S.PagableStorage) pager.old held.old }
     ensures { Drives S.is_honest (values_at E.Node.NodeSet E.Env E.Hash.KeyHash pager.old.environment)
-        (telling S.stored S.is_closed S.failed)
+        (storage_view S.PagableStorage)
         pager.old held.old (Event.LoadKey key node_type) (EventReply.Started result) pager.new held.new }
 {
-    pager.is_whole();
+    pager.assert_invariant();
     if !pager.has_load_number() {
         return Err(Error::NumbersSpent);
     }
     held.readings.reserve(1)?;
     let begun = pager.load_key(key);
-    pager.is_whole();
+    pager.assert_invariant();
     match begun? {
         Beginning::InMemory => Ok(Beginning::InMemory),
         Beginning::Load(load, of) => {
@@ -245,24 +245,24 @@ pub fn serve<E: Env<Node: NodeSet<E>>, S: PagableStorage<E>>(
     alloc: Global,
     event: Event<E::Node, PagableData, SerializedData>,
 ) -> EventReply<E::Node, Arc<PagableData>, Arc<SerializedData>>
-    requires { IsInStep S.is_honest (telling S.stored S.is_closed S.failed) pager.old held.old }
+    requires { HeldFitsPager S.is_honest (storage_view S.PagableStorage) pager.old held.old }
     ensures { Drives S.is_honest (values_at E.Node.NodeSet E.Env E.Hash.KeyHash pager.old.environment)
-        (telling S.stored S.is_closed S.failed)
+        (storage_view S.PagableStorage)
         pager.old held.old event result pager.new held.new }
 {
-    pager.is_whole();
+    pager.assert_invariant();
     match event {
         Event::Call(call) => {
             let closed = closed_by(&call);
             let reply = make_call(pager, alloc, call);
-            pager.is_whole();
+            pager.assert_invariant();
             forget(pager, &mut held.readings, closed);
             EventReply::CallReply(reply)
         }
         // A load of a cell is kept from its first step on.
         Event::LoadStart(handle) => {
             let begun = pager.load_begin(handle);
-            pager.is_whole();
+            pager.assert_invariant();
             EventReply::Started(begun)
         }
         Event::LoadKey(key, node_type) => {

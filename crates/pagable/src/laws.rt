@@ -18,9 +18,8 @@ pub fn forms_are_read_again<A, B, E: Env, T: Carried<E>>()
     ensures prefix_free { (e : E) → IsReadThroughout (E.parts e) (T.shape e) → IsPrefixFree A (E.parts e) (T.shape e) }
 {}
 
-/// States that blobs in memory are honest, whatever was called: no wrong answer was taken as true.
-/// So what the calls of a pager or a machine over them promise as long as the storage is honest
-/// holds always.
+/// States that a storage in memory is always honest: no layer lies below it that could answer
+/// wrongly. So what calls promise over an honest storage always holds over this one.
 pub fn memory_is_honest<E: Env>(storage: &InMemoryBlobs<E>)
     ensures { IsTrue (⟦<InMemoryBlobs<E> as PagableStorage<E>>⟧.is_honest storage.now) }
 {

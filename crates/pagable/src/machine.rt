@@ -2,7 +2,7 @@
 
 ghost use Rattle.std.specs.Prelude.{◌≡◌, IfOk, IfErr, IsTrue, OnErr};
 ghost use Rattle.{pagable_theorems.specs.{SmallWorlds.StartsWell, PageOutLaws.NobodyWorks}, pagable_load.specs.AccessView.values_at, pagable.specs.Driving.{Runs, machine_in}};
-ghost use Rattle.{pagable_pager.specs.View.{core_in, state_in, telling}, pagable_pager_spec.specs.Pager.{IsIdle, IsNew}};
+ghost use Rattle.{pagable_pager.specs.View.{pager_core, pager_state, storage_view}, pagable_pager_spec.specs.Pager.{IsIdle, IsNew}};
 
 use crate::events;
 use crate::workers::Held;
@@ -27,7 +27,7 @@ pub struct Machine<E: Env<Node: NodeSet<E>>, S: PagableStorage<E>> {
 
 impl<E: Env<Node: NodeSet<E>>, S: PagableStorage<E>> Model for Machine<E, S> {
     ghost use Rattle.std.specs.Coded.{codes};
-    ghost use Rattle.{pagable_pager.specs.View.telling, pagable.specs.Driving.{IsInStep, MachineView, view_of}, indexmap.specs.Layout.hash_map_code};
+    ghost use Rattle.{pagable_pager.specs.View.storage_view, pagable.specs.Driving.{HeldFitsPager, MachineView, view_of}, indexmap.specs.Layout.hash_map_code};
 
     ghost Value = { MachineView E.Node S E };
 
@@ -35,16 +35,16 @@ impl<E: Env<Node: NodeSet<E>>, S: PagableStorage<E>> Model for Machine<E, S> {
 
     ghost view = { λ m. view_of m.pager m.held };
 
-    ghost invariant = { λ m. IsInStep S.is_honest (telling S.stored S.is_closed S.failed) m.pager m.held };
+    ghost invariant = { λ m. HeldFitsPager S.is_honest (storage_view S.PagableStorage) m.pager m.held };
 }
 
 impl<E: Env<Node: NodeSet<E>>, S: PagableStorage<E>> Machine<E, S> {
     /// Makes a machine over a pager for which no worker is running (`Pager::is_at_rest`): so it is
     /// between any two calls, since a page-out by one call ends its workers. It takes no memory.
     pub fn new(alloc: Global, pager: Pager<E, S>) -> Machine<E, S>
-        requires nobody { NobodyWorks (core_in (telling S.stored S.is_closed S.failed) pager) }
+        requires nobody { NobodyWorks (pager_core (storage_view S.PagableStorage) pager) }
         ensures pager { result.pager ≡ pager }
-        ensures idle { IsIdle (machine_in (telling S.stored S.is_closed S.failed) result) }
+        ensures idle { IsIdle (machine_in (storage_view S.PagableStorage) result) }
     {
         Machine {
             pager,
@@ -59,9 +59,9 @@ impl<E: Env<Node: NodeSet<E>>, S: PagableStorage<E>> Machine<E, S> {
     /// Makes a machine over a new pager, over a storage as it is. It takes no memory. Runs that
     /// begin at it meet what the headline asks of their start.
     pub fn over(alloc: Global, storage: S, env: E) -> Machine<E, S>
-        ensures empty { IsNew (state_in (telling S.stored S.is_closed S.failed) result.pager) }
+        ensures empty { IsNew (pager_state (storage_view S.PagableStorage) result.pager) }
         ensures starts { StartsWell (values_at E.Node.NodeSet E.Env E.Hash.KeyHash env)
-            (machine_in (telling S.stored S.is_closed S.failed) result) }
+            (machine_in (storage_view S.PagableStorage) result) }
         ensures storage { result.pager.storage ≡ storage }
         ensures environment { result.pager.environment ≡ env }
     {
@@ -77,7 +77,7 @@ impl<E: Env<Node: NodeSet<E>>, S: PagableStorage<E>> Machine<E, S> {
 
     /// Runs the events in their order, and returns one reply for each.
     ///
-    /// Events, replies and machines are a run of the plain world, for which the headline holds,
+    /// Events, replies and machines are a run of the definitions, for which the headline holds,
     /// together with the events that led from an idle machine to this one: each event is one step
     /// that leaves the machine whole, and if the events meet what is asked of them, every node
     /// keeps its tree and each pin gives it. This holds as long as no wrong answer of the storage
@@ -96,7 +96,7 @@ impl<E: Env<Node: NodeSet<E>>, S: PagableStorage<E>> Machine<E, S> {
     >
         ensures run { IsTrue (S.is_honest self.new.pager.storage) → IfOk result (λ replies.
             Runs (values_at E.Node.NodeSet E.Env E.Hash.KeyHash self.old.pager.environment)
-            (telling S.stored S.is_closed S.failed) self.old events.items replies.items self.new) }
+            (storage_view S.PagableStorage) self.old events.items replies.items self.new) }
         ensures honest { IsTrue (S.is_honest self.new.pager.storage) → IsTrue (S.is_honest self.old.pager.storage) }
         ensures nothing { OnErr result (self.new ≡ self.old) }
         ensures back { IfErr result (λ e. (e.0 ≡ Error.OutOfMemory) × (e.1 ≡ events)) }

@@ -2,7 +2,7 @@
 //! is honest afterwards.
 
 ghost use Rattle.std.specs.{Arc.arc_value, Prelude.{IfErr, IsTrue, ◌≡◌}};
-ghost use Rattle.{pagable.specs.Paged.{IsRefusal, PagesOutItem, PagesOutList, ReadsValue}, pagable_load.specs.AccessView.values_at, pagable_pager.specs.View.{state_in, telling}};
+ghost use Rattle.{pagable.specs.Paged.{IsRefusal, PagesOutItem, PagesOutList, ReadsValue}, pagable_load.specs.AccessView.values_at, pagable_pager.specs.View.{pager_state, storage_view}};
 ghost use Rattle.{pagable_pageout.specs.{PageOuts.{answer_of, PagesItem, PagesList}, Slots.written_of, Table.shelf_of}, pagable_pager_spec.specs.Access.ReadsOver};
 ghost use Rattle.pagable_pager_spec.specs.declared.handle_row.Owner.TheVariants as owners;
 
@@ -25,8 +25,8 @@ fn read_by<'a, E: Env<Node: NodeSet<E>>, S: PagableStorage<E>>(
     requires caller { lent.old.me ≡ owners.Caller }
     ensures reads { IsTrue (S.is_honest lent.new.pager.now.storage)
         → ReadsOver (values_at E.Node.NodeSet E.Env E.Hash.KeyHash lent.old.pager.now.environment)
-        (state_in (telling S.stored S.is_closed S.failed) lent.old.pager.now)
-        key node_type result (state_in (telling S.stored S.is_closed S.failed) lent.new.pager.now) }
+        (pager_state (storage_view S.PagableStorage) lent.old.pager.now)
+        key node_type result (pager_state (storage_view S.PagableStorage) lent.new.pager.now) }
     ensures honest { IsTrue (S.is_honest lent.new.pager.now.storage) → IsTrue (S.is_honest lent.old.pager.now.storage) }
     ensures lender { lent.new.pager.ghost_name ≡ lent.old.pager.ghost_name }
 {
@@ -48,8 +48,8 @@ pub fn read<E: Env<Node: NodeSet<E>>, S: PagableStorage<E>>(
 ) -> Result<E::Node, Error>
     ensures reads { IsTrue (S.is_honest pager.new.storage)
         → ReadsOver (values_at E.Node.NodeSet E.Env E.Hash.KeyHash pager.old.environment)
-        (state_in (telling S.stored S.is_closed S.failed) pager.old)
-        key node_type result (state_in (telling S.stored S.is_closed S.failed) pager.new) }
+        (pager_state (storage_view S.PagableStorage) pager.old)
+        key node_type result (pager_state (storage_view S.PagableStorage) pager.new) }
     ensures honest { IsTrue (S.is_honest pager.new.storage) → IsTrue (S.is_honest pager.old.storage) }
 {
     let mut lent = Lent::new(pager);
@@ -71,8 +71,8 @@ pub fn deserialize_pagable_data<E: Env<Node: NodeSet<E>>, S: PagableStorage<E>, 
 ) -> Result<Arc<T>, (Error, Option<E::Node>)>
     ensures reads { IsTrue (S.is_honest pager.new.storage)
         → ReadsValue (values_at E.Node.NodeSet E.Env E.Hash.KeyHash pager.old.environment) arc_value T.held
-        (state_in (telling S.stored S.is_closed S.failed) pager.old)
-        key T.TYPE result (state_in (telling S.stored S.is_closed S.failed) pager.new) }
+        (pager_state (storage_view S.PagableStorage) pager.old)
+        key T.TYPE result (pager_state (storage_view S.PagableStorage) pager.new) }
     ensures honest { IsTrue (S.is_honest pager.new.storage) → IsTrue (S.is_honest pager.old.storage) }
 {
     match read(alloc, pager, key, T::TYPE) {
@@ -95,8 +95,8 @@ fn page_out_item_by<'a, E: Env<Node: NodeSet<E>>, S: PagableStorage<E>>(
     ensures pages { IsTrue (S.is_honest lent.new.pager.now.storage)
         → PagesItem (values_at E.Node.NodeSet E.Env E.Hash.KeyHash lent.old.pager.now.environment) (shelf_of table.old)
         (written_of (arc_value item)) (shelf_of table.new) (answer_of result)
-        (state_in (telling S.stored S.is_closed S.failed) lent.old.pager.now)
-        (state_in (telling S.stored S.is_closed S.failed) lent.new.pager.now) }
+        (pager_state (storage_view S.PagableStorage) lent.old.pager.now)
+        (pager_state (storage_view S.PagableStorage) lent.new.pager.now) }
     ensures honest { IsTrue (S.is_honest lent.new.pager.now.storage) → IsTrue (S.is_honest lent.old.pager.now.storage) }
     ensures lender { lent.new.pager.ghost_name ≡ lent.old.pager.ghost_name }
 {
@@ -121,12 +121,12 @@ pub fn page_out_item<E: Env<Node: NodeSet<E>>, S: PagableStorage<E>>(
 ) -> Result<DataKey, PageOutError>
     ensures pages { IsTrue (S.is_honest pager.new.storage)
         → PagesOutItem (values_at E.Node.NodeSet E.Env E.Hash.KeyHash pager.old.environment)
-        (state_in (telling S.stored S.is_closed S.failed) pager.old)
+        (pager_state (storage_view S.PagableStorage) pager.old)
         (shelf_of table.old) (written_of (arc_value item)) (answer_of result)
-        (state_in (telling S.stored S.is_closed S.failed) pager.new) (shelf_of table.new) }
+        (pager_state (storage_view S.PagableStorage) pager.new) (shelf_of table.new) }
     ensures honest { IsTrue (S.is_honest pager.new.storage) → IsTrue (S.is_honest pager.old.storage) }
 {
-    pager.is_whole();
+    pager.assert_invariant();
     let mut lent = Lent::new(pager);
     page_out_item_by(&mut lent, alloc, table, item)
 }
@@ -138,8 +138,8 @@ fn page_out_pending_by<'a, E: Env<Node: NodeSet<E>>, S: PagableStorage<E>>(
     requires caller { lent.old.me ≡ owners.Caller }
     ensures pages { IsTrue (S.is_honest lent.new.pager.now.storage)
         → PagesList (values_at E.Node.NodeSet E.Env E.Hash.KeyHash lent.old.pager.now.environment) result
-        (state_in (telling S.stored S.is_closed S.failed) lent.old.pager.now)
-        (state_in (telling S.stored S.is_closed S.failed) lent.new.pager.now) }
+        (pager_state (storage_view S.PagableStorage) lent.old.pager.now)
+        (pager_state (storage_view S.PagableStorage) lent.new.pager.now) }
     ensures honest { IsTrue (S.is_honest lent.new.pager.now.storage) → IsTrue (S.is_honest lent.old.pager.now.storage) }
     ensures lender { lent.new.pager.ghost_name ≡ lent.old.pager.ghost_name }
 {
@@ -161,12 +161,12 @@ pub fn page_out_pending<E: Env<Node: NodeSet<E>>, S: PagableStorage<E>>(
 ) -> Result<(), PageOutError>
     ensures pages { IsTrue (S.is_honest pager.new.storage)
         → PagesOutList (values_at E.Node.NodeSet E.Env E.Hash.KeyHash pager.old.environment)
-        (state_in (telling S.stored S.is_closed S.failed) pager.old)
-        result (state_in (telling S.stored S.is_closed S.failed) pager.new) }
+        (pager_state (storage_view S.PagableStorage) pager.old)
+        result (pager_state (storage_view S.PagableStorage) pager.new) }
     ensures failed { IsTrue (S.is_honest pager.new.storage) → IfErr result IsRefusal }
     ensures honest { IsTrue (S.is_honest pager.new.storage) → IsTrue (S.is_honest pager.old.storage) }
 {
-    pager.is_whole();
+    pager.assert_invariant();
     let mut lent = Lent::new(pager);
     page_out_pending_by(&mut lent, alloc)
 }

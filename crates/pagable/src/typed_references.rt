@@ -1,8 +1,8 @@
 //! Typed references made of a lent pager's handles, for values to hold: when such a value is
 //! inserted, it becomes the handle's owner.
 
-ghost use Rattle.std.specs.{Arc.arc_value, Prelude.{IfErr, IfOk, ◌≡◌, ◌⊎◌}};
-ghost use Rattle.{pagable.specs.TypedReferences.{IsAt, IsHeldBy, Refers, RefusesHolding, RefusesReference}, pagable_pager.specs.View.{core_in, state_in, telling}};
+ghost use Rattle.std.specs.{Arc.arc_value, Prelude.{IfErr, IfOk}};
+ghost use Rattle.{pagable.specs.TypedReferences.{IsAt, IsHeldBy, Refers, RefusesHolding, RefusesReference}, pagable_pager.specs.View.{pager_core, pager_state, storage_view}};
 ghost use Rattle.pagable_traits.specs.References.{holding, holding_kind, loose, loose_kind};
 
 use pagable_codec::{ArcRef, Env, NodeSet, OfNode};
@@ -19,8 +19,8 @@ fn node_of_type<E: Env<Node: NodeSet<E>>, S: PagableStorage<E>>(
     handle: HandleNumber,
     node_type: u32,
 ) -> Result<NodeNumber, Error>
-    ensures named { IfOk result (IsAt (core_in (telling S.stored S.is_closed S.failed) pager.now) handle node_type) }
-    ensures refused { IfErr result (RefusesReference (core_in (telling S.stored S.is_closed S.failed) pager.now) handle
+    ensures named { IfOk result (IsAt (pager_core (storage_view S.PagableStorage) pager.now) handle node_type) }
+    ensures refused { IfErr result (RefusesReference (pager_core (storage_view S.PagableStorage) pager.now) handle
         node_type) }
 {
     let node = pager.node_of(handle)?;
@@ -40,9 +40,9 @@ pub fn loose<T: OfNode<E>, E: Env<Node: NodeSet<E>>, S: PagableStorage<E>>(
     pager: &Pager<E, S>,
     handle: HandleNumber,
 ) -> Result<PagableArc<T>, Error>
-    ensures named { IfOk result (λ a. Refers (core_in (telling S.stored S.is_closed S.failed) pager.now) handle T.TYPE
+    ensures named { IfOk result (λ a. Refers (pager_core (storage_view S.PagableStorage) pager.now) handle T.TYPE
         (loose_kind T.TYPE) (loose T.TYPE a)) }
-    ensures refused { IfErr result (RefusesReference (core_in (telling S.stored S.is_closed S.failed) pager.now) handle
+    ensures refused { IfErr result (RefusesReference (pager_core (storage_view S.PagableStorage) pager.now) handle
         T.TYPE) }
 {
     let node = node_of_type(pager, handle, T::TYPE)?;
@@ -68,12 +68,12 @@ pub fn holding<
     S: PagableStorage<E>,
     const PINS: bool,
 >(alloc: Global, pager: &Pager<E, S>, handle: HandleNumber) -> Result<HoldingArc<T, PINS>, Error>
-    ensures named { IfOk result (λ a. Refers (core_in (telling S.stored S.is_closed S.failed) pager.now) handle T.TYPE
+    ensures named { IfOk result (λ a. Refers (pager_core (storage_view S.PagableStorage) pager.now) handle T.TYPE
         (holding_kind T.TYPE PINS) (holding T.TYPE PINS a)) }
-    ensures value { IfOk result (λ a. IsHeldBy (state_in (telling S.stored S.is_closed S.failed) pager.now) handle
-        T.held (arc_value a.value)) }
-    ensures refused { IfErr result (RefusesHolding (state_in (telling S.stored S.is_closed S.failed) pager.now) handle
-        T.TYPE T.held) }
+    ensures value { IfOk result (λ a. IsHeldBy (pager_state (storage_view S.PagableStorage) pager.now) handle T.held
+        (arc_value a.value)) }
+    ensures refused { IfErr result (RefusesHolding (pager_state (storage_view S.PagableStorage) pager.now) handle T.TYPE
+        T.held) }
 {
     let node = node_of_type(pager, handle, T::TYPE)?;
     let held = match pager.value(handle)? {

@@ -2,8 +2,8 @@
 //! that make tables and workers and step workers.
 
 ghost use Rattle.std.specs.{HashMap.spare, Prelude.{◌≡◌, ◌<◌, ◌⊎◌, ℕ, Some, IfOk, IsTrue, IfErr, OnOk, false, true, ◌∷◌, length, is_some}};
-ghost use Rattle.{pagable.specs.Driving.{Drives, IsInStep, KeepsOne, kept_at, IsBegun, IsIn, IsOnTable, WalksOn, is_done}, pagable_load.specs.AccessView.values_at};
-ghost use Rattle.{pagable_pager.specs.View.{core_in, state_in, telling}, pagable_pageout.specs.{Slots.written_of, Table.shelf_of, Tasks.{IsWay, todo_of, todos}, Turns.{StepsTo, answer_in, plan}}};
+ghost use Rattle.{pagable.specs.Driving.{Drives, HeldFitsPager, KeepsOne, kept_at, IsBegun, IsIn, IsOnTable, WalksOn, is_done}, pagable_load.specs.AccessView.values_at};
+ghost use Rattle.{pagable_pager.specs.View.{pager_core, pager_state, storage_view}, pagable_pageout.specs.{Slots.written_of, Table.shelf_of, Tasks.{EachIsAwaited, todo_of, todos}, Turns.{StepsTo, answer_in, plan}}};
 ghost use Rattle.pagable_pager_spec.specs.{Kinds.{identity_of, owner_worker}, World.{of_entry, of_item}, declared.events.{Event.Event, EventReply.EventReply}};
 
 use indexmap::IndexMap;
@@ -69,12 +69,12 @@ pub fn table_new<E: Env<Node: NodeSet<E>>, S: PagableStorage<E>>(
     held: &mut Held<E>,
     alloc: Global,
 ) -> Result<TableNumber, Error>
-    requires { IsInStep S.is_honest (telling S.stored S.is_closed S.failed) pager.now held.old }
+    requires { HeldFitsPager S.is_honest (storage_view S.PagableStorage) pager.now held.old }
     ensures { Drives S.is_honest (values_at E.Node.NodeSet E.Env E.Hash.KeyHash pager.now.environment)
-        (telling S.stored S.is_closed S.failed)
+        (storage_view S.PagableStorage)
         pager.now held.old Event.TableNew (EventReply.TableMade result) pager.now held.new }
 {
-    pager.is_whole();
+    pager.assert_invariant();
     held.tables.reserve(1)?;
     held.tables.push_reserved(LentTable::new(alloc));
     Ok(TableNumber(held.tables.len() as u64))
@@ -102,7 +102,7 @@ fn ready<E: Env<Node: NodeSet<E>>>(
 }
 
 // Makes a worker for an item, with its first task. Fails with OutOfMemory alone.
-fn item_walk<E: Env<Node: NodeSet<E>>>(
+fn new_item_walk<E: Env<Node: NodeSet<E>>>(
     alloc: Global,
     table: TableNumber,
     item: SerializedData,
@@ -122,7 +122,7 @@ fn item_walk<E: Env<Node: NodeSet<E>>>(
     })
 }
 
-fn entry_walk<E: Env<Node: NodeSet<E>>>(
+fn new_entry_walk<E: Env<Node: NodeSet<E>>>(
     alloc: Global,
     table: TableNumber,
     reference: ArcRef,
@@ -153,14 +153,14 @@ pub fn worker_item<E: Env<Node: NodeSet<E>>, S: PagableStorage<E>>(
     table: TableNumber,
     item: SerializedData,
 ) -> Result<WorkerNumber, Error>
-    requires { IsInStep S.is_honest (telling S.stored S.is_closed S.failed) pager.old held.old }
+    requires { HeldFitsPager S.is_honest (storage_view S.PagableStorage) pager.old held.old }
     ensures { Drives S.is_honest (values_at E.Node.NodeSet E.Env E.Hash.KeyHash pager.old.environment)
-        (telling S.stored S.is_closed S.failed)
+        (storage_view S.PagableStorage)
         pager.old held.old (Event.WorkerItem table item) (EventReply.WorkerMade result) pager.new held.new }
 {
-    pager.is_whole();
+    pager.assert_invariant();
     ready(&mut held.walks, &held.tables, table)?;
-    let walk = item_walk(alloc, table, item)?;
+    let walk = new_item_walk(alloc, table, item)?;
     let mut lent = Lent::new(pager);
     let worker = lent.worker_begin()?;
     put(&mut held.walks, worker.0, walk);
@@ -182,19 +182,19 @@ pub fn worker_listed<E: Env<Node: NodeSet<E>>, S: PagableStorage<E>>(
     table: TableNumber,
     place: u64,
 ) -> Result<WorkerNumber, Error>
-    requires { IsInStep S.is_honest (telling S.stored S.is_closed S.failed) pager.old held.old }
+    requires { HeldFitsPager S.is_honest (storage_view S.PagableStorage) pager.old held.old }
     ensures { Drives S.is_honest (values_at E.Node.NodeSet E.Env E.Hash.KeyHash pager.old.environment)
-        (telling S.stored S.is_closed S.failed)
+        (storage_view S.PagableStorage)
         pager.old held.old (Event.WorkerListed table place) (EventReply.WorkerMade result) pager.new held.new }
 {
-    pager.is_whole();
+    pager.assert_invariant();
     if place >= pager.pending() as u64 {
         return Err(Error::NoSuchHandle);
     }
     ready(&mut held.walks, &held.tables, table)?;
     let mut lent = Lent::new(pager);
     let (worker, reference) = lent.worker_listed(place as usize)?;
-    let walk = entry_walk(alloc, table, reference);
+    let walk = new_entry_walk(alloc, table, reference);
     put(&mut held.walks, worker.0, walk);
     Ok(worker)
 }
@@ -210,14 +210,14 @@ fn step_by<'a, E: Env<Node: NodeSet<E>>, S: PagableStorage<E>>(
     task: Task<E>,
 ) -> StepResult<E>
     requires me { lent.old.me ≡ owner_worker worker.0 }
-    requires way { IsWay (todo_of task ∷ todos path.old.items) }
-    ensures way { IsWay (plan result.turn path.new.items) }
+    requires way { EachIsAwaited (todo_of task ∷ todos path.old.items) }
+    ensures way { EachIsAwaited (plan result.turn path.new.items) }
     ensures step { IsTrue (S.is_honest lent.new.pager.now.storage)
         → StepsTo (values_at E.Node.NodeSet E.Env E.Hash.KeyHash lent.old.pager.now.environment)
         (owner_worker worker.0) worker.0 (shelf_of table.old) task (todos path.old.items)
         (shelf_of table.new) result
-        (plan result.turn path.new.items) (state_in (telling S.stored S.is_closed S.failed) lent.old.pager.now)
-        (state_in (telling S.stored S.is_closed S.failed) lent.new.pager.now) }
+        (plan result.turn path.new.items) (pager_state (storage_view S.PagableStorage) lent.old.pager.now)
+        (pager_state (storage_view S.PagableStorage) lent.new.pager.now) }
     ensures honest { IsTrue (S.is_honest lent.new.pager.now.storage) → IsTrue (S.is_honest lent.old.pager.now.storage) }
     ensures lender { lent.new.pager.ghost_name ≡ lent.old.pager.ghost_name }
 {
@@ -241,12 +241,12 @@ fn walk_on<E: Env<Node: NodeSet<E>>, S: PagableStorage<E>>(
     walk: &mut Walk<E>,
 ) -> WorkerReply<Arc<SerializedData>>
     requires has { is_some (answer_in walk.old.turn) ≡ false }
-    requires at_work { (core_in (telling S.stored S.is_closed S.failed) pager.old).workers worker.0 ≡ true }
+    requires at_work { (pager_core (storage_view S.PagableStorage) pager.old).workers worker.0 ≡ true }
     requires on_table { IsOnTable (length tables.old.items) walk.old }
     ensures walks { IsTrue (S.is_honest pager.new.storage)
         → WalksOn (values_at E.Node.NodeSet E.Env E.Hash.KeyHash pager.old.environment) worker.0 tables.old.items
-        walk.old (state_in (telling S.stored S.is_closed S.failed) pager.old) result
-        tables.new.items walk.new (state_in (telling S.stored S.is_closed S.failed) pager.new) }
+        walk.old (pager_state (storage_view S.PagableStorage) pager.old) result
+        tables.new.items walk.new (pager_state (storage_view S.PagableStorage) pager.new) }
     ensures honest { IsTrue (S.is_honest pager.new.storage) → IsTrue (S.is_honest pager.old.storage) }
     ensures count { length tables.new.items ≡ length tables.old.items }
     ensures on_table { IsOnTable (length tables.new.items) walk.new }
@@ -288,12 +288,12 @@ pub fn worker_step<E: Env<Node: NodeSet<E>>, S: PagableStorage<E>>(
     alloc: Global,
     worker: WorkerNumber,
 ) -> Result<WorkerReply<Arc<SerializedData>>, Error>
-    requires { IsInStep S.is_honest (telling S.stored S.is_closed S.failed) pager.old held.old }
+    requires { HeldFitsPager S.is_honest (storage_view S.PagableStorage) pager.old held.old }
     ensures { Drives S.is_honest (values_at E.Node.NodeSet E.Env E.Hash.KeyHash pager.old.environment)
-        (telling S.stored S.is_closed S.failed)
+        (storage_view S.PagableStorage)
         pager.old held.old (Event.WorkerStep worker) (EventReply.WorkerMoved result) pager.new held.new }
 {
-    pager.is_whole();
+    pager.assert_invariant();
     if is_done(&held.walks, worker.0) {
         return Err(Error::NoSuchHandle);
     }

@@ -3,7 +3,7 @@ use Rattle.lru.{proofs.Pairs.{cut_end, last_of_push, lookup-lookup_entry, promot
 use Rattle.pagable_budget.specs.Budgets.{Admits, BudgetView, Clears, Evicts, EvictsAbove, EvictsLast, Inserts, IsBounded, IsNeeded, Keeps, Kept, Stores, Trims, cell-is-kept, cell-is-new, clone-is-refused, clone-is-stored, cost_of}
 use Rattle.pagable_budget.specs.Budgets.{costs-too-much, counted, evicts-more, evicts-none, hit, last-goes, missed, more, no-cell, no-memory-is-left, none-is-kept, pin-is-kept, touched}
 use Rattle.pagable_budget.specs.declared.{bound.BudgetStats.BudgetStats, evictions.KeptPin.KeptPin}
-use Rattle.{pagable.specs.Cells.Releases, pagable_pager.specs.View.{PagerView, Telling, core_in}, pagable_pager_spec.specs.{Calls.NodeCall, Basics.{Error, HandleNumber, NodeNumber}}}
+use Rattle.{pagable.specs.Cells.Releases, pagable_pager.specs.View.{PagerView, Telling, pager_core}, pagable_pager_spec.specs.{Calls.NodeCall, Basics.{Error, HandleNumber, NodeNumber}}}
 use Rattle.std.proofs.Common.{[], Bool, Err, IsErrAnd, List, None, Ok, OnErr, OnOk, Option, Result, Some, is_ok, ap, ap₂, append-nil, append_assoc, arith, false, length, length-append, nat_eq, refl, subst, sym, take, true, ℕ, ◌+◌, ◌++◌, ◌-◌, ◌<◌, ◌^◌, ◌∙◌, ◌∷◌, ◌≡◌, ◌≤◌}
 use Rattle.std.proofs.lemmas.{List.{Sums.{sum_by-cons, sum_by_push}, take_all}, Option.same_Some}
 use Rattle.std.specs.{Map.{lookup, lookup_entry, remove_entry}, Option.{option_map, option_map_or}, Prelude.{is_some, slice_get}}
@@ -279,13 +279,13 @@ module _ {N S E : Type 0} (tells : Telling S) where
       (no-memory-is-left told mid low q (subst (λ k. Trims tells k b p mid low) room trims) releases)
 
   pub kept-already : (b b' : BudgetView) (p : PagerView N S E) (k : HandleNumber) (cost : ℕ) (n : NodeNumber) (kept : Bool)
-      → NodeCall (core_in tells p) k (Ok n)
+      → NodeCall (pager_core tells p) k (Ok n)
       → kept ≡ is_some (lookup (nat_eq n.0) b.pins) → b' ≡ touched n.0 b → kept ≡ true → Keeps tells b p k cost b' p
   kept-already b b' p k cost n kept call is after so =
       let there = sym is ∙ so in subst (λ c. Keeps tells b p k cost c p) (sym (after ∙ as-hit n.0 b there)) (cell-is-kept n call there)
 
   pub came-new : (b mid b' : BudgetView) (p q : PagerView N S E) (k : HandleNumber) (cost : ℕ) (n : NodeNumber) (kept : Bool)
-      → NodeCall (core_in tells p) k (Ok n)
+      → NodeCall (pager_core tells p) k (Ok n)
       → kept ≡ is_some (lookup (nat_eq n.0) b.pins) → mid ≡ touched n.0 b → kept ≡ false → Admits tells mid p n.0 k cost b' q → Keeps tells b p k cost b' q
   came-new b mid b' p q k cost n kept call is after so admits =
       let absent = sym is ∙ so in

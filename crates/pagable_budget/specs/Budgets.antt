@@ -3,7 +3,7 @@ use Rattle.std.specs.Prelude.{[], Bool, Err, List, None, Ok, Option, Result, Som
 use Rattle.{lru.specs.LruCache.{LruCache, promoted}, std.specs.Map.lookup}
 use Rattle.pagable_budget.specs.declared.{bound.BudgetStats.BudgetStats, evictions.KeptPin.KeptPin}
 use Rattle.pagable.specs.{Cells.{Pins, Releases}, PageOuts.Clones, Paged.PagesOutList}
-use Rattle.{pagable_pager.specs.View.{PagerView, Telling, core_in}, pagable_pageout.specs.declared.tasks.PageOutError.PageOutError}
+use Rattle.{pagable_pager.specs.View.{PagerView, Telling, pager_core}, pagable_pageout.specs.declared.tasks.PageOutError.PageOutError}
 use Rattle.pagable_pager_spec.specs.{Calls.NodeCall, Pager.PagerState, Basics.{Error, HandleNumber, NodeNumber}, World.{Values, greatest}}
 
 -- the number of a cell, and the pin that the budget keeps of it
@@ -117,10 +117,10 @@ module _ {N S E : Type 0} (tells : Telling S) where
   -- A pin of the cell is kept beside the caller's, or was kept already. For a handle that isn't live none is kept.
   pub data Keeps (b : BudgetView) (old : PagerView N S E) (k : HandleNumber) (cost : ℕ) : BudgetView → PagerView N S E
       → Type 0 where
-    no-cell : (e : Error) → NodeCall (core_in tells old) k (Err e) → Keeps b old k cost b old
-    cell-is-kept : (n : NodeNumber) → NodeCall (core_in tells old) k (Ok n) → is_some (lookup (nat_eq n.0) b.pins)
+    no-cell : (e : Error) → NodeCall (pager_core tells old) k (Err e) → Keeps b old k cost b old
+    cell-is-kept : (n : NodeNumber) → NodeCall (pager_core tells old) k (Ok n) → is_some (lookup (nat_eq n.0) b.pins)
         ≡ true → Keeps b old k cost (hit n.0 b) old
-    cell-is-new : (n : NodeNumber) (b' : BudgetView) (new : PagerView N S E) → NodeCall (core_in tells old) k (Ok n)
+    cell-is-new : (n : NodeNumber) (b' : BudgetView) (new : PagerView N S E) → NodeCall (pager_core tells old) k (Ok n)
         → lookup (nat_eq n.0) b.pins ≡ None
         → Admits (missed b) old n.0 k cost b' new → Keeps b old k cost b' new
 

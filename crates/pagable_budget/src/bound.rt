@@ -1,11 +1,11 @@
 //! A budget: pins kept up to a total cost, and counts of hits, misses and evictions.
 
 ghost use Rattle.std.specs.Map.{lookup};
-ghost use Rattle.std.specs.Prelude.{[], IfOk, IsTrue, None, is_some, length, nat_eq, ◌-◌, ◌≡◌, ◌≤◌};
+ghost use Rattle.std.specs.Prelude.{IfOk, IsTrue, None, is_some, length, nat_eq, ◌-◌, ◌≡◌, ◌≤◌};
 ghost use Rattle.pagable_budget.specs.Budgets.{Admits, Clears, Keeps, PinsWithin, Stores, Trims};
 ghost use Rattle.pagable_budget.specs.Budgets.{cost_of, counted, new_budget, touched};
-ghost use Rattle.{pagable_load.specs.AccessView.values_at, pagable_pager.specs.View.telling};
-ghost use Rattle.{pagable_pager_spec.specs.World.seen_as, std.specs.Arc.arc_value};
+ghost use Rattle.{pagable_load.specs.AccessView.values_at, pagable_pager.specs.View.storage_view};
+ghost use Rattle.{pagable_pager_spec.specs.World.result_map, std.specs.Arc.arc_value};
 
 use crate::evictions::{KeptPin, KeptPins, evict_above, evict_all, insert};
 use lru::LruCache;
@@ -146,9 +146,9 @@ impl Budget {
         handle: HandleNumber,
         cost: u64,
     ) -> Result<(HandleNumber, Arc<E::Node>), Error>
-        ensures pins { IsTrue (S.is_honest pager.new.storage) → PinsWithin (telling S.stored S.is_closed S.failed)
+        ensures pins { IsTrue (S.is_honest pager.new.storage) → PinsWithin (storage_view S.PagableStorage)
             (values_at E.Node.NodeSet E.Env E.Hash.KeyHash) self.old pager.old handle cost
-            (seen_as (λ a. (a.0, arc_value a.1)) result) self.new pager.new }
+            (result_map (λ a. (a.0, arc_value a.1)) result) self.new pager.new }
         ensures honest { IsTrue (S.is_honest pager.new.storage) → IsTrue (S.is_honest pager.old.storage) }
     {
         let pinned = paging::pin(alloc, pager, handle)?;
@@ -164,7 +164,7 @@ impl Budget {
         pinned: HandleNumber,
         cost: u64,
     )
-        ensures { Keeps (telling S.stored S.is_closed S.failed) self.old pager.old pinned cost self.new pager.new }
+        ensures { Keeps (storage_view S.PagableStorage) self.old pager.old pinned cost self.new pager.new }
     {
         let Ok(cell) = pager.node_of(pinned) else {
             return;
@@ -196,7 +196,7 @@ impl Budget {
         cost: u64,
     )
         requires new { lookup (nat_eq cell) self.old.pins ≡ None }
-        ensures { Admits (telling S.stored S.is_closed S.failed) self.old pager.old cell pinned cost
+        ensures { Admits (storage_view S.PagableStorage) self.old pager.old cell pinned cost
             self.new pager.new }
     {
         if cost > self.most {
@@ -216,7 +216,7 @@ impl Budget {
     )
         requires new { lookup (nat_eq cell) self.old.pins ≡ None }
         requires fits { pin.cost ≤ self.old.most }
-        ensures { Stores (telling S.stored S.is_closed S.failed) self.old pager.old cell pin self.new pager.new }
+        ensures { Stores (storage_view S.PagableStorage) self.old pager.old cell pin self.new pager.new }
     {
         let most = self.most - pin.cost;
         self.trim(pager, most);
@@ -234,7 +234,7 @@ impl Budget {
         pager: &mut Pager<E, S>,
         most: u64,
     )
-        ensures { Trims (telling S.stored S.is_closed S.failed) most self.old pager.old self.new pager.new }
+        ensures { Trims (storage_view S.PagableStorage) most self.old pager.old self.new pager.new }
     {
         let before = self.pins.len();
         let cost = evict_above(&mut self.pins, pager, self.cost, most);
@@ -247,7 +247,7 @@ impl Budget {
 
     /// Releases all kept pins. The counts stay as they are.
     pub fn clear<E: Env<Node: NodeSet<E>>, S: PagableStorage<E>>(&mut self, pager: &mut Pager<E, S>)
-        ensures { Clears (telling S.stored S.is_closed S.failed) self.old pager.old self.new pager.new }
+        ensures { Clears (storage_view S.PagableStorage) self.old pager.old self.new pager.new }
     {
         evict_all(&mut self.pins, pager);
         self.cost = 0;

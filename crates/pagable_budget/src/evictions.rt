@@ -3,7 +3,7 @@
 ghost use Rattle.std.specs.Map.{lookup};
 ghost use Rattle.std.specs.Prelude.{[], None, nat_eq, ◌-◌, ◌^◌, ◌≡◌, ◌≤◌};
 ghost use Rattle.pagable_budget.specs.Budgets.{Evicts, EvictsAbove, EvictsLast, Inserts, cost_of};
-ghost use Rattle.pagable_pager.specs.View.{telling};
+ghost use Rattle.pagable_pager.specs.View.{storage_view};
 
 use lru::LruCache;
 use pagable_codec::{Env, NodeSet};
@@ -29,7 +29,7 @@ fn evict_last<E: Env<Node: NodeSet<E>>, S: PagableStorage<E>>(
     pins: &mut KeptPins,
     pager: &mut Pager<E, S>,
 ) -> Option<u64>
-    ensures evicts { EvictsLast (telling S.stored S.is_closed S.failed)
+    ensures evicts { EvictsLast (storage_view S.PagableStorage)
         pins.old.entries pager.old result pins.new.entries pager.new }
     ensures room { pins.new.cap ≡ pins.old.cap }
 {
@@ -47,7 +47,7 @@ pub(crate) fn evict_above<E: Env<Node: NodeSet<E>>, S: PagableStorage<E>>(
     most: u64,
 ) -> u64
     requires sum { cost ≡ cost_of pins.old.entries }
-    ensures evicts { EvictsAbove (telling S.stored S.is_closed S.failed)
+    ensures evicts { EvictsAbove (storage_view S.PagableStorage)
         most pins.old.entries pager.old pins.new.entries pager.new }
     ensures sum { result ≡ cost_of pins.new.entries }
     ensures less { result ≤ cost }
@@ -69,7 +69,7 @@ pub(crate) fn evict_all<E: Env<Node: NodeSet<E>>, S: PagableStorage<E>>(
     pins: &mut KeptPins,
     pager: &mut Pager<E, S>,
 )
-    ensures evicts { Evicts (telling S.stored S.is_closed S.failed) pager.old pins.old.entries pager.new }
+    ensures evicts { Evicts (storage_view S.PagableStorage) pager.old pins.old.entries pager.new }
     ensures none { pins.new.entries ≡ [] }
     ensures room { pins.new.cap ≡ pins.old.cap }
 {

@@ -2,7 +2,7 @@
 
 ghost use Rattle.std.specs.Prelude.{IsTrue};
 ghost use Rattle.{pagable_budget.specs.Budgets.PagesOutAbove, pagable_load.specs.AccessView.values_at};
-ghost use Rattle.pagable_pager.specs.View.{state_in, telling};
+ghost use Rattle.pagable_pager.specs.View.{pager_state, storage_view};
 
 use pagable::paging::page_out_pending;
 use pagable_codec::{Env, NodeSet};
@@ -25,8 +25,8 @@ pub fn page_out_above<E: Env<Node: NodeSet<E>>, S: PagableStorage<E>>(
 ) -> Result<(), PageOutError>
     ensures pages { IsTrue (S.is_honest pager.new.storage) → PagesOutAbove
         (values_at E.Node.NodeSet E.Env E.Hash.KeyHash pager.old.environment) most
-        (state_in (telling S.stored S.is_closed S.failed) pager.old) result
-        (state_in (telling S.stored S.is_closed S.failed) pager.new) }
+        (pager_state (storage_view S.PagableStorage) pager.old) result
+        (pager_state (storage_view S.PagableStorage) pager.new) }
     ensures honest { IsTrue (S.is_honest pager.new.storage) → IsTrue (S.is_honest pager.old.storage) }
 {
     if pager.pending() <= most {

@@ -1,19 +1,19 @@
 -- What the calls of a page-out amount to.
-use Rattle.pagable_changes.specs.Changes.{AllHave, FoundKeys, GivesUp, GoesDown, GoesNowhere, HasKey, HasNoKey, IsFound, IsOver, IsUnset, LeaveFails, Leaves, LetsGo, PinsLoosely, SetsFor, SetsKey}
+use Rattle.pagable_changes.specs.Changes.{AllHave, FoundKeys, ReleasesPath, GoesDown, GoesNowhere, HasKey, HasNoKey, IsFound, IsOver, SetKeyFails, FinishFails, FinishesOpenNode, LetsGo, PinsLoosely, SetsFor, SetsKey}
 use Rattle.pagable_changes.specs.Changes.{Stage, StoresBlob, TakesKey, Turn, TurnFails, Turned, Turns, TurnsFail, TurnsOut, Walks, WritesTaken, all-is-stored, blob-is-refused, cell-gets-key}
 use Rattle.pagable_changes.specs.Changes.{goes-down, isnt-entered, key-is-refused, key-was-found, last-is-left, none-are-asked, none-is-open, none-was-found, nothing_found, one-goes-first, one-more-has}
 use Rattle.pagable_changes.specs.Changes.{one-more-turn, stage, turns-once, walk-is-refused, written_of}
 use Rattle.pagable_changes.specs.declared.{keys.FoundKey.FoundKey, nodes.OpenNode.OpenNode}
 use Rattle.pagable_value_spec.specs.Merkle.{blob_of}
-use Rattle.pagable_pager_spec.specs.{Access.Called, Pager.PagerState, Basics.{ArcRef, Blob, Error, HandleNumber, is_loose_kind}, World.{Core, Values, Written}}
+use Rattle.pagable_pager_spec.specs.{Access.MakesCall, Pager.PagerState, Basics.{ArcRef, Blob, Error, HandleNumber, is_loose_kind}, World.{Core, Values, Written}}
 use Rattle.std.proofs.Common.{Err, IfErr, List, None, Ok, OnOk, Option, Result, Some, [], ap, arith, false, length, refl, subst, sym, take, true, ℕ, ◌%◌, ◌++◌, ◌+◌, ◌∙◌, ◌∷◌, ◌≡◌, ◌≢◌, ◌≤◌}
 use Rattle.std.proofs.lemmas.{Bool.Decides.nat_tests, List.{take_all, take_more}, Option.{get_or_from_slice_get, slice_get_within}}
 use Rattle.std.specs.Prelude.{slice_get}
 
 -- what was done in an environment that is the same
-pub at-same : {N E X : Type 0} (says : E → Values N) {e e' : E} {does : Core → Type 0} {s s' : PagerState N X} → e' ≡ e → Called (says e') does s s'
-    → Called (says e) does s s'
-at-same says {does = does} {s} {s'} same c = subst (λ x. Called (says x) does s s') same c
+pub at-same : {N E X : Type 0} (says : E → Values N) {e e' : E} {does : Core → Type 0} {s s' : PagerState N X} → e' ≡ e → MakesCall (says e') does s s'
+    → MakesCall (says e) does s s'
+at-same says {does = does} {s} {s'} same c = subst (λ x. MakesCall (says x) does s s') same c
 
 pub pins-same : {N E X : Type 0} (says : E → Values N) {e e' : E} {c : HandleNumber} {r : Result HandleNumber Error} {s s' : PagerState N X} → e' ≡ e
     → PinsLoosely (says e') c s r s' → PinsLoosely (says e) c s r s'
@@ -33,12 +33,12 @@ pub sets-same : {N E X : Type 0} (says : E → Values N) {e e' : E} {found found
 sets-same says {found = found} {found'} {o} {key} {s} {s'} same p = subst (λ x. SetsFor (says x) found o key s found' s') same p
 
 pub unset-same : {N E X : Type 0} (says : E → Values N) {e e' : E} {o : OpenNode} {key : ℕ} {why : Error} {s s' : PagerState N X} → e' ≡ e
-    → IsUnset (says e') o key s why s' → IsUnset (says e) o key s why s'
-unset-same says {o = o} {key} {why} {s} {s'} same p = subst (λ x. IsUnset (says x) o key s why s') same p
+    → SetKeyFails (says e') o key s why s' → SetKeyFails (says e) o key s why s'
+unset-same says {o = o} {key} {why} {s} {s'} same p = subst (λ x. SetKeyFails (says x) o key s why s') same p
 
-pub gives-same : {N E X : Type 0} (says : E → Values N) {e e' : E} {path : List OpenNode} {s s' : PagerState N X} → e' ≡ e → GivesUp (says e') path s s'
-    → GivesUp (says e) path s s'
-gives-same says {path = path} {s} {s'} same p = subst (λ x. GivesUp (says x) path s s') same p
+pub gives-same : {N E X : Type 0} (says : E → Values N) {e e' : E} {path : List OpenNode} {s s' : PagerState N X} → e' ≡ e → ReleasesPath (says e') path s s'
+    → ReleasesPath (says e) path s s'
+gives-same says {path = path} {s} {s'} same p = subst (λ x. ReleasesPath (says x) path s s') same p
 
 pub turned-same : {N E X : Type 0} (says : E → Values N) {e e' : E} {a b : Stage N X} {key : Option ℕ} → e' ≡ e → Turned (says e') a key b
     → Turned (says e) a key b
@@ -58,19 +58,13 @@ pub err-any : {X Y : Type 0} {P : Y → Type 0} (r : Result X Y) → ((e : Y) �
 err-any (Err y) all = all y
 err-any (Ok x) all = tt
 
-pub loose-kind : (k : ℕ) → k % 3 ≡ 1 → is_loose_kind k ≡ true
-loose-kind k is = grind (arith, nat_tests)
-
-pub other-kind : (k : ℕ) → k % 3 ≢ 1 → is_loose_kind k ≡ false
-other-kind k is = grind (arith, nat_tests)
-
 pub found-by : (found : FoundKeys) (w : Core) (r : ArcRef) (o : Option FoundKey) → o ≡ found r.node.0 → is_loose_kind r.kind.0 ≡ false → IsFound found w r o
 found-by found w r (Some k) is eager = key-was-found k eager (sym is)
 found-by found w r None is eager = none-was-found eager (sym is)
 
 module _ {N E : Type 0} (v : Values N) (o : OpenNode) (key : ℕ) (s s' : PagerState N E) (found : FoundKeys) where
-  pub sets-cell : (r : Result (Unit {0}) Error) → o.reference.kind.0 % 3 ≡ 1 → SetsKey v s o.through key r s' → OnOk r (SetsFor v found o key s found s')
-  sets-cell (Ok u) is sets = cell-gets-key found s' (loose-kind o.reference.kind.0 is) sets (λ n. refl)
+  pub sets-cell : (r : Result (Unit {0}) Error) → is_loose_kind o.reference.kind.0 ≡ true → SetsKey v s o.through key r s' → OnOk r (SetsFor v found o key s found s')
+  sets-cell (Ok u) is sets = cell-gets-key found s' is sets (λ n. refl)
   sets-cell (Err e) is sets = tt
 
 -- the keys of one reference more
@@ -102,7 +96,7 @@ module _ {N E : Type 0} (v : Values N) {found : FoundKeys} {s mid : PagerState N
 
   pub leaves-by : {ready found' : FoundKeys} {low s' : PagerState N E} {key : ℕ} → StoresBlob v s blob (Ok key) mid → ((n : ℕ) → ready n ≡ found n)
       → SetsFor v ready o key mid found' low
-      → LetsGo v o.through o.pin low s' → Leaves v found s o key found' s'
+      → LetsGo v o.through o.pin low s' → FinishesOpenNode v found s o key found' s'
   leaves-by {ready} {found'} {low} {s'} {key} stores same sets lets = record {
     keys = over.keys;
     have = over.have;
@@ -113,10 +107,11 @@ module _ {N E : Type 0} (v : Values N) {found : FoundKeys} {s mid : PagerState N
     lets = lets;
   }
 
-  pub blob-fails-by : {e : Error} → StoresBlob v s blob (Err e) mid → LeaveFails v found s o e mid
+  pub blob-fails-by : {e : Error} → StoresBlob v s blob (Err e) mid → FinishFails v found s o e mid
   blob-fails-by stores = blob-is-refused _ over.keys mid over.have (stores-over stores)
 
-  pub key-fails-by : {e : Error} {key : ℕ} {s' : PagerState N E} → StoresBlob v s blob (Ok key) mid → IsUnset v o key mid e s' → LeaveFails v found s o e s'
+  pub key-fails-by : {e : Error} {key : ℕ} {s' : PagerState N E} → StoresBlob v s blob (Ok key) mid → SetKeyFails v o key mid e s'
+      → FinishFails v found s o e s'
   key-fails-by {key = key} {s'} stores unset = key-is-refused _ key over.keys mid s' over.have (stores-over stores) unset
 
 -- a turn down
@@ -141,11 +136,11 @@ next-stage v {a} {b} so (turns-once d turn) = one-more-turn a b d so turn
 -- one of the nodes is given up
 pub one-given-up : {N E : Type 0} (v : Values N) {path path' : List OpenNode} (o : OpenNode) {s mid s' : PagerState N E} → path ≡ path' ++ o ∷ []
     → LetsGo v o.through o.pin s mid
-    → GivesUp v path' mid s' → GivesUp v path s s'
-one-given-up v {path' = path'} o {s} {mid} {s'} is lets gives = subst (λ p. GivesUp v p s s') (sym is) (one-goes-first path' o s mid s' lets gives)
+    → ReleasesPath v path' mid s' → ReleasesPath v path s s'
+one-given-up v {path' = path'} o {s} {mid} {s'} is lets gives = subst (λ p. ReleasesPath v p s s') (sym is) (one-goes-first path' o s mid s' lets gives)
 
-pub none-left : {N E : Type 0} (v : Values N) {path : List OpenNode} {s : PagerState N E} → path ≡ [] → GivesUp v path s s
-none-left v {s = s} is = subst (λ p. GivesUp v p s s) (sym is) (none-is-open s)
+pub none-left : {N E : Type 0} (v : Values N) {path : List OpenNode} {s : PagerState N E} → path ≡ [] → ReleasesPath v path s s
+none-left v {s = s} is = subst (λ p. ReleasesPath v p s s) (sym is) (none-is-open s)
 
 -- the walk from its turns
 module _ {N E : Type 0} (v : Values N) {first : OpenNode} {s : PagerState N E} {path : List OpenNode} {found : FoundKeys} (none : path ≡ [])
@@ -159,7 +154,7 @@ module _ {N E : Type 0} (v : Values N) {first : OpenNode} {s : PagerState N E} {
 
   pub refused-by : {path' : List OpenNode} {node' : OpenNode} {e : Error} {mid low s' : PagerState N E}
       → TurnsFail v (stage path first found s) e path' node' mid
-      → LetsGo v node'.through node'.pin mid low → GivesUp v path' low s' → Walks v first s (Err e) s'
+      → LetsGo v node'.through node'.pin mid low → ReleasesPath v path' low s' → Walks v first s (Err e) s'
   refused-by {e = e} {mid} {low} {s'} t lets gives =
       walk-is-refused t.last e mid low s' (same-start t.so) t.fails (subst (λ (o : OpenNode). LetsGo v o.through o.pin mid low) t.node_is lets)
-      (subst (λ p. GivesUp v p low s') t.path_is gives)
+      (subst (λ p. ReleasesPath v p low s') t.path_is gives)

@@ -2,7 +2,7 @@
 -- tree; and each key that was found is read as its node's tree, and is its Merkle key if the keys that cells had are
 -- Merkle keys.
 use Rattle.pagable_changes.proofs.CellKeys.{IsQuiet, KeysGo, SetsAt, all-keys, quiet-keys, set-keys}
-use Rattle.pagable_changes.specs.{Changes.{AllHave, EnterFails, Enters, FoundKeys, GivesUp, GoesNowhere, HasKey, LeaveFails, Leaves, LetsGo, PagesOutChanged, PagesOutKeyless, PinsLoosely, SetsFor, Stage, StoresBlob}, Keys.{ChangedLaw, HasMerkleKeys}}
+use Rattle.pagable_changes.specs.{Changes.{AllHave, EnterFails, Enters, FoundKeys, ReleasesPath, GoesNowhere, HasKey, FinishFails, FinishesOpenNode, LetsGo, PagesOutChanged, PagesOutKeyless, PinsLoosely, SetsFor, Stage, StoresBlob}, Keys.{ChangedLaw, HasMerkleKeys}}
 use Rattle.pagable_changes.specs.Changes.{TakeFails, Takes, Turn, TurnFails, Turns, Walks, all-is-stored, blob-is-refused, both-go, cell-gets-key, cell-has-key, cell-is-away}
 use Rattle.pagable_changes.specs.Changes.{cell-is-not-pinned, cell-is-pinned, cell-is-taken, clone-is-refused, goes-down, goes-up, has-key, isnt-entered, isnt-left, isnt-taken, isnt-written}
 use Rattle.pagable_changes.specs.Changes.{key-is-found, key-is-refused, key-was-found, no-turn, node-is-refused, node-is-taken, none-are-asked, none-is-open, nothing-is-begun, nothing-is-done}
@@ -16,7 +16,7 @@ use Rattle.pagable_theorems.specs.{CallerLaws.IsCall, FormLaws.rest}
 use Rattle.pagable_theorems.specs.TreeSteps.{CallFeels, Change, CoreGoes, FollowsTo, Ground, KeepsStored, WroteTree, followed-leads, pair-leads, reference-leads, variant-leads}
 use Rattle.pagable_value_spec.specs.{Canonical.IsReadableType, Merkle.{KeyOf, KeysOf, StoredAs, blob_of, key-of, key_of_ref, kind_of_ref}, Meaning.{Meaning, rename}, Reading.{deepest, read}, Writing.kind_of_arc}
 use Rattle.pagable_value_spec.specs.Trees.{IsFollowed, KeyRef, ReadsAs, ReadsTree, Tree, Types, integer-followed, key_ref, none-followed, number-followed, pair-followed, pattern-followed, reference-followed, text-followed, type_of, variant-followed}
-use Rattle.pagable_pager_spec.specs.{Access.Called, Events.Does, Pager.{NodeStands, PagerState, SameTrees, WellFormed, away, here, kids_of}, Runs.{AsksWell, KeepsOpen}}
+use Rattle.pagable_pager_spec.specs.{Access.MakesCall, Events.CallDoes, Pager.{NodeStands, PagerState, SameTrees, IsPagerWhole, away, here, kids_of}, Runs.{AsksWell, KeepsOpen}}
 use Rattle.pagable_pager_spec.specs.Basics.{Among, ArcRef, Blob, Error, HandleNumber, NodeNumber, OptionalDataKey, if_there, is_loose_kind}
 use Rattle.pagable_pager_spec.specs.{Calls.{KeyCall, NodeCall}, Kinds.{held, is_loose}, Refusals.Owns}
 use Rattle.pagable_pager_spec.specs.World.{Core, IsLawful, Seen, Values, Written, key_at, row_at}
@@ -176,7 +176,7 @@ module _ {N E : Type 0} (v : Values N) (lawful : IsLawful v) (M : Type 0) where
   }
 
   -- keys are the trees' after a call, where what it set is
-  keys-on : (s s' : PagerState N E) {trees trees' : ℕ → Tree} {SetAt : ℕ → ℕ → Type 0} → WellFormed v s → KeysGo s.core s'.core SetAt
+  keys-on : (s s' : PagerState N E) {trees trees' : ℕ → Tree} {SetAt : ℕ → ℕ → Type 0} → IsPagerWhole v s → KeysGo s.core s'.core SetAt
       → SameTrees s.core.last.node trees trees'
       → (M → (n key : ℕ) → SetAt n key → KeyOf v.hash v.types (trees n) key) → AreKeyed s trees → AreKeyed s' trees'
   keys-on s s' {trees} {trees'} well go same sets keyed m n key is =
@@ -188,7 +188,7 @@ module _ {N E : Type 0} (v : Values N) (lawful : IsLawful v) (M : Type 0) where
   by-call : {does : Core → Type 0} {s s' : PagerState N E} {trees : ℕ → Tree} {SetAt : ℕ → ℕ → Type 0} (call : Call N Blob) (reply : Reply N Blob)
       → ((c : Change) → CallFeels v s.core Owner.Caller call reply s'.core c → CoreGoes c s.core s'.core → KeysGo s.core s'.core SetAt)
       → (M → (n key : ℕ) → SetAt n key → KeyOf v.hash v.types (trees n) key) → KeepsOpen {N = N} {B = Blob} {W = Written} (Event.Call call)
-      → Called v does s s' → (does s'.core → Does (seen_in v) s.core Owner.Caller call reply s'.core) → AsksWell v s trees call reply → Stands v s trees
+      → MakesCall v does s s' → (does s'.core → CallDoes (seen_in v) s.core Owner.Caller call reply s'.core) → AsksWell v s trees call reply → Stands v s trees
       → Went s trees s'
   by-call {s = s} {s'} call reply keys_go sets stays_open c is asks at =
       let one : IsCall (seen_in v) s call reply s' = record {
@@ -207,8 +207,8 @@ module _ {N E : Type 0} (v : Values N) (lawful : IsLawful v) (M : Type 0) where
       }
 
   quietly : {does : Core → Type 0} {s s' : PagerState N E} {trees : ℕ → Tree} (call : Call N Blob) (reply : Reply N Blob) → IsQuiet call
-      → KeepsOpen {N = N} {B = Blob} {W = Written} (Event.Call call) → Called v does s s'
-      → (does s'.core → Does (seen_in v) s.core Owner.Caller call reply s'.core)
+      → KeepsOpen {N = N} {B = Blob} {W = Written} (Event.Call call) → MakesCall v does s s'
+      → (does s'.core → CallDoes (seen_in v) s.core Owner.Caller call reply s'.core)
       → AsksWell v s trees call reply → Stands v s trees → Went s trees s'
   quietly call reply quiet = by-call call reply (λ c feels goes. quiet-keys feels quiet goes) (λ m n key set. absurd set)
 
@@ -430,7 +430,7 @@ module _ {N E : Type 0} (v : Values N) (lawful : IsLawful v) (M : Type 0) where
       pub found : FoundFits s' went.trees' found'
       pub reads : KeyReads s' went.trees' o.reference.node.0 key
 
-    leaves-fit : {s s' : PagerState N E} {trees : ℕ → Tree} {o : OpenNode} {found found' : FoundKeys} {key : ℕ} → Leaves v found s o key found' s'
+    leaves-fit : {s s' : PagerState N E} {trees : ℕ → Tree} {o : OpenNode} {found found' : FoundKeys} {key : ℕ} → FinishesOpenNode v found s o key found' s'
         → Stands v s trees → AreKeyed s trees
         → OpenFits s trees o → FoundFits s trees found → Left s trees o key found' s'
     leaves-fit l at keyed fits founds =
@@ -439,12 +439,14 @@ module _ {N E : Type 0} (v : Values N) (lawful : IsLawful v) (M : Type 0) where
         let d = lets-go l.lets b.went.now in
         record { went = went-then a.went (went-then b.went d); found = found-on d b.found; reads = key-on d (key-on b.went a.reads) }
 
-    leave-fails : {s s' : PagerState N E} {trees : ℕ → Tree} {o : OpenNode} {found : FoundKeys} {e : Error} → LeaveFails v found s o e s' → Stands v s trees
+    finish_open_node-fails : {s s' : PagerState N E} {trees : ℕ → Tree} {o : OpenNode} {found : FoundKeys} {e : Error} → FinishFails v found s o e s'
+        → Stands v s trees
         → AreKeyed s trees
         → OpenFits s trees o → FoundFits s trees found → Went s trees s'
-    leave-fails (nothing-is-stored e) at keyed fits founds = went-same at
-    leave-fails (blob-is-refused e keys s' have stores) at keyed fits founds = quietly (Call.Store _) (Reply.Stored (Err e)) tt tt stores (λ d. d) tt at
-    leave-fails {o = o} (key-is-refused e key keys mid s' have stores unset) at keyed fits founds =
+    finish_open_node-fails (nothing-is-stored e) at keyed fits founds = went-same at
+    finish_open_node-fails (blob-is-refused e keys s' have stores) at keyed fits founds =
+        quietly (Call.Store _) (Reply.Stored (Err e)) tt tt stores (λ d. d) tt at
+    finish_open_node-fails {o = o} (key-is-refused e key keys mid s' have stores unset) at keyed fits founds =
         let a = stores-fit have stores at keyed fits founds in
         let asks = λ (row : HandleRow) (owns : Owns mid.core Owner.Caller o.through is_loose row).
         subst (λ n. ReadsTree mid.core.stored v.types key (a.went.trees' n.0)) (sym (a.fits.through row owns.live)) a.reads.reads in
@@ -514,9 +516,9 @@ module _ {N E : Type 0} (v : Values N) (lawful : IsLawful v) (M : Type 0) where
     turn-fails : {a : Stage N E} {s' : PagerState N E} {trees : ℕ → Tree} {r : ArcRef} {e : Error} → TurnFails v a e s' → Fits a trees r → Went a.pager trees s'
     turn-fails (nothing-is-done e) f = went-same f.at
     turn-fails (isnt-entered e q s' among none fails) f = goes-nowhere fails f.at
-    turn-fails (isnt-left e s' fails) f = leave-fails fails f.at f.keyed f.node f.found
+    turn-fails (isnt-left e s' fails) f = finish_open_node-fails fails f.at f.keyed f.node f.found
 
-    gives-up : {path : List OpenNode} {s s' : PagerState N E} {trees : ℕ → Tree} → GivesUp v path s s' → Stands v s trees → Went s trees s'
+    gives-up : {path : List OpenNode} {s s' : PagerState N E} {trees : ℕ → Tree} → ReleasesPath v path s s' → Stands v s trees → Went s trees s'
     gives-up (none-is-open s) at = went-same at
     gives-up (one-goes-first path o s mid s' lets more) at = let a = lets-go lets at in went-then a (gives-up more a.now)
 

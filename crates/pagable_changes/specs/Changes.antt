@@ -1,7 +1,7 @@
 -- A page-out of nodes without a key: which nodes it enters, what it writes, stores and releases, as calls of the pager.
 use Rattle.std.specs.Prelude.{Err, List, None, Ok, Option, Result, Some, [], false, slice_get, true, ℕ, ◌++◌, ◌∷◌, ◌≡◌, ◌≢◌}
 use Rattle.pagable_changes.specs.declared.{keys.FoundKey.FoundKey, nodes.OpenNode.OpenNode}
-use Rattle.{pagable_core.specs.declared.context.writing.SerializedData.SerializedData, pagable_value_spec.specs.Merkle.blob_of, pagable_pager_spec.specs.Access.Called}
+use Rattle.{pagable_core.specs.declared.context.writing.SerializedData.SerializedData, pagable_value_spec.specs.Merkle.blob_of, pagable_pager_spec.specs.Access.MakesCall}
 use Rattle.pagable_pager_spec.specs.Calls.{CloneCall, KeyCall, LoosenCall, NodeCall, PinCall, ReleaseCall, SetKeyCall, StoreCall}
 use Rattle.pagable_pager_spec.specs.{Kinds.loose_kind, Pager.{PagerState, ValueCall}}
 use Rattle.pagable_pager_spec.specs.Basics.{Among, ArcRef, Blob, Error, HandleNumber, OptionalDataKey, is_loose_kind, type_of}
@@ -82,22 +82,22 @@ pub record IsRoot (w : Core) (h : HandleNumber) (r : ArcRef) : Type 0 where
 module _ {N E : Type 0} (v : Values N) where
   -- calls of the pager; after each its invariant holds
   abbrev pub Clones : PagerState N E → HandleNumber → Result HandleNumber Error → PagerState N E → Type 0
-  Clones s h r s' = Called v (λ w'. CloneCall s.core Owner.Caller h r w') s s'
+  Clones s h r s' = MakesCall v (λ w'. CloneCall s.core Owner.Caller h r w') s s'
 
   abbrev pub Loosens : PagerState N E → HandleNumber → Result HandleNumber Error → PagerState N E → Type 0
-  Loosens s h r s' = Called v (λ w'. LoosenCall s.core Owner.Caller h r w') s s'
+  Loosens s h r s' = MakesCall v (λ w'. LoosenCall s.core Owner.Caller h r w') s s'
 
   abbrev pub Pins : PagerState N E → HandleNumber → Result Pinning Error → PagerState N E → Type 0
-  Pins s h r s' = Called v (λ w'. PinCall s.core Owner.Caller h r w') s s'
+  Pins s h r s' = MakesCall v (λ w'. PinCall s.core Owner.Caller h r w') s s'
 
   abbrev pub Releases : PagerState N E → HandleNumber → Result (Unit {0}) Error → PagerState N E → Type 0
-  Releases s h r s' = Called v (λ w'. ReleaseCall s.core Owner.Caller h r w') s s'
+  Releases s h r s' = MakesCall v (λ w'. ReleaseCall s.core Owner.Caller h r w') s s'
 
   abbrev pub SetsKey : PagerState N E → HandleNumber → ℕ → Result (Unit {0}) Error → PagerState N E → Type 0
-  SetsKey s h key r s' = Called v (λ w'. SetKeyCall s.core Owner.Caller h key r w') s s'
+  SetsKey s h key r s' = MakesCall v (λ w'. SetKeyCall s.core Owner.Caller h key r w') s s'
 
   abbrev pub StoresBlob : PagerState N E → Blob → Result ℕ Error → PagerState N E → Type 0
-  StoresBlob s blob r s' = Called v (λ w'. StoreCall (digest v) s.core blob r w') s s'
+  StoresBlob s blob r s' = MakesCall v (λ w'. StoreCall (digest v) s.core blob r w') s s'
 
   -- The two handles of a taken node are released. They are one handle if the node's reference isn't loose.
   pub data LetsGo (through pin : HandleNumber) (s : PagerState N E) : PagerState N E → Type 0 where
@@ -169,7 +169,7 @@ module _ {N E : Type 0} (v : Values N) where
         → SetsFor found o key s found' s
 
   -- A node whose references all have keys is stored with these, gets its key, and its handles are released.
-  pub record Leaves (found : FoundKeys) (s : PagerState N E) (o : OpenNode) (key : ℕ) (found' : FoundKeys)
+  pub record FinishesOpenNode (found : FoundKeys) (s : PagerState N E) (o : OpenNode) (key : ℕ) (found' : FoundKeys)
       (s' : PagerState N E) : Type 0 where
     pub keys : List ℕ
     pub have : AllHave found s.core (written_of o.written).references keys
@@ -180,20 +180,20 @@ module _ {N E : Type 0} (v : Values N) where
     pub lets : LetsGo o.through o.pin low s'
 
   -- setting a cell's key fails
-  pub record IsUnset (o : OpenNode) (key : ℕ) (s : PagerState N E) (e : Error) (s' : PagerState N E) : Type 0 where
+  pub record SetKeyFails (o : OpenNode) (key : ℕ) (s : PagerState N E) (e : Error) (s' : PagerState N E) : Type 0 where
     pub of_cell : is_loose_kind o.reference.kind.0 ≡ true
     pub refused : SetsKey s o.through key (Err e) s'
 
   -- leaving a node fails: before its blob is stored, or at storing it, or at setting its key
-  pub data LeaveFails (found : FoundKeys) (s : PagerState N E) (o : OpenNode) : Error → PagerState N E → Type 0 where
-    nothing-is-stored : (e : Error) → LeaveFails found s o e s
+  pub data FinishFails (found : FoundKeys) (s : PagerState N E) (o : OpenNode) : Error → PagerState N E → Type 0 where
+    nothing-is-stored : (e : Error) → FinishFails found s o e s
     blob-is-refused : (e : Error) (keys : List ℕ) (s' : PagerState N E)
         → AllHave found s.core (written_of o.written).references keys
-        → StoresBlob s (blob_of (written_of o.written).bytes keys) (Err e) s' → LeaveFails found s o e s'
+        → StoresBlob s (blob_of (written_of o.written).bytes keys) (Err e) s' → FinishFails found s o e s'
     key-is-refused : (e : Error) (key : ℕ) (keys : List ℕ) (mid s' : PagerState N E)
         → AllHave found s.core (written_of o.written).references keys
-        → StoresBlob s (blob_of (written_of o.written).bytes keys) (Ok key) mid → IsUnset o key mid e s'
-        → LeaveFails found s o e s'
+        → StoresBlob s (blob_of (written_of o.written).bytes keys) (Ok key) mid → SetKeyFails o key mid e s'
+        → FinishFails found s o e s'
 
   -- A turn: the next reference has a key and is passed; or it has none, its target is entered and this node waits; or
   -- all have keys, and the node is left for the one that waits for it.
@@ -203,12 +203,12 @@ module _ {N E : Type 0} (v : Values N) where
         → HasNoKey a.found a.pager.core r → b.path ≡ a.path ++ a.node ∷ []
         → b.found ≡ a.found → Enters r a.pager b.node b.pager → Turn a b
     goes-up : (b : Stage N E) (key : ℕ) → a.path ≡ b.path ++ b.node ∷ []
-        → Leaves a.found a.pager a.node key b.found b.pager → Turn a b
+        → FinishesOpenNode a.found a.pager a.node key b.found b.pager → Turn a b
 
   -- a turn; or the last node is left, and its key is returned
   pub data Turned (a : Stage N E) : Option ℕ → Stage N E → Type 0 where
     turns-once : (b : Stage N E) → Turn a b → Turned a None b
-    last-is-left : (key : ℕ) (b : Stage N E) → a.path ≡ [] → Leaves a.found a.pager a.node key b.found b.pager
+    last-is-left : (key : ℕ) (b : Stage N E) → a.path ≡ [] → FinishesOpenNode a.found a.pager a.node key b.found b.pager
         → Turned a (Some key) b
 
   -- some turns, one after another
@@ -232,13 +232,13 @@ module _ {N E : Type 0} (v : Values N) where
     isnt-entered : (e : Error) (r : ArcRef) (s' : PagerState N E) → Among (written_of a.node.written).references r
         → HasNoKey a.found a.pager.core r
         → GoesNowhere r a.pager e s' → TurnFails a e s'
-    isnt-left : (e : Error) (s' : PagerState N E) → LeaveFails a.found a.pager a.node e s' → TurnFails a e s'
+    isnt-left : (e : Error) (s' : PagerState N E) → FinishFails a.found a.pager a.node e s' → TurnFails a e s'
 
   -- the handles of these nodes are released, from the last node to the first
-  pub data GivesUp : List OpenNode → PagerState N E → PagerState N E → Type 0 where
-    none-is-open : (s : PagerState N E) → GivesUp [] s s
+  pub data ReleasesPath : List OpenNode → PagerState N E → PagerState N E → Type 0 where
+    none-is-open : (s : PagerState N E) → ReleasesPath [] s s
     one-goes-first : (path : List OpenNode) (o : OpenNode) (s mid s' : PagerState N E) → LetsGo o.through o.pin s mid
-        → GivesUp path mid s' → GivesUp (path ++ o ∷ []) s s'
+        → ReleasesPath path mid s' → ReleasesPath (path ++ o ∷ []) s s'
 
   -- turns that lead from one stage to the last node, which is left; or to an error, with the nodes that were open then
   pub record TurnsOut (a : Stage N E) (key : ℕ) (b : Stage N E) : Type 0 where
@@ -258,10 +258,10 @@ module _ {N E : Type 0} (v : Values N) where
   -- released.
   pub data Walks (first : OpenNode) (s : PagerState N E) : Result ℕ Error → PagerState N E → Type 0 where
     all-is-stored : (a b : Stage N E) (key : ℕ) → Turns (stage [] first nothing_found s) a → a.path ≡ []
-        → Leaves a.found a.pager a.node key b.found b.pager → Walks first s (Ok key) b.pager
+        → FinishesOpenNode a.found a.pager a.node key b.found b.pager → Walks first s (Ok key) b.pager
     walk-is-refused : (a : Stage N E) (e : Error) (mid low s' : PagerState N E)
         → Turns (stage [] first nothing_found s) a → TurnFails a e mid
-        → LetsGo a.node.through a.node.pin mid low → GivesUp a.path low s' → Walks first s (Err e) s'
+        → LetsGo a.node.through a.node.pin mid low → ReleasesPath a.path low s' → Walks first s (Err e) s'
 
   -- the page-out of a handle's cell that has no key: the walk from it
   pub data PagesOutKeyless (s : PagerState N E) (h : HandleNumber) : Result ℕ Error → PagerState N E → Type 0 where

@@ -2,7 +2,7 @@
 -- tree, and it is the root's Merkle key if the keys that it took are Merkle keys.
 use Rattle.std.specs.Prelude.{IfOk, Result, Some, ℕ, ◌≡◌}
 use Rattle.{pagable_changes.specs.Changes.PagesOutChanged, pagable_theorems.specs.PageOutLaws.NobodyWorks, pagable_value_spec.specs.{Canonical.IsReadableType, Merkle.KeyOf}}
-use Rattle.pagable_pager_spec.specs.Pager.{PagerState, Represents, SameTrees, WellFormed}
+use Rattle.pagable_pager_spec.specs.Pager.{PagerState, PagerStandsFor, SameTrees, IsPagerWhole}
 use Rattle.pagable_pager_spec.specs.{Basics.{Error, HandleNumber, OptionalDataKey, ReadsTree, Tree}, Runs.HoldsSettled, World.{IsLawful, Values, key_at, row_at}, declared.handle_row.HandleRow.HandleRow}
 
 -- each cell that has a key has the Merkle key of its tree
@@ -15,7 +15,7 @@ pub record LeavesTrees {N E : Type 0} (v : Values N) (s : PagerState N E) (trees
     (r : Result ℕ Error) (s' : PagerState N E) : Type 0 where
   pub trees' : ℕ → Tree
   pub same : SameTrees s.core.last.node trees trees'
-  pub stands : Represents v s' trees'
+  pub stands : PagerStandsFor v s' trees'
   pub reads : IfOk r (λ key. ReadsTree s'.core.stored v.types key (trees' n))
   pub keys : HasMerkleKeys v s trees → HasMerkleKeys v s' trees'
   pub is_key : HasMerkleKeys v s trees → IfOk r (λ key. KeyOf v.hash v.types (trees' n) key)
@@ -25,10 +25,10 @@ pub record LeavesTrees {N E : Type 0} (v : Values N) (s : PagerState N E) (trees
 pub record KeepsTrees {N E : Type 0} (v : Values N) (s : PagerState N E) (h : HandleNumber) (r : Result ℕ Error)
     (s' : PagerState N E) : Type 0 where
   pub reads : NobodyWorks s.core → HoldsSettled v s → ((t : ℕ) → IsReadableType v.types t)
-      → (row : HandleRow) (trees : ℕ → Tree) → Represents v s trees
+      → (row : HandleRow) (trees : ℕ → Tree) → PagerStandsFor v s trees
       → row_at s.core h ≡ Some row → LeavesTrees v s trees row.node.0 r s'
 
 -- each such page-out keeps trees so
 abbrev pub ChangedLaw : {N : Type 0} → (E : Type 0) → Values N → Type 0
 ChangedLaw {N} E v = (s s' : PagerState N E) (h : HandleNumber) (r : Result ℕ Error) → PagesOutChanged v s h r s'
-    → WellFormed v s → IsLawful v → KeepsTrees v s h r s'
+    → IsPagerWhole v s → IsLawful v → KeepsTrees v s h r s'

@@ -3,8 +3,8 @@
 ghost use Rattle.std.specs.Prelude.{IsTrue, Ok, true, ◌≡◌};
 ghost use Rattle.pagable_changes.specs.{Changes.LetsGo, Keeping.KeepsStorage};
 ghost use Rattle.{pagable_core.specs.Data.blob_of, pagable_load.specs.AccessView.values_at, pagable_value_spec.specs.Blob.key_of};
-ghost use Rattle.pagable_pager.specs.View.{core_in, state_in, telling};
-ghost use Rattle.pagable_pager_spec.specs.Access.{Called};
+ghost use Rattle.pagable_pager.specs.View.{pager_core, pager_state, storage_view};
+ghost use Rattle.pagable_pager_spec.specs.Access.{MakesCall};
 ghost use Rattle.pagable_pager_spec.specs.Calls.{CloneCall, LoosenCall, NodeCall, PinCall, ReleaseCall, SetKeyCall, StoreCall};
 ghost use Rattle.pagable_pager_spec.specs.declared.handle_row.Owner.TheVariants as owners;
 
@@ -21,7 +21,7 @@ pub(crate) fn is_at<E: Env<Node: NodeSet<E>>, S: PagableStorage<E>>(
     handle: HandleNumber,
     node: NodeNumber,
 ) -> bool
-    ensures { result ≡ true → NodeCall (core_in (telling S.stored S.is_closed S.failed) pager.now) handle (Ok node) }
+    ensures { result ≡ true → NodeCall (pager_core (storage_view S.PagableStorage) pager.now) handle (Ok node) }
 {
     match pager.node_of(handle) {
         Ok(found) => found.0 == node.0,
@@ -33,14 +33,13 @@ pub(crate) fn clone<E: Env<Node: NodeSet<E>>, S: PagableStorage<E>>(
     pager: &mut Pager<E, S>,
     handle: HandleNumber,
 ) -> Result<HandleNumber, Error>
-    ensures called { Called (values_at E.Node.NodeSet E.Env E.Hash.KeyHash pager.old.environment)
-        (λ w'. CloneCall (core_in (telling S.stored S.is_closed S.failed) pager.old) owners.Caller handle result w')
-        (state_in (telling S.stored S.is_closed S.failed) pager.old)
-        (state_in (telling S.stored S.is_closed S.failed) pager.new) }
+    ensures called { MakesCall (values_at E.Node.NodeSet E.Env E.Hash.KeyHash pager.old.environment)
+        (λ w'. CloneCall (pager_core (storage_view S.PagableStorage) pager.old) owners.Caller handle result w')
+        (pager_state (storage_view S.PagableStorage) pager.old) (pager_state (storage_view S.PagableStorage) pager.new) }
     ensures keeps { KeepsStorage pager.old pager.new }
 {
     let cloned = pager.clone(handle);
-    pager.is_whole();
+    pager.assert_invariant();
     cloned
 }
 
@@ -48,14 +47,13 @@ pub(crate) fn loosen<E: Env<Node: NodeSet<E>>, S: PagableStorage<E>>(
     pager: &mut Pager<E, S>,
     handle: HandleNumber,
 ) -> Result<HandleNumber, Error>
-    ensures called { Called (values_at E.Node.NodeSet E.Env E.Hash.KeyHash pager.old.environment)
-        (λ w'. LoosenCall (core_in (telling S.stored S.is_closed S.failed) pager.old) owners.Caller handle result w')
-        (state_in (telling S.stored S.is_closed S.failed) pager.old)
-        (state_in (telling S.stored S.is_closed S.failed) pager.new) }
+    ensures called { MakesCall (values_at E.Node.NodeSet E.Env E.Hash.KeyHash pager.old.environment)
+        (λ w'. LoosenCall (pager_core (storage_view S.PagableStorage) pager.old) owners.Caller handle result w')
+        (pager_state (storage_view S.PagableStorage) pager.old) (pager_state (storage_view S.PagableStorage) pager.new) }
     ensures keeps { KeepsStorage pager.old pager.new }
 {
     let turned = pager.into_pagable(handle);
-    pager.is_whole();
+    pager.assert_invariant();
     turned
 }
 
@@ -63,14 +61,13 @@ pub(crate) fn pin<E: Env<Node: NodeSet<E>>, S: PagableStorage<E>>(
     pager: &mut Pager<E, S>,
     handle: HandleNumber,
 ) -> Result<Pinning, Error>
-    ensures called { Called (values_at E.Node.NodeSet E.Env E.Hash.KeyHash pager.old.environment)
-        (λ w'. PinCall (core_in (telling S.stored S.is_closed S.failed) pager.old) owners.Caller handle result w')
-        (state_in (telling S.stored S.is_closed S.failed) pager.old)
-        (state_in (telling S.stored S.is_closed S.failed) pager.new) }
+    ensures called { MakesCall (values_at E.Node.NodeSet E.Env E.Hash.KeyHash pager.old.environment)
+        (λ w'. PinCall (pager_core (storage_view S.PagableStorage) pager.old) owners.Caller handle result w')
+        (pager_state (storage_view S.PagableStorage) pager.old) (pager_state (storage_view S.PagableStorage) pager.new) }
     ensures keeps { KeepsStorage pager.old pager.new }
 {
     let pinned = pager.pin(handle);
-    pager.is_whole();
+    pager.assert_invariant();
     pinned
 }
 
@@ -78,14 +75,13 @@ pub(crate) fn release<E: Env<Node: NodeSet<E>>, S: PagableStorage<E>>(
     pager: &mut Pager<E, S>,
     handle: HandleNumber,
 ) -> Result<(), Error>
-    ensures called { Called (values_at E.Node.NodeSet E.Env E.Hash.KeyHash pager.old.environment)
-        (λ w'. ReleaseCall (core_in (telling S.stored S.is_closed S.failed) pager.old) owners.Caller handle result w')
-        (state_in (telling S.stored S.is_closed S.failed) pager.old)
-        (state_in (telling S.stored S.is_closed S.failed) pager.new) }
+    ensures called { MakesCall (values_at E.Node.NodeSet E.Env E.Hash.KeyHash pager.old.environment)
+        (λ w'. ReleaseCall (pager_core (storage_view S.PagableStorage) pager.old) owners.Caller handle result w')
+        (pager_state (storage_view S.PagableStorage) pager.old) (pager_state (storage_view S.PagableStorage) pager.new) }
     ensures keeps { KeepsStorage pager.old pager.new }
 {
     let released = pager.release(handle);
-    pager.is_whole();
+    pager.assert_invariant();
     released
 }
 
@@ -94,15 +90,13 @@ pub(crate) fn set_key<E: Env<Node: NodeSet<E>>, S: PagableStorage<E>>(
     handle: HandleNumber,
     key: DataKey,
 ) -> Result<(), Error>
-    ensures called { Called (values_at E.Node.NodeSet E.Env E.Hash.KeyHash pager.old.environment)
-        (λ w'. SetKeyCall (core_in (telling S.stored S.is_closed S.failed) pager.old) owners.Caller handle key result
-        w')
-        (state_in (telling S.stored S.is_closed S.failed) pager.old)
-        (state_in (telling S.stored S.is_closed S.failed) pager.new) }
+    ensures called { MakesCall (values_at E.Node.NodeSet E.Env E.Hash.KeyHash pager.old.environment)
+        (λ w'. SetKeyCall (pager_core (storage_view S.PagableStorage) pager.old) owners.Caller handle key result w')
+        (pager_state (storage_view S.PagableStorage) pager.old) (pager_state (storage_view S.PagableStorage) pager.new) }
     ensures keeps { KeepsStorage pager.old pager.new }
 {
     let set = pager.set_data_key(handle, key);
-    pager.is_whole();
+    pager.assert_invariant();
     set
 }
 
@@ -112,16 +106,15 @@ pub(crate) fn store<E: Env<Node: NodeSet<E>>, S: PagableStorage<E>>(
     blob: PagableData,
 ) -> Result<DataKey, Error>
     ensures called { IsTrue (S.is_honest pager.new.storage)
-        → Called (values_at E.Node.NodeSet E.Env E.Hash.KeyHash pager.old.environment)
-        (λ w'. StoreCall (key_of E.Hash.digest) (core_in (telling S.stored S.is_closed S.failed) pager.old)
+        → MakesCall (values_at E.Node.NodeSet E.Env E.Hash.KeyHash pager.old.environment)
+        (λ w'. StoreCall (key_of E.Hash.digest) (pager_core (storage_view S.PagableStorage) pager.old)
         (blob_of blob) result w')
-        (state_in (telling S.stored S.is_closed S.failed) pager.old)
-        (state_in (telling S.stored S.is_closed S.failed) pager.new) }
+        (pager_state (storage_view S.PagableStorage) pager.old) (pager_state (storage_view S.PagableStorage) pager.new) }
     ensures honest { IsTrue (S.is_honest pager.new.storage) → IsTrue (S.is_honest pager.old.storage) }
     ensures environment { pager.new.environment ≡ pager.old.environment }
 {
     let stored = pager.store(alloc, blob);
-    pager.is_whole();
+    pager.assert_invariant();
     stored
 }
 
@@ -133,8 +126,7 @@ pub(crate) fn let_go<E: Env<Node: NodeSet<E>>, S: PagableStorage<E>>(
     pin: HandleNumber,
 )
     ensures lets { LetsGo (values_at E.Node.NodeSet E.Env E.Hash.KeyHash pager.old.environment) through pin
-        (state_in (telling S.stored S.is_closed S.failed) pager.old)
-        (state_in (telling S.stored S.is_closed S.failed) pager.new) }
+        (pager_state (storage_view S.PagableStorage) pager.old) (pager_state (storage_view S.PagableStorage) pager.new) }
     ensures keeps { KeepsStorage pager.old pager.new }
 {
     let _unpinned = release(pager, pin);

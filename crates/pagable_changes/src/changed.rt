@@ -2,7 +2,7 @@
 
 ghost use Rattle.std.specs.Prelude.{IfOk, IsTrue, ◌≡◌};
 ghost use Rattle.{pagable_changes.specs.{Changes.{IsRoot, PagesOutChanged, PagesOutKeyless}, Keys.KeepsTrees}, pagable_load.specs.AccessView.values_at};
-ghost use Rattle.pagable_pager.specs.View.{core_in, state_in, telling};
+ghost use Rattle.pagable_pager.specs.View.{pager_core, pager_state, storage_view};
 
 use crate::nodes::enter;
 use crate::turns::walk;
@@ -17,17 +17,15 @@ fn root_of<E: Env<Node: NodeSet<E>>, S: PagableStorage<E>>(
     pager: &Pager<E, S>,
     handle: HandleNumber,
 ) -> Result<ArcRef, Error>
-    ensures { IfOk result (λ r. IsRoot (core_in (telling S.stored S.is_closed S.failed) pager.now) handle r) }
+    ensures { IfOk result (λ r. IsRoot (pager_core (storage_view S.PagableStorage) pager.now) handle r) }
 {
     let node = pager.node_of(handle)?;
     let Some(node_type) = pager.node_live(node) else {
         return Err(Error::NoSuchHandle);
     };
-    let number = 3 * (node_type as u64) + 1;
-    if number > u32::MAX as u64 {
+    let Some(kind) = Kind::loose_of(node_type) else {
         return Err(Error::WrongKind);
-    }
-    let kind = Kind(number as u32);
+    };
     Ok(ArcRef { kind, node, handle })
 }
 
@@ -39,8 +37,8 @@ fn page_out_keyless<E: Env<Node: NodeSet<E>>, S: PagableStorage<E>>(
 ) -> Result<DataKey, Error>
     ensures pages { IsTrue (S.is_honest pager.new.storage)
         → PagesOutKeyless (values_at E.Node.NodeSet E.Env E.Hash.KeyHash pager.old.environment)
-        (state_in (telling S.stored S.is_closed S.failed) pager.old) handle result
-        (state_in (telling S.stored S.is_closed S.failed) pager.new) }
+        (pager_state (storage_view S.PagableStorage) pager.old) handle result
+        (pager_state (storage_view S.PagableStorage) pager.new) }
     ensures honest { IsTrue (S.is_honest pager.new.storage) → IsTrue (S.is_honest pager.old.storage) }
     ensures environment { pager.new.environment ≡ pager.old.environment }
 {
@@ -63,8 +61,8 @@ fn page_out_root<E: Env<Node: NodeSet<E>>, S: PagableStorage<E>>(
 ) -> Result<DataKey, Error>
     ensures pages { IsTrue (S.is_honest pager.new.storage)
         → PagesOutChanged (values_at E.Node.NodeSet E.Env E.Hash.KeyHash pager.old.environment)
-        (state_in (telling S.stored S.is_closed S.failed) pager.old) handle result
-        (state_in (telling S.stored S.is_closed S.failed) pager.new) }
+        (pager_state (storage_view S.PagableStorage) pager.old) handle result
+        (pager_state (storage_view S.PagableStorage) pager.new) }
     ensures honest { IsTrue (S.is_honest pager.new.storage) → IsTrue (S.is_honest pager.old.storage) }
     ensures environment { pager.new.environment ≡ pager.old.environment }
 {
@@ -91,8 +89,8 @@ fn page_out_root<E: Env<Node: NodeSet<E>>, S: PagableStorage<E>>(
 ///
 /// - `NoSuchHandle` if no live handle has this number.
 /// - `WrongMode` if the handle is Shared.
-/// - `TooDeep` if a path of references that are read together is longer than 128, or if a cell
-///   without a key isn't older than what refers to it (so also if it refers to itself).
+/// - `TooDeep` if a path of Pinned and Shared references is longer than 128, or if a loose reference
+///   leads to a cell without a key that was inserted after the value that holds it, or with it.
 /// - as `Pager::clone`, `Pager::pin`, `Pager::store` and the writing of a value.
 pub fn page_out_changed<E: Env<Node: NodeSet<E>>, S: PagableStorage<E>>(
     alloc: Global,
@@ -101,15 +99,15 @@ pub fn page_out_changed<E: Env<Node: NodeSet<E>>, S: PagableStorage<E>>(
 ) -> Result<DataKey, Error>
     ensures pages { IsTrue (S.is_honest pager.new.storage)
         → PagesOutChanged (values_at E.Node.NodeSet E.Env E.Hash.KeyHash pager.old.environment)
-        (state_in (telling S.stored S.is_closed S.failed) pager.old) handle result
-        (state_in (telling S.stored S.is_closed S.failed) pager.new) }
+        (pager_state (storage_view S.PagableStorage) pager.old) handle result
+        (pager_state (storage_view S.PagableStorage) pager.new) }
     ensures reads { IsTrue (S.is_honest pager.new.storage)
         → KeepsTrees (values_at E.Node.NodeSet E.Env E.Hash.KeyHash pager.old.environment)
-        (state_in (telling S.stored S.is_closed S.failed) pager.old) handle result
-        (state_in (telling S.stored S.is_closed S.failed) pager.new) }
+        (pager_state (storage_view S.PagableStorage) pager.old) handle result
+        (pager_state (storage_view S.PagableStorage) pager.new) }
     ensures honest { IsTrue (S.is_honest pager.new.storage) → IsTrue (S.is_honest pager.old.storage) }
     ensures environment { pager.new.environment ≡ pager.old.environment }
 {
-    pager.is_whole();
+    pager.assert_invariant();
     page_out_root(alloc, pager, handle)
 }

@@ -2,7 +2,7 @@
 
 ghost use Rattle.std.specs.Prelude.{[], IfOk, Ok, OnOk, slice_get, ◌++◌, ◌∷◌, ◌≡◌};
 ghost use Rattle.{pagable_changes.specs.Changes.{AllHave, IsFound, TakesKey}, pagable_pager_spec.specs.Calls.{KeyCall, NodeCall}};
-ghost use Rattle.pagable_pager.specs.View.{core_in, telling};
+ghost use Rattle.pagable_pager.specs.View.{pager_core, storage_view};
 ghost use Rattle.pagable_tables.specs.NumberTable.{row_by};
 
 use crate::calls::is_at;
@@ -38,10 +38,10 @@ fn cell_key<E: Env<Node: NodeSet<E>>, S: PagableStorage<E>>(
     pager: &Pager<E, S>,
     reference: ArcRef,
 ) -> Result<OptionalDataKey, Error>
-    ensures at { IfOk result (λ key. NodeCall (core_in (telling S.stored S.is_closed S.failed) pager.now)
-        reference.handle (Ok reference.node)) }
-    ensures key { IfOk result (λ key. KeyCall (core_in (telling S.stored S.is_closed S.failed) pager.now)
-        reference.handle (Ok key)) }
+    ensures at { IfOk result (λ key. NodeCall (pager_core (storage_view S.PagableStorage) pager.now) reference.handle
+        (Ok reference.node)) }
+    ensures key { IfOk result (λ key. KeyCall (pager_core (storage_view S.PagableStorage) pager.now) reference.handle
+        (Ok key)) }
 {
     if !is_at(pager, reference.handle, reference.node) {
         return Err(Error::NoSuchHandle);
@@ -60,9 +60,10 @@ pub(crate) fn find<E: Env<Node: NodeSet<E>>, S: PagableStorage<E>>(
     reference: ArcRef,
 ) -> Result<Option<FoundKey>, Error>
     ensures { IfOk result (λ key. IsFound (λ n. row_by found.now n)
-        (core_in (telling S.stored S.is_closed S.failed) pager.now) reference key) }
+        (pager_core (storage_view S.PagableStorage) pager.now)
+        reference key) }
 {
-    if reference.kind.0 % 3 != 1 {
+    if !reference.kind.is_loose() {
         return Ok(found_at(found, reference.node));
     }
     let keyed = match cell_key(pager, reference) {
@@ -78,7 +79,7 @@ pub(crate) fn find<E: Env<Node: NodeSet<E>>, S: PagableStorage<E>>(
 // Returns the height that a reference of this kind gives to its holder, if its target has this
 // height.
 fn height_above(reference: ArcRef, height: u64) -> u64 {
-    if reference.kind.0 % 3 == 1 {
+    if reference.kind.is_loose() {
         0
     } else {
         height.saturating_add(1)
@@ -109,9 +110,8 @@ fn take_key<E: Env<Node: NodeSet<E>>, S: PagableStorage<E>>(
     at: usize,
     keys: &mut Vec<DataKey>,
 ) -> Result<u64, Error>
-    ensures { OnOk result (TakesKey (λ n. row_by found.now n)
-        (core_in (telling S.stored S.is_closed S.failed) pager.now) references.now.items at keys.old.items
-        keys.new.items) }
+    ensures { OnOk result (TakesKey (λ n. row_by found.now n) (pager_core (storage_view S.PagableStorage) pager.now)
+        references.now.items at keys.old.items keys.new.items) }
 {
     let Some(reference) = reference_at(references, at) else {
         return Err(Error::TooDeep);
@@ -137,8 +137,8 @@ pub(crate) fn collect_keys<E: Env<Node: NodeSet<E>>, S: PagableStorage<E>>(
     found: &FoundKeys,
     references: &Vec<ArcRef>,
 ) -> Result<(Vec<DataKey>, u64), Error>
-    ensures { IfOk result (λ r. AllHave (λ n. row_by found.now n)
-        (core_in (telling S.stored S.is_closed S.failed) pager.now) references.now.items r.0.items) }
+    ensures { IfOk result (λ r. AllHave (λ n. row_by found.now n) (pager_core (storage_view S.PagableStorage) pager.now)
+        references.now.items r.0.items) }
 {
     let mut keys = Vec::with_capacity(alloc, references.len())?;
     let mut height = 0;

@@ -3,7 +3,7 @@
 ghost use Rattle.std.specs.Prelude.{IfErr, IfOk, true, ◌≡◌};
 ghost use Rattle.pagable_changes.specs.Changes.{EnterFails, Enters, IsFormOf, PinsLoosely, TakeFails, Takes, Writes, WritesTaken, written_of};
 ghost use Rattle.{pagable_changes.specs.Keeping.KeepsStorage, pagable_load.specs.AccessView.values_at};
-ghost use Rattle.{pagable_pager.specs.View.{state_in, telling}, pagable_pager_spec.specs.Basics.is_loose_kind};
+ghost use Rattle.{pagable_pager.specs.View.{pager_state, storage_view}, pagable_pager_spec.specs.Basics.is_loose_kind};
 
 use crate::calls::{clone, is_at, let_go, loosen, pin, release};
 use pagable_codec::{Env, NodeSet};
@@ -38,8 +38,8 @@ fn pin_loosely<E: Env<Node: NodeSet<E>>, S: PagableStorage<E>>(
     handle: HandleNumber,
 ) -> Result<HandleNumber, Error>
     ensures pins { PinsLoosely (values_at E.Node.NodeSet E.Env E.Hash.KeyHash pager.old.environment) handle
-        (state_in (telling S.stored S.is_closed S.failed) pager.old) result
-        (state_in (telling S.stored S.is_closed S.failed) pager.new) }
+        (pager_state (storage_view S.PagableStorage) pager.old) result
+        (pager_state (storage_view S.PagableStorage) pager.new) }
     ensures keeps { KeepsStorage pager.old pager.new }
 {
     match pin(pager, handle) {
@@ -58,12 +58,12 @@ fn take_loose<E: Env<Node: NodeSet<E>>, S: PagableStorage<E>>(
     requires loose { is_loose_kind reference.kind.0 ≡ true }
     ensures takes { IfOk result (λ t. Takes (values_at E.Node.NodeSet E.Env E.Hash.KeyHash pager.old.environment)
         reference
-        (state_in (telling S.stored S.is_closed S.failed) pager.old) t.0 t.1
-        (state_in (telling S.stored S.is_closed S.failed) pager.new)) }
+        (pager_state (storage_view S.PagableStorage) pager.old) t.0 t.1
+        (pager_state (storage_view S.PagableStorage) pager.new)) }
     ensures fails { IfErr result (λ e. TakeFails (values_at E.Node.NodeSet E.Env E.Hash.KeyHash pager.old.environment)
         reference
-        (state_in (telling S.stored S.is_closed S.failed) pager.old) e
-        (state_in (telling S.stored S.is_closed S.failed) pager.new)) }
+        (pager_state (storage_view S.PagableStorage) pager.old) e
+        (pager_state (storage_view S.PagableStorage) pager.new)) }
     ensures keeps { KeepsStorage pager.old pager.new }
 {
     let through = clone(pager, reference.handle)?;
@@ -84,15 +84,15 @@ fn take<E: Env<Node: NodeSet<E>>, S: PagableStorage<E>>(
 ) -> Result<(HandleNumber, HandleNumber), Error>
     ensures takes { IfOk result (λ t. Takes (values_at E.Node.NodeSet E.Env E.Hash.KeyHash pager.old.environment)
         reference
-        (state_in (telling S.stored S.is_closed S.failed) pager.old) t.0 t.1
-        (state_in (telling S.stored S.is_closed S.failed) pager.new)) }
+        (pager_state (storage_view S.PagableStorage) pager.old) t.0 t.1
+        (pager_state (storage_view S.PagableStorage) pager.new)) }
     ensures fails { IfErr result (λ e. TakeFails (values_at E.Node.NodeSet E.Env E.Hash.KeyHash pager.old.environment)
         reference
-        (state_in (telling S.stored S.is_closed S.failed) pager.old) e
-        (state_in (telling S.stored S.is_closed S.failed) pager.new)) }
+        (pager_state (storage_view S.PagableStorage) pager.old) e
+        (pager_state (storage_view S.PagableStorage) pager.new)) }
     ensures keeps { KeepsStorage pager.old pager.new }
 {
-    if reference.kind.0 % 3 == 1 {
+    if reference.kind.is_loose() {
         return take_loose(pager, reference);
     }
     match clone(pager, reference.handle) {
@@ -125,11 +125,11 @@ fn write_pinned<E: Env<Node: NodeSet<E>>, S: PagableStorage<E>>(
     pin: HandleNumber,
 ) -> Result<SerializedData, Error>
     ensures { IfOk result (λ d. Writes (values_at E.Node.NodeSet E.Env E.Hash.KeyHash pager.now.environment)
-        (state_in (telling S.stored S.is_closed S.failed) pager.now) reference pin (written_of d)) }
+        (pager_state (storage_view S.PagableStorage) pager.now) reference pin (written_of d)) }
 {
     match pager.value(pin) {
         Ok(Some(node)) => {
-            if node.node_type() != reference.kind.0 / 3 {
+            if node.node_type() != reference.kind.node_type() {
                 return Err(Error::WrongKind);
             }
             write(pager.env(), pager.session_context(), alloc, node)
@@ -149,7 +149,7 @@ fn write_taken<E: Env<Node: NodeSet<E>>, S: PagableStorage<E>>(
     pin: HandleNumber,
 ) -> Result<SerializedData, Error>
     ensures { IfOk result (λ d. WritesTaken (values_at E.Node.NodeSet E.Env E.Hash.KeyHash pager.now.environment)
-        (state_in (telling S.stored S.is_closed S.failed) pager.now) reference through pin (written_of d)) }
+        (pager_state (storage_view S.PagableStorage) pager.now) reference through pin (written_of d)) }
 {
     if !is_at(pager, through, reference.node) {
         return Err(Error::NoSuchHandle);
@@ -169,12 +169,12 @@ pub(crate) fn enter<E: Env<Node: NodeSet<E>>, S: PagableStorage<E>>(
 ) -> Result<OpenNode, Error>
     ensures enters { IfOk result (λ o. Enters (values_at E.Node.NodeSet E.Env E.Hash.KeyHash pager.old.environment)
         reference
-        (state_in (telling S.stored S.is_closed S.failed) pager.old) o
-        (state_in (telling S.stored S.is_closed S.failed) pager.new)) }
+        (pager_state (storage_view S.PagableStorage) pager.old) o
+        (pager_state (storage_view S.PagableStorage) pager.new)) }
     ensures fails { IfErr result (λ e. EnterFails (values_at E.Node.NodeSet E.Env E.Hash.KeyHash pager.old.environment)
         reference
-        (state_in (telling S.stored S.is_closed S.failed) pager.old) e
-        (state_in (telling S.stored S.is_closed S.failed) pager.new)) }
+        (pager_state (storage_view S.PagableStorage) pager.old) e
+        (pager_state (storage_view S.PagableStorage) pager.new)) }
     ensures keeps { KeepsStorage pager.old pager.new }
 {
     let (through, pin) = match take(pager, reference) {

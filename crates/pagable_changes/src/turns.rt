@@ -1,9 +1,9 @@
 //! The walk of a page-out over the nodes that have no key, turn by turn.
 
 ghost use Rattle.std.specs.Prelude.{[], IfErr, IfNone, IfOk, IfSome, IsSome, IsTrue, OnErr, OnOk, Some, slice_get, ◌++◌, ◌∷◌, ◌≡◌};
-ghost use Rattle.pagable_changes.specs.Changes.{GivesUp, GoesDown, GoesNowhere, IsOver, IsUnset, LeaveFails, Leaves, SetsFor, Turn, TurnFails, Turned, TurnsFail, TurnsOut, Walks, stage};
+ghost use Rattle.pagable_changes.specs.Changes.{ReleasesPath, GoesDown, GoesNowhere, IsOver, SetKeyFails, FinishFails, FinishesOpenNode, SetsFor, Turn, TurnFails, Turned, TurnsFail, TurnsOut, Walks, stage};
 ghost use Rattle.{pagable_changes.specs.Keeping.KeepsStorage, pagable_core.specs.Data.blob_of, pagable_load.specs.AccessView.values_at};
-ghost use Rattle.pagable_pager.specs.View.{core_in, state_in, telling};
+ghost use Rattle.pagable_pager.specs.View.{pager_core, pager_state, storage_view};
 ghost use Rattle.pagable_tables.specs.NumberTable.{place_at, row_by};
 
 use crate::calls::{let_go, set_key, store};
@@ -25,8 +25,8 @@ fn blob_of_node<E: Env<Node: NodeSet<E>>, S: PagableStorage<E>>(
     found: &FoundKeys,
     node: &OpenNode,
 ) -> Result<(PagableData, u64), Error>
-    ensures { IfOk result (λ r. IsOver (λ n. row_by found.now n)
-        (core_in (telling S.stored S.is_closed S.failed) pager.now) node.now (blob_of r.0)) }
+    ensures { IfOk result (λ r. IsOver (λ n. row_by found.now n) (pager_core (storage_view S.PagableStorage) pager.now)
+        node.now (blob_of r.0)) }
 {
     let (arcs, height) = collect_keys(alloc, pager, found, &node.written.arcs)?;
     if height > LONGEST_PATH || node.place > LONGEST_PATH - height {
@@ -47,14 +47,15 @@ fn set_for<E: Env<Node: NodeSet<E>>, S: PagableStorage<E>>(
     requires ready { IsSome (place_at found.old node.now.reference.node.0) }
     ensures sets { OnOk result (SetsFor (values_at E.Node.NodeSet E.Env E.Hash.KeyHash pager.old.environment)
         (λ n. row_by found.old n) node.now known.key
-        (state_in (telling S.stored S.is_closed S.failed) pager.old) (λ n. row_by found.new n)
-        (state_in (telling S.stored S.is_closed S.failed) pager.new)) }
-    ensures refused { IfErr result (λ e. IsUnset (values_at E.Node.NodeSet E.Env E.Hash.KeyHash pager.old.environment)
-        node.now known.key (state_in (telling S.stored S.is_closed S.failed) pager.old) e
-        (state_in (telling S.stored S.is_closed S.failed) pager.new)) }
+        (pager_state (storage_view S.PagableStorage) pager.old) (λ n. row_by found.new n)
+        (pager_state (storage_view S.PagableStorage) pager.new)) }
+    ensures refused { IfErr result (λ e. SetKeyFails (values_at E.Node.NodeSet E.Env E.Hash.KeyHash
+        pager.old.environment)
+        node.now known.key (pager_state (storage_view S.PagableStorage) pager.old) e
+        (pager_state (storage_view S.PagableStorage) pager.new)) }
     ensures keeps { KeepsStorage pager.old pager.new }
 {
-    if node.reference.kind.0 % 3 == 1 {
+    if node.reference.kind.is_loose() {
         return set_key(pager, node.through, known.key);
     }
     found.put(node.reference.node.0, known);
@@ -62,22 +63,22 @@ fn set_for<E: Env<Node: NodeSet<E>>, S: PagableStorage<E>>(
 }
 
 // Stores a node whose references all have keys, sets its key, and releases its handles.
-fn leave<E: Env<Node: NodeSet<E>>, S: PagableStorage<E>>(
+fn finish_open_node<E: Env<Node: NodeSet<E>>, S: PagableStorage<E>>(
     alloc: Global,
     pager: &mut Pager<E, S>,
     found: &mut FoundKeys,
     node: &OpenNode,
 ) -> Result<DataKey, Error>
     ensures leaves { IsTrue (S.is_honest pager.new.storage)
-        → IfOk result (λ key. Leaves (values_at E.Node.NodeSet E.Env E.Hash.KeyHash pager.old.environment)
+        → IfOk result (λ key. FinishesOpenNode (values_at E.Node.NodeSet E.Env E.Hash.KeyHash pager.old.environment)
         (λ n. row_by found.old n)
-        (state_in (telling S.stored S.is_closed S.failed) pager.old) node.now key (λ n. row_by found.new n)
-        (state_in (telling S.stored S.is_closed S.failed) pager.new)) }
+        (pager_state (storage_view S.PagableStorage) pager.old) node.now key (λ n. row_by found.new n)
+        (pager_state (storage_view S.PagableStorage) pager.new)) }
     ensures fails { IsTrue (S.is_honest pager.new.storage)
-        → IfErr result (λ e. LeaveFails (values_at E.Node.NodeSet E.Env E.Hash.KeyHash pager.old.environment)
+        → IfErr result (λ e. FinishFails (values_at E.Node.NodeSet E.Env E.Hash.KeyHash pager.old.environment)
         (λ n. row_by found.old n)
-        (state_in (telling S.stored S.is_closed S.failed) pager.old) node.now e
-        (state_in (telling S.stored S.is_closed S.failed) pager.new)) }
+        (pager_state (storage_view S.PagableStorage) pager.old) node.now e
+        (pager_state (storage_view S.PagableStorage) pager.new)) }
     ensures honest { IsTrue (S.is_honest pager.new.storage) → IsTrue (S.is_honest pager.old.storage) }
     ensures environment { pager.new.environment ≡ pager.old.environment }
 {
@@ -101,7 +102,7 @@ fn leave<E: Env<Node: NodeSet<E>>, S: PagableStorage<E>>(
 // Returns the depth of the target of a node's reference: 0 through a loose reference, else one more
 // than the node's.
 fn place_below(node: &OpenNode, reference: ArcRef) -> u64 {
-    if reference.kind.0 % 3 == 1 {
+    if reference.kind.is_loose() {
         0
     } else {
         node.place.saturating_add(1)
@@ -111,7 +112,7 @@ fn place_below(node: &OpenNode, reference: ArcRef) -> u64 {
 // Returns whether a reference's target is too deep, or whether the reference is a loose one to a
 // node that isn't older: a cell without a key was made before what refers to it.
 fn is_too_deep(node: &OpenNode, reference: ArcRef, place: u64) -> bool {
-    if reference.kind.0 % 3 == 1 {
+    if reference.kind.is_loose() {
         reference.node.0 >= node.reference.node.0
     } else {
         place > LONGEST_PATH
@@ -127,11 +128,11 @@ fn go_down<E: Env<Node: NodeSet<E>>, S: PagableStorage<E>>(
     reference: ArcRef,
 ) -> Result<(), Error>
     ensures goes { OnOk result (GoesDown (values_at E.Node.NodeSet E.Env E.Hash.KeyHash pager.old.environment) reference
-        path.old.items node.old (state_in (telling S.stored S.is_closed S.failed) pager.old) path.new.items node.new
-        (state_in (telling S.stored S.is_closed S.failed) pager.new)) }
+        path.old.items node.old (pager_state (storage_view S.PagableStorage) pager.old) path.new.items node.new
+        (pager_state (storage_view S.PagableStorage) pager.new)) }
     ensures fails { IfErr result (λ e. GoesNowhere (values_at E.Node.NodeSet E.Env E.Hash.KeyHash pager.old.environment)
-        reference (state_in (telling S.stored S.is_closed S.failed) pager.old) e
-        (state_in (telling S.stored S.is_closed S.failed) pager.new)) }
+        reference (pager_state (storage_view S.PagableStorage) pager.old) e
+        (pager_state (storage_view S.PagableStorage) pager.new)) }
     ensures stays { OnErr result ((path.new.items ≡ path.old.items) × (node.new ≡ node.old)) }
     ensures keeps { KeepsStorage pager.old pager.new }
 {
@@ -167,13 +168,13 @@ fn go_on<E: Env<Node: NodeSet<E>>, S: PagableStorage<E>>(
     requires next { Some reference ≡ slice_get node.old.written.arcs.items node.old.keyed }
     ensures turns { OnOk result (Turn (values_at E.Node.NodeSet E.Env E.Hash.KeyHash pager.old.environment)
         (stage path.old.items node.old (λ n. row_by found.now n)
-        (state_in (telling S.stored S.is_closed S.failed) pager.old))
+        (pager_state (storage_view S.PagableStorage) pager.old))
         (stage path.new.items node.new (λ n. row_by found.now n)
-        (state_in (telling S.stored S.is_closed S.failed) pager.new))) }
+        (pager_state (storage_view S.PagableStorage) pager.new))) }
     ensures fails { IfErr result (λ e. TurnFails (values_at E.Node.NodeSet E.Env E.Hash.KeyHash pager.old.environment)
         (stage path.old.items node.old (λ n. row_by found.now n)
-        (state_in (telling S.stored S.is_closed S.failed) pager.old))
-        e (state_in (telling S.stored S.is_closed S.failed) pager.new)) }
+        (pager_state (storage_view S.PagableStorage) pager.old))
+        e (pager_state (storage_view S.PagableStorage) pager.new)) }
     ensures stays { OnErr result ((path.new.items ≡ path.old.items) × (node.new ≡ node.old)) }
     ensures keeps { KeepsStorage pager.old pager.new }
 {
@@ -213,19 +214,19 @@ fn go_up<E: Env<Node: NodeSet<E>>, S: PagableStorage<E>>(
     ensures turns { IsTrue (S.is_honest pager.new.storage)
         → IfOk result (λ key. Turned (values_at E.Node.NodeSet E.Env E.Hash.KeyHash pager.old.environment)
         (stage path.old.items node.old (λ n. row_by found.old n)
-        (state_in (telling S.stored S.is_closed S.failed) pager.old))
+        (pager_state (storage_view S.PagableStorage) pager.old))
         key (stage path.new.items node.new (λ n. row_by found.new n)
-        (state_in (telling S.stored S.is_closed S.failed) pager.new))) }
+        (pager_state (storage_view S.PagableStorage) pager.new))) }
     ensures fails { IsTrue (S.is_honest pager.new.storage)
         → IfErr result (λ e. TurnFails (values_at E.Node.NodeSet E.Env E.Hash.KeyHash pager.old.environment)
         (stage path.old.items node.old (λ n. row_by found.old n)
-        (state_in (telling S.stored S.is_closed S.failed) pager.old))
-        e (state_in (telling S.stored S.is_closed S.failed) pager.new)) }
+        (pager_state (storage_view S.PagableStorage) pager.old))
+        e (pager_state (storage_view S.PagableStorage) pager.new)) }
     ensures stays { OnErr result ((path.new.items ≡ path.old.items) × (node.new ≡ node.old)) }
     ensures honest { IsTrue (S.is_honest pager.new.storage) → IsTrue (S.is_honest pager.old.storage) }
     ensures environment { pager.new.environment ≡ pager.old.environment }
 {
-    let key = match leave(alloc, pager, found, node) {
+    let key = match finish_open_node(alloc, pager, found, node) {
         Ok(key) => key,
         Err(e) => return Err(e),
     };
@@ -250,14 +251,14 @@ fn turn<E: Env<Node: NodeSet<E>>, S: PagableStorage<E>>(
     ensures turns { IsTrue (S.is_honest pager.new.storage)
         → IfOk result (λ key. Turned (values_at E.Node.NodeSet E.Env E.Hash.KeyHash pager.old.environment)
         (stage path.old.items node.old (λ n. row_by found.old n)
-        (state_in (telling S.stored S.is_closed S.failed) pager.old))
+        (pager_state (storage_view S.PagableStorage) pager.old))
         key (stage path.new.items node.new (λ n. row_by found.new n)
-        (state_in (telling S.stored S.is_closed S.failed) pager.new))) }
+        (pager_state (storage_view S.PagableStorage) pager.new))) }
     ensures fails { IsTrue (S.is_honest pager.new.storage)
         → IfErr result (λ e. TurnFails (values_at E.Node.NodeSet E.Env E.Hash.KeyHash pager.old.environment)
         (stage path.old.items node.old (λ n. row_by found.old n)
-        (state_in (telling S.stored S.is_closed S.failed) pager.old))
-        e (state_in (telling S.stored S.is_closed S.failed) pager.new)) }
+        (pager_state (storage_view S.PagableStorage) pager.old))
+        e (pager_state (storage_view S.PagableStorage) pager.new)) }
     ensures stays { OnErr result ((path.new.items ≡ path.old.items) × (node.new ≡ node.old)) }
     ensures honest { IsTrue (S.is_honest pager.new.storage) → IsTrue (S.is_honest pager.old.storage) }
     ensures environment { pager.new.environment ≡ pager.old.environment }
@@ -282,14 +283,14 @@ fn make_turns<E: Env<Node: NodeSet<E>>, S: PagableStorage<E>>(
     ensures turns { IsTrue (S.is_honest pager.new.storage)
         → IfOk result (λ key. TurnsOut (values_at E.Node.NodeSet E.Env E.Hash.KeyHash pager.old.environment)
         (stage path.old.items node.old (λ n. row_by found.old n)
-        (state_in (telling S.stored S.is_closed S.failed) pager.old))
+        (pager_state (storage_view S.PagableStorage) pager.old))
         key (stage path.new.items node.new (λ n. row_by found.new n)
-        (state_in (telling S.stored S.is_closed S.failed) pager.new))) }
+        (pager_state (storage_view S.PagableStorage) pager.new))) }
     ensures fails { IsTrue (S.is_honest pager.new.storage)
         → IfErr result (λ e. TurnsFail (values_at E.Node.NodeSet E.Env E.Hash.KeyHash pager.old.environment)
         (stage path.old.items node.old (λ n. row_by found.old n)
-        (state_in (telling S.stored S.is_closed S.failed) pager.old))
-        e path.new.items node.new (state_in (telling S.stored S.is_closed S.failed) pager.new)) }
+        (pager_state (storage_view S.PagableStorage) pager.old))
+        e path.new.items node.new (pager_state (storage_view S.PagableStorage) pager.new)) }
     ensures honest { IsTrue (S.is_honest pager.new.storage) → IsTrue (S.is_honest pager.old.storage) }
     ensures environment { pager.new.environment ≡ pager.old.environment }
 {
@@ -309,13 +310,12 @@ fn make_turns<E: Env<Node: NodeSet<E>>, S: PagableStorage<E>>(
 }
 
 // Releases the handles of all nodes on the path.
-fn give_up<E: Env<Node: NodeSet<E>>, S: PagableStorage<E>>(
+fn release_path<E: Env<Node: NodeSet<E>>, S: PagableStorage<E>>(
     pager: &mut Pager<E, S>,
     path: &mut Vec<OpenNode>,
 )
-    ensures gives { GivesUp (values_at E.Node.NodeSet E.Env E.Hash.KeyHash pager.old.environment) path.old.items
-        (state_in (telling S.stored S.is_closed S.failed) pager.old)
-        (state_in (telling S.stored S.is_closed S.failed) pager.new) }
+    ensures gives { ReleasesPath (values_at E.Node.NodeSet E.Env E.Hash.KeyHash pager.old.environment) path.old.items
+        (pager_state (storage_view S.PagableStorage) pager.old) (pager_state (storage_view S.PagableStorage) pager.new) }
     ensures keeps { KeepsStorage pager.old pager.new }
 {
     while let Some(node) = pop_node(path) {
@@ -331,8 +331,8 @@ pub(crate) fn walk<E: Env<Node: NodeSet<E>>, S: PagableStorage<E>>(
 ) -> Result<DataKey, Error>
     ensures walks { IsTrue (S.is_honest pager.new.storage)
         → Walks (values_at E.Node.NodeSet E.Env E.Hash.KeyHash pager.old.environment) first
-        (state_in (telling S.stored S.is_closed S.failed) pager.old) result
-        (state_in (telling S.stored S.is_closed S.failed) pager.new) }
+        (pager_state (storage_view S.PagableStorage) pager.old) result
+        (pager_state (storage_view S.PagableStorage) pager.new) }
     ensures honest { IsTrue (S.is_honest pager.new.storage) → IsTrue (S.is_honest pager.old.storage) }
     ensures environment { pager.new.environment ≡ pager.old.environment }
 {
@@ -343,7 +343,7 @@ pub(crate) fn walk<E: Env<Node: NodeSet<E>>, S: PagableStorage<E>>(
         Ok(key) => Ok(key),
         Err(e) => {
             let_go(pager, node.through, node.pin);
-            give_up(pager, &mut path);
+            release_path(pager, &mut path);
             Err(e)
         }
     }

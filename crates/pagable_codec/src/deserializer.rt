@@ -1,7 +1,7 @@
 //! What values are read from.
 
 ghost use Rattle.std.specs.{Arc.arc_value, Borrow.{Lends, sem}, Prelude.{◌≡◌, ◌≤◌, ◌<◌, ◌+◌, ◌-◌, ℕ, Option, Some, drop, option_and_then, option_map, OnOk, IfOk, IfErr}};
-ghost use Rattle.pagable_value_spec.specs.{Outcomes.{Gives, memory, never}, Meaning.reference as meaning_of, Reading.{Rest, reference_at, deepest}, Cursor.{Answer, Standing, rest_at, answer_at, IsLent, IsWithin}};
+ghost use Rattle.pagable_value_spec.specs.{Outcomes.{MatchesReading, memory, no_own_causes}, Meaning.reference as meaning_of, Reading.{Rest, reference_at, deepest}, Cursor.{Answer, InputState, rest_at, answer_at, IsLent, IsWithin}};
 ghost use Rattle.pagable_value_spec.specs.{Cursor.MovesOn, Progress.{left, GoesOn}, declared.numbers.ArcRef.ArcRef as Reference};
 
 use crate::env::Env;
@@ -18,7 +18,7 @@ pub trait PagableDeserializer<E: Env> {
     type Reader: Reader;
 
     // All that it was given, the nodes that references lend, and how much it has read.
-    ghost standing: { Self → Standing E.Node };
+    ghost input_state: { Self → InputState E.Node };
 
     // What it hasn't read yet.
     ghost rest: { Self → Rest Answer };
@@ -50,11 +50,11 @@ pub trait PagableDeserializer<E: Env> {
     /// - an error of the reference itself.
     fn deserialize_arc(&mut self, kind: Kind) -> Result<ArcRef, Error>
         ensures of_kind { IfOk result (λ r. r.kind ≡ kind) }
-        ensures gives { Gives never (λ r. (meaning_of r, rest self.new)) result
+        ensures gives { MatchesReading no_own_causes (λ r. (meaning_of r, rest self.new)) result
             (reference_at answer_at kind.0 (rest self.old).refs (rest self.old)) }
-        ensures lent { IfOk result (λ r. (y : E.Node) → lends self.new r ≡ Some y → IsLent (standing self.old) r y) }
+        ensures lent { IfOk result (λ r. (y : E.Node) → lends self.new r ≡ Some y → IsLent (input_state self.old) r y) }
         ensures used { rest self.new ≡ record (rest self.old) { refs = drop 1 (rest self.old).refs } }
-        ensures moves { MovesOn (standing self.old) (standing self.new) }
+        ensures moves { MovesOn (input_state self.old) (input_state self.new) }
         ensures same_env { environment self.new ≡ environment self.old }
         ensures same_levels { levels self.new ≡ levels self.old };
 
@@ -75,13 +75,13 @@ pub trait PagableDeserializer<E: Env> {
 
     /// Returns how many bytes and references it has read.
     fn position(&self) -> PagableCursor
-        ensures cursor { result ≡ (standing self.now).cursor }
-        ensures within { IsWithin (standing self.now).whole result };
+        ensures cursor { result ≡ (input_state self.now).cursor }
+        ensures within { IsWithin (input_state self.now).whole result };
 
     /// Moves to a position that `position` returned before.
     fn seek(&mut self, cursor: PagableCursor)
-        requires { IsWithin (standing self.old).whole cursor }
-        ensures moved { standing self.new ≡ record (standing self.old) { cursor = cursor } }
+        requires { IsWithin (input_state self.old).whole cursor }
+        ensures moved { input_state self.new ≡ record (input_state self.old) { cursor = cursor } }
         ensures same_env { environment self.new ≡ environment self.old }
         ensures same_levels { levels self.new ≡ levels self.old };
 
@@ -94,7 +94,7 @@ pub trait PagableDeserializer<E: Env> {
         ensures ok { OnOk result ((levels self.new ≡ levels self.old + 1) × (levels self.old < deepest)) }
         ensures err { IfErr result (λ e. (e ≡ Error.TooDeep) × (deepest ≤ levels self.old)
             × (levels self.new ≡ levels self.old)) }
-        ensures same_standing { standing self.new ≡ standing self.old }
+        ensures same_standing { input_state self.new ≡ input_state self.old }
         ensures same_rest { rest self.new ≡ rest self.old }
         ensures same_env { environment self.new ≡ environment self.old };
 
@@ -102,7 +102,7 @@ pub trait PagableDeserializer<E: Env> {
     fn leave(&mut self)
         requires { 0 < levels self.old }
         ensures up { levels self.new ≡ levels self.old - 1 }
-        ensures same_standing { standing self.new ≡ standing self.old }
+        ensures same_standing { input_state self.new ≡ input_state self.old }
         ensures same_rest { rest self.new ≡ rest self.old }
         ensures same_env { environment self.new ≡ environment self.old };
 
@@ -117,7 +117,7 @@ pub trait PagableDeserializer<E: Env> {
 
     // What isn't read follows from the deserializer's position, and its reader is at the same
     // position.
-    ghost rest_is: { (s : Self) → rest s ≡ rest_at (standing s) };
+    ghost rest_is: { (s : Self) → rest s ≡ rest_at (input_state s) };
 
     ghost bytes_are: { (s : Self) → (rest s).bytes ≡ left (Self.Reader.track (reader s)) };
 
@@ -127,7 +127,7 @@ pub trait PagableDeserializer<E: Env> {
         ≡ record (rest s) { bytes = left (Self.Reader.track r) } };
 
     ghost moves_of_with: { (s : Self) (r : Self.Reader) → GoesOn (Self.Reader.track (reader s)) (Self.Reader.track r)
-        → MovesOn (standing s) (standing (with_reader s r)) };
+        → MovesOn (input_state s) (input_state (with_reader s r)) };
 
     ghost levels_of_with: { (s : Self) (r : Self.Reader) → levels (with_reader s r) ≡ levels s };
 

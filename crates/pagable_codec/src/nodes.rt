@@ -1,7 +1,7 @@
 //! The values of nodes: one case for each value type of an environment.
 
 ghost use Rattle.pagable_value_spec.specs.{Meaning.Meaning, Reading.read_typed, References.{SameReferences, references_in}, Refusals.{is_own_reading, may_refuse_writing}, Shape.Shape, Cursor.GivesSome};
-ghost use Rattle.pagable_value_spec.specs.{Cursor.{HoldsLent, MovesOn, SomeMeaning, handles_at}, Writing.{Grows, Refused, WritesSome, nesting}, declared.error.Error.Error as Refusal};
+ghost use Rattle.pagable_value_spec.specs.{Cursor.{HoldsLentValues, MovesOn, SomeMeaning, handles_at}, Writing.{Grows, Refused, WritesSome, nesting}, declared.error.Error.Error as Refusal};
 ghost use Rattle.pagable_value_spec.specs.declared.numbers.ArcRef.{ArcRef as Reference};
 ghost use Rattle.std.specs.Prelude.{IfErr, IfOk, List, OnOk, Option, Some, true, ℕ, ◌++◌, ◌<◌, ◌^◌, ◌≡◌};
 
@@ -88,8 +88,8 @@ pub trait NodeSet<E: Env>: Sized {
             (read_typed (handles_at (D.levels deserializer.old) (E.parts (D.environment deserializer.old)))
             (shape_of (D.environment deserializer.old) node_type) (D.rest deserializer.old)) }
         ensures asked { IfOk result (λ x. type_of x ≡ node_type) }
-        ensures holds { IfOk result (HoldsLent (D.standing deserializer.old) beside) }
-        ensures moves { MovesOn (D.standing deserializer.old) (D.standing deserializer.new) }
+        ensures holds { IfOk result (HoldsLentValues (D.input_state deserializer.old) beside) }
+        ensures moves { MovesOn (D.input_state deserializer.old) (D.input_state deserializer.new) }
         ensures same_env { D.environment deserializer.new ≡ D.environment deserializer.old }
         ensures same_levels { D.levels deserializer.new ≡ D.levels deserializer.old };
 

@@ -1,6 +1,6 @@
 //! Flags and counts: the first part of the encodings of options, lists, maps and other types.
 
-ghost use Rattle.pagable_value_spec.specs.{BasicValues.{bool_at, bool_form, length_at, length_form, longest}, Outcomes.{Gives, memory, never}, Lengths.long_or_memory, Reading.bytes_of, Cursor.MovesOn};
+ghost use Rattle.pagable_value_spec.specs.{BasicValues.{bool_at, bool_form, length_at, length_form, longest}, Outcomes.{MatchesReading, memory, no_own_causes}, Lengths.long_or_memory, Reading.bytes_of, Cursor.MovesOn};
 ghost use Rattle.pagable_value_spec.specs.Writing.{Grows, added};
 ghost use Rattle.std.specs.Prelude.{IfErr, OnOk, [], length, min, ◌≡◌, ◌≤◌};
 
@@ -56,9 +56,9 @@ pub fn write_count<E: Env, S: PagableSerializer<E>>(
 /// - `BadBool` if the byte is neither 0 nor 1.
 /// - a fault of the input, if it has no byte left.
 pub fn read_flag<E: Env, D: PagableDeserializer<E>>(deserializer: &mut D) -> Result<bool, Error>
-    ensures gives { Gives never (λ b. (b, D.rest deserializer.new)) result
+    ensures gives { MatchesReading no_own_causes (λ b. (b, D.rest deserializer.new)) result
         (bytes_of bool_at (λ b. b) (D.rest deserializer.old)) }
-    ensures moves { MovesOn (D.standing deserializer.old) (D.standing deserializer.new) }
+    ensures moves { MovesOn (D.input_state deserializer.old) (D.input_state deserializer.new) }
     ensures same_env { D.environment deserializer.new ≡ D.environment deserializer.old }
     ensures same_levels { D.levels deserializer.new ≡ D.levels deserializer.old }
 {
@@ -72,9 +72,9 @@ pub fn read_flag<E: Env, D: PagableDeserializer<E>>(deserializer: &mut D) -> Res
 /// - `TooLong` if the count is above 4,294,967,295.
 /// - a fault of the input's bytes.
 pub fn read_count<E: Env, D: PagableDeserializer<E>>(deserializer: &mut D) -> Result<usize, Error>
-    ensures gives { Gives never (λ n. (n, D.rest deserializer.new)) result
+    ensures gives { MatchesReading no_own_causes (λ n. (n, D.rest deserializer.new)) result
         (bytes_of length_at (λ n. n) (D.rest deserializer.old)) }
-    ensures moves { MovesOn (D.standing deserializer.old) (D.standing deserializer.new) }
+    ensures moves { MovesOn (D.input_state deserializer.old) (D.input_state deserializer.new) }
     ensures same_env { D.environment deserializer.new ≡ D.environment deserializer.old }
     ensures same_levels { D.levels deserializer.new ≡ D.levels deserializer.old }
 {
@@ -86,7 +86,7 @@ pub fn read_count<E: Env, D: PagableDeserializer<E>>(deserializer: &mut D) -> Re
 pub fn places_for<E: Env, D: PagableDeserializer<E>>(count: usize, deserializer: &mut D) -> usize
     ensures few { result ≡ min count (length (D.rest deserializer.old).bytes) }
     ensures same_rest { D.rest deserializer.new ≡ D.rest deserializer.old }
-    ensures moves { MovesOn (D.standing deserializer.old) (D.standing deserializer.new) }
+    ensures moves { MovesOn (D.input_state deserializer.old) (D.input_state deserializer.new) }
     ensures same_env { D.environment deserializer.new ≡ D.environment deserializer.old }
     ensures same_levels { D.levels deserializer.new ≡ D.levels deserializer.old }
 {

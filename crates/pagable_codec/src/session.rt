@@ -1,6 +1,6 @@
 //! The values that one session of reading and writing shares: a map behind a lock.
 
-ghost use Rattle.{pagable_value_spec.specs.{Outcomes.memory, Composite.MayHold, Session.{IsBack, IsCloneOf, Under}}, std.{proofs.Common.rules, specs.{BTreeMap.{IsEmpty, IsUnchanged, Updates, get}, Cmp.Rules.comparing, Sync.Mutex.mutex_guard_value}}};
+ghost use Rattle.{pagable_value_spec.specs.{Outcomes.memory, Composite.MayHold, Session.{IsHandedBack, IsCloneOf, Under}}, std.{proofs.Common.rules, specs.{BTreeMap.{IsEmpty, IsUnchanged, Updates, get}, Cmp.Rules.comparing, Sync.Mutex.mutex_guard_value}}};
 ghost use Rattle.std.specs.Prelude.{IfErr, IfOk, IfSome, IsSome, IsTrue, None, OnErr, OnOk, Some, refl, ◌≡◌};
 
 use pagable_flavors::Error;
@@ -102,7 +102,7 @@ impl<K: Ord + Drop, V: SessionValue> SessionMap<K, V> {
             × Updates K.cmp self.old.values self.new.values key (Some x)) }
         ensures err { OnErr result (IsUnchanged self.old.values self.new.values) }
         ensures only { IfErr result (λ e. memory e.0) }
-        ensures back { IfErr result (λ e. (e.1 ≡ key) × IsBack (F.post make) (get K.cmp self.old.values key) e.2) }
+        ensures back { IfErr result (λ e. (e.1 ≡ key) × IsHandedBack (F.post make) (get K.cmp self.old.values key) e.2) }
     {
         match self.get(&key) {
             Err(refusal) => return Err((refusal, key, None)),

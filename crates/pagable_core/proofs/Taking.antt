@@ -1,6 +1,6 @@
 -- Taking the next answer of a list of references.
 use Rattle.std.{proofs.{Common.{◌≡◌, ℕ, zero, suc, ◌+◌, ◌<◌, ◌≤◌, List, [], ◌∷◌, length, drop, Option, Result, Ok, Err, Some, arith, refl, ap, inl}, lemmas.List.drop_all}, specs.Prelude.slice_get}
-use Rattle.{pagable_core.specs.Context.{answers_from, standing_of}, pagable_value_spec.specs.{Outcomes.{Gives, never}, Meaning.Meaning, Reading.{Rest, reference_at}, Cursor.{Answer, answer_at, rest_at}}}
+use Rattle.{pagable_core.specs.Context.{answers_from, standing_of}, pagable_value_spec.specs.{Outcomes.{MatchesReading, no_own_causes}, Meaning.Meaning, Reading.{Rest, reference_at}, Cursor.{Answer, answer_at, rest_at}}}
 use Rattle.pagable_value_spec.specs.{Cursor.MovesOn, ReadSteps.◌>>=◌, Progress.Track, declared.{error.Error.Error, numbers.ArcRef.ArcRef}}
 use Rattle.pagable_value_spec.specs.declared.error.Error.TheVariants as errors
 use Rattle.pagable_value_spec.specs.Meaning as meanings
@@ -33,7 +33,7 @@ used_of_none answer lent old new reader same h = rw (same, none_from answer 0 ol
 
 -- what was answered is what reading gives
 pub gives_answer : (r : Result ArcRef Error) (read : Result (Meaning ArcRef × Rest Answer) Error) (after : Rest Answer) → read
-    ≡ (r >>= λ b. Ok (meanings.reference b, after)) → Gives never (λ b. (meanings.reference b, after)) r read
+    ≡ (r >>= λ b. Ok (meanings.reference b, after)) → MatchesReading no_own_causes (λ b. (meanings.reference b, after)) r read
 gives_answer (Ok x) read after e = e
 gives_answer (Err x) read after e = inl e
 
@@ -45,7 +45,7 @@ module _ {N : Type 0} (before after : ℕ → ℕ → ℕ → Result ArcRef Erro
   from = let none : 0 + old.position ≡ old.position = omega arith in rw none at (some_from before 0 old.position key old.all found)
 
   pub took : (kind place : ℕ) (r : Result ArcRef Error) → place ≡ old.position → r ≡ before place key kind
-      → Gives never (λ x. (meanings.reference x, rest_at (standing_of after lent_after new reader))) r
+      → MatchesReading no_own_causes (λ x. (meanings.reference x, rest_at (standing_of after lent_after new reader))) r
       (reference_at answer_at kind (rest_at (standing_of before lent old reader)).refs (rest_at (standing_of before lent old reader)))
   took kind place r at is = let answered : r ≡ before old.position key kind = rw (← at) is in rw (same, moved) (gives_answer r _ _ (rw (from, answered) refl))
 

@@ -1,7 +1,7 @@
 -- What the serializer and the deserializer over memory are in the words of the definitions.
 use Rattle.std.{proofs.Common.{arith, ap}, specs.{Global.Global, Prelude.{ℕ, ◌+◌, List, [], ◌∷◌, Option, Result, Vec, refl}}}
 use Rattle.{pagable_core.specs.declared.context.writing.{SerializedData.SerializedData, SerializerOver.SerializerOver}, pagable_value_spec.specs.Reading.Rest}
-use Rattle.pagable_value_spec.specs.{Cursor.{Answer, Standing, MovesOn}, Progress.{Track, GoesOn}, Writing.Out, declared.{error.Error.Error, numbers.ArcRef.ArcRef}}
+use Rattle.pagable_value_spec.specs.{Cursor.{Answer, InputState, MovesOn}, Progress.{Track, GoesOn}, Writing.Out, declared.{error.Error.Error, numbers.ArcRef.ArcRef}}
 
 -- nothing was written
 abbrev pub nothing : Out
@@ -18,7 +18,7 @@ answers_from answer place (key ∷ keys) = (λ kind. answer place key kind) ∷ 
 
 -- the state of a deserializer whose keys and reader are at these positions, with what it is lent at each place
 abbrev pub standing_of : {N : Type 0} → (ℕ → ℕ → ℕ → Result ArcRef Error) → (ℕ → Option (ArcRef × N)) → Track → Track
-    → Standing N
+    → InputState N
 standing_of answer lent keys reader = record {
   whole = record { bytes = reader.all; refs = answers_from answer 0 keys.all };
   lent = lent;
@@ -27,7 +27,7 @@ standing_of answer lent keys reader = record {
 
 -- the state at the start of these bytes and keys
 abbrev pub at_front : {N : Type 0} → (ℕ → ℕ → ℕ → Result ArcRef Error) → (ℕ → Option (ArcRef × N)) → List ℕ → List ℕ
-    → Standing N
+    → InputState N
 at_front answer lent bytes keys = standing_of answer lent (record { all = keys; position = 0 })
     (record { all = bytes; position = 0 })
 

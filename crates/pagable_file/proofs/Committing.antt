@@ -6,7 +6,7 @@ use Rattle.sqlite_value.specs.Order.{Row}
 use Rattle.sqlite_trees.specs.{Tree.Trees, View.{IsClean, View, doubt}}
 use Rattle.pagable_file.specs.{Rows.{blob_tree, blobs_in, root_tree, roots_in}, Blobs.{CanBeKeyIf, Fits, Saved, SavedAs, Settled, StaysPut, Waiting, WaitingRoots, Wrote, is_sure, pending_root_row, pending_row, put_all, roots_with, stored_with, unless}}
 use Rattle.pagable_value_spec.specs.{Blob.Blob, Stored.Adds}
-use Rattle.pagable_file.proofs.{Fetching.same_number, Places.{all_named, all_stored, no_name_waits, none_waits}, Settling.{shown_is_committed, sure_clean}}
+use Rattle.pagable_file.proofs.{Fetching.same_number, Places.{all_named, all_stored, no_name_waits, none_waits}, Settling.{shown_is_committed}}
 
 module _ (waiting : Waiting) (roots : WaitingRoots) (once : IsUnique int_eq waiting) (roots_once : IsUnique int_eq roots)
     (fit : Each (λ e. Fits e.1) waiting.entries) (roots_fit : Each (λ e. CanBeKeyIf e.1.key) roots.entries) where

@@ -1,10 +1,10 @@
 -- What a look-up in what waits and in the table says of what is stored.
-use Rattle.std.proofs.Common.{◌≡◌, ◌≢◌, ◌∙◌, ℕ, ℤ, Bool, true, false, IsTrue, List, [], Option, Some, None, Result, Ok, Err, refl, sym, ap, subst, true≢false, inl, inr, arith}
+use Rattle.std.proofs.Common.{◌≡◌, ◌≢◌, ◌∙◌, ℕ, ℤ, Bool, true, false, List, [], Option, Some, None, Result, Ok, Err, refl, sym, ap, subst, true≢false, inl, inr, arith}
 use Rattle.std.proofs.lemmas.Bool.{eqb-true, Decides.{nat_tests, Decides-int_eq}}
 use Rattle.std.specs.{HashMap.get, Map.lookup, Ordering.int_eq, Prelude.{◌==◌, OnErr, OnOk, if◌then◌else◌}}
 use Rattle.sqlite_value.specs.Order.{Row}
 use Rattle.pagable_value_spec.specs.{Blob.Blob, Stored.{Adds, Keeps, RefusesStore}, declared.error.Error.Error}
-use Rattle.pagable_file.specs.{Rows.{place_of, row_at, blob_in, blob_of_row, blobs_in, is_row_of}, Blobs.{AreKeyed, before, blob_pending, HasBlob, Holds, HasNone, IsFoundAs, IsReading, no_blobs, RefusesFound, RefusesHeld, stored_with, unless, Waiting}}
+use Rattle.pagable_file.specs.{Rows.{rowid_of, row_at, blob_in, blob_of_row, blobs_in}, Blobs.{AreKeyed, before, blob_pending, HasBlob, Holds, HasNone, IsFoundAs, RefusesFound, RefusesHeld, stored_with, unless, Waiting}}
 use Rattle.pagable_file.specs.declared.{pending.Pending.Pending, rows.Reading.Reading}
 use Rattle.pagable_file.specs.declared.rows.Reading.TheVariants as reading
 use Rattle.pagable_value_spec.specs.declared.error.Error.TheVariants as error
@@ -15,13 +15,13 @@ same_number a = grind (arith, nat_tests)
 other_number : (a b : ℕ) → a ≢ b → (a == b) ≡ false
 other_number a b h = grind (arith, nat_tests)
 
-pub held_stored : (closed : Bool) (waiting : Waiting) (rows : List Row) (key : ℕ) (it : Pending) → closed ≡ false → Some it ≡ get int_eq waiting (place_of key)
+pub held_stored : (closed : Bool) (waiting : Waiting) (rows : List Row) (key : ℕ) (it : Pending) → closed ≡ false → Some it ≡ get int_eq waiting (rowid_of key)
     → it.key ≡ key
     → unless closed (stored_with waiting rows) key ≡ Some (blob_pending it)
 unfolding stored_with
 held_stored closed waiting rows key it usable e same = rw (usable, sym e, same, same_number key) refl
 
-pub held_other : (closed : Bool) (waiting : Waiting) (rows : List Row) (key : ℕ) (it : Pending) → closed ≡ false → Some it ≡ get int_eq waiting (place_of key)
+pub held_other : (closed : Bool) (waiting : Waiting) (rows : List Row) (key : ℕ) (it : Pending) → closed ≡ false → Some it ≡ get int_eq waiting (rowid_of key)
     → it.key ≢ key
     → unless closed (stored_with waiting rows) key ≡ None
 unfolding stored_with
@@ -42,13 +42,13 @@ row_has_none rows key (Some reading.Damaged) f none = absurd none
 row_has_none rows key (Some (reading.Blob it)) f none = absurd none
 
 pub read_stored : (closed : Bool) (waiting : Waiting) (rows : List Row) (key : ℕ) (found : Option Reading) (blob : Blob) → closed ≡ false → None
-    ≡ get int_eq waiting (place_of key)
+    ≡ get int_eq waiting (rowid_of key)
     → IsFoundAs rows key found → HasBlob found blob → unless closed (stored_with waiting rows) key ≡ Some blob
 unfolding stored_with
 read_stored closed waiting rows key found blob usable e f has = rw (usable, sym e) (row_has rows key found blob f has)
 
 pub read_none : (closed : Bool) (waiting : Waiting) (rows : List Row) (key : ℕ) (found : Option Reading) → closed ≡ false → None
-    ≡ get int_eq waiting (place_of key)
+    ≡ get int_eq waiting (rowid_of key)
     → IsFoundAs rows key found → HasNone found → unless closed (stored_with waiting rows) key ≡ None
 unfolding stored_with
 read_none closed waiting rows key found usable e f none = rw (usable, sym e) (row_has_none rows key found f none)
@@ -59,34 +59,34 @@ adds_nothing stored key blob h = record { each = λ q. grind (arith, nat_tests, 
 
 -- a blob comes to what waits, where nothing waits and the table has no row
 pub adds_waiting : (closed : Bool) (waiting after : Waiting) (rows : List Row) (key : ℕ) (it : Pending) → closed ≡ false → it.key ≡ key
-    → get int_eq waiting (place_of key) ≡ None
-    → ((q : ℤ) → get int_eq after q ≡ (if int_eq (place_of key) q then Some it else get int_eq waiting q)) → row_at rows (place_of key) ≡ None
+    → get int_eq waiting (rowid_of key) ≡ None
+    → ((q : ℤ) → get int_eq after q ≡ (if int_eq (rowid_of key) q then Some it else get int_eq waiting q)) → row_at rows (rowid_of key) ≡ None
     → Adds key (blob_pending it) (unless closed (stored_with waiting rows)) (unless closed (stored_with after rows))
 unfolding stored_with blobs_in
 adds_waiting closed waiting after rows key it usable own free comes none = rw usable (record { each = each; free = inl nothing })
   where
-    nothing : before key (get int_eq waiting (place_of key)) (blob_of_row key (row_at rows (place_of key))) ≡ None
+    nothing : before key (get int_eq waiting (rowid_of key)) (blob_of_row key (row_at rows (rowid_of key))) ≡ None
     nothing = rw (free, none) refl
 
-    each : (q : ℕ) → before q (get int_eq after (place_of q)) (blob_of_row q (row_at rows (place_of q)))
-        ≡ (if q == key then Some (blob_pending it) else before q (get int_eq waiting (place_of q)) (blob_of_row q (row_at rows (place_of q))))
-    each q = rw (comes (place_of q)) (go (int_eq (place_of key) (place_of q)) refl (q == key) refl)
+    each : (q : ℕ) → before q (get int_eq after (rowid_of q)) (blob_of_row q (row_at rows (rowid_of q)))
+        ≡ (if q == key then Some (blob_pending it) else before q (get int_eq waiting (rowid_of q)) (blob_of_row q (row_at rows (rowid_of q))))
+    each q = rw (comes (rowid_of q)) (go (int_eq (rowid_of key) (rowid_of q)) refl (q == key) refl)
       where
-        go : (b : Bool) → int_eq (place_of key) (place_of q) ≡ b → (c : Bool) → (q == key) ≡ c
-            → before q (if b then Some it else get int_eq waiting (place_of q)) (blob_of_row q (row_at rows (place_of q)))
-            ≡ (if c then Some (blob_pending it) else before q (get int_eq waiting (place_of q)) (blob_of_row q (row_at rows (place_of q))))
+        go : (b : Bool) → int_eq (rowid_of key) (rowid_of q) ≡ b → (c : Bool) → (q == key) ≡ c
+            → before q (if b then Some it else get int_eq waiting (rowid_of q)) (blob_of_row q (row_at rows (rowid_of q)))
+            ≡ (if c then Some (blob_pending it) else before q (get int_eq waiting (rowid_of q)) (blob_of_row q (row_at rows (rowid_of q))))
         go true e true f = let same : q ≡ key = eqb-true q key f in rw (own, same, same_number key) refl
         go true e false f =
-            let place : place_of key ≡ place_of q = (Decides-int_eq (place_of key) (place_of q)).0 e in
+            let place : rowid_of key ≡ rowid_of q = (Decides-int_eq (rowid_of key) (rowid_of q)).0 e in
             let apart : (it.key == q) ≡ false = grind (arith, nat_tests, own) in
             rw (apart, ← place, free, none) refl
         go false e false f = refl
         go false e true f =
             let same : q ≡ key = eqb-true q key f in
-            absurd (true≢false (sym ((Decides-int_eq (place_of key) (place_of q)).1 (ap place_of (sym same))) ∙ e))
+            absurd (true≢false (sym ((Decides-int_eq (rowid_of key) (rowid_of q)).1 (ap rowid_of (sym same))) ∙ e))
 
 pub adds_holding : (closed : Bool) (waiting after : Waiting) (old new : List Row) (key : ℕ) (blob : Blob) → closed ≡ false → None
-    ≡ get int_eq waiting (place_of key) → Holds key blob waiting after
+    ≡ get int_eq waiting (rowid_of key) → Holds key blob waiting after
     → IsFoundAs old key None → new ≡ old → Adds key blob (unless closed (stored_with waiting old)) (unless closed (stored_with after new))
 adds_holding closed waiting after old new key blob usable free h none same =
     let here : Adds key (blob_pending h.it) (unless closed (stored_with waiting old)) (unless closed (stored_with after old)) =
@@ -95,15 +95,15 @@ adds_holding closed waiting after old new key blob usable free h none same =
     (subst (λ (b : Blob). Adds key b (unless closed (stored_with waiting old)) (unless closed (stored_with after old))) h.content here)
 
 pub holds : (waiting after : Waiting) (key : ℕ) (it : Pending) → it.key ≡ key
-    → ((q : ℤ) → get int_eq after q ≡ (if int_eq (place_of key) q then Some it else get int_eq waiting q)) → Holds key (blob_pending it) waiting after
+    → ((q : ℤ) → get int_eq after q ≡ (if int_eq (rowid_of key) q then Some it else get int_eq waiting q)) → Holds key (blob_pending it) waiting after
 holds waiting after key it own each = record { it = it; own = own; content = refl; each = each }
 
 -- each blob that waits stays under its own key, whether one came or not
 pub all_keyed : (key_of : Blob → ℕ) (old after : Waiting) (key : ℕ) (blob : Blob) (r : Result (Unit {0}) Error) → key ≡ key_of blob → AreKeyed key_of old
     → OnOk r (Holds key blob old after) → OnErr r (after.entries ≡ old.entries) → AreKeyed key_of after
-all_keyed key_of old after key blob (Ok _) own keyed comes stays place it is = go (int_eq (place_of key) place) refl
+all_keyed key_of old after key blob (Ok _) own keyed comes stays place it is = go (int_eq (rowid_of key) place) refl
   where
-    go : (b : Bool) → int_eq (place_of key) place ≡ b → key_of (blob_pending it) ≡ it.key
+    go : (b : Bool) → int_eq (rowid_of key) place ≡ b → key_of (blob_pending it) ≡ it.key
     go true e =
         let same : Some comes.it ≡ Some it = rw e at (sym (comes.each place) ∙ is) in
         let one : comes.it ≡ it = cc in
@@ -111,9 +111,9 @@ all_keyed key_of old after key blob (Ok _) own keyed comes stays place it is = g
     go false e = keyed place it (rw e at (sym (comes.each place) ∙ is))
 all_keyed key_of old after key blob (Err e) own keyed comes stays place it is = keyed place it (sym (ap (lookup (int_eq place)) stays) ∙ is)
 
-pub held_named : (key_of : Blob → ℕ) (waiting : Waiting) (key : ℕ) (it : Pending) → AreKeyed key_of waiting → Some it ≡ get int_eq waiting (place_of key)
+pub held_named : (key_of : Blob → ℕ) (waiting : Waiting) (key : ℕ) (it : Pending) → AreKeyed key_of waiting → Some it ≡ get int_eq waiting (rowid_of key)
     → it.key ≡ key → key_of (blob_pending it) ≡ key
-held_named key_of waiting key it keyed found own = keyed (place_of key) it (sym found) ∙ own
+held_named key_of waiting key it keyed found own = keyed (rowid_of key) it (sym found) ∙ own
 
 -- nothing that waits has no key
 pub none_keyed : (key_of : Blob → ℕ) (waiting : Waiting) → waiting.entries ≡ [] → AreKeyed key_of waiting
@@ -132,12 +132,12 @@ same_flushed closed old new same = ap (λ rows. unless closed (blobs_in rows)) s
 
 -- what stands there already, whether it waits or was read, adds nothing
 pub adds_held : (closed : Bool) (waiting : Waiting) (rows : List Row) (key : ℕ) (it : Pending) (blob : Blob) → closed ≡ false → Some it
-    ≡ get int_eq waiting (place_of key) → it.key ≡ key → blob_pending it ≡ blob
+    ≡ get int_eq waiting (rowid_of key) → it.key ≡ key → blob_pending it ≡ blob
     → Adds key blob (unless closed (stored_with waiting rows)) (unless closed (stored_with waiting rows))
 adds_held closed waiting rows key it blob usable found own is = adds_nothing _ key blob (held_stored closed waiting rows key it usable found own ∙ ap Some is)
 
 pub adds_found : (closed : Bool) (waiting : Waiting) (old new : List Row) (key : ℕ) (found : Reading) (blob : Blob) → closed ≡ false → None
-    ≡ get int_eq waiting (place_of key) → IsFoundAs old key (Some found) → HasBlob (Some found) blob
+    ≡ get int_eq waiting (rowid_of key) → IsFoundAs old key (Some found) → HasBlob (Some found) blob
     → new ≡ old → Adds key blob (unless closed (stored_with waiting old)) (unless closed (stored_with waiting new))
 adds_found closed waiting old new key found blob usable free f has same =
     subst (λ rows. Adds key blob (unless closed (stored_with waiting old)) (unless closed (stored_with waiting rows))) (sym same)
@@ -150,7 +150,7 @@ unfolding stored_with
 same_entries closed waiting after old new same rows = ap (unless closed) both
   where
     both : stored_with after new ≡ stored_with waiting old
-    both = λ i q. before q (lookup (int_eq (place_of q)) (same i)) (blobs_in (rows i) q)
+    both = λ i q. before q (lookup (int_eq (rowid_of q)) (same i)) (blobs_in (rows i) q)
 
 -- refusals of what stands at a key's place, as those of a store
 pub held_refuses : (it : Pending) (key : ℕ) (blob : Blob) (closed : Bool) (was now : ℕ) (e : Error) → RefusesHeld it key blob was now e → (found : Option Blob)
@@ -160,7 +160,7 @@ held_refuses it key blob closed was now (error.Storage code) h = (None, h)
 held_refuses it key blob closed was now x0 h = grind arith
 
 pub held_refuses_only : (it : Pending) (key : ℕ) (blob : Blob) (closed : Bool) (waiting : Waiting) (rows : List Row) (was now : ℕ) (e : Error) → closed ≡ false
-    → Some it ≡ get int_eq waiting (place_of key)
+    → Some it ≡ get int_eq waiting (rowid_of key)
     → RefusesHeld it key blob was now e → RefusesStore blob (unless closed (stored_with waiting rows) key) closed was now e
 held_refuses_only it key blob closed waiting rows was now error.KeyTaken usable found h =
     (blob_pending it, held_stored closed waiting rows key it usable found h.0, h.1)
@@ -174,7 +174,7 @@ found_refuses found blob closed was now (error.Storage code) h = (None, h)
 found_refuses found blob closed was now x0 h = grind arith
 
 pub found_refuses_only : (found : Reading) (key : ℕ) (blob : Blob) (closed : Bool) (waiting : Waiting) (rows : List Row) (was now : ℕ) (e : Error) → closed
-    ≡ false → None ≡ get int_eq waiting (place_of key)
+    ≡ false → None ≡ get int_eq waiting (rowid_of key)
     → IsFoundAs rows key (Some found) → RefusesFound found blob was now e → RefusesStore blob (unless closed (stored_with waiting rows) key) closed was now e
 found_refuses_only found key blob closed waiting rows was now error.KeyTaken usable free f h =
     (h.0, read_stored closed waiting rows key (Some found) h.0 usable free f h.1, h.2)

@@ -1,11 +1,11 @@
 -- Names of roots, and whether a blob is stored under a key.
 use Rattle.std.proofs.Common.{◌≡◌, ◌∙◌, ◌≤◌, ℕ, ℤ, Bool, true, false, IsTrue, List, Option, Some, None, refl, sym, ap, subst, true≢false, arith}
-use Rattle.std.proofs.lemmas.{Bool.Decides.{nat_tests, Decides-int_eq}, Slice.Eq.bytes_eq-Decides}
+use Rattle.std.proofs.lemmas.{Bool.Decides.{Decides-int_eq}, Slice.Eq.bytes_eq-Decides}
 use Rattle.std.specs.{HashMap.get, Map.lookup, Ordering.int_eq, Prelude.{◌==◌, if◌then◌else◌, is_some}, Str.bytes_eq, String.string_bytes}
 use Rattle.sqlite_value.specs.Order.{Row, bytes, column}
 use Rattle.sqlite_trees.specs.{Tree.Trees, View.View}
 use Rattle.pagable_value_spec.specs.{Blob.Blob, Outcomes.memory, Stored.{HasFailed, RefusesFlush}, declared.error.Error.Error}
-use Rattle.pagable_file.specs.Rows.{blob_in, blob_tree, blobs_in, place_of, place_of_name, root_in, root_of_row, root_tree, roots_in, row_at}
+use Rattle.pagable_file.specs.Rows.{blob_in, blob_tree, blobs_in, rowid_of, rowid_of_name, root_in, root_of_row, root_tree, roots_in, row_at}
 use Rattle.pagable_core.specs.Roots.{RefusesRoot, Sets, Stands}
 use Rattle.pagable_file.specs.Blobs.{before, before_root, found_root, HasPlace, HoldsRoot, IsFoundAs, IsNamedAs, IsNotOther, reads_blob, roots_unless, roots_with, unless, StaysPut, stored_with, Waiting, WaitingRoots, is_sure}
 use Rattle.pagable_file.specs.declared.{pending.{Pending.Pending, PendingRoot.PendingRoot}, rows.{Naming.Naming, Reading.Reading}}
@@ -14,7 +14,7 @@ use Rattle.pagable_file.specs.declared.rows.Reading.TheVariants as reading
 use Rattle.pagable_value_spec.specs.declared.error.Error.TheVariants as error
 
 -- whether a blob stands under a key, by what waits
-pub has_held : (waiting : Waiting) (rows : List Row) (key : ℕ) (it : Pending) → Some it ≡ get int_eq waiting (place_of key) → (it.key == key)
+pub has_held : (waiting : Waiting) (rows : List Row) (key : ℕ) (it : Pending) → Some it ≡ get int_eq waiting (rowid_of key) → (it.key == key)
     ≡ is_some (stored_with waiting rows key)
 unfolding stored_with
 has_held waiting rows key it e = rw (sym e) (go (it.key == key) refl)
@@ -31,13 +31,13 @@ row_has_blob rows key (Some reading.Damaged) f = rw f.1 (ap is_some (sym f.2))
 row_has_blob rows key (Some (reading.Blob it)) f = rw f.1 (ap is_some (sym f.2))
 
 -- and by the table
-pub has_read : (waiting : Waiting) (rows : List Row) (key : ℕ) (found : Option Reading) → None ≡ get int_eq waiting (place_of key) → IsFoundAs rows key found
+pub has_read : (waiting : Waiting) (rows : List Row) (key : ℕ) (found : Option Reading) → None ≡ get int_eq waiting (rowid_of key) → IsFoundAs rows key found
     → reads_blob found ≡ is_some (stored_with waiting rows key)
 unfolding stored_with
 has_read waiting rows key found e f = rw (sym e) (row_has_blob rows key found f)
 
 -- which key a name stands for, by what waits
-pub root_held : (waiting : WaitingRoots) (rows : List Row) (name : List ℕ) (it : PendingRoot) → Some it ≡ get int_eq waiting (place_of_name name)
+pub root_held : (waiting : WaitingRoots) (rows : List Row) (name : List ℕ) (it : PendingRoot) → Some it ≡ get int_eq waiting (rowid_of_name name)
     → (if bytes_eq (string_bytes it.name) name then it.key else None) ≡ roots_with waiting rows name
 unfolding roots_with
 root_held waiting rows name it e = rw (sym e) refl
@@ -49,26 +49,26 @@ row_names rows name (Some naming.Other) f = rw (f.1, f.2) refl
 row_names rows name (Some (naming.Root key)) f = rw f.1 (sym f.2.1)
 
 -- and by the table
-pub root_read : (waiting : WaitingRoots) (rows : List Row) (name : List ℕ) (found : Option Naming) → None ≡ get int_eq waiting (place_of_name name)
+pub root_read : (waiting : WaitingRoots) (rows : List Row) (name : List ℕ) (found : Option Naming) → None ≡ get int_eq waiting (rowid_of_name name)
     → IsNamedAs rows name found → found_root found ≡ roots_with waiting rows name
 unfolding roots_with
 root_read waiting rows name found e f = rw (sym e) (row_names rows name found f)
 
 -- no other name has the place
-pub place_held : (waiting : WaitingRoots) (rows : List Row) (name : List ℕ) (it : PendingRoot) → Some it ≡ get int_eq waiting (place_of_name name)
+pub place_held : (waiting : WaitingRoots) (rows : List Row) (name : List ℕ) (it : PendingRoot) → Some it ≡ get int_eq waiting (rowid_of_name name)
     → bytes_eq (string_bytes it.name) name ≡ true
-    → HasPlace name (get int_eq waiting (place_of_name name)) (row_at rows (place_of_name name))
+    → HasPlace name (get int_eq waiting (rowid_of_name name)) (row_at rows (rowid_of_name name))
 place_held waiting rows name it e is = rw (sym e) is
 
 read_place : (rows : List Row) (name : List ℕ) (found : Option Naming) → IsNamedAs rows name found → IsNotOther found
-    → HasPlace name None (row_at rows (place_of_name name))
+    → HasPlace name None (row_at rows (rowid_of_name name))
 read_place rows name None f h = rw f tt
 read_place rows name (Some (naming.Root key)) f h = rw f.1 f.2.0
 read_place rows name (Some naming.Other) f h = absurd h
 
-pub place_read : (waiting : WaitingRoots) (rows : List Row) (name : List ℕ) (found : Option Naming) → None ≡ get int_eq waiting (place_of_name name)
+pub place_read : (waiting : WaitingRoots) (rows : List Row) (name : List ℕ) (found : Option Naming) → None ≡ get int_eq waiting (rowid_of_name name)
     → IsNamedAs rows name found → IsNotOther found
-    → HasPlace name (get int_eq waiting (place_of_name name)) (row_at rows (place_of_name name))
+    → HasPlace name (get int_eq waiting (rowid_of_name name)) (row_at rows (rowid_of_name name))
 place_read waiting rows name found e f h = rw (sym e) (read_place rows name found f h)
 
 -- another name at the same place stands for nothing
@@ -85,41 +85,41 @@ other_name name q None (Some row) h apart =
 
 -- a name that comes to what waits
 pub sets : (waiting after : WaitingRoots) (rows : List Row) (name : List ℕ) (key : Option ℕ)
-    → HasPlace name (get int_eq waiting (place_of_name name)) (row_at rows (place_of_name name)) → HoldsRoot name key waiting after
+    → HasPlace name (get int_eq waiting (rowid_of_name name)) (row_at rows (rowid_of_name name)) → HoldsRoot name key waiting after
     → Sets name key (roots_with waiting rows) (roots_with after rows)
 unfolding roots_with roots_in
-sets waiting after rows name key free h q = rw (h.each (place_of_name q)) (go (int_eq (place_of_name name) (place_of_name q)) refl (bytes_eq name q) refl)
+sets waiting after rows name key free h q = rw (h.each (rowid_of_name q)) (go (int_eq (rowid_of_name name) (rowid_of_name q)) refl (bytes_eq name q) refl)
   where
     below : Option ℕ
-    below = root_of_row q (row_at rows (place_of_name q))
+    below = root_of_row q (row_at rows (rowid_of_name q))
 
-    go : (b : Bool) → int_eq (place_of_name name) (place_of_name q) ≡ b → (c : Bool) → bytes_eq name q ≡ c
-        → before_root q (if b then Some h.it else get int_eq waiting (place_of_name q)) below
-        ≡ (if c then key else before_root q (get int_eq waiting (place_of_name q)) below)
+    go : (b : Bool) → int_eq (rowid_of_name name) (rowid_of_name q) ≡ b → (c : Bool) → bytes_eq name q ≡ c
+        → before_root q (if b then Some h.it else get int_eq waiting (rowid_of_name q)) below
+        ≡ (if c then key else before_root q (get int_eq waiting (rowid_of_name q)) below)
     go true e true f = rw (h.own, f) h.stands
     go true e false f =
-        let place : place_of_name name ≡ place_of_name q = (Decides-int_eq (place_of_name name) (place_of_name q)).0 e in
-        let none : before_root q (get int_eq waiting (place_of_name q)) below ≡ None =
+        let place : rowid_of_name name ≡ rowid_of_name q = (Decides-int_eq (rowid_of_name name) (rowid_of_name q)).0 e in
+        let none : before_root q (get int_eq waiting (rowid_of_name q)) below ≡ None =
         subst (λ p. before_root q (get int_eq waiting p) (root_of_row q (row_at rows p)) ≡ None) place
-        (other_name name q (get int_eq waiting (place_of_name name)) (row_at rows (place_of_name name)) free f) in
+        (other_name name q (get int_eq waiting (rowid_of_name name)) (row_at rows (rowid_of_name name)) free f) in
         rw (h.own, f) (sym none)
     go false e false f = refl
     go false e true f =
         let same : name ≡ q = (bytes_eq-Decides name q).0 f in
-        absurd (true≢false (sym ((Decides-int_eq (place_of_name name) (place_of_name q)).1 (ap place_of_name same)) ∙ e))
+        absurd (true≢false (sym ((Decides-int_eq (rowid_of_name name) (rowid_of_name q)).1 (ap rowid_of_name same)) ∙ e))
 
 -- one look after another
 pub stays_then : (a b c : View) → StaysPut a b → StaysPut b c → StaysPut a c
 stays_then a b c f g = record { settled = λ was. g.settled (f.settled was); sure = λ h. f.sure (g.sure h); same = λ h. g.same h ∙ f.same (g.sure h) }
 
 pub holds_root : (waiting after : WaitingRoots) (name : List ℕ) (it : PendingRoot) → string_bytes it.name ≡ name
-    → ((q : ℤ) → get int_eq after q ≡ (if int_eq (place_of_name name) q then Some it else get int_eq waiting q)) → HoldsRoot name it.key waiting after
+    → ((q : ℤ) → get int_eq after q ≡ (if int_eq (rowid_of_name name) q then Some it else get int_eq waiting q)) → HoldsRoot name it.key waiting after
 holds_root waiting after name it own each = record { it = it; own = own; stands = refl; each = each }
 
 -- what waits decides by its entries alone
 by_entries : (waiting after : WaitingRoots) (rows : List Row) → after.entries ≡ waiting.entries → roots_with after rows ≡ roots_with waiting rows
 unfolding roots_with
-by_entries waiting after rows same = λ i q. before_root q (lookup (int_eq (place_of_name q)) (same i)) (roots_in rows q)
+by_entries waiting after rows same = λ i q. before_root q (lookup (int_eq (rowid_of_name q)) (same i)) (roots_in rows q)
 
 failed_since : (was mid now : ℕ) → was ≤ mid → HasFailed mid now → HasFailed was now
 failed_since was mid now le h = grind arith
@@ -140,12 +140,12 @@ pub unnamed : (closed : Bool) (roots : List ℕ → Option ℕ) (name : List ℕ
 unnamed closed roots name is = rw is refl
 
 pub answers_held : (closed : Bool) (waiting : WaitingRoots) (rows : List Row) (name : List ℕ) (it : PendingRoot) (key : Option ℕ) → closed ≡ false → Some it
-    ≡ get int_eq waiting (place_of_name name)
+    ≡ get int_eq waiting (rowid_of_name name)
     → key ≡ (if bytes_eq (string_bytes it.name) name then it.key else None) → key ≡ roots_unless closed (roots_with waiting rows) name
 answers_held closed waiting rows name it key usable e is = rw usable (is ∙ root_held waiting rows name it e)
 
 pub answers_read : (closed : Bool) (waiting : WaitingRoots) (rows : List Row) (name : List ℕ) (found : Option Naming) (key : Option ℕ) → closed ≡ false → None
-    ≡ get int_eq waiting (place_of_name name)
+    ≡ get int_eq waiting (rowid_of_name name)
     → IsNamedAs rows name found → key ≡ found_root found → key ≡ roots_unless closed (roots_with waiting rows) name
 answers_read closed waiting rows name found key usable e f is = rw usable (is ∙ root_read waiting rows name found e f)
 
@@ -171,7 +171,7 @@ kept_entries closed waiting after old new same stays sure = kept_by same ∙ kep
 
 pub sets_in : (closed : Bool) (waiting after : WaitingRoots) (old new : View) (name text : List ℕ) (key : Option ℕ) → closed ≡ false → text ≡ name
     → StaysPut old new → IsTrue (is_sure new)
-    → HasPlace name (get int_eq waiting (place_of_name name)) (row_at (old.committed root_tree) (place_of_name name)) → HoldsRoot text key waiting after
+    → HasPlace name (get int_eq waiting (rowid_of_name name)) (row_at (old.committed root_tree) (rowid_of_name name)) → HoldsRoot text key waiting after
     → Sets name key (roots_unless closed (roots_with waiting (old.committed root_tree))) (roots_unless closed (roots_with after (new.committed root_tree)))
 sets_in closed waiting after old new name text key usable is stays sure free h =
     let here : Sets name key (roots_with waiting (old.committed root_tree)) (roots_with after (old.committed root_tree)) =

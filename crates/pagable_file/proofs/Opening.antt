@@ -1,9 +1,9 @@
 -- What an open finds.
-use Rattle.std.proofs.Common.{◌≡◌, ◌∙◌, ◌≤◌, Bool, true, false, IsTrue, List, [], ◌∷◌, map, take, refl, sym, ap, subst, arith}
+use Rattle.std.proofs.Common.{◌≡◌, ◌∙◌, ◌≤◌, false, IsTrue, List, [], ◌∷◌, map, take, refl, sym, ap, subst, arith}
 use Rattle.sqlite_value.specs.Order.{Row}
 use Rattle.sqlite_trees.specs.{Objects.catalog_tree, View.{IsClean, IsShaped, View, doubt}, declared.store.Shape.Shape}
 use Rattle.sqlite_trees.specs.declared.store.Shape.TheVariants as shape
-use Rattle.pagable_file.specs.{Closing.IsHeldIn, Rows.{blob_tree, root_tree}, Blobs.{Finds as FindsTables, IsIdle, IsSettled, Made, Settled, is_sure}}
+use Rattle.pagable_file.specs.{Closing.IsHeldIn, Rows.{blob_tree, root_tree}, Blobs.{Finds as FindsTables, IsIdle, TablesCreated, Settled, is_sure}}
 use Rattle.pagable_file.proofs.Settling.{in_use, sure_clean, sure_from, sure_open}
 use Rattle.std.proofs.Math.Logic.{∥∥₁_elim}
 use Rattle.sqlite_disk.specs.{declared.Disk.Ghosts, declared.Files.Files}
@@ -20,7 +20,7 @@ pub none_listed : (rows : List Row) → map (take 5) rows ≡ [] → rows ≡ []
 none_listed [] h = refl
 none_listed (r ∷ rows) h = absurd (cc)
 
-pub made_is_found : (old new : View) → IsIdle old → (IsClean new → Made old new) → doubt old.is_clean ≤ doubt new.is_clean
+pub made_is_found : (old new : View) → IsIdle old → (IsClean new → TablesCreated old new) → doubt old.is_clean ≤ doubt new.is_clean
     → (old.is_broken ≡ false → IsShaped (old.shape blob_tree) (old.trees blob_tree) × IsShaped (old.shape root_tree) (old.trees root_tree))
     → old.shape blob_tree ≡ shape.Absent → old.shape root_tree ≡ shape.Absent → FindsTables old new
 made_is_found old new idle made falls shaped no_blobs no_roots =

@@ -1,12 +1,11 @@
 -- The row at a place after other rows were put, and the blobs that the table then has.
-use Rattle.std.proofs.Common.{◌≡◌, ◌≢◌, ◌∙◌, ℕ, zero, suc, ◌+◌, ℤ, Bool, true, false, List, [], ◌∷◌, Option, Some, None, filter, refl, sym, ap, true≢false, Ordering, Less, Equal, Greater, is_eq, subst, arith}
-use Rattle.std.specs.{Ordering.{int_eq, match_ordering}, Prelude.{◌==◌, if◌then◌else◌, fold, slice_get, take}, Cmp.signed_Decides, List.{IsDistinct, AllByRecursion as Each}, Map.{keys_of, lookup}, Str.bytes_eq, String.string_bytes}
-use Rattle.std.proofs.lemmas.Bool.Decides.{nat_tests}
+use Rattle.std.proofs.Common.{◌≡◌, ◌≢◌, ◌∙◌, ℕ, ℤ, Bool, true, false, List, [], ◌∷◌, Option, Some, None, filter, refl, sym, ap, true≢false, Ordering, Less, Equal, Greater, is_eq, subst}
+use Rattle.std.specs.{Ordering.{int_eq, match_ordering}, Prelude.{◌==◌, if◌then◌else◌, slice_get}, Cmp.signed_Decides, List.{IsDistinct, AllByRecursion as Each}, Map.{keys_of, lookup}, Str.bytes_eq, String.string_bytes}
 use Rattle.sqlite_value.specs.{declared.value.Value.TheVariants.Int, Order.{Row, value_cmp}}
 use Rattle.sqlite_value.proofs.OrderLemmas.{value_cmp_total, value_cmp-Int}
 use Rattle.sqlite_trees.specs.Tree.{rowid, has_rowid, put_row}
 use Rattle.pagable_value_spec.specs.Blob.{Blob}
-use Rattle.pagable_file.specs.{Rows.{place_of, row_at, blob_in, blob_of_row, blobs_in, blob_row, CanBeKey, key_bytes, key_in, place_of_name, root_in, root_of_row, root_row, roots_in}, Blobs.{before, before_root, blob_pending, CanBeKeyIf, Fits, pending_root_row, pending_row, put_all, roots_with, stored_with, Waiting, WaitingRoots}}
+use Rattle.pagable_file.specs.{Rows.{rowid_of, row_at, blob_in, blob_of_row, blobs_in, blob_row, CanBeKey, key_bytes, key_in, rowid_of_name, root_in, root_of_row, root_row, roots_in}, Blobs.{before, before_root, blob_pending, CanBeKeyIf, Fits, pending_root_row, pending_row, put_all, roots_with, stored_with, Waiting, WaitingRoots}}
 use Rattle.pagable_file.specs.declared.pending.{Pending.Pending, PendingRoot.PendingRoot}
 use Rattle.pagable_file.proofs.Keys.{key_back, all_back}
 
@@ -112,32 +111,32 @@ found_fits P p (e ∷ es) it all is = go (int_eq p e.0) refl (found_fits P p es 
 pub all_stored : (waiting : Waiting) (rows : List Row) → IsDistinct int_eq (keys_of waiting.entries) → Each (λ e. Fits e.1) waiting.entries
     → (q : ℕ) → blobs_in (put_all pending_row waiting.entries rows) q ≡ stored_with waiting rows q
 unfolding blobs_in stored_with
-all_stored waiting rows once fit q = rw (row_at-put_all pending_row (λ p it. refl) (place_of q) waiting.entries once rows)
-    (go (lookup (int_eq (place_of q)) waiting.entries) refl)
+all_stored waiting rows once fit q = rw (row_at-put_all pending_row (λ p it. refl) (rowid_of q) waiting.entries once rows)
+    (go (lookup (int_eq (rowid_of q)) waiting.entries) refl)
   where
-    go : (o : Option Pending) → lookup (int_eq (place_of q)) waiting.entries ≡ o
-        → blob_of_row q (over pending_row (place_of q) o (row_at rows (place_of q))) ≡ before q o (blob_of_row q (row_at rows (place_of q)))
+    go : (o : Option Pending) → lookup (int_eq (rowid_of q)) waiting.entries ≡ o
+        → blob_of_row q (over pending_row (rowid_of q) o (row_at rows (rowid_of q))) ≡ before q o (blob_of_row q (row_at rows (rowid_of q)))
     go None h = refl
-    go (Some it) h = let f = found_fits Fits (place_of q) waiting.entries it fit h in row_reads (place_of q) it.key (blob_pending it) f.0 f.1 q
+    go (Some it) h = let f = found_fits Fits (rowid_of q) waiting.entries it fit h in row_reads (rowid_of q) it.key (blob_pending it) f.0 f.1 q
 
 pub all_named : (waiting : WaitingRoots) (rows : List Row) → IsDistinct int_eq (keys_of waiting.entries) → Each (λ e. CanBeKeyIf e.1.key) waiting.entries
     → (q : List ℕ) → roots_in (put_all pending_root_row waiting.entries rows) q ≡ roots_with waiting rows q
 unfolding roots_in roots_with
-all_named waiting rows once fit q = rw (row_at-put_all pending_root_row (λ p it. refl) (place_of_name q) waiting.entries once rows)
-    (go (lookup (int_eq (place_of_name q)) waiting.entries) refl)
+all_named waiting rows once fit q = rw (row_at-put_all pending_root_row (λ p it. refl) (rowid_of_name q) waiting.entries once rows)
+    (go (lookup (int_eq (rowid_of_name q)) waiting.entries) refl)
   where
-    go : (o : Option PendingRoot) → lookup (int_eq (place_of_name q)) waiting.entries ≡ o
-        → root_of_row q (over pending_root_row (place_of_name q) o (row_at rows (place_of_name q)))
-        ≡ before_root q o (root_of_row q (row_at rows (place_of_name q)))
+    go : (o : Option PendingRoot) → lookup (int_eq (rowid_of_name q)) waiting.entries ≡ o
+        → root_of_row q (over pending_root_row (rowid_of_name q) o (row_at rows (rowid_of_name q)))
+        ≡ before_root q o (root_of_row q (row_at rows (rowid_of_name q)))
     go None h = refl
-    go (Some it) h = root_reads (place_of_name q) (string_bytes it.name) it.key
-        (found_fits (λ (r : PendingRoot). CanBeKeyIf r.key) (place_of_name q) waiting.entries it fit h) q
+    go (Some it) h = root_reads (rowid_of_name q) (string_bytes it.name) it.key
+        (found_fits (λ (r : PendingRoot). CanBeKeyIf r.key) (rowid_of_name q) waiting.entries it fit h) q
 
 -- where nothing waits, the tables have all
 pub none_waits : (waiting : Waiting) (rows : List Row) → waiting.entries ≡ [] → stored_with waiting rows ≡ blobs_in rows
 unfolding stored_with
-none_waits waiting rows none = λ i q. before q (lookup (int_eq (place_of q)) (none i)) (blobs_in rows q)
+none_waits waiting rows none = λ i q. before q (lookup (int_eq (rowid_of q)) (none i)) (blobs_in rows q)
 
 pub no_name_waits : (waiting : WaitingRoots) (rows : List Row) → waiting.entries ≡ [] → roots_with waiting rows ≡ roots_in rows
 unfolding roots_with
-no_name_waits waiting rows none = λ i q. before_root q (lookup (int_eq (place_of_name q)) (none i)) (roots_in rows q)
+no_name_waits waiting rows none = λ i q. before_root q (lookup (int_eq (rowid_of_name q)) (none i)) (roots_in rows q)

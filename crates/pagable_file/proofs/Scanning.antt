@@ -1,7 +1,7 @@
 -- Going over all rows of a table.
-use Rattle.std.proofs.Common.{◌≡◌, ◌≢◌, ◌∙◌, ℕ, ℤ, true, false, Bool, List, [], ◌∷◌, ◌++◌, map, Option, Some, None, refl, sym, ap, append_assoc, append-nil}
+use Rattle.std.proofs.Common.{◌≡◌, ◌∙◌, ℤ, true, false, List, [], ◌∷◌, ◌++◌, map, Some, refl, sym, ap, append-nil}
 use Rattle.sqlite_value.specs.{declared.value.Value.{Value}, declared.value.Value.TheVariants.Int, Order.{Row}}
-use Rattle.sqlite_trees.specs.{Tree.{from_key, order_of, rowid, sought}, View.{Advances, View, with_cursor}, declared.{store.Shape.Shape, store.Direction.TheVariants.Forward}}
+use Rattle.sqlite_trees.specs.{Tree.{from_key, rowid, sought}, View.{Advances, View, with_cursor}, declared.{store.Direction.TheVariants.Forward}}
 use Rattle.sqlite_value.specs.declared.keys.Order.{Order}
 use Rattle.pagable_file.specs.Blobs.{MovesOnly}
 use Rattle.pagable_file.proofs.Settling.{moved_then}

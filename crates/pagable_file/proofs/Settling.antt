@@ -1,9 +1,9 @@
 -- The state that a store's calls leave between two calls of a file of blobs.
 use Rattle.std.proofs.Common.{◌≡◌, ◌∙◌, ℕ, ℤ, ◌≤◌, Bool, true, false, List, IsTrue, Result, Ok, Err, refl, sym, ap, subst, arith}
-use Rattle.std.specs.Prelude.{◌&&◌, OnErr, OnOk, Option, Some, None, if◌then◌else◌, slice_get}
+use Rattle.std.specs.Prelude.{◌&&◌, OnErr, OnOk, Some, None, if◌then◌else◌, slice_get}
 use Rattle.sqlite_value.specs.Order.{Row}
 use Rattle.sqlite_trees.proofs.Doubt.{clean_of, no_doubt}
-use Rattle.sqlite_trees.specs.{Tree.with_tree, View.{View, doubt, IsClean, IsFailure, IsRolledBack, KeepsCommitted, OnlyWrites, SetsTree, Commits, Finds, as_committed}, declared.error.StoreError.StoreError}
+use Rattle.sqlite_trees.specs.{View.{View, doubt, IsClean, IsFailure, IsRolledBack, KeepsCommitted, OnlyWrites, SetsTree, Commits, Finds}, declared.error.StoreError.StoreError}
 use Rattle.pagable_file.specs.{Rows.{blob_tree, root_tree, row_at}, Blobs.{is_sure, IsSettled, MovesOnly, Saved, Settled, StaysPut, Wrote}}
 
 both : (a b : Bool) → IsTrue (a && b) → IsTrue a × IsTrue b

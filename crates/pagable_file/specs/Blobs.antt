@@ -1,15 +1,15 @@
 -- The state of a file of blobs: what waits for a flush, and the rows of its tables.
-use Rattle.std.specs.Prelude.{◌≡◌, ℕ, ℤ, ◌≢◌, ◌==◌, ◌&&◌, Bool, true, false, if◌then◌else◌, List, [], ◌∷◌, IsTrue, Option, Some, None, IsSome, fold}
+use Rattle.std.specs.Prelude.{◌≡◌, ℕ, ℤ, ◌≢◌, ◌==◌, ◌&&◌, Bool, true, false, if◌then◌else◌, List, [], IsTrue, Option, Some, None, fold}
 use Rattle.std.specs.{Arc.arc_value, HashMap.{HashMap, IsUnique, get}, List.AllByRecursion, Ordering.int_eq, Str.bytes_eq, String.string_bytes}
 use base.Stored.{Coded-set}
 use mathlib.Core.{Bool.{Bool-set}, HLevel.{Π_prop, Π_set, ×_prop}}
 use Rattle.std.specs.declared.hash.{BuildHasherDefault.BuildHasherDefault, FoldHasher.FoldHasher}
 use Rattle.sqlite_value.specs.Order.{Row, bytes, column}
 use Rattle.sqlite_trees.specs.contracts.store.Shape as shape_row
-use Rattle.sqlite_trees.specs.{Props.{Trees-set, marks_set}, declared.store.Shape.Shape, Tree.{Trees, put_row, with_tree}, View.{View, IsClean, OnlyWrites, KeepsCommitted}, declared.store.Shape.TheVariants.Table}
+use Rattle.sqlite_trees.specs.{Props.{Trees-set, marks_set}, declared.store.Shape.Shape, Tree.{Trees, put_row}, View.{View, IsClean, OnlyWrites}, declared.store.Shape.TheVariants.Table}
 use Rattle.pagable_core.specs.Data.{blob_of}
 use Rattle.pagable_value_spec.specs.{Blob.Blob, Stored.HasFailed, declared.error.Error.Error}
-use Rattle.pagable_file.specs.Rows.{CanBeKey, place_of, place_of_name, blob_in, blobs_in, blob_row, root_row, roots_in, is_row_of, row_at, root_in, blob_tree, root_tree}
+use Rattle.pagable_file.specs.Rows.{CanBeKey, rowid_of, rowid_of_name, blob_in, blobs_in, blob_row, root_row, roots_in, is_row_of, row_at, root_in, blob_tree, root_tree}
 use Rattle.pagable_file.specs.declared.{pending.{Pending.Pending, PendingRoot.PendingRoot}, rows.{Naming.Naming, Reading.Reading}}
 use Rattle.pagable_file.specs.declared.rows.Naming.TheVariants as naming
 use Rattle.pagable_file.specs.declared.rows.Reading.TheVariants as reading
@@ -31,7 +31,7 @@ before key None below = below
 before key (Some it) below = if it.key == key then Some (blob_pending it) else None
 
 unfoldable pub stored_with : Waiting → List Row → ℕ → Option Blob
-stored_with waiting rows key = before key (get int_eq waiting (place_of key)) (blobs_in rows key)
+stored_with waiting rows key = before key (get int_eq waiting (rowid_of key)) (blobs_in rows key)
 
 -- the row of the blob that waits at a place
 abbrev pub pending_row : ℤ → Pending → Row
@@ -46,7 +46,7 @@ before_root name None below = below
 before_root name (Some it) below = if bytes_eq (string_bytes it.name) name then it.key else None
 
 unfoldable pub roots_with : WaitingRoots → List Row → List ℕ → Option ℕ
-roots_with waiting rows name = before_root name (get int_eq waiting (place_of_name name)) (roots_in rows name)
+roots_with waiting rows name = before_root name (get int_eq waiting (rowid_of_name name)) (roots_in rows name)
 
 abbrev pub CanBeKeyIf : Option ℕ → Type 0
 CanBeKeyIf None = Unit {0}
@@ -113,7 +113,7 @@ pub record Holds (key : ℕ) (blob : Blob) (old new : Waiting) : Type 0 where
   pub it : Pending
   pub own : it.key ≡ key
   pub content : blob_pending it ≡ blob
-  pub each : (place : ℤ) → get int_eq new place ≡ (if int_eq (place_of key) place then Some it else get int_eq old
+  pub each : (place : ℤ) → get int_eq new place ≡ (if int_eq (rowid_of key) place then Some it else get int_eq old
       place)
 
 -- only trees and cursors differ, and the two tables have these rows
@@ -152,13 +152,13 @@ IsNaming name row (naming.Root key) = (bytes_eq (bytes (column row 2)) name ≡ 
 
 -- the row that a table has at a key's place
 abbrev pub IsFoundAs : List Row → ℕ → Option Reading → Type 0
-IsFoundAs rows key None = row_at rows (place_of key) ≡ None
-IsFoundAs rows key (Some it) = (row : Row) × (row_at rows (place_of key) ≡ Some row) × IsReading key row it
+IsFoundAs rows key None = row_at rows (rowid_of key) ≡ None
+IsFoundAs rows key (Some it) = (row : Row) × (row_at rows (rowid_of key) ≡ Some row) × IsReading key row it
 
 -- the row that a table has at a name's place
 abbrev pub IsNamedAs : List Row → List ℕ → Option Naming → Type 0
-IsNamedAs rows name None = row_at rows (place_of_name name) ≡ None
-IsNamedAs rows name (Some it) = (row : Row) × (row_at rows (place_of_name name) ≡ Some row) × IsNaming name row it
+IsNamedAs rows name None = row_at rows (rowid_of_name name) ≡ None
+IsNamedAs rows name (Some it) = (row : Row) × (row_at rows (rowid_of_name name) ≡ Some row) × IsNaming name row it
 
 -- the two tables with all that waited
 pub record SavedAs (old : View) (waiting : Waiting) (roots : WaitingRoots) (db : Trees) : Type 0 where
@@ -209,7 +209,7 @@ abbrev pub IsIdle : View → Type 0
 IsIdle v = IsClean v → IsTrue v.is_open → (v.is_broken ≡ false) × (v.trees ≡ v.committed) × (v.marks ≡ [])
 
 -- the two tables were created, without rows
-pub record Made (old new : View) : Type 0 where
+pub record TablesCreated (old new : View) : Type 0 where
   pub settled : IsSettled new
   pub is_open : new.is_open ≡ old.is_open
   pub no_blobs_there : new.committed blob_tree ≡ []
@@ -237,7 +237,7 @@ pub record HoldsRoot (name : List ℕ) (key : Option ℕ) (old new : WaitingRoot
   pub it : PendingRoot
   pub own : string_bytes it.name ≡ name
   pub stands : it.key ≡ key
-  pub each : (place : ℤ) → get int_eq new place ≡ (if int_eq (place_of_name name) place then Some it else get int_eq old
+  pub each : (place : ℤ) → get int_eq new place ≡ (if int_eq (rowid_of_name name) place then Some it else get int_eq old
       place)
 
 -- the key that a look-up found for a name

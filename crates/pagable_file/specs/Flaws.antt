@@ -4,7 +4,7 @@ use Rattle.std.specs.declared.alloc.Global.{Global}
 use Rattle.std.specs.{List.{AllByRecursion, Contains}, Ordering.int_eq, Str.IsUtf8, String.string_bytes}
 use Rattle.sqlite_value.specs.Order.{Row, bytes, column}
 use Rattle.pagable_value_spec.specs.Blob.{Blob}
-use Rattle.pagable_file.specs.Rows.{blob_in, blobs_in, key_in, place_of, place_of_name, roots_in, row_at}
+use Rattle.pagable_file.specs.Rows.{blob_in, blobs_in, key_in, rowid_of, rowid_of_name, roots_in, row_at}
 use Rattle.pagable_file.specs.declared.fsck.Flaw.{Flaw}
 use Rattle.pagable_file.specs.declared.fsck.Flaw.TheVariants as flaw
 
@@ -14,7 +14,7 @@ keyed key blob = (key, blob)
 -- a key's blob, if this is the key's place
 abbrev pub keyed_at : ℤ → Row → Option ℕ → Option (ℕ × Blob)
 keyed_at place row None = None
-keyed_at place row (Some key) = if int_eq (place_of key) place then option_map (keyed key) (blob_in key row) else None
+keyed_at place row (Some key) = if int_eq (rowid_of key) place then option_map (keyed key) (blob_in key row) else None
 
 -- the key and the blob of the row at this place; none if the row there is no key's blob
 unfoldable pub blob_at : ℤ → Row → Option (ℕ × Blob)
@@ -35,13 +35,13 @@ IsFlaw key_of rows roots (flaw.StrayBlob place) = (row : Row) × (row_at rows pl
 IsFlaw key_of rows roots (flaw.WrongKey key) = (blob : Blob) × (blobs_in rows key ≡ Some blob) × (key_of blob ≢ key)
 IsFlaw key_of rows roots (flaw.MissingChild key child) = IsChild rows key child × (blobs_in rows child ≡ None)
 IsFlaw key_of rows roots (flaw.StrayRoot place) = (row : Row) × (row_at roots place ≡ Some row)
-    × (IsUtf8 (bytes (column row 2)) → place_of_name (bytes (column row 2)) ≢ place)
+    × (IsUtf8 (bytes (column row 2)) → rowid_of_name (bytes (column row 2)) ≢ place)
 IsFlaw key_of rows roots (flaw.MissingRoot name key) =
     (roots_in roots (string_bytes name) ≡ Some key) × (blobs_in rows key ≡ None)
 
 -- a row of the table of roots has a name whose place is this one
 abbrev pub IsNamed : ℤ → Row → Type 0
-IsNamed place row = IsUtf8 (bytes (column row 2)) × (place_of_name (bytes (column row 2)) ≡ place)
+IsNamed place row = IsUtf8 (bytes (column row 2)) × (rowid_of_name (bytes (column row 2)) ≡ place)
 
 -- each row is at its key's or its name's place; each blob is under its own key; the table has each of its children, and
 -- the blob of each key that a name stands for
@@ -54,12 +54,12 @@ pub record IsWhole (key_of : Blob → ℕ) (rows roots : List Row) : Type 0 wher
 
 -- the text that a row has as its name, if this is the name's place
 abbrev pub IsNameAt : ℤ → Row → Option (String Global) → Type 0
-IsNameAt place row None = IsUtf8 (bytes (column row 2)) → place_of_name (bytes (column row 2)) ≢ place
+IsNameAt place row None = IsUtf8 (bytes (column row 2)) → rowid_of_name (bytes (column row 2)) ≢ place
 IsNameAt place row (Some name) = (string_bytes name ≡ bytes (column row 2))
-    × (place_of_name (string_bytes name) ≡ place)
+    × (rowid_of_name (string_bytes name) ≡ place)
 
 -- the flaws that a test added are flaws; if there are none at all, this holds
-pub record Tested (P : Flaw → Type 0) (old new : List Flaw) (Q : Type 0) : Type 0 where
+pub record FindsFlaws (P : Flaw → Type 0) (old new : List Flaw) (Q : Type 0) : Type 0 where
   pub real : AllByRecursion P old → AllByRecursion P new
   pub clear : new ≡ [] → (old ≡ []) × Q
 

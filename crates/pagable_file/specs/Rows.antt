@@ -1,8 +1,8 @@
 -- The rows of blobs and roots in the two tables.
-use Rattle.std.specs.Prelude.{◌≡◌, ℕ, ℤ, pos, suc, zero, ◌%◌, ◌/◌, ◌^◌, ◌<◌, ◌==◌, ◌&&◌, Bool, true, false, not, if◌then◌else◌, List, [], ◌∷◌, ◌++◌, length, take, drop, filter, Option, Some, None, option_map, slice_get}
+use Rattle.std.specs.Prelude.{ℕ, ℤ, pos, suc, zero, ◌%◌, ◌/◌, ◌^◌, ◌<◌, ◌==◌, ◌&&◌, Bool, false, not, if◌then◌else◌, List, [], ◌∷◌, length, take, drop, filter, Option, Some, None, option_map, slice_get}
 use Rattle.std.specs.{Int.{w64, w128, to_le_bytes, from_le_bytes}, List.flat_map, Str.bytes_eq}
 use Rattle.sqlite_value.specs.{declared.value.Value.TheVariants.{Null, Int, Text, Blob as Bytes}, Order.{Row, column, bytes}}
-use Rattle.sqlite_trees.specs.Tree.{Trees, has_rowid}
+use Rattle.sqlite_trees.specs.Tree.{has_rowid}
 use Rattle.pagable_value_spec.specs.Blob.{Blob}
 use Rattle.sha2.specs.Sha256.{sha256}
 
@@ -13,8 +13,8 @@ abbrev pub root_tree : ℕ
 root_tree = 1
 
 -- the place of the row of a key's blob: the key's low 63 bits
-abbrev pub place_of : ℕ → ℤ
-place_of key = pos (key % 2 ^ 63)
+abbrev pub rowid_of : ℕ → ℤ
+rowid_of key = pos (key % 2 ^ 63)
 
 -- the row at a place of a table
 unfoldable pub row_at : List Row → ℤ → Option Row
@@ -62,7 +62,7 @@ blob_of_row key (Some row) = blob_in key row
 
 -- the blob that the table has under each key
 unfoldable pub blobs_in : List Row → ℕ → Option Blob
-blobs_in rows key = blob_of_row key (row_at rows (place_of key))
+blobs_in rows key = blob_of_row key (row_at rows (rowid_of key))
 
 -- the row of a blob
 abbrev pub blob_row : ℤ → ℕ → Blob → Row
@@ -70,8 +70,8 @@ blob_row place key blob = Int place ∷ Null ∷ Bytes (to_le_bytes w128 key) �
     ∷ Bytes (flat_map (to_le_bytes w128) blob.keys) ∷ []
 
 -- the place of the row of a root: the low 63 bits of the SHA-256 of its name
-abbrev pub place_of_name : List ℕ → ℤ
-place_of_name name = pos (from_le_bytes w64 (take 8 (sha256 name)) % 2 ^ 63)
+abbrev pub rowid_of_name : List ℕ → ℤ
+rowid_of_name name = pos (from_le_bytes w64 (take 8 (sha256 name)) % 2 ^ 63)
 
 -- the key that a root's row has for this name
 unfoldable pub root_in : List ℕ → Row → Option ℕ
@@ -83,7 +83,7 @@ root_of_row name (Some row) = root_in name row
 
 -- the key that each name stands for
 unfoldable pub roots_in : List Row → List ℕ → Option ℕ
-roots_in rows name = root_of_row name (row_at rows (place_of_name name))
+roots_in rows name = root_of_row name (row_at rows (rowid_of_name name))
 
 abbrev pub key_bytes : Option ℕ → List ℕ
 key_bytes None = []

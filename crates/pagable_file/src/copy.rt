@@ -1,7 +1,7 @@
 //! The copy of all that roots reach, from one storage into another.
 
-ghost use Rattle.std.specs.{Arc.arc_value, List.AllByRecursion, Prelude.{◌≡◌, ◌≤◌, IfOk, IsTrue, ℕ, List, OnOk, Option, Some, map}, String.string_bytes};
-ghost use Rattle.{pagable_core.specs.Data.blob_of, pagable_value_spec.specs.{Blob.{Blob, key_of}, Stored.Keeps}};
+ghost use Rattle.std.specs.{List.AllByRecursion, Prelude.{◌≡◌, IfOk, IsTrue, ℕ, List, OnOk, Option, Some, map}, String.string_bytes};
+ghost use Rattle.{pagable_core.specs.Data.blob_of, pagable_value_spec.specs.{Blob.{key_of}, Stored.Keeps}};
 ghost use Rattle.pagable_file.specs.Copies.{AreCopied, HasCopied, IsCopiedRoot, Matches};
 
 use crate::watch::Watch;

@@ -9,7 +9,7 @@ use crate::fault::Fault;
 use crate::lookup::read;
 use crate::naming::has;
 use crate::open_error::OpenError;
-use crate::pending::{Pending, Waiting, WaitingRoots, hold, is_same, waiting_at};
+use crate::pending::{Pending, Waiting, WaitingRoots, add_waiting, is_same, waiting_at};
 use crate::rows::Reading;
 use crate::saving::save;
 use crate::stats::{Stats, fail, refuse};
@@ -264,7 +264,7 @@ impl<E: Env, S: Store> PagableStorage<E> for FileBlobs<E, S> {
             Err(error) => return Err(refuse(&mut self.stats, error)),
         }
         let blob = Arc::new(alloc, blob)?;
-        hold(&mut self.waiting, key, blob)?;
+        add_waiting(&mut self.waiting, key, blob)?;
         self.stats.stores = self.stats.stores.saturating_add(1);
         Ok(key)
     }

@@ -3,13 +3,13 @@
 ghost use Rattle.std.specs.{List.AllByRecursion, Prelude.{[], ℕ, IfErr, IfOk, IsTrue, List, OnOk, Some, is_some, option_map, ◌≡◌, ◌≤◌, ◌↔◌}, String.string_bytes};
 ghost use Rattle.sqlite_value.specs.Order.{Row as SqlRow};
 ghost use Rattle.{pagable_core.specs.Data.blob_of, pagable_value_spec.specs.{Blob.{Blob, key_of}, Stored.RefusesFlush}};
-ghost use Rattle.pagable_file.specs.{Blobs.{Settled, StaysPut, is_sure}, Flaws.{IsChild, IsFlaw, IsNameAt, IsSoundBlob, IsSoundPlace, IsSoundRoot, IsThere, IsWhole, Tested, blob_at, keyed}};
+ghost use Rattle.pagable_file.specs.{Blobs.{Settled, StaysPut, is_sure}, Flaws.{IsChild, IsFlaw, IsNameAt, IsSoundBlob, IsSoundPlace, IsSoundRoot, IsThere, IsWhole, FindsFlaws, blob_at, keyed}};
 ghost use Rattle.pagable_file.specs.Rows.{blob_tree, blobs_in, root_tree, roots_in};
 
 use crate::file_blobs::FileBlobs;
 use crate::lookup::{look, read};
 use crate::naming::is_blob;
-use crate::rows::{Reading, key_at, place_of, place_of_name, read_blob};
+use crate::rows::{Reading, key_at, read_blob, rowid_of, rowid_of_name};
 use crate::scan::all_places;
 use crate::stats::refuse;
 use crate::tables::{BLOBS, ROOTS};
@@ -50,7 +50,7 @@ fn read_at(
     let Some(key) = key_at(row, 2) else {
         return Ok(None);
     };
-    if place_of(key) != place {
+    if rowid_of(key) != place {
         return Ok(None);
     }
     match read_blob(alloc, row, key)? {
@@ -89,7 +89,7 @@ fn test_child<S: Store>(
     requires settled { Settled (S.view store.old) }
     ensures tested { (of : Blob → ℕ) → IsTrue (is_sure (S.view store.new))
         → IsChild ((S.view store.old).committed blob_tree) key child
-        → OnOk result (Tested (IsFlaw of ((S.view store.old).committed blob_tree)
+        → OnOk result (FindsFlaws (IsFlaw of ((S.view store.old).committed blob_tree)
         ((S.view store.old).committed root_tree)) flaws.old.items flaws.new.items
         (IsThere ((S.view store.old).committed blob_tree) child)) }
     ensures stays { StaysPut (S.view store.old) (S.view store.new) }
@@ -114,7 +114,7 @@ fn test_children<S: Store>(
     requires settled { Settled (S.view store.old) }
     ensures tested { (of : Blob → ℕ) → IsTrue (is_sure (S.view store.new))
         → AllByRecursion (IsChild ((S.view store.old).committed blob_tree) key) children.now
-        → OnOk result (Tested (IsFlaw of ((S.view store.old).committed blob_tree)
+        → OnOk result (FindsFlaws (IsFlaw of ((S.view store.old).committed blob_tree)
         ((S.view store.old).committed root_tree)) flaws.old.items flaws.new.items
         (AllByRecursion (IsThere ((S.view store.old).committed blob_tree)) children.now)) }
     ensures stays { StaysPut (S.view store.old) (S.view store.new) }
@@ -133,7 +133,7 @@ fn test_key<H: KeyHash>(
     blob: &PagableData,
 ) -> Result<(), StoreError>
     ensures { (rows roots : List SqlRow) → blobs_in rows key ≡ Some (blob_of blob.now)
-        → OnOk result (Tested (IsFlaw (key_of H.digest) rows roots) flaws.old.items flaws.new.items
+        → OnOk result (FindsFlaws (IsFlaw (key_of H.digest) rows roots) flaws.old.items flaws.new.items
         (key_of H.digest (blob_of blob.now) ≡ key)) }
 {
     if blob.compute_key::<H>() == key {
@@ -156,7 +156,7 @@ fn test_blob<H: KeyHash, S: Store>(
     requires settled { Settled (S.view store.old) }
     ensures tested { IsTrue (is_sure (S.view store.new)) → blobs_in ((S.view store.old).committed blob_tree) key
         ≡ Some (blob_of blob.now)
-        → OnOk result (Tested (IsFlaw (key_of H.digest) ((S.view store.old).committed blob_tree)
+        → OnOk result (FindsFlaws (IsFlaw (key_of H.digest) ((S.view store.old).committed blob_tree)
         ((S.view store.old).committed root_tree)) flaws.old.items flaws.new.items
         (IsSoundBlob (key_of H.digest) ((S.view store.old).committed blob_tree) key (blob_of blob.now))) }
     ensures stays { StaysPut (S.view store.old) (S.view store.new) }
@@ -177,7 +177,7 @@ fn test_row<H: KeyHash, S: Store>(
 ) -> Result<(), StoreError>
     requires settled { Settled (S.view store.old) }
     ensures tested { IsTrue (is_sure (S.view store.new))
-        → OnOk result (Tested (IsFlaw (key_of H.digest) ((S.view store.old).committed blob_tree)
+        → OnOk result (FindsFlaws (IsFlaw (key_of H.digest) ((S.view store.old).committed blob_tree)
         ((S.view store.old).committed root_tree)) flaws.old.items flaws.new.items
         (IsSoundPlace (key_of H.digest) ((S.view store.old).committed blob_tree) place)) }
     ensures stays { StaysPut (S.view store.old) (S.view store.new) }
@@ -209,7 +209,7 @@ fn test_rows<H: KeyHash, S: Store, W: Watch>(
 ) -> Result<(), StoreError>
     requires settled { Settled (S.view store.old) }
     ensures tested { IsTrue (is_sure (S.view store.new))
-        → OnOk result (Tested (IsFlaw (key_of H.digest) ((S.view store.old).committed blob_tree)
+        → OnOk result (FindsFlaws (IsFlaw (key_of H.digest) ((S.view store.old).committed blob_tree)
         ((S.view store.old).committed root_tree)) flaws.old.items flaws.new.items
         (AllByRecursion (IsSoundPlace (key_of H.digest) ((S.view store.old).committed blob_tree)) places.now)) }
     ensures stays { StaysPut (S.view store.old) (S.view store.new) }
@@ -229,7 +229,7 @@ fn read_name_at(alloc: Global, row: &Row, place: i64) -> Result<Option<String>, 
     let Ok(name) = str::from_utf8(bytes_of(row.get(2))) else {
         return Ok(None);
     };
-    if place_of_name(name) != place {
+    if rowid_of_name(name) != place {
         return Ok(None);
     }
     let name = String::from_str(alloc, name)?;
@@ -249,7 +249,7 @@ fn test_named<S: Store>(
     requires settled { Settled (S.view store.old) }
     ensures tested { (of : Blob → ℕ) → IsTrue (is_sure (S.view store.new))
         → roots_in ((S.view store.old).committed root_tree) (string_bytes name) ≡ Some key
-        → OnOk result (Tested (IsFlaw of ((S.view store.old).committed blob_tree)
+        → OnOk result (FindsFlaws (IsFlaw of ((S.view store.old).committed blob_tree)
         ((S.view store.old).committed root_tree)) flaws.old.items flaws.new.items
         (IsThere ((S.view store.old).committed blob_tree) key)) }
     ensures stays { StaysPut (S.view store.old) (S.view store.new) }
@@ -272,7 +272,7 @@ fn test_root<S: Store>(
 ) -> Result<(), StoreError>
     requires settled { Settled (S.view store.old) }
     ensures tested { (of : Blob → ℕ) → IsTrue (is_sure (S.view store.new))
-        → OnOk result (Tested (IsFlaw of ((S.view store.old).committed blob_tree)
+        → OnOk result (FindsFlaws (IsFlaw of ((S.view store.old).committed blob_tree)
         ((S.view store.old).committed root_tree)) flaws.old.items flaws.new.items
         (IsSoundRoot ((S.view store.old).committed blob_tree) ((S.view store.old).committed root_tree) place)) }
     ensures stays { StaysPut (S.view store.old) (S.view store.new) }
@@ -302,7 +302,7 @@ fn test_roots<S: Store>(
 ) -> Result<(), StoreError>
     requires settled { Settled (S.view store.old) }
     ensures tested { (of : Blob → ℕ) → IsTrue (is_sure (S.view store.new))
-        → OnOk result (Tested (IsFlaw of ((S.view store.old).committed blob_tree)
+        → OnOk result (FindsFlaws (IsFlaw of ((S.view store.old).committed blob_tree)
         ((S.view store.old).committed root_tree)) flaws.old.items flaws.new.items
         (AllByRecursion (IsSoundRoot ((S.view store.old).committed blob_tree)
         ((S.view store.old).committed root_tree)) places.now)) }

@@ -4,7 +4,7 @@ ghost use Rattle.std.specs.Prelude.{◌≡◌, IfOk, IsTrue, None, Some, if◌th
 ghost use Rattle.sqlite_trees.specs.{Tree.Trees, declared.store.Shape.TheVariants.Table};
 ghost use Rattle.pagable_file.specs.{Blobs.{IsFoundAs, IsNamedAs, Settled, StaysPut, is_sure}, Rows.{blob_tree, root_tree, row_at}};
 
-use crate::rows::{Naming, Reading, place_of, place_of_name, read_blob, read_root};
+use crate::rows::{Naming, Reading, read_blob, read_root, rowid_of, rowid_of_name};
 use crate::tables::{BLOBS, ROOTS};
 use pagable_flavors::DataKey;
 use sqlite_trees::error::StoreError;
@@ -41,8 +41,8 @@ pub fn look<S: Store>(
     }
 }
 
-/// Reads the blob of a key from its table, or returns None if the table has no row at the key's
-/// place.
+/// Reads the row at a key's rowid: the key's blob, or what is wrong with the row, which may be another
+/// key's (`Reading`). Returns None if the table has no such row.
 pub fn read<S: Store>(
     alloc: Global,
     store: &mut S,
@@ -55,7 +55,7 @@ pub fn read<S: Store>(
     ensures stays { StaysPut (S.view store.old) (S.view store.new) }
     ensures crash { (db : Trees) → S.recovers store.new db → S.recovers store.old db }
 {
-    if look(store, BLOBS, place_of(key), row)? {
+    if look(store, BLOBS, rowid_of(key), row)? {
         Ok(Some(read_blob(alloc, row, key)?))
     } else {
         Ok(None)
@@ -75,7 +75,7 @@ pub fn read_name<S: Store>(
     ensures stays { StaysPut (S.view store.old) (S.view store.new) }
     ensures crash { (db : Trees) → S.recovers store.new db → S.recovers store.old db }
 {
-    if look(store, ROOTS, place_of_name(name), row)? {
+    if look(store, ROOTS, rowid_of_name(name), row)? {
         Ok(Some(read_root(row, name)))
     } else {
         Ok(None)

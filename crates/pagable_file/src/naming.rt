@@ -11,7 +11,7 @@ ghost use Rattle.pagable_file.specs.Rows as spec;
 use crate::fault::Fault;
 use crate::lookup::{read, read_name};
 use crate::pending::{PendingRoot, Waiting, WaitingRoots, root_at, waiting_at};
-use crate::rows::{Naming, Reading, place_of_name};
+use crate::rows::{Naming, Reading, rowid_of_name};
 use crate::stats::{Stats, fail, refuse};
 use pagable_flavors::{DataKey, Error};
 use sqlite_trees::store::Store;
@@ -140,8 +140,8 @@ fn test_place<S: Store>(
 ) -> Result<(), Error>
     requires settled { Settled (S.view store.old) }
     ensures free { IsTrue (is_sure (S.view store.new))
-        → OnOk result (HasPlace name.now (get int_eq waiting.now (spec.place_of_name name.now))
-        (row_at ((S.view store.old).committed root_tree) (spec.place_of_name name.now))) }
+        → OnOk result (HasPlace name.now (get int_eq waiting.now (spec.rowid_of_name name.now))
+        (row_at ((S.view store.old).committed root_tree) (spec.rowid_of_name name.now))) }
     ensures stays { StaysPut (S.view store.old) (S.view store.new) }
     ensures only { IfErr result (RefusesFlush stats.old.failures stats.new.failures) }
     ensures later { stats.old.failures ≤ stats.new.failures }
@@ -176,8 +176,8 @@ pub fn test_root<S: Store>(
     ensures stands { IsTrue (is_sure (S.view store.new))
         → OnOk result (Stands (stored_with waiting.now ((S.view store.old).committed blob_tree)) key.now) }
     ensures free { IsTrue (is_sure (S.view store.new))
-        → OnOk result (HasPlace name.now (get int_eq waiting_roots.now (spec.place_of_name name.now))
-        (row_at ((S.view store.old).committed root_tree) (spec.place_of_name name.now))) }
+        → OnOk result (HasPlace name.now (get int_eq waiting_roots.now (spec.rowid_of_name name.now))
+        (row_at ((S.view store.old).committed root_tree) (spec.rowid_of_name name.now))) }
     ensures refused { IsTrue (is_sure (S.view store.new))
         → IfErr result (RefusesRoot key.now (stored_with waiting.now ((S.view store.old).committed blob_tree)) false
         stats.old.failures stats.new.failures) }
@@ -202,6 +202,6 @@ pub fn hold_root(
     ensures err { OnErr result (waiting.new.entries ≡ waiting.old.entries) }
 {
     let text = String::from_str(alloc, name)?;
-    waiting.insert(place_of_name(name), PendingRoot { name: text, key })?;
+    waiting.insert(rowid_of_name(name), PendingRoot { name: text, key })?;
     Ok(())
 }

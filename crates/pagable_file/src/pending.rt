@@ -4,7 +4,7 @@ ghost use Rattle.std.specs.{Arc.arc_value, HashMap.get, Ordering.int_eq, Prelude
 ghost use Rattle.{pagable_core.specs.Data.blob_of, pagable_file.specs.Blobs.Holds, pagable_value_spec.specs.Outcomes.memory};
 ghost use Rattle.pagable_file.specs.Rows as spec;
 
-use crate::rows::{place_of, place_of_name};
+use crate::rows::{rowid_of, rowid_of_name};
 use pagable_core::PagableData;
 use pagable_flavors::{DataKey, Error};
 use std::collections::HashMap;
@@ -31,28 +31,29 @@ pub struct PendingRoot {
 /// The names that wait for a flush, by their places.
 pub type WaitingRoots = HashMap<i64, PendingRoot>;
 
-/// Returns the blob that waits at a key's place, if one does.
+/// Returns the blob that waits for a flush at the rowid of `key`, if one does. It may be another
+/// key's, with the same low 63 bits.
 pub fn waiting_at(waiting: &Waiting, key: DataKey) -> Option<&Pending>
-    ensures { option_copied result ≡ get int_eq waiting.now (spec.place_of key) }
+    ensures { option_copied result ≡ get int_eq waiting.now (spec.rowid_of key) }
 {
-    waiting.get(&place_of(key))
+    waiting.get(&rowid_of(key))
 }
 
 /// Returns the name that waits at a name's place, if one does.
 pub fn root_at<'a>(waiting: &'a WaitingRoots, name: &str) -> Option<&'a PendingRoot>
-    ensures { option_copied result ≡ get int_eq waiting.now (spec.place_of_name name.now) }
+    ensures { option_copied result ≡ get int_eq waiting.now (spec.rowid_of_name name.now) }
 {
-    waiting.get(&place_of_name(name))
+    waiting.get(&rowid_of_name(name))
 }
 
 /// Adds a blob to those that wait. Fails with `OutOfMemory` only; then nothing changes.
 #[tactic(auto, using(crate::proofs::Fetching::holds))]
-pub fn hold(waiting: &mut Waiting, key: DataKey, blob: Arc<PagableData>) -> Result<(), Error>
+pub fn add_waiting(waiting: &mut Waiting, key: DataKey, blob: Arc<PagableData>) -> Result<(), Error>
     ensures ok { OnOk result (Holds key (blob_of (arc_value blob)) waiting.old waiting.new) }
     ensures only { IfErr result memory }
     ensures err { OnErr result (waiting.new.entries ≡ waiting.old.entries) }
 {
-    waiting.insert(place_of(key), Pending { key, blob })?;
+    waiting.insert(rowid_of(key), Pending { key, blob })?;
     Ok(())
 }
 

@@ -20,15 +20,15 @@ use sqlite_value::value::ValueRef;
 use std::alloc::{AllocError, Global};
 
 /// Returns the place of the row of a key's blob: the key's low 63 bits.
-pub fn place_of(key: DataKey) -> i64
-    ensures { result ≡ spec.place_of key }
+pub fn rowid_of(key: DataKey) -> i64
+    ensures { result ≡ spec.rowid_of key }
 {
     (key.get() % (1 << 63)) as i64
 }
 
 /// Returns the place of the row of a root: the low 63 bits of the SHA-256 of its name.
-pub fn place_of_name(name: &str) -> i64
-    ensures { result ≡ spec.place_of_name name.now }
+pub fn rowid_of_name(name: &str) -> i64
+    ensures { result ≡ spec.rowid_of_name name.now }
 {
     let mut hasher = Sha256::new();
     hasher.update(name.as_bytes());

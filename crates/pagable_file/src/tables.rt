@@ -3,7 +3,7 @@
 ghost use Rattle.std.specs.Prelude.{[], IsTrue, OnOk, ◌≡◌, ◌≤◌};
 ghost use Rattle.sqlite_trees.specs.{Objects.catalog_tree, View.{IsClean, doubt}};
 ghost use Rattle.sqlite_trees.specs.declared.store.Shape.TheVariants as shape;
-ghost use Rattle.pagable_file.specs.{Blobs.{Finds, IsIdle, Made}, Rows.{blob_tree, root_tree}};
+ghost use Rattle.pagable_file.specs.{Blobs.{Finds, IsIdle, TablesCreated}, Rows.{blob_tree, root_tree}};
 
 use crate::open_error::OpenError;
 use sqlite_trees::error::StoreError;
@@ -70,7 +70,7 @@ fn make<S: Alter>(store: &mut S) -> Result<(), StoreError>
     requires blobs { (S.Store.view store.old).shape blob_tree ≡ shape.Absent }
     requires roots { (S.Store.view store.old).shape root_tree ≡ shape.Absent }
     ensures made { OnOk result (IsClean (S.Store.view store.new)
-        → Made (S.Store.view store.old) (S.Store.view store.new)) }
+        → TablesCreated (S.Store.view store.old) (S.Store.view store.new)) }
     ensures clean { doubt (S.Store.view store.old).is_clean ≤ doubt (S.Store.view store.new).is_clean }
 {
     store.create(BLOBS, &table("blobs", BLOBS_SQL))?;

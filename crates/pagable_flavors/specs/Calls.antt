@@ -1,10 +1,10 @@
 -- What the calls of readers and writers of basic values owe.
 use Rattle.std.specs.Prelude.{◌≡◌, ◌<◌, ◌≤◌, ◌++◌, ℕ, List, Result, OnOk, IfErr}
-use Rattle.pagable_value_spec.specs.{BasicValues.longest, Outcomes.{Gives, Extends, memory, never}, Lengths.long_or_memory, Numbers.Read, Progress.{Track, left, GoesOn}, declared.error.Error.Error}
+use Rattle.pagable_value_spec.specs.{BasicValues.longest, Outcomes.{MatchesReading, Extends, memory, no_own_causes}, Lengths.long_or_memory, Numbers.Read, Progress.{Track, left, GoesOn}, declared.error.Error.Error}
 
 -- The call returned what reading gives here, or the first fault; the position is between the old one and the end.
 pub record Reads {X : Type 0} (at : List ℕ → Read X) (result : Result X Error) (old new : Track) : Type 0 where
-  pub gives : Gives never (λ x. (x, left new)) result (at (left old))
+  pub gives : MatchesReading no_own_causes (λ x. (x, left new)) result (at (left old))
   pub goes : GoesOn old new
 
 -- The form was appended. The call fails only with OutOfMemory, and may then have appended some bytes.

@@ -1,6 +1,6 @@
 //! The trait of readers of basic values, which a deserializer lends.
 
-ghost use Rattle.{pagable_flavors.specs.Calls.Reads, pagable_value_spec.specs.{BasicValues.{bool_at, char_at, length_at, text_at}, Outcomes.{Gives, memory}, Numbers.{signed_at, unsigned_at}, Progress.GoesOn}};
+ghost use Rattle.{pagable_flavors.specs.Calls.Reads, pagable_value_spec.specs.{BasicValues.{bool_at, char_at, length_at, text_at}, Outcomes.{MatchesReading, memory}, Numbers.{signed_at, unsigned_at}, Progress.GoesOn}};
 ghost use Rattle.pagable_value_spec.specs.Progress.{Track, left};
 ghost use Rattle.std.specs.{Int.{w128, w16, w32, w64, w8}, Prelude.{length, ◌≡◌, ◌≤◌}, String.string_bytes};
 
@@ -122,7 +122,7 @@ pub trait Reader {
     /// - `BadUtf8` if the text isn't UTF-8.
     /// - `OutOfMemory` if the string can't be allocated.
     fn read_string(&mut self, alloc: Global) -> Result<String, Error>
-        ensures gives { Gives memory (λ t. (string_bytes t, left (track self.new))) result
+        ensures gives { MatchesReading memory (λ t. (string_bytes t, left (track self.new))) result
             (text_at (left (track self.old))) }
         ensures goes { GoesOn (track self.old) (track self.new) };
 }

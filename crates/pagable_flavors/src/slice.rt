@@ -1,7 +1,7 @@
 //! `PagableSlice`: a reader over a slice of bytes.
 
 ghost use Rattle.std.specs.Prelude.{◌≡◌, ◌≤◌, length, OnErr};
-ghost use Rattle.{pagable_flavors.specs.Calls.Reads, pagable_value_spec.specs.{BasicValues.bytes_at, Outcomes.{Gives, never}, Numbers.byte_at, Progress.{Track, left, GoesOn}}};
+ghost use Rattle.{pagable_flavors.specs.Calls.Reads, pagable_value_spec.specs.{BasicValues.bytes_at, Outcomes.{MatchesReading, no_own_causes}, Numbers.byte_at, Progress.{Track, left, GoesOn}}};
 
 mod numbers;
 mod reading;
@@ -93,7 +93,8 @@ impl<'de> PagableSlice<'de> {
     ///
     /// - `UnexpectedEnd` if fewer are left: the position is unchanged.
     pub fn try_take_n(&mut self, count: usize) -> Result<&'de [u8], Error>
-        ensures gives { Gives never (λ b. (b.now, left self.new)) result (bytes_at count (left self.old)) }
+        ensures gives { MatchesReading no_own_causes (λ b. (b.now, left self.new)) result
+            (bytes_at count (left self.old)) }
         ensures goes { GoesOn self.old self.new }
         ensures err { OnErr result (self.new ≡ self.old) }
     {
@@ -107,7 +108,8 @@ impl<'de> PagableSlice<'de> {
 
     /// Does what `try_take_n` does.
     pub fn try_take_n_temp(&mut self, count: usize) -> Result<&'de [u8], Error>
-        ensures gives { Gives never (λ b. (b.now, left self.new)) result (bytes_at count (left self.old)) }
+        ensures gives { MatchesReading no_own_causes (λ b. (b.now, left self.new)) result
+            (bytes_at count (left self.old)) }
         ensures goes { GoesOn self.old self.new }
         ensures err { OnErr result (self.new ≡ self.old) }
     {

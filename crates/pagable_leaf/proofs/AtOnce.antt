@@ -1,9 +1,10 @@
 -- A leaf that is loaded in one call: the numbers of a load and of its handle are taken, and the cell is pinned. A load by steps that begins, fetches and ends
 -- leaves the same.
+use Rattle.pagable_tables.specs.Core.{StorageView}
 use Rattle.pagable_tables.proofs.{CascadeStep.{aside, turned, unmixed}, Counting.{all-kept, kept-more, left-none, of_list, there-is}}
 use Rattle.pagable_tables.proofs.{HandleTable.found-append, OwnedByLoad.{changed-push, seen-before}, RowCounts.{found-among, sum-none}}
 use Rattle.pagable_tables.proofs.CascadeEnd.{ended}
-use Rattle.pagable_leaf.proofs.Words.{Alike, BeginCall, Blob, Bool, Core, Falls, HandleNumber, HandleRow, RefCounts, Installs, List}
+use Rattle.pagable_leaf.proofs.Words.{Alike, BeginCall, Bool, Core, Falls, HandleNumber, HandleRow, RefCounts, Installs, List}
 use Rattle.pagable_leaf.proofs.Words.{LoadNumber, MayEnd, Mode, None, Ok, Option, OptionalDataKey, Owner, Owns, SoFar, Some, Tables, [], append-nil, ap, arith, cases_Bool, cases_eq, changed, core_of}
 use Rattle.pagable_leaf.proofs.Words.{MustList, false, filter-append, find_row, greatest, if◌then◌else◌, inl, inr, is_handle, is_here, is_loose, is_named_by, is_owned_by, is_owned_in, is_pin, is_plain_pin, is_share, left_rows}
 use Rattle.pagable_leaf.proofs.Words.{length, moved, nat_tests, nobody, not, of_cell, one, or_else, owner_value, owns_nothing, pins, refl, row_of, sharing, subst, sum_by-cons, sum_by-le-sum_by, sum_by_push, sym}
@@ -41,13 +42,13 @@ numbers-stay q n (x ∷ xs) =
       numbers-stay q n xs,
     )
 
-module _ (t t1 : Tables) (stored : ℕ → Option Blob) (closed lists : Bool) (failures : ℕ) (was : IsWhole t) (whole : IsWhole t1) (e : lists ≡ not closed)
-    (me : Owner) (row : HandleRow) (key type : ℕ) where
+module _ (t t1 : Tables) (storage : StorageView) (lists : Bool) (was : IsWhole t) (whole : IsWhole t1) (e : lists ≡ not storage.closed) (me : Owner)
+    (row : HandleRow) (key type : ℕ) where
   abbrev w : Core
-  w = core_of t stored closed failures
+  w = core_of t storage
 
   abbrev w' : Core
-  w' = core_of t1 stored closed failures
+  w' = core_of t1 storage
 
   -- the number of the load's own handle
   abbrev g : ℕ
@@ -75,7 +76,7 @@ module _ (t t1 : Tables) (stored : ℕ → Option Blob) (closed lists : Bool) (f
   given q = is_owned_in begun (Owner.Load l) q && not (is_named_by [] q)
 
   abbrev after : RefCounts
-  after = record t1.ref_counts { unlisted = None }
+  after = record t1.ref_counts { listing_error = None }
 
   module _ (owned : Owns w me row.number is_loose row) (a : Alike (with_handle (with_mode (with_numbers w) row.number Mode.LoosePinned) row.node Mode.Pinned me)
       w')

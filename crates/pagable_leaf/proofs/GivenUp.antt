@@ -1,7 +1,8 @@
 -- A load of a cell that begins and is dropped leaves only that its number and that of its handle are taken.
+use Rattle.pagable_tables.specs.Core.{StorageView}
 use Rattle.pagable_tables.proofs.{CascadeEnd.ended, CascadeStep.{aside, unmixed}, Counting.{all-kept, kept-more, left-none, of_list, there-is}}
 use Rattle.pagable_tables.proofs.{HandleTable.found-append, OwnedByLoad.seen-before, RowCounts.{found-among, sum-none}}
-use Rattle.pagable_leaf.proofs.Words.{Alike, BeginCall, Blob, Bool, Core, Falls, HandleNumber, HandleRow, RefCounts, LoadNumber, Mode, MustList, None, Ok, Option, OptionalDataKey, Owner, Owns}
+use Rattle.pagable_leaf.proofs.Words.{Alike, BeginCall, Bool, Core, Falls, HandleNumber, HandleRow, RefCounts, LoadNumber, Mode, MustList, None, Ok, Option, OptionalDataKey, Owner, Owns}
 use Rattle.pagable_leaf.proofs.Words.{SoFar, Some, Tables, [], append-nil, ap, arith, cases_Bool, cases_eq, core_of, false, filter-append, find_row, greatest, inl, inr, is_handle, is_here, is_loose, is_owned_by}
 use Rattle.pagable_leaf.proofs.Words.{is_owned_in, is_pin, is_plain_pin, is_share, left_rows, nat_tests, nobody, of_cell, one, or_else, owns_nothing, refl, row_of, subst, sum_by_push, sym, times, type_at}
 use Rattle.pagable_tables.proofs.SameViews.{alike-on, owner-same, same-cache, still}
@@ -11,17 +12,17 @@ use Rattle.pagable_tables.specs.{Core.{ArePlaced, IsWhole}, HandleTable.room}
 use Rattle.pagable_leaf.proofs.Words.{length-append}
 use Rattle.pagable_pager_spec.specs.{World.key_at, declared.pinning.Beginning.Beginning}
 
-module _ (t : Tables) (stored : ℕ → Option Blob) (closed lists : Bool) (failures : ℕ) (was : IsWhole t) (e : lists ≡ not closed) (me : Owner) (row : HandleRow)
+module _ (t : Tables) (storage : StorageView) (lists : Bool) (was : IsWhole t) (e : lists ≡ not storage.closed) (me : Owner) (row : HandleRow)
     (key type : ℕ) where
   -- the tables afterwards
   abbrev t1 : Tables
   t1 = record t { ref_counts = record t.ref_counts { last_handle = t.ref_counts.last_handle + 1 }; last_load = t.last_load + 1 }
 
   abbrev w : Core
-  w = core_of t stored closed failures
+  w = core_of t storage
 
   abbrev w' : Core
-  w' = core_of t1 stored closed failures
+  w' = core_of t1 storage
 
   -- the number of the load's own handle
   abbrev g : ℕ
@@ -46,7 +47,7 @@ module _ (t : Tables) (stored : ℕ → Option Blob) (closed lists : Bool) (fail
   given q = is_owned_in begun (Owner.Load l) q
 
   abbrev after : RefCounts
-  after = record t1.ref_counts { unlisted = None }
+  after = record t1.ref_counts { listing_error = None }
 
   module _ (whole : IsWhole t1) (owned : Owns w me row.number is_loose row) where
     none-yet : times (is_handle g) w.rows ≡ 0

@@ -9,10 +9,10 @@ pub use Rattle.std.specs.{List.AllPairs, Option.option_map, Prelude.{IfSome, IsS
 pub use Rattle.{indexmap.specs.IndexMap.{IndexMap, get}, pagable_value_spec.specs.declared.{data_key.OptionalDataKey.OptionalDataKey, error.Error.Error, numbers.{ArcRef.ArcRef, HandleNumber.HandleNumber}}}
 pub use Rattle.pagable_value_spec.specs.declared.numbers.{Kind.Kind, LoadNumber.LoadNumber, NodeNumber.NodeNumber}
 pub use Rattle.pagable_tables.specs.{Core.{Bears, OnlyRoom}, EndingLoads.early_fault, HandleTable.Becomes, NumberTable.row_by}
-pub use Rattle.pagable_tables.specs.Core.{ArePlaced, Makes, MayHold, Suits, core_of, load_in, plain_of, root_in}
+pub use Rattle.pagable_tables.specs.Core.{ArePlaced, Makes, MayHold, Suits, core_of, load_in, core_alone, root_in}
 pub use Rattle.pagable_tables.specs.{Indexes.{is_same, known_at, load_at, reach_at, worker_at}, Nodes.{counts_at, refs_at}}
 pub use Rattle.pagable_tables.specs.CascadeInvariant.{Chain, Fits, IsFalling, Right}
-pub use Rattle.pagable_tables.specs.CascadeSteps.{CellsStay, FallsBy, GetsKey, GivesUp, HasFallen, HasPlaces, IsUnlisted, Leaves, MayList, Steps}
+pub use Rattle.pagable_tables.specs.CascadeSteps.{CellsStay, FallsBy, GetsKey, ReleasesWithoutCascade, HasFallen, HasPlaces, IsUnlisted, Leaves, MayList, Steps}
 pub use Rattle.pagable_tables.specs.ValuesKept.{AreKept, Sheds}
 pub use Rattle.pagable_tables.specs.CascadeInvariant.{entries_of, entry, is_bare, is_right}
 pub use Rattle.pagable_tables.specs.{CascadeSteps.{ValueStays, after, is_fallen_by, is_listing, is_node}, Nodes.{cell_in, falls_in, has_value, holds_in}}
@@ -25,7 +25,7 @@ pub use Rattle.pagable_tables.specs.declared.{cascade.RefCounts.RefCounts, handl
 pub use Rattle.pagable_tables.specs.declared.{load_end.Ending.Ending, load_table.LoadRow.LoadRow, place.Place.Place}
 pub use Rattle.pagable_tables.specs.declared.{nodes.{Counts.Counts, NodeRow.NodeRow}, number_table.NumberTable.NumberTable}
 pub use Rattle.pagable_tables.specs.declared.tables.{HandleRange.HandleRange, Tables.Tables}
-pub use Rattle.pagable_pager_spec.specs.Calls.{AwayBirthCall, ClearCall, CloneCall, CloseCall, LoosenCall, PinCall, RecallCall, ReserveCall, ScheduleCall, SetKeyCall, TakeCall, UnpinCall, birth_fault}
+pub use Rattle.pagable_pager_spec.specs.Calls.{InsertPagedOutCall, ClearCall, CloneCall, CloseCall, LoosenCall, PinCall, RecallCall, ReserveCall, ScheduleCall, SetKeyCall, TakeCall, UnpinCall, insert_fault}
 pub use Rattle.pagable_pager_spec.specs.Calls.{is_handle_here, is_listed, is_usable, moved, next_node, offer_fault, pin_fault, recall_fault, row_of, shut, with_cached, with_handle, with_key, with_known}
 pub use Rattle.pagable_pager_spec.specs.{Calls.{with_mode, with_node}, Cascade.{AreNewEntries, Falls, FallsAnyhow, IsClosed, IsLeast, IsListRefusal, IsWithin, MustList, TellsListing, fallen, held_outside}}
 pub use Rattle.pagable_pager_spec.specs.{Cascade.{is_keyed, is_outside, left_rows, loses_value, nobody, only_handle, pins_outside}, Events.with_worker, Kinds.{any_mode, fits_mode, has_key, held, is_at}}

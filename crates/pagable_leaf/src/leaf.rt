@@ -1,11 +1,12 @@
 //! Loads of leaves, cells whose blobs have no references, in one call. They leave what a load by
 //! steps leaves that begins, gets the blob and ends, without making its row and its handle.
 
+ghost use Rattle.pagable_tables.specs.Core.{StorageView};
 ghost use Rattle.pagable_leaf.specs.Leaf.{DropsLeaf, IsLeaf, PinsLeaf, with_numbers};
-ghost use Rattle.pagable_tables.specs.{Core.{AreLater, Does, IsWhole, OnlyRoom, core_of, plain_of}, EndingLoads.has_come, HandleTable.room};
+ghost use Rattle.pagable_tables.specs.{Core.{AreLater, Does, IsWhole, OnlyRoom, core_of, core_alone}, EndingLoads.has_come, HandleTable.room};
 ghost use Rattle.pagable_tables.specs.Nodes.{counts_at, has_value};
-ghost use Rattle.pagable_pager_spec.specs.{LoadCalls.BeginCall, Pager.{MayOwnLoad}, Basics.{Blob}, World.{greatest}};
-ghost use Rattle.std.specs.Prelude.{Bool, Err, IfErr, IfNone, IfOk, IfSome, Option, ℕ, ◌+◌, ◌<◌, ◌≡◌, ◌≤◌};
+ghost use Rattle.pagable_pager_spec.specs.{LoadCalls.BeginCall, Pager.{MayOwnLoad}, World.{greatest}};
+ghost use Rattle.std.specs.Prelude.{Err, IfErr, IfNone, IfOk, IfSome, Option, ℕ, ◌+◌, ◌<◌, ◌≡◌, ◌≤◌};
 
 use pagable_pager_spec::handle_row::{HandleRow, Owner};
 use pagable_tables::checks::own;
@@ -27,8 +28,7 @@ pub struct Leaf {
 /// left for a load, the load's handle and a pin.
 pub fn find(t: &Tables, me: Owner, handle: HandleNumber) -> Option<Leaf>
     requires { IsWhole t.now }
-    ensures leaf { (stored : ℕ → Option Blob) (closed : Bool) (failures : ℕ)
-        → IfSome result (IsLeaf (core_of t.now stored closed failures) me) }
+    ensures leaf { (storage : StorageView) → IfSome result (IsLeaf (core_of t.now storage) me) }
     ensures number { IfSome result (λ leaf. leaf.row.number ≡ handle) }
 {
     let at = own(t, me, handle).ok()?;
@@ -54,16 +54,14 @@ pub fn find(t: &Tables, me: Owner, handle: HandleNumber) -> Option<Leaf>
 /// - `OutOfMemory` if the handles can't grow: nothing changes.
 pub fn prepare(t: &mut Tables, me: Owner, handle: HandleNumber) -> Result<Option<Leaf>, Error>
     requires { IsWhole t.old }
-    ensures leaf { (stored : ℕ → Option Blob) (closed : Bool) (failures : ℕ)
-        → IfOk result (λ found. IfSome found (IsLeaf (core_of t.new stored closed failures) me)) }
+    ensures leaf { (storage : StorageView) → IfOk result (λ found. IfSome found (IsLeaf (core_of t.new storage) me)) }
     ensures number { IfOk result (λ found. IfSome found (λ leaf. leaf.row.number ≡ handle)) }
     ensures place { IfOk result (λ found. IfSome found (λ leaf. 1 ≤ room t.new.ref_counts.handles)) }
     ensures none { IfOk result (λ found. IfNone found (t.new ≡ t.old)) }
     ensures does { Does t.old OnlyRoom t.new }
     ensures nodes { t.new.ref_counts.nodes ≡ t.old.ref_counts.nodes }
-    ensures refused { (stored : ℕ → Option Blob) (closed : Bool) (failures : ℕ)
-        → IfErr result (λ e. BeginCall (core_of t.old stored closed failures) me handle (Err e)
-        (core_of t.new stored closed failures)) }
+    ensures refused { (storage : StorageView) → IfErr result
+        (λ e. BeginCall (core_of t.old storage) me handle (Err e) (core_of t.new storage)) }
 {
     let Some(leaf) = find(t, me, handle) else {
         return Ok(None);
@@ -94,12 +92,11 @@ pub fn take_numbers(t: &mut Tables)
 /// new Pinned handle. The caller has stored the value itself already.
 pub fn install(t: &mut Tables, me: Owner, leaf: Leaf) -> HandleNumber
     requires whole { IsWhole t.old }
-    requires leaf { IsLeaf (plain_of t.old) me leaf }
-    requires may { MayOwnLoad (plain_of t.old) me }
+    requires leaf { IsLeaf (core_alone t.old) me leaf }
+    requires may { MayOwnLoad (core_alone t.old) me }
     requires place { 1 ≤ room t.old.ref_counts.handles }
-    ensures pins { (stored : ℕ → Option Blob) (closed : Bool) (failures : ℕ)
-        → PinsLeaf (core_of t.old stored closed failures) me leaf.row leaf.key leaf.node_type result
-        (core_of t.new stored closed failures) }
+    ensures pins { (storage : StorageView) → PinsLeaf (core_of t.old storage) me leaf.row leaf.key leaf.node_type result
+        (core_of t.new storage) }
     ensures come { (n : ℕ) → has_value (counts_at t.new.ref_counts.nodes n)
         ≡ has_come (counts_at t.old.ref_counts.nodes) leaf.row.node n }
     ensures whole { IsWhole t.new }
@@ -114,10 +111,10 @@ pub fn install(t: &mut Tables, me: Owner, leaf: Leaf) -> HandleNumber
 
 /// Leaves the cell without its value, as a load does that begins and is dropped: only its numbers
 /// are taken.
-pub fn give_up(t: &mut Tables, me: Owner, leaf: Leaf)
+pub fn leave_unloaded(t: &mut Tables, me: Owner, leaf: Leaf)
     requires whole { IsWhole t.old }
-    requires leaf { IsLeaf (plain_of t.old) me leaf }
-    requires may { MayOwnLoad (plain_of t.old) me }
+    requires leaf { IsLeaf (core_alone t.old) me leaf }
+    requires may { MayOwnLoad (core_alone t.old) me }
     requires place { 1 ≤ room t.old.ref_counts.handles }
     ensures does { Does t.old (λ w w'. DropsLeaf w me leaf.row leaf.key leaf.node_type w') t.new }
     ensures same { t.new ≡ record t.old {

@@ -1,7 +1,7 @@
 -- What a decoded value holds beside its references is what their handles pin, since nothing else was lent.
-use Rattle.{pagable_load.{proofs.LoadSteps.{tells_all, tells_map}, specs.{ResolvedReferences.{Lends, LendsEach, lent_at, lent_by, lent_there}, AccessView.Tells}}, pagable_value_spec.specs.Cursor.{HoldsLent, IsOnlyLent, Standing}}
+use Rattle.{pagable_load.{proofs.LoadSteps.{tells_all, tells_map}, specs.{ResolvedReferences.{Lends, LendsEach, lent_at, lent_by, lent_there}, AccessView.IfKnown}}, pagable_value_spec.specs.Cursor.{HoldsLentValues, IsOnlyLent, InputState}}
 use Rattle.{pagable_value_spec.specs.declared.{error.Error.Error, numbers.{ArcRef.ArcRef, HandleNumber.HandleNumber}}, pagable_pager_spec.specs.{Pager.{HoldsPinned, PagerState, ValueCall}, World.Values}}
-use Rattle.std.{proofs.{Common.{Err, List, None, Ok, Option, Result, Some, ap, arith, refl, slice_get, subst, sym, ℕ, ◌∙◌, ◌≡◌}, lemmas.Bool.Decides.nat_tests}, specs.{Option.option_map, Prelude.{IfOk, option_and_then}}}
+use Rattle.std.{proofs.{Common.{Err, List, None, Ok, Option, Result, Some, ap, arith, slice_get, subst, sym, ℕ, ◌∙◌, ◌≡◌}, lemmas.Bool.Decides.nat_tests}, specs.{Option.option_map, Prelude.{IfOk, option_and_then}}}
 
 parts : {X Y : Type 0} (o : Option X) (p : Option Y) (q : X × Y) → option_and_then {U = X × Y} (λ a. option_map (λ b. (a, b)) p) o ≡ Some q → (o ≡ Some q.0)
     × (p ≡ Some q.1)
@@ -18,7 +18,7 @@ module _ {A N : Type 0} (see : A → N) (got : List ArcRef) (lent : List (Option
   pub none_is : slice_get got place ≡ None → lent_there see got lent place ≡ Some (r, y)
   none_is none = grind (arith, nat_tests)
 
-module _ {A N E : Type 0} (see : A → N) (got : List ArcRef) (lent : List (Option A)) (st : Standing N) (stands : st.lent ≡ lent_there see got lent) where
+module _ {A N E : Type 0} (see : A → N) (got : List ArcRef) (lent : List (Option A)) (st : InputState N) (stands : st.lent ≡ lent_there see got lent) where
   one-value : (s : PagerState N E) (h : HandleNumber) (y z : N) → ValueCall s h (Ok (Some y)) → ValueCall s h (Ok (Some z)) → z ≡ y
   one-value s h y z c d =
       let p = c.found in
@@ -34,7 +34,7 @@ module _ {A N E : Type 0} (see : A → N) (got : List ArcRef) (lent : List (Opti
       let there = parts (slice_get got place) (lent_at see lent place) (r, z) (ap (λ f. f place) (sym stands) ∙ at) in
       one-value s r.handle y z value (pinned-of s r (lent_at see lent place) z there.1 (lends.each place r there.0))
 
-  pub read_holds : (v : Values N) (told : Option (PagerState N E)) (r : Result N Error) → Tells told (λ s. LendsEach see s got lent)
-      → IfOk r (HoldsLent st v.beside) → Tells told (λ s. IfOk r (HoldsPinned v s))
+  pub read_holds : (v : Values N) (told : Option (PagerState N E)) (r : Result N Error) → IfKnown told (λ s. LendsEach see s got lent)
+      → IfOk r (HoldsLentValues st v.beside) → IfKnown told (λ s. IfOk r (HoldsPinned v s))
   read_holds v told (Ok x) lends holds = tells_map (λ s each. record { each = λ r y value. holds.each r y (only s each r y value) }) lends
   read_holds v told (Err e) lends holds = tells_all (λ s. tt)

@@ -1,15 +1,15 @@
 -- What a load needs next, what the calls of its steps have done, and whole pins and reads.
 use Rattle.{either.specs.declared.Either.Either, pagable_core.specs.{Context.at_front, Data.blob_of}, pagable_load.specs.{Decoding.{IsReadAs, Needs}, Frames.{IsLoadOf, frame_of}}}
 use Rattle.pagable_load.specs.{Frames.{frames_of, onto, reading_of}, ResolvedReferences.{AreLater, AreStandIns, Lends, LendsEach, answer_at, lent_at, stand_in}, PinStart.{PinsFirst, Shares, SharesPinned, StartsPin, TakesBack, Unpins}}
-use Rattle.pagable_load.specs.{LoadSteps.{Drops, HasGone, IsSameLoad, Met, Runs, RunsOrGoes, Tries}, AccessView.{Acting, Acts, ActsThen, AdoptsValue, AsksFor, Brings, IsMade, TakesLazily, Tells}}
+use Rattle.pagable_load.specs.{LoadSteps.{Drops, HasGone, IsSameLoad, Met, Runs, RunsOrGoes, Tries}, AccessView.{Acting, Acts, ActsThen, AdoptsValue, AsksFor, Brings, IsMade, TakesLazily, IfKnown}}
 use Rattle.{pagable_load.specs.declared.{reading.{Frame.Frame as Held, Need.Need, Reading.Reading as Own}, access.PinStart.PinStart}, pagable_value_spec.specs.Blob.Blob}
-use Rattle.pagable_value_spec.specs.{Height.longest_path, Meaning.Meaning, Reading.{Rest, read_typed}, Shape.Shape, Cursor.{Answer, GivesSome, Standing, handles_at, rest_at}}
-use Rattle.{pagable_value_spec.specs.declared.{error.Error.Error, numbers.{ArcRef.ArcRef, HandleNumber.HandleNumber, Kind.Kind, LoadNumber.LoadNumber}}, pagable_pager_spec.specs.Access.{Called, IsUnpinnedBack}}
-use Rattle.pagable_pager_spec.specs.Access.{LoadRun, PinRun, PinsOver, ReadingStep, ReadsOver, Told, load-ends, load-fails, load-goes-on, load-is-refused, load-pins, load-reads, pin-is-refused}
-use Rattle.pagable_pager_spec.specs.{Access.{pins-at-once, reading-fails, reading-is-refused}, Calls.{PinCall, ReleaseCall}, Kinds.{is_loose, is_unpinned}, LoadCalls.{AskCall, BeginCall, BeginKeyCall}}
-use Rattle.pagable_pager_spec.specs.{LoadCalls.{EndCall, HandOverCall, from_store, with_load}, Loads.{Does, GoesOn, IsDecoded, IsOfCell, IsOfKey, LoadIs, MakesNode, Meets, ReadsNode, ReadsRoot, answer_of}}
+use Rattle.pagable_value_spec.specs.{Height.longest_path, Meaning.Meaning, Reading.{Rest, read_typed}, Shape.Shape, Cursor.{Answer, GivesSome, InputState, handles_at, rest_at}}
+use Rattle.{pagable_value_spec.specs.declared.{error.Error.Error, numbers.{ArcRef.ArcRef, HandleNumber.HandleNumber, Kind.Kind, LoadNumber.LoadNumber}}, pagable_pager_spec.specs.Access.{MakesCall, IsUnpinnedBack}}
+use Rattle.pagable_pager_spec.specs.Access.{LoadRun, PinRun, PinsOver, ReadingStep, ReadsOver, IfBothKnown, load-ends, load-fails, load-goes-on, load-is-refused, load-pins, load-reads, pin-is-refused}
+use Rattle.pagable_pager_spec.specs.{Access.{pins-at-once, reading-fails, reading-is-refused}, Calls.{PinCall, ReleaseCall}, Kinds.{is_loose, is_unpinned}, LoadCalls.{LoadFetchCall, BeginCall, BeginKeyCall}}
+use Rattle.pagable_pager_spec.specs.{LoadCalls.{EndCall, HandOverCall, from_store, with_load}, Loads.{LoadDoes, GoesOn, IsDecoded, IsOfCell, IsOfKey, LoadIs, MakesNode, Meets, ReadsNode, ReadsRoot, answer_of}}
 use Rattle.pagable_pager_spec.specs.Loads.{answers_from, gone_on, handles_of, need_at, need_of, needs_lazy, needs_nested, nested_frame, read_with, reads, root_frame, to_adopt, with_got}
-use Rattle.pagable_pager_spec.specs.{Pager.{IsCellOf, IsNewNode, Moves, PagerState, ReadingBrings, ValueCall, WellFormed}, Basics.if_there, Refusals.{OwnsLoad, live_fault}, Workers.fresh, World.{Alike, Core, Frame, Reading, Root}}
+use Rattle.pagable_pager_spec.specs.{Pager.{IsCellOf, IsNewNode, Moves, PagerState, ReadingBrings, ValueCall, IsPagerWhole}, Basics.if_there, Refusals.{OwnsLoad, live_fault}, Workers.fresh, World.{Alike, Core, Frame, Reading, Root}}
 use Rattle.pagable_pager_spec.specs.{World.{Values, of_key, one_more, row_at}, declared.{pinning.{Beginning.Beginning, Pinning.Pinning}, calls.Want.Want, events.LoadAnswer.LoadAnswer}}
 use Rattle.{pagable_pager_spec.specs.declared.handle_row.{HandleRow.HandleRow, Owner.Owner}, std.proofs.Common.{Bool, Err, List, None, Ok, Option, Result, Some, [], ap, arith, false, inl, inr, length, refl}}
 use Rattle.std.proofs.{Common.{rules, slice_get, subst, suc, sym, true, zero, ℕ, ◌++◌, ◌+◌, ◌-◌, ◌<◌, ◌∙◌, ◌∷◌, ◌≡◌, ◌≢◌, ◌≤◌, ◌⊎◌}, lemmas.{Bool.Decides.nat_tests, Grind.common_steps}}
@@ -28,7 +28,7 @@ same_answers got place (key ∷ keys) = ap (λ (rest : List Answer). (λ kind. a
 
 -- reading at the front of the blob, with these answers, is reading with these references
 pub reads_with : {X E N : Type 0} (own : Error → Type 0) (means : X → Meaning ArcRef → Type 0) (nodes : E → ℕ → Option Shape) (parts : E → ℕ → Shape) (t : ℕ)
-    (env other : E) (levels : ℕ) (got : List ArcRef) (bytes keys : List ℕ) (blob : Blob) (lent : ℕ → Option (ArcRef × N)) (st : Standing N)
+    (env other : E) (levels : ℕ) (got : List ArcRef) (bytes keys : List ℕ) (blob : Blob) (lent : ℕ → Option (ArcRef × N)) (st : InputState N)
     (after : Rest Answer) (result : Result X Error)
     → st ≡ at_front (answer_at got) lent bytes keys → levels ≡ 0 → other ≡ env → bytes ≡ blob.bytes → keys ≡ blob.keys
     → GivesSome own means after result (read_typed (handles_at levels (parts other)) (nodes other t) (rest_at st))
@@ -73,16 +73,17 @@ pub ruleset needing = (nat_tests, node_needs, end_needs)
 -- ---- what a step's call did is what the step is said to do
 
 module _ {S : Type 0} where
-  pub told_then : {o n m : Option S} {R T Q : S → S → Type 0} → ((s mid t : S) → R s mid → T mid t → Q s t) → Told o n R → Told n m T → Told o m Q
+  pub told_then : {o n m : Option S} {R T Q : S → S → Type 0} → ((s mid t : S) → R s mid → T mid t → Q s t) → IfBothKnown o n R → IfBothKnown n m T
+      → IfBothKnown o m Q
   told_then {o} {n} {m} f h k = grind (arith, nat_tests)
 
-  pub tells_both : {o : Option S} {P Q R : S → Type 0} → ((s : S) → P s → Q s → R s) → Tells o P → Tells o Q → Tells o R
+  pub tells_both : {o : Option S} {P Q R : S → Type 0} → ((s : S) → P s → Q s → R s) → IfKnown o P → IfKnown o Q → IfKnown o R
   tells_both {o} f h k = grind (arith, nat_tests, common_steps)
 
-  pub tells_map : {o : Option S} {P Q : S → Type 0} → ((s : S) → P s → Q s) → Tells o P → Tells o Q
+  pub tells_map : {o : Option S} {P Q : S → Type 0} → ((s : S) → P s → Q s) → IfKnown o P → IfKnown o Q
   tells_map f h = tells_both (λ s p q. f s p) h h
 
-  pub tells_all : {o : Option S} {P : S → Type 0} → ((s : S) → P s) → Tells o P
+  pub tells_all : {o : Option S} {P : S → Type 0} → ((s : S) → P s) → IfKnown o P
   tells_all {o} {P} f = grind (arith, nat_tests, common_steps)
 
 -- ---- what an access does
@@ -97,7 +98,7 @@ module _ {A S E : Type 0} {told : A → Option S} {by : A → Acting E} where
       → ActsThen told by m n then T
       → ((s mid t : S) → R (by o) s mid → T (first (by o)) mid t → Q (by o) s t) → then (first (by o)) ≡ after (by o) → ActsThen told by o n after Q
   acts_on {m = m} {n = n} {then = then} {T = T} h k f is = record {
-    step = told_then f h.step (subst (λ a. Told (told m) (told n) (T a)) h.acting k.step);
+    step = told_then f h.step (subst (λ a. IfBothKnown (told m) (told n) (T a)) h.acting k.step);
     acting = k.acting ∙ ap then h.acting ∙ is;
   }
 
@@ -106,14 +107,14 @@ module _ {A S E : Type 0} {told : A → Option S} {by : A → Acting E} where
   acts_then h k f = acts_on h k f refl
 
   -- nothing is done
-  pub acts_same : {o : A} {R : Acting E → S → S → Type 0} → Tells (told o) (λ s. R (by o) s s) → Acts told by o o R
+  pub acts_same : {o : A} {R : Acting E → S → S → Type 0} → IfKnown (told o) (λ s. R (by o) s s) → Acts told by o o R
   acts_same {o} {R} h = record { step = grind (arith, nat_tests, common_steps); acting = refl }
 
   pub acts_all : {o : A} {R : Acting E → S → S → Type 0} → ((s : S) → R (by o) s s) → Acts told by o o R
   acts_all f = acts_same (tells_all f)
 
   -- beside what held before
-  pub acts_from : {o n : A} {P : S → Type 0} {R Q : Acting E → S → S → Type 0} → Tells (told o) P → Acts told by o n R
+  pub acts_from : {o n : A} {P : S → Type 0} {R Q : Acting E → S → S → Type 0} → IfKnown (told o) P → Acts told by o n R
       → ((s t : S) → P s → R (by o) s t → Q (by o) s t) → Acts told by o n Q
   acts_from {o} {n} {P} {R} {Q} h k f = record { step = grind (arith, nat_tests, common_steps); acting = k.acting }
 
@@ -138,13 +139,14 @@ new-mode last q [] row new found = absurd (cc)
 new-mode last q (h ∷ hs) row (number, mode, owner, new) found = let later = new-mode (last + 1) q hs row new in grind (arith, nat_tests, is_handle)
 
 -- no value comes where the pager stays as it is
-none-new : {N E : Type 0} (v : Values N) {s t : PagerState N E} → Alike s.core t.core → WellFormed v s → WellFormed v t → (n : ℕ) (x : N) → s.values n ≡ None
+none-new : {N E : Type 0} (v : Values N) {s t : PagerState N E} → Alike s.core t.core → IsPagerWhole v s → IsPagerWhole v t → (n : ℕ) (x : N) → s.values n
+    ≡ None
     → t.values n ≡ Some x → ⊥
 none-new v {s} {t} a whole after n x none some =
     let before = whole.valued n in let now = after.valued n in let rows = a.rows in let cells = a.cells n in grind (arith, nat_tests, common_steps)
 
-unmoved : {N E : Type 0} (v : Values N) {comes other : ℕ → N → Type 0} {s t : PagerState N E} → Alike s.core t.core → WellFormed v t → Moves comes s t
-    → WellFormed v s → Moves other s t
+unmoved : {N E : Type 0} (v : Values N) {comes other : ℕ → N → Type 0} {s t : PagerState N E} → Alike s.core t.core → IsPagerWhole v t → Moves comes s t
+    → IsPagerWhole v s → Moves other s t
 unmoved v a after m whole = record {
   each = λ n x is. elim (m.each n x is)
       [ inl was ↦ inl was | inr (none, came) ↦ absurd (none-new v a whole after n x none is) ];
@@ -184,17 +186,17 @@ module _ {N : Type 0} (E : Type 0) (v : Values N) (me : Owner) (own : Own) where
   comes_as : {comes other : ℕ → N → Type 0} {s t : PagerState N E} → ((n : ℕ) (x : N) → comes n x → other n x) → Moves comes s t → Moves other s t
   comes_as f m = record { each = λ n x is. elim (m.each n x is) [ inl was ↦ inl was | inr (none, came) ↦ inr (none, f n x came) ]; environment = m.environment }
 
-  pub met : {does : Core → Type 0} {s t : PagerState N E} {e : Error} → Called v does s t → Meets v s.core me reading e t.core → Met v me reading s e t
+  pub met : {does : Core → Type 0} {s t : PagerState N E} {e : Error} → MakesCall v does s t → Meets v s.core me reading e t.core → Met v me reading s e t
   met c m = record { meets = m; moves = none_comes c.moves; holds = λ w. none_comes c.moves }
 
-  went : {does : Core → Type 0} {s t : PagerState N E} {answer : Option (LoadAnswer N)} {frames : List Frame} → Called v does s t
-      → IfReads answer (HoldsPinned v t) → Does v s.core me reading answer frames t.core → ReadingStep v me reading s answer frames t
+  went : {does : Core → Type 0} {s t : PagerState N E} {answer : Option (LoadAnswer N)} {frames : List Frame} → MakesCall v does s t
+      → IfReads answer (HoldsPinned v t) → LoadDoes v s.core me reading answer frames t.core → ReadingStep v me reading s answer frames t
   went c h d = record { does = record { does = d }; moves = none_comes c.moves; holds = λ w. none_comes c.moves; answers = h; whole = c.whole }
 
   -- a value that comes is this one, which holds what the handles of its good references pin
   came-held : (x : N) {where_to : ℕ → Type 0} {s t : PagerState N E} → references_fault s.core (Owner.Load own.load) [] (v.references x) ≡ None
       → HoldsPinned v s x → Moves (λ n y. (y ≡ x) × where_to n) s t
-      → WellFormed v s → Moves (λ n y. HoldsItsNodes v s y) s t
+      → IsPagerWhole v s → Moves (λ n y. HoldsItsNodes v s y) s t
   came-held x {s = s} good pinned m whole = comes_as (λ n y came. subst (HoldsItsNodes v s) (sym came.0)
       (pinned_law E v s (Owner.Load own.load) x whole good pinned)) m
 
@@ -207,7 +209,7 @@ module _ {N : Type 0} (E : Type 0) (v : Values N) (me : Owner) (own : Own) where
 
   module _ (first : frames_of own.top own.below.items ≡ []) where
     pub root_comes : (blob : Blob) (frames : List Frame) → frames ≡ root_frame own.key own.node_type blob ∷ [] → (s t : PagerState N E)
-        → Called v (λ w'. AskCall s.core me own.load Want.Root (Ok (from_store blob)) w') s t → Tries v me own s (Ok None) frames t
+        → MakesCall v (λ w'. LoadFetchCall s.core me own.load Want.Root (Ok (from_store blob)) w') s t → Tries v me own s (Ok None) frames t
     root_comes blob frames is s t c = goes (λ o. went c tt (inl (record {
       load = o.load;
       blob = blob;
@@ -228,7 +230,8 @@ module _ {N : Type 0} (E : Type 0) (v : Values N) (me : Owner) (own : Own) where
 
     module _ {B : Type 0} (see : B → Blob) (need : need_of v.types reading.frames ≡ needs_nested kind key) where
       pub nested_known : (r : ArcRef) (frames : List Frame) → frames ≡ record (frame_of top) { got = top.got.items ++ r ∷ [] } ∷ onto [] under
-          → (s t : PagerState N E) → Called v (λ w'. AsksFor see s.core me own.load kind key (Ok (Either.Left r)) w') s t → Tries v me own s (Ok None) frames t
+          → (s t : PagerState N E) → MakesCall v (λ w'. AsksFor see s.core me own.load kind key (Ok (Either.Left r)) w') s t
+          → Tries v me own s (Ok None) frames t
       nested_known r frames is s t c = goes (λ o. went c tt (inr (inl (record {
         kind = kind;
         key = key;
@@ -241,7 +244,7 @@ module _ {N : Type 0} (E : Type 0) (v : Values N) (me : Owner) (own : Own) where
       }))))
 
       pub nested_blob : (blob : B) (frames : List Frame) → frames ≡ nested_frame kind key (see blob) ∷ frame_of top ∷ onto [] under
-          → length under < longest_path → (s t : PagerState N E) → Called v (λ w'. AsksFor see s.core me own.load kind key (Ok (Either.Right blob)) w') s t
+          → length under < longest_path → (s t : PagerState N E) → MakesCall v (λ w'. AsksFor see s.core me own.load kind key (Ok (Either.Right blob)) w') s t
           → Tries v me own s (Ok None) frames t
       nested_blob blob frames is short s t c = goes (λ o. went c tt (inr
           (inr (inl (record {
@@ -255,13 +258,13 @@ module _ {N : Type 0} (E : Type 0) (v : Values N) (me : Owner) (own : Own) where
           })))))
 
       pub nested_deep : (blob : B) (e : Error) (frames : List Frame) → e ≡ Error.TooDeep → longest_path ≤ length under → (s t : PagerState N E)
-          → Called v (λ w'. AsksFor see s.core me own.load kind key (Ok (Either.Right blob)) w') s t → Tries v me own s (Err e) frames t
+          → MakesCall v (λ w'. AsksFor see s.core me own.load kind key (Ok (Either.Right blob)) w') s t → Tries v me own s (Err e) frames t
       nested_deep blob e frames is long s t c = fails (λ o. met c (inr (inr
           (inl (kind, key, need, inr (see blob, is, (omega (arith, deep, long)), c.step.asked))))))
 
     module _ (need : need_of v.types reading.frames ≡ needs_lazy kind key) where
       pub lazy_comes : (r : ArcRef) (frames : List Frame) → frames ≡ record (frame_of top) { got = top.got.items ++ r ∷ [] } ∷ onto [] under
-          → (s t : PagerState N E) → Called v (λ w'. TakesLazily s.core me own.load kind key (Ok r) w') s t → Tries v me own s (Ok None) frames t
+          → (s t : PagerState N E) → MakesCall v (λ w'. TakesLazily s.core me own.load kind key (Ok r) w') s t → Tries v me own s (Ok None) frames t
       lazy_comes r frames is s t c = goes (λ o. went c tt (inr (inr (inr
           (inl (record {
             kind = kind;
@@ -373,7 +376,7 @@ module _ {N : Type 0} (E : Type 0) (v : Values N) (me : Owner) (own : Own) where
     for_key : (w : Core) → IsLoadOf w me own → LoadIs w reading IsOfKey
     for_key w o = record { load = o.load; open_load = o.owned.stands_open; sort = grind (arith, nat_tests) }
 
-    handed-holds : {s t : PagerState N E} → Called v (λ w'. HandOverCall s.core me own.load named (Ok tt) w') s t → HoldsPinned v s x → HoldsPinned v t x
+    handed-holds : {s t : PagerState N E} → MakesCall v (λ w'. HandOverCall s.core me own.load named (Ok tt) w') s t → HoldsPinned v s x → HoldsPinned v t x
     handed-holds {s} {t} c pinned = record {
       each = λ r y value.
           let (row, live, (pins, held)) = value.found in
@@ -386,13 +389,13 @@ module _ {N : Type 0} (E : Type 0) (v : Values N) (me : Owner) (own : Own) where
     }
 
     pub hands_over : (frames : List Frame) → frames ≡ [] → (s t : PagerState N E) → HoldsPinned v s x
-        → Called v (λ w'. HandOverCall s.core me own.load named (Ok tt) w') s t → Tries v me own s (Ok (Some (LoadAnswer.Read x))) frames t
+        → MakesCall v (λ w'. HandOverCall s.core me own.load named (Ok tt) w') s t → Tries v me own s (Ok (Some (LoadAnswer.Read x))) frames t
     hands_over frames none s t pinned c = goes (λ o. went c (handed-holds c pinned) (
       record { reads_root = root; of_key_load = for_key s.core o; handed = subst (λ hs. HandOverCall s.core me own.load hs (Ok tt) t.core) is c.step },
       none,
     ))
 
-    pub hand_over_refused : (e : Error) (frames : List Frame) (s t : PagerState N E) → Called v (λ w'. HandOverCall s.core me own.load named (Err e) w') s t
+    pub hand_over_refused : (e : Error) (frames : List Frame) (s t : PagerState N E) → MakesCall v (λ w'. HandOverCall s.core me own.load named (Err e) w') s t
         → Tries v me own s (Err e) frames t
     hand_over_refused e frames s t c = fails (λ o. met c (inr (inr (inr (inr
         (inr (record {
@@ -519,9 +522,9 @@ lends_row see s got noted row lent lent' is same lends found none r at nobody st
     rw (is, same) (more_unlent see s got noted lent lends nothing stand)
 
 -- what is said of an answer is so of what was answered
-pub lent_so : {S X : Type 0} (P : S → X → Type 0) {o : Option S} (r : Result X Error) (x : X) → r ≡ Ok x → Tells o (λ s. IfOk r (λ y. P s y))
-    → Tells o (λ s. P s x)
-lent_so P {o} r x is h = subst (λ q. Tells o (λ s. IfOk q (λ y. P s y))) is h
+pub lent_so : {S X : Type 0} (P : S → X → Type 0) {o : Option S} (r : Result X Error) (x : X) → r ≡ Ok x → IfKnown o (λ s. IfOk r (λ y. P s y))
+    → IfKnown o (λ s. P s x)
+lent_so P {o} r x is h = subst (λ q. IfKnown o (λ s. IfOk q (λ y. P s y))) is h
 
 pub ruleset sharing = (nat_tests, tells_map, not_shared)
 
@@ -576,11 +579,11 @@ module _ {N E : Type 0} (v : Values N) (me : Owner) (mine : me ≡ Owner.Caller)
     runs_on {s} {t'} {answer} o r = subst (λ m. LoadRun v m (fresh l t) s answer t') mine (subst (λ x. LoadRun v me x s answer t') is (r.run o))
 
     module _ (h : HandleNumber) (cell : own.for_cell ≡ true) (s mid : PagerState N E)
-        (c : Called v (λ w'. StartsPin s.core me h (Ok (PinStart.Load l key t)) w') s mid) where
+        (c : MakesCall v (λ w'. StartsPin s.core me h (Ok (PinStart.Load l key t)) w') s mid) where
       open_load : IsLoadOf mid.core me own
       open_load = first_of (grind (arith, common_steps, nat_tests), search (rules))
 
-      calls : Called v (λ w'. BeginCall s.core Owner.Caller h (Ok (Beginning.Load l key)) w') s mid
+      calls : MakesCall v (λ w'. BeginCall s.core Owner.Caller h (Ok (Beginning.Load l key)) w') s mid
       calls = record { step = subst (λ m. BeginCall s.core m h (Ok (Beginning.Load l key)) mid.core) mine c.step.starts.0; moves = c.moves; whole = c.whole }
 
       pub load_pinned : (k : HandleNumber) (s' : PagerState N E) → Runs v me own mid (LoadAnswer.Pinned k) s' → PinsFirst v s h (Ok (k, true)) s'
@@ -599,27 +602,28 @@ module _ {N E : Type 0} (v : Values N) (me : Owner) (mine : me ≡ Owner.Caller)
             (runs_on open_load r);
       }
 
-    module _ (sort : own.for_cell ≡ false) (s mid : PagerState N E) (c : Called v (λ w'. BeginKeyCall s.core me key (Ok (Beginning.Load l key)) w') s mid) where
-      open_key : IsLoadOf mid.core me own
-      open_key =
-          let b = c.step.begins in
-          record {
-            load = record { owner = me; key = key; root = of_key };
-            owned = record {
-              stands_open = ap (λ (r : Reading). mid.core.loads r.load.0) is ∙ begun_is s.core mid.core l key of_key me b.1.above b.2;
-              own = refl;
-            };
-            key = sym under;
-            sort = sym sort;
-          }
+    module _ (sort : own.for_cell ≡ false) (s mid : PagerState N E) (c : MakesCall v (λ w'. BeginKeyCall s.core me key (Ok (Beginning.Load l key)) w') s mid)
+      where
+        open_key : IsLoadOf mid.core me own
+        open_key =
+            let b = c.step.begins in
+            record {
+              load = record { owner = me; key = key; root = of_key };
+              owned = record {
+                stands_open = ap (λ (r : Reading). mid.core.loads r.load.0) is ∙ begun_is s.core mid.core l key of_key me b.1.above b.2;
+                own = refl;
+              };
+              key = sym under;
+              sort = sym sort;
+            }
 
-      pub key_read : (x : N) (s' : PagerState N E) → Runs v me own mid (LoadAnswer.Read x) s' → ReadsOver v s key t (Ok x) s'
-      key_read x s' r = record { run = load-reads x l mid s' (rw mine at c) (runs_on open_key r) }
+        pub key_read : (x : N) (s' : PagerState N E) → Runs v me own mid (LoadAnswer.Read x) s' → ReadsOver v s key t (Ok x) s'
+        key_read x s' r = record { run = load-reads x l mid s' (rw mine at c) (runs_on open_key r) }
 
-      pub key_failed : (e : Error) (s' : PagerState N E) → Runs v me own mid (LoadAnswer.Refused e) s' → ReadsOver v s key t (Err e) s'
-      key_failed e s' r = record { run = reading-fails e l mid s' (rw mine at c) (runs_on open_key r) }
+        pub key_failed : (e : Error) (s' : PagerState N E) → Runs v me own mid (LoadAnswer.Refused e) s' → ReadsOver v s key t (Err e) s'
+        key_failed e s' r = record { run = reading-fails e l mid s' (rw mine at c) (runs_on open_key r) }
 
-  pub key_refused : (key t : ℕ) (e : Error) (s s' : PagerState N E) → Called v (λ w'. BeginKeyCall s.core me key (Err e) w') s s'
+  pub key_refused : (key t : ℕ) (e : Error) (s s' : PagerState N E) → MakesCall v (λ w'. BeginKeyCall s.core me key (Err e) w') s s'
       → ReadsOver v s key t (Err e) s'
   key_refused key t e s s' c = record {
     run = reading-is-refused e s' (record {
@@ -632,7 +636,7 @@ module _ {N E : Type 0} (v : Values N) (me : Owner) (mine : me ≡ Owner.Caller)
   -- ---- a pin
 
   module _ (h : HandleNumber) where
-    pub start_pinned : (k : HandleNumber) (was : Bool) (s s' : PagerState N E) → Called v (λ w'. StartsPin s.core me h (Ok (PinStart.Pinned k was)) w') s s'
+    pub start_pinned : (k : HandleNumber) (was : Bool) (s s' : PagerState N E) → MakesCall v (λ w'. StartsPin s.core me h (Ok (PinStart.Pinned k was)) w') s s'
         → PinsFirst v s h (Ok (k, was)) s'
     start_pinned k was s s' c =
         record {
@@ -647,7 +651,7 @@ module _ {N E : Type 0} (v : Values N) (me : Owner) (mine : me ≡ Owner.Caller)
           refused = tt;
         }
 
-    pub start_refused : (e : Error) (s s' : PagerState N E) → Called v (λ w'. StartsPin s.core me h (Err e) w') s s' → PinsFirst v s h (Err e) s'
+    pub start_refused : (e : Error) (s s' : PagerState N E) → MakesCall v (λ w'. StartsPin s.core me h (Err e) w') s s' → PinsFirst v s h (Err e) s'
     start_refused e s s' c = first_of (
       grind (arith, common_steps, nat_tests),
       grind (arith, nat_tests, pin-is-refused, load-is-refused),
@@ -657,11 +661,11 @@ module _ {N E : Type 0} (v : Values N) (me : Owner) (mine : me ≡ Owner.Caller)
 -- ---- how it is taken back
 
 module _ {N E : Type 0} (v : Values N) (h : HandleNumber) where
-  run_whole : {me : Owner} {reading : Reading} {s t : PagerState N E} {answer : LoadAnswer N} → LoadRun v me reading s answer t → WellFormed v t
+  run_whole : {me : Owner} {reading : Reading} {s t : PagerState N E} {answer : LoadAnswer N} → LoadRun v me reading s answer t → IsPagerWhole v t
   run_whole (load-ends now answer s t step) = step.whole
   run_whole (load-goes-on now frames answer s mid t step more) = run_whole more
 
-  pin_whole : {s t : PagerState N E} {r : Result HandleNumber Error} → PinRun v s h r t → WellFormed v t
+  pin_whole : {s t : PagerState N E} {r : Result HandleNumber Error} → PinRun v s h r t → IsPagerWhole v t
   pin_whole (pins-at-once k t c) = c.whole
   pin_whole (pin-is-refused e t c) = c.whole
   pin_whole (load-is-refused e t c) = c.whole
@@ -669,7 +673,7 @@ module _ {N E : Type 0} (v : Values N) (h : HandleNumber) where
   pin_whole (load-fails e now mid t starts run) = run_whole run
 
   -- the new handle pins
-  run_pins : {me : Owner} {reading : Reading} {s t : PagerState N E} {answer : LoadAnswer N} → NotValues me → WellFormed v s → LoadRun v me reading s answer t
+  run_pins : {me : Owner} {reading : Reading} {s t : PagerState N E} {answer : LoadAnswer N} → NotValues me → IsPagerWhole v s → LoadRun v me reading s answer t
       → (k : HandleNumber) → answer ≡ LoadAnswer.Pinned k → HasPin t.core k
   run_pins {me} free whole (load-ends now answer s t step) k is =
       let e = (subst (λ a. ReadingStep v me now s (Some a) [] t) is step).does.does.0 in
@@ -697,7 +701,7 @@ module _ {N E : Type 0} (v : Values N) (h : HandleNumber) where
   pin_loose r is run = absurd (cc)
 
   back : (s mid low : PagerState N E) (was : Bool) (row : HandleRow) → row_at s.core h ≡ Some row → is_loose row.mode ≡ true → was ≡ is_unpinned row.mode
-      → WellFormed v mid → Unpins v was h mid low → IsUnpinnedBack v s.core h mid low
+      → IsPagerWhole v mid → Unpins v was h mid low → IsUnpinnedBack v s.core h mid low
   back s mid low was row live loose is whole u = grind (arith, nat_tests, common_steps)
 
   -- ---- its answer
@@ -726,5 +730,5 @@ module _ {N E : Type 0} (v : Values N) (h : HandleNumber) where
       }
 
   pub takes_back : {me : Owner} → me ≡ Owner.Caller → (k : HandleNumber) (was : Bool) (s low t : PagerState N E) (told : Result (Unit {0}) Error)
-      → Unpins v was h s low → Called v (λ w'. ReleaseCall low.core me k told w') low t → TakesBack v was h k s t
+      → Unpins v was h s low → MakesCall v (λ w'. ReleaseCall low.core me k told w') low t → TakesBack v was h k s t
   takes_back mine k was s low t told u c = record { low = low; unpins = u; told = told; releases = rw mine at c }

@@ -2,7 +2,7 @@
 use Rattle.std.specs.Prelude.{Err, IfOk, IfSome, List, Ok, Option, Result, Some, ℕ, ◌≡◌}
 use Rattle.{either.specs.declared.Either.Either, pagable_codec.specs.declared.{env.Env.Ghosts as Environments, hash.KeyHash.Ghosts as Hashes, nodes.NodeSet.Ghosts as Nodes}}
 use Rattle.pagable_value_spec.specs.{Blob.Blob, declared.{error.Error.Error, numbers.{ArcRef.ArcRef, HandleNumber.HandleNumber, Kind.Kind, LoadNumber.LoadNumber, WorkerNumber.WorkerNumber}}}
-use Rattle.pagable_pager_spec.specs.{Access.Told, LoadCalls.{AdoptCall, AskCall, Given, LazyCall, from_cache, from_store}, Loads.ReadsRoot, Pager.{Moves, PagerState, WellFormed}, World.{Core, Reading, Values, row_at, seen_as}}
+use Rattle.pagable_pager_spec.specs.{Access.IfBothKnown, LoadCalls.{AdoptCall, LoadFetchCall, Given, LazyCall, from_cache, from_store}, Loads.ReadsRoot, Pager.{Moves, PagerState, IsPagerWhole}, World.{Core, Reading, Values, row_at, result_map}}
 use Rattle.pagable_pager_spec.specs.declared.{calls.Want.Want, handle_row.{HandleRow.HandleRow, Owner.Owner}}
 
 -- the owner for whom the calls are made, the environment of the values, and the lender of the pager
@@ -11,11 +11,11 @@ pub record Acting (E : Type 0) : Type 0 where
   pub environment : E
   pub lender : ℕ
 
--- What an access does to the state, if it is told, depending on owner and environment; and the owner and environment
+-- What an access does to the state, if it is known, depending on owner and environment; and the owner and environment
 -- afterwards.
 pub record ActsThen {A S E : Type 0} (told : A → Option S) (by : A → Acting E) (old new : A)
     (after : Acting E → Acting E) (does : Acting E → S → S → Type 0) : Type 0 where
-  pub step : Told (told old) (told new) (does (by old))
+  pub step : IfBothKnown (told old) (told new) (does (by old))
   pub acting : by new ≡ after (by old)
 
 -- owner and environment stay
@@ -42,16 +42,16 @@ values_at n e h environment = record {
   hash = h.digest;
 }
 
--- P holds of the state, if it is told
-pub record Tells {S : Type 0} (s : Option S) (P : S → Type 0) : Type 0 where
+-- P holds of the state, if it is known
+pub record IfKnown {S : Type 0} (s : Option S) (P : S → Type 0) : Type 0 where
   pub holds : IfSome s P
 
--- A call that may bring a value into memory: what it does to the plain state, and which value it may bring where.
+-- A call that may bring a value into memory: what it does to the core, and which value it may bring where.
 pub record Brings {N E : Type 0} (v : Values N) (does : Core → Type 0) (comes : ℕ → N → Type 0)
     (s s' : PagerState N E) : Type 0 where
   pub step : does s'.core
   pub moves : Moves comes s s'
-  pub whole : WellFormed v s'
+  pub whole : IsPagerWhole v s'
 
 -- the reference has this kind, and names a live handle and that handle's node
 pub record IsMade (w : Core) (kind : Kind) (r : ArcRef) : Type 0 where
@@ -69,9 +69,9 @@ abbrev pub handle_of : {X : Type 0} → Result ArcRef X → Result HandleNumber 
 handle_of (Ok r) = Ok r.handle
 handle_of (Err e) = Err e
 
-abbrev pub found_as : {B : Type 0} → (B → Blob) → Either ArcRef B → Given
-found_as see (Either.Left r) = from_cache r.handle
-found_as see (Either.Right blob) = from_store (see blob)
+abbrev pub reference_or_blob : {B : Type 0} → (B → Blob) → Either ArcRef B → Given
+reference_or_blob see (Either.Left r) = from_cache r.handle
+reference_or_blob see (Either.Right blob) = from_store (see blob)
 
 abbrev pub IsFoundMade : {B : Type 0} → Core → Kind → Either ArcRef B → Type 0
 IsFoundMade w kind (Either.Left r) = IsMade w kind r
@@ -80,7 +80,7 @@ IsFoundMade w kind (Either.Right blob) = Unit {0}
 -- a load asks for a reference, and gets a handle of the cache's node, or a blob
 pub record AsksFor {B : Type 0} (see : B → Blob) (w : Core) (me : Owner) (l : LoadNumber) (kind : Kind) (key : ℕ)
     (r : Result (Either ArcRef B) Error) (w' : Core) : Type 0 where
-  pub asked : AskCall w me l (Want.Nested kind key) (seen_as (found_as see) r) w'
+  pub asked : LoadFetchCall w me l (Want.Nested kind key) (result_map (reference_or_blob see) r) w'
   pub made : IfOk r (λ found. IsFoundMade w' kind found)
 
 -- a load takes a loose reference without reading it

@@ -1,6 +1,6 @@
 -- What a load's step does, with or without what follows its failure, in terms of the specification.
 use Rattle.std.specs.Prelude.{IfErr, IfOk, List, None, Option, Result, Some, [], vec_capacity, vec_len, ℕ, ◌<◌, ◌∷◌, ◌≡◌}
-use Rattle.pagable_pager_spec.specs.{Access.{Called, ReadingStep, LoadRun}, Loads.Meets, World.{Reading, Values, Frame}, LoadCalls.DropCall, Pager.{HoldsItsNodes, PagerState, ReadingBrings, Moves, WellFormed}}
+use Rattle.pagable_pager_spec.specs.{Access.{MakesCall, ReadingStep, LoadRun}, Loads.Meets, World.{Reading, Values, Frame}, LoadCalls.DropCall, Pager.{HoldsItsNodes, PagerState, ReadingBrings, Moves, IsPagerWhole}}
 use Rattle.{pagable_pager_spec.specs.declared.{handle_row.Owner.Owner, events.LoadAnswer.LoadAnswer}, pagable_value_spec.specs.declared.{numbers.LoadNumber.LoadNumber, error.Error.Error}}
 use Rattle.pagable_load.specs.{declared.reading.{Reading.Reading as Own, Frame.Frame as Held}, Frames.{frames_of, reading_of, frame_of, onto, IsLoadOf}}
 
@@ -9,7 +9,7 @@ pub record Met {N E : Type 0} (v : Values N) (me : Owner) (reading : Reading) (s
     (t : PagerState N E) : Type 0 where
   pub meets : Meets v s.core me reading e t.core
   pub moves : Moves (ReadingBrings v s.core reading) s t
-  pub holds : WellFormed v s → Moves (λ n x. HoldsItsNodes v s x) s t
+  pub holds : IsPagerWhole v s → Moves (λ n x. HoldsItsNodes v s x) s t
 
 -- A step, up to its failure if it fails; otherwise a whole one. It is asked that the load is open and is as `own` says.
 pub record Tries {N E : Type 0} (v : Values N) (me : Owner) (own : Own) (s : PagerState N E)
@@ -20,7 +20,7 @@ pub record Tries {N E : Type 0} (v : Values N) (me : Owner) (own : Own) (s : Pag
 -- the load is dropped, whatever the call returned
 pub record Drops {N E : Type 0} (v : Values N) (me : Owner) (l : LoadNumber) (s t : PagerState N E) : Type 0 where
   pub told : Result (Unit {0}) Error
-  pub call : Called v (λ w'. DropCall s.core me l told w') s t
+  pub call : MakesCall v (λ w'. DropCall s.core me l told w') s t
 
 -- it is the same load, after `count` steps
 pub record IsSameLoad (old new : Own) (count : ℕ) : Type 0 where

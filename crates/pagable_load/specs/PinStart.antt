@@ -1,6 +1,6 @@
 -- The begin of a pin, and how a pin is undone.
 use Rattle.std.specs.{Option.option_map, Prelude.{Bool, Err, IfErr, IfOk, Ok, Option, Result, Some, false, true, ◌≡◌, ◌⊎◌}}
-use Rattle.{pagable_load.specs.declared.access.PinStart.PinStart, pagable_value_spec.specs.declared.{error.Error.Error, numbers.HandleNumber.HandleNumber}, pagable_theorems.specs.TreeSteps.HasPin, pagable_pager_spec.specs.Access.{Called, IsValueOf, PinRun}}
+use Rattle.{pagable_load.specs.declared.access.PinStart.PinStart, pagable_value_spec.specs.declared.{error.Error.Error, numbers.HandleNumber.HandleNumber}, pagable_theorems.specs.TreeSteps.HasPin, pagable_pager_spec.specs.Access.{MakesCall, IsValueOf, PinRun}}
 use Rattle.pagable_pager_spec.specs.{Calls.{PinCall, ReleaseCall, UnpinCall}, Events.reading_of_load, Kinds.is_unpinned, LoadCalls.BeginCall, Pager.{PagerState, ValueCall}, Basics.if_there}
 use Rattle.pagable_pager_spec.specs.{Refusals.live_fault, Workers.fresh, World.{Core, Values, row_at}, declared.{pinning.{Beginning.Beginning, Pinning.Pinning}, handle_row.{HandleRow.HandleRow, Owner.Owner}}}
 
@@ -40,7 +40,7 @@ pub record PinsFirst {N E : Type 0} (v : Values N) (s : PagerState N E) (h : Han
 -- the loose handle is unpinned, if it was before; below: and the new handle is released
 abbrev pub Unpins : {N E : Type 0} → Values N → Bool → HandleNumber → PagerState N E → PagerState N E → Type 0
 Unpins v true h s low = (told : Result (Unit {0}) Error)
-    × Called v (λ w'. UnpinCall s.core Owner.Caller h told w') s low
+    × MakesCall v (λ w'. UnpinCall s.core Owner.Caller h told w') s low
 Unpins v false h s low = low ≡ s
 
 pub record TakesBack {N E : Type 0} (v : Values N) (was_unpinned : Bool) (h k : HandleNumber)
@@ -48,4 +48,4 @@ pub record TakesBack {N E : Type 0} (v : Values N) (was_unpinned : Bool) (h k : 
   pub low : PagerState N E
   pub unpins : Unpins v was_unpinned h s low
   pub told : Result (Unit {0}) Error
-  pub releases : Called v (λ w'. ReleaseCall low.core Owner.Caller k told w') low s'
+  pub releases : MakesCall v (λ w'. ReleaseCall low.core Owner.Caller k told w') low s'

@@ -1,5 +1,5 @@
 -- The look-ups in a list of references that were got, and the values that a load lends to a blob's reader.
-use Rattle.std.specs.{Option.option_map, Prelude.{Bool, Err, IfNone, IfSome, IsSome, List, None, Ok, Option, Result, Some, false, if◌then◌else◌, is_some, length, option_and_then, slice_get, true, ℕ, ◌<◌, ◌==◌, ◌≡◌, ◌≤◌, ◌⊎◌}}
+use Rattle.std.specs.{Option.option_map, Prelude.{Bool, Err, IfNone, IfSome, IsSome, List, None, Ok, Option, Result, Some, false, if◌then◌else◌, length, option_and_then, slice_get, true, ℕ, ◌<◌, ◌==◌, ◌≡◌, ◌≤◌, ◌⊎◌}}
 use Rattle.{pagable_pager_spec.specs.{Loads.answer_of, Pager.{PagerState, ValueCall}, Basics.if_there, Refusals.live_fault, World.row_at}, pagable_value_spec.specs.declared.{error.Error.Error, numbers.ArcRef.ArcRef}}
 use Rattle.pagable_value_spec.specs.{Height.is_eager, Refusals.may_refuse_reference}
 

@@ -3,11 +3,11 @@
 
 ghost use Rattle.std.specs.{Arc.arc_value, Prelude.{IfErr, IfNone, IfOk, IfSome, length, Option, ◌≡◌, ◌≤◌}};
 ghost use Rattle.{pagable_core.specs.Data.blob_of, pagable_load.specs.{PinStart.{Shares, StartsPin}, AccessView.{Acting, Acts, ActsThen, AdoptsValue, as_caller, as_worker, AsksFor, Brings}}};
-ghost use Rattle.{pagable_load.specs.{AccessView.{IsReadBy, TakesLazily, Tells, values_at}, WorkerCalls.{ClosesNode, fault_in, RefusesEntry, SetsThrough, SharesTaken, StartsEntry, StoresNode, taken_of, TakesReference}}, pagable_value_spec.specs.Blob.key_of};
-ghost use Rattle.{pagable_value_spec.specs.declared.numbers.HandleNumber.HandleNumber as Handle, pagable_pager_spec.specs.{Access.{Called, EntryHas, WorkerStarts}, Calls.ReleaseCall}};
-ghost use Rattle.pagable_pager_spec.specs.{Calls.{ScheduleCall, SetKeyCall, StoreCall, TakeCall, UnpinCall}, Cascade.FallsAnyhow, declared.calls.Want.Want, LoadCalls.{AskCall, BeginKeyCall}};
+ghost use Rattle.{pagable_load.specs.{AccessView.{IsReadBy, TakesLazily, IfKnown, values_at}, WorkerCalls.{ClosesNode, fault_in, RefusesEntry, SetsThrough, SharesTaken, StartsEntry, StoresNode, taken_of, TakesReference}}, pagable_value_spec.specs.Blob.key_of};
+ghost use Rattle.{pagable_value_spec.specs.declared.numbers.HandleNumber.HandleNumber as Handle, pagable_pager_spec.specs.{Access.{MakesCall, EntryHas, WorkerStarts}, Calls.ReleaseCall}};
+ghost use Rattle.pagable_pager_spec.specs.{Calls.{ScheduleCall, SetKeyCall, StoreCall, TakeCall, UnpinCall}, Cascade.FallsAnyhow, declared.calls.Want.Want, LoadCalls.{LoadFetchCall, BeginKeyCall}};
 ghost use Rattle.pagable_pager_spec.specs.{LoadCalls.{DropCall, EndCall, from_store, HandOverCall}, Pager.{IsCellOf, IsNewNode, PagerState}, Workers.{claim_fault, is_workers_at, WorkerEnds}, World.Alike};
-ghost use Rattle.pagable_pager_spec.specs.{Refusals.WorkerFault, World.seen_as};
+ghost use Rattle.pagable_pager_spec.specs.{Refusals.WorkerFault, World.result_map};
 
 use either::Either;
 use pagable_codec::{Env, NodeSet};
@@ -31,13 +31,13 @@ pub enum PinStart {
     Load(LoadNumber, DataKey, u32),
 }
 
-/// The calls of a pager for one owner: the caller, or a page-out worker. If the access tells the
-/// pager's plain state, each call's clause says what the call does to it; an access behind a lock
-/// tells nothing. Apart from `worker_begin`, `worker_listed` and `worker_end`, no call changes the
+/// The calls of a pager for one owner: the caller, or a page-out worker. If the access knows the
+/// pager's state, each call's clause says what the call does to it; an access behind a lock
+/// doesn't know it. Apart from `worker_begin`, `worker_listed` and `worker_end`, no call changes the
 /// owner, the environment or the lender.
 pub trait Access<E: Env<Node: NodeSet<E>>> {
-    // The pager's plain state, if the access tells it.
-    ghost told: { Self → Option (PagerState E.Node E) };
+    // The pager's state, if the access knows it.
+    ghost known_state: { Self → Option (PagerState E.Node E) };
 
     // The owner for whom the access makes calls, the environment, and the lender of the pager.
     ghost acting: { Self → Acting E };
@@ -60,7 +60,7 @@ pub trait Access<E: Env<Node: NodeSet<E>>> {
     /// - `NumbersSpent` if no number is left for a handle or a load: nothing changes.
     /// - `OutOfMemory` if a handle or a load can't be allocated: nothing changes.
     fn begin_pin(&mut self, handle: HandleNumber) -> Result<PinStart, Error>
-        ensures { Acts told acting self.old self.new (λ a s t. Called
+        ensures { Acts known_state acting self.old self.new (λ a s t. MakesCall
             (values_at E.Node.NodeSet E.Env E.Hash.KeyHash a.environment) (λ w'. StartsPin s.core a.me handle result w')
             s t) };
 
@@ -71,7 +71,7 @@ pub trait Access<E: Env<Node: NodeSet<E>>> {
     /// - `NoSuchHandle` if the handle isn't live.
     /// - `OutOfMemory` if the value can't be shared.
     fn share(&self, handle: HandleNumber) -> Result<Option<Arc<E::Node>>, Error>
-        ensures { Tells (told self.now) (λ s. Shares arc_value s handle result) };
+        ensures { IfKnown (known_state self.now) (λ s. Shares arc_value s handle result) };
 
     /// Stores a blob and returns its key.
     ///
@@ -83,8 +83,8 @@ pub trait Access<E: Env<Node: NodeSet<E>>> {
     /// - `Closed` if the storage is closed.
     fn store(&mut self, alloc: Global, blob: PagableData) -> Result<DataKey, Error>
         ensures key { IfOk result (λ key. key ≡ key_of E.Hash.digest (blob_of blob)) }
-        ensures acts { Acts told acting self.old self.new
-            (λ a s t. Called (values_at E.Node.NodeSet E.Env E.Hash.KeyHash a.environment)
+        ensures acts { Acts known_state acting self.old self.new
+            (λ a s t. MakesCall (values_at E.Node.NodeSet E.Env E.Hash.KeyHash a.environment)
             (λ w'. StoreCall (key_of E.Hash.digest) s.core (blob_of blob) result w') s t) };
 
     /// Stores a blob under its key, which the caller has computed, for example before it takes the
@@ -101,8 +101,8 @@ pub trait Access<E: Env<Node: NodeSet<E>>> {
     ) -> Result<DataKey, Error>
         requires { key ≡ key_of E.Hash.digest (blob_of blob) }
         ensures key { IfOk result (λ answer. answer ≡ key_of E.Hash.digest (blob_of blob)) }
-        ensures acts { Acts told acting self.old self.new
-            (λ a s t. Called (values_at E.Node.NodeSet E.Env E.Hash.KeyHash a.environment)
+        ensures acts { Acts known_state acting self.old self.new
+            (λ a s t. MakesCall (values_at E.Node.NodeSet E.Env E.Hash.KeyHash a.environment)
             (λ w'. StoreCall (key_of E.Hash.digest) s.core (blob_of blob) result w') s t) };
 
     /// Sets the key of a loose handle's cell, and drops the cell's value if nothing pins it. Does
@@ -115,7 +115,7 @@ pub trait Access<E: Env<Node: NodeSet<E>>> {
     /// - `NumbersSpent` or `OutOfMemory` if a cell that has to be listed isn't: the key is set all
     ///   the same.
     fn set_data_key(&mut self, handle: HandleNumber, key: DataKey) -> Result<(), Error>
-        ensures { Acts told acting self.old self.new (λ a s t. Called
+        ensures { Acts known_state acting self.old self.new (λ a s t. MakesCall
             (values_at E.Node.NodeSet E.Env E.Hash.KeyHash a.environment)
             (λ w'. SetKeyCall s.core a.me handle key result w') s t) };
 
@@ -129,7 +129,7 @@ pub trait Access<E: Env<Node: NodeSet<E>>> {
     /// - `NumbersSpent` or `OutOfMemory` if a cell that has to be listed isn't: the handle is
     ///   unpinned all the same.
     fn unpin(&mut self, handle: HandleNumber) -> Result<(), Error>
-        ensures { Acts told acting self.old self.new (λ a s t. Called
+        ensures { Acts known_state acting self.old self.new (λ a s t. MakesCall
             (values_at E.Node.NodeSet E.Env E.Hash.KeyHash a.environment) (λ w'. UnpinCall s.core a.me handle result w')
             s t) };
 
@@ -142,7 +142,7 @@ pub trait Access<E: Env<Node: NodeSet<E>>> {
     /// - `NumbersSpent` or `OutOfMemory` if a cell that has to be listed isn't: the handle is
     ///   released all the same.
     fn release(&mut self, handle: HandleNumber) -> Result<(), Error>
-        ensures { Acts told acting self.old self.new (λ a s t. Called
+        ensures { Acts known_state acting self.old self.new (λ a s t. MakesCall
             (values_at E.Node.NodeSet E.Env E.Hash.KeyHash a.environment)
             (λ w'. ReleaseCall s.core a.me handle result w') s t) };
 
@@ -153,9 +153,9 @@ pub trait Access<E: Env<Node: NodeSet<E>>> {
     /// - `NumbersSpent` if no number is left for a load: nothing changes.
     /// - `OutOfMemory` if the load can't be allocated: nothing changes.
     fn load_key(&mut self, key: DataKey) -> Result<LoadNumber, Error>
-        ensures { Acts told acting self.old self.new (λ a s t. Called
+        ensures { Acts known_state acting self.old self.new (λ a s t. MakesCall
             (values_at E.Node.NodeSet E.Env E.Hash.KeyHash a.environment)
-            (λ w'. BeginKeyCall s.core a.me key (seen_as (λ l. Beginning.Load l key) result) w') s t) };
+            (λ w'. BeginKeyCall s.core a.me key (result_map (λ l. Beginning.Load l key) result) w') s t) };
 
     /// Fetches the blob of the load's own key.
     ///
@@ -165,9 +165,10 @@ pub trait Access<E: Env<Node: NodeSet<E>>> {
     /// - `NotYours` if another than this owner began it.
     /// - `NoData`, `OutOfMemory` or `Storage`, as the storage fails.
     fn load_root(&mut self, alloc: Global, load: LoadNumber) -> Result<Arc<PagableData>, Error>
-        ensures { Acts told acting self.old self.new (λ a s t. Called
+        ensures { Acts known_state acting self.old self.new (λ a s t. MakesCall
             (values_at E.Node.NodeSet E.Env E.Hash.KeyHash a.environment)
-            (λ w'. AskCall s.core a.me load Want.Root (seen_as (λ d. from_store (blob_of (arc_value d))) result) w') s
+            (λ w'. LoadFetchCall s.core a.me load Want.Root
+            (result_map (λ d. from_store (blob_of (arc_value d))) result) w') s
             t) };
 
     /// Fetches what a reference needs: a handle of the node that the cache has, which the load
@@ -186,7 +187,7 @@ pub trait Access<E: Env<Node: NodeSet<E>>> {
         kind: Kind,
         key: DataKey,
     ) -> Result<Either<ArcRef, Arc<PagableData>>, Error>
-        ensures { Acts told acting self.old self.new (λ a s t. Called
+        ensures { Acts known_state acting self.old self.new (λ a s t. MakesCall
             (values_at E.Node.NodeSet E.Env E.Hash.KeyHash a.environment)
             (λ w'. AsksFor (λ d. blob_of (arc_value d)) s.core a.me load kind key result w') s t) };
 
@@ -206,7 +207,7 @@ pub trait Access<E: Env<Node: NodeSet<E>>> {
         kind: Kind,
         key: DataKey,
     ) -> Result<ArcRef, Error>
-        ensures { Acts told acting self.old self.new (λ a s t. Called
+        ensures { Acts known_state acting self.old self.new (λ a s t. MakesCall
             (values_at E.Node.NodeSet E.Env E.Hash.KeyHash a.environment)
             (λ w'. TakesLazily s.core a.me load kind key result w') s t) };
 
@@ -231,7 +232,7 @@ pub trait Access<E: Env<Node: NodeSet<E>>> {
         key: DataKey,
         node: E::Node,
     ) -> Result<ArcRef, (Error, E::Node)>
-        ensures { Acts told acting self.old self.new (λ a s t. Brings
+        ensures { Acts known_state acting self.old self.new (λ a s t. Brings
             (values_at E.Node.NodeSet E.Env E.Hash.KeyHash a.environment)
             (λ w'. AdoptsValue s.core a.me load kind key node (E.Node.type_of node) (E.Node.refs_of node) result w')
             (λ n x. (x ≡ node) × IsNewNode s.core n) s t) };
@@ -259,7 +260,7 @@ pub trait Access<E: Env<Node: NodeSet<E>>> {
         value: E::Node,
     ) -> Result<HandleNumber, (Error, Option<E::Node>)>
         requires { IsReadBy (values_at E.Node.NodeSet E.Env E.Hash.KeyHash (acting self.old).environment) load value }
-        ensures { Acts told acting self.old self.new (λ a s t. Brings
+        ensures { Acts known_state acting self.old self.new (λ a s t. Brings
             (values_at E.Node.NodeSet E.Env E.Hash.KeyHash a.environment)
             (λ w'. EndCall s.core a.me load value (E.Node.type_of value) (E.Node.refs_of value) result w')
             (λ n x. (x ≡ value) × IsCellOf s.core load n) s t) };
@@ -274,7 +275,7 @@ pub trait Access<E: Env<Node: NodeSet<E>>> {
     ///   handle, or a handle is named twice: nothing changes.
     /// - `WrongMode` if it is a load of a cell: nothing changes.
     fn load_take(&mut self, load: LoadNumber, named: &[HandleNumber]) -> Result<(), Error>
-        ensures { Acts told acting self.old self.new (λ a s t. Called
+        ensures { Acts known_state acting self.old self.new (λ a s t. MakesCall
             (values_at E.Node.NodeSet E.Env E.Hash.KeyHash a.environment)
             (λ w'. HandOverCall s.core a.me load named.now result w') s t) };
 
@@ -287,7 +288,7 @@ pub trait Access<E: Env<Node: NodeSet<E>>> {
     /// - `NumbersSpent` or `OutOfMemory` if a cell that has to be listed isn't: the load is dropped
     ///   all the same.
     fn load_drop(&mut self, load: LoadNumber) -> Result<(), Error>
-        ensures { Acts told acting self.old self.new (λ a s t. Called
+        ensures { Acts known_state acting self.old self.new (λ a s t. MakesCall
             (values_at E.Node.NodeSet E.Env E.Hash.KeyHash a.environment) (λ w'. DropCall s.core a.me load result w') s
             t) };
 }
@@ -330,7 +331,7 @@ pub trait WorkerAccess<E: Env<Node: NodeSet<E>>>: Access<E> {
     /// - `WrongMode` if its mode doesn't fit the kind.
     /// - `WrongKind` if the node's type doesn't fit the kind.
     fn check_reference(&self, reference: ArcRef) -> Result<(), Error>
-        ensures { Tells (Self.told self.now) (λ s. fault_in result ≡ claim_fault s.core reference) };
+        ensures { IfKnown (Self.known_state self.now) (λ s. fault_in result ≡ claim_fault s.core reference) };
 
     /// Clones a reference's handle for the worker and pins the clone, or begins a load by it.
     ///
@@ -338,8 +339,8 @@ pub trait WorkerAccess<E: Env<Node: NodeSet<E>>>: Access<E> {
     ///
     /// - those of cloning the handle, of pinning the clone, and of the load's begin.
     fn take_reference(&mut self, reference: ArcRef) -> Result<PinnedOrLoading, Error>
-        ensures { Acts Self.told Self.acting self.old self.new
-            (λ a s t. Called (values_at E.Node.NodeSet E.Env E.Hash.KeyHash a.environment)
+        ensures { Acts Self.known_state Self.acting self.old self.new
+            (λ a s t. MakesCall (values_at E.Node.NodeSet E.Env E.Hash.KeyHash a.environment)
             (λ w'. TakesReference s.core a.me reference result w') s t) };
 
     /// Does what `take_reference` does, and shares the value that is pinned then. If the value
@@ -349,10 +350,10 @@ pub trait WorkerAccess<E: Env<Node: NodeSet<E>>>: Access<E> {
     ///
     /// - those of `take_reference`.
     fn take_value(&mut self, reference: ArcRef) -> Result<TakenValue<E::Node>, Error>
-        ensures takes { Acts Self.told Self.acting self.old self.new
-            (λ a s t. Called (values_at E.Node.NodeSet E.Env E.Hash.KeyHash a.environment)
-            (λ w'. TakesReference s.core a.me reference (seen_as taken_of result) w') s t) }
-        ensures shares { IfOk result (λ taken. Tells (Self.told self.new) (λ s. SharesTaken s taken)) }
+        ensures takes { Acts Self.known_state Self.acting self.old self.new
+            (λ a s t. MakesCall (values_at E.Node.NodeSet E.Env E.Hash.KeyHash a.environment)
+            (λ w'. TakesReference s.core a.me reference (result_map taken_of result) w') s t) }
+        ensures shares { IfOk result (λ taken. IfKnown (Self.known_state self.new) (λ s. SharesTaken s taken)) }
     {
         match self.take_reference(reference)? {
             PinnedOrLoading::Held(through, pin) => Ok(TakenValue::Held(
@@ -365,9 +366,9 @@ pub trait WorkerAccess<E: Env<Node: NodeSet<E>>>: Access<E> {
     }
 
     /// Releases all handles that a worker has of a node.
-    fn give_up(&mut self, worker: WorkerNumber, node: NodeNumber)
-        ensures { Acts Self.told Self.acting self.old self.new
-            (λ a s t. Called (values_at E.Node.NodeSet E.Env E.Hash.KeyHash a.environment)
+    fn release_worker_node(&mut self, worker: WorkerNumber, node: NodeNumber)
+        ensures { Acts Self.known_state Self.acting self.old self.new
+            (λ a s t. MakesCall (values_at E.Node.NodeSet E.Env E.Hash.KeyHash a.environment)
             (λ w'. FallsAnyhow s.core s.core (is_workers_at s.core worker.0 node.0) w') s t) };
 
     /// Sets the key of a cell by its loose handle, if there is one; otherwise does nothing.
@@ -376,7 +377,7 @@ pub trait WorkerAccess<E: Env<Node: NodeSet<E>>>: Access<E> {
     ///
     /// - those of `set_data_key`.
     fn set_key_through(&mut self, loose: Option<HandleNumber>, key: DataKey) -> Result<(), Error>
-        ensures { Acts Self.told Self.acting self.old self.new
+        ensures { Acts Self.known_state Self.acting self.old self.new
             (λ a s t. SetsThrough (values_at E.Node.NodeSet E.Env E.Hash.KeyHash a.environment) a.me loose key result s
             t) }
     {
@@ -393,11 +394,11 @@ pub trait WorkerAccess<E: Env<Node: NodeSet<E>>>: Access<E> {
     ///
     /// - those of `set_data_key`: the worker keeps its handles.
     fn close_node(&mut self, at: WorkerNode, key: DataKey) -> Result<(), Error>
-        ensures { Acts Self.told Self.acting self.old self.new
+        ensures { Acts Self.known_state Self.acting self.old self.new
             (λ a s t. ClosesNode (values_at E.Node.NodeSet E.Env E.Hash.KeyHash a.environment) a.me at key result s t) }
     {
         self.set_key_through(at.loose, key)?;
-        self.give_up(at.worker, at.node);
+        self.release_worker_node(at.worker, at.node);
         Ok(())
     }
 
@@ -415,7 +416,7 @@ pub trait WorkerAccess<E: Env<Node: NodeSet<E>>>: Access<E> {
         at: WorkerNode,
     ) -> Result<DataKey, Error>
         ensures key { IfOk result (λ key. key ≡ key_of E.Hash.digest (blob_of blob)) }
-        ensures acts { Acts Self.told Self.acting self.old self.new
+        ensures acts { Acts Self.known_state Self.acting self.old self.new
             (λ a s t. StoresNode (values_at E.Node.NodeSet E.Env E.Hash.KeyHash a.environment) a.me at
             (blob_of blob) result s t) }
     {
@@ -439,7 +440,7 @@ pub trait WorkerAccess<E: Env<Node: NodeSet<E>>>: Access<E> {
     ) -> Result<DataKey, Error>
         requires { key ≡ key_of E.Hash.digest (blob_of blob) }
         ensures key { IfOk result (λ answer. answer ≡ key_of E.Hash.digest (blob_of blob)) }
-        ensures acts { Acts Self.told Self.acting self.old self.new
+        ensures acts { Acts Self.known_state Self.acting self.old self.new
             (λ a s t. StoresNode (values_at E.Node.NodeSet E.Env E.Hash.KeyHash a.environment) a.me at
             (blob_of blob) result s t) }
     {
@@ -458,8 +459,8 @@ pub trait WorkerAccess<E: Env<Node: NodeSet<E>>>: Access<E> {
     /// - `WrongMode` if it isn't loose and unpinned: nothing changes.
     /// - `OutOfMemory` if the list can't grow: nothing changes.
     fn schedule_for_paging(&mut self, handle: HandleNumber) -> Result<(), Error>
-        ensures { Acts Self.told Self.acting self.old self.new
-            (λ a s t. Called (values_at E.Node.NodeSet E.Env E.Hash.KeyHash a.environment)
+        ensures { Acts Self.known_state Self.acting self.old self.new
+            (λ a s t. MakesCall (values_at E.Node.NodeSet E.Env E.Hash.KeyHash a.environment)
             (λ w'. ScheduleCall s.core a.me handle result w') s t) };
 
     /// Begins a worker, who is the owner from now on.
@@ -469,10 +470,10 @@ pub trait WorkerAccess<E: Env<Node: NodeSet<E>>>: Access<E> {
     /// - `NumbersSpent` if no number is left for a worker: nothing changes.
     /// - `OutOfMemory` if the worker can't be allocated: nothing changes.
     fn worker_begin(&mut self) -> Result<WorkerNumber, Error>
-        ensures begins { IfOk result (λ n. ActsThen Self.told Self.acting self.old self.new (as_worker n)
+        ensures begins { IfOk result (λ n. ActsThen Self.known_state Self.acting self.old self.new (as_worker n)
             (λ a s t. WorkerStarts (values_at E.Node.NodeSet E.Env E.Hash.KeyHash a.environment) s.core s n.0 t)) }
-        ensures refused { IfErr result (λ e. Acts Self.told Self.acting self.old self.new
-            (λ a s t. WorkerFault s.core e × Called (values_at E.Node.NodeSet E.Env E.Hash.KeyHash a.environment)
+        ensures refused { IfErr result (λ e. Acts Self.known_state Self.acting self.old self.new
+            (λ a s t. WorkerFault s.core e × MakesCall (values_at E.Node.NodeSet E.Env E.Hash.KeyHash a.environment)
             (λ w'. Alike s.core w') s t)) };
 
     /// Begins a worker for the list entry at this place, counted from 0. The worker owns the entry
@@ -486,32 +487,32 @@ pub trait WorkerAccess<E: Env<Node: NodeSet<E>>>: Access<E> {
     /// - `NumbersSpent` if no number is left for a worker: nothing changes.
     /// - `OutOfMemory` if the worker can't be allocated: nothing changes.
     fn worker_listed(&mut self, place: usize) -> Result<(WorkerNumber, ArcRef), Error>
-        ensures begins { IfOk result (λ b. ActsThen Self.told Self.acting self.old self.new (as_worker b.0)
+        ensures begins { IfOk result (λ b. ActsThen Self.known_state Self.acting self.old self.new (as_worker b.0)
             (λ a s t. StartsEntry (values_at E.Node.NodeSet E.Env E.Hash.KeyHash a.environment) s place b.0 b.1 t)) }
-        ensures refused { IfErr result (λ e. Acts Self.told Self.acting self.old self.new
+        ensures refused { IfErr result (λ e. Acts Self.known_state Self.acting self.old self.new
             (λ a s t. RefusesEntry (values_at E.Node.NodeSet E.Env E.Hash.KeyHash a.environment) s place e t)) };
 
     /// Ends a worker: releases what it still owns and closes its loads. The caller is the owner of
     /// calls again.
     fn worker_end(&mut self, worker: WorkerNumber)
-        ensures { ActsThen Self.told Self.acting self.old self.new as_caller
-            (λ a s t. Called (values_at E.Node.NodeSet E.Env E.Hash.KeyHash a.environment)
+        ensures { ActsThen Self.known_state Self.acting self.old self.new as_caller
+            (λ a s t. MakesCall (values_at E.Node.NodeSet E.Env E.Hash.KeyHash a.environment)
             (λ w'. WorkerEnds s.core worker.0 w') s t) };
 
     /// Returns how many entries the list has.
     fn pending(&self) -> usize
-        ensures { Tells (Self.told self.now) (λ s. result ≡ length s.core.list) };
+        ensures { IfKnown (Self.known_state self.now) (λ s. result ≡ length s.core.list) };
 
     /// Returns the key of the cell of the list entry at this place, which stays listed; None past
     /// the list's end.
     fn entry_key(&self, place: usize) -> Option<OptionalDataKey>
-        ensures some { IfSome result (λ key. Tells (Self.told self.now)
+        ensures some { IfSome result (λ key. IfKnown (Self.known_state self.now)
             (λ s. (h : Handle) × EntryHas s.core place h key)) }
-        ensures none { IfNone result (Tells (Self.told self.now) (λ s. length s.core.list ≤ place)) };
+        ensures none { IfNone result (IfKnown (Self.known_state self.now) (λ s. length s.core.list ≤ place)) };
 
     /// Takes the list entry at this place for the owner; returns None past the list's end.
     fn take_pending(&mut self, place: usize) -> Option<HandleNumber>
-        ensures { Acts Self.told Self.acting self.old self.new
-            (λ a s t. Called (values_at E.Node.NodeSet E.Env E.Hash.KeyHash a.environment)
+        ensures { Acts Self.known_state Self.acting self.old self.new
+            (λ a s t. MakesCall (values_at E.Node.NodeSet E.Env E.Hash.KeyHash a.environment)
             (λ w'. TakeCall s.core a.me place result w') s t) };
 }

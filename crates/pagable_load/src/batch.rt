@@ -4,7 +4,7 @@
 //! all that are before it.
 
 ghost use Rattle.std.specs.{Prelude.{false, IfSome, IsSome, [], length, true, ◌++◌, ◌∷◌, ◌≡◌, ◌⊎◌}};
-ghost use Rattle.pagable_load.specs.{Decoding.{Follows, IfValue, IsAhead, KeptAt, LeftIf, Needs, NeedsNext, rows_of}, Frames.frames_of, ResolvedReferences.AreStandIns, AccessView.{Tells, values_at}};
+ghost use Rattle.pagable_load.specs.{Decoding.{Follows, IfValue, IsAhead, KeptAt, LeftIf, Needs, NeedsNext, rows_of}, Frames.frames_of, ResolvedReferences.AreStandIns, AccessView.{IfKnown, values_at}};
 ghost use Rattle.pagable_pager_spec.specs.{Pager.HoldsPinned, Basics.Types};
 
 use crate::access::Access;
@@ -203,7 +203,7 @@ impl Reading {
     ) -> Need<E::Node>
         requires { IsAhead (values_at E.Node.NodeSet E.Env E.Hash.KeyHash (A.acting access.now).environment).types
             (frames_of self.now.top self.now.below.items) row.now }
-        ensures holds { Tells (A.told access.now) (λ s. IfValue result
+        ensures holds { IfKnown (A.known_state access.now) (λ s. IfValue result
             (HoldsPinned (values_at E.Node.NodeSet E.Env E.Hash.KeyHash (A.acting access.now).environment) s)) }
         ensures needs { Needs (values_at E.Node.NodeSet E.Env E.Hash.KeyHash (A.acting access.now).environment) self.now
             result }

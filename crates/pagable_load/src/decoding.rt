@@ -1,7 +1,7 @@
 //! Reads a blob from its front, with the references that its load has got so far.
 
 ghost use Rattle.std.specs.{Arc.arc_value, Prelude.{IfOk, None, ◌≡◌}};
-ghost use Rattle.{pagable_core.specs.Data.blob_of, pagable_load.specs.{Decoding.{Decodes, IfRead, ReadsWith}, ResolvedReferences.{LendsEach, stand_in}, AccessView.{Tells, values_at}}};
+ghost use Rattle.{pagable_core.specs.Data.blob_of, pagable_load.specs.{Decoding.{Decodes, IfRead, ReadsWith}, ResolvedReferences.{LendsEach, stand_in}, AccessView.{IfKnown, values_at}}};
 ghost use Rattle.pagable_pager_spec.specs.{Pager.HoldsPinned};
 
 use crate::access::Access;
@@ -22,14 +22,15 @@ pub(crate) fn stand_in_for(kind: Kind) -> ArcRef
     }
 }
 
-/// The references of a blob that a load has got so far, as its reader looks them up, the blob's
-/// first reference first. For a reference that the load hasn't got yet, the look-up fails with
-/// `Storage` of the kind, by which `decode` learns what to fetch; for one that was got as another
-/// kind, with `WrongKind`.
+/// The references of one blob that a load has resolved so far (`got`), in the blob's order, as its
+/// reader looks them up. A look-up of a reference that isn't resolved yet fails with
+/// `Storage(kind)`, which tells `decode` what to fetch; of one that was resolved as another kind,
+/// with `WrongKind`.
 ///
-/// The value of the reference that was looked up last can be borrowed: `lent` has the values by the
-/// references' places, and may be shorter. With `noted`, a look-up of a reference that wasn't got
-/// returns a stand-in of its kind, which lends nothing, and notes it.
+/// Only the value of the reference that was looked up last can be borrowed, from `lent`, which has
+/// the values in the blob's order and may be shorter than `got`. If `noted` is Some, a look-up of
+/// an unresolved reference succeeds: it appends to `noted`, and returns, a stand-in
+/// (`stand_in_for`) of the kind, which has no value.
 #[derive(Drop)]
 pub struct ResolvedReferences<'g, E: Env<Node: NodeSet<E>>, A: Access<E>> {
     access: &'g A,
@@ -38,7 +39,7 @@ pub struct ResolvedReferences<'g, E: Env<Node: NodeSet<E>>, A: Access<E>> {
     // The place of the reference that was looked up last.
     last: usize,
     noted: Option<Vec<ArcRef>>,
-    ghost each: { ∥ Tells (A.told access.now) (λ s. LendsEach arc_value s got.now lent.now) ∥₁ },
+    ghost each: { ∥ IfKnown (A.known_state access.now) (λ s. LendsEach arc_value s got.now lent.now) ∥₁ },
 }
 
 impl<'g, E: Env<Node: NodeSet<E>>, A: Access<E>> References<E> for ResolvedReferences<'g, E, A> {
@@ -123,9 +124,9 @@ pub(crate) fn read_got<E: Env<Node: NodeSet<E>>, A: Access<E>>(
     lent: &[Option<Arc<E::Node>>],
     noted: Option<Vec<ArcRef>>,
 ) -> (Result<E::Node, Error>, Option<Vec<ArcRef>>)
-    requires each { Tells (A.told access.now) (λ s. LendsEach arc_value s got.now lent.now) }
+    requires each { IfKnown (A.known_state access.now) (λ s. LendsEach arc_value s got.now lent.now) }
     ensures asked { IfOk result.0 (λ x. E.Node.type_of x ≡ node_type) }
-    ensures holds { Tells (A.told access.now) (λ s. IfOk result.0
+    ensures holds { IfKnown (A.known_state access.now) (λ s. IfOk result.0
         (HoldsPinned (values_at E.Node.NodeSet E.Env E.Hash.KeyHash (A.acting access.now).environment) s)) }
     ensures reads { noted ≡ None → ReadsWith (values_at E.Node.NodeSet E.Env E.Hash.KeyHash
         (A.acting access.now).environment) node_type (blob_of blob.now) got.now result.0 }
@@ -158,8 +159,8 @@ pub fn decode<E: Env<Node: NodeSet<E>>, A: Access<E>>(
     got: &[ArcRef],
     lent: &[Option<Arc<E::Node>>],
 ) -> Decoded<E::Node>
-    requires each { Tells (A.told access.now) (λ s. LendsEach arc_value s got.now lent.now) }
-    ensures holds { Tells (A.told access.now) (λ s. IfRead result
+    requires each { IfKnown (A.known_state access.now) (λ s. LendsEach arc_value s got.now lent.now) }
+    ensures holds { IfKnown (A.known_state access.now) (λ s. IfRead result
         (HoldsPinned (values_at E.Node.NodeSet E.Env E.Hash.KeyHash (A.acting access.now).environment) s)) }
     ensures decodes { Decodes (values_at E.Node.NodeSet E.Env E.Hash.KeyHash (A.acting access.now).environment)
         node_type (blob_of blob.now) got.now result }

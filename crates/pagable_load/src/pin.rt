@@ -2,7 +2,7 @@
 //! caller fetches in between.
 
 ghost use Rattle.std.specs.{Arc.arc_value, Prelude.◌≡◌};
-ghost use Rattle.{pagable_core.specs.Data.blob_of, pagable_value_spec.specs.Blob.key_of, pagable_pager_spec.specs.Access.Called};
+ghost use Rattle.{pagable_core.specs.Data.blob_of, pagable_value_spec.specs.Blob.key_of, pagable_pager_spec.specs.Access.MakesCall};
 ghost use Rattle.pagable_load.specs.{PolledPin.{PinsFrom, start_of}, PinStart.StartsPin, AccessView.{Acts, values_at}};
 
 use crate::access::{Access, PinStart};
@@ -35,8 +35,8 @@ pub fn begin_reading<E: Env<Node: NodeSet<E>>, A: Access<E>>(
     alloc: Global,
     handle: HandleNumber,
 ) -> Result<BegunPin, Error>
-    ensures { Acts A.told A.acting access.old access.new (λ a s t.
-        Called (values_at E.Node.NodeSet E.Env E.Hash.KeyHash a.environment)
+    ensures { Acts A.known_state A.acting access.old access.new (λ a s t.
+        MakesCall (values_at E.Node.NodeSet E.Env E.Hash.KeyHash a.environment)
         (λ w'. StartsPin s.core a.me handle (start_of result) w') s t) }
 {
     match access.begin_pin(handle)? {
@@ -63,7 +63,7 @@ impl CellReading {
         blob: Arc<PagableData>,
     ) -> Result<HandleNumber, Error>
         requires named { key_of E.Hash.digest (blob_of (arc_value blob)) ≡ self.reading.key }
-        ensures { Acts A.told A.acting access.old access.new (λ a s t.
+        ensures { Acts A.known_state A.acting access.old access.new (λ a s t.
             PinsFrom (values_at E.Node.NodeSet E.Env E.Hash.KeyHash a.environment) a.me self.reading
             (blob_of (arc_value blob)) s result t) }
     {

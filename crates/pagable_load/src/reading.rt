@@ -3,7 +3,7 @@
 
 ghost use Rattle.std.specs.{Arc.arc_value, Option.option_map, Prelude.{true, IfErr, IfOk, IsSome, OnOk, [], length, vec_capacity, vec_len, ◌++◌, ◌<◌, ◌^◌, ◌∷◌, ◌≡◌, ◌≤◌}};
 ghost use Rattle.{pagable_core.specs.Data.blob_of, pagable_load.specs.{Frames.{frame_of, frames_of, onto, reading_of}, ResolvedReferences.{AreLater, Lends, LendsEach}, LoadSteps.{IsSameLoad, TakenOff, TakenTwo}}};
-ghost use Rattle.{pagable_load.specs.{Decoding.{IfValue, Needs, is_adoption}, AccessView.{Tells, values_at}}, pagable_value_spec.specs.Height.{is_eager, longest_path}};
+ghost use Rattle.{pagable_load.specs.{Decoding.{IfValue, Needs, is_adoption}, AccessView.{IfKnown, values_at}}, pagable_value_spec.specs.Height.{is_eager, longest_path}};
 ghost use Rattle.pagable_pager_spec.specs.{Loads.{handles_of, nested_frame, root_frame}, Pager.HoldsPinned};
 
 use crate::access::Access;
@@ -86,7 +86,7 @@ impl<N: Drop> Need<N> {
 pub(crate) fn is_read_at_once(kind: Kind) -> bool
     ensures { result ≡ is_eager kind.0 }
 {
-    !(kind.0 % 3 == 1)
+    !kind.is_loose()
 }
 
 impl Reading {
@@ -121,7 +121,7 @@ pub(crate) fn value_of<E: Env<Node: NodeSet<E>>, A: Access<E>>(
     access: &A,
     reference: ArcRef,
 ) -> Result<Option<Arc<E::Node>>, Error>
-    ensures lends { Tells (A.told access.now) (λ s. IfOk result
+    ensures lends { IfKnown (A.known_state access.now) (λ s. IfOk result
         (λ found. Lends s reference (option_map arc_value found))) }
     ensures only { IfErr result (λ e. e ≡ Error.OutOfMemory) }
 {
@@ -156,7 +156,8 @@ pub(crate) fn lend<E: Env<Node: NodeSet<E>>, A: Access<E>>(
     alloc: Global,
     got: &[ArcRef],
 ) -> Result<Vec<Option<Arc<E::Node>>>, Error>
-    ensures lends { Tells (A.told access.now) (λ s. IfOk result (λ lent. LendsEach arc_value s got.now lent.items)) }
+    ensures lends { IfKnown (A.known_state access.now)
+        (λ s. IfOk result (λ lent. LendsEach arc_value s got.now lent.items)) }
     ensures only { IfErr result (λ e. e ≡ Error.OutOfMemory) }
 {
     let mut lent = Vec::new(alloc);
@@ -173,15 +174,15 @@ pub(crate) fn lend<E: Env<Node: NodeSet<E>>, A: Access<E>>(
 impl Reading {
     /// Returns what the load needs next. It reads the innermost blob from its front, with the
     /// values of the references that the load has got, and changes nothing. If memory for these
-    /// values runs out, the blob can't be read. What a value that was read holds beside its
-    /// references is what their handles pin.
+    /// values runs out, the blob can't be read. A value that was read holds, beside its references,
+    /// the values that their handles pin.
     #[tactic(auto, using(crate::proofs::LoadSteps::needing, crate::proofs::LoadSteps::tells_all))]
     pub fn next<E: Env<Node: NodeSet<E>>, A: Access<E>>(
         &self,
         access: &A,
         alloc: Global,
     ) -> Need<E::Node>
-        ensures holds { Tells (A.told access.now) (λ s. IfValue result
+        ensures holds { IfKnown (A.known_state access.now) (λ s. IfValue result
             (HoldsPinned (values_at E.Node.NodeSet E.Env E.Hash.KeyHash (A.acting access.now).environment) s)) }
         ensures needs { Needs (values_at E.Node.NodeSet E.Env E.Hash.KeyHash (A.acting access.now).environment) self.now
             result }
@@ -301,7 +302,7 @@ impl Reading {
         self.top = Some(Frame {
             kind,
             key,
-            node_type: kind.0 / 3,
+            node_type: kind.node_type(),
             blob,
             got: Vec::new(alloc),
         });

@@ -3,8 +3,8 @@
 
 ghost use Rattle.std.specs.{Arc.arc_value, Prelude.{[], IfNone, IfOk, IfSome, IsSome, length, Ok, Some, true, ◌<◌, ◌≡◌}};
 ghost use Rattle.pagable_load.specs.{Decoding.{AllAhead, FramesGo, goes_on_with, GoesFor, GotMore, IfValue, Needs, rows_of}, LoadEnd.LeadsOn, Frames.{frames_of, reading_of}, PinStart.{PinsFirst, SharesPinned, Unpins}, LoadSteps.Drops};
-ghost use Rattle.{pagable_load.specs.{LoadSteps.{IsSameLoad, Runs, RunsOrGoes, Tries}, AccessView.{Acts, Tells, values_at}}, pagable_pager_spec.specs.{Access.{PinsOver, ReadsOver}, declared.handle_row.Owner.Owner}};
-ghost use Rattle.pagable_pager_spec.specs.{Loads.{need_of, needs_lazy, ReadsNode, ReadsRoot}, Pager.HoldsPinned, World.{one_more, seen_as}};
+ghost use Rattle.{pagable_load.specs.{LoadSteps.{IsSameLoad, Runs, RunsOrGoes, Tries}, AccessView.{Acts, IfKnown, values_at}}, pagable_pager_spec.specs.{Access.{PinsOver, ReadsOver}, declared.handle_row.Owner.Owner}};
+ghost use Rattle.pagable_pager_spec.specs.{Loads.{need_of, needs_lazy, ReadsNode, ReadsRoot}, Pager.HoldsPinned, World.{one_more, result_map}};
 
 use crate::access::{Access, PinStart};
 use crate::batch::Ahead;
@@ -29,7 +29,7 @@ impl Reading {
         requires top { IsSome self.old.top }
         requires need { need_of (values_at E.Node.NodeSet E.Env E.Hash.KeyHash (A.acting access.old).environment).types
             (frames_of self.old.top self.old.below.items) ≡ needs_lazy kind key }
-        ensures acts { Acts A.told A.acting access.old access.new
+        ensures acts { Acts A.known_state A.acting access.old access.new
             (λ a s t. Tries (values_at E.Node.NodeSet E.Env E.Hash.KeyHash a.environment) a.me self.old s
             (goes_on_with result) (frames_of self.new.top self.new.below.items) t) }
         ensures leads { LeadsOn {N = E.Node} self.old.for_cell (frames_of self.old.top self.old.below.items)
@@ -57,9 +57,9 @@ impl Reading {
         requires below { 0 < length self.old.below.items }
         requires node { ReadsNode (values_at E.Node.NodeSet E.Env E.Hash.KeyHash (A.acting access.old).environment)
             (reading_of self.old) value }
-        requires holds { Tells (A.told access.old) (λ s. HoldsPinned
+        requires holds { IfKnown (A.known_state access.old) (λ s. HoldsPinned
             (values_at E.Node.NodeSet E.Env E.Hash.KeyHash (A.acting access.old).environment) s value) }
-        ensures acts { Acts A.told A.acting access.old access.new
+        ensures acts { Acts A.known_state A.acting access.old access.new
             (λ a s t. Tries (values_at E.Node.NodeSet E.Env E.Hash.KeyHash a.environment) a.me self.old s result
             (frames_of self.new.top self.new.below.items) t) }
         ensures leads { LeadsOn self.old.for_cell (frames_of self.old.top self.old.below.items)
@@ -90,9 +90,9 @@ impl Reading {
     ) -> Result<Option<LoadAnswer<E::Node>>, Error>
         requires root { ReadsRoot (values_at E.Node.NodeSet E.Env E.Hash.KeyHash (A.acting access.old).environment)
             (reading_of self.old) value }
-        requires holds { Tells (A.told access.old) (λ s. HoldsPinned
+        requires holds { IfKnown (A.known_state access.old) (λ s. HoldsPinned
             (values_at E.Node.NodeSet E.Env E.Hash.KeyHash (A.acting access.old).environment) s value) }
-        ensures acts { Acts A.told A.acting access.old access.new
+        ensures acts { Acts A.known_state A.acting access.old access.new
             (λ a s t. Tries (values_at E.Node.NodeSet E.Env E.Hash.KeyHash a.environment) a.me self.old s result
             (frames_of self.new.top self.new.below.items) t) }
         ensures leads { LeadsOn self.old.for_cell (frames_of self.old.top self.old.below.items)
@@ -123,7 +123,7 @@ impl Reading {
     }
 
     // Does what the load needs, by at most one call of the access.
-    fn meet<E: Env<Node: NodeSet<E>>, A: Access<E>>(
+    fn perform<E: Env<Node: NodeSet<E>>, A: Access<E>>(
         &mut self,
         access: &mut A,
         alloc: Global,
@@ -131,9 +131,9 @@ impl Reading {
     ) -> Result<Option<LoadAnswer<E::Node>>, Error>
         requires need { Needs (values_at E.Node.NodeSet E.Env E.Hash.KeyHash (A.acting access.old).environment) self.old
             need }
-        requires holds { Tells (A.told access.old) (λ s. IfValue need
+        requires holds { IfKnown (A.known_state access.old) (λ s. IfValue need
             (HoldsPinned (values_at E.Node.NodeSet E.Env E.Hash.KeyHash (A.acting access.old).environment) s)) }
-        ensures acts { Acts A.told A.acting access.old access.new
+        ensures acts { Acts A.known_state A.acting access.old access.new
             (λ a s t. Tries (values_at E.Node.NodeSet E.Env E.Hash.KeyHash a.environment) a.me self.old s result
             (frames_of self.new.top self.new.below.items) t) }
         ensures leads { LeadsOn self.old.for_cell (frames_of self.old.top self.old.below.items)
@@ -176,8 +176,11 @@ impl Reading {
     }
 
     // Drops the load, since a step failed, and releases all that it owns.
-    pub(crate) fn give_up<E: Env<Node: NodeSet<E>>, A: Access<E>>(&mut self, access: &mut A)
-        ensures acts { Acts A.told A.acting access.old access.new
+    pub(crate) fn drop_failed_load<E: Env<Node: NodeSet<E>>, A: Access<E>>(
+        &mut self,
+        access: &mut A,
+    )
+        ensures acts { Acts A.known_state A.acting access.old access.new
             (λ a s t. Drops (values_at E.Node.NodeSet E.Env E.Hash.KeyHash a.environment) a.me self.old.load s t) }
         ensures none { frames_of self.new.top self.new.below.items ≡ [] }
         ensures same { IsSameLoad self.old self.new self.old.steps }
@@ -193,7 +196,7 @@ impl Reading {
         access: &mut A,
         alloc: Global,
     ) -> Result<Option<LoadAnswer<E::Node>>, Error>
-        ensures acts { Acts A.told A.acting access.old access.new
+        ensures acts { Acts A.known_state A.acting access.old access.new
             (λ a s t. Tries (values_at E.Node.NodeSet E.Env E.Hash.KeyHash a.environment) a.me self.old s result
             (frames_of self.new.top self.new.below.items) t) }
         ensures leads { LeadsOn self.old.for_cell (frames_of self.old.top self.old.below.items)
@@ -202,7 +205,7 @@ impl Reading {
     {
         match self.next::<E, A>(access, alloc) {
             Need::End(value) => self.finish(access, alloc, value),
-            need => self.meet(access, alloc, need),
+            need => self.perform(access, alloc, need),
         }
     }
 
@@ -217,7 +220,7 @@ impl Reading {
         access: &mut A,
         alloc: Global,
     ) -> Option<LoadAnswer<E::Node>>
-        ensures acts { Acts A.told A.acting access.old access.new
+        ensures acts { Acts A.known_state A.acting access.old access.new
             (λ a s t. Tries (values_at E.Node.NodeSet E.Env E.Hash.KeyHash a.environment) a.me self.old s (Ok result)
             (frames_of self.new.top self.new.below.items) t) }
         ensures leads { LeadsOn self.old.for_cell (frames_of self.old.top self.old.below.items)
@@ -230,7 +233,7 @@ impl Reading {
                 answer
             }
             Err(e) => {
-                self.give_up(access);
+                self.drop_failed_load(access);
                 self.steps = self.steps.saturating_add(1);
                 Some(LoadAnswer::Refused(e))
             }
@@ -244,7 +247,7 @@ impl Reading {
         alloc: Global,
     ) -> Result<(), Error>
         requires none { frames_of self.old.top self.old.below.items ≡ [] }
-        ensures acts { Acts A.told A.acting access.old access.new
+        ensures acts { Acts A.known_state A.acting access.old access.new
             (λ a s t. Tries (values_at E.Node.NodeSet E.Env E.Hash.KeyHash a.environment) a.me self.old s
             (goes_on_with result) (frames_of self.new.top self.new.below.items) t) }
         ensures same { IsSameLoad self.old self.new self.old.steps }
@@ -266,7 +269,7 @@ impl Reading {
         alloc: Global,
     ) -> Option<LoadAnswer<E::Node>>
         requires none { frames_of self.old.top self.old.below.items ≡ [] }
-        ensures acts { Acts A.told A.acting access.old access.new
+        ensures acts { Acts A.known_state A.acting access.old access.new
             (λ a s t. Tries (values_at E.Node.NodeSet E.Env E.Hash.KeyHash a.environment) a.me self.old s (Ok result)
             (frames_of self.new.top self.new.below.items) t) }
         ensures ends { IfSome result (λ answer. LeadsOn self.old.for_cell [] [] (Ok (Some answer))) }
@@ -278,7 +281,7 @@ impl Reading {
                 None
             }
             Err(e) => {
-                self.give_up(access);
+                self.drop_failed_load(access);
                 self.steps = self.steps.saturating_add(1);
                 Some(LoadAnswer::Refused(e))
             }
@@ -301,7 +304,7 @@ impl Reading {
         access: &mut A,
         alloc: Global,
     ) -> Option<LoadAnswer<E::Node>>
-        ensures acts { Acts A.told A.acting access.old access.new
+        ensures acts { Acts A.known_state A.acting access.old access.new
             (λ a s t. RunsOrGoes (values_at E.Node.NodeSet E.Env E.Hash.KeyHash a.environment) a.me self.old self.new s
             result t) }
         ensures ends { IfSome result (λ answer. LeadsOn self.old.for_cell [] [] (Ok (Some answer))) }
@@ -330,7 +333,7 @@ impl Reading {
     ) -> Option<LoadAnswer<E::Node>>
         requires ahead { AllAhead (values_at E.Node.NodeSet E.Env E.Hash.KeyHash
             (A.acting access.old).environment).types (frames_of self.old.top self.old.below.items) (rows_of ahead.old) }
-        ensures acts { Acts A.told A.acting access.old access.new
+        ensures acts { Acts A.known_state A.acting access.old access.new
             (λ a s t. Tries (values_at E.Node.NodeSet E.Env E.Hash.KeyHash a.environment) a.me self.old s (Ok result)
             (frames_of self.new.top self.new.below.items) t) }
         ensures leads { LeadsOn self.old.for_cell (frames_of self.old.top self.old.below.items)
@@ -342,14 +345,14 @@ impl Reading {
         self.plan_batch_if_useful(access, alloc, &mut ahead.top);
         let need = self.needed::<E, A>(access, alloc, ahead.top.as_slice());
         let was_read = need.is_adoption();
-        match self.meet(access, alloc, need) {
+        match self.perform(access, alloc, need) {
             Ok(answer) => {
                 self.steps = self.steps.saturating_add(1);
                 self.follow(alloc, ahead, was_read);
                 answer
             }
             Err(e) => {
-                self.give_up(access);
+                self.drop_failed_load(access);
                 self.steps = self.steps.saturating_add(1);
                 Some(LoadAnswer::Refused(e))
             }
@@ -365,7 +368,7 @@ impl Reading {
         access: &mut A,
         alloc: Global,
     ) -> LoadAnswer<E::Node>
-        ensures acts { Acts A.told A.acting access.old access.new
+        ensures acts { Acts A.known_state A.acting access.old access.new
             (λ a s t. Runs (values_at E.Node.NodeSet E.Env E.Hash.KeyHash a.environment) a.me self.old s result t) }
         ensures ends { LeadsOn self.old.for_cell [] [] (Ok (Some result)) }
     {
@@ -391,7 +394,7 @@ fn pin_first<E: Env<Node: NodeSet<E>>, A: Access<E>>(
     handle: HandleNumber,
 ) -> Result<(HandleNumber, bool), Error>
     requires caller { (A.acting access.old).me ≡ Owner.Caller }
-    ensures { Acts A.told A.acting access.old access.new
+    ensures { Acts A.known_state A.acting access.old access.new
         (λ a s t. PinsFirst (values_at E.Node.NodeSet E.Env E.Hash.KeyHash a.environment) s handle result t) }
 {
     match access.begin_pin(handle)? {
@@ -414,7 +417,7 @@ fn unpin_again<E: Env<Node: NodeSet<E>>, A: Access<E>>(
     was_unpinned: bool,
 )
     requires caller { (A.acting access.old).me ≡ Owner.Caller }
-    ensures { Acts A.told A.acting access.old access.new
+    ensures { Acts A.known_state A.acting access.old access.new
         (λ a s t. Unpins (values_at E.Node.NodeSet E.Env E.Hash.KeyHash a.environment) was_unpinned handle s t) }
 {
     if was_unpinned {
@@ -434,7 +437,7 @@ pub fn share_pinned<E: Env<Node: NodeSet<E>>, A: Access<E>>(
     access: &A,
     pinned: HandleNumber,
 ) -> Result<Arc<E::Node>, Error>
-    ensures { Tells (A.told access.now) (λ s. SharesPinned arc_value s pinned result) }
+    ensures { IfKnown (A.known_state access.now) (λ s. SharesPinned arc_value s pinned result) }
 {
     match access.share(pinned)? {
         Some(value) => Ok(value),
@@ -454,9 +457,9 @@ pub fn pin_with_state_over<E: Env<Node: NodeSet<E>>, A: Access<E>>(
     handle: HandleNumber,
 ) -> Result<(HandleNumber, Arc<E::Node>, bool), Error>
     requires caller { (A.acting access.old).me ≡ Owner.Caller }
-    ensures { Acts A.told A.acting access.old access.new
+    ensures { Acts A.known_state A.acting access.old access.new
         (λ a s t. PinsOver (values_at E.Node.NodeSet E.Env E.Hash.KeyHash a.environment) s handle
-        (seen_as (λ a. (a.0, arc_value a.1)) result) t) }
+        (result_map (λ a. (a.0, arc_value a.1)) result) t) }
 {
     let (pinned, was_unpinned) = pin_first(access, alloc, handle)?;
     match share_pinned(access, pinned) {
@@ -485,9 +488,9 @@ pub fn pin_over<E: Env<Node: NodeSet<E>>, A: Access<E>>(
     handle: HandleNumber,
 ) -> Result<(HandleNumber, Arc<E::Node>), Error>
     requires caller { (A.acting access.old).me ≡ Owner.Caller }
-    ensures { Acts A.told A.acting access.old access.new
+    ensures { Acts A.known_state A.acting access.old access.new
         (λ a s t. PinsOver (values_at E.Node.NodeSet E.Env E.Hash.KeyHash a.environment) s handle
-        (seen_as (λ a. (a.0, arc_value a.1)) result) t) }
+        (result_map (λ a. (a.0, arc_value a.1)) result) t) }
 {
     let (pinned, value, _) = pin_with_state_over(access, alloc, handle)?;
     Ok((pinned, value))
@@ -507,7 +510,7 @@ pub fn read_over<E: Env<Node: NodeSet<E>>, A: Access<E>>(
     node_type: u32,
 ) -> Result<E::Node, Error>
     requires caller { (A.acting access.old).me ≡ Owner.Caller }
-    ensures { Acts A.told A.acting access.old access.new
+    ensures { Acts A.known_state A.acting access.old access.new
         (λ a s t. ReadsOver (values_at E.Node.NodeSet E.Env E.Hash.KeyHash a.environment) s key node_type result t) }
 {
     let load = access.load_key(key)?;

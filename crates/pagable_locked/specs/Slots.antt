@@ -1,7 +1,7 @@
 -- The outcomes of slots and claims are those of their identities.
 use Rattle.std.specs.Prelude.{IfSome, ◌≡◌, ◌≢◌}
-use Rattle.{pagable_locked.specs.declared.table.Probe.Probe, pagable_value_spec.specs.declared.numbers.Identity.Identity}
-use Rattle.pagable_pageout.specs.declared.{lent_slot.Outcome.Outcome, results.SlotResult.SlotResult}
+use Rattle.{pagable_locked.specs.declared.table.ClaimFound.ClaimFound, pagable_value_spec.specs.declared.numbers.Identity.Identity}
+use Rattle.pagable_pageout.specs.declared.{lent_slot.Outcome.Outcome}
 use Rattle.pagable_codec.specs.declared.{env.Env.Ghosts as Environments, hash.KeyHash.Ghosts as Hashes, nodes.NodeSet.Ghosts as Nodes}
 use Rattle.std.specs.declared.cmp.{Ord.Ghosts as Orders, PartialEq.Ghosts as Equalities, PartialOrd.Ghosts as PartialOrders}
 
@@ -28,7 +28,7 @@ module _ {E EN EH EK EV : Type 0} {g : Environments E EN EH EK EV} {gh : Hashes 
   IsOutcomeOf i outcome = Unit {0}
 
   -- the slot, or the result, is of this identity
-  abbrev pub IsProbeOf : Identity → Probe E EN EH EK EV g gh go gq gp gn → Type 0
-  IsProbeOf i (Probe.Claimed slot) = slot.identity ≡ i
-  IsProbeOf i (Probe.Waits slot) = slot.identity ≡ i
-  IsProbeOf i (Probe.Ended outcome) = IfSome outcome (λ r. r.identity ≡ i)
+  abbrev pub IsProbeOf : Identity → ClaimFound E EN EH EK EV g gh go gq gp gn → Type 0
+  IsProbeOf i (ClaimFound.Claimed slot) = slot.identity ≡ i
+  IsProbeOf i (ClaimFound.Waits slot) = slot.identity ≡ i
+  IsProbeOf i (ClaimFound.Ended outcome) = IfSome outcome (λ r. r.identity ≡ i)

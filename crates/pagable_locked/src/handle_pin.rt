@@ -113,7 +113,7 @@ impl<E: Env<Node: NodeSet<E>>, S: PagableStorage<E>> HandlePin<E, S> {
     }
 
     // Drops a load.
-    fn give_up<R: Wait>(&self, rt: &R, reading: &CellReading) {
+    fn drop_load<R: Wait>(&self, rt: &R, reading: &CellReading) {
         let _told = self.storage.access(rt).load_drop(reading.load());
     }
 }
@@ -147,7 +147,7 @@ impl<E: Env<Node: NodeSet<E>>, S: PagableStorage<E>> Polls<E> for HandlePin<E, S
             }
             Poll::Ready(Ok(blob)) => Poll::Ready(self.read(rt, alloc, reading, blob)),
             Poll::Ready(Err(e)) => {
-                self.give_up(rt, &reading);
+                self.drop_load(rt, &reading);
                 Poll::Ready(Err(e))
             }
         }
@@ -159,7 +159,7 @@ impl<E: Env<Node: NodeSet<E>>, S: PagableStorage<E>> Polls<E> for HandlePin<E, S
 
     fn cancel<R: Wait>(&mut self, rt: &R) {
         if let PinState::Fetch(reading) = replace(&mut self.state, PinState::Ended) {
-            self.give_up(rt, &reading);
+            self.drop_load(rt, &reading);
         }
     }
 }

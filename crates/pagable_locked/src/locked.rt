@@ -52,7 +52,7 @@ impl<'a, R: Wait, E: Env<Node: NodeSet<E>>, S: PagableStorage<E>> Access<E>
     for Locked<'a, R, E, S> {
     ghost use Rattle.std.specs.Prelude.{None};
 
-    ghost told = { λ l. None };
+    ghost known_state = { λ l. None };
 
     ghost acting = { λ l. record { me = l.me; environment = l.setting.now.env; lender = 0 } };
 
@@ -159,7 +159,7 @@ impl<'a, R: Wait, E: Env<Node: NodeSet<E>>, S: PagableStorage<E>> Access<E>
         if let Err(e) = Lent::for_owner(&mut *pager, self.me) {
             return Err((e, Some(value)));
         }
-        pager.load_end_by(self.me, alloc, load, value)
+        pager.load_end_for(self.me, alloc, load, value)
     }
 
     fn load_take(&mut self, load: LoadNumber, named: &[HandleNumber]) -> Result<(), Error> {
@@ -221,9 +221,9 @@ impl<'a, R: Wait, E: Env<Node: NodeSet<E>>, S: PagableStorage<E>> WorkerAccess<E
         Lent::for_owner(&mut *pager, self.me)?.store_node_keyed(alloc, key, blob, at)
     }
 
-    fn give_up(&mut self, worker: WorkerNumber, node: NodeNumber) {
+    fn release_worker_node(&mut self, worker: WorkerNumber, node: NodeNumber) {
         let mut pager = lock_briefly(self.pager, self.rt);
-        Lent::new(&mut *pager).give_up(worker, node);
+        Lent::new(&mut *pager).release_worker_node(worker, node);
     }
 
     fn schedule_for_paging(&mut self, handle: HandleNumber) -> Result<(), Error> {

@@ -1,6 +1,6 @@
 //! Page-out of many items by several workers, each on a thread of its own.
 
-ghost use Rattle.std.specs.Prelude.{IfOk, length, slice_index_or, vec_len, ℕ, ◌+◌, ◌<◌, ◌^◌, ◌≡◌};
+ghost use Rattle.std.specs.Prelude.{IfOk, slice_index_or, vec_len, ℕ, ◌+◌, ◌<◌, ◌≡◌};
 ghost use Rattle.{pagable_load.specs.AccessView.values_at, pagable_locked.specs.Answers.{AnswersEach, IsAnswerOf, items_of}};
 
 use crate::gate::{Gate, GatedClaims};

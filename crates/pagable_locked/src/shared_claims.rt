@@ -5,7 +5,7 @@ ghost use Rattle.pagable_pageout.specs.{Joint.IsNear, Table.IsFoundOf};
 
 use crate::share::{ClaimShare, WalkShare};
 use crate::slot::ArcSerSlot;
-use crate::table::{Probe, SlotTable};
+use crate::table::{ClaimFound, SlotTable};
 use pagable_codec::{Env, NodeSet};
 use pagable_pageout::{ClaimResult, Claims, SlotResult};
 use pagable_value_spec::{ArcRef, Error, Identity, WorkerNumber};
@@ -94,12 +94,12 @@ impl<'a, R: Wait, E: Env<Node: NodeSet<E>>, L: Ledger> Claims<E> for SharedClaim
             .share
             .probe(self.rt, self.alloc, self.table, worker, identity)?;
         match probe {
-            Probe::Claimed(slot) => {
+            ClaimFound::Claimed(slot) => {
                 self.open.push_reserved(slot);
                 Ok(ClaimResult::Claimed)
             }
-            Probe::Waits(slot) => found(slot.wait(self.rt), identity, place),
-            Probe::Ended(outcome) => found(outcome, identity, place),
+            ClaimFound::Waits(slot) => found(slot.wait(self.rt), identity, place),
+            ClaimFound::Ended(outcome) => found(outcome, identity, place),
         }
     }
 

@@ -18,12 +18,12 @@ use std::sync::{Mutex, MutexGuard, Wait};
 
 /// What a worker's claim finds.
 #[derive(Drop)]
-pub enum Probe<E: Env<Node: NodeSet<E>>> {
+pub enum ClaimFound<E: Env<Node: NodeSet<E>>> {
     /// The identity was free, and the worker has claimed it: its slot.
     Claimed(ArcSerSlot<E>),
     /// Another worker has claimed it; this one is noted as waiting for the outcome of this slot.
     Waits(ArcSerSlot<E>),
-    /// Its result, None if it failed.
+    /// The claim of the identity has ended: its result, or None if it failed.
     Ended(Option<SlotResult<E>>),
 }
 
@@ -46,7 +46,7 @@ pub struct Slots<E: Env<Node: NodeSet<E>>, L: Ledger> {
     pub ghost counted: { book.total ≡ btree_set_len claimed },
 }
 
-fn key_of(identity: Identity) -> (u32, u64) {
+fn slot_key(identity: Identity) -> (u32, u64) {
     (identity.kind.0, identity.node.0)
 }
 
@@ -72,7 +72,7 @@ impl<E: Env<Node: NodeSet<E>>, L: Ledger> Slots<E, L> {
     fn slot(&mut self, alloc: Global, identity: Identity) -> Result<ArcSerSlot<E>, Error>
         ensures { IfOk result (λ s. s.identity ≡ identity) }
     {
-        if let Some(row) = self.rows.get(&key_of(identity)) {
+        if let Some(row) = self.rows.get(&slot_key(identity)) {
             if row.slot.identity == identity {
                 return row.slot.clone();
             }
@@ -83,7 +83,7 @@ impl<E: Env<Node: NodeSet<E>>, L: Ledger> Slots<E, L> {
             slot: kept,
             worker: None,
         };
-        self.rows.insert(key_of(identity), row)?;
+        self.rows.insert(slot_key(identity), row)?;
         Ok(slot)
     }
 
@@ -95,7 +95,7 @@ impl<E: Env<Node: NodeSet<E>>, L: Ledger> Slots<E, L> {
     {
         let Slots { claimed, book, .. } = self;
         let ClaimShare { share } = share;
-        let is_free = claimed.insert(key_of(identity))?;
+        let is_free = claimed.insert(slot_key(identity))?;
         if is_free {
             book.add(share, 1);
         }
@@ -116,7 +116,7 @@ impl<E: Env<Node: NodeSet<E>>, L: Ledger> Slots<E, L> {
 
     // Returns the worker whose walk has claimed an identity that has no outcome yet.
     fn open_claimer<R: Wait>(&self, rt: &R, identity: Identity) -> Option<WorkerNumber> {
-        let row = self.rows.get(&key_of(identity))?;
+        let row = self.rows.get(&slot_key(identity))?;
         match row.slot.outcome(rt) {
             Outcome::Open => row.worker,
             _ => None,
@@ -153,26 +153,26 @@ impl<E: Env<Node: NodeSet<E>>, L: Ledger> Slots<E, L> {
         worker: WorkerNumber,
         identity: Identity,
         share: &mut ClaimShare<L>,
-    ) -> Result<Probe<E>, Error>
+    ) -> Result<ClaimFound<E>, Error>
         ensures own { IfOk result (IsProbeOf identity) }
         ensures parts { share.new.share.parts ≡ share.old.share.parts }
     {
         let slot = self.slot(alloc, identity)?;
         if self.try_claim(identity, share)? {
-            if let Some(row) = self.rows.get_mut(&key_of(identity)) {
+            if let Some(row) = self.rows.get_mut(&slot_key(identity)) {
                 row.worker = Some(worker);
             }
-            return Ok(Probe::Claimed(slot));
+            return Ok(ClaimFound::Claimed(slot));
         }
         match slot.outcome(rt) {
-            Outcome::Published(found) => Ok(Probe::Ended(Some(found))),
-            Outcome::Failed => Ok(Probe::Ended(None)),
+            Outcome::Published(found) => Ok(ClaimFound::Ended(Some(found))),
+            Outcome::Failed => Ok(ClaimFound::Ended(None)),
             Outcome::Open => {
                 if self.leads_to(rt, worker, identity) {
                     return Err(Error::TooDeep);
                 }
                 self.waits.insert(worker.0, identity)?;
-                Ok(Probe::Waits(slot))
+                Ok(ClaimFound::Waits(slot))
             }
         }
     }
@@ -269,7 +269,7 @@ impl<L: Ledger> WalkShare<L> {
         table: &SlotTable<E, L>,
         worker: WorkerNumber,
         identity: Identity,
-    ) -> Result<Probe<E>, Error>
+    ) -> Result<ClaimFound<E>, Error>
         ensures { IfOk result (IsProbeOf identity) }
     {
         let WalkShare { share } = self;

@@ -1,7 +1,7 @@
 -- What was written without references, and what is read of bytes alone.
 use Rattle.std.proofs.{Common.{List, Option, Result, [], length, refl, sym, ℕ, ◌≡◌}, lemmas.List.nil_from_length}
 use Rattle.pagable_core.specs.{Context.{at_front, nothing, out_of}, declared.context.writing.SerializedData.SerializedData}
-use Rattle.pagable_value_spec.specs.{Meaning.Meaning, Reading.{Rest, read}, Shape.Shape, Cursor.{Answer, GivesSome, Standing, handles_at, rest_at}, Writing.{Out, WritesSome, nesting}, declared.{error.Error.Error, numbers.ArcRef.ArcRef}}
+use Rattle.pagable_value_spec.specs.{Meaning.Meaning, Reading.{Rest, read}, Shape.Shape, Cursor.{Answer, GivesSome, InputState, handles_at, rest_at}, Writing.{Out, WritesSome, nesting}, declared.{error.Error.Error, numbers.ArcRef.ArcRef}}
 use Rattle.pagable_nodes.specs.Bytes.{IsFormOf, ReadsWhole}
 
 module _ {E : Type 0} (parts : E → ℕ → Shape) (shape : E → Shape) (env other : E) (levels : ℕ) where
@@ -17,7 +17,7 @@ module _ {E : Type 0} (parts : E → ℕ → Shape) (shape : E → Shape) (env o
 
   pub read_alone : {X N : Type 0} (own : Error → Type 0) (means : X → Meaning ArcRef → Type 0) (answer : ℕ → ℕ → ℕ → Result ArcRef Error)
       (lent : ℕ → Option (ArcRef × N)) (bytes : List ℕ)
-      (st : Standing N) (after : Rest Answer) (result : Result X Error) → st ≡ at_front answer lent bytes [] → levels ≡ 0 → other ≡ env
+      (st : InputState N) (after : Rest Answer) (result : Result X Error) → st ≡ at_front answer lent bytes [] → levels ≡ 0 → other ≡ env
       → GivesSome own means after result (read (handles_at levels (parts other)) (shape other) (rest_at st))
       → ReadsWhole own means (parts env) (shape env) bytes result
   read_alone own means answer lent bytes st after result s l e gives = record { after = after; gives = rw (s, l, e) at gives }

@@ -1,7 +1,7 @@
 -- The encoding and the meaning of a type's values, made of those of its fields.
 use Rattle.std.specs.{Global.Vec, Int.Width, Prelude.{Bool, Option, String, ℕ, ℤ, refl}, String.string_bytes, declared.alloc.Global.Global}
 use Rattle.pagable_value_spec.specs.OneForm.{HasOneFormThroughout, basic_has_one_form, over_has_one_form, two_has_one_form}
-use Rattle.pagable_value_spec.specs.{Shape.Shape, declared.numbers.ArcRef.ArcRef}
+use Rattle.pagable_value_spec.specs.{Shape.Shape}
 use Rattle.pagable_traits.specs.Meanings.{AreSingle, Meanings, exactly, lists, lists_single, options, options_single, pairs, pairs_single, seen_by}
 use Rattle.pagable_traits.specs.OwnCauses.{ReadCauses, WriteCauses, reads_either, reads_memory, reads_memory_or, reads_never, writes_either, writes_long_or, writes_memory, writes_memory_or, writes_never}
 use Rattle.pagable_traits.specs.ReadBack.{IsReadThroughout, basic_is_read, over_is_read, two_is_read}

@@ -1,9 +1,9 @@
 -- An item stays the last of what a worker has to do.
 use Rattle.pagable_value_spec.specs.declared.numbers.{ArcRef.ArcRef, HandleNumber.HandleNumber}
 use Rattle.pagable_load.specs.AccessView.{values_at}
-use Rattle.pagable_pageout.specs.{PageOuts.answer_of, Results.IsOver, Tasks.{Ends, EndsWith, Gives, IfKey, IfKeyOf, fails, fault_of, todos, waits_as}}
+use Rattle.pagable_pageout.specs.{PageOuts.answer_of, Results.IsOver, Tasks.{Ends, EndsWith, EntryGetsResult, IfKey, IfKeyOf, fails, fault_of, todos, waits_as}}
 use Rattle.pagable_pageout.specs.declared.{tasks.{Node.Node, PageOutError.PageOutError, Task.Task, Turn.Turn, Waiting.Waiting}}
-use Rattle.pagable_pager_spec.specs.{Workers.{first_todo, give, give_known, next_start, settle}, World.{Fault, Open, answer_of_fault, of_item, Todo, Written, to_fail, to_finish, to_item, to_load, to_pin, to_publish, to_release, to_set, to_start, to_write}}
+use Rattle.pagable_pager_spec.specs.{Workers.{first_todo, give, give_known, next_start, advance}, World.{Fault, Open, answer_of_fault, of_item, Todo, Written, to_fail, to_finish, to_item, to_load, to_pin, to_publish, to_release, to_set, to_start, to_write}}
 use Rattle.pagable_pager_spec.specs.declared.events.WorkerAnswer.{WorkerAnswer}
 use Rattle.std.proofs.Common.{List, None, Option, Some, [], drop, length, refl, subst, sym, ℕ, ◌++◌, ◌∷◌, ◌≡◌}
 use Rattle.std.specs.Prelude.{IfOk, max}
@@ -20,24 +20,24 @@ next-ends : (w : Written) (place : ℕ) (rest : List ArcRef) (below : List Todo)
 next-ends w place [] below h = h
 next-ends w place (r ∷ rs) below h = h
 
-pub settle-ends : (w : Written) (todo : List Todo) → EndsWith w todo → EndsWith w (settle todo)
-settle-ends w [] h = h
-settle-ends w (to_finish o ∷ below) h = next-ends w o.place (drop (length o.keys) o.written.references) (to_finish o ∷ below) h
-settle-ends w (to_item written keys ∷ below) h = next-ends w 0 (drop (length keys) written.references) (to_item written keys ∷ below) h
-settle-ends w (to_start r place ∷ below) h = h
-settle-ends w (to_pin r place ∷ below) h = h
-settle-ends w (to_load r place through reading ∷ below) h = h
-settle-ends w (to_write r place through ∷ below) h = h
-settle-ends w (to_set r through key height ∷ below) h = h
-settle-ends w (to_publish r key height ∷ below) h = h
-settle-ends w (to_release r key height ∷ below) h = h
-settle-ends w (to_fail fault back ∷ below) h = h
+pub advance-ends : (w : Written) (todo : List Todo) → EndsWith w todo → EndsWith w (advance todo)
+advance-ends w [] h = h
+advance-ends w (to_finish o ∷ below) h = next-ends w o.place (drop (length o.keys) o.written.references) (to_finish o ∷ below) h
+advance-ends w (to_item written keys ∷ below) h = next-ends w 0 (drop (length keys) written.references) (to_item written keys ∷ below) h
+advance-ends w (to_start r place ∷ below) h = h
+advance-ends w (to_pin r place ∷ below) h = h
+advance-ends w (to_load r place through reading ∷ below) h = h
+advance-ends w (to_write r place through ∷ below) h = h
+advance-ends w (to_set r through key height ∷ below) h = h
+advance-ends w (to_publish r key height ∷ below) h = h
+advance-ends w (to_release r key height ∷ below) h = h
+advance-ends w (to_fail fault back ∷ below) h = h
 
 pub give-ends : (w : Written) (r : ArcRef) (key height : ℕ) (todo : List Todo) → EndsWith w todo → EndsWith w (give r key height todo)
 give-ends w r key height [] h = h
-give-ends w r key height (to_finish o ∷ below) h = settle-ends w (to_finish
+give-ends w r key height (to_finish o ∷ below) h = advance-ends w (to_finish
     (record o { keys = o.keys ++ key ∷ []; height = max o.height (above r.kind.0 height) }) ∷ below) h
-give-ends w r key height (to_item written keys ∷ below) h = settle-ends w (to_item written (keys ++ key ∷ []) ∷ below) h
+give-ends w r key height (to_item written keys ∷ below) h = advance-ends w (to_item written (keys ++ key ∷ []) ∷ below) h
 give-ends w r key height (to_start s place ∷ below) h = h
 give-ends w r key height (to_pin s place ∷ below) h = h
 give-ends w r key height (to_load s place through reading ∷ below) h = h
@@ -80,11 +80,11 @@ module _ {X XN XH XK XV : Type 0} {g : Environments X XN XH XK XV} {gh : Hashes 
   claimed-ends r place below after found t is = goes-ends _ after t (λ w h. subst (EndsWith w) (sym is) (claim-ends w r place below found h))
 
   pub written-ends : (x : Todo) (o : Open) (below after : List Todo) (t : Task X XN XH XK XV g gh go gq gp gn)
-      → ((w : Written) → EndsWith w (x ∷ below) → EndsWith w below) → after ≡ settle (to_finish o ∷ below)
+      → ((w : Written) → EndsWith w (x ∷ below) → EndsWith w below) → after ≡ advance (to_finish o ∷ below)
       → Ends {g = g} {gh = gh} {go = go} {gq = gq} {gp = gp} {gn = gn} (x ∷ below) (Turn.Goes t) after
-  written-ends x o below after t f is = goes-ends _ after t (λ w h. subst (EndsWith w) (sym is) (settle-ends w (to_finish o ∷ below) (f w h)))
+  written-ends x o below after t f is = goes-ends _ after t (λ w h. subst (EndsWith w) (sym is) (advance-ends w (to_finish o ∷ below) (f w h)))
 
-  pub given-ends : (r : ArcRef) (key height : ℕ) (below after : List Todo) (t : Task X XN XH XK XV g gh go gq gp gn) → Gives r key height below after
+  pub given-ends : (r : ArcRef) (key height : ℕ) (below after : List Todo) (t : Task X XN XH XK XV g gh go gq gp gn) → EntryGetsResult r key height below after
       → Ends {g = g} {gh = gh} {go = go} {gq = gq} {gp = gp} {gn = gn} (to_release r key height ∷ below) (Turn.Goes t) after
   given-ends r key height below after t gives = goes-ends _ after t (λ w h. subst (EndsWith w) (sym gives.is)
       (give-ends w r key height (gives.x ∷ gives.rest) (subst (EndsWith w) gives.was h)))
@@ -116,4 +116,4 @@ told-over P (Ok key) a is h = subst (λ x. IfKeyOf x P) (sym is) h
 told-over P (Err e) a is h = tt
 
 pub item-ends : (w : Written) (todo : List Todo) → todo ≡ first_todo (of_item w) → EndsWith w todo
-item-ends w todo is = subst (EndsWith w) (sym is) (settle-ends w (to_item w [] ∷ []) (refl, refl))
+item-ends w todo is = subst (EndsWith w) (sym is) (advance-ends w (to_item w [] ∷ []) (refl, refl))

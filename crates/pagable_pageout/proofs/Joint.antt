@@ -1,38 +1,39 @@
 -- What an access and a table do together.
-use Rattle.{pagable_load.{proofs.LoadSteps.told_then, specs.AccessView.{Acting, ActsThen, Tells}}}
+use Rattle.{pagable_load.{proofs.LoadSteps.told_then, specs.AccessView.{Acting, ActsThen, IfKnown}}}
 use Rattle.pagable_pageout.specs.Joint.{ActsBoth, both}
-use Rattle.pagable_pager_spec.specs.Access.{Told, tells}
+use Rattle.pagable_pager_spec.specs.Access.{IfBothKnown, if_both_known}
 use Rattle.std.proofs.Common.{None, Option, Some, ap, refl, subst, ◌≡◌, ◌∙◌}
 use Rattle.std.specs.Prelude.{IfSome}
 
 module _ {S : Type 0} where
-  tells-as : (o n : Option S) (R P : S → S → Type 0) → ((s t : S) → R s t → P s t) → tells o n R → tells o n P
+  tells-as : (o n : Option S) (R P : S → S → Type 0) → ((s t : S) → R s t → P s t) → if_both_known o n R → if_both_known o n P
   tells-as o None R P f h = tt
   tells-as None (Some t) R P f h = h
   tells-as (Some s) (Some t) R P f h = f s t h
 
-  pub told-as : {o n : Option S} {R P : S → S → Type 0} → ((s t : S) → R s t → P s t) → Told o n R → Told o n P
+  pub told-as : {o n : Option S} {R P : S → S → Type 0} → ((s t : S) → R s t → P s t) → IfBothKnown o n R → IfBothKnown o n P
   told-as {o} {n} {R} {P} f h = record { holds = tells-as o n R P f h.holds }
 
 module _ {S Q : Type 0} where
-  told-first : (o n : Option S) (q : Option Q) (R : S → Q → S → Q → Type 0) → ((x : Q) → tells o n (λ s s'. R s x s' x))
-      → tells (both o q) (both n q) (λ st st'. R st.0 st.1 st'.0 st'.1)
+  told-first : (o n : Option S) (q : Option Q) (R : S → Q → S → Q → Type 0) → ((x : Q) → if_both_known o n (λ s s'. R s x s' x))
+      → if_both_known (both o q) (both n q) (λ st st'. R st.0 st.1 st'.0 st'.1)
   told-first o None q R h = tt
   told-first o (Some s') None R h = tt
   told-first None (Some s') (Some x) R h = h x
   told-first (Some s) (Some s') (Some x) R h = h x
 
-  told-second : (o : Option S) (q p : Option Q) (P : S → Type 0) (R : Q → Q → Type 0) (D : S → Q → S → Q → Type 0) → IfSome o P → tells q p R
+  told-second : (o : Option S) (q p : Option Q) (P : S → Type 0) (R : Q → Q → Type 0) (D : S → Q → S → Q → Type 0) → IfSome o P → if_both_known q p R
       → ((s : S) (x y : Q) → P s → R x y → D s x s y)
-      → tells (both o q) (both o p) (λ st st'. D st.0 st.1 st'.0 st'.1)
+      → if_both_known (both o q) (both o p) (λ st st'. D st.0 st.1 st'.0 st'.1)
   told-second None q p P R D h k f = tt
   told-second (Some s) q None P R D h k f = tt
   told-second (Some s) None (Some y) P R D h k f = k
   told-second (Some s) (Some x) (Some y) P R D h k f = f s x y h k
 
-  told-each : (o n : Option S) (q p : Option Q) (R : S → S → Type 0) (K : Q → Q → Type 0) (D : S → Q → S → Q → Type 0) → tells o n R → tells q p K
+  told-each : (o n : Option S) (q p : Option Q) (R : S → S → Type 0) (K : Q → Q → Type 0) (D : S → Q → S → Q → Type 0) → if_both_known o n R
+      → if_both_known q p K
       → ((s s' : S) (x y : Q) → R s s' → K x y → D s x s' y)
-      → tells (both o q) (both n p) (λ st st'. D st.0 st.1 st'.0 st'.1)
+      → if_both_known (both o q) (both n p) (λ st st'. D st.0 st.1 st'.0 st'.1)
   told-each o None q p R K D h k f = tt
   told-each o (Some s') q None R K D h k f = tt
   told-each None (Some s') q (Some y) R K D h k f = h
@@ -40,19 +41,19 @@ module _ {S Q : Type 0} where
   told-each (Some s) (Some s') (Some x) (Some y) R K D h k f = f s s' x y h k
 
   told-stays : (o : Option S) (q : Option Q) (P : S → Type 0) (D : S → Q → S → Q → Type 0) → IfSome o P → ((s : S) (x : Q) → P s → D s x s x)
-      → tells (both o q) (both o q) (λ st st'. D st.0 st.1 st'.0 st'.1)
+      → if_both_known (both o q) (both o q) (λ st st'. D st.0 st.1 st'.0 st'.1)
   told-stays None q P D h f = tt
   told-stays (Some s) None P D h f = tt
   told-stays (Some s) (Some x) P D h f = f s x h
 
   told-none : (o : Option S) (q : Option Q) (R : S → Q → S → Q → Type 0) → ((s : S) (x : Q) → R s x s x)
-      → tells (both o q) (both o q) (λ st st'. R st.0 st.1 st'.0 st'.1)
+      → if_both_known (both o q) (both o q) (λ st st'. R st.0 st.1 st'.0 st'.1)
   told-none None q R f = tt
   told-none (Some s) None R f = tt
   told-none (Some s) (Some x) R f = f s x
 
-  told-alone : (o n : Option S) (x y : Q) (R : S → Q → S → Q → Type 0) → tells (both o (Some x)) (both n (Some y)) (λ st st'. R st.0 st.1 st'.0 st'.1)
-      → tells o n (λ s s'. R s x s' y)
+  told-alone : (o n : Option S) (x y : Q) (R : S → Q → S → Q → Type 0) → if_both_known (both o (Some x)) (both n (Some y)) (λ st st'. R st.0 st.1 st'.0 st'.1)
+      → if_both_known o n (λ s s'. R s x s' y)
   told-alone o None x y R h = tt
   told-alone None (Some s') x y R h = h
   told-alone (Some s) (Some s') x y R h = h
@@ -67,8 +68,8 @@ module _ {A T S Q E : Type 0} {told : A → Option S} {by : A → Acting E} {she
   }
 
   -- the table changes, and the access stays
-  pub both-second : {a : A} {t t' : T} {P : S → Type 0} {R : Q → Q → Type 0} {D : Acting E → S → Q → S → Q → Type 0} → Tells (told a) P
-      → Told (shelf t) (shelf t') R → ((s : S) (x y : Q) → P s → R x y → D (by a) s x s y)
+  pub both-second : {a : A} {t t' : T} {P : S → Type 0} {R : Q → Q → Type 0} {D : Acting E → S → Q → S → Q → Type 0} → IfKnown (told a) P
+      → IfBothKnown (shelf t) (shelf t') R → ((s : S) (x y : Q) → P s → R x y → D (by a) s x s y)
       → ActsBoth told by shelf a t a t' (λ x. x) D
   both-second {a} {t} {t'} {P} {R} {D} h k f = record {
     step = record { holds = told-second (told a) (shelf t) (shelf t') P R (D (by a)) h.holds k.holds f };
@@ -77,7 +78,7 @@ module _ {A T S Q E : Type 0} {told : A → Option S} {by : A → Acting E} {she
 
   -- both change
   pub both-each : {a a' : A} {t t' : T} {after : Acting E → Acting E} {R : Acting E → S → S → Type 0} {K : Q → Q → Type 0}
-      {D : Acting E → S → Q → S → Q → Type 0} → ActsThen told by a a' after R → Told (shelf t) (shelf t') K
+      {D : Acting E → S → Q → S → Q → Type 0} → ActsThen told by a a' after R → IfBothKnown (shelf t) (shelf t') K
       → ((s s' : S) (x y : Q) → R (by a) s s' → K x y → D (by a) s x s' y) → ActsBoth told by shelf a t a' t' after D
   both-each {a} {a'} {t} {t'} {after} {R} {K} {D} h k f = record {
     step =
@@ -103,12 +104,12 @@ module _ {A T S Q E : Type 0} {told : A → Option S} {by : A → Acting E} {she
   both-on {a} {m} {n} {t} {u} {w} {first} {then} {after} {R} {K} {D} h k f is = record {
     step = told_then {R = λ st st'. R (by a) st.0 st.1 st'.0 st'.1} {T = λ st st'. K (first (by a)) st.0 st.1 st'.0 st'.1}
         (λ st mid st' r q. f st.0 mid.0 st'.0 st.1 mid.1 st'.1 r q) h.step
-        (subst (λ x. Told (both (told m) (shelf u)) (both (told n) (shelf w)) (λ st st'. K x st.0 st.1 st'.0 st'.1)) h.acting k.step);
+        (subst (λ x. IfBothKnown (both (told m) (shelf u)) (both (told n) (shelf w)) (λ st st'. K x st.0 st.1 st'.0 st'.1)) h.acting k.step);
     acting = k.acting ∙ ap then h.acting ∙ is;
   }
 
   -- nothing is done, as far as is known of the access's state
-  pub both-stays : {a : A} {t : T} {P : S → Type 0} {D : Acting E → S → Q → S → Q → Type 0} → Tells (told a) P → ((s : S) (x : Q) → P s → D (by a) s x s x)
+  pub both-stays : {a : A} {t : T} {P : S → Type 0} {D : Acting E → S → Q → S → Q → Type 0} → IfKnown (told a) P → ((s : S) (x : Q) → P s → D (by a) s x s x)
       → ActsBoth told by shelf a t a t (λ x. x) D
   both-stays {a} {t} {P} {D} h f = record { step = record { holds = told-stays (told a) (shelf t) P (D (by a)) h.holds f }; acting = refl }
 
@@ -123,8 +124,8 @@ module _ {A T S Q E : Type 0} {told : A → Option S} {by : A → Acting E} {she
   both-alone {a} {a'} {t} {t'} {after} {R} x y is is' h = record {
     step = record {
       holds = told-alone (told a) (told a') x y (R (by a))
-          (subst (λ p. tells (both (told a) (Some x)) (both (told a') p) (λ st st'. R (by a) st.0 st.1 st'.0 st'.1)) is'
-          (subst (λ p. tells (both (told a) p) (both (told a') (shelf t')) (λ st st'. R (by a) st.0 st.1 st'.0 st'.1)) is h.step.holds));
+          (subst (λ p. if_both_known (both (told a) (Some x)) (both (told a') p) (λ st st'. R (by a) st.0 st.1 st'.0 st'.1)) is'
+          (subst (λ p. if_both_known (both (told a) p) (both (told a') (shelf t')) (λ st st'. R (by a) st.0 st.1 st'.0 st'.1)) is h.step.holds));
     };
     acting = h.acting;
   }

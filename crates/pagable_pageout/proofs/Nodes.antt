@@ -1,10 +1,10 @@
 -- At a node whose references are done a worker makes one call of the access and one of its table: these do what its tasks there do one by one.
 use Rattle.{pagable_load.specs.{AccessView.values_at, WorkerCalls.{SetsThrough, StoresNode}}, pagable_value_spec.specs.{Blob.{Blob, key_of}, Merkle.blob_of, declared.{error.Error.Error, numbers.{ArcRef.ArcRef, HandleNumber.HandleNumber}}}}
 use Rattle.pagable_pageout.{proofs.{Strides.{comes-on, turn-comes, turn-walked}, WorkerTurns.{finish-fails, finish-stores, key-set, key-unset, publishes, release-ends, release-gives, set-fails, set-goes}}, specs.Strides.{ComesTo, HandsOn, LeavesNode, worker_node}}
-use Rattle.pagable_pageout.specs.{Results.{ResultStands, ResultsStand, more-results, no-results, stands-over}, Slots.{ids_of, keys_of, written_of}, Tasks.{Awaits, IsPlain, IsWay, back_of, fails, todo_of, todos, waiting_todo, waits_as}}
+use Rattle.pagable_pageout.specs.{Results.{ResultStands, ResultsStand, more-results, no-results, stands-over}, Slots.{ids_of, keys_of, written_of}, Tasks.{Awaits, IsPlain, EachIsAwaited, back_of, fails, todo_of, todos, waiting_todo, waits_as}}
 use Rattle.pagable_pageout.specs.Turns.{HasWalked, IsStored, SetsFor, Stores}
 use Rattle.pagable_pageout.specs.declared.{results.SlotResult.SlotResult, tasks.{Done.Done, Node.Node, Task.Task, Turn.Turn, Waiting.Waiting}}
-use Rattle.pagable_pager_spec.specs.{Access.Called, Calls.StoreCall, Cascade.FallsAnyhow, Kinds.identity_of, Pager.PagerState, Basics.{is_loose_kind, longest_path}, Workers.{is_workers_at, with_changed_slot, with_outcome}}
+use Rattle.pagable_pager_spec.specs.{Access.MakesCall, Calls.StoreCall, Cascade.FallsAnyhow, Kinds.identity_of, Pager.PagerState, Basics.{is_loose_kind, longest_path}, Workers.{is_workers_at, with_changed_slot, with_outcome}}
 use Rattle.pagable_pager_spec.specs.{World.{SameShelf, Shelf, Todo, Values, published, to_set, was_refused}, declared.{events.WorkerAnswer.WorkerAnswer, handle_row.Owner.Owner}}
 use Rattle.std.proofs.Common.{Bool, Err, List, None, Ok, Result, Some, [], ap, arith, drop, false, get_or, if◌then◌else◌, inl, inr, length, map, refl, subst, sym, true, ℕ, ◌+◌, ◌∙◌, ◌∷◌, ◌≡◌, ◌≤◌}
 use Rattle.std.{proofs.lemmas.{Grind.merely, List.{length-map, take_all}}, specs.Arc.arc_value}
@@ -25,7 +25,7 @@ module _ {N E : Type 0} (v : Values N) (me : Owner) (r : ArcRef) (through : Hand
 
 -- what is done in one call, in the words of the walk
 module _ {N E : Type 0} (v : Values N) (me : Owner) (n : ℕ) (node : Node) (blob : Blob) (s : PagerState N E) where
-  called-stores : (r : Result ℕ Error) (t : PagerState N E) → Called v (λ w'. StoreCall (key_of v.hash) s.core blob r w') s t → Stores v s blob r t
+  called-stores : (r : Result ℕ Error) (t : PagerState N E) → MakesCall v (λ w'. StoreCall (key_of v.hash) s.core blob r w') s t → Stores v s blob r t
   called-stores r t call = record { stored = call.step; moves = call.moves; whole = λ w. call.whole }
 
   pub node-leaves : (r : Result ℕ Error) (t : PagerState N E) → StoresNode v me (worker_node n node) blob r s t → LeavesNode v me n node s blob r t
@@ -86,10 +86,10 @@ module _ {X XN XH XK XV : Type 0} {g : Environments X XN XH XK XV} {gh : Hashes 
         }
 
   -- all references of a written node are done, and something waits for it, or nothing
-  pub node-way : (w : Waiting X XN XH XK XV g gh go gq gp gn) (node : Node) (below : List Todo) → w.node ≡ Some node → IsWay (waiting_todo w ∷ below)
+  pub node-way : (w : Waiting X XN XH XK XV g gh go gq gp gn) (node : Node) (below : List Todo) → w.node ≡ Some node → EachIsAwaited (waiting_todo w ∷ below)
       → (length (keys_of w.children.items) ≡ length (written_of (arc_value w.written)).references) × Awaits below node.reference node.place
       × (node.place + node.height ≤ longest_path)
-  node-way w node below is way = subst (λ o. IsWay (waits_as o (written_of (arc_value w.written)) (keys_of w.children.items) ∷ below)) is way
+  node-way w node below is way = subst (λ o. EachIsAwaited (waits_as o (written_of (arc_value w.written)) (keys_of w.children.items) ∷ below)) is way
 
 -- ---- the turns
 
@@ -109,7 +109,7 @@ module _ {X XN XH XK XV : Type 0} {g : Environments X XN XH XK XV} {gh : Hashes 
           (publishes v me n shelf (todos path) d shelf' d.found.identity d.found.key d.found.height d.own refl refl same s) refl refl
 
       node-released : (turn : Turn X XN XH XK XV g gh go gq gp gn) (after : List Todo) → HandsOn d (todos path) turn after → (s t : PagerState N E)
-          → Called v (λ w'. FallsAnyhow s.core s.core (is_workers_at s.core n d.reference.node.0) w') s t
+          → MakesCall v (λ w'. FallsAnyhow s.core s.core (is_workers_at s.core n d.reference.node.0) w') s t
           → ComesTo v me n shelf (Task.Release d) (todos path) shelf turn after s t
       node-released (Turn.Goes task) after (gives, plain) s t falls =
           turn-comes v me n shelf (Task.Release d) (todos path) shelf after _ s t (release-gives v me n shelf d (todos path) task after gives plain s t falls)
@@ -120,7 +120,7 @@ module _ {X XN XH XK XV : Type 0} {g : Environments X XN XH XK XV} {gh : Hashes 
 
 module _ {X XN XH XK XV : Type 0} {g : Environments X XN XH XK XV} {gh : Hashes XH} {go : Orders XK} {gq : Equalities XK} {gp : PartialOrders XK}
     {gn : Nodes XN X XN XH XK XV} {N E : Type 0} (v : Values N) (me : Owner) (n : ℕ) (shelf : Shelf) (path : List (Waiting X XN XH XK XV g gh go gq gp gn))
-    (w : Waiting X XN XH XK XV g gh go gq gp gn) (way : IsWay (waiting_todo w ∷ todos path)) (node : Node) (is : w.node ≡ Some node) where
+    (w : Waiting X XN XH XK XV g gh go gq gp gn) (way : EachIsAwaited (waiting_todo w ∷ todos path)) (node : Node) (is : w.node ≡ Some node) where
   node-stored : (d : Done X XN XH XK XV g gh go gq gp gn) (key : ℕ) → d.reference ≡ node.reference → d.found.key ≡ key → d.found.height ≡ node.height
       → (s t : PagerState N E)
       → Stores v s (blob_of (written_of (arc_value w.written)).bytes (keys_of w.children.items)) (Ok key) t
@@ -145,7 +145,7 @@ module _ {X XN XH XK XV : Type 0} {g : Environments X XN XH XK XV} {gh : Hashes 
       let keyed : SetsFor v me d.reference node.through d.found.key (Ok tt) mid low =
       subst (λ r. SetsFor v me r node.through d.found.key (Ok tt) mid low) (sym reference)
       (subst (λ k. SetsFor v me node.reference node.through k (Ok tt) mid low) (sym same_key) set) in
-      let fell = subst (λ r. Called v (λ w'. FallsAnyhow low.core low.core (is_workers_at low.core n r.node.0) w') low t) (sym reference) falls in
+      let fell = subst (λ r. MakesCall v (λ w'. FallsAnyhow low.core low.core (is_workers_at low.core n r.node.0) w') low t) (sym reference) falls in
       comes-on v me n shelf (Task.Finish w) (todos path) shelf shelf' (Task.SetKey d node.through) (todos path) after turn s mid t
       (node-stored d key reference same_key height s mid stores)
       (comes-on v me n shelf (Task.SetKey d node.through) (todos path) shelf shelf' (Task.Publish d) (todos path) after turn mid low t

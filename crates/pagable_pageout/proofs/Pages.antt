@@ -4,9 +4,9 @@ use Rattle.pagable_load.{proofs.LoadSteps.{acts_all, acts_from, acts_map, acts_s
 use Rattle.pagable_value_spec.specs.declared.{data_key.OptionalDataKey.OptionalDataKey, error.Error.Error, numbers.{ArcRef.ArcRef, HandleNumber.HandleNumber, WorkerNumber.WorkerNumber}}
 use Rattle.pagable_pageout.{proofs.WorkerTurns.{alike, plain-fits, same-shelf}, specs.{PageOuts.{HasPaged, PagesAt, PagesEntry, PagesEntryIfThere, PagesItem, PagesList, answer_of, there}, Tasks.{IsPlain, todo_of}}}
 use Rattle.{pagable_pageout.specs.{Turns.{Fits, IsAlone, RunsTo, Walked, plain}, declared.tasks.{PageOutError.PageOutError, Task.Task}}, pagable_pager_spec.specs.Access.AccessState}
-use Rattle.pagable_pager_spec.specs.Access.{Called, EntryHas, ListRun, WorkerRun, WorkerStarts, entry-is-refused, entry-is-walked, fails, item-is-walked, no-entry-worker, no-more, no-worker, pages}
+use Rattle.pagable_pager_spec.specs.Access.{MakesCall, EntryHas, ListRun, WorkerRun, WorkerStarts, entry-is-refused, entry-is-walked, fails, item-is-walked, no-entry-worker, no-more, no-worker, pages}
 use Rattle.pagable_pager_spec.specs.{Access.{skips, worker-ends, worker-goes-on}, Calls.{ReleaseCall, TakeCall}, Events.{entry_task, no_shelf}, Kinds.{identity_of, owner_worker}, Pager.PagerState}
-use Rattle.pagable_pager_spec.specs.{Pager.WellFormed, Refusals.WorkerFault, Workers.first_todo, World.{Alike, SameShelf, Seen, Shelf, Todo, Values, Written, of_entry, of_item}, declared.events.Action.Action}
+use Rattle.pagable_pager_spec.specs.{Pager.IsPagerWhole, Refusals.WorkerFault, Workers.first_todo, World.{Alike, SameShelf, Seen, Shelf, Todo, Values, Written, of_entry, of_item}, declared.events.Action.Action}
 use Rattle.{pagable_pager_spec.specs.declared.{events.WorkerAnswer.WorkerAnswer, handle_row.Owner.Owner}, std.proofs.Common.{Err, List, None, Ok, Option, Result, Some, ap, arith, inl, length, refl, subst, sym}}
 use Rattle.std.{proofs.{Common.{ℕ, ◌+◌, ◌<◌, ◌∙◌, ◌∷◌, ◌≡◌, ◌≤◌}, lemmas.{Bool.Decides.nat_tests, Grind.common_steps, List.Edits.length-remove}}, specs.List.remove}
 use Rattle.pagable_codec.specs.declared.{env.Env.Ghosts as Environments, hash.KeyHash.Ghosts as Hashes, nodes.NodeSet.Ghosts as Nodes}
@@ -17,11 +17,11 @@ pub is-caller : {E : Type 0} (acting : Acting E) → acting.me ≡ Owner.Caller 
 is-caller acting mine = ap (λ me. record acting { me = me }) (sym mine)
 
 module _ {N E : Type 0} (v : Values N) where
-  pub stays-called : (s : PagerState N E) → WellFormed v s → Called v (λ w'. Alike s.core w') s s
+  pub stays-called : (s : PagerState N E) → IsPagerWhole v s → MakesCall v (λ w'. Alike s.core w') s s
   stays-called s whole = record { step = alike s.core; moves = record { each = λ n x is. inl is; environment = refl }; whole = whole }
 
   module _ (shelf : Shelf) (item : Written) where
-    pub item-unbegun : (e : Error) (s t : PagerState N E) → WorkerFault s.core e × Called v (λ w'. Alike s.core w') s t
+    pub item-unbegun : (e : Error) (s t : PagerState N E) → WorkerFault s.core e × MakesCall v (λ w'. Alike s.core w') s t
         → PagesItem v shelf item shelf (WorkerAnswer.Failed e) s t
     item-unbegun e s t (why, call) = grind (arith, nat_tests, common_steps, same-shelf, no-worker)
 
@@ -47,7 +47,7 @@ module _ {N E : Type 0} (v : Values N) where
   -- after a worker the pager is whole, and the handles of the list are left
   run-keeps : {B W : Type 0} {m : Seen N B W} {n : ℕ} {todo : List Todo} {s s' : AccessState N E} {steps : List (Action W)} {answer : WorkerAnswer}
       → WorkerRun m n todo s steps answer s'
-      → WellFormed m.values s'.pager × Spares Owner.List s.pager.core s'.pager.core
+      → IsPagerWhole m.values s'.pager × Spares Owner.List s.pager.core s'.pager.core
   run-keeps {m = m} {n} (worker-ends todo next step answer s s' w is) =
       (w.whole, walk-spares-list m n (record { core = s.pager.core; shelf = s.shelf; todo = todo }) w.after s'.pager.core step _ w.does w.ends)
   run-keeps {m = m} {n} (worker-goes-on todo next step steps answer s mid s' w is more) =
@@ -104,12 +104,12 @@ module _ {N E : Type 0} (v : Values N) where
   at-past place s t past = record { done = λ whole within. absurd (omega (arith, past, within)) }
 
   pub at-gone : (place : ℕ) (taken : Option HandleNumber) → ((h : HandleNumber) → taken ≡ Some h → ⊥) → (me : Owner) (s t : PagerState N E)
-      → Called v (λ w'. TakeCall s.core me place taken w') s t → PagesAt v place (Ok tt) s t
+      → MakesCall v (λ w'. TakeCall s.core me place taken w') s t → PagesAt v place (Ok tt) s t
   at-gone place taken none me s t call = grind (arith, nat_tests, common_steps)
 
   -- the entry is taken and released
   pub at-skipped : {me : Owner} → me ≡ Owner.Caller → (place key : ℕ) (k : HandleNumber) (told : Result (Unit {0}) Error) (s mid t : PagerState N E)
-      → Called v (λ w'. TakeCall s.core me place (Some k) w') s mid → Called v (λ w'. ReleaseCall mid.core me k told w') mid t
+      → MakesCall v (λ w'. TakeCall s.core me place (Some k) w') s mid → MakesCall v (λ w'. ReleaseCall mid.core me k told w') mid t
       → (h : HandleNumber) × EntryHas s.core place h (OptionalDataKey.Some key) → PagesAt v place (Ok tt) s t
   at-skipped mine place key k told s mid t takes releases (h, has) =
       let e : h ≡ k = cc (takes.step.0, has.listed) in

@@ -1,8 +1,8 @@
 -- After each step the path still waits for what is done next, and less is left to do.
 use Rattle.{pagable_theorems.proofs.Trees.same_some, pagable_value_spec.specs.declared.numbers.{ArcRef.ArcRef, HandleNumber.HandleNumber}, pagable_pageout.specs.{Slots.ids_of, Tasks.{IfGoes, LeadsOn, due, far}}}
-use Rattle.pagable_pageout.specs.{Tasks.{Awaits, AwaitsLow, Gives, IsWay, TakesNext, back_of, raised, todo_of, todos, waiting_todo, waits_as}, declared.results.SlotResult.SlotResult}
+use Rattle.pagable_pageout.specs.{Tasks.{Awaits, AwaitsLow, EntryGetsResult, EachIsAwaited, TakesNext, back_of, raise_height, todo_of, todos, waiting_todo, waits_as}, declared.results.SlotResult.SlotResult}
 use Rattle.{pagable_pageout.specs.declared.{tasks.{Node.Node, Task.Task, Turn.Turn, Waiting.Waiting}}, pagable_pager_spec.specs.{Kinds.identity_of, Basics.{above, if_there, is_eager}}}
-use Rattle.{pagable_pager_spec.specs.{Basics.longest_path, Workers.{give, give_known, next_start, place_below, settle}, World.{Open, Todo, Written, to_finish, to_item, to_start}}, std.proofs.Common.Bool}
+use Rattle.{pagable_pager_spec.specs.{Basics.longest_path, Workers.{give, give_known, next_start, place_below, advance}, World.{Open, Todo, Written, to_finish, to_item, to_start}}, std.proofs.Common.Bool}
 use Rattle.std.proofs.Common.{List, None, Option, Some, [], ap, arith, drop, get_or, if◌then◌else◌, length, map, refl, reverse, slice_get, subst, suc, sym, take, zero, ℕ, ◌*◌, ◌++◌, ◌+◌, ◌<◌, ◌^◌}
 use Rattle.std.proofs.{Common.{◌∙◌, ◌∷◌, ◌≡◌, ◌≤◌}, Math.Nat.mul-le-mul_right, lemmas.{Bool.Decides.nat_tests, Grind.common_steps, List.{at_drop_all, at_drop_more, length-append, length-map}}}
 use Rattle.std.{proofs.lemmas.{List.{length-reverse, map-append, nil_from_length, reverse-append, take_more}, Option.{get_or_from_slice_get, none-some, slice_get_within}}, specs.Prelude.max}
@@ -18,17 +18,18 @@ left-by Q zero (r ∷ rs) few none more = more r rs refl
 left-by Q (suc n) [] few none more = absurd (omega arith)
 left-by Q (suc n) (r ∷ rs) few none more = left-by Q n rs (omega arith) (λ e. none (ap suc e)) more
 
-pub settle-way : (o : Open) (below : List Todo) → length o.keys ≤ length o.written.references → Awaits below o.reference o.place
+pub advance-way : (o : Open) (below : List Todo) → length o.keys ≤ length o.written.references → Awaits below o.reference o.place
     → o.place + o.height ≤ longest_path
-    → IsWay (settle (to_finish o ∷ below))
+    → EachIsAwaited (advance (to_finish o ∷ below))
 unfolding Awaits
-settle-way o below few up near =
-    left-by (λ rest. IsWay (next_start o.place rest ++ to_finish o ∷ below)) (length o.keys) o.written.references few (λ all. (all, up, near))
+advance-way o below few up near =
+    left-by (λ rest. EachIsAwaited (next_start o.place rest ++ to_finish o ∷ below)) (length o.keys) o.written.references few (λ all. (all, up, near))
     (λ r rest at. (at, refl, near, up))
 
-pub item-way : (written : Written) (keys : List ℕ) → length keys ≤ length written.references → IsWay (settle (to_item written keys ∷ []))
+pub item-way : (written : Written) (keys : List ℕ) → length keys ≤ length written.references → EachIsAwaited (advance (to_item written keys ∷ []))
 unfolding Awaits
-item-way written keys few = left-by (λ rest. IsWay (next_start 0 rest ++ to_item written keys ∷ [])) (length keys) written.references few (λ all. (all, refl))
+item-way written keys few = left-by (λ rest. EachIsAwaited (next_start 0 rest ++ to_item written keys ∷ [])) (length keys) written.references few
+    (λ all. (all, refl))
     (λ r rest at. (at, refl, refl))
 
 -- the height by the reference too fits
@@ -51,24 +52,25 @@ unfolding Awaits
 takes-next given written keys below r h up = grind (arith, nat_tests, node-awaits, none-some, same_some)
 
 -- a reference is done
-pub give-way : (below : List Todo) (r : ArcRef) (key h : ℕ) → AwaitsLow below r h → IsWay (give r key h below)
+pub give-way : (below : List Todo) (r : ArcRef) (key h : ℕ) → AwaitsLow below r h → EachIsAwaited (give r key h below)
 unfolding Awaits
 give-way [] r key h up = tt
 give-way (to_finish o ∷ below) r key h up =
     let a = node-awaits o below r h up in
-    settle-way (record o { keys = o.keys ++ key ∷ []; height = max o.height (above r.kind.0 h) }) below (one-more o.written.references o.keys key r a.0) a.2 a.1
+    advance-way (record o { keys = o.keys ++ key ∷ []; height = max o.height (above r.kind.0 h) }) below (one-more o.written.references o.keys key r a.0) a.2
+    a.1
 give-way (to_item written keys ∷ below) r key h up =
-    subst (λ bs. IsWay (settle (to_item written (keys ++ key ∷ []) ∷ bs))) (sym up.1.2)
+    subst (λ bs. EachIsAwaited (advance (to_item written (keys ++ key ∷ []) ∷ bs))) (sym up.1.2)
     (item-way written (keys ++ key ∷ []) (one-more written.references keys key r up.1.0))
 give-way (x ∷ below) r key h up = absurd up.1
 
-pub known-way : (below : List Todo) (r : ArcRef) (key h : ℕ) → AwaitsLow below r h → IsWay (give_known r key h below)
+pub known-way : (below : List Todo) (r : ArcRef) (key h : ℕ) → AwaitsLow below r h → EachIsAwaited (give_known r key h below)
 known-way [] r key h up = up
 known-way (x ∷ below) r key h up = give-way (x ∷ below) r key h up
 
 -- a result that goes to what waits
-pub gives-way : (below todo : List Todo) (r : ArcRef) (key h : ℕ) → Gives r key h below todo → AwaitsLow below r h → IsWay todo
-gives-way below todo r key h gives up = subst IsWay (ap (give r key h) gives.was ∙ sym gives.is) (give-way below r key h up)
+pub gives-way : (below todo : List Todo) (r : ArcRef) (key h : ℕ) → EntryGetsResult r key h below todo → AwaitsLow below r h → EachIsAwaited todo
+gives-way below todo r key h gives up = subst EachIsAwaited (ap (give r key h) gives.was ∙ sym gives.is) (give-way below r key h up)
 
 pub ruleset ways = (known-way, gives-way)
 
@@ -114,23 +116,23 @@ module _ {E EN EH EK EV : Type 0} {g : Environments E EN EH EK EV} {gh : Hashes 
 -- ---- what waits, a node or the item
 
 pub give-is : (node : Option Node) (written : Written) (keys : List ℕ) (below : List Todo) (r : ArcRef) (key height : ℕ)
-    → give r key height (waits_as node written keys ∷ below) ≡ settle (waits_as (raised r.kind.0 height node) written (keys ++ key ∷ []) ∷ below)
+    → give r key height (waits_as node written keys ∷ below) ≡ advance (waits_as (raise_height r.kind.0 height node) written (keys ++ key ∷ []) ∷ below)
 give-is given written keys below r key height = grind (arith, nat_tests)
 
 -- what holds of a node with the height by a reference too
-pub raised-has : (Q : Node → Type 0) (kind height : ℕ) (node : Option Node)
+pub raise_height-has : (Q : Node → Type 0) (kind height : ℕ) (node : Option Node)
     → ((m : Node) → node ≡ Some m → Q (record m { height = max m.height (above kind height) }))
-    → (n : Node) → raised kind height node ≡ Some n → Q n
-raised-has Q kind height given f n is = grind (arith, nat_tests, same_some)
+    → (n : Node) → raise_height kind height node ≡ Some n → Q n
+raise_height-has Q kind height given f n is = grind (arith, nat_tests, same_some)
 
 -- of so many references that are done, the next is started, or none is left
 module _ (node : Option Node) (written : Written) (keys : List ℕ) (below : List Todo) (n : ℕ) (many : length keys ≡ n) where
-  pub settled-all : length written.references ≤ n → waits_as node written keys ∷ below ≡ settle (waits_as node written keys ∷ below)
+  pub settled-all : length written.references ≤ n → waits_as node written keys ∷ below ≡ advance (waits_as node written keys ∷ below)
   settled-all all = grind (arith, nat_tests, common_steps, at_drop_all)
 
   pub settled-next : (r : ArcRef) (p : ℕ) → n < length written.references → r ≡ get_or written.references n r → p
       ≡ place_below (if_there (λ (n : Node). n.place) 0 node) r.kind.0
-      → to_start r p ∷ waits_as node written keys ∷ below ≡ settle (waits_as node written keys ∷ below)
+      → to_start r p ∷ waits_as node written keys ∷ below ≡ advance (waits_as node written keys ∷ below)
   settled-next r p more is at = grind (arith, nat_tests, common_steps, at_drop_more)
 
 -- what a path with nothing on it, and one with one more, is as plain data
@@ -138,7 +140,7 @@ pub ruleset paths = (nat_tests, todos-none, todos-more, back-none, item-way)
 
 pub ruleset settling = (nat_tests, common_steps, todos-more, settled-all, settled-next, length-map)
 
-pub ruleset giving = (nat_tests, common_steps, todos-more, todos-none, raised-has, length-map, map-append, slice_get_within)
+pub ruleset giving = (nat_tests, common_steps, todos-more, todos-none, raise_height-has, length-map, map-append, slice_get_within)
 
 -- ---- the number that falls with each step of a walk
 

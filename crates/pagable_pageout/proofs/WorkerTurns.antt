@@ -4,17 +4,17 @@ use Rattle.pagable_theorems.proofs.HandlesKept.{Goes, PinOf, clone-call, end-cal
 use Rattle.{pagable_theorems.specs.TreeSteps.{Change, StandsAt}, pagable_load.{proofs.LoadSteps.{acts_all, acts_map, acts_on, goes_open, moves_then, none_comes, tells_map}, specs.Frames.IsLoadOf}}
 use Rattle.pagable_load.specs.{Frames.{frames_of, reading_of}, PinStart.Shares, LoadSteps.{IsSameLoad, Tries}, WorkerCalls.{BeginsAt, TakesReference}, declared.reading.Reading.Reading as Own}
 use Rattle.{pagable_load.specs.declared.access.PinnedOrLoading.PinnedOrLoading, pagable_value_spec.specs.Merkle.blob_of, pagable_pageout.specs.Slots.{ClaimsThere, Would, claimed_shelf, keys_of, with_references, written_of}}
-use Rattle.pagable_pageout.specs.{Joint.IsNear, Table.{IsFoundOf, found_as}, Tasks.{Gives, IsPlain, IsWay, back_of, fails, fault_of, todo_of, todos, waiting_todo, waits_as}, Turns.{ClaimFits, ClaimLeaves, Closes}}
+use Rattle.pagable_pageout.specs.{Joint.IsNear, Table.{IsFoundOf, claim_result}, Tasks.{EntryGetsResult, IsPlain, EachIsAwaited, back_of, fails, fault_of, todo_of, todos, waiting_todo, waits_as}, Turns.{ClaimFits, IsTaskAfterClaim, Closes}}
 use Rattle.pagable_pageout.specs.Turns.{Fits, HasWalked, HoldsPin, IsAlone, IsLoading, IsOfKind, LeavesFit, RunsTo, SetsFor, Stepped, StepsAlone, StepsTo, TaskFits, Turned, TurnsTo, answer_in, claim_todo, is_waiting}
-use Rattle.pagable_pageout.specs.Turns.{plain, plain_took, plan, site}
+use Rattle.pagable_pageout.specs.Turns.{plain, plain_took, plan, worker_state}
 use Rattle.pagable_pageout.specs.{Turns.{Forms, GoesBack, IsForm, IsPinned, IsStored, Stores, WriteRefused, named_by}, declared.{claims.ClaimResult.ClaimResult, tasks.PageOutError.PageOutError}}
-use Rattle.{pagable_pageout.specs.declared.tasks.{Done.Done, StepResult.StepResult, Node.Node, Task.Task, Turn.Turn, Waiting.Waiting}, pagable_pager_spec.specs.Access.{Called, ReadingStep, WalkStep, worker-ends}}
+use Rattle.{pagable_pageout.specs.declared.tasks.{Done.Done, StepResult.StepResult, Node.Node, Task.Task, Turn.Turn, Waiting.Waiting}, pagable_pager_spec.specs.Access.{MakesCall, ReadingStep, WalkStep, worker-ends}}
 use Rattle.pagable_pager_spec.specs.{Access.worker-goes-on, Calls.{ScheduleCall, SetKeyCall}, Cascade.FallsAnyhow, Events.Ends, Kinds.{identity_of, owner_worker}, Loads.{EndsPinned, gone_on}}
-use Rattle.pagable_pager_spec.specs.{Pager.{HoldsItsNodes, Moves, PagerState, TodoBrings, TookWrites, ValueCall, WellFormed}, Basics.{ArcRef, Error, HandleNumber, Identity, LoadNumber, NodeNumber, if_there, type_of}}
-use Rattle.pagable_pager_spec.specs.Workers.{Claims, Does, Finds, KeySetFor, PinsAtOnce, Site, Turns, answer_after, claim_fault, fresh, is_counted_claim, is_workers_at, open_node, with_changed_slot, with_failed}
+use Rattle.pagable_pager_spec.specs.{Pager.{HoldsItsNodes, Moves, PagerState, TodoBrings, TookWrites, ValueCall, IsPagerWhole}, Basics.{ArcRef, Error, HandleNumber, Identity, LoadNumber, NodeNumber, if_there, type_of}}
+use Rattle.pagable_pager_spec.specs.Workers.{ClaimStep, WorkDoes, Finds, KeySetFor, PinsAtOnce, WorkerState, Turns, answer_after, claim_fault, fresh, is_counted_claim, is_workers_at, open_node, with_changed_slot, with_failed}
 use Rattle.pagable_pager_spec.specs.{Basics.is_loose_kind, Workers.{ComesToEnd, may-go-on, waits-on, with_outcome, with_wait, works}, World.{Outcome, Seen, Slot, failed, is_identity, no_result, to_fail, to_finish, to_item, to_set}}
 use Rattle.pagable_pager_spec.specs.World.{Alike, Cell, Core, Frame, OpenLoad, Reading, Root, SameShelf, Shelf, Todo, Values, Written, answer_of_fault, of_cell, of_key}
-use Rattle.pagable_pager_spec.specs.{World.{one_more, published, seen_as, to_load, to_pin, to_publish, to_release, to_start, to_write, was_refused}, declared.events.{Claim.Claim, LoadAnswer.LoadAnswer}}
+use Rattle.pagable_pager_spec.specs.{World.{one_more, published, result_map, to_load, to_pin, to_publish, to_release, to_start, to_write, was_refused}, declared.events.{Claim.Claim, LoadAnswer.LoadAnswer}}
 use Rattle.{pagable_pager_spec.specs.{Pager.HandlesAreWhole, declared.{events.{PinStep.PinStep, Action.Action, WorkerAnswer.WorkerAnswer}, handle_row.{HandleRow.HandleRow, Owner.Owner}}}, std.proofs.Common.Err}
 use Rattle.std.proofs.{Common.{List, None, Ok, Result, Some, [], ap, arith, false, inl, inr, refl, subst, sym, true, ℕ, ◌+◌, ◌==◌, ◌∙◌, ◌∷◌, ◌≡◌}, lemmas.{Bool.Decides.nat_tests, Grind.common_steps}}
 use Rattle.std.specs.{Arc.arc_value, Prelude.{IfErr, IfOk, Option, if◌then◌else◌, nat_eq}, declared.{alloc.Global.Global, sync.Arc.Arc}}
@@ -25,19 +25,20 @@ pub alike : (w : Core) → Alike w w
 alike w = grind (arith, nat_tests, common_steps)
 
 module _ (core : Core) (v : ℕ) (s s' : Shelf) (r : ArcRef) (place : ℕ) (below : List Todo) where
-  turns : (shelf : Shelf) (todo : List Todo) → SameShelf shelf s' → Turns (site core s (to_start r place ∷ below)) shelf todo (site core s' todo)
+  turns : (shelf : Shelf) (todo : List Todo) → SameShelf shelf s' → Turns (worker_state core s (to_start r place ∷ below)) shelf todo
+      (worker_state core s' todo)
   turns shelf todo same = record { pager_stays = alike core; table_is = same; list_is = refl }
 
   finds : (c : Claim) → Would v s (identity_of r) place c → SameShelf (claimed_shelf v s (identity_of r) c) s'
-      → Finds v (site core s (to_start r place ∷ below)) r place below c (site core s' (claim_todo r place below (Ok c)))
+      → Finds v (worker_state core s (to_start r place ∷ below)) r place below c (worker_state core s' (claim_todo r place below (Ok c)))
   finds c w same = grind (arith, nat_tests, common_steps, turns)
 
   pub claims-there : (result : Result Claim Error) → claim_fault core r ≡ None → ClaimsThere v s (identity_of r) place result s'
-      → Claims v (site core s (to_start r place ∷ below)) r place below result (site core s' (claim_todo r place below result))
+      → ClaimStep v (worker_state core s (to_start r place ∷ below)) r place below result (worker_state core s' (claim_todo r place below result))
   claims-there result none there = grind (arith, nat_tests, common_steps, turns, finds)
 
   pub refuses : (e : Error) → claim_fault core r ≡ Some e → SameShelf (with_wait s v None) s'
-      → Claims v (site core s (to_start r place ∷ below)) r place below (Err e) (site core s' (claim_todo r place below (Err e)))
+      → ClaimStep v (worker_state core s (to_start r place ∷ below)) r place below (Err e) (worker_state core s' (claim_todo r place below (Err e)))
   refuses e h same = record { finds = tt; refused = (inl h, turns _ _ same) }
 
 -- ---- the turn
@@ -52,29 +53,29 @@ module _ {X XN XH XK XV : Type 0} {g : Environments X XN XH XK XV} {gh : Hashes 
   claim-fits r place claim own near = grind (arith, nat_tests)
 
   pub claim-near : (v : ℕ) (s s' : Shelf) (i : Identity) (place : ℕ) (claim : Result (ClaimResult X XN XH XK XV g gh go gq gp gn) Error)
-      → ClaimsThere v s i place (found_as claim) s' → IfOk claim (IsNear place)
+      → ClaimsThere v s i place (claim_result claim) s' → IfOk claim (IsNear place)
   claim-near v s s' i place claim there = grind (arith, nat_tests)
 
   -- a task that needs nothing fits
   pub plain-fits : (n : ℕ) (w : Core) (t : Task X XN XH XK XV g gh go gq gp gn) → IsPlain t → TaskFits n w t
   plain-fits n w task plain = grind (arith, nat_tests)
 
-  claim-leaves : (n : ℕ) (w : Core) (shelf : Shelf) (s' : Site) (r : ArcRef) (place : ℕ) (below : List Todo)
+  claim-leaves : (n : ℕ) (w : Core) (shelf : Shelf) (s' : WorkerState) (r : ArcRef) (place : ℕ) (below : List Todo)
       (claim : Result (ClaimResult X XN XH XK XV g gh go gq gp gn) Error) (task : Task X XN XH XK XV g gh go gq gp gn) → HandlesAreWhole w
-      → ClaimLeaves r place claim task
-      → Claims n (site w shelf (to_start r place ∷ below)) r place below (found_as claim) s' → TaskFits n w task
+      → IsTaskAfterClaim r place claim task
+      → ClaimStep n (worker_state w shelf (to_start r place ∷ below)) r place below (claim_result claim) s' → TaskFits n w task
   claim-leaves n w shelf s' r place below claim task whole leaves c = grind (arith, nat_tests, common_steps, claimed-stands, kind-claimed, plain-fits)
 
   pub start-turns : {N E : Type 0} (v : Values N) (me : Owner) (n : ℕ) (shelf shelf' : Shelf) (r : ArcRef) (place : ℕ) (below after : List Todo)
       (claim : Result (ClaimResult X XN XH XK XV g gh go gq gp gn) Error) (task : Task X XN XH XK XV g gh go gq gp gn) → after
-      ≡ claim_todo r place below (found_as claim)
-      → ClaimLeaves r place claim task
-      → (s : PagerState N E) → Claims n (site s.core shelf (to_start r place ∷ below)) r place below (found_as claim)
-      (site s.core shelf' (claim_todo r place below (found_as claim)))
+      ≡ claim_todo r place below (claim_result claim)
+      → IsTaskAfterClaim r place claim task
+      → (s : PagerState N E) → ClaimStep n (worker_state s.core shelf (to_start r place ∷ below)) r place below (claim_result claim)
+      (worker_state s.core shelf' (claim_todo r place below (claim_result claim)))
       → TurnsTo v me n shelf (Task.Start r place) below shelf' (record {
-        action = Action.Claim (identity_of r) (found_as claim);
+        action = Action.Claim (identity_of r) (claim_result claim);
         turn = Turn.Goes task;
-        counted = is_counted_claim (found_as claim);
+        counted = is_counted_claim (claim_result claim);
       }) after s s
   start-turns v me n shelf shelf' r place below after claim task is leaves s c = grind (arith, nat_tests, common_steps, turns, claim-leaves)
 
@@ -119,7 +120,7 @@ module _ {N E : Type 0} (v : Values N) (s : PagerState N E) (r : ArcRef) (pin : 
 module _ {N E : Type 0} (v : Values N) (s : PagerState N E) (r : ArcRef) (pin : HandleNumber) {W : Type 0} (see : W → Written) where
   pub forms-from : {X : Type 0} (at : X → N) (y : X) (result : Result W Error) → IfOk result (λ d. IsForm v (at y) (see d))
       → IfErr result (λ e. WriteRefused v (at y) e)
-      → Shares at s pin (Ok (Some y)) → Forms v s r pin (seen_as see result)
+      → Shares at s pin (Ok (Some y)) → Forms v s r pin (result_map see result)
   forms-from at y result is why shared = grind (arith, nat_tests, common_steps, shared-some v s r pin (at y) shared.given)
 
 pub ruleset forming = (nat_tests, tells_map, forms-told, forms-short)
@@ -235,12 +236,13 @@ none-back (x ∷ below) = refl
 module _ {X XN XH XK XV : Type 0} {g : Environments X XN XH XK XV} {gh : Hashes XH} {go : Orders XK} {gq : Equalities XK} {gp : PartialOrders XK}
     {gn : Nodes XN X XN XH XK XV} {N E : Type 0} (v : Values N) (n : ℕ) (shelf : Shelf) (todo : List Todo) (moved : StepResult X XN XH XK XV g gh go gq gp gn)
     (after : List Todo) (s t : PagerState N E) where
-  by-does : Does (plain v) n (site s.core shelf todo) todo (plain_took moved.action) (site t.core shelf after) → answer_after todo (plain_took moved.action)
+  by-does : WorkDoes (plain v) n (worker_state s.core shelf todo) todo (plain_took moved.action) (worker_state t.core shelf after)
+      → answer_after todo (plain_took moved.action)
       ≡ answer_in moved.turn → Moves (TodoBrings v s.core todo) s t → Moves (λ k x. HoldsItsNodes v s x) s t
-      → TookWrites v (λ w. w) s (plain_took moved.action) → WellFormed v t → ((c : Change) → Goes c s.core t.core → LeavesFit n t.core moved.turn)
+      → TookWrites v (λ w. w) s (plain_took moved.action) → IsPagerWhole v t → ((c : Change) → Goes c s.core t.core → LeavesFit n t.core moved.turn)
       → Turned v n shelf todo s shelf moved after t
   by-does does answers moves holds writes whole fits =
-      let goes = walk-goes (plain v) n (site s.core shelf todo) (site t.core shelf after) todo (plain_took moved.action) does in
+      let goes = walk-goes (plain v) n (worker_state s.core shelf todo) (worker_state t.core shelf after) todo (plain_took moved.action) does in
       record {
         does = record { does = does };
         answers = answers;
@@ -253,7 +255,8 @@ module _ {X XN XH XK XV : Type 0} {g : Environments X XN XH XK XV} {gh : Hashes 
 
 module _ {X XN XH XK XV : Type 0} {g : Environments X XN XH XK XV} {gh : Hashes XH} {go : Orders XK} {gq : Equalities XK} {gp : PartialOrders XK}
     {gn : Nodes XN X XN XH XK XV} {N E : Type 0} (v : Values N) (me : Owner) (n : ℕ) (shelf : Shelf) (r : ArcRef) (place : ℕ) (below : List Todo) where
-  pub pin-holds : (through k : HandleNumber) (s t : PagerState N E) → Called v (λ w'. TakesReference s.core me r (Ok (PinnedOrLoading.Held through k)) w') s t
+  pub pin-holds : (through k : HandleNumber) (s t : PagerState N E) → MakesCall v (λ w'. TakesReference s.core me r (Ok (PinnedOrLoading.Held through k)) w') s
+      t
       → TurnsTo {g = g} {gh = gh} {go = go} {gq = gq} {gp = gp} {gn = gn} v me n shelf (Task.Pin r place) below shelf
       (record { action = Action.Pin (identity_of r) (Ok (PinStep.Held k)); turn = Turn.Goes (Task.Write r place through k); counted = true })
       (to_write r place through ∷ below) s t
@@ -269,7 +272,7 @@ module _ {X XN XH XK XV : Type 0} {g : Environments X XN XH XK XV} {gh : Hashes 
 
   pub pin-begins : (through : HandleNumber) (l : LoadNumber) (key : ℕ) (own : Own) → reading_of own ≡ fresh l (type_of r.kind.0) → own.key ≡ key → own.for_cell
       ≡ true → (s t : PagerState N E)
-      → Called v (λ w'. TakesReference s.core me r (Ok (PinnedOrLoading.Begun through l key)) w') s t
+      → MakesCall v (λ w'. TakesReference s.core me r (Ok (PinnedOrLoading.Begun through l key)) w') s t
       → TurnsTo {g = g} {gh = gh} {go = go} {gq = gq} {gp = gp} {gn = gn} v me n shelf (Task.Pin r place) below shelf
       (record { action = Action.Pin (identity_of r) (Ok (PinStep.LoadBegun l)); turn = Turn.Goes (Task.Load r place through own); counted = true })
       (to_load r place through (reading_of own) ∷ below) s t
@@ -298,7 +301,7 @@ module _ {X XN XH XK XV : Type 0} {g : Environments X XN XH XK XV} {gh : Hashes 
 
   pub pin-fails : (e : Error) (task : Task X XN XH XK XV g gh go gq gp gn) (after : List Todo) → IsPlain task → after
       ≡ fails (was_refused e) (back_of (Some r.handle) below) → (s t : PagerState N E)
-      → Called v (λ w'. TakesReference s.core me r (Err e) w') s t
+      → MakesCall v (λ w'. TakesReference s.core me r (Err e) w') s t
       → TurnsTo v me n shelf (Task.Pin r place) below shelf (record { action = Action.Pin (identity_of r) (Err e); turn = Turn.Goes task; counted = true })
       after s t
   pin-fails e task after plain-task is s t call = grind (arith, nat_tests, common_steps, same-shelf, none_comes, plain-fits)
@@ -389,12 +392,13 @@ pub ruleset pinning = (nat_tests, acts_map, load-reads-none)
 module _ {X XN XH XK XV : Type 0} {g : Environments X XN XH XK XV} {gh : Hashes XH} {go : Orders XK} {gq : Equalities XK} {gp : PartialOrders XK}
     {gn : Nodes XN X XN XH XK XV} where
   pub stored-way : (node : Option Node) (written : Written) (keys : List ℕ) (key : ℕ) (turn : Turn X XN XH XK XV g gh go gq gp gn)
-      (path : List (Waiting X XN XH XK XV g gh go gq gp gn)) → IsStored node key turn → IsWay (waits_as node written keys ∷ todos path) → IsWay (plan turn path)
+      (path : List (Waiting X XN XH XK XV g gh go gq gp gn)) → IsStored node key turn → EachIsAwaited (waits_as node written keys ∷ todos path)
+      → EachIsAwaited (plan turn path)
   stored-way given written keys key turn path is way = grind (arith, nat_tests, common_steps)
 
 module _ {X XN XH XK XV : Type 0} {g : Environments X XN XH XK XV} {gh : Hashes XH} {go : Orders XK} {gq : Equalities XK} {gp : PartialOrders XK}
     {gn : Nodes XN X XN XH XK XV} {N E : Type 0} (v : Values N) (me : Owner) (n : ℕ) (shelf : Shelf) (below : List Todo) where
-  module _ (w : Waiting X XN XH XK XV g gh go gq gp gn) (way : IsWay (waiting_todo w ∷ below)) where
+  module _ (w : Waiting X XN XH XK XV g gh go gq gp gn) (way : EachIsAwaited (waiting_todo w ∷ below)) where
     pub finish-stores : (key : ℕ) (turn : Turn X XN XH XK XV g gh go gq gp gn) (path : List (Waiting X XN XH XK XV g gh go gq gp gn)) → todos path ≡ below
         → IsStored w.node key turn → (s t : PagerState N E)
         → Stores v s (blob_of (written_of (arc_value w.written)).bytes (keys_of w.children.items)) (Ok key) t
@@ -471,7 +475,7 @@ module _ {X XN XH XK XV : Type 0} {g : Environments X XN XH XK XV} {gh : Hashes 
 module _ {X XN XH XK XV : Type 0} {g : Environments X XN XH XK XV} {gh : Hashes XH} {go : Orders XK} {gq : Equalities XK} {gp : PartialOrders XK}
     {gn : Nodes XN X XN XH XK XV} {N E : Type 0} (v : Values N) (me : Owner) (n : ℕ) (shelf : Shelf) (d : Done X XN XH XK XV g gh go gq gp gn) where
   pub release-ends : (below : List Todo) → below ≡ [] → (s t : PagerState N E)
-      → Called v (λ w'. FallsAnyhow s.core s.core (is_workers_at s.core n d.reference.node.0) w') s t
+      → MakesCall v (λ w'. FallsAnyhow s.core s.core (is_workers_at s.core n d.reference.node.0) w') s t
       → TurnsTo v me n shelf (Task.Release d) below shelf (record {
         action = Action.Release (identity_of d.reference);
         turn = Turn.Answers (WorkerAnswer.Key d.found.key);
@@ -480,8 +484,8 @@ module _ {X XN XH XK XV : Type 0} {g : Environments X XN XH XK XV} {gh : Hashes 
   release-ends below none s t call = grind (arith, nat_tests, common_steps, same-shelf, none_comes)
 
   pub release-gives : (below : List Todo) (task : Task X XN XH XK XV g gh go gq gp gn) (after : List Todo)
-      → Gives d.reference d.found.key d.found.height below after → IsPlain task → (s t : PagerState N E)
-      → Called v (λ w'. FallsAnyhow s.core s.core (is_workers_at s.core n d.reference.node.0) w') s t
+      → EntryGetsResult d.reference d.found.key d.found.height below after → IsPlain task → (s t : PagerState N E)
+      → MakesCall v (λ w'. FallsAnyhow s.core s.core (is_workers_at s.core n d.reference.node.0) w') s t
       → TurnsTo v me n shelf (Task.Release d) below shelf (record {
         action = Action.Release (identity_of d.reference);
         turn = Turn.Goes task;
@@ -507,7 +511,7 @@ module _ {N E : Type 0} (v : Values N) (me : Owner) (r : ArcRef) (through : Hand
   }
 
   pub key-set : is_loose_kind r.kind.0 ≡ true → (result : Result (Unit {0}) Error) (s t : PagerState N E)
-      → Called v (λ w'. SetKeyCall s.core me through key result w') s t → SetsFor v me r through key result s t
+      → MakesCall v (λ w'. SetKeyCall s.core me through key result w') s t → SetsFor v me r through key result s t
   key-set kind result s t call = record { sets = record { does = inl (kind, call.step) }; moves = call.moves; whole = λ w. call.whole }
 
 -- an entry goes back, or none does
@@ -516,7 +520,7 @@ module _ {N E : Type 0} (v : Values N) (me : Owner) where
   back-none back none s = grind (arith, nat_tests, common_steps, alike)
 
   pub back-some : (back : Option HandleNumber) (h : HandleNumber) (r : Result (Unit {0}) Error) → back ≡ Some h → (s t : PagerState N E)
-      → Called v (λ w'. ScheduleCall s.core me h r w') s t
+      → MakesCall v (λ w'. ScheduleCall s.core me h r w') s t
       → GoesBack v me back s t
   back-some back h r is s t call = subst (λ b. GoesBack v me b s t) (sym is) (record { goes = (r, call.step); moves = call.moves; whole = λ w. call.whole })
 
@@ -534,7 +538,8 @@ module _ {X XN XH XK XV : Type 0} {g : Environments X XN XH XK XV} {gh : Hashes 
     {gn : Nodes XN X XN XH XK XV} {N E : Type 0} (v : Values N) (n : ℕ) where
   -- what the end after a turn does
   closed : (turn : Turn X XN XH XK XV g gh go gq gp gn) (s t : PagerState N E) → Closes v n turn s t
-      → Ends (answer_in turn) n s.core t.core × Moves (λ k x. ⊥) s t × (WellFormed v s → WellFormed v t) × (LeavesFit n s.core turn → LeavesFit n t.core turn)
+      → Ends (answer_in turn) n s.core t.core × Moves (λ k x. ⊥) s t × (IsPagerWhole v s → IsPagerWhole v t)
+      × (LeavesFit n s.core turn → LeavesFit n t.core turn)
   closed turn s t close = grind (arith, nat_tests, common_steps, alike)
 
   pub steps-to : (me : Owner) (shelf shelf' : Shelf) (task : Task X XN XH XK XV g gh go gq gp gn) (below after : List Todo)
@@ -547,7 +552,7 @@ module _ {X XN XH XK XV : Type 0} {g : Environments X XN XH XK XV} {gh : Hashes 
         let end = closed moved.turn mid t close in
         record {
           does = record {
-            after = site mid.core shelf' after;
+            after = worker_state mid.core shelf' after;
             does = turned.does;
             goes_on = refl;
             shelf_is = same-shelf shelf';
@@ -609,9 +614,9 @@ failed-alone n v shelf shelf' same alone i slot still = by (shelf.slots i) refl 
     by (Some old) there is =
         let e = same_some _ _ is in let none_yet = still.no_result_yet in let kept = alone i old in grind (arith, nat_tests, common_steps)
 
-module _ {N B W : Type 0} (m : Seen N B W) (n : ℕ) (s s' : Site) where
+module _ {N B W : Type 0} (m : Seen N B W) (n : ℕ) (s s' : WorkerState) where
   -- a step of the worker leaves it alone
-  keeps-alone : (todo : List Todo) (step : Action W) → Does m n s todo step s' → IsAlone n s.shelf → IsAlone n s'.shelf
+  keeps-alone : (todo : List Todo) (step : Action W) → WorkDoes m n s todo step s' → IsAlone n s.shelf → IsAlone n s'.shelf
   keeps-alone (to_start r place ∷ below) (Action.Claim i (Ok Claim.Claimed)) (is, c) alone =
       put-alone n s.shelf s'.shelf (identity_of r) _ c.finds.1.2.table_is.slots (λ slot is still. ap (λ (x : Slot). x.worker) (sym (same_some _ _ is))) alone
   keeps-alone (to_write r place through ∷ below) (Action.Write i (Ok out)) (is, p) alone =
@@ -657,7 +662,7 @@ module _ {X XN XH XK XV : Type 0} {g : Environments X XN XH XK XV} {gh : Hashes 
       waits-plain : (action : Action (Arc SerializedData Global)) → is_waiting action ≡ true → is_waiting (plain_took action) ≡ true
       waits-plain action is = grind (arith, nat_tests)
 
-      by : (action : Action Written) → is_waiting action ≡ true → Does (plain v) n (site s.core shelf (to_start r place ∷ below))
+      by : (action : Action Written) → is_waiting action ≡ true → WorkDoes (plain v) n (worker_state s.core shelf (to_start r place ∷ below))
           (to_start r place ∷ below) action st.does.after → ⊥
       by (Action.Claim i (Ok Claim.Waiting)) is (at, c) =
           let (slot, still, ends) = c.finds.1.1 in let own : slot.worker ≡ n = alone (identity_of r) slot still in let other =
@@ -697,7 +702,7 @@ module _ {X XN XH XK XV : Type 0} {g : Environments X XN XH XK XV} {gh : Hashes 
       alone = λ f alone.
           let now_alone = walked.alone f alone in let st = (step.steps now_alone).steps (walked.fits f alone) in
           same-alone n st.does.after.shelf next_shelf st.does.shelf_is.slots
-          (keeps-alone (plain v) n (site mid.core now_shelf (todo_of now ∷ now_below)) st.does.after (todo_of now ∷ now_below)
+          (keeps-alone (plain v) n (worker_state mid.core now_shelf (todo_of now ∷ now_below)) st.does.after (todo_of now ∷ now_below)
           (plain_took moved.action) st.does.does.does now_alone);
       then = λ f alone answer u shelf' w.
           let st = (step.steps (walked.alone f alone)).steps (walked.fits f alone) in

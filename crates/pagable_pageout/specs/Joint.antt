@@ -1,6 +1,6 @@
 -- The states of an access and a table together, and what holds of each claim, on any table.
 use Rattle.std.specs.Prelude.{Option, Some, None, ◌≡◌, ◌+◌, ◌≤◌, ℕ}
-use Rattle.{pagable_load.specs.AccessView.Acting, pagable_pager_spec.specs.Access.Told}
+use Rattle.{pagable_load.specs.AccessView.Acting, pagable_pager_spec.specs.Access.IfBothKnown}
 use Rattle.pagable_pager_spec.specs.Basics.{longest_path}
 use Rattle.pagable_pageout.specs.declared.{claims.ClaimResult.ClaimResult}
 use Rattle.pagable_codec.specs.declared.{env.Env.Ghosts as Environments, hash.KeyHash.Ghosts as Hashes, nodes.NodeSet.Ghosts as Nodes}
@@ -15,7 +15,8 @@ both (Some s) (Some q) = Some (s, q)
 -- What is done to the state of an access and to that of a table, if both are told; and as whom the access acts afterwards.
 pub record ActsBoth {A T S Q E : Type 0} (told : A → Option S) (by : A → Acting E) (shelf : T → Option Q) (a : A)
     (t : T) (a' : A) (t' : T) (after : Acting E → Acting E) (does : Acting E → S → Q → S → Q → Type 0) : Type 0 where
-  pub step : Told (both (told a) (shelf t)) (both (told a') (shelf t')) (λ st st'. does (by a) st.0 st.1 st'.0 st'.1)
+  pub step : IfBothKnown (both (told a) (shelf t)) (both (told a') (shelf t'))
+      (λ st st'. does (by a) st.0 st.1 st'.0 st'.1)
   pub acting : by a' ≡ after (by a)
 
 module _ {E EN EH EK EV : Type 0} {g : Environments E EN EH EK EV} {gh : Hashes EH} {go : Orders EK}

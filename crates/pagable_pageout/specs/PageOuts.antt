@@ -1,6 +1,6 @@
 -- Page-outs of an item and of the list, where the access tells its state.
 use Rattle.std.specs.Prelude.{ℕ, ◌≡◌, ◌≤◌, ◌<◌, ◌+◌, length, Option, Some, None, Result, Ok, Err, IfOk, IfErr}
-use Rattle.pagable_pager_spec.specs.{Access.{AllHaveResults, EntryRun, ListRun, PagesOutItemOver}, Pager.{PagerState, WellFormed}, World.{Shelf, Values, Written, answer_of_fault}}
+use Rattle.pagable_pager_spec.specs.{Access.{AllHaveResults, EntryRun, ListRun, PagesOutItemOver}, Pager.{PagerState, IsPagerWhole}, World.{Shelf, Values, Written, answer_of_fault}}
 use Rattle.{pagable_pager_spec.specs.declared.events.WorkerAnswer.WorkerAnswer, pagable_pageout.specs.{Tasks.fault_of, Turns.plain, declared.tasks.PageOutError.PageOutError}}
 
 -- a worker's answer, for the result of a page-out
@@ -16,26 +16,26 @@ seen_as_failure (Err e) = Err (answer_of_fault (fault_of e))
 -- if the pager is whole and each claim of the table has a result, the item is paged out
 pub record PagesItem {N E : Type 0} (v : Values N) (shelf : Shelf) (item : Written) (shelf' : Shelf)
     (answer : WorkerAnswer) (s t : PagerState N E) : Type 0 where
-  pub over : WellFormed v s → AllHaveResults shelf → PagesOutItemOver (plain v) (record { pager = s; shelf = shelf })
+  pub over : IsPagerWhole v s → AllHaveResults shelf → PagesOutItemOver (plain v) (record { pager = s; shelf = shelf })
       item answer (record { pager = t; shelf = shelf' })
 
 -- if the pager is whole, the entries that are in the list at the call are paged out
 pub record PagesList {N E : Type 0} (v : Values N) (answer : Result (Unit {0}) PageOutError)
     (s t : PagerState N E) : Type 0 where
-  pub over : WellFormed v s → ListRun (plain v) (length s.core.list) s (seen_as_failure answer) t
+  pub over : IsPagerWhole v s → ListRun (plain v) (length s.core.list) s (seen_as_failure answer) t
 
 -- the entry at a place of the list is paged out, on a table of its own, where no claim has failed
 pub record EntryPaged {N E : Type 0} (v : Values N) (s : PagerState N E) (place : ℕ) (answer : WorkerAnswer)
     (t : PagerState N E) : Type 0 where
   pub run : EntryRun (plain v) s place answer t
-  pub whole : WellFormed v t
+  pub whole : IsPagerWhole v t
   -- the entries before it stay
   pub long : place ≤ length t.core.list
   pub unfailed : answer ≡ WorkerAnswer.AlreadyFailed → ⊥
 
 pub record PagesEntry {N E : Type 0} (v : Values N) (place : ℕ) (answer : WorkerAnswer) (s t : PagerState N E) : Type 0
   where
-    pub pages : WellFormed v s → place < length s.core.list → EntryPaged v s place answer t
+    pub pages : IsPagerWhole v s → place < length s.core.list → EntryPaged v s place answer t
 
 -- the answer for an entry that was there
 abbrev pub there : Result ℕ PageOutError → Result (Option ℕ) PageOutError
@@ -52,7 +52,7 @@ PagesEntryIfThere v place (Err why) s t = PagesEntry v place (answer_of (Err why
 -- a run of the entries below this place continues from here as one from this place, or it ends here with a failure
 pub record PlaceDone {N E : Type 0} (v : Values N) (s : PagerState N E) (place : ℕ)
     (result : Result (Unit {0}) PageOutError) (t : PagerState N E) : Type 0 where
-  pub whole : WellFormed v t
+  pub whole : IsPagerWhole v t
   pub long : place ≤ length t.core.list
   pub goes : IfOk result (λ u. (i : ℕ) → i ≡ place + 1 → (answer : Result (Unit {0}) WorkerAnswer) (s' : PagerState N E)
       → ListRun (plain v) place t answer s' → ListRun (plain v) i s answer s')
@@ -61,11 +61,11 @@ pub record PlaceDone {N E : Type 0} (v : Values N) (s : PagerState N E) (place :
 
 pub record PagesAt {N E : Type 0} (v : Values N) (place : ℕ) (result : Result (Unit {0}) PageOutError)
     (s t : PagerState N E) : Type 0 where
-  pub done : WellFormed v s → place < length s.core.list → PlaceDone v s place result t
+  pub done : IsPagerWhole v s → place < length s.core.list → PlaceDone v s place result t
 
 -- after some entries, a run of those that are left is a run of all
 pub record HasPaged {N E : Type 0} (v : Values N) (left : ℕ) (s t : PagerState N E) : Type 0 where
-  pub whole : WellFormed v s → WellFormed v t
-  pub long : WellFormed v s → left ≤ length t.core.list
-  pub then : WellFormed v s → (answer : Result (Unit {0}) WorkerAnswer) (u : PagerState N E)
+  pub whole : IsPagerWhole v s → IsPagerWhole v t
+  pub long : IsPagerWhole v s → left ≤ length t.core.list
+  pub then : IsPagerWhole v s → (answer : Result (Unit {0}) WorkerAnswer) (u : PagerState N E)
       → ListRun (plain v) left t answer u → ListRun (plain v) (length s.core.list) s answer u

@@ -1,7 +1,7 @@
 -- Steps of a worker that are made together: each performs one task, and all but the last lead to another task.
 use Rattle.std.specs.Prelude.{Err, IfErr, IfOk, List, None, Ok, Option, Result, Some, [], if◌then◌else◌, ℕ, ◌≡◌, ◌⊎◌}
 use Rattle.{pagable_load.specs.{WorkerCalls.ClosesNode, declared.access.WorkerNode.WorkerNode}, pagable_value_spec.specs.declared.{error.Error.Error, numbers.HandleNumber.HandleNumber}}
-use Rattle.pagable_pageout.specs.Tasks.{Gives, IsPlain}
+use Rattle.pagable_pageout.specs.Tasks.{EntryGetsResult, IsPlain}
 use Rattle.{pagable_pageout.specs.Turns.{HasWalked, RunsTo, Stores, TurnsTo}, pagable_pageout.specs.declared.tasks.{Done.Done, StepResult.StepResult, Node.Node, Task.Task, Turn.Turn}}
 use Rattle.pagable_pager_spec.specs.{Pager.PagerState, Basics.{Blob, is_loose_kind}, World.{Shelf, Todo, Values}, declared.{events.WorkerAnswer.WorkerAnswer, handle_row.Owner.Owner}}
 use Rattle.pagable_codec.specs.declared.{env.Env.Ghosts as Environments, hash.KeyHash.Ghosts as Hashes, nodes.NodeSet.Ghosts as Nodes}
@@ -44,7 +44,8 @@ module _ {X XN XH XK XV : Type 0} {g : Environments X XN XH XK XV} {gh : Hashes 
   -- empty.
   abbrev pub HandsOn : Done X XN XH XK XV g gh go gq gp gn → List Todo → Turn X XN XH XK XV g gh go gq gp gn → List Todo
       → Type 0
-  HandsOn d below (Turn.Goes task) after = Gives d.reference d.found.key d.found.height below after × IsPlain task
+  HandsOn d below (Turn.Goes task) after = EntryGetsResult d.reference d.found.key d.found.height below after
+      × IsPlain task
   HandsOn d below (Turn.Answers answer) after = (answer ≡ WorkerAnswer.Key d.found.key) × (below ≡ []) × (after ≡ [])
 
   -- Steps from a task on lead to another one, or to the answer of a run.

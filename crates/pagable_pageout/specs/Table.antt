@@ -16,9 +16,9 @@ module _ {E EN EH EK EV : Type 0} {g : Environments E EN EH EK EV} {gh : Hashes 
   claim_of ClaimResult.Waiting = Claim.Waiting
   claim_of ClaimResult.AlreadyFailed = Claim.AlreadyFailed
 
-  abbrev pub found_as : Result (ClaimResult E EN EH EK EV g gh go gq gp gn) Error → Result Claim Error
-  found_as (Ok c) = Ok (claim_of c)
-  found_as (Err e) = Err e
+  abbrev pub claim_result : Result (ClaimResult E EN EH EK EV g gh go gq gp gn) Error → Result Claim Error
+  claim_result (Ok c) = Ok (claim_of c)
+  claim_result (Err e) = Err e
 
   -- a known result is that of this identity
   abbrev pub IsFoundOf : Identity → ClaimResult E EN EH EK EV g gh go gq gp gn → Type 0

@@ -33,9 +33,9 @@ waits_as (Some n) written keys = to_finish (record {
 })
 
 -- a node with its height raised by a reference of this kind
-abbrev pub raised : ℕ → ℕ → Option Node → Option Node
-raised kind height None = None
-raised kind height (Some n) = Some (record n { height = max n.height (above kind height) })
+abbrev pub raise_height : ℕ → ℕ → Option Node → Option Node
+raise_height kind height None = None
+raise_height kind height (Some n) = Some (record n { height = max n.height (above kind height) })
 
 module _ {E EN EH EK EV : Type 0} {g : Environments E EN EH EK EV} {gh : Hashes EH} {go : Orders EK}
     {gq : Equalities EK} {gp : PartialOrders EK} {gn : Nodes EN E EN EH EK EV} where
@@ -80,19 +80,19 @@ abbrev pub AwaitsLow : List Todo → ArcRef → ℕ → Type 0
 AwaitsLow below r height = (place : ℕ) × Awaits below r place × (place + height ≤ longest_path)
 
 -- Each entry is what the list below it waits for, and what is to be finished has all references done.
-abbrev pub IsWay : List Todo → Type 0
-IsWay [] = Unit {0}
-IsWay (to_start r place ∷ below) = Awaits below r place
-IsWay (to_pin r place ∷ below) = Awaits below r place × (place ≤ longest_path)
-IsWay (to_load r place through reading ∷ below) = Awaits below r place × (place ≤ longest_path)
-IsWay (to_write r place through ∷ below) = Awaits below r place × (place ≤ longest_path)
-IsWay (to_finish o ∷ below) = (length o.keys ≡ length o.written.references) × Awaits below o.reference o.place
+abbrev pub EachIsAwaited : List Todo → Type 0
+EachIsAwaited [] = Unit {0}
+EachIsAwaited (to_start r place ∷ below) = Awaits below r place
+EachIsAwaited (to_pin r place ∷ below) = Awaits below r place × (place ≤ longest_path)
+EachIsAwaited (to_load r place through reading ∷ below) = Awaits below r place × (place ≤ longest_path)
+EachIsAwaited (to_write r place through ∷ below) = Awaits below r place × (place ≤ longest_path)
+EachIsAwaited (to_finish o ∷ below) = (length o.keys ≡ length o.written.references) × Awaits below o.reference o.place
     × (o.place + o.height ≤ longest_path)
-IsWay (to_item written keys ∷ below) = (length keys ≡ length written.references) × (below ≡ [])
-IsWay (to_set r through key height ∷ below) = AwaitsLow below r height
-IsWay (to_publish r key height ∷ below) = AwaitsLow below r height
-IsWay (to_release r key height ∷ below) = AwaitsLow below r height
-IsWay (to_fail fault back ∷ below) = below ≡ []
+EachIsAwaited (to_item written keys ∷ below) = (length keys ≡ length written.references) × (below ≡ [])
+EachIsAwaited (to_set r through key height ∷ below) = AwaitsLow below r height
+EachIsAwaited (to_publish r key height ∷ below) = AwaitsLow below r height
+EachIsAwaited (to_release r key height ∷ below) = AwaitsLow below r height
+EachIsAwaited (to_fail fault back ∷ below) = below ≡ []
 
 -- the reference is the next one of the waiting node, whose height with it fits
 pub record TakesNext (node : Option Node) (written : Written) (keys : List ℕ) (r : ArcRef) (height : ℕ) : Type 0 where
@@ -119,7 +119,7 @@ EndsWith w (to_publish r key height ∷ below) = EndsWith w below
 EndsWith w (to_release r key height ∷ below) = EndsWith w below
 
 -- the first entry of the list gets the result of its next reference
-pub record Gives (r : ArcRef) (key height : ℕ) (old new : List Todo) : Type 0 where
+pub record EntryGetsResult (r : ArcRef) (key height : ℕ) (old new : List Todo) : Type 0 where
   pub x : Todo
   pub rest : List Todo
   pub was : old ≡ x ∷ rest
@@ -178,5 +178,5 @@ module _ {X XN XH XK XV : Type 0} {g : Environments X XN XH XK XV} {gh : Hashes 
 
   -- each entry is still what the list below it waits for, and less is left to do
   pub record GoesOn (todo : List Todo) (turn : Turn X XN XH XK XV g gh go gq gp gn) (after : List Todo) : Type 0 where
-    pub way : IsWay after
+    pub way : EachIsAwaited after
     pub leads : LeadsOn todo turn after

@@ -1,10 +1,10 @@
--- One task of a worker over the pager's plain state and its table: what the task needs, what it does, and which task
+-- One task of a worker over the pager's core and its table: what the task needs, what it does, and which task
 -- follows.
 use Rattle.std.specs.{Prelude.{ℕ, ◌≡◌, ◌≤◌, ◌+◌, ◌⊎◌, Bool, false, true, List, [], ◌∷◌, MatchOption, Option, Some, None, Result, Ok, Err, IfOk, IfErr}, Arc.arc_value, declared.{alloc.Global.Global, sync.Arc.Arc}}
-use Rattle.{pagable_value_spec.specs.{Blob.key_of, Refusals.is_writing_fault, declared.{error.Error.Error, numbers.{ArcRef.ArcRef, HandleNumber.HandleNumber}}}, pagable_pager_spec.specs.Access.Called}
-use Rattle.pagable_pager_spec.specs.World.{Core, Shelf, Slot, Todo, to_start, to_pin, to_set, was_failed, of_cell, Alike, HasForm, Open, Written, Values, Seen, seen_as, row_at, type_at}
-use Rattle.pagable_pager_spec.specs.{Workers.{IsOpenSlot, KeySetFor, Site, WalkDoes, WorkerEnds, give_known, failing, failing_by, answer_after, is_counted}, Access.{WalkStep, WorkerRun}, Calls.{ScheduleCall, StoreCall}}
-use Rattle.pagable_pager_spec.specs.{Kinds.{is_pinning, owner_worker, identity_of}, Pager.{HoldsItsNodes, PagerState, WellFormed, Moves, TodoBrings, TookWrites, IsWrittenOf, IsFormless, RefusesWriting}}
+use Rattle.{pagable_value_spec.specs.{Blob.key_of, Refusals.is_writing_fault, declared.{error.Error.Error, numbers.{ArcRef.ArcRef, HandleNumber.HandleNumber}}}, pagable_pager_spec.specs.Access.MakesCall}
+use Rattle.pagable_pager_spec.specs.World.{Core, Shelf, Slot, Todo, to_start, to_pin, to_set, was_failed, of_cell, Alike, HasForm, Open, Written, Values, Seen, result_map, row_at, type_at}
+use Rattle.pagable_pager_spec.specs.{Workers.{IsOpenSlot, KeySetFor, WorkerState, WalkDoes, WorkerEnds, give_known, failing, failing_by, answer_after, is_counted}, Access.{WalkStep, WorkerRun}, Calls.{ScheduleCall, StoreCall}}
+use Rattle.pagable_pager_spec.specs.{Kinds.{is_pinning, owner_worker, identity_of}, Pager.{HoldsItsNodes, PagerState, IsPagerWhole, Moves, TodoBrings, TookWrites, IsWrittenOf, IsFormless, RefusesWriting}}
 use Rattle.pagable_pager_spec.specs.{Basics.{Blob, Identity, longest_path, type_of}, declared.{events.{Claim.Claim, Action.Action, WorkerAnswer.WorkerAnswer}, handle_row.{HandleRow.HandleRow, Owner.Owner}}}
 use Rattle.{pagable_theorems.specs.TreeSteps.StandsAt, pagable_load.specs.{Frames.IsLoadOf, AccessView.{Acting, as_caller}, declared.reading.Reading.Reading as Own}}
 use Rattle.{pagable_core.specs.declared.context.writing.SerializedData.SerializedData, pagable_pageout.specs.{Slots.written_of, Tasks.{IsPlain, todo_of, todos}}}
@@ -12,8 +12,8 @@ use Rattle.pagable_pageout.specs.declared.{claims.ClaimResult.ClaimResult, tasks
 use Rattle.pagable_codec.specs.declared.{env.Env.Ghosts as Environments, hash.KeyHash.Ghosts as Hashes, nodes.NodeSet.Ghosts as Nodes}
 use Rattle.std.specs.declared.cmp.{Ord.Ghosts as Orders, PartialEq.Ghosts as Equalities, PartialOrd.Ghosts as PartialOrders}
 
-abbrev pub site : Core → Shelf → List Todo → Site
-site core shelf todo = record { core = core; shelf = shelf; todo = todo }
+abbrev pub worker_state : Core → Shelf → List Todo → WorkerState
+worker_state core shelf todo = record { core = core; shelf = shelf; todo = todo }
 
 -- what is to be done after a claim
 abbrev pub claim_todo : ArcRef → ℕ → List Todo → Result Claim Error → List Todo
@@ -31,7 +31,7 @@ plain v = record { values = v; blob_of = λ b. b; written_of = λ w. w }
 abbrev pub plain_took : Action (Arc SerializedData Global) → Action Written
 plain_took (Action.Claim i r) = Action.Claim i r
 plain_took (Action.Pin i r) = Action.Pin i r
-plain_took (Action.Write i out) = Action.Write i (seen_as (λ a. written_of (arc_value a)) out)
+plain_took (Action.Write i out) = Action.Write i (result_map (λ a. written_of (arc_value a)) out)
 plain_took (Action.Store i r) = Action.Store i r
 plain_took (Action.SetKey i r) = Action.SetKey i r
 plain_took (Action.Publish i key height) = Action.Publish i key height
@@ -83,16 +83,17 @@ module _ {X XN XH XK XV : Type 0} {g : Environments X XN XH XK XV} {gh : Hashes 
       × (place + found.height ≤ longest_path)
   ClaimFits r place claim = Unit {0}
 
-  abbrev pub ClaimLeaves : ArcRef → ℕ → Result (ClaimResult X XN XH XK XV g gh go gq gp gn) Error
+  -- the task after a claim: to pin what was claimed, or one that needs nothing of the pager
+  abbrev pub IsTaskAfterClaim : ArcRef → ℕ → Result (ClaimResult X XN XH XK XV g gh go gq gp gn) Error
       → Task X XN XH XK XV g gh go gq gp gn → Type 0
-  ClaimLeaves r place (Ok ClaimResult.Claimed) task = task ≡ Task.Pin r place
-  ClaimLeaves r place claim task = IsPlain task
+  IsTaskAfterClaim r place (Ok ClaimResult.Claimed) task = task ≡ Task.Pin r place
+  IsTaskAfterClaim r place claim task = IsPlain task
 
   -- the pager is whole, the calls are the worker's, and the task fits
   pub record Fits {N E : Type 0} (v : Values N) (me : Owner) (n : ℕ) (task : Task X XN XH XK XV g gh go gq gp gn)
       (s : PagerState N E) : Type 0 where
     pub me_is : me ≡ owner_worker n
-    pub whole : WellFormed v s
+    pub whole : IsPagerWhole v s
     pub task_fits : TaskFits n s.core task
 
   -- what is to be done after a task
@@ -112,12 +113,13 @@ module _ {X XN XH XK XV : Type 0} {g : Environments X XN XH XK XV} {gh : Hashes 
   pub record Turned {N E : Type 0} (v : Values N) (n : ℕ) (shelf : Shelf) (todo : List Todo) (s : PagerState N E)
       (shelf' : Shelf) (moved : StepResult X XN XH XK XV g gh go gq gp gn) (after : List Todo)
       (t : PagerState N E) : Type 0 where
-    pub does : WalkDoes (plain v) n (site s.core shelf todo) (plain_took moved.action) (site t.core shelf' after)
+    pub does : WalkDoes (plain v) n (worker_state s.core shelf todo) (plain_took moved.action)
+        (worker_state t.core shelf' after)
     pub answers : answer_after todo (plain_took moved.action) ≡ answer_in moved.turn
     pub moves : Moves (TodoBrings v s.core todo) s t
     pub holds : Moves (λ n x. HoldsItsNodes v s x) s t
     pub writes : TookWrites v (λ w. w) s (plain_took moved.action)
-    pub whole : WellFormed v t
+    pub whole : IsPagerWhole v t
     pub fits : LeavesFit n t.core moved.turn
 
   -- Performing a task is a step of the worker, if the task fits, and counts as one.
@@ -130,7 +132,7 @@ module _ {X XN XH XK XV : Type 0} {g : Environments X XN XH XK XV} {gh : Hashes 
   -- with an answer the worker ends
   pub record Closes {N E : Type 0} (v : Values N) (n : ℕ) (turn : Turn X XN XH XK XV g gh go gq gp gn)
       (s s' : PagerState N E) : Type 0 where
-    pub closes : MatchOption (answer_in turn) (s' ≡ s) (λ a. Called v (λ w'. WorkerEnds s.core n w') s s')
+    pub closes : MatchOption (answer_in turn) (s' ≡ s) (λ a. MakesCall v (λ w'. WorkerEnds s.core n w') s s')
 
   abbrev pub acting_then : {E : Type 0} → Turn X XN XH XK XV g gh go gq gp gn → Acting E → Acting E
   acting_then (Turn.Goes t) a = a
@@ -203,7 +205,7 @@ pub record WriteRefused {N : Type 0} (v : Values N) (x : N) (e : Error) : Type 0
 
 -- the handle pins the reference's node, which is of its kind's type
 pub record IsPinned {N E : Type 0} (v : Values N) (s : PagerState N E) (r : ArcRef) (pin : HandleNumber) : Type 0 where
-  pub whole : WellFormed v s
+  pub whole : IsPagerWhole v s
   pub kind : IsOfKind s.core r
   pub pins : PinsAt s.core r pin
 
@@ -232,7 +234,7 @@ pub record Stores {N E : Type 0} (v : Values N) (s : PagerState N E) (blob : Blo
     (t : PagerState N E) : Type 0 where
   pub stored : StoreCall (key_of v.hash) s.core blob r t.core
   pub moves : Moves (λ n x. ⊥) s t
-  pub whole : WellFormed v s → WellFormed v t
+  pub whole : IsPagerWhole v s → IsPagerWhole v t
 
 -- what a blob names, unless it is an item's
 abbrev pub named_by : Option Node → Option Identity
@@ -252,7 +254,7 @@ pub record SetsFor {N E : Type 0} (v : Values N) (me : Owner) (r : ArcRef) (thro
     (result : Result (Unit {0}) Error) (s t : PagerState N E) : Type 0 where
   pub sets : KeySetFor s.core me r through key result t.core
   pub moves : Moves (λ n x. ⊥) s t
-  pub whole : WellFormed v s → WellFormed v t
+  pub whole : IsPagerWhole v s → IsPagerWhole v t
 
 -- the entry is put back on the list, if there is one
 pub record GoesBack {N E : Type 0} (v : Values N) (me : Owner) (back : Option HandleNumber)
@@ -260,4 +262,4 @@ pub record GoesBack {N E : Type 0} (v : Values N) (me : Owner) (back : Option Ha
   pub goes : MatchOption back (Alike s.core t.core) (λ h. (r : Result (Unit {0}) Error)
       × ScheduleCall s.core me h r t.core)
   pub moves : Moves (λ n x. ⊥) s t
-  pub whole : WellFormed v s → WellFormed v t
+  pub whole : IsPagerWhole v s → IsPagerWhole v t

@@ -1,8 +1,8 @@
 //! The calls that a walk makes on a table of claims: on a lent table, whose slots contracts tell,
 //! or on one that threads share, of which they tell nothing.
 
-ghost use Rattle.std.specs.Prelude.{IfOk, None, Option, ◌≡◌};
-ghost use Rattle.{pagable_pageout.specs.{Joint.IsNear, Slots.{ClaimsThere, with_references}, Table.{IsFoundOf, found_as}}, pagable_pager_spec.specs.Access.Told};
+ghost use Rattle.std.specs.Prelude.{IfOk, None, Option};
+ghost use Rattle.{pagable_pageout.specs.{Joint.IsNear, Slots.{ClaimsThere, with_references}, Table.{IsFoundOf, claim_result}}, pagable_pager_spec.specs.Access.IfBothKnown};
 ghost use Rattle.pagable_pager_spec.specs.{Workers.{with_changed_slot, with_failed, with_outcome, with_wait}, World.{SameShelf, Shelf, published}};
 
 use crate::SlotResult;
@@ -44,30 +44,30 @@ pub trait Claims<E: Env<Node: NodeSet<E>>> {
         identity: Identity,
         place: u64,
     ) -> Result<ClaimResult<E>, Error>
-        ensures claims { Told (shelf self.old) (shelf self.new)
-            (λ s s'. ClaimsThere worker.0 s identity place (found_as result) s') }
+        ensures claims { IfBothKnown (shelf self.old) (shelf self.new)
+            (λ s s'. ClaimsThere worker.0 s identity place (claim_result result) s') }
         ensures own { IfOk result (IsFoundOf identity) }
         ensures near { IfOk result (IsNear place) };
 
     /// Forgets for whom a worker waits, if it does. It can't fail.
     fn forget_wait(&mut self, worker: WorkerNumber)
-        ensures { Told (shelf self.old) (shelf self.new) (λ s s'. SameShelf (with_wait s worker.0 None) s') };
+        ensures { IfBothKnown (shelf self.old) (shelf self.new) (λ s s'. SameShelf (with_wait s worker.0 None) s') };
 
     /// Notes the references that a claimed node was written with. Does nothing if the identity has
     /// no slot. It can't fail.
     fn note_written(&mut self, identity: Identity, references: Vec<ArcRef>)
-        ensures { Told (shelf self.old) (shelf self.new)
+        ensures { IfBothKnown (shelf self.old) (shelf self.new)
             (λ s s'. SameShelf (with_changed_slot s identity (with_references references.items)) s') };
 
     /// Publishes the result of a claimed identity. An outcome that is there already stays. It takes
     /// no memory and can't fail.
     fn publish(&mut self, found: &SlotResult<E>)
-        ensures { Told (shelf self.old) (shelf self.new)
+        ensures { IfBothKnown (shelf self.old) (shelf self.new)
             (λ s s'. SameShelf (with_changed_slot s found.now.identity
             (with_outcome (published found.now.key found.now.height))) s') };
 
     /// Marks all claims of a worker that have no outcome yet as failed. It takes no memory and
     /// can't fail.
     fn fail_claims(&mut self, worker: WorkerNumber)
-        ensures { Told (shelf self.old) (shelf self.new) (λ s s'. SameShelf (with_failed s worker.0) s') };
+        ensures { IfBothKnown (shelf self.old) (shelf self.new) (λ s s'. SameShelf (with_failed s worker.0) s') };
 }

@@ -2,7 +2,7 @@
 
 ghost use Rattle.std.specs.Prelude.{IfErr, IfOk, None, OnErr, OnOk, Some, ◌≡◌};
 ghost use Rattle.pagable_pager_spec.specs.{Workers.{with_changed_slot, with_failed, with_slot, IsOpenSlot, with_wait, ComesToEnd, with_outcome}, World.{Slot, SameShelf, published}};
-ghost use Rattle.{pagable_pager_spec.specs.Events.no_shelf, pagable_pageout.specs.{Table.{IsFoundOf, shelf_of, found_as}, Slots.with_references}};
+ghost use Rattle.{pagable_pager_spec.specs.Events.no_shelf, pagable_pageout.specs.{Table.{IsFoundOf, shelf_of, claim_result}, Slots.with_references}};
 ghost use Rattle.pagable_pageout.specs.Slots.{ClaimsThere, Leads, RefusesClaim, Would, claimed_by, waits_for};
 
 use crate::lent_slot::fail_all;
@@ -54,8 +54,8 @@ impl<E: Env<Node: NodeSet<E>>> LentTable<E> {
         identity: Identity,
         place: u64,
     ) -> Result<ClaimResult<E>, Error>
-        ensures finds { IfOk (found_as result) (λ c. Would worker.0 (shelf_of self.now) identity place c) }
-        ensures refused { IfErr (found_as result) (RefusesClaim worker.0 (shelf_of self.now) identity place) }
+        ensures finds { IfOk (claim_result result) (λ c. Would worker.0 (shelf_of self.now) identity place c) }
+        ensures refused { IfErr (claim_result result) (RefusesClaim worker.0 (shelf_of self.now) identity place) }
         ensures own { IfOk result (IsFoundOf identity) }
     {
         if place > 128 {
@@ -162,7 +162,8 @@ impl<E: Env<Node: NodeSet<E>>> LentTable<E> {
         identity: Identity,
         place: u64,
     ) -> Result<ClaimResult<E>, Error>
-        ensures claims { ClaimsThere worker.0 (shelf_of self.old) identity place (found_as result) (shelf_of self.new) }
+        ensures claims { ClaimsThere worker.0 (shelf_of self.old) identity place (claim_result result)
+            (shelf_of self.new) }
         ensures own { IfOk result (IsFoundOf identity) }
     {
         let judged = self.probe(worker, identity, place);

@@ -2,9 +2,9 @@
 //! task.
 
 ghost use Rattle.std.specs.{Arc.arc_value, Prelude.{IfErr, IfOk, OnErr, [], length, vec_capacity, vec_len, ◌*◌, ◌++◌, ◌+◌, ◌<◌, ◌∷◌, ◌≡◌, ◌≤◌}};
-ghost use Rattle.pagable_pageout.specs.{Slots.{keys_of, written_of}, Tasks.{AwaitsLow, Gives, IsPlain, IsWay, TakesNext, back_of, due, fails, fault_of, raised, todo_of, todos, waits_as}};
+ghost use Rattle.pagable_pageout.specs.{Slots.{keys_of, written_of}, Tasks.{AwaitsLow, EntryGetsResult, IsPlain, EachIsAwaited, TakesNext, back_of, due, fails, fault_of, raise_height, todo_of, todos, waits_as}};
 ghost use Rattle.{pagable_pageout.specs.Tasks.waiting_todo, pagable_pager_spec.specs.{Kinds.identity_of, Basics.longest_path, World.{of_entry, of_item, was_refused}}};
-ghost use Rattle.pagable_pager_spec.specs.Workers.{first_todo, place_below, settle};
+ghost use Rattle.pagable_pager_spec.specs.Workers.{first_todo, place_below, advance};
 
 use crate::PageOutError;
 use crate::tasks::{Done, Node, Task, Waiting};
@@ -20,15 +20,15 @@ pub fn place_below(place: u64, kind: Kind) -> u64
     requires { place ≤ longest_path }
     ensures { result ≡ place_below place kind.0 }
 {
-    if kind.0 % 3 == 1 { 0 } else { place + 1 }
+    if kind.is_loose() { 0 } else { place + 1 }
 }
 
 /// Takes up a written node or item: pushes it on the path, which has room for it, and returns the
 /// task of its next reference; or the task of finishing it, if all its references are done.
 #[tactic(auto, using(crate::proofs::Stacks::settling))]
-pub fn settle<E: Env<Node: NodeSet<E>>>(path: &mut Vec<Waiting<E>>, waiting: Waiting<E>) -> Task<E>
+pub fn advance<E: Env<Node: NodeSet<E>>>(path: &mut Vec<Waiting<E>>, waiting: Waiting<E>) -> Task<E>
     requires { vec_len path.old < vec_capacity path.old }
-    ensures todo { todo_of result ∷ todos path.new.items ≡ settle (waiting_todo waiting ∷ todos path.old.items) }
+    ensures todo { todo_of result ∷ todos path.new.items ≡ advance (waiting_todo waiting ∷ todos path.old.items) }
     ensures plain { IsPlain result }
     ensures less { due (todo_of result ∷ todos path.new.items) ≤ 8 + 6 * length (todos path.old.items) }
 {
@@ -42,11 +42,11 @@ pub fn settle<E: Env<Node: NodeSet<E>>>(path: &mut Vec<Waiting<E>>, waiting: Wai
     Task::Start(next, place)
 }
 
-// Returns the node with its height raised to that by a reference of this kind to a node of height
-// `below`.
-fn raised(node: Option<Node>, kind: Kind, below: u64) -> Option<Node>
+// Returns the node with its height raised, if need be, to that of the path through a reference of
+// this kind to a node of height `below`.
+fn raise_height(node: Option<Node>, kind: Kind, below: u64) -> Option<Node>
     requires { below ≤ longest_path }
-    ensures { result ≡ raised kind.0 below node }
+    ensures { result ≡ raise_height kind.0 below node }
 {
     let node = node?;
     Some(Node {
@@ -60,10 +60,10 @@ fn raised(node: Option<Node>, kind: Kind, below: u64) -> Option<Node>
 fn with_result<E: Env<Node: NodeSet<E>>>(waiting: Waiting<E>, done: Done<E>) -> Waiting<E>
     requires { TakesNext waiting.node (written_of (arc_value waiting.written)) (keys_of waiting.children.items)
         done.reference done.found.height }
-    ensures { waiting_todo result ≡ waits_as (raised done.reference.kind.0 done.found.height waiting.node)
+    ensures { waiting_todo result ≡ waits_as (raise_height done.reference.kind.0 done.found.height waiting.node)
         (written_of (arc_value waiting.written)) (keys_of waiting.children.items ++ done.found.key ∷ []) }
 {
-    let node = raised(waiting.node, done.reference.kind, done.found.height);
+    let node = raise_height(waiting.node, done.reference.kind, done.found.height);
     let mut children = waiting.children;
     children.push_reserved(done.found);
     Waiting {
@@ -73,7 +73,7 @@ fn with_result<E: Env<Node: NodeSet<E>>>(waiting: Waiting<E>, done: Done<E>) -> 
     }
 }
 
-/// Gives a result to the last entry of the path, which waits for it, and takes that up as `settle`
+/// Gives a result to the last entry of the path, which waits for it, and takes that up as `advance`
 /// does. Returns the result back as an error if the path is empty.
 #[tactic(auto, using(crate::proofs::Stacks::giving))]
 pub fn give<E: Env<Node: NodeSet<E>>>(
@@ -81,7 +81,8 @@ pub fn give<E: Env<Node: NodeSet<E>>>(
     done: Done<E>,
 ) -> Result<Task<E>, Done<E>>
     requires { AwaitsLow (todos path.old.items) done.reference done.found.height }
-    ensures gives { IfOk result (λ task. Gives done.reference done.found.key done.found.height (todos path.old.items)
+    ensures gives { IfOk result (λ task. EntryGetsResult done.reference done.found.key done.found.height
+        (todos path.old.items)
         (todo_of task ∷ todos path.new.items)) }
     ensures plain { IfOk result (λ task. IsPlain task) }
     ensures less { IfOk result (λ task. due (todo_of task ∷ todos path.new.items) ≤ 2 + 6 * length
@@ -92,7 +93,7 @@ pub fn give<E: Env<Node: NodeSet<E>>>(
     let Some(waiting) = path.pop() else {
         return Err(done);
     };
-    Ok(settle(path, with_result(waiting, done)))
+    Ok(advance(path, with_result(waiting, done)))
 }
 
 /// Fails the walk: clears the path, and returns the task of failing. If the path was empty, that
@@ -116,7 +117,7 @@ pub fn fail<E: Env<Node: NodeSet<E>>>(
 }
 
 /// Fails the walk by an error of one of its own steps, as `fail` does.
-pub fn refuse<E: Env<Node: NodeSet<E>>>(
+pub fn fail_with<E: Env<Node: NodeSet<E>>>(
     path: &mut Vec<Waiting<E>>,
     e: &Error,
     entry: Option<HandleNumber>,
@@ -142,7 +143,7 @@ pub fn start_item<E: Env<Node: NodeSet<E>>>(
 ) -> Result<(Task<E>, Vec<Waiting<E>>), Error>
     ensures todo { IfOk result (λ w. todo_of w.0 ∷ todos w.1.items
         ≡ first_todo (of_item (written_of (arc_value written)))) }
-    ensures way { IfOk result (λ w. IsWay (todo_of w.0 ∷ todos w.1.items)) }
+    ensures way { IfOk result (λ w. EachIsAwaited (todo_of w.0 ∷ todos w.1.items)) }
     ensures plain { IfOk result (λ w. IsPlain w.0) }
     ensures only { IfErr result (λ e. e ≡ Error.OutOfMemory) }
 {
@@ -153,11 +154,11 @@ pub fn start_item<E: Env<Node: NodeSet<E>>>(
         written,
         children,
     };
-    Ok((settle(&mut path, item), path))
+    Ok((advance(&mut path, item), path))
 }
 
-/// Returns the first task for the list entry that this reference names, and an empty path. It takes
-/// no memory.
+/// Returns the first task of a worker that pages out one entry of the pending list, the cell that
+/// `reference` names, and an empty path. It takes no memory.
 #[tactic(auto, using(crate::proofs::Stacks::paths), unfolding(crate::specs::Tasks::Awaits))]
 pub fn start_entry<E: Env<Node: NodeSet<E>>>(
     alloc: Global,
@@ -165,7 +166,7 @@ pub fn start_entry<E: Env<Node: NodeSet<E>>>(
 ) -> (Task<E>, Vec<Waiting<E>>)
     ensures todo { todo_of result.0 ∷ todos result.1.items
         ≡ first_todo (of_entry reference.handle (identity_of reference)) }
-    ensures way { IsWay (todo_of result.0 ∷ todos result.1.items) }
+    ensures way { EachIsAwaited (todo_of result.0 ∷ todos result.1.items) }
     ensures plain { IsPlain result.0 }
 {
     (Task::Start(reference, 0), Vec::new(alloc))

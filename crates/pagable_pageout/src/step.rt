@@ -4,7 +4,7 @@
 ghost use Rattle.pagable_pager_spec.specs.World.{Written};
 ghost use Rattle.std.specs.{Arc.arc_value, Prelude.{IfOk, ◌∷◌, ◌≡◌}};
 ghost use Rattle.{pagable_load.specs.AccessView.{Acts, ActsThen, as_caller, values_at}, pagable_pageout.specs.{PageOuts.{answer_of, PagesAt, PagesEntryIfThere, PagesItem, there}, Tasks.{Ends, EndsWith, GoesOn, IfKeyOf, LeadsOn}, Results.IsOver}};
-ghost use Rattle.pagable_pageout.specs.{PageOuts.PagesList, Joint.ActsBoth, Slots.written_of, Tasks.{IsWay, todo_of, todos}, Turns.{acting_then, Closes, plan, RunsTo, StepsTo, TurnsTo}};
+ghost use Rattle.pagable_pageout.specs.{PageOuts.PagesList, Joint.ActsBoth, Slots.written_of, Tasks.{EachIsAwaited, todo_of, todos}, Turns.{acting_then, Closes, plan, RunsTo, StepsTo, TurnsTo}};
 ghost use Rattle.pagable_pager_spec.specs.declared.handle_row.Owner.{Owner};
 
 use crate::stack::{start_entry, start_item};
@@ -32,10 +32,10 @@ fn turn<E: Env<Node: NodeSet<E>>, A: WorkerAccess<E>, T: Claims<E>>(
     path: &mut Vec<Waiting<E>>,
     task: Task<E>,
 ) -> StepResult<E>
-    requires { IsWay (todo_of task ∷ todos path.old.items) }
+    requires { EachIsAwaited (todo_of task ∷ todos path.old.items) }
     ensures goes { GoesOn (todo_of task ∷ todos path.old.items) result.turn (plan result.turn path.new.items) }
     ensures ends { Ends (todo_of task ∷ todos path.old.items) result.turn (plan result.turn path.new.items) }
-    ensures acts { ActsBoth A.told A.acting T.shelf access.old table.old access.new table.new (λ a. a)
+    ensures acts { ActsBoth A.known_state A.acting T.shelf access.old table.old access.new table.new (λ a. a)
         (λ a s q s' q'. TurnsTo (values_at E.Node.NodeSet E.Env E.Hash.KeyHash a.environment) a.me worker.0 q task
         (todos path.old.items) q' result (plan result.turn path.new.items) s s') }
 {
@@ -86,7 +86,7 @@ pub(crate) fn end_answered<E: Env<Node: NodeSet<E>>, A: WorkerAccess<E>>(
     worker: WorkerNumber,
     turn: &Turn<E>,
 )
-    ensures { ActsThen A.told A.acting access.old access.new (acting_then turn.now)
+    ensures { ActsThen A.known_state A.acting access.old access.new (acting_then turn.now)
         (λ a. Closes (values_at E.Node.NodeSet E.Env E.Hash.KeyHash a.environment) worker.0 turn.now) }
 {
     let Turn::Answers(_) = turn else {
@@ -106,11 +106,12 @@ pub fn step<E: Env<Node: NodeSet<E>>, A: WorkerAccess<E>, T: Claims<E>>(
     path: &mut Vec<Waiting<E>>,
     task: Task<E>,
 ) -> StepResult<E>
-    requires { IsWay (todo_of task ∷ todos path.old.items) }
-    ensures way { IsWay (plan result.turn path.new.items) }
+    requires { EachIsAwaited (todo_of task ∷ todos path.old.items) }
+    ensures way { EachIsAwaited (plan result.turn path.new.items) }
     ensures ends { Ends (todo_of task ∷ todos path.old.items) result.turn (plan result.turn path.new.items) }
     ensures leads { LeadsOn (todo_of task ∷ todos path.old.items) result.turn (plan result.turn path.new.items) }
-    ensures acts { ActsBoth A.told A.acting T.shelf access.old table.old access.new table.new (acting_then result.turn)
+    ensures acts { ActsBoth A.known_state A.acting T.shelf access.old table.old access.new table.new
+        (acting_then result.turn)
         (λ a s q s' q'. StepsTo (values_at E.Node.NodeSet E.Env E.Hash.KeyHash a.environment) a.me worker.0 q task
         (todos path.old.items) q' result (plan result.turn path.new.items) s s') }
 {
@@ -132,10 +133,10 @@ pub fn run<E: Env<Node: NodeSet<E>>, A: WorkerAccess<E>, T: Claims<E>>(
     path: &mut Vec<Waiting<E>>,
     first: Task<E>,
 ) -> WorkerAnswer
-    requires { IsWay (todo_of first ∷ todos path.old.items) }
+    requires { EachIsAwaited (todo_of first ∷ todos path.old.items) }
     ensures over { (w : Written) → EndsWith w (todo_of first ∷ todos path.old.items)
         → IfKeyOf result (λ key. ∥ IsOver E.Hash.digest (values_at E.Node.NodeSet E.Env E.Hash.KeyHash) w key ∥₁) }
-    ensures acts { ActsBoth A.told A.acting T.shelf access.old table.old access.new table.new as_caller
+    ensures acts { ActsBoth A.known_state A.acting T.shelf access.old table.old access.new table.new as_caller
         (λ a s q s' q'. RunsTo (values_at E.Node.NodeSet E.Env E.Hash.KeyHash a.environment) a.me worker.0 q first
         (todos path.old.items) q' result s s') }
 {
@@ -182,7 +183,7 @@ pub fn page_out_item_over<E: Env<Node: NodeSet<E>>, A: WorkerAccess<E>, T: Claim
     requires caller { (A.acting access.old).me ≡ Owner.Caller }
     ensures over { IfOk result (λ key. ∥ IsOver E.Hash.digest (values_at E.Node.NodeSet E.Env E.Hash.KeyHash)
         (written_of (arc_value item)) key ∥₁) }
-    ensures acts { ActsBoth A.told A.acting T.shelf access.old table.old access.new table.new (λ a. a)
+    ensures acts { ActsBoth A.known_state A.acting T.shelf access.old table.old access.new table.new (λ a. a)
         (λ a s q s' q'. PagesItem (values_at E.Node.NodeSet E.Env E.Hash.KeyHash a.environment) q
         (written_of (arc_value item)) q' (answer_of result) s s') }
 {
@@ -222,7 +223,7 @@ pub fn page_out_entry<E: Env<Node: NodeSet<E>>, A: WorkerAccess<E>>(
     place: usize,
 ) -> Result<Option<DataKey>, PageOutError>
     requires caller { (A.acting access.old).me ≡ Owner.Caller }
-    ensures { Acts A.told A.acting access.old access.new
+    ensures { Acts A.known_state A.acting access.old access.new
         (λ a. PagesEntryIfThere (values_at E.Node.NodeSet E.Env E.Hash.KeyHash a.environment) place result) }
 {
     let (worker, reference) = match access.worker_listed(place) {
@@ -244,7 +245,7 @@ fn page_out_at<E: Env<Node: NodeSet<E>>, A: WorkerAccess<E>>(
     place: usize,
 ) -> Result<(), PageOutError>
     requires caller { (A.acting access.old).me ≡ Owner.Caller }
-    ensures { Acts A.told A.acting access.old access.new
+    ensures { Acts A.known_state A.acting access.old access.new
         (λ a. PagesAt (values_at E.Node.NodeSet E.Env E.Hash.KeyHash a.environment) place result) }
 {
     match access.entry_key(place) {
@@ -277,7 +278,7 @@ pub fn page_out_pending_over<E: Env<Node: NodeSet<E>>, A: WorkerAccess<E>>(
     alloc: Global,
 ) -> Result<(), PageOutError>
     requires caller { (A.acting access.old).me ≡ Owner.Caller }
-    ensures { Acts A.told A.acting access.old access.new
+    ensures { Acts A.known_state A.acting access.old access.new
         (λ a. PagesList (values_at E.Node.NodeSet E.Env E.Hash.KeyHash a.environment) result) }
 {
     let mut table = LentTable::new(alloc);

@@ -2,11 +2,11 @@
 //! references are done, made together, so that no task is kept between them.
 
 ghost use Rattle.pagable_pager_spec.specs.World.{SameShelf, Shelf, published, was_refused, to_pin, to_publish, to_start, to_write};
-ghost use Rattle.pagable_pager_spec.specs.{Access.Told, Workers.{with_changed_slot, with_outcome, with_wait}};
+ghost use Rattle.pagable_pager_spec.specs.{Access.IfBothKnown, Workers.{with_changed_slot, with_outcome, with_wait}};
 ghost use Rattle.std.specs.{Arc.arc_value, Prelude.{None, Some, ℕ, ◌*◌, ◌+◌, ◌<◌, ◌∷◌, ◌≡◌}};
-ghost use Rattle.{pagable_load.specs.{PinStart.Shares, AccessView.{Acts, Tells, values_at}}, pagable_pageout.specs.{Joint.ActsBoth, Strides.{ComesTo, HandsOn, Strides}, Tasks.{AwaitsLow, IsPlain, back_of, due, Ends, fails, far, GoesOn, IfGoes, IsWay, todo_of, todos, waiting_todo}, Turns.{acting_then, HasWalked, plan}}};
+ghost use Rattle.{pagable_load.specs.{PinStart.Shares, AccessView.{Acts, IfKnown, values_at}}, pagable_pageout.specs.{Joint.ActsBoth, Strides.{ComesTo, HandsOn, Strides}, Tasks.{AwaitsLow, IsPlain, back_of, due, Ends, fails, far, GoesOn, IfGoes, EachIsAwaited, todo_of, todos, waiting_todo}, Turns.{acting_then, HasWalked, plan}}};
 
-use crate::stack::{give, refuse, settle};
+use crate::stack::{advance, fail_with, give};
 use crate::step::{end_answered, step};
 use crate::tasks::{Done, Node, StepResult, Task, Turn, Waiting, named};
 use crate::turns::{after_claim, claim, done_with, prepare, store, store_node, stored};
@@ -30,10 +30,11 @@ fn unclaimed<E: Env<Node: NodeSet<E>>, T: Claims<E>>(
         ≡ fails (was_refused e) (back_of (Some reference.handle) (todos path.old.items)) }
     ensures plain { IsPlain result }
     ensures less { due (todo_of result ∷ todos path.new.items) ≡ 1 }
-    ensures table { Told (T.shelf table.old) (T.shelf table.new) (λ q q'. SameShelf (with_wait q worker.0 None) q') }
+    ensures table { IfBothKnown (T.shelf table.old) (T.shelf table.new)
+        (λ q q'. SameShelf (with_wait q worker.0 None) q') }
 {
     table.forget_wait(worker);
-    refuse(path, &e, Some(reference.handle))
+    fail_with(path, &e, Some(reference.handle))
 }
 
 // Writes the value that was shared from the handle that pins it, and returns the task of its first
@@ -48,13 +49,14 @@ fn enter<E: Env<Node: NodeSet<E>>, A: WorkerAccess<E>, T: Claims<E>>(
     through: HandleNumber,
     shared: Result<Option<Arc<E::Node>>, Error>,
 ) -> Task<E>
-    requires { IsWay (to_write reference place through ∷ todos path.old.items) }
+    requires { EachIsAwaited (to_write reference place through ∷ todos path.old.items) }
     ensures ends { Ends (to_write reference place through ∷ todos path.old.items) (Turn.Goes result)
         (todo_of result ∷ todos path.new.items) }
     ensures goes { GoesOn (to_write reference place through ∷ todos path.old.items) (Turn.Goes result)
         (todo_of result ∷ todos path.new.items) }
-    ensures step { (n : ℕ) (pin : HandleNumber) → Tells (A.told access.now) (λ s. Shares arc_value s pin shared)
-        → ActsBoth A.told A.acting T.shelf access.now table.old access.now table.new (λ a. a)
+    ensures step { (n : ℕ) (pin : HandleNumber) → IfKnown (A.known_state access.now)
+        (λ s. Shares arc_value s pin shared)
+        → ActsBoth A.known_state A.acting T.shelf access.now table.old access.now table.new (λ a. a)
         (λ a s q s' q'. HasWalked (values_at E.Node.NodeSet E.Env E.Hash.KeyHash a.environment) a.me n q
         (Task.Write reference place through pin) (todos path.old.items) q' result (todos path.new.items) s s') }
 {
@@ -62,9 +64,9 @@ fn enter<E: Env<Node: NodeSet<E>>, A: WorkerAccess<E>, T: Claims<E>>(
         Ok((waiting, references, told)) => {
             let _written = told;
             table.note_written(named(reference), references);
-            settle(path, waiting)
+            advance(path, waiting)
         }
-        Err(e) => refuse(path, &e, None),
+        Err(e) => fail_with(path, &e, None),
     }
 }
 
@@ -78,12 +80,12 @@ fn take<E: Env<Node: NodeSet<E>>, A: WorkerAccess<E>, T: Claims<E>>(
     reference: ArcRef,
     place: u64,
 ) -> Task<E>
-    requires { IsWay (to_pin reference place ∷ todos path.old.items) }
+    requires { EachIsAwaited (to_pin reference place ∷ todos path.old.items) }
     ensures ends { Ends (to_pin reference place ∷ todos path.old.items) (Turn.Goes result)
         (todo_of result ∷ todos path.new.items) }
     ensures goes { GoesOn (to_pin reference place ∷ todos path.old.items) (Turn.Goes result)
         (todo_of result ∷ todos path.new.items) }
-    ensures acts { (n : ℕ) → ActsBoth A.told A.acting T.shelf access.old table.old access.new table.new (λ a. a)
+    ensures acts { (n : ℕ) → ActsBoth A.known_state A.acting T.shelf access.old table.old access.new table.new (λ a. a)
         (λ a s q s' q'. HasWalked (values_at E.Node.NodeSet E.Env E.Hash.KeyHash a.environment) a.me n q
         (Task.Pin reference place) (todos path.old.items) q' result (todos path.new.items) s s') }
 {
@@ -95,11 +97,11 @@ fn take<E: Env<Node: NodeSet<E>>, A: WorkerAccess<E>, T: Claims<E>>(
                 )
             }
             TakenValue::Begun(through, load, key) => {
-                let reading = Reading::new(alloc, load, key, reference.kind.0 / 3, true);
+                let reading = Reading::new(alloc, load, key, reference.kind.node_type(), true);
                 Task::Load(reference, place, through, reading)
             }
         },
-        Err(e) => refuse(path, &e, Some(reference.handle)),
+        Err(e) => fail_with(path, &e, Some(reference.handle)),
     }
 }
 
@@ -115,12 +117,12 @@ fn start<E: Env<Node: NodeSet<E>>, A: WorkerAccess<E>, T: Claims<E>>(
     reference: ArcRef,
     place: u64,
 ) -> Task<E>
-    requires { IsWay (to_start reference place ∷ todos path.old.items) }
+    requires { EachIsAwaited (to_start reference place ∷ todos path.old.items) }
     ensures ends { Ends (to_start reference place ∷ todos path.old.items) (Turn.Goes result)
         (todo_of result ∷ todos path.new.items) }
     ensures goes { GoesOn (to_start reference place ∷ todos path.old.items) (Turn.Goes result)
         (todo_of result ∷ todos path.new.items) }
-    ensures acts { ActsBoth A.told A.acting T.shelf access.old table.old access.new table.new (λ a. a)
+    ensures acts { ActsBoth A.known_state A.acting T.shelf access.old table.old access.new table.new (λ a. a)
         (λ a s q s' q'. HasWalked (values_at E.Node.NodeSet E.Env E.Hash.KeyHash a.environment) a.me worker.0 q
         (Task.Start reference place) (todos path.old.items) q' result (todos path.new.items) s s') }
 {
@@ -143,10 +145,11 @@ fn begin<E: Env<Node: NodeSet<E>>, A: WorkerAccess<E>, T: Claims<E>>(
     reference: ArcRef,
     place: u64,
 ) -> Turn<E>
-    requires { IsWay (to_start reference place ∷ todos path.old.items) }
+    requires { EachIsAwaited (to_start reference place ∷ todos path.old.items) }
     ensures ends { Ends (to_start reference place ∷ todos path.old.items) result (plan result path.new.items) }
     ensures goes { GoesOn (to_start reference place ∷ todos path.old.items) result (plan result path.new.items) }
-    ensures acts { ActsBoth A.told A.acting T.shelf access.old table.old access.new table.new (acting_then result)
+    ensures acts { ActsBoth A.known_state A.acting T.shelf access.old table.old access.new table.new
+        (acting_then result)
         (λ a s q s' q'. Strides (values_at E.Node.NodeSet E.Env E.Hash.KeyHash a.environment) a.me worker.0 q
         (Task.Start reference place) (todos path.old.items) q' result (todos path.new.items) s s') }
 {
@@ -167,7 +170,7 @@ fn publish<E: Env<Node: NodeSet<E>>, T: Claims<E>>(
     ensures goes { GoesOn (to_publish done.reference done.found.key done.found.height ∷ todos path.old.items) result
         (plan result path.new.items) }
     ensures hands { HandsOn done (todos path.old.items) result (plan result path.new.items) }
-    ensures table { Told (T.shelf table.old) (T.shelf table.new)
+    ensures table { IfBothKnown (T.shelf table.old) (T.shelf table.new)
         (λ q q'. SameShelf (with_changed_slot q done.found.identity
         (with_outcome (published done.found.key done.found.height))) q') }
 {
@@ -190,17 +193,17 @@ fn leave_node<E: Env<Node: NodeSet<E>>, A: WorkerAccess<E>, T: Claims<E>>(
     waiting: Waiting<E>,
     node: Node,
 ) -> Turn<E>
-    requires way { IsWay (waiting_todo waiting ∷ todos path.old.items) }
+    requires way { EachIsAwaited (waiting_todo waiting ∷ todos path.old.items) }
     requires node { waiting.node ≡ Some node }
     ensures ends { Ends (waiting_todo waiting ∷ todos path.old.items) result (plan result path.new.items) }
     ensures goes { GoesOn (waiting_todo waiting ∷ todos path.old.items) result (plan result path.new.items) }
-    ensures acts { ActsBoth A.told A.acting T.shelf access.old table.old access.new table.new (λ a. a)
+    ensures acts { ActsBoth A.known_state A.acting T.shelf access.old table.old access.new table.new (λ a. a)
         (λ a s q s' q'. ComesTo (values_at E.Node.NodeSet E.Env E.Hash.KeyHash a.environment) a.me worker.0 q
         (Task.Finish waiting) (todos path.old.items) q' result (plan result path.new.items) s s') }
 {
     match store_node(access, alloc, worker, &waiting, node) {
         Ok(key) => publish(table, path, done_with(&waiting, node, key)),
-        Err(e) => Turn::Goes(refuse(path, &e, None)),
+        Err(e) => Turn::Goes(fail_with(path, &e, None)),
     }
 }
 
@@ -212,16 +215,16 @@ fn leave_item<E: Env<Node: NodeSet<E>>, A: WorkerAccess<E>>(
     path: &mut Vec<Waiting<E>>,
     waiting: Waiting<E>,
 ) -> Turn<E>
-    requires { IsWay (waiting_todo waiting ∷ todos path.old.items) }
+    requires { EachIsAwaited (waiting_todo waiting ∷ todos path.old.items) }
     ensures ends { Ends (waiting_todo waiting ∷ todos path.old.items) result (plan result path.new.items) }
     ensures goes { GoesOn (waiting_todo waiting ∷ todos path.old.items) result (plan result path.new.items) }
-    ensures acts { (n : ℕ) (shelf : Shelf) → Acts A.told A.acting access.old access.new
+    ensures acts { (n : ℕ) (shelf : Shelf) → Acts A.known_state A.acting access.old access.new
         (λ a s t. ComesTo (values_at E.Node.NodeSet E.Env E.Hash.KeyHash a.environment) a.me n shelf
         (Task.Finish waiting) (todos path.old.items) shelf result (plan result path.new.items) s t) }
 {
     match store(access, alloc, &waiting) {
         Ok(key) => stored(waiting, key),
-        Err(e) => Turn::Goes(refuse(path, &e, None)),
+        Err(e) => Turn::Goes(fail_with(path, &e, None)),
     }
 }
 
@@ -234,10 +237,10 @@ fn leave<E: Env<Node: NodeSet<E>>, A: WorkerAccess<E>, T: Claims<E>>(
     path: &mut Vec<Waiting<E>>,
     waiting: Waiting<E>,
 ) -> Turn<E>
-    requires { IsWay (waiting_todo waiting ∷ todos path.old.items) }
+    requires { EachIsAwaited (waiting_todo waiting ∷ todos path.old.items) }
     ensures ends { Ends (waiting_todo waiting ∷ todos path.old.items) result (plan result path.new.items) }
     ensures goes { GoesOn (waiting_todo waiting ∷ todos path.old.items) result (plan result path.new.items) }
-    ensures acts { ActsBoth A.told A.acting T.shelf access.old table.old access.new table.new (λ a. a)
+    ensures acts { ActsBoth A.known_state A.acting T.shelf access.old table.old access.new table.new (λ a. a)
         (λ a s q s' q'. ComesTo (values_at E.Node.NodeSet E.Env E.Hash.KeyHash a.environment) a.me worker.0 q
         (Task.Finish waiting) (todos path.old.items) q' result (plan result path.new.items) s s') }
 {
@@ -263,12 +266,13 @@ pub fn stride<E: Env<Node: NodeSet<E>>, A: WorkerAccess<E>, T: Claims<E>>(
     left: &mut u64,
     task: Task<E>,
 ) -> Turn<E>
-    requires { IsWay (todo_of task ∷ todos path.old.items) }
-    ensures way { IsWay (plan result path.new.items) }
+    requires { EachIsAwaited (todo_of task ∷ todos path.old.items) }
+    ensures way { EachIsAwaited (plan result path.new.items) }
     ensures ends { Ends (todo_of task ∷ todos path.old.items) result (plan result path.new.items) }
     ensures falls { IfGoes result (left.new * far + due (plan result path.new.items) < left.old * far + due
         (todo_of task ∷ todos path.old.items)) }
-    ensures acts { ActsBoth A.told A.acting T.shelf access.old table.old access.new table.new (acting_then result)
+    ensures acts { ActsBoth A.known_state A.acting T.shelf access.old table.old access.new table.new
+        (acting_then result)
         (λ a s q s' q'. Strides (values_at E.Node.NodeSet E.Env E.Hash.KeyHash a.environment) a.me worker.0 q task
         (todos path.old.items) q' result (todos path.new.items) s s') }
 {

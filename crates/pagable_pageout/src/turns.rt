@@ -4,12 +4,12 @@
 
 ghost use Rattle.std.specs.{Arc.arc_value, Prelude.{IfErr, IfOk, length, List, OnOk, Some, vec_capacity, vec_len, ℕ, ◌*◌, ◌+◌, ◌<◌, ◌∷◌, ◌≡◌, ◌≤◌}};
 ghost use Rattle.{pagable_core.specs.Data.blob_of, pagable_load.specs.{Frames.reading_of, PinStart.Shares, AccessView.{Acts, values_at}, WorkerCalls.fault_in}, pagable_value_spec.specs.Blob.key_of};
-ghost use Rattle.{pagable_value_spec.specs.Merkle.blob_of as blob_over, pagable_pageout.specs.{Results.{HasFormOf, IsOver}, Joint.ActsBoth, Strides.{LeavesNode, loose_of}, Tasks.{due, Ends, GoesOn, IfKey, most}, Slots.{keys_of, written_of}, Table.found_as}};
-ghost use Rattle.pagable_pageout.specs.{Tasks.{Awaits, AwaitsLow, fault_of, IsWay, todo_of, todos, waiting_todo}, Turns.{claim_todo, ClaimFits, ClaimLeaves, Forms, plan, site, TurnsTo}};
-ghost use Rattle.{pagable_pageout.specs.Turns.{GoesBack, IsForm, IsStored, just_open, named_by, SetsFor, Stores, WriteRefused}, pagable_pager_spec.specs.{Access.Told, Kinds.identity_of, Pager.PagerState, Basics.longest_path, Workers.claim_fault}};
-ghost use Rattle.pagable_pager_spec.specs.{Workers.{Claims, is_counted_claim}, World.{answer_of_fault, Core, seen_as, Shelf, to_finish, to_load, to_pin, to_release, to_set, to_start, to_write, Todo}};
+ghost use Rattle.{pagable_value_spec.specs.Merkle.blob_of as blob_over, pagable_pageout.specs.{Results.{HasFormOf, IsOver}, Joint.ActsBoth, Strides.{LeavesNode, loose_of}, Tasks.{due, Ends, GoesOn, IfKey, most}, Slots.{keys_of, written_of}, Table.claim_result}};
+ghost use Rattle.pagable_pageout.specs.{Tasks.{Awaits, AwaitsLow, fault_of, EachIsAwaited, todo_of, todos, waiting_todo}, Turns.{claim_todo, ClaimFits, IsTaskAfterClaim, Forms, plan, worker_state, TurnsTo}};
+ghost use Rattle.{pagable_pageout.specs.Turns.{GoesBack, IsForm, IsStored, just_open, named_by, SetsFor, Stores, WriteRefused}, pagable_pager_spec.specs.{Access.IfBothKnown, Kinds.identity_of, Pager.PagerState, Basics.longest_path, Workers.claim_fault}};
+ghost use Rattle.pagable_pager_spec.specs.{Workers.{ClaimStep, is_counted_claim}, World.{answer_of_fault, Core, result_map, Shelf, to_finish, to_load, to_pin, to_release, to_set, to_start, to_write, Todo}};
 
-use crate::stack::{fail, give, refuse, settle};
+use crate::stack::{advance, fail, fail_with, give};
 use crate::tasks::{Done, Node, StepResult, Task, Turn, Waiting, named};
 use crate::{ClaimResult, Claims, PageOutError, SlotResult};
 use pagable_codec::{Env, NodeSet};
@@ -38,10 +38,11 @@ pub fn claim<E: Env<Node: NodeSet<E>>, T: Claims<E>>(
     place: u64,
     checked: Result<(), Error>,
 ) -> Result<ClaimResult<E>, Error>
-    ensures step { Told (T.shelf table.old) (T.shelf table.new)
+    ensures step { IfBothKnown (T.shelf table.old) (T.shelf table.new)
         (λ s s'. (core : Core) (below : List Todo) → fault_in checked ≡ claim_fault core reference
-        → Claims worker.0 (site core s (to_start reference place ∷ below)) reference place below (found_as result)
-        (site core s' (claim_todo reference place below (found_as result)))) }
+        → ClaimStep worker.0 (worker_state core s (to_start reference place ∷ below)) reference place below
+        (claim_result result)
+        (worker_state core s' (claim_todo reference place below (claim_result result)))) }
     ensures fits { ClaimFits reference place result }
 {
     match checked {
@@ -58,8 +59,8 @@ pub fn claim<E: Env<Node: NodeSet<E>>, T: Claims<E>>(
 pub fn found<E: Env<Node: NodeSet<E>>>(
     claim: &Result<ClaimResult<E>, Error>,
 ) -> (Result<Claim, Error>, bool)
-    ensures found { result.0 ≡ found_as claim.now }
-    ensures counts { result.1 ≡ is_counted_claim (found_as claim.now) }
+    ensures found { result.0 ≡ claim_result claim.now }
+    ensures counts { result.1 ≡ is_counted_claim (claim_result claim.now) }
 {
     match claim {
         Ok(ClaimResult::Claimed) => (Ok(Claim::Claimed), true),
@@ -81,10 +82,10 @@ pub fn after_claim<E: Env<Node: NodeSet<E>>>(
     requires way { Awaits (todos path.old.items) reference place }
     requires fits { ClaimFits reference place claim }
     ensures todo { todo_of result ∷ todos path.new.items
-        ≡ claim_todo reference place (todos path.old.items) (found_as claim) }
-    ensures way { IsWay (todo_of result ∷ todos path.new.items) }
+        ≡ claim_todo reference place (todos path.old.items) (claim_result claim) }
+    ensures way { EachIsAwaited (todo_of result ∷ todos path.new.items) }
     ensures less { due (todo_of result ∷ todos path.new.items) ≤ most + 6 * length (todos path.old.items) }
-    ensures leaves { ClaimLeaves reference place claim result }
+    ensures leaves { IsTaskAfterClaim reference place claim result }
 {
     match claim {
         Ok(ClaimResult::Claimed) => Task::Pin(reference, place),
@@ -99,7 +100,7 @@ pub fn after_claim<E: Env<Node: NodeSet<E>>>(
             PageOutError::AlreadyFailed,
             Some(reference.handle),
         ),
-        Err(e) => refuse(path, &e, Some(reference.handle)),
+        Err(e) => fail_with(path, &e, Some(reference.handle)),
     }
 }
 
@@ -112,10 +113,10 @@ pub fn pin<E: Env<Node: NodeSet<E>>, A: WorkerAccess<E>>(
     reference: ArcRef,
     place: u64,
 ) -> StepResult<E>
-    requires { IsWay (to_pin reference place ∷ todos path.old.items) }
+    requires { EachIsAwaited (to_pin reference place ∷ todos path.old.items) }
     ensures ends { Ends (to_pin reference place ∷ todos path.old.items) result.turn (plan result.turn path.new.items) }
     ensures goes { GoesOn (to_pin reference place ∷ todos path.old.items) result.turn (plan result.turn path.new.items) }
-    ensures acts { (n : ℕ) (shelf : Shelf) → Acts A.told A.acting access.old access.new
+    ensures acts { (n : ℕ) (shelf : Shelf) → Acts A.known_state A.acting access.old access.new
         (λ a. TurnsTo (values_at E.Node.NodeSet E.Env E.Hash.KeyHash a.environment) a.me n shelf
         (Task.Pin reference place) (todos path.old.items) shelf result (plan result.turn path.new.items)) }
 {
@@ -128,7 +129,7 @@ pub fn pin<E: Env<Node: NodeSet<E>>, A: WorkerAccess<E>>(
                 counted: true,
             },
             PinnedOrLoading::Begun(through, load, key) => {
-                let reading = Reading::new(alloc, load, key, reference.kind.0 / 3, true);
+                let reading = Reading::new(alloc, load, key, reference.kind.node_type(), true);
                 StepResult {
                     action: Action::Pin(identity, Ok(PinStep::LoadBegun(load))),
                     turn: Turn::Goes(Task::Load(reference, place, through, reading)),
@@ -137,7 +138,7 @@ pub fn pin<E: Env<Node: NodeSet<E>>, A: WorkerAccess<E>>(
             }
         },
         Err(e) => StepResult {
-            turn: Turn::Goes(refuse(path, &e, Some(reference.handle))),
+            turn: Turn::Goes(fail_with(path, &e, Some(reference.handle))),
             action: Action::Pin(identity, Err(e)),
             counted: true,
         },
@@ -155,12 +156,12 @@ pub fn load<E: Env<Node: NodeSet<E>>, A: WorkerAccess<E>>(
     through: HandleNumber,
     mut reading: Reading,
 ) -> StepResult<E>
-    requires { IsWay (to_load reference place through (reading_of reading) ∷ todos path.old.items) }
+    requires { EachIsAwaited (to_load reference place through (reading_of reading) ∷ todos path.old.items) }
     ensures ends { Ends (to_load reference place through (reading_of reading) ∷ todos path.old.items) result.turn
         (plan result.turn path.new.items) }
     ensures goes { GoesOn (to_load reference place through (reading_of reading) ∷ todos path.old.items) result.turn
         (plan result.turn path.new.items) }
-    ensures acts { (n : ℕ) (shelf : Shelf) → Acts A.told A.acting access.old access.new
+    ensures acts { (n : ℕ) (shelf : Shelf) → Acts A.known_state A.acting access.old access.new
         (λ a. TurnsTo (values_at E.Node.NodeSet E.Env E.Hash.KeyHash a.environment) a.me n shelf
         (Task.Load reference place through reading) (todos path.old.items) shelf result
         (plan result.turn path.new.items)) }
@@ -178,13 +179,13 @@ pub fn load<E: Env<Node: NodeSet<E>>, A: WorkerAccess<E>>(
             counted: false,
         },
         Some(LoadAnswer::Refused(e)) => StepResult {
-            turn: Turn::Goes(refuse(path, &e, Some(reference.handle))),
+            turn: Turn::Goes(fail_with(path, &e, Some(reference.handle))),
             action: Action::Pin(identity, Err(e)),
             counted: false,
         },
         Some(LoadAnswer::Read(_value)) => StepResult {
             action: Action::Pin(identity, Err(Error::WrongMode)),
-            turn: Turn::Goes(refuse(path, &Error::WrongMode, Some(reference.handle))),
+            turn: Turn::Goes(fail_with(path, &Error::WrongMode, Some(reference.handle))),
             counted: false,
         },
     }
@@ -220,11 +221,11 @@ fn form<E: Env<Node: NodeSet<E>>>(
     ensures form { IfOk result (λ d. ∥ HasFormOf (values_at E.Node.NodeSet E.Env E.Hash.KeyHash) (identity_of reference)
         (written_of d) ∥₁) }
     ensures forms { (s : PagerState E.Node E) (pin : HandleNumber) → Shares arc_value s pin shared
-        → Forms (values_at E.Node.NodeSet E.Env E.Hash.KeyHash env.now) s reference pin (seen_as written_of result) }
+        → Forms (values_at E.Node.NodeSet E.Env E.Hash.KeyHash env.now) s reference pin (result_map written_of result) }
 {
     match shared {
         Ok(Some(node)) => {
-            if node.node_type() != reference.kind.0 / 3 {
+            if node.node_type() != reference.kind.node_type() {
                 return Err(Error::WrongKind);
             }
             written(env, session, alloc, node.as_ref())
@@ -255,7 +256,7 @@ pub(crate) fn prepare<E: Env<Node: NodeSet<E>>, A: WorkerAccess<E>>(
     ensures listed { IfOk result (λ p. p.1.items ≡ (written_of (arc_value p.2)).references) }
     ensures forms { (s : PagerState E.Node E) (pin : HandleNumber) → Shares arc_value s pin shared
         → Forms (values_at E.Node.NodeSet E.Env E.Hash.KeyHash (A.acting access.now).environment) s reference pin
-        (seen_as (λ p. written_of (arc_value p.2)) result) }
+        (result_map (λ p. written_of (arc_value p.2)) result) }
 {
     path.reserve(1)?;
     let once = form(
@@ -295,12 +296,12 @@ pub fn write<E: Env<Node: NodeSet<E>>, A: WorkerAccess<E>, T: Claims<E>>(
     through: HandleNumber,
     pin: HandleNumber,
 ) -> StepResult<E>
-    requires { IsWay (to_write reference place through ∷ todos path.old.items) }
+    requires { EachIsAwaited (to_write reference place through ∷ todos path.old.items) }
     ensures ends { Ends (to_write reference place through ∷ todos path.old.items) result.turn
         (plan result.turn path.new.items) }
     ensures goes { GoesOn (to_write reference place through ∷ todos path.old.items) result.turn
         (plan result.turn path.new.items) }
-    ensures step { (n : ℕ) → ActsBoth A.told A.acting T.shelf access.now table.old access.now table.new (λ a. a)
+    ensures step { (n : ℕ) → ActsBoth A.known_state A.acting T.shelf access.now table.old access.now table.new (λ a. a)
         (λ a s q s' q'. TurnsTo (values_at E.Node.NodeSet E.Env E.Hash.KeyHash a.environment) a.me n q
         (Task.Write reference place through pin) (todos path.old.items) q' result (plan result.turn path.new.items) s
         s') }
@@ -312,12 +313,12 @@ pub fn write<E: Env<Node: NodeSet<E>>, A: WorkerAccess<E>, T: Claims<E>>(
             table.note_written(identity, references);
             StepResult {
                 action: Action::Write(identity, Ok(told)),
-                turn: Turn::Goes(settle(path, waiting)),
+                turn: Turn::Goes(advance(path, waiting)),
                 counted: true,
             }
         }
         Err(e) => StepResult {
-            turn: Turn::Goes(refuse(path, &e, None)),
+            turn: Turn::Goes(fail_with(path, &e, None)),
             action: Action::Write(identity, Err(e)),
             counted: true,
         },
@@ -348,7 +349,7 @@ pub(crate) fn store<E: Env<Node: NodeSet<E>>, A: WorkerAccess<E>>(
 ) -> Result<DataKey, Error>
     ensures key { IfOk result (λ key. key ≡ key_of E.Hash.digest
         (blob_over (written_of (arc_value waiting.now.written)).bytes (keys_of waiting.now.children.items))) }
-    ensures acts { Acts A.told A.acting access.old access.new
+    ensures acts { Acts A.known_state A.acting access.old access.new
         (λ a s t. Stores (values_at E.Node.NodeSet E.Env E.Hash.KeyHash a.environment) s
         (blob_over (written_of (arc_value waiting.now.written)).bytes (keys_of waiting.now.children.items)) result t) }
 {
@@ -369,7 +370,7 @@ fn named_by(node: &Option<Node>) -> Option<Identity>
 fn loose_of(node: Node) -> Option<HandleNumber>
     ensures { result ≡ loose_of node }
 {
-    if node.reference.kind.0 % 3 == 1 {
+    if node.reference.kind.is_loose() {
         return Some(node.through);
     }
     None
@@ -386,7 +387,7 @@ pub(crate) fn store_node<E: Env<Node: NodeSet<E>>, A: WorkerAccess<E>>(
 ) -> Result<DataKey, Error>
     ensures key { IfOk result (λ key. key ≡ key_of E.Hash.digest
         (blob_over (written_of (arc_value waiting.now.written)).bytes (keys_of waiting.now.children.items))) }
-    ensures acts { Acts A.told A.acting access.old access.new
+    ensures acts { Acts A.known_state A.acting access.old access.new
         (λ a s t. LeavesNode (values_at E.Node.NodeSet E.Env E.Hash.KeyHash a.environment) a.me worker.0 node s
         (blob_over (written_of (arc_value waiting.now.written)).bytes (keys_of waiting.now.children.items)) result t) }
 {
@@ -448,10 +449,10 @@ pub fn finish<E: Env<Node: NodeSet<E>>, A: WorkerAccess<E>>(
     path: &mut Vec<Waiting<E>>,
     waiting: Waiting<E>,
 ) -> StepResult<E>
-    requires { IsWay (waiting_todo waiting ∷ todos path.old.items) }
+    requires { EachIsAwaited (waiting_todo waiting ∷ todos path.old.items) }
     ensures ends { Ends (waiting_todo waiting ∷ todos path.old.items) result.turn (plan result.turn path.new.items) }
     ensures goes { GoesOn (waiting_todo waiting ∷ todos path.old.items) result.turn (plan result.turn path.new.items) }
-    ensures acts { (n : ℕ) (shelf : Shelf) → Acts A.told A.acting access.old access.new
+    ensures acts { (n : ℕ) (shelf : Shelf) → Acts A.known_state A.acting access.old access.new
         (λ a. TurnsTo (values_at E.Node.NodeSet E.Env E.Hash.KeyHash a.environment) a.me n shelf (Task.Finish waiting)
         (todos path.old.items) shelf result (plan result.turn path.new.items)) }
 {
@@ -463,7 +464,7 @@ pub fn finish<E: Env<Node: NodeSet<E>>, A: WorkerAccess<E>>(
             counted: true,
         },
         Err(e) => StepResult {
-            turn: Turn::Goes(refuse(path, &e, None)),
+            turn: Turn::Goes(fail_with(path, &e, None)),
             action: Action::Store(identity, Err(e)),
             counted: true,
         },
@@ -479,10 +480,10 @@ pub(crate) fn set_key_of<E: Env<Node: NodeSet<E>>, A: WorkerAccess<E>>(
     through: HandleNumber,
     key: DataKey,
 ) -> Result<(), Error>
-    ensures { Acts A.told A.acting access.old access.new
+    ensures { Acts A.known_state A.acting access.old access.new
         (λ a. SetsFor (values_at E.Node.NodeSet E.Env E.Hash.KeyHash a.environment) a.me reference through key result) }
 {
-    if reference.kind.0 % 3 != 1 {
+    if !reference.kind.is_loose() {
         return Ok(());
     }
     access.set_data_key(through, key)
@@ -501,7 +502,7 @@ pub fn set_key<E: Env<Node: NodeSet<E>>, A: WorkerAccess<E>>(
         result.turn (plan result.turn path.new.items) }
     ensures goes { GoesOn (to_set done.reference through done.found.key done.found.height ∷ todos path.old.items)
         result.turn (plan result.turn path.new.items) }
-    ensures acts { (n : ℕ) (shelf : Shelf) → Acts A.told A.acting access.old access.new
+    ensures acts { (n : ℕ) (shelf : Shelf) → Acts A.known_state A.acting access.old access.new
         (λ a. TurnsTo (values_at E.Node.NodeSet E.Env E.Hash.KeyHash a.environment) a.me n shelf
         (Task.SetKey done through) (todos path.old.items) shelf result (plan result.turn path.new.items)) }
 {
@@ -513,7 +514,7 @@ pub fn set_key<E: Env<Node: NodeSet<E>>, A: WorkerAccess<E>>(
             counted: true,
         },
         Err(e) => StepResult {
-            turn: Turn::Goes(refuse(path, &e, None)),
+            turn: Turn::Goes(fail_with(path, &e, None)),
             action: Action::SetKey(identity, Err(e)),
             counted: true,
         },
@@ -534,12 +535,12 @@ pub fn release<E: Env<Node: NodeSet<E>>, A: WorkerAccess<E>>(
         (plan result.turn path.new.items) }
     ensures goes { GoesOn (to_release done.reference done.found.key done.found.height ∷ todos path.old.items)
         result.turn (plan result.turn path.new.items) }
-    ensures acts { (shelf : Shelf) → Acts A.told A.acting access.old access.new
+    ensures acts { (shelf : Shelf) → Acts A.known_state A.acting access.old access.new
         (λ a. TurnsTo (values_at E.Node.NodeSet E.Env E.Hash.KeyHash a.environment) a.me worker.0 shelf
         (Task.Release done) (todos path.old.items) shelf result (plan result.turn path.new.items)) }
 {
     let identity = named(done.reference);
-    access.give_up(worker, identity.node);
+    access.release_worker_node(worker, identity.node);
     match give(path, done) {
         Ok(task) => StepResult {
             action: Action::Release(identity),
@@ -560,7 +561,7 @@ pub fn give_back<E: Env<Node: NodeSet<E>>, A: WorkerAccess<E>>(
     access: &mut A,
     back: Option<HandleNumber>,
 )
-    ensures { Acts A.told A.acting access.old access.new
+    ensures { Acts A.known_state A.acting access.old access.new
         (λ a s t. GoesBack (values_at E.Node.NodeSet E.Env E.Hash.KeyHash a.environment) a.me back s t) }
 {
     let Some(entry) = back else {

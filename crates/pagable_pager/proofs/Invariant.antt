@@ -1,10 +1,13 @@
 -- What keeps the pager's invariant: dropping values with their nodes, calls that neither bring nor drop a value, calls of the storage, and bringing a value.
+use Rattle.pagable_tables.specs.Core.{shut_view}
+use Rattle.pagable_tables.specs.Core.{no_blobs}
+use Rattle.pagable_tables.specs.Core.{StorageView}
 use Rattle.pagable_theorems.proofs.{HandlesKept.{NotValues, among-found, find-both, found-number, good, low-whole, new-handle, stands-fell}, ReadingSteps.cached-rows, StepBounds.{entered-of, named-among}}
 use Rattle.{pagable_theorems.proofs.LoadProgress.{row-held, row-pins}, pagable_load.{proofs.LoadSteps.begun_is, specs.declared.access.PinStart.PinStart}, std.specs.Option.option_map}
-use Rattle.{either.specs.declared.Either.Either, pagable_load.specs.AccessView.{AsksFor, Brings, IsMade}, pagable_value_spec.specs.{Stored.{Adds, RefusesFetch, RefusesStore}, declared.{data_key.OptionalDataKey.OptionalDataKey, numbers.WorkerNumber.WorkerNumber}}}
-use Rattle.pagable_pager_spec.specs.LoadCalls.{AdoptCall, Adopts, AskCall, BeginCall, DropCall, EndCall, EndRefused, GetsKnown, Installs, LazyCall, MayEnd, adopt_fault, adopted, end_fault, first_key, from_cache}
+use Rattle.{either.specs.declared.Either.Either, pagable_load.specs.AccessView.{AsksFor, Brings, IfKnown, IsMade}, pagable_value_spec.specs.{Stored.{Adds, RefusesFetch, RefusesStore}, declared.{data_key.OptionalDataKey.OptionalDataKey, numbers.WorkerNumber.WorkerNumber}}}
+use Rattle.pagable_pager_spec.specs.LoadCalls.{AdoptCall, Adopts, LoadFetchCall, BeginCall, DropCall, EndCall, EndRefused, GetsKnown, Installs, LazyCall, MayEnd, adopt_fault, adopted, end_fault, first_key, from_cache}
 use Rattle.{pagable_load.specs.PinStart.StartsPin, pagable_value_spec.specs.declared.numbers.{ArcRef.ArcRef, HandleNumber.HandleNumber, Kind.Kind, LoadNumber.LoadNumber, NodeNumber.NodeNumber}}
-use Rattle.pagable_theorems.proofs.ValuesOwned.{IsRight, IsShut, Leaves, Rests, Spares, adopts-new, born, closed, installed_away, installed_there, known-here}
+use Rattle.pagable_theorems.proofs.ValuesOwned.{IsRight, IsShut, Leaves, Rests, adopts-new, born, closed, installed_away, installed_there, known-here}
 use Rattle.pagable_theorems.proofs.ValuesOwned.{not-load, pinned-here, recalls, rests-then, spared, spares-same, starts-listed, stayed, unmoved}
 use Rattle.pagable_tables.proofs.SameViews.{adopted-past}
 use Rattle.pagable_tables.proofs.SameViews.{adopts-new as made-new, born-past, early-past, fault-by, next-past, no-load-fault, refused-memory, refused-new}
@@ -12,14 +15,14 @@ use Rattle.pagable_tables.proofs.SameViews.{room-alike, room-fault, still, told-
 use Rattle.pagable_tables.specs.Core.{AreLater, Bears, BeginsWorker, Does, DoesShed, IsWhole}
 use Rattle.pagable_tables.specs.{EndingLoads.{AsksKnown, IsReady, IsVain, ShedsBeside, early_fault, has_come}, declared.nodes.Counts.Counts}
 use Rattle.pagable_tables.proofs.LoadEnd.{installs-wider, may-wider}
-use Rattle.pagable_tables.specs.{Core.{OnlyRoom, TakesWorker, core_of, plain_of}, declared.{load_end.Ending.Ending, tables.Tables.Tables}}
+use Rattle.pagable_tables.specs.{Core.{OnlyRoom, TakesWorker, core_of, core_alone}, declared.{load_end.Ending.Ending, tables.Tables.Tables}}
 use Rattle.pagable_theorems.proofs.{FormsOfTrees.cell-of, Trees.same_some}
 use Rattle.pagable_tables.specs.{Indexes.{known_at, load_at, worker_at}, Nodes.{cell_in, counts_at, has_value, key_in, pins_in}, ValuesKept.{AreKept, Sheds}}
-use Rattle.pagable_pager_spec.specs.{Access.{Called, Told}, Kinds.{HasKinds, find_row, has_key, is_handle, is_loose, is_owner, is_pinning, loose_kind, mode_of, pins}, declared.pinning.Beginning.Beginning}
-use Rattle.pagable_pager.specs.View.{AsksStorage, Calls, FewerValues, IsPager, KeepsWorkers, OnlyLess, PagerView, SameValues, Settles, TakesEntry, Telling, ValuesByNode, core_in, given_as, is_at_work, state_in, value_in, with_value}
-use Rattle.pagable_pager_spec.specs.{Pager.{HandlesAreWhole, IsCellOf, IsNew, IsNewNode, MayOwnLoad, Moves, PagerState, ValueCall, WellFormed}, Basics.{Blob, Error, if_there, or_else, type_of, updated}}
-use Rattle.pagable_pager_spec.specs.{Refusals.{Refused, load_fault, references_fault}, World.{Alike, Core, OpenLoad, Reading, Values, greatest, is_here, row_at, seen_as, usable}}
-use Rattle.pagable_pager_spec.specs.{Calls.{Asked, BirthCall, CloseCall, FetchCall, IsNext, Looks, StoreCall, birth_fault, is_named_by, next_node, row_of, with_handle, with_node}, declared.calls.Want.Want}
+use Rattle.pagable_pager_spec.specs.{Access.{MakesCall, IfBothKnown}, Kinds.{HasKinds, find_row, has_key, is_handle, is_loose, is_owner, is_pinning, loose_kind, mode_of, pins}, declared.pinning.Beginning.Beginning}
+use Rattle.pagable_pager.specs.View.{AsksStorage, Calls, FewerValues, IsPager, KeepsWorkers, OnlyLess, OnlyTables, PagerView, SameValues, Settles, TakesEntry, Telling, ValuesByNode, pager_core, from_cache_or_store, may_call, pager_state, value_in, with_value}
+use Rattle.pagable_pager_spec.specs.{Pager.{HandlesAreWhole, IsCellOf, IsNew, IsNewNode, MayOwnLoad, Moves, PagerState, ValueCall, IsPagerWhole}, Basics.{Blob, Error, if_there, or_else, type_of, updated}}
+use Rattle.pagable_pager_spec.specs.{Refusals.{Refused, load_fault, references_fault}, World.{Alike, Core, OpenLoad, Reading, Values, greatest, is_here, row_at, result_map, usable}}
+use Rattle.pagable_pager_spec.specs.{Calls.{Asked, InsertCall, CloseCall, FetchCall, IsNext, Looks, StoreCall, insert_fault, is_named_by, next_node, row_of, with_handle, with_node}, declared.calls.Want.Want}
 use Rattle.{pagable_pager_spec.specs.{Events.{IsEntry, reading_of_load}, Workers.RowIs, declared.{handle_row.{HandleRow.HandleRow, Owner.Owner}, mode.Mode.Mode}}, std.proofs.Common.{Bool, Err, List, None}}
 use Rattle.std.proofs.Common.{Ok, Option, Result, Some, [], ap, arith, false, if◌then◌else◌, inl, inr, nat_eq, not, refl, rules, subst, sym, true, ℕ, ◌&&◌, ◌++◌, ◌+◌, ◌<◌, ◌==◌, ◌∙◌, ◌∷◌, ◌≡◌, ◌≤◌}
 use Rattle.std.{proofs.lemmas.{Bool.{Decides.nat_tests, cases_Bool, cases_eq, false_from_ne_true}, Option.slice_get_within}, specs.{Arc.arc_value, Prelude.{IfErr, IfOk}}}
@@ -28,10 +31,9 @@ use Rattle.std.specs.Prelude.{IsSome, IsTrue, OnErr, OnOk, is_some, nat_lt, ◌�
 use Rattle.{futures.specs.{Poll.IfReady, declared.task.Poll.Poll}, pagable_pager.specs.Polling.PollCall}
 use Rattle.pagable_pager_spec.specs.Pager as pager
 
--- the plain world is whole, whatever is stored, if nothing is listed or known once the storage is closed
-pub whole-over : (t : Tables) (stored : ℕ → Option Blob) (closed : Bool) (failures : ℕ) → IsWhole t → IsShut (core_of t stored closed failures)
-    → pager.IsWhole (core_of t stored closed failures)
-whole-over t stored closed failures whole shut =
+-- the core is whole, whatever is stored, if nothing is listed or known once the storage is closed
+pub whole-over : (t : Tables) (storage : StorageView) → IsWhole t → IsShut (core_of t storage) → pager.IsWhole (core_of t storage)
+whole-over t storage whole shut =
     let is = whole.core in
     let h = is.handles in
     let o = is.owners_there in
@@ -50,9 +52,9 @@ whole-over t stored closed failures whole shut =
       shut = shut;
     }
 
--- tables that are whole leave the pager in step, where the plain state stays well-formed
+-- tables that are whole leave the pager in step, where the core stays well-formed
 pub in-step : {N S E : Type 0} {tells : Telling S} {says : E → Values N} (q : PagerView N S E) → IsWhole q.tables → AreLater q.tables
-    → (IsRight (state_in tells q) → WellFormed (says q.environment) (state_in tells q)) → IsPager tells says q
+    → (IsRight (pager_state tells q) → IsPagerWhole (says q.environment) (pager_state tells q)) → IsPager tells says q
 in-step {tells = tells} q whole later state = search (whole-over)
 
 has-key : (k : ℕ) → has_key (key_in k) ≡ nat_lt 0 k
@@ -69,31 +71,37 @@ pub left-map : {X Y : Type 0} (f : X → Y) (b : Bool) (old new : Option X) → 
 left-map f b old new which some = grind (arith, nat_tests)
 
 pub less-moves : {N S E : Type 0} (tells : Telling S) {comes : ℕ → N → Type 0} (p q : PagerView N S E) → OnlyLess p q
-    → Moves comes (state_in tells p) (state_in tells q)
+    → Moves comes (pager_state tells p) (pager_state tells q)
 less-moves tells p q less = record { each = λ n x has. inl (less.values n x has); environment = less.environment }
 
 module _ {N S E : Type 0} {tells : Telling S} {says : E → Values N} {p : PagerView N S E} (is : IsPager tells says p) where
-  pub here-in : (n : ℕ) → (is_some ((core_in tells p).cells n) && is_here (core_in tells p) n) ≡ has_value (counts_at p.tables.ref_counts.nodes n)
-  here-in n = here-told (counts_at p.tables.ref_counts.nodes n) (core_in tells p) n refl (sym (is.tables.steady.fits.pinned n))
+  pub here-in : (n : ℕ) → (is_some ((pager_core tells p).cells n) && is_here (pager_core tells p) n) ≡ has_value (counts_at p.tables.ref_counts.nodes n)
+  here-in n = here-told (counts_at p.tables.ref_counts.nodes n) (pager_core tells p) n refl (sym (is.tables.steady.fits.pinned n))
 
   -- the value is in memory of a node that the cache gives for handles that pin
-  pub known-valued : (kind key n : ℕ) → usable (core_in tells p) kind key ≡ Some n → is_pinning (mode_of kind) ≡ true
+  pub known-valued : (kind key n : ℕ) → usable (pager_core tells p) kind key ≡ Some n → is_pinning (mode_of kind) ≡ true
       → has_value (counts_at p.tables.ref_counts.nodes n) ≡ true
   known-valued kind key n known pinning =
-      grind (arith, nat_tests, entered-of kind key n (core_in tells p) known, known-here is.state.whole kind key n known pinning, here-in n)
+      grind (arith, nat_tests, entered-of kind key n (pager_core tells p) known, known-here is.state.whole kind key n known pinning, here-in n)
 
   pub kept-in : AreKept (counts_at p.tables.ref_counts.nodes) (row_by p.values)
   kept-in n falls = sym (some-map arc_value (row_by p.values n)) ∙ is.state.valued n ∙ here-in n
 
   module _ {step : Core → Core → Type 0} (t : Tables) (call : Does p.tables step t) where
-    pub made-by : (step (core_in tells p) (core_in tells (record p { tables = t })) → IsRight (state_in tells (record p { tables = t }))
-        → WellFormed (says p.environment) (state_in tells (record p { tables = t }))) → IsPager tells says (record p { tables = t })
-    made-by state = in-step (record p { tables = t }) call.whole (call.later is.later)
-        (state (call.does (tells.stored p.storage) (tells.closed p.storage) (tells.failed p.storage)))
+    pub made-by : (step (pager_core tells p) (pager_core tells (record p { tables = t })) → IsRight (pager_state tells (record p { tables = t }))
+        → IsPagerWhole (says p.environment) (pager_state tells (record p { tables = t }))) → IsPager tells says (record p { tables = t })
+    made-by state = in-step (record p { tables = t }) call.whole (call.later is.later) (state (call.does (tells p.storage)))
 
-    pub called : (step (core_in tells p) (core_in tells (record p { tables = t })) → Rests (core_in tells p) (core_in tells (record p { tables = t })))
+    pub called : (step (pager_core tells p) (pager_core tells (record p { tables = t }))
+        → Rests (pager_core tells p) (pager_core tells (record p { tables = t })))
         → IsPager tells says (record p { tables = t })
     called rests = made-by (λ made. spared is.state (rests made) (λ n. refl))
+
+    pub calls-tables : Calls OnlyTables tells p step (record p { tables = t })
+    calls-tables = record {
+      step = call.does (tells p.storage);
+      only = record { values = refl; storage = refl; environment = refl };
+    }
 
   -- values went with their nodes
   module _ (t : Tables) (values : ValuesByNode N) where
@@ -103,11 +111,12 @@ module _ {N S E : Type 0} {tells : Telling S} {says : E → Values N} {p : Pager
     abbrev Goes : Type 0
     Goes = Sheds (counts_at p.tables.ref_counts.nodes) (row_by p.values) (counts_at t.ref_counts.nodes) (row_by values)
 
-    pub swept : IsWhole t → Goes → (n : ℕ) → value_in values n ≡ (if is_some ((plain_of t).cells n)
-        && is_here (plain_of t) n then value_in p.values n else None)
+    pub swept : IsWhole t → Goes → (n : ℕ) → value_in values n ≡ (if is_some ((core_alone t).cells n)
+        && is_here (core_alone t) n then value_in p.values n else None)
     swept whole sheds n = grind (arith, nat_tests, here-told, kept-in, left-map, nat_eq)
 
-    pub release_at : IsWhole t → AreLater t → Goes → (Leaves (value_in p.values) (state_in tells gone) → WellFormed (says p.environment) (state_in tells gone))
+    pub release_at : IsWhole t → AreLater t → Goes → (Leaves (value_in p.values) (pager_state tells gone)
+        → IsPagerWhole (says p.environment) (pager_state tells gone))
         → IsPager tells says gone
     release_at whole later sheds state = in-step gone whole later (λ right. state (record { swept = swept whole sheds; right = right }))
 
@@ -118,38 +127,43 @@ module _ {N S E : Type 0} {tells : Telling S} {says : E → Values N} {p : Pager
     only-less sheds = record { values = less sheds; storage = refl; environment = refl }
 
     -- by a call of the tables
-    module _ {b : Bool} {step : Core → Core → Type 0} (call : DoesShed (not b) p.tables p.values step t values) (opens : b ≡ tells.closed p.storage) where
-      pub release_at-by : (Leaves (value_in p.values) (state_in tells gone) → step (core_in tells p) (core_in tells gone)
-          → WellFormed (says p.environment) (state_in tells gone))
+    module _ {b : Bool} {step : Core → Core → Type 0} (call : DoesShed (not b) p.tables p.values step t values) (opens : b ≡ (tells p.storage).closed) where
+      pub release_at-by : (Leaves (value_in p.values) (pager_state tells gone) → step (pager_core tells p) (pager_core tells gone)
+          → IsPagerWhole (says p.environment) (pager_state tells gone))
           → IsPager tells says gone × Settles OnlyLess tells says p step gone
       release_at-by state =
-          let after : IsPager tells says gone = release_at call.whole (call.later is.later) call.sheds (λ left. state left (call.does _ _ _ (ap not opens))) in (
+          let after : IsPager tells says gone = release_at call.whole (call.later is.later) call.sheds
+          (λ left. state left (call.does (tells p.storage) (ap not opens))) in (
             after,
             record {
-              called = record { step = call.does _ _ _ (ap not opens); moves = less-moves tells p gone (only-less call.sheds); whole = after.state };
+              called = record {
+                step = call.does (tells p.storage) (ap not opens);
+                moves = less-moves tells p gone (only-less call.sheds);
+                whole = after.state;
+              };
               only = only-less call.sheds;
             },
           )
 
     module _ (whole : IsWhole t) (later : AreLater t) (sheds : Goes) where
-      pub same-so : Alike (core_in tells p) (core_in tells gone) → IsPager tells says gone
+      pub same-so : Alike (pager_core tells p) (pager_core tells gone) → IsPager tells says gone
       same-so a = release_at whole later sheds (stayed is.state (unmoved a is.state.whole.shut))
 
       pub none-so : t ≡ p.tables → IsPager tells says gone
-      none-so same = same-so (subst (λ (x : Tables). Alike (core_in tells p) (core_in tells (record p { tables = x; values = values }))) (sym same)
-          (still (core_in tells p)))
+      none-so same = same-so (subst (λ (x : Tables). Alike (pager_core tells p) (pager_core tells (record p { tables = x; values = values }))) (sym same)
+          (still (pager_core tells p)))
 
 pub caller-free : NotValues Owner.Caller
 caller-free n is = absurd (cc)
 
 -- nor is who is at work, and it may hold handles and begin loads
 module _ {N S E : Type 0} {tells : Telling S} {says : E → Values N} {p q : PagerView N S E} (_ : IsPager tells says p) (me : Owner) (same : p ≡ q)
-    (works : is_at_work (core_in tells q) me ≡ true) where
-  pub owner-may : MayOwnLoad (core_in tells p) me
+    (works : may_call (pager_core tells q) me ≡ true) where
+  pub owner-may : MayOwnLoad (pager_core tells p) me
   owner-may = grind (arith, nat_tests)
 
   pub owner-free : NotValues me
-  owner-free n is = subst (MayOwnLoad (core_in tells p)) is owner-may
+  owner-free n is = subst (MayOwnLoad (pager_core tells p)) is owner-may
 
   pub owner-loads : (m : LoadNumber) → is_owner (Owner.Load m) me ≡ false
   owner-loads m = grind (arith, nat_tests, owner-may)
@@ -157,7 +171,7 @@ module _ {N S E : Type 0} {tells : Telling S} {says : E → Values N} {p q : Pag
 -- what a load asks for
 pub known_found : {w w' : Core} {me : Owner} {l : LoadNumber} {kind : Kind} {key : ℕ} {k : HandleNumber} (found : Option HandleNumber) → found ≡ Some k
     → AsksKnown w me l kind key (Ok found) w'
-    → AskCall w me l (Want.Nested kind key) (Ok (from_cache k)) w'
+    → LoadFetchCall w me l (Want.Nested kind key) (Ok (from_cache k)) w'
 known_found found some known = grind (arith, nat_tests)
 
 pub asks-kept : {w w' : Core} {me : Owner} {l : LoadNumber} {kind : Kind} {key : ℕ} (r : Result (Option HandleNumber) Error) → AsksKnown w me l kind key r w'
@@ -171,8 +185,8 @@ asks {l = l} whole (Ok found) c = recalls whole (not-load l) (Ok found) (record 
 asks whole (Err e) c = unmoved c.refused.stays whole.shut
 
 module _ {N S E : Type 0} {tells : Telling S} {says : E → Values N} {p : PagerView N S E} (is : IsPager tells says p) (s : S)
-    (stays : tells.closed s ≡ tells.closed p.storage)
-    (more : tells.failed p.storage ≤ tells.failed s) where
+    (stays : (tells s).closed ≡ (tells p.storage).closed)
+    (more : (tells p.storage).failures ≤ (tells s).failures) where
   abbrev stored-in : PagerView N S E
   stored-in = record p { storage = s }
 
@@ -183,23 +197,23 @@ module _ {N S E : Type 0} {tells : Telling S} {says : E → Values N} {p : Pager
     shut = λ shut. is.state.whole.shut (sym stays ∙ shut);
   }) (λ n. refl))
 
-  pub asked : tells.stored s ≡ tells.stored p.storage → Asked (core_in tells p) (core_in tells stored-in)
+  pub asked : (tells s).stored ≡ (tells p.storage).stored → Asked (pager_core tells p) (pager_core tells stored-in)
   asked same = grind (arith, nat_tests, still)
 
   pub store-call : (digest : Blob → ℕ) (blob : Blob) (r : Result ℕ Error) → IfOk r (λ key. key ≡ digest blob)
-      → OnOk r (Adds (digest blob) blob (tells.stored p.storage) (tells.stored s))
-      → OnOk r (tells.closed p.storage ≡ false) → IfErr r (RefusesStore blob (tells.stored p.storage (digest blob)) (tells.closed p.storage)
-      (tells.failed p.storage) (tells.failed s))
-      → OnErr r (tells.stored s ≡ tells.stored p.storage) → StoreCall digest (core_in tells p) blob r (core_in tells stored-in)
+      → OnOk r (Adds (digest blob) blob ((tells p.storage).stored) ((tells s).stored))
+      → OnOk r ((tells p.storage).closed ≡ false) → IfErr r (RefusesStore blob ((tells p.storage).stored (digest blob)) ((tells p.storage).closed)
+      ((tells p.storage).failures) ((tells s).failures))
+      → OnErr r ((tells s).stored ≡ (tells p.storage).stored) → StoreCall digest (pager_core tells p) blob r (pager_core tells stored-in)
   store-call digest blob r keyed adds was only same = grind (arith, nat_tests, asked, still)
 
-  pub asks-it : {honest : S → Bool} {makes : Core → Core → Type 0} → (IsTrue (honest s) → makes (core_in tells p) (core_in tells stored-in))
+  pub asks-it : {honest : S → Bool} {makes : Core → Core → Type 0} → (IsTrue (honest s) → makes (pager_core tells p) (pager_core tells stored-in))
       → (IsTrue (honest s) → IsTrue (honest p.storage))
       → AsksStorage honest tells p makes stored-in
   asks-it step faithful = record { step = step; honest = faithful; closed = stays; only = record { tables = refl; values = refl; environment = refl } }
 
 pub fetch-call : {X : Type 0} (see : X → Blob) (w w' : Core) (key : ℕ) (r : Result X Error) → Asked w w' → IfOk r (λ x. w.stored key ≡ Some (see x))
-    → IfErr r (RefusesFetch key (w.stored key) w.failures w'.failures) → FetchCall w key (seen_as see r) w'
+    → IfErr r (RefusesFetch key (w.stored key) w.failures w'.failures) → FetchCall w key (result_map see r) w'
 fetch-call see w w' key r asks found only = grind (arith, nat_tests)
 
 pub poll-call : {X : Type 0} (see : X → Blob) (w w' : Core) (key : ℕ) (p : Poll (Result X Error)) → Asked w w'
@@ -213,7 +227,7 @@ poll-call see w w' key Poll.Pending asks found only = record { asked = asks; fet
 -- a birth in a world where room was made before
 birth-past : {N : Type 0} {w w1 w' : Core} {x : N} (me : Owner) (t t' : ℕ) (rs rs' : List ArcRef) (mode : Mode) (k : HandleNumber) → OnlyRoom w w1
     → references_fault w me [] rs ≡ None
-    → w1.last.node < greatest → t ≡ t' → rs ≡ rs' → Bears w1 me t 0 rs mode k w' → BirthCall w me x t' rs' mode (Ok k) w'
+    → w1.last.node < greatest → t ≡ t' → rs ≡ rs' → Bears w1 me t 0 rs mode k w' → InsertCall w me x t' rs' mode (Ok k) w'
 birth-past {N} {w} {w1} {w'} {x} me t t' rs rs' mode k room fit left typed named b = grind (arith, nat_tests, born-past, next-past)
 
 module _ {N S E : Type 0} {tells : Telling S} {says : E → Values N} {p : PagerView N S E} (is : IsPager tells says p) {t1 : Tables} (values : ValuesByNode N)
@@ -221,8 +235,8 @@ module _ {N S E : Type 0} {tells : Telling S} {says : E → Values N} {p : Pager
   abbrev roomy : PagerView N S E
   roomy = record p { tables = t1; values = values }
 
-  pub only-room : OnlyRoom (core_in tells p) (core_in tells roomy)
-  only-room = room.does (tells.stored p.storage) (tells.closed p.storage) (tells.failed p.storage)
+  pub only-room : OnlyRoom (pager_core tells p) (pager_core tells roomy)
+  only-room = room.does (tells p.storage)
 
   pub roomier : ((n : ℕ) → value_in values n ≡ value_in p.values n) → IsPager tells says roomy
   roomier same = in-step roomy room.whole (room.later is.later) (spared is.state (unmoved (room-alike only-room) is.state.whole.shut) same)
@@ -238,31 +252,31 @@ module _ {N S E : Type 0} {tells : Telling S} {says : E → Values N} {p : Pager
     pub told : (n : ℕ) → value_in values n ≡ (if n == next then Some x else value_in p.values n)
     told n = placed n ∙ ap (λ m. if n == m + 1 then Some x else value_in p.values n) (ap (λ (u : Core). u.last.node) only-room.same)
 
-    pub moved-in : Moves (λ n z. (z ≡ x) × IsNewNode (core_in tells p) n) (state_in tells p) (state_in tells after)
+    pub moved-in : Moves (λ n z. (z ≡ x) × IsNewNode (pager_core tells p) n) (pager_state tells p) (pager_state tells after)
     moved-in = let none_yet : value_in p.values next ≡ None = grind (arith, nat_tests) in grind (arith, nat_tests, cases_eq, none_yet, same_some, told)
 
     -- a node of the caller's
     module _ {mode : Mode} {k : HandleNumber} {node_type : ℕ} {rs qs : List ArcRef} (bears : Does t1 (λ w w'. Bears w Owner.Caller node_type 0 rs mode k w') t2)
         (left : t1.last_node < greatest)
-        (fit : references_fault (plain_of t1) Owner.Caller [] qs ≡ None) (read : qs ≡ rs) (typed : node_type ≡ (says p.environment).node_type x)
+        (fit : references_fault (core_alone t1) Owner.Caller [] qs ≡ None) (read : qs ≡ rs) (typed : node_type ≡ (says p.environment).node_type x)
         (named : rs ≡ (says p.environment).references x) where
-      birth : BirthCall (core_in tells p) Owner.Caller x ((says p.environment).node_type x) ((says p.environment).references x) mode (Ok k)
-          (core_in tells after)
+      birth : InsertCall (pager_core tells p) Owner.Caller x ((says p.environment).node_type x) ((says p.environment).references x) mode (Ok k)
+          (pager_core tells after)
       birth =
-          let plain = room.does (λ key. None) false 0 in
-          let fine = fault-by (plain_of p.tables) (core_in tells p) Owner.Caller [] rs ∙ sym (room-fault Owner.Caller rs plain) ∙ subst
-          (λ l. references_fault (plain_of t1) Owner.Caller [] l ≡ None) read fit in
+          let plain = room.does no_blobs in
+          let fine = fault-by (core_alone p.tables) (pager_core tells p) Owner.Caller [] rs ∙ sym (room-fault Owner.Caller rs plain) ∙ subst
+          (λ l. references_fault (core_alone t1) Owner.Caller [] l ≡ None) read fit in
           birth-past Owner.Caller node_type ((says p.environment).node_type x) rs ((says p.environment).references x) mode k only-room fine left typed named
-          (bears.does (tells.stored p.storage) (tells.closed p.storage) (tells.failed p.storage))
+          (bears.does (tells p.storage))
 
-      pub born-told : BirthCall (core_in tells p) Owner.Caller x ((says p.environment).node_type x) ((says p.environment).references x) mode (Ok k)
-          (core_in tells after) × Moves (λ n z. (z ≡ x) × IsNewNode (core_in tells p) n)
-          (state_in tells p) (state_in tells after)
+      pub born-told : InsertCall (pager_core tells p) Owner.Caller x ((says p.environment).node_type x) ((says p.environment).references x) mode (Ok k)
+          (pager_core tells after) × Moves (λ n z. (z ≡ x) × IsNewNode (pager_core tells p) n)
+          (pager_state tells p) (pager_state tells after)
       born-told = (birth, moved-in)
 
       pub born-so : is_pinning mode ≡ true → IsPager tells says after
       born-so pinning = in-step after bears.whole (bears.later (room.later is.later))
-          (born {v = says p.environment} {s = state_in tells p} {s' = state_in tells after} is.state caller-free pinning birth told)
+          (born {v = says p.environment} {s = pager_state tells p} {s' = pager_state tells after} is.state caller-free pinning birth told)
 
 -- ---- what a load has read becomes a new node
 
@@ -273,58 +287,58 @@ not-adopted {me = me} {l} typed named back r = rw (← typed, ← named) (record
 
 module _ {N S E : Type 0} {tells : Telling S} {says : E → Values N} {p q : PagerView N S E} (is : IsPager tells says p) (viewed : p ≡ q) (me : Owner)
     (l : LoadNumber) (kind : Kind) (key : ℕ) (x : N)
-    {rs : List ArcRef} (listed : rs ≡ (says p.environment).references x)
-    (fresh : (stored : ℕ → Option Blob) (closed : Bool) (failures : ℕ) → early_fault (core_of q.tables stored closed failures) me l kind
-    ((says p.environment).node_type x) rs ≡ None) (unknown : usable (plain_of q.tables) kind.0 key ≡ None) where
-  fresh-in : (stored : ℕ → Option Blob) (closed : Bool) (failures : ℕ) → early_fault (core_of p.tables stored closed failures) me l kind
-      ((says p.environment).node_type x) rs ≡ None
-  fresh-in stored closed failures = subst (λ (v : PagerView N S E). early_fault (core_of v.tables stored closed failures) me l kind
-      ((says p.environment).node_type x) rs ≡ None) (sym viewed) (fresh stored closed failures)
+    {rs : List ArcRef} (listed : rs ≡ (says p.environment).references x) (fresh : (storage : StorageView) → early_fault (core_of q.tables storage) me l kind
+    ((says p.environment).node_type x) rs ≡ None) (unknown : usable (core_alone q.tables) kind.0 key ≡ None) where
+  fresh-in : (storage : StorageView) → early_fault (core_of p.tables storage) me l kind ((says p.environment).node_type x) rs ≡ None
+  fresh-in storage = subst (λ (v : PagerView N S E). early_fault (core_of v.tables storage) me l kind ((says p.environment).node_type x) rs ≡ None) (sym viewed)
+      (fresh storage)
 
-  unknown-in : usable (plain_of p.tables) kind.0 key ≡ None
-  unknown-in = subst (λ (v : PagerView N S E). usable (plain_of v.tables) kind.0 key ≡ None) (sym viewed) unknown
+  unknown-in : usable (core_alone p.tables) kind.0 key ≡ None
+  unknown-in = subst (λ (v : PagerView N S E). usable (core_alone v.tables) kind.0 key ≡ None) (sym viewed) unknown
 
-  pub new-refused : {w' : Core} {e : Error} → Refused (birth_fault (core_in tells p)) (birth_fault (core_in tells p)) (Unit {0}) (core_in tells p) e w'
-      → AdoptCall (core_in tells p) me l kind key x ((says p.environment).node_type x) ((says p.environment).references x) (Err (e, x)) w'
-  new-refused r = not-adopted refl listed refl (refused-new (core_in tells p) me l kind key ((says p.environment).node_type x) rs (fresh-in _ _ _) unknown-in r)
+  pub new-refused : {w' : Core} {e : Error} → Refused (insert_fault (pager_core tells p)) (insert_fault (pager_core tells p)) (Unit {0})
+      (pager_core tells p) e w'
+      → AdoptCall (pager_core tells p) me l kind key x ((says p.environment).node_type x) ((says p.environment).references x) (Err (e, x)) w'
+  new-refused r = not-adopted refl listed refl (refused-new (pager_core tells p) me l kind key ((says p.environment).node_type x) rs
+      (fresh-in (tells p.storage)) unknown-in r)
 
-  pub new-asked : {t1 : Tables} → Does p.tables OnlyRoom t1 → early_fault (plain_of t1) me l kind ((says p.environment).node_type x) rs ≡ None
-  new-asked room = early-past me l kind ((says p.environment).node_type x) rs (room.does (λ key. None) false 0) ∙ fresh-in (λ key. None) false 0
+  pub new-asked : {t1 : Tables} → Does p.tables OnlyRoom t1 → early_fault (core_alone t1) me l kind ((says p.environment).node_type x) rs ≡ None
+  new-asked room = early-past me l kind ((says p.environment).node_type x) rs (room.does no_blobs) ∙ fresh-in no_blobs
 
-  pub new-unknown : {t1 : Tables} → Does p.tables OnlyRoom t1 → usable (plain_of t1) kind.0 key ≡ None
-  new-unknown room = ap (λ (u : Core). usable u kind.0 key) (room.does (λ key. None) false 0).same ∙ unknown-in
+  pub new-unknown : {t1 : Tables} → Does p.tables OnlyRoom t1 → usable (core_alone t1) kind.0 key ≡ None
+  new-unknown room = ap (λ (u : Core). usable u kind.0 key) (room.does no_blobs).same ∙ unknown-in
 
   module _ {t1 : Tables} (values : ValuesByNode N) (room : Does p.tables OnlyRoom t1) where
-    pub new-memory : {y : N} → y ≡ x → AdoptCall (core_in tells p) me l kind key x ((says p.environment).node_type x) ((says p.environment).references x)
-        (Err (Error.OutOfMemory, y)) (core_in tells (record p { tables = t1; values = values }))
-    new-memory back = not-adopted refl listed back (refused-memory (core_in tells p) me l kind key ((says p.environment).node_type x) rs (fresh-in _ _ _)
+    pub new-memory : {y : N} → y ≡ x → AdoptCall (pager_core tells p) me l kind key x ((says p.environment).node_type x) ((says p.environment).references x)
+        (Err (Error.OutOfMemory, y)) (pager_core tells (record p { tables = t1; values = values }))
+    new-memory back = not-adopted refl listed back (refused-memory (pager_core tells p) me l kind key ((says p.environment).node_type x) rs
+        (fresh-in (tells p.storage))
         (only-room is values room))
 
     module _ (placed : (n : ℕ) → value_in values n ≡ updated (t1.last_node + 1) (Some x) (value_in p.values) n) (t2 : Tables) {k : HandleNumber} {b : Bool}
-        (opens : b ≡ tells.closed p.storage)
+        (opens : b ≡ (tells p.storage).closed)
         (left : t1.last_node < greatest) (does : Does t1 (λ w w'. IsNext k w
         × (not b ≡ not w.closed → Alike (adopted w l kind key (first_key kind.0 key) rs) w')) t2) where
       abbrev learned : PagerView N S E
       learned = record p { tables = t2; values = values }
 
-      leaves : Alike (adopted (core_in tells p) l kind key (first_key kind.0 key) rs) (core_in tells learned)
-      leaves = adopted-past l kind key (first_key kind.0 key) rs (only-room is values room)
-          ((does.does (tells.stored p.storage) (tells.closed p.storage) (tells.failed p.storage)).1 (ap not opens))
+      leaves : Alike (adopted (pager_core tells p) l kind key (first_key kind.0 key) rs) (pager_core tells learned)
+      leaves = adopted-past l kind key (first_key kind.0 key) rs (only-room is values room) ((does.does (tells p.storage)).1 (ap not opens))
 
-      adopts : Adopts (core_in tells p) me l kind key ((says p.environment).node_type x) ((says p.environment).references x) k (core_in tells learned)
-      adopts = subst (λ z. Adopts (core_in tells p) me l kind key ((says p.environment).node_type x) z k (core_in tells learned)) listed
-          (made-new (core_in tells p) me l kind key ((says p.environment).node_type x) rs (fresh-in _ _ _) unknown-in k
+      adopts : Adopts (pager_core tells p) me l kind key ((says p.environment).node_type x) ((says p.environment).references x) k (pager_core tells learned)
+      adopts = subst (λ z. Adopts (pager_core tells p) me l kind key ((says p.environment).node_type x) z k (pager_core tells learned)) listed
+          (made-new (pager_core tells p) me l kind key ((says p.environment).node_type x) rs (fresh-in (tells p.storage)) unknown-in k
           (subst (λ (u : Core). u.last.node < greatest) (only-room is values room).same left)
-          (next-past (only-room is values room) (does.does (tells.stored p.storage) (tells.closed p.storage) (tells.failed p.storage)).0) leaves)
+          (next-past (only-room is values room) (does.does (tells p.storage)).0) leaves)
 
-      pub new-told : AdoptCall (core_in tells p) me l kind key x ((says p.environment).node_type x) ((says p.environment).references x) (Ok k)
-          (core_in tells learned) × Moves (λ n z. (z ≡ x) × IsNewNode (core_in tells p) n)
-          (state_in tells p) (state_in tells learned)
+      pub new-told : AdoptCall (pager_core tells p) me l kind key x ((says p.environment).node_type x) ((says p.environment).references x) (Ok k)
+          (pager_core tells learned) × Moves (λ n z. (z ≡ x) × IsNewNode (pager_core tells p) n)
+          (pager_state tells p) (pager_state tells learned)
       new-told = (record { adopts = adopts; refused = tt }, moved-in is values room t2 x placed)
 
       pub new-so : IsPager tells says learned
       new-so = in-step learned does.whole (does.later (room.later is.later))
-          (adopts-new {v = says p.environment} {s = state_in tells p} {s' = state_in tells learned} is.state adopts unknown-in
+          (adopts-new {v = says p.environment} {s = pager_state tells p} {s' = pager_state tells learned} is.state adopts unknown-in
           (told is values room t2 x placed))
 
 -- ---- a value comes to a load's cell, and others go with their nodes
@@ -344,31 +358,31 @@ module _ {N S E : Type 0} {tells : Telling S} {says : E → Values N} {p : Pager
     (mid values : ValuesByNode N) {me : Owner} {l : LoadNumber}
     {node_type : ℕ} {qs rs : List ArcRef} {r : Ending} {k : HandleNumber} {b : Bool} (typed : node_type ≡ (says p.environment).node_type x) (read : qs ≡ rs)
     (listed : rs ≡ (says p.environment).references x) (room : Does p.tables OnlyRoom t1) (nodes : t1.ref_counts.nodes ≡ p.tables.ref_counts.nodes)
-    (prepared : (stored : ℕ → Option Blob) (closed : Bool) (failures : ℕ) → IsReady (core_of t1 stored closed failures) me l node_type qs r)
-    (done : Does t1 (λ w w'. not b ≡ not w.closed → Installs w me l r.row.node r.row.number k rs w') t2) (opens : b ≡ tells.closed p.storage)
+    (prepared : (storage : StorageView) → IsReady (core_of t1 storage) me l node_type qs r)
+    (done : Does t1 (λ w w'. not b ≡ not w.closed → Installs w me l r.row.node r.row.number k rs w') t2) (opens : b ≡ (tells p.storage).closed)
     (placed : (n : ℕ) → value_in mid n ≡ with_value r.is_away r.row.node.0 x (value_in p.values) n)
     (sheds : ShedsBeside r.row.node (counts_at t1.ref_counts.nodes) (row_by mid) (counts_at t2.ref_counts.nodes) (row_by values)) where
   abbrev w : Core
-  w = core_in tells p
+  w = pager_core tells p
 
   abbrev p' : PagerView N S E
   p' = record p { tables = t2; values = values }
 
   abbrev w' : Core
-  w' = core_in tells p'
+  w' = pager_core tells p'
 
-  wider : OnlyRoom w (core_in tells (record p { tables = t1 }))
+  wider : OnlyRoom w (pager_core tells (record p { tables = t1 }))
   wider = only-room is values room
 
-  ready : IsReady (core_in tells (record p { tables = t1 })) me l ((says p.environment).node_type x) ((says p.environment).references x) r
-  ready = ready-told typed (read ∙ listed) (prepared (tells.stored p.storage) (tells.closed p.storage) (tells.failed p.storage))
+  ready : IsReady (pager_core tells (record p { tables = t1 })) me l ((says p.environment).node_type x) ((says p.environment).references x) r
+  ready = ready-told typed (read ∙ listed) (prepared (tells p.storage))
 
   may : MayEnd w me l r.row.node r.row.number ((says p.environment).node_type x) ((says p.environment).references x)
   may = may-wider wider ready.may
 
   was : Installs w me l r.row.node r.row.number k ((says p.environment).references x) w'
-  was = installs-wider wider (subst (λ z. Installs (core_in tells (record p { tables = t1 })) me l r.row.node r.row.number k z w') listed
-      (done.does (tells.stored p.storage) (tells.closed p.storage) (tells.failed p.storage) (ap not opens)))
+  was = installs-wider wider (subst (λ z. Installs (pager_core tells (record p { tables = t1 })) me l r.row.node r.row.number k z w') listed
+      (done.does (tells p.storage) (ap not opens)))
 
   kept : (n : ℕ) → is_some (value_in p.values n) ≡ has_value (counts_at t1.ref_counts.nodes n)
   kept n = is.state.valued n ∙ here-in is n ∙ ap (λ ns. has_value (counts_at ns n)) (sym nodes)
@@ -377,8 +391,8 @@ module _ {N S E : Type 0} {tells : Telling S} {says : E → Values N} {p : Pager
   there : r.is_away ≡ false → has_value (counts_at t1.ref_counts.nodes r.row.node.0) ≡ true
   there here =
       let n = r.row.node.0 in
-      let q = plain_of t1 in
-      let ready = prepared (λ key. None) false 0 in
+      let q = core_alone t1 in
+      let ready = prepared no_blobs in
       let some = cell-of room.whole.core.handles n (row-held q r.row.number r.row ready.owned.live) in
       sym (here-told (counts_at t1.ref_counts.nodes n) q n refl (sym (room.whole.steady.fits.pinned n))) ∙ ap (λ b. b && is_here q n) some
       ∙ (let goes = sym ready.away ∙ here in grind (arith, nat_tests, goes))
@@ -421,7 +435,7 @@ module _ {N S E : Type 0} {tells : Telling S} {says : E → Values N} {p : Pager
       grind (arith, nat_tests, cases_eq)
 
   pub ended-told : EndCall w me l x ((says p.environment).node_type x) ((says p.environment).references x) (Ok k) w'
-      × Moves (λ n y. (y ≡ x) × IsCellOf w l n) (state_in tells p) (state_in tells p')
+      × Moves (λ n y. (y ≡ x) × IsCellOf w l n) (pager_state tells p) (pager_state tells p')
   ended-told = (record { installs = (r.row.node, r.row.number, may, was); refused = tt }, record { each = comes; environment = refl })
 
 -- a load that doesn't end with the value stays open; or it is closed, where its end is in vain
@@ -436,8 +450,8 @@ module _ {N : Type 0} {w w' : Core} {me : Owner} {l : LoadNumber} {t u : ℕ} {q
 
 pub no-room : {N S E : Type 0} {tells : Telling S} {says : E → Values N} {p : PagerView N S E} → IsPager tells says p → {t : Tables} (values : ValuesByNode N)
     → Does p.tables OnlyRoom t → {me : Owner} {l : LoadNumber} {x y : N} {u node_type : ℕ} {qs refs : List ArcRef} {r : Ending} → y ≡ x
-    → IsReady (core_in tells (record p { tables = t })) me l u qs r
-    → EndCall (core_in tells p) me l x node_type refs (Err (Error.OutOfMemory, Some y)) (core_in tells (record p { tables = t; values = values }))
+    → IsReady (pager_core tells (record p { tables = t })) me l u qs r
+    → EndCall (pager_core tells p) me l x node_type refs (Err (Error.OutOfMemory, Some y)) (pager_core tells (record p { tables = t; values = values }))
 no-room is values room back ready =
     let wider = only-room is values room in
     let why = ap (if_there (λ (load : OpenLoad). None) (Some Error.NoSuchHandle)) (may-wider wider ready.may).owned.stands_open in
@@ -447,28 +461,32 @@ no-room is values room back ready =
 
 -- what a call does to a pager of which no value comes
 module _ {N S E : Type 0} (tells : Telling S) (v : E → Values N) (p q : PagerView N S E) where
-  pub called_fewer : (D : Core → Type 0) → D (core_in tells q) → FewerValues p q → WellFormed (v q.environment) (state_in tells q)
-      → Called (v p.environment) D (state_in tells p) (state_in tells q)
+  pub called_fewer : (D : Core → Type 0) → D (pager_core tells q) → FewerValues p q → IsPagerWhole (v q.environment) (pager_state tells q)
+      → MakesCall (v p.environment) D (pager_state tells p) (pager_state tells q)
   called_fewer D step only whole = grind (arith, nat_tests)
 
-  pub brings-so : (D : Core → Type 0) {comes : ℕ → N → Type 0} → D (core_in tells q) → Moves comes (state_in tells p) (state_in tells q)
-      → WellFormed (v q.environment) (state_in tells q)
-      → Brings (v p.environment) D comes (state_in tells p) (state_in tells q)
-  brings-so D step moves whole = record { step = step; moves = moves; whole = subst (λ e. WellFormed (v e) (state_in tells q)) moves.environment whole }
+  pub brings-so : (D : Core → Type 0) {comes : ℕ → N → Type 0} → D (pager_core tells q) → Moves comes (pager_state tells p) (pager_state tells q)
+      → IsPagerWhole (v q.environment) (pager_state tells q)
+      → Brings (v p.environment) D comes (pager_state tells p) (pager_state tells q)
+  brings-so D step moves whole = record { step = step; moves = moves; whole = subst (λ e. IsPagerWhole (v e) (pager_state tells q)) moves.environment whole }
 
-  pub all_there : SameValues p q → FewerValues p q
-  all_there only = record {
+  pub fewer_of_same : SameValues p q → FewerValues p q
+  fewer_of_same only = record {
     values = λ n x has. subst (λ (values : ValuesByNode N). value_in values n ≡ Some x) only.values has;
     environment = only.environment;
   }
 
 -- what an access tells that tells its state as long as it is in no doubt
 pub told-if : {A : Type 0} {R : A → A → Type 0} (b b' : Bool) (s t : A) → (IsTrue b' → IsTrue b) → (IsTrue b' → R s t)
-    → Told (if b then Some s else None) (if b' then Some t else None) R
+    → IfBothKnown (if b then Some s else None) (if b' then Some t else None) R
 told-if true true s t keeps does = record { holds = does refl }
 told-if false true s t keeps does = let is = keeps refl in absurd cc
 told-if true false s t keeps does = record { holds = tt }
 told-if false false s t keeps does = record { holds = tt }
+
+pub known-if : {A : Type 0} {P : A → Type 0} (b : Bool) (s : A) → P s → IfKnown (if b then Some s else None) P
+known-if true s is = record { holds = is }
+known-if false s is = record { holds = tt }
 
 pub stored_key : {digest : Blob → ℕ} {w w' : Core} {blob : Blob} (r : Result ℕ Error) → StoreCall digest w blob r w' → IfOk r (λ key. key ≡ digest blob)
 stored_key r c = grind (arith, nat_tests)
@@ -502,15 +520,15 @@ known_live {w} {w'} {l} {kind} {k = k} c = last_live w w' k w.rows (row_of (w.la
 -- a handle that the cache gives, as a reference
 pub found-made : {B : Type 0} (see : B → Blob) {w w' : Core} {me : Owner} {l : LoadNumber} {kind : Kind} {key : ℕ} {r : ArcRef} {k : HandleNumber}
     (given : Either HandleNumber B) → given ≡ Either.Left k
-    → r.handle ≡ k → (IsSome (row_at w' k) → IsMade w' kind r) → AskCall w me l (Want.Nested kind key) (Ok (given_as see given)) w'
+    → r.handle ≡ k → (IsSome (row_at w' k) → IsMade w' kind r) → LoadFetchCall w me l (Want.Nested kind key) (Ok (from_cache_or_store see given)) w'
     → AsksFor see w me l kind key (Ok (Either.Left r)) w'
 found-made {B} see {w} {w'} {me} {l} {kind} {key} {r} {k} given is same made ask =
-    let found : AskCall w me l (Want.Nested kind key) (Ok (from_cache k)) w' =
-    subst (λ x. AskCall w me l (Want.Nested kind key) (Ok (given_as see x)) w') is ask in
-    record { asked = subst (λ x. AskCall w me l (Want.Nested kind key) (Ok (from_cache x)) w') (sym same) found; made = made (known_live found.gives.2) }
+    let found : LoadFetchCall w me l (Want.Nested kind key) (Ok (from_cache k)) w' =
+    subst (λ x. LoadFetchCall w me l (Want.Nested kind key) (Ok (from_cache_or_store see x)) w') is ask in
+    record { asked = subst (λ x. LoadFetchCall w me l (Want.Nested kind key) (Ok (from_cache x)) w') (sym same) found; made = made (known_live found.gives.2) }
 
 -- whose calls they are is still at work
-pub still-at-work : {w w' : Core} (me : Owner) → KeepsWorkers w w' → is_at_work w me ≡ true → is_at_work w' me ≡ true
+pub still-at-work : {w w' : Core} (me : Owner) → KeepsWorkers w w' → may_call w me ≡ true → may_call w' me ≡ true
 still-at-work me kept was = grind (arith, nat_tests)
 
 pub lazy_live : {w w' : Core} {me : Owner} {l : LoadNumber} {kind : Kind} {key : ℕ} {k : HandleNumber} → LazyCall w me l kind key (Ok k) w'
@@ -543,7 +561,7 @@ pub load_starts : {w w' : Core} {me : Owner} {h : HandleNumber} {l : LoadNumber}
     → Some t ≡ option_map (λ (r : Reading). r.node_type) (reading_of_load l (w'.loads l.0)) → StartsPin w me h (Ok (PinStart.Load l key t)) w'
 load_starts c t is = grind (arith, nat_tests, begun_is, pinned-here, row-pins, same_some)
 
-pub ruleset lending = (nat_tests, all_there, called_fewer, stored_key, known_live, adopted_live)
+pub ruleset lending = (nat_tests, fewer_of_same, called_fewer, stored_key, known_live, adopted_live)
 
 module _ {w w' : Core} (whole : pager.IsWhole w) where
   pub begins : (r : Result WorkerNumber Error) → BeginsWorker w r w' → Rests w w'
@@ -568,7 +586,7 @@ pub ruleset handling = (nat_tests, same_some, slice_get_within, made_so, load_st
 
 -- ---- what a handle lends, and what is seen of a pager of nothing
 
-module _ {N E : Type 0} {v : Values N} {s : PagerState N E} (is : WellFormed v s) (h : HandleNumber) where
+module _ {N E : Type 0} {v : Values N} {s : PagerState N E} (is : IsPagerWhole v s) (h : HandleNumber) where
   pub lends-none : Looks s.core h (λ node row. node ≡ (if is_pinning row.mode then Some row.node else None)) (Ok None) → ValueCall s h (Ok None)
   lends-none l = grind (arith, nat_tests)
 
@@ -585,19 +603,19 @@ module _ {N S E : Type 0} (tells : Telling S) (p : PagerView N S E) (rows : p.ta
     (list : p.tables.ref_counts.list.items ≡ []) (cache : (kind key : ℕ) → known_at p.tables.cache kind key ≡ None) (none : (n : ℕ) → row_by p.values n ≡ None)
   where
     pub is-new : ((l : ℕ) → load_at p.tables.loads l ≡ None) → ((v : ℕ) → worker_at p.tables.workers v ≡ None) → (p.tables.last_node ≡ 0)
-        × (p.tables.ref_counts.last_handle ≡ 0) × (p.tables.last_load ≡ 0) × (p.tables.last_worker ≡ 0) → IsNew (state_in tells p)
+        × (p.tables.ref_counts.last_handle ≡ 0) × (p.tables.last_load ≡ 0) × (p.tables.last_worker ≡ 0) → IsNew (pager_state tells p)
     is-new loads workers last = grind (arith, nat_tests)
 
 -- what the storage tells is that it is empty and closed
 module _ {N S E : Type 0} {tells : Telling S} {says : E → Values N} {p : PagerView N S E} (is : IsPager tells says p) (s : S) (t : Tables)
     (values : ValuesByNode N)
-    (empty : (key : ℕ) → tells.stored s key ≡ None) (shut : tells.closed s ≡ true)
-    (call : CloseCall (core_in tells p) (Ok tt) (core_of t (λ key. None) true (tells.failed s))) (whole : IsWhole t)
+    (empty : (key : ℕ) → (tells s).stored key ≡ None) (shut : (tells s).closed ≡ true)
+    (call : CloseCall (pager_core tells p) (Ok tt) (core_of t (shut_view (tells s).failures))) (whole : IsWhole t)
     (sheds : Sheds (counts_at p.tables.ref_counts.nodes) (row_by p.values) (counts_at t.ref_counts.nodes) (row_by values)) where
   abbrev new : PagerView N S E
   new = record p { tables = t; values = values; storage = s }
 
-  shut-call : CloseCall (core_in tells p) (Ok tt) (core_in tells new)
+  shut-call : CloseCall (pager_core tells p) (Ok tt) (pager_core tells new)
   shut-call = grind (arith, nat_tests, closed)
 
   pub shut-told : Calls FewerValues tells p (λ w w'. CloseCall w (Ok tt) w') new

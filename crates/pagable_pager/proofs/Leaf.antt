@@ -1,17 +1,19 @@
 -- Cells that are pinned without a load's row: the load with the same effect keeps the pager's invariant at each step, and is a run of a pin.
+use Rattle.pagable_tables.specs.Core.{no_blobs}
+use Rattle.pagable_tables.specs.Core.{StorageView}
 use Rattle.pagable_pager.proofs.Invariant.{here-in, here-told, in-step}
-use Rattle.pagable_pager.specs.{Leaf.{LeafBegun, LeafDropped, LeafFetched, LeafLoads, LeafPinned, LeafUnbegun, rooted_reading}, View.{AsksStorage, IsPager, OnlyStorage, OnlyTables, PagerView, Telling, ValuesByNode, core_in, state_in, value_in, with_value}}
+use Rattle.pagable_pager.specs.{Leaf.{LeafBegun, LeafDropped, LeafFetched, LeafLoads, LeafPinned, LeafUnbegun, rooted_reading}, View.{AsksStorage, IsPager, OnlyStorage, OnlyTables, PagerView, Telling, ValuesByNode, pager_core, pager_state, value_in, with_value}}
 use Rattle.{pagable_leaf.specs.{Leaf.{DropsLeaf, IsLeaf, PinsLeaf}, declared.leaf.Leaf.Leaf}, pagable_load.{proofs.LoadSteps.begun_is, specs.{Decoding.IsReadAs, PinStart.is_unpinned_at, AccessView.Brings}}, pagable_theorems.proofs.ValuesOwned.{IsShut, begins, installed_away, load_closed, pinned-here, spared}}
 use Rattle.pagable_theorems.proofs.{LoadProgress.row-pins, Trees.same_some}
 use Rattle.pagable_value_spec.specs.{Stored.RefusesFetch, declared.{error.Error.Error}}
 use Rattle.pagable_value_spec.specs.declared.numbers.{ArcRef.ArcRef, HandleNumber.HandleNumber, LoadNumber.LoadNumber, NodeNumber.NodeNumber}
 use Rattle.pagable_tables.proofs.{CallsKeepWhole.begin-whole, SameViews.{alike-on, still}, Views.opened}
-use Rattle.pagable_tables.specs.{Core.{AreLater, ArePlaced, Does, IsWhole, OnlyRoom, core_of, plain_of}, EndingLoads.has_come, HandleTable.room}
+use Rattle.pagable_tables.specs.{Core.{AreLater, ArePlaced, Does, IsWhole, OnlyRoom, core_of, core_alone}, EndingLoads.has_come, HandleTable.room}
 use Rattle.pagable_tables.specs.{Nodes.{counts_at, has_value}, declared.tables.Tables.Tables}
-use Rattle.pagable_pager_spec.specs.{Access.{Called, LoadRun, LoadStarts, PinRun, ReadingStep, load-ends, load-fails, load-goes-on, load-is-refused, load-pins}, Calls.{FetchCall, row_of, with_handle}, Kinds.{is_pin, pins}, LoadCalls.{BeginCall, EndCall, with_load}}
-use Rattle.pagable_pager_spec.specs.{LoadCalls.{Installs, LoadCloses, MayEnd}, Loads.{ReadsRoot, gone_on, root_frame}, Pager.{HoldsItsNodes, IsCellOf, Moves, PagerState, WellFormed}, Basics.{Blob, one, updated}}
+use Rattle.pagable_pager_spec.specs.{Access.{MakesCall, LoadRun, LoadStarts, PinRun, ReadingStep, load-ends, load-fails, load-goes-on, load-is-refused, load-pins}, Calls.{FetchCall, row_of, with_handle}, Kinds.{is_pin, pins}, LoadCalls.{BeginCall, EndCall, with_load}}
+use Rattle.pagable_pager_spec.specs.{LoadCalls.{Installs, LoadCloses, MayEnd}, Loads.{ReadsRoot, gone_on, root_frame}, Pager.{HoldsItsNodes, IsCellOf, PagerState, IsPagerWhole}, Basics.{Blob, one, updated}}
 use Rattle.pagable_pager_spec.specs.{Events.reading_of_load, Workers.fresh, World.{Alike, Core, Frame, OpenLoad, Reading, Root, Values, is_here, of_cell, type_at, usable}, declared.{pinning.Beginning.Beginning, events.LoadAnswer.LoadAnswer, handle_row.{HandleRow.HandleRow, Owner.Owner}, mode.Mode.Mode}}
-use Rattle.std.proofs.Common.{Bool, Err, List, None, Ok, Option, Result, Some, [], ap, arith, false, if◌then◌else◌, inl, inr, refl, subst, sym, true, ℕ, ◌&&◌, ◌++◌, ◌+◌, ◌∙◌, ◌∷◌, ◌≡◌, ◌≤◌}
+use Rattle.std.proofs.Common.{Bool, Err, List, None, Ok, Result, Some, [], ap, arith, false, if◌then◌else◌, inl, inr, refl, subst, sym, true, ℕ, ◌&&◌, ◌++◌, ◌+◌, ◌∙◌, ◌∷◌, ◌≡◌, ◌≤◌}
 use Rattle.std.{proofs.lemmas.{Bool.{Decides.nat_tests, cases_eq}, List.Sums.sum_by_push}, specs.Prelude.{IfErr, is_some, length, slice_get, ◌⊎◌}}
 use Rattle.pagable_pager_spec.specs.Pager as pager
 
@@ -48,14 +50,14 @@ opened-whole w shut is =
 
 module _ {N S E : Type 0} {tells : Telling S} {says : E → Values N} {p : PagerView N S E} (is : IsPager tells says p) where
   abbrev w : Core
-  w = core_in tells p
+  w = pager_core tells p
 
-  -- the state with this plain world
+  -- the state with this core
   abbrev at-core : Core → PagerState N E
-  at-core b = record (state_in tells p) { core = b }
+  at-core b = record (pager_state tells p) { core = b }
 
   begun-whole : (b : Core) (h : HandleNumber) (l : LoadNumber) (key : ℕ) → BeginCall w Owner.Caller h (Ok (Beginning.Load l key)) b → ArePlaced b
-      → WellFormed (says p.environment) (at-core b)
+      → IsPagerWhole (says p.environment) (at-core b)
   begun-whole b h l key call placed =
       let (row, owns, (away, keyed, next, left, (t, typed, a))) = call.begins in
       spared is.state (begins is.state.whole (Ok (Beginning.Load l key)) call) (λ n. refl) (record {
@@ -67,7 +69,7 @@ module _ {N S E : Type 0} {tells : Telling S} {says : E → Values N} {p : Pager
 
   leaf-begun : (leaf : Leaf) (b : Core) (l : LoadNumber) → BeginCall w Owner.Caller leaf.row.number (Ok (Beginning.Load l leaf.key)) b
       → b.loads l.0 ≡ Some (record { owner = Owner.Caller; key = leaf.key; root = of_cell leaf.row.node leaf.node_type leaf.row.number }) → ArePlaced b
-      → LeafBegun (says p.environment) (state_in tells p) leaf l (at-core b)
+      → LeafBegun (says p.environment) (pager_state tells p) leaf l (at-core b)
   leaf-begun leaf b l call open_load placed = record {
     begins = record {
       step = call;
@@ -87,22 +89,23 @@ module _ {N S E : Type 0} {tells : Telling S} {says : E → Values N} {p : Pager
     abbrev given : PagerView N S E
     given = record p { tables = t; values = values }
 
-    drops : DropsLeaf w Owner.Caller leaf.row leaf.key leaf.node_type (core_in tells given)
-    drops = does.does (tells.stored p.storage) (tells.closed p.storage) (tells.failed p.storage)
+    drops : DropsLeaf w Owner.Caller leaf.row leaf.key leaf.node_type (pager_core tells given)
+    drops = does.does (tells p.storage)
 
-    kept : (n : ℕ) → value_in values n ≡ (if is_some ((core_in tells given).cells n) && is_here (core_in tells given) n then value_in p.values n else None)
+    kept : (n : ℕ) → value_in values n ≡ (if is_some ((pager_core tells given).cells n)
+        && is_here (pager_core tells given) n then value_in p.values n else None)
     kept n =
         let e = is.state.valued n in
-        let cells = ap (λ (u : Tables). (core_of u (tells.stored p.storage) (tells.closed p.storage) (tells.failed p.storage)).cells n) same in
-        let here = ap (λ (u : Tables). is_here (core_of u (tells.stored p.storage) (tells.closed p.storage) (tells.failed p.storage)) n) same in
+        let cells = ap (λ (u : Tables). (core_of u (tells p.storage)).cells n) same in
+        let here = ap (λ (u : Tables). is_here (core_of u (tells p.storage)) n) same in
         let is-same = sames n in
         grind (arith, nat_tests)
 
     pub given-so : IsPager tells says given
-    given-so = in-step given does.whole (does.later is.later) (λ right. load_closed {s = at-core drops.begun} {s' = state_in tells given}
+    given-so = in-step given does.whole (does.later is.later) (λ right. load_closed {s = at-core drops.begun} {s' = pager_state tells given}
         (begun-whole drops.begun leaf.row.number _ leaf.key drops.begins drops.placed) (record { swept = kept; right = right }) _ drops.closes)
 
-    pub given-told : LeafDropped (says p.environment) (state_in tells p) leaf (state_in tells given)
+    pub given-told : LeafDropped (says p.environment) (pager_state tells p) leaf (pager_state tells given)
     given-told = record {
       l = record { 0 = w.last.load + 1 };
       mid = at-core drops.begun;
@@ -113,8 +116,8 @@ module _ {N S E : Type 0} {tells : Telling S} {says : E → Values N} {p : Pager
   -- a load that ends with a value
   module _ (t : Tables) (values : ValuesByNode N) (leaf : Leaf) (x : N) (k : HandleNumber) (found : IsLeaf w Owner.Caller leaf)
       (typed : (says p.environment).node_type x ≡ leaf.node_type)
-      (bare : (says p.environment).references x ≡ []) (ends : (stored : ℕ → Option Blob) (closed : Bool) (failures : ℕ)
-      → PinsLeaf (core_of p.tables stored closed failures) Owner.Caller leaf.row leaf.key leaf.node_type k (core_of t stored closed failures))
+      (bare : (says p.environment).references x ≡ []) (ends : (storage : StorageView)
+      → PinsLeaf (core_of p.tables storage) Owner.Caller leaf.row leaf.key leaf.node_type k (core_of t storage))
       (come : (n : ℕ) → has_value (counts_at t.ref_counts.nodes n) ≡ has_come (counts_at p.tables.ref_counts.nodes) leaf.row.node n) (whole : IsWhole t)
       (later : AreLater t)
       (placed : (n : ℕ) → value_in values n ≡ with_value true leaf.row.node.0 x (value_in p.values) n) where
@@ -122,7 +125,7 @@ module _ {N S E : Type 0} {tells : Telling S} {says : E → Values N} {p : Pager
     after = record p { tables = t; values = values }
 
     abbrev w' : Core
-    w' = core_in tells after
+    w' = pager_core tells after
 
     abbrev v : Values N
     v = says p.environment
@@ -131,12 +134,12 @@ module _ {N S E : Type 0} {tells : Telling S} {says : E → Values N} {p : Pager
     l = record { 0 = w.last.load + 1 }
 
     leaf-ends : PinsLeaf w Owner.Caller leaf.row leaf.key leaf.node_type k w'
-    leaf-ends = ends (tells.stored p.storage) (tells.closed p.storage) (tells.failed p.storage)
+    leaf-ends = ends (tells p.storage)
 
     abbrev mid : PagerState N E
     mid = at-core leaf-ends.begun
 
-    mid-whole : WellFormed v mid
+    mid-whole : IsPagerWhole v mid
     mid-whole = begun-whole leaf-ends.begun leaf.row.number l leaf.key leaf-ends.begins leaf-ends.placed
 
     may : MayEnd leaf-ends.begun Owner.Caller l leaf.row.node leaf.row.number (v.node_type x) (v.references x)
@@ -155,7 +158,7 @@ module _ {N S E : Type 0} {tells : Telling S} {says : E → Values N} {p : Pager
         grind (arith, nat_tests, cases_eq)
 
     pub pinned-so : IsPager tells says after
-    pinned-so = in-step after whole later (λ right. installed_away {s = mid} {s' = state_in tells after} mid-whole may installs leaf-ends.away
+    pinned-so = in-step after whole later (λ right. installed_away {s = mid} {s' = pager_state tells after} mid-whole may installs leaf-ends.away
         (record { swept = swept; right = right }))
 
     comes : (n : ℕ) (y : N) → value_in values n ≡ Some y → (value_in p.values n ≡ Some y) ⊎ ((value_in p.values n ≡ None) × ((y ≡ x) × IsCellOf mid.core l n))
@@ -174,7 +177,7 @@ module _ {N S E : Type 0} {tells : Telling S} {says : E → Values N} {p : Pager
         let s = placed n in
         grind (arith, nat_tests, cases_eq)
 
-    pub pinned-told : LeafPinned v (state_in tells p) leaf x k (state_in tells after)
+    pub pinned-told : LeafPinned v (pager_state tells p) leaf x k (pager_state tells after)
     pinned-told = record {
       l = l;
       mid = mid;
@@ -259,7 +262,7 @@ module _ {N E : Type 0} (v : Values N) (s s1 mid1 : PagerState N E) (leaf : Leaf
   stored-is : (key : ℕ) → mid1.core.stored key ≡ s.core.stored key
   stored-is key = let (row, owns, (away, keyed, next, left, (t, typed, a))) = begun.begins.step.begins in a.stored key ∙ fetched.asked.leaves.stored key
 
-  before-whole : WellFormed v before
+  before-whole : IsPagerWhole v before
   before-whole =
       let b = begun.begins.whole in
       let is = b.whole in
@@ -292,8 +295,8 @@ module _ {N E : Type 0} (v : Values N) (s s1 mid1 : PagerState N E) (leaf : Leaf
         counted = b.counted;
         valued = b.valued;
         typed = b.typed;
-        inside = b.inside;
-        bare = b.bare;
+        owns_references = b.owns_references;
+        owns_nothing = b.owns_nothing;
         references = λ m x ref has among. let q = b.references m x ref has among in
             record { row = q.row; live = q.live; at = q.at; owned = q.owned; fits = q.fits; typed = q.typed };
       }
@@ -430,7 +433,7 @@ module _ {N E : Type 0} (v : Values N) (s s1 mid1 : PagerState N E) (leaf : Leaf
         pins-run = load-pins k (fresh l leaf.node_type) before u starts (goes (LoadAnswer.Pinned k) u (load-ends rooted (LoadAnswer.Pinned k) mid1 u step-end))
 
     -- memory is wanting for it
-    module _ (u : PagerState N E) (closes : Called v (λ w'. LoadCloses mid1.core l (Ok tt) w') mid1 u) where
+    module _ (u : PagerState N E) (closes : MakesCall v (λ w'. LoadCloses mid1.core l (Ok tt) w') mid1 u) where
       step-wanting : ReadingStep v Owner.Caller rooted mid1 (Some (LoadAnswer.Refused Error.OutOfMemory)) [] u
       step-wanting = record {
         does = record { does = (inl (record { mid = mid1.core; meets = inl (inr (inr refl), still mid1.core); told = Ok tt; closes = closes.step }), refl) };
@@ -451,7 +454,7 @@ module _ {N E : Type 0} (v : Values N) (s s1 mid1 : PagerState N E) (leaf : Leaf
           (goes (LoadAnswer.Refused Error.OutOfMemory) u (load-ends rooted (LoadAnswer.Refused Error.OutOfMemory) mid1 u step-wanting))
 
   -- the storage refuses the blob
-  module _ (e : Error) (u : PagerState N E) (of_error : r ≡ Err e) (closes : Called v (λ w'. LoadCloses mid1.core l (Ok tt) w') mid1 u) where
+  module _ (e : Error) (u : PagerState N E) (of_error : r ≡ Err e) (closes : MakesCall v (λ w'. LoadCloses mid1.core l (Ok tt) w') mid1 u) where
     step-refused : ReadingStep v Owner.Caller (fresh l leaf.node_type) before (Some (LoadAnswer.Refused e)) [] u
     step-refused = record {
       does = record {
@@ -492,30 +495,29 @@ module _ {N E : Type 0} (v : Values N) (s s1 mid1 : PagerState N E) (leaf : Leaf
 
 -- ---- what the pager's calls are told by
 
-pub leaf-in : {N S E : Type 0} (tells : Telling S) {p q : PagerView N S E} {leaf : Leaf} → p ≡ q → IsLeaf (core_in tells q) Owner.Caller leaf
-    → IsLeaf (core_in tells p) Owner.Caller leaf
-leaf-in tells {leaf = leaf} viewed is = subst (λ x. IsLeaf (core_in tells x) Owner.Caller leaf) (sym viewed) is
+pub leaf-in : {N S E : Type 0} (tells : Telling S) {p q : PagerView N S E} {leaf : Leaf} → p ≡ q → IsLeaf (pager_core tells q) Owner.Caller leaf
+    → IsLeaf (pager_core tells p) Owner.Caller leaf
+leaf-in tells {leaf = leaf} viewed is = subst (λ x. IsLeaf (pager_core tells x) Owner.Caller leaf) (sym viewed) is
 
 pub not-begun : {N S E : Type 0} {tells : Telling S} {says : E → Values N} {p : PagerView N S E} → IsPager tells says p
     → (t : Tables) {h : HandleNumber} {e : Error} → IsPager tells says (record p { tables = t })
-    → BeginCall (core_in tells p) Owner.Caller h (Err e) (core_in tells (record p { tables = t }))
-    → PinRun (says p.environment) (state_in tells p) h (Err e) (state_in tells (record p { tables = t }))
-not-begun {tells = tells} {p = p} was t {e = e} is call = load-is-refused e (state_in tells (record p { tables = t }))
+    → BeginCall (pager_core tells p) Owner.Caller h (Err e) (pager_core tells (record p { tables = t }))
+    → PinRun (says p.environment) (pager_state tells p) h (Err e) (pager_state tells (record p { tables = t }))
+not-begun {tells = tells} {p = p} was t {e = e} is call = load-is-refused e (pager_state tells (record p { tables = t }))
     (record { step = call; moves = record { each = λ n x has. inl has; environment = refl }; whole = is.state })
 
 -- what was found is so once the storage was asked
 pub leaf-after : {N S E : Type 0} {p q : PagerView N S E} {t : Tables} {leaf : Leaf} → p ≡ q → q.tables ≡ t
-    → ((stored : ℕ → Option Blob) (closed : Bool) (failures : ℕ) → IsLeaf (core_of t stored closed failures) Owner.Caller leaf)
-    → IsLeaf (plain_of p.tables) Owner.Caller leaf
-leaf-after {N} {S} {E} {leaf = leaf} viewed same found = subst (λ (t : Tables). IsLeaf (plain_of t) Owner.Caller leaf)
-    (sym (ap (λ (x : PagerView N S E). x.tables) viewed ∙ same)) (found (λ key. None) false 0)
+    → ((storage : StorageView) → IsLeaf (core_of t storage) Owner.Caller leaf)
+    → IsLeaf (core_alone p.tables) Owner.Caller leaf
+leaf-after {N} {S} {E} {leaf = leaf} viewed same found = subst (λ (t : Tables). IsLeaf (core_alone t) Owner.Caller leaf)
+    (sym (ap (λ (x : PagerView N S E). x.tables) viewed ∙ same)) (found no_blobs)
 
 pub leaf-asked : {N S E : Type 0} (tells : Telling S) (q : PagerView N S E) {t : Tables} {leaf : Leaf} → q.tables ≡ t
-    → ((stored : ℕ → Option Blob) (closed : Bool) (failures : ℕ) → IsLeaf (core_of t stored closed failures) Owner.Caller leaf)
-    → IsLeaf (core_in tells q) Owner.Caller leaf
+    → ((storage : StorageView) → IsLeaf (core_of t storage) Owner.Caller leaf)
+    → IsLeaf (pager_core tells q) Owner.Caller leaf
 leaf-asked tells q {leaf = leaf} same found =
-    subst (λ (t : Tables). IsLeaf (core_of t (tells.stored q.storage) (tells.closed q.storage) (tells.failed q.storage)) Owner.Caller leaf) (sym same)
-    (found (tells.stored q.storage) (tells.closed q.storage) (tells.failed q.storage))
+    subst (λ (t : Tables). IsLeaf (core_of t (tells q.storage)) Owner.Caller leaf) (sym same) (found (tells q.storage))
 
 pub pager-in : {N S E : Type 0} {tells : Telling S} {says : E → Values N} {p q : PagerView N S E} → p ≡ q → IsPager tells says p → IsPager tells says q
 pager-in {tells = tells} {says = says} viewed is = subst (λ x. IsPager tells says x) viewed is
@@ -529,18 +531,18 @@ unpinned-so whole is = let live = is.owned.live in let away = is.away in grind (
 
 module _ {N S E : Type 0} {tells : Telling S} {says : E → Values N} {p p1 : PagerView N S E} (is : IsPager tells says p) (is1 : IsPager tells says p1)
     (t0 : Tables) (room : Does p.tables OnlyRoom t0) (leaf : Leaf)
-    (found : (stored : ℕ → Option Blob) (closed : Bool) (failures : ℕ) → IsLeaf (core_of t0 stored closed failures) Owner.Caller leaf) (r : Result Blob Error)
-    (asks : FetchCall (core_in tells (record p { tables = t0 })) leaf.key r (core_in tells p1)) (only : OnlyStorage (record p { tables = t0 }) p1) where
+    (found : (storage : StorageView) → IsLeaf (core_of t0 storage) Owner.Caller leaf) (r : Result Blob Error)
+    (asks : FetchCall (pager_core tells (record p { tables = t0 })) leaf.key r (pager_core tells p1)) (only : OnlyStorage (record p { tables = t0 }) p1) where
   abbrev w0 : Core
-  w0 = core_in tells (record p { tables = t0 })
+  w0 = pager_core tells (record p { tables = t0 })
 
-  roomier-so : OnlyRoom (core_in tells p) w0
-  roomier-so = room.does (tells.stored p.storage) (tells.closed p.storage) (tells.failed p.storage)
+  roomier-so : OnlyRoom (pager_core tells p) w0
+  roomier-so = room.does (tells p.storage)
 
-  fetched : FetchCall (core_in tells p) leaf.key r (core_in tells p1)
+  fetched : FetchCall (pager_core tells p) leaf.key r (pager_core tells p1)
   fetched =
-      let wider : FetchCall (record (core_in tells p) { places = w0.places }) leaf.key r (core_in tells p1) =
-      subst (λ u. FetchCall u leaf.key r (core_in tells p1)) roomier-so.same asks in
+      let wider : FetchCall (record (pager_core tells p) { places = w0.places }) leaf.key r (pager_core tells p1) =
+      subst (λ u. FetchCall u leaf.key r (pager_core tells p1)) roomier-so.same asks in
       let a = wider.asked.leaves in
       let more = roomier-so.more in
       record {
@@ -567,10 +569,10 @@ module _ {N S E : Type 0} {tells : Telling S} {says : E → Values N} {p p1 : Pa
   sames : (n : ℕ) → value_in p1.values n ≡ value_in p.values n
   sames n = ap (λ (values : ValuesByNode N). value_in values n) only.values
 
-  leaf-still : IsLeaf (core_in tells p) Owner.Caller leaf
+  leaf-still : IsLeaf (pager_core tells p) Owner.Caller leaf
   leaf-still =
-      let f : IsLeaf w0 Owner.Caller leaf = found (tells.stored p.storage) (tells.closed p.storage) (tells.failed p.storage) in
-      let g : IsLeaf (record (core_in tells p) { places = w0.places }) Owner.Caller leaf = subst (λ u. IsLeaf u Owner.Caller leaf) roomier-so.same f in
+      let f : IsLeaf w0 Owner.Caller leaf = found (tells p.storage) in
+      let g : IsLeaf (record (pager_core tells p) { places = w0.places }) Owner.Caller leaf = subst (λ u. IsLeaf u Owner.Caller leaf) roomier-so.same f in
       record {
         owned = record { live = g.owned.live; own = g.owned.own; as_asked = g.owned.as_asked };
         away = g.away;
@@ -580,23 +582,24 @@ module _ {N S E : Type 0} {tells : Telling S} {says : E → Values N} {p p1 : Pa
         handles_left = g.handles_left;
       }
 
-  pub fetch-told : (blob : Blob) → r ≡ Ok blob → LeafFetched (says p.environment) (state_in tells p) leaf blob (state_in tells p1)
+  pub fetch-told : (blob : Blob) → r ≡ Ok blob → LeafFetched (says p.environment) (pager_state tells p) leaf blob (pager_state tells p1)
   fetch-told blob of_blob = record {
     fetched = record {
-      step = subst (λ q. FetchCall (core_in tells p) leaf.key q (core_in tells p1)) of_blob fetched;
+      step = subst (λ q. FetchCall (pager_core tells p) leaf.key q (pager_core tells p1)) of_blob fetched;
       moves = record { each = λ n x has. inl (sym (sames n) ∙ has); environment = only.environment };
-      whole = subst (λ e. WellFormed (says e) (state_in tells p1)) only.environment is1.state;
+      whole = subst (λ e. IsPagerWhole (says e) (pager_state tells p1)) only.environment is1.state;
     };
     values = sames;
     unpinned = unpinned-so is.state.whole leaf-still;
   }
 
-  pub fetch-refused : (e : Error) (u : PagerState N E) → r ≡ Err e → LeafDropped (says p1.environment) (state_in tells p1) leaf u
-      → PinRun (says p.environment) (state_in tells p) leaf.row.number (Err e) u
+  pub fetch-refused : (e : Error) (u : PagerState N E) → r ≡ Err e → LeafDropped (says p1.environment) (pager_state tells p1) leaf u
+      → PinRun (says p.environment) (pager_state tells p) leaf.row.number (Err e) u
   fetch-refused e u of_error d =
-      let dropped : LeafDropped (says p.environment) (state_in tells p1) leaf u =
-      subst (λ e. LeafDropped (says e) (state_in tells p1) leaf u) only.environment d in
-      refused-run (says p.environment) (state_in tells p) (state_in tells p1) dropped.mid leaf dropped.l r fetched sames only.environment dropped.begun e u
+      let dropped : LeafDropped (says p.environment) (pager_state tells p1) leaf u =
+      subst (λ e. LeafDropped (says e) (pager_state tells p1) leaf u) only.environment d in
+      refused-run (says p.environment) (pager_state tells p) (pager_state tells p1) dropped.mid leaf dropped.l r fetched sames only.environment dropped.begun e
+      u
       of_error dropped.closes
 
 -- ---- one after the other, a pin's run
@@ -660,14 +663,15 @@ in-memory-never {w} {w'} {leaf} is call =
 
 pub begin-told : {N S E : Type 0} {tells : Telling S} {says : E → Values N} {p : PagerView N S E} → IsPager tells says p → (t : Tables)
     → IsPager tells says (record p { tables = t }) → (leaf : Leaf) {l : LoadNumber} {key : ℕ}
-    → IsLeaf (core_in tells p) Owner.Caller leaf → BeginCall (core_in tells p) Owner.Caller leaf.row.number (Ok (Beginning.Load l key))
-    (core_in tells (record p { tables = t }))
-    → LeafBegun (says p.environment) (state_in tells p) leaf l (state_in tells (record p { tables = t }))
+    → IsLeaf (pager_core tells p) Owner.Caller leaf → BeginCall (pager_core tells p) Owner.Caller leaf.row.number (Ok (Beginning.Load l key))
+    (pager_core tells (record p { tables = t }))
+    → LeafBegun (says p.environment) (pager_state tells p) leaf l (pager_state tells (record p { tables = t }))
 begin-told {tells = tells} {p = p} was t after leaf {l} {key} is call =
     let b = begun-leaf is call in
     record {
       begins = record {
-        step = subst (λ k. BeginCall (core_in tells p) Owner.Caller leaf.row.number (Ok (Beginning.Load l k)) (core_in tells (record p { tables = t }))) b.0
+        step = subst (λ k. BeginCall (pager_core tells p) Owner.Caller leaf.row.number (Ok (Beginning.Load l k)) (pager_core tells (record p { tables = t })))
+            b.0
             call;
         moves = record { each = λ n x has. inl has; environment = refl };
         whole = after.state;
@@ -680,9 +684,9 @@ leaf-alike a is = grind (arith, nat_tests, a.rows, a.cells, a.last)
 
 module _ {N S E : Type 0} {tells : Telling S} {says : E → Values N} {p p1 : PagerView N S E} (is : IsPager tells says p) (is1 : IsPager tells says p1)
     (leaf : Leaf) (e : Error)
-    (found : IsLeaf (core_in tells p) Owner.Caller leaf) (call : BeginCall (core_in tells p) Owner.Caller leaf.row.number (Err e) (core_in tells p1))
+    (found : IsLeaf (pager_core tells p) Owner.Caller leaf) (call : BeginCall (pager_core tells p) Owner.Caller leaf.row.number (Err e) (pager_core tells p1))
     (only : OnlyTables p p1) where
-  pub unbegun-leaf : IsLeaf (plain_of p1.tables) Owner.Caller leaf
+  pub unbegun-leaf : IsLeaf (core_alone p1.tables) Owner.Caller leaf
   unbegun-leaf =
       let g = leaf-alike call.refused.stays found in
       record {
@@ -703,18 +707,18 @@ module _ {N S E : Type 0} {tells : Telling S} {says : E → Values N} {p p1 : Pa
       let more = a.places.handles in
       omega arith
 
-  pub unbegun-told : {u : PagerState N E} → LeafDropped (says p1.environment) (state_in tells p1) leaf u
-      → LeafUnbegun (says p.environment) (state_in tells p) leaf u
+  pub unbegun-told : {u : PagerState N E} → LeafDropped (says p1.environment) (pager_state tells p1) leaf u
+      → LeafUnbegun (says p.environment) (pager_state tells p) leaf u
   unbegun-told {u} d = record {
-    between = state_in tells p1;
+    between = pager_state tells p1;
     stays = record {
       step = call.refused.stays;
       moves = record {
         each = λ n x has. inl (subst (λ (values : ValuesByNode N). value_in values n ≡ Some x) only.values has);
         environment = only.environment;
       };
-      whole = subst (λ e. WellFormed (says e) (state_in tells p1)) only.environment is1.state;
+      whole = subst (λ e. IsPagerWhole (says e) (pager_state tells p1)) only.environment is1.state;
     };
     same = λ n. ap (λ (values : ValuesByNode N). value_in values n) only.values;
-    dropped = subst (λ e. LeafDropped (says e) (state_in tells p1) leaf u) only.environment d;
+    dropped = subst (λ e. LeafDropped (says e) (pager_state tells p1) leaf u) only.environment d;
   }

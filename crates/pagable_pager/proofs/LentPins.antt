@@ -2,7 +2,7 @@
 use Rattle.pagable_pager.{proofs.Leaf.{dropped-run, loads-pinned, loads-refused, pinned-run}, specs.Leaf.{EndsCell, LeafBegun, LeafDropped, LeafFetched, LeafLoads, LeafPinned, PinsAway, SharesNew, rooted_reading}}
 use Rattle.{pagable_leaf.specs.declared.leaf.Leaf.Leaf, pagable_load.{proofs.LoadSteps.{taken_back, takes_back}, specs.{Decoding.IsReadAs, Frames.{IsLoadOf, reading_of}, PinStart.{SharesPinned, TakesBack, is_unpinned_at}, LoadSteps.Runs, AccessView.Acting}}}
 use Rattle.{pagable_load.specs.declared.reading.Reading.Reading as Own, pagable_value_spec.specs.{Blob.Blob, declared.{error.Error.Error, numbers.{HandleNumber.HandleNumber, LoadNumber.LoadNumber}}}}
-use Rattle.pagable_pager_spec.specs.{Access.{Called, LoadRun, PinRun, PinsOver, Told}, Calls.{ReleaseCall, UnpinCall}, Pager.PagerState, World.{Reading, Values, of_cell}, declared.{events.LoadAnswer.LoadAnswer, handle_row.Owner.Owner}}
+use Rattle.pagable_pager_spec.specs.{Access.{MakesCall, LoadRun, PinRun, PinsOver, IfBothKnown}, Calls.{ReleaseCall, UnpinCall}, Pager.PagerState, World.{Reading, Values, of_cell}, declared.{events.LoadAnswer.LoadAnswer, handle_row.Owner.Owner}}
 use Rattle.std.{proofs.Common.{Bool, Err, None, Ok, Result, Some, [], ap, false, if◌then◌else◌, inl, refl, subst, sym, true, ◌∙◌, ◌≡◌}, specs.Prelude.{IsTrue}}
 
 -- an access lends what it lent before, for whom it did, and where
@@ -16,7 +16,7 @@ pub environment-is : {E : Type 0} {a b : Acting E} → a ≡ b → a.environment
 environment-is {E} e = ap (λ (a : Acting E). a.environment) e
 
 -- what is told afterwards was told before
-pub told-so : {A : Type 0} {R : A → A → Type 0} (b b' : Bool) (s t : A) → Told (if b then Some s else None) (if b' then Some t else None) R → IsTrue b'
+pub told-so : {A : Type 0} {R : A → A → Type 0} (b b' : Bool) (s t : A) → IfBothKnown (if b then Some s else None) (if b' then Some t else None) R → IsTrue b'
     → IsTrue b × R s t
 told-so true true s t told is = (refl, told.holds)
 told-so false true s t told is = absurd told.holds
@@ -101,9 +101,9 @@ module _ {N E : Type 0} (v : Values N) (h k : HandleNumber) where
   shares-back see e s t d back = record { shares = λ was first. taken_back v h see k true e was s t first d back }
 
   pub back-so : {me : Owner} → me ≡ Owner.Caller → (told other : Result (Unit {0}) Error) (s low t : PagerState N E)
-      → Called v (λ w'. UnpinCall s.core me h told w') s low → Called v (λ w'. ReleaseCall low.core me k other w') low t → TakesBack v true h k s t
+      → MakesCall v (λ w'. UnpinCall s.core me h told w') s low → MakesCall v (λ w'. ReleaseCall low.core me k other w') low t → TakesBack v true h k s t
   back-so {me} mine told other s low t unpins releases = takes_back v h mine k true s low t other
-      (told, subst (λ m. Called v (λ w'. UnpinCall s.core m h told w') s low) mine unpins) releases
+      (told, subst (λ m. MakesCall v (λ w'. UnpinCall s.core m h told w') s low) mine unpins) releases
 
 -- ---- a pin by a lent pager
 

@@ -1,20 +1,21 @@
 -- Cells that are pinned without a load's row, and the loads that have the same effect.
 use Rattle.{pagable_leaf.specs.declared.leaf.Leaf.Leaf, pagable_load.specs.{PinStart.{PinsFirst, is_unpinned_at}, LoadSteps.Runs, AccessView.Brings, declared.reading.Reading.Reading as Own}, pagable_value_spec.specs.{Blob.Blob, declared.numbers.{HandleNumber.HandleNumber, LoadNumber.LoadNumber}}}
-use Rattle.pagable_pager_spec.specs.{Access.{Called, LoadRun, PinRun, PinsOver}, Calls.FetchCall, LoadCalls.{BeginCall, EndCall, LoadCloses}, Loads.root_frame, Pager.{IsCellOf, PagerState}, World.{Alike, Reading, Values, of_cell}}
+use Rattle.pagable_pager_spec.specs.{Access.{MakesCall, LoadRun, PinRun, PinsOver}, Calls.FetchCall, LoadCalls.{BeginCall, EndCall, LoadCloses}, Loads.root_frame, Pager.{IsCellOf, PagerState}, World.{Alike, Reading, Values, of_cell}}
 use Rattle.{pagable_value_spec.specs.declared.error.Error.Error, pagable_pager_spec.specs.declared.{pinning.Beginning.Beginning, events.LoadAnswer.LoadAnswer, handle_row.Owner.Owner}}
 use Rattle.std.specs.Prelude.{Err, IfErr, IfOk, None, Ok, Option, Result, Some, [], true, ℕ, ◌∷◌, ◌≡◌, ◌⊎◌}
 
 -- the cell's blob was fetched, and no value was brought into memory
 pub record LeafFetched {N E : Type 0} (v : Values N) (s : PagerState N E) (leaf : Leaf) (blob : Blob)
     (s' : PagerState N E) : Type 0 where
-  pub fetched : Called v (λ w'. FetchCall s.core leaf.key (Ok blob) w') s s'
+  pub fetched : MakesCall v (λ w'. FetchCall s.core leaf.key (Ok blob) w') s s'
   pub values : (n : ℕ) → s'.values n ≡ s.values n
   pub unpinned : is_unpinned_at s.core leaf.row.number ≡ true
 
 -- a load of the cell is open
 pub record LeafBegun {N E : Type 0} (v : Values N) (s : PagerState N E) (leaf : Leaf) (l : LoadNumber)
     (s' : PagerState N E) : Type 0 where
-  pub begins : Called v (λ w'. BeginCall s.core Owner.Caller leaf.row.number (Ok (Beginning.Load l leaf.key)) w') s s'
+  pub begins : MakesCall v (λ w'. BeginCall s.core Owner.Caller leaf.row.number (Ok (Beginning.Load l leaf.key)) w') s
+      s'
   pub opened : s'.core.loads l.0 ≡ Some (record {
     owner = Owner.Caller;
     key = leaf.key;
@@ -36,13 +37,13 @@ pub record LeafDropped {N E : Type 0} (v : Values N) (s : PagerState N E) (leaf 
     pub l : LoadNumber
     pub mid : PagerState N E
     pub begun : LeafBegun v s leaf l mid
-    pub closes : Called v (λ w'. LoadCloses mid.core l (Ok tt) w') mid s'
+    pub closes : MakesCall v (λ w'. LoadCloses mid.core l (Ok tt) w') mid s'
 
 -- memory ran out; the effect is that of a load that began and was dropped
 pub record LeafUnbegun {N E : Type 0} (v : Values N) (s : PagerState N E) (leaf : Leaf) (s' : PagerState N E) : Type 0
   where
     pub between : PagerState N E
-    pub stays : Called v (λ w'. Alike s.core w') s between
+    pub stays : MakesCall v (λ w'. Alike s.core w') s between
     pub same : (n : ℕ) → between.values n ≡ s.values n
     pub dropped : LeafDropped v between leaf s'
 

@@ -1,9 +1,9 @@
 -- A fetch that is polled.
 use Rattle.std.specs.Prelude.{Result, ℕ}
-use Rattle.{futures.specs.{Poll.IfReady, declared.task.Poll.Poll}, pagable_value_spec.specs.{Blob.Blob, declared.error.Error.Error}, pagable_pager_spec.specs.{Calls.{Asked, FetchCall}, World.{Core, seen_as}}}
+use Rattle.{futures.specs.{Poll.IfReady, declared.task.Poll.Poll}, pagable_value_spec.specs.{Blob.Blob, declared.error.Error.Error}, pagable_pager_spec.specs.{Calls.{Asked, FetchCall}, World.{Core, result_map}}}
 
 -- When it is ready, it is a fetch. While it is pending, only the count of failures may change.
 pub record PollCall {X : Type 0} (see : X → Blob) (w : Core) (key : ℕ) (polled : Poll (Result X Error))
     (w' : Core) : Type 0 where
   pub asked : Asked w w'
-  pub fetched : IfReady polled (λ r. FetchCall w key (seen_as see r) w')
+  pub fetched : IfReady polled (λ r. FetchCall w key (result_map see r) w')

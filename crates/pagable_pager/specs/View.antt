@@ -1,12 +1,13 @@
--- What contracts see of a pager and its open loads, and the plain state that they derive from it.
+-- What contracts see of a pager and its open loads, and the core that they derive from it.
 use Rattle.std.specs.declared.sync.Arc.{Arc}
 use Rattle.std.specs.{Arc.arc_value, Global.Global, Option.option_map, Prelude.{Bool, IsTrue, None, Option, Some, false, true, ℕ, ◌+◌, ◌≡◌}}
 use Rattle.{either.specs.declared.Either.Either, pagable_value_spec.specs.declared.numbers.{ArcRef.ArcRef, HandleNumber.HandleNumber, LoadNumber.LoadNumber, WorkerNumber.WorkerNumber}}
-use Rattle.pagable_tables.specs.{Core.{AreLater, core_of}, Nodes.{counts_at, pins_in}, NumberTable.row_by}
+use Rattle.pagable_core.specs.declared.storage.traits.PagableStorage.{Ghosts as Storages}
+use Rattle.pagable_tables.specs.{Core.{AreLater, StorageView, core_of}, Nodes.{counts_at, pins_in}, NumberTable.row_by}
 use Rattle.pagable_tables.specs.declared.{number_table.NumberTable.NumberTable, tables.Tables.Tables}
 use Rattle.pagable_pager_spec.specs.Kinds.{HasKinds, loose_kind}
-use Rattle.pagable_pager_spec.specs.{Events.{IsEntry, with_entry_taken, with_worker}, LoadCalls.{Given, from_cache, from_store}, Pager.{PagerState, WellFormed}, Basics.{Blob, updated}, Refusals.OwnsLoad}
-use Rattle.pagable_pager_spec.specs.{Access.Called, World.{Alike, Core, OpenLoad, Root, Values, of_cell, of_key}, declared.{calls.Want.Want, handle_row.{HandleRow.HandleRow, Owner.Owner}}}
+use Rattle.pagable_pager_spec.specs.{Events.{IsEntry, with_entry_taken, with_worker}, LoadCalls.{Given, from_cache, from_store}, Pager.{PagerState, IsPagerWhole}, Basics.{Blob, updated}, Refusals.OwnsLoad}
+use Rattle.pagable_pager_spec.specs.{Access.MakesCall, World.{Alike, Core, OpenLoad, Root, Values, of_cell, of_key}, declared.{calls.Want.Want, handle_row.{HandleRow.HandleRow, Owner.Owner}}}
 use Rattle.pagable_tables.specs.Core as tables
 
 abbrev pub ValuesByNode : Type 0 → Type 0
@@ -28,33 +29,31 @@ abbrev pub with_value : {N : Type 0} → Bool → ℕ → N → (ℕ → Option 
 with_value true n x values = updated n (Some x) values
 with_value false n x values = values
 
--- The view of a storage: what it holds under each key, whether it is closed, and how often it has failed.
-pub record Telling (S : Type 0) : Type 0 where
-  pub stored : S → ℕ → Option Blob
-  pub closed : S → Bool
-  pub failed : S → ℕ
+-- how each state of a storage is seen
+abbrev pub Telling : Type 0 → Type 0
+Telling S = S → StorageView
 
--- the pager's plain state; below: with counts, values and environment
-abbrev pub core_in : {N S E : Type 0} → Telling S → PagerView N S E → Core
-core_in tells p = core_of p.tables (tells.stored p.storage) (tells.closed p.storage) (tells.failed p.storage)
+-- the pager's core; below: with counts, values and environment
+abbrev pub pager_core : {N S E : Type 0} → Telling S → PagerView N S E → Core
+pager_core tells p = core_of p.tables (tells p.storage)
 
-abbrev pub state_in : {N S E : Type 0} → Telling S → PagerView N S E → PagerState N E
-state_in tells p = record {
-  core = core_in tells p;
+abbrev pub pager_state : {N S E : Type 0} → Telling S → PagerView N S E → PagerState N E
+pager_state tells p = record {
+  core = pager_core tells p;
   counts = λ n. pins_in (counts_at p.tables.ref_counts.nodes n);
   values = value_in p.values;
   environment = p.environment;
 }
 
-abbrev pub telling : {S : Type 0} → (S → ℕ → Option Blob) → (S → Bool) → (S → ℕ) → Telling S
-telling stored closed failed = record { stored = stored; closed = closed; failed = failed }
+abbrev pub storage_view : {S E N H K V : Type 0} → Storages S E N H K V → Telling S
+storage_view g s = record { stored = g.stored s; closed = g.is_closed s; failures = g.failed s }
 
--- The tables satisfy their invariant; the handles that loads and workers own are in their ranges; and the plain state
+-- The tables satisfy their invariant; the handles that loads and workers own are in their ranges; and the core
 -- satisfies the invariant for the environment's values.
 pub record IsPager {N S E : Type 0} (tells : Telling S) (says : E → Values N) (p : PagerView N S E) : Type 0 where
   pub tables : tables.IsWhole p.tables
   pub later : AreLater p.tables
-  pub state : WellFormed (says p.environment) (state_in tells p)
+  pub state : IsPagerWhole (says p.environment) (pager_state tells p)
 
 -- values, storage and environment are the same
 pub record OnlyTables {N S E : Type 0} (old new : PagerView N S E) : Type 0 where
@@ -85,9 +84,9 @@ pub record SameValues {N S E : Type 0} (old new : PagerView N S E) : Type 0 wher
   pub environment : new.environment ≡ old.environment
 
 -- what a load's fetch returns, with the blob viewed by `see`
-abbrev pub given_as : {B : Type 0} → (B → Blob) → Either HandleNumber B → Given
-given_as see (Either.Left k) = from_cache k
-given_as see (Either.Right blob) = from_store (see blob)
+abbrev pub from_cache_or_store : {B : Type 0} → (B → Blob) → Either HandleNumber B → Given
+from_cache_or_store see (Either.Left k) = from_cache k
+from_cache_or_store see (Either.Right blob) = from_store (see blob)
 
 -- a fetch of the load's own blob never returns a handle of the cache's
 abbrev pub FitsWant : {B : Type 0} → Want → Either HandleNumber B → Type 0
@@ -95,36 +94,37 @@ FitsWant Want.Root (Either.Left k) = ⊥
 FitsWant want given = Unit {0}
 
 -- whether the owner is the caller, or a worker at work
-abbrev pub is_at_work : Core → Owner → Bool
-is_at_work w Owner.Caller = true
-is_at_work w (Owner.Worker v) = w.workers v.0
-is_at_work w _ = false
+abbrev pub may_call : Core → Owner → Bool
+may_call w Owner.Caller = true
+may_call w (Owner.Worker v) = w.workers v.0
+may_call w _ = false
 
 -- the same workers are at work, and the storage is closed exactly if it was
 pub record KeepsWorkers (w w' : Core) : Type 0 where
   pub workers : w'.workers ≡ w.workers
   pub closed : w'.closed ≡ w.closed
 
--- a call's step in the plain state, and what it leaves unchanged
+-- a call's step in the core, and what it leaves unchanged
 pub record Calls {N S E : Type 0} (Only : PagerView N S E → PagerView N S E → Type 0) (tells : Telling S)
     (old : PagerView N S E) (makes : Core → Core → Type 0) (new : PagerView N S E) : Type 0 where
-  pub step : makes (core_in tells old) (core_in tells new)
+  pub step : makes (pager_core tells old) (pager_core tells new)
   pub only : Only old new
 
--- A call of the storage: its step in the plain state, if the storage is honest afterwards. In any case nothing else
+-- A call of the storage: its step in the core, if the storage is honest afterwards. In any case nothing else
 -- changes, the storage is closed exactly if it was, and a storage that is honest afterwards was honest before.
 pub record AsksStorage {N S E : Type 0} (is_honest : S → Bool) (tells : Telling S) (old : PagerView N S E)
     (makes : Core → Core → Type 0) (new : PagerView N S E) : Type 0 where
-  pub step : IsTrue (is_honest new.storage) → makes (core_in tells old) (core_in tells new)
+  pub step : IsTrue (is_honest new.storage) → makes (pager_core tells old) (pager_core tells new)
   pub honest : IsTrue (is_honest new.storage) → IsTrue (is_honest old.storage)
-  pub closed : tells.closed new.storage ≡ tells.closed old.storage
+  pub closed : (tells new.storage).closed ≡ (tells old.storage).closed
   pub only : OnlyStorage old new
 
 -- a call that brings no value into memory, and keeps the pager's invariant
 pub record Settles {N S E : Type 0} (Only : PagerView N S E → PagerView N S E → Type 0) (tells : Telling S)
     (says : E → Values N) (old : PagerView N S E) (makes : Core → Core → Type 0)
     (new : PagerView N S E) : Type 0 where
-  pub called : Called (says old.environment) (makes (core_in tells old)) (state_in tells old) (state_in tells new)
+  pub called : MakesCall (says old.environment) (makes (pager_core tells old)) (pager_state tells old)
+      (pager_state tells new)
   pub only : Only old new
 
 -- ---- what an open load reads

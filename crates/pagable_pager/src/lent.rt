@@ -4,9 +4,9 @@
 
 ghost use Rattle.std.specs.{Arc.arc_value, Prelude.{IfErr, IfOk, IsTrue, true, ◌≡◌, ◌≤◌}};
 ghost use Rattle.{pagable_core.specs.Data.blob_of, pagable_leaf.specs.Leaf.IsLeaf, pagable_load.specs.AccessView.values_at};
-ghost use Rattle.pagable_pager.specs.{Leaf.{LeafLoads, PinsAway}, View.{Calls, OnlyLess, OnlyTables, core_in, is_at_work, state_in, telling}};
+ghost use Rattle.pagable_pager.specs.{Leaf.{LeafLoads, PinsAway}, View.{Calls, OnlyLess, OnlyTables, pager_core, may_call, pager_state, storage_view}};
 ghost use Rattle.pagable_tables.specs.{HandleTable.room, Soundness.is_sound};
-ghost use Rattle.pagable_pager_spec.specs.{Calls.{ClearCall, OfferCall, RecallCall}, Pager.WellFormed, World.seen_as};
+ghost use Rattle.pagable_pager_spec.specs.{Calls.{ClearCall, OfferCall, RecallCall}, Pager.IsPagerWhole, World.result_map};
 
 use crate::pager::Pager;
 use crate::pager::leaf::read_leaf;
@@ -32,7 +32,7 @@ use std::sync::Arc;
 pub struct Lent<'a, E: Env<Node: NodeSet<E>>, S: PagableStorage<E>> {
     pager: &'a mut Pager<E, S>,
     me: Owner,
-    ghost at_work: { is_at_work (core_in (telling S.stored S.is_closed S.failed) pager.now) me ≡ true },
+    ghost at_work: { may_call (pager_core (storage_view S.PagableStorage) pager.now) me ≡ true },
 }
 
 impl<'a, E: Env<Node: NodeSet<E>>, S: PagableStorage<E>> Lent<'a, E, S> {
@@ -50,7 +50,7 @@ impl<'a, E: Env<Node: NodeSet<E>>, S: PagableStorage<E>> Lent<'a, E, S> {
 
     /// Creates the access of a worker. The caller makes sure that the worker is at work.
     pub fn for_worker(pager: &'a mut Pager<E, S>, worker: WorkerNumber) -> Lent<'a, E, S>
-        requires { (core_in (telling S.stored S.is_closed S.failed) pager.old).workers worker.0 ≡ true }
+        requires { (pager_core (storage_view S.PagableStorage) pager.old).workers worker.0 ≡ true }
         ensures lent { result.pager.ghost_name ≡ pager.entry.ghost_name }
         ensures same { result.pager.now ≡ pager.old }
         ensures me { result.me ≡ Owner.Worker worker }
@@ -111,8 +111,8 @@ impl<'a, E: Env<Node: NodeSet<E>>, S: PagableStorage<E>> Lent<'a, E, S> {
         requires caller { self.old.me ≡ Owner.Caller }
         ensures goes { IsTrue (S.is_honest self.new.pager.now.storage)
             → PinsAway (values_at E.Node.NodeSet E.Env E.Hash.KeyHash self.old.pager.now.environment)
-            (state_in (telling S.stored S.is_closed S.failed) self.old.pager.now) handle result
-            (state_in (telling S.stored S.is_closed S.failed) self.new.pager.now) }
+            (pager_state (storage_view S.PagableStorage) self.old.pager.now) handle result
+            (pager_state (storage_view S.PagableStorage) self.new.pager.now) }
         ensures honest { IsTrue (S.is_honest self.new.pager.now.storage)
             → IsTrue (S.is_honest self.old.pager.now.storage) }
         ensures lender { self.new.pager.ghost_name ≡ self.old.pager.ghost_name }
@@ -140,12 +140,12 @@ impl<'a, E: Env<Node: NodeSet<E>>, S: PagableStorage<E>> Lent<'a, E, S> {
         blob: Arc<PagableData>,
     ) -> Result<HandleNumber, Error>
         requires caller { self.old.me ≡ Owner.Caller }
-        requires leaf { IsLeaf (core_in (telling S.stored S.is_closed S.failed) self.old.pager.now) Owner.Caller leaf }
+        requires leaf { IsLeaf (pager_core (storage_view S.PagableStorage) self.old.pager.now) Owner.Caller leaf }
         requires place { 1 ≤ room self.old.pager.now.tables.ref_counts.handles }
         ensures loads { IsTrue (S.is_honest self.new.pager.now.storage)
             → LeafLoads (values_at E.Node.NodeSet E.Env E.Hash.KeyHash self.old.pager.now.environment)
-            (state_in (telling S.stored S.is_closed S.failed) self.old.pager.now) leaf (blob_of (arc_value blob)) result
-            (state_in (telling S.stored S.is_closed S.failed) self.new.pager.now) }
+            (pager_state (storage_view S.PagableStorage) self.old.pager.now) leaf (blob_of (arc_value blob)) result
+            (pager_state (storage_view S.PagableStorage) self.new.pager.now) }
         ensures honest { IsTrue (S.is_honest self.new.pager.now.storage)
             → IsTrue (S.is_honest self.old.pager.now.storage) }
         ensures lender { self.new.pager.ghost_name ≡ self.old.pager.ghost_name }
@@ -154,31 +154,31 @@ impl<'a, E: Env<Node: NodeSet<E>>, S: PagableStorage<E>> Lent<'a, E, S> {
     {
         let key = leaf.key;
         let node_type = leaf.node_type;
-        let load = self.pager.begin_leaf(leaf)?;
+        let load = self.pager.begin_leaf_load(leaf)?;
         let reading = rooted(alloc, load, key, node_type, blob);
         read_rest(self, alloc, reading)
     }
 }
 
 // Returns a call's result, and states the pager's invariant after the call.
-fn settled<E: Env<Node: NodeSet<E>>, S: PagableStorage<E>, X: Drop>(
+fn with_invariant<E: Env<Node: NodeSet<E>>, S: PagableStorage<E>, X: Drop>(
     answer: X,
     pager: &Pager<E, S>,
 ) -> X
     ensures same { result ≡ answer }
-    ensures whole { WellFormed (values_at E.Node.NodeSet E.Env E.Hash.KeyHash pager.now.environment)
-        (state_in (telling S.stored S.is_closed S.failed) pager.now) }
+    ensures whole { IsPagerWhole (values_at E.Node.NodeSet E.Env E.Hash.KeyHash pager.now.environment)
+        (pager_state (storage_view S.PagableStorage) pager.now) }
 {
-    pager.is_whole();
+    pager.assert_invariant();
     answer
 }
 
 impl<'a, E: Env<Node: NodeSet<E>>, S: PagableStorage<E>> Access<E> for Lent<'a, E, S> {
     ghost use Rattle.std.specs.Prelude.{None, Some, if◌then◌else◌};
-    ghost use Rattle.pagable_pager.specs.View.{state_in, telling};
+    ghost use Rattle.pagable_pager.specs.View.{pager_state, storage_view};
 
-    ghost told = { λ l. if S.is_honest l.pager.now.storage then Some
-        (state_in (telling S.stored S.is_closed S.failed) l.pager.now) else None };
+    ghost known_state = { λ l. if S.is_honest l.pager.now.storage then Some
+        (pager_state (storage_view S.PagableStorage) l.pager.now) else None };
 
     ghost acting = { λ l. record { me = l.me; environment = l.pager.now.environment; lender = l.pager.ghost_name } };
 
@@ -191,7 +191,7 @@ impl<'a, E: Env<Node: NodeSet<E>>, S: PagableStorage<E>> Access<E> for Lent<'a, 
     }
 
     fn begin_pin(&mut self, handle: HandleNumber) -> Result<PinStart, Error> {
-        settled(self.pager.begin_pin_by(self.me, handle), self.pager)
+        with_invariant(self.pager.begin_pin_for(self.me, handle), self.pager)
     }
 
     fn share(&self, handle: HandleNumber) -> Result<Option<Arc<E::Node>>, Error> {
@@ -199,7 +199,7 @@ impl<'a, E: Env<Node: NodeSet<E>>, S: PagableStorage<E>> Access<E> for Lent<'a, 
     }
 
     fn store(&mut self, alloc: Global, blob: PagableData) -> Result<DataKey, Error> {
-        settled(self.pager.store(alloc, blob), self.pager)
+        with_invariant(self.pager.store(alloc, blob), self.pager)
     }
 
     fn store_keyed(
@@ -208,31 +208,31 @@ impl<'a, E: Env<Node: NodeSet<E>>, S: PagableStorage<E>> Access<E> for Lent<'a, 
         key: DataKey,
         blob: PagableData,
     ) -> Result<DataKey, Error> {
-        settled(self.pager.store_keyed(alloc, key, blob), self.pager)
+        with_invariant(self.pager.store_keyed(alloc, key, blob), self.pager)
     }
 
     fn set_data_key(&mut self, handle: HandleNumber, key: DataKey) -> Result<(), Error> {
-        self.pager.set_data_key_by(self.me, handle, key)
+        self.pager.set_data_key_for(self.me, handle, key)
     }
 
     fn unpin(&mut self, handle: HandleNumber) -> Result<(), Error> {
-        self.pager.unpin_by(self.me, handle)
+        self.pager.unpin_for(self.me, handle)
     }
 
     fn release(&mut self, handle: HandleNumber) -> Result<(), Error> {
-        self.pager.release_by(self.me, handle)
+        self.pager.release_for(self.me, handle)
     }
 
     fn load_key(&mut self, key: DataKey) -> Result<LoadNumber, Error> {
-        match settled(self.pager.load_key_by(self.me, key), self.pager)? {
+        match with_invariant(self.pager.load_key_for(self.me, key), self.pager)? {
             Beginning::Load(load, _) => Ok(load),
             Beginning::InMemory => unreachable!(),
         }
     }
 
     fn load_root(&mut self, alloc: Global, load: LoadNumber) -> Result<Arc<PagableData>, Error> {
-        let found = self.pager.load_fetch_by(self.me, alloc, load, Want::Root);
-        match settled(found, self.pager)? {
+        let found = self.pager.load_fetch_for(self.me, alloc, load, Want::Root);
+        match with_invariant(found, self.pager)? {
             Either::Right(blob) => Ok(blob),
             Either::Left(_) => unreachable!(),
         }
@@ -246,8 +246,8 @@ impl<'a, E: Env<Node: NodeSet<E>>, S: PagableStorage<E>> Access<E> for Lent<'a, 
         key: DataKey,
     ) -> Result<Either<ArcRef, Arc<PagableData>>, Error> {
         let want = Want::Nested(kind, key);
-        let found = self.pager.load_fetch_by(self.me, alloc, load, want);
-        self.pager.is_whole();
+        let found = self.pager.load_fetch_for(self.me, alloc, load, want);
+        self.pager.assert_invariant();
         match found? {
             Either::Left(handle) => Ok(Either::Left(self.pager.reference(kind, handle))),
             Either::Right(blob) => Ok(Either::Right(blob)),
@@ -261,8 +261,8 @@ impl<'a, E: Env<Node: NodeSet<E>>, S: PagableStorage<E>> Access<E> for Lent<'a, 
         kind: Kind,
         key: DataKey,
     ) -> Result<ArcRef, Error> {
-        let taken = self.pager.load_lazy_by(self.me, alloc, load, kind, key);
-        self.pager.is_whole();
+        let taken = self.pager.load_lazy_for(self.me, alloc, load, kind, key);
+        self.pager.assert_invariant();
         Ok(self.pager.reference(kind, taken?))
     }
 
@@ -274,11 +274,11 @@ impl<'a, E: Env<Node: NodeSet<E>>, S: PagableStorage<E>> Access<E> for Lent<'a, 
         key: DataKey,
         node: E::Node,
     ) -> Result<ArcRef, (Error, E::Node)> {
-        self.pager.is_whole();
+        self.pager.assert_invariant();
         let adopted = self
             .pager
-            .load_adopt_by(self.me, alloc, load, kind, key, node);
-        self.pager.is_whole();
+            .load_adopt_for(self.me, alloc, load, kind, key, node);
+        self.pager.assert_invariant();
         Ok(self.pager.reference(kind, adopted?))
     }
 
@@ -288,16 +288,16 @@ impl<'a, E: Env<Node: NodeSet<E>>, S: PagableStorage<E>> Access<E> for Lent<'a, 
         load: LoadNumber,
         value: E::Node,
     ) -> Result<HandleNumber, (Error, Option<E::Node>)> {
-        let ended = self.pager.load_end_by(self.me, alloc, load, value);
-        settled(ended, self.pager)
+        let ended = self.pager.load_end_for(self.me, alloc, load, value);
+        with_invariant(ended, self.pager)
     }
 
     fn load_take(&mut self, load: LoadNumber, named: &[HandleNumber]) -> Result<(), Error> {
-        self.pager.load_take_by(self.me, load, named)
+        self.pager.load_take_for(self.me, load, named)
     }
 
     fn load_drop(&mut self, load: LoadNumber) -> Result<(), Error> {
-        self.pager.load_drop_by(self.me, load)
+        self.pager.load_drop_for(self.me, load)
     }
 }
 
@@ -311,7 +311,7 @@ impl<'a, E: Env<Node: NodeSet<E>>, S: PagableStorage<E>> WorkerAccess<E> for Len
     }
 
     fn take_reference(&mut self, reference: ArcRef) -> Result<PinnedOrLoading, Error> {
-        settled(self.pager.take_reference(self.me, reference), self.pager)
+        with_invariant(self.pager.take_reference(self.me, reference), self.pager)
     }
 
     fn take_value(&mut self, reference: ArcRef) -> Result<TakenValue<E::Node>, Error> {
@@ -325,7 +325,7 @@ impl<'a, E: Env<Node: NodeSet<E>>, S: PagableStorage<E>> WorkerAccess<E> for Len
         }
     }
 
-    fn give_up(&mut self, worker: WorkerNumber, node: NodeNumber) {
+    fn release_worker_node(&mut self, worker: WorkerNumber, node: NodeNumber) {
         self.pager.release_node(worker, node);
     }
 
@@ -338,7 +338,7 @@ impl<'a, E: Env<Node: NodeSet<E>>, S: PagableStorage<E>> WorkerAccess<E> for Len
 
     fn close_node(&mut self, at: WorkerNode, key: DataKey) -> Result<(), Error> {
         self.set_key_through(at.loose, key)?;
-        self.give_up(at.worker, at.node);
+        self.release_worker_node(at.worker, at.node);
         Ok(())
     }
 
@@ -366,17 +366,17 @@ impl<'a, E: Env<Node: NodeSet<E>>, S: PagableStorage<E>> WorkerAccess<E> for Len
     }
 
     fn schedule_for_paging(&mut self, handle: HandleNumber) -> Result<(), Error> {
-        self.pager.schedule_for_paging_by(self.me, handle)
+        self.pager.schedule_for_paging_for(self.me, handle)
     }
 
     fn worker_begin(&mut self) -> Result<WorkerNumber, Error> {
-        let worker = settled(self.pager.worker_begin(), self.pager)?;
+        let worker = with_invariant(self.pager.worker_begin(), self.pager)?;
         self.me = Owner::Worker(worker);
         Ok(worker)
     }
 
     fn worker_listed(&mut self, place: usize) -> Result<(WorkerNumber, ArcRef), Error> {
-        let (worker, reference) = settled(self.pager.worker_listed(place), self.pager)?;
+        let (worker, reference) = with_invariant(self.pager.worker_listed(place), self.pager)?;
         self.me = Owner::Worker(worker);
         Ok((worker, reference))
     }
@@ -396,7 +396,7 @@ impl<'a, E: Env<Node: NodeSet<E>>, S: PagableStorage<E>> WorkerAccess<E> for Len
     }
 
     fn take_pending(&mut self, place: usize) -> Option<HandleNumber> {
-        settled(self.pager.take_pending_by(self.me, place), self.pager)
+        with_invariant(self.pager.take_pending_for(self.me, place), self.pager)
     }
 }
 
@@ -432,7 +432,7 @@ impl<'a, E: Env<Node: NodeSet<E>>, S: PagableStorage<E>> DeserializedArcCache<'a
     /// - those of `Pager::cache_get`.
     pub fn get(&mut self, kind: Kind, key: DataKey) -> Result<Option<HandleNumber>, Error>
         ensures lent { self.new.pager.ghost_name ≡ self.old.pager.ghost_name }
-        ensures calls { Calls OnlyTables (telling S.stored S.is_closed S.failed) self.old.pager.now
+        ensures calls { Calls OnlyTables (storage_view S.PagableStorage) self.old.pager.now
             (λ w w'. RecallCall w Owner.Caller kind key result w') self.new.pager.now }
     {
         self.pager.cache_get(kind, key)
@@ -446,8 +446,8 @@ impl<'a, E: Env<Node: NodeSet<E>>, S: PagableStorage<E>> DeserializedArcCache<'a
     pub fn get_or_create_cell(&mut self, kind: Kind, key: DataKey) -> Result<ArcCell, Error>
         ensures lent { self.new.pager.ghost_name ≡ self.old.pager.ghost_name }
         ensures place { IfOk result (λ cell. (cell.kind ≡ kind) × (cell.key ≡ key)) }
-        ensures calls { Calls OnlyTables (telling S.stored S.is_closed S.failed) self.old.pager.now
-            (λ w w'. RecallCall w Owner.Caller kind key (seen_as (λ cell. cell.handle) result) w') self.new.pager.now }
+        ensures calls { Calls OnlyTables (storage_view S.PagableStorage) self.old.pager.now
+            (λ w w'. RecallCall w Owner.Caller kind key (result_map (λ cell. cell.handle) result) w') self.new.pager.now }
     {
         let handle = self.pager.cache_get(kind, key)?;
         Ok(ArcCell { kind, key, handle })
@@ -465,7 +465,7 @@ impl<'a, E: Env<Node: NodeSet<E>>, S: PagableStorage<E>> DeserializedArcCache<'a
         handle: HandleNumber,
     ) -> Result<Option<HandleNumber>, Error>
         ensures lent { self.new.pager.ghost_name ≡ self.old.pager.ghost_name }
-        ensures calls { Calls OnlyLess (telling S.stored S.is_closed S.failed) self.old.pager.now
+        ensures calls { Calls OnlyLess (storage_view S.PagableStorage) self.old.pager.now
             (λ w w'. OfferCall w Owner.Caller kind key handle result w') self.new.pager.now }
     {
         self.pager.on_arc_deserialized(kind, key, handle)
@@ -474,7 +474,7 @@ impl<'a, E: Env<Node: NodeSet<E>>, S: PagableStorage<E>> DeserializedArcCache<'a
     /// Empties the cache. Never fails.
     pub fn clear(&mut self) -> Result<(), Error>
         ensures lent { self.new.pager.ghost_name ≡ self.old.pager.ghost_name }
-        ensures calls { Calls OnlyTables (telling S.stored S.is_closed S.failed) self.old.pager.now
+        ensures calls { Calls OnlyTables (storage_view S.PagableStorage) self.old.pager.now
             (λ w w'. ClearCall w result w') self.new.pager.now }
     {
         self.pager.cache_clear()

@@ -7,9 +7,9 @@ ghost use Rattle.pagable_core.specs.Data.{blob_of};
 ghost use Rattle.pagable_load.specs.{PinStart.Shares, AccessView.values_at};
 ghost use Rattle.pagable_value_spec.specs.{Blob.{Blob, key_of}, Stored.{RefusesFetch, RefusesFlush, RefusesStore}};
 ghost use Rattle.pagable_tables.specs.{Core.root_in, EndingLoads.AsksKnown, Soundness.is_sound};
-ghost use Rattle.pagable_pager.specs.View.{AsksStorage, Calls, FewerValues, FitsWant, KeepsWorkers, OnlyTables, ReadsAs, SameValues, core_in, given_as, is_at_work, state_in, telling, type_of_root};
-ghost use Rattle.pagable_pager_spec.specs.{Calls.{CloseCall, FetchCall, FlushCall, StoreCall}, LoadCalls.{AskCall, BeginCall, BeginKeyCall, LazyCall}, Pager.{IsNew, ValueCall, WellFormed}};
-ghost use Rattle.pagable_pager_spec.specs.{Refusals.load_fault, World.{greatest, seen_as}};
+ghost use Rattle.pagable_pager.specs.View.{AsksStorage, Calls, FewerValues, FitsWant, KeepsWorkers, OnlyTables, ReadsAs, SameValues, pager_core, from_cache_or_store, may_call, pager_state, storage_view, type_of_root};
+ghost use Rattle.pagable_pager_spec.specs.{Calls.{CloseCall, FetchCall, FlushCall, StoreCall}, LoadCalls.{LoadFetchCall, BeginCall, BeginKeyCall, LazyCall}, Pager.{IsNew, ValueCall, IsPagerWhole}};
+ghost use Rattle.pagable_pager_spec.specs.{Refusals.load_fault, World.{greatest, result_map}};
 
 // A function whose name ends in `_by` is the call of that name for an owner: the caller, or a
 // worker at work.
@@ -48,7 +48,7 @@ pub struct Pager<E: Env<Node: NodeSet<E>>, S: PagableStorage<E>> {
 
 impl<E: Env<Node: NodeSet<E>>, S: PagableStorage<E>> Model for Pager<E, S> {
     ghost use Rattle.std.specs.Coded.{codes};
-    ghost use Rattle.{pagable_load.specs.AccessView.values_at, pagable_pager.specs.{Setting.environment_of, View.{PagerView, IsPager, telling}}, indexmap.specs.Layout.hash_map_code};
+    ghost use Rattle.{pagable_load.specs.AccessView.values_at, pagable_pager.specs.{Setting.environment_of, View.{PagerView, IsPager, storage_view}}, indexmap.specs.Layout.hash_map_code};
 
     ghost Value = { PagerView E.Node S E };
 
@@ -61,8 +61,7 @@ impl<E: Env<Node: NodeSet<E>>, S: PagableStorage<E>> Model for Pager<E, S> {
       environment = environment_of p.setting;
     } };
 
-    ghost invariant = { λ p. IsPager (telling S.stored S.is_closed S.failed)
-        (values_at E.Node.NodeSet E.Env E.Hash.KeyHash)
+    ghost invariant = { λ p. IsPager (storage_view S.PagableStorage) (values_at E.Node.NodeSet E.Env E.Hash.KeyHash)
         (record { tables = p.tables; values = p.values; storage = p.storage; environment = environment_of p.setting }) };
 }
 
@@ -79,7 +78,7 @@ pub(crate) fn cell_type(root: LoadRoot) -> Option<u32>
 impl<E: Env<Node: NodeSet<E>>, S: PagableStorage<E>> Pager<E, S> {
     /// Creates an empty pager over a storage, which may hold blobs. It allocates nothing.
     pub fn new(alloc: Global, storage: S, env: E) -> Pager<E, S>
-        ensures empty { IsNew (state_in (telling S.stored S.is_closed S.failed) result) }
+        ensures empty { IsNew (pager_state (storage_view S.PagableStorage) result) }
         ensures storage { result.storage ≡ storage }
         ensures environment { result.environment ≡ env }
     {
@@ -95,7 +94,7 @@ impl<E: Env<Node: NodeSet<E>>, S: PagableStorage<E>> Pager<E, S> {
     /// session that are also used outside of it, as they are outside the lock of a pager that
     /// threads share. It allocates nothing.
     pub fn shared(alloc: Global, storage: S, setting: Arc<Setting<E>>) -> Pager<E, S>
-        ensures empty { IsNew (state_in (telling S.stored S.is_closed S.failed) result) }
+        ensures empty { IsNew (pager_state (storage_view S.PagableStorage) result) }
         ensures storage { result.storage ≡ storage }
         ensures environment { result.environment ≡ (arc_value setting).env }
     {
@@ -109,8 +108,8 @@ impl<E: Env<Node: NodeSet<E>>, S: PagableStorage<E>> Pager<E, S> {
 
     /// Lends the value of a handle's node, if the handle pins it. Fails with NoSuchHandle only.
     fn held(&self, handle: HandleNumber) -> Result<Option<&Arc<E::Node>>, Error>
-        ensures { ValueCall (state_in (telling S.stored S.is_closed S.failed) self.now) handle
-            (seen_as (option_map (λ x. arc_value x.now)) result) }
+        ensures { ValueCall (pager_state (storage_view S.PagableStorage) self.now) handle
+            (result_map (option_map (λ x. arc_value x.now)) result) }
     {
         match queries::pinned_node(&self.tables, handle) {
             Ok(Some(node)) => Ok(self.values.get(node.0)),
@@ -125,8 +124,8 @@ impl<E: Env<Node: NodeSet<E>>, S: PagableStorage<E>> Pager<E, S> {
     ///
     /// - `NoSuchHandle` if the handle isn't live.
     pub fn value(&self, handle: HandleNumber) -> Result<Option<&E::Node>, Error>
-        ensures { ValueCall (state_in (telling S.stored S.is_closed S.failed) self.now) handle
-            (seen_as (option_map (λ x. x.now)) result) }
+        ensures { ValueCall (pager_state (storage_view S.PagableStorage) self.now) handle
+            (result_map (option_map (λ x. x.now)) result) }
     {
         match self.held(handle) {
             Ok(Some(value)) => Ok(Some(value.as_ref())),
@@ -142,7 +141,7 @@ impl<E: Env<Node: NodeSet<E>>, S: PagableStorage<E>> Pager<E, S> {
     /// - `NoSuchHandle` if the handle isn't live.
     /// - `OutOfMemory` if the value can't be shared once more.
     pub fn share(&self, handle: HandleNumber) -> Result<Option<Arc<E::Node>>, Error>
-        ensures { Shares arc_value (state_in (telling S.stored S.is_closed S.failed) self.now) handle result }
+        ensures { Shares arc_value (pager_state (storage_view S.PagableStorage) self.now) handle result }
     {
         match self.held(handle) {
             Ok(Some(value)) => Ok(Some(value.clone()?)),
@@ -167,15 +166,14 @@ impl<E: Env<Node: NodeSet<E>>, S: PagableStorage<E>> Pager<E, S> {
     /// Returns whether no page-out worker is at work on this pager, as between any two calls: only a
     /// machine has workers at work from one event to the next.
     pub fn is_at_rest(&self) -> bool
-        ensures { result ≡ true → (v : ℕ) → (core_in (telling S.stored S.is_closed S.failed) self.now).workers v
-            ≡ false }
+        ensures { result ≡ true → (v : ℕ) → (pager_core (storage_view S.PagableStorage) self.now).workers v ≡ false }
     {
         self.tables.workers.is_empty()
     }
 
     /// Returns whether this page-out worker is at work on this pager.
     pub fn has_worker(&self, worker: WorkerNumber) -> bool
-        ensures { result ≡ (core_in (telling S.stored S.is_closed S.failed) self.now).workers worker.0 }
+        ensures { result ≡ (pager_core (storage_view S.PagableStorage) self.now).workers worker.0 }
     {
         self.tables.workers.get(&worker.0).is_some()
     }
@@ -200,9 +198,9 @@ impl<E: Env<Node: NodeSet<E>>, S: PagableStorage<E>> Pager<E, S> {
     /// States the invariant of every pager: each kept count is the number of pinning handles; a
     /// value is in memory exactly if its node is pinned or has no key; and a value owns the handles
     /// of its references.
-    pub fn is_whole(&self)
-        ensures { WellFormed (values_at E.Node.NodeSet E.Env E.Hash.KeyHash self.now.environment)
-            (state_in (telling S.stored S.is_closed S.failed) self.now) }
+    pub fn assert_invariant(&self)
+        ensures { IsPagerWhole (values_at E.Node.NodeSet E.Env E.Hash.KeyHash self.now.environment)
+            (pager_state (storage_view S.PagableStorage) self.now) }
     {
         let _tables = &self.tables;
     }
@@ -225,8 +223,8 @@ impl<E: Env<Node: NodeSet<E>>, S: PagableStorage<E>> Pager<E, S> {
     /// - `OutOfMemory` if an allocation fails.
     /// - `Storage` if the storage fails.
     pub fn fetch(&mut self, alloc: Global, key: DataKey) -> Result<Arc<PagableData>, Error>
-        ensures asks { AsksStorage S.is_honest (telling S.stored S.is_closed S.failed) self.old
-            (λ w w'. FetchCall w key (seen_as (λ d. blob_of (arc_value d)) result) w') self.new }
+        ensures asks { AsksStorage S.is_honest (storage_view S.PagableStorage) self.old
+            (λ w w'. FetchCall w key (result_map (λ d. blob_of (arc_value d)) result) w') self.new }
         ensures named { IfOk result (λ found. key_of E.Hash.digest (blob_of (arc_value found)) ≡ key) }
         ensures refused { IfErr result (RefusesFetch key None (S.failed self.old.storage) (S.failed self.new.storage)) }
     {
@@ -245,7 +243,7 @@ impl<E: Env<Node: NodeSet<E>>, S: PagableStorage<E>> Pager<E, S> {
         alloc: Global,
         key: DataKey,
     ) -> Poll<Result<Arc<PagableData>, Error>>
-        ensures asks { AsksStorage S.is_honest (telling S.stored S.is_closed S.failed) self.old
+        ensures asks { AsksStorage S.is_honest (storage_view S.PagableStorage) self.old
             (λ w w'. PollCall (λ d. blob_of (arc_value d)) w key result w') self.new }
         ensures named { IfReady result (λ r. IfOk r (λ found. key_of E.Hash.digest (blob_of (arc_value found)) ≡ key)) }
         ensures refused { IfReady result (λ r. IfErr r
@@ -265,7 +263,7 @@ impl<E: Env<Node: NodeSet<E>>, S: PagableStorage<E>> Pager<E, S> {
     /// - `KeyTaken` if another blob is stored under the key.
     /// - `Closed` if the storage is closed.
     pub fn store(&mut self, alloc: Global, blob: PagableData) -> Result<DataKey, Error>
-        ensures asks { AsksStorage S.is_honest (telling S.stored S.is_closed S.failed) self.old
+        ensures asks { AsksStorage S.is_honest (storage_view S.PagableStorage) self.old
             (λ w w'. StoreCall (key_of E.Hash.digest) w (blob_of blob) result w') self.new }
         ensures key { IfOk result (λ key. key ≡ key_of E.Hash.digest (blob_of blob)) }
         ensures refused { IfErr result (λ e. (found : Option Blob)
@@ -288,7 +286,7 @@ impl<E: Env<Node: NodeSet<E>>, S: PagableStorage<E>> Pager<E, S> {
         blob: PagableData,
     ) -> Result<DataKey, Error>
         requires { key ≡ key_of E.Hash.digest (blob_of blob) }
-        ensures asks { AsksStorage S.is_honest (telling S.stored S.is_closed S.failed) self.old
+        ensures asks { AsksStorage S.is_honest (storage_view S.PagableStorage) self.old
             (λ w w'. StoreCall (key_of E.Hash.digest) w (blob_of blob) result w') self.new }
         ensures key { IfOk result (λ answer. answer ≡ key_of E.Hash.digest (blob_of blob)) }
         ensures refused { IfErr result (λ e. (found : Option Blob)
@@ -305,8 +303,8 @@ impl<E: Env<Node: NodeSet<E>>, S: PagableStorage<E>> Pager<E, S> {
     /// - `OutOfMemory` if an allocation fails.
     /// - `Storage` if the storage fails.
     pub fn flush(&mut self) -> Result<(), Error>
-        ensures asks { AsksStorage S.is_honest (telling S.stored S.is_closed S.failed) self.old
-            (λ w w'. FlushCall w result w') self.new }
+        ensures asks { AsksStorage S.is_honest (storage_view S.PagableStorage) self.old (λ w w'. FlushCall w result w')
+            self.new }
         ensures sure { IsTrue (S.is_honest self.new.storage)
             → OnOk result (S.flushed self.new.storage ≡ S.stored self.new.storage) }
         ensures refused { IfErr result (RefusesFlush (S.failed self.old.storage) (S.failed self.new.storage)) }
@@ -318,8 +316,8 @@ impl<E: Env<Node: NodeSet<E>>, S: PagableStorage<E>> Pager<E, S> {
     /// and empties the cache; from then on nothing is listed or cached. Never fails, and allocates
     /// nothing.
     pub fn close(&mut self) -> Result<(), Error>
-        ensures calls { Calls FewerValues (telling S.stored S.is_closed S.failed) self.old
-            (λ w w'. CloseCall w result w') self.new }
+        ensures calls { Calls FewerValues (storage_view S.PagableStorage) self.old (λ w w'. CloseCall w result w')
+            self.new }
         ensures honest { IsTrue (S.is_honest self.new.storage) → IsTrue (S.is_honest self.old.storage) }
     {
         self.storage.close();
@@ -334,16 +332,16 @@ impl<E: Env<Node: NodeSet<E>>, S: PagableStorage<E>> Pager<E, S> {
     /// - `NumbersSpent` if no number is left for a load.
     /// - `OutOfMemory` if the load can't be allocated.
     pub fn load_key(&mut self, key: DataKey) -> Result<Beginning, Error>
-        ensures { Calls OnlyTables (telling S.stored S.is_closed S.failed) self.old
+        ensures { Calls OnlyTables (storage_view S.PagableStorage) self.old
             (λ w w'. BeginKeyCall w Owner.Caller key result w') self.new }
     {
-        self.load_key_by(Owner::Caller, key)
+        self.load_key_for(Owner::Caller, key)
     }
 
-    pub(crate) fn load_key_by(&mut self, me: Owner, key: DataKey) -> Result<Beginning, Error>
-        requires { is_at_work (core_in (telling S.stored S.is_closed S.failed) self.old) me ≡ true }
-        ensures { Calls OnlyTables (telling S.stored S.is_closed S.failed) self.old
-            (λ w w'. BeginKeyCall w me key result w') self.new }
+    pub(crate) fn load_key_for(&mut self, me: Owner, key: DataKey) -> Result<Beginning, Error>
+        requires { may_call (pager_core (storage_view S.PagableStorage) self.old) me ≡ true }
+        ensures { Calls OnlyTables (storage_view S.PagableStorage) self.old (λ w w'. BeginKeyCall w me key result w')
+            self.new }
     {
         load::load_key(&mut self.tables, me, key)
     }
@@ -359,20 +357,20 @@ impl<E: Env<Node: NodeSet<E>>, S: PagableStorage<E>> Pager<E, S> {
     /// - `NumbersSpent` if no number is left for the load or the clone.
     /// - `OutOfMemory` if the load or the clone can't be allocated.
     pub fn load_begin(&mut self, handle: HandleNumber) -> Result<Beginning, Error>
-        ensures { Calls OnlyTables (telling S.stored S.is_closed S.failed) self.old
+        ensures { Calls OnlyTables (storage_view S.PagableStorage) self.old
             (λ w w'. BeginCall w Owner.Caller handle result w') self.new }
     {
-        self.load_begin_by(Owner::Caller, handle)
+        self.load_begin_for(Owner::Caller, handle)
     }
 
-    pub(crate) fn load_begin_by(
+    pub(crate) fn load_begin_for(
         &mut self,
         me: Owner,
         handle: HandleNumber,
     ) -> Result<Beginning, Error>
-        requires { is_at_work (core_in (telling S.stored S.is_closed S.failed) self.old) me ≡ true }
-        ensures { Calls OnlyTables (telling S.stored S.is_closed S.failed) self.old
-            (λ w w'. BeginCall w me handle result w') self.new }
+        requires { may_call (pager_core (storage_view S.PagableStorage) self.old) me ≡ true }
+        ensures { Calls OnlyTables (storage_view S.PagableStorage) self.old (λ w w'. BeginCall w me handle result w')
+            self.new }
     {
         load::load_begin(&mut self.tables, me, handle)
     }
@@ -386,11 +384,10 @@ impl<E: Env<Node: NodeSet<E>>, S: PagableStorage<E>> Pager<E, S> {
         kind: Kind,
         key: DataKey,
     ) -> Result<Option<HandleNumber>, Error>
-        ensures step { AsksKnown (core_in (telling S.stored S.is_closed S.failed) self.old) me load kind key result
-            (core_in (telling S.stored S.is_closed S.failed) self.new) }
+        ensures step { AsksKnown (pager_core (storage_view S.PagableStorage) self.old) me load kind key result
+            (pager_core (storage_view S.PagableStorage) self.new) }
         ensures none { IfOk result (λ found. IfNone found
-            (core_in (telling S.stored S.is_closed S.failed) self.new
-            ≡ core_in (telling S.stored S.is_closed S.failed) self.old)) }
+            (pager_core (storage_view S.PagableStorage) self.new ≡ pager_core (storage_view S.PagableStorage) self.old)) }
         ensures only { OnlyTables self.old self.new }
     {
         load::load_known(&mut self.tables, me, load, kind, key)
@@ -412,20 +409,20 @@ impl<E: Env<Node: NodeSet<E>>, S: PagableStorage<E>> Pager<E, S> {
         want: Want,
     ) -> Result<Either<HandleNumber, Arc<PagableData>>, Error>
         ensures step { IsTrue (S.is_honest self.new.storage)
-            → AskCall (core_in (telling S.stored S.is_closed S.failed) self.old) Owner.Caller load want
-            (seen_as (given_as (λ d. blob_of (arc_value d))) result)
-            (core_in (telling S.stored S.is_closed S.failed) self.new) }
+            → LoadFetchCall (pager_core (storage_view S.PagableStorage) self.old) Owner.Caller load want
+            (result_map (from_cache_or_store (λ d. blob_of (arc_value d))) result)
+            (pager_core (storage_view S.PagableStorage) self.new) }
         ensures honest { IsTrue (S.is_honest self.new.storage) → IsTrue (S.is_honest self.old.storage) }
-        ensures kept { KeepsWorkers (core_in (telling S.stored S.is_closed S.failed) self.old)
-            (core_in (telling S.stored S.is_closed S.failed) self.new) }
+        ensures kept { KeepsWorkers (pager_core (storage_view S.PagableStorage) self.old)
+            (pager_core (storage_view S.PagableStorage) self.new) }
         ensures fits { IfOk result (FitsWant want) }
         ensures only { SameValues self.old self.new }
     {
-        self.load_fetch_by(Owner::Caller, alloc, load, want)
+        self.load_fetch_for(Owner::Caller, alloc, load, want)
     }
 
     #[tactic(auto, using(std::proofs::lemmas::Bool::Decides::nat_tests, crate::proofs::Invariant::known_found))]
-    pub(crate) fn load_fetch_by(
+    pub(crate) fn load_fetch_for(
         &mut self,
         me: Owner,
         alloc: Global,
@@ -433,12 +430,12 @@ impl<E: Env<Node: NodeSet<E>>, S: PagableStorage<E>> Pager<E, S> {
         want: Want,
     ) -> Result<Either<HandleNumber, Arc<PagableData>>, Error>
         ensures step { IsTrue (S.is_honest self.new.storage)
-            → AskCall (core_in (telling S.stored S.is_closed S.failed) self.old) me load want
-            (seen_as (given_as (λ d. blob_of (arc_value d))) result)
-            (core_in (telling S.stored S.is_closed S.failed) self.new) }
+            → LoadFetchCall (pager_core (storage_view S.PagableStorage) self.old) me load want
+            (result_map (from_cache_or_store (λ d. blob_of (arc_value d))) result)
+            (pager_core (storage_view S.PagableStorage) self.new) }
         ensures honest { IsTrue (S.is_honest self.new.storage) → IsTrue (S.is_honest self.old.storage) }
-        ensures kept { KeepsWorkers (core_in (telling S.stored S.is_closed S.failed) self.old)
-            (core_in (telling S.stored S.is_closed S.failed) self.new) }
+        ensures kept { KeepsWorkers (pager_core (storage_view S.PagableStorage) self.old)
+            (pager_core (storage_view S.PagableStorage) self.new) }
         ensures fits { IfOk result (FitsWant want) }
         ensures only { SameValues self.old self.new }
     {
@@ -470,13 +467,13 @@ impl<E: Env<Node: NodeSet<E>>, S: PagableStorage<E>> Pager<E, S> {
         kind: Kind,
         key: DataKey,
     ) -> Result<HandleNumber, Error>
-        ensures { Calls OnlyTables (telling S.stored S.is_closed S.failed) self.old
+        ensures { Calls OnlyTables (storage_view S.PagableStorage) self.old
             (λ w w'. LazyCall w Owner.Caller load kind key result w') self.new }
     {
-        self.load_lazy_by(Owner::Caller, alloc, load, kind, key)
+        self.load_lazy_for(Owner::Caller, alloc, load, kind, key)
     }
 
-    pub(crate) fn load_lazy_by(
+    pub(crate) fn load_lazy_for(
         &mut self,
         me: Owner,
         alloc: Global,
@@ -484,7 +481,7 @@ impl<E: Env<Node: NodeSet<E>>, S: PagableStorage<E>> Pager<E, S> {
         kind: Kind,
         key: DataKey,
     ) -> Result<HandleNumber, Error>
-        ensures { Calls OnlyTables (telling S.stored S.is_closed S.failed) self.old
+        ensures { Calls OnlyTables (storage_view S.PagableStorage) self.old
             (λ w w'. LazyCall w me load kind key result w') self.new }
     {
         let lists = !self.storage.has_closed();
@@ -493,7 +490,7 @@ impl<E: Env<Node: NodeSet<E>>, S: PagableStorage<E>> Pager<E, S> {
 
     /// Returns whether a number is left for a load.
     pub fn has_load_number(&self) -> bool
-        ensures { result ≡ nat_lt (core_in (telling S.stored S.is_closed S.failed) self.now).last.load greatest }
+        ensures { result ≡ nat_lt (pager_core (storage_view S.PagableStorage) self.now).last.load greatest }
     {
         self.tables.last_load < u64::MAX
     }
@@ -506,10 +503,9 @@ impl<E: Env<Node: NodeSet<E>>, S: PagableStorage<E>> Pager<E, S> {
     /// - `NoSuchHandle` if the load isn't open.
     /// - `NotYours` if another than the caller began it.
     pub fn load_of(&self, load: LoadNumber) -> Result<(DataKey, Option<u32>), Error>
-        ensures reads { IfOk result (λ r. ReadsAs (core_in (telling S.stored S.is_closed S.failed) self.now) load r.0
-            r.1) }
-        ensures fault { IfErr result (λ e. load_fault (core_in (telling S.stored S.is_closed S.failed) self.now)
-            Owner.Caller load ≡ Some e) }
+        ensures reads { IfOk result (λ r. ReadsAs (pager_core (storage_view S.PagableStorage) self.now) load r.0 r.1) }
+        ensures fault { IfErr result (λ e. load_fault (pager_core (storage_view S.PagableStorage) self.now) Owner.Caller
+            load ≡ Some e) }
     {
         let row = checks::load_row(&self.tables, Owner::Caller, load)?;
         Ok((row.key, cell_type(row.root)))

@@ -3,8 +3,8 @@
 
 ghost use Rattle.std.specs.{Arc.arc_value, Prelude.{IsTrue, true, ◌≡◌}};
 ghost use Rattle.{pagable_core.specs.Data.blob_of, pagable_load.specs.{Frames.reading_of, AccessView.{Acts, values_at}}};
-ghost use Rattle.pagable_pager.specs.{Leaf.{EndsCell, SharesNew, rooted_reading}, View.{state_in, telling}};
-ghost use Rattle.pagable_pager_spec.specs.{Access.PinsOver, World.seen_as};
+ghost use Rattle.pagable_pager.specs.{Leaf.{EndsCell, SharesNew, rooted_reading}, View.{pager_state, storage_view}};
+ghost use Rattle.pagable_pager_spec.specs.{Access.PinsOver, World.result_map};
 
 use crate::lent::Lent;
 use crate::pager::Pager;
@@ -51,7 +51,7 @@ pub(crate) fn read_rest<E: Env<Node: NodeSet<E>>, A: Access<E>>(
     reading: Reading,
 ) -> Result<HandleNumber, Error>
     requires of_cell { reading.for_cell ≡ true }
-    ensures { Acts A.told A.acting access.old access.new
+    ensures { Acts A.known_state A.acting access.old access.new
         (λ a s t. EndsCell (values_at E.Node.NodeSet E.Env E.Hash.KeyHash a.environment) a.me reading s result t) }
 {
     let mut reading = reading;
@@ -70,9 +70,9 @@ fn share_new<E: Env<Node: NodeSet<E>>, A: Access<E>>(
     pinned: HandleNumber,
 ) -> Result<(HandleNumber, Arc<E::Node>), Error>
     requires caller { (A.acting access.old).me ≡ Owner.Caller }
-    ensures { Acts A.told A.acting access.old access.new
+    ensures { Acts A.known_state A.acting access.old access.new
         (λ a s t. SharesNew (values_at E.Node.NodeSet E.Env E.Hash.KeyHash a.environment) handle pinned s
-        (seen_as (λ a. (a.0, arc_value a.1)) result) t) }
+        (result_map (λ a. (a.0, arc_value a.1)) result) t) }
 {
     match share_pinned(access, pinned) {
         Ok(value) => Ok((pinned, value)),
@@ -94,9 +94,9 @@ fn pin_lent<'a, E: Env<Node: NodeSet<E>>, S: PagableStorage<E>>(
     requires caller { lent.old.me ≡ Owner.Caller }
     ensures pins { IsTrue (S.is_honest lent.new.pager.now.storage)
         → PinsOver (values_at E.Node.NodeSet E.Env E.Hash.KeyHash lent.old.pager.now.environment)
-        (state_in (telling S.stored S.is_closed S.failed) lent.old.pager.now)
-        handle (seen_as (λ a. (a.0, arc_value a.1)) result)
-        (state_in (telling S.stored S.is_closed S.failed) lent.new.pager.now) }
+        (pager_state (storage_view S.PagableStorage) lent.old.pager.now)
+        handle (result_map (λ a. (a.0, arc_value a.1)) result)
+        (pager_state (storage_view S.PagableStorage) lent.new.pager.now) }
     ensures honest { IsTrue (S.is_honest lent.new.pager.now.storage) → IsTrue (S.is_honest lent.old.pager.now.storage) }
     ensures lender { lent.new.pager.ghost_name ≡ lent.old.pager.ghost_name }
 {
@@ -123,8 +123,8 @@ pub fn pin<E: Env<Node: NodeSet<E>>, S: PagableStorage<E>>(
 ) -> Result<(HandleNumber, Arc<E::Node>), Error>
     ensures pins { IsTrue (S.is_honest pager.new.storage)
         → PinsOver (values_at E.Node.NodeSet E.Env E.Hash.KeyHash pager.old.environment)
-        (state_in (telling S.stored S.is_closed S.failed) pager.old)
-        handle (seen_as (λ a. (a.0, arc_value a.1)) result) (state_in (telling S.stored S.is_closed S.failed) pager.new) }
+        (pager_state (storage_view S.PagableStorage) pager.old)
+        handle (result_map (λ a. (a.0, arc_value a.1)) result) (pager_state (storage_view S.PagableStorage) pager.new) }
     ensures honest { IsTrue (S.is_honest pager.new.storage) → IsTrue (S.is_honest pager.old.storage) }
 {
     let mut lent = Lent::new(pager);

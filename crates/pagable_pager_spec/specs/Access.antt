@@ -2,29 +2,29 @@
 -- steps of one load or of one worker, up to its end.
 use Rattle.std.specs.Prelude.{[], Err, false, IfErr, IfOk, List, None, Ok, Option, Result, slice_get, Some, ℕ, ◌+◌, ◌∷◌, ◌≡◌, ◌⊎◌}
 use Rattle.pagable_pager_spec.specs.{Calls.{PinCall, ReleaseCall, TakeCall, UnpinCall}, Events.{Ends, entry_task, IsEntry, no_shelf, reading_of_load, with_entry_taken, with_worker}, Rightness.ReadIsRight}
-use Rattle.pagable_pager_spec.specs.{Kinds.{HasKinds, HasNoKinds}, LoadCalls.{BeginCall, BeginKeyCall}, Loads.{gone_on, ReadingDoes}, Pager.{HoldsItsNodes, HoldsPinned, Moves, PagerState, ReadingBrings, Represents, SameTrees}}
-use Rattle.pagable_pager_spec.specs.{Pager.{TodoBrings, TookWrites, ValueStands, WellFormed}, Basics.{Beginning, Error, HandleNumber, HandleRow, Identity, LoadAnswer, LoadNumber, Mode, OptionalDataKey}}
-use Rattle.pagable_pager_spec.specs.{Basics.{Owner, Pinning, Action, Tree, WorkerAnswer}, Refusals.WorkerFault, Runs.{HoldsSettled, TakesWell}, Workers.{answer_after, first_todo, fresh, is_open_slot, Site}}
+use Rattle.pagable_pager_spec.specs.{Kinds.{HasKinds, HasNoKinds}, LoadCalls.{BeginCall, BeginKeyCall}, Loads.{gone_on, ReadingDoes}, Pager.{HoldsItsNodes, HoldsPinned, Moves, PagerState, ReadingBrings, PagerStandsFor, SameTrees}}
+use Rattle.pagable_pager_spec.specs.{Pager.{TodoBrings, TookWrites, ValueStands, IsPagerWhole}, Basics.{Beginning, Error, HandleNumber, HandleRow, Identity, LoadAnswer, LoadNumber, Mode, OptionalDataKey}}
+use Rattle.pagable_pager_spec.specs.{Basics.{Owner, Pinning, Action, Tree, WorkerAnswer}, Refusals.WorkerFault, Runs.{HoldsSettled, TakesWell}, Workers.{answer_after, first_todo, fresh, is_open_slot, WorkerState}}
 use Rattle.pagable_pager_spec.specs.{Workers.WalkDoes, World.{Alike, Core, Frame, IsLawful, IsSettled, key_at, of_item, Reading, row_at, SameShelf, Seen, Shelf, Slot, Todo, Values, Written}}
 
 pub record AccessState (N E : Type 0) : Type 0 where
   pub pager : PagerState N E
   pub shelf : Shelf
 
-abbrev pub tells : {S : Type 0} → Option S → Option S → (S → S → Type 0) → Type 0
-tells s None R = Unit {0}
-tells None (Some t) R = ⊥
-tells (Some s) (Some t) R = R s t
+abbrev pub if_both_known : {S : Type 0} → Option S → Option S → (S → S → Type 0) → Type 0
+if_both_known s None R = Unit {0}
+if_both_known None (Some t) R = ⊥
+if_both_known (Some s) (Some t) R = R s t
 
 -- R holds between the two states, provided that both are known; and if the second is known, so is the first
-pub record Told {S : Type 0} (s t : Option S) (R : S → S → Type 0) : Type 0 where
-  pub holds : tells s t R
+pub record IfBothKnown {S : Type 0} (s t : Option S) (R : S → S → Type 0) : Type 0 where
+  pub holds : if_both_known s t R
 
--- A call of the pager: what it does to the pager's plain state. It brings no value into memory.
-pub record Called {N E : Type 0} (v : Values N) (does : Core → Type 0) (s s' : PagerState N E) : Type 0 where
+-- A call of the pager: what it does to the pager's core. It brings no value into memory.
+pub record MakesCall {N E : Type 0} (v : Values N) (does : Core → Type 0) (s s' : PagerState N E) : Type 0 where
   pub step : does s'.core
   pub moves : Moves (λ n x. ⊥) s s'
-  pub whole : WellFormed v s'
+  pub whole : IsPagerWhole v s'
 
 -- P holds of the value that a load read, if the load ended with one
 abbrev pub IfReads : {N : Type 0} → Option (LoadAnswer N) → (N → Type 0) → Type 0
@@ -37,14 +37,14 @@ pub record ReadingStep {N E : Type 0} (v : Values N) (me : Owner) (reading : Rea
   pub moves : Moves (ReadingBrings v s.core reading) s s'
   -- a value that is brought into memory holds its nodes' values; a value that is returned holds what its references'
   -- handles pin
-  pub holds : WellFormed v s → Moves (λ n x. HoldsItsNodes v s x) s s'
+  pub holds : IsPagerWhole v s → Moves (λ n x. HoldsItsNodes v s x) s s'
   pub answers : IfReads answer (HoldsPinned v s')
-  pub whole : WellFormed v s'
+  pub whole : IsPagerWhole v s'
 
 -- a worker's step: `todo` is the worker's list before the step, `next` its list after it
 pub record WalkStep {N E B W : Type 0} (m : Seen N B W) (n : ℕ) (todo : List Todo) (s : AccessState N E)
     (step : Action W) (next : List Todo) (s' : AccessState N E) : Type 0 where
-  pub after : Site
+  pub after : WorkerState
   pub does : WalkDoes m n (record { core = s.pager.core; shelf = s.shelf; todo = todo }) step after
   pub goes_on : next ≡ after.todo
   pub shelf_is : SameShelf after.shelf s'.shelf
@@ -52,7 +52,7 @@ pub record WalkStep {N E B W : Type 0} (m : Seen N B W) (n : ℕ) (todo : List T
   pub moves : Moves (TodoBrings m.values s.pager.core todo) s.pager s'.pager
   pub holds : Moves (λ n x. HoldsItsNodes m.values s.pager x) s.pager s'.pager
   pub writes : TookWrites m.values m.written_of s.pager step
-  pub whole : WellFormed m.values s'.pager
+  pub whole : IsPagerWhole m.values s'.pager
 
 -- the steps of a load up to its end, which is `answer`
 pub data LoadRun {N E : Type 0} (v : Values N) (me : Owner) : Reading → PagerState N E → LoadAnswer N → PagerState N E
@@ -86,17 +86,18 @@ LoadAsksWell {v = v} (load-goes-on reading frames answer s mid s' step more) =
 pub record LoadStarts {N E : Type 0} (v : Values N) (s : PagerState N E) (h : HandleNumber) (reading : Reading)
     (s' : PagerState N E) : Type 0 where
   pub key : ℕ
-  pub begins : Called v (λ w'. BeginCall s.core Owner.Caller h (Ok (Beginning.Load reading.load key)) w') s s'
+  pub begins : MakesCall v (λ w'. BeginCall s.core Owner.Caller h (Ok (Beginning.Load reading.load key)) w') s s'
   pub is : reading_of_load reading.load (s'.core.loads reading.load.0) ≡ Some reading
 
 -- a pin: at once, or by a load up to its end
 pub data PinRun {N E : Type 0} (v : Values N) (s : PagerState N E) (h : HandleNumber) : Result HandleNumber Error
     → PagerState N E → Type 0 where
   pins-at-once : (k : HandleNumber) (s' : PagerState N E)
-      → Called v (λ w'. PinCall s.core Owner.Caller h (Ok (Pinning.Pinned k)) w') s s' → PinRun v s h (Ok k) s'
-  pin-is-refused : (e : Error) (s' : PagerState N E) → Called v (λ w'. PinCall s.core Owner.Caller h (Err e) w') s s'
+      → MakesCall v (λ w'. PinCall s.core Owner.Caller h (Ok (Pinning.Pinned k)) w') s s' → PinRun v s h (Ok k) s'
+  pin-is-refused : (e : Error) (s' : PagerState N E) → MakesCall v (λ w'. PinCall s.core Owner.Caller h (Err e) w') s s'
       → PinRun v s h (Err e) s'
-  load-is-refused : (e : Error) (s' : PagerState N E) → Called v (λ w'. BeginCall s.core Owner.Caller h (Err e) w') s s'
+  load-is-refused : (e : Error) (s' : PagerState N E) → MakesCall v (λ w'. BeginCall s.core Owner.Caller h (Err e) w') s
+      s'
       → PinRun v s h (Err e) s'
   load-pins : (k : HandleNumber) (reading : Reading) (mid s' : PagerState N E) → LoadStarts v s h reading mid
       → LoadRun v Owner.Caller reading mid (LoadAnswer.Pinned k) s' → PinRun v s h (Ok k) s'
@@ -113,9 +114,9 @@ pub record IsValueOf {N E : Type 0} (s : PagerState N E) (k : HandleNumber) (x :
 abbrev pub IsUnpinnedBack : {N E : Type 0} → Values N → Core → HandleNumber → PagerState N E → PagerState N E → Type 0
 IsUnpinnedBack v before h s s' =
     ((row : HandleRow) × (told : Result (Unit {0}) Error) × (row_at before h ≡ Some row)
-    × (row.mode ≡ Mode.LooseUnpinned) × Called v (λ w'. UnpinCall s.core Owner.Caller h told w') s s')
+    × (row.mode ≡ Mode.LooseUnpinned) × MakesCall v (λ w'. UnpinCall s.core Owner.Caller h told w') s s')
     ⊎ ((row : HandleRow) × (row_at before h ≡ Some row) × (row.mode ≡ Mode.LoosePinned)
-    × Called v (λ w'. Alike s.core w') s s')
+    × MakesCall v (λ w'. Alike s.core w') s s')
 
 -- a pin that is undone since there was no memory to share its value
 pub record PinTakenBack {N E : Type 0} (v : Values N) (s : PagerState N E) (h : HandleNumber)
@@ -126,7 +127,7 @@ pub record PinTakenBack {N E : Type 0} (v : Values N) (s : PagerState N E) (h : 
   pub told : Result (Unit {0}) Error
   pub pins : PinRun v s h (Ok k) mid
   pub unpins : IsUnpinnedBack v s.core h mid low
-  pub releases : Called v (λ w'. ReleaseCall low.core Owner.Caller k told w') low s'
+  pub releases : MakesCall v (λ w'. ReleaseCall low.core Owner.Caller k told w') low s'
 
 -- What a pin returns, and what it leaves: a handle with its node's value, or an error.
 pub record PinsOver {N E : Type 0} (v : Values N) (s : PagerState N E) (h : HandleNumber)
@@ -135,12 +136,12 @@ pub record PinsOver {N E : Type 0} (v : Values N) (s : PagerState N E) (h : Hand
   pub refused : IfErr r (λ e. PinRun v s h (Err e) s' ⊎ ((e ≡ Error.OutOfMemory) × PinTakenBack v s h s'))
 
 abbrev pub KeyStarts : {N E : Type 0} → Values N → PagerState N E → ℕ → LoadNumber → PagerState N E → Type 0
-KeyStarts v s key l s' = Called v (λ w'. BeginKeyCall s.core Owner.Caller key (Ok (Beginning.Load l key)) w') s s'
+KeyStarts v s key l s' = MakesCall v (λ w'. BeginKeyCall s.core Owner.Caller key (Ok (Beginning.Load l key)) w') s s'
 
 pub data ReadRun {N E : Type 0} (v : Values N) (s : PagerState N E) (key t : ℕ) : Result N Error → PagerState N E
     → Type 0 where
   reading-is-refused : (e : Error) (s' : PagerState N E)
-      → Called v (λ w'. BeginKeyCall s.core Owner.Caller key (Err e) w') s s' → ReadRun v s key t (Err e) s'
+      → MakesCall v (λ w'. BeginKeyCall s.core Owner.Caller key (Err e) w') s s' → ReadRun v s key t (Err e) s'
   load-reads : (x : N) (l : LoadNumber) (mid s' : PagerState N E) → KeyStarts v s key l mid
       → LoadRun v Owner.Caller (fresh l t) mid (LoadAnswer.Read x) s' → ReadRun v s key t (Ok x) s'
   reading-fails : (e : Error) (l : LoadNumber) (mid s' : PagerState N E) → KeyStarts v s key l mid
@@ -159,12 +160,12 @@ AllHaveResults shelf = (i : Identity) (slot : Slot) → shelf.slots i ≡ Some s
 pub record WorkerStarts {N E : Type 0} (v : Values N) (core : Core) (s : PagerState N E) (n : ℕ)
     (s' : PagerState N E) : Type 0 where
   pub next : n ≡ s.core.last.worker + 1
-  pub begins : Called v (λ w'. Alike (with_worker core) w') s s'
+  pub begins : MakesCall v (λ w'. Alike (with_worker core) w') s s'
 
 pub data ItemRun {N E B W : Type 0} (m : Seen N B W) (s : AccessState N E) (item : Written) : WorkerAnswer
     → AccessState N E → Type 0 where
   no-worker : (e : Error) (s' : AccessState N E) → WorkerFault s.pager.core e ⊎ (e ≡ Error.OutOfMemory)
-      → Called m.values (λ w'. Alike s.pager.core w') s.pager s'.pager → SameShelf s.shelf s'.shelf
+      → MakesCall m.values (λ w'. Alike s.pager.core w') s.pager s'.pager → SameShelf s.shelf s'.shelf
       → ItemRun m s item (WorkerAnswer.Failed e) s'
   item-is-walked : (n : ℕ) (steps : List (Action W)) (answer : WorkerAnswer) (mid : PagerState N E)
       (s' : AccessState N E) → WorkerStarts m.values s.pager.core s.pager n mid
@@ -188,10 +189,10 @@ pub record EntryHas (w : Core) (place : ℕ) (h : HandleNumber) (key : OptionalD
 pub data EntryRun {N E B W : Type 0} (m : Seen N B W) (s : PagerState N E) (place : ℕ) : WorkerAnswer → PagerState N E
     → Type 0 where
   entry-is-refused : (h : HandleNumber) (row : HandleRow) (t : ℕ) (s' : PagerState N E) → IsEntry s.core place h row t
-      → HasNoKinds t → Called m.values (λ w'. Alike s.core w') s s'
+      → HasNoKinds t → MakesCall m.values (λ w'. Alike s.core w') s s'
       → EntryRun m s place (WorkerAnswer.Failed Error.WrongKind) s'
   no-entry-worker : (e : Error) (s' : PagerState N E) → WorkerFault s.core e
-      → Called m.values (λ w'. Alike s.core w') s s' → EntryRun m s place (WorkerAnswer.Failed e) s'
+      → MakesCall m.values (λ w'. Alike s.core w') s s' → EntryRun m s place (WorkerAnswer.Failed e) s'
   entry-is-walked : (h : HandleNumber) (row : HandleRow) (t n : ℕ) (steps : List (Action W)) (answer : WorkerAnswer)
       (mid : PagerState N E) (s' : AccessState N E) → IsEntry s.core place h row t → HasKinds t
       → WorkerStarts m.values (with_entry_taken s.core place h (record { 0 = n })) s n mid
@@ -206,8 +207,8 @@ pub data ListRun {N E B W : Type 0} (m : Seen N B W) : ℕ → PagerState N E �
   skips : (i place key : ℕ) (h : HandleNumber) (told : Result (Unit {0}) Error)
       (answer : Result (Unit {0}) WorkerAnswer) (s mid low s' : PagerState N E) → i ≡ place + 1
       → EntryHas s.core place h (OptionalDataKey.Some key)
-      → Called m.values (λ w'. TakeCall s.core Owner.Caller place (Some h) w') s mid
-      → Called m.values (λ w'. ReleaseCall mid.core Owner.Caller h told w') mid low → ListRun m place low answer s'
+      → MakesCall m.values (λ w'. TakeCall s.core Owner.Caller place (Some h) w') s mid
+      → MakesCall m.values (λ w'. ReleaseCall mid.core Owner.Caller h told w') mid low → ListRun m place low answer s'
       → ListRun m i s answer s'
   pages : (i place key : ℕ) (h : HandleNumber) (answer : Result (Unit {0}) WorkerAnswer) (s mid s' : PagerState N E) → i
       ≡ place + 1 → EntryHas s.core place h OptionalDataKey.None → EntryRun m s place (WorkerAnswer.Key key) mid
@@ -220,19 +221,19 @@ pub data ListRun {N E B W : Type 0} (m : Seen N B W) : ℕ → PagerState N E �
 -- existed before, and P holds of both
 abbrev pub LeadsToTrees : {N E : Type 0} → Values N → PagerState N E → PagerState N E
     → ((ℕ → Tree) → (ℕ → Tree) → Type 0) → Type 0
-LeadsToTrees v s s' P = IsLawful v → HoldsSettled v s → (trees : ℕ → Tree) → Represents v s trees → (trees' : ℕ
-    → Tree) × SameTrees s.core.last.node trees trees' × Represents v s' trees' × P trees trees'
+LeadsToTrees v s s' P = IsLawful v → HoldsSettled v s → (trees : ℕ → Tree) → PagerStandsFor v s trees → (trees' : ℕ
+    → Tree) × SameTrees s.core.last.node trees trees' × PagerStandsFor v s' trees' × P trees trees'
 
 -- The law of loads that end with a pin: the value of the pinned node stands for the node's tree.
 abbrev pub PinLaw : {N : Type 0} → (E : Type 0) → Values N → Type 0
 PinLaw {N} E v = (s mid s' : PagerState N E) (h k : HandleNumber) (reading : Reading) (x : N) (row : HandleRow)
     (run : LoadRun v Owner.Caller reading mid (LoadAnswer.Pinned k) s')
-    → WellFormed v s → LoadStarts v s h reading mid → LoadAsksWell run → row_at s'.core k ≡ Some row
+    → IsPagerWhole v s → LoadStarts v s h reading mid → LoadAsksWell run → row_at s'.core k ≡ Some row
     → s'.values row.node.0 ≡ Some x → LeadsToTrees v s s' (λ trees trees'. ValueStands v s' x (trees' row.node.0))
 
 -- The law of loads that read a key: the value that they return stands for the tree that the key reads as.
 abbrev pub ReadLaw : {N : Type 0} → (E : Type 0) → Values N → Type 0
 ReadLaw {N} E v = (s mid s' : PagerState N E) (key t : ℕ) (l : LoadNumber) (x : N)
     (run : LoadRun v Owner.Caller (fresh l t) mid (LoadAnswer.Read x) s')
-    → WellFormed v s → KeyStarts v s key l mid → LoadAsksWell run → IsSettled v x
+    → IsPagerWhole v s → KeyStarts v s key l mid → LoadAsksWell run → IsSettled v x
     → LeadsToTrees v s s' (λ trees trees'. ReadIsRight v s' key x)

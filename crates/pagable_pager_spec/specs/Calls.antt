@@ -1,4 +1,4 @@
--- The calls on handles, nodes, the cache and the storage: what each does to the pager's plain state, and why it fails.
+-- The calls on handles, nodes, the cache and the storage: what each does to the pager's core, and why it fails.
 -- `me` is the caller's part: the one who makes the call and owns what it returns.
 use Rattle.std.specs.{List.remove, Prelude.{[], Bool, Err, false, IfErr, IfOk, if◌then◌else◌, is_some, length, List, min, nat_lt, None, not, Ok, Option, Result, slice_get, Some, true, ℕ, ◌&&◌, ◌++◌}}
 use Rattle.std.specs.Prelude.{◌+◌, ◌-◌, ◌<◌, ◌==◌, ◌||◌, ◌∷◌, ◌≡◌, ◌≤◌, ◌⊎◌}
@@ -53,25 +53,25 @@ pub record IsNext (k : HandleNumber) (w : Core) : Type 0 where
   pub is_left : w.last.handle < greatest
 
 -- why a new node with a handle can't be made
-abbrev pub birth_fault : Core → Option Error
-birth_fault w = earlier (spent w.last.node) (spent w.last.handle)
+abbrev pub insert_fault : Core → Option Error
+insert_fault w = earlier (spent w.last.node) (spent w.last.handle)
 
 -- A call that inserts the value x, with one handle. On an error the caller has x back. The call may run out of memory
 -- even before it looks at the references.
-pub record BirthCall {N : Type 0} (w : Core) (me : Owner) (x : N) (node_type : ℕ) (references : List ArcRef)
+pub record InsertCall {N : Type 0} (w : Core) (me : Owner) (x : N) (node_type : ℕ) (references : List ArcRef)
     (mode : Mode) (r : Result HandleNumber (Error × N)) (w' : Core) : Type 0 where
   pub made : IfOk r (λ k. (references_fault w me [] references ≡ None) × (w.last.node < greatest) × IsNext k w
       × Alike (with_handle (with_node w node_type OptionalDataKey.None references) (next_node w) mode me) w')
-  pub refused : IfErr r (λ e. (e.1 ≡ x) × Refused (earlier (references_fault w me [] references) (birth_fault w)) None
+  pub refused : IfErr r (λ e. (e.1 ≡ x) × Refused (earlier (references_fault w me [] references) (insert_fault w)) None
       (Unit {0}) w e.0 w')
 
 -- a call that makes a cell with a key and no value, and one unpinned handle
-pub record AwayBirthCall (w : Core) (me : Owner) (node_type key : ℕ) (r : Result HandleNumber Error)
+pub record InsertPagedOutCall (w : Core) (me : Owner) (node_type key : ℕ) (r : Result HandleNumber Error)
     (w' : Core) : Type 0 where
   pub made : IfOk r (λ k. (w.last.node < greatest) × IsNext k w
       × Alike (with_handle (with_node w node_type (OptionalDataKey.Some key) []) (next_node w) Mode.LooseUnpinned me)
       w')
-  pub refused : IfErr r (λ e. Refused (birth_fault w) None (Unit {0}) w e w')
+  pub refused : IfErr r (λ e. Refused (insert_fault w) None (Unit {0}) w e w')
 
 -- why a clone fails before anything is allocated
 abbrev pub clone_fault : Core → HandleNumber → Option Error

@@ -1,66 +1,67 @@
--- One call of the pager: its effect on the plain state, and a reply of the call's type. One event: a call, or one step
+-- One call of the pager: its effect on the core, and a reply of the call's type. One event: a call, or one step
 -- of a load or of a worker.
 use Rattle.std.specs.{Prelude.{◌≡◌, length, ℕ, Bool, Option, Result, ◌+◌, ◌<◌, ◌≤◌, ◌⊎◌, if◌then◌else◌, true, List, Some, None, is_some, IfOk, IfErr, slice_get, is_none}, List.remove}
 use Rattle.pagable_pager_spec.specs.Basics.{Mode, Blob, Error, HandleNumber, WorkerNumber, Owner, Call, Found, Reply, Beginning, TableNumber, LoadReply, WorkerReply, EventReply, LoadNumber, HandleRow}
-use Rattle.pagable_pager_spec.specs.{Basics.{LoadAnswer, WorkerAnswer, Event, SameAt, updated, if_there, or_else}, Kinds.{loose_kind, HasKinds, HasNoKinds}, World.{Core, Alike, Seen, digest, seen_as}}
+use Rattle.pagable_pager_spec.specs.{Basics.{LoadAnswer, WorkerAnswer, Event, SameAt, updated, if_there, or_else}, Kinds.{loose_kind, HasKinds, HasNoKinds}, World.{Core, Alike, Seen, digest, result_map}}
 use Rattle.pagable_pager_spec.specs.World.{OpenLoad, of_cell, of_key, Root, Shelf, Frame, Reading, Task, of_item, of_entry, Walking, Work, World, row_at, type_at, one_more, SameShelf, Values}
-use Rattle.pagable_pager_spec.specs.{Cascade.only_handle, Refusals.{WorkerFault, earlier, load_fault, refused_if}, Calls.{BirthCall, AwayBirthCall, CloneCall, PinCall, UnpinCall, ReleaseCall, LoosenCall, SetKeyCall}}
+use Rattle.pagable_pager_spec.specs.{Cascade.only_handle, Refusals.{WorkerFault, earlier, load_fault, refused_if}, Calls.{InsertCall, InsertPagedOutCall, CloneCall, PinCall, UnpinCall, ReleaseCall, LoosenCall, SetKeyCall}}
 use Rattle.pagable_pager_spec.specs.Calls.{CountCall, KeyCall, AwayCall, NodeCall, TypeCall, ScheduleCall, TakeCall, room_of, ReserveCall, RecallCall, OfferCall, ClearCall, FetchCall, StoreCall}
-use Rattle.pagable_pager_spec.specs.{Calls.{FlushCall, CloseCall, moved}, LoadCalls.{BeginCall, BeginKeyCall, Given, from_cache, from_store, AskCall, AdoptCall, LazyCall, EndCall, HandOverCall, DropCall}}
-use Rattle.pagable_pager_spec.specs.{Loads.{ReadingDoes, gone_on}, Workers.{Site, WalkDoes, WorkerEnds, first_todo, fresh, answer_after, is_counted}}
+use Rattle.pagable_pager_spec.specs.{Calls.{FlushCall, CloseCall, moved}, LoadCalls.{BeginCall, BeginKeyCall, Given, from_cache, from_store, LoadFetchCall, AdoptCall, LazyCall, EndCall, HandOverCall, DropCall}}
+use Rattle.pagable_pager_spec.specs.{Loads.{ReadingDoes, gone_on}, Workers.{WorkerState, WalkDoes, WorkerEnds, first_todo, fresh, answer_after, is_counted}}
 
 -- what was found, with the blob as `Blob`
 abbrev pub given_of : {B : Type 0} → (B → Blob) → Found B → Given
 given_of f (Found.Cached k) = from_cache k
 given_of f (Found.Blob b) = from_store (f b)
 
-abbrev pub Does : {N B W : Type 0} → Seen N B W → Core → Owner → Call N B → Reply N B → Core → Type 0
-Does m w me (Call.NewPinned x) (Reply.Made r) w' = BirthCall w me x (m.values.node_type x)
+abbrev pub CallDoes : {N B W : Type 0} → Seen N B W → Core → Owner → Call N B → Reply N B → Core → Type 0
+CallDoes m w me (Call.NewPinned x) (Reply.Made r) w' = InsertCall w me x (m.values.node_type x)
     (m.values.references x) Mode.Pinned r w'
-Does m w me (Call.NewLoose x) (Reply.Made r) w' = BirthCall w me x (m.values.node_type x)
+CallDoes m w me (Call.NewLoose x) (Reply.Made r) w' = InsertCall w me x (m.values.node_type x)
     (m.values.references x) Mode.LoosePinned r w'
-Does m w me (Call.NewShared x) (Reply.Made r) w' = BirthCall w me x (m.values.node_type x)
+CallDoes m w me (Call.NewShared x) (Reply.Made r) w' = InsertCall w me x (m.values.node_type x)
     (m.values.references x) Mode.Shared r w'
-Does m w me (Call.NewPagedOut t key) (Reply.Handle r) w' = AwayBirthCall w me t key r w'
-Does m w me (Call.Clone h) (Reply.Handle r) w' = CloneCall w me h r w'
-Does m w me (Call.Pin h) (Reply.Pin r) w' = PinCall w me h r w'
-Does m w me (Call.Unpin h) (Reply.Done r) w' = UnpinCall w me h r w'
-Does m w me (Call.Release h) (Reply.Done r) w' = ReleaseCall w me h r w'
-Does m w me (Call.IntoPagable h) (Reply.Handle r) w' = LoosenCall w me h r w'
-Does m w me (Call.SetDataKey h key) (Reply.Done r) w' = SetKeyCall w me h key r w'
-Does m w me (Call.Count h) (Reply.Count r) w' = CountCall w h r × Alike w w'
-Does m w me (Call.Key h) (Reply.KeyFound r) w' = KeyCall w h r × Alike w w'
-Does m w me (Call.IsPagedOut h) (Reply.Away r) w' = AwayCall w h r × Alike w w'
-Does m w me (Call.NodeOf h) (Reply.Node r) w' = NodeCall w h r × Alike w w'
-Does m w me (Call.NodeLive n) (Reply.NodeType t) w' = TypeCall w n t × Alike w w'
-Does m w me (Call.ScheduleForPaging h) (Reply.Done r) w' = ScheduleCall w me h r w'
-Does m w me Call.Pending (Reply.Length n) w' = (n ≡ length w.list) × Alike w w'
-Does m w me (Call.TakePending i) (Reply.TakenPending h) w' = TakeCall w me i h w'
-Does m w me (Call.CacheGet kind key) (Reply.FromCache r) w' = RecallCall w me kind key r w'
-Does m w me (Call.OnArcDeserialized kind key h) (Reply.FromCache r) w' = OfferCall w me kind key h r w'
-Does m w me Call.CacheClear (Reply.Done r) w' = ClearCall w r w'
-Does m w me (Call.Fetch key) (Reply.Fetched r) w' = FetchCall w key (seen_as m.blob_of r) w'
-Does m w me (Call.Store b) (Reply.Stored r) w' = StoreCall (digest m.values) w (m.blob_of b) r w'
-Does m w me Call.Flush (Reply.Done r) w' = FlushCall w r w'
-Does m w me (Call.LoadBegin h) (Reply.Begun r) w' = BeginCall w me h r w'
-Does m w me (Call.LoadKey key) (Reply.Begun r) w' = BeginKeyCall w me key r w'
-Does m w me (Call.LoadFetch l want) (Reply.LoadFound r) w' = AskCall w me l want (seen_as (given_of m.blob_of) r) w'
-Does m w me (Call.LoadAdopt l kind key x) (Reply.Made r) w' =
+CallDoes m w me (Call.NewPagedOut t key) (Reply.Handle r) w' = InsertPagedOutCall w me t key r w'
+CallDoes m w me (Call.Clone h) (Reply.Handle r) w' = CloneCall w me h r w'
+CallDoes m w me (Call.Pin h) (Reply.Pin r) w' = PinCall w me h r w'
+CallDoes m w me (Call.Unpin h) (Reply.Done r) w' = UnpinCall w me h r w'
+CallDoes m w me (Call.Release h) (Reply.Done r) w' = ReleaseCall w me h r w'
+CallDoes m w me (Call.IntoPagable h) (Reply.Handle r) w' = LoosenCall w me h r w'
+CallDoes m w me (Call.SetDataKey h key) (Reply.Done r) w' = SetKeyCall w me h key r w'
+CallDoes m w me (Call.Count h) (Reply.Count r) w' = CountCall w h r × Alike w w'
+CallDoes m w me (Call.Key h) (Reply.KeyFound r) w' = KeyCall w h r × Alike w w'
+CallDoes m w me (Call.IsPagedOut h) (Reply.Away r) w' = AwayCall w h r × Alike w w'
+CallDoes m w me (Call.NodeOf h) (Reply.Node r) w' = NodeCall w h r × Alike w w'
+CallDoes m w me (Call.NodeLive n) (Reply.NodeType t) w' = TypeCall w n t × Alike w w'
+CallDoes m w me (Call.ScheduleForPaging h) (Reply.Done r) w' = ScheduleCall w me h r w'
+CallDoes m w me Call.Pending (Reply.Length n) w' = (n ≡ length w.list) × Alike w w'
+CallDoes m w me (Call.TakePending i) (Reply.TakenPending h) w' = TakeCall w me i h w'
+CallDoes m w me (Call.CacheGet kind key) (Reply.FromCache r) w' = RecallCall w me kind key r w'
+CallDoes m w me (Call.OnArcDeserialized kind key h) (Reply.FromCache r) w' = OfferCall w me kind key h r w'
+CallDoes m w me Call.CacheClear (Reply.Done r) w' = ClearCall w r w'
+CallDoes m w me (Call.Fetch key) (Reply.Fetched r) w' = FetchCall w key (result_map m.blob_of r) w'
+CallDoes m w me (Call.Store b) (Reply.Stored r) w' = StoreCall (digest m.values) w (m.blob_of b) r w'
+CallDoes m w me Call.Flush (Reply.Done r) w' = FlushCall w r w'
+CallDoes m w me (Call.LoadBegin h) (Reply.Begun r) w' = BeginCall w me h r w'
+CallDoes m w me (Call.LoadKey key) (Reply.Begun r) w' = BeginKeyCall w me key r w'
+CallDoes m w me (Call.LoadFetch l want) (Reply.LoadFound r) w' =
+    LoadFetchCall w me l want (result_map (given_of m.blob_of) r) w'
+CallDoes m w me (Call.LoadAdopt l kind key x) (Reply.Made r) w' =
     AdoptCall w me l kind key x (m.values.node_type x) (m.values.references x) r w'
-Does m w me (Call.LoadLazy l kind key) (Reply.Handle r) w' = LazyCall w me l kind key r w'
-Does m w me (Call.LoadEnd l x) (Reply.LoadEnded r) w' =
+CallDoes m w me (Call.LoadLazy l kind key) (Reply.Handle r) w' = LazyCall w me l kind key r w'
+CallDoes m w me (Call.LoadEnd l x) (Reply.LoadEnded r) w' =
     EndCall w me l x (m.values.node_type x) (m.values.references x) r w'
-Does m w me (Call.LoadTake l hs) (Reply.Done r) w' = HandOverCall w me l hs.items r w'
-Does m w me (Call.LoadDrop l) (Reply.Done r) w' = DropCall w me l r w'
-Does m w me (Call.Reserve n) (Reply.Done r) w' = ReserveCall w n r w'
-Does m w me Call.Room (Reply.Length n) w' = (n ≡ room_of w) × Alike w w'
-Does m w me Call.Close (Reply.Done r) w' = CloseCall w r w'
-Does m w me call reply w' = ⊥
+CallDoes m w me (Call.LoadTake l hs) (Reply.Done r) w' = HandOverCall w me l hs.items r w'
+CallDoes m w me (Call.LoadDrop l) (Reply.Done r) w' = DropCall w me l r w'
+CallDoes m w me (Call.Reserve n) (Reply.Done r) w' = ReserveCall w n r w'
+CallDoes m w me Call.Room (Reply.Length n) w' = (n ≡ room_of w) × Alike w w'
+CallDoes m w me Call.Close (Reply.Done r) w' = CloseCall w r w'
+CallDoes m w me call reply w' = ⊥
 
 -- In the state w the call of `me` may return this reply and lead to the state w'.
 pub record CallStep {N B W : Type 0} (m : Seen N B W) (w : Core) (me : Owner) (call : Call N B) (reply : Reply N B)
     (w' : Core) : Type 0 where
-  pub does : Does m w me call reply w'
+  pub does : CallDoes m w me call reply w'
 
 -- the loads' readings are these, except that a closed load has none
 abbrev pub ReadingsAre : (ℕ → Option Reading) → World → Type 0
@@ -212,7 +213,7 @@ Ends (Some answer) v w w' = WorkerEnds w v w'
 pub record WorkerSteps {N B W : Type 0} (m : Seen N B W) (u : World) (v : WorkerNumber) (reply : WorkerReply W)
     (u' : World) : Type 0 where
   pub walking : Walking
-  pub after : Site
+  pub after : WorkerState
   pub at : u.work.walkings v.0 ≡ Some walking
   pub at_work : walking.answer ≡ None
   pub does : WalkDoes m v.0 (record { core = u.core; shelf = u.work.shelves walking.table; todo = walking.todo })

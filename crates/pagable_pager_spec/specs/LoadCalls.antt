@@ -4,7 +4,7 @@ use Rattle.pagable_pager_spec.specs.Basics.{Mode, Error, OptionalDataKey, Kind, 
 use Rattle.pagable_pager_spec.specs.{Basics.{is_pinned_kind, if_there}, Kinds.{mode_of, is_loose, any_mode, owner_value, find_row, is_owned_by}, World.{Core, Root, of_cell, of_key, OpenLoad, greatest}}
 use Rattle.pagable_pager_spec.specs.{World.{type_at, key_at, is_here, usable, Alike}, Cascade.{Falls, FallsAnyhow}, Refusals.{earlier, where_so, refused_if, spent, AreHandlesFull, Owns, handle_fault}}
 use Rattle.pagable_pager_spec.specs.{Refusals.{references_fault, named_fault, OwnsLoad, load_fault, closed_fault, Refused}, Calls.{with_handle, with_mode, with_node, next_node, moved, is_named_by}}
-use Rattle.pagable_pager_spec.specs.Calls.{is_handle_here, birth_fault, IsNext, IsRefused, is_usable, with_known, with_cached_if_open, FetchCall}
+use Rattle.pagable_pager_spec.specs.Calls.{is_handle_here, insert_fault, IsNext, IsRefused, is_usable, with_known, with_cached_if_open, FetchCall}
 
 -- one more load, under the next number
 abbrev pub with_load : Core → ℕ → Root → Owner → Core
@@ -79,7 +79,7 @@ ask_fault w me l want = earlier (load_fault w me l) (where_so (is_known w want) 
 
 -- A load fetches the blob of its own key; or, for a reference, a handle of the node that the cache has, or else the
 -- blob.
-pub record AskCall (w : Core) (me : Owner) (l : LoadNumber) (want : Want) (r : Result Given Error)
+pub record LoadFetchCall (w : Core) (me : Owner) (l : LoadNumber) (want : Want) (r : Result Given Error)
     (w' : Core) : Type 0 where
   pub gives : IfOk r (λ given. (load : OpenLoad) × OwnsLoad w me l load × Asks w l load want given w')
   pub refused : IfErr r (λ e. Refused (ask_fault w me l want) (ask_fault w me l want)
@@ -98,7 +98,7 @@ adopted w l kind key own_key references = with_cached_if_open
 
 -- why no handle can be made: no number left for it, or, for a new node, for the node
 abbrev pub node_fault : Core → Kind → ℕ → Option Error
-node_fault w kind key = if is_usable w kind key then spent w.last.handle else birth_fault w
+node_fault w kind key = if is_usable w kind key then spent w.last.handle else insert_fault w
 
 abbrev pub adopt_fault : Core → Owner → LoadNumber → Kind → ℕ → ℕ → List ArcRef → Option Error
 adopt_fault w me l kind key node_type references =

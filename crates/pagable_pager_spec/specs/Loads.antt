@@ -1,7 +1,7 @@
 -- A load's steps: each fetches a blob, takes a cell without reading it, or makes a node; the last one pins, returns a
 -- value, or fails. The innermost of the load's blobs decides what the next step is.
 use Rattle.std.specs.Prelude.{[], Err, if◌then◌else◌, length, List, map, None, Ok, Option, Result, slice_get, Some, ℕ, ◌++◌, ◌+◌, ◌<◌, ◌==◌, ◌∷◌, ◌≡◌, ◌≤◌, ◌⊎◌}
-use Rattle.{pagable_value_spec.specs.{Reading.{read_typed, Rest}, Cursor.{Answer, handles_at}}, pagable_pager_spec.specs.LoadCalls.{AdoptCall, AskCall, EndCall, from_cache, from_store, HandOverCall}}
+use Rattle.{pagable_value_spec.specs.{Reading.{read_typed, Rest}, Cursor.{Answer, handles_at}}, pagable_pager_spec.specs.LoadCalls.{AdoptCall, LoadFetchCall, EndCall, from_cache, from_store, HandOverCall}}
 use Rattle.pagable_pager_spec.specs.{LoadCalls.{LazyCall, LoadCloses}, Basics.{ArcRef, Blob, Error, HandleNumber, HandleRow, is_eager, Kind, LoadAnswer, longest_path, Meaning, Owner, type_of, Types, Want}}
 use Rattle.pagable_pager_spec.specs.World.{Alike, Core, Frame, of_cell, of_key, one_more, OpenLoad, Reading, Root, row_at, Values}
 
@@ -97,7 +97,7 @@ pub record GetsRoot (w : Core) (me : Owner) (reading : Reading) (frames : List F
   pub blob : Blob
   pub first : reading.frames ≡ []
   pub open_load : w.loads reading.load.0 ≡ Some load
-  pub asked : AskCall w me reading.load Want.Root (Ok (from_store blob)) w'
+  pub asked : LoadFetchCall w me reading.load Want.Root (Ok (from_store blob)) w'
   pub goes : frames ≡ root_frame load.key reading.node_type blob ∷ []
 
 -- the load has got a handle by this call, where this was needed
@@ -115,7 +115,7 @@ pub record GetsHandle (types : Types) (reading : Reading) (needed : Kind → ℕ
 -- the load has got a handle of a node that the cache has
 abbrev pub GetsCached : Types → Core → Owner → Reading → List Frame → Core → Type 0
 GetsCached types w me reading frames w' = GetsHandle types reading needs_nested
-    (λ kind key k. AskCall w me reading.load (Want.Nested kind key) (Ok (from_cache k)) w') frames w'
+    (λ kind key k. LoadFetchCall w me reading.load (Want.Nested kind key) (Ok (from_cache k)) w') frames w'
 
 -- the load has got a handle of a cell without reading it
 abbrev pub GetsLazy : Types → Core → Owner → Reading → List Frame → Core → Type 0
@@ -130,7 +130,7 @@ pub record GetsBlob (types : Types) (w : Core) (me : Owner) (reading : Reading) 
   pub blob : Blob
   pub needs : need_of types reading.frames ≡ needs_nested kind key
   pub short : length reading.frames ≤ longest_path
-  pub asked : AskCall w me reading.load (Want.Nested kind key) (Ok (from_store blob)) w'
+  pub asked : LoadFetchCall w me reading.load (Want.Nested kind key) (Ok (from_store blob)) w'
   pub goes : frames ≡ nested_frame kind key blob ∷ reading.frames
 
 -- the innermost blob reads as x, and it isn't the root's
@@ -208,9 +208,9 @@ abbrev pub RefusesNested : Types → Core → Owner → Reading → Error → Co
 RefusesNested types w me reading e w' = (kind : Kind)
     × (key : ℕ)
     × (need_of types reading.frames ≡ needs_nested kind key)
-    × (AskCall w me reading.load (Want.Nested kind key) (Err e) w'
+    × (LoadFetchCall w me reading.load (Want.Nested kind key) (Err e) w'
     ⊎ ((blob : Blob) × (e ≡ Error.TooDeep) × (longest_path < length reading.frames)
-    × AskCall w me reading.load (Want.Nested kind key) (Ok (from_store blob)) w'))
+    × LoadFetchCall w me reading.load (Want.Nested kind key) (Ok (from_store blob)) w'))
 
 pub record RefusesNode {N : Type 0} (v : Values N) (w : Core) (me : Owner) (reading : Reading) (e : Error)
     (w' : Core) : Type 0 where
@@ -231,7 +231,7 @@ pub record RefusesRoot {N : Type 0} (v : Values N) (w : Core) (me : Owner) (read
 -- a step fails with this error, and the load is still open
 abbrev pub Meets : {N : Type 0} → Values N → Core → Owner → Reading → Error → Core → Type 0
 Meets v w me reading e w' = (RefusesBlob v reading e × Alike w w')
-    ⊎ ((reading.frames ≡ []) × AskCall w me reading.load Want.Root (Err e) w')
+    ⊎ ((reading.frames ≡ []) × LoadFetchCall w me reading.load Want.Root (Err e) w')
     ⊎ RefusesNested v.types w me reading e w'
     ⊎ ((kind : Kind) × (key : ℕ) × (need_of v.types reading.frames ≡ needs_lazy kind key)
     × LazyCall w me reading.load kind key (Err e) w')
@@ -239,7 +239,7 @@ Meets v w me reading e w' = (RefusesBlob v reading e × Alike w w')
     ⊎ RefusesRoot v w me reading e w'
 
 -- A step failed: the load is closed, and what it owns is released.
-pub record GivesUp {N : Type 0} (v : Values N) (w : Core) (me : Owner) (reading : Reading) (e : Error)
+pub record ClosesAfterFailure {N : Type 0} (v : Values N) (w : Core) (me : Owner) (reading : Reading) (e : Error)
     (w' : Core) : Type 0 where
   pub mid : Core
   pub meets : Meets v w me reading e mid
@@ -254,19 +254,20 @@ pub record EndsClosed {N : Type 0} (v : Values N) (w : Core) (me : Owner) (readi
   pub ended : EndCall w me reading.load x (v.node_type x) (v.references x) (Err (e, None)) w'
 
 abbrev pub Fails : {N : Type 0} → Values N → Core → Owner → Reading → Error → Core → Type 0
-Fails v w me reading e w' = GivesUp v w me reading e w' ⊎ EndsClosed v w me reading e w'
+Fails v w me reading e w' = ClosesAfterFailure v w me reading e w' ⊎ EndsClosed v w me reading e w'
 
-abbrev pub Does : {N : Type 0} → Values N → Core → Owner → Reading → Option (LoadAnswer N) → List Frame → Core → Type 0
-Does v w me reading None frames w' = GoesOn v w me reading frames w'
-Does v w me reading (Some (LoadAnswer.Pinned k)) frames w' = EndsPinned v w me reading k w' × (frames ≡ [])
-Does v w me reading (Some (LoadAnswer.Read x)) frames w' = EndsRead v w me reading x w' × (frames ≡ [])
-Does v w me reading (Some (LoadAnswer.Refused e)) frames w' = Fails v w me reading e w' × (frames ≡ [])
+abbrev pub LoadDoes : {N : Type 0} → Values N → Core → Owner → Reading → Option (LoadAnswer N) → List Frame → Core
+    → Type 0
+LoadDoes v w me reading None frames w' = GoesOn v w me reading frames w'
+LoadDoes v w me reading (Some (LoadAnswer.Pinned k)) frames w' = EndsPinned v w me reading k w' × (frames ≡ [])
+LoadDoes v w me reading (Some (LoadAnswer.Read x)) frames w' = EndsRead v w me reading x w' × (frames ≡ [])
+LoadDoes v w me reading (Some (LoadAnswer.Refused e)) frames w' = Fails v w me reading e w' × (frames ≡ [])
 
 -- What a load's step returns, which frames the load has afterwards, and what the step does to the pager. It changes
 -- nothing else.
 pub record ReadingDoes {N : Type 0} (v : Values N) (w : Core) (me : Owner) (reading : Reading)
     (answer : Option (LoadAnswer N)) (frames : List Frame) (w' : Core) : Type 0 where
-  pub does : Does v w me reading answer frames w'
+  pub does : LoadDoes v w me reading answer frames w'
 
 -- the reading after one more step
 abbrev pub gone_on : Reading → List Frame → Reading

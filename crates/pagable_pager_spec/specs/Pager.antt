@@ -1,4 +1,4 @@
--- The pager and the machine as contracts see them: the plain state, a count for each node, the values in memory and the
+-- The pager and the machine as contracts see them: the core, a count for each node, the values in memory and the
 -- environment; their invariants; and what a step does to values. What nodes stand for, by recursion on trees that never
 -- leave memory; and when a pager stands for its nodes' trees.
 use Rattle.std.specs.Prelude.{ℕ, ◌≡◌, ◌<◌, ◌≤◌, ◌==◌, ◌&&◌, ◌⊎◌, true, false, List, [], ◌∷◌, length, Option, Some, None, is_some, is_none, Result, Ok, Err, IfOk, nat_lt, ℤ, map, slice_get}
@@ -10,7 +10,7 @@ use Rattle.pagable_pager_spec.specs.World.{Core, OpenLoad, Root, of_cell, of_key
 use Rattle.pagable_pager_spec.specs.{Basics.{Tree, Types, is_eager, tree, ReadsTree, is_shared_kind}, Kinds.{is_pinning, is_loose, is_shared, is_owned_by, owner_value, is_handle, held, pins, sharing, has_key}}
 use Rattle.pagable_pager_spec.specs.{World.Frame, Refusals.IsReference, Calls.Looks, Loads.{ReadsNode, ReadsRoot, asks, next_in}, Events.reading_at}
 
--- the pager: its plain state, the kept counts and the values by the numbers of their nodes, and the environment
+-- the pager: its core, the kept counts and the values by the numbers of their nodes, and the environment
 pub record PagerState (N E : Type 0) : Type 0 where
   pub core : Core
   pub counts : ℕ → ℕ
@@ -88,7 +88,7 @@ pub record IsWhole (w : Core) : Type 0 where
   pub shut : w.closed ≡ true → (w.list ≡ []) × ((kind key : ℕ) → w.cache kind key ≡ None)
 
 -- the invariant of a pager, which every call keeps
-pub record WellFormed {N E : Type 0} (v : Values N) (s : PagerState N E) : Type 0 where
+pub record IsPagerWhole {N E : Type 0} (v : Values N) (s : PagerState N E) : Type 0 where
   pub whole : IsWhole s.core
   -- the kept count of a node is the number of handles that pin it
   pub counted : (n : ℕ) → s.counts n ≡ pins n s.core.rows
@@ -97,9 +97,10 @@ pub record WellFormed {N E : Type 0} (v : Values N) (s : PagerState N E) : Type 
   pub typed : (n : ℕ) (x : N) → s.values n ≡ Some x → type_at s.core n ≡ Some (v.node_type x)
   -- the handles that a value owns are exactly its references: each fits its kind's mode, and is a handle of the node
   -- that it names
-  pub inside : (n : ℕ) (x : N) (q : ℕ) → s.values n ≡ Some x → times (λ (r : ArcRef). r.handle.0 == q) (v.references x)
+  pub owns_references : (n : ℕ) (x : N) (q : ℕ) → s.values n ≡ Some x
+      → times (λ (r : ArcRef). r.handle.0 == q) (v.references x)
       ≡ times (λ h. is_handle q h && is_owned_by (owner_value n) h) s.core.rows
-  pub bare : (n : ℕ) → s.values n ≡ None → times (is_owned_by (owner_value n)) s.core.rows ≡ 0
+  pub owns_nothing : (n : ℕ) → s.values n ≡ None → times (is_owned_by (owner_value n)) s.core.rows ≡ 0
   pub references : (n : ℕ) (x : N) (r : ArcRef) → s.values n ≡ Some x → Among (v.references x) r
       → IsReference s.core (owner_value n) r
 
@@ -136,11 +137,11 @@ pub record IsWalkingWhole (w : Core) (work : Work) (v : ℕ) (walking : Walking)
 
 -- The invariant of a machine, which every event keeps. It says nothing about trees, order and past events.
 pub record IsMachineWhole {N E : Type 0} (v : Values N) (s : MachineState N E) : Type 0 where
-  pub pager : WellFormed v s.pager
+  pub pager : IsPagerWhole v s.pager
   pub readings : (l : ℕ) (reading : Reading) → s.work.readings l ≡ Some reading → IsReadingWhole s.pager.core l reading
   pub walkings : (n : ℕ) (walking : Walking) → s.work.walkings n ≡ Some walking
       → IsWalkingWhole s.pager.core s.work n walking
-  pub all_there : (n : ℕ) → s.pager.core.workers n ≡ true → is_some (s.work.walkings n) ≡ true
+  pub each_walks : (n : ℕ) → s.pager.core.workers n ≡ true → is_some (s.work.walkings n) ≡ true
 
 -- a new pager over a storage: nothing in it, no number given out, and any contents of the storage
 pub record IsNew {N E : Type 0} (s : PagerState N E) : Type 0 where
@@ -322,7 +323,7 @@ ReadingFits v s trees reading = (load : OpenLoad) → s.core.loads reading.load.
 -- The pager stands for its nodes' trees, which each node keeps for ever: each live node stands for its tree, which is
 -- of its type; the key of a load of a cell reads as the cell's tree; and the key of an entry of the cache reads as its
 -- node's tree.
-pub record Represents {N E : Type 0} (v : Values N) (s : PagerState N E) (trees : ℕ → Tree) : Type 0 where
+pub record PagerStandsFor {N E : Type 0} (v : Values N) (s : PagerState N E) (trees : ℕ → Tree) : Type 0 where
   pub stands : (n : ℕ) → 0 < held n s.core.rows → NodeStands v s n (trees n)
   pub typed : (n : ℕ) → 0 < held n s.core.rows → type_at s.core n ≡ Some (trees n).type
   pub loads : (l : ℕ) (load : OpenLoad) (node : NodeNumber) (t : ℕ) (h : HandleNumber) → s.core.loads l ≡ Some load
@@ -339,7 +340,7 @@ pub data IsReadingOf (work : Work) (reading : Reading) : Type 0 where
 
 -- the machine's pager stands for the trees, and the readings fit them
 pub record StandsFor {N E : Type 0} (v : Values N) (s : MachineState N E) (trees : ℕ → Tree) : Type 0 where
-  pub pager : Represents v s.pager trees
+  pub pager : PagerStandsFor v s.pager trees
   pub readings : (reading : Reading) → IsReadingOf s.work reading → ReadingFits v s.pager trees reading
 
 -- each node with a number up to `last` keeps its tree

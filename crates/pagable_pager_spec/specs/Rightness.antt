@@ -18,7 +18,8 @@ pub record GivesTree {N E : Type 0} (v : Values N) (s : PagerState N E) (trees :
   pub held : s.values row.node.0 ≡ Some x
   pub stands : ValueStands v s x (trees row.node.0)
 
--- each pin that succeeds pins a value that stands for the tree of the handle's node
+-- Each pin that succeeds pins a value that stands for the tree of the handle's node. That the new handle is of the same
+-- node as the old one is said by the step (`PinCall`, `EndCall`).
 abbrev pub PinGives : {N E B W : Type 0} → Values N → Fact N E B W
 PinGives v s trees (Event.Call (Call.Pin h)) (EventReply.CallReply (Reply.Pin (Ok (Pinning.Pinned k)))) s' trees' =
     GivesTree v s'.pager trees' k
@@ -104,6 +105,7 @@ AnswersKey P s trees (Event.WorkerStep n) (EventReply.WorkerMoved (Ok reply)) s'
     → P s' trees' walking key
 AnswersKey P s trees event reply s' trees' = Unit {0}
 
+-- a worker that returns a key leaves all that it met paged out
 abbrev pub AnswerLeavesAll : {N E B W : Type 0} → Values N → Fact N E B W
 AnswerLeavesAll v = AnswersKey (λ s trees walking key. LeavesAll v s.pager (s.work.shelves walking.table) trees
     walking.task)
@@ -153,7 +155,7 @@ claims_made walkings t i (event ∷ more) [] = 0
 -- no identity is claimed twice on a table, and whatever is claimed is met by a worker of the table
 pub record ClaimsAreRight {N B W : Type 0} (u : World) (happened : List (Event N B W))
     (replied : List (EventReply N B W)) : Type 0 where
-  pub distinct : (t : ℕ) (i : Identity) → claims_made u.work.walkings t i happened replied ≤ 1
+  pub at_most_once : (t : ℕ) (i : Identity) → claims_made u.work.walkings t i happened replied ≤ 1
   pub met : (t : ℕ) (i : Identity) → is_some ((u.work.shelves t).slots i) ≡ true → TableMeets u t i
 
 -- another worker claimed the identity and failed

@@ -88,9 +88,9 @@ pub record Moment (N E B W : Type 0) : Type 0 where
   pub reply : EventReply N B W
   pub after : MachineState N E
 
--- One event: its step of the plain state, what it does to values, and the machine's invariant afterwards. Trees are no
+-- One event: its step of the world, what it does to values, and the machine's invariant afterwards. Trees are no
 -- part of it: that nodes keep them is a law of chains.
-pub record Does {N E B W : Type 0} (m : Seen N B W) (s : MachineState N E) (event : Event N B W)
+pub record EventDoes {N E B W : Type 0} (m : Seen N B W) (s : MachineState N E) (event : Event N B W)
     (reply : EventReply N B W) (s' : MachineState N E) : Type 0 where
   pub step : Step m (world_of s) event reply (world_of s')
   pub moves : Moves (EventBrings m.values (world_of s) event) s.pager s'.pager
@@ -100,7 +100,7 @@ pub record Does {N E B W : Type 0} (m : Seen N B W) (s : MachineState N E) (even
 
 abbrev pub AreMoments : {N E B W : Type 0} → Seen N B W → MachineState N E → List (Moment N E B W) → Type 0
 AreMoments m s [] = Unit {0}
-AreMoments m s (x ∷ xs) = Does m s x.event x.reply x.after × AreMoments m x.after xs
+AreMoments m s (x ∷ xs) = EventDoes m s x.event x.reply x.after × AreMoments m x.after xs
 
 unfoldable pub state_after : {N E B W : Type 0} → MachineState N E → List (Moment N E B W) → MachineState N E
 state_after s [] = s

@@ -1,8 +1,12 @@
--- The theorem on one page. For every hash, all value types, every storage and every list of events of callers, loads and workers:
--- each pin that succeeds gives the tree its handle was made with, each count is the number of pinning handles, a cell holds its
--- value exactly while it is pinned or has no key, and each page-out that succeeds claims every node at most once and answers a
--- canonical value's Merkle key. It is proved as the law `headline` of `pagable_theorems`, and `Machine::run` of `pagable` has it as
--- its contract. That its premises can be met is the law `two_levels_meet_the_headline` there.
+-- The theorem on one page.
+--
+-- For every hash, every registry of distinct tags and every list of steps of callers, loads and workers, each pin that
+-- succeeds gives the tree its handle was made with, each count is the number of handles that pin, a cell holds its
+-- value exactly while it is pinned or keyless, and each page-out that succeeds claims every node at most once, by each
+-- kind of reference, and answers a canonical value's Merkle key.
+--
+-- It is proved as the law `headline` of `pagable_theorems`, and `Machine::run` of `pagable` has it as its contract.
+-- That its premises can be met is the law `two_levels_meet_the_headline`.
 use Rattle.std.specs.Prelude.{List, ℕ}
 use Rattle.pagable_pager_spec.specs.{Basics.Tree, Pager.{IsIdle, IsMachineWhole, MachineState, StandsFor}, Rightness.{IsRight, StepsAreWithin, WorkIsRight}}
 use Rattle.pagable_pager_spec.specs.{Runs.{AreMoments, HoldsSettled, Moment, TreesAlong, events_of, replies_of, state_after}, World.{IsLawful, Seen}}
@@ -10,22 +14,25 @@ use Rattle.pagable_pager_spec.specs.{Runs.{AreMoments, HoldsSettled, Moment, Tre
 -- What holds of a chain of moments, each an event, its reply and the machine after it.
 pub record Headline {N E B W : Type 0} (m : Seen N B W) (start : MachineState N E)
     (moments : List (Moment N E B W)) : Type 0 where
-  -- Each event is a step of the plain world and leaves the machine whole: so each count is the number of pinning handles, and a cell
-  -- holds its value exactly while it is pinned or has no key. Read next: `Does` (Runs), `IsMachineWhole` (Pager), `IsWhole` (World).
+  -- Each event is a step of the world (`Step`, Events) and leaves the machine whole: so each count is the number of
+  -- pinning handles, and a cell holds its value exactly while it is pinned or has no key. This is the premise again:
+  -- each call owes it. Read next: `EventDoes` (Runs), `IsMachineWhole` (Pager), `IsWhole` (World).
   pub chain : AreMoments m start moments
-  -- Workers take their steps in order, no identity is claimed twice on a table, a failure is one that somebody met, and who has
-  -- answered has let everything go. Read next: `ClaimsAreRight`, `WorkerIsRight` (Rightness).
+  -- Workers take their steps in order, no identity is claimed twice on a table, a failure is one that somebody met, and
+  -- who has answered has let everything go. Read next: `ClaimsAreRight`, `WorkerIsRight` (Rightness).
   pub work : WorkIsRight m (state_after start moments) (events_of moments) (replies_of moments)
   -- No load takes more than two steps for each reference, and two. Read next: `IsWithinBound` (Order).
   pub loads : StepsAreWithin m.values start moments
-  -- And by trees: if the machine stands for these trees (`StandsFor`, Pager), the value types are lawful (`IsLawful`, World) and no
-  -- value is written to later (`HoldsSettled`, Runs), then every event that was asked well (`IsPremised`, Runs) is right: each pin
-  -- gives its tree, each page-out leaves all that it met stored and answers its key. Read next: `IsRight` (Rightness).
+  -- And by trees: if the machine stands for these trees (`StandsFor`, Pager), the value types are lawful (`IsLawful`,
+  -- World) and no value is written to later (`HoldsSettled`, Runs), then every event that was asked well (`IsPremised`,
+  -- Runs) is right: each pin gives its tree, each page-out leaves all that it met stored and answers its key. Read
+  -- next: `IsRight` (Rightness).
   pub trees : (trees : ℕ → Tree) → StandsFor m.values start trees → IsLawful m.values
       → HoldsSettled m.values start.pager
       → TreesAlong m (IsRight m.values) start trees moments
 
--- The law: it holds of every chain that begins at a whole machine (`IsMachineWhole`) for which nobody works yet (`IsIdle`).
+-- The law: it holds of every chain that begins at a whole machine (`IsMachineWhole`) for which nobody works yet
+-- (`IsIdle`).
 abbrev pub HeadlineLaw : {N B W : Type 0} → (E : Type 0) → Seen N B W → Type 0
 HeadlineLaw {N} {B} {W} E m = (start : MachineState N E) (moments : List (Moment N E B W))
     → IsMachineWhole m.values start → IsIdle start → AreMoments m start moments → Headline m start moments

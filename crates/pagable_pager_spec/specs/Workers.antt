@@ -6,7 +6,7 @@ use Rattle.pagable_value_spec.specs.Merkle.{blob_of}
 use Rattle.pagable_pager_spec.specs.Basics.{Pinning, Error, ArcRef, Identity, HandleNumber, LoadNumber, type_of, Owner, HandleRow, Claim, PinStep, Action, WorkerAnswer, updated, is_eager, longest_path, above}
 use Rattle.pagable_pager_spec.specs.World.{Core, OpenLoad, Shelf, Slot, Outcome, no_result, published, failed, Written, Frame, Reading, Fault, was_refused, was_failed, answer_of_fault, Todo, to_start}
 use Rattle.pagable_pager_spec.specs.World.{to_pin, to_load, to_write, to_finish, to_item, to_set, to_publish, to_release, to_fail, Task, of_item, of_entry, row_at, is_identity, Alike, SameShelf, Values}
-use Rattle.pagable_pager_spec.specs.{Basics.{if_there, is_loose_kind, Beginning, LoadAnswer}, Kinds.{identity_of, is_owner, is_loose, owner_worker, find_row, is_at, is_owned_by}, World.{Seen, digest, seen_as}}
+use Rattle.pagable_pager_spec.specs.{Basics.{if_there, is_loose_kind, Beginning, LoadAnswer}, Kinds.{identity_of, is_owner, is_loose, owner_worker, find_row, is_at, is_owned_by}, World.{Seen, digest, result_map}}
 use Rattle.pagable_pager_spec.specs.{Cascade.FallsAnyhow, Refusals.row_fault, Calls.{CloneCall, PinCall, SetKeyCall, ScheduleCall, StoreCall}, LoadCalls.BeginCall, Loads.{ReadingDoes, gone_on}}
 
 -- the depth of a child on the path: one more than its parent's, or 0 for a loose reference, which begins a new path
@@ -19,17 +19,17 @@ next_start place [] = []
 next_start place (r ∷ rs) = to_start r (place_below place r.kind.0) ∷ []
 
 -- the front of the list waits for its next reference, if one is left
-abbrev pub settle : List Todo → List Todo
-settle (to_finish o ∷ below) = next_start o.place (drop (length o.keys) o.written.references) ++ to_finish o ∷ below
-settle (to_item written keys ∷ below) = next_start 0 (drop (length keys) written.references) ++ to_item written keys
+abbrev pub advance : List Todo → List Todo
+advance (to_finish o ∷ below) = next_start o.place (drop (length o.keys) o.written.references) ++ to_finish o ∷ below
+advance (to_item written keys ∷ below) = next_start 0 (drop (length keys) written.references) ++ to_item written keys
     ∷ below
-settle todo = todo
+advance todo = todo
 
 -- key and height of a reference are given to its parent, which waits for them at the front
 abbrev pub give : ArcRef → ℕ → ℕ → List Todo → List Todo
-give r key height (to_finish o ∷ below) = settle (to_finish
+give r key height (to_finish o ∷ below) = advance (to_finish
     (record o { keys = o.keys ++ key ∷ []; height = max o.height (above r.kind.0 height) }) ∷ below)
-give r key height (to_item written keys ∷ below) = settle (to_item written (keys ++ key ∷ []) ∷ below)
+give r key height (to_item written keys ∷ below) = advance (to_item written (keys ++ key ∷ []) ∷ below)
 give r key height todo = todo
 
 -- the same for a reference that was paged out already; for a listed cell no parent waits, and its handle is to be
@@ -40,12 +40,12 @@ give_known r key height (x ∷ below) = give r key height (x ∷ below)
 
 -- the references of a written node are to be walked
 abbrev pub open_node : ArcRef → ℕ → HandleNumber → Written → List Todo → List Todo
-open_node r place through written below = settle (to_finish
+open_node r place through written below = advance (to_finish
     (record { reference = r; place = place; through = through; written = written; keys = []; height = 0 }) ∷ below)
 
 -- what a worker has to do at first
 abbrev pub first_todo : Task → List Todo
-first_todo (of_item written) = settle (to_item written [] ∷ [])
+first_todo (of_item written) = advance (to_item written [] ∷ [])
 first_todo (of_entry h i) = to_start (record { kind = i.kind; node = i.node; handle = h }) 0 ∷ []
 
 -- the list entry of a worker that hasn't pinned its cell yet; the entry is listed again if the walk fails
@@ -63,7 +63,7 @@ abbrev pub failing_by : Error → List Todo → List Todo
 failing_by e todo = failing (was_refused e) todo
 
 -- where a worker works: the pager's state, the worker's table, and what it has to do
-pub record Site : Type 0 where
+pub record WorkerState : Type 0 where
   pub core : Core
   pub shelf : Shelf
   pub todo : List Todo
@@ -75,13 +75,13 @@ abbrev pub with_wait : Shelf → ℕ → Option Identity → Shelf
 with_wait shelf v i = record shelf { waits = updated v i shelf.waits }
 
 -- a step that leaves the pager alone: the table and the list afterwards
-pub record Turns (s : Site) (shelf : Shelf) (todo : List Todo) (s' : Site) : Type 0 where
+pub record Turns (s : WorkerState) (shelf : Shelf) (todo : List Todo) (s' : WorkerState) : Type 0 where
   pub pager_stays : Alike s.core s'.core
   pub table_is : SameShelf shelf s'.shelf
   pub list_is : s'.todo ≡ todo
 
 -- a step that leaves the table alone and may change the pager: the list afterwards
-pub record GoesTo (s : Site) (todo : List Todo) (s' : Site) : Type 0 where
+pub record GoesTo (s : WorkerState) (todo : List Todo) (s' : WorkerState) : Type 0 where
   pub table_stays : SameShelf s.shelf s'.shelf
   pub list_is : s'.todo ≡ todo
 
@@ -129,7 +129,7 @@ IsTooDeep s v i place = (longest_path < place) ⊎ ((key height : ℕ) × IsPubl
     × (longest_path < place + height)) ⊎ ((slot : Slot) × IsOpenSlot s i slot × ComesBack s v slot.worker)
 
 -- What a claim finds, and what is to be done then. A claim that needn't wait ends the note that the worker waits.
-abbrev pub Finds : ℕ → Site → ArcRef → ℕ → List Todo → Claim → Site → Type 0
+abbrev pub Finds : ℕ → WorkerState → ArcRef → ℕ → List Todo → Claim → WorkerState → Type 0
 Finds v s r place below Claim.Claimed s' = (place ≤ longest_path)
     × (s.shelf.slots (identity_of r) ≡ None)
     × Turns s (with_slot (with_wait s.shelf v None) (identity_of r)
@@ -144,8 +144,9 @@ Finds v s r place below Claim.AlreadyFailed s' = (place ≤ longest_path)
     × ((slot : Slot) × (s.shelf.slots (identity_of r) ≡ Some slot) × (slot.outcome ≡ failed))
     × Turns s (with_wait s.shelf v None) (failing was_failed s.todo) s'
 
-pub record Claims (v : ℕ) (s : Site) (r : ArcRef) (place : ℕ) (below : List Todo) (result : Result Claim Error)
-    (s' : Site) : Type 0 where
+pub record ClaimStep (v : ℕ) (s : WorkerState) (r : ArcRef) (place : ℕ) (below : List Todo)
+    (result : Result Claim Error)
+    (s' : WorkerState) : Type 0 where
   pub finds : IfOk result (λ c. (claim_fault s.core r ≡ None) × Finds v s r place below c s')
   pub refused : IfErr result (λ e. ((claim_fault s.core r ≡ Some e)
       ⊎ ((claim_fault s.core r ≡ None) × (e ≡ Error.TooDeep) × IsTooDeep s.shelf v (identity_of r) place)
@@ -180,7 +181,7 @@ PinRefused w me r e w' = CloneCall w me r.handle (Err e) w'
 abbrev pub fresh : LoadNumber → ℕ → Reading
 fresh l t = record { load = l; node_type = t; frames = []; steps = 0 }
 
-abbrev pub PinsFirst : ℕ → Site → ArcRef → ℕ → List Todo → PinStep → Site → Type 0
+abbrev pub PinsFirst : ℕ → WorkerState → ArcRef → ℕ → List Todo → PinStep → WorkerState → Type 0
 PinsFirst v s r place below (PinStep.Held k) s' = (through : HandleNumber)
     × PinsAtOnce s.core (owner_worker v) r through k s'.core × GoesTo s (to_write r place through ∷ below) s'
 PinsFirst v s r place below (PinStep.LoadBegun l) s' =
@@ -189,13 +190,15 @@ PinsFirst v s r place below (PinStep.LoadBegun l) s' =
 PinsFirst v s r place below PinStep.LoadWent s' = ⊥
 
 -- the claimed node is pinned, or a load of it begins
-pub record PinsClaimed (v : ℕ) (s : Site) (r : ArcRef) (place : ℕ) (below : List Todo) (result : Result PinStep Error)
-    (s' : Site) : Type 0 where
+pub record PinsClaimed (v : ℕ) (s : WorkerState) (r : ArcRef) (place : ℕ) (below : List Todo)
+    (result : Result PinStep Error)
+    (s' : WorkerState) : Type 0 where
   pub pins : IfOk result (λ p. PinsFirst v s r place below p s')
   pub refused : IfErr result (λ e. PinRefused s.core (owner_worker v) r e s'.core × GoesTo s (failing_by e s.todo) s')
 
-abbrev pub LoadsOn : {N : Type 0} → Values N → ℕ → Site → ArcRef → ℕ → HandleNumber → Reading → List Todo → PinStep
-    → Site → Type 0
+abbrev pub LoadsOn : {N : Type 0} → Values N → ℕ → WorkerState → ArcRef → ℕ → HandleNumber → Reading → List Todo
+    → PinStep
+    → WorkerState → Type 0
 LoadsOn m v s r place through reading below (PinStep.Held k) s' =
     ReadingDoes m s.core (owner_worker v) reading (Some (LoadAnswer.Pinned k)) [] s'.core
     × GoesTo s (to_write r place through ∷ below) s'
@@ -205,8 +208,9 @@ LoadsOn m v s r place through reading below PinStep.LoadWent s' =
     × GoesTo s (to_load r place through (gone_on reading frames) ∷ below) s'
 
 -- the worker's load makes a step, which may end it with the pin
-pub record PinsLoaded {N : Type 0} (m : Values N) (v : ℕ) (s : Site) (r : ArcRef) (place : ℕ) (through : HandleNumber)
-    (reading : Reading) (below : List Todo) (result : Result PinStep Error) (s' : Site) : Type 0 where
+pub record PinsLoaded {N : Type 0} (m : Values N) (v : ℕ) (s : WorkerState) (r : ArcRef) (place : ℕ)
+    (through : HandleNumber)
+    (reading : Reading) (below : List Todo) (result : Result PinStep Error) (s' : WorkerState) : Type 0 where
   pub goes : IfOk result (λ p. LoadsOn m v s r place through reading below p s')
   pub refused : IfErr result (λ e. ReadingDoes m s.core (owner_worker v) reading (Some (LoadAnswer.Refused e))
       [] s'.core × GoesTo s (failing_by e s.todo) s')
@@ -216,16 +220,17 @@ abbrev pub with_changed_slot : Shelf → Identity → (Slot → Slot) → Shelf
 with_changed_slot shelf i f = with_slot shelf i (if_there (λ slot. Some (f slot)) None (shelf.slots i))
 
 -- the value is written, and its references are noted in the slot
-pub record Writes {N : Type 0} (m : Values N) (s : Site) (r : ArcRef) (place : ℕ) (through : HandleNumber)
-    (below : List Todo) (result : Result Written Error) (s' : Site) : Type 0 where
+pub record Writes {N : Type 0} (m : Values N) (s : WorkerState) (r : ArcRef) (place : ℕ) (through : HandleNumber)
+    (below : List Todo) (result : Result Written Error) (s' : WorkerState) : Type 0 where
   pub writes : IfOk result (λ written. Turns s (with_changed_slot s.shelf (identity_of r)
       (λ slot. record slot { references = Some written.references })) (open_node r place through written below) s')
   pub refused : IfErr result (λ e. (m.write_causes (type_of r.kind.0) e ⊎ (e ≡ Error.OutOfMemory))
       × Turns s s.shelf (failing_by e s.todo) s')
 
 -- the blob is stored: what was written, with the keys of its references, which are all known
-pub record StoresBlob {N : Type 0} (m : Values N) (s : Site) (written : Written) (keys : List ℕ) (next : ℕ → List Todo)
-    (result : Result ℕ Error) (s' : Site) : Type 0 where
+pub record StoresBlob {N : Type 0} (m : Values N) (s : WorkerState) (written : Written) (keys : List ℕ)
+    (next : ℕ → List Todo)
+    (result : Result ℕ Error) (s' : WorkerState) : Type 0 where
   pub all : length keys ≡ length written.references
   pub stored : StoreCall (digest m) s.core (blob_of written.bytes keys) result s'.core
   pub goes : IfOk result (λ key. GoesTo s (next key) s')
@@ -239,8 +244,8 @@ pub record KeySetFor (w : Core) (me : Owner) (r : ArcRef) (through : HandleNumbe
       ⊎ ((is_loose_kind r.kind.0 ≡ false) × (result ≡ Ok tt) × Alike w w')
 
 -- the key of the stored blob is set, if the reference's kind is loose
-pub record SetsKey (v : ℕ) (s : Site) (r : ArcRef) (through : HandleNumber) (key height : ℕ) (below : List Todo)
-    (result : Result (Unit {0}) Error) (s' : Site) : Type 0 where
+pub record SetsKey (v : ℕ) (s : WorkerState) (r : ArcRef) (through : HandleNumber) (key height : ℕ) (below : List Todo)
+    (result : Result (Unit {0}) Error) (s' : WorkerState) : Type 0 where
   pub sets : KeySetFor s.core (owner_worker v) r through key result s'.core
   pub goes : IfOk result (λ u. GoesTo s (to_publish r key height ∷ below) s')
   pub refused : IfErr result (λ e. GoesTo s (failing_by e s.todo) s')
@@ -288,34 +293,35 @@ GivesBack w v None w' = Alike w w'
 GivesBack w v (Some h) w' = (r : Result (Unit {0}) Error) × ScheduleCall w (owner_worker v) h r w'
 
 -- the front of the list is done; `below` is the rest of the list
-abbrev pub Does : {N B W : Type 0} → Seen N B W → ℕ → Site → List Todo → Action W → Site → Type 0
-Does m v s (to_start r place ∷ below) (Action.Claim i c) s' = (i ≡ identity_of r) × Claims v s r place below c s'
-Does m v s (to_pin r place ∷ below) (Action.Pin i p) s' = (i ≡ identity_of r) × PinsClaimed v s r place below p s'
-Does m v s (to_load r place through reading ∷ below) (Action.Pin i p) s' =
+abbrev pub WorkDoes : {N B W : Type 0} → Seen N B W → ℕ → WorkerState → List Todo → Action W → WorkerState → Type 0
+WorkDoes m v s (to_start r place ∷ below) (Action.Claim i c) s' = (i ≡ identity_of r) × ClaimStep v s r place below c s'
+WorkDoes m v s (to_pin r place ∷ below) (Action.Pin i p) s' = (i ≡ identity_of r) × PinsClaimed v s r place below p s'
+WorkDoes m v s (to_load r place through reading ∷ below) (Action.Pin i p) s' =
     (i ≡ identity_of r) × PinsLoaded m.values v s r place through reading below p s'
-Does m v s (to_write r place through ∷ below) (Action.Write i out) s' =
-    (i ≡ identity_of r) × Writes m.values s r place through below (seen_as m.written_of out) s'
-Does m v s (to_finish o ∷ below) (Action.Store i key) s' =
+WorkDoes m v s (to_write r place through ∷ below) (Action.Write i out) s' =
+    (i ≡ identity_of r) × Writes m.values s r place through below (result_map m.written_of out) s'
+WorkDoes m v s (to_finish o ∷ below) (Action.Store i key) s' =
     (i ≡ Some (identity_of o.reference)) × StoresBlob m.values s o.written o.keys
     (λ k. to_set o.reference o.through k o.height ∷ below) key s'
-Does m v s (to_item written keys ∷ below) (Action.Store i key) s' =
+WorkDoes m v s (to_item written keys ∷ below) (Action.Store i key) s' =
     (i ≡ None) × StoresBlob m.values s written keys (λ k. []) key s'
-Does m v s (to_set r through key height ∷ below) (Action.SetKey i u) s' =
+WorkDoes m v s (to_set r through key height ∷ below) (Action.SetKey i u) s' =
     (i ≡ identity_of r) × SetsKey v s r through key height below u s'
-Does m v s (to_publish r key height ∷ below) (Action.Publish i k h) s' =
+WorkDoes m v s (to_publish r key height ∷ below) (Action.Publish i k h) s' =
     (i ≡ identity_of r) × (k ≡ key) × (h ≡ height) × Turns s
     (with_changed_slot s.shelf (identity_of r) (with_outcome (published key height)))
     (to_release r key height ∷ below) s'
-Does m v s (to_release r key height ∷ below) (Action.Release i) s' =
+WorkDoes m v s (to_release r key height ∷ below) (Action.Release i) s' =
     (i ≡ identity_of r) × FallsAnyhow s.core s.core (is_workers_at s.core v r.node.0) s'.core
     × GoesTo s (give r key height below) s'
-Does m v s (to_fail fault back ∷ below) Action.Fail s' =
+WorkDoes m v s (to_fail fault back ∷ below) Action.Fail s' =
     GivesBack s.core v back s'.core × SameShelf (with_failed s.shelf v) s'.shelf × (s'.todo ≡ [])
-Does m v s todo step s' = ⊥
+WorkDoes m v s todo step s' = ⊥
 
 -- One step of the worker v, on the pager, the worker's table and its list. It changes nothing else.
-pub record WalkDoes {N B W : Type 0} (m : Seen N B W) (v : ℕ) (s : Site) (step : Action W) (s' : Site) : Type 0 where
-  pub does : Does m v s s.todo step s'
+pub record WalkDoes {N B W : Type 0} (m : Seen N B W) (v : ℕ) (s : WorkerState) (step : Action W)
+    (s' : WorkerState) : Type 0 where
+  pub does : WorkDoes m v s s.todo step s'
 
 -- a worker has its result after it stored its item's blob, or released its listed cell, or failed
 abbrev pub answer_after : {W : Type 0} → List Todo → Action W → Option WorkerAnswer

@@ -1,4 +1,4 @@
--- The plain state: handles, cells, list, cache, store, loads, claims and workers, without values and counts. And the
+-- The core: handles, cells, list, cache, store, loads, claims and workers, without values and counts. And the
 -- description of the caller's types: the members of their traits, and what is asked of them.
 use Rattle.std.specs.Prelude.{ℕ, ◌≡◌, ◌≤◌, ◌==◌, ◌&&◌, ◌^◌, ◌-◌, ◌+◌, min, Bool, not, if◌then◌else◌, List, Option, Some, None, true, Result, Ok, Err}
 use Rattle.pagable_value_spec.specs.{Blob.key_of, Reading.deepest, Refusals.{is_own_reading, may_refuse_writing}, Form.Form, Writing.kind_of_arc, References.{references_in, SameReferences}}
@@ -170,7 +170,7 @@ type_at w n = if_there (λ (cell : Cell). Some cell.node_type) None (w.cells n)
 abbrev pub key_at : Core → ℕ → OptionalDataKey
 key_at w n = if_there (λ (cell : Cell). cell.key) OptionalDataKey.None (w.cells n)
 
--- whether a live node has its value in memory
+-- whether a node is pinned or has no key: then its value has to be in memory
 abbrev pub is_here : Core → ℕ → Bool
 is_here w n = is_in_memory (pins n w.rows) (key_at w n)
 
@@ -238,14 +238,14 @@ abbrev pub digest : {N : Type 0} → Values N → Blob → ℕ
 digest v b = key_of v.hash b
 
 -- a result with its value viewed by f
-abbrev pub seen_as : {X Y : Type 0} → (X → Y) → Result X Error → Result Y Error
-seen_as f (Ok x) = Ok (f x)
-seen_as f (Err e) = Err e
+abbrev pub result_map : {X Y : Type 0} → (X → Y) → Result X Error → Result Y Error
+result_map f (Ok x) = Ok (f x)
+result_map f (Err e) = Err e
 
 -- The laws that are asked of the caller's types: a value means something, its references are those of its meaning, and
 -- its type exists; a reader has no cause of its own that concerns references, and a writer none that concerns reading.
 pub record IsLawful {N : Type 0} (v : Values N) : Type 0 where
-  pub some : (x : N) → (own : Meaning ArcRef) × v.means x own
+  pub has_meaning : (x : N) → (own : Meaning ArcRef) × v.means x own
   pub refers : (x : N) (own : Meaning ArcRef) → v.means x own → SameReferences (v.references x) (references_in own)
   pub shaped : (x : N) → (shape : Shape) × (v.types.nodes (v.node_type x) ≡ Some shape)
   pub own_reading : (t : ℕ) (e : Error) → v.read_causes t e → is_own_reading e ≡ true

@@ -1,7 +1,7 @@
 -- When no node is dying any more, exactly the handles that had to be removed are, and the values of the finished nodes are dropped.
 use Rattle.pagable_tables.proofs.Counting.{and_one, entries-more, entries-none, gives-sums, kept-more, left-more, left-none, none-entered, none-listed}
 use Rattle.pagable_tables.proofs.{Counting.{of_list, one-le, ones, sum-most}, HandleTable.found-append}
-use Rattle.pagable_tables.proofs.Words.{Falls, GivesUp, HandleNumber, HandleRow, HasFallen, HasPlaces, RefCounts, NumberTable, IsApart, IsClosed, IsFalling, IsLeast, IsListRefusal, IsUnlisted, IsWithin}
+use Rattle.pagable_tables.proofs.Words.{Falls, ReleasesWithoutCascade, HandleNumber, HandleRow, HasFallen, HasPlaces, RefCounts, NumberTable, IsApart, IsClosed, IsFalling, IsLeast, IsListRefusal, IsUnlisted, IsWithin}
 use Rattle.pagable_tables.proofs.Words.{List, LoadNumber, MustList, NodeNumber, NodeRow, None, Option, Owner, Result, Sheds, SoFar, Some, Steps, TellsListing, ValueStays, [], and_parts, ap}
 use Rattle.pagable_tables.proofs.Words.{append-nil, append_assoc, arith, cases_Bool, cases_eq, cell_in, counts_at, entries_of, entry, fallen, falls_in, false, filter, filter-append, find_row}
 use Rattle.pagable_tables.proofs.Words.{has_value, held, if◌then◌else◌, inl, inr, is_at, is_handle, is_keyed, is_listing, is_owned_by, is_owned_in, is_owner, is_pin, is_plain_pin, is_share}
@@ -32,7 +32,7 @@ module _ (before w : Core) (given : ℕ → Bool) (lists : Bool) (t : RefCounts)
       )
 
   -- what the world says of a cascade
-  pub ended : Falls before w given (told_by t.unlisted) (with_tables w t)
+  pub ended : Falls before w given (told_by t.listing_error) (with_tables w t)
   ended =
       let set : IsLeast w.rows (is_keyed w) f.entries given f.gone =
       record { holds = f.holds; closed = closed; least = λ s has is. f.least s f.entries (λ n none. let a = counted f (is_at n) in omega arith) has is } in
@@ -82,7 +82,8 @@ list-kept gone q rows list listed none = grind (arith, nat_tests, sum_by-le-sum_
 -- a handle that the list doesn't own may go apart from it
 unlisted-apart : {before w : Core} {given : ℕ → Bool} {lists : Bool} {t new : RefCounts} {nodes : NumberTable NodeRow} {stack : List ℕ} {x : HandleRow}
     (f : SoFar before w given lists t)
-    → GivesUp (record t { nodes = nodes }) stack x false lists new → is_owned_by Owner.List x ≡ false → IsApart before w given lists t f x.number.0
+    → ReleasesWithoutCascade (record t { nodes = nodes }) stack x false lists new → is_owned_by Owner.List x ≡ false
+    → IsApart before w given lists t f x.number.0
 unlisted-apart {w = w} {t = t} {x = x} f g owner =
     let none : times (of_list x.number.0) (live t.handles.places.items) ≡ 0 = none-listed g.leaves owner in
     record {
@@ -90,7 +91,7 @@ unlisted-apart {w = w} {t = t} {x = x} f g owner =
       kept = list-kept f.gone x.number.0 w.rows w.list (f.begins.listed x.number.0) (omega (arith, counted f (of_list x.number.0)));
     }
 
-pub gives-fewer : {old new : RefCounts} {stack : List ℕ} {x : HandleRow} {lists : Bool} → GivesUp old stack x false lists new
+pub gives-fewer : {old new : RefCounts} {stack : List ℕ} {x : HandleRow} {lists : Bool} → ReleasesWithoutCascade old stack x false lists new
     → length (live new.handles.places.items) ≤ length (live old.handles.places.items)
 gives-fewer {old} {new} g = omega (arith, gives-sums g (λ h. 1), ones (live old.handles.places.items), ones (live new.handles.places.items), one-le g.listed)
 
@@ -107,7 +108,7 @@ tells-as rows cells long x4 tells = grind (arith, nat_tests, must-as)
 -- A handle has gone, or it stays without its pin; then an entry may have come.
 module _ {before w : Core} {given : ℕ → Bool} {lists stays : Bool} {t new : RefCounts} {nodes : NumberTable NodeRow} {stack : List ℕ} {x : HandleRow}
     (f : SoFar before w given lists t)
-    (g : GivesUp (record t { nodes = nodes }) stack x stays lists new) (counts : (n : ℕ) → counts_at nodes n ≡ counts_at t.nodes n)
+    (g : ReleasesWithoutCascade (record t { nodes = nodes }) stack x stays lists new) (counts : (n : ℕ) → counts_at nodes n ≡ counts_at t.nodes n)
     (pinned : (n : ℕ) → pins_in (counts_at t.nodes n) ≡ pins n (live t.handles.places.items)) (few : length (live t.handles.places.items) ≤ length w.rows) where
   abbrev entries : List HandleRow
   entries = f.entries ++ entries_of g.listed (t.last_handle + 1) x.node
@@ -170,21 +171,27 @@ module _ {before w : Core} {given : ℕ → Bool} {lists stays : Bool} {t new : 
   only-more : (n : ℕ) → 0 < held n entries → MustList before w (with_tables w new) n × (held n entries ≡ 1)
   only-more n some = grind (arith, nat_tests, held-more, new-must, must-kept, none-held)
 
-  told : TellsListing before w entries (told_by new.unlisted) (with_tables w new)
-  told = by t.unlisted refl f.tells
+  told : TellsListing before w entries (told_by new.listing_error) (with_tables w new)
+  told = by t.listing_error refl f.tells
     where
-      kept : (u : Option Error) → t.unlisted ≡ u → (g.listed ≡ true) ⊎ (wanted ≡ false) → new.unlisted ≡ u
-      kept u is s = ap (λ (h : RefCounts). h.unlisted) g.same ∙ g.comes.told s ∙ is
+      kept : (u : Option Error) → t.listing_error ≡ u → (g.listed ≡ true) ⊎ (wanted ≡ false) → new.listing_error ≡ u
+      kept u is s = ap (λ (h : RefCounts). h.listing_error) g.same ∙ g.comes.told s ∙ is
 
-      late : (u : Option Error) → t.unlisted ≡ u → g.listed ≡ false → wanted ≡ true → (e : Error) × IsUnlisted (record t { handles = g.left; nodes = nodes }) e
-          × (new.unlisted ≡ or_else u (Some e))
-      late u is none want = let y = g.comes.why none want in (y.0, y.1, ap (λ (h : RefCounts). h.unlisted) g.same ∙ y.2 ∙ ap (λ u. or_else u (Some y.0)) is)
+      late : (u : Option Error) → t.listing_error ≡ u → g.listed ≡ false → wanted ≡ true → (e : Error)
+          × IsUnlisted (record t { handles = g.left; nodes = nodes }) e
+          × (new.listing_error ≡ or_else u (Some e))
+      late u is none want = let y = g.comes.why none want in (
+        y.0,
+        y.1,
+        ap (λ (h : RefCounts). h.listing_error) g.same ∙ y.2
+            ∙ ap (λ u. or_else u (Some y.0)) is,
+      )
 
-      by : (u : Option Error) → t.unlisted ≡ u → TellsListing before w f.entries (told_by u) (with_tables w t)
-          → TellsListing before w entries (told_by new.unlisted) (with_tables w new)
+      by : (u : Option Error) → t.listing_error ≡ u → TellsListing before w f.entries (told_by u) (with_tables w t)
+          → TellsListing before w entries (told_by new.listing_error) (with_tables w new)
       by (Some e) is tells =
           let a = tells.not_all in
-          let so : new.unlisted ≡ Some e = elim (which g.listed wanted) [ inl s ↦ kept (Some e) is s | inr n ↦ (late (Some e) is n.0 n.1).2 ] in
+          let so : new.listing_error ≡ Some e = elim (which g.listed wanted) [ inl s ↦ kept (Some e) is s | inr n ↦ (late (Some e) is n.0 n.1).2 ] in
           rw so (record {
             all = tt;
             not_all = (
@@ -229,13 +236,13 @@ module _ {before w : Core} {given : ℕ → Bool} {lists stays : Bool} {t new : 
     least = least;
     new = let a = f.last in let n = f.new in grind (arith, nat_tests, entries-more, append-nil);
     only = λ n some. let o = only-more n some in (must-as rows (λ n. cell_in (counts_at new.nodes n)) o.0, o.1);
-    tells = tells-as rows (λ n. cell_in (counts_at new.nodes n)) long (told_by new.unlisted) told;
+    tells = tells-as rows (λ n. cell_in (counts_at new.nodes n)) long (told_by new.listing_error) told;
     few = few';
   }
 
 module _ {before w : Core} {given : ℕ → Bool} {lists : Bool} {t new : RefCounts} {nodes : NumberTable NodeRow} {stack : List ℕ} {x : HandleRow}
     (given' : ℕ → Bool) (f : SoFar before w given lists t)
-    (g : GivesUp (record t { nodes = nodes }) stack x false lists new) (counts : (n : ℕ) → counts_at nodes n ≡ counts_at t.nodes n)
+    (g : ReleasesWithoutCascade (record t { nodes = nodes }) stack x false lists new) (counts : (n : ℕ) → counts_at nodes n ≡ counts_at t.nodes n)
     (pinned : (n : ℕ) → pins_in (counts_at t.nodes n) ≡ pins n (live t.handles.places.items)) (few : length (live t.handles.places.items) ≤ length w.rows)
     (apart : IsApart before w given lists t f x.number.0) where
   one-goes : IsWithin w.rows given' (and_one f.gone x.number.0) → ((s : ℕ → Bool) (final : List HandleRow)
@@ -254,7 +261,7 @@ module _ {before w : Core} {given : ℕ → Bool} {lists : Bool} {t new : RefCou
       )) apart.kept holds least
       (λ falls. let a = gives-fewer g in omega arith)
 
-none-comes : {old new : RefCounts} {stack : List ℕ} {x : HandleRow} {lists : Bool} → GivesUp old stack x false lists new → (m : ℕ)
+none-comes : {old new : RefCounts} {stack : List ℕ} {x : HandleRow} {lists : Bool} → ReleasesWithoutCascade old stack x false lists new → (m : ℕ)
     → held m (live old.handles.places.items) ≡ 0
     → held m (live new.handles.places.items) ≡ 0
 none-comes g m none = let a = gives-sums g (λ h. one (is_at m h)) in grind (arith, nat_tests)
@@ -265,7 +272,8 @@ with-one gone s q rows is within = grind (arith, nat_tests)
 -- the least set, over the whole step
 least-more : {before w : Core} {given : ℕ → Bool} {lists : Bool} {t new : RefCounts} {nodes : NumberTable NodeRow} {stack : List ℕ} {x : HandleRow} {n : ℕ}
     (f : SoFar before w given lists t)
-    → GivesUp (record t { nodes = nodes }) stack x false lists new → x.owner ≡ owner_value n → HasFallen (counts_at t.nodes) (live t.handles.places.items) n
+    → ReleasesWithoutCascade (record t { nodes = nodes }) stack x false lists new → x.owner ≡ owner_value n
+    → HasFallen (counts_at t.nodes) (live t.handles.places.items) n
     → (s : ℕ → Bool) (final : List HandleRow) → ((m : ℕ) → held m (live new.handles.places.items) ≡ 0 → held m final ≡ 0) → IsWithin w.rows given s
     → IsClosed w.rows (is_keyed w) final s → IsWithin w.rows (and_one f.gone x.number.0) s
 least-more {w = w} {t = t} {x = x} {n} f g owner fell s final bare has closed =
@@ -285,7 +293,8 @@ pub steps-on : (before w : Core) (given : ℕ → Bool) (lists : Bool) (t new : 
 steps-on before w given lists t new stack r f falling some s = elim s.what [
   | inl done ↦ let stay = s.cells in subst (SoFar before w given lists) (sym done.1) (grind (arith, nat_tests, tells-as, must-as))
   | inr (x, n, is, by) ↦
-      let g : GivesUp (record t { nodes = by.popped.nodes }) by.stack x false lists new = subst (λ p. GivesUp p by.stack x false lists new) by.same by.gives in
+      let g : ReleasesWithoutCascade (record t { nodes = by.popped.nodes }) by.stack x false lists new =
+      subst (λ p. ReleasesWithoutCascade p by.stack x false lists new) by.same by.gives in
       one-goes given f g by.counts falling.fits.pinned (f.few some) (unlisted-apart f g (ap (is_owner Owner.List) by.owner))
       (within-less given (and_one f.gone x.number.0) given f.gone w.rows (λ r. grind (arith, nat_tests)) f.holds) (least-more f g by.owner by.fallen)
 ]
@@ -294,7 +303,8 @@ steps-on before w given lists t new stack r f falling some s = elim s.what [
 pub gives-on : (before w : Core) (given : ℕ → Bool) (lists : Bool) (t new : RefCounts) (stack : List ℕ) (x : HandleRow) → (f : SoFar before w given lists t)
     → ((n : ℕ) → pins_in (counts_at t.nodes n) ≡ pins n (live t.handles.places.items)) → (is_owned_by Owner.List x ≡ false)
     ⊎ IsApart before w given lists t f x.number.0
-    → length (live t.handles.places.items) ≤ length w.rows → GivesUp t stack x false lists new → SoFar before w (and_one given x.number.0) lists new
+    → length (live t.handles.places.items) ≤ length w.rows → ReleasesWithoutCascade t stack x false lists new
+    → SoFar before w (and_one given x.number.0) lists new
 gives-on before w given lists t new stack x f pinned free few g =
     one-goes {nodes = t.nodes} (and_one given x.number.0) f g (λ n. refl) pinned few
     (elim free [ inl other ↦ unlisted-apart {nodes = t.nodes} f g other | inr apart ↦ apart ])
@@ -304,7 +314,8 @@ gives-on before w given lists t new stack x f pinned free few g =
     (λ r. grind (arith, nat_tests)) has) closed in
     grind (arith, nat_tests, sum-most, has, rest))
 
-pub gives-unlisted : {t new : RefCounts} {stack : List ℕ} {x : HandleRow} {lists : Bool} → lists ≡ false → GivesUp t stack x false lists new → new.list.items
+pub gives-unlisted : {t new : RefCounts} {stack : List ℕ} {x : HandleRow} {lists : Bool} → lists ≡ false → ReleasesWithoutCascade t stack x false lists new
+    → new.list.items
     ≡ t.list.items
 gives-unlisted {t} {new} shut g = grind (arith, nat_tests, append-nil)
 

@@ -1,7 +1,8 @@
 -- After one handle is removed, handles and nodes agree again.
+use Rattle.pagable_tables.specs.Core.{StorageView}
 use Rattle.pagable_tables.proofs.Counting.{all-kept, and_one, entries-none, of_list, one-le, ones, sum-most, times-left}
 use Rattle.pagable_tables.proofs.{HandleTable.{length-live-le, none-found, only-row, row-le-live}, RowCounts.{found-among, only-at}}
-use Rattle.pagable_tables.proofs.Words.{AllPairs, Among, ArcRef, Blob, Bool, Chain, Core, Counts, Error, Fits, HandleNumber, HandleRow, HasFallen, HasRoom, RefCounts, IsApart, IsBefore, IsClosed}
+use Rattle.pagable_tables.proofs.Words.{AllPairs, Among, ArcRef, Bool, Chain, Core, Counts, Error, Fits, HandleNumber, HandleRow, HasFallen, HasRoom, RefCounts, IsApart, IsBefore, IsClosed}
 use Rattle.pagable_tables.proofs.Words.{IsFalling, IsSome, IsWithin, List, Mode, None, OpenLoad, Option, Owner, Place, Right, SoFar, Some, Tables, TellsListing, [], after, alive, ap, append-nil}
 use Rattle.pagable_tables.proofs.Words.{arith, cases_Bool, cases_eq, cell_in, core_of, counts_at, entry, falls_in, false, filter, find_row, get_or, get_or-le-sum_by, greatest, has_value, held}
 use Rattle.pagable_tables.proofs.Words.{holds_in, if◌then◌else◌, inl, inr, is_at, is_fallen_by, is_handle, is_keyed, is_listed, is_listing, is_outside, is_owned_by, is_owned_in, is_owner, is_pin}
@@ -210,7 +211,7 @@ pub ruleset counting = (nat_tests, row-le-live, held-here, pins-le-held, held-fe
 
 -- why a cell isn't listed is told aside
 pub aside : (t : RefCounts) (u : Option Error) (stack : List ℕ) (extra : ℕ → ℕ → ℕ) → IsFalling t stack extra
-    → IsFalling (record t { unlisted = u }) stack extra
+    → IsFalling (record t { listing_error = u }) stack extra
 aside t u stack extra w = record { sound = w.sound; next = w.next; fits = w.fits; worked = w.worked }
 
 -- a handle that no value owns weighs nothing there
@@ -242,7 +243,7 @@ abbrev pub begun : (before w : Core) (lists : Bool) (t : RefCounts) → lists �
     → ((q : ℕ) → times (λ (h : HandleNumber). h.0 == q) w.list ≤ times (of_list q) w.rows)
     → live t.handles.places.items ≡ w.rows → t.list.items ≡ w.list → t.last_handle ≡ w.last.handle → t.last_handle ≤ greatest
     → HasRoom w.places (with_tables w t).places
-    → ((n : ℕ) → cell_in (counts_at t.nodes n) ≡ w.cells n) → t.unlisted ≡ None → SoFar before w nobody lists t
+    → ((n : ℕ) → cell_in (counts_at t.nodes n) ≡ w.cells n) → t.listing_error ≡ None → SoFar before w nobody lists t
 begun before w lists t e many unmixed listed rows list last within places cells told = record {
   begins = record {
     open_storage = e;
@@ -271,21 +272,22 @@ begun before w lists t e many unmixed listed rows list last within places cells 
 }
 
 -- nothing has gone of a whole world, nor of the one with other loads and workers
-abbrev pub begun-less : (t : Tables) (loads : ℕ → Option OpenLoad) (workers : ℕ → Bool) (stored : ℕ → Option Blob) (closed lists : Bool) (failures : ℕ)
-    → IsWhole t → lists ≡ not closed
-    → SoFar (core_of t stored closed failures) (record (core_of t stored closed failures) { loads = loads; workers = workers }) nobody lists
-    (record t.ref_counts { unlisted = None })
-begun-less t loads workers stored closed lists failures w e =
-    begun (core_of t stored closed failures) (record (core_of t stored closed failures) { loads = loads; workers = workers }) lists
-    (record t.ref_counts { unlisted = None })
+abbrev pub begun-less : (t : Tables) (loads : ℕ → Option OpenLoad) (workers : ℕ → Bool) (storage : StorageView) (lists : Bool) → IsWhole t → lists
+    ≡ not storage.closed
+    → SoFar (core_of t storage) (record (core_of t storage) { loads = loads; workers = workers }) nobody lists (record t.ref_counts { listing_error = None })
+begun-less t loads workers storage lists w e =
+    begun (core_of t storage) (record (core_of t storage) { loads = loads; workers = workers }) lists (record t.ref_counts { listing_error = None })
     e (λ p own. refl) (unmixed t w) (λ q. let a = w.core.owners_there.listed q in omega arith) refl refl refl w.core.handles.within.0
     (record { handles = omega arith; entries = omega arith }) (λ n. refl) refl
 
-abbrev pub begun-whole : (t : Tables) (stored : ℕ → Option Blob) (closed lists : Bool) (failures : ℕ) → IsWhole t → lists ≡ not closed
-    → SoFar (core_of t stored closed failures) (core_of t stored closed failures) nobody lists (record t.ref_counts { unlisted = None })
-begun-whole t stored closed lists failures w e = let c = core_of t stored closed failures in begun-less t c.loads c.workers stored closed lists failures w e
+abbrev pub begun-whole : (t : Tables) (storage : StorageView) (lists : Bool) → IsWhole t → lists ≡ not storage.closed
+    → SoFar (core_of t storage) (core_of t storage) nobody lists (record t.ref_counts { listing_error = None })
+begun-whole t storage lists w e = let c = core_of t storage in begun-less t c.loads c.workers storage lists w e
 
 -- cells are listed exactly while the storage is open
+pub opened-view : (s : StorageView) → s.closed ≡ false → s ≡ record s { closed = false }
+opened-view s is = ap (λ (c : Bool). record s { closed = c }) is
+
 pub closed-is : (lists closed : Bool) → lists ≡ not closed → closed ≡ not lists
 closed-is lists x1 e = grind (arith, nat_tests)
 
@@ -377,16 +379,16 @@ module _ (at at' : ℕ → Option Counts) (refs refs' : ℕ → List ArcRef) (ro
       let right : (m : ℕ) → Right (at' m) (refs' m) = λ m. grind (arith, nat_tests, cases_eq m n, fits.marked, fits.right) in
       grind (arith, nat_tests, cases_eq, named, right, not-zero at n c fits.from_one is)
 
-module _ (T : Tables) (stored : ℕ → Option Blob) (closed lists : Bool) (failures : ℕ) (whole : IsWhole T) (opened : lists ≡ not closed) (node : NodeNumber)
-    (key : ℕ) (new : RefCounts) where
+module _ (T : Tables) (storage : StorageView) (lists : Bool) (whole : IsWhole T) (opened : lists ≡ not storage.closed) (node : NodeNumber) (key : ℕ)
+    (new : RefCounts) where
   abbrev old : Core
-  old = core_of T stored closed failures
+  old = core_of T storage
 
-  pub keyed-on : new ≡ record T.ref_counts { unlisted = None; nodes = new.nodes; top = new.top }
+  pub keyed-on : new ≡ record T.ref_counts { listing_error = None; nodes = new.nodes; top = new.top }
       → GetsKey (counts_at T.ref_counts.nodes) (counts_at new.nodes) node.0 key
       → SoFar old (with_key old node key) nobody lists new
   keyed-on same cells = subst (SoFar old (with_key old node key) nobody lists) (sym same)
-      (begun old (with_key old node key) lists (record T.ref_counts { unlisted = None; nodes = new.nodes; top = new.top }) opened (λ p own. refl)
+      (begun old (with_key old node key) lists (record T.ref_counts { listing_error = None; nodes = new.nodes; top = new.top }) opened (λ p own. refl)
       (unmixed T whole)
       (λ q. let a = whole.core.owners_there.listed q in omega arith) refl refl refl whole.core.handles.within.0
       (record { handles = omega arith; entries = omega arith }) cells refl)

@@ -1,5 +1,5 @@
 -- How often a test holds, and the rows that are left after a set of handles is removed.
-use Rattle.pagable_tables.proofs.Words.{AreNewEntries, Bool, GivesUp, HandleNumber, HandleRow, Handles, RefCounts, Leaves, List, Mode, NodeNumber, None}
+use Rattle.pagable_tables.proofs.Words.{AreNewEntries, Bool, ReleasesWithoutCascade, HandleNumber, HandleRow, Handles, RefCounts, Leaves, List, Mode, NodeNumber, None}
 use Rattle.pagable_tables.proofs.Words.{Option, Owner, Some, [], ap, append-nil, arith, entries_of, entry, false, filter, if_there, if◌then◌else◌}
 use Rattle.pagable_tables.proofs.Words.{is_handle, is_owned_by, is_owner, left_rows, length, live, nat_tests, not, one, only_handle, refl, sum_by}
 use Rattle.pagable_tables.proofs.Words.{sum_by-append, sum_by-cons, sum_by_push, times, true, unpinned, ℕ, ◌&&◌, ◌++◌, ◌+◌, ◌==◌, ◌||◌, ◌∙◌, ◌∷◌, ◌≡◌, ◌≤◌}
@@ -76,7 +76,8 @@ pub with-entry : (f : HandleRow → ℕ) (rows : List HandleRow) (listed : Bool)
     → sum_by f (rows ++ entries_of listed k node) ≡ sum_by f rows + (if listed then f (entry k node) else 0)
 with-entry f rows x2 k node = grind (arith, nat_tests, sum_by_push, append-nil)
 
-pub gives-sums : {old new : RefCounts} {stack : List ℕ} {x : HandleRow} {stays lists : Bool} (g : GivesUp old stack x stays lists new) (f : HandleRow → ℕ)
+pub gives-sums : {old new : RefCounts} {stack : List ℕ} {x : HandleRow} {stays lists : Bool} (g : ReleasesWithoutCascade old stack x stays lists new)
+    (f : HandleRow → ℕ)
     → sum_by f (live new.handles.places.items) + f x
     ≡ sum_by f (live old.handles.places.items) + (if stays then f (unpinned x) else 0) + (if g.listed then f (entry (old.last_handle + 1) x.node) else 0)
 gives-sums {old} {new} {x = x} g f = grind (arith, nat_tests, with-entry)

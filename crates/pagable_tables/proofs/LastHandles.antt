@@ -1,7 +1,8 @@
--- When the rows of loads take note of more handles, nothing else changes, so the plain world is the same.
+-- When the rows of loads take note of more handles, nothing else changes, so the core is the same.
+use Rattle.pagable_tables.specs.Core.{StorageView}
 use Rattle.pagable_tables.proofs.{HandleTable.le_or_lt, OwnedByLoad.none-passes}
 use Rattle.pagable_tables.proofs.Words.{AreLater, Bool, Core, HandleRow, IndexMap, List, LoadNumber, LoadRow, None, Option, Owner, Place, Some, Tables}
-use Rattle.pagable_tables.proofs.Words.{Blob, ap, arith, cases_Bool, cases_eq, core_of, false, get_or, inl, inr, is_owned_by, is_owned_in, is_owner, length, live, load_at, load_in, nat_tests, option_map, owner_worker, passes_in, plain_of}
+use Rattle.pagable_tables.proofs.Words.{ap, arith, cases_Bool, cases_eq, core_of, false, get_or, inl, inr, is_owned_by, is_owned_in, is_owner, length, live, load_at, load_in, nat_tests, option_map, owner_worker, passes_in, core_alone}
 use Rattle.pagable_tables.proofs.{SameViews.owner-same, Words.{refl, subst, sym, true, ℕ, ◌+◌, ◌<◌, ◌∙◌, ◌≡◌, ◌≤◌}}
 use Rattle.pagable_tables.proofs.Words.{RefCounts, NumberTable, Sheds, counts_at, row_by}
 use Rattle.pagable_tables.specs.Core.{AreRaised, AreTold, Does, DoesShed, IsOwnedAbove, IsWhole, Notes, Raised}
@@ -28,11 +29,10 @@ raised-load None (Some new) r = absurd r
 raised-load (Some old) None r = absurd r
 raised-load (Some old) (Some new) r = ap (λ (x : LoadRow). Some (load_in x)) r.0
 
-module _ (t t' : Tables) (same : t' ≡ record t { loads = t'.loads; noted = t'.noted }) (raised : AreRaised t.loads t'.loads) (stored : ℕ → Option Blob)
-    (closed : Bool) (failures : ℕ) where
-  pub core-same : core_of t' stored closed failures ≡ core_of t stored closed failures
-  core-same = ap (λ (u : Tables). core_of u stored closed failures) same
-      ∙ (λ i. record (core_of t stored closed failures) { loads = λ l. raised-load (load_at t.loads l) (load_at t'.loads l) (raised l) i })
+module _ (t t' : Tables) (same : t' ≡ record t { loads = t'.loads; noted = t'.noted }) (raised : AreRaised t.loads t'.loads) (storage : StorageView) where
+  pub core-same : core_of t' storage ≡ core_of t storage
+  core-same = ap (λ (u : Tables). core_of u storage) same ∙ (λ i. record
+      (core_of t storage) { loads = λ l. raised-load (load_at t.loads l) (load_at t'.loads l) (raised l) i })
 
 -- what the rows tell of places, once more is told
 module _ {S : Type 0} (old new : IndexMap ℕ LoadRow S) (places : List Place) (number : ℕ) (raised : AreRaised old new) where
@@ -88,7 +88,7 @@ noted-later t t' same raised noted told later =
 
 -- the same handles are owned
 pub above-noted : {t t1 : Tables} (l : LoadNumber) (since : ℕ) → Notes t t1 → IsOwnedAbove t l since → IsOwnedAbove t1 l since
-above-noted l since n above q own = above q (sym (ap (λ (u : Tables). is_owned_in (plain_of u) (Owner.Load l) q) n.same) ∙ own)
+above-noted l since n above q own = above q (sym (ap (λ (u : Tables). is_owned_in (core_alone u) (Owner.Load l) q) n.same) ∙ own)
 
 pub none-noted : {t : Tables} → IsWhole t → AreLater t → Notes t t
 none-noted whole later = record { same = refl; rows = λ l. raised-same _; whole = whole; later = later }
@@ -96,8 +96,7 @@ none-noted whole later = record { same = refl; rows = λ l. raised-same _; whole
 -- what is done to the tables that tell more is done to those that tell less
 pub noted-does : {t t1 t2 : Tables} {step : Core → Core → Type 0} → Notes t t1 → Does t1 step t2 → Does t step t2
 noted-does {t} {t1} {t2} {step} n d = record {
-  does = λ stored closed failures. subst (λ (w : Core). step w (core_of t2 stored closed failures)) (core-same t t1 n.same n.rows stored closed failures)
-      (d.does stored closed failures);
+  does = λ storage. subst (λ (w : Core). step w (core_of t2 storage)) (core-same t t1 n.same n.rows storage) (d.does storage);
   whole = d.whole;
   later = λ later. d.later n.later;
 }
@@ -105,8 +104,7 @@ noted-does {t} {t1} {t2} {step} n d = record {
 pub noted-release_at : {X : Type 0} {lists : Bool} {t t1 t2 : Tables} {values values' : NumberTable X} {step : Core → Core → Type 0} → Notes t t1
     → DoesShed lists t1 values step t2 values' → DoesShed lists t values step t2 values'
 noted-release_at {lists = lists} {t} {t1} {t2} {values} {values'} {step} n d = record {
-  does = λ stored closed failures open_still. subst (λ (w : Core). step w (core_of t2 stored closed failures))
-      (core-same t t1 n.same n.rows stored closed failures) (d.does stored closed failures open_still);
+  does = λ storage open_still. subst (λ (w : Core). step w (core_of t2 storage)) (core-same t t1 n.same n.rows storage) (d.does storage open_still);
   whole = d.whole;
   later = λ later. d.later n.later;
   sheds = subst (λ (h : RefCounts). Sheds (counts_at h.nodes) (row_by values) (counts_at t2.ref_counts.nodes) (row_by values'))

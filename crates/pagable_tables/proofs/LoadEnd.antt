@@ -1,10 +1,11 @@
 -- A node is inserted, and its value becomes the owner of its references' handles; and a pinned node without a value gets one, with its references.
+use Rattle.pagable_tables.specs.Core.{StorageView}
 use Rattle.std.specs.VecDeque.{deque_capacity}
-use Rattle.pagable_tables.proofs.Words.{Alike, AllPairs, Among, ArcRef, Blob, Bool, Core, Counts, Ending, Error, Falls, Fits, HandleNumber, HandleRow, RefCounts, Installs, IsHandleBefore, IsReady}
+use Rattle.pagable_tables.proofs.Words.{Alike, AllPairs, Among, ArcRef, Bool, Core, Counts, Ending, Error, Falls, Fits, HandleNumber, HandleRow, RefCounts, Installs, IsHandleBefore, IsReady}
 use Rattle.pagable_tables.proofs.Words.{Last, List, LoadNumber, LoadRow, MayEnd, MayOwnLoad, Mode, NodeNumber, None, OnlyRoom, Option, Owner, Places, Result, Right, SoFar, Some, Tables, [], ap, arith}
 use Rattle.pagable_tables.proofs.Words.{cases_eq, cell_in, changed, core_of, counts_at, false, find_row, has_come, has_value, if◌then◌else◌, inl, inr, is_at, is_handle, is_in, is_named_by}
 use Rattle.pagable_tables.proofs.Words.{is_owned_by, is_owned_in, is_pin, is_pinning, is_plain_pin, is_share, is_valued, length, live, load_at, load_in, map, moved, named, nat_tests, nobody, not, one}
-use Rattle.pagable_tables.proofs.Words.{option_map, owner_value, owns_nothing, pins, plain_of, reference_fault, references_fault, refl, row_of, sharing, subst, sum_by, sum_by-cons, sum_by_push, sym}
+use Rattle.pagable_tables.proofs.Words.{option_map, owner_value, owns_nothing, pins, core_alone, reference_fault, references_fault, refl, row_of, sharing, subst, sum_by, sum_by-cons, sum_by_push, sym}
 use Rattle.pagable_tables.proofs.Words.{times, true, vec_capacity, with_handle, with_mode, with_pin, with_tables, without_load, ℕ, ◌&&◌, ◌++◌, ◌+◌, ◌<◌, ◌==◌, ◌∙◌, ◌∷◌, ◌≡◌, ◌≢◌, ◌≤◌, ◌⊎◌}
 use Rattle.pagable_tables.proofs.{CallsKeepWhole.may-hold, CascadeStep.{begun, held-here, is_owned, owned-by, owned-by-none, pin-here, turned, unmixed}}
 use Rattle.pagable_tables.proofs.{Counting.{and-left, there-is}, RowCounts.{among-map, at-most-sum}}
@@ -153,8 +154,8 @@ pub references-placed : (w : Core) (places : Places) (owner : Owner) (seen : Lis
 references-placed w places = fault-by w (record w { places = places })
 
 pub ready-owner : (t : Tables) (me : Owner) (l : LoadNumber) (node_type : ℕ) (refs : List ArcRef) (e : Ending) → IsWhole t
-    → IsReady (plain_of t) me l node_type refs e → MayOwnLoad (plain_of t) me
-ready-owner t me l node_type refs e whole r = subst (MayOwnLoad (plain_of t)) r.may.owned.own (whole.core.loads.owned l.0 r.may.load r.may.owned.stands_open)
+    → IsReady (core_alone t) me l node_type refs e → MayOwnLoad (core_alone t) me
+ready-owner t me l node_type refs e whole r = subst (MayOwnLoad (core_alone t)) r.may.owned.own (whole.core.loads.owned l.0 r.may.load r.may.owned.stands_open)
 
 -- Of other nodes the same handles pin, and are Shared.
 module _ (h : HandleNumber) (node : NodeNumber) (rows : List HandleRow) (of : (y : HandleRow) → Among rows y → is_handle h.0 y ≡ true → y.node ≡ node) (n : ℕ)
@@ -168,13 +169,11 @@ row-of : (rows : List HandleRow) → AllPairs IsHandleBefore rows → (row : Han
 row-of rows ordered row found z among is = grind (arith, nat_tests, once rows ordered z row among, found-among row.number.0 rows row found)
 
 -- t1 is t with the pins; then the handles that the references name move to the node's value, and what the load still owns goes.
-module _ (t t1 : Tables) (stored : ℕ → Option Blob) (closed lists : Bool) (failures : ℕ) (was : IsWhole t) (whole : IsWhole t1) (e : lists ≡ not closed)
-    (row : HandleRow)
-    (found : find_row row.number.0 (live t.ref_counts.handles.places.items) ≡ Some row) (me : Owner) (may : MayOwnLoad (plain_of t) me) (l : LoadNumber)
+module _ (t t1 : Tables) (storage : StorageView) (lists : Bool) (was : IsWhole t) (whole : IsWhole t1) (e : lists ≡ not storage.closed) (row : HandleRow)
+    (found : find_row row.number.0 (live t.ref_counts.handles.places.items) ≡ Some row) (me : Owner) (may : MayOwnLoad (core_alone t) me) (l : LoadNumber)
     (rs : List ArcRef)
-    (good : references_fault (plain_of t) (Owner.Load l) [] rs ≡ None)
-    (a : Alike (with_handle (with_mode (core_of t stored closed failures) row.number Mode.LoosePinned) row.node Mode.Pinned me)
-    (core_of t1 stored closed failures))
+    (good : references_fault (core_alone t) (Owner.Load l) [] rs ≡ None)
+    (a : Alike (with_handle (with_mode (core_of t storage) row.number Mode.LoosePinned) row.node Mode.Pinned me) (core_of t1 storage))
     (same : t1 ≡ record t { ref_counts = t1.ref_counts }) where
   abbrev s : ℕ → Bool
   s = is_named_by rs
@@ -183,7 +182,7 @@ module _ (t t1 : Tables) (stored : ℕ → Option Blob) (closed lists : Bool) (f
   o = owner_value row.node.0
 
   abbrev w : Core
-  w = core_of t stored closed failures
+  w = core_of t storage
 
   abbrev x : HandleRow
   x = row_of (t.ref_counts.last_handle + 1) row.node Mode.Pinned me
@@ -204,7 +203,7 @@ module _ (t t1 : Tables) (stored : ℕ → Option Blob) (closed lists : Bool) (f
   of y among is = grind (arith, nat_tests, row-of, among-map (λ (z : HandleRow). if s z.number.0 then record z { owner = o } else z) w.rows y among)
 
   come : moved s o (live t1.ref_counts.handles.places.items) ≡ u.rows
-  come = ap (moved s o) a.rows ∙ moved-turned s o row.number.0 x w.rows (not-named (plain_of t) l rs was.core.handles good (t.ref_counts.last_handle + 1)
+  come = ap (moved s o) a.rows ∙ moved-turned s o row.number.0 x w.rows (not-named (core_alone t) l rs was.core.handles good (t.ref_counts.last_handle + 1)
       (omega arith))
 
   as-moved : (f : HandleRow → Bool) → ((y : HandleRow) → f (record y { owner = o }) ≡ f y) → times f u.rows ≡ times f (live t1.ref_counts.handles.places.items)
@@ -214,8 +213,8 @@ module _ (t t1 : Tables) (stored : ℕ → Option Blob) (closed lists : Bool) (f
       (last : k.last_handle ≡ t1.ref_counts.last_handle)
       (capacity : vec_capacity k.handles.places ≡ vec_capacity t1.ref_counts.handles.places)
       (cells : (n : ℕ) → cell_in (counts_at k.nodes n) ≡ cell_in (counts_at t1.ref_counts.nodes n)) where
-    begun-pinned : SoFar u u nobody lists (record k { unlisted = None })
-    begun-pinned = begun u u lists (record k { unlisted = None }) e (λ p own. refl)
+    begun-pinned : SoFar u u nobody lists (record k { listing_error = None })
+    begun-pinned = begun u u lists (record k { listing_error = None }) e (λ p own. refl)
         (λ n. let b = unmixed t1 whole n in let p = as-moved (is_share n) (λ y. refl) in let q = as-moved (is_plain_pin n) (λ y. refl) in
         grind (arith, nat_tests))
         (λ q.
@@ -235,8 +234,8 @@ module _ (t t1 : Tables) (stored : ℕ → Option Blob) (closed lists : Bool) (f
 
     as-before : {w' : Core} {r : Result (Unit {0}) Error} → Falls u u given r w' → Falls w u given r w'
     as-before {w'} {r} falls = seen-before {b = u} {w = w} {u = u} u.places (record { handles = omega arith; entries = omega arith }) (λ n none.
-        let kept = owned-given (plain_of t) (Owner.Load l) (t.ref_counts.last_handle + 1) was.core.handles in
-        let plain = not-a-value (plain_of t) me (may-hold (plain_of t) me may) in let stays =
+        let kept = owned-given (core_alone t) (Owner.Load l) (t.ref_counts.last_handle + 1) was.core.handles in
+        let plain = not-a-value (core_alone t) me (may-hold (core_alone t) me may) in let stays =
         stays-pinned (record w { rows = mid }) u w' given r x refl ordered plain (grind (arith, nat_tests, and-left)) falls n none in
         let more = sum_by_push (λ y. one (is_pin n y)) mid x in
         let z : one (is_pin n x) ≡ 0 = (let b = stays.0 in omega arith) in
@@ -247,10 +246,10 @@ module _ (t t1 : Tables) (stored : ℕ → Option Blob) (closed lists : Bool) (f
 
     -- what gives up all that a load owns does it here
     pub ended : (since until : ℕ) (new : RefCounts) (loads : ℕ → Option LoadRow) (r : Result (Unit {0}) Error)
-        → ((before v : Core) → SoFar before v nobody lists (record k { unlisted = None }) → length (live k.handles.places.items) ≤ length v.rows
+        → ((before v : Core) → SoFar before v nobody lists (record k { listing_error = None }) → length (live k.handles.places.items) ≤ length v.rows
         → ((q : ℕ) → is_owned_in v (Owner.Load l) q ≡ true → (since < q) × (q ≤ until)) → Falls before v (is_owned_in v (Owner.Load l)) r (with_tables v new))
         → ((q : ℕ) → is_owned_in w (Owner.Load l) q ≡ true → (since < q) × (q ≤ until)) → loads l.0 ≡ None → ((q : ℕ) → q ≢ l.0 → loads q ≡ load_at t1.loads q)
-        → Falls w u given r (record (core_of (record t1 { ref_counts = new }) stored closed failures) { loads = λ q. option_map load_in (loads q) })
+        → Falls w u given r (record (core_of (record t1 { ref_counts = new }) storage) { loads = λ q. option_map load_in (loads q) })
     ended since until new loads r gives within gone others =
         let falls = gives u u begun-pinned (let b = ap length (rows ∙ come) in omega arith)
         (λ q own. within q (and-left (is_owned_in w (Owner.Load l) q) (not (s q)) (sym (owned-pinned q) ∙ own))) in
@@ -260,9 +259,8 @@ module _ (t t1 : Tables) (stored : ℕ → Option Blob) (closed lists : Bool) (f
         grind (arith, nat_tests, cases_eq)
 
 -- t1 is t with the pins
-module _ (t t1 : Tables) (stored : ℕ → Option Blob) (closed : Bool) (failures : ℕ) (row : HandleRow) (me : Owner)
-    (a : Alike (with_handle (with_mode (core_of t stored closed failures) row.number Mode.LoosePinned) row.node Mode.Pinned me)
-    (core_of t1 stored closed failures)) where
+module _ (t t1 : Tables) (storage : StorageView) (row : HandleRow) (me : Owner)
+    (a : Alike (with_handle (with_mode (core_of t storage) row.number Mode.LoosePinned) row.node Mode.Pinned me) (core_of t1 storage)) where
   pub pins-here : 0 < pins row.node.0 (live t1.ref_counts.handles.places.items)
   pins-here = grind (arith, nat_tests, sum_by_push, live)
 

@@ -1,4 +1,7 @@
 -- A load is closed or hands handles over, or a worker ends, and what they still own is released.
+use Rattle.pagable_tables.specs.Core.{no_blobs_of}
+use Rattle.pagable_tables.specs.Core.{no_blobs}
+use Rattle.pagable_tables.specs.Core.{StorageView}
 use Rattle.pagable_value_spec.specs.declared.numbers.WorkerNumber.{WorkerNumber}
 use Rattle.pagable_tables.proofs.{Counting.{and-left, of_list, there-is, times-left}, HandleTable.{at-place, found-append, le_or_lt}, Wholeness.whole-so}
 use Rattle.pagable_tables.proofs.CascadeStep.{begun, closed-is, is_owned, no-value, none-came, owned-by-none, rows-told, unmixed}
@@ -6,14 +9,14 @@ use Rattle.pagable_tables.proofs.RowCounts.{among-last, at-most-sum, found-among
 use Rattle.pagable_tables.proofs.CascadeEnd.{and_owned, no-entry, owned, passes-here, passes-left, passes-none, regiven, sheds-still}
 use Rattle.pagable_tables.proofs.Views.{Goes, IsNewer, OnlyNewer, alike-goes, born-whole, named-mine}
 use Rattle.pagable_tables.proofs.Views.{newer-handle, newer-moved, newer-then, not-list, owned-moved, settled}
-use Rattle.pagable_tables.proofs.Words.{Alike, AllPairs, Among, ArcRef, AreLater, ArePlaced, AwayBirthCall, Bears, Blob}
+use Rattle.pagable_tables.proofs.Words.{Alike, AllPairs, Among, ArcRef, AreLater, ArePlaced, InsertPagedOutCall, Bears}
 use Rattle.pagable_tables.proofs.Words.{Bool, Core, Error, Falls, Fits, ReleaseSet, HandleNumber, HandleRow, Handles, HandlesAreWhole, HasRoom, RefCounts, InReach, IndexMap, IsBefore, IsClosed, IsFalling}
 use Rattle.pagable_tables.proofs.Words.{IsHandleBefore, IsLeast, IsNoLess, Last, List, LoadNumber, LoadRow, MayHold, MayOwnLoad, Mode, NodeNumber, NodeRow, NumberTable, None, Ok, OnlyRoom, OpenLoad, Option}
 use Rattle.pagable_tables.proofs.Words.{OptionalDataKey, Owner, Place, Places, HandleRange, Result, Sheds, SoFar, Some, Tables, TakeCall, [], alive, and_parts, ap, arith, cases_Bool, cases_eq, changed}
-use Rattle.pagable_tables.proofs.Words.{core_of, counts_at, false, find_row, get, row_by, get_or, get_or_default, gives_row, greatest, has_key, held, if_there, if◌then◌else◌, inl, inr, is_at, is_handle}
+use Rattle.pagable_tables.proofs.Words.{core_of, counts_at, false, find_row, row_by, get_or, get_or_default, gives_row, greatest, has_key, held, if_there, if◌then◌else◌, inl, inr, is_at, is_handle}
 use Rattle.pagable_tables.proofs.Words.{is_keyed, is_loose_kind, is_named_by, is_outside, is_owned_by, is_owned_in, is_owner, is_pin, is_pinning, is_plain_pin, is_shared, is_some, is_valued, key_in}
-use Rattle.pagable_tables.proofs.Words.{known_at, left_rows, length, live, load_at, load_in, loses_value, mode_of, moved, nat_eq, nat_lt, nat_tests, next_node, nobody, not, one, only_handle}
-use Rattle.pagable_tables.proofs.Words.{option_map, or_else, owner_value, owner_worker, owns_nothing, passes_in, pins, plain_of, reach_at, references_fault, refl, refs_at, row_of, sharing, slice_get}
+use Rattle.pagable_tables.proofs.Words.{known_at, left_rows, length, live, load_at, load_in, loses_value, mode_of, moved, nat_lt, nat_tests, next_node, nobody, not, one, only_handle}
+use Rattle.pagable_tables.proofs.Words.{option_map, or_else, owner_value, owner_worker, owns_nothing, passes_in, pins, core_alone, reach_at, references_fault, refl, refs_at, row_of, sharing, slice_get}
 use Rattle.pagable_tables.proofs.Words.{slice_get-get_or, subst, suc, sum_by, sum_by-append, sum_by-le-sum_by, sum_by_push, sym, take, times, true, updated, with_handle, with_mode, with_node}
 use Rattle.pagable_tables.proofs.SameViews.{born-past, found-map, moved-twice, named-none}
 use Rattle.pagable_tables.proofs.Words.{with_tables, with_worker, ℕ, ◌&&◌, ◌++◌, ◌+◌, ◌-◌, ◌<◌, ◌==◌, ◌||◌, ◌∙◌, ◌∷◌, ◌≡◌, ◌≢◌, ◌≤◌, ◌⊎◌}
@@ -65,7 +68,8 @@ pub owned-given : (w : Core) (o : Owner) (q : ℕ) → pager.HandlesAreWhole w �
 owned-given w o q whole own = (passes-given (is_owned_by o) w q whole own).1
 
 -- all that a worker gives up when it ends is in its reach
-pub in-reach : (t : Tables) → IsWhole t → AreLater t → (v : WorkerNumber) (q : ℕ) → passes_in (gives_row (plain_of t) (ReleaseSet.Worker v)) (plain_of t).rows q
+pub in-reach : (t : Tables) → IsWhole t → AreLater t → (v : WorkerNumber) (q : ℕ)
+    → passes_in (gives_row (core_alone t) (ReleaseSet.Worker v)) (core_alone t).rows q
     ≡ true → InReach (reach_at t.workers v.0) q
 in-reach t whole later v q is = let (row, e, passes) = there-is (gives_row w (ReleaseSet.Worker v)) (find_row q w.rows) is in
     elim (cases_Bool (is_owner (Owner.Worker v) row.owner)) [
@@ -75,7 +79,7 @@ in-reach t whole later v q is = let (row, e, passes) = there-is (gives_row w (Re
     ]
   where
     w : Core
-    w = plain_of t
+    w = core_alone t
 
     of-load : (o : Owner) → is_owned_in w o q ≡ true → is_load_of w v.0 o ≡ true → InReach (reach_at t.workers v.0) q
     of-load (Owner.Load l) own of = let a = λ (load : LoadRow) (e : load_at t.loads l.0 ≡ Some load). later.since l.0 load q e own in
@@ -103,12 +107,12 @@ pub ruleset working = (nat_tests, one-more-works)
 -- the open loads are ones that were open, and what a worker got besides is in its reach
 pub later-by : {t t' : Tables} → AreLater t → t.ref_counts.last_handle ≤ t'.ref_counts.last_handle → t'.noted ≡ t.noted
     → ((l : ℕ) (load : LoadRow) → load_at t'.loads l ≡ Some load → load_at t.loads l ≡ Some load) → IsNoLess t.workers t'.workers
-    → ((l q : ℕ) → owned (Owner.Load (record { 0 = l })) q (plain_of t').rows ≡ true → (owned (Owner.Load (record { 0 = l })) q (plain_of t).rows ≡ true)
+    → ((l q : ℕ) → owned (Owner.Load (record { 0 = l })) q (core_alone t').rows ≡ true → (owned (Owner.Load (record { 0 = l })) q (core_alone t).rows ≡ true)
     ⊎ (t.ref_counts.last_handle < q))
-    → ((v q : ℕ) → owned (owner_worker v) q (plain_of t').rows ≡ true → (owned (owner_worker v) q (plain_of t).rows ≡ true) ⊎ (t.ref_counts.last_handle < q)
+    → ((v q : ℕ) → owned (owner_worker v) q (core_alone t').rows ≡ true → (owned (owner_worker v) q (core_alone t).rows ≡ true) ⊎ (t.ref_counts.last_handle < q)
     ⊎ InReach (reach_at t'.workers v) q) → AreLater t'
 later-by {t} {t'} later last noted loads less own work =
-    let wider : (v q : ℕ) → owned (owner_worker v) q (plain_of t).rows ≡ true → InReach (reach_at t'.workers v) q =
+    let wider : (v q : ℕ) → owned (owner_worker v) q (core_alone t).rows ≡ true → InReach (reach_at t'.workers v) q =
     λ v q had. less.wider v q (later.reach v q had) in
     grind (arith, nat_tests, later.given, later.since, later.begun, later.loads, later.noted, later.until, noted, less.before, wider, loads, own, work)
 
@@ -116,11 +120,11 @@ pub still-reaches : {S : Type 0} {workers workers' : IndexMap ℕ HandleRange S}
 still-reaches {S} {workers} {workers'} same = subst (λ u. IsNoLess workers u) (sym same)
     (record { wider = λ v q in-reach. in-reach; before = λ v. omega arith })
 
-pub later-less : {t t' : Tables} → AreLater t → OnlyNewer (plain_of t) (plain_of t') → t'.noted ≡ t.noted
+pub later-less : {t t' : Tables} → AreLater t → OnlyNewer (core_alone t) (core_alone t') → t'.noted ≡ t.noted
     → ((l : ℕ) (load : LoadRow) → load_at t'.loads l ≡ Some load → load_at t.loads l ≡ Some load) → IsNoLess t.workers t'.workers → AreLater t'
 later-less later newer noted loads less = grind (arith, nat_tests, later-by)
 
-pub later-on : {t t' : Tables} → AreLater t → OnlyNewer (plain_of t) (plain_of t') → t'.loads ≡ t.loads → t'.workers ≡ t.workers → t'.noted ≡ t.noted
+pub later-on : {t t' : Tables} → AreLater t → OnlyNewer (core_alone t) (core_alone t') → t'.loads ≡ t.loads → t'.workers ≡ t.workers → t'.noted ≡ t.noted
     → AreLater t'
 later-on later newer loads same noted = later-less later newer noted (λ l load is. ap (λ m. load_at m l) (sym loads) ∙ is) (still-reaches same)
 
@@ -132,13 +136,13 @@ none-owned : (w : Core) (o : Owner) (q : ℕ) → ((h : HandleRow) → Among w.r
 none-owned w o q nobody own = let (row, e, is) = there-is (is_owned_by o) (find_row q w.rows) own in
     nobody row (found-among q w.rows row e).0 (owner-same o row.owner is)
 
-pub later-opened : {t t' : Tables} → pager.IsWhole (plain_of t) → AreLater t → OnlyNewer (plain_of t) (plain_of t') → (m : ℕ) (row : LoadRow)
+pub later-opened : {t t' : Tables} → pager.IsWhole (core_alone t) → AreLater t → OnlyNewer (core_alone t) (core_alone t') → (m : ℕ) (row : LoadRow)
     → load_at t.loads m ≡ None → load_at t'.loads m ≡ Some row → row.since ≡ t.ref_counts.last_handle
     → ((q : ℕ) → q ≢ m → load_at t'.loads q ≡ load_at t.loads q) → t'.workers ≡ t.workers → t'.noted ≡ t.noted → AreLater t'
 later-opened {t} {t'} whole later newer m row none here since others same noted =
-    let new-owns : (q : ℕ) → owned (Owner.Load (record { 0 = m })) q (plain_of t).rows ≡ true → ⊥ = λ q own.
-    none-owned (plain_of t) (Owner.Load (record { 0 = m })) q (λ h among of. absurd (let a = whole.owners_there.loads h (record { 0 = m }) among of in
-    let b : is_some ((plain_of t).loads m) ≡ false = ap (λ o. is_some (option_map load_in o)) none in cc)) own in
+    let new-owns : (q : ℕ) → owned (Owner.Load (record { 0 = m })) q (core_alone t).rows ≡ true → ⊥ = λ q own.
+    none-owned (core_alone t) (Owner.Load (record { 0 = m })) q (λ h among of. absurd (let a = whole.owners_there.loads h (record { 0 = m }) among of in
+    let b : is_some ((core_alone t).loads m) ≡ false = ap (λ o. is_some (option_map load_in o)) none in cc)) own in
     grind (
       arith,
       nat_tests,
@@ -159,16 +163,17 @@ later-opened {t} {t'} whole later newer m row none here since others same noted 
       new-owns,
     )
 
-pub later-begun : {t t' : Tables} → pager.IsWhole (plain_of t) → AreLater t → t' ≡ record t { workers = t'.workers; last_worker = t'.last_worker } → (v : ℕ) → v
+pub later-begun : {t t' : Tables} → pager.IsWhole (core_alone t) → AreLater t → t' ≡ record t { workers = t'.workers; last_worker = t'.last_worker } → (v : ℕ)
+    → v
     ≡ t.last_worker + 1
     → reach_at t'.workers v ≡ record { since = t.ref_counts.last_handle; beside = 0 } → ((u : ℕ) → u ≢ v → reach_at t'.workers u ≡ reach_at t.workers u)
     → AreLater t'
 later-begun {t} {t'} whole later same v new here others =
-    let at-rest : (m : ℕ) → m ≡ v → (plain_of t).workers m ≡ true → ⊥ = λ m e is. let a = whole.workers_numbered m is in absurd (omega arith) in
-    let working : (m : ℕ) (o : Owner) → is_owner (owner_worker m) o ≡ true → pager.MayOwnLoad (plain_of t) o → (plain_of t).workers m ≡ true =
+    let at-rest : (m : ℕ) → m ≡ v → (core_alone t).workers m ≡ true → ⊥ = λ m e is. let a = whole.workers_numbered m is in absurd (omega arith) in
+    let working : (m : ℕ) (o : Owner) → is_owner (owner_worker m) o ≡ true → pager.MayOwnLoad (core_alone t) o → (core_alone t).workers m ≡ true =
     λ m o owns may. grind (arith, nat_tests) in
-    let nobody : (q : ℕ) → owned (owner_worker v) q (plain_of t).rows ≡ true → ⊥ =
-    λ q own. none-owned (plain_of t) (owner_worker v) q (λ h among of. at-rest v refl (whole.owners_there.workers h v among of)) own in
+    let nobody : (q : ℕ) → owned (owner_worker v) q (core_alone t).rows ≡ true → ⊥ =
+    λ q own. none-owned (core_alone t) (owner_worker v) q (λ h among of. at-rest v refl (whole.owners_there.workers h v among of)) own in
     subst AreLater (sym same) (grind (
       arith,
       nat_tests,
@@ -188,19 +193,19 @@ later-begun {t} {t'} whole later same v new here others =
 -- ---- handles that come to a worker
 
 module _ (t : Tables) (later : AreLater t) (s : ℕ → Bool) (me : Owner) (other : (l : LoadNumber) → is_owner (Owner.Load l) me ≡ false) (rows : List HandleRow)
-    (are : rows ≡ moved s me (plain_of t).rows) where
-  pub load-kept : (l q : ℕ) → owned (Owner.Load (record { 0 = l })) q rows ≡ true → owned (Owner.Load (record { 0 = l })) q (plain_of t).rows ≡ true
-  load-kept l q own = let o : Owner = Owner.Load (record { 0 = l }) in and-left (owned o q (plain_of t).rows) (not (s q))
-      (sym (ap (owned o q) are ∙ owned-moved s me o q (plain_of t).rows (other (record { 0 = l }))) ∙ own)
+    (are : rows ≡ moved s me (core_alone t).rows) where
+  pub load-kept : (l q : ℕ) → owned (Owner.Load (record { 0 = l })) q rows ≡ true → owned (Owner.Load (record { 0 = l })) q (core_alone t).rows ≡ true
+  load-kept l q own = let o : Owner = Owner.Load (record { 0 = l }) in and-left (owned o q (core_alone t).rows) (not (s q))
+      (sym (ap (owned o q) are ∙ owned-moved s me o q (core_alone t).rows (other (record { 0 = l }))) ∙ own)
 
-  pub worker-kept : (v q : ℕ) → owned (owner_worker v) q rows ≡ true → (owned (owner_worker v) q (plain_of t).rows ≡ true)
+  pub worker-kept : (v q : ℕ) → owned (owner_worker v) q rows ≡ true → (owned (owner_worker v) q (core_alone t).rows ≡ true)
       ⊎ ((is_owner (owner_worker v) me ≡ true) × (s q ≡ true))
   worker-kept v q own = grind (arith, nat_tests, cases_eq, found-map, found-among, and-left, owned-moved)
 
   -- a load of the same owner hands handles of its own to it and is closed: they came after the worker began
   pub later-handed : {t' : Tables} (l : LoadNumber) (row : LoadRow) → load_at t.loads l.0 ≡ Some row → is_owner me row.owner ≡ true
-      → ((q : ℕ) → s q ≡ true → is_owned_in (plain_of t) (Owner.Load l) q ≡ true)
-      → IsNewer rows (plain_of t').rows t.ref_counts.last_handle t'.ref_counts.last_handle
+      → ((q : ℕ) → s q ≡ true → is_owned_in (core_alone t) (Owner.Load l) q ≡ true)
+      → IsNewer rows (core_alone t').rows t.ref_counts.last_handle t'.ref_counts.last_handle
       → ((m : ℕ) (load : LoadRow) → load_at t'.loads m ≡ Some load → load_at t.loads m ≡ Some load) → t'.workers ≡ t.workers → t'.noted ≡ t.noted
       → AreLater t'
   later-handed {t'} l row here mine its newer loads same noted =
@@ -215,7 +220,7 @@ module _ (t : Tables) (later : AreLater t) (s : ℕ → Bool) (me : Owner) (othe
       )) in
       later-by later newer.last noted loads (still-reaches same) (λ m q own. elim (newer.kept (Owner.Load (record { 0 = m })) q refl own)
       [ inl had ↦ inl (load-kept m q had) | inr past ↦ inr past ])
-      (λ (v q : ℕ) (own : owned (owner_worker v) q (plain_of t').rows ≡ true). let k = newer.kept (owner_worker v) q refl own in let a = after v q in
+      (λ (v q : ℕ) (own : owned (owner_worker v) q (core_alone t').rows ≡ true). let k = newer.kept (owner_worker v) q refl own in let a = after v q in
       let b = worker-kept v q in grind (arith, nat_tests))
 
 -- ---- a handle that comes stays, while others that are given go with all that follows
@@ -273,16 +278,16 @@ pub not-named : (w : Core) (l : LoadNumber) (refs : List ArcRef) → HandlesAreW
     → w.last.handle < q → is_named_by refs q ≡ false
 not-named w l refs whole good q above = grind (arith, nat_tests, owned-given w (Owner.Load l) q whole, named-mine w (Owner.Load l) [] refs good q)
 
-module _ (t t1 : Tables) (stored : ℕ → Option Blob) (closed : Bool) (failures : ℕ) (node : NodeNumber) (mode : Mode) (me : Owner) (after : IsWhole t1)
-    (a : Alike (with_handle (core_of t stored closed failures) node mode me) (core_of t1 stored closed failures)) where
+module _ (t t1 : Tables) (storage : StorageView) (node : NodeNumber) (mode : Mode) (me : Owner) (after : IsWhole t1)
+    (a : Alike (with_handle (core_of t storage) node mode me) (core_of t1 storage)) where
   abbrev before : Core
-  before = core_of t stored closed failures
+  before = core_of t storage
 
   abbrev made : Core
   made = with_handle before node mode me
 
-  pub begun-made : (lists : Bool) → lists ≡ not closed → SoFar made made nobody lists (record t1.ref_counts { unlisted = None })
-  begun-made lists e = begun made made lists (record t1.ref_counts { unlisted = None }) e (λ p own. refl)
+  pub begun-made : (lists : Bool) → lists ≡ not storage.closed → SoFar made made nobody lists (record t1.ref_counts { listing_error = None })
+  begun-made lists e = begun made made lists (record t1.ref_counts { listing_error = None }) e (λ p own. refl)
       (λ n. subst (λ r. (sharing n r ≡ 0) ⊎ (times (is_plain_pin n) r ≡ 0)) a.rows (unmixed t1 after n))
       (λ q. let d = ap (times (λ (h : HandleNumber). h.0 == q)) a.list in let e = ap (times (of_list q)) a.rows in let f = after.core.owners_there.listed q in
       omega arith)
@@ -292,7 +297,7 @@ module _ (t t1 : Tables) (stored : ℕ → Option Blob) (closed : Bool) (failure
   -- others fall then, as seen from before it came
   pub falls-made : t1 ≡ record t { ref_counts = t1.ref_counts } → is_valued me ≡ false → (new : RefCounts) {given : ℕ → Bool} {r : Result (Unit {0}) Error}
       → Falls made made given r (with_tables made new) → given (t.ref_counts.last_handle + 1) ≡ false
-      → Falls before made given r (core_of (record t1 { ref_counts = new }) stored closed failures)
+      → Falls before made given r (core_of (record t1 { ref_counts = new }) storage)
   falls-made same plain new {given} {r} f spared =
       let ordered = subst (AllPairs IsHandleBefore) a.rows after.core.handles.ordered in
       let stays = stays-pinned before made (with_tables made new) given r (row_of (t.ref_counts.last_handle + 1) node mode me) refl ordered plain spared f in
@@ -322,7 +327,7 @@ key-is x0 some = grind (arith, nat_tests)
 -- of a cell that is away, where room was made before
 pub away-born : {w w1 w' : Core} (me : Owner) (node_type key n : ℕ) (rs : List ArcRef) (k : HandleNumber) → OnlyRoom w w1 → w1.last.node < greatest → n ≡ key
     → 0 < n → rs ≡ []
-    → Bears w1 me node_type n rs Mode.LooseUnpinned k w' → AwayBirthCall w me node_type key (Ok k) w'
+    → Bears w1 me node_type n rs Mode.LooseUnpinned k w' → InsertPagedOutCall w me node_type key (Ok k) w'
 away-born me node_type key n rs k room left is some none b = grind (arith, nat_tests, key-is, next-past, born-past)
 
 pub bears-goes : {w w' : Core} (me : Owner) (node_type key : ℕ) (rs : List ArcRef) (mode : Mode) (k : HandleNumber) → pager.IsWhole w → MayHold w me
@@ -437,20 +442,20 @@ moved-then s s' h o rows a b next = record {
   next = λ q next. b.next q (a.next q next);
 }
 
--- ---- calls that leave the tables whole, as their steps leave the plain world
+-- ---- calls that leave the tables whole, as their steps leave the core
 
 -- the step is made whatever is stored, whether the storage was closed, and however often it failed
 abbrev pub Each : Tables → (Core → Core → Type 0) → Tables → Type 0
-Each old step new = (stored : ℕ → Option Blob) (closed : Bool) (failures : ℕ) → step (core_of old stored closed failures) (core_of new stored closed failures)
+Each old step new = (storage : StorageView) → step (core_of old storage) (core_of new storage)
 
 module _ {old new : Tables} {step : Core → Core → Type 0} where
   pub does-by : Each old step new → IsFalling new.ref_counts [] owns_nothing
-      → (step (plain_of old) (plain_of new) → ArePlaced (plain_of new) → pager.IsWhole (plain_of new))
-      → (step (plain_of old) (plain_of new) → AreLater old → AreLater new) → Does old step new
-  does-by does steady whole later = let plain = does (λ key. None) false 0 in record { does = does; whole = whole-so steady (whole plain); later = later plain }
+      → (step (core_alone old) (core_alone new) → ArePlaced (core_alone new) → pager.IsWhole (core_alone new))
+      → (step (core_alone old) (core_alone new) → AreLater old → AreLater new) → Does old step new
+  does-by does steady whole later = let plain = does no_blobs in record { does = does; whole = whole-so steady (whole plain); later = later plain }
 
   -- loads and workers are those that were
-  pub does-so : Each old step new → IsFalling new.ref_counts [] owns_nothing → (step (plain_of old) (plain_of new) → Goes (plain_of old) (plain_of new))
+  pub does-so : Each old step new → IsFalling new.ref_counts [] owns_nothing → (step (core_alone old) (core_alone new) → Goes (core_alone old) (core_alone new))
       → new.loads ≡ old.loads
       → new.workers ≡ old.workers → new.noted ≡ old.noted → Does old step new
   does-so does steady goes loads workers noted = does-by does steady (λ plain. (goes plain).whole)
@@ -460,33 +465,24 @@ pub nothing-does : {t : Tables} {step : Core → Core → Type 0} → IsWhole t 
 nothing-does whole does = record { does = does; whole = whole; later = λ later. later }
 
 pub does-then : {a b c : Tables} {one two both : Core → Core → Type 0} → Does a one b → Does b two c
-    → ((stored : ℕ → Option Blob) (closed : Bool) (failures : ℕ) → one (core_of a stored closed failures) (core_of b stored closed failures)
-    → two (core_of b stored closed failures) (core_of c stored closed failures)
-    → both (core_of a stored closed failures) (core_of c stored closed failures)) → Does a both c
-does-then p q both = record {
-  does = λ stored closed failures. both stored closed failures (p.does stored closed failures) (q.does stored closed failures);
-  whole = q.whole;
-  later = λ later. q.later (p.later later);
-}
+    → ((storage : StorageView) → one (core_of a storage) (core_of b storage) → two (core_of b storage) (core_of c storage)
+    → both (core_of a storage) (core_of c storage)) → Does a both c
+does-then p q both = record { does = λ storage. both storage (p.does storage) (q.does storage); whole = q.whole; later = λ later. q.later (p.later later) }
 
 -- the same, of a step that follows from it
 pub does-as : {old new : Tables} {one two : Core → Core → Type 0} → Does old one new → Each old (λ w w'. one w w' → two w w') new → Does old two new
-does-as step so = record {
-  does = λ stored closed failures. so stored closed failures (step.does stored closed failures);
-  whole = step.whole;
-  later = step.later;
-}
+does-as step so = record { does = λ storage. so storage (step.does storage); whole = step.whole; later = step.later }
 
--- the plain world where cells are listed or not
+-- the core where cells are listed or not
 abbrev pub listing : Bool → Tables → Core
-listing lists t = core_of t (λ key. None) (not lists) 0
+listing lists t = core_of t (no_blobs_of lists)
 
 -- the same, of a step that is made as cells are listed
 module _ {lists : Bool} {old new : Tables} {step : Core → Core → Type 0} (does : Each old (λ w w'. lists ≡ not w.closed → step w w') new)
     (steady : IsFalling new.ref_counts [] owns_nothing) where
-  pub lazily-by : (step (listing lists old) (listing lists new) → ArePlaced (plain_of new) → pager.IsWhole (plain_of new))
+  pub lazily-by : (step (listing lists old) (listing lists new) → ArePlaced (core_alone new) → pager.IsWhole (core_alone new))
       → (step (listing lists old) (listing lists new) → AreLater old → AreLater new) → Does old (λ w w'. lists ≡ not w.closed → step w w') new
-  lazily-by whole later = let plain = does (λ key. None) (not lists) 0 (closed-is (not lists) lists refl) in
+  lazily-by whole later = let plain = does (no_blobs_of lists) (closed-is (not lists) lists refl) in
       record { does = does; whole = whole-so steady (whole plain); later = later plain }
 
   pub lazily-so : (step (listing lists old) (listing lists new) → Goes (listing lists old) (listing lists new)) → new.loads ≡ old.loads → new.workers
@@ -510,7 +506,7 @@ pub widens-does : (t : Tables) (h : Handles) (nodes : NumberTable NodeRow) (cach
     → ((n : ℕ) → counts_at nodes n ≡ counts_at t.ref_counts.nodes n) → ((n : ℕ) → refs_at nodes n ≡ refs_at t.ref_counts.nodes n)
     → ((n : ℕ) → work_at nodes n ≡ work_at t.ref_counts.nodes n) → ((kind key : ℕ) → known_at cache kind key ≡ known_at t.cache kind key)
     → Does t OnlyRoom (record t { ref_counts = record t.ref_counts { handles = h; nodes = nodes }; cache = cache })
-widens-does t h nodes cache whole e counts refs work known = does-so (λ stored closed failures. grind (arith, nat_tests, e.rows, e.capacity, counts, known))
+widens-does t h nodes cache whole e counts refs work known = does-so (λ storage. grind (arith, nat_tests, e.rows, e.capacity, counts, known))
     (record {
       sound = e.sound;
       next = e.next (t.ref_counts.last_handle + 1) whole.steady.next;

@@ -1,7 +1,7 @@
 -- Two worlds that agree in all that the specification tells of them.
 use Rattle.pagable_tables.proofs.Words.{Adopts, Alike, ArcRef, AreHandlesFull, Bool, Core, Err, Error, FallsAnyhow, HandleNumber, HandleRow, HasRoom, Kind, LazyCall, List, LoadNumber, Makes, Mode}
 use Rattle.pagable_tables.proofs.Words.{NodeNumber, None, Ok, OnlyRoom, OpenLoad, Option, OptionalDataKey, Owner, OwnsLoad, RecallCall, Refused, Result, SameAt, SameCache, Some, [], add-one}
-use Rattle.pagable_tables.proofs.Words.{adopt_fault, adopted, ap, arith, at_drop_more, birth_fault, closed_fault, drop, drop-cons, drop_all, earlier, early_fault, false, find_row}
+use Rattle.pagable_tables.proofs.Words.{adopt_fault, adopted, ap, arith, at_drop_more, insert_fault, closed_fault, drop, drop-cons, drop_all, earlier, early_fault, false, find_row}
 use Rattle.pagable_tables.proofs.Words.{first_key, get_or, greatest, handle_fault, if_there, if◌then◌else◌, inl, inr, is_in, is_loose_kind, is_named_by, is_owner, is_some, length, load_fault, map, mode_of}
 use Rattle.pagable_tables.proofs.Words.{moved, named_at, named_fault, nat_lt, nat_tests, next_node, node_fault, not, numbers_of, only_handle, option_map, or_else, rank, reference_fault, references_fault}
 use Rattle.pagable_tables.proofs.Words.{refl, refused_if, seen, spent, subst, suc, sym, take, take-suc, take_all, true, type_of, usable, where_so, with_cached, with_handle, with_node, zero, ℕ, ◌&&◌}
@@ -351,7 +351,7 @@ module _ (w : Core) (me : Owner) (l : LoadNumber) (load : OpenLoad) (kind : Kind
     lazy-known node mode r w' is fits m = grind (arith, nat_tests)
 
     module _ (none : usable w kind.0 key ≡ None) where
-      pub lazy-not-new : {e : Error} {w' : Core} → Refused (birth_fault w) (birth_fault w) (Unit {0}) w e w' → LazyCall w me l kind key (Err e) w'
+      pub lazy-not-new : {e : Error} {w' : Core} → Refused (insert_fault w) (insert_fault w) (Unit {0}) w e w' → LazyCall w me l kind key (Err e) w'
       lazy-not-new r = grind (arith, nat_tests, no-load-fault)
 
       pub lazy-new : (k : HandleNumber) {w' : Core} → w.last.node < greatest → IsNext k w → Alike (adopted w l kind key (OptionalDataKey.Some key) []) w'
@@ -442,7 +442,7 @@ module _ (w : Core) (me : Owner) (l : LoadNumber) (kind : Kind) (key node_type :
         makes = inr (none, node_left, made);
       }
 
-      pub refused-new : {before : Option Error} {e : Error} {w' : Core} → Refused (birth_fault w) before (Unit {0}) w e w'
+      pub refused-new : {before : Option Error} {e : Error} {w' : Core} → Refused (insert_fault w) before (Unit {0}) w e w'
           → Refused (adopt_fault w me l kind key node_type refs) (load_fault w me l) (Unit {0}) w e w'
       refused-new refused = grind (arith, nat_tests, left, parts)
 

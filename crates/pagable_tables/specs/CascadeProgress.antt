@@ -62,7 +62,7 @@ pub record SoFar (before w : Core) (given : ℕ → Bool) (lists : Bool) (t : Re
       → IsClosed w.rows (is_keyed w) final s → IsWithin w.rows gone s
   pub new : AreNewEntries w.last.handle entries
   pub only : (n : ℕ) → 0 < held n entries → MustList before w (with_tables w t) n × (held n entries ≡ 1)
-  pub tells : TellsListing before w entries (told_by t.unlisted) (with_tables w t)
+  pub tells : TellsListing before w entries (told_by t.listing_error) (with_tables w t)
   -- while a node is dying, there are no more rows than at first
   pub few : t.top ≢ 0 → length (live t.handles.places.items) ≤ length w.rows
 

@@ -59,9 +59,9 @@ pub record Comes (old : RefCounts) (node : NodeNumber) (listed : Bool) (new : Re
 pub record MayList (old : RefCounts) (node : NodeNumber) (wanted listed : Bool) (new : RefCounts) : Type 0 where
   pub comes : Comes old node listed new
   pub only : listed ≡ true → wanted ≡ true
-  pub told : (listed ≡ true) ⊎ (wanted ≡ false) → new.unlisted ≡ old.unlisted
+  pub told : (listed ≡ true) ⊎ (wanted ≡ false) → new.listing_error ≡ old.listing_error
   pub why : listed ≡ false → wanted ≡ true → (e : Error) × IsUnlisted old e
-      × (new.unlisted ≡ or_else old.unlisted (Some e))
+      × (new.listing_error ≡ or_else old.listing_error (Some e))
 
 -- the row of a loose handle without its pin
 abbrev pub unpinned : HandleRow → HandleRow
@@ -84,7 +84,7 @@ abbrev pub ValueStays : Option Counts → Option Counts → Type 0
 ValueStays old new = falls_in new ≡ false → (falls_in old ≡ false) × (has_value new ≡ has_value old)
 
 -- The handle of the row x is removed, or unpinned if it `stays`. Then an entry for its node may be listed.
-pub record GivesUp (old : RefCounts) (stack : List ℕ) (x : HandleRow) (stays lists : Bool)
+pub record ReleasesWithoutCascade (old : RefCounts) (stack : List ℕ) (x : HandleRow) (stays lists : Bool)
     (new : RefCounts) : Type 0 where
   pub left : Handles
   pub leaves : Leaves old.handles x stays left
@@ -119,7 +119,7 @@ pub record FallsBy (old : RefCounts) (x : HandleRow) (n : ℕ) (lists : Bool) (n
   pub same : popped ≡ record old { nodes = popped.nodes }
   pub counts : (m : ℕ) → counts_at popped.nodes m ≡ counts_at old.nodes m
   pub stack : List ℕ
-  pub gives : GivesUp popped stack x false lists new
+  pub gives : ReleasesWithoutCascade popped stack x false lists new
 
 -- One step: a handle is released, or the first dying node is finished and its value may be dropped.
 pub record Steps (old : RefCounts) (stack : List ℕ) (lists : Bool) (r : Option NodeNumber)

@@ -1,4 +1,4 @@
--- The plain world that whole tables stand for, what a call of the tables does and keeps, and the steps that calls make.
+-- The core that whole tables stand for, what a call of the tables does and keeps, and the steps that calls make.
 use Rattle.std.specs.VecDeque.{deque_capacity}
 use Rattle.std.specs.{Option.option_map, Prelude.{Bool, IfErr, IfOk, IsSome, List, None, Option, Result, Some, [], false, get_or, if◌then◌else◌, is_some, length, not, slice_get, suc, true}}
 use Rattle.std.specs.Prelude.{vec_capacity, zero, ℕ, ◌&&◌, ◌+◌, ◌<◌, ◌==◌, ◌||◌, ◌∷◌, ◌≡◌, ◌≤◌, ◌⊎◌}
@@ -20,16 +20,32 @@ root_in LoadRoot.Key = of_key
 abbrev pub load_in : LoadRow → OpenLoad
 load_in row = record { owner = row.owner; key = row.key; root = root_in row.root }
 
--- the world of these tables, with what is stored, whether the storage is closed, and how often it failed
-abbrev pub core_of : Tables → (ℕ → Option Blob) → Bool → ℕ → Core
-core_of t stored closed failures = record {
+-- The view of a storage: what it holds under each key, whether it is closed, and how often it has failed.
+pub record StorageView : Type 0 where
+  pub stored : ℕ → Option Blob
+  pub closed : Bool
+  pub failures : ℕ
+
+-- a storage without blobs: an open one, one that is open exactly if cells are listed, and a closed one
+abbrev pub no_blobs : StorageView
+no_blobs = record { stored = λ key. None; closed = false; failures = 0 }
+
+abbrev pub no_blobs_of : Bool → StorageView
+no_blobs_of lists = record { stored = λ key. None; closed = not lists; failures = 0 }
+
+abbrev pub shut_view : ℕ → StorageView
+shut_view failures = record { stored = λ key. None; closed = true; failures = failures }
+
+-- the core of these tables over a storage
+abbrev pub core_of : Tables → StorageView → Core
+core_of t storage = record {
   rows = live t.ref_counts.handles.places.items;
   cells = λ n. cell_in (counts_at t.ref_counts.nodes n);
   list = t.ref_counts.list.items;
   cache = λ kind key. option_map (λ (n : NodeNumber). n.0) (known_at t.cache kind key);
-  stored = stored;
-  closed = closed;
-  failures = failures;
+  stored = storage.stored;
+  closed = storage.closed;
+  failures = storage.failures;
   loads = λ l. option_map load_in (load_at t.loads l);
   workers = λ v. is_some (worker_at t.workers v);
   last = record { node = t.last_node; handle = t.ref_counts.last_handle; load = t.last_load; worker = t.last_worker };
@@ -37,13 +53,13 @@ core_of t stored closed failures = record {
 }
 
 -- the world of these tables with nothing stored
-abbrev pub plain_of : Tables → Core
-plain_of t = core_of t (λ key. None) false 0
+abbrev pub core_alone : Tables → Core
+core_alone t = core_of t no_blobs
 
--- The tables are whole: handles, nodes and list agree, no node is dying, and the plain world is whole.
+-- The tables are whole: handles, nodes and list agree, no node is dying, and the core is whole.
 pub record IsWhole (t : Tables) : Type 0 where
   pub steady : IsFalling t.ref_counts [] owns_nothing
-  pub core : pager.IsWhole (plain_of t)
+  pub core : pager.IsWhole (core_alone t)
 
 -- rows and entries of the list are in their places
 pub record ArePlaced (w : Core) : Type 0 where
@@ -133,23 +149,23 @@ pub record AreLater (t : Tables) : Type 0 where
   -- all handles of an open load have numbers above the last one that was given out before it began
   pub given : (l : ℕ) (load : LoadRow) → load_at t.loads l ≡ Some load → load.since ≤ t.ref_counts.last_handle
   pub since : (l : ℕ) (load : LoadRow) (q : ℕ) → load_at t.loads l ≡ Some load
-      → is_owned_in (plain_of t) (Owner.Load (record { 0 = l })) q ≡ true → load.since < q
+      → is_owned_in (core_alone t) (Owner.Load (record { 0 = l })) q ≡ true → load.since < q
   -- a worker's range contains all its handles, and its loads began after it
   pub begun : (v : ℕ) → (reach_at t.workers v).since ≤ t.ref_counts.last_handle
-  pub reach : (v q : ℕ) → is_owned_in (plain_of t) (owner_worker v) q ≡ true → InReach (reach_at t.workers v) q
+  pub reach : (v q : ℕ) → is_owned_in (core_alone t) (owner_worker v) q ≡ true → InReach (reach_at t.workers v) q
   pub loads : (v l : ℕ) (load : LoadRow) → load_at t.loads l ≡ Some load → is_owner (owner_worker v) load.owner ≡ true
       → (reach_at t.workers v).since ≤ load.since
   -- each open load's row tells the last handle that it owns among those up to `noted`
   pub noted : t.noted ≤ t.ref_counts.last_handle
   pub until : (l : ℕ) (load : LoadRow) (q : ℕ) → load_at t.loads l ≡ Some load
-      → is_owned_in (plain_of t) (Owner.Load (record { 0 = l })) q ≡ true → q ≤ t.noted → q ≤ load.last
+      → is_owned_in (core_alone t) (Owner.Load (record { 0 = l })) q ≡ true → q ≤ t.noted → q ≤ load.last
 
 -- all handles that a load owns have numbers up to this one; and above this one
 abbrev pub IsOwnedUpTo : Tables → LoadNumber → ℕ → Type 0
-IsOwnedUpTo t l until = (q : ℕ) → is_owned_in (plain_of t) (Owner.Load l) q ≡ true → q ≤ until
+IsOwnedUpTo t l until = (q : ℕ) → is_owned_in (core_alone t) (Owner.Load l) q ≡ true → q ≤ until
 
 abbrev pub IsOwnedAbove : Tables → LoadNumber → ℕ → Type 0
-IsOwnedAbove t l since = (q : ℕ) → is_owned_in (plain_of t) (Owner.Load l) q ≡ true → since < q
+IsOwnedAbove t l since = (q : ℕ) → is_owned_in (core_alone t) (Owner.Load l) q ≡ true → since < q
 
 -- each load's row tells the last handle that it owns among those above a number at the first `count` places
 abbrev pub AreTold : {S : Type 0} → IndexMap ℕ LoadRow S → List Place → (number count : ℕ) → Type 0
@@ -174,13 +190,12 @@ pub record Notes (old new : Tables) : Type 0 where
   pub whole : IsWhole new
   pub later : AreLater new
 
--- ---- what a call of the tables does: its step in the plain world, and what it keeps
+-- ---- what a call of the tables does: its step in the core, and what it keeps
 
--- The plain world makes the step, whatever is stored; the tables stay whole; and loads and workers own only handles
+-- The core makes the step, whatever is stored; the tables stay whole; and loads and workers own only handles
 -- made since they began, if that was so.
 pub record Does (old : Tables) (step : Core → Core → Type 0) (new : Tables) : Type 0 where
-  pub does : (stored : ℕ → Option Blob) (closed : Bool) (failures : ℕ)
-      → step (core_of old stored closed failures) (core_of new stored closed failures)
+  pub does : (storage : StorageView) → step (core_of old storage) (core_of new storage)
   pub whole : IsWhole new
   pub later : AreLater old → AreLater new
 
@@ -188,8 +203,7 @@ pub record Does (old : Tables) (step : Core → Core → Type 0) (new : Tables) 
 -- to be.
 pub record DoesShed {X : Type 0} (lists : Bool) (old : Tables) (values : NumberTable X) (step : Core → Core → Type 0)
     (new : Tables) (values' : NumberTable X) : Type 0 where
-  pub does : (stored : ℕ → Option Blob) (closed : Bool) (failures : ℕ) → lists ≡ not closed
-      → step (core_of old stored closed failures) (core_of new stored closed failures)
+  pub does : (storage : StorageView) → lists ≡ not storage.closed → step (core_of old storage) (core_of new storage)
   pub whole : IsWhole new
   pub later : AreLater old → AreLater new
   pub sheds : Sheds (counts_at old.ref_counts.nodes) (row_by values) (counts_at new.ref_counts.nodes) (row_by values')

@@ -1,12 +1,13 @@
 //! The cache: the node that is known under a kind and a key.
 
+ghost use Rattle.pagable_tables.specs.Core.{StorageView};
 ghost use Rattle.indexmap.specs.IndexMap.{get, spare};
 ghost use Rattle.pagable_value_spec.specs.declared.numbers.NodeNumber.{NodeNumber};
 ghost use Rattle.pagable_tables.specs.CascadeInvariant.{owns};
-ghost use Rattle.pagable_tables.specs.{Core.{AreLater, Does, IsWhole, MayHold, core_of, plain_of}, Indexes.known_at};
+ghost use Rattle.pagable_tables.specs.{Core.{AreLater, Does, IsWhole, MayHold, core_of, core_alone}, Indexes.known_at};
 ghost use Rattle.pagable_tables.specs.{Nodes.{counts_at, has_value, living}, NumberTable.row_by, ValuesKept.Sheds};
 ghost use Rattle.pagable_pager_spec.specs.Calls.{OfferCall, RecallCall, offer_fault};
-ghost use Rattle.pagable_pager_spec.specs.{Kinds.{fits_mode, is_pinning, mode_of}, Basics.{Blob, is_pinned_kind, type_of}};
+ghost use Rattle.pagable_pager_spec.specs.{Kinds.{fits_mode, is_pinning, mode_of}, Basics.{type_of}};
 ghost use Rattle.pagable_pager_spec.specs.{Refusals.Owns, World.{Alike, type_at, usable}};
 ghost use Rattle.pagable_pager_spec.specs.declared.handle_row.{HandleRow.HandleRow, Owner.Owner};
 ghost use Rattle.std.specs.Option.{option_map};
@@ -16,7 +17,7 @@ ghost use Rattle.std.specs.Prelude.{◌≡◌, ◌≢◌, ◌≤◌, ◌⊎◌};
 
 use crate::checks::own;
 use crate::create::make;
-use crate::kinds::{fits_mode, is_pinned_kind, mode_of};
+use crate::kinds::{fits_mode, mode_of};
 use crate::nodes;
 use crate::nodes::{Arcs, Nodes, is_here, is_of};
 use crate::release::try_release_at;
@@ -94,12 +95,12 @@ pub fn forget_gone(t: &mut Tables)
 /// or, for the kind of a pin, whose node has no value in memory.
 pub fn usable_of(t: &Tables, kind: Kind, key: DataKey) -> Option<NodeNumber>
     requires { IsWhole t.now }
-    ensures { (stored : ℕ → Option Blob) (closed : Bool) (failures : ℕ) → option_map (λ (n : NodeNumber). n.0) result
-        ≡ usable (core_of t.now stored closed failures) kind.0 key }
+    ensures { (storage : StorageView) → option_map (λ (n : NodeNumber). n.0) result
+        ≡ usable (core_of t.now storage) kind.0 key }
 {
     let node = t.cache.get(&(kind.0, key)).copied()?;
     let counts = nodes::counts_of(&t.ref_counts.nodes, node.0);
-    let is_gone = counts.is_none() || is_pinned_kind(kind) && !is_here(counts);
+    let is_gone = counts.is_none() || kind.is_pinned() && !is_here(counts);
     (!is_gone).then_some(node)
 }
 
@@ -117,7 +118,7 @@ pub fn cache_get(
     key: DataKey,
 ) -> Result<Option<HandleNumber>, Error>
     requires whole { IsWhole t.old }
-    requires holder { MayHold (plain_of t.old) me }
+    requires holder { MayHold (core_alone t.old) me }
     ensures does { Does t.old (λ w w'. RecallCall w me kind key result w') t.new }
     ensures none { IfOk result (λ found. IfNone found (t.new ≡ t.old)) }
 {
@@ -137,10 +138,10 @@ pub fn cache_get(
 /// - `WrongKind` if its node's type isn't the kind's.
 pub fn offered(t: &Tables, me: Owner, kind: Kind, handle: HandleNumber) -> Result<HandleRow, Error>
     requires { IsWhole t.now }
-    ensures owns { IfOk result (λ row. Owns (plain_of t.now) me handle (fits_mode kind.0) row) }
-    ensures typed { IfOk result (λ row. type_at (plain_of t.now) row.node.0 ≡ Some (type_of kind.0)) }
-    ensures fault { IfErr result (λ e. (stored : ℕ → Option Blob) (closed : Bool) (failures key : ℕ)
-        → offer_fault (core_of t.now stored closed failures) me kind key handle ≡ Some e) }
+    ensures owns { IfOk result (λ row. Owns (core_alone t.now) me handle (fits_mode kind.0) row) }
+    ensures typed { IfOk result (λ row. type_at (core_alone t.now) row.node.0 ≡ Some (type_of kind.0)) }
+    ensures fault { IfErr result (λ e. (storage : StorageView) (key : ℕ)
+        → offer_fault (core_of t.now storage) me kind key handle ≡ Some e) }
 {
     let at = own(t, me, handle)?;
     if !fits_mode(kind, at.row.mode) {
@@ -173,12 +174,11 @@ pub fn offer<N: Drop>(
     lists: bool,
 ) -> Result<Option<HandleNumber>, Error>
     requires whole { IsWhole t.old }
-    requires holder { MayHold (plain_of t.old) me }
-    ensures offered { (stored : ℕ → Option Blob) (closed : Bool) (failures : ℕ) → lists ≡ not closed
-        → OfferCall (core_of t.old stored closed failures) me kind key handle result
-        (core_of t.new stored closed failures) }
+    requires holder { MayHold (core_alone t.old) me }
+    ensures offered { (storage : StorageView) → lists ≡ not storage.closed
+        → OfferCall (core_of t.old storage) me kind key handle result (core_of t.new storage) }
     ensures whole { IsWhole t.new }
-    ensures sheds { ((n : ℕ) → usable (plain_of t.old) kind.0 key ≡ Some n → is_pinning (mode_of kind.0) ≡ true
+    ensures sheds { ((n : ℕ) → usable (core_alone t.old) kind.0 key ≡ Some n → is_pinning (mode_of kind.0) ≡ true
         → has_value (counts_at t.old.ref_counts.nodes n) ≡ true)
         → Sheds (counts_at t.old.ref_counts.nodes) (row_by values.old) (counts_at t.new.ref_counts.nodes)
         (row_by values.new) }

@@ -6,7 +6,7 @@
 ghost use Rattle.pagable_value_spec.specs.declared.numbers.NodeNumber.{NodeNumber};
 ghost use Rattle.pagable_tables.specs.CascadeInvariant.{IsFalling, is_valued, is_worker, owns, owns_nothing};
 ghost use Rattle.pagable_tables.specs.CascadeProgress.{IsApart, SoFar, told_by, with_tables};
-ghost use Rattle.pagable_tables.specs.CascadeSteps.{Comes, GivesUp, IsUnlisted, Leaves, MayList, Steps, after};
+ghost use Rattle.pagable_tables.specs.CascadeSteps.{Comes, ReleasesWithoutCascade, IsUnlisted, Leaves, MayList, Steps, after};
 ghost use Rattle.pagable_tables.specs.CascadeSteps.{is_listing, is_node, landed};
 ghost use Rattle.pagable_tables.specs.HandleTable.{AreSound, IsNext, alive, live};
 ghost use Rattle.pagable_tables.specs.{Nodes.{counts_at, refs_at, work_at}, NumberTable.row_by, ValuesKept.Sheds};
@@ -37,7 +37,7 @@ pub struct RefCounts {
     /// The first dying node, 0 for none.
     pub top: u64,
     /// The first error by which a cell couldn't be listed since this release began.
-    pub unlisted: Option<Error>,
+    pub listing_error: Option<Error>,
     pub last_handle: u64,
 }
 
@@ -47,7 +47,7 @@ fn push_pending(t: &mut RefCounts, node: NodeNumber) -> Result<(), Error>
     requires sound { AreSound t.old.handles }
     requires next { IsNext (t.old.last_handle + 1) t.old.handles.places.items }
     ensures comes { Comes t.old node (is_ok result) t.new }
-    ensures told { t.new.unlisted ≡ t.old.unlisted }
+    ensures told { t.new.listing_error ≡ t.old.listing_error }
     ensures why { IfErr result (IsUnlisted t.old) }
 {
     if t.last_handle == u64::MAX {
@@ -68,7 +68,7 @@ fn push_pending(t: &mut RefCounts, node: NodeNumber) -> Result<(), Error>
 }
 
 /// Calls `push_pending` if `wanted`, and says whether an entry was added. The first error is kept
-/// in `unlisted`.
+/// in `listing_error`.
 fn push_pending_if(t: &mut RefCounts, node: NodeNumber, wanted: bool) -> bool
     requires sound { AreSound t.old.handles }
     requires next { IsNext (t.old.last_handle + 1) t.old.handles.places.items }
@@ -80,7 +80,7 @@ fn push_pending_if(t: &mut RefCounts, node: NodeNumber, wanted: bool) -> bool
     let Err(e) = push_pending(t, node) else {
         return true;
     };
-    t.unlisted = t.unlisted.take().or(Some(e));
+    t.listing_error = t.listing_error.take().or(Some(e));
     false
 }
 
@@ -154,13 +154,14 @@ pub fn top_after(before: bool, falls: bool, node: u64, top: u64) -> u64
 
 /// Removes the handle, or only its pin if it `stays`, without a step of the cascade. Where `lists`
 /// is set, lists the node's cell if that was its last pin and it has no key; why it couldn't is
-/// kept in `unlisted`.
+/// kept in `listing_error`.
 #[tactic(auto, using(crate::proofs::CascadeStep::counting))]
-pub fn give_up(t: &mut RefCounts, at: HandleAt, stays: bool, lists: bool)
+pub fn release_without_cascade(t: &mut RefCounts, at: HandleAt, stays: bool, lists: bool)
     requires falling { (stack : List ℕ) × IsFalling t.old stack (owns at.row) }
     requires place { slice_get t.old.handles.places.items at.place ≡ Some (alive at.row) }
     requires plain { stays ≡ true → is_valued at.row.owner ≡ false }
-    ensures { (stack : List ℕ) → IsFalling t.old stack (owns at.row) → GivesUp t.old stack at.row stays lists t.new }
+    ensures { (stack : List ℕ) → IsFalling t.old stack (owns at.row)
+        → ReleasesWithoutCascade t.old stack at.row stays lists t.new }
 {
     let node = at.row.node.0;
     let counts = nodes::counts_of(&t.nodes, node).unwrap();
@@ -208,7 +209,7 @@ pub fn step(t: &mut RefCounts, lists: bool) -> Option<NodeNumber>
     match nodes::pop_reference(&mut t.nodes, node) {
         Some(reference) => {
             match handle_table::look(&t.handles, reference.handle) {
-                Some(at) => give_up(t, at, false, lists),
+                Some(at) => release_without_cascade(t, at, false, lists),
                 None => unreachable!(),
             }
             None
@@ -242,19 +243,19 @@ pub fn cascade<N: Drop>(t: &mut RefCounts, values: &mut Arcs<N>, lists: bool)
     ensures so_far { (before w : Core) (given : ℕ → Bool) → SoFar before w given lists t.old
         → SoFar before w given lists t.new }
     ensures falls { (before w : Core) (given : ℕ → Bool) → SoFar before w given lists t.old
-        → Falls before w given (told_by t.new.unlisted) (with_tables w t.new) }
+        → Falls before w given (told_by t.new.listing_error) (with_tables w t.new) }
     ensures sheds { Sheds (counts_at t.old.nodes) (row_by values.old) (counts_at t.new.nodes) (row_by values.new) }
 {
     // a bound on the steps: twice the number of live handles, and one
     let mut left = 2 * (t.handles.places.len() - t.handles.dead) + 1;
-    'fall: while t.top != 0 {
+    'finish_cascade: while t.top != 0 {
         left -= 1;
         let done = step(t, lists);
         drop_value(values, done);
     }
 }
 
-/// Releases the handle and runs the cascade. The first error of listing is kept in `unlisted`.
+/// Releases the handle and runs the cascade. The first error of listing is kept in `listing_error`.
 pub fn release_at<N: Drop>(t: &mut RefCounts, values: &mut Arcs<N>, at: HandleAt, lists: bool)
     requires steady { IsFalling t.old [] owns_nothing }
     requires place { slice_get t.old.handles.places.items at.place ≡ Some (alive at.row) }
@@ -268,7 +269,7 @@ pub fn release_at<N: Drop>(t: &mut RefCounts, values: &mut Arcs<N>, at: HandleAt
     ensures unlisting { lists ≡ false → t.new.list.items ≡ t.old.list.items }
     ensures sheds { Sheds (counts_at t.old.nodes) (row_by values.old) (counts_at t.new.nodes) (row_by values.new) }
 {
-    give_up(t, at, false, lists);
+    release_without_cascade(t, at, false, lists);
     cascade(t, values, lists);
 }
 
@@ -278,7 +279,11 @@ pub fn release_at<N: Drop>(t: &mut RefCounts, values: &mut Arcs<N>, at: HandleAt
 ///
 /// - `NumbersSpent`, `OutOfMemory` if a cell that must be listed couldn't be: the cascade is
 ///   complete all the same.
-pub fn fall<N: Drop>(t: &mut RefCounts, values: &mut Arcs<N>, lists: bool) -> Result<(), Error>
+pub fn finish_cascade<N: Drop>(
+    t: &mut RefCounts,
+    values: &mut Arcs<N>,
+    lists: bool,
+) -> Result<(), Error>
     requires falling { (stack : List ℕ) × IsFalling t.old stack owns_nothing × (length stack ≤ 1) }
     ensures steady { IsFalling t.new [] owns_nothing }
     ensures falls { (before w : Core) (given : ℕ → Bool) → SoFar before w given lists t.old
@@ -286,7 +291,7 @@ pub fn fall<N: Drop>(t: &mut RefCounts, values: &mut Arcs<N>, lists: bool) -> Re
     ensures sheds { Sheds (counts_at t.old.nodes) (row_by values.old) (counts_at t.new.nodes) (row_by values.new) }
 {
     cascade(t, values, lists);
-    match t.unlisted.take() {
+    match t.listing_error.take() {
         None => Ok(()),
         Some(e) => Err(e),
     }

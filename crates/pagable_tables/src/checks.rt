@@ -1,11 +1,12 @@
 //! The checks of a call's handles, references and load. They change nothing.
 
+ghost use Rattle.pagable_tables.specs.Core.{StorageView};
 ghost use Rattle.pagable_value_spec.specs.declared.numbers.LoadNumber.{LoadNumber};
-ghost use Rattle.pagable_tables.specs.Core.{IsWhole, core_of, load_in, plain_of, seen};
+ghost use Rattle.pagable_tables.specs.Core.{IsWhole, core_of, load_in, core_alone, seen};
 ghost use Rattle.pagable_tables.specs.{HandleTable.{AreSound, alive, live}, Indexes.load_at};
 ghost use Rattle.pagable_tables.specs.declared.load_table.LoadRow.{LoadRow};
 ghost use Rattle.pagable_pager_spec.specs.{Calls.is_named_by, Kinds.{find_row, fits_mode, is_owner}};
-ghost use Rattle.pagable_pager_spec.specs.{LoadCalls.{cell_fault, hand_over_fault}, Basics.{Blob, if_there, is_in}};
+ghost use Rattle.pagable_pager_spec.specs.{LoadCalls.{cell_fault, hand_over_fault}, Basics.{if_there, is_in}};
 ghost use Rattle.pagable_pager_spec.specs.Refusals.{OwnsLoad, earlier, handle_fault, load_fault, named_fault};
 ghost use Rattle.pagable_pager_spec.specs.Refusals.{reference_fault, references_fault, refused_if, row_fault};
 ghost use Rattle.pagable_pager_spec.specs.{Workers.claim_fault, World.{Cell, Core, OpenLoad}};
@@ -36,8 +37,8 @@ pub fn own(t: &Tables, me: Owner, handle: HandleNumber) -> Result<HandleAt, Erro
     ensures found { IfOk result (λ at. find_row handle.0 (live t.now.ref_counts.handles.places.items) ≡ Some at.row) }
     ensures number { IfOk result (λ at. at.row.number ≡ handle) }
     ensures owner { IfOk result (λ at. is_owner me at.row.owner ≡ true) }
-    ensures fault { IfErr result (λ e. (stored : ℕ → Option Blob) (closed : Bool) (failures : ℕ) (fits : Mode → Bool)
-        → handle_fault (core_of t.now stored closed failures) me handle fits ≡ Some e) }
+    ensures fault { IfErr result (λ e. (storage : StorageView) (fits : Mode → Bool)
+        → handle_fault (core_of t.now storage) me handle fits ≡ Some e) }
 {
     let at = handle_table::look(&t.ref_counts.handles, handle).ok_or(Error::NoSuchHandle)?;
     if !is_owner(me, at.row.owner) {
@@ -69,7 +70,7 @@ fn is_named(references: &[ArcRef], lowest: u64, highest: u64, handle: HandleNumb
 /// Returns why a reference whose handle has this row is refused, if it is. `is_anothers` says that
 /// the caller may not use the handle.
 fn row_fault(t: &Tables, row: HandleRow, reference: ArcRef, is_anothers: bool) -> Option<Error>
-    ensures { result ≡ row_fault (plain_of t.now) reference (refused_if is_anothers errors.NotYours) row }
+    ensures { result ≡ row_fault (core_alone t.now) reference (refused_if is_anothers errors.NotYours) row }
 {
     if row.node.0 != reference.node.0 {
         return Some(Error::NoSuchHandle);
@@ -88,8 +89,8 @@ fn row_fault(t: &Tables, row: HandleRow, reference: ArcRef, is_anothers: bool) -
 /// reference named the same handle.
 fn fault_of(t: &Tables, me: Owner, reference: ArcRef, is_seen: bool) -> Option<Error>
     requires { IsWhole t.now }
-    ensures { (stored : ℕ → Option Blob) (closed : Bool) (failures : ℕ) (seen : List ℕ) → is_in seen reference.handle.0
-        ≡ is_seen → result ≡ reference_fault (core_of t.now stored closed failures) me seen reference }
+    ensures { (storage : StorageView) (seen : List ℕ) → is_in seen reference.handle.0 ≡ is_seen → result
+        ≡ reference_fault (core_of t.now storage) me seen reference }
 {
     let Some(at) = handle_table::look(&t.ref_counts.handles, reference.handle) else {
         return Some(Error::NoSuchHandle);
@@ -100,8 +101,7 @@ fn fault_of(t: &Tables, me: Owner, reference: ArcRef, is_seen: bool) -> Option<E
 /// Returns why a worker can't claim what a reference names, if it can't, whoever owns the handle.
 pub fn claim_fault(t: &Tables, reference: ArcRef) -> Option<Error>
     requires { IsWhole t.now }
-    ensures { (stored : ℕ → Option Blob) (closed : Bool) (failures : ℕ) → result
-        ≡ claim_fault (core_of t.now stored closed failures) reference }
+    ensures { (storage : StorageView) → result ≡ claim_fault (core_of t.now storage) reference }
 {
     match handle_table::look(&t.ref_counts.handles, reference.handle) {
         Some(at) => row_fault(t, at.row, reference, false),
@@ -116,8 +116,7 @@ pub fn claim_fault(t: &Tables, reference: ArcRef) -> Option<Error>
 #[tactic(auto, using(crate::proofs::SameViews::naming))]
 pub fn references_fault(t: &Tables, me: Owner, references: &[ArcRef]) -> Option<Error>
     requires { IsWhole t.now }
-    ensures { (stored : ℕ → Option Blob) (closed : Bool) (failures : ℕ) → result
-        ≡ references_fault (core_of t.now stored closed failures) me [] references.now }
+    ensures { (storage : StorageView) → result ≡ references_fault (core_of t.now storage) me [] references.now }
 {
     let mut lowest = u64::MAX;
     let mut highest = 0;
@@ -214,8 +213,7 @@ pub(crate) fn hand_over_fault(
     named: &[HandleNumber],
 ) -> Option<Error>
     requires { IsWhole t.now }
-    ensures { (stored : ℕ → Option Blob) (closed : Bool) (failures : ℕ) → result
-        ≡ hand_over_fault (core_of t.now stored closed failures) me load named.now }
+    ensures { (storage : StorageView) → result ≡ hand_over_fault (core_of t.now storage) me load named.now }
 {
     let first = load_fault(load_table::load_of(&t.loads, load.0), me);
     let cell = cell_fault(load_table::load_of(&t.loads, load.0));
@@ -231,10 +229,8 @@ pub(crate) fn hand_over_fault(
 /// - `NotYours` if another began it.
 pub fn load_row(t: &Tables, me: Owner, load: LoadNumber) -> Result<LoadRow, Error>
     ensures row { IfOk result (λ row. load_at t.now.loads load.0 ≡ Some row) }
-    ensures own { IfOk result (λ row. (stored : ℕ → Option Blob) (closed : Bool) (failures : ℕ)
-        → OwnsLoad (core_of t.now stored closed failures) me load (load_in row)) }
-    ensures fault { IfErr result (λ e. (stored : ℕ → Option Blob) (closed : Bool) (failures : ℕ)
-        → load_fault (core_of t.now stored closed failures) me load ≡ Some e) }
+    ensures own { IfOk result (λ row. (storage : StorageView) → OwnsLoad (core_of t.now storage) me load (load_in row)) }
+    ensures fault { IfErr result (λ e. (storage : StorageView) → load_fault (core_of t.now storage) me load ≡ Some e) }
 {
     let row = load_table::load_of(&t.loads, load.0).ok_or(Error::NoSuchHandle)?;
     if !is_owner(me, row.owner) {

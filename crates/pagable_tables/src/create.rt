@@ -1,17 +1,18 @@
 //! Makes nodes, handles of live nodes, and pins.
 
+ghost use Rattle.pagable_tables.specs.Core.{StorageView};
 ghost use Rattle.indexmap.specs.IndexMap.{get, spare};
 ghost use Rattle.pagable_value_spec.specs.declared.numbers.NodeNumber.{NodeNumber};
 ghost use Rattle.pagable_tables.specs.CascadeInvariant.{IsFalling, is_valued, is_worker, owns, owns_nothing};
 ghost use Rattle.pagable_tables.specs.{CascadeProgress.with_tables, CascadeSteps.ValueStays};
 ghost use Rattle.pagable_tables.specs.Core.{Bears, Does, IsReady, IsWhole, Makes, MayHold, OnlyRoom, PinsHere};
-ghost use Rattle.pagable_tables.specs.{Core.{Suits, core_of, plain_of}, HandleTable.{alive, live}};
+ghost use Rattle.pagable_tables.specs.{Core.{Suits, core_of, core_alone}, HandleTable.{alive, live}};
 ghost use Rattle.pagable_tables.specs.{Nodes.{counts_at, has_value, key_in}, declared.cascade.RefCounts.RefCounts};
-ghost use Rattle.pagable_pager_spec.specs.Calls.{AwayBirthCall, CloneCall, LoosenCall, PinCall, birth_fault, with_mode};
-ghost use Rattle.pagable_pager_spec.specs.{Kinds.{is_loose, is_owned_by, is_pinning, is_shared}, Basics.Blob};
+ghost use Rattle.pagable_pager_spec.specs.Calls.{InsertPagedOutCall, CloneCall, LoosenCall, PinCall, insert_fault, with_mode};
+ghost use Rattle.pagable_pager_spec.specs.Kinds.{is_loose, is_owned_by, is_pinning, is_shared};
 ghost use Rattle.pagable_pager_spec.specs.{Refusals.{Owns, Refused, earlier, references_fault}, World.{Alike, Core}};
 ghost use Rattle.pagable_pager_spec.specs.declared.{handle_row.{HandleRow.HandleRow, Owner.Owner}, mode.Mode.Mode};
-ghost use Rattle.std.specs.Prelude.{Bool, IfErr, IsSome, List, None, Ok, OnOk, Option, Some, [], false, slice_get};
+ghost use Rattle.std.specs.Prelude.{IfErr, IsSome, List, None, Ok, OnOk, Some, [], false, slice_get};
 ghost use Rattle.std.specs.Prelude.{true, ℕ, ◌+◌, ◌<◌, ◌==◌, ◌||◌, ◌≡◌, ◌⊎◌};
 
 use crate::cascade::RefCounts;
@@ -37,10 +38,9 @@ pub fn make_ready_to_learn(t: &mut Tables) -> Result<(), Error>
     ensures ready { OnOk result (IsReady t.new) }
     ensures learns { OnOk result (0 < spare t.new.cache) }
     ensures does { Does t.old OnlyRoom t.new }
-    ensures refused { (stored : ℕ → Option Blob) (closed : Bool) (failures : ℕ)
-        → IfErr result (λ e. Refused (birth_fault (core_of t.old stored closed failures))
-        (birth_fault (core_of t.old stored closed failures)) (Unit {0}) (core_of t.old stored closed failures) e
-        (core_of t.new stored closed failures)) }
+    ensures refused { (storage : StorageView) → IfErr result
+        (λ e. Refused (insert_fault (core_of t.old storage)) (insert_fault (core_of t.old storage)) (Unit {0})
+        (core_of t.old storage) e (core_of t.new storage)) }
     ensures loads { t.new.loads ≡ t.old.loads }
     ensures workers { t.new.workers ≡ t.old.workers }
 {
@@ -98,8 +98,8 @@ pub fn add(
 /// Makes a handle of a live node, as `add` does, in whole tables. It fails as `add` does.
 pub fn make(t: &mut Tables, node: NodeNumber, mode: Mode, me: Owner) -> Result<HandleNumber, Error>
     requires whole { IsWhole t.old }
-    requires suits { Suits (plain_of t.old) node mode }
-    requires holder { MayHold (plain_of t.old) me }
+    requires suits { Suits (core_alone t.old) node mode }
+    requires holder { MayHold (core_alone t.old) me }
     ensures does { Does t.old (λ w w'. Makes w node mode me result w') t.new }
     ensures values { (n : ℕ) → (n ≡ node.0 → is_pinning mode ≡ true → has_value (counts_at t.old.ref_counts.nodes n)
         ≡ true) → ValueStays (counts_at t.old.ref_counts.nodes n) (counts_at t.new.ref_counts.nodes n) }
@@ -117,7 +117,7 @@ pub fn make(t: &mut Tables, node: NodeNumber, mode: Mode, me: Owner) -> Result<H
 /// - `OutOfMemory` if the handles can't grow. After each error the tables are unchanged.
 pub fn clone(t: &mut Tables, me: Owner, handle: HandleNumber) -> Result<HandleNumber, Error>
     requires whole { IsWhole t.old }
-    requires holder { MayHold (plain_of t.old) me }
+    requires holder { MayHold (core_alone t.old) me }
     ensures { Does t.old (λ w w'. CloneCall w me handle result w') t.new }
 {
     let Some(at) = handle_table::look(&t.ref_counts.handles, handle) else {
@@ -137,12 +137,11 @@ pub fn clone(t: &mut Tables, me: Owner, handle: HandleNumber) -> Result<HandleNu
 pub fn prepare(t: &mut Tables, me: Owner, references: &[ArcRef]) -> Result<(), Error>
     requires { IsWhole t.old }
     ensures ready { OnOk result (IsReady t.new) }
-    ensures fit { OnOk result (references_fault (plain_of t.new) me [] references.now ≡ None) }
+    ensures fit { OnOk result (references_fault (core_alone t.new) me [] references.now ≡ None) }
     ensures does { Does t.old OnlyRoom t.new }
-    ensures refused { (stored : ℕ → Option Blob) (closed : Bool) (failures : ℕ)
-        → IfErr result (λ e. Refused (earlier (references_fault (core_of t.old stored closed failures) me
-        [] references.now) (birth_fault (core_of t.old stored closed failures))) None (Unit {0})
-        (core_of t.old stored closed failures) e (core_of t.new stored closed failures)) }
+    ensures refused { (storage : StorageView) → IfErr result
+        (λ e. Refused (earlier (references_fault (core_of t.old storage) me [] references.now)
+        (insert_fault (core_of t.old storage))) None (Unit {0}) (core_of t.old storage) e (core_of t.new storage)) }
 {
     if let Some(e) = references_fault(t, me, references) {
         return Err(e);
@@ -164,8 +163,8 @@ pub fn insert_node(
 ) -> HandleNumber
     requires whole { IsWhole t.old }
     requires ready { IsReady t.old }
-    requires holder { MayHold (plain_of t.old) me }
-    requires fit { references_fault (plain_of t.old) me [] references.items ≡ None }
+    requires holder { MayHold (core_alone t.old) me }
+    requires fit { references_fault (core_alone t.old) me [] references.items ≡ None }
     requires bare { (key ≡ 0) ⊎ ((is_shared mode ≡ false) × ((references.items ≡ []) ⊎ (is_pinning mode ≡ true))) }
     ensures does { Does t.old (λ w w'. Bears w me node_type key references.items mode result w') t.new }
     ensures same { t.new ≡ record t.old { ref_counts = t.new.ref_counts; last_node = t.new.last_node } }
@@ -215,8 +214,8 @@ pub fn insert_paged_out(
     key: DataKey,
 ) -> Result<HandleNumber, Error>
     requires whole { IsWhole t.old }
-    requires holder { MayHold (plain_of t.old) me }
-    ensures { Does t.old (λ w w'. AwayBirthCall w me node_type key result w') t.new }
+    requires holder { MayHold (core_alone t.old) me }
+    ensures { Does t.old (λ w w'. InsertPagedOutCall w me node_type key result w') t.new }
 {
     make_ready_to_learn(t)?;
     let mode = Mode::LooseUnpinned;
@@ -271,8 +270,8 @@ pub fn into_pagable(t: &mut Tables, me: Owner, handle: HandleNumber) -> Result<H
 /// - `OutOfMemory` if the handles can't grow: nothing changes.
 pub fn pin_here(t: &mut Tables, me: Owner, row: HandleRow) -> Result<HandleNumber, Error>
     requires whole { IsWhole t.old }
-    requires holder { MayHold (plain_of t.old) me }
-    requires owns { Owns (plain_of t.old) me row.number is_loose row }
+    requires holder { MayHold (core_alone t.old) me }
+    requires owns { Owns (core_alone t.old) me row.number is_loose row }
     ensures does { Does t.old (λ w w'. PinsHere w me row result w') t.new }
     ensures same { t.new ≡ record t.old { ref_counts = t.new.ref_counts } }
 {
@@ -296,7 +295,7 @@ pub fn pin_here(t: &mut Tables, me: Owner, row: HandleRow) -> Result<HandleNumbe
 /// - `OutOfMemory` if the handles can't grow. After each error the tables are unchanged.
 pub fn pin(t: &mut Tables, me: Owner, handle: HandleNumber) -> Result<Pinning, Error>
     requires whole { IsWhole t.old }
-    requires holder { MayHold (plain_of t.old) me }
+    requires holder { MayHold (core_alone t.old) me }
     ensures { Does t.old (λ w w'. PinCall w me handle result w') t.new }
 {
     let at = own(t, me, handle)?;

@@ -11,7 +11,7 @@ ghost use Rattle.pagable_pager_spec.specs.{Kinds.{find_row, is_handle}, LoadCall
 ghost use Rattle.pagable_pager_spec.specs.declared.handle_row.{HandleRow.HandleRow, Owner.Owner};
 ghost use Rattle.std.specs.List.{AllPairs, Sorted.IsPartitionPoint};
 ghost use Rattle.std.specs.Prelude.{IfNone, IfSome, None, Ok, OnErr, OnOk, Option, Some, [], false, get_or};
-ghost use Rattle.std.specs.Prelude.{if◌then◌else◌, length, slice_get, sum_by, true, vec_capacity, vec_len, ℕ, ◌&&◌};
+ghost use Rattle.std.specs.Prelude.{length, slice_get, sum_by, true, vec_capacity, vec_len, ℕ, ◌&&◌};
 ghost use Rattle.std.specs.Prelude.{◌*◌, ◌++◌, ◌+◌, ◌<◌, ◌==◌, ◌∷◌, ◌≡◌, ◌≤◌};
 
 use crate::place::Place;

@@ -1,10 +1,10 @@
-//! Tests of modes, owners and kinds, and the order in which a call's errors are reported.
+//! Tests of modes and owners, which mode a kind of reference has, and the order in which a call's errors are reported.
 
 ghost use Rattle.pagable_tables.specs.CascadeInvariant.{is_worker};
 ghost use Rattle.pagable_pager_spec.specs.Kinds.{fits_mode, is_loose, is_owner, is_pinning, is_unpinned, mode_of};
-ghost use Rattle.pagable_pager_spec.specs.{Basics.{is_loose_kind, is_pinned_kind}, Refusals.{earlier, rank}};
+ghost use Rattle.pagable_pager_spec.specs.Refusals.{earlier, rank};
 ghost use Rattle.pagable_pager_spec.specs.declared.{handle_row.Owner.Owner, mode.Mode.Mode};
-ghost use Rattle.std.specs.Prelude.{List, None, Option, Some, false, true, ◌%◌, ◌<◌, ◌==◌, ◌≡◌};
+ghost use Rattle.std.specs.Prelude.{List, None, Option, Some, false, true, ◌<◌, ◌==◌, ◌≡◌};
 
 use pagable_pager_spec::Mode;
 use pagable_pager_spec::handle_row::Owner;
@@ -52,28 +52,16 @@ pub fn is_unpinned(mode: Mode) -> bool
     matches!(mode, Mode::LooseUnpinned)
 }
 
-/// Says whether a reference of this kind is a pin.
-pub fn is_pinned_kind(kind: Kind) -> bool
-    ensures { result ≡ is_pinned_kind kind.0 }
-{
-    kind.0 % 3 == 2
-}
-
-/// Says whether a reference of this kind is loose.
-pub fn is_loose_kind(kind: Kind) -> bool
-    ensures { result ≡ is_loose_kind kind.0 }
-{
-    kind.0 % 3 == 1
-}
-
 /// Returns the mode of the handle that a reference of this kind gets.
 pub fn mode_of(kind: Kind) -> Mode
     ensures { result ≡ mode_of kind.0 }
 {
-    match kind.0 % 3 {
-        0 => Mode::Shared,
-        1 => Mode::LooseUnpinned,
-        _ => Mode::Pinned,
+    if kind.is_shared() {
+        Mode::Shared
+    } else if kind.is_loose() {
+        Mode::LooseUnpinned
+    } else {
+        Mode::Pinned
     }
 }
 
@@ -82,9 +70,9 @@ pub fn fits_mode(kind: Kind, mode: Mode) -> bool
     ensures { result ≡ fits_mode kind.0 mode }
 {
     match mode {
-        Mode::Pinned => kind.0 % 3 == 2,
-        Mode::Shared => kind.0 % 3 == 0,
-        Mode::LoosePinned | Mode::LooseUnpinned => kind.0 % 3 == 1,
+        Mode::Pinned => kind.is_pinned(),
+        Mode::Shared => kind.is_shared(),
+        Mode::LoosePinned | Mode::LooseUnpinned => kind.is_loose(),
     }
 }
 

@@ -1,10 +1,11 @@
 //! Loads: how they begin, and get handles of what they read.
 
+ghost use Rattle.pagable_tables.specs.Core.{StorageView};
 ghost use Rattle.indexmap.specs.IndexMap.{get, spare};
 ghost use Rattle.pagable_value_spec.specs.declared.numbers.{LoadNumber.LoadNumber, NodeNumber.NodeNumber};
 ghost use Rattle.pagable_tables.specs.CascadeInvariant.{IsFalling, owns_nothing};
 ghost use Rattle.pagable_tables.specs.CascadeProgress.{SoFar, with_tables};
-ghost use Rattle.pagable_tables.specs.Core.{AreLater, Does, IsReady, IsWhole, MayHold, core_of, plain_of};
+ghost use Rattle.pagable_tables.specs.Core.{AreLater, Does, IsReady, IsWhole, MayHold, core_of, core_alone};
 ghost use Rattle.pagable_tables.specs.{EndingLoads.{AsksKnown, early_fault}, HandleTable.live};
 ghost use Rattle.pagable_tables.specs.{Nodes.{counts_at, has_value, key_in}, NumberTable.row_by, ValuesKept.Sheds};
 ghost use Rattle.pagable_tables.specs.declared.{cascade.RefCounts.RefCounts, load_table.LoadRow.LoadRow};
@@ -12,19 +13,19 @@ ghost use Rattle.pagable_pager_spec.specs.{Calls.{IsNext, is_named_by}, Cascade.
 ghost use Rattle.pagable_pager_spec.specs.Kinds.{is_pinning, is_shared, mode_of};
 ghost use Rattle.pagable_pager_spec.specs.LoadCalls.{Adopts, BeginCall, BeginKeyCall, LazyCall, adopt_fault, adopted};
 ghost use Rattle.pagable_pager_spec.specs.{LoadCalls.{first_key, is_owned_in}, Pager.MayOwnLoad};
-ghost use Rattle.pagable_pager_spec.specs.Basics.{Blob, is_loose_kind, is_pinned_kind};
+ghost use Rattle.pagable_pager_spec.specs.Basics.{is_loose_kind};
 ghost use Rattle.pagable_pager_spec.specs.Refusals.{Refused, earlier, load_fault, references_fault};
 ghost use Rattle.pagable_pager_spec.specs.World.{Alike, Cell, Core, usable};
 ghost use Rattle.pagable_pager_spec.specs.declared.{handle_row.Owner.Owner, mode.Mode.Mode};
-ghost use Rattle.std.specs.Prelude.{Bool, IfErr, IfNone, IfOk, IfSome, None, Ok, Option, Some, [], false};
-ghost use Rattle.std.specs.Prelude.{if◌then◌else◌, length, not, true, ℕ, ◌+◌, ◌/◌, ◌<◌, ◌==◌, ◌||◌, ◌≡◌, ◌≤◌, ◌⊎◌};
+ghost use Rattle.std.specs.Prelude.{IfErr, IfNone, IfOk, IfSome, None, Ok, Option, Some, [], false};
+ghost use Rattle.std.specs.Prelude.{if◌then◌else◌, length, not, true, ℕ, ◌+◌, ◌<◌, ◌==◌, ◌||◌, ◌≡◌, ◌≤◌, ◌⊎◌};
 ghost use Rattle.pagable_pager_spec.specs.declared.handle_row.Owner.TheVariants as owners;
 
 use crate::cache::cache_get;
-use crate::cascade::{RefCounts, fall};
+use crate::cascade::{RefCounts, finish_cascade};
 use crate::checks::{load_fault, load_row, own, references_fault};
 use crate::create::{add, insert_node, make, make_ready_to_learn};
-use crate::kinds::{earlier, is_loose_kind, is_loose_mode, is_pinned_kind, mode_of};
+use crate::kinds::{earlier, is_loose_mode, mode_of};
 use crate::load_table::{LoadRoot, LoadRow};
 use crate::nodes::{Arcs, is_here};
 use crate::release::release_if_owned;
@@ -49,7 +50,7 @@ use std::alloc::Global;
 pub fn load_begin(t: &mut Tables, me: Owner, handle: HandleNumber) -> Result<Beginning, Error>
     requires whole { IsWhole t.old }
     requires later { AreLater t.old }
-    requires owner { MayOwnLoad (plain_of t.old) me }
+    requires owner { MayOwnLoad (core_alone t.old) me }
     ensures { Does t.old (λ w w'. BeginCall w me handle result w') t.new }
 {
     let at = own(t, me, handle)?;
@@ -117,7 +118,7 @@ pub fn load_known(
 pub fn load_key(t: &mut Tables, me: Owner, key: DataKey) -> Result<Beginning, Error>
     requires whole { IsWhole t.old }
     requires later { AreLater t.old }
-    requires owner { MayOwnLoad (plain_of t.old) me }
+    requires owner { MayOwnLoad (core_alone t.old) me }
     ensures { Does t.old (λ w w'. BeginKeyCall w me key result w') t.new }
 {
     if t.last_load == u64::MAX {
@@ -150,15 +151,15 @@ fn insert_known(
     requires whole { IsWhole t.old }
     requires ready { IsReady t.old }
     requires learns { 0 < spare t.old.cache }
-    requires holder { MayHold (plain_of t.old) (owners.Load load) }
-    requires fit { references_fault (plain_of t.old) (owners.Load load) [] references.items ≡ None }
+    requires holder { MayHold (core_alone t.old) (owners.Load load) }
+    requires fit { references_fault (core_alone t.old) (owners.Load load) [] references.items ≡ None }
     requires bare { (own_key ≡ 0) ⊎ ((is_shared (mode_of kind.0) ≡ false)
         × ((references.items ≡ []) ⊎ (is_pinning (mode_of kind.0) ≡ true))) }
     ensures { Does t.old (λ w w'. IsNext result w × (lists ≡ not w.closed
         → Alike (adopted w load kind key (key_in own_key) references.items) w')) t.new }
 {
     let me = Owner::Load(load);
-    let handle = insert_node(t, me, kind.0 / 3, own_key, references, mode_of(kind));
+    let handle = insert_node(t, me, kind.node_type(), own_key, references, mode_of(kind));
     cache::learn_if(&mut t.cache, lists, kind, key, NodeNumber(t.last_node));
     handle
 }
@@ -176,8 +177,8 @@ fn learn_new(
     requires whole { IsWhole t.old }
     requires ready { IsReady t.old }
     requires learns { 0 < spare t.old.cache }
-    requires holder { MayHold (plain_of t.old) (owners.Load load) }
-    requires fit { references_fault (plain_of t.old) (owners.Load load) [] references.items ≡ None }
+    requires holder { MayHold (core_alone t.old) (owners.Load load) }
+    requires fit { references_fault (core_alone t.old) (owners.Load load) [] references.items ≡ None }
     requires bare { (own_key ≡ 0) ⊎ ((is_shared (mode_of kind.0) ≡ false)
         × ((references.items ≡ []) ⊎ (is_pinning (mode_of kind.0) ≡ true))) }
     ensures { Does t.old (λ w w'. IsNext result w × (lists ≡ not w.closed
@@ -212,7 +213,7 @@ pub fn load_lazy(
     ensures { Does t.old (λ w w'. lists ≡ not w.closed → LazyCall w me load kind key result w') t.new }
 {
     let _row = load_row(t, me, load)?;
-    if !is_loose_kind(kind) {
+    if !kind.is_loose() {
         return Err(Error::WrongKind);
     }
     if let Some(node) = cache::usable_of(t, kind, key) {
@@ -232,12 +233,12 @@ fn adopt_fault(
     references: &[ArcRef],
 ) -> Option<Error>
     requires { IsWhole t.now }
-    ensures { (stored : ℕ → Option Blob) (closed : Bool) (failures : ℕ) → result
-        ≡ early_fault (core_of t.now stored closed failures) me load kind node_type references.now }
+    ensures { (storage : StorageView) → result ≡ early_fault (core_of t.now storage) me load kind node_type
+        references.now }
 {
     let own = load_fault(load_table::load_of(&t.loads, load.0), me);
-    let mode = is_loose_kind(kind).then_some(Error::WrongMode);
-    let typed = (node_type != kind.0 / 3).then_some(Error::WrongKind);
+    let mode = kind.is_loose().then_some(Error::WrongMode);
+    let typed = (node_type != kind.node_type()).then_some(Error::WrongKind);
     let fit = references_fault(t, Owner::Load(load), references);
     earlier(own, earlier(mode, earlier(typed, fit)))
 }
@@ -254,16 +255,16 @@ fn hand_over_named<N: Drop>(
     requires { IsFalling t.old [] owns_nothing }
     ensures steady { IsFalling t.new [] owns_nothing }
     ensures sheds { Sheds (counts_at t.old.nodes) (row_by values.old) (counts_at t.new.nodes) (row_by values.new) }
-    ensures falls { (before w : Core) → SoFar before w nobody lists (record t.old { unlisted = None })
+    ensures falls { (before w : Core) → SoFar before w nobody lists (record t.old { listing_error = None })
         → length (live t.old.handles.places.items) ≤ length w.rows
         → ((q : ℕ) → is_named_by references.now q ≡ true → is_owned_in w (owners.Load load) q ≡ true)
         → FallsAnyhow before w (is_named_by references.now) (with_tables w t.new) }
 {
-    t.unlisted = None;
+    t.listing_error = None;
     for reference in references {
         release_if_owned(t, values, load, reference.handle, lists);
     }
-    let _ = fall(t, values, lists);
+    let _ = finish_cascade(t, values, lists);
 }
 
 /// Makes a handle, owned by the load, of the node that is cached under a kind and a key, instead of
@@ -294,22 +295,20 @@ pub fn adopt_if_known<N: Drop>(
 ) -> Result<Option<HandleNumber>, Error>
     requires whole { IsWhole t.old }
     requires later { AreLater t.old }
-    requires valued { (n : ℕ) → usable (plain_of t.old) kind.0 key ≡ Some n → is_loose_kind kind.0 ≡ false
+    requires valued { (n : ℕ) → usable (core_alone t.old) kind.0 key ≡ Some n → is_loose_kind kind.0 ≡ false
         → has_value (counts_at t.old.ref_counts.nodes n) ≡ true }
-    ensures known { (stored : ℕ → Option Blob) (closed : Bool) (failures : ℕ) → lists ≡ not closed
-        → IfOk result (λ found. IfSome found (λ k. Adopts (core_of t.old stored closed failures) me load kind key
-        node_type references.now k (core_of t.new stored closed failures))) }
-    ensures fresh { (stored : ℕ → Option Blob) (closed : Bool) (failures : ℕ)
-        → IfOk result (λ found. IfNone found (early_fault (core_of t.old stored closed failures) me load kind node_type
-        references.now ≡ None)) }
-    ensures given { IfOk result (λ found. IfSome found (λ k. (n : ℕ) × (usable (plain_of t.old) kind.0 key ≡ Some n))) }
-    ensures unknown { IfOk result (λ found. IfNone found (usable (plain_of t.old) kind.0 key ≡ None)) }
+    ensures known { (storage : StorageView) → lists ≡ not storage.closed
+        → IfOk result (λ found. IfSome found (λ k. Adopts (core_of t.old storage) me load kind key node_type
+        references.now k (core_of t.new storage))) }
+    ensures fresh { (storage : StorageView) → IfOk result
+        (λ found. IfNone found (early_fault (core_of t.old storage) me load kind node_type references.now ≡ None)) }
+    ensures given { IfOk result (λ found. IfSome found (λ k. (n : ℕ) × (usable (core_alone t.old) kind.0 key ≡ Some n))) }
+    ensures unknown { IfOk result (λ found. IfNone found (usable (core_alone t.old) kind.0 key ≡ None)) }
     ensures same { IfOk result (λ found. IfNone found (t.new ≡ t.old)) }
     ensures kept { IfOk result (λ found. IfNone found (values.new ≡ values.old)) }
-    ensures refused { (stored : ℕ → Option Blob) (closed : Bool) (failures : ℕ)
-        → IfErr result (λ e. Refused (adopt_fault (core_of t.old stored closed failures) me load kind key node_type
-        references.now) (load_fault (core_of t.old stored closed failures) me load) (Unit {0})
-        (core_of t.old stored closed failures) e (core_of t.new stored closed failures)) }
+    ensures refused { (storage : StorageView) → IfErr result
+        (λ e. Refused (adopt_fault (core_of t.old storage) me load kind key node_type references.now)
+        (load_fault (core_of t.old storage) me load) (Unit {0}) (core_of t.old storage) e (core_of t.new storage)) }
     ensures whole { IsWhole t.new }
     ensures later { AreLater t.new }
     ensures sheds { Sheds (counts_at t.old.ref_counts.nodes) (row_by values.old) (counts_at t.new.ref_counts.nodes)
@@ -341,12 +340,12 @@ pub fn adopt(
     requires later { AreLater t.old }
     requires ready { IsReady t.old }
     requires learns { 0 < spare t.old.cache }
-    requires asked { (me : Owner) × (node_type : ℕ) × (early_fault (plain_of t.old) me load kind node_type
+    requires asked { (me : Owner) × (node_type : ℕ) × (early_fault (core_alone t.old) me load kind node_type
         references.items ≡ None) }
-    requires unknown { usable (plain_of t.old) kind.0 key ≡ None }
+    requires unknown { usable (core_alone t.old) kind.0 key ≡ None }
     ensures { Does t.old (λ w w'. IsNext result w × (lists ≡ not w.closed
         → Alike (adopted w load kind key (first_key kind.0 key) references.items) w')) t.new }
 {
-    let own_key = if is_pinned_kind(kind) { key.get() } else { 0 };
+    let own_key = if kind.is_pinned() { key.get() } else { 0 };
     learn_new(t, load, kind, key, own_key, references, lists)
 }

@@ -1,5 +1,6 @@
 //! How a load ends: with a pin, with a hand-over of its handles, or dropped with all that it owns.
 
+ghost use Rattle.pagable_tables.specs.Core.{StorageView};
 ghost use Rattle.pagable_value_spec.specs.declared.numbers.{LoadNumber.LoadNumber, NodeNumber.NodeNumber};
 ghost use Rattle.pagable_tables.specs.CascadeInvariant.{AreAtWork, is_worker};
 ghost use Rattle.pagable_tables.specs.Core.{AreLater, Does, DoesShed, IsOwnedAbove, IsOwnedUpTo, IsWhole, OnlyRoom};
@@ -12,7 +13,7 @@ ghost use Rattle.pagable_tables.specs.declared.release.ReleaseSet.{ReleaseSet};
 ghost use Rattle.pagable_pager_spec.specs.{Calls.{is_named_by, moved}, Kinds.{find_row, held, is_owner, owner_value}};
 ghost use Rattle.pagable_pager_spec.specs.LoadCalls.{DropCall, HandOverCall, Installs, end_fault, hand_over_fault};
 ghost use Rattle.pagable_pager_spec.specs.{LoadCalls.{numbers_of, root_fault}, Pager.IsHandleBefore};
-ghost use Rattle.pagable_pager_spec.specs.Basics.{Blob, if_there, is_in};
+ghost use Rattle.pagable_pager_spec.specs.Basics.{if_there, is_in};
 ghost use Rattle.pagable_pager_spec.specs.Refusals.{OwnsLoad, Refused, earlier, load_fault, references_fault};
 ghost use Rattle.pagable_pager_spec.specs.{World.{Cell, OpenLoad}, declared.handle_row.{HandleRow.HandleRow, Owner.Owner}};
 ghost use Rattle.std.specs.List.{AllPairs};
@@ -57,9 +58,9 @@ pub enum Unended {
 #[tactic(auto, using(std::proofs::lemmas::Bool::Decides::nat_tests))]
 fn root_fault(t: &Tables, me: Owner, load: LoadNumber, node_type: u32) -> Option<Error>
     requires { IsWhole t.now }
-    ensures { (stored : ℕ → Option Blob) (closed : Bool) (failures : ℕ)
-        → result ≡ if_there (λ (load : OpenLoad). root_fault (core_of t.now stored closed failures) me node_type
-        load.root) None ((core_of t.now stored closed failures).loads load.0) }
+    ensures { (storage : StorageView)
+        → result ≡ if_there (λ (load : OpenLoad). root_fault (core_of t.now storage) me node_type load.root) None
+        ((core_of t.now storage).loads load.0) }
 {
     let LoadRoot::Cell(_, cell_type, handle) = load_table::load_of(&t.loads, load.0)?.root else {
         return Some(Error::WrongMode);
@@ -81,8 +82,7 @@ fn end_fault(
     references: &[ArcRef],
 ) -> Option<Error>
     requires { IsWhole t.now }
-    ensures { (stored : ℕ → Option Blob) (closed : Bool) (failures : ℕ) → result
-        ≡ end_fault (core_of t.now stored closed failures) me load node_type references.now }
+    ensures { (storage : StorageView) → result ≡ end_fault (core_of t.now storage) me load node_type references.now }
 {
     let own = load_fault(load_table::load_of(&t.loads, load.0), me);
     let root = root_fault(t, me, load, node_type);
@@ -110,12 +110,11 @@ pub fn prepare_end(
     references: &[ArcRef],
 ) -> Result<Ending, Unended>
     requires { IsWhole t.old }
-    ensures ready { IfOk result (λ e. (stored : ℕ → Option Blob) (closed : Bool) (failures : ℕ)
-        → IsEndReady (core_of t.new stored closed failures) me load node_type references.now e) }
+    ensures ready { IfOk result (λ e. (storage : StorageView)
+        → IsEndReady (core_of t.new storage) me load node_type references.now e) }
     ensures place { IfOk result (λ e. HasPlace t.new load e) }
-    ensures unended { IfErr result (λ u. (stored : ℕ → Option Blob) (closed : Bool) (failures : ℕ)
-        → Unends (core_of t.old stored closed failures) me load node_type references.now u
-        (core_of t.new stored closed failures)) }
+    ensures unended { IfErr result (λ u. (storage : StorageView)
+        → Unends (core_of t.old storage) me load node_type references.now u (core_of t.new storage)) }
     ensures does { Does t.old OnlyRoom t.new }
     ensures nodes { t.new.ref_counts.nodes ≡ t.old.ref_counts.nodes }
 {
@@ -164,7 +163,7 @@ fn join(t: &mut RefCounts, node: NodeNumber, references: Vec<ArcRef>, comes: boo
 
 /// Ends a load of a cell as `install` does, given that the load's handles have numbers up to
 /// `until`.
-fn install_up_to<N: Drop>(
+fn install_until<N: Drop>(
     t: &mut Tables,
     values: &mut Arcs<N>,
     me: Owner,
@@ -176,8 +175,8 @@ fn install_up_to<N: Drop>(
     lists: bool,
 ) -> HandleNumber
     requires whole { IsWhole t.old }
-    requires ready { (stored : ℕ → Option Blob) (closed : Bool) (failures : ℕ)
-        → IsEndReady (core_of t.old stored closed failures) me load node_type references.items ending }
+    requires ready { (storage : StorageView) → IsEndReady (core_of t.old storage) me load node_type references.items
+        ending }
     requires place { 1 ≤ room t.old.ref_counts.handles }
     requires above { IsOwnedAbove t.old load ending.load.since }
     requires up_to { IsOwnedUpTo t.old load until }
@@ -222,8 +221,8 @@ pub fn install<N: Drop>(
 ) -> HandleNumber
     requires whole { IsWhole t.old }
     requires later { AreLater t.old }
-    requires ready { (stored : ℕ → Option Blob) (closed : Bool) (failures : ℕ)
-        → IsEndReady (core_of t.old stored closed failures) me load node_type references.items ending }
+    requires ready { (storage : StorageView) → IsEndReady (core_of t.old storage) me load node_type references.items
+        ending }
     requires place { HasPlace t.old load ending }
     ensures does { Does t.old (λ w w'. lists ≡ not w.closed
         → Installs w me load ending.row.node ending.row.number result references.items w') t.new }
@@ -231,14 +230,14 @@ pub fn install<N: Drop>(
         (counts_at t.new.ref_counts.nodes) (row_by values.new) }
 {
     let until = last_of(t, load, ending.load.since);
-    install_up_to(
+    install_until(
         t, values, me, load, node_type, references, ending, until, lists,
     )
 }
 
 /// Drops an open load of this row: releases all that it owns, given that this has numbers up to
 /// `until`. It fails as `release_owned` does.
-fn drop_up_to<N: Drop>(
+fn drop_until<N: Drop>(
     t: &mut Tables,
     values: &mut Arcs<N>,
     me: Owner,
@@ -248,8 +247,8 @@ fn drop_up_to<N: Drop>(
     lists: bool,
 ) -> Result<(), Error>
     requires whole { IsWhole t.old }
-    requires own { (stored : ℕ → Option Blob) (closed : Bool) (failures : ℕ)
-        → OwnsLoad (core_of t.old stored closed failures) me load (load_in row) }
+    requires own { (storage : StorageView)
+        → OwnsLoad (core_of t.old storage) me load (load_in row) }
     requires above { IsOwnedAbove t.old load row.since }
     requires up_to { IsOwnedUpTo t.old load until }
     ensures { DoesShed lists t.old values.old (λ w w'. DropCall w me load result w') t.new values.new }
@@ -290,7 +289,7 @@ pub fn load_drop<N: Drop>(
 {
     let row = load_row(t, me, load)?;
     let until = last_of(t, load, row.since);
-    drop_up_to(t, values, me, load, row, until, lists)
+    drop_until(t, values, me, load, row, until, lists)
 }
 
 /// Raises the bound of handles that workers own at this handle's node to all handles of the node.
@@ -333,7 +332,7 @@ fn all_may_work(handles: &Handles, nodes: &mut Nodes, named: &[HandleNumber], me
 
 /// Ends a load of a key, for which `hand_over_fault` found nothing: makes `me` the owner of the
 /// handles that are named, releases the rest, which has numbers up to `until`, and closes the load.
-fn take_up_to<N: Drop>(
+fn take_until<N: Drop>(
     t: &mut Tables,
     values: &mut Arcs<N>,
     me: Owner,
@@ -344,8 +343,8 @@ fn take_up_to<N: Drop>(
 )
     requires whole { IsWhole t.old }
     requires later { AreLater t.old }
-    requires free { (stored : ℕ → Option Blob) (closed : Bool) (failures : ℕ)
-        → hand_over_fault (core_of t.old stored closed failures) me load named.now ≡ None }
+    requires free { (storage : StorageView)
+        → hand_over_fault (core_of t.old storage) me load named.now ≡ None }
     requires up_to { IsOwnedUpTo t.old load until }
     ensures { DoesShed lists t.old values.old (λ w w'. HandOverCall w me load named.now (Ok tt) w') t.new values.new }
 {
@@ -392,6 +391,6 @@ pub fn load_take<N: Drop>(
     }
     let row = load_table::load_of(&t.loads, load.0).unwrap();
     let until = last_of(t, load, row.since);
-    take_up_to(t, values, me, load, named, until, lists);
+    take_until(t, values, me, load, named, until, lists);
     Ok(())
 }

@@ -211,7 +211,7 @@ pub fn is_here(counts: Option<Counts>) -> bool
 pub fn is_of(counts: Option<Counts>, kind: Kind) -> bool
     ensures { result ≡ is_type (type_of kind.0) (if_there (λ (cell : Cell). Some cell.node_type) None (cell_in counts)) }
 {
-    counts.map_or(false, |c| c.node_type == kind.0 / 3)
+    counts.map_or(false, |c| c.node_type == kind.node_type())
 }
 
 /// Returns the counts with one more handle.

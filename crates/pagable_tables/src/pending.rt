@@ -1,11 +1,12 @@
 //! The pending list of cells that wait for page-out: adding entries and taking them.
 
+ghost use Rattle.pagable_tables.specs.Core.{StorageView};
 ghost use Rattle.pagable_value_spec.specs.declared.numbers.LoadNumber.{LoadNumber};
 ghost use Rattle.pagable_tables.specs.Core.{AreLater, DoesShed, InReach, IsNoLess, IsWhole, MayHold, core_of};
-ghost use Rattle.pagable_tables.specs.{Core.plain_of, Indexes.{reach_at, worker_at}};
+ghost use Rattle.pagable_tables.specs.{Core.core_alone, Indexes.{reach_at, worker_at}};
 ghost use Rattle.pagable_pager_spec.specs.{Calls.{ScheduleCall, TakeCall}, Kinds.{is_owner, is_unpinned, owner_worker}};
-ghost use Rattle.pagable_pager_spec.specs.{Basics.Blob, declared.handle_row.Owner.Owner};
-ghost use Rattle.std.specs.Prelude.{Bool, List, None, Ok, Option, Some, false, is_some, true, ℕ, ◌<◌, ◌≡◌};
+ghost use Rattle.pagable_pager_spec.specs.{declared.handle_row.Owner.Owner};
+ghost use Rattle.std.specs.Prelude.{List, None, Ok, Option, Some, false, is_some, true, ℕ, ◌<◌, ◌≡◌};
 
 use crate::checks::own;
 use crate::handle_table;
@@ -33,7 +34,7 @@ pub fn schedule_for_paging<N: Drop>(
     lists: bool,
 ) -> Result<(), Error>
     requires whole { IsWhole t.old }
-    requires holder { MayHold (plain_of t.old) me }
+    requires holder { MayHold (core_alone t.old) me }
     ensures { DoesShed lists t.old values.old (λ w w'. ScheduleCall w me handle result w') t.new values.new }
 {
     let at = own(t, me, handle)?;
@@ -73,9 +74,8 @@ fn reach_to(workers: &mut Workers, me: Owner, handle: HandleNumber)
 /// that. None past the end. It moves the entries before it or those behind it, whichever are fewer.
 pub fn take_pending(t: &mut Tables, me: Owner, place: usize) -> Option<HandleNumber>
     requires whole { IsWhole t.old }
-    requires holder { MayHold (plain_of t.old) me }
-    ensures taken { (stored : ℕ → Option Blob) (closed : Bool) (failures : ℕ)
-        → TakeCall (core_of t.old stored closed failures) me place result (core_of t.new stored closed failures) }
+    requires holder { MayHold (core_alone t.old) me }
+    ensures taken { (storage : StorageView) → TakeCall (core_of t.old storage) me place result (core_of t.new storage) }
     ensures whole { IsWhole t.new }
     ensures later { ((m : LoadNumber) → is_owner (Owner.Load m) me ≡ false) → AreLater t.old → AreLater t.new }
 {

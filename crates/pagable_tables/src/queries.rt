@@ -1,13 +1,14 @@
 //! Queries of handles, nodes and the list. They change nothing.
 
+ghost use Rattle.pagable_tables.specs.Core.{StorageView};
 ghost use Rattle.indexmap.specs.IndexMap.{get};
 ghost use Rattle.pagable_value_spec.specs.declared.{data_key.OptionalDataKey.OptionalDataKey};
 ghost use Rattle.pagable_value_spec.specs.declared.numbers.NodeNumber.{NodeNumber};
-ghost use Rattle.pagable_tables.specs.{Core.{IsWhole, core_of, plain_of}, Nodes.key_in};
+ghost use Rattle.pagable_tables.specs.{Core.{IsWhole, core_of, core_alone}, Nodes.key_in};
 ghost use Rattle.pagable_pager_spec.specs.{Calls.{AwayCall, CountCall, KeyCall, Looks, NodeCall, TypeCall}, Events.IsEntry};
-ghost use Rattle.pagable_pager_spec.specs.{Kinds.{is_loose, is_pinning}, Basics.Blob, World.key_at};
+ghost use Rattle.pagable_pager_spec.specs.{Kinds.{is_loose, is_pinning}, World.key_at};
 ghost use Rattle.pagable_pager_spec.specs.declared.handle_row.HandleRow.{HandleRow};
-ghost use Rattle.std.specs.Prelude.{Bool, IfNone, IfSome, None, Ok, Option, Some, if◌then◌else◌, length, ℕ, ◌*◌};
+ghost use Rattle.std.specs.Prelude.{IfNone, IfSome, None, Ok, Option, Some, if◌then◌else◌, length, ◌*◌};
 ghost use Rattle.std.specs.Prelude.{◌<◌, ◌≡◌, ◌≤◌};
 
 use crate::kinds::{is_loose_mode, pins};
@@ -24,8 +25,7 @@ use pagable_value_spec::{Error, HandleNumber, NodeNumber, OptionalDataKey};
 /// - `NoSuchHandle` if the handle isn't live.
 pub fn node_of(t: &Tables, handle: HandleNumber) -> Result<NodeNumber, Error>
     requires { IsWhole t.now }
-    ensures { (stored : ℕ → Option Blob) (closed : Bool) (failures : ℕ)
-        → NodeCall (core_of t.now stored closed failures) handle result }
+    ensures { (storage : StorageView) → NodeCall (core_of t.now storage) handle result }
 {
     let at = handle_table::look(&t.ref_counts.handles, handle).ok_or(Error::NoSuchHandle)?;
     Ok(at.row.node)
@@ -38,8 +38,7 @@ pub fn node_of(t: &Tables, handle: HandleNumber) -> Result<NodeNumber, Error>
 /// - `NoSuchHandle` if the handle isn't live.
 pub fn pinned_node(t: &Tables, handle: HandleNumber) -> Result<Option<NodeNumber>, Error>
     requires { IsWhole t.now }
-    ensures { (stored : ℕ → Option Blob) (closed : Bool) (failures : ℕ)
-        → Looks (core_of t.now stored closed failures) handle
+    ensures { (storage : StorageView) → Looks (core_of t.now storage) handle
         (λ node row. node ≡ (if is_pinning row.mode then Some row.node else None)) result }
 {
     let at = handle_table::look(&t.ref_counts.handles, handle).ok_or(Error::NoSuchHandle)?;
@@ -53,8 +52,7 @@ pub fn pinned_node(t: &Tables, handle: HandleNumber) -> Result<Option<NodeNumber
 /// - `NoSuchHandle` if the handle isn't live.
 pub fn count(t: &Tables, handle: HandleNumber) -> Result<u64, Error>
     requires { IsWhole t.now }
-    ensures { (stored : ℕ → Option Blob) (closed : Bool) (failures : ℕ)
-        → CountCall (core_of t.now stored closed failures) handle result }
+    ensures { (storage : StorageView) → CountCall (core_of t.now storage) handle result }
 {
     let at = handle_table::look(&t.ref_counts.handles, handle).ok_or(Error::NoSuchHandle)?;
     let counts = nodes::counts_of(&t.ref_counts.nodes, at.row.node.0);
@@ -68,8 +66,7 @@ pub fn count(t: &Tables, handle: HandleNumber) -> Result<u64, Error>
 /// - `NoSuchHandle` if the handle isn't live.
 pub fn key(t: &Tables, handle: HandleNumber) -> Result<OptionalDataKey, Error>
     requires { IsWhole t.now }
-    ensures { (stored : ℕ → Option Blob) (closed : Bool) (failures : ℕ)
-        → KeyCall (core_of t.now stored closed failures) handle result }
+    ensures { (storage : StorageView) → KeyCall (core_of t.now storage) handle result }
 {
     let at = handle_table::look(&t.ref_counts.handles, handle).ok_or(Error::NoSuchHandle)?;
     Ok(key_in(nodes::counts_of(&t.ref_counts.nodes, at.row.node.0)))
@@ -82,8 +79,7 @@ pub fn key(t: &Tables, handle: HandleNumber) -> Result<OptionalDataKey, Error>
 /// - `NoSuchHandle` if the handle isn't live.
 pub fn is_paged_out(t: &Tables, handle: HandleNumber) -> Result<bool, Error>
     requires { IsWhole t.now }
-    ensures { (stored : ℕ → Option Blob) (closed : Bool) (failures : ℕ)
-        → AwayCall (core_of t.now stored closed failures) handle result }
+    ensures { (storage : StorageView) → AwayCall (core_of t.now storage) handle result }
 {
     let at = handle_table::look(&t.ref_counts.handles, handle).ok_or(Error::NoSuchHandle)?;
     Ok(!is_here(nodes::counts_of(&t.ref_counts.nodes, at.row.node.0)))
@@ -96,8 +92,8 @@ pub fn is_paged_out(t: &Tables, handle: HandleNumber) -> Result<bool, Error>
 /// - `NoSuchHandle` if the handle isn't live.
 pub fn is_loose(t: &Tables, handle: HandleNumber) -> Result<bool, Error>
     requires { IsWhole t.now }
-    ensures { (stored : ℕ → Option Blob) (closed : Bool) (failures : ℕ)
-        → Looks (core_of t.now stored closed failures) handle (λ loose row. loose ≡ is_loose row.mode) result }
+    ensures { (storage : StorageView) → Looks (core_of t.now storage) handle (λ loose row. loose ≡ is_loose row.mode)
+        result }
 {
     let at = handle_table::look(&t.ref_counts.handles, handle).ok_or(Error::NoSuchHandle)?;
     Ok(is_loose_mode(at.row.mode))
@@ -105,7 +101,7 @@ pub fn is_loose(t: &Tables, handle: HandleNumber) -> Result<bool, Error>
 
 /// Returns the type of a node, None if the node is gone.
 pub fn node_live(t: &Tables, node: NodeNumber) -> Option<u32>
-    ensures { TypeCall (plain_of t.now) node result }
+    ensures { TypeCall (core_alone t.now) node result }
 {
     Some(nodes::counts_of(&t.ref_counts.nodes, node.0)?.node_type)
 }
@@ -115,10 +111,9 @@ pub fn node_live(t: &Tables, node: NodeNumber) -> Option<u32>
 #[tactic(auto, using(crate::proofs::CascadeStep::counting))]
 pub fn entry(t: &Tables, place: usize) -> Option<(HandleRow, u32, OptionalDataKey)>
     requires { IsWhole t.now }
-    ensures found { IfSome result (λ e. (stored : ℕ → Option Blob) (closed : Bool) (failures : ℕ)
-        → IsEntry (core_of t.now stored closed failures) place e.0.number e.0 e.1) }
-    ensures keyed { IfSome result (λ e. (stored : ℕ → Option Blob) (closed : Bool) (failures : ℕ)
-        → key_at (core_of t.now stored closed failures) e.0.node.0 ≡ e.2) }
+    ensures found { IfSome result (λ e. (storage : StorageView)
+        → IsEntry (core_of t.now storage) place e.0.number e.0 e.1) }
+    ensures keyed { IfSome result (λ e. (storage : StorageView) → key_at (core_of t.now storage) e.0.node.0 ≡ e.2) }
     ensures past { IfNone result (length t.now.ref_counts.list.items ≤ place) }
 {
     let handle = *t.ref_counts.list.get(place)?;

@@ -1,6 +1,8 @@
 //! Releases handles, one or all that a load, a worker or the list owns; unpins loose ones; sets
 //! keys.
 
+ghost use Rattle.pagable_tables.specs.Core.{shut_view};
+ghost use Rattle.pagable_tables.specs.Core.{StorageView};
 ghost use Rattle.indexmap.specs.IndexMap.{get};
 ghost use Rattle.pagable_value_spec.specs.declared.numbers.{LoadNumber.LoadNumber, NodeNumber.NodeNumber};
 ghost use Rattle.pagable_value_spec.specs.declared.numbers.WorkerNumber.{WorkerNumber};
@@ -12,12 +14,12 @@ ghost use Rattle.pagable_tables.specs.{Nodes.{counts_at, work_at}, NumberTable.r
 ghost use Rattle.pagable_tables.specs.declared.{cascade.RefCounts.RefCounts, release.ReleaseSet.ReleaseSet};
 ghost use Rattle.pagable_pager_spec.specs.Calls.{CloseCall, ReleaseCall, SetKeyCall, UnpinCall};
 ghost use Rattle.pagable_pager_spec.specs.{Cascade.{Falls, nobody, only_handle}, Kinds.is_owner, LoadCalls.is_owned_in};
-ghost use Rattle.pagable_pager_spec.specs.{Basics.Blob, World.Core};
+ghost use Rattle.pagable_pager_spec.specs.{World.Core};
 ghost use Rattle.pagable_pager_spec.specs.declared.{handle_row.{HandleRow.HandleRow, Owner.Owner}, mode.Mode.Mode};
 ghost use Rattle.std.specs.Prelude.{Bool, IfNone, IfSome, List, None, Ok, Option, Some, [], false, length};
 ghost use Rattle.std.specs.Prelude.{slice_get, true, ℕ, ◌&&◌, ◌<◌, ◌==◌, ◌||◌, ◌≡◌, ◌≤◌};
 
-use crate::cascade::{RefCounts, fall, give_up, release_at, top_after};
+use crate::cascade::{RefCounts, finish_cascade, release_at, release_without_cascade, top_after};
 use crate::checks::own;
 use crate::handle_table::{HandleAt, Handles};
 use crate::kinds::{is_loose_mode, is_owner};
@@ -164,13 +166,13 @@ pub fn release_owned<N: Drop>(
     requires listed { giving ≡ ReleaseSet.Listed → (lists ≡ false) × (t.old.list.items ≡ []) }
     ensures steady { IsFalling t.new [] owns_nothing }
     ensures falls { (before u w : Core) → LoadsAre loads.now w
-        → SoFar before u nobody lists (record t.old { unlisted = None })
+        → SoFar before u nobody lists (record t.old { listing_error = None })
         → length (live t.old.handles.places.items) ≤ length u.rows
         → ((q : ℕ) → passes_in (gives_row w giving) u.rows q ≡ true → InReach reach q × (q ≤ until))
         → Falls before u (passes_in (gives_row w giving) u.rows) result (with_tables u t.new) }
     ensures sheds { Sheds (counts_at t.old.nodes) (row_by values.old) (counts_at t.new.nodes) (row_by values.new) }
 {
-    t.unlisted = None;
+    t.listing_error = None;
     let mut left = until;
     let mut guess = first_guess(&t.handles, t.last_handle, until);
     while let Some(at) = last_given(&t.handles, &t.nodes, loads, giving, reach, left, guess) {
@@ -178,15 +180,15 @@ pub fn release_owned<N: Drop>(
         guess = at.place;
         release_at(t, values, at, lists);
     }
-    fall(t, values, lists)
+    finish_cascade(t, values, lists)
 }
 
 /// Empties the list and the cache when the storage is closed: releases the handles of the list's
 /// entries and runs the cascade. No cell is listed by that. It takes no memory.
 pub fn close<N: Drop>(t: &mut Tables, values: &mut Arcs<N>)
     requires whole { IsWhole t.old }
-    ensures closed { (stored : ℕ → Option Blob) (closed : Bool) (failures failures' : ℕ) → failures ≤ failures'
-        → CloseCall (core_of t.old stored closed failures) (Ok tt) (core_of t.new (λ key. None) true failures') }
+    ensures closed { (storage : StorageView) (failures : ℕ) → storage.failures ≤ failures
+        → CloseCall (core_of t.old storage) (Ok tt) (core_of t.new (shut_view failures)) }
     ensures whole { IsWhole t.new }
     ensures later { AreLater t.old → AreLater t.new }
     ensures sheds { Sheds (counts_at t.old.ref_counts.nodes) (row_by values.old) (counts_at t.new.ref_counts.nodes)
@@ -209,7 +211,8 @@ pub fn close<N: Drop>(t: &mut Tables, values: &mut Arcs<N>)
     );
 }
 
-/// Releases the handle of this number if the load owns it, and runs the cascade.
+/// Releases the handle of this number if the load owns it, and runs the cascade. Where `lists` is
+/// set, it lists each cell without a key that loses its last pin by that.
 pub fn release_if_owned<N: Drop>(
     t: &mut RefCounts,
     values: &mut Arcs<N>,
@@ -250,14 +253,14 @@ pub fn try_release_at<N: Drop>(
     requires plain { is_valued at.row.owner ≡ false }
     requires free { is_owner Owner.List at.row.owner ≡ false }
     ensures steady { IsFalling t.new [] owns_nothing }
-    ensures falls { (before w : Core) → SoFar before w nobody lists (record t.old { unlisted = None })
+    ensures falls { (before w : Core) → SoFar before w nobody lists (record t.old { listing_error = None })
         → length (live t.old.handles.places.items) ≤ length w.rows
         → Falls before w (only_handle at.row.number) result (with_tables w t.new) }
     ensures sheds { Sheds (counts_at t.old.nodes) (row_by values.old) (counts_at t.new.nodes) (row_by values.new) }
 {
-    t.unlisted = None;
+    t.listing_error = None;
     release_at(t, values, at, lists);
-    fall(t, values, lists)
+    finish_cascade(t, values, lists)
 }
 
 /// Releases a handle that `me` owns, and runs the cascade.
@@ -309,9 +312,9 @@ pub fn unpin<N: Drop>(
     match at.row.mode {
         Mode::LooseUnpinned => Ok(()),
         Mode::LoosePinned => {
-            t.ref_counts.unlisted = None;
-            give_up(&mut t.ref_counts, at, true, lists);
-            fall(&mut t.ref_counts, values, lists)
+            t.ref_counts.listing_error = None;
+            release_without_cascade(&mut t.ref_counts, at, true, lists);
+            finish_cascade(&mut t.ref_counts, values, lists)
         }
         Mode::Pinned | Mode::Shared => Err(Error::WrongMode),
     }
@@ -351,6 +354,6 @@ pub fn set_data_key<N: Drop>(
     counts.next = top_after(false, is_dying, t.ref_counts.top, counts.next);
     nodes::set_counts(&mut t.ref_counts.nodes, node, counts);
     t.ref_counts.top = top_after(false, is_dying, node, t.ref_counts.top);
-    t.ref_counts.unlisted = None;
-    fall(&mut t.ref_counts, values, lists)
+    t.ref_counts.listing_error = None;
+    finish_cascade(&mut t.ref_counts, values, lists)
 }

@@ -11,7 +11,7 @@ ghost use Rattle.pagable_tables.specs.Soundness.{is_owned_once, is_row_sound, is
 ghost use Rattle.pagable_tables.specs.declared.place.Place.{Place, Place as Row};
 ghost use Rattle.pagable_pager_spec.specs.Kinds.{is_owner, is_shared, is_unpinned};
 ghost use Rattle.pagable_pager_spec.specs.declared.{handle_row.{HandleRow.HandleRow, Owner.Owner}, mode.Mode.Mode};
-ghost use Rattle.std.specs.Prelude.{List, None, Some, [], count_by, false, is_some, not, true, ◌%◌, ◌&&◌, ◌*◌, ◌/◌};
+ghost use Rattle.std.specs.Prelude.{List, None, Some, [], count_by, false, is_some, not, true, ◌&&◌, ◌*◌};
 ghost use Rattle.std.specs.Prelude.{◌<◌, ◌==◌, ◌||◌, ◌≡◌};
 
 use crate::kinds::{is_owner, is_unpinned, pins};
@@ -79,6 +79,7 @@ fn references_of(nodes: &Nodes, node: u64) -> &[ArcRef]
     }
 }
 
+// Says whether exactly one of these references has this handle.
 fn is_named_once(references: &[ArcRef], handle: u64) -> bool
     ensures { result ≡ (count_by (λ (r : Reference). r.handle.0 == handle) references.now == 1) }
 {
@@ -86,6 +87,7 @@ fn is_named_once(references: &[ArcRef], handle: u64) -> bool
     named.count() == 1
 }
 
+// Says whether exactly one entry of the list is this handle.
 fn is_listed_once(t: &Tables, handle: u64) -> bool
     ensures { result ≡ (count_by (λ (q : Number). q.0 == handle) t.now.ref_counts.list.items == 1) }
 {
@@ -242,7 +244,7 @@ fn is_known_soundly(t: &Tables, kind: Kind, node: NodeNumber) -> bool
     match nodes::counts_of(&t.ref_counts.nodes, node.0) {
         Some(counts) => {
             let is_shared = 1 <= count_shares(t.ref_counts.handles.places.as_slice(), node.0);
-            is_given && (counts.node_type == kind.0 / 3 && agree(is_shared, kind.0 % 3 == 0))
+            is_given && (counts.node_type == kind.node_type() && agree(is_shared, kind.is_shared()))
         }
         None => is_given,
     }

@@ -1,7 +1,7 @@
 //! All tables of a pager together, and the room that they have for handles and list entries.
 
 ghost use Rattle.pagable_value_spec.specs.declared.numbers.NodeNumber.{NodeNumber};
-ghost use Rattle.pagable_tables.specs.{Core.{AreLater, Does, IsWhole, plain_of}, HandleTable.room};
+ghost use Rattle.pagable_tables.specs.{Core.{AreLater, Does, IsWhole, core_alone}, HandleTable.room};
 ghost use Rattle.pagable_tables.specs.{Indexes.{known_at, load_at, worker_at}, Nodes.counts_at};
 ghost use Rattle.pagable_tables.specs.declared.cascade.RefCounts.{RefCounts};
 ghost use Rattle.pagable_pager_spec.specs.Calls.{ClearCall, ReserveCall, room_of};
@@ -73,7 +73,7 @@ pub fn new(alloc: Global) -> Tables
             nodes: NumberTable::new(alloc),
             list: VecDeque::new(alloc),
             top: 0,
-            unlisted: None,
+            listing_error: None,
             last_handle: 0,
         },
         cache: IndexMap::new(alloc),
@@ -90,7 +90,7 @@ pub fn new(alloc: Global) -> Tables
 /// Returns how many handles and list entries can still be added without a request for memory.
 pub fn room(t: &Tables) -> usize
     requires { IsWhole t.now }
-    ensures { result ≡ room_of (plain_of t.now) }
+    ensures { result ≡ room_of (core_alone t.now) }
 {
     let entries = t.ref_counts.list.capacity() - t.ref_counts.list.len();
     handle_table::room_of(&t.ref_counts.handles).min(entries)

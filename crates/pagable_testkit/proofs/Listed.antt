@@ -3,7 +3,7 @@ use Rattle.std.{proofs.Common.{Err, Ok, Result, ap, inl, inr, subst, sym, ℕ, �
 use Rattle.{pagable_testkit.specs.Cells.{byte_in_order, mixed}, pagable_value_spec.specs.{References.references_in, Shape.{Shape, list, nothing, reference}, Writing.{Out, WritesSome, nesting}}}
 use Rattle.{pagable_value_spec.specs.declared.error.Error.Error, pagable_traits.{proofs.Listed.written_listed, specs.Refers.{ListsInOrder, both_in_order, list_in_order, reference_in_order}}}
 use Rattle.pagable_traits.specs.declared.raw_ref.RawRef.{RawRef}
-use Rattle.{pagable_value_spec.specs.Cursor.{GivesSome, HoldsLent, Standing}, std.specs.{Arc.arc_value, Result.IsErrAnd, declared.{alloc.Global.Global, sync.Arc.Arc}}}
+use Rattle.{pagable_value_spec.specs.Cursor.{GivesSome, HoldsLentValues, InputState}, std.specs.{Arc.arc_value, Result.IsErrAnd, declared.{alloc.Global.Global, sync.Arc.Arc}}}
 use Rattle.{pagable_testkit.specs.{Linked.{bundle_beside, fields_beside, node_beside}, declared.linked.{LinkedNode.LinkedNode, bundle.Bundle.Bundle}}}
 use Rattle.pagable_testkit.specs.declared.linked.LinkedNode.TheVariants as nodes
 
@@ -40,9 +40,10 @@ refused_so {wider = wider} means after (Err f) is told wide = elim told [
 ]
 
 -- a bundle holds what its lists hold, and its node what the bundle holds
-pub bundle_holds : {s : Standing LinkedNode} (b : Bundle) → HoldsLent s fields_beside (b.shared, (b.loose, b.pinned)) → HoldsLent s bundle_beside b
+pub bundle_holds : {s : InputState LinkedNode} (b : Bundle) → HoldsLentValues s fields_beside (b.shared, (b.loose, b.pinned))
+    → HoldsLentValues s bundle_beside b
 bundle_holds b h = record { each = h.each }
 
-pub node_holds : {s : Standing LinkedNode} (b : Arc Bundle Global) (x : Bundle) → arc_value b ≡ x → HoldsLent s bundle_beside x
-    → HoldsLent s node_beside (nodes.Bundle b)
-node_holds {s} b x is h = record { each = (subst (HoldsLent s bundle_beside) (sym is) h).each }
+pub node_holds : {s : InputState LinkedNode} (b : Arc Bundle Global) (x : Bundle) → arc_value b ≡ x → HoldsLentValues s bundle_beside x
+    → HoldsLentValues s node_beside (nodes.Bundle b)
+node_holds {s} b x is h = record { each = (subst (HoldsLentValues s bundle_beside) (sym is) h).each }

@@ -6,7 +6,7 @@ use Rattle.pagable_theorems.proofs.Words.{Core, Err, Error, Event, GetsKnown, Ha
 use Rattle.pagable_theorems.proofs.Words.{PinCall, Reply, Result, Seen, Some, Values, [], adopted, ap, arith, bears_known, false, find_row, first_key, inl, inr, is_in, is_named_by, moved, nat_tests}
 use Rattle.pagable_theorems.{proofs.Words.{next_node, nothing_felt, of_cell, owner_value, refl, rules, subst, sym, true, with_handle, ℕ, ◌∙◌, ◌≡◌, ◌⊎◌}, specs.TreeSteps.{AreGood, CallFeels, StaysAway}}
 use Rattle.pagable_theorems.specs.TreeSteps.{bears_node, feels-adopted, feels-away, feels-birth, feels-end, feels-key, feels-known, feels-lazy, feels-nothing, knows_node, sets_key}
-use Rattle.pagable_pager_spec.specs.{Calls.{Asked, BirthCall, RecallCall, ReleaseCall, ScheduleCall, StoreCall, with_known}, Cascade.{FallsAnyhow, only_handle}, Events.Does, LoadCalls.{AskCall, BeginCall}}
+use Rattle.pagable_pager_spec.specs.{Calls.{Asked, InsertCall, RecallCall, ReleaseCall, ScheduleCall, StoreCall, with_known}, Cascade.{FallsAnyhow, only_handle}, Events.CallDoes, LoadCalls.{LoadFetchCall, BeginCall}}
 use Rattle.pagable_pager_spec.specs.{LoadCalls.{BeginKeyCall, EndCall, Given, HandOverCall, LoadCloses, is_owned_in, numbers_of, without_load}, WorkerClaims.LeavesCache, Pager.{CallBrings, IsNewNode}}
 use Rattle.pagable_pager_spec.specs.{World.{of_key, usable}, declared.{pinning.Pinning.Pinning, calls.Want.Want}}
 
@@ -41,7 +41,7 @@ module _ {me : Owner} {lists : Bool} {Asks Leaves : Type 0} {c : Change} where
       → Effect me lists Asks Leaves false c w w'
   gets-known g = made-handle _ _ _ g.leaves
 
-  pub asks : {w w' : Core} {l : LoadNumber} {want : Want} (r : Result Given Error) → AskCall w me l want r w' → Effect me lists Asks Leaves false c w w'
+  pub asks : {w w' : Core} {l : LoadNumber} {want : Want} (r : Result Given Error) → LoadFetchCall w me l want r w' → Effect me lists Asks Leaves false c w w'
   asks x0 x = grind (arith, nat_tests, was-asked, gets-known, same_some, stays {me = me} {lists = lists} {Asks = Asks} {Leaves = Leaves} {c = c})
 
   pub closes : {w w' : Core} (l : LoadNumber) {r : Result (Unit {0}) Error} → (Asks → IsMine w me l) → LoadCloses w l r w'
@@ -147,7 +147,7 @@ module _ {N B W : Type 0} (m : Seen N B W) (w : Core) (me : Owner) (free : NotLo
   quiet brings s = so nothing_felt s (feels-nothing brings)
 
   births : (call : Call N B) (x : N) (mode : Mode) → ((n : ℕ) (y : N) → CallBrings w call n y → (y ≡ x) × IsNewNode w n) → (r : Result HandleNumber (Error × N))
-      → BirthCall w me x (m.values.node_type x) (m.values.references x) mode r w' → CallGoes call (Reply.Made r)
+      → InsertCall w me x (m.values.node_type x) (m.values.references x) mode r w' → CallGoes call (Reply.Made r)
   births call x mode brings (Ok k) c =
       let references = m.values.references x in
       let t = m.values.node_type x in
@@ -157,7 +157,8 @@ module _ {N B W : Type 0} (m : Seen N B W) (w : Core) (me : Owner) (free : NotLo
       (feels-birth x brings right)
   births call x mode brings (Err e) c = quiet (λ n y b. inl (brings n y b).1) (stays c.refused.1.stays)
 
-  pub calls-go : (call : Call N B) (reply : Reply N B) → KeepsOpen {N = N} {B = B} {W = W} (Event.Call call) → Does m w me call reply w' → CallGoes call reply
+  pub calls-go : (call : Call N B) (reply : Reply N B) → KeepsOpen {N = N} {B = B} {W = W} (Event.Call call) → CallDoes m w me call reply w'
+      → CallGoes call reply
   calls-go (Call.NewPagedOut t key) (Reply.Handle (Ok k)) still c = so (bears_node t (OptionalDataKey.Some key))
       (like (handle (node w t (OptionalDataKey.Some key) [] (refl, refl) (own-named w [] (none-named w me))) (next_node w) Mode.LooseUnpinned me) c.made.2)
       (feels-away t key k)

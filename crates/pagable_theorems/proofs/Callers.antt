@@ -2,17 +2,17 @@
 use Rattle.pagable_theorems.proofs.{LoadResults.{After, after-then, pin-after, read-after}, FormsOfTrees.cell-of, HandlesKept.{PinOf, among-found, end-call, found-number, low-whole, pin-call, updated-at}, ReadingSteps.{caller-free, reading-feels}}
 use Rattle.pagable_theorems.proofs.{LoadProgress.{pin_stands, row-held, was-open}, Trees.same_some}
 use Rattle.pagable_theorems.proofs.Moments.{Stands, Stays, call-nobody, call-stays, item-stays, list-stays, no-value, stays-same, still-settled}
-use Rattle.pagable_theorems.proofs.Words.{Beginning, Blob, Call, Err, Error, Event, Frame, HandleNumber, HoldsSettled, IsLawful, KeepsOpen, List, LoadAnswer, LoadNumber, None, Ok, Option, Owner, PagerState}
-use Rattle.pagable_theorems.proofs.Words.{Core, HandleRow, Last, NodeNumber, OpenLoad, Reading, Reply, Represents, Result, Seen, Some, Tree, ValueStands, Values, WellFormed, Written, [], ap, arith, nat_tests, of_cell, refl, row_at, subst, sym, updated, ℕ, ◌+◌, ◌∙◌, ◌≡◌, ◌≤◌}
+use Rattle.pagable_theorems.proofs.Words.{Beginning, Blob, Call, Err, Error, Frame, HandleNumber, HoldsSettled, IsLawful, List, LoadAnswer, LoadNumber, None, Ok, Option, Owner, PagerState}
+use Rattle.pagable_theorems.proofs.Words.{Core, HandleRow, Last, NodeNumber, OpenLoad, Reading, Reply, Result, Seen, Some, Tree, ValueStands, Values, IsPagerWhole, Written, [], ap, arith, of_cell, refl, row_at, subst, sym, updated, ℕ, ◌+◌, ◌∙◌, ◌≡◌, ◌≤◌}
 use Rattle.pagable_theorems.specs.CallerLaws.{AreRight, AskWell, CallerLaw, IsCall, Operation, OperationAsksWell, OperationIsRight, Operations, PinAsksWell, PinIsRight, PinnedAgainLaw, ReadAsksWell, ReadingIsRight, calls, goes-on, is-done}
 use Rattle.pagable_theorems.specs.{CallerLaws.{pages-item, pages-list, pins, reads-key}, PageOutLaws.NobodyWorks}
-use Rattle.pagable_pager_spec.specs.{Access.{Called, IsValueOf, LoadAsksWell, LoadRun, PinRun, ReadRun, ReadingStep, load-ends, load-fails, load-goes-on, load-is-refused, load-pins, load-reads, pin-is-refused, pins-at-once, reading-fails}}
-use Rattle.pagable_pager_spec.specs.{Access.reading-is-refused, Events.CallStep, Rightness.GivesTree, LoadCalls.BeginCall, Loads.Does as LoadDoes, declared.pinning.Pinning.Pinning}
+use Rattle.pagable_pager_spec.specs.{Access.{MakesCall, IsValueOf, LoadAsksWell, LoadRun, PinRun, ReadRun, ReadingStep, load-ends, load-fails, load-goes-on, load-is-refused, load-pins, load-reads, pin-is-refused, pins-at-once, reading-fails}}
+use Rattle.pagable_pager_spec.specs.{Access.reading-is-refused, Events.CallStep, Rightness.GivesTree, LoadCalls.BeginCall, Loads.LoadDoes, declared.pinning.Pinning.Pinning}
 
 -- ---- what a load by one call leaves
 
 pub record LoadLeft {N E : Type 0} (v : Values N) (s : PagerState N E) : Type 0 where
-  pub well : WellFormed v s
+  pub well : IsPagerWhole v s
   pub settled : HoldsSettled v s
   pub nobody : NobodyWorks s.core
 
@@ -45,7 +45,7 @@ record LoadPins (w : Core) (l : LoadNumber) (k : HandleNumber) (w' : Core) : Typ
   pin : PinOf w' Owner.Caller node k
 
 pinned-at : {N E : Type 0} {v : Values N} {reading : Reading} {s s' : PagerState N E} {answer : LoadAnswer N} → LoadRun v Owner.Caller reading s answer s'
-    → WellFormed v s → reading.load.0 ≤ s.core.last.load → (k : HandleNumber)
+    → IsPagerWhole v s → reading.load.0 ≤ s.core.last.load → (k : HandleNumber)
     → answer ≡ LoadAnswer.Pinned k → LoadPins s.core reading.load k s'.core
 pinned-at {N} {v = v} (load-ends reading answer s s' step) well few k is =
     let e = (subst (λ (o : LoadAnswer N). LoadDoes v s.core Owner.Caller reading (Some o) [] s'.core) is step.does.does).0 in
@@ -84,7 +84,7 @@ load-begun w w' h l key c =
     }
 
 -- the handle that a pin answers is of its handle's node
-pub pin-of : {N E : Type 0} {v : Values N} {s s' : PagerState N E} {h k : HandleNumber} → PinRun v s h (Ok k) s' → WellFormed v s
+pub pin-of : {N E : Type 0} {v : Values N} {s s' : PagerState N E} {h k : HandleNumber} → PinRun v s h (Ok k) s' → IsPagerWhole v s
     → (row : HandleRow) × (row_at s.core h ≡ Some row) × PinOf s'.core Owner.Caller row.node k
 pin-of {s = s} {s'} {h} {k} (pins-at-once k2 s2 c) well =
     (c.step.pins.0, c.step.pins.1.live, pin-call s.core s'.core (low-whole well.whole.handles) Owner.Caller h k c.step)
@@ -100,7 +100,7 @@ pin-of {s = s} {s'} {h} {k} (load-pins k2 reading mid s2 starts run) well =
 
 module _ {N E B W : Type 0} (m : Seen N B W) (lawful : IsLawful m.values) where
   -- a call that brings no value and of which nothing is asked
-  plainly : {does : Core → Type 0} {s s' : PagerState N E} (call : Call N B) (reply : Reply N B) → Called m.values does s s'
+  plainly : {does : Core → Type 0} {s s' : PagerState N E} (call : Call N B) (reply : Reply N B) → MakesCall m.values does s s'
       → (does s'.core → CallStep m s.core Owner.Caller call reply s'.core) → IsCall m s call reply s'
   plainly call reply c is = record { step = is c.step; moves = no-value m lawful call c.moves; whole = c.whole }
 

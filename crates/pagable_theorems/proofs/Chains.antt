@@ -2,14 +2,14 @@
 -- afterwards, as do all readings.
 use Rattle.pagable_pager_spec.specs.{Rightness.{HasLetGo, IsRight, PinGives, StepsAreWithin, WorkerIsRight, claims_made, is_on_table}, Basics.is_loose_kind, Theorem.HeadlineLaw}
 use Rattle.pagable_pager_spec.specs.{Calls.{SetKeyCall, row_of, with_key}, Kinds.fits_mode, World.{SameShelf, published, to_publish, type_at}, declared.{pinning.Pinning.Pinning, events.PinStep.PinStep}}
-use Rattle.pagable_pager_spec.specs.{Kinds.is_loose, Pager.{EventBrings, IsReadingOf, StandsFor}, Runs.{Does as DoesMoment, Fact, IsPremised, TakesWell, TreesAfter, TreesAlong, events_of, replies_of}}
+use Rattle.pagable_pager_spec.specs.{Kinds.is_loose, Pager.{EventBrings, IsReadingOf, StandsFor}, Runs.{EventDoes, Fact, IsPremised, TakesWell, TreesAfter, TreesAlong, events_of, replies_of}}
 use Rattle.pagable_pager_spec.specs.{Events.Ends, Order.{InOrder, OnceEach, is_claim_of, steps_of}, Refusals.Owns, Workers.{claim_fault, give_known, next_start, with_changed_slot, with_outcome}}
 use Rattle.{pagable_theorems.proofs.NewClaims.{EventTurns, HasGone, StandsIn, event-turns}, std.{proofs.{Common.append-nil, Math.Nat.zero-add, lemmas.List.Sums.sum_by-append}, specs.Prelude.is_none}}
 use Rattle.pagable_theorems.proofs.{NewClaims.{goes-on, idle-stands, turns-keep, turns-stand}, LoadProgress.{Going, call-fits, fits-key, fits-nothing, given-nodes, going-new, going-of, going-on, going-step}}
 use Rattle.pagable_theorems.proofs.{SlotsGrow.{KeepsTask, ShelfGrows, grows, is-same, keeps-task, put-cases, puts-slot, true-false}, LoadProgress.{none-comes, pin_stands, reading-fits, tree-stays, trees-go-on}}
-use Rattle.pagable_theorems.proofs.Words.{Among, ArcRef, AreMoments, Beginning, Bool, Change, Claim, CloneCall, Core, Does, Event, EventReply, HandleNumber, HandleRow, HandlesAreWhole, Happens, Identity}
+use Rattle.pagable_theorems.proofs.Words.{Among, ArcRef, AreMoments, Beginning, Bool, Change, Claim, CloneCall, Core, WorkDoes, Event, EventReply, HandleNumber, HandleRow, HandlesAreWhole, Happens, Identity}
 use Rattle.pagable_theorems.proofs.Words.{HoldsSettled, IsIdle, IsLawful, IsMachineWhole, IsPublished, IsWellAsked, List, MachineState, Moment, NodeNumber, None, Ok, Option, Owner, Reading, Seen, Shelf}
-use Rattle.pagable_theorems.proofs.Words.{Site, Slot, Some, Todo, Action, Tree, Values, Walking, WorkFits, WorkerAnswer, WorkerNumber, WorkerReply, WorkerSteps, World, [], above, any_mode}
+use Rattle.pagable_theorems.proofs.Words.{WorkerState, Slot, Some, Todo, Action, Tree, Values, Walking, WorkFits, WorkerAnswer, WorkerNumber, WorkerReply, WorkerSteps, World, [], above, any_mode}
 use Rattle.pagable_theorems.proofs.Words.{ap, append_assoc, arith, false, false_from_ne_true, find_row, give, identity_of, inl, inr, is_owner, is_some, le_trans, nat_tests, nothing_felt, one, refl, sym}
 use Rattle.pagable_theorems.proofs.Words.{owner_worker, row_at, rules, state_after, step_of, subst, sum_by-cons, times, to_finish, to_item, to_load, to_pin, to_set, to_start, to_write, true, type_of, ℕ}
 use Rattle.pagable_theorems.proofs.{ReadingSteps.ends-quiet, StepBounds.{LoadsStand, Spares, event-on, reads-give, step-within, steps-left}, Words.{world_of, ◌&&◌, ◌++◌, ◌+◌, ◌∙◌, ◌∷◌, ◌≡◌, ◌≤◌, ◌⊎◌}}
@@ -108,7 +108,7 @@ changed-reveals : (shelf shelf' : Shelf) (P : Identity → Type 0) (i : Identity
     → ((old : Slot) (key height : ℕ) → (f old).outcome ≡ published key height → (old.outcome ≡ published key height) ⊎ P i) → Reveals shelf shelf' P
 changed-reveals shelf shelf' P i f same back j key height p = grind (arith, nat_tests, same_some, is-same, known)
 
-module _ {N B W : Type 0} (m : Seen N B W) (v : ℕ) (s s' : Site) (whole : HandlesAreWhole s.core) where
+module _ {N B W : Type 0} (m : Seen N B W) (v : ℕ) (s s' : WorkerState) (whole : HandlesAreWhole s.core) where
   abbrev pub KeyThere : Identity → Type 0
   KeyThere i = is_loose_kind i.kind.0 ≡ true → KeyIsSet s'.core i.node.0
 
@@ -123,7 +123,7 @@ module _ {N B W : Type 0} (m : Seen N B W) (v : ℕ) (s s' : Site) (whole : Hand
   stays : ((i : Identity) → s'.shelf.slots i ≡ s.shelf.slots i) → {next : List Todo} → s'.todo ≡ next → AllHold s'.core v next → Leaves
   stays same e all = leaves e all (λ i key height p. inl (keys-same (λ j. sym (same j)) i key height p))
 
-  stepped : {c : Change} (todo : List Todo) (step : Action W) → s.todo ≡ todo → Does m v s todo step s' → CoreGoes c s.core s'.core → AllHold s.core v todo
+  stepped : {c : Change} (todo : List Todo) (step : Action W) → s.todo ≡ todo → WorkDoes m v s todo step s' → CoreGoes c s.core s'.core → AllHold s.core v todo
       → Leaves
   stepped (to_start r place ∷ below) (Action.Claim i (Ok Claim.Claimed)) e (is, c) f (h, waits) =
       let t = c.finds.1.2 in
@@ -264,7 +264,7 @@ module _ {N E B W : Type 0} (m : Seen N B W) (lawful : IsLawful m.values) where
       → IsGoingOn m.values s trees
   idle-goes s trees whole idle settled stands = grind (arith, nat_tests, idle-stands)
 
-  pub goes : (s : MachineState N E) (trees : ℕ → Tree) (x : Moment N E B W) → IsGoingOn m.values s trees → DoesMoment m s x.event x.reply x.after
+  pub goes : (s : MachineState N E) (trees : ℕ → Tree) (x : Moment N E B W) → IsGoingOn m.values s trees → EventDoes m s x.event x.reply x.after
       → IsPremised m.values s trees x.event x.reply x.after → (trees' : ℕ → Tree) × TreesAfter m (IsRight m.values) s trees x.event x.reply x.after trees'
       × IsGoingOn m.values x.after trees'
   goes s trees x on does premised =
@@ -431,7 +431,7 @@ headline_law E m start moments whole idle chain =
       chain = chain;
       work = record {
         claims_right = record {
-          distinct = grind (arith, nat_tests, one-small, all.claims);
+          at_most_once = grind (arith, nat_tests, one-small, all.claims);
           met = λ t i is.
               let c : (slot : Slot) × ((end.work.shelves t).slots i ≡ Some slot) = grind (arith, nat_tests) in
               let a = all.work.slots t i c.0 c.1 in record { n = c.0.worker; walking = a.walking; there = a.there; on_table = a.on_table; meets = a.meets };

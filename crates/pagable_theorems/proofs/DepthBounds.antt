@@ -2,15 +2,15 @@
 -- deep.
 use Rattle.pagable_theorems.proofs.{LoadResults.answered, Chains.{IsGoingOn, along-with, headline_law, idle-goes}, NewClaims.StandsIn, FormsOfTrees.{known-of, tree-form}, HandlesKept.updated-at, ReadingSteps.site_of}
 use Rattle.pagable_theorems.proofs.{SlotsGrow.{AllStand, Covers, is-same, is_open_in}, TablesKept.next-among, Trees.{Along, each-two, form-along, integer-along, none-along, number-along, pair-along}}
-use Rattle.pagable_theorems.proofs.{Trees.{pattern-along, reference-along, same_some, text-along, tree_is, variant-along}, Words.{Among, ArcRef, AreMoments, Bool, Core, Does, Err, Error, Event, Happens}}
-use Rattle.pagable_theorems.proofs.Words.{EventReply, FollowsTo, HoldsSettled, Identity, IsIdle, IsLawful, IsMachineWhole, IsPublished, List, MachineState, Meaning, Moment, Ok, Seen, Site}
+use Rattle.pagable_theorems.proofs.{Trees.{pattern-along, reference-along, same_some, text-along, tree_is, variant-along}, Words.{Among, ArcRef, AreMoments, Bool, Core, WorkDoes, Err, Error, Event, Happens}}
+use Rattle.pagable_theorems.proofs.Words.{EventReply, FollowsTo, HoldsSettled, Identity, IsIdle, IsLawful, IsMachineWhole, IsPublished, List, MachineState, Meaning, Moment, Ok, Seen, WorkerState}
 use Rattle.pagable_theorems.proofs.Words.{Shelf, Some, Task, Todo, Action, Tree, Types, Values, Walking, WorkFits, WorkerAnswer, Written, above, ap, arith, followed, identity_of, if◌then◌else◌, inl, inr}
 use Rattle.pagable_theorems.proofs.Words.{is_eager, max, nat_tests, of_entry, of_item, pair, refl, subst, suc, sym, to_finish, to_item, to_start, tree, true, type_of, variant, world_of, zero, ℕ, ◌+◌}
 use Rattle.pagable_theorems.{proofs.Words.{◌<◌, ◌∙◌, ◌∷◌, ◌≡◌, ◌≤◌, ◌⊎◌}, specs.{DepthLaws.{ClaimIsDeep, DepthIsTold, MetDepthAlone, WaitsForAsker}, TreeSteps.{AllLow, BlobStands, Expects, Ground}}}
 use Rattle.pagable_theorems.specs.TreeSteps.{IsAttained, IsDone, Waits, Walks, WroteTree, followed-leads, ground_of, pair-leads, place_over, reference-leads, variant-leads}
 use Rattle.{pagable_value_spec.specs.{Height.{deepest_path, height}, Merkle.TreeForm, Writing.kind_of_arc}, pagable_pager_spec.specs.{Rightness.IsMetFailure, WorkerClaims.{HasNoForm, IsFormlessTask, IsTooDeepTask}}}
 use Rattle.pagable_pager_spec.specs.{WorkerClaims.{KeyIsShallow, LeadsToNoForm, Reaches, in-first, in-part, in-rest, refers, refers-on}, Pager.{StandsFor, kids_of}, Basics.longest_path, Runs.Fact}
-use Rattle.{pagable_pager_spec.specs.{Runs.TreesAlong, Workers.Claims, World.is_identity}, std.{proofs.lemmas.Bool.or_cases, specs.Prelude.◌≢◌}}
+use Rattle.{pagable_pager_spec.specs.{Runs.TreesAlong, Workers.ClaimStep, World.is_identity}, std.{proofs.lemmas.Bool.or_cases, specs.Prelude.◌≢◌}}
 
 -- ---- what a tree's references lead to is part of it
 
@@ -117,8 +117,8 @@ module _ {N E : Type 0} (v : Values N) (s : MachineState N E) (trees : ℕ → T
   not-below n task q r x4 few x6 x7 x8 is = grind (arith, nat_tests)
 
   -- a claim that is too deep is so by a path of the task's, or another is at it that waits for the asker
-  pub claim-deep : (n : ℕ) (task : Task) (core : Core) (todo : List Todo) (r : ArcRef) (place : ℕ) (below : List Todo) (s' : Site)
-      → Claims n (record { core = core; shelf = shelf; todo = todo }) r place below (Err Error.TooDeep) s'
+  pub claim-deep : (n : ℕ) (task : Task) (core : Core) (todo : List Todo) (r : ArcRef) (place : ℕ) (below : List Todo) (s' : WorkerState)
+      → ClaimStep n (record { core = core; shelf = shelf; todo = todo }) r place below (Err Error.TooDeep) s'
       → Expects task r below → Waits shelf task below → AllStand shelf n task below → Covers shelf n (to_start r place ∷ below) → place ≡ place_over r below
       → IsTooDeepTask trees task ⊎ WaitsForAsker shelf n (identity_of r)
   claim-deep n task core todo r place below s' c expects waits all covers at = elim c.refused.0 [
@@ -241,10 +241,10 @@ module _ {N B W E : Type 0} (m : Seen N B W) (s s' : MachineState N E) (trees tr
   depth-is-told event reply is shallow = tt
 
   module _ (n : ℕ) (walking : Walking) (there : s.work.walkings n ≡ Some walking) where
-    abbrev site : Site
+    abbrev site : WorkerState
     site = site_of (world_of s) walking
 
-    of-claim : (after : Site) (todo : List Todo) (i : Identity) → Does m n site todo (Action.Claim i (Err Error.TooDeep)) after
+    of-claim : (after : WorkerState) (todo : List Todo) (i : Identity) → WorkDoes m n site todo (Action.Claim i (Err Error.TooDeep)) after
         → AllStand site.shelf n walking.task todo → Covers site.shelf n todo
         → Walks m.values (ground_of s trees) site.shelf walking.task todo → IsTooDeepTask trees walking.task ⊎ WaitsForAsker site.shelf n i
     of-claim after (to_start r place ∷ below) i (is, c) (stands, apart, all) covers (at, (expects, waits)) =

@@ -165,7 +165,7 @@ module _ (mine : Owner) where
 
   pub listed-free : is_owner Owner.List mine ≡ false → {w : Core} → OwnersAreThere w → (i : ℕ) (h : HandleNumber) → slice_get w.list i ≡ Some h
       → Free w (only_handle h)
-  listed-free unlisted {w} there i h at = record {
+  listed-free listing_error {w} there i h at = record {
     each = λ q row own s. false_from_ne_true (q == h.0) (λ e.
         let here : one (h.0 == q) ≡ 1 = ap (λ n. one (n == q)) (sym (same-number q h.0 e)) ∙ ap one (self-number q) in
         let most = at-most-sum (λ (x : HandleNumber). one (x.0 == q)) w.list h (i, at) in
@@ -188,7 +188,7 @@ module _ (mine : Owner) where
 pub record IsOther (me : Owner) (lists : Bool) (w : Core) (mine : Owner) : Type 0 where
   pub apart : IsApart mine
   pub other : me ≡ mine → ⊥
-  pub unlisted : lists ≡ true → (is_owner Owner.List mine ≡ false) × OwnersAreThere w
+  pub listing_error : lists ≡ true → (is_owner Owner.List mine ≡ false) × OwnersAreThere w
 
 -- the load is the asker's, if it is open
 abbrev pub IsMine : Core → Owner → LoadNumber → Type 0
@@ -251,7 +251,7 @@ module _ {me : Owner} {lists : Bool} where
   no-one mine o = record { each = λ q row own s. refl }
 
   pub entry : lists ≡ true → {w : Core} (i : ℕ) (h : HandleNumber) → slice_get w.list i ≡ Some h → Ours me lists w (only_handle h)
-  entry taken i h at mine o = listed-free mine (o.unlisted taken).0 (o.unlisted taken).1 i h at
+  entry taken i h at mine o = listed-free mine (o.listing_error taken).0 (o.listing_error taken).1 i h at
 
   pub handed : (w : Core) (l : LoadNumber) (hs : List HandleNumber) → named_fault w (Owner.Load l) [] hs ≡ None → Ours me lists w (is_in (numbers_of hs))
   handed w l hs none mine o = record { each = handed-free mine o.apart.no_load w l hs [] none }
@@ -365,7 +365,7 @@ pub one-then : {me : Owner} {Asks Asks' Leaves : Type 0} {w m w' : Core} → ((k
     → Effect me false Asks Leaves false nothing_felt w w'
 one-then up asks a b = record {
   goes = goes-then a.goes b.goes;
-  spares = λ mine o. spares-then mine (a.spares mine o) (b.spares mine (record { apart = o.apart; other = o.other; unlisted = λ f. absurd (cc) }));
+  spares = λ mine o. spares-then mine (a.spares mine o) (b.spares mine (record { apart = o.apart; other = o.other; listing_error = λ f. absurd (cc) }));
   lasts = λ k kind key n e h still. b.lasts k kind key n (a.lasts k kind key n e h (λ f. up kind key n h)) (up kind key n h) still;
   workers = λ v. b.workers v ∙ a.workers v;
   others = λ own l load is few other. let more = a.goes.loads_last in b.others (asks own) l load (a.others own l load is few other)

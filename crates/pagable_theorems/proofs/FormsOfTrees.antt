@@ -2,8 +2,8 @@
 -- own key.
 use Rattle.pagable_theorems.proofs.{Naturality.{both-looked-up, each, keeps_forms, one_cause, read_par}, Trees.{AllTwo, Along, followed-along, more-two, no-two, one_tree, pair-along, reference-along}}
 use Rattle.pagable_theorems.proofs.{Trees.{same-number, same_some, sum-le, sum-zero, variant-along}, Words.{Among, ArcRef, Bool, Core, FollowsTo, Form, HandleRow, HandlesAreWhole, HoldsSettled, List, ℕ}}
-use Rattle.pagable_theorems.proofs.Words.{Identity, IsLawful, IsPublished, IsReadable, Meaning, Ok, Option, Owner, PagerState, IsReadableType, Represents, Shape, Shelf, Slot, Some, Throughout, Tree, []}
-use Rattle.pagable_theorems.proofs.Words.{Types, Values, WellFormed, Written, ap, append-nil, arith, blob_of, held, identity_of, if_there, inr, integer-leads, is_handle, is_owned_by, is_some, le_trans}
+use Rattle.pagable_theorems.proofs.Words.{Identity, IsLawful, IsPublished, IsReadable, Meaning, Ok, Option, Owner, PagerState, IsReadableType, PagerStandsFor, Shape, Shelf, Slot, Some, Throughout, Tree, []}
+use Rattle.pagable_theorems.proofs.Words.{Types, Values, IsPagerWhole, Written, ap, append-nil, arith, blob_of, held, identity_of, if_there, inr, integer-leads, is_handle, is_owned_by, is_some, le_trans}
 use Rattle.pagable_theorems.proofs.Words.{map, nat_tests, one, owner_value, reference, references_in, refl, rename, rest, slice_get, slice_get_within, subst, suc, sum_by-cons, sym, times, tree, true}
 use Rattle.pagable_theorems.proofs.{RoundTrip.{looks-itself, read_again}, Decoding.{among-left, among-right, given-too}, Words.{type_of, zero, ◌&&◌, ◌++◌, ◌<◌, ◌==◌, ◌∙◌, ◌∷◌, ◌≡◌, ◌≤◌}}
 use Rattle.pagable_theorems.specs.TreeSteps.{Ground, KeyStands, LeadsBy, WroteTree, followed-leads, none-leads, number-leads, pair-leads, pattern-leads, reference-leads, text-leads, variant-leads}
@@ -109,7 +109,7 @@ stands-leads (followed-stands i x a f) (followed-along j x2 a2 n k) h = followed
 stands-leads (reference-stands r a node) (reference-along r2 c same) h = let is = h r (zero, refl) c same a node in reference-leads r a is.0 is.1
 stands-leads f k h = search (number-leads, integer-leads, text-leads, pattern-leads, none-leads)
 
-module _ {N E : Type 0} {v : Values N} {s : PagerState N E} {trees : ℕ → Tree} (represents : Represents v s trees) (whole : WellFormed v s)
+module _ {N E : Type 0} {v : Values N} {s : PagerState N E} {trees : ℕ → Tree} (represents : PagerStandsFor v s trees) (whole : IsPagerWhole v s)
     (settled : HoldsSettled v s)
     (lawful : IsLawful v) where
   refers : (n : ℕ) (x : N) (r : ArcRef) → s.values n ≡ Some x → Among (v.references x) r
@@ -137,7 +137,7 @@ module _ {N E : Type 0} {v : Values N} {s : PagerState N E} {trees : ℕ → Tre
       λ q. omega (
         arith,
         lawful.refers w.x w.form.own w.form.means (λ r. r.handle.0 == q),
-        whole.inside n w.x q w.held,
+        whole.owns_references n w.x q w.held,
         owned-once whole.whole.handles (owner_value n) q,
       ) in
       search (shape_is, readable, w.form.form, follows, given, once)

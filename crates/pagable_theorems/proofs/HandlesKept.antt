@@ -1,8 +1,8 @@
--- What a step does to the plain state, as far as it matters for trees: the parts of each call's summary. And a live handle that no value owns and that isn't
+-- What a step does to the core, as far as it matters for trees: the parts of each call's summary. And a live handle that no value owns and that isn't
 -- released keeps its row in a cascade.
 use Rattle.pagable_theorems.proofs.{Decoding.among-either, CascadeWitness.outlast, Trees.{same-number, same_some, self-number}, Words.{Alike, Among, ArcRef, Blob, Bool, Call, Change, CloneCall, Core, Event}}
 use Rattle.pagable_theorems.proofs.Words.{EventReply, HandleNumber, HandleRow, HandlesAreWhole, Happens, Identity, IsReference, Kind, Last, List, LoadNumber, Mode, NodeNumber, None, Ok, OpenLoad, Option}
-use Rattle.pagable_theorems.proofs.Words.{OptionalDataKey, Owner, PinCall, Reply, Seen, Site, Some, Todo, Action, World, [], adopted, answer_after, ap, arith, bears_known, false, false_from_ne_true}
+use Rattle.pagable_theorems.proofs.Words.{OptionalDataKey, Owner, PinCall, Reply, Seen, WorkerState, Some, Todo, Action, World, [], adopted, answer_after, ap, arith, bears_known, false, false_from_ne_true}
 use Rattle.pagable_theorems.proofs.Words.{find_row, if◌then◌else◌, inl, inr, is_handle, is_named_by, is_owner, is_pinning, le_trans, mode_of, moved, nat_tests, next_node, not, nothing_felt, one}
 use Rattle.pagable_theorems.proofs.Words.{owner_value, owner_worker, pins, references_fault, refl, row_at, rules, subst, suc, sum_by-cons, sym, to_load, to_pin, true, type_of, updated, with_handle, zero}
 use Rattle.pagable_theorems.{proofs.Words.{ℕ, ◌&&◌, ◌++◌, ◌+◌, ◌<◌, ◌==◌, ◌∙◌, ◌∷◌, ◌≡◌, ◌≤◌, ◌⊎◌}, specs.TreeSteps.{AreGood, Bears, BeginsWell, HasPin, Knows, PinHolds, StaysAway, sets_key}}
@@ -436,8 +436,8 @@ low-handle w m node mode owner low a h among =
     let there : Among (w.rows ++ row_of (w.last.handle + 1) node mode owner ∷ []) h = subst (λ rows. Among rows h) a.rows among in
     grind (arith, nat_tests, among-either w.rows (row_of (w.last.handle + 1) node mode owner ∷ []) there.0 h there.1, only-one, low h)
 
-module _ {N B W : Type 0} (m : Seen N B W) (v : ℕ) (s s' : Site) (low : AreLow s.core) where
-  held : (todo : List Todo) (i : Identity) (k : HandleNumber) → workers.Does m v s todo (Action.Pin i (Ok (PinStep.Held k))) s'
+module _ {N B W : Type 0} (m : Seen N B W) (v : ℕ) (s s' : WorkerState) (low : AreLow s.core) where
+  held : (todo : List Todo) (i : Identity) (k : HandleNumber) → workers.WorkDoes m v s todo (Action.Pin i (Ok (PinStep.Held k))) s'
       → HasPin s'.core k × (answer_after {W = W} todo (Action.Pin i (Ok (PinStep.Held k))) ≡ None)
   held (to_pin r place ∷ below) i k (is, p) = (
     elim p.pins.1 [

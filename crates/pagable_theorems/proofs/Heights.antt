@@ -3,7 +3,7 @@
 use Rattle.pagable_theorems.proofs.{RoundTrip.{Looked, all-looked, form-again, not-looked, one-looked}, Decoding.kinds_of, FormsOfTrees.references-among, Merkle.longest_path, Naturality.{keeps_forms, renamed}}
 use Rattle.pagable_theorems.proofs.Trees.{Along, each-two, form-along, integer-along, none-along, number-along, pair-along, pattern-along, reference-along, same-number, same_some, self-number, text-along}
 use Rattle.pagable_theorems.proofs.{Trees.variant-along, Words.{Among, ArcRef, Blob, Err, Error, IsReadableType, List, Meaning, Ok, Option, Result, Some, Types, [], above, ap, append-nil, append_assoc}}
-use Rattle.pagable_theorems.proofs.Words.{arith, cases_Bool, false, if◌then◌else◌, inl, inr, is_eager, length, length-append, map, nat_tests, read, refl, rename, rest, slice_get, subst, suc, sym}
+use Rattle.pagable_theorems.proofs.Words.{arith, cases_Bool, false, inl, inr, is_eager, length, length-append, map, nat_tests, read, refl, rename, rest, slice_get, subst, suc, sym}
 use Rattle.pagable_theorems.proofs.Words.{tree, true, type_of, zero, ℕ, ◌++◌, ◌+◌, ◌==◌, ◌∙◌, ◌∷◌, ◌≡◌, ◌≤◌}
 use Rattle.pagable_theorems.specs.{DepthLaws.DepthIsHeight, FormLaws.at}
 use Rattle.pagable_value_spec.specs.{Canonical.{EachType, IsReadableTree}, Height.{HasPath, Kid, height, tree_of_kid}, Merkle.{StoredAs, StoredTree, blob_of, key_of_ref, kind_of_ref, unfolded}}

@@ -1,11 +1,11 @@
 -- What values hold beside their references doesn't change, since the references' nodes keep their values.
 use Rattle.pagable_theorems.{proofs.{HandlesKept.good, LoadProgress.row-pins}, specs.HeldLaws.{CallersBringHeld, HeldByCallersLaw, HeldByMomentsLaw, HeldLaw, MomentBringsHeld, MomentsBringHeld, OperationBringsHeld, PinnedLaw, ReadHoldsLaw}}
-use Rattle.pagable_theorems.proofs.Words.{Among, ArcRef, IsReference, Mode, None, Option, Owner, PagerState, Some, Values, WellFormed, ap, arith, inl, inr, is_eager, is_pinning, is_some, nat_tests, pins, refl, sym, true, ℕ, ◌<◌, ◌∙◌, ◌≡◌}
+use Rattle.pagable_theorems.proofs.Words.{Among, ArcRef, IsReference, Mode, None, Option, Owner, PagerState, Some, Values, IsPagerWhole, ap, arith, inl, inr, is_eager, is_pinning, is_some, nat_tests, pins, refl, sym, true, ℕ, ◌<◌, ◌∙◌, ◌≡◌}
 use Rattle.pagable_theorems.proofs.Words.{[], ◌∷◌, Core, Error, Event, EventReply, HandleNumber, List, LoadAnswer, Ok, Reading, Result, Seen, Todo, Action, WorkerAnswer, Written, subst}
 use Rattle.pagable_theorems.specs.CallerLaws.{Operation, Operations, calls, goes-on, is-done, pages-item, pages-list, pins as pins-by, reads-key}
-use Rattle.pagable_pager_spec.specs.Access.{AccessState, Called, EntryRun, IfReads, ItemRun, ListRun, LoadRun, PinRun, ReadRun, WorkerRun, entry-is-refused, entry-is-walked, fails, item-is-walked, load-ends, load-fails, load-goes-on}
+use Rattle.pagable_pager_spec.specs.Access.{AccessState, MakesCall, EntryRun, IfReads, ItemRun, ListRun, LoadRun, PinRun, ReadRun, WorkerRun, entry-is-refused, entry-is-walked, fails, item-is-walked, load-ends, load-fails, load-goes-on}
 use Rattle.pagable_pager_spec.specs.Access.{load-is-refused, load-pins, load-reads, no-entry-worker, no-more, no-worker, pages, pin-is-refused, pins-at-once, reading-fails, reading-is-refused, skips, worker-ends, worker-goes-on}
-use Rattle.pagable_pager_spec.specs.{Kinds.fits_mode, Pager.{HoldsItsNodes, HoldsItsValues, HoldsNode, HoldsPinned, MachineState, Moves}, Basics.NodeNumber, Runs.{AreMoments, Does, Moment, state_after}}
+use Rattle.pagable_pager_spec.specs.{Kinds.fits_mode, Pager.{HoldsItsNodes, HoldsItsValues, HoldsNode, HoldsPinned, MachineState, Moves}, Basics.NodeNumber, Runs.{AreMoments, EventDoes, Moment, state_after}}
 
 -- a reference that is read together with its value stands for a handle that pins
 eager-pins : (kind : ℕ) (mode : Mode) → is_eager kind ≡ true → fits_mode kind mode ≡ true → is_pinning mode ≡ true
@@ -18,7 +18,7 @@ some-of : {X : Type 0} (o : Option X) → is_some o ≡ true → (z : X) × (o �
 some-of (Some z) is = (z, refl)
 some-of None is = absurd cc
 
-module _ {N E : Type 0} (v : Values N) {s : PagerState N E} (whole : WellFormed v s) {owner : Owner} (r : ArcRef) (ref : IsReference s.core owner r)
+module _ {N E : Type 0} (v : Values N) {s : PagerState N E} (whole : IsPagerWhole v s) {owner : Owner} (r : ArcRef) (ref : IsReference s.core owner r)
     (eager : is_eager r.kind.0 ≡ true) where
   pinning : is_pinning ref.row.mode ≡ true
   pinning = eager-pins r.kind.0 ref.row.mode eager ref.fits
@@ -32,7 +32,7 @@ module _ {N E : Type 0} (v : Values N) {s : PagerState N E} (whole : WellFormed 
       let typed = ref.typed in
       grind (arith, nat_tests)
 
-module _ {N E : Type 0} (v : Values N) {s s' : PagerState N E} (whole : WellFormed v s') (moves : Moves (λ n x. HoldsItsNodes v s x) s s') where
+module _ {N E : Type 0} (v : Values N) {s s' : PagerState N E} (whole : IsPagerWhole v s') (moves : Moves (λ n x. HoldsItsNodes v s x) s s') where
   stays : (n : ℕ) (y : N) → s.values n ≡ Some y → is_some (s'.values n) ≡ true → s'.values n ≡ Some y
   stays n y was some =
       let p = some-of (s'.values n) some in
@@ -61,14 +61,14 @@ pinned_law E v s owner x whole none pinned = λ r among eager.
 -- ---- along callers' operations
 
 record Held {N E : Type 0} (v : Values N) (s : PagerState N E) : Type 0 where
-  well : WellFormed v s
+  well : IsPagerWhole v s
   held : HoldsItsValues v s
 
 module _ {N E : Type 0} (v : Values N) where
-  comes-held : {s s' : PagerState N E} → WellFormed v s' → Moves (λ n x. HoldsItsNodes v s x) s s' → Held v s → Held v s'
+  comes-held : {s s' : PagerState N E} → IsPagerWhole v s' → Moves (λ n x. HoldsItsNodes v s x) s s' → Held v s → Held v s'
   comes-held well moves h = record { well = well; held = held_law E v _ _ well moves h.held }
 
-  nothing-comes : {comes : ℕ → N → Type 0} {s s' : PagerState N E} → ((n : ℕ) (x : N) → comes n x → ⊥) → WellFormed v s' → Moves comes s s' → Held v s
+  nothing-comes : {comes : ℕ → N → Type 0} {s s' : PagerState N E} → ((n : ℕ) (x : N) → comes n x → ⊥) → IsPagerWhole v s' → Moves comes s s' → Held v s
       → Held v s'
   nothing-comes none well moves h = comes-held well (record {
     each = λ n x is. elim (moves.each n x is)
@@ -76,7 +76,7 @@ module _ {N E : Type 0} (v : Values N) where
     environment = moves.environment;
   }) h
 
-  called-held : {does : Core → Type 0} {s s' : PagerState N E} → Called v does s s' → Held v s → Held v s'
+  called-held : {does : Core → Type 0} {s s' : PagerState N E} → MakesCall v does s s' → Held v s → Held v s'
   called-held c h = nothing-comes (λ n x came. came) c.whole c.moves h
 
   load-held : {me : Owner} {reading : Reading} {s s' : PagerState N E} {answer : LoadAnswer N} → LoadRun v me reading s answer s' → Held v s → Held v s'
@@ -153,7 +153,7 @@ read_holds_law E v s s' key t x run = by run refl
 -- ---- along the moments of a machine
 
 module _ {N E B W : Type 0} (m : Seen N B W) where
-  moment-held : (s s' : MachineState N E) (event : Event N B W) (reply : EventReply N B W) → Does m s event reply s'
+  moment-held : (s s' : MachineState N E) (event : Event N B W) (reply : EventReply N B W) → EventDoes m s event reply s'
       → MomentBringsHeld m.values s.pager event s'.pager → Held m.values s.pager → Held m.values s'.pager
   moment-held s s' (Event.Call call) reply d brings h =
       comes-held m.values d.whole.pager (record {

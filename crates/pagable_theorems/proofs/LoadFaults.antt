@@ -7,7 +7,7 @@ use Rattle.pagable_theorems.proofs.Words.{IsReadableType, IsLawful, IsPublished,
 use Rattle.pagable_theorems.proofs.Words.{Shelf, Some, Tree, Types, Values, WorkFits, Written, [], above, adopted, any_mode, ap, arith, blob_of, false, identity_of, inl, inr, is_eager, length, nat_tests}
 use Rattle.pagable_theorems.proofs.Words.{next_in, not, of_cell, owner_worker, references_fault, refl, rules, slice_get, subst, sym, true, type_of, world_of, ◌+◌, ◌<◌, ◌==◌, ◌∙◌, ◌∷◌, ◌≡◌, ◌≤◌, ◌⊎◌}
 use Rattle.{pagable_theorems.specs.{DepthLaws.{IsOfHandles, LoadIsDeep, LoadIsFaultless}, TreeSteps.{AllLow, IsFresh, Needs}}, pagable_pager_spec.specs.Events.{LoadSteps, reading_at}}
-use Rattle.pagable_pager_spec.specs.{Rightness.AreKeysOf, LoadCalls.{AskCall, LazyCall, ask_fault, is_known, node_fault}, Loads.{Does, Fails, IsDecoded, IsOfKey, RefusesNested, RefusesNode, RefusesRoot}}
+use Rattle.pagable_pager_spec.specs.{Rightness.AreKeysOf, LoadCalls.{LoadFetchCall, LazyCall, ask_fault, is_known, node_fault}, Loads.{LoadDoes, Fails, IsDecoded, IsOfKey, RefusesNested, RefusesNode, RefusesRoot}}
 use Rattle.pagable_pager_spec.specs.{Loads.{asks, handles_of, is_broken, need_of, needs_lazy, needs_nested, reads}, WorkerClaims.{IsLoadOfPagedOut, IsOfChance, IsPagedOutAs}, Order.{LeadsDown, ReadsTooDeep}}
 use Rattle.pagable_pager_spec.specs.{Order.{after_kinds, goes-down, is-there}, Pager.{IsReadingOf, of_worker}, Basics.longest_path, Refusals.{AreHandlesFull, Refused, earlier, handle_fault, load_fault}}
 use Rattle.pagable_pager_spec.specs.{Refusals.{named_fault, reference_fault, refused_if, row_fault}, declared.{calls.Want.Want, events.LoadReply.LoadReply}}
@@ -239,7 +239,7 @@ module _ {N E : Type 0} (v : Values N) (s : MachineState N E) (trees : ℕ → T
     ask-chance want mid e r = only-refused {P = IsOfChance} e r (only-earlier _ _ (no-load-fault _) (λ e is. grind (arith, nat_tests, only-if IsOfChance))) tt
 
     nested-asked : (kind : Kind) (key : ℕ) (blob : Blob) (mid : Core) (e : Error) → w.stored key ≡ Some blob
-        → AskCall w Owner.Caller reading.load (Want.Nested kind key) (Err e) mid → IsOfChance e
+        → LoadFetchCall w Owner.Caller reading.load (Want.Nested kind key) (Err e) mid → IsOfChance e
     nested-asked kind key blob mid e is c = elim c.refused [
       | inl r ↦ ask-chance (Want.Nested kind key) mid e r
       | inr (other, owned, vain) ↦ (grind (arith, nat_tests))
@@ -366,7 +366,7 @@ module _ {N B W : Type 0} (m : Seen N B W) (lawful : IsLawful m.values) (w : Cor
   abbrev Deep : Type 0
   Deep = ReadsTooDeep m.values.types w.stored root_type root_key
 
-  not-asked : (want : Want) (u : Core) → AskCall w me reading.load want (Err Error.TooDeep) u → ⊥
+  not-asked : (want : Want) (u : Core) → LoadFetchCall w me reading.load want (Err Error.TooDeep) u → ⊥
   not-asked want u c = grind (arith, not-refused, only-earlier {P = NotDeep}, only-load, only-if NotDeep)
 
   nested-deep : (u : Core) → RefusesNested m.values.types w me reading Error.TooDeep u → Deep
@@ -399,7 +399,7 @@ module _ {N B W E : Type 0} (m : Seen N B W) (lawful : IsLawful m.values) (s s' 
       → s.pager.core.loads l.0 ≡ Some load
       → IsLoadOfPagedOut s load → reply.ended ≡ Some (LoadAnswer.Refused e) → Cause m.values s.pager.core load x.reading e
   load-cause l reply x load e open_load paged is =
-      let fails = subst (λ a. Does m.values s.pager.core Owner.Caller x.reading a x.frames s'.pager.core) is x.does.does in
+      let fails = subst (λ a. LoadDoes m.values s.pager.core Owner.Caller x.reading a x.frames s'.pager.core) is x.does.does in
       cause m.values s trees on lawful l x.reading load x.at x.may open_load paged s'.pager.core e fails.0
 
   pub load-faultless : (event : Event N B W) (reply : EventReply N B W) → Happens m (world_of s) event reply (world_of s')

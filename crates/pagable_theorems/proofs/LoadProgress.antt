@@ -6,7 +6,7 @@ use Rattle.pagable_pager_spec.specs.Pager.{CallBrings, FrameFits, IsCellOf, IsNe
 use Rattle.pagable_pager_spec.specs.{Pager.{followed-stands, integer-stands, none-stands, number-stands, pair-stands, pattern-stands, reference-stands, text-stands, variant-stands}, Basics.is_pinned_kind}
 use Rattle.{pagable_theorems.proofs.Words.{Among, ArcRef, Blob, Bool, Call, Change, Core, Frame, FramesFit, HandleNumber, HandleRow, HandlesAreWhole, IsLawful}, pagable_pager_spec.specs.Kinds.{is_at, is_pin}}
 use Rattle.pagable_theorems.proofs.Words.{HoldsSettled, IsReference, Kind, List, LoadAnswer, LoadNumber, MachineState, Meaning, None, OpenLoad, Option, OptionalDataKey, Owner, PagerState, Reading, Reply}
-use Rattle.pagable_theorems.proofs.Words.{ReadingFeels, ReadingFits, IsReadableType, ReadsRoot, ReadsTree, Represents, Some, Tree, Types, ValueStands, Values, WellFormed, [], ap, arith, bears_known, held}
+use Rattle.pagable_theorems.proofs.Words.{ReadingFeels, ReadingFits, IsReadableType, ReadsRoot, ReadsTree, PagerStandsFor, Some, Tree, Types, ValueStands, Values, IsPagerWhole, [], ap, arith, bears_known, held}
 use Rattle.pagable_theorems.proofs.Words.{cases_lt, false, first_key, followed, if◌then◌else◌, inl, inr, integer-leads, is_eager, is_pinning, is_some, key_at, length, length-append, nat_tests, next_in}
 use Rattle.pagable_theorems.proofs.Words.{none, nothing_felt, one, pair, pins, reference, references_in, refl, root_frame, row_at, rules, slice_get, slice_get_within, subst, suc, sym, tree, true, zero}
 use Rattle.pagable_theorems.proofs.{FormsOfTrees.{cell-of, given-of, halves, held-of, leads-on, one-node, stands-leads}, Words.{type_of, updated, variant, ℕ, ◌++◌, ◌+◌, ◌<◌, ◌==◌, ◌∙◌, ◌∷◌, ◌≡◌, ◌≤◌, ◌⊎◌}}
@@ -127,8 +127,8 @@ pub stands-here : {N E : Type 0} {v : Values N} {s : PagerState N E} {n : ℕ} {
 stands-here x0 is = grind (arith, nat_tests)
 
 -- each handle that pins gives the tree that its node was made with
-pub pin_stands : {N E : Type 0} {v : Values N} (s : PagerState N E) (trees : ℕ → Tree) (k : HandleNumber) (row : HandleRow) → WellFormed v s
-    → Represents v s trees → row_at s.core k ≡ Some row
+pub pin_stands : {N E : Type 0} {v : Values N} (s : PagerState N E) (trees : ℕ → Tree) (k : HandleNumber) (row : HandleRow) → IsPagerWhole v s
+    → PagerStandsFor v s trees → row_at s.core k ≡ Some row
     → is_pinning row.mode ≡ true → GivesTree v s trees k
 pin_stands {N} s trees k row whole represents live pinning =
     let held_there = row-held s.core k row live in
@@ -188,8 +188,8 @@ going-of s trees readings reading (inr new) = going-new s.pager trees reading ne
 pub was-open : {c : Change} {w w' : Core} → CoreGoes c w w' → (l : ℕ) (load : OpenLoad) → l ≤ w.last.load → w'.loads l ≡ Some load → w.loads l ≡ Some load
 was-open goes l load within is = elim (goes.loads l load is) [ inl was ↦ was | inr (above, begins) ↦ absurd (omega (arith, within, above)) ]
 
-module _ {N E : Type 0} {v : Values N} {s s' : PagerState N E} {trees trees' : ℕ → Tree} (whole : WellFormed v s) (whole' : WellFormed v s')
-    (stands : Represents v s trees) where
+module _ {N E : Type 0} {v : Values N} {s s' : PagerState N E} {trees trees' : ℕ → Tree} (whole : IsPagerWhole v s) (whole' : IsPagerWhole v s')
+    (stands : PagerStandsFor v s trees) where
   module _ (reading : Reading) (load : OpenLoad) where
     -- the blob of the reference that it needs is read
     fit-nested : (frames : List Frame) (kind : Kind) (key : ℕ) (blob : Blob) → need_of v.types frames ≡ needs_nested kind key → s'.core.stored key ≡ Some blob
@@ -333,7 +333,7 @@ value-on lawful last {trees' = trees'} {x = x} {t = t} same few l =
     search (l.typed, l.means)
 
 module _ {N E : Type 0} {v : Values N} {s : PagerState N E} {trees : ℕ → Tree} (lawful : IsLawful v) where
-  module _ (settled : HoldsSettled v s) (well : WellFormed v s) (stands : Represents v s trees) where
+  module _ (settled : HoldsSettled v s) (well : IsPagerWhole v s) (stands : PagerStandsFor v s trees) where
     -- a value whose references are good, and which stands for a tree, leads to it
     pub value-leads : (x : N) (own : Meaning ArcRef) (t : Tree) (owner : _) → v.node_type x ≡ t.type → v.means x own → MeaningStands v s own t.meaning
         → ((r : ArcRef) → Among (v.references x) r → IsReference s.core owner r) → ValueLeads v trees x t
@@ -352,7 +352,7 @@ module _ {N E : Type 0} {v : Values N} {s : PagerState N E} {trees : ℕ → Tre
 abbrev pub AreLive : Core → Meaning ArcRef → Type 0
 AreLive w x = (r : ArcRef) → Among (references_in x) r → 0 < held r.node.0 w.rows
 
-module _ {N E : Type 0} {v : Values N} {s : PagerState N E} {trees : ℕ → Tree} (lawful : IsLawful v) (well : WellFormed v s)
+module _ {N E : Type 0} {v : Values N} {s : PagerState N E} {trees : ℕ → Tree} (lawful : IsLawful v) (well : IsPagerWhole v s)
     (all : (n : ℕ) → 0 < held n s.core.rows → NodeLeads v s trees n) where
   node-by : (n : ℕ) (o : Option N) → s.values n ≡ o → 0 < held n s.core.rows
       → ((own : Meaning ArcRef) → LeadsTo trees own (trees n).meaning → AreLive s.core own → MeaningStands v s own (trees n).meaning)
@@ -384,7 +384,7 @@ module _ {N E : Type 0} {v : Values N} {s : PagerState N E} {trees : ℕ → Tre
   stand m l e h = first_of (search (integer-stands, text-stands, pattern-stands, none-stands), cc)
 
 module _ {N E : Type 0} {v : Values N} {c : Change} {comes : ℕ → N → Type 0} {s s' : PagerState N E} {trees trees' : ℕ → Tree} (lawful : IsLawful v)
-    (settled : HoldsSettled v s) (well : WellFormed v s) (well' : WellFormed v s') (stands : Represents v s trees) (moves : Moves comes s s')
+    (settled : HoldsSettled v s) (well : IsPagerWhole v s) (well' : IsPagerWhole v s') (stands : PagerStandsFor v s trees) (moves : Moves comes s s')
     (goes : CoreGoes c s.core s'.core)
     (fits : ChangeFits v c comes s s' trees trees') where
   moved-tree : (n : ℕ) {key : ℕ} → n ≤ s.core.last.node → ReadsTree s'.core.stored v.types key (trees n) → ReadsTree s'.core.stored v.types key (trees' n)
@@ -407,7 +407,7 @@ module _ {N E : Type 0} {v : Values N} {c : Change} {comes : ℕ → N → Type 
   leads-again : (n : ℕ) → 0 < held n s'.core.rows → NodeLeads v s' trees' n
   leads-again n live = search (rules, cell-of, cases_lt, keyed-old, old-node goes, new-node goes well.whole.handles, arith, nat_tests, moved-value)
 
-  pub trees-go-on : Represents v s' trees'
+  pub trees-go-on : PagerStandsFor v s' trees'
   trees-go-on = record {
     stands = λ n live. node-by lawful well' leads-again n _ refl live (λ z l k. stand lawful well' leads-again (trees' n).meaning l refl k);
     typed = λ n live. grind (arith, nat_tests, old-node goes, new-node goes well.whole.handles);
@@ -433,9 +433,9 @@ with-below last t trees n within = let e : (n == last + 1) ≡ false = grind (ar
 pub first-of : (b : Bool) (key k : ℕ) → (if b then OptionalDataKey.Some key else OptionalDataKey.None) ≡ OptionalDataKey.Some k → k ≡ key
 first-of x0 key k e = grind (arith, nat_tests)
 
-module _ {N E : Type 0} {v : Values N} {s s' : PagerState N E} {trees : ℕ → Tree} (lawful : IsLawful v) (settled : HoldsSettled v s) (well : WellFormed v s)
-    (well' : WellFormed v s')
-    (stands : Represents v s trees) where
+module _ {N E : Type 0} {v : Values N} {s s' : PagerState N E} {trees : ℕ → Tree} (lawful : IsLawful v) (settled : HoldsSettled v s) (well : IsPagerWhole v s)
+    (well' : IsPagerWhole v s')
+    (stands : PagerStandsFor v s trees) where
   abbrev last : ℕ
   last = s.core.last.node
 
@@ -491,7 +491,7 @@ module _ {N E : Type 0} {v : Values N} {s s' : PagerState N E} {trees : ℕ → 
         (λ n x brings unset is. absurd (none-comes n x goes unset is (stays n x brings))),
   )
   call-fits c call reply goes asked (feels-birth x brought good) =
-      let some = lawful.some x in
+      let some = lawful.has_meaning x in
       let l = led {trees = trees} some.0 (λ r among. let is = (good r (own-refs lawful x some.0 some.1 r among)).typed in
       same_some _ _ (sym (stands.typed r.node.0 (given-of well.whole.handles r.node.0 is).0) ∙ is)) in
       let born : (t : Tree) × (t.type ≡ v.node_type x) × ValueLeads v trees x t =

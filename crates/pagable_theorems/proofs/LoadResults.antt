@@ -7,23 +7,23 @@ use Rattle.pagable_theorems.proofs.{Decoding.{among-left, among-right}, FormsOfT
 use Rattle.pagable_theorems.proofs.{ReadingSteps.{caller-free, reading-feels}, StepBounds.{hands, read-right}, SlotsGrow.{AllStand, AllWait, Covers, Goes as ShelfGoes, HasNoFailed, first-stands, grows}}
 use Rattle.pagable_theorems.proofs.{SlotsGrow.{some-none, some-same}, TablesKept.{all-known, all-low, done-on, keys-same, stands-for}, LoadProgress.{Going, fits-nothing, given-nodes, going-new, going-step}}
 use Rattle.pagable_theorems.proofs.{LoadProgress.{reading-fits, row-held, stands-here, trees-go-on, was-open}, Trees.{same-number, same_some, steps_follow}, Words.{Alike, ArcRef, Blob, Bool, Claim, Core, Ok}}
-use Rattle.pagable_theorems.proofs.Words.{Does, HandleRow, Event, EventReply, Frame, FramesFit, HandleNumber, Happens, HoldsSettled, Identity, IsLawful, IsMachineWhole, IsPublished, Last, List, LoadAnswer, Mode, ℕ}
-use Rattle.pagable_theorems.proofs.Words.{LoadNumber, MachineState, None, OpenLoad, Option, OptionalDataKey, Owner, PagerState, Reading, ReadingFeels, Represents, Seen, Shelf, Site, Slot}
-use Rattle.pagable_theorems.proofs.Words.{Some, Task, Todo, Action, Tree, Values, Walking, WellFormed, WorkFits, WorkerAnswer, WorkerNumber, WorkerReply, WorkerSteps, Written, [], answer_after, ap, arith}
+use Rattle.pagable_theorems.proofs.Words.{WorkDoes, HandleRow, Event, EventReply, Frame, FramesFit, HandleNumber, Happens, HoldsSettled, Identity, IsLawful, IsMachineWhole, IsPublished, Last, List, LoadAnswer, Mode, ℕ}
+use Rattle.pagable_theorems.proofs.Words.{LoadNumber, MachineState, None, OpenLoad, Option, OptionalDataKey, Owner, PagerState, Reading, ReadingFeels, PagerStandsFor, Seen, Shelf, WorkerState, Slot}
+use Rattle.pagable_theorems.proofs.Words.{Some, Task, Todo, Action, Tree, Values, Walking, IsPagerWhole, WorkFits, WorkerAnswer, WorkerNumber, WorkerReply, WorkerSteps, Written, [], answer_after, ap, arith}
 use Rattle.pagable_theorems.proofs.Words.{append_assoc, cases_Bool, false, give, held, identity_of, if_there, inl, inr, is_some, key_at, nat_eq, nat_tests, no_result, nothing_felt, of_cell, of_entry}
 use Rattle.pagable_theorems.proofs.Words.{of_item, one, refl, subst, sum_by-cons, sym, times, to_fail, to_finish, to_item, to_load, to_pin, to_release, to_set, to_start, to_write, true, with_handle, ◌+◌}
 use Rattle.pagable_theorems.{proofs.Words.{world_of, ◌&&◌, ◌++◌, ◌==◌, ◌∙◌, ◌∷◌, ◌≡◌, ◌≤◌}, specs.TreeSteps.{AllHold, Ground, RowsGo, HasHandle, IsDone, KeyIsSet, KeysHeld, Waits, Walks, ground_of}}
 use Rattle.{pagable_value_spec.specs.Merkle.KeyOfItem, pagable_pager_spec.specs.Access.{AccessState, AllHaveResults, KeyStarts, LoadAsksWell, LoadRun, LoadStarts, PinLaw, ReadLaw, ReadingStep, WalkStep, WorkerRun, load-ends}}
 use Rattle.pagable_pager_spec.specs.{Access.{load-goes-on, worker-ends, worker-goes-on}, Rightness.{AnswerIsKey, AnswerLeavesAll, AreKeysOf, FailedElsewhere, IsKeyOfTask, IsMetFailure}}
-use Rattle.pagable_pager_spec.specs.{Rightness.{LeavesAll, Meets, PublishIsKey, ReadIsRight, meets-below, meets-entry, meets-of-item}, Kinds.has_key, LoadCalls.with_load, Loads.{Does as LoadDoes, gone_on}}
+use Rattle.pagable_pager_spec.specs.{Rightness.{LeavesAll, Meets, PublishIsKey, ReadIsRight, meets-below, meets-entry, meets-of-item}, Kinds.has_key, LoadCalls.with_load, Loads.{LoadDoes, gone_on}}
 use Rattle.pagable_pager_spec.specs.{Order.{Follows, Leads, is_claim_of, is_later_of}, Pager.{Moves, SameTrees, StandsFor, kids_of}, Basics.{is_loose_kind, longest_path}, Runs.TakesWell, Workers.fresh}
 use Rattle.{pagable_pager_spec.specs.{Workers.{first_todo, is_open_outcome, next_start}, World.{Fault, Root, is_identity, of_key, to_publish}}, std.{proofs.Math.Nat.zero-add, specs.Prelude.nat_le}}
 
 -- the pager stands for trees, and what the load has read fits them
 record Under {N E : Type 0} (v : Values N) (s : PagerState N E) (trees : ℕ → Tree) (key : ℕ) (reading : Reading) : Type 0 where
   pub settled : HoldsSettled v s
-  pub well : WellFormed v s
-  pub stands : Represents v s trees
+  pub well : IsPagerWhole v s
+  pub stands : PagerStandsFor v s trees
   pub going : Going v s trees reading
   pub keyed : (load : OpenLoad) → s.core.loads reading.load.0 ≡ Some load → load.key ≡ key
 
@@ -31,7 +31,7 @@ record Under {N E : Type 0} (v : Values N) (s : PagerState N E) (trees : ℕ →
 pub record After {N E : Type 0} (v : Values N) (s : PagerState N E) (trees : ℕ → Tree) (s' : PagerState N E) (trees' : ℕ → Tree) : Type 0 where
   pub same : SameTrees s.core.last.node trees trees'
   pub nodes : s.core.last.node ≤ s'.core.last.node
-  pub stands : Represents v s' trees'
+  pub stands : PagerStandsFor v s' trees'
   pub handles : s.core.last.handle ≤ s'.core.last.handle
   pub rows : RowsGo s.core.last.handle s.core.rows s'.core.rows
 
@@ -106,8 +106,8 @@ module _ {N E : Type 0} {v : Values N} (lawful : IsLawful v) where
       let rest = comes more asks.2 a.trees' key (a.still refl) in
       record { trees' = rest.trees'; after = after-then a.after rest.after; still = λ none. absurd (cc); right = rest.right }
 
-  module _ (s mid : PagerState N E) (trees : ℕ → Tree) (well : WellFormed v s) (settled : HoldsSettled v s) (stands : Represents v s trees)
-      (does : Goes nothing_felt s.core mid.core) (moves : Moves (λ n x. ⊥) s mid) (whole : WellFormed v mid) where
+  module _ (s mid : PagerState N E) (trees : ℕ → Tree) (well : IsPagerWhole v s) (settled : HoldsSettled v s) (stands : PagerStandsFor v s trees)
+      (does : Goes nothing_felt s.core mid.core) (moves : Moves (λ n x. ⊥) s mid) (whole : IsPagerWhole v mid) where
     begun : After v s trees mid trees
     begun = search (
       does.nodes,
@@ -127,8 +127,8 @@ module _ {N E : Type 0} {v : Values N} (lawful : IsLawful v) where
 
 -- a load of a cell by one call keeps trees
 pub pin-after : {N E : Type 0} (v : Values N) (s mid s' : PagerState N E) (h : HandleNumber) (reading : Reading) (answer : LoadAnswer N)
-    (run : LoadRun v Owner.Caller reading mid answer s') → WellFormed v s
-    → LoadStarts v s h reading mid → LoadAsksWell run → IsLawful v → HoldsSettled v s → (trees : ℕ → Tree) → Represents v s trees
+    (run : LoadRun v Owner.Caller reading mid answer s') → IsPagerWhole v s
+    → LoadStarts v s h reading mid → LoadAsksWell run → IsLawful v → HoldsSettled v s → (trees : ℕ → Tree) → PagerStandsFor v s trees
     → (trees' : ℕ → Tree) × After v s trees s' trees'
 pin-after v s mid s' h reading answer run well starts asks lawful settled trees stands =
     let c = starts.begins in let b = c.step.begins.2 in
@@ -141,8 +141,8 @@ pin-after v s mid s' h reading answer run well starts asks lawful settled trees 
 
 -- so does a load of a key, and a value that it reads stands for the tree that the key reads as
 pub read-after : {N E : Type 0} (v : Values N) (s mid s' : PagerState N E) (key t : ℕ) (l : LoadNumber) (answer : LoadAnswer N)
-    (run : LoadRun v Owner.Caller (fresh l t) mid answer s') → WellFormed v s
-    → KeyStarts v s key l mid → LoadAsksWell run → IsLawful v → HoldsSettled v s → (trees : ℕ → Tree) → Represents v s trees
+    (run : LoadRun v Owner.Caller (fresh l t) mid answer s') → IsPagerWhole v s
+    → KeyStarts v s key l mid → LoadAsksWell run → IsLawful v → HoldsSettled v s → (trees : ℕ → Tree) → PagerStandsFor v s trees
     → (trees' : ℕ → Tree) × After v s trees s' trees' × ((x : N) → answer ≡ LoadAnswer.Read x → ReadIsRight v s' key x)
 read-after v s mid s' key t l answer run well starts asks lawful settled trees stands =
     let b = starts.step.begins in
@@ -259,9 +259,9 @@ module _ (k : ℕ) (i : Identity) where
         → times (is_later_of k i) steps ≤ 1
     at-once x0 steps last leads few = grind (arith, nat_tests, started, bounded, along, zero-add, entry)
 
-module _ {N B W : Type 0} (m : Seen N B W) (n : ℕ) (g : Ground) (task : Task) (s s' : Site) where
+module _ {N B W : Type 0} (m : Seen N B W) (n : ℕ) (g : Ground) (task : Task) (s s' : WorkerState) where
   -- what the answer of a key comes from
-  pub answered : (todo : List Todo) (step : Action W) → Does m n s todo step s' → Walks m.values g s.shelf task todo → (key : ℕ) → answer_after todo step
+  pub answered : (todo : List Todo) (step : Action W) → WorkDoes m n s todo step s' → Walks m.values g s.shelf task todo → (key : ℕ) → answer_after todo step
       ≡ Some (WorkerAnswer.Key key)
       → IsDone m.values s.shelf task key × ((i : Identity) → s'.shelf.slots i ≡ s.shelf.slots i)
   unfolding Waits
@@ -304,8 +304,8 @@ key-known w n set live = elim (key_at w n) as (λ own. has_key own ≡ true → 
     [ OptionalDataKey.Some key ↦ λ is. (key, refl) | OptionalDataKey.None ↦ λ is. absurd (cc) ] (let keyed = set.keyed in grind (arith, nat_tests, if_there))
 
 -- a cell whose key is published has one by then
-set-by-then : {N B W : Type 0} (m : Seen N B W) (n : ℕ) (s s' : Site) (todo : List Todo) (i : Identity) (key height : ℕ)
-    → Does m n s todo (Action.Publish i key height) s' → AllHold s.core n todo
+set-by-then : {N B W : Type 0} (m : Seen N B W) (n : ℕ) (s s' : WorkerState) (todo : List Todo) (i : Identity) (key height : ℕ)
+    → WorkDoes m n s todo (Action.Publish i key height) s' → AllHold s.core n todo
     → ((k : ℕ) → HasHandle s.core n k → is_some (s.core.cells k) ≡ true) → is_loose_kind i.kind.0 ≡ true → (set : ℕ)
     × (key_at s.core i.node.0 ≡ OptionalDataKey.Some set)
 set-by-then m n s s' (to_publish r k h ∷ below) i key height does all live kind =
@@ -349,7 +349,7 @@ module _ {N B W E : Type 0} (m : Seen N B W) (s s' : MachineState N E) (trees tr
   keys-right (Event.WorkerStep n) (EventReply.WorkerMoved (Ok reply)) is =
       let w = is.moves in (
         λ i key height e.
-            let does = subst (λ (k : Action W). Does m n.0 (site_of (world_of s) w.walking) w.walking.todo k w.after) e w.does.does in
+            let does = subst (λ (k : Action W). WorkDoes m n.0 (site_of (world_of s) w.walking) w.walking.todo k w.after) e w.does.does in
             let set = set-by-then m n.0 (site_of (world_of s) w.walking) w.after w.walking.todo i key height does (held_before.walks n.0 w.walking w.at) (λ k h.
             subst (λ k. is_some (s.pager.core.cells k) ≡ true) h.at (cell-of earlier.pager.whole.handles h.row.node.0 (row-held s.pager.core h.h h.row h.live)))
             in (grind (arith, nat_tests), set),
@@ -386,12 +386,12 @@ module _ {N E B W : Type 0} (m : Seen N B W) (n : ℕ) (task : Task) (C : Type 0
       )
   at-answer (worker-goes-on todo next step steps answer s mid s' w is more) past all covers met =
       let g = went w all covers in let grown = grows n s.shelf mid.shelf g.changes in
-      let site : Site = record { core = s.pager.core; shelf = s.shelf; todo = todo } in
+      let site : WorkerState = record { core = s.pager.core; shelf = s.shelf; todo = todo } in
       let on : C → HasNoFailed mid.shelf n × FailsMet n mid.shelf (past ++ step ∷ []) next = λ c.
       let (clean, fails) = met c in
       let already : (i : Identity) → step ≡ Action.Claim i (Ok Claim.AlreadyFailed) → FailedElsewhere mid.shelf n i =
       λ i is. failed-stays n s.shelf mid.shelf i grown (failed-elsewhere m n site w.after todo i
-      (subst (λ (x : Action W). Does m n site todo x w.after) is w.does.does) clean) in
+      (subst (λ (x : Action W). WorkDoes m n site todo x w.after) is w.does.does) clean) in
       let follows = follows-met n mid.shelf (past ++ step ∷ []) m.written_of todo step w.after.todo (steps_follow m n site w.after step w.does)
       (among-right past (step ∷ []) 0 step refl) already
       (fails-stay n s.shelf mid.shelf past _ todo grown (λ x (i, at). among-left past (step ∷ []) i x at) fails) in

@@ -40,13 +40,15 @@ module _ {A : Type 0} {kind_of : A → ℕ} {parts : ℕ → Shape} (nodes : ℕ
           let p = each_split P k l h in pair-along _ _ _ _ (form-refs f (lower nodes (λ n d l. l.0) t) p.0) (form-refs g (lower nodes (λ n d l. l.1) t) p.1)
       form-refs (sorted-map-form left o s s2 es b k l up f) t h = entries-two
           (entries_form-refs f (lower nodes (λ n d l. l.0) t) (lower nodes (λ n d l. l.1) t) h)
-      form-refs (placed-map-form left s s2 es b k l up f) t h = entries-two (entries_form-refs f (lower nodes (λ n d l. l.0) t) (lower nodes (λ n d l. l.1) t) h)
+      form-refs (placed-map-form left s s2 es b k l up f) t h = entries-two
+          (entries_form-refs f (lower nodes (λ n d l. l.0) t) (lower nodes (λ n d l. l.1) t) h)
       form-refs (hash-map-form left s s2 es b k l up f) t h = sorted-two code_order
           (entries_form-refs f (lower nodes (λ n d l. l.0) t) (lower nodes (λ n d l. l.1) t) h)
       form-refs (sorted-set-form left o s ms b k l up f) t h = sequence-two (forms-refs f (lower nodes (λ n d l. l) t) h)
       form-refs (placed-set-form left s ms b k l up f) t h = sequence-two (forms-refs f (lower nodes (λ n d l. l) t) h)
       form-refs (static-form left registry i m l e) t h = lifted-along m (inl tt)
-      form-refs (tagged-form left written known body tag m b k u l f) t h = pair-along _ _ _ _ (text-along tag) (form-refs f (lower nodes (λ n d l. l.0 tag) t) h)
+      form-refs (tagged-form left written known body tag m b k u l f) t h =
+          pair-along _ _ _ _ (text-along tag) (form-refs f (lower nodes (λ n d l. l.0 tag) t) h)
       form-refs (case-form left w known part n m b k l is f) t h = variant-along _ _ _ (form-refs f (lower nodes (λ nodes d l. l n is) t) h)
       form-refs (reference-form left kind a e) t h = reference-along a a (both a (let here_is = here t in rw e here_is) h.0)
       form-refs (nested-form left less n m b k e f) t h = form-refs f (part_of t) h

@@ -1,11 +1,11 @@
 -- The steps of whole operations on a pager on which nobody else works are moments of a machine: so what holds of chains holds of them.
 use Rattle.pagable_theorems.proofs.{LoadResults.{After, after-then, rows-stay}, Chains.{IsGoingOn, goes, idle-goes}, HandlesKept.updated-at, CallEffects.calls-go, ReadingSteps.{caller-free, event-goes, walk-goes}, Trees.{same-number, same_some}}
 use Rattle.pagable_theorems.proofs.Words.{Alike, Bool, Call, Core, Event, EventReply, HandleNumber, HandleRow, Happens, HoldsSettled, IsLawful, IsMachineWhole, IsWellAsked, KeepsOpen, List, MachineState, Moment, None, Ok, OpenLoad, Option, Owner}
-use Rattle.pagable_theorems.proofs.Words.{PagerState, Reading, Reply, Represents, Result, Seen, Shelf, Site, Some, Task, Todo, Action, Tree, Values, WalkDoes, Walking, WellFormed, WorkerAnswer, WorkerReply}
+use Rattle.pagable_theorems.proofs.Words.{PagerState, Reading, Reply, PagerStandsFor, Result, Seen, Shelf, WorkerState, Some, Task, Todo, Action, Tree, Values, WalkDoes, Walking, IsPagerWhole, WorkerAnswer, WorkerReply}
 use Rattle.pagable_theorems.proofs.Words.{answer_after, ap, arith, cases_Bool, false, if_there, inl, inr, length, nat_tests, of_item, refl, rules, subst, sym, true, updated, world_of}
 use Rattle.pagable_theorems.{proofs.Words.{ℕ, ◌+◌, ◌<◌, ◌==◌, ◌∙◌, ◌≡◌, ◌≤◌}, specs.{CallerLaws.{CallIsRight, IsCall}, SmallWorlds.no_work, PageOutLaws.{EachIsPagedOut, EntryAsksWell, EntryIsPagedOut, ItemAsksWell, ItemLaw, LeavesPagedOut, ListAsksWell, ListLaw, NobodyWorks, WorkerAsksWell}}}
-use Rattle.pagable_pager_spec.specs.{Access.{AccessState, Called, EntryRun, ItemRun, ListRun, WalkStep, WorkerRun, WorkerStarts, entry-is-refused, entry-is-walked, fails, item-is-walked, no-entry-worker, no-more, no-worker, pages, skips, worker-ends, worker-goes-on}, Events.{CallStep, Ends, IsEntry, Starts, entry_task, no_shelf, steps_after, with_entry_taken, with_worker}}
-use Rattle.pagable_pager_spec.specs.{Rightness.{IsRight, LeavesAll, PinGives}, Kinds.HasKinds, Pager.{CallBrings, Moves, ReplyWrites}, Runs.{AsksWell, Does as DoesMoment, IsPremised, TodoAsksWell}, Workers.{first_todo, is_counted}, World.{SameShelf, Work}}
+use Rattle.pagable_pager_spec.specs.{Access.{AccessState, MakesCall, EntryRun, ItemRun, ListRun, WalkStep, WorkerRun, WorkerStarts, entry-is-refused, entry-is-walked, fails, item-is-walked, no-entry-worker, no-more, no-worker, pages, skips, worker-ends, worker-goes-on}, Events.{Ends, IsEntry, Starts, entry_task, no_shelf, steps_after, with_entry_taken, with_worker}}
+use Rattle.pagable_pager_spec.specs.{Rightness.{IsRight, LeavesAll, PinGives}, Kinds.HasKinds, Pager.{CallBrings, Moves, ReplyWrites}, Runs.{AsksWell, EventDoes, IsPremised, TodoAsksWell}, Workers.{first_todo, is_counted}, World.{SameShelf, Work}}
 use Rattle.std.specs.Prelude.{is_none}
 
 -- this worker alone is at work, or nobody
@@ -71,16 +71,16 @@ module _ {N E B W : Type 0} (m : Seen N B W) where
   abbrev pub at-rest : PagerState N E → Work → MachineState N E
   at-rest s work = record { pager = s; work = work }
 
-  pub rest-whole : (s : PagerState N E) (work : Work) → IsAtRest work → WellFormed m.values s → NobodyWorks s.core → IsMachineWhole m.values (at-rest s work)
+  pub rest-whole : (s : PagerState N E) (work : Work) → IsAtRest work → IsPagerWhole m.values s → NobodyWorks s.core → IsMachineWhole m.values (at-rest s work)
   rest-whole s work rests well nobody = record {
     pager = well;
     readings = λ l reading is. absurd (let e = rests.unread l in cc);
     walkings = λ q w is. let r = rests.answered q w is in record { table = (r.1, r.2); at_work = nobody q ∙ sym r.0 };
-    all_there = λ q is. absurd (let e = nobody q in cc);
+    each_walks = λ q is. absurd (let e = nobody q in cc);
   }
 
-  pub table-made : (s : PagerState N E) (work : Work) (shelf : Shelf) → IsAtRest work → WellFormed m.values s → NobodyWorks s.core → SameShelf no_shelf shelf
-      → DoesMoment m (at-rest s work) Event.TableNew (EventReply.TableMade (Ok (record { 0 = work.last_table + 1 }))) (at-rest s (with-table work shelf))
+  pub table-made : (s : PagerState N E) (work : Work) (shelf : Shelf) → IsAtRest work → IsPagerWhole m.values s → NobodyWorks s.core → SameShelf no_shelf shelf
+      → EventDoes m (at-rest s work) Event.TableNew (EventReply.TableMade (Ok (record { 0 = work.last_table + 1 }))) (at-rest s (with-table work shelf))
   table-made s work shelf rests well nobody new = record {
     step = record {
       happens = record {
@@ -107,7 +107,7 @@ module _ {N E B W : Type 0} (m : Seen N B W) where
     abbrev pub at-work : AccessState N E → List Todo → ℕ → Option WorkerAnswer → MachineState N E
     at-work s todo count answer = record { pager = s.pager; work = with-worker-at base n t s.shelf (walking-on t task todo count answer) }
 
-    is-whole : (s : AccessState N E) (todo : List Todo) (count : ℕ) (answer : Option WorkerAnswer) → WellFormed m.values s.pager
+    is-whole : (s : AccessState N E) (todo : List Todo) (count : ℕ) (answer : Option WorkerAnswer) → IsPagerWhole m.values s.pager
         → WorksAlone s.pager.core n (is_none answer)
         → IsMachineWhole m.values (at-work s todo count answer)
     is-whole s todo count answer well alone = record {
@@ -122,7 +122,7 @@ module _ {N E B W : Type 0} (m : Seen N B W) where
             }
         | inr e ↦ let r = rests.answered q w (rw (e) at is) in record { table = (r.1, r.2); at_work = alone.others q e ∙ sym r.0 }
       ];
-      all_there = λ q is. elim (cases_Bool (q == n)) [ inl e ↦ rw (e) refl | inr e ↦ absurd (let f = alone.others q e in cc) ];
+      each_walks = λ q is. elim (cases_Bool (q == n)) [ inl e ↦ rw (e) refl | inr e ↦ absurd (let f = alone.others q e in cc) ];
     }
 
     -- a worker begins, for an item or for an entry of the list
@@ -148,7 +148,7 @@ module _ {N E B W : Type 0} (m : Seen N B W) where
         → WorkerStarts m.values core s.pager n mid → NobodyWorks core → core.last.worker ≡ s.pager.core.last.worker
         → Happens m (world_of (at-rest s.pager base)) event reply (world_of (at-work (record { pager = mid; shelf = s.shelf }) (first_todo task) 0 None))
         → ReplyWrites m s.pager reply
-        → DoesMoment m (at-rest s.pager base) event reply (at-work (record { pager = mid; shelf = s.shelf }) (first_todo task) 0 None)
+        → EventDoes m (at-rest s.pager base) event reply (at-work (record { pager = mid; shelf = s.shelf }) (first_todo task) 0 None)
     began core s mid event reply starts nobody last happens writes =
         let c = starts.begins in
         record {
@@ -161,7 +161,7 @@ module _ {N E B W : Type 0} (m : Seen N B W) where
 
     pub item-began : (item : W) (s : AccessState N E) (mid : PagerState N E) → task ≡ of_item (m.written_of item) → base.shelves t ≡ s.shelf
         → WorkerStarts m.values s.pager.core s.pager n mid → NobodyWorks s.pager.core
-        → DoesMoment m (at-rest s.pager base) (Event.WorkerItem (record { 0 = t }) item) (EventReply.WorkerMade (Ok (record { 0 = n })))
+        → EventDoes m (at-rest s.pager base) (Event.WorkerItem (record { 0 = t }) item) (EventReply.WorkerMade (Ok (record { 0 = n })))
         (at-work (record { pager = mid; shelf = s.shelf }) (first_todo task) 0 None)
     item-began item s mid is on starts nobody = began s.pager.core s mid (Event.WorkerItem (record { 0 = t }) item)
         (EventReply.WorkerMade (Ok (record { 0 = n }))) starts nobody refl (record {
@@ -174,7 +174,7 @@ module _ {N E B W : Type 0} (m : Seen N B W) where
     pub entry-began : (place : ℕ) (h : HandleNumber) (row : HandleRow) (type : ℕ) (s : AccessState N E) (mid : PagerState N E) → task ≡ entry_task h row type
         → base.shelves t ≡ s.shelf → IsEntry s.pager.core place h row type → HasKinds type
         → WorkerStarts m.values (with_entry_taken s.pager.core place h (record { 0 = n })) s.pager n mid → NobodyWorks s.pager.core
-        → DoesMoment m (at-rest s.pager base) (Event.WorkerListed (record { 0 = t }) place) (EventReply.WorkerMade (Ok (record { 0 = n })))
+        → EventDoes m (at-rest s.pager base) (Event.WorkerListed (record { 0 = t }) place) (EventReply.WorkerMade (Ok (record { 0 = n })))
         (at-work (record { pager = mid; shelf = s.shelf }) (first_todo task) 0 None)
     entry-began place h row type s mid is on entry kinds starts nobody =
         let core = with_entry_taken s.pager.core place h (record { 0 = n }) in
@@ -194,12 +194,12 @@ module _ {N E B W : Type 0} (m : Seen N B W) where
     -- and makes a step
     pub moved : (s s' : AccessState N E) (todo next : List Todo) (count : ℕ) (step : Action W) → WalkStep m n todo s step next s'
         → WorksAlone s.pager.core n true
-        → DoesMoment m (at-work s todo count None) (Event.WorkerStep (record { 0 = n })) (EventReply.WorkerMoved (Ok (reply-of todo count step)))
+        → EventDoes m (at-work s todo count None) (Event.WorkerStep (record { 0 = n })) (EventReply.WorkerMoved (Ok (reply-of todo count step)))
         (at-work s' next (steps_after count (is_counted todo step)) (answer_after todo step))
         × WorksAlone s'.pager.core n (is_none (answer_after todo step))
     moved s s' todo next count step w alone =
         let now : Walking = walking-on t task todo count None in
-        let site : Site = record { core = s.pager.core; shelf = s.shelf; todo = todo } in
+        let site : WorkerState = record { core = s.pager.core; shelf = s.shelf; todo = todo } in
         let felt = walk-goes m n site w.after todo step w.does.does in
         let mid : WorksAlone w.after.core n true = record { self = felt.does.workers n ∙ alone.self; others = λ q e. felt.does.workers q ∙ alone.others q e } in
         let alone' = ends-workers (answer_after todo step) n w.after.core s'.pager.core w.ends mid in
@@ -249,7 +249,7 @@ pub record Ended {N E : Type 0} (v : Values N) (s : PagerState N E) (trees : ℕ
     (s' : AccessState N E) : Type 0 where
   pub trees' : ℕ → Tree
   pub after : After v s trees s'.pager trees'
-  pub well : WellFormed v s'.pager
+  pub well : IsPagerWhole v s'.pager
   pub settled : HoldsSettled v s'.pager
   pub nobody : NobodyWorks s'.pager.core
   pub out : (key : ℕ) → answer ≡ WorkerAnswer.Key key → LeavesPagedOut v s'.pager s'.shelf trees' task key
@@ -266,7 +266,7 @@ module _ {N E B W : Type 0} (m : Seen N B W) (lawful : IsLawful m.values) where
     pub right : IsRight m.values a trees x.event x.reply x.after trees'
     pub going : IsGoingOn m.values x.after trees'
 
-  comes : (a : MachineState N E) (trees : ℕ → Tree) (x : Moment N E B W) → IsGoingOn m.values a trees → DoesMoment m a x.event x.reply x.after
+  comes : (a : MachineState N E) (trees : ℕ → Tree) (x : Moment N E B W) → IsGoingOn m.values a trees → EventDoes m a x.event x.reply x.after
       → IsPremised m.values a trees x.event x.reply x.after → Came a trees x
   comes a trees x on does premised =
       let g = goes m lawful a trees x on does premised in
@@ -345,16 +345,16 @@ module _ {N E B W : Type 0} (m : Seen N B W) (lawful : IsLawful m.values) where
 nobody-yet : IsAtRest no_work
 nobody-yet = record { unread = λ l. refl; answered = λ q w is. absurd (cc) }
 
-module _ {N E B W : Type 0} (m : Seen N B W) (lawful : IsLawful m.values) (s : PagerState N E) (well : WellFormed m.values s) (nobody : NobodyWorks s.core)
-    (settled : HoldsSettled m.values s) (trees : ℕ → Tree) (stands : Represents m.values s trees) where
+module _ {N E B W : Type 0} (m : Seen N B W) (lawful : IsLawful m.values) (s : PagerState N E) (well : IsPagerWhole m.values s) (nobody : NobodyWorks s.core)
+    (settled : HoldsSettled m.values s) (trees : ℕ → Tree) (stands : PagerStandsFor m.values s trees) where
   starting : IsGoingOn m.values (at-rest m s no_work) trees
   starting = idle-goes m lawful (at-rest m s no_work) trees (rest-whole m s no_work nobody-yet well nobody)
       (record { no_table = refl; shelves = λ t i. refl; waits = λ t v. refl; readings = λ l. refl; walkings = λ v. refl; nobody = nobody }) settled
       (record { pager = stands; readings = λ reading is. absurd (grind (arith, nat_tests)) })
 
-module _ {N E B W : Type 0} (m : Seen N B W) (lawful : IsLawful m.values) (s : AccessState N E) (well : WellFormed m.values s.pager)
+module _ {N E B W : Type 0} (m : Seen N B W) (lawful : IsLawful m.values) (s : AccessState N E) (well : IsPagerWhole m.values s.pager)
     (nobody : NobodyWorks s.pager.core)
-    (new : SameShelf no_shelf s.shelf) (settled : HoldsSettled m.values s.pager) (trees : ℕ → Tree) (stands : Represents m.values s.pager trees) where
+    (new : SameShelf no_shelf s.shelf) (settled : HoldsSettled m.values s.pager) (trees : ℕ → Tree) (stands : PagerStandsFor m.values s.pager trees) where
   abbrev tabled : Work
   tabled = with-table no_work s.shelf
 
@@ -374,7 +374,7 @@ module _ {N E B W : Type 0} (m : Seen N B W) (lawful : IsLawful m.values) (s : A
   -- what the worker's run on it leaves
   on-new : (n : ℕ) (task : Task) (core : Core) (mid : PagerState N E) (s' : AccessState N E) (steps : List (Action W)) (answer : WorkerAnswer)
       (event : Event N B W)
-      → DoesMoment m (at-rest m s.pager tabled) event (EventReply.WorkerMade (Ok (record { 0 = n })))
+      → EventDoes m (at-rest m s.pager tabled) event (EventReply.WorkerMade (Ok (record { 0 = n })))
       (at-work m tabled tabled-rests n 1 (omega arith, omega arith) task (record { pager = mid; shelf = s.shelf }) (first_todo task) 0 None)
       → KeepsOpen event → IsWellAsked m.values (at-rest m s.pager tabled) with-a-table.trees' event (EventReply.WorkerMade (Ok (record { 0 = n })))
       → WorkerStarts m.values core s.pager n mid → NobodyWorks core → core.last.worker ≡ s.pager.core.last.worker
@@ -421,7 +421,7 @@ module _ {N E B W : Type 0} (m : Seen N B W) where
       ∙ nobody q
 
   pub called : (s s' : PagerState N E) (work : Work) (call : Call N B) (reply : Reply N B) → IsAtRest work → IsCall m s call reply s' → NobodyWorks s'.core
-      → DoesMoment m (at-rest m s work) (Event.Call call) (EventReply.CallReply reply) (at-rest m s' work)
+      → EventDoes m (at-rest m s work) (Event.Call call) (EventReply.CallReply reply) (at-rest m s' work)
   called s s' work call reply rests c nobody = record {
     step = record {
       happens = record {
@@ -440,10 +440,10 @@ module _ {N E B W : Type 0} (m : Seen N B W) where
 
 -- where the pager stands for trees, with all that is asked of it
 pub record Stands {N E : Type 0} (v : Values N) (s : PagerState N E) (trees : ℕ → Tree) : Type 0 where
-  pub well : WellFormed v s
+  pub well : IsPagerWhole v s
   pub nobody : NobodyWorks s.core
   pub settled : HoldsSettled v s
-  pub stands : Represents v s trees
+  pub stands : PagerStandsFor v s trees
 
 -- afterwards, with the trees that there are then
 pub record Stays {N E : Type 0} (v : Values N) (s : PagerState N E) (trees : ℕ → Tree) (s' : PagerState N E) : Type 0 where
@@ -467,7 +467,7 @@ module _ {N E B W : Type 0} (m : Seen N B W) (lawful : IsLawful m.values) where
         call-right W m.values (at-rest m s no_work) (at-rest m s' no_work) trees g.trees' call reply g.right.pins_give,
       )
 
-  pub still-settled : {does : Core → Type 0} {s s' : PagerState N E} {trees : ℕ → Tree} → Stands m.values s trees → Called m.values does s s'
+  pub still-settled : {does : Core → Type 0} {s s' : PagerState N E} {trees : ℕ → Tree} → Stands m.values s trees → MakesCall m.values does s s'
       → HoldsSettled m.values s'
   still-settled at c = λ q x has. elim (c.moves.each q x has) [ inl was ↦ at.settled q x was | inr came ↦ absurd came.1 ]
 
@@ -482,7 +482,7 @@ module _ {N E B W : Type 0} (m : Seen N B W) (lawful : IsLawful m.values) where
   }
 
   -- nothing that can be told of changes
-  pub unchanged : {s s' : PagerState N E} {trees : ℕ → Tree} → Stands m.values s trees → Called m.values (λ w'. Alike s.core w') s s'
+  pub unchanged : {s s' : PagerState N E} {trees : ℕ → Tree} → Stands m.values s trees → MakesCall m.values (λ w'. Alike s.core w') s s'
       → Stays m.values s trees s'
   unchanged {s} at c = (call-stays Call.Pending (Reply.Length (length s.core.list)) at
       (record { step = record { does = (refl, c.step) }; moves = no-value Call.Pending c.moves; whole = c.whole }) tt tt (still-settled at c)).0

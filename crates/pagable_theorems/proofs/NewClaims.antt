@@ -2,19 +2,19 @@
 use Rattle.pagable_theorems.proofs.{Decoding.{among-left, among-right}, HandlesKept.{le-of, updated-at}, ReadingSteps.{event-goes, site_of}, SlotsGrow.{AllStand, Covers, CoversBy, Goes, HasNoFailed, SameSlots}}
 use Rattle.pagable_theorems.proofs.SlotsGrow.{ShelfGrows, SlotChanges, Turned, WorkStands, all-stay, changes-slot, failed-goes, fails, follows-waits, given-open, gives, grows, is-changed, is-new, is-same}
 use Rattle.pagable_theorems.proofs.SlotsGrow.{is-quiet, is-self, is-started, is-stepped, is_failed, is_open_in, meets-grow, open-slot, own-goes, plain, put-cases, puts-slot, same-slots, settles, swaps}
-use Rattle.pagable_theorems.proofs.{SlotsGrow.{some-none, some-same, started-open, true-false, work-stands}, Trees.{same-number, steps_follow}, Words.{Among, ArcRef, Call, Claim, Core, Does, Err, Error}}
-use Rattle.pagable_theorems.proofs.Words.{Event, EventReply, Happens, Identity, IsIdle, KeepsOpen, List, MachineState, None, Ok, Option, Seen, Shelf, Site, Slot, Some, Task, Todo, Action, Walking, World}
+use Rattle.pagable_theorems.proofs.{SlotsGrow.{some-none, some-same, started-open, true-false, work-stands}, Trees.{same-number, steps_follow}, Words.{Among, ArcRef, Call, Claim, Core, WorkDoes, Err, Error}}
+use Rattle.pagable_theorems.proofs.Words.{Event, EventReply, Happens, Identity, IsIdle, KeepsOpen, List, MachineState, None, Ok, Option, Seen, Shelf, WorkerState, Slot, Some, Task, Todo, Action, Walking, World}
 use Rattle.pagable_theorems.proofs.Words.{WorkerAnswer, WorkerNumber, WorkerReply, WorkerSteps, Written, [], answer_after, ap, arith, cases_Bool, drop, false, false_from_ne_true, give, identity_of, inl}
 use Rattle.pagable_theorems.proofs.Words.{if◌then◌else◌, inr, length, nat_eq, nat_tests, no_result, one, refl, rules, step_of, subst, sum_by-cons, sym, times, to_fail, to_finish, to_item, to_load, true}
 use Rattle.{pagable_theorems.proofs.Words.{to_pin, to_release, to_set, to_start, to_write, updated, world_of, ℕ, ◌*◌, ◌++◌, ◌+◌, ◌<◌, ◌==◌, ◌∙◌, ◌∷◌, ◌≡◌, ◌≤◌, ◌⊎◌}, pagable_pager_spec.specs.Events.Starts}
 use Rattle.pagable_pager_spec.specs.{Events.{WorkStays, new_walking}, Rightness.{FailedElsewhere, IsMetFailure}, Order.{Follows, Leads, MetError, is_claim, own_references, references_written}}
-use Rattle.pagable_pager_spec.specs.{Workers.{first_todo, is_counted, next_start, settle, with_outcome, with_wait}, World.{Open, answer_of_fault, is_identity, published, to_publish}}
+use Rattle.pagable_pager_spec.specs.{Workers.{first_todo, is_counted, next_start, advance, with_outcome, with_wait}, World.{Open, answer_of_fault, is_identity, published, to_publish}}
 use Rattle.{pagable_pager_spec.specs.declared.events.TableNumber.TableNumber, std.proofs.{Common.{append-nil, length-append, ◌-◌}, lemmas.{Bool.{or_cases, or_left, or_right}, List.length-drop}}}
 use Rattle.std.{proofs.lemmas.List.Sums.sum_by-append, specs.List.sum_by}
 
 -- ---- whatever a worker does, what stands of its list and of its table stands afterwards
 
-module _ {N B W : Type 0} (m : Seen N B W) (v : ℕ) (task : Task) (s s' : Site) where
+module _ {N B W : Type 0} (m : Seen N B W) (v : ℕ) (task : Task) (s s' : WorkerState) where
   to-list : {answer : Option WorkerAnswer} {todo : List Todo} → s'.todo ≡ todo → Goes v task s.shelf answer s'.shelf todo
       → Goes v task s.shelf answer s'.shelf s'.todo
   to-list {answer = answer} e goes = subst (λ t. Goes v task s.shelf answer s'.shelf t) (sym e) goes
@@ -27,7 +27,7 @@ module _ {N B W : Type 0} (m : Seen N B W) (v : ℕ) (task : Task) (s s' : Site)
       plain v task s.shelf s'.shelf same _ (give r key height below) (λ a is. grind (arith, nat_tests)) (gives v task s.shelf r key height below rest)
       (λ i slot there own still. given-open v task s.shelf i r key height below ∙ covers i slot there own still)
 
-  pub stands-on : (todo : List Todo) → s.todo ≡ todo → AllStand s.shelf v task todo → Covers s.shelf v todo → (step : Action W) → Does m v s todo step s'
+  pub stands-on : (todo : List Todo) → s.todo ≡ todo → AllStand s.shelf v task todo → Covers s.shelf v todo → (step : Action W) → WorkDoes m v s todo step s'
       → Goes v task s.shelf (answer_after todo step) s'.shelf s'.todo
   stands-on (to_start r place ∷ below) e (meets, apart, rest) covers (Action.Claim i (Ok Claim.Claimed)) (is, c) =
       let new : Slot = record { worker = v; references = None; outcome = no_result } in
@@ -55,7 +55,7 @@ module _ {N B W : Type 0} (m : Seen N B W) (v : ℕ) (task : Task) (s s' : Site)
       let puts = changes-slot s.shelf s'.shelf (identity_of r) c.slot (λ slot. record slot { references = Some (m.written_of out).references }) c.claimed
       p.writes.table_is in
       let o : Open = record { reference = r; place = place; through = through; written = m.written_of out; keys = []; height = 0 } in
-      to-list p.writes.list_is (own-goes v task s.shelf s'.shelf (identity_of r) new (settle (to_finish o ∷ below)) puts
+      to-list p.writes.list_is (own-goes v task s.shelf s'.shelf (identity_of r) new (advance (to_finish o ∷ below)) puts
       (is-changed c.slot new c.claimed c.own refl (grind (arith, nat_tests, some-none))) meets (ap is_failed c.no_result_yet)
       (λ changes now. settles v task s'.shelf o below (grind (arith, nat_tests, all-stay, grows, false_from_ne_true, true-false, is-same, is-self)))
       (grind (arith, nat_tests, or_right, started-open, put-cases, is_identity, or_left, is-self)))
@@ -347,8 +347,8 @@ leads-more f todo [] mid step last is follows = (last, subst (λ t. Follows f t 
 leads-more f todo (x ∷ past) mid step last (next, first, leads) follows = (next, first, leads-more f next past mid step last leads follows)
 
 -- where a claim finds one that has failed, it is another's
-pub failed-elsewhere : {N B W : Type 0} (m : Seen N B W) (v : ℕ) (s s' : Site) (todo : List Todo) (i : Identity)
-    → Does m v s todo (Action.Claim i (Ok Claim.AlreadyFailed)) s'
+pub failed-elsewhere : {N B W : Type 0} (m : Seen N B W) (v : ℕ) (s s' : WorkerState) (todo : List Todo) (i : Identity)
+    → WorkDoes m v s todo (Action.Claim i (Ok Claim.AlreadyFailed)) s'
     → HasNoFailed s.shelf v → FailedElsewhere s.shelf v i
 failed-elsewhere m v s s' (to_start r place ∷ below) i (is, c) clean =
     let found = c.finds.1.1 in
@@ -396,7 +396,7 @@ module _ {N B W : Type 0} (m : Seen N B W) (u u' : World) (grow : (t : ℕ) → 
       was.fails in
       let already : (i : Identity) → reply.action ≡ Action.Claim i (Ok Claim.AlreadyFailed) → FailedElsewhere shelf' k.0 i =
       λ i is. failed-stays k.0 shelf shelf' i (grow w.table)
-      (failed-elsewhere m k.0 (site_of u w) s.after w.todo i (subst (λ step. Does m k.0 (site_of u w) w.todo step s.after) is s.does.does)
+      (failed-elsewhere m k.0 (site_of u w) s.after w.todo i (subst (λ step. WorkDoes m k.0 (site_of u w) w.todo step s.after) is s.does.does)
       ((work.workers k.0 w s.at).unfailed s.at_work)) in
       let leads = leads-more f (first_todo w.task) past w.todo reply.action s.after.todo was.leads follows in
       let left = follows-met k.0 shelf' (past ++ reply.action ∷ []) f w.todo reply.action s.after.todo follows

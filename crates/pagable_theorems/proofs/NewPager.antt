@@ -1,5 +1,5 @@
 -- A new pager over any storage satisfies the invariant and stands for any trees, since nothing is in it.
-use Rattle.pagable_theorems.proofs.Words.{Among, Bool, HandleNumber, HandleRow, HandlesAreWhole, IsIdle, IsLawful, IsMachineWhole, MachineState, Owner, PagerState, Reading, Represents, Some, Tree, Values, WellFormed}
+use Rattle.pagable_theorems.proofs.Words.{Among, Bool, HandleNumber, HandleRow, HandlesAreWhole, IsIdle, IsLawful, MachineState, Owner, PagerState, Reading, PagerStandsFor, Tree, Values, IsPagerWhole}
 use Rattle.pagable_theorems.proofs.Words.{ap, arith, false, held, inl, is_handle, is_owned_by, is_some, nat_tests, owner_value, pins, refl, sym, times, ℕ, ◌&&◌, ◌==◌, ◌∙◌, ◌≡◌}
 use Rattle.{pagable_theorems.specs.SmallWorlds.{NewIsWhole, StartsWell}, pagable_pager_spec.specs.{Kinds.sharing, Pager.{IsNew, IsReadingOf, OwnersAreThere, of_caller, of_worker}}}
 
@@ -45,7 +45,7 @@ module _ {N E : Type 0} (v : Values N) (s : PagerState N E) (new : IsNew s) wher
     workers = λ h v among own. absurd (nobody-has h among);
   }
 
-  new-well : WellFormed v s
+  new-well : IsPagerWhole v s
   new-well = record {
     whole = record {
       handles = new-handles;
@@ -62,12 +62,12 @@ module _ {N E : Type 0} (v : Values N) (s : PagerState N E) (new : IsNew s) wher
     counted = λ n. new.counts n ∙ sym (no-pins n);
     valued = λ n. let e = new.values n in let f = no-cell n in rw (e, f) refl;
     typed = λ n x is. absurd (let e = new.values n in cc);
-    inside = λ n x q is. absurd (let e = new.values n in cc);
-    bare = λ n none. none-counted (is_owned_by (owner_value n));
+    owns_references = λ n x q is. absurd (let e = new.values n in cc);
+    owns_nothing = λ n none. none-counted (is_owned_by (owner_value n));
     references = λ n x r is among. absurd (let e = new.values n in cc);
   }
 
-  new-represents : (trees : ℕ → Tree) → Represents v s trees
+  new-represents : (trees : ℕ → Tree) → PagerStandsFor v s trees
   new-represents trees = record {
     stands = λ n some. absurd (let e = no-held n in omega (arith, e, some));
     typed = λ n some. absurd (let e = no-held n in omega (arith, e, some));
@@ -81,7 +81,7 @@ new-starts v s new idle lawful = record {
     pager = new-well v s.pager new;
     readings = λ l reading is. absurd (let e = idle.readings l in cc);
     walkings = λ n walking is. absurd (let e = idle.walkings n in cc);
-    all_there = λ n is. absurd (let e = idle.nobody n in cc);
+    each_walks = λ n is. absurd (let e = idle.nobody n in cc);
   };
   idle = idle;
   stands = λ trees. record { pager = new-represents v s.pager new trees; readings = λ reading is. absurd (unread reading is) };

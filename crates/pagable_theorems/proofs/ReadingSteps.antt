@@ -4,8 +4,8 @@ use Rattle.pagable_theorems.proofs.{CallEffects.stores, Decoding.among-left, Eff
 use Rattle.pagable_theorems.proofs.{Effects.{one-then, released-free, spares-then, stays, stays-alike, stays-fell, then-alike, then-fell, with-key, worker-apart}, HandlesKept.{AreUpTo, Goes, KnowsNext, Quiet}}
 use Rattle.pagable_theorems.proofs.HandlesKept.{NotLoads, alike, alike-away, at-updated, fell-anyhow, find-both, find-left, goes-quiet, good, le-self, low-changed, low-whole, next-above, none-in-new, parts}
 use Rattle.pagable_theorems.proofs.{HandlesKept.{quiet-then, rows-self, stands-new}, SlotsGrow.{AllWait, WaitsWell}, Trees.{same_some, self-number}, Words.{Alike, Among, ArcRef, Beginning, Blob, Bool, Change}}
-use Rattle.pagable_theorems.proofs.Words.{Claim, CloneCall, Core, Does, Err, Error, Event, EventReply, Frame, GetsKnown, HandleNumber, HandleRow, HandlesAreWhole, Happens, IsMachineWhole, KeepsOpen, Ok}
-use Rattle.pagable_theorems.proofs.Words.{Kind, Last, List, LoadAnswer, LoadNumber, MachineState, NodeNumber, None, OpenLoad, Option, OptionalDataKey, Owner, Reading, ReadingFeels, Result, Seen, Site, ℕ}
+use Rattle.pagable_theorems.proofs.Words.{Claim, CloneCall, Core, WorkDoes, Err, Error, Event, EventReply, Frame, GetsKnown, HandleNumber, HandleRow, HandlesAreWhole, Happens, IsMachineWhole, KeepsOpen, Ok}
+use Rattle.pagable_theorems.proofs.Words.{Kind, Last, List, LoadAnswer, LoadNumber, MachineState, NodeNumber, None, OpenLoad, Option, OptionalDataKey, Owner, Reading, ReadingFeels, Result, Seen, WorkerState, ℕ}
 use Rattle.pagable_theorems.proofs.Words.{Some, Task, Todo, Action, Values, Walking, WorkerAnswer, WorkerNumber, WorkerReply, WorkerSteps, World, [], adopted, answer_after, ap, arith, bears_known, false}
 use Rattle.pagable_theorems.proofs.Words.{find_row, first_key, give, inl, inr, is_named_by, is_some, mode_of, moved, nat_tests, next_node, nothing_felt, owner_value, owner_worker, refl, row_at, rules}
 use Rattle.pagable_theorems.proofs.Words.{step_of, subst, sym, to_fail, to_load, to_pin, to_release, to_set, to_start, true, updated, world_of, ◌++◌, ◌+◌, ◌<◌, ◌∙◌, ◌∷◌, ◌≡◌, ◌≤◌, ◌⊎◌}
@@ -90,7 +90,7 @@ read-after u u' New are same callers workers after (of_worker n place walking r 
     ]
 
 -- what it answers and reads, and that it stands in the worker's list afterwards only where it goes on
-pub record LoadsTodo {N : Type 0} (v : Values N) (me : Owner) (s s' : Site) (reading : Reading) : Type 0 where
+pub record LoadsTodo {N : Type 0} (v : Values N) (me : Owner) (s s' : WorkerState) (reading : Reading) : Type 0 where
   pub answer : Option (LoadAnswer N)
   pub frames : List Frame
   pub does : ReadingDoes v s.core me reading answer frames s'.core
@@ -123,7 +123,7 @@ readings-on {v = v} {u} {u'} {event} P old fresh gone (by-reading c before answe
       (subst (λ a. ReadingFeels v u.core before a frames u'.core c) none feels))
 ]
 
--- A load's step, as trees feel it: one change, what it does to the plain world with it, and how the load's own blobs grow.
+-- A load's step, as trees feel it: one change, what it does to the core with it, and how the load's own blobs grow.
 
 -- some change, what the step does to the world with it, and how it is felt; a load that goes on is open
 pub record ReadingFelt {N : Type 0} (v : Values N) (w : Core) (me : Owner) (reading : Reading) (answer : Option (LoadAnswer N)) (frames : List Frame)
@@ -222,19 +222,19 @@ pub reading-knows : {N : Type 0} {v : Values N} {w w' : Core} {reading : Reading
     → ReadingFeels v w reading answer frames w' c → KnowsNext c w
 reading-knows x0 = grind (arith, nat_tests)
 
--- What a worker's step does to the plain world, as trees feel it, and which loads it begins.
+-- What a worker's step does to the core, as trees feel it, and which loads it begins.
 
 -- where a worker stands before its step
-abbrev pub site_of : World → Walking → Site
+abbrev pub site_of : World → Walking → WorkerState
 site_of u w = record { core = u.core; shelf = u.work.shelves w.table; todo = w.todo }
 
 pub works-free : (v : ℕ) → NotLoads (owner_worker v)
 works-free v l is = absurd (cc)
 
-abbrev pub LoadsAnew : Site → Type 0
+abbrev pub LoadsAnew : WorkerState → Type 0
 LoadsAnew s = (reading : Reading) → front_reading s.todo ≡ Some reading → IsFresh s.core reading
 
-no-load : (s : Site) (todo : List Todo) → s.todo ≡ todo → front_reading todo ≡ None → LoadsAnew s
+no-load : (s : WorkerState) (todo : List Todo) → s.todo ≡ todo → front_reading todo ≡ None → LoadsAnew s
 no-load s todo is none reading e = let f : front_reading todo ≡ Some reading = ap front_reading (sym is) ∙ e in absurd (cc)
 
 pub started : (place : ℕ) (rs : List ArcRef) (x : Todo) (below : List Todo) → front_reading (x ∷ below) ≡ None
@@ -245,7 +245,7 @@ given : (r : ArcRef) (key height : ℕ) (below : List Todo) → AllWait below �
 given r key height x3 well = grind (arith, nat_tests, started)
 
 -- A load makes its step; the key is set through the worker's own loose handle; or nothing is felt. But for the first, a load at the front afterwards has just begun.
-pub data WalkFeels {N B W : Type 0} (m : Seen N B W) (v : ℕ) (s s' : Site) (todo : List Todo) : Change → Type 0 where
+pub data WalkFeels {N B W : Type 0} (m : Seen N B W) (v : ℕ) (s s' : WorkerState) (todo : List Todo) : Change → Type 0 where
   walk-loads : (c : Change) (r : ArcRef) (place : ℕ) (through : HandleNumber) (reading : Reading) (below : List Todo) → todo ≡ to_load r place through reading
       ∷ below
       → (t : LoadsTodo m.values (owner_worker v) s s' reading) → (t.answer ≡ None → (load : OpenLoad) × (s.core.loads reading.load.0 ≡ Some load))
@@ -261,7 +261,7 @@ FrontMine w me (to_load r place through reading ∷ below) = IsMine w me reading
 FrontMine w me todo = Unit {0}
 
 -- some change, what the step does to the world with it, and how it is felt
-pub record WalkFelt {N B W : Type 0} (m : Seen N B W) (v : ℕ) (s s' : Site) (todo : List Todo) : Type 0 where
+pub record WalkFelt {N B W : Type 0} (m : Seen N B W) (v : ℕ) (s s' : WorkerState) (todo : List Todo) : Type 0 where
   pub change : Change
   pub does : Effect (owner_worker v) false (FrontMine s.core (owner_worker v) todo) (Unit {0}) false change s.core s'.core
   pub goes : Goes change s.core s'.core
@@ -280,7 +280,7 @@ module _ {Asks : Type 0} {w w' : Core} (v : ℕ) where
   })
       (λ a. a) (clones (Ok _) c) rest
 
-module _ {N B W : Type 0} (m : Seen N B W) (v : ℕ) (s s' : Site) where
+module _ {N B W : Type 0} (m : Seen N B W) (v : ℕ) (s s' : WorkerState) where
   abbrev WE : List Todo → Change → Type 0
   WE todo c = Effect (owner_worker v) false (FrontMine s.core (owner_worker v) todo) (Unit {0}) false c s.core s'.core
 
@@ -320,7 +320,7 @@ module _ {N B W : Type 0} (m : Seen N B W) (v : ℕ) (s s' : Site) where
     ]
   ]
 
-  pub walk-goes : (todo : List Todo) (step : Action W) → Does m v s todo step s' → WalkFelt m v s s' todo
+  pub walk-goes : (todo : List Todo) (step : Action W) → WorkDoes m v s todo step s' → WalkFelt m v s s' todo
   walk-goes (to_start r place ∷ below) (Action.Claim i (Ok Claim.Waiting)) (is, c) = let t =
       c.finds.1.2 in quiet (λ n x b. b) (λ front well. no-load s' _ (t.list_is ∙ front) refl) (stays t.pager_stays)
   walk-goes (to_pin r place ∷ below) (Action.Pin i (Ok (PinStep.Held k))) (is, p) = rests _ (λ n x b. b) p.pins.2.list_is (λ well. refl) (elim p.pins.1 [
@@ -392,7 +392,7 @@ ends-last kind key n (Some answer) v f a = record { lasts = λ i h h'. stays-fel
 abbrev pub AllWaitWell : World → Type 0
 AllWaitWell u = (n : ℕ) (walking : Walking) → u.work.walkings n ≡ Some walking → WaitsWell walking.todo
 
--- some change, what the event does to the plain world with it, and how it is felt
+-- some change, what the event does to the core with it, and how it is felt
 pub record EventGoes {N B W : Type 0} (m : Seen N B W) (u : World) (event : Event N B W) (reply : EventReply N B W) (u' : World) : Type 0 where
   pub change : Change
   pub goes : Goes change u.core u'.core
@@ -439,7 +439,7 @@ module _ {N B W : Type 0} (m : Seen N B W) (u u' : World) where
     goes = goes-quiet e.goes (quiet-then (others-work core core.loads (with_worker core).workers (core.last.worker + 1) (omega arith) (λ l load is. is))
         (alike s.pager));
     spares = λ q there others.
-        let a = e.spares (owner_worker q) (record { apart = worker-apart q; other = callers q; unlisted = λ yes. (refl, there) }) in
+        let a = e.spares (owner_worker q) (record { apart = worker-apart q; other = callers q; listing_error = λ yes. (refl, there) }) in
         then-alike (owner_worker q) s.pager (record { each = a.each });
     lasts = λ left kind key n. record { lasts = λ i h h'. stays-alike kind key n s.pager (e.lasts tt kind key n i h (λ f. absurd (cc))) h' };
     feels = λ whole well. by-nothing (λ n x b. absurd (brings n x b)) (keeps-but s.readings v.0 (new_walking t task) s.work.same_walkings
@@ -485,7 +485,7 @@ module _ {N B W : Type 0} (m : Seen N B W) (u u' : World) where
           spares = λ v there others.
               let other : (owner_worker k.0 ≡ owner_worker v → ⊥) = λ is. grind (arith, nat_tests, self-number) in
               ends-spare (owner_worker v) (worker-apart v) k.0 other reply.answer s.ends
-              (f.does.spares (owner_worker v) (record { apart = worker-apart v; other = other; unlisted = λ yes. absurd (cc) }));
+              (f.does.spares (owner_worker v) (record { apart = worker-apart v; other = other; listing_error = λ yes. absurd (cc) }));
           lasts = λ left kind key n. ends-last kind key n reply.answer k.0 s.ends (record { lasts = λ i h h'. f.does.lasts tt kind key n i h (λ g. h') });
           feels = λ whole well. worker-feels f.change (f.feels refl (well k.0 s.walking s.at)) whole;
           knows = λ whole leaves. f.knows whole.handles;

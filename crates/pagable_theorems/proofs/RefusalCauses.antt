@@ -5,7 +5,7 @@ use Rattle.pagable_theorems.proofs.Words.{HandleRow, Mode, Reading, Result, Some
 use Rattle.pagable_theorems.proofs.Words.{ℕ, ◌+◌, ◌==◌, ◌∙◌, ◌∷◌, ◌≡◌, references_fault}
 use Rattle.pagable_theorems.specs.{DepthLaws.IsOfHandles, RefusalLaws.{BeginsRefusedLaw, IsOfLoad, IsOfPin, LoadsRefusedLaw, PinsRefusedLaw, TellsOfStorage}}
 use Rattle.{pagable_value_spec.specs.{Reading.Rest, Refusals.is_own_reading, Cursor.{Answer, answer_at}, Stored.{HasFailed, RefusesFetch}}, std.specs.Prelude.IfErr}
-use Rattle.pagable_pager_spec.specs.{LoadCalls.{AskCall, AsksInVain, LazyCall, LoadCloses}, Loads.{Fails, Meets, RefusesBlob, RefusesNested, RefusesNode, RefusesRoot}}
+use Rattle.pagable_pager_spec.specs.{LoadCalls.{LoadFetchCall, AsksInVain, LazyCall, LoadCloses}, Loads.{Fails, Meets, RefusesBlob, RefusesNested, RefusesNode, RefusesRoot}}
 use Rattle.pagable_pager_spec.specs.{Loads.{answer_of, answers_from, handles_of, is_faulty, next_by, next_of, read_with}, Refusals.{earlier, load_fault, named_fault, refused_if, spent, where_so}, declared.calls.Want.Want}
 use Rattle.pagable_pager_spec.specs.{Kinds.{is_loose, is_owner}, LoadCalls.{cell_fault, is_known, root_fault}, World.{Root, of_cell, of_key, row_at}}
 
@@ -169,7 +169,7 @@ module _ {N : Type 0} (v : Values N) (lawful : IsLawful v) (w : Core) (me : Owne
   in-vain Want.Root load e mid vain = fetched w mid load.key e vain.refused
   in-vain (Want.Nested kind key) load e mid vain = fetched w mid key e vain.1.refused
 
-  pub asked : (want : Want) (e : Error) (mid : Core) → AskCall w me reading.load want (Err e) mid → LoadRefused w mid e
+  pub asked : (want : Want) (e : Error) (mid : Core) → LoadFetchCall w me reading.load want (Err e) mid → LoadRefused w mid e
   asked want e mid c = elim c.refused [
     | inl r ↦ sober-refused w mid e
         (quiet-sober e (only-refused {P = Quiet} e r (only-earlier _ _ (only-load w me reading.load) (number-quiet (is_known w want) w)) tt))

@@ -1,15 +1,15 @@
 -- What an error says about the storage, for each call and each step of a load or of a worker.
 use Rattle.pagable_theorems.proofs.{RefusalCauses.{Quiet, asked, cell-quiet, fails, fetched, handles-quiet, only-all, only-load, only-named, root-quiet, there-quiet}}
 use Rattle.pagable_theorems.proofs.{LoadFaults.{Only, by-handle-row, only-earlier, only-if, only-node, only-refused}, Trees.same_some, Words.{Alike, ArcRef, Blob, Bool, Call, CloneCall, Core, Err, Error, Event}}
-use Rattle.pagable_theorems.proofs.Words.{EventReply, Frame, HandleNumber, HandleRow, Happens, IsLawful, Kind, List, LoadAnswer, LoadNumber, Mode, None, Ok, OpenLoad, Option, Owner, PinCall, Reading, Reply, Seen, Site}
+use Rattle.pagable_theorems.proofs.Words.{EventReply, Frame, HandleNumber, HandleRow, Happens, IsLawful, Kind, List, LoadAnswer, LoadNumber, Mode, None, Ok, OpenLoad, Option, Owner, PinCall, Reading, Reply, Seen, WorkerState}
 use Rattle.pagable_theorems.proofs.Words.{Some, Task, Todo, Action, World, WorkerNumber, WorkerReply, WorkerSteps, [], answer_after, any_mode, arith, false, inl, inr, nat_tests, owner_worker, refl, row_at, subst, sym, to_finish, true}
 use Rattle.pagable_theorems.proofs.Words.{to_item, to_load, to_pin, to_set, to_start, to_write, ℕ, ◌∙◌, ◌∷◌, ◌≡◌, ◌⊎◌}
 use Rattle.pagable_theorems.specs.RefusalLaws.{StorageIsTold, TellsOfStorage, refusal_of, refusal_of_end, refusal_of_reply, refusal_of_step}
-use Rattle.{pagable_value_spec.specs.Stored.{HasFailed, RefusesFlush, RefusesStore}, pagable_pager_spec.specs.Calls.{AwayBirthCall, BirthCall, IsRefused, Looks, OfferCall, RecallCall, ReleaseCall, ScheduleCall}}
-use Rattle.pagable_pager_spec.specs.{Calls.{SetKeyCall, UnpinCall, birth_fault}, Cascade.Falls, Events.{Ends, StartedItem, StartedListed}, Kinds.{fits_mode, is_loose, is_pinned, is_unpinned}}
+use Rattle.{pagable_value_spec.specs.Stored.{HasFailed, RefusesFlush, RefusesStore}, pagable_pager_spec.specs.Calls.{InsertPagedOutCall, InsertCall, IsRefused, Looks, OfferCall, RecallCall, ReleaseCall, ScheduleCall}}
+use Rattle.pagable_pager_spec.specs.{Calls.{SetKeyCall, UnpinCall, insert_fault}, Cascade.Falls, Events.{Ends, StartedItem, StartedListed}, Kinds.{fits_mode, is_loose, is_pinned, is_unpinned}}
 use Rattle.pagable_pager_spec.specs.{LoadCalls.{AdoptCall, BeginCall, BeginKeyCall, DropCall, EndCall, HandOverCall, LazyCall, cell_fault, root_fault}, declared.events.TableNumber.TableNumber, Refusals.{handle_fault, live_fault, spent, where_so}}
-use Rattle.pagable_pager_spec.specs.Workers.{Claims, KeySetFor, PinRefused, claim_fault}
-use Rattle.pagable_pager_spec.specs.{Events.Does as CallDoes, Loads.Does as LoadDoes, Workers.Does as WorkDoes}
+use Rattle.pagable_pager_spec.specs.Workers.{ClaimStep, KeySetFor, PinRefused, claim_fault}
+use Rattle.pagable_pager_spec.specs.{Events.CallDoes, Loads.LoadDoes, Workers.WorkDoes}
 
 -- neither that the storage failed, nor that nothing stands there
 abbrev Silent : Error → Type 0
@@ -31,7 +31,7 @@ quiet w w' e q = silent w w' e (quiet-silent e q)
 only-spent : (last : ℕ) → Only Quiet (spent last)
 only-spent last = only-if Quiet _ Error.NumbersSpent tt
 
-only-birth : (w : Core) → Only Quiet (birth_fault w)
+only-birth : (w : Core) → Only Quiet (insert_fault w)
 only-birth w = only-earlier _ _ (only-spent w.last.node) (only-spent w.last.handle)
 
 only-where : (b : Bool) (told : Option Error) → Only Quiet told → Only Quiet (where_so b told)
@@ -53,10 +53,10 @@ by-refused e r only = let told = r.told in let same : r.e ≡ e = cc in subst Qu
 -- ---- the calls by which handles, nodes and loads are touched
 
 module _ (w : Core) (me : Owner) (w' : Core) where
-  of-birth : {N : Type 0} (x y : N) (t : ℕ) (references : List ArcRef) (mode : Mode) (e : Error) → BirthCall w me x t references mode (Err (e, y)) w' → Quiet e
+  of-birth : {N : Type 0} (x y : N) (t : ℕ) (references : List ArcRef) (mode : Mode) (e : Error) → InsertCall w me x t references mode (Err (e, y)) w' → Quiet e
   of-birth x y t references mode e c = only-refused {P = Quiet} e c.refused.1 (only-earlier _ _ (only-all w me references) (only-birth w)) tt
 
-  of-away : (t key : ℕ) (e : Error) → AwayBirthCall w me t key (Err e) w' → Quiet e
+  of-away : (t key : ℕ) (e : Error) → InsertPagedOutCall w me t key (Err e) w' → Quiet e
   of-away t key e c = only-refused {P = Quiet} e c.refused (only-birth w) tt
 
   of-clone : (h : HandleNumber) (e : Error) → CloneCall w me h (Err e) w' → Quiet e
@@ -199,14 +199,14 @@ module _ {N B W : Type 0} (m : Seen N B W) (lawful : IsLawful m.values) (w : Cor
 only-claim : (w : Core) (r : ArcRef) → Only Quiet (claim_fault w r)
 only-claim w r e is = grind (arith, nat_tests)
 
-module _ {N B W : Type 0} (m : Seen N B W) (lawful : IsLawful m.values) (v : ℕ) (s after : Site) where
+module _ {N B W : Type 0} (m : Seen N B W) (lawful : IsLawful m.values) (v : ℕ) (s after : WorkerState) where
   abbrev WorkTells : Error → Type 0
   WorkTells e = TellsOfStorage s.core after.core e
 
   work-so : (f e : Error) → Some f ≡ Some e → WorkTells f → WorkTells e
   work-so f e is t = subst WorkTells (same_some _ _ is) t
 
-  of-claim : (r : ArcRef) (place : ℕ) (below : List Todo) (e : Error) → Claims v s r place below (Err e) after → Silent e
+  of-claim : (r : ArcRef) (place : ℕ) (below : List Todo) (e : Error) → ClaimStep v s r place below (Err e) after → Silent e
   of-claim r place below e c = elim c.refused.0 [
     | inl is ↦ quiet-silent e (only-claim s.core r e is)
     | inr (inl (none, is, deep)) ↦ subst Silent (sym is) tt

@@ -2,7 +2,7 @@
 use Rattle.pagable_theorems.proofs.{Trees.same-number, Words.{Among, ArcRef, Bool, HandleNumber, Identity, IsPublished, List, None, Option, Shelf, Slot, Some, Task, Todo, Action, Walking, WorkerAnswer, ℕ}}
 use Rattle.pagable_theorems.proofs.Words.{Written, [], above, and_parts, arith, cases_Bool, drop, false, give, identity_of, if_there, if◌then◌else◌, inl, inr, is_some, max, nat_eq, nat_tests, no_result}
 use Rattle.pagable_theorems.proofs.Words.{of_entry, of_item, refl, rules, subst, suc, sym, to_fail, to_finish, to_item, to_load, to_pin, to_release, to_set, to_start, to_write, true, ◌++◌, ◌<◌, ◌==◌}
-use Rattle.{pagable_theorems.proofs.Words.{◌||◌, ◌∙◌, ◌∷◌, ◌≡◌, ◌≤◌, ◌⊎◌}, pagable_pager_spec.specs.{Rightness.{Meets, meets-below, meets-entry, meets-of-item}, Order.Follows, Workers.{first_todo, settle}}}
+use Rattle.{pagable_theorems.proofs.Words.{◌||◌, ◌∙◌, ◌∷◌, ◌≡◌, ◌≤◌, ◌⊎◌}, pagable_pager_spec.specs.{Rightness.{Meets, meets-below, meets-entry, meets-of-item}, Order.Follows, Workers.{first_todo, advance}}}
 use Rattle.pagable_pager_spec.specs.{Workers.{is_open_outcome, next_start, with_changed_slot, with_failed, with_outcome, with_slot}, World.{Fault, Open, Outcome, SameShelf, failed, is_identity}}
 use Rattle.{pagable_pager_spec.specs.World.to_publish, std.proofs.lemmas.Bool.{or_cases, or_right}}
 
@@ -253,11 +253,11 @@ module _ (v : ℕ) (task : Task) where
     pub started-open : (i : Identity) (place : ℕ) (rs : List ArcRef) (todo : List Todo) → is_open_in i (next_start place rs ++ todo) ≡ is_open_in i todo
     started-open i place x2 todo = grind (arith, nat_tests)
 
-    pub settles : (o : Open) (below : List Todo) → AllStand shelf v task (to_finish o ∷ below) → AllStand shelf v task (settle (to_finish o ∷ below))
+    pub settles : (o : Open) (below : List Todo) → AllStand shelf v task (to_finish o ∷ below) → AllStand shelf v task (advance (to_finish o ∷ below))
     settles o below x2 = search (rules, started, meets-below, among-drop)
 
     pub item-settles : (written : Written) (keys : List ℕ) (below : List Todo) → AllStand shelf v task (to_item written keys ∷ below)
-        → AllStand shelf v task (settle (to_item written keys ∷ below))
+        → AllStand shelf v task (advance (to_item written keys ∷ below))
     item-settles written keys below x3 = search (rules, started, meets-of-item, among-drop)
 
     pub gives : (r : ArcRef) (key height : ℕ) (todo : List Todo) → AllStand shelf v task todo → AllStand shelf v task (give r key height todo)

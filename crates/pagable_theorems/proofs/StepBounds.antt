@@ -5,8 +5,8 @@ use Rattle.pagable_theorems.specs.TreeSteps.{EventFeels, GetsRow, HandsOver, IsF
 use Rattle.pagable_theorems.proofs.ReadingSteps.{AllWaitWell, cached-rows, caller-free, ends-spare, event-goes, got-born, got-fallen, got-known, is-cached, reading-feels, reading-open, reading-stands}
 use Rattle.pagable_theorems.proofs.{ReadingSteps.{readings-on, walk-goes}, Words.{Alike, Among, ArcRef, AreMoments, Blob, Bool, Call, Change, Core, Error, Event, EventReply, Frame, FramesFit, GetsKnown}}
 use Rattle.pagable_theorems.proofs.Words.{HandleNumber, HandleRow, HandlesAreWhole, Happens, IsLawful, IsMachineWhole, IsReference, KeepsOpen, Kind, Last, List, LoadAnswer, LoadNumber, MachineState, None}
-use Rattle.pagable_theorems.proofs.Words.{Moment, NodeNumber, Ok, OpenLoad, Option, OptionalDataKey, Owner, PagerState, Reading, ReadingFeels, IsReadableType, IsWellAsked, ReadsRoot, ReadsTree, Represents, Result, []}
-use Rattle.pagable_theorems.proofs.Words.{Seen, Site, Some, Action, Tree, Types, Values, WellFormed, WorkerAnswer, World, adopted, and_parts, ap, arith, false, find_row, first_key, held, inl, inr, is_eager}
+use Rattle.pagable_theorems.proofs.Words.{Moment, NodeNumber, Ok, OpenLoad, Option, OptionalDataKey, Owner, PagerState, Reading, ReadingFeels, IsReadableType, IsWellAsked, ReadsRoot, ReadsTree, PagerStandsFor, Result, []}
+use Rattle.pagable_theorems.proofs.Words.{Seen, WorkerState, Some, Action, Tree, Types, Values, IsPagerWhole, WorkerAnswer, World, adopted, and_parts, ap, arith, false, find_row, first_key, held, inl, inr, is_eager}
 use Rattle.pagable_theorems.proofs.Words.{is_handle, is_in, is_owned_by, length, mode_of, moved, nat_tests, next_in, next_node, not, nothing_felt, one, owner_worker, refl, root_frame, rules, state_after}
 use Rattle.pagable_theorems.proofs.Words.{slice_get_within, step_of, subst, suc, sum_by-cons, sym, times, true, type_of, with_handle, world_of, zero, ℕ, ◌&&◌, ◌*◌, ◌++◌, ◌+◌, ◌<◌, ◌==◌, ◌∙◌, ◌∷◌, ◌≡◌}
 use Rattle.pagable_theorems.proofs.{Decoding.{asks-by-kinds, decodes, kinds-pushed, kinds_of, read_stands}, Trees.{at-most-sum, counted, one-true, same-number, same_some, self-number}, Words.{◌≤◌, ◌⊎◌}}
@@ -14,7 +14,7 @@ use Rattle.pagable_theorems.proofs.{Effects.{Effect, IsHeldFor, IsOther}, LoadPr
 use Rattle.pagable_theorems.proofs.{Effects.{can-use, list-apart, named, stays-alike, stays-fell}, FormsOfTrees.{given-of, owned-once}, HandlesKept.{Goes, IsShut, KnowsNext, Stands, a-handle, adopts, alike, once}}
 use Rattle.pagable_theorems.proofs.{CallEffects.releases, HandlesKept.{among-found, fell-anyhow, found-number, goes-quiet, none-found, quiet-goes, quiet-then, same-owner, stands-changed, stands-fell, stands-whole}}
 use Rattle.{pagable_theorems.proofs.CallEffects.gets-known as was-known, std.proofs.{Common.get_or, lemmas.{List.{Edits.length-remove, Sums.sum_by-remove}, Option.{get_or_from_slice_get, slice_get-get_or}}}}
-use Rattle.{pagable_pager_spec.specs.{Loads.{Does as LoadDoes, asks, gone_on, handles_of, need_of, needs_nested, nested_frame, to_adopt, with_got}, Pager.FrameFits, Runs.Does}, std.specs.List.remove}
+use Rattle.{pagable_pager_spec.specs.{Loads.{LoadDoes, asks, gone_on, handles_of, need_of, needs_nested, nested_frame, to_adopt, with_got}, Pager.FrameFits, Runs.EventDoes}, std.specs.List.remove}
 use Rattle.pagable_pager_spec.specs.{Events.Ends, WorkerClaims.GetsReference, Pager.{IsReadingOf, IsWhole, NodeStands, OwnersAreThere, SameTrees, StandsFor}}
 use Rattle.pagable_theorems.specs.{SmallWorlds.ReadingFills, TreeSteps.Knows}
 use Rattle.pagable_pager_spec.specs.{Rightness.{LoadsHaveStepsLeft, ReadGives, ReadIsRight, StepIsWithin}, WorkerClaims.{IsFilledByReading, LeavesCache, OneIdentityLaw, StaysAlive}, World.{type_at, usable}}
@@ -52,7 +52,7 @@ got-typed frame fits r (place, is) =
     (fits.got place _ r is (slice_get-get_or frame.blob.keys place 0 (omega (arith, few, most)))).typed
 
 module _ {N E : Type 0} {v : Values N} (lawful : IsLawful v) (s s' : PagerState N E) (trees trees' : ℕ → Tree) (same : SameTrees s.core.last.node trees trees')
-    (stored : KeepsStored s.core.stored s'.core.stored) (whole' : WellFormed v s') (stands' : Represents v s' trees') where
+    (stored : KeepsStored s.core.stored s'.core.stored) (whole' : IsPagerWhole v s') (stands' : PagerStandsFor v s' trees') where
   -- what a load of a key answers is right, and the caller has its references
   pub read-right : (reading : Reading) → ((frame : Frame) → Among reading.frames frame → IsReadableType v.types frame.node_type) → Going v s trees reading
       → (load : OpenLoad) → s.core.loads reading.load.0 ≡ Some load → (x : N) → ReadsRoot v reading x
@@ -84,7 +84,7 @@ module _ {N E B W : Type 0} (m : Seen N B W) (lawful : IsLawful m.values) (s s' 
     (whole : IsMachineWhole m.values s) (whole' : IsMachineWhole m.values s')
     (readings : (reading : Reading) → IsReadingOf s.work reading → Going m.values s.pager trees reading)
     (same : SameTrees s.pager.core.last.node trees trees') (stands' : StandsFor m.values s' trees') where
-  pub reads-give : (event : Event N B W) (reply : EventReply N B W) → Does m s event reply s' → IsWellAsked m.values s trees event reply
+  pub reads-give : (event : Event N B W) (reply : EventReply N B W) → EventDoes m s event reply s' → IsWellAsked m.values s trees event reply
       → ReadGives m.values s trees event reply s' trees'
   reads-give (Event.LoadStep l) (EventReply.LoadMoved (Ok reply)) does asked = λ load x open_load ended.
       let h = does.step.happens.moves in
@@ -301,10 +301,10 @@ keeps-open x0 leaves = grind (arith, nat_tests)
 
 -- the list isn't who steps, and no entry of it is taken
 listed : {me : Owner} (w : Core) → (me ≡ Owner.List → ⊥) → IsOther me false w Owner.List
-listed w other = record { apart = list-apart; other = other; unlisted = λ yes. absurd (cc) }
+listed w other = record { apart = list-apart; other = other; listing_error = λ yes. absurd (cc) }
 
 -- a worker's step leaves the handles of the list
-pub walk-spares-list : {N B W : Type 0} (m : Seen N B W) (u : ℕ) (s s' : Site) (w' : Core) (step : Action W) (answer : Option WorkerAnswer)
+pub walk-spares-list : {N B W : Type 0} (m : Seen N B W) (u : ℕ) (s s' : WorkerState) (w' : Core) (step : Action W) (answer : Option WorkerAnswer)
     → workers.WalkDoes m u s step s' → Ends answer u s'.core w'
     → Spares Owner.List s.core w'
 walk-spares-list m u s s' w' step answer does ends =

@@ -1,8 +1,8 @@
 -- What tables and lists of things to do know of trees stays right as long as stored blobs and nodes' trees stay; and the effect of a change of a table.
 use Rattle.pagable_theorems.proofs.{NewClaims.{EventTurns, StandsIn, same-grow, turns-grow, turns-keep}, FormsOfTrees.{IdentityStands, key-stands, leads-on, wrote}, ReadingSteps.site_of, SlotsGrow.AllStand}
 use Rattle.pagable_theorems.proofs.{SlotsGrow.{HasClaim, KeepsKeys, PutsSlot, ShelfGrows, among-drop, changes-slot, keys-grow, put-cases, puts-slot, some-same}, Trees.followed-all, Words.{Among, ArcRef}}
-use Rattle.pagable_theorems.proofs.Words.{Walking, WorkerReply, cases_Bool, step_of, Blob, Bool, Claim, Does, Event, EventReply, FollowsTo, HandleNumber, HoldsSettled, Identity, IsLawful, IsMachineWhole, IsPublished, List, MachineState, None, Ok}
-use Rattle.pagable_theorems.proofs.Words.{IsReadableType, IsWellAsked, Option, Represents, Seen, Shelf, Site, Slot, Some, Task, Todo, Action, Tree, Types, Values, WorkFits, Written, [], above, answer_after, ap, arith, blob_of}
+use Rattle.pagable_theorems.proofs.Words.{Walking, WorkerReply, cases_Bool, step_of, Blob, Bool, Claim, WorkDoes, Event, EventReply, FollowsTo, HandleNumber, HoldsSettled, Identity, IsLawful, IsMachineWhole, IsPublished, List, MachineState, None, Ok}
+use Rattle.pagable_theorems.proofs.Words.{IsReadableType, IsWellAsked, Option, PagerStandsFor, Seen, Shelf, WorkerState, Slot, Some, Task, Todo, Action, Tree, Types, Values, WorkFits, Written, [], above, answer_after, ap, arith, blob_of}
 use Rattle.pagable_theorems.proofs.Words.{drop, give, identity_of, if◌then◌else◌, inl, inr, is_eager, length, max, nat_eq, nat_tests, no_result, of_entry, of_item, refl, rules, subst, suc, sym, to_fail}
 use Rattle.pagable_theorems.{proofs.Words.{to_finish, to_item, to_release, to_set, to_start, to_write, true, type_of, world_of, zero, ℕ, ◌++◌, ◌+◌, ◌==◌, ◌∙◌, ◌∷◌, ◌≡◌, ◌≤◌}, specs.TreeSteps.Above}
 use Rattle.pagable_theorems.specs.TreeSteps.{AllLow, AllWrote, BlobStands, Expects, Ground, HasBlob, HasRoom, IsAttained, IsDone, IsLow, KeyStands, KeysSoFar, Placed, SlotFits, SlotsFit, Waits, Walks, Wrote, WroteOver, WroteTree}
@@ -237,7 +237,8 @@ pub stands-for : {N : Type 0} (v : Values N) (g : Ground) (shelf : Shelf) → Sl
     → IsPublished shelf i key height → IdentityStands v g i key
 stands-for v g shelf fits i key height p = let fit = fits i p.slot p.claimed in record { typed = fit.typed; right = (fit.publishes key height p.known).2.right }
 
-module _ {N B W : Type 0} (m : Seen N B W) (n : ℕ) {g g' : Ground} (task : Task) (s s' : Site) (goes : GroundGoes g g') (more : ShelfGrows s.shelf s'.shelf)
+module _ {N B W : Type 0} (m : Seen N B W) (n : ℕ) {g g' : Ground} (task : Task) (s s' : WorkerState) (goes : GroundGoes g g')
+    (more : ShelfGrows s.shelf s'.shelf)
     (fits : SlotsFit m.values g s.shelf)
     (claimable : (r : ArcRef) → claim_fault s.core r ≡ None → (r.node.0 ≤ g.last) × ((g.trees r.node.0).type ≡ type_of r.kind.0)) where
   still : (r : ArcRef) (below : List Todo) → Above s.shelf task r below → Above s'.shelf task r below
@@ -306,7 +307,7 @@ module _ {N B W : Type 0} (m : Seen N B W) (n : ℕ) {g g' : Ground} (task : Tas
       (readable : (r : ArcRef) (place : ℕ) (through : HandleNumber) (below : List Todo) → s.todo ≡ to_write r place through ∷ below
       → IsReadableType m.values.types (type_of r.kind.0))
       (ends : answer_after s.todo step ≡ None → (key : ℕ) (b : Blob) → s'.core.stored key ≡ Some b → g'.stored key ≡ Some b) where
-    stepped : (todo : List Todo) → s.todo ≡ todo → AllWrote m.values.types g todo → (action : Action W) → step ≡ action → Does m n s todo action s'
+    stepped : (todo : List Todo) → s.todo ≡ todo → AllWrote m.values.types g todo → (action : Action W) → step ≡ action → WorkDoes m n s todo action s'
         → AllStand s.shelf n task todo → Walks m.values g s.shelf task todo → Fits
     stepped (to_start r place ∷ below) e written (Action.Claim i (Ok Claim.Claimed)) st (is, c) all (at, above) =
         let t = c.finds.1.2 in
@@ -380,7 +381,7 @@ module _ {N B W : Type 0} (m : Seen N B W) (n : ℕ) {g g' : Ground} (task : Tas
     )
 
     -- and what waits is still a form of its node's tree
-    wrote-stepped : (todo : List Todo) → (action : Action W) → step ≡ action → Does m n s todo action s' → AllStand s.shelf n task todo → s.todo ≡ todo
+    wrote-stepped : (todo : List Todo) → (action : Action W) → step ≡ action → WorkDoes m n s todo action s' → AllStand s.shelf n task todo → s.todo ≡ todo
         → AllWrote m.values.types g todo → AllWrote m.values.types g' s'.todo
     wrote-stepped (to_start r place ∷ below) (Action.Claim i (Ok (Claim.Known key height))) st (is, c) all e written =
         listed c.finds.1.2.list_is (wrote-known m.values.types g' r key height below (all-wrote-on m.values goes below written.1))
@@ -400,7 +401,7 @@ module _ {N B W : Type 0} (m : Seen N B W) (n : ℕ) {g g' : Ground} (task : Tas
 
 module _ {N B W E : Type 0} (m : Seen N B W) (s s' : MachineState N E) (trees trees' : ℕ → Tree) (goes : GroundGoes (ground_of s trees) (ground_of s' trees'))
     (fit : WorkFits m.values s trees)
-    (whole : IsMachineWhole m.values s) (represents : Represents m.values s.pager trees) (settled : HoldsSettled m.values s.pager)
+    (whole : IsMachineWhole m.values s) (represents : PagerStandsFor m.values s.pager trees) (settled : HoldsSettled m.values s.pager)
     (lawful : IsLawful m.values) where
   abbrev g' : Ground
   g' = ground_of s' trees'

@@ -1,6 +1,6 @@
 -- Sums over the elements of a list, and what they count. And meanings that differ only in what stands for their references: they have the same forms.
-use Rattle.pagable_theorems.proofs.Words.{Among, AreMoments, Blob, Bool, Entries, Entry, Form, Forms, List, MachineState, Meaning, Moment, None, Option, ReadsTree, Seen, Shape, Site, Action, Tree, Types}
-use Rattle.pagable_theorems.proofs.Words.{Values, WalkDoes, [], ap, arith, code, cond, false, followed, inl, inr, length, map, nat_tests, none, one, pair, put_all, reference, reference-form, refl, rest}
+use Rattle.pagable_theorems.proofs.Words.{Among, AreMoments, Blob, Bool, Entries, Entry, Form, Forms, List, MachineState, Meaning, Moment, None, Option, ReadsTree, Seen, Shape, WorkerState, Action, Tree, Types}
+use Rattle.pagable_theorems.proofs.Words.{WalkDoes, [], ap, arith, code, cond, false, followed, inl, inr, length, map, nat_tests, none, one, pair, put_all, reference, reference-form, refl, rest}
 use Rattle.pagable_theorems.proofs.Words.{references_in, rename, rules, run-form, state_after, subst, suc, sum_by-cons, sym, tree, true, type_of, variant, zero, ℕ, ℤ, ◌++◌, ◌+◌, ◌<◌, ◌==◌, ◌∙◌, ◌∷◌, ◌≡◌}
 use Rattle.{pagable_theorems.{proofs.Words.{◌≤◌, ◌⊎◌}, specs.{SmallWorlds.ChainsJoin, FormLaws.IsAnyOrder}}, pagable_value_spec.specs.{BasicValues.{length_form, longest}, Canonical.EachType}}
 use Rattle.pagable_value_spec.specs.{Canonical.HasNoReference, CarriedTypes.{of_entries, of_hash_map}, Codes.one-meaning, Form.{array-form, both-form, case-form, duration-form, err-form, flag-form, list-form}}
@@ -500,5 +500,6 @@ pub chains_join : {N B W : Type 0} (E : Type 0) (m : Seen N B W) → ChainsJoin 
 chains_join E m = record { joins = joins m; ends = ends }
 
 -- whatever a worker does is a step of the automaton of its order
-pub steps_follow : {N B W : Type 0} (m : Seen N B W) (v : ℕ) (s s' : Site) (step : Action W) → WalkDoes m v s step s' → Follows m.written_of s.todo step s'.todo
+pub steps_follow : {N B W : Type 0} (m : Seen N B W) (v : ℕ) (s s' : WorkerState) (step : Action W) → WalkDoes m v s step s'
+    → Follows m.written_of s.todo step s'.todo
 steps_follow m v s s' step does = let d = does.does in grind (arith, nat_tests)

@@ -9,7 +9,7 @@ use Rattle.pagable_theorems.proofs.Words.{LoadNumber, MachineState, Mode, Moment
 use Rattle.pagable_theorems.proofs.Words.{above, adopted, ap, arith, false, false_from_ne_true, find_row, held, if_there, inl, inr, is_in, is_named_by, is_some, mode_of, nat_tests, next_node, of_cell, ℕ}
 use Rattle.pagable_theorems.proofs.Words.{owner_value, references_fault, refl, root_frame, row_at, rules, slice_get, subst, suc, sym, type_of, with_handle, world_of, zero, ◌+◌, ◌<◌, ◌==◌, ◌∙◌, ◌∷◌, ◌≡◌}
 use Rattle.{pagable_theorems.{proofs.Words.◌⊎◌, specs.{DepthLaws.{HasBegun, IsBeginOf, SoundLaw}, TreeSteps.FramesHeld}}, pagable_pager_spec.specs.{Calls.{Asked, row_of, with_node}, Events.LoadSteps}}
-use Rattle.pagable_pager_spec.specs.{Events.{ReadingsAre, reading_at}, LoadCalls.BeginCall, Loads.{Does, GoesOn, IsDecoded, MakesNode, gone_on, with_got}, WorkerClaims.{IsLoadOfPagedOut, of_load}}
+use Rattle.pagable_pager_spec.specs.{Events.{ReadingsAre, reading_at}, LoadCalls.BeginCall, Loads.{LoadDoes, GoesOn, IsDecoded, MakesNode, gone_on, with_got}, WorkerClaims.{IsLoadOfPagedOut, of_load}}
 use Rattle.pagable_pager_spec.specs.{WorkerClaims.{IsOfChance, LoadIsSound, StandTogether, of_nobody, turn_of}, Refusals.Refused, declared.events.LoadReply.LoadReply}
 use Rattle.pagable_pager_spec.specs.Runs.{TakesWell}
 
@@ -239,7 +239,7 @@ module _ {N B W E : Type 0} (m : Seen N B W) (lawful : IsLawful m.values) (s s' 
       let was : core.loads l.0 ≡ Some load = grind (arith, nat_tests) in let a =
       going-of s trees on.readings x.reading (reading-stands (world_of s) on.whole.pager.whole l x.reading x.at) in
       let before = subst (λ k. LoadReady core k load x.reading.frames) (sym number) (ready x.reading load x.at was) in
-      let go = subst (λ o. Does m.values core Owner.Caller x.reading o x.frames s'.pager.core) e x.does.does in
+      let go = subst (λ o. LoadDoes m.values core Owner.Caller x.reading o x.frames s'.pager.core) e x.does.does in
       let fits = a.fits load (reading-open s on.whole l x.reading x.at was) in
       let after = goes-ready m.values lawful core s'.pager.core x.reading
       (asks x.reading x.at).types load trees load.key x.reading.node_type on.whole.pager.whole.handles before a.held fits x.frames go in

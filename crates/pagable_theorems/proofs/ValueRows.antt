@@ -4,7 +4,7 @@ use Rattle.pagable_theorems.proofs.{Decoding.among-either, FormsOfTrees.{held-of
 use Rattle.pagable_theorems.proofs.{HandlesKept.stands-whole, StepBounds.{entered-of, found}, LoadProgress.row-pins, Trees.{at-most-sum, counted, one-true, same-number, self-number, sum-zero}}
 use Rattle.pagable_pager_spec.specs.{Calls.{Asked, CloneCall, LoosenCall, PinCall, RecallCall, TakeCall, is_named_by, moved, row_of, with_cached, with_handle, with_known, with_mode}, Cascade.only_handle}
 use Rattle.pagable_pager_spec.specs.{Events.{with_entry_taken, with_worker}, Kinds.{find_row, held, is_at, is_handle, is_in_memory, is_owned_by, is_owner, is_pin, is_pinning, is_share, is_shared, pins}}
-use Rattle.pagable_pager_spec.specs.{Kinds.{mode_of, owner_value}, LoadCalls.{BeginCall, BeginKeyCall, is_owned_in}, Pager.{IsWhole, PagerState, WellFormed}, Basics.{Among, ArcRef, Error, HandleNumber}}
+use Rattle.pagable_pager_spec.specs.{Kinds.{mode_of, owner_value}, LoadCalls.{BeginCall, BeginKeyCall, is_owned_in}, Pager.{IsWhole, PagerState, IsPagerWhole}, Basics.{Among, ArcRef, Error, HandleNumber}}
 use Rattle.pagable_pager_spec.specs.{Basics.{Kind, LoadNumber, NodeNumber, SameAt, WorkerNumber, changed, if_there, is_shared_kind, one, times}, Refusals.{IsReference, Owns}, World.{Alike, Core, Last}}
 use Rattle.pagable_pager_spec.specs.{World.{Values, is_here, key_at, row_at, type_at, usable}, declared.{pinning.{Beginning.Beginning, Pinning.Pinning}, handle_row.{HandleRow.HandleRow, Owner.Owner}}}
 use Rattle.{pagable_pager_spec.specs.declared.mode.Mode.Mode, std.proofs.Common.{Bool, Err, List, None, Ok, Option, Some, [], ap, arith, false, if◌then◌else◌, length, map, refl, subst, suc, sum_by, sym}}
@@ -60,34 +60,36 @@ owns-test n q h number own = let a = ap (λ m. m == q) number ∙ self-number q 
 
 -- ---- a pager's type says that
 
-module _ {N E : Type 0} {v : Values N} {s : PagerState N E} (is : WellFormed v s) where
+module _ {N E : Type 0} {v : Values N} {s : PagerState N E} (is : IsPagerWhole v s) where
   pub sits : (n : ℕ) → At v s.core n (s.values n)
   sits n = at (s.values n) refl
     where
       at : (o : Option N) → s.values n ≡ o → At v s.core n o
-      at None e = λ h among own. let none = is.bare n e in let some = some-there (is_owned_by (owner_value n)) s.core.rows h among (owned-test n h.owner own) in
+      at None e = λ h among own. let none = is.owns_nothing n e in let some =
+          some-there (is_owned_by (owner_value n)) s.core.rows h among (owned-test n h.owner own) in
           absurd (omega (arith, none, some))
       at (Some x) e = record {
         typed = is.typed n x e;
         names = λ r among. let a = is.references n x r e among in record { is = a; stands = stands-whole is.whole.handles r.handle.0 a.row a.live };
-        once = λ q. subst (λ k. k ≤ 1) (sym (is.inside n x q e)) (owned-once is.whole.handles (owner_value n) q);
+        once = λ q. subst (λ k. k ≤ 1) (sym (is.owns_references n x q e)) (owned-once is.whole.handles (owner_value n) q);
         owned = λ h among own.
             let some = some-there (owns n h.number.0) s.core.rows h among (owns-test n h.number.0 h refl own) in
-            let c = there-some (λ (r : ArcRef). r.handle.0 == h.number.0) (v.references x) (subst (λ k. 0 < k) (sym (is.inside n x h.number.0 e)) some) in
+            let c = there-some (λ (r : ArcRef). r.handle.0 == h.number.0) (v.references x)
+            (subst (λ k. 0 < k) (sym (is.owns_references n x h.number.0 e)) some) in
             (c.0, c.1, same-number _ _ c.2);
       }
 
 -- and nothing else of values
 pub settled : {N E : Type 0} {v : Values N} (s : PagerState N E) → ((n : ℕ) → At v s.core n (s.values n))
     → ((n : ℕ) → is_some (s.values n) ≡ holds_value s.core n)
-    → ((n : ℕ) → s.counts n ≡ pins n s.core.rows) → IsWhole s.core → WellFormed v s
+    → ((n : ℕ) → s.counts n ≡ pins n s.core.rows) → IsWhole s.core → IsPagerWhole v s
 settled {N} {v = v} s all valued counts whole = record {
   whole = whole;
   counted = counts;
   valued = valued;
   typed = λ n x e. (has n x e).typed;
-  inside = λ n x q e. inside n x q (has n x e);
-  bare = λ n e. sum-zero (λ h. one (is_owned_by (owner_value n) h)) s.core.rows (λ h among.
+  owns_references = λ n x q e. inside n x q (has n x e);
+  owns_nothing = λ n e. sum-zero (λ h. one (is_owned_by (owner_value n) h)) s.core.rows (λ h among.
       ap one (false_from_ne_true (is_owned_by (owner_value n) h) (λ own. subst (At v s.core n) e (all n) h among (same-owner (owner_value n) h.owner own))));
   references = λ n x r e among. ((has n x e).names r among).is;
 }
@@ -192,14 +194,14 @@ pub rests-cached : {m w' : Core} (kind : Kind) (key : ℕ) (n : NodeNumber) (b :
     → IsShut m → Rests m w'
 rests-cached kind key n x3 a e shut = grind (arith, nat_tests, unmoved, rests-then, spares-same)
 
-pub spared : {N E : Type 0} {v : Values N} {s s' : PagerState N E} → WellFormed v s → Rests s.core s'.core → ((n : ℕ) → s'.values n ≡ s.values n) → IsRight s'
-    → WellFormed v s'
+pub spared : {N E : Type 0} {v : Values N} {s s' : PagerState N E} → IsPagerWhole v s → Rests s.core s'.core → ((n : ℕ) → s'.values n ≡ s.values n) → IsRight s'
+    → IsPagerWhole v s'
 spared {v = v} {s} {s'} is rests same right =
     settled s' (λ n. subst (At v s'.core n) (sym (same n)) (sits-on v (rests.spares.owns n) (s.values n) (sits is n)))
     (λ n. ap is_some (same n) ∙ is.valued n ∙ sym (rests.spares.holds n))
     right.counted (right.whole rests.shut)
 
-pub stayed : {N E : Type 0} {v : Values N} {s s' : PagerState N E} → WellFormed v s → Rests s.core s'.core → Leaves s.values s' → WellFormed v s'
+pub stayed : {N E : Type 0} {v : Values N} {s s' : PagerState N E} → IsPagerWhole v s → Rests s.core s'.core → Leaves s.values s' → IsPagerWhole v s'
 stayed {N} {v = v} {s} {s'} is rests left = spared is rests (λ n. left.swept n ∙ (let e = is.valued n ∙ sym (rests.spares.holds n) in grind (arith, nat_tests)))
     left.right
 

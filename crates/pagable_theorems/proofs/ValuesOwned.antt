@@ -5,11 +5,11 @@ use Rattle.pagable_theorems.proofs.{HandlesKept.{or-none, same-owner, stands-cha
 use Rattle.{pagable_theorems.proofs.Trees.{same-number, self-number, sum-le}, pagable_theorems.proofs.ValueRows.{AreFree, At, Has, Keeps, OwnsAlike, among-named, by-row, holds_value, listed-free, load-free}}
 use Rattle.pagable_theorems.proofs.ValueRows.{mode-here, mode-others, mode-owns, moved-pins, own-free, owned-test, owns-changed, owns-handle, owns-same, owns-then, rests-cached, row-here, rowed, sits}
 use Rattle.pagable_theorems.proofs.ValueRows.{same-value, settled, shut-alike, sits-on, spares-handle, spares-keeps, spares-known, spares-moved, spares-then, turned}
-use Rattle.pagable_pager_spec.{proofs.Elements.among-left, specs.Calls.{AwayBirthCall, BirthCall, CloseCall, OfferCall, ReleaseCall, ScheduleCall, SetKeyCall, UnpinCall, is_named_by, moved, next_node}}
+use Rattle.pagable_pager_spec.{proofs.Elements.among-left, specs.Calls.{InsertPagedOutCall, InsertCall, CloseCall, OfferCall, ReleaseCall, ScheduleCall, SetKeyCall, UnpinCall, is_named_by, moved, next_node}}
 use Rattle.pagable_pager_spec.specs.{Calls.{row_of, with_handle, with_key, with_mode, with_node}, Cascade.{AreNewEntries, Falls, FallsAnyhow, fallen, is_keyed, is_outside, left_rows, loses_value}}
 use Rattle.pagable_pager_spec.specs.{Cascade.{only_handle, owned_outside}, Kinds.{held, is_at, is_loose, is_owned_by, is_owner, is_pin, is_pinning, mode_of, owner_value, owner_worker, pins}}
 use Rattle.pagable_pager_spec.specs.{LoadCalls.{Adopts, DropCall, HandOverCall, Installs, LazyCall, LoadCloses, MayEnd, is_owned_in, numbers_of, with_pin, without_load}, Pager.PagerState}
-use Rattle.pagable_pager_spec.specs.{Pager.WellFormed, Basics.{Among, ArcRef, Error, HandleNumber, Kind, LoadNumber, NodeNumber, OptionalDataKey, if_there, is_in, one, times, type_of, updated}}
+use Rattle.pagable_pager_spec.specs.{Pager.IsPagerWhole, Basics.{Among, ArcRef, Error, HandleNumber, Kind, LoadNumber, NodeNumber, OptionalDataKey, if_there, is_in, one, times, type_of, updated}}
 use Rattle.pagable_pager_spec.specs.{Refusals.{Owns, references_fault}, Workers.{WorkerEnds, is_load_of, is_workers_at}, World.{Alike, Cell, Core, OpenLoad, Values, is_here, type_at, usable}}
 use Rattle.{pagable_pager_spec.specs.declared.{handle_row.{HandleRow.HandleRow, Owner.Owner}, mode.Mode.Mode}, std.proofs.Common.{Bool, Err, List, None, Ok, Option, Some, [], ap, arith, false, if◌then◌else◌}}
 use Rattle.std.proofs.{Common.{inl, inr, map, refl, subst, suc, sym, true, ℕ, ◌&&◌, ◌++◌, ◌+◌, ◌<◌, ◌==◌, ◌||◌, ◌∙◌, ◌∷◌, ◌≡◌, ◌≤◌}, lemmas.Bool.{and_parts, cases_Bool, false_from_ne_true}}
@@ -146,7 +146,7 @@ module _ {before w w' : Core} {given : ℕ → Bool} {r : _} (f : Falls before w
 pub fell-from : {N E : Type 0} {v : Values N} {m : Core} {values : ℕ → Option N} → ((n : ℕ) → At v m n (values n))
     → ((n : ℕ) → holds_value m n ≡ true → is_some (values n) ≡ true)
     → {before : Core} {given : ℕ → Bool} {r : _} (s' : PagerState N E) → Falls before m given r s'.core → IsShut m → AreFree m given → Leaves values s'
-    → WellFormed v s'
+    → IsPagerWhole v s'
 fell-from {N} {v = v} {m} {values} at there s' f shut free l = settled s' (λ n. subst (At v s'.core n) (sym (l.swept n)) (at-left f v values at free n))
     (λ n.
     let was : holds_value s'.core n ≡ true → holds_value m n ≡ true = λ is.
@@ -154,27 +154,27 @@ fell-from {N} {v = v} {m} {values} at there s' f shut free l = settled s' (λ n.
     ap is_some (l.swept n) ∙ (let t = there n in grind (arith, nat_tests))) l.right.counted (l.right.whole (shut-fell f shut))
 
 -- The handles go from a world where values stand as they stood, and none of them is a value's.
-pub fell : {N E : Type 0} {v : Values N} {s s' : PagerState N E} {before m : Core} {given : ℕ → Bool} {r : _} → WellFormed v s → Keeps s.core m
+pub fell : {N E : Type 0} {v : Values N} {s s' : PagerState N E} {before m : Core} {given : ℕ → Bool} {r : _} → IsPagerWhole v s → Keeps s.core m
     → Falls before m given r s'.core → IsShut m
-    → AreFree s.core given → Leaves s.values s' → WellFormed v s'
+    → AreFree s.core given → Leaves s.values s' → IsPagerWhole v s'
 fell {v = v} {s} {s'} is k f shut free =
     fell-from (λ n. sits-on v (k.owns n) (s.values n) (sits is n)) (λ n held. is.valued n ∙ k.held n held) s' f shut
     (λ h among given n own. free h ((k.owns n.0).owned h among own) given n own)
 
-module _ {N E : Type 0} {v : Values N} {s s' : PagerState N E} (is : WellFormed v s) (left : Leaves s.values s') where
-  stays : Alike s.core s'.core → WellFormed v s'
+module _ {N E : Type 0} {v : Values N} {s s' : PagerState N E} (is : IsPagerWhole v s) (left : Leaves s.values s') where
+  stays : Alike s.core s'.core → IsPagerWhole v s'
   stays a = stayed is (unmoved a is.whole.shut) left
 
-  pub load_closed : (l : LoadNumber) {r : Result (Unit {0}) Error} → LoadCloses s.core l r s'.core → WellFormed v s'
+  pub load_closed : (l : LoadNumber) {r : Result (Unit {0}) Error} → LoadCloses s.core l r s'.core → IsPagerWhole v s'
   load_closed l f = fell is (spares-keeps (spares-same refl (λ n. refl) refl)) f is.whole.shut (load-free is.whole l) left
 
-  pub dropped : {me : Owner} {l : LoadNumber} {r : Result (Unit {0}) Error} → DropCall s.core me l r s'.core → WellFormed v s'
+  pub dropped : {me : Owner} {l : LoadNumber} {r : Result (Unit {0}) Error} → DropCall s.core me l r s'.core → IsPagerWhole v s'
   dropped {l = l} c = elim c.does [ inl refused ↦ stays refused.stays | inr (load, owned, f) ↦ load_closed l f ]
 
   -- what was read is dropped, since the cache gives a node
   pub adopted_known : {me : Owner} {l : LoadNumber} {kind : Kind} {key t n : ℕ} {references : List ArcRef} {k : HandleNumber}
       → Adopts s.core me l kind key t references k s'.core
-      → usable s.core kind.0 key ≡ Some n → WellFormed v s'
+      → usable s.core kind.0 key ≡ Some n → IsPagerWhole v s'
   adopted_known {l = l} {kind} {key} {references = references} a known = elim a.makes [
     | inl (n, usable, f) ↦
         let right = good s.core (Owner.Load l) [] references a.good in
@@ -183,30 +183,30 @@ module _ {N E : Type 0} {v : Values N} {s s' : PagerState N E} (is : WellFormed 
     | inr (none, few, alike) ↦ absurd (let e : None ≡ Some _ = sym none ∙ known in cc)
   ]
 
-  pub closed : {r : Result (Unit {0}) Error} → CloseCall s.core r s'.core → WellFormed v s'
+  pub closed : {r : Result (Unit {0}) Error} → CloseCall s.core r s'.core → IsPagerWhole v s'
   closed c = fell is (spares-keeps (spares-same refl (λ n. refl) refl)) c.falls.falls (λ e. (refl, λ kind key. refl))
       (grind (arith, nat_tests, counted, listed-free)) left
 
   -- a worker releases the node that it has walked
-  pub worker_released : (u n : ℕ) → FallsAnyhow s.core s.core (is_workers_at s.core u n) s'.core → WellFormed v s'
+  pub worker_released : (u n : ℕ) → FallsAnyhow s.core s.core (is_workers_at s.core u n) s'.core → IsPagerWhole v s'
   worker_released u n f = fell is (spares-keeps (spares-same refl (λ n. refl) refl)) f.falls is.whole.shut
       (by-row is.whole (λ row. is_owned_by (owner_worker u) row && is_at n row) (λ h m own. ap (λ o. is_owner (owner_worker u) o && is_at n h) own)) left
 
-  pub worker_ended : (u : ℕ) → WorkerEnds s.core u s'.core → WellFormed v s'
+  pub worker_ended : (u : ℕ) → WorkerEnds s.core u s'.core → IsPagerWhole v s'
   worker_ended u f =
       let free = by-row is.whole (λ row. is_owner (owner_worker u) row.owner || is_load_of s.core u row.owner)
       (λ h m own. ap (λ o. is_owner (owner_worker u) o || is_load_of s.core u o) own) in
       fell is (spares-keeps (spares-same refl (λ n. refl) refl)) f.falls is.whole.shut free left
 
   module _ {me : Owner} (none : NotValues me) where
-    pub released : {h : HandleNumber} {r : Result (Unit {0}) Error} → ReleaseCall s.core me h r s'.core → WellFormed v s'
+    pub released : {h : HandleNumber} {r : Result (Unit {0}) Error} → ReleaseCall s.core me h r s'.core → IsPagerWhole v s'
     released {h} c = elim c.does [
       | inl e ↦ stays e.stays
       | inr (row, own, f) ↦ fell is (spares-keeps (spares-same refl (λ n. refl) refl)) f is.whole.shut
           (own-free is.whole h row none own) left
     ]
 
-    pub unpinned : {h : HandleNumber} {r : Result (Unit {0}) Error} → UnpinCall s.core me h r s'.core → WellFormed v s'
+    pub unpinned : {h : HandleNumber} {r : Result (Unit {0}) Error} → UnpinCall s.core me h r s'.core → IsPagerWhole v s'
     unpinned {h} c = elim c.does [
       | inl refused ↦ stays refused.stays
       | inr (row, owns, inl (mode, told, a)) ↦ stays a
@@ -220,7 +220,7 @@ module _ {N E : Type 0} {v : Values N} {s s' : PagerState N E} (is : WellFormed 
           fell is keeps f is.whole.shut (λ x among e. absurd (cc)) left
     ]
 
-    pub key_set : {h : HandleNumber} {key : ℕ} {r : Result (Unit {0}) Error} → SetKeyCall s.core me h key r s'.core → WellFormed v s'
+    pub key_set : {h : HandleNumber} {key : ℕ} {r : Result (Unit {0}) Error} → SetKeyCall s.core me h key r s'.core → IsPagerWhole v s'
     key_set {key = key} c = elim c.does [
       | inl refused ↦ stays refused.stays
       | inr (row, owns, inl (mode, told, a)) ↦ stays a
@@ -232,7 +232,7 @@ module _ {N E : Type 0} {v : Values N} {s s' : PagerState N E} (is : WellFormed 
           fell is keeps f is.whole.shut (λ x among e. absurd (cc)) left
     ]
 
-    pub scheduled : {h : HandleNumber} (r : Result (Unit {0}) Error) → ScheduleCall s.core me h r s'.core → WellFormed v s'
+    pub scheduled : {h : HandleNumber} (r : Result (Unit {0}) Error) → ScheduleCall s.core me h r s'.core → IsPagerWhole v s'
     scheduled {h} (Ok u) c = elim c.moves.2 [
       | inl (open_still, a) ↦
           let listed = spares-moved s.core (only_handle h) Owner.List (λ n e. cc) (own-free is.whole h c.moves.0 none c.moves.1) in
@@ -242,7 +242,7 @@ module _ {N E : Type 0} {v : Values N} {s s' : PagerState N E} (is : WellFormed 
     scheduled (Err e) c = stays c.refused.stays
 
     pub offered : {kind : Kind} {key : ℕ} {h : HandleNumber} (r : Result (Option HandleNumber) Error) → OfferCall s.core me kind key h r s'.core
-        → WellFormed v s'
+        → IsPagerWhole v s'
     offered (Ok None) c = stayed is (rests-then (spares-same refl (λ n. refl) refl) c.answers.3.2
         (λ e. absurd (let x : true ≡ false = sym e ∙ c.answers.3.0 in cc))) left
     offered {kind} {key} {h} (Ok (Some k)) c = elim c.answers.3 [
@@ -252,7 +252,7 @@ module _ {N E : Type 0} {v : Values N} {s s' : PagerState N E} (is : WellFormed 
     ]
     offered (Err e) c = stays c.refused.stays
 
-    pub handed_over : {l : LoadNumber} {hs : List HandleNumber} (r : Result (Unit {0}) Error) → HandOverCall s.core me l hs r s'.core → WellFormed v s'
+    pub handed_over : {l : LoadNumber} {hs : List HandleNumber} (r : Result (Unit {0}) Error) → HandOverCall s.core me l hs r s'.core → IsPagerWhole v s'
     handed_over {l} {hs} (Ok u) c =
         let named = (neither _ _ (neither _ _ c.hands.0).1).1 in
         let free = rowed is.whole (is_in (numbers_of hs)) (λ n. record { each = effects.handed-free (Owner.Value n) (λ m. refl) s.core l hs [] named }) in
@@ -284,7 +284,7 @@ pub record Receives {N : Type 0} (v : Values N) (w given : Core) (values : ℕ �
   pub named : (h : HandleRow) → Among given.rows h → h.owner ≡ owner_value p → is_named_by references h.number.0 ≡ true
   pub before : (n : ℕ) → (n == p) ≡ false → OwnsAlike n w given
 
-module _ {N E : Type 0} {v : Values N} {s : PagerState N E} (is : WellFormed v s) {me : Owner} (free : NotValues me) (references : List ArcRef)
+module _ {N E : Type 0} {v : Values N} {s : PagerState N E} (is : IsPagerWhole v s) {me : Owner} (free : NotValues me) (references : List ArcRef)
     (fine : references_fault s.core me [] references ≡ None)
     (p : ℕ) (cells : ℕ → Option Cell) (loads : ℕ → Option OpenLoad) (node : ℕ)
     (typed : (n t : ℕ) → type_at s.core n ≡ Some t → type_at (record s.core { cells = cells }) n ≡ Some t)
@@ -346,7 +346,7 @@ module _ {N E : Type 0} {v : Values N} {s : PagerState N E} (is : WellFormed v s
     before = others;
   }
 
-module _ {N E : Type 0} {v : Values N} {s : PagerState N E} (s' : PagerState N E) (is : WellFormed v s) {me : Owner} (free : NotValues me) (t : ℕ)
+module _ {N E : Type 0} {v : Values N} {s : PagerState N E} (s' : PagerState N E) (is : IsPagerWhole v s) {me : Owner} (free : NotValues me) (t : ℕ)
     (own : OptionalDataKey)
     (references : List ArcRef) (mode : Mode) (fine : references_fault s.core me [] references ≡ None)
     (like : Rests (with_handle (with_node s.core t own references) (next_node s.core) mode me) s'.core) where
@@ -376,7 +376,7 @@ module _ {N E : Type 0} {v : Values N} {s : PagerState N E} (s' : PagerState N E
   new-cell = ap (λ b. if b then Some (record { node_type = t; key = own }) else s.core.cells next) (self-number next)
 
   comes : (o : Option N) → At v bearing next o → is_some o ≡ is_here made next → ((n : ℕ) → s'.values n ≡ (if n == next then o else s.values n)) → IsRight s'
-      → WellFormed v s'
+      → IsPagerWhole v s'
   comes o new here values right =
       settled s' (λ n. subst (At v s'.core n) (sym (values n)) (sits-on v
       (owns-then (owns-handle bearing (next_node s.core) mode me free n) (like.spares.owns n)) _ (receives-it.all o new n)))
@@ -386,11 +386,11 @@ module _ {N E : Type 0} {v : Values N} {s : PagerState N E} (s' : PagerState N E
       ap is_some (values n) ∙ (valued ∙ sym (like.spares.holds n))) right.counted (right.whole like.shut)
 
   comes-with : (x : N) → v.node_type x ≡ t → v.references x ≡ references → is_pinning mode ≡ true
-      → ((n : ℕ) → s'.values n ≡ (if n == next then Some x else s.values n)) → IsRight s' → WellFormed v s'
+      → ((n : ℕ) → s'.values n ≡ (if n == next then Some x else s.values n)) → IsRight s' → IsPagerWhole v s'
   comes-with x is_typed named pinning = grind (arith, nat_tests, comes, receives-it, new-cell, pinned-here, pins-made, self-number)
 
   comes-away : (key : ℕ) → own ≡ OptionalDataKey.Some key → references ≡ [] → is_pinning mode ≡ false → ((n : ℕ) → s'.values n ≡ s.values n) → IsRight s'
-      → WellFormed v s'
+      → IsPagerWhole v s'
   unfolding is_named_by
   comes-away key keyed nothing unpinned same =
       let no-pins : pins next s.core.rows ≡ 0 = grind (arith, nat_tests, sum-le, one-less, no-cell) in
@@ -398,32 +398,32 @@ module _ {N E : Type 0} {v : Values N} {s : PagerState N E} (s' : PagerState N E
       comes None (λ h among mine. let e = ap (λ rs. is_named_by rs h.number.0) (sym nothing) ∙ receives-it.named h among mine in absurd (cc)) (sym away)
       (λ n. let a = same n in grind (arith, nat_tests, no-value))
 
-module _ {N E : Type 0} {v : Values N} {s s' : PagerState N E} (is : WellFormed v s) where
+module _ {N E : Type 0} {v : Values N} {s s' : PagerState N E} (is : IsPagerWhole v s) where
   pub born : {me : Owner} {x : N} {mode : Mode} {k : HandleNumber} → NotValues me → is_pinning mode ≡ true
-      → BirthCall s.core me x (v.node_type x) (v.references x) mode (Ok k) s'.core
-      → ((n : ℕ) → s'.values n ≡ (if n == s.core.last.node + 1 then Some x else s.values n)) → IsRight s' → WellFormed v s'
+      → InsertCall s.core me x (v.node_type x) (v.references x) mode (Ok k) s'.core
+      → ((n : ℕ) → s'.values n ≡ (if n == s.core.last.node + 1 then Some x else s.values n)) → IsRight s' → IsPagerWhole v s'
   born {x = x} {mode} free pinning b = comes-with s' is free (v.node_type x) OptionalDataKey.None (v.references x) mode b.made.0
       (unmoved b.made.3 is.whole.shut) x refl refl pinning
 
   -- what a load read becomes a node, where the cache gives none
   pub adopts-new : {me : Owner} {l : LoadNumber} {kind : Kind} {key : ℕ} {x : N} {k : HandleNumber}
       → Adopts s.core me l kind key (v.node_type x) (v.references x) k s'.core
-      → usable s.core kind.0 key ≡ None → ((n : ℕ) → s'.values n ≡ (if n == s.core.last.node + 1 then Some x else s.values n)) → IsRight s' → WellFormed v s'
+      → usable s.core kind.0 key ≡ None → ((n : ℕ) → s'.values n ≡ (if n == s.core.last.node + 1 then Some x else s.values n)) → IsRight s' → IsPagerWhole v s'
   adopts-new {l = l} {kind} {key} {x} a unknown = elim a.makes [
     | inl (n, known, f) ↦ absurd (let e : None ≡ Some n = sym unknown ∙ known in cc)
     | inr (none, few, alike) ↦ comes-with s' is (not-load l) (type_of kind.0) _ (v.references x) (mode_of kind.0) a.good
         (rests-cached kind key (next_node s.core) s.core.closed alike refl is.whole.shut) x a.typed refl (let eager = a.eager in grind (arith, nat_tests))
   ]
 
-  pub born-away : {me : Owner} {t key : ℕ} (r : Result HandleNumber Error) → NotValues me → AwayBirthCall s.core me t key r s'.core
-      → ((n : ℕ) → s'.values n ≡ s.values n) → IsRight s' → WellFormed v s'
+  pub born-away : {me : Owner} {t key : ℕ} (r : Result HandleNumber Error) → NotValues me → InsertPagedOutCall s.core me t key r s'.core
+      → ((n : ℕ) → s'.values n ≡ s.values n) → IsRight s' → IsPagerWhole v s'
   unfolding references_fault
   born-away {me} {t} {key} (Ok k) free b = comes-away s' is free t (OptionalDataKey.Some key) [] Mode.LooseUnpinned refl
       (unmoved b.made.2 is.whole.shut) key refl refl refl
   born-away (Err e) free b = spared is (unmoved b.refused.stays is.whole.shut)
 
   pub lazily : {me : Owner} {l : LoadNumber} {kind : Kind} {key : ℕ} (r : Result HandleNumber Error) → LazyCall s.core me l kind key r s'.core
-      → ((n : ℕ) → s'.values n ≡ s.values n) → IsRight s' → WellFormed v s'
+      → ((n : ℕ) → s'.values n ≡ s.values n) → IsRight s' → IsPagerWhole v s'
   unfolding references_fault
   lazily {l = l} {kind} {key} (Ok k) c = elim c.makes.3 [
     | inl g ↦ spared is (rests-then (spares-known is.whole kind key g.n (not-load l) g.known) g.leaves is.whole.shut)
@@ -435,7 +435,7 @@ module _ {N E : Type 0} {v : Values N} {s s' : PagerState N E} (is : WellFormed 
 
 -- ---- a load of a cell ends with a pin: where the cell has no value, what was read comes into it; else it is dropped. What the load still owns goes
 
-module _ {N E : Type 0} {v : Values N} {s : PagerState N E} (is : WellFormed v s) {me : Owner} {l : LoadNumber} {node : NodeNumber} {h : HandleNumber} {x : N}
+module _ {N E : Type 0} {v : Values N} {s : PagerState N E} (is : IsPagerWhole v s) {me : Owner} {l : LoadNumber} {node : NodeNumber} {h : HandleNumber} {x : N}
     (may : MayEnd s.core me l node h (v.node_type x) (v.references x)) (row : HandleRow) (own : Owns s.core me h is_loose row) (at_node : row.node ≡ node) where
   free : NotValues me × NotLoads me
   free = (grind (arith, nat_tests))
@@ -502,16 +502,16 @@ module _ {N E : Type 0} {v : Values N} {s : PagerState N E} (is : WellFormed v s
               cc
         ]
 
-module _ {N E : Type 0} {v : Values N} {s s' : PagerState N E} (is : WellFormed v s) {me : Owner} {l : LoadNumber} {node : NodeNumber} {h k : HandleNumber}
+module _ {N E : Type 0} {v : Values N} {s s' : PagerState N E} (is : IsPagerWhole v s) {me : Owner} {l : LoadNumber} {node : NodeNumber} {h k : HandleNumber}
     {x : N}
     (may : MayEnd s.core me l node h (v.node_type x) (v.references x)) (i : Installs s.core me l node h k (v.references x) s'.core) where
-  pub installed_there : is_here s.core node.0 ≡ true → Leaves s.values s' → WellFormed v s'
+  pub installed_there : is_here s.core node.0 ≡ true → Leaves s.values s' → IsPagerWhole v s'
   installed_there there left = elim i.falls [
     | inl (away, f) ↦ absurd (let e : false ≡ true = sym away ∙ there in cc)
     | inr (here, f) ↦ fell is (there-keeps is may i.row i.owned i.at there) f.falls is.whole.shut (load-free is.whole l) left
   ]
 
-  pub installed_away : is_here s.core node.0 ≡ false → Leaves (updated node.0 (Some x) s.values) s' → WellFormed v s'
+  pub installed_away : is_here s.core node.0 ≡ false → Leaves (updated node.0 (Some x) s.values) s' → IsPagerWhole v s'
   installed_away away left = elim i.falls [
     | inl (none, f) ↦ fell-from (sits-all is may i.row i.owned i.at away) (there is may i.row i.owned i.at away) s' f.falls is.whole.shut
         (none-goes is may i.row i.owned i.at away) left

@@ -2,7 +2,7 @@
 -- machine, and satisfies the headline with all that it asks.
 use Rattle.pagable_theorems.proofs.{Chains.headline_law, CascadeWitness.{and-false, within-self}, HandlesKept.good, NewPager.new_whole, Trees.{same_some, sum-zero}, Words.{Alike, Among, ArcRef, AreMoments, Beginning, Blob}}
 use Rattle.pagable_theorems.proofs.Words.{IsReadableType, Kind, type_of, Bool, CloneCall, Core, Event, EventReply, HandleRow, Happens, IsLawful, IsMachineWhole, IsReadable, IsWellAsked, KeepsOpen, LiesIn, List, LoadAnswer, Mode, None}
-use Rattle.pagable_theorems.proofs.Words.{MachineState, Ok, OpenLoad, Option, Owner, PagerState, Reading, ReadsRoot, Shelf, Some, Todo, Tree, WalkDoes, Walking, WellFormed, WorkerAnswer}
+use Rattle.pagable_theorems.proofs.Words.{MachineState, Ok, OpenLoad, Option, Owner, PagerState, Reading, ReadsRoot, Shelf, Some, Todo, Tree, WalkDoes, Walking, IsPagerWhole, WorkerAnswer}
 use Rattle.pagable_theorems.proofs.Words.{Written, [], and_parts, ap, arith, blob_of, cases_lt, false, find_row, held, identity_of, if_there, inl, inr, is_handle, is_in, is_named_by, is_owned_by, length}
 use Rattle.pagable_theorems.proofs.Words.{is_owner, is_some, nat_eq, nat_tests, not, of_cell, one, owner_value, owner_worker, pins, reference-form, references_fault, references_in, refl, row_at, rules}
 use Rattle.pagable_theorems.proofs.Words.{state_after, subst, suc, sym, times, to_finish, to_item, to_pin, to_release, to_set, to_start, to_write, tree, true, updated, world_of, zero, ℕ, ◌&&◌, ◌++◌, ◌+◌}
@@ -10,8 +10,8 @@ use Rattle.pagable_theorems.{proofs.Words.{◌<◌, ◌==◌, ◌∙◌, ◌∷�
 use Rattle.{pagable_value_spec.specs.{Blob.preimage, Form.nothing-form, Keyed.throughout-alone, Trees.{none-followed, rest_of}}, pagable_pager_spec.specs.Calls.{CountCall, IsNext, UnpinCall, row_of, with_key}}
 use Rattle.pagable_pager_spec.specs.{Calls.with_mode, Cascade.{Falls, IsLeast, MustList, fallen, is_keyed, loses_value, nobody, owned_outside}, Events.{Ends, ReadingsAre, WorkStays, no_shelf, reading_at}}
 use Rattle.pagable_pager_spec.specs.{Events.steps_after, Kinds.{is_at, is_loose, is_pin, is_share, is_shared, sharing}, LoadCalls.{BeginCall, EndCall, Installs, LazyCall}, Loads.ReadingDoes}
-use Rattle.pagable_pager_spec.specs.{Loads.answers_from, Pager.{EventBrings, EventHolds, HoldsItsNodes, IsCellOf, Moves, IsHandleBefore, IsIdle, IsReadingWhole, MayOwnLoad, ReadingBrings, ReplyWrites, StandsFor, TookWrites}}
-use Rattle.pagable_pager_spec.specs.{Refusals.named_fault, Runs.{Does, HoldsSettled, IsPremised, ReadsAsType, TakesWell, TodoAsksWell}, Workers.{claim_fault, fresh, is_counted, is_workers, is_workers_at}}
+use Rattle.pagable_pager_spec.specs.{Loads.answers_from, Pager.{EventBrings, EventHolds, HoldsItsNodes, IsCellOf, Moves, IsHandleBefore, IsReadingWhole, MayOwnLoad, ReadingBrings, ReplyWrites, TookWrites}}
+use Rattle.pagable_pager_spec.specs.{Refusals.named_fault, Runs.{EventDoes, IsPremised, ReadsAsType, TakesWell, TodoAsksWell}, Workers.{claim_fault, fresh, is_counted, is_workers, is_workers_at}}
 use Rattle.{pagable_pager_spec.specs.{Basics.{is_eager, is_loose_kind}, Workers.without_worker, World.{HasForm, Root, SameShelf, digest, is_here, of_key, to_publish, type_at}}, std.proofs.{Common.All, lemmas.Bool.agree_below}}
 use Rattle.std.{proofs.lemmas.{Bool.agree_below_at, List.Kept.AllPairs-cons}, specs.{List.{AllByRecursion as Each, AllPairs}, Prelude.{IfSome, is_none, nat_le, nat_lt}}}
 use Rattle.pagable_theorems.specs.Witness as two
@@ -214,7 +214,7 @@ module _ (w : Core) (vs : List (Option Sample)) (few : Few w) (p : Passes w vs) 
       (λ q lt. let refs = (value n x is).2 in let there = p.handles.2 in grind (arith, nat_tests, none-pass)) q in
       grind (arith, nat_tests)
 
-  pub whole-so : WellFormed sample (machine w vs no_work).pager
+  pub whole-so : IsPagerWhole sample (machine w vs no_work).pager
   whole-so =
       let (few_handles, few_nodes, few_loads, enough) = p.stands.room in
       record {
@@ -248,8 +248,8 @@ module _ (w : Core) (vs : List (Option Sample)) (few : Few w) (p : Passes w vs) 
         counted = λ n. refl;
         valued = λ n. (number n).2;
         typed = λ n x is. (value n x is).0;
-        inside = λ n x q is. inside n x q is;
-        bare = λ n is. subst (λ o. ValueFits w n o) is (number n).3;
+        owns_references = λ n x q is. inside n x q is;
+        owns_nothing = λ n is. subst (λ o. ValueFits w n o) is (number n).3;
         references = λ n x r is among. good w (owner_value n) [] (sample.references x) (value n x is).3 r among;
       }
 
@@ -349,10 +349,10 @@ does : (s : MachineState two.Sample (Unit {0})) (event : Event two.Sample Blob W
     → ((n : ℕ) (x : two.Sample) → value_at vs n ≡ Some x → (s.pager.values n ≡ Some x)
     ⊎ ((s.pager.values n ≡ None) × EventBrings two.sample (world_of s) event n x))
     → ReplyWrites two.sample_seen s.pager reply → Good w vs → FitsWalking w walking → IfSome reading (λ r. IsReadingWhole w r.load.0 r)
-    → Does two.sample_seen s event reply s'
+    → EventDoes two.sample_seen s event reply s'
 does s event reply w vs shelf walking reading happens come writes (few, p) walks reads =
     let whole : IsMachineWhole two.sample (two.machine w vs (two.work_of shelf walking reading)) =
-    record { pager = whole-so w vs few p; readings = grind (arith, nat_tests); walkings = grind (arith, nat_tests); all_there = grind (arith, nat_tests) } in
+    record { pager = whole-so w vs few p; readings = grind (arith, nat_tests); walkings = grind (arith, nat_tests); each_walks = grind (arith, nat_tests) } in
     let holds : Moves (λ n x. EventHolds two.sample s.pager event x) s.pager (two.machine w vs (two.work_of shelf walking reading)).pager =
     record {
       each = λ n x is. elim (come n x is) [

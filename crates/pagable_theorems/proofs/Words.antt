@@ -5,9 +5,9 @@ pub use Rattle.pagable_pager_spec.specs.World.{Written, key_at, no_result, of_ce
 pub use Rattle.pagable_pager_spec.specs.declared.{pinning.Beginning.Beginning, calls.{Call.Call, Reply.Reply}, events.{Claim.Claim, Event.Event, EventReply.EventReply, LoadAnswer.LoadAnswer, Action.Action}}
 pub use Rattle.pagable_pager_spec.specs.{Calls.{CloneCall, PinCall, moved, next_node, with_handle}, Events.{Happens, WorkerSteps}, Kinds.{any_mode, held, identity_of, is_handle, is_owned_by, is_owner}}
 pub use Rattle.pagable_pager_spec.specs.{Kinds.{is_pinning, mode_of, owner_value, owner_worker, pins}, LoadCalls.{GetsKnown, adopted, first_key}, Loads.{ReadsRoot, next_in, root_frame}, Order.step_of}
-pub use Rattle.pagable_pager_spec.specs.{Pager.{HandlesAreWhole, IsIdle, IsMachineWhole, MachineState, PagerState, ReadingFits, Represents, ValueStands, WellFormed, world_of}, Basics.{Among, ArcRef, Blob}}
-pub use Rattle.pagable_pager_spec.specs.{Basics.{tree, type_of, updated}, Refusals.IsReference, Runs.{AreMoments, HoldsSettled, IsWellAsked, KeepsOpen, Moment}, Workers.{Does, IsPublished}}
-pub use Rattle.pagable_pager_spec.specs.{Workers.{Site, WalkDoes, answer_after, give}, World.{Alike, Core, Frame, IsLawful, Last, OpenLoad, Reading, Seen, Shelf, Slot, Task, Todo, Values, Walking, World}}
+pub use Rattle.pagable_pager_spec.specs.{Pager.{HandlesAreWhole, IsIdle, IsMachineWhole, MachineState, PagerState, ReadingFits, PagerStandsFor, ValueStands, IsPagerWhole, world_of}, Basics.{Among, ArcRef, Blob}}
+pub use Rattle.pagable_pager_spec.specs.{Basics.{tree, type_of, updated}, Refusals.IsReference, Runs.{AreMoments, HoldsSettled, IsWellAsked, KeepsOpen, Moment}, Workers.{WorkDoes, IsPublished}}
+pub use Rattle.pagable_pager_spec.specs.{Workers.{WorkerState, WalkDoes, answer_after, give}, World.{Alike, Core, Frame, IsLawful, Last, OpenLoad, Reading, Seen, Shelf, Slot, Task, Todo, Values, Walking, World}}
 pub use Rattle.std.proofs.Common.{List, None, Ok, Option, Result, Some, [], ap, append_assoc, arith, cond, false, if◌then◌else◌, inl, inr, le_trans, length, map, not, refl, rules, subst, suc, sym}
 pub use Rattle.std.proofs.{Common.{true, zero, ℕ, ℤ, ◌&&◌, ◌*◌, ◌++◌, ◌+◌, ◌<◌, ◌==◌, ◌||◌, ◌∙◌, ◌∷◌, ◌≡◌, ◌≤◌, ◌⊎◌}, lemmas.Bool.{Decides.nat_tests, and_parts, cases_Bool, cases_lt}}
 pub use Rattle.std.{proofs.lemmas.{Bool.false_from_ne_true, List.{Sums.sum_by-cons, append-nil, length-append}, Option.slice_get_within}, specs.Prelude.{drop, filter, is_some, max, nat_eq, slice_get}}

@@ -1,9 +1,9 @@
 -- The law of callers: along any calls of a pager and whole operations on it each node keeps a tree, and each pin, read
 -- and page-out gives what the headline says.
-use Rattle.std.specs.Prelude.{Err, List, Ok, Result, ℕ, ◌≡◌}
+use Rattle.std.specs.Prelude.{Err, Ok, Result, ℕ, ◌≡◌}
 use Rattle.pagable_theorems.specs.PageOutLaws.{EachIsPagedOut, ItemAsksWell, LeavesPagedOut, ListAsksWell, NobodyWorks}
 use Rattle.pagable_pager_spec.specs.{Access.{AccessState, IsValueOf, ItemRun, ListRun, LoadAsksWell, PinRun, ReadRun, load-pins, load-fails, load-reads, reading-fails}, Events.{CallStep, no_shelf}, Rightness.{GivesTree, ReadIsRight}}
-use Rattle.pagable_pager_spec.specs.{Pager.{CallBrings, Moves, PagerState, Represents, SameTrees, ValueStands, WellFormed}, Basics.{Error, HandleNumber, Tree}, Runs.{AsksWell, HoldsSettled, KeepsOpen}}
+use Rattle.pagable_pager_spec.specs.{Pager.{CallBrings, Moves, PagerState, PagerStandsFor, SameTrees, ValueStands, IsPagerWhole}, Basics.{Error, HandleNumber, Tree}, Runs.{AsksWell, HoldsSettled, KeepsOpen}}
 use Rattle.pagable_pager_spec.specs.{World.{IsLawful, SameShelf, Seen, Values, of_item}, declared.{pinning.Pinning.Pinning, calls.{Call.Call, Reply.Reply}, events.{Event.Event, WorkerAnswer.WorkerAnswer}}}
 use Rattle.pagable_pager_spec.specs.declared.handle_row.Owner.{Owner}
 
@@ -12,7 +12,7 @@ pub record IsCall {N E B W : Type 0} (m : Seen N B W) (s : PagerState N E) (call
     (s' : PagerState N E) : Type 0 where
   pub step : CallStep m s.core Owner.Caller call reply s'.core
   pub moves : Moves (CallBrings s.core call) s s'
-  pub whole : WellFormed m.values s'
+  pub whole : IsPagerWhole m.values s'
 
 -- one call of the pager; or a pin; or a read; or a page-out of an item on a new table, or of the list's first i entries
 pub data Operation {N E B W : Type 0} (m : Seen N B W) : PagerState N E → PagerState N E → Type 0 where
@@ -86,13 +86,13 @@ unfoldable pub AreRight : {N E B W : Type 0} {m : Seen N B W} {s s' : PagerState
 AreRight trees (is-done s) = Unit {0}
 AreRight {m = m} trees (goes-on s mid s' one more) =
     OperationAsksWell trees one
-    → (trees' : ℕ → Tree) × SameTrees s.core.last.node trees trees' × Represents m.values mid trees'
+    → (trees' : ℕ → Tree) × SameTrees s.core.last.node trees trees' × PagerStandsFor m.values mid trees'
     × OperationIsRight trees trees' one × AreRight trees' more
 
 -- what the headline asks of each operation, whatever the trees before it
 unfoldable pub AskWell : {N E B W : Type 0} {m : Seen N B W} {s s' : PagerState N E} → Operations m s s' → Type 0
 AskWell (is-done s) = Unit {0}
-AskWell {m = m} (goes-on s mid s' one more) = ((trees : ℕ → Tree) → Represents m.values s trees
+AskWell {m = m} (goes-on s mid s' one more) = ((trees : ℕ → Tree) → PagerStandsFor m.values s trees
     → OperationAsksWell trees one) × AskWell more
 
 -- The law of pinning again: the values that two pins by the same handle give, with any operations between them, stand
@@ -101,14 +101,14 @@ abbrev pub PinnedAgainLaw : {N B W : Type 0} → (E : Type 0) → Seen N B W →
 PinnedAgainLaw {N} {B} {W} E m = (s mid later s' : PagerState N E) (trees : ℕ → Tree) (h k l : HandleNumber) (x y : N)
     (first : PinRun m.values s h (Ok k) mid) (between : Operations m mid later)
     (again : PinRun m.values later h (Ok l) s')
-    → WellFormed m.values s → NobodyWorks s.core → IsLawful m.values → HoldsSettled m.values s
-    → Represents m.values s trees
+    → IsPagerWhole m.values s → NobodyWorks s.core → IsLawful m.values → HoldsSettled m.values s
+    → PagerStandsFor m.values s trees
     → PinAsksWell first → AskWell between → PinAsksWell again → IsValueOf mid k x → IsValueOf s' l y
     → (t : Tree) × ValueStands m.values mid x t × ValueStands m.values s' y t
 
 -- The law, for any operations on a pager on which nobody else works.
 abbrev pub CallerLaw : {N B W : Type 0} → (E : Type 0) → Seen N B W → Type 0
 CallerLaw {N} {B} {W} E m = (s s' : PagerState N E) (trees : ℕ → Tree) (operations : Operations m s s')
-    → WellFormed m.values s → NobodyWorks s.core
+    → IsPagerWhole m.values s → NobodyWorks s.core
     → IsLawful m.values
-    → HoldsSettled m.values s → Represents m.values s trees → AreRight trees operations
+    → HoldsSettled m.values s → PagerStandsFor m.values s trees → AreRight trees operations

@@ -3,7 +3,7 @@
 use Rattle.std.specs.Prelude.{List, Result, false, ℕ, ◌≡◌}
 use Rattle.pagable_pager_spec.specs.{Access.{AccessState, EntryRun, ItemRun, LeadsToTrees, ListRun, WorkerRun, entry-is-walked, fails, item-is-walked, no-more, pages, skips, worker-ends, worker-goes-on}}
 use Rattle.pagable_pager_spec.specs.{Events.{IsEntry, entry_task, no_shelf}, declared.handle_row.HandleRow.HandleRow}
-use Rattle.pagable_pager_spec.specs.{Rightness.{IsKeyOfTask, LeavesAll}, Pager.{PagerState, Represents, SameTrees, WellFormed}, Basics.{HandleNumber, Tree}, declared.events.{Action.Action, WorkerAnswer.WorkerAnswer}, Runs.{HoldsSettled, TodoAsksWell}}
+use Rattle.pagable_pager_spec.specs.{Rightness.{IsKeyOfTask, LeavesAll}, Pager.{PagerState, PagerStandsFor, SameTrees, IsPagerWhole}, Basics.{HandleNumber, Tree}, declared.events.{Action.Action, WorkerAnswer.WorkerAnswer}, Runs.{HoldsSettled, TodoAsksWell}}
 use Rattle.pagable_pager_spec.specs.World.{Core, SameShelf, Seen, Shelf, Task, Todo, Values, Written, of_item}
 
 -- no worker is at work on this pager
@@ -35,7 +35,7 @@ pub record LeavesPagedOut {N E : Type 0} (v : Values N) (s : PagerState N E) (sh
 -- The law of items, for a new table: what the item met is paged out, and the returned key is the item's.
 abbrev pub ItemLaw : {N B W : Type 0} → (E : Type 0) → Seen N B W → Type 0
 ItemLaw {N} {B} {W} E m = (s s' : AccessState N E) (item : W) (key : ℕ)
-    (run : ItemRun m s (m.written_of item) (WorkerAnswer.Key key) s') → WellFormed m.values s.pager
+    (run : ItemRun m s (m.written_of item) (WorkerAnswer.Key key) s') → IsPagerWhole m.values s.pager
     → NobodyWorks s.pager.core
     → SameShelf no_shelf s.shelf → ItemAsksWell run
     → LeadsToTrees m.values s.pager s'.pager (λ trees trees'. LeavesPagedOut m.values s'.pager s'.shelf trees'
@@ -71,15 +71,15 @@ unfoldable pub EachIsPagedOut : {N E B W : Type 0} {m : Seen N B W} {i : ℕ} {s
     → ListRun m i s answer s' → (ℕ → Tree) → Type 0
 EachIsPagedOut (no-more s) trees = Unit {0}
 EachIsPagedOut {m = m} (skips i place key h told answer s mid low s' is has takes releases more) trees =
-    (trees' : ℕ → Tree) × SameTrees s.core.last.node trees trees' × Represents m.values low trees'
+    (trees' : ℕ → Tree) × SameTrees s.core.last.node trees trees' × PagerStandsFor m.values low trees'
     × EachIsPagedOut more trees'
 EachIsPagedOut {m = m} (pages i place key h answer s mid s' is has entry more) trees =
-    (trees' : ℕ → Tree) × SameTrees s.core.last.node trees trees' × Represents m.values mid trees'
+    (trees' : ℕ → Tree) × SameTrees s.core.last.node trees trees' × PagerStandsFor m.values mid trees'
     × EntryIsPagedOut m.values s.core place mid trees' key × EachIsPagedOut more trees'
 EachIsPagedOut (fails i place h e s s' is has entry) trees = Unit {0}
 
 -- The law of the list.
 abbrev pub ListLaw : {N B W : Type 0} → (E : Type 0) → Seen N B W → Type 0
 ListLaw {N} {B} {W} E m = (i : ℕ) (s s' : PagerState N E) (answer : Result (Unit {0}) WorkerAnswer)
-    (run : ListRun m i s answer s') → WellFormed m.values s → NobodyWorks s.core → ListAsksWell run
+    (run : ListRun m i s answer s') → IsPagerWhole m.values s → NobodyWorks s.core → ListAsksWell run
     → LeadsToTrees m.values s s' (λ trees trees'. EachIsPagedOut run trees)

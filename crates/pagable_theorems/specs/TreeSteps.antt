@@ -148,7 +148,7 @@ pub record Kept (c : Change) (w : Core) (n : ℕ) (cell : Cell) : Type 0 where
   pub typed : cell.node_type ≡ was.node_type
   pub key : (cell.key ≡ was.key) ⊎ ((key : ℕ) × Sets c n key × (cell.key ≡ OptionalDataKey.Some key))
 
--- what a step does to the plain state, as far as it matters for trees
+-- what a step does to the core, as far as it matters for trees
 pub record CoreGoes (c : Change) (w w' : Core) : Type 0 where
   pub nodes : w.last.node ≤ w'.last.node
   pub handles : w.last.handle ≤ w'.last.handle

@@ -135,9 +135,9 @@ pub fn page_outs<N: SeenAs<B, W>, B, W, E>()
 /// States the laws of a caller who makes calls of a pager, and pins, reads and page-outs by one
 /// call, in any order.
 ///
-/// - Each node keeps its tree; each pin gives the tree; what is read of a key stands for the key's
-///   tree; and what a page-out met that returns a key is stored under it. Each item has a new
-///   table.
+/// - Each node keeps its tree, each pin gives it, and a value that is read under a key stands for
+///   the key's tree. If a page-out returns a key, all that it met is stored, each node under a key
+///   of its own. The law asks that each item is paged out on a new table.
 /// - So a value that is pinned again by the same handle, after any of these, stands for the same
 ///   tree.
 pub fn callers<N: SeenAs<B, W>, B, W, E>()

@@ -145,7 +145,7 @@ module _ {D E R N H K V : Type 0} (env : Environments E N H K V) (d : Deserializ
   -- a part was refused
   pub read-err : {Y Z W own : Type 0} {causes : Error → Type 0} {a b : D} {part : Result (Y × Rest Answer) Error} {e : Error}
       (r : Result Z Error) {L : Z → W → Type 0} {whole : Context Answer ArcRef → Gets Answer W} → IsErrAnd r (λ f. f ≡ e) → (part ≡ Err e) ⊎ own
-      → MovesOn (d.standing a) (d.standing b)
+      → MovesOn (d.input_state a) (d.input_state b)
       → d.environment b ≡ d.environment a → d.levels b ≡ d.levels a → (own → causes e) → (part ≡ Err e → whole (context_in env d a) (d.rest a) ≡ Err e)
       → Reads env d causes L whole a b r
   read-err {Y} {Z} {W} {own} {causes} {a} {b} {part} {e} r {L} {whole} is g moves same_env same_levels may same = grind arith
@@ -153,7 +153,7 @@ module _ {D E R N H K V : Type 0} (env : Environments E N H K V) (d : Deserializ
   -- after a part of the whole, the rest of it is read as this part, seen by view
   pub then-ok : {X Z : Type 0} {own causes : Error → Type 0} {M : X → Meaning ArcRef → Type 0} {N : Z → Meaning ArcRef → Type 0}
       {get whole : Context Answer ArcRef → Gets Answer (Meaning ArcRef)} {a b c : D} {x : X} (z : Z) (view : Meaning ArcRef → Meaning ArcRef)
-      → MovesOn (d.standing a) (d.standing b) → d.environment b ≡ d.environment a → d.levels b ≡ d.levels a → Reads env d own M get b c (Ok x)
+      → MovesOn (d.input_state a) (d.input_state b) → d.environment b ≡ d.environment a → d.levels b ≡ d.levels a → Reads env d own M get b c (Ok x)
       → whole (context_in env d a) (d.rest a) ≡ viewed view (get (context_in env d a) (d.rest b)) → ((m : Meaning ArcRef) → M x m → N z (view m))
       → Reads env d causes N whole a c (let r : Result Z Error = Ok z in r)
   then-ok z view moves same_env same_levels q same is =
@@ -167,7 +167,7 @@ module _ {D E R N H K V : Type 0} (env : Environments E N H K V) (d : Deserializ
 
   pub then-err : {X Z : Type 0} {own causes : Error → Type 0} {M : X → Meaning ArcRef → Type 0} {N : Z → Meaning ArcRef → Type 0}
       {get whole : Context Answer ArcRef → Gets Answer (Meaning ArcRef)} {a b c : D} {e : Error} (r : Result Z Error) (view : Meaning ArcRef → Meaning ArcRef)
-      → IsErrAnd r (λ f. f ≡ e) → MovesOn (d.standing a) (d.standing b) → d.environment b ≡ d.environment a → d.levels b ≡ d.levels a
+      → IsErrAnd r (λ f. f ≡ e) → MovesOn (d.input_state a) (d.input_state b) → d.environment b ≡ d.environment a → d.levels b ≡ d.levels a
       → Reads env d own M get b c (let p : Result X Error = Err e in p)
       → whole (context_in env d a) (d.rest a) ≡ viewed view (get (context_in env d a) (d.rest b)) → (own e → causes e) → Reads env d causes N whole a c r
   then-err r view is moves same_env same_levels q same may =
@@ -176,7 +176,7 @@ module _ {D E R N H K V : Type 0} (env : Environments E N H K V) (d : Deserializ
 
   -- the rest of the whole is this part
   pub then-is : {X Y : Type 0} {own : Error → Type 0} {M : X → Y → Type 0} {get whole : Context Answer ArcRef → Gets Answer Y} {a b c : D} (r : Result X Error)
-      → MovesOn (d.standing a) (d.standing b) → d.environment b ≡ d.environment a → d.levels b ≡ d.levels a
+      → MovesOn (d.input_state a) (d.input_state b) → d.environment b ≡ d.environment a → d.levels b ≡ d.levels a
       → Reads env d own M get b c r → whole (context_in env d a) (d.rest a) ≡ get (context_in env d a) (d.rest b) → Reads env d own M whole a c r
   then-is r moves same_env same_levels q same =
       record {
@@ -188,13 +188,13 @@ module _ {D E R N H K V : Type 0} (env : Environments E N H K V) (d : Deserializ
 
   -- want of memory, wherever the deserializer stands
   pub read-no-memory : {Z W : Type 0} {a b : D} (r : Result Z Error) {L : Z → W → Type 0} {whole : Context Answer ArcRef → Gets Answer W} → IsErrAnd r memory
-      → MovesOn (d.standing a) (d.standing b) → d.environment b ≡ d.environment a → d.levels b ≡ d.levels a → Reads env d memory L whole a b r
+      → MovesOn (d.input_state a) (d.input_state b) → d.environment b ≡ d.environment a → d.levels b ≡ d.levels a → Reads env d memory L whole a b r
   read-no-memory r is moves same_env same_levels = let q = err_from_is_err_and r is in
       rw q.1 (record { gives = inr q.2; moves = moves; same_env = same_env; same_levels = same_levels })
 
   -- the same beside the causes of the items
   pub read-no-room : {Z W : Type 0} {own : Error → Type 0} {a b : D} {e : Error} (r : Result Z Error) {L : Z → W → Type 0}
-      {whole : Context Answer ArcRef → Gets Answer W} → IsErrAnd r (λ f. f ≡ e) → memory e → MovesOn (d.standing a) (d.standing b) → d.environment b
+      {whole : Context Answer ArcRef → Gets Answer W} → IsErrAnd r (λ f. f ≡ e) → memory e → MovesOn (d.input_state a) (d.input_state b) → d.environment b
       ≡ d.environment a → d.levels b ≡ d.levels a
       → Reads env d (memory_or own) L whole a b r
   read-no-room r is lack moves same_env same_levels = let q = err_from_is_err_and r is in
@@ -216,9 +216,10 @@ module _ {D E R N H K V : Type 0} (env : Environments E N H K V) (d : Deserializ
 
   -- no level was left
   pub read-deep : {Z W : Type 0} {causes : Error → Type 0} {a b c : D} {e : Error} (r : Result Z Error) {L : Z → W → Type 0}
-      {whole : Context Answer ArcRef → Gets Answer W} → IsErrAnd r (λ f. f ≡ e) → MovesOn (d.standing a) (d.standing b) → d.environment b ≡ d.environment a
+      {whole : Context Answer ArcRef → Gets Answer W} → IsErrAnd r (λ f. f ≡ e) → MovesOn (d.input_state a) (d.input_state b) → d.environment b
+      ≡ d.environment a
       → d.levels b ≡ d.levels a
-      → (e ≡ Error.TooDeep) × (deepest ≤ d.levels b) × (d.levels c ≡ d.levels b) → d.standing c ≡ d.standing b → d.environment c ≡ d.environment b
+      → (e ≡ Error.TooDeep) × (deepest ≤ d.levels b) × (d.levels c ≡ d.levels b) → d.input_state c ≡ d.input_state b → d.environment c ≡ d.environment b
       → (deepest ≤ d.levels a → whole (context_in env d a) (d.rest a) ≡ Err Error.TooDeep) → Reads env d causes L whole a c r
   read-deep r is moves same_env same_levels deep standing_in env_in same = grind arith
 
@@ -227,12 +228,12 @@ module _ {D E R N H K V : Type 0} (env : Environments E N H K V) (d : Deserializ
       (old new : D) : Type 0 where
     pub gives : (ms : List (Meaning ArcRef)) × P ms × (with_front ms (items (get (context_in env d old)) (count - index) (d.rest new))
         ≡ items (get (context_in env d old)) count (d.rest old))
-    pub moves : MovesOn (d.standing old) (d.standing new)
+    pub moves : MovesOn (d.input_state old) (d.input_state new)
     pub same_env : d.environment new ≡ d.environment old
     pub same_levels : d.levels new ≡ d.levels old
 
   pub none-so-far : {P : List (Meaning ArcRef) → Type 0} (get : Context Answer ArcRef → Gets Answer (Meaning ArcRef)) (count : ℕ) {a b : D} → P [] → d.rest b
-      ≡ d.rest a → MovesOn (d.standing a) (d.standing b) → d.environment b ≡ d.environment a → d.levels b ≡ d.levels a → SoFar P get count 0 a b
+      ≡ d.rest a → MovesOn (d.input_state a) (d.input_state b) → d.environment b ≡ d.environment a → d.levels b ≡ d.levels a → SoFar P get count 0 a b
   none-so-far get count {a} h rest moves same_env same_levels = record {
     gives = ([], h, rw rest (starts (get (context_in env d a)) count (d.rest a)));
     moves = moves;

@@ -4,10 +4,10 @@ use Rattle.pagable_codec.{proofs.Writing.{writes_flag, writes_letter, writes_sig
 use Rattle.{pagable_codec.specs.declared.serializer.PagableSerializer.Ghosts as Serializers, pagable_flavors.specs.Calls.Appends, pagable_value_spec.specs.BasicValues.{char_form, duration_at, duration_form}}
 use Rattle.pagable_value_spec.specs.{BasicValues.{length_at, nanos_of_second, text_at}, CarriedTypes.{nanos_of, of_duration, of_span, seconds_of}, Form.{duration-form, none-form, pattern-form}, Composite.{MayHold, MeansOnce}}
 use Rattle.pagable_value_spec.specs.{Meaning.pattern, Numbers.{IsSigned, bound, signed_form, unsigned_form, varint_at}, Refusals.is_reading_fault, Shape.{duration, flag as flag_shape, letter, unsigned}}
-use Rattle.{pagable_value_spec.specs.Progress.{GoesOn, Track, left}, pagable_traits.proofs.Words.{Answer, ArcRef, Bool, Context, Err, Error, FormAt, Gives, GivesSome, IfErr, Is, List, Meaning, MeansOption}}
+use Rattle.{pagable_value_spec.specs.Progress.{GoesOn, Track, left}, pagable_traits.proofs.Words.{Answer, ArcRef, Bool, Context, Err, Error, FormAt, MatchesReading, GivesSome, IfErr, Is, List, Meaning, MeansOption}}
 use Rattle.pagable_traits.proofs.Words.{MeansPair, Nesting, NoForm, None, Ok, OnOk, Option, Out, Read, Refused, Rest, Result, Shape, SomeMeaning, String, WritesSome, Wrote, [], absent, added}
 use Rattle.pagable_traits.proofs.Words.{ap, arith, bool_at, bool_form, both, both-form, bytes_of, char_at, err-form, failure, false, grows_bytes, inr, integer, length, long_or}
-use Rattle.pagable_traits.proofs.Words.{long_or_memory, longest, means-none, means-some, memory, memory_or, memory_refuses, moves_trans, nested_in, never, number, ok-form}
+use Rattle.pagable_traits.proofs.Words.{long_or_memory, longest, means-none, means-some, memory, memory_or, memory_refuses, moves_trans, nested_in, no_own_causes, number, ok-form}
 use Rattle.pagable_traits.proofs.Words.{optional, outcome, pair, present, read, read_with, refl, refused_memory, signed, signed_at, some-form, string_bytes, success, text-form, text_form, then}
 use Rattle.pagable_traits.{proofs.Words.{to_z-of_z, true, unsigned_at, w32, w64, writes_bytes, writes_is, ℕ, ℤ, ◌*◌, ◌++◌, ◌+◌, ◌^◌, ◌∙◌, ◌∷◌, ◌≡◌, ◌≤◌}, specs.Clauses.value}
 use Rattle.std.{proofs.{Common.{FitsSigned, of_z, rules, suc, to_z, zero, ◌/◌, ◌<◌}, lemmas.{Bool.{Decides.nat_tests, le-ltb}, Nat.mod_below}}, specs.{Borrow.Bor, Char.IsScalar, Duration.as_nanos, Prelude.option_copied}}
@@ -162,7 +162,7 @@ pub ruleset reads = (means-none, means-some, moves_trans)
 -- ---- reading
 
 pub gives_bytes : {X Y : Type 0} (own : Error → Type 0) (view : X → Y) (meaning : Y → Meaning ArcRef) (at : List ℕ → Read Y) (r : Result X Error)
-    (rest : Rest Answer) (after : List ℕ) → Gives own (λ x. (view x, after)) r (at rest.bytes)
+    (rest : Rest Answer) (after : List ℕ) → MatchesReading own (λ x. (view x, after)) r (at rest.bytes)
     → GivesSome own (Is (λ x. meaning (view x))) (record rest { bytes = after }) r (bytes_of at meaning rest)
 gives_bytes own view meaning at r rest after h = grind arith
 
@@ -170,34 +170,34 @@ gives_bytes own view meaning at r rest after h = grind arith
 module _ (context : Context Answer ArcRef) (rest last : Rest Answer) (given used : Track) (same : rest.bytes ≡ left given)
     (moved : last ≡ record rest { bytes = left used }) where
   read_as : {X Y : Type 0} (own : Error → Type 0) (view : X → Y) (meaning : Y → Meaning ArcRef) (at : List ℕ → Read Y) (r : Result X Error)
-      → Gives own (λ x. (view x, left used)) r (at (left given))
+      → MatchesReading own (λ x. (view x, left used)) r (at (left given))
       → GivesSome own (Is (λ x. meaning (view x))) last r (bytes_of at meaning rest)
   read_as own view meaning at r told = rw moved (gives_bytes own view meaning at r rest (left used) (rw same told))
 
-  pub reads_unsigned : (w : Width) (r : Result ℕ Error) → Gives never (λ n. (n, left used)) r (unsigned_at w (left given))
-      → GivesSome never (Is number) last r (read context (unsigned w) rest)
+  pub reads_unsigned : (w : Width) (r : Result ℕ Error) → MatchesReading no_own_causes (λ n. (n, left used)) r (unsigned_at w (left given))
+      → GivesSome no_own_causes (Is number) last r (read context (unsigned w) rest)
   unfolding read read_with
-  reads_unsigned w r told = read_as never (λ n. n) number (unsigned_at w) r told
+  reads_unsigned w r told = read_as no_own_causes (λ n. n) number (unsigned_at w) r told
 
-  pub reads_signed : (w : Width) (r : Result ℤ Error) → Gives never (λ z. (z, left used)) r (signed_at w (left given))
-      → GivesSome never (Is integer) last r (read context (signed w) rest)
+  pub reads_signed : (w : Width) (r : Result ℤ Error) → MatchesReading no_own_causes (λ z. (z, left used)) r (signed_at w (left given))
+      → GivesSome no_own_causes (Is integer) last r (read context (signed w) rest)
   unfolding read read_with
-  reads_signed w r told = read_as never (λ z. z) integer (signed_at w) r told
+  reads_signed w r told = read_as no_own_causes (λ z. z) integer (signed_at w) r told
 
-  pub reads_flag : (r : Result Bool Error) → Gives never (λ b. (b, left used)) r (bool_at (left given))
-      → GivesSome never (Is meanings.flag) last r (read context flag_shape rest)
+  pub reads_flag : (r : Result Bool Error) → MatchesReading no_own_causes (λ b. (b, left used)) r (bool_at (left given))
+      → GivesSome no_own_causes (Is meanings.flag) last r (read context flag_shape rest)
   unfolding read read_with
-  reads_flag r told = read_as never (λ b. b) meanings.flag bool_at r told
+  reads_flag r told = read_as no_own_causes (λ b. b) meanings.flag bool_at r told
 
-  pub reads_letter : (r : Result ℕ Error) → Gives never (λ l. (l, left used)) r (char_at (left given))
-      → GivesSome never (Is number) last r (read context letter rest)
+  pub reads_letter : (r : Result ℕ Error) → MatchesReading no_own_causes (λ l. (l, left used)) r (char_at (left given))
+      → GivesSome no_own_causes (Is number) last r (read context letter rest)
   unfolding read read_with
-  reads_letter r told = read_as never (λ l. l) number char_at r told
+  reads_letter r told = read_as no_own_causes (λ l. l) number char_at r told
 
-  pub reads_span : (r : Result Duration Error) → Gives never (λ d. ((seconds_of d, nanos_of d), left used)) r (duration_at (left given))
-      → GivesSome never (Is of_span) last r (read context duration rest)
+  pub reads_span : (r : Result Duration Error) → MatchesReading no_own_causes (λ d. ((seconds_of d, nanos_of d), left used)) r (duration_at (left given))
+      → GivesSome no_own_causes (Is of_span) last r (read context duration rest)
   unfolding read read_with
-  reads_span r told = read_as never (λ d. (seconds_of d, nanos_of d)) (λ p. of_duration p.0 p.1) duration_at r told
+  reads_span r told = read_as no_own_causes (λ d. (seconds_of d, nanos_of d)) (λ p. of_duration p.0 p.1) duration_at r told
 
 -- ---- writing
 
@@ -297,8 +297,9 @@ refused_pattern r t n h = grind (arith, no-pattern n t, memory_refuses)
 pub text-read : {D E R N H K V Z : Type 0} (env : Environments E N H K V) (d : Deserializers D E R N H K V) (meaning : List ℕ → Meaning ArcRef)
     (r : Result (String Z) Error) (whole : Context Answer ArcRef → Gets Answer (Meaning ArcRef)) {a b : D} {given used : Track}
     → ((c : Context Answer ArcRef) (rest : Rest Answer) → whole c rest ≡ bytes_of text_at meaning rest) → (d.rest a).bytes ≡ left given → d.rest b
-    ≡ record (d.rest a) { bytes = left used } → (GoesOn given used → MovesOn (d.standing a) (d.standing b))
-    → d.environment b ≡ d.environment a → d.levels b ≡ d.levels a → Gives memory (λ t. (string_bytes t, left used)) r (text_at (left given)) → GoesOn given used
+    ≡ record (d.rest a) { bytes = left used } → (GoesOn given used → MovesOn (d.input_state a) (d.input_state b))
+    → d.environment b ≡ d.environment a → d.levels b ≡ d.levels a → MatchesReading memory (λ t. (string_bytes t, left used)) r (text_at (left given))
+    → GoesOn given used
     → Reads env d memory (Is (λ t. meaning (string_bytes t))) whole a b r
 text-read env d meaning r whole {a = a} {used = used} same e f moves same_env same_levels told goes = record {
   gives = rw (same (context_in env d a) (d.rest a), f) (gives_bytes memory string_bytes meaning text_at r (d.rest a) (left used) (rw e told));
@@ -321,7 +322,7 @@ unfolding text_at length_at
 faults-text bytes e h = grind (arith, faults-varint)
 
 -- want of memory, or a fault of the input: a text is never refused as a pattern is
-pub text_not_refused : {X : Type 0} (view : X → List ℕ × List ℕ) (r : Result X Error) (bytes : List ℕ) → Gives memory view r (text_at bytes)
+pub text_not_refused : {X : Type 0} (view : X → List ℕ × List ℕ) (r : Result X Error) (bytes : List ℕ) → MatchesReading memory view r (text_at bytes)
     → IfErr r (λ e. e ≢ Error.RegexRefused)
 text_not_refused view (Ok x) bytes h = tt
 text_not_refused view (Err e) bytes h = λ is. let fault = faults-text bytes e in grind (arith, nat_tests, h, fault, is)

@@ -3,7 +3,7 @@
 use Rattle.{pagable_codec.specs.declared.{deserializer.PagableDeserializer.Ghosts as Deserializers, env.Env.Ghosts as Environments}, pagable_value_spec.specs.Canonical.{HasNoCase, IsReadable, LiesIn}}
 use Rattle.pagable_value_spec.specs.{Canonical.{Throughout, Within}, CarriedTypes.{body_of, is_registered, of_tagged, tagged_by}, Form.{static-form, tagged-form}, Meaning.lifted, Numbers.{bound, unsigned_form}}
 use Rattle.pagable_value_spec.specs.{Reading.registered, Shape.{cases, static_value, tagged}, Statics.{HasEqual, NoEqualBelow}, Tagged.{HasDistinctTags, IsLastFor, MeansTagged, NoneFor}}
-use Rattle.{pagable_value_spec.specs.Tagged.{ReadsWhatIsWritten, grammars}, pagable_traits.proofs.{Parts.{err_along, ok_along}, Words.{Answer, ArcRef, Bool, Context, Err, Error, Gets, Gives, GivesSome}}}
+use Rattle.{pagable_value_spec.specs.Tagged.{ReadsWhatIsWritten, grammars}, pagable_traits.proofs.{Parts.{err_along, ok_along}, Words.{Answer, ArcRef, Bool, Context, Err, Error, Gets, MatchesReading, GivesSome}}}
 use Rattle.pagable_traits.proofs.Words.{IfErr, Is, List, Meaning, Meanings, MovesOn, Nesting, NoForm, Ok, Out, Reads, Refused, Rest, Result, Shape, Some, SomeMeaning, WritesSome, [], added, ap, arith}
 use Rattle.pagable_traits.proofs.Words.{bytes_of, context_in, false, get_or, inl, inr, length, length-map, long_or_memory, longest, map, memory, memory_or, memory_refuses, moves_trans, read}
 use Rattle.pagable_traits.proofs.Words.{read_with, refl, subst, suc, sym, text_at, text_form, then, true, w32, writes_bytes, zero, ℕ, ◌++◌, ◌+◌, ◌<◌, ◌>>=◌, ◌∙◌, ◌∷◌, ◌≡◌, ◌≤◌}
@@ -161,8 +161,8 @@ read-unknown context written grammar env readers tag rest mid e none = rw (e, no
 
 -- a tag as bytes give it
 pub text_is_read : {X : Type 0} (bytes_in : X → List ℕ) (r : Result X Error) (rest last : Rest Answer) (bytes after : List ℕ) → rest.bytes ≡ bytes → last
-    ≡ record rest { bytes = after } → Gives memory (λ t. (bytes_in t, after)) r (text_at bytes)
-    → Gives memory (λ t. (bytes_in t, last)) r (bytes_of text_at (λ t. t) rest)
+    ≡ record rest { bytes = after } → MatchesReading memory (λ t. (bytes_in t, after)) r (text_at bytes)
+    → MatchesReading memory (λ t. (bytes_in t, last)) r (bytes_of text_at (λ t. t) rest)
 text_is_read bytes_in r rest last bytes after e f h = grind (arith, nat_tests, e, f, h)
 
 module _ {D E R N H K V : Type 0} (d : Deserializers D E R N H K V) where
@@ -170,7 +170,7 @@ module _ {D E R N H K V : Type 0} (d : Deserializers D E R N H K V) where
   abbrev pub Tells : Type 0 → D → D → Type 0
   Tells gives old new = record {
     gives : gives;
-    moves : MovesOn (d.standing old) (d.standing new);
+    moves : MovesOn (d.input_state old) (d.input_state new);
     same_env : d.environment new ≡ d.environment old;
     same_levels : d.levels new ≡ d.levels old;
   }

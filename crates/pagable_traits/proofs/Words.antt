@@ -1,8 +1,8 @@
 -- The names that most proofs here cite, passed on from one place. Declares nothing.
 pub use Rattle.pagable_codec.proofs.{Reading.moves_trans, Writing.{grows_bytes, grows_refl, grows_trans, memory_refuses, refused_memory, then, writes_bytes, writes_is, writes_nothing}}
 pub use Rattle.pagable_value_spec.specs.{BasicValues.{bool_at, bool_form, char_at, length_at, length_form, longest, text_at, text_form}, CarriedTypes.of_entries, Collected.Collected, Form.{Entries, Forms, both-form}}
-pub use Rattle.pagable_value_spec.specs.{Form.{err-form, flag-form, list-form, more-entries, more-forms, no-forms, ok-form, signed-form, some-form, sorted-map-form, text-form}, Outcomes.{Extends, Gives}}
-pub use Rattle.pagable_value_spec.specs.{Outcomes.{json_causes, long_or, memory, memory_or, never}, Keys.{Differ, Entry, KeyOrder, ordered, put_sorted, same_key, text_order}, Lengths.long_or_memory}
+pub use Rattle.pagable_value_spec.specs.{Form.{err-form, flag-form, list-form, more-entries, more-forms, no-forms, ok-form, signed-form, some-form, sorted-map-form, text-form}, Outcomes.{Extends, MatchesReading}}
+pub use Rattle.pagable_value_spec.specs.{Outcomes.{json_causes, long_or, memory, memory_or, no_own_causes}, Keys.{Differ, Entry, KeyOrder, ordered, put_sorted, same_key, text_order}, Lengths.long_or_memory}
 pub use Rattle.pagable_value_spec.specs.Composite.{MeanAll, MeansList, MeansOption, MeansPair, MeansResult, items_have_meanings, mean-more, mean-none, means-err, means-none, means-ok, means-some}
 pub use Rattle.pagable_value_spec.specs.{Composite.pair_has_meaning, Meaning.{Meaning, absent, entry, failure, integer, none, number, pair, present, sequence, success, variant}, Numbers.{Read, signed_at}}
 pub use Rattle.pagable_value_spec.specs.{Numbers.unsigned_at, Reading.{Context, Gets, Rest, array_case, bytes_of, counted, deepest, object_case, seen}, Shape.{Shape, both, flag, json, list, optional}}

@@ -51,7 +51,7 @@ module _ {D E R N H K V : Type 0} (env : Environments E N H K V) (d : Deserializ
   pub record Reads {X Y : Type 0} (causes : Error → Type 0) (means : X → Y → Type 0)
       (get : Context Answer ArcRef → Gets Answer Y) (old new : D) (result : Result X Error) : Type 0 where
     pub gives : GivesSome causes means (d.rest new) result (get (context_in old) (d.rest old))
-    pub moves : MovesOn (d.standing old) (d.standing new)
+    pub moves : MovesOn (d.input_state old) (d.input_state new)
     pub same_env : d.environment new ≡ d.environment old
     pub same_levels : d.levels new ≡ d.levels old
 

@@ -1,6 +1,6 @@
 -- What values that hold others hold beside references, made of what their parts hold.
 use Rattle.std.specs.{Arc.arc_value, List.All, Prelude.{Bool, IfSome, List, MatchResult, Option, Result, Some, [], ℕ, ◌≡◌}}
-use Rattle.{pagable_value_spec.specs.{Collected.PutInTurn, Cursor.{HoldsLent, Standing}, declared.numbers.ArcRef.ArcRef}, pagable_traits.specs.{References.holding, declared.arc.HoldingArc.HoldingArc}}
+use Rattle.{pagable_value_spec.specs.{Collected.PutInTurn, Cursor.{HoldsLentValues, InputState}, declared.numbers.ArcRef.ArcRef}, pagable_traits.specs.{References.holding, declared.arc.HoldingArc.HoldingArc}}
 
 -- what a value of the type X holds beside a reference is the value of this node
 abbrev pub Beside : Type 0 → Type 0 → Type 1
@@ -23,8 +23,8 @@ abbrev pub lists_beside : {N T : Type 0} → Beside N T → Beside N (List T)
 lists_beside B xs r y = All (λ x. B x r y) xs
 
 -- the result of adding items one after another, each of which holds what the deserializer lent
-pub record CollectsHeld {N T : Type 0} (s : Standing N) (B : Beside N T) (puts : List T → T → List T → Type 0)
+pub record CollectsHeld {N T : Type 0} (s : InputState N) (B : Beside N T) (puts : List T → T → List T → Type 0)
     (now : List T) : Type 0 where
   pub xs : List T
-  pub each : All (HoldsLent s B) xs
+  pub each : All (HoldsLentValues s B) xs
   pub is : PutInTurn puts [] xs now

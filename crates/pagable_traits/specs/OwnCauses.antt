@@ -2,7 +2,7 @@
 use Rattle.std.specs.Prelude.{true, ◌≡◌}
 use Rattle.pagable_value_spec.specs.Causes.{deep_or_may_refuse_writing, either_is_own_reading, either_may_refuse_writing, json_may_refuse_writing, long_or_may_refuse_writing}
 use Rattle.pagable_value_spec.specs.Causes.{memory_is_own_reading, memory_may_refuse_writing, memory_or_is_own_reading, memory_or_may_refuse_writing, never_is_own_reading, never_may_refuse_writing}
-use Rattle.pagable_value_spec.specs.{Outcomes.{deep_or, either, json_causes, long_or, memory, memory_or, never}, Refusals.{is_own_reading, may_refuse_writing}, declared.error.Error.Error}
+use Rattle.pagable_value_spec.specs.{Outcomes.{deep_or, either, json_causes, long_or, memory, memory_or, no_own_causes}, Refusals.{is_own_reading, may_refuse_writing}, declared.error.Error.Error}
 
 -- no cause is a fault of the input
 pub record ReadCauses : Type 1 where
@@ -10,7 +10,7 @@ pub record ReadCauses : Type 1 where
   pub own : (e : Error) → are e → is_own_reading e ≡ true
 
 abbrev pub reads_never : ReadCauses
-reads_never = record { are = never; own = never_is_own_reading }
+reads_never = record { are = no_own_causes; own = never_is_own_reading }
 
 abbrev pub reads_memory : ReadCauses
 reads_memory = record { are = memory; own = memory_is_own_reading }
@@ -30,7 +30,7 @@ pub record WriteCauses : Type 1 where
   pub may : (e : Error) → are e → may_refuse_writing e ≡ true
 
 abbrev pub writes_never : WriteCauses
-writes_never = record { are = never; may = never_may_refuse_writing }
+writes_never = record { are = no_own_causes; may = never_may_refuse_writing }
 
 abbrev pub writes_memory : WriteCauses
 writes_memory = record { are = memory; may = memory_may_refuse_writing }

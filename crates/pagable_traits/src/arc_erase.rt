@@ -1,7 +1,7 @@
 //! What the three sorts of references have in common, whatever type their values have.
 
 ghost use Rattle.std.specs.{Arc.arc_value, Prelude.{Bool, IfErr, IfOk, List, Option, Some, codes, false, option_map, refl, true, ℕ, ◌≡◌}};
-ghost use Rattle.pagable_value_spec.specs.{Outcomes.memory, Reading.{read, read_typed}, References.references_in, Cursor.HoldsLent};
+ghost use Rattle.pagable_value_spec.specs.{Outcomes.memory, Reading.{read, read_typed}, References.references_in, Cursor.HoldsLentValues};
 ghost use Rattle.{pagable_value_spec.specs.declared.numbers.ArcRef.ArcRef as Reference, pagable_traits.specs.{Clauses.{Reads, Wrote}, References.{holding, holding_kind, holding_name, loose, loose_kind}}};
 ghost use Rattle.pagable_traits.specs.Erased.{IsToldAt, NeedsPagingOut, SetsKey, any_cause, inner, inner_causes};
 
@@ -469,7 +469,7 @@ pub fn deserialize_arc<
 >(alloc: Global, deserializer: &mut D) -> Result<A, Error>
     ensures reads { Reads E.Env D.PagableDeserializer A.read_causes.are A.means.of
         (λ c. read c (A.shape (D.environment deserializer.old))) deserializer.old deserializer.new result }
-    ensures holds { IfOk result (HoldsLent (D.standing deserializer.old) A.beside) }
+    ensures holds { IfOk result (HoldsLentValues (D.input_state deserializer.old) A.beside) }
 {
     A::pagable_deserialize(alloc, deserializer)
 }

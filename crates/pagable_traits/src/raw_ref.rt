@@ -1,7 +1,7 @@
 //! Raw references: a reference by the number of its kind, without the type of its value.
 
 ghost use Rattle.std.specs.Prelude.{IfNone, IfOk, IfSome, Some, ◌≡◌, ◌≢◌};
-ghost use Rattle.pagable_value_spec.specs.{Outcomes.{memory, never}, Meaning.reference as meaning_of, Reading.read, Shape.reference as reference_shape, Cursor.{Is, IsLent}};
+ghost use Rattle.pagable_value_spec.specs.{Outcomes.{memory, no_own_causes}, Meaning.reference as meaning_of, Reading.read, Shape.reference as reference_shape, Cursor.{Is, IsLent}};
 ghost use Rattle.pagable_traits.specs.{Clauses.{Reads, Wrote, value as form}, Meanings.exactly, References.{plain, plain_means, reference_has_one_form}};
 
 use crate::{Canonical, Carried, OneMeaning, PagableDeserialize, PagableSerialize};
@@ -40,8 +40,9 @@ pub fn read_reference<E: Env, D: PagableDeserializer<E>>(
 ) -> Result<ArcRef, Error>
     ensures of_kind { IfOk result (λ r. r.kind ≡ kind) }
     ensures lent { IfOk result (λ r. (y : E.Node) → D.lends deserializer.new r ≡ Some y
-        → IsLent (D.standing deserializer.old) r y) }
-    ensures reads { Reads E.Env D.PagableDeserializer never (Is meaning_of) (λ c. read c (reference_shape kind.0))
+        → IsLent (D.input_state deserializer.old) r y) }
+    ensures reads { Reads E.Env D.PagableDeserializer no_own_causes (Is meaning_of)
+        (λ c. read c (reference_shape kind.0))
         deserializer.old deserializer.new result }
 {
     let reference = deserializer.deserialize_arc(kind)?;

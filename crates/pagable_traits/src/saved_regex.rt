@@ -1,7 +1,7 @@
 //! Regular expressions, kept with their texts.
 
 ghost use Rattle.std.{proofs.Common.rules, specs.{Cmp.Rules.{comparing, hashing}, Prelude.{IfErr, IfOk, List, ℕ, ◌≡◌, ◌≢◌}, Str.bytes_eq, String.string_bytes}};
-ghost use Rattle.pagable_value_spec.specs.{Outcomes.{long_or, memory}, Keyed.pattern_is_same, Meaning.pattern, OneForm.{basic_has_one_form, basic_refers_to_nothing}, Reading.read, Cursor.{HoldsLent, Is}};
+ghost use Rattle.pagable_value_spec.specs.{Outcomes.{long_or, memory}, Keyed.pattern_is_same, Meaning.pattern, OneForm.{basic_has_one_form, basic_refers_to_nothing}, Reading.read, Cursor.{HoldsLentValues, Is}};
 ghost use Rattle.{pagable_value_spec.specs.{Cursor.handles_at, declared.error.Error.TheVariants.RegexRefused}, pagable_traits.specs.Building.{IsBuiltFrom, IsRefusedPattern, ReadsNoPattern}};
 ghost use Rattle.pagable_traits.specs.{Building.{pattern_causes, reads_pattern, refusal_of}, Clauses.{Reads, Wrote, value as form}, Meanings.exactly, OwnCauses.{writes_long_or, writes_memory}};
 ghost use Rattle.std.specs.Hash as fed;
@@ -177,7 +177,7 @@ impl<'de, E: Env> PagableDeserialize<'de, E> for SavedRegex {
     ) -> Result<Self, Error>
         ensures reads { Reads E.Env D.PagableDeserializer pattern_causes (Is pattern)
             (λ c. read c shapes.pattern) deserializer.old deserializer.new result }
-        ensures holds { IfOk result (HoldsLent (D.standing deserializer.old) (λ x r y. Unit {0})) }
+        ensures holds { IfOk result (HoldsLentValues (D.input_state deserializer.old) (λ x r y. Unit {0})) }
         ensures refused { IfErr result (λ e. e ≡ RegexRefused → ReadsNoPattern
             (read (handles_at (D.levels deserializer.old) (E.parts (D.environment deserializer.old))) shapes.pattern
             (D.rest deserializer.old))) }

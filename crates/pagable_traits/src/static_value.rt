@@ -4,8 +4,8 @@
 
 ghost use Rattle.std.specs.{List.{Sorted.{IsPermutation, IsSorted, IsStable}, slice_get}, Prelude.{Err, IfErr, IfNone, IfOk, IfSome, IsTrue, List, Option, Some, length, map, vec_len, ◌<◌, ◌↔◌, ◌≡◌}};
 ghost use Rattle.std.specs.Prelude.{◌≤◌};
-ghost use Rattle.pagable_value_spec.specs.{BasicValues.longest, Canonical.HasNoReference, Outcomes.{Gives, memory_or, never}, Lengths.long_or_memory, Meaning.{Meaning, lifted}, Reading.{read, registered}};
-ghost use Rattle.{pagable_value_spec.specs.{Shape.static_value, Cursor.{HoldsLent, Is}, Statics.{HasEqual, NoEqualBelow, StandsAt, meanings_of, unregistered}}, pagable_traits.specs.Clauses.{Reads, Wrote}};
+ghost use Rattle.pagable_value_spec.specs.{BasicValues.longest, Canonical.HasNoReference, Outcomes.{MatchesReading, memory_or, no_own_causes}, Lengths.long_or_memory, Meaning.{Meaning, lifted}, Reading.{read, registered}};
+ghost use Rattle.{pagable_value_spec.specs.{Shape.static_value, Cursor.{HoldsLentValues, Is}, Statics.{HasEqual, NoEqualBelow, StandsAt, meanings_of, unregistered}}, pagable_traits.specs.Clauses.{Reads, Wrote}};
 ghost use Rattle.pagable_traits.specs.{Clauses.value as form, Meanings.exactly, OwnCauses.writes_memory_or, StaticValues.{static_is_same, static_refers_to_nothing, writes_unregistered}};
 
 use crate::keys::PagableKey;
@@ -214,7 +214,7 @@ pub fn registered_value<E: Env, T: HasStaticValueRegistry<E>>(
     index: u32,
     env: &E,
 ) -> Result<StaticValue<T>, Error>
-    ensures gives { Gives never (λ v. T.plain v.0.value) result
+    ensures gives { MatchesReading no_own_causes (λ v. T.plain v.0.value) result
         (registered (meanings_of T.plain (T.known env.now)) index) }
     ensures same_index { IfOk result (λ v. v.0.index ≡ index) }
 {
@@ -292,10 +292,10 @@ impl<'de, E: Env, T: HasStaticValueRegistry<E>> PagableDeserialize<'de, E> for S
         alloc: Global,
         deserializer: &mut D,
     ) -> Result<Self, Error>
-        ensures reads { Reads E.Env D.PagableDeserializer never (Is (λ v. lifted (T.plain v.0.value)))
+        ensures reads { Reads E.Env D.PagableDeserializer no_own_causes (Is (λ v. lifted (T.plain v.0.value)))
             (λ c. read c (static_value (meanings_of T.plain (T.known (D.environment deserializer.old)))))
             deserializer.old deserializer.new result }
-        ensures holds { IfOk result (HoldsLent (D.standing deserializer.old) (λ v r y. Unit {0})) }
+        ensures holds { IfOk result (HoldsLentValues (D.input_state deserializer.old) (λ v r y. Unit {0})) }
         ensures stands { IfOk result (λ v. StandsAt T.plain (T.known (D.environment deserializer.old)) v.0.value
             v.0.index) }
     {

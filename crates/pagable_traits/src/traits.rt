@@ -2,7 +2,7 @@
 //! the values of nodes.
 
 ghost use Rattle.std.specs.Prelude.{IfOk, Some, ◌≡◌};
-ghost use Rattle.{pagable_value_spec.specs.{Outcomes.memory_or, Reading.read, Shape.Shape, Cursor.HoldsLent, declared.{error.Error.Error as Refusal, numbers.ArcRef.ArcRef as Reference}}, pagable_traits.specs.{InNodes.Holds, Clauses.{Reads, Wrote}}};
+ghost use Rattle.{pagable_value_spec.specs.{Outcomes.memory_or, Reading.read, Shape.Shape, Cursor.HoldsLentValues, declared.{error.Error.Error as Refusal, numbers.ArcRef.ArcRef as Reference}}, pagable_traits.specs.{InNodes.Holds, Clauses.{Reads, Wrote}}};
 ghost use Rattle.pagable_traits.specs.{Clauses.value as form, Meanings.{AreSingle, Meanings}, OwnCauses.{ReadCauses, WriteCauses, reads_memory_or, reads_never, writes_memory}};
 
 use pagable_codec::{Env, NodeSet, OfNode, PagableDeserializer, PagableSerializer};
@@ -63,7 +63,7 @@ pub trait PagableDeserialize<'de, E: Env>: Carried<E> + Sized {
     ) -> Result<Self, Error>
         ensures reads { Reads E.Env D.PagableDeserializer read_causes.are Self.means.of
             (λ c. read c (Self.shape (D.environment deserializer.old))) deserializer.old deserializer.new result }
-        ensures holds { IfOk result (HoldsLent (D.standing deserializer.old) Self.beside) };
+        ensures holds { IfOk result (HoldsLentValues (D.input_state deserializer.old) Self.beside) };
 }
 
 /// A type whose values each have exactly one meaning.
@@ -111,7 +111,7 @@ pub trait PagableBoxDeserialize<'de, E: Env>: Carried<E> + Sized {
     ) -> Result<Box<Self>, Error>
         ensures reads { Reads E.Env D.PagableDeserializer box_causes.are (λ b. Self.means.of b.value)
             (λ c. read c (Self.shape (D.environment deserializer.old))) deserializer.old deserializer.new result }
-        ensures holds { IfOk result (HoldsLent (D.standing deserializer.old) (λ b. Self.beside b.value)) };
+        ensures holds { IfOk result (HoldsLentValues (D.input_state deserializer.old) (λ b. Self.beside b.value)) };
 }
 
 /// Allocating the box may fail with `OutOfMemory`, beside the causes of the value.

@@ -3,8 +3,8 @@
 //! globals.
 
 ghost use Rattle.std.specs.{Prelude.{Bool, IfErr, IfNone, IfOk, IfSome, List, None, OnOk, Option, Some, [], length, map, ℕ, ◌≡◌, ◌≤◌}, Str.IsUtf8, String.string_bytes};
-ghost use Rattle.pagable_value_spec.specs.{BasicValues.{longest, text_at, text_form}, CarriedTypes.tagged_by, Outcomes.{Gives, long_or, memory, memory_or}, Lengths.long_or_memory, Reading.{bytes_of, read}};
-ghost use Rattle.pagable_value_spec.specs.{Shape.{Shape, tagged}, Cursor.{HoldsLent, MovesOn}, Tagged.{HasDistinctTags, IsLastFor, MeansTagged, NoneFor, ReadsWhatIsWritten, grammars}, Writing.{Grows, added}, declared.numbers.ArcRef.ArcRef as Reference};
+ghost use Rattle.pagable_value_spec.specs.{BasicValues.{longest, text_at, text_form}, CarriedTypes.tagged_by, Outcomes.{MatchesReading, long_or, memory, memory_or}, Lengths.long_or_memory, Reading.{bytes_of, read}};
+ghost use Rattle.pagable_value_spec.specs.{Shape.{Shape, tagged}, Cursor.{HoldsLentValues, MovesOn}, Tagged.{HasDistinctTags, IsLastFor, MeansTagged, NoneFor, ReadsWhatIsWritten, grammars}, Writing.{Grows, added}, declared.numbers.ArcRef.ArcRef as Reference};
 ghost use Rattle.pagable_traits.specs.{Clauses.{Reads, Wrote, value as form}, Meanings.Meanings, OwnCauses.{ReadCauses, WriteCauses}, ReadBack.IsReadThroughout};
 
 use pagable_codec::{Env, PagableDeserializer, PagableSerializer, Reader};
@@ -26,7 +26,7 @@ pub trait PagableTagged<E: Env>: Sized {
     // Says that, wherever the body refers by this reference and holds what it refers to, the value
     // holds the value of this node. By default it says nothing, which fits values that hold only
     // references.
-    ghost body_beside: { Self → Reference → E.Node → Type 0 } = { λ x r y. Unit {0} };
+    ghost body_holds_target: { Self → Reference → E.Node → Type 0 } = { λ x r y. Unit {0} };
 
     // All errors of writing a body, those included that say that the body has no form.
     ghost body_causes: { WriteCauses };
@@ -107,7 +107,7 @@ pub trait TagReader<E: Env, T: PagableTagged<E>>: ForTag {
         ensures reads { Reads E.Env D.PagableDeserializer read_causes.are T.body_means.of
             (λ c. read c (grammar self.now (D.environment deserializer.old))) deserializer.old deserializer.new result }
         ensures of_tag { IfOk result (λ x. T.tag x ≡ Self.own_tag self.now) }
-        ensures holds { IfOk result (HoldsLent (D.standing deserializer.old) T.body_beside) };
+        ensures holds { IfOk result (HoldsLentValues (D.input_state deserializer.old) T.body_holds_target) };
 }
 
 /// A tag, and the reader of the bodies under it, which returns values with this tag.
@@ -186,7 +186,7 @@ impl<T, F: ForTag> TypetagRegistry<T, F> {
             (λ x. MeansTagged (T.tag x) (T.body_means.of x))
             (λ c. read c (tagged_by written (grammars F.grammar (D.environment deserializer.old) self.now)))
             deserializer.old deserializer.new result }
-        ensures holds { IfOk result (HoldsLent (D.standing deserializer.old) T.body_beside) }
+        ensures holds { IfOk result (HoldsLentValues (D.input_state deserializer.old) T.body_holds_target) }
     {
         let tag = read_tag(alloc, deserializer)?;
         let found = self.reader_of(tag.as_str());
@@ -222,9 +222,9 @@ fn read_tag<E: Env, D: PagableDeserializer<E>>(
     alloc: Global,
     deserializer: &mut D,
 ) -> Result<String, Error>
-    ensures gives { Gives memory (λ t. (string_bytes t, D.rest deserializer.new)) result
+    ensures gives { MatchesReading memory (λ t. (string_bytes t, D.rest deserializer.new)) result
         (bytes_of text_at (λ t. t) (D.rest deserializer.old)) }
-    ensures moves { MovesOn (D.standing deserializer.old) (D.standing deserializer.new) }
+    ensures moves { MovesOn (D.input_state deserializer.old) (D.input_state deserializer.new) }
     ensures same_env { D.environment deserializer.new ≡ D.environment deserializer.old }
     ensures same_levels { D.levels deserializer.new ≡ D.levels deserializer.old }
 {
@@ -270,7 +270,7 @@ pub fn deserialize_tagged<E: Env, T: HasTypetagRegistry<E>, D: PagableDeserializ
         (λ x. MeansTagged (T.tag x) (T.body_means.of x))
         (λ c. read c (tagged_by written (grammars T.Reader.grammar (D.environment deserializer.old)
         (T.readers (D.environment deserializer.old))))) deserializer.old deserializer.new result }
-    ensures holds { IfOk result (HoldsLent (D.standing deserializer.old) T.body_beside) }
+    ensures holds { IfOk result (HoldsLentValues (D.input_state deserializer.old) T.body_holds_target) }
 {
     let tag = read_tag(alloc, deserializer)?;
     let found = registered_reader::<E, T>(tag.as_str(), deserializer.env());

@@ -36,7 +36,8 @@ fn static_bytes(alloc: Global, zoo: &Zoo, input: &[u8]) -> Option<Outcome> {
     Some(with_shown(outcome, text))
 }
 
-/// Makes an environment that registers texts, three lists of bytes and the readers of these names.
+/// Makes an environment that registers static texts, three static byte arrays, and the animal readers
+/// that `names` lists.
 fn zoo(alloc: Global, names: &str) -> Option<Zoo> {
     let words: &[&'static str] = match names {
         "twice" => &["b", "a", "b"],

@@ -22,8 +22,8 @@ fn found<R: Wait>(rt: &R, names: &Names, name: u8) -> Option<u32> {
     names.get(rt, &name).ok()?
 }
 
-/// Returns what is found of a name: before it has a number, when it gets one, once another is set,
-/// and when it would get one again; and of another name.
+/// Returns the number of the name 7 before it has one, when it gets 1, after it is set to 2, and when
+/// it would get 1 again; and then the number of the name 8.
 fn in_one_thread<R: Wait>(rt: &R, names: &Names) -> [Option<u32>; 5] {
     let before = found(rt, names, 7);
     let made = first(rt, names, 7);

@@ -1,5 +1,5 @@
 -- Where a text is cut that is made of two, and what stays cut.
-use Rattle.std.proofs.{Common.{List, [], arith, false, inl, inr, length, refl, subst, suc, sym, take, drop, true, ℕ, ◌++◌, ◌<◌, ◌-◌, ◌+◌, ◌∷◌, ◌∙◌, ◌≡◌, ◌≤◌, ◌⊎◌, ap}, lemmas.{Bool.{Decides.nat_tests}, List.{append_assoc, get_or_append_left, append-nil, get_or-append-add, get_or-append_right, length-append, take-append-le, take_all, take_at}, Str.{IsCharBoundary-end, IsUtf8-append, IsUtf8-from_is_utf8, is_utf8-from_IsUtf8}}}
+use Rattle.std.proofs.{Common.{List, [], arith, false, inl, inr, length, refl, subst, suc, sym, take, true, ℕ, ◌++◌, ◌<◌, ◌-◌, ◌+◌, ◌∷◌, ◌∙◌, ◌≡◌, ◌≤◌, ◌⊎◌, ap}, lemmas.{List.{get_or_append_left, append-nil, get_or-append-add, get_or-append_right, length-append, take-append-le, take_all}, Str.{IsCharBoundary-end, IsUtf8-append, IsUtf8-from_is_utf8, is_utf8-from_IsUtf8}}}
 use Rattle.std.specs.Str.{IsCharBoundary, IsUtf8, is_utf8}
 use Rattle.pagable_value_spec.specs.{Reasons.{IsCut, IsKept, kept_of}, declared.reason.Reason.Reason}
 

@@ -1,12 +1,12 @@
 -- An error that a reader may add of its own is no fault of the input; an error of a writer is one that writers may
 -- return.
 use Rattle.std.{specs.Prelude.{◌≡◌, true, refl}, proofs.Common.{arith, subst, sym}}
-use Rattle.pagable_value_spec.specs.{declared.error.Error.Error, Refusals.{is_own_reading, may_refuse_writing}, Outcomes.{never, memory, memory_or, either, long_or, deep_or, json_causes}}
+use Rattle.pagable_value_spec.specs.{declared.error.Error.Error, Refusals.{is_own_reading, may_refuse_writing}, Outcomes.{no_own_causes, memory, memory_or, either, long_or, deep_or, json_causes}}
 
-pub never_is_own_reading : (e : Error) → never e → is_own_reading e ≡ true
+pub never_is_own_reading : (e : Error) → no_own_causes e → is_own_reading e ≡ true
 never_is_own_reading e h = absurd h
 
-pub never_may_refuse_writing : (e : Error) → never e → may_refuse_writing e ≡ true
+pub never_may_refuse_writing : (e : Error) → no_own_causes e → may_refuse_writing e ≡ true
 never_may_refuse_writing e h = absurd h
 
 pub memory_is_own_reading : (e : Error) → memory e → is_own_reading e ≡ true

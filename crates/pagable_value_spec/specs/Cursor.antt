@@ -15,12 +15,12 @@ handles_at levels parts = record { levels = levels; look = answer_at; parts = pa
 
 -- the deserializer's whole input, the reference at each place with the node that is lent there (if any), and the
 -- position
-pub record Standing (N : Type 0) : Type 0 where
+pub record InputState (N : Type 0) : Type 0 where
   pub whole : Rest Answer
   pub lent : ℕ → Option (ArcRef × N)
   pub cursor : PagableCursor
 
-abbrev pub rest_at : {N : Type 0} → Standing N → Rest Answer
+abbrev pub rest_at : {N : Type 0} → InputState N → Rest Answer
 rest_at s = record { bytes = drop s.cursor.byte_pos s.whole.bytes; refs = drop s.cursor.arc_index s.whole.refs }
 
 -- a position that is past neither end
@@ -29,7 +29,7 @@ pub record IsWithin (whole : Rest Answer) (cursor : PagableCursor) : Type 0 wher
   pub refs : cursor.arc_index ≤ length whole.refs
 
 -- The input is the same, the position is not before the old one, and it is past no end if the old one wasn't.
-pub record MovesOn {N : Type 0} (old new : Standing N) : Type 0 where
+pub record MovesOn {N : Type 0} (old new : InputState N) : Type 0 where
   pub whole : new.whole ≡ old.whole
   pub lent : new.lent ≡ old.lent
   pub bytes : old.cursor.byte_pos ≤ new.cursor.byte_pos
@@ -37,14 +37,14 @@ pub record MovesOn {N : Type 0} (old new : Standing N) : Type 0 where
   pub within : IsWithin old.whole old.cursor → IsWithin new.whole new.cursor
 
 -- the node is lent with the reference, at some place; below: no other node is lent with it at any place
-abbrev pub IsLent : {N : Type 0} → Standing N → ArcRef → N → Type 0
+abbrev pub IsLent : {N : Type 0} → InputState N → ArcRef → N → Type 0
 IsLent s r y = (place : ℕ) × (s.lent place ≡ Some (r, y))
 
-abbrev pub IsOnlyLent : {N : Type 0} → Standing N → ArcRef → N → Type 0
+abbrev pub IsOnlyLent : {N : Type 0} → InputState N → ArcRef → N → Type 0
 IsOnlyLent {N} s r y = (place : ℕ) (z : N) → s.lent place ≡ Some (r, z) → z ≡ y
 
 -- beside each reference the value holds the value of the node that was lent with it
-pub record HoldsLent {X N : Type 0} (s : Standing N) (beside : X → ArcRef → N → Type 0) (x : X) : Type 0 where
+pub record HoldsLentValues {X N : Type 0} (s : InputState N) (beside : X → ArcRef → N → Type 0) (x : X) : Type 0 where
   pub each : (r : ArcRef) (y : N) → IsOnlyLent s r y → beside x r y
 
 -- reading returns one of the meanings, and leaves `after`

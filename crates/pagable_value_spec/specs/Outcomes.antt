@@ -4,13 +4,13 @@ use Rattle.pagable_value_spec.specs.declared.error.Error.{Error}
 
 -- A function's result, seen by view, is what reading gives. If it fails, the error is the first fault that reading
 -- meets, or one of the function's own causes.
-abbrev pub Gives : {X Y : Type 0} → (Error → Type 0) → (X → Y) → Result X Error → Result Y Error → Type 0
-Gives own view (Ok x) read = read ≡ Ok (view x)
-Gives own view (Err e) read = (read ≡ Err e) ⊎ own e
+abbrev pub MatchesReading : {X Y : Type 0} → (Error → Type 0) → (X → Y) → Result X Error → Result Y Error → Type 0
+MatchesReading own view (Ok x) read = read ≡ Ok (view x)
+MatchesReading own view (Err e) read = (read ≡ Err e) ⊎ own e
 
 -- The causes that a reader may have of its own, and the causes by which a writer may fail. Here: none
-abbrev pub never : Error → Type 0
-never e = ⊥
+abbrev pub no_own_causes : Error → Type 0
+no_own_causes e = ⊥
 
 abbrev pub memory : Error → Type 0
 memory e = e ≡ Error.OutOfMemory

@@ -10,9 +10,9 @@ IsCloneOf is_clone _ _ = ⊥
 
 -- What a failed call hands back of the value that it was to insert: that value, if it was made already; None if the key
 -- had a value, so that none was made.
-abbrev pub IsBack : {V : Type 0} → (V → Type 0) → Option V → Option V → Type 0
-IsBack made old None = IsSome old
-IsBack made old (Some x) = (old ≡ None) × made x
+abbrev pub IsHandedBack : {V : Type 0} → (V → Type 0) → Option V → Option V → Type 0
+IsHandedBack made old None = IsSome old
+IsHandedBack made old (Some x) = (old ≡ None) × made x
 
 -- one step under a lock: `old` is what the lock may hold before, `new` what it may hold afterwards
 pub record Under {C M : Type 0} (lock : C) (step : M → M → Type 0) : Type 0 where

@@ -1,9 +1,54 @@
 //! The numbers by which nodes, handles, loads and workers are named, and what a reference is.
 
+ghost use Rattle.pagable_value_spec.specs.{Height.{is_loose_kind, is_pinned_kind, is_shared_kind}, Trees.{type_of}};
+ghost use Rattle.std.specs.Prelude.{IfNone, IfSome, ◌*◌, ◌+◌, ◌^◌, ◌<◌, ◌≡◌, ◌≤◌};
+
 /// The kind of a reference. The value type with the number t has three kinds: 3t for an `Arc`, 3t +
 /// 1 for a `PagableArc`, and 3t + 2 for a `PinnedPagableArc`.
 #[derive(Clone, Copy, Debug, PartialEq, Eq, Hash)]
 pub struct Kind(pub u32);
+
+impl Kind {
+    /// Returns the loose kind of a value type, or None if it doesn't fit 32 bits.
+    pub fn loose_of(node_type: u32) -> Option<Kind>
+        ensures some { IfSome result (λ kind. (kind.0 ≡ 3 * node_type + 1) × (3 * node_type + 1 < 2 ^ 32)) }
+        ensures none { IfNone result (2 ^ 32 ≤ 3 * node_type + 1) }
+    {
+        let number = 3 * (node_type as u64) + 1;
+        if number > u32::MAX as u64 {
+            return None;
+        }
+        Some(Kind(number as u32))
+    }
+
+    /// Returns the number of the value type.
+    pub fn node_type(self) -> u32
+        ensures { result ≡ type_of self.0 }
+    {
+        self.0 / 3
+    }
+
+    /// Says whether it is the kind of an `Arc`.
+    pub fn is_shared(self) -> bool
+        ensures { result ≡ is_shared_kind self.0 }
+    {
+        self.0 % 3 == 0
+    }
+
+    /// Says whether it is the kind of a `PagableArc`.
+    pub fn is_loose(self) -> bool
+        ensures { result ≡ is_loose_kind self.0 }
+    {
+        self.0 % 3 == 1
+    }
+
+    /// Says whether it is the kind of a `PinnedPagableArc`.
+    pub fn is_pinned(self) -> bool
+        ensures { result ≡ is_pinned_kind self.0 }
+    {
+        self.0 % 3 == 2
+    }
+}
 
 /// The number of a node in the pager's table, from 1 on. A pager never gives out a number twice.
 #[derive(Clone, Copy, Debug, PartialEq, Eq, Hash)]

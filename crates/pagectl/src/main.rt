@@ -1,9 +1,7 @@
 //! `pagectl HASH` keeps named texts in a pager, and answers one line for each line that it reads.
 #![tactic(auto)]
 
-mod named_texts;
-
-use crate::named_texts::serve::serve;
+use named_texts::serve::serve;
 use pagable::{KeyHash, Sha256Key, WeighHash};
 use std::io::BufReader;
 use std::process::ExitCode;
@@ -11,7 +9,8 @@ use std::rt::Runtime;
 use std::sync::Wait;
 use std::{env, io};
 
-/// The one word after the program's name; None for no word, for more, and for one that isn't text.
+/// Returns the one word after the program's name. Returns None for no word, for more, and for one that
+/// isn't text.
 fn wanted<R: Runtime + AllocGlobal>(rt: &R) -> io::Result<Option<String>> {
     let mut words = match env::args(rt) {
         Ok(words) => words,
@@ -25,14 +24,14 @@ fn wanted<R: Runtime + AllocGlobal>(rt: &R) -> io::Result<Option<String>> {
     }
 }
 
-/// Serves with keys by the hash `H`.
+/// Answers the lines of the input, with keys by the hash `H`.
 fn answer<H: KeyHash, R: Runtime + AllocGlobal + Wait>(rt: &R) -> io::Result<()> {
     let alloc = rt.alloc();
     let mut reader = BufReader::new(alloc, rt.reader())?;
     serve::<H, _, _, _>(rt, alloc, &mut reader, io::writer(rt))
 }
 
-/// Serves with keys by the hash that the word names.
+/// Answers the lines of the input, with keys by the hash that the word names, and returns the status.
 fn run<R: Runtime + AllocGlobal + Wait>(rt: &R) -> io::Result<ExitCode> {
     let word = wanted(rt)?;
     match word.as_ref().map(String::as_str) {

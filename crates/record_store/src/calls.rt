@@ -100,4 +100,13 @@ pub trait RecordCalls {
     ///
     /// - `TooLong`, `OutOfMemory`.
     fn key_of_text(&self, text: &str) -> Result<DataKey, Error>;
+
+    /// Pages out a handle's record with what changed of all that it reaches, sets the root's name
+    /// to its key, and flushes both together. The store stays open.
+    ///
+    /// # Errors
+    ///
+    /// - as `page_out_changed`, `Pager::set_root` and `Pager::flush`: after another open the name
+    ///   stands for the key of the last flush.
+    fn save(&mut self, name: &str, handle: HandleNumber) -> Result<(), Error>;
 }

@@ -4,53 +4,55 @@ use crate::calls::RecordCalls;
 use crate::record_store::RecordStore;
 use anyhow::{Context, Result};
 use pagable::{HandleNumber, Records};
-use pagable_file::{FileBlobs, Roots};
+use pagable_file::{FileBlobs, OpenError, Roots};
 use std::alloc::Global;
 
 /// The work that a program does in each run, with its records.
 pub trait Job {
-    /// The name of the root that stands for the last run's record.
+    /// The name of the root under which `run` saves its record.
     const ROOT: &'static str;
 
     /// How many records stay in memory beside the new ones.
     const KEPT_RECORDS: u64;
 
-    /// Does the work of a run, and returns the record of this run. `last` is the handle of the last
-    /// run's record, if there is one.
+    /// Does the work of a run, and saves its record under `ROOT`. `last` is the handle of the record
+    /// that was saved there last, if there is one.
     ///
     /// # Errors
     ///
-    /// - the job's own: then nothing is saved.
-    fn run<R: RecordCalls>(
-        &self,
-        store: &mut R,
-        last: Option<HandleNumber>,
-    ) -> Result<HandleNumber>;
+    /// - the job's own: what it saved before stays saved.
+    fn run<R: RecordCalls>(&self, store: &mut R, last: Option<HandleNumber>) -> Result<()>;
 }
 
-/// Runs a job over the records of a storage, and saves the record that it returns there.
+/// Runs a job over the records of a storage.
 ///
 /// # Errors
 ///
-/// - as `RecordStore::open`, `Job::run` and `RecordStore::save`.
+/// - as `RecordStore::open` and `Job::run`.
 pub fn run_over<J: Job, S: Roots<Records> + Drop>(
     alloc: Global,
     storage: S,
     job: &J,
 ) -> Result<()> {
     let (mut store, last) = RecordStore::open(alloc, storage, J::ROOT, J::KEPT_RECORDS)?;
-    let record = job.run(&mut store, last)?;
-    store.save(J::ROOT, record)?;
-    Ok(())
+    job.run(&mut store, last)
 }
 
-/// Runs a job over the records of a file, which it creates if there is none, and saves the record
-/// that the job returns there.
+// Runs a job over the records of a storage that was to be opened. It takes a storage of any type, so
+// that no way out needs a proof about the parts of a file of blobs.
+fn run_over_opened<J: Job, S: Roots<Records> + Drop>(
+    alloc: Global,
+    storage: Result<S, OpenError>,
+    job: &J,
+) -> Result<()> {
+    run_over(alloc, storage.context("opening the store")?, job)
+}
+
+/// Runs a job over the records of a file, which it creates if there is none.
 ///
 /// # Errors
 ///
 /// - as `FileBlobs::open` and `run_over`.
 pub fn run_over_file<J: Job>(rt: &HostRuntime, path: &str, job: &J) -> Result<()> {
-    let storage = FileBlobs::open(rt, path).context("opening the store")?;
-    run_over(rt.alloc(), storage, job)
+    run_over_opened(rt.alloc(), FileBlobs::open(rt, path), job)
 }

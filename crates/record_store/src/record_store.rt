@@ -6,8 +6,8 @@ use crate::calls::{RecordCalls, RecordView, TEXT};
 use pagable::cells::{cell_of, insert};
 use pagable::typed_references::loose;
 use pagable::{
-    DataKey, Error, HandleNumber, PagableData, PagableStorage, Pager, Record, RecordRef, Records,
-    Sha256Key, to_bytes,
+    DataKey, Error, HandleNumber, PagableData, PagableStorage, Pager, Record, RecordNode,
+    RecordRef, Records, Sha256Key, to_bytes,
 };
 use pagable_budget::Budget;
 use pagable_changes::page_out_changed;
@@ -30,6 +30,15 @@ impl<S: PagableStorage<Records>> RecordStore<S> {
         Ok(Record::reference(loose::<Record, _, _>(&self.pager, clone)?))
     }
 
+    /// Makes references to the records of handles, each by a clone of its handle.
+    fn references(&mut self, over: &[HandleNumber]) -> Result<Vec<RecordRef>, Error> {
+        let mut refs = Vec::new(self.alloc);
+        for handle in over {
+            refs.push(self.reference(*handle)?)?;
+        }
+        Ok(refs)
+    }
+
     /// Clones the handles of a record's references.
     fn clone_references(&mut self, record: &Record) -> Result<Vec<HandleNumber>, Error> {
         let mut clones = Vec::new(self.alloc);
@@ -38,9 +47,22 @@ impl<S: PagableStorage<Records>> RecordStore<S> {
         }
         Ok(clones)
     }
+
+    /// Shares the record of a node, and clones the handles of its references.
+    fn view(&mut self, node: &RecordNode) -> Result<RecordView, Error> {
+        let record = node.value.clone()?;
+        let refs = self.clone_references(record.as_ref())?;
+        Ok(RecordView { record, refs })
+    }
+
+    /// Ends a pin: releases its handle, and unpins the handle that was pinned.
+    fn end_pin(&mut self, pinned: HandleNumber, handle: HandleNumber) -> Result<(), Error> {
+        self.pager.release(pinned)?;
+        self.pager.unpin(handle)
+    }
 }
 
-impl<S: PagableStorage<Records>> RecordCalls for RecordStore<S> {
+impl<S: Roots<Records>> RecordCalls for RecordStore<S> {
     fn alloc(&self) -> Global {
         self.alloc
     }
@@ -51,21 +73,16 @@ impl<S: PagableStorage<Records>> RecordCalls for RecordStore<S> {
         text: &str,
         over: &[HandleNumber],
     ) -> Result<HandleNumber, Error> {
-        let mut refs = Vec::new(self.alloc);
-        for handle in over {
-            refs.push(self.reference(*handle)?)?;
-        }
+        let refs = self.references(over)?;
         let node = Record::node(self.alloc, tag, text, refs)?;
         Ok(insert(self.alloc, &mut self.pager, node)?)
     }
 
     fn read(&mut self, handle: HandleNumber) -> Result<RecordView, Error> {
         let (pinned, node) = self.budget.pin(self.alloc, &mut self.pager, handle, 1)?;
-        let record = node.as_ref().value.clone()?;
-        let refs = self.clone_references(record.as_ref())?;
-        self.pager.release(pinned)?;
-        self.pager.unpin(handle)?;
-        Ok(RecordView { record, refs })
+        let view = self.view(node.as_ref());
+        self.end_pin(pinned, handle)?;
+        view
     }
 
     fn clone_handle(&mut self, handle: HandleNumber) -> Result<HandleNumber, Error> {
@@ -98,6 +115,16 @@ impl<S: PagableStorage<Records>> RecordCalls for RecordStore<S> {
         let arcs = Vec::new(self.alloc);
         Ok(PagableData { bytes, arcs }.compute_key::<Sha256Key>())
     }
+
+    fn save(&mut self, name: &str, handle: HandleNumber) -> Result<(), Error>
+        ensures flushed { IsTrue (S.PagableStorage.is_honest self.new.pager.storage)
+            → OnOk result (S.PagableStorage.flushed self.new.pager.storage
+            ≡ S.PagableStorage.stored self.new.pager.storage) }
+    {
+        let key = self.key(handle)?;
+        self.pager.set_root(self.alloc, name, Some(key))?;
+        self.pager.flush()
+    }
 }
 
 impl<S: Roots<Records> + Drop> RecordStore<S> {
@@ -107,14 +134,15 @@ impl<S: Roots<Records> + Drop> RecordStore<S> {
     ///
     /// # Errors
     ///
-    /// - as `Roots::root` and `cells::cell_of`.
+    /// Each drops the storage.
+    ///
+    /// - as `Budget::new`, `Pager::root` and `cells::cell_of`.
     pub fn open(
         alloc: Global,
-        mut storage: S,
+        storage: S,
         name: &str,
         kept: u64,
     ) -> Result<(RecordStore<S>, Option<HandleNumber>), Error> {
-        let root = storage.root(name)?;
         let budget = Budget::new(alloc, kept)?;
         let pager = Pager::new(alloc, storage, Records);
         let mut store = RecordStore {
@@ -122,29 +150,15 @@ impl<S: Roots<Records> + Drop> RecordStore<S> {
             pager,
             budget,
         };
-        match root {
-            None => Ok((store, None)),
-            Some(key) => {
-                let handle = cell_of::<Record, _, _>(alloc, &mut store.pager, key)?;
-                Ok((store, Some(handle)))
-            }
-        }
+        let last = store.last(name)?;
+        Ok((store, last))
     }
 
-    /// Pages out a handle's record with what changed of all that it reaches, sets the root's name
-    /// to its key, and flushes both together. The store stays open.
-    ///
-    /// # Errors
-    ///
-    /// - as `page_out_changed`, `Pager::set_root` and `Pager::flush`: after another open the name
-    ///   stands for the key of the last flush.
-    pub fn save(&mut self, name: &str, handle: HandleNumber) -> Result<(), Error>
-        ensures flushed { IsTrue (S.PagableStorage.is_honest self.new.pager.storage)
-            → OnOk result (S.PagableStorage.flushed self.new.pager.storage
-            ≡ S.PagableStorage.stored self.new.pager.storage) }
-    {
-        let key = self.key(handle)?;
-        self.pager.set_root(self.alloc, name, Some(key))?;
-        self.pager.flush()
+    /// Returns a handle of the record whose key a root's name stands for, if it stands for one.
+    fn last(&mut self, name: &str) -> Result<Option<HandleNumber>, Error> {
+        match self.pager.root(name)? {
+            None => Ok(None),
+            Some(key) => Ok(Some(cell_of::<Record, _, _>(self.alloc, &mut self.pager, key)?)),
+        }
     }
 }

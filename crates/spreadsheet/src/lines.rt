@@ -1,19 +1,24 @@
-//! Lines about a sheet, and their answers. Each version of the sheet is a record over the one before it.
+//! Lines about a sheet, and their answers. Each version of the sheet is a record.
 
 use crate::sheet::{MOST_LEVELS, Sheet};
 use anyhow::{Context, Result, bail};
 use pagable::HandleNumber;
 use record_store::{Job, RecordCalls};
+use std::io::ErrorKind;
 
-/// The tag of a record of a version: its text is that of its cells.
+/// The tag of a version's record, whose text has a line for each cell. It refers to the version
+/// before it, if there is one.
 const VERSION: u32 = 1;
 
-/// The tag of a record of a sheet: its text is that of its sums, and it refers to its version.
+/// The tag of a sheet's record, whose text has a line for each sum that was added up. It refers to
+/// the sheet's version.
 const SHEET: u32 = 2;
 
-/// The lines of standard input, which are answered about the sheet of the last run.
+/// The job of answering the lines of standard input about the last run's sheet. It takes a line that
+/// isn't UTF-8 for an empty one.
 #[derive(Drop)]
 pub struct Lines<'a> {
+    /// The runtime, for input and output.
     pub rt: &'a HostRuntime,
 }
 
@@ -22,11 +27,7 @@ impl<'a> Job for Lines<'a> {
 
     const KEPT_RECORDS: u64 = 100;
 
-    fn run<R: RecordCalls>(
-        &self,
-        store: &mut R,
-        last: Option<HandleNumber>,
-    ) -> Result<HandleNumber> {
+    fn run<R: RecordCalls>(&self, store: &mut R, last: Option<HandleNumber>) -> Result<()> {
         let root = match last {
             Some(root) => root,
             None => insert_first(store)?,
@@ -36,13 +37,17 @@ impl<'a> Job for Lines<'a> {
         let mut sheet = Sheet::read_sums(store.alloc(), version, view.text())?;
         go_to(store, &mut sheet, version)?;
         for line in self.rt.lines(store.alloc()) {
-            let line = line?;
+            let line = match line {
+                Err(error) if error.kind() == ErrorKind::InvalidData => String::new(store.alloc()),
+                line => line?,
+            };
             if let Err(error) = answer(self.rt, store, &mut sheet, line.as_str()) {
                 println!(self.rt; "refused: {error}")?;
             }
         }
         let sums = sheet.spell_sums()?;
-        Ok(store.insert(SHEET, sums.as_str(), &[sheet.version])?)
+        let record = store.insert(SHEET, sums.as_str(), &[sheet.version])?;
+        Ok(store.save(Self::ROOT, record)?)
     }
 }
 
@@ -60,31 +65,24 @@ fn answer<R: RecordCalls>(
     line: &str,
 ) -> Result<()> {
     let words: Vec<&str> = line.split_whitespace().collect(store.alloc())?;
-    match *words.as_slice() {
-        ["set", name, formula] => set(store, sheet, name, formula)?,
-        ["undo"] => undo(store, sheet)?,
+    let version = match *words.as_slice() {
+        ["set", name, formula] => {
+            let cells = sheet.spell_next(name, formula)?;
+            store.insert(VERSION, cells.as_str(), &[sheet.version])?
+        }
+        ["undo"] => {
+            let before = store.read(sheet.version)?.first();
+            before.context("there is no version before this one")?
+        }
         ["get", name] => return Ok(rt.println(sheet.evaluate(name, MOST_LEVELS)?)?),
         ["stats"] => return Ok(println!(rt; "{} added, {} known", sheet.added, sheet.known)?),
         _ => bail!("a line is set NAME 5, set NAME =A+B, get NAME, undo or stats"),
-    }
+    };
+    go_to(store, sheet, version)?;
     Ok(rt.println("ok")?)
 }
 
-/// Sets what stands in a cell, by a new version.
-fn set<R: RecordCalls>(store: &mut R, sheet: &mut Sheet, name: &str, formula: &str) -> Result<()> {
-    let cells = sheet.spell_next(name, formula)?;
-    let version = store.insert(VERSION, cells.as_str(), &[sheet.version])?;
-    go_to(store, sheet, version)
-}
-
-/// Goes back to the version before this one.
-fn undo<R: RecordCalls>(store: &mut R, sheet: &mut Sheet) -> Result<()> {
-    let before = store.read(sheet.version)?.first();
-    let before = before.context("there is no version before this one")?;
-    go_to(store, sheet, before)
-}
-
-/// Goes to the version of a record.
+/// Goes to a version, whose cells it reads from its record.
 fn go_to<R: RecordCalls>(store: &mut R, sheet: &mut Sheet, version: HandleNumber) -> Result<()> {
     let cells = store.read(version)?;
     sheet.go_to(version, String::from_str(store.alloc(), cells.text())?);

@@ -1,5 +1,5 @@
-//! A sheet of numbers and sums that lasts from run to run, with all its versions: `spreadsheet STORE` answers the lines
-//! of standard input, and saves the sheet in STORE where they end.
+//! A sheet of numbers and sums that lasts from run to run, with all its versions. `spreadsheet STORE`
+//! answers the lines of standard input, and saves the sheet in STORE at their end.
 #![tactic(auto)]
 
 mod lines;
@@ -11,9 +11,11 @@ use record_store::run_over_file;
 use std::env;
 
 fn main(rt: HostRuntime) -> Result<()> {
-    let mut words = env::args(&rt)?.skip(1);
-    match (words.next(), words.next()) {
-        (Some(path), None) => run_over_file(&rt, path.as_str(), &Lines { rt: &rt }),
+    let words: Vec<String> = env::args(&rt)?.skip(1).collect(rt.alloc())?;
+    match words.as_slice() {
+        [path] if !path.starts_with("-") => {
+            run_over_file(&rt, path.as_str(), &Lines { rt: &rt })
+        }
         _ => bail!("usage: spreadsheet STORE"),
     }
 }

@@ -1,11 +1,11 @@
-//! A sheet at one version, and what sums came to in all of them.
+//! A sheet at one version, and the sums of all versions.
 
 use anyhow::{Context, Result, bail, ensure};
 use pagable::HandleNumber;
 use std::alloc::Global;
 use std::collections::BTreeMap;
 
-/// How many sums may stand on each other.
+/// How many levels of sums over sums a cell may have.
 pub const MOST_LEVELS: u32 = 64;
 
 /// A sheet at one version.
@@ -14,19 +14,25 @@ pub struct Sheet {
     alloc: Global,
     /// The record of this version.
     pub version: HandleNumber,
-    /// A line for each cell: its name and what stands in it, which is `5` or `=A+B`.
+    /// A line for each cell: its name and its formula, which is `5` or `=A+B`.
     cells: String,
-    /// The values of cells that have been asked for.
+    /// The values of the cells that were asked for.
     values: BTreeMap<String, i64>,
-    /// What sums came to in all versions and runs, by their numbers, as `[5, 7]`.
+    /// The sums of all versions and runs, by the numbers that were added up, as `[5, 7]`.
     sums: BTreeMap<String, i64>,
-    /// How many sums of this run were added up, and how many were known.
+    /// How many sums this run added up.
     pub added: u64,
+    /// How many sums this run knew already.
     pub known: u64,
 }
 
 impl Sheet {
-    /// Reads the sums of a text with a line for each, as `[5, 7] 12`. There are no cells yet.
+    /// Makes a sheet without cells, with the sums of a text that has a line for each, as `[5, 7] 12`.
+    ///
+    /// # Errors
+    ///
+    /// - an error that says so, if a line is no sum's.
+    /// - out of memory.
     pub fn read_sums(alloc: Global, version: HandleNumber, text: &str) -> Result<Sheet> {
         let mut sums = BTreeMap::new(alloc);
         for line in text.lines() {
@@ -45,7 +51,11 @@ impl Sheet {
         })
     }
 
-    /// Spells the sums as such a text.
+    /// Spells the sums as a text that `read_sums` reads.
+    ///
+    /// # Errors
+    ///
+    /// - out of memory.
     pub fn spell_sums(&self) -> Result<String> {
         let mut text = String::new(self.alloc);
         for (numbers, sum) in self.sums.iter() {
@@ -54,18 +64,32 @@ impl Sheet {
         Ok(text)
     }
 
-    /// Goes to a version with these cells.
+    /// Goes to a version, which has these cells.
     pub fn go_to(&mut self, version: HandleNumber, cells: String) {
         self.version = version;
         self.cells = cells;
         self.values.clear();
     }
 
-    /// Spells the cells of the next version, in which this one holds this formula.
+    /// Spells the cells of the next version, in which a cell has this formula.
+    ///
+    /// # Errors
+    ///
+    /// - an error that says what they are, if the name is no name or the formula is no formula.
+    /// - out of memory.
     pub fn spell_next(&self, name: &str, formula: &str) -> Result<String> {
-        if !formula.starts_with("=") {
-            parse_number(formula)?;
-        }
+        ensure!(
+            is_name(name),
+            "a name is letters, digits and _, a letter first"
+        );
+        let is_formula = match formula.strip_prefix("=") {
+            Some(names) => names.split("+").all(is_name),
+            None => formula.parse::<i64>().is_ok(),
+        };
+        ensure!(
+            is_formula,
+            "a formula is a number up to 9223372036854775807 or =NAME+NAME"
+        );
         let mut cells = String::new(self.alloc);
         for line in self.cells.as_str().lines() {
             if line.split_once(" ").is_none_or(|(found, _)| found != name) {
@@ -76,23 +100,30 @@ impl Sheet {
         Ok(cells)
     }
 
-    /// Evaluates a cell over at most so many levels of sums.
+    /// Evaluates a cell, over at most `levels` levels of sums.
+    ///
+    /// # Errors
+    ///
+    /// - an error that says why, if a cell is missing, sums make a ring or too many levels, or a sum
+    ///   overflows.
+    /// - out of memory.
     #[cycle(evaluating)]
     pub fn evaluate(&mut self, name: &str, levels: u32) -> Result<i64> {
         if let Some(value) = self.values.get(name) {
             return Ok(*value);
         }
         let formula = self.formula(name)?;
-        let value = match formula.as_str().strip_prefix("=") {
+        let formula = formula.as_str();
+        let value = match formula.strip_prefix("=") {
             Some(names) => self.evaluate_sum(names, levels)?,
-            None => parse_number(formula.as_str())?,
+            None => formula.parse::<i64>().context("no number is stored here")?,
         };
         self.values
             .insert(String::from_str(self.alloc, name)?, value)?;
         Ok(value)
     }
 
-    /// Evaluates a sum: its cells first, and then what their values come to.
+    /// Evaluates a sum: its cells first, and then the sum of their values.
     #[cycle(evaluating)]
     fn evaluate_sum(&mut self, names: &str, levels: u32) -> Result<i64> {
         ensure!(levels > 0, "a ring of sums, or over {MOST_LEVELS} levels");
@@ -104,7 +135,7 @@ impl Sheet {
         self.add_up(numbers.as_slice())
     }
 
-    /// Finds what stands in a cell.
+    /// Returns the formula of a cell.
     fn formula(&self, name: &str) -> Result<String> {
         for line in self.cells.as_str().lines() {
             if let Some((found, formula)) = line.split_once(" ") {
@@ -116,7 +147,8 @@ impl Sheet {
         bail!("no cell is called {name}")
     }
 
-    /// Adds numbers up, if the same ones in the same order weren't added up before.
+    /// Returns the sum of numbers. It adds them up only if it doesn't know the sum of the same numbers in
+    /// the same order.
     fn add_up(&mut self, numbers: &[i64]) -> Result<i64> {
         let spelled = format!(in self.alloc; "{numbers:?}")?;
         if let Some(sum) = self.sums.get(spelled.as_str()) {
@@ -133,7 +165,7 @@ impl Sheet {
     }
 }
 
-fn parse_number(text: &str) -> Result<i64> {
-    text.parse::<i64>()
-        .context("a formula is a number or =NAME+NAME")
+/// Returns whether a word is a name: letters, digits and `_`, a letter first.
+fn is_name(word: &str) -> bool {
+    word.starts_with(char::is_alphabetic) && word.chars().all(|c| c.is_alphanumeric() || c == '_')
 }

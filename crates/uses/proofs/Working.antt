@@ -1,7 +1,7 @@
 -- A pin, the release of what it gave, other work, and a pin again: what both pins give.
 use Rattle.pagable_theorems.{proofs.Callers.pinned_again_law, specs.CallerLaws.{Operations, calls, goes-on, is-done, pages-list}}
-use Rattle.pagable_pager.{proofs.Invariant.less-moves, specs.View.{Calls, OnlyLess, PagerView, Telling, state_in}}
-use Rattle.pagable_pager_spec.specs.{Access.{PinsOver}, Calls.ReleaseCall, Pager.{PagerState, WellFormed}, Basics.{Error, HandleNumber}}
+use Rattle.pagable_pager.{proofs.Invariant.less-moves, specs.View.{Calls, OnlyLess, PagerView, Telling, pager_state}}
+use Rattle.pagable_pager_spec.specs.{Access.{PinsOver}, Calls.ReleaseCall, Pager.{PagerState, IsPagerWhole}, Basics.{Error, HandleNumber}}
 use Rattle.pagable_pager_spec.specs.World.{IsLawful, Values}
 use Rattle.pagable_pager_spec.specs.declared.{calls.{Call.Call, Reply.Reply}, handle_row.Owner.Owner}
 use Rattle.std.proofs.Common.{Ok, Result, subst, ◌∙◌, ◌≡◌}
@@ -10,42 +10,43 @@ use Rattle.{pagable.specs.Paged.PagesOutList, pagable_pageout.specs.{Turns.plain
 module _ {N S E : Type 0} {tells : Telling S} where
   -- the release of a handle is a call of the pager's
   releases : (v : Values N) (old new : PagerView N S E) (k : HandleNumber) (told : Result (Unit {0}) Error)
-      → Calls OnlyLess tells old (λ w w'. ReleaseCall w Owner.Caller k told w') new → WellFormed v (state_in tells new)
-      → (later : PagerState N E) → Operations (plain v) (state_in tells new) later → Operations (plain v) (state_in tells old) later
-  releases v old new k told c well later more = goes-on (state_in tells old) (state_in tells new) later
-      (calls (Call.Release k) (Reply.Done told) (state_in tells old) (state_in tells new)
+      → Calls OnlyLess tells old (λ w w'. ReleaseCall w Owner.Caller k told w') new → IsPagerWhole v (pager_state tells new)
+      → (later : PagerState N E) → Operations (plain v) (pager_state tells new) later → Operations (plain v) (pager_state tells old) later
+  releases v old new k told c well later more = goes-on (pager_state tells old) (pager_state tells new) later
+      (calls (Call.Release k) (Reply.Done told) (pager_state tells old) (pager_state tells new)
       (record { step = record { does = c.step }; moves = less-moves tells old new c.only; whole = well })) more
 
   pub shows-same : (says : E → Values N) (p mid freed later q : PagerView N S E) (h k l : HandleNumber) (x y : N) (told : Result (Unit {0}) Error)
-      → WellFormed (says p.environment) (state_in tells p)
+      → IsPagerWhole (says p.environment) (pager_state tells p)
       → IsLawful (says p.environment)
-      → PinsOver (says p.environment) (state_in tells p) h (Ok (k, x)) (state_in tells mid)
-      → Calls OnlyLess tells mid (λ w w'. ReleaseCall w Owner.Caller k told w') freed → WellFormed (says freed.environment) (state_in tells freed)
-      → Operations (plain (says freed.environment)) (state_in tells freed) (state_in tells later)
-      → PinsOver (says later.environment) (state_in tells later) h (Ok (l, y)) (state_in tells q)
-      → ShowsSame (says p.environment) (state_in tells p) h x l y (state_in tells q)
+      → PinsOver (says p.environment) (pager_state tells p) h (Ok (k, x)) (pager_state tells mid)
+      → Calls OnlyLess tells mid (λ w w'. ReleaseCall w Owner.Caller k told w') freed → IsPagerWhole (says freed.environment) (pager_state tells freed)
+      → Operations (plain (says freed.environment)) (pager_state tells freed) (pager_state tells later)
+      → PinsOver (says later.environment) (pager_state tells later) h (Ok (l, y)) (pager_state tells q)
+      → ShowsSame (says p.environment) (pager_state tells p) h x l y (pager_state tells q)
   shows-same says p mid freed later q h k l x y told well lawful first release whole work again =
       let (run, shown) = first.pins in
       let still : freed.environment ≡ p.environment = release.only.environment ∙ pin-keeps run in
       let is : later.environment ≡ p.environment = all-keep work ∙ still in
-      let now : PinsOver (says p.environment) (state_in tells later) h (Ok (l, y)) (state_in tells q) =
-      subst (λ e. PinsOver (says e) (state_in tells later) h (Ok (l, y)) (state_in tells q)) is again in
+      let now : PinsOver (says p.environment) (pager_state tells later) h (Ok (l, y)) (pager_state tells q) =
+      subst (λ e. PinsOver (says e) (pager_state tells later) h (Ok (l, y)) (pager_state tells q)) is again in
       let (run_again, shown_again) = now.pins in
       let v : Values N = says p.environment in
-      let between : Operations (plain v) (state_in tells mid) (state_in tells later) = releases v mid freed k told release
-      (subst (λ e. WellFormed (says e) (state_in tells freed)) still whole) (state_in tells later)
-      (subst (λ e. Operations (plain (says e)) (state_in tells freed) (state_in tells later)) still work) in
+      let between : Operations (plain v) (pager_state tells mid) (pager_state tells later) = releases v mid freed k told release
+      (subst (λ e. IsPagerWhole (says e) (pager_state tells freed)) still whole) (pager_state tells later)
+      (subst (λ e. Operations (plain (says e)) (pager_state tells freed) (pager_state tells later)) still work) in
       record {
         k = k;
-        mid = state_in tells mid;
-        later = state_in tells later;
+        mid = pager_state tells mid;
+        later = pager_state tells later;
         first = run;
         shown = shown;
         between = between;
         again = run_again;
         shown_again = shown_again;
-        same = λ nobody settled trees stands asks others last. pinned_again_law E (plain v) (state_in tells p) (state_in tells mid) (state_in tells later)
-            (state_in tells q) trees h k l x y
+        same = λ nobody settled trees stands asks others last. pinned_again_law E (plain v) (pager_state tells p) (pager_state tells mid)
+            (pager_state tells later)
+            (pager_state tells q) trees h k l x y
             run between run_again well nobody lawful settled stands asks others last shown shown_again;
       }
 

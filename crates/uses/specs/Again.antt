@@ -1,7 +1,7 @@
 -- A handle that is pinned, and pinned again after other work with its pager.
 use Rattle.std.specs.Prelude.{Ok, ℕ}
 use Rattle.{pagable_theorems.specs.{CallerLaws.{AskWell, Operations, PinAsksWell}, PageOutLaws.NobodyWorks}, pagable_pageout.specs.Turns.plain}
-use Rattle.pagable_pager_spec.specs.{Access.{IsValueOf, PinRun}, Pager.{PagerState, Represents, ValueStands}, Basics.{HandleNumber, Tree}, Runs.HoldsSettled, World.Values}
+use Rattle.pagable_pager_spec.specs.{Access.{IsValueOf, PinRun}, Pager.{PagerState, PagerStandsFor, ValueStands}, Basics.{HandleNumber, Tree}, Runs.HoldsSettled, World.Values}
 
 -- What the two pins gave, with what was done between them. Where nobody was at work at first, and all that is done asks what is so, both values stand for one tree.
 pub record ShowsSame {N E : Type 0} (v : Values N) (s : PagerState N E) (h : HandleNumber) (x : N) (l : HandleNumber)
@@ -14,6 +14,6 @@ pub record ShowsSame {N E : Type 0} (v : Values N) (s : PagerState N E) (h : Han
   pub between : Operations (plain v) mid later
   pub again : PinRun v later h (Ok l) s'
   pub shown_again : IsValueOf s' l y
-  pub same : NobodyWorks s.core → HoldsSettled v s → (trees : ℕ → Tree) → Represents v s trees → PinAsksWell first
+  pub same : NobodyWorks s.core → HoldsSettled v s → (trees : ℕ → Tree) → PagerStandsFor v s trees → PinAsksWell first
       → AskWell between → PinAsksWell again
       → (t : Tree) × ValueStands v mid x t × ValueStands v s' y t

@@ -1,8 +1,9 @@
-//! Callers of a pager with contracts of their own, which speak of values and keys alone and follow from the contracts of the calls.
+//! Callers of a pager with contracts of their own, which speak of values and keys alone and follow
+//! from the contracts of the calls.
 #![tactic(auto)]
 
 ghost use Rattle.std.specs.{Arc.arc_value, Prelude.{IfOk, IfSome, IsTrue, ◌≡◌}};
-ghost use Rattle.{pagable_core.specs.Data.blob_of, pagable_load.specs.AccessView.values_at, pagable_value_spec.specs.Blob.key_of, pagable_pager.specs.View.{state_in, telling}};
+ghost use Rattle.{pagable_core.specs.Data.blob_of, pagable_load.specs.AccessView.values_at, pagable_value_spec.specs.Blob.key_of, pagable_pager.specs.View.{pager_state, storage_view}};
 ghost use Rattle.{pagable_theorems.specs.CallerLaws.Operations, pagable_pageout.specs.Turns.plain, uses.specs.Again.ShowsSame};
 
 use pagable::paging::{page_out_pending, pin};
@@ -13,8 +14,9 @@ use pagable::{
 use std::alloc::Global;
 use std::sync::Arc;
 
-/// Stores a blob, and reads it back under the key that its content has. What comes back is what was stored, as long as no wrong answer of the storage was taken as
-/// true, which in memory is always so.
+/// Stores a blob, and reads it back under the key of its content. What comes back is what was
+/// stored, as long as no wrong answer of the storage was taken as true, which in memory is always
+/// so.
 pub fn stored_again<E: Env<Node: NodeSet<E>>, S: PagableStorage<E>>(
     alloc: Global,
     pager: &mut Pager<E, S>,
@@ -28,8 +30,8 @@ pub fn stored_again<E: Env<Node: NodeSet<E>>, S: PagableStorage<E>>(
     pager.fetch(alloc, key)
 }
 
-/// Looks a key up in a build cache, whose storage may hold anything and answer anything: what is found has this key. None where the storage says that nothing stands
-/// under the key.
+/// Looks a key up in a build cache, whose storage may hold anything and answer anything: what is
+/// found has this key. Returns None if the storage says that nothing stands under the key.
 pub fn look_up<E: Env<Node: NodeSet<E>>, S: PagableStorage<E>>(
     alloc: Global,
     pager: &mut Pager<E, S>,
@@ -50,8 +52,8 @@ pub trait Work<E: Env<Node: NodeSet<E>>, S: PagableStorage<E>> {
     fn run(&mut self, alloc: Global, pager: &mut Pager<E, S>) -> Result<(), Error>
         ensures operates { IsTrue (S.is_honest pager.new.storage)
             → Operations (plain (values_at E.Node.NodeSet E.Env E.Hash.KeyHash pager.old.environment))
-            (state_in (telling S.stored S.is_closed S.failed) pager.old)
-            (state_in (telling S.stored S.is_closed S.failed) pager.new) }
+            (pager_state (storage_view S.PagableStorage) pager.old)
+            (pager_state (storage_view S.PagableStorage) pager.new) }
         ensures honest { IsTrue (S.is_honest pager.new.storage) → IsTrue (S.is_honest pager.old.storage) };
 }
 
@@ -68,9 +70,10 @@ impl<E: Env<Node: NodeSet<E>>, S: PagableStorage<E>> Work<E, S> for PageOut {
     }
 }
 
-/// Pins a loose handle, lets other work be done, and pins the handle again. Both values stand for one tree, whatever the
-/// work was, where at first nobody was at work and all that is done asks what is so. Answers the first value; and the
-/// second one, with its Pinned handle.
+/// Pins a loose handle, lets other work be done, and pins the handle again. Both values stand for
+/// one tree, whatever the work was, given what the headline asks: at first nobody is at work and no
+/// value can be written to later, and the pins and the work ask well (`PinAsksWell`, `AskWell`).
+/// Returns the first value, and the second one with its Pinned handle.
 ///
 /// # Errors
 /// - as `pin`, `Pager::release` and the work. What was done until then stays.
@@ -82,13 +85,14 @@ pub fn pinned_again<E: Env<Node: NodeSet<E>>, S: PagableStorage<E>, W: Work<E, S
 ) -> Result<(Arc<E::Node>, (HandleNumber, Arc<E::Node>)), Error>
     ensures same { IsTrue (S.is_honest pager.new.storage)
         → IfOk result (λ shown. ShowsSame (values_at E.Node.NodeSet E.Env E.Hash.KeyHash pager.old.environment)
-        (state_in (telling S.stored S.is_closed S.failed) pager.old) handle (arc_value shown.0) shown.1.0
-        (arc_value shown.1.1) (state_in (telling S.stored S.is_closed S.failed) pager.new)) }
+        (pager_state (storage_view S.PagableStorage) pager.old) handle (arc_value shown.0) shown.1.0
+        (arc_value shown.1.1)
+        (pager_state (storage_view S.PagableStorage) pager.new)) }
 {
-    pager.is_whole();
+    pager.assert_invariant();
     let (pinned, first) = pin(alloc, pager, handle)?;
     let released = pager.release(pinned);
-    pager.is_whole();
+    pager.assert_invariant();
     released?;
     work.run(alloc, pager)?;
     let again = pin(alloc, pager, handle)?;

@@ -12,7 +12,8 @@ use pagable_testkit::linked::{Linked, LinkedNode};
 use std::alloc::Global;
 use std::sync::Arc;
 
-/// The blobs of a link, of one before it, and of a bundle of that one, shared and pinned. Keys are sums of each byte times its place.
+/// The blobs of a link, of one before it, and of a bundle of that one, shared and pinned. Keys are sums
+/// of each byte times its place.
 const ONE: &'static str = "00 01:1 010001:20,20";
 
 /// The blobs of a link before both, and of a bundle of the latter two, both shared, and the first of them pinned too.
@@ -36,8 +37,8 @@ fn next<const KIND: u32>(link: &Chain<KIND>) -> Option<ArcRef> {
     link.next.as_ref().map(|next| next.reference())
 }
 
-/// Whether a link is the very one that stands in the pager under this handle: each time that a link's blob is decoded, its reference gets a
-/// handle of its own.
+/// Says whether a link is the very one that stands in the pager under this handle: each time that a
+/// link's blob is decoded, its reference gets a handle of its own.
 fn stands<const KIND: u32, S: PagableStorage<Linked>>(
     pager: &Pager<Linked, S>,
     link: &Chain<KIND>,
@@ -88,7 +89,8 @@ fn paged_out<T: OfNode<Linked> + Drop, S: PagableStorage<Linked>>(
     pager.key(cell).ok()
 }
 
-/// Whether bundles hold the links of the pager where they are read with them, where they were there, and where one of two was there; and whether such a bundle is written as it was.
+/// Says whether bundles hold the links of the pager where they are read with them, where they were
+/// there, and where one of two was there; and whether such a bundle is written as it was.
 fn hold_in<S: PagableStorage<Linked>>(alloc: Global, pager: &mut Pager<Linked, S>) -> Option<bool> {
     let one = store(alloc, pager, ONE)?;
     let_go(read(alloc, pager, one, 1)?);

@@ -36,12 +36,13 @@ pub fn pager_over<H: KeyHash>(alloc: Global, word: &str) -> Pager<CellEnv<H>, Ce
     Pager::new(alloc, storage_of(alloc, word), CellEnv::new())
 }
 
-/// Puts a value in the place of another, where its type is open: at a known one the check would follow how each of its parts is let go.
-fn set<T: Drop>(place: &mut T, value: T) {
+/// Replaces a value. It is generic, so that the checker needn't follow how the parts of the old
+/// value are dropped.
+fn assign<T: Drop>(place: &mut T, value: T) {
     *place = value;
 }
 
-/// Lets a value go, where its type is open.
+/// Drops a value. It is generic for the same reason.
 pub fn let_go<T: Drop>(_value: T) {}
 
 impl Calls {
@@ -57,7 +58,7 @@ impl Calls {
     pub fn answer(&mut self, alloc: Global, line: &str) -> anyhow::Result<String> {
         let (word, rest) = split(line);
         if word == "machine" {
-            set(self, Calls::new(alloc, rest));
+            assign(self, Calls::new(alloc, rest));
             return Ok(String::new(alloc));
         }
         match self {

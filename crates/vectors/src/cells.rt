@@ -126,7 +126,7 @@ fn hold_in<S: PagableStorage<Linked>>(alloc: Global, pager: &mut Pager<Linked, S
     Some(is_kept && is_stored && !is_other_stored && is_found && is_away && is_link)
 }
 
-/// The same in a new pager.
+/// Returns whether `hold_in` holds in a new pager.
 pub fn hold(alloc: Global) -> bool {
     let mut pager = Pager::new(alloc, InMemoryBlobs::new(alloc), Linked);
     let answer = hold_in(alloc, &mut pager);

@@ -59,8 +59,8 @@ fn answer_all(alloc: Global, name: &str, verb: &str, inputs: &str) -> anyhow::Re
     Ok(answers)
 }
 
-/// The answer to a line: of values, which has a name, a verb, and what the verb is about; or of events, of which the first may be
-/// without arguments, and the next a read.
+/// The answer to a line: of values, which has a name, a verb, and what the verb is about; or of
+/// events, of which the first may be without arguments, and the next a read.
 pub fn answer(alloc: Global, calls: &mut Calls, line: &str) -> anyhow::Result<String> {
     let (name, rest) = line.split_once(' ').unwrap_or((line, ""));
     let (verb, inputs) = rest.split_once(' ').unwrap_or((rest, ""));

@@ -1,6 +1,6 @@
-//! `vectors FILE..` answers each row of each file, compares it with the answer that stands behind the row, and prints one
-//! line of counts for each file. Before, it says whether sessions, bundles and cells hold. What rows expect comes from
-//! outside the program. A row that expects nothing is answered by a line.
+//! `vectors FILE..` answers each row of each file, compares it with the answer that stands behind the row, and prints
+//! one line of counts for each file. Before, it says whether sessions, bundles and cells hold. What rows expect comes
+//! from outside the program. A row that expects nothing is answered by a line.
 #![tactic(auto)]
 
 mod bundles;

@@ -21,8 +21,8 @@ use std::sync::Arc;
 /// The number of the last row.
 const LAST: u32 = 24;
 
-/// Whether a row's lines are answered as they have to be, one after the other. Each has the row's number, what is asked of it, and what has to
-/// be answered.
+/// Whether a row's lines are answered as they have to be, one after the other. Each has the row's
+/// number, what is asked of it, and what has to be answered.
 fn lines_hold(alloc: Global, calls: &mut Calls, text: &str, row: u32) -> anyhow::Result<bool> {
     for line in text.lines() {
         let (number, rest) = line.split_once(": ").context("no line of a row")?;
@@ -94,7 +94,8 @@ where
     Ok(pager.unpin(cell)?)
 }
 
-/// Whether the page-out of a cell that is listed twice stores it once: the storage's second call fails, and is this fetch.
+/// Whether the page-out of a cell that is listed twice stores it once: the storage's second call
+/// fails, and is this fetch.
 fn is_stored_once<E: Env<Node = CellNode>, S: PagableStorage<E>>(
     alloc: Global,
     pager: &mut Pager<E, S>,
@@ -146,8 +147,8 @@ fn is_ok(alloc: Global, calls: &mut Calls, text: &str, number: u32) -> bool {
         && others_hold(alloc, number).unwrap_or(false)
 }
 
-/// Runs the rows whose lines stand in this text, and prints one line of their counts and one for each that failed. Tells
-/// whether all came out as they have to.
+/// Runs the rows whose lines stand in this text, and prints one line of their counts and one for
+/// each that failed. Tells whether all came out as they have to.
 pub fn run(rt: &HostRuntime, calls: &mut Calls, file: &str, text: &str) -> anyhow::Result<bool> {
     let mut failed = 0u32;
     for number in 1..=LAST {

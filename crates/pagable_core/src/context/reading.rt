@@ -32,7 +32,7 @@ impl<'de, R> PagableDeserializerImpl<'de, PagableSlice<'de>, R> {
     ) -> PagableDeserializerImpl<'de, PagableSlice<'de>, R>
     where
         R: References<E>,
-        ensures standing { ⟦<PagableDeserializerImpl<'de, PagableSlice<'de>, R> as PagableDeserializer<E>>⟧.standing result
+        ensures input_state { ⟦<PagableDeserializerImpl<'de, PagableSlice<'de>, R> as PagableDeserializer<E>>⟧.input_state result
             ≡ at_front (R.answer references) (R.lends_at references) bytes.now arcs.now }
         ensures levels { ⟦<PagableDeserializerImpl<'de, PagableSlice<'de>, R> as PagableDeserializer<E>>⟧.levels result
             ≡ 0 }
@@ -62,7 +62,8 @@ impl<'de, E: Env, B: Reader, R: References<E>> PagableDeserializer<E>
 
     ghost use Rattle.{pagable_core.specs.Context.{moves_of, standing_of}, pagable_value_spec.specs.Cursor.rest_at, std.specs.Prelude.refl};
 
-    ghost standing = { λ s. standing_of (R.answer s.references) (R.lends_at s.references) s.keys (B.track s.reader) };
+    ghost input_state = { λ s. standing_of (R.answer s.references) (R.lends_at s.references) s.keys
+        (B.track s.reader) };
 
     ghost rest = { λ s. rest_at (standing_of (R.answer s.references) (R.lends_at s.references) s.keys
         (B.track s.reader)) };

@@ -1,7 +1,7 @@
 //! The serializer that collects bytes and references.
 
 ghost use Rattle.pagable_core.specs.Context.{nothing, out_of, pair_out, written};
-ghost use Rattle.std.specs.Prelude.{IfOk, IsOk, [], length, refl, ◌≡◌};
+ghost use Rattle.std.specs.Prelude.{IfOk, IsOk, refl, ◌≡◌};
 
 use crate::context::references::SessionOf;
 use pagable_codec::{ArcRef, Env, PagableCursor, PagableSerializer, SessionContext};

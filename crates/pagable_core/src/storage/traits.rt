@@ -1,6 +1,6 @@
 //! The trait of a storage of blobs.
 
-ghost use Rattle.std.specs.{Arc.arc_value, Prelude.{◌≡◌, ◌≤◌, ◌↔◌, ℕ, Bool, true, false, IsTrue, Option, Some, None, OnOk, OnErr, IfOk, IfErr}};
+ghost use Rattle.std.specs.{Arc.arc_value, Prelude.{◌≡◌, ◌≤◌, ℕ, Bool, true, false, IsTrue, Option, Some, None, OnOk, OnErr, IfOk, IfErr}};
 ghost use Rattle.{futures.specs.{Poll.{IfReady, OnPending}, Task.{IsArmed, Keeps as KeepsPoll}}, pagable_core.specs.Data.blob_of, pagable_value_spec.specs.{Blob.{Blob, key_of}, Stored.{Adds, Keeps, RefusesFetch, RefusesStore, RefusesFlush}}};
 
 use crate::storage::data::PagableData;
@@ -13,8 +13,9 @@ use std::sync::Arc;
 /// A storage of blobs: a map from keys to blobs that only grows until it is closed. It counts its
 /// failures: a call may fail with `Storage` only if that count went up.
 ///
-/// What a call returns of values is right as long as the storage is honest after it. Two promises
-/// hold always: the possible errors, and that a fetched blob has the key that was asked for.
+/// What a call promises of the stored blobs holds as long as the storage is honest after it.
+/// Whatever the storage does, a call fails only with an error that it names, a fetched blob has the
+/// key that was asked for, and storing returns the key of the blob's content.
 pub trait PagableStorage<E: Env>: Sized {
     // The blob under each key.
     ghost stored: { Self → ℕ → Option Blob };

@@ -1,7 +1,6 @@
 //! A hash for tests.
 
 ghost use Rattle.{pagable_core.specs.Data.IsWeighed, pagable_value_spec.specs.Blob.weigh_hash};
-ghost use Rattle.std.specs.Prelude.{List, length, ℕ, ◌%◌, ◌+◌, ◌^◌, ◌≡◌};
 
 use pagable_codec::KeyHash;
 

@@ -1,7 +1,7 @@
 //! Varints are read byte by byte.
 
 ghost use Rattle.std.specs.Prelude.{◌≡◌, ◌≤◌, ◌<◌, ◌^◌, IfOk, MatchOption, drop, length};
-ghost use Rattle.{pagable_flavors.specs.Calls.Reads, pagable_value_spec.specs.{Outcomes.{Gives, never}, Numbers.{byte_at, varint_at, varint_limit}, Progress.{left, GoesOn}}};
+ghost use Rattle.{pagable_flavors.specs.Calls.Reads, pagable_value_spec.specs.{Outcomes.{MatchesReading, no_own_causes}, Numbers.{byte_at, varint_at, varint_limit}, Progress.{left, GoesOn}}};
 
 use super::PagableSlice;
 use pagable_value_spec::Error;
@@ -12,7 +12,7 @@ use pagable_value_spec::Error;
 fn varint_of(bytes: &[u8], more: usize, last: u8) -> Result<(u64, usize), Error>
     requires ends { (0 < last) × (last < 128) }
     requires fits { varint_limit more last ≤ 2 ^ 64 }
-    ensures gives { Gives never (λ n. (n.0, drop n.1 bytes.now)) result (varint_at more last bytes.now) }
+    ensures gives { MatchesReading no_own_causes (λ n. (n.0, drop n.1 bytes.now)) result (varint_at more last bytes.now) }
     ensures bound { IfOk result (λ n. n.0 < varint_limit more last) }
     ensures within { IfOk result (λ n. n.1 ≤ length bytes.now) }
 {
@@ -36,7 +36,7 @@ fn varint_of(bytes: &[u8], more: usize, last: u8) -> Result<(u64, usize), Error>
 pub(super) fn wide_varint_of(bytes: &[u8], more: usize, last: u8) -> Result<(u128, usize), Error>
     requires ends { (0 < last) × (last < 128) }
     requires fits { varint_limit more last ≤ 2 ^ 128 }
-    ensures gives { Gives never (λ n. (n.0, drop n.1 bytes.now)) result (varint_at more last bytes.now) }
+    ensures gives { MatchesReading no_own_causes (λ n. (n.0, drop n.1 bytes.now)) result (varint_at more last bytes.now) }
     ensures within { IfOk result (λ n. n.1 ≤ length bytes.now) }
 {
     let mut low = 0u128;

@@ -1,7 +1,6 @@
 //! Reads basic values, and texts and byte arrays without copying them.
 
-ghost use Rattle.pagable_value_spec.specs.{BasicValues.{byte_array_at, text_at}, Outcomes.{Gives, never}, Progress.{GoesOn, left}};
-ghost use Rattle.std.specs.Prelude.{◌≡◌};
+ghost use Rattle.pagable_value_spec.specs.{BasicValues.{byte_array_at, text_at}, Outcomes.{MatchesReading, no_own_causes}, Progress.{GoesOn, left}};
 
 use super::PagableSlice;
 use super::numbers::wide_varint_of;
@@ -131,7 +130,7 @@ impl<'de> PagableSlice<'de> {
     /// - `BadUtf8` if the text isn't UTF-8.
     #[tactic(auto, using(crate::proofs::Basic::utf8_tests), unfolding(pagable_value_spec::specs::BasicValues::text_at))]
     pub fn read_str(&mut self) -> Result<&'de str, Error>
-        ensures gives { Gives never (λ t. (t.now, left self.new)) result (text_at (left self.old)) }
+        ensures gives { MatchesReading no_own_causes (λ t. (t.now, left self.new)) result (text_at (left self.old)) }
         ensures goes { GoesOn self.old self.new }
     {
         let count = self.read_len()?;
@@ -147,7 +146,8 @@ impl<'de> PagableSlice<'de> {
     /// - `UnexpectedEnd` if the input ends inside the array.
     #[tactic(auto, unfolding(pagable_value_spec::specs::BasicValues::byte_array_at))]
     pub fn read_bytes(&mut self) -> Result<&'de [u8], Error>
-        ensures gives { Gives never (λ b. (b.now, left self.new)) result (byte_array_at (left self.old)) }
+        ensures gives { MatchesReading no_own_causes (λ b. (b.now, left self.new)) result
+            (byte_array_at (left self.old)) }
         ensures goes { GoesOn self.old self.new }
     {
         let count = self.read_len()?;

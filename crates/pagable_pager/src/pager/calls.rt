@@ -4,10 +4,10 @@
 
 ghost use Rattle.std.specs.{Option.option_map, Prelude.{IfErr, IfNone, IfOk, IfSome, IsSome, length, true, ◌<◌, ◌≡◌, ◌≤◌}};
 ghost use Rattle.{pagable_load.specs.{PinStart.{StartsPin, is_unpinned_at}, AccessView.{IsMade, values_at}, WorkerCalls.{EntryFault, TakesReference}}, pagable_tables.specs.Core.{BeginsWorker, TakesWorker}};
-ghost use Rattle.pagable_pager.specs.View.{Calls, OnlyLess, OnlyTables, Settles, TakesEntry, core_in, is_at_work, telling};
+ghost use Rattle.pagable_pager.specs.View.{Calls, OnlyLess, OnlyTables, Settles, TakesEntry, pager_core, may_call, storage_view};
 ghost use Rattle.pagable_pager_spec.specs.Calls.{AwayCall, ClearCall, CloneCall, CountCall, KeyCall, Looks, LoosenCall, NodeCall, OfferCall, PinCall, RecallCall, ReleaseCall, ReserveCall};
-ghost use Rattle.pagable_pager_spec.specs.{Calls.{ScheduleCall, SetKeyCall, TakeCall, TypeCall, UnpinCall, room_of}, Cascade.FallsAnyhow, Events.{IsEntry, reading_of_load}, Kinds.{HasKinds, HasNoKinds}};
-ghost use Rattle.pagable_pager_spec.specs.{Kinds.{is_loose, loose_kind}, LoadCalls.{DropCall, HandOverCall}, Workers.{WorkerEnds, is_workers_at}, World.{Alike, Reading, key_at, row_at}};
+ghost use Rattle.pagable_pager_spec.specs.{Calls.{ScheduleCall, SetKeyCall, TakeCall, TypeCall, UnpinCall, room_of}, Cascade.FallsAnyhow, Events.{IsEntry, reading_of_load}};
+ghost use Rattle.pagable_pager_spec.specs.{Kinds.is_loose, LoadCalls.{DropCall, HandOverCall}, Workers.{WorkerEnds, is_workers_at}, World.{Alike, Reading, key_at, row_at}};
 
 use crate::pager::{Pager, cell_type};
 use pagable_codec::{Env, NodeSet};
@@ -24,18 +24,6 @@ use pagable_value_spec::{
     WorkerNumber,
 };
 
-/// Returns the loose kind of a value type, if the type's kinds fit 32 bits.
-fn loose_kind_of(node_type: u32) -> Option<Kind>
-    ensures some { IfSome result (λ kind. (kind.0 ≡ loose_kind node_type) × HasKinds node_type) }
-    ensures none { IfNone result (HasNoKinds node_type) }
-{
-    let number = 3 * (node_type as u64) + 1;
-    if number > u32::MAX as u64 {
-        return None;
-    }
-    Some(Kind(number as u32))
-}
-
 impl<E: Env<Node: NodeSet<E>>, S: PagableStorage<E>> Pager<E, S> {
     /// Clones any live handle: makes a handle of its node and mode for the caller. A clone of a
     /// pinning handle pins.
@@ -46,20 +34,20 @@ impl<E: Env<Node: NodeSet<E>>, S: PagableStorage<E>> Pager<E, S> {
     /// - `NumbersSpent` if no number is left for a handle.
     /// - `OutOfMemory` if the handle can't be allocated.
     pub fn clone(&mut self, handle: HandleNumber) -> Result<HandleNumber, Error>
-        ensures { Calls OnlyTables (telling S.stored S.is_closed S.failed) self.old
+        ensures { Calls OnlyTables (storage_view S.PagableStorage) self.old
             (λ w w'. CloneCall w Owner.Caller handle result w') self.new }
     {
-        self.clone_by(Owner::Caller, handle)
+        self.clone_for(Owner::Caller, handle)
     }
 
-    pub(crate) fn clone_by(
+    pub(crate) fn clone_for(
         &mut self,
         me: Owner,
         handle: HandleNumber,
     ) -> Result<HandleNumber, Error>
-        requires { is_at_work (core_in (telling S.stored S.is_closed S.failed) self.old) me ≡ true }
-        ensures { Calls OnlyTables (telling S.stored S.is_closed S.failed) self.old
-            (λ w w'. CloneCall w me handle result w') self.new }
+        requires { may_call (pager_core (storage_view S.PagableStorage) self.old) me ≡ true }
+        ensures { Calls OnlyTables (storage_view S.PagableStorage) self.old (λ w w'. CloneCall w me handle result w')
+            self.new }
     {
         create::clone(&mut self.tables, me, handle)
     }
@@ -72,7 +60,7 @@ impl<E: Env<Node: NodeSet<E>>, S: PagableStorage<E>> Pager<E, S> {
     /// - `NotYours` if another than the caller has it.
     /// - `WrongMode` if it isn't Pinned.
     pub fn into_pagable(&mut self, handle: HandleNumber) -> Result<HandleNumber, Error>
-        ensures { Calls OnlyTables (telling S.stored S.is_closed S.failed) self.old
+        ensures { Calls OnlyTables (storage_view S.PagableStorage) self.old
             (λ w w'. LoosenCall w Owner.Caller handle result w') self.new }
     {
         create::into_pagable(&mut self.tables, Owner::Caller, handle)
@@ -90,16 +78,16 @@ impl<E: Env<Node: NodeSet<E>>, S: PagableStorage<E>> Pager<E, S> {
     /// - `NumbersSpent` if no number is left for a handle.
     /// - `OutOfMemory` if the handle can't be allocated.
     pub fn pin(&mut self, handle: HandleNumber) -> Result<Pinning, Error>
-        ensures { Calls OnlyTables (telling S.stored S.is_closed S.failed) self.old
+        ensures { Calls OnlyTables (storage_view S.PagableStorage) self.old
             (λ w w'. PinCall w Owner.Caller handle result w') self.new }
     {
-        self.pin_by(Owner::Caller, handle)
+        self.pin_for(Owner::Caller, handle)
     }
 
-    pub(crate) fn pin_by(&mut self, me: Owner, handle: HandleNumber) -> Result<Pinning, Error>
-        requires { is_at_work (core_in (telling S.stored S.is_closed S.failed) self.old) me ≡ true }
-        ensures { Calls OnlyTables (telling S.stored S.is_closed S.failed) self.old
-            (λ w w'. PinCall w me handle result w') self.new }
+    pub(crate) fn pin_for(&mut self, me: Owner, handle: HandleNumber) -> Result<Pinning, Error>
+        requires { may_call (pager_core (storage_view S.PagableStorage) self.old) me ≡ true }
+        ensures { Calls OnlyTables (storage_view S.PagableStorage) self.old (λ w w'. PinCall w me handle result w')
+            self.new }
     {
         create::pin(&mut self.tables, me, handle)
     }
@@ -110,7 +98,7 @@ impl<E: Env<Node: NodeSet<E>>, S: PagableStorage<E>> Pager<E, S> {
     ///
     /// - `NoSuchHandle` if the handle isn't live.
     pub fn count(&self, handle: HandleNumber) -> Result<u64, Error>
-        ensures { CountCall (core_in (telling S.stored S.is_closed S.failed) self.now) handle result }
+        ensures { CountCall (pager_core (storage_view S.PagableStorage) self.now) handle result }
     {
         queries::count(&self.tables, handle)
     }
@@ -121,7 +109,7 @@ impl<E: Env<Node: NodeSet<E>>, S: PagableStorage<E>> Pager<E, S> {
     ///
     /// - `NoSuchHandle` if the handle isn't live.
     pub fn key(&self, handle: HandleNumber) -> Result<OptionalDataKey, Error>
-        ensures { KeyCall (core_in (telling S.stored S.is_closed S.failed) self.now) handle result }
+        ensures { KeyCall (pager_core (storage_view S.PagableStorage) self.now) handle result }
     {
         queries::key(&self.tables, handle)
     }
@@ -132,7 +120,7 @@ impl<E: Env<Node: NodeSet<E>>, S: PagableStorage<E>> Pager<E, S> {
     ///
     /// - `NoSuchHandle` if the handle isn't live.
     pub fn is_paged_out(&self, handle: HandleNumber) -> Result<bool, Error>
-        ensures { AwayCall (core_in (telling S.stored S.is_closed S.failed) self.now) handle result }
+        ensures { AwayCall (pager_core (storage_view S.PagableStorage) self.now) handle result }
     {
         queries::is_paged_out(&self.tables, handle)
     }
@@ -143,14 +131,14 @@ impl<E: Env<Node: NodeSet<E>>, S: PagableStorage<E>> Pager<E, S> {
     ///
     /// - `NoSuchHandle` if the handle isn't live.
     pub fn node_of(&self, handle: HandleNumber) -> Result<NodeNumber, Error>
-        ensures { NodeCall (core_in (telling S.stored S.is_closed S.failed) self.now) handle result }
+        ensures { NodeCall (pager_core (storage_view S.PagableStorage) self.now) handle result }
     {
         queries::node_of(&self.tables, handle)
     }
 
     /// Returns the number of the node's value type; None if the node is gone.
     pub fn node_live(&self, node: NodeNumber) -> Option<u32>
-        ensures { TypeCall (core_in (telling S.stored S.is_closed S.failed) self.now) node result }
+        ensures { TypeCall (pager_core (storage_view S.PagableStorage) self.now) node result }
     {
         queries::node_live(&self.tables, node)
     }
@@ -158,8 +146,8 @@ impl<E: Env<Node: NodeSet<E>>, S: PagableStorage<E>> Pager<E, S> {
     // Makes the reference of this kind by a live handle. If the handle isn't live, the reference
     // names no node.
     pub(crate) fn reference(&self, kind: Kind, handle: HandleNumber) -> ArcRef
-        ensures made { IsSome (row_at (core_in (telling S.stored S.is_closed S.failed) self.now) handle)
-            → IsMade (core_in (telling S.stored S.is_closed S.failed) self.now) kind result }
+        ensures made { IsSome (row_at (pager_core (storage_view S.PagableStorage) self.now) handle)
+            → IsMade (pager_core (storage_view S.PagableStorage) self.now) kind result }
         ensures handle { result.handle ≡ handle }
     {
         let node = match self.node_of(handle) {
@@ -169,9 +157,9 @@ impl<E: Env<Node: NodeSet<E>>, S: PagableStorage<E>> Pager<E, S> {
         ArcRef { kind, node, handle }
     }
 
-    /// Returns whether the handle is live, loose and unpinned.
+    /// Returns whether this is a live loose handle that doesn't pin its cell now (`LooseUnpinned`).
     fn is_unpinned(&self, handle: HandleNumber) -> bool
-        ensures { result ≡ is_unpinned_at (core_in (telling S.stored S.is_closed S.failed) self.now) handle }
+        ensures { result ≡ is_unpinned_at (pager_core (storage_view S.PagableStorage) self.now) handle }
     {
         match handle_table::look(&self.tables.ref_counts.handles, handle) {
             Some(at) => kinds::is_unpinned(at.row.mode),
@@ -183,7 +171,7 @@ impl<E: Env<Node: NodeSet<E>>, S: PagableStorage<E>> Pager<E, S> {
     /// key, or isn't open.
     pub fn load_type(&self, load: LoadNumber) -> Option<u32>
         ensures { result ≡ option_map (λ (r : Reading). r.node_type)
-            (reading_of_load load ((core_in (telling S.stored S.is_closed S.failed) self.now).loads load.0)) }
+            (reading_of_load load ((pager_core (storage_view S.PagableStorage) self.now).loads load.0)) }
     {
         let row = load_table::load_of(&self.tables.loads, load.0)?;
         cell_type(row.root)
@@ -196,24 +184,24 @@ impl<E: Env<Node: NodeSet<E>>, S: PagableStorage<E>> Pager<E, S> {
     ///
     /// - those of `pin` and `load_begin`.
     pub fn begin_pin(&mut self, handle: HandleNumber) -> Result<PinStart, Error>
-        ensures { Calls OnlyTables (telling S.stored S.is_closed S.failed) self.old
+        ensures { Calls OnlyTables (storage_view S.PagableStorage) self.old
             (λ w w'. StartsPin w Owner.Caller handle result w') self.new }
     {
-        self.begin_pin_by(Owner::Caller, handle)
+        self.begin_pin_for(Owner::Caller, handle)
     }
 
-    pub(crate) fn begin_pin_by(
+    pub(crate) fn begin_pin_for(
         &mut self,
         me: Owner,
         handle: HandleNumber,
     ) -> Result<PinStart, Error>
-        requires { is_at_work (core_in (telling S.stored S.is_closed S.failed) self.old) me ≡ true }
-        ensures { Calls OnlyTables (telling S.stored S.is_closed S.failed) self.old
-            (λ w w'. StartsPin w me handle result w') self.new }
+        requires { may_call (pager_core (storage_view S.PagableStorage) self.old) me ≡ true }
+        ensures { Calls OnlyTables (storage_view S.PagableStorage) self.old (λ w w'. StartsPin w me handle result w')
+            self.new }
     {
         let was_unpinned = self.is_unpinned(handle);
         if let Ok(true) = self.is_paged_out(handle) {
-            let Beginning::Load(load, key) = self.load_begin_by(me, handle)? else {
+            let Beginning::Load(load, key) = self.load_begin_for(me, handle)? else {
                 unreachable!();
             };
             let Some(node_type) = self.load_type(load) else {
@@ -221,7 +209,7 @@ impl<E: Env<Node: NodeSet<E>>, S: PagableStorage<E>> Pager<E, S> {
             };
             return Ok(PinStart::Load(load, key, node_type));
         }
-        match self.pin_by(me, handle)? {
+        match self.pin_for(me, handle)? {
             Pinning::Pinned(pinned) => Ok(PinStart::Pinned(pinned, was_unpinned)),
             Pinning::NeedsLoad(_) => unreachable!(),
         }
@@ -230,16 +218,16 @@ impl<E: Env<Node: NodeSet<E>>, S: PagableStorage<E>> Pager<E, S> {
     /// Takes the list entry at this place for the caller, as a loose unpinned handle. Returns None
     /// past the list's end.
     pub fn take_pending(&mut self, place: usize) -> Option<HandleNumber>
-        ensures { Calls OnlyTables (telling S.stored S.is_closed S.failed) self.old
+        ensures { Calls OnlyTables (storage_view S.PagableStorage) self.old
             (λ w w'. TakeCall w Owner.Caller place result w') self.new }
     {
-        self.take_pending_by(Owner::Caller, place)
+        self.take_pending_for(Owner::Caller, place)
     }
 
-    pub(crate) fn take_pending_by(&mut self, me: Owner, place: usize) -> Option<HandleNumber>
-        requires { is_at_work (core_in (telling S.stored S.is_closed S.failed) self.old) me ≡ true }
-        ensures { Calls OnlyTables (telling S.stored S.is_closed S.failed) self.old
-            (λ w w'. TakeCall w me place result w') self.new }
+    pub(crate) fn take_pending_for(&mut self, me: Owner, place: usize) -> Option<HandleNumber>
+        requires { may_call (pager_core (storage_view S.PagableStorage) self.old) me ≡ true }
+        ensures { Calls OnlyTables (storage_view S.PagableStorage) self.old (λ w w'. TakeCall w me place result w')
+            self.new }
     {
         pending::take_pending(&mut self.tables, me, place)
     }
@@ -254,21 +242,20 @@ impl<E: Env<Node: NodeSet<E>>, S: PagableStorage<E>> Pager<E, S> {
     /// - `WrongMode` if it isn't loose and unpinned.
     /// - `OutOfMemory` if the list can't grow.
     pub fn schedule_for_paging(&mut self, handle: HandleNumber) -> Result<(), Error>
-        ensures { Calls OnlyLess (telling S.stored S.is_closed S.failed) self.old
+        ensures { Calls OnlyLess (storage_view S.PagableStorage) self.old
             (λ w w'. ScheduleCall w Owner.Caller handle result w') self.new }
     {
-        self.schedule_for_paging_by(Owner::Caller, handle)
+        self.schedule_for_paging_for(Owner::Caller, handle)
     }
 
-    pub(crate) fn schedule_for_paging_by(
+    pub(crate) fn schedule_for_paging_for(
         &mut self,
         me: Owner,
         handle: HandleNumber,
     ) -> Result<(), Error>
-        requires { is_at_work (core_in (telling S.stored S.is_closed S.failed) self.old) me ≡ true }
-        ensures { Settles OnlyLess (telling S.stored S.is_closed S.failed)
-            (values_at E.Node.NodeSet E.Env E.Hash.KeyHash) self.old (λ w w'. ScheduleCall w me handle result w')
-            self.new }
+        requires { may_call (pager_core (storage_view S.PagableStorage) self.old) me ≡ true }
+        ensures { Settles OnlyLess (storage_view S.PagableStorage) (values_at E.Node.NodeSet E.Env E.Hash.KeyHash)
+            self.old (λ w w'. ScheduleCall w me handle result w') self.new }
     {
         let lists = !self.storage.has_closed();
         pending::schedule_for_paging(&mut self.tables, &mut self.values, me, handle, lists)
@@ -282,7 +269,7 @@ impl<E: Env<Node: NodeSet<E>>, S: PagableStorage<E>> Pager<E, S> {
     /// - `NumbersSpent` if no number is left for a handle.
     /// - `OutOfMemory` if the handle can't be allocated.
     pub fn cache_get(&mut self, kind: Kind, key: DataKey) -> Result<Option<HandleNumber>, Error>
-        ensures { Calls OnlyTables (telling S.stored S.is_closed S.failed) self.old
+        ensures { Calls OnlyTables (storage_view S.PagableStorage) self.old
             (λ w w'. RecallCall w Owner.Caller kind key result w') self.new }
     {
         cache::cache_get(&mut self.tables, Owner::Caller, kind, key)
@@ -306,7 +293,7 @@ impl<E: Env<Node: NodeSet<E>>, S: PagableStorage<E>> Pager<E, S> {
         key: DataKey,
         handle: HandleNumber,
     ) -> Result<Option<HandleNumber>, Error>
-        ensures { Calls OnlyLess (telling S.stored S.is_closed S.failed) self.old
+        ensures { Calls OnlyLess (storage_view S.PagableStorage) self.old
             (λ w w'. OfferCall w Owner.Caller kind key handle result w') self.new }
     {
         let lists = !self.storage.has_closed();
@@ -316,7 +303,7 @@ impl<E: Env<Node: NodeSet<E>>, S: PagableStorage<E>> Pager<E, S> {
 
     /// Returns how many list entries wait for page-out.
     pub fn pending(&self) -> usize
-        ensures { result ≡ length (core_in (telling S.stored S.is_closed S.failed) self.now).list }
+        ensures { result ≡ length (pager_core (storage_view S.PagableStorage) self.now).list }
     {
         queries::pending(&self.tables)
     }
@@ -324,7 +311,7 @@ impl<E: Env<Node: NodeSet<E>>, S: PagableStorage<E>> Pager<E, S> {
     /// Returns how many handles, and how many list entries, can be added without an allocation: the
     /// smaller number.
     pub fn room(&self) -> usize
-        ensures { result ≡ room_of (core_in (telling S.stored S.is_closed S.failed) self.now) }
+        ensures { result ≡ room_of (pager_core (storage_view S.PagableStorage) self.now) }
     {
         tables::room(&self.tables)
     }
@@ -335,16 +322,15 @@ impl<E: Env<Node: NodeSet<E>>, S: PagableStorage<E>> Pager<E, S> {
     ///
     /// - `OutOfMemory` if the allocation fails.
     pub fn reserve(&mut self, more: usize) -> Result<(), Error>
-        ensures { Calls OnlyTables (telling S.stored S.is_closed S.failed) self.old
-            (λ w w'. ReserveCall w more result w') self.new }
+        ensures { Calls OnlyTables (storage_view S.PagableStorage) self.old (λ w w'. ReserveCall w more result w')
+            self.new }
     {
         tables::reserve(&mut self.tables, more)
     }
 
     /// Empties the cache. Never fails.
     pub fn cache_clear(&mut self) -> Result<(), Error>
-        ensures { Calls OnlyTables (telling S.stored S.is_closed S.failed) self.old (λ w w'. ClearCall w result w')
-            self.new }
+        ensures { Calls OnlyTables (storage_view S.PagableStorage) self.old (λ w w'. ClearCall w result w') self.new }
     {
         tables::cache_clear(&mut self.tables)
     }
@@ -361,16 +347,16 @@ impl<E: Env<Node: NodeSet<E>>, S: PagableStorage<E>> Pager<E, S> {
     /// - `NumbersSpent` or `OutOfMemory` if a cell that has to be listed isn't: the handle is
     ///   unpinned all the same.
     pub fn unpin(&mut self, handle: HandleNumber) -> Result<(), Error>
-        ensures { Calls OnlyLess (telling S.stored S.is_closed S.failed) self.old
+        ensures { Calls OnlyLess (storage_view S.PagableStorage) self.old
             (λ w w'. UnpinCall w Owner.Caller handle result w') self.new }
     {
-        self.unpin_by(Owner::Caller, handle)
+        self.unpin_for(Owner::Caller, handle)
     }
 
-    pub(crate) fn unpin_by(&mut self, me: Owner, handle: HandleNumber) -> Result<(), Error>
-        requires { is_at_work (core_in (telling S.stored S.is_closed S.failed) self.old) me ≡ true }
-        ensures { Settles OnlyLess (telling S.stored S.is_closed S.failed)
-            (values_at E.Node.NodeSet E.Env E.Hash.KeyHash) self.old (λ w w'. UnpinCall w me handle result w') self.new }
+    pub(crate) fn unpin_for(&mut self, me: Owner, handle: HandleNumber) -> Result<(), Error>
+        requires { may_call (pager_core (storage_view S.PagableStorage) self.old) me ≡ true }
+        ensures { Settles OnlyLess (storage_view S.PagableStorage) (values_at E.Node.NodeSet E.Env E.Hash.KeyHash)
+            self.old (λ w w'. UnpinCall w me handle result w') self.new }
     {
         let lists = !self.storage.has_closed();
         release::unpin(&mut self.tables, &mut self.values, me, handle, lists)
@@ -386,17 +372,16 @@ impl<E: Env<Node: NodeSet<E>>, S: PagableStorage<E>> Pager<E, S> {
     /// - `NumbersSpent` or `OutOfMemory` if a cell that has to be listed isn't: the handle is
     ///   released all the same.
     pub fn release(&mut self, handle: HandleNumber) -> Result<(), Error>
-        ensures { Calls OnlyLess (telling S.stored S.is_closed S.failed) self.old
+        ensures { Calls OnlyLess (storage_view S.PagableStorage) self.old
             (λ w w'. ReleaseCall w Owner.Caller handle result w') self.new }
     {
-        self.release_by(Owner::Caller, handle)
+        self.release_for(Owner::Caller, handle)
     }
 
-    pub(crate) fn release_by(&mut self, me: Owner, handle: HandleNumber) -> Result<(), Error>
-        requires { is_at_work (core_in (telling S.stored S.is_closed S.failed) self.old) me ≡ true }
-        ensures { Settles OnlyLess (telling S.stored S.is_closed S.failed)
-            (values_at E.Node.NodeSet E.Env E.Hash.KeyHash) self.old (λ w w'. ReleaseCall w me handle result w')
-            self.new }
+    pub(crate) fn release_for(&mut self, me: Owner, handle: HandleNumber) -> Result<(), Error>
+        requires { may_call (pager_core (storage_view S.PagableStorage) self.old) me ≡ true }
+        ensures { Settles OnlyLess (storage_view S.PagableStorage) (values_at E.Node.NodeSet E.Env E.Hash.KeyHash)
+            self.old (λ w w'. ReleaseCall w me handle result w') self.new }
     {
         let lists = !self.storage.has_closed();
         release::release(&mut self.tables, &mut self.values, me, handle, lists)
@@ -412,22 +397,21 @@ impl<E: Env<Node: NodeSet<E>>, S: PagableStorage<E>> Pager<E, S> {
     /// - `NumbersSpent` or `OutOfMemory` if a cell that has to be listed isn't: the key is set all
     ///   the same.
     pub fn set_data_key(&mut self, handle: HandleNumber, key: DataKey) -> Result<(), Error>
-        ensures { Calls OnlyLess (telling S.stored S.is_closed S.failed) self.old
+        ensures { Calls OnlyLess (storage_view S.PagableStorage) self.old
             (λ w w'. SetKeyCall w Owner.Caller handle key result w') self.new }
     {
-        self.set_data_key_by(Owner::Caller, handle, key)
+        self.set_data_key_for(Owner::Caller, handle, key)
     }
 
-    pub(crate) fn set_data_key_by(
+    pub(crate) fn set_data_key_for(
         &mut self,
         me: Owner,
         handle: HandleNumber,
         key: DataKey,
     ) -> Result<(), Error>
-        requires { is_at_work (core_in (telling S.stored S.is_closed S.failed) self.old) me ≡ true }
-        ensures { Settles OnlyLess (telling S.stored S.is_closed S.failed)
-            (values_at E.Node.NodeSet E.Env E.Hash.KeyHash) self.old (λ w w'. SetKeyCall w me handle key result w')
-            self.new }
+        requires { may_call (pager_core (storage_view S.PagableStorage) self.old) me ≡ true }
+        ensures { Settles OnlyLess (storage_view S.PagableStorage) (values_at E.Node.NodeSet E.Env E.Hash.KeyHash)
+            self.old (λ w w'. SetKeyCall w me handle key result w') self.new }
     {
         let lists = !self.storage.has_closed();
         release::set_data_key(&mut self.tables, &mut self.values, me, handle, key, lists)
@@ -442,15 +426,15 @@ impl<E: Env<Node: NodeSet<E>>, S: PagableStorage<E>> Pager<E, S> {
     /// - `NumbersSpent` or `OutOfMemory` if a cell that has to be listed isn't: the load is dropped
     ///   all the same.
     pub fn load_drop(&mut self, load: LoadNumber) -> Result<(), Error>
-        ensures { Calls OnlyLess (telling S.stored S.is_closed S.failed) self.old
+        ensures { Calls OnlyLess (storage_view S.PagableStorage) self.old
             (λ w w'. DropCall w Owner.Caller load result w') self.new }
     {
-        self.load_drop_by(Owner::Caller, load)
+        self.load_drop_for(Owner::Caller, load)
     }
 
-    pub(crate) fn load_drop_by(&mut self, me: Owner, load: LoadNumber) -> Result<(), Error>
-        ensures { Settles OnlyLess (telling S.stored S.is_closed S.failed)
-            (values_at E.Node.NodeSet E.Env E.Hash.KeyHash) self.old (λ w w'. DropCall w me load result w') self.new }
+    pub(crate) fn load_drop_for(&mut self, me: Owner, load: LoadNumber) -> Result<(), Error>
+        ensures { Settles OnlyLess (storage_view S.PagableStorage) (values_at E.Node.NodeSet E.Env E.Hash.KeyHash)
+            self.old (λ w w'. DropCall w me load result w') self.new }
     {
         let lists = !self.storage.has_closed();
         load_end::load_drop(&mut self.tables, &mut self.values, me, load, lists)
@@ -466,22 +450,21 @@ impl<E: Env<Node: NodeSet<E>>, S: PagableStorage<E>> Pager<E, S> {
     ///   handle, or a handle is named twice.
     /// - `WrongMode` if it is a load of a cell.
     pub fn load_take(&mut self, load: LoadNumber, named: &[HandleNumber]) -> Result<(), Error>
-        ensures { Calls OnlyLess (telling S.stored S.is_closed S.failed) self.old
+        ensures { Calls OnlyLess (storage_view S.PagableStorage) self.old
             (λ w w'. HandOverCall w Owner.Caller load named.now result w') self.new }
     {
-        self.load_take_by(Owner::Caller, load, named)
+        self.load_take_for(Owner::Caller, load, named)
     }
 
-    pub(crate) fn load_take_by(
+    pub(crate) fn load_take_for(
         &mut self,
         me: Owner,
         load: LoadNumber,
         named: &[HandleNumber],
     ) -> Result<(), Error>
-        requires { is_at_work (core_in (telling S.stored S.is_closed S.failed) self.old) me ≡ true }
-        ensures { Settles OnlyLess (telling S.stored S.is_closed S.failed)
-            (values_at E.Node.NodeSet E.Env E.Hash.KeyHash) self.old
-            (λ w w'. HandOverCall w me load named.now result w') self.new }
+        requires { may_call (pager_core (storage_view S.PagableStorage) self.old) me ≡ true }
+        ensures { Settles OnlyLess (storage_view S.PagableStorage) (values_at E.Node.NodeSet E.Env E.Hash.KeyHash)
+            self.old (λ w w'. HandOverCall w me load named.now result w') self.new }
     {
         let lists = !self.storage.has_closed();
         load_end::load_take(&mut self.tables, &mut self.values, me, load, named, lists)
@@ -489,7 +472,7 @@ impl<E: Env<Node: NodeSet<E>>, S: PagableStorage<E>> Pager<E, S> {
 
     /// Returns whether a handle is loose. Fails with NoSuchHandle only.
     pub(crate) fn is_loose(&self, handle: HandleNumber) -> Result<bool, Error>
-        ensures { Looks (core_in (telling S.stored S.is_closed S.failed) self.now) handle
+        ensures { Looks (pager_core (storage_view S.PagableStorage) self.now) handle
             (λ loose row. loose ≡ is_loose row.mode) result }
     {
         queries::is_loose(&self.tables, handle)
@@ -498,19 +481,19 @@ impl<E: Env<Node: NodeSet<E>>, S: PagableStorage<E>> Pager<E, S> {
     /// Returns the handle at this place of the list, with type and key of its cell; None past the
     /// list's end.
     pub(crate) fn entry(&self, place: usize) -> Option<(HandleRow, u32, OptionalDataKey)>
-        ensures found { IfSome result (λ e. IsEntry (core_in (telling S.stored S.is_closed S.failed) self.now) place
-            e.0.number e.0 e.1) }
-        ensures keyed { IfSome result (λ e. key_at (core_in (telling S.stored S.is_closed S.failed) self.now) e.0.node.0
+        ensures found { IfSome result (λ e. IsEntry (pager_core (storage_view S.PagableStorage) self.now) place
+            e.0.number
+            e.0 e.1) }
+        ensures keyed { IfSome result (λ e. key_at (pager_core (storage_view S.PagableStorage) self.now) e.0.node.0
             ≡ e.2) }
-        ensures past { IfNone result (length (core_in (telling S.stored S.is_closed S.failed) self.now).list ≤ place) }
+        ensures past { IfNone result (length (pager_core (storage_view S.PagableStorage) self.now).list ≤ place) }
     {
         queries::entry(&self.tables, place)
     }
 
     /// Begins a worker. Fails with NumbersSpent or OutOfMemory.
     pub(crate) fn worker_begin(&mut self) -> Result<WorkerNumber, Error>
-        ensures { Calls OnlyTables (telling S.stored S.is_closed S.failed) self.old (λ w w'. BeginsWorker w result w')
-            self.new }
+        ensures { Calls OnlyTables (storage_view S.PagableStorage) self.old (λ w w'. BeginsWorker w result w') self.new }
     {
         workers::worker_begin(&mut self.tables)
     }
@@ -518,9 +501,9 @@ impl<E: Env<Node: NodeSet<E>>, S: PagableStorage<E>> Pager<E, S> {
     /// Begins a worker for the list entry at this place, which the worker owns then. Fails with
     /// NumbersSpent or OutOfMemory.
     pub(crate) fn worker_take(&mut self, place: usize) -> Result<WorkerNumber, Error>
-        requires { place < length (core_in (telling S.stored S.is_closed S.failed) self.old).list }
-        ensures { Calls OnlyTables (telling S.stored S.is_closed S.failed) self.old
-            (λ w w'. TakesWorker w place result w') self.new }
+        requires { place < length (pager_core (storage_view S.PagableStorage) self.old).list }
+        ensures { Calls OnlyTables (storage_view S.PagableStorage) self.old (λ w w'. TakesWorker w place result w')
+            self.new }
     {
         workers::worker_take(&mut self.tables, place)
     }
@@ -530,17 +513,18 @@ impl<E: Env<Node: NodeSet<E>>, S: PagableStorage<E>> Pager<E, S> {
     /// with WrongKind if the kinds of the cell's type don't fit 32 bits, and with NumbersSpent or
     /// OutOfMemory.
     pub(crate) fn worker_listed(&mut self, place: usize) -> Result<(WorkerNumber, ArcRef), Error>
-        ensures begins { IfOk result (λ b. TakesEntry (core_in (telling S.stored S.is_closed S.failed) self.old) place
-            b.0 b.1 (core_in (telling S.stored S.is_closed S.failed) self.new)) }
-        ensures refused { IfErr result (λ e. EntryFault (core_in (telling S.stored S.is_closed S.failed) self.old) place
-            e × Alike (core_in (telling S.stored S.is_closed S.failed) self.old)
-            (core_in (telling S.stored S.is_closed S.failed) self.new)) }
+        ensures begins { IfOk result (λ b. TakesEntry (pager_core (storage_view S.PagableStorage) self.old) place b.0
+            b.1
+            (pager_core (storage_view S.PagableStorage) self.new)) }
+        ensures refused { IfErr result (λ e. EntryFault (pager_core (storage_view S.PagableStorage) self.old) place e
+            × Alike (pager_core (storage_view S.PagableStorage) self.old)
+            (pager_core (storage_view S.PagableStorage) self.new)) }
         ensures only { OnlyTables self.old self.new }
     {
         let Some((row, node_type, _)) = self.entry(place) else {
             return Err(Error::NoSuchHandle);
         };
-        let Some(kind) = loose_kind_of(node_type) else {
+        let Some(kind) = Kind::loose_of(node_type) else {
             return Err(Error::WrongKind);
         };
         let worker = self.worker_take(place)?;
@@ -550,8 +534,8 @@ impl<E: Env<Node: NodeSet<E>>, S: PagableStorage<E>> Pager<E, S> {
 
     /// Releases all handles that a worker has of a node, with all that follows.
     pub(crate) fn release_node(&mut self, worker: WorkerNumber, node: NodeNumber)
-        ensures { Settles OnlyLess (telling S.stored S.is_closed S.failed)
-            (values_at E.Node.NodeSet E.Env E.Hash.KeyHash) self.old
+        ensures { Settles OnlyLess (storage_view S.PagableStorage) (values_at E.Node.NodeSet E.Env E.Hash.KeyHash)
+            self.old
             (λ w w'. FallsAnyhow w w (is_workers_at w worker.0 node.0) w') self.new }
     {
         let lists = !self.storage.has_closed();
@@ -561,8 +545,8 @@ impl<E: Env<Node: NodeSet<E>>, S: PagableStorage<E>> Pager<E, S> {
     /// Ends a worker: closes its loads and releases what it and they still own, with all that
     /// follows.
     pub(crate) fn worker_end(&mut self, worker: WorkerNumber)
-        ensures { Settles OnlyLess (telling S.stored S.is_closed S.failed)
-            (values_at E.Node.NodeSet E.Env E.Hash.KeyHash) self.old (λ w w'. WorkerEnds w worker.0 w') self.new }
+        ensures { Settles OnlyLess (storage_view S.PagableStorage) (values_at E.Node.NodeSet E.Env E.Hash.KeyHash)
+            self.old (λ w w'. WorkerEnds w worker.0 w') self.new }
     {
         let lists = !self.storage.has_closed();
         workers::worker_end(&mut self.tables, &mut self.values, worker, lists);
@@ -575,15 +559,15 @@ impl<E: Env<Node: NodeSet<E>>, S: PagableStorage<E>> Pager<E, S> {
         me: Owner,
         reference: ArcRef,
     ) -> Result<PinnedOrLoading, Error>
-        requires { is_at_work (core_in (telling S.stored S.is_closed S.failed) self.old) me ≡ true }
-        ensures step { TakesReference (core_in (telling S.stored S.is_closed S.failed) self.old) me reference result
-            (core_in (telling S.stored S.is_closed S.failed) self.new) }
+        requires { may_call (pager_core (storage_view S.PagableStorage) self.old) me ≡ true }
+        ensures step { TakesReference (pager_core (storage_view S.PagableStorage) self.old) me reference result
+            (pager_core (storage_view S.PagableStorage) self.new) }
         ensures only { OnlyTables self.old self.new }
     {
         let loose = self.is_loose(reference.handle);
-        let through = self.clone_by(me, reference.handle)?;
+        let through = self.clone_for(me, reference.handle)?;
         match loose {
-            Ok(true) => match self.begin_pin_by(me, through)? {
+            Ok(true) => match self.begin_pin_for(me, through)? {
                 PinStart::Pinned(pinned, _) => Ok(PinnedOrLoading::Held(through, pinned)),
                 PinStart::Load(load, key, _) => Ok(PinnedOrLoading::Begun(through, load, key)),
             },

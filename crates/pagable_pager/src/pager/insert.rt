@@ -1,10 +1,11 @@
 //! Inserts values, makes nodes of what loads have read, and ends loads of cells with a value.
 
-ghost use Rattle.std.specs.Prelude.{Bool, IfErr, None, OnErr, OnOk, Option, true, ℕ, ◌≡◌};
-ghost use Rattle.pagable_pager.specs.View.{Calls, OnlyTables, core_in, state_in, telling, value_in, with_value};
-ghost use Rattle.pagable_tables.specs.{Core.{core_of, plain_of}, EndingLoads.early_fault};
-ghost use Rattle.pagable_pager_spec.specs.{Calls.{AwayBirthCall, BirthCall}, Kinds.is_pinning, LoadCalls.{AdoptCall, EndCall}, Pager.{IsCellOf, IsNewNode, Moves}};
-ghost use Rattle.pagable_pager_spec.specs.{Basics.{Blob, Error}, Refusals.{Refused, closed_fault, earlier, load_fault}, World.usable};
+ghost use Rattle.pagable_tables.specs.Core.{StorageView};
+ghost use Rattle.std.specs.Prelude.{IfErr, None, OnErr, OnOk, Option, true, ℕ, ◌≡◌};
+ghost use Rattle.pagable_pager.specs.View.{Calls, OnlyTables, pager_core, pager_state, storage_view, value_in, with_value};
+ghost use Rattle.pagable_tables.specs.{Core.{core_of, core_alone}, EndingLoads.early_fault};
+ghost use Rattle.pagable_pager_spec.specs.{Calls.{InsertPagedOutCall, InsertCall}, Kinds.is_pinning, LoadCalls.{AdoptCall, EndCall}, Pager.{IsCellOf, IsNewNode, Moves}};
+ghost use Rattle.pagable_pager_spec.specs.{Basics.{Error}, Refusals.{Refused, closed_fault, earlier, load_fault}, World.usable};
 
 use crate::pager::Pager;
 use pagable_codec::{Env, NodeSet};
@@ -55,12 +56,12 @@ impl<E: Env<Node: NodeSet<E>>, S: PagableStorage<E>> Pager<E, S> {
         mode: Mode,
     ) -> Result<HandleNumber, (Error, E::Node)>
         requires { is_pinning mode ≡ true }
-        ensures step { BirthCall (core_in (telling S.stored S.is_closed S.failed) self.old) Owner.Caller node
+        ensures step { InsertCall (pager_core (storage_view S.PagableStorage) self.old) Owner.Caller node
             (E.Node.type_of node) (E.Node.refs_of node) mode result
-            (core_in (telling S.stored S.is_closed S.failed) self.new) }
-        ensures moves { Moves (λ n x. (x ≡ node) × IsNewNode (core_in (telling S.stored S.is_closed S.failed) self.old)
-            n) (state_in (telling S.stored S.is_closed S.failed) self.old)
-            (state_in (telling S.stored S.is_closed S.failed) self.new) }
+            (pager_core (storage_view S.PagableStorage) self.new) }
+        ensures moves { Moves (λ n x. (x ≡ node) × IsNewNode (pager_core (storage_view S.PagableStorage) self.old) n)
+            (pager_state (storage_view S.PagableStorage) self.old)
+            (pager_state (storage_view S.PagableStorage) self.new) }
         ensures storage { self.new.storage ≡ self.old.storage }
     {
         let references = match node.refs(alloc) {
@@ -96,12 +97,12 @@ impl<E: Env<Node: NodeSet<E>>, S: PagableStorage<E>> Pager<E, S> {
         alloc: Global,
         node: E::Node,
     ) -> Result<HandleNumber, (Error, E::Node)>
-        ensures step { BirthCall (core_in (telling S.stored S.is_closed S.failed) self.old) Owner.Caller node
+        ensures step { InsertCall (pager_core (storage_view S.PagableStorage) self.old) Owner.Caller node
             (E.Node.type_of node) (E.Node.refs_of node) Mode.Pinned result
-            (core_in (telling S.stored S.is_closed S.failed) self.new) }
-        ensures moves { Moves (λ n x. (x ≡ node) × IsNewNode (core_in (telling S.stored S.is_closed S.failed) self.old)
-            n) (state_in (telling S.stored S.is_closed S.failed) self.old)
-            (state_in (telling S.stored S.is_closed S.failed) self.new) }
+            (pager_core (storage_view S.PagableStorage) self.new) }
+        ensures moves { Moves (λ n x. (x ≡ node) × IsNewNode (pager_core (storage_view S.PagableStorage) self.old) n)
+            (pager_state (storage_view S.PagableStorage) self.old)
+            (pager_state (storage_view S.PagableStorage) self.new) }
         ensures storage { self.new.storage ≡ self.old.storage }
     {
         self.new_node(alloc, node, Mode::Pinned)
@@ -117,12 +118,12 @@ impl<E: Env<Node: NodeSet<E>>, S: PagableStorage<E>> Pager<E, S> {
         alloc: Global,
         node: E::Node,
     ) -> Result<HandleNumber, (Error, E::Node)>
-        ensures step { BirthCall (core_in (telling S.stored S.is_closed S.failed) self.old) Owner.Caller node
+        ensures step { InsertCall (pager_core (storage_view S.PagableStorage) self.old) Owner.Caller node
             (E.Node.type_of node) (E.Node.refs_of node) Mode.LoosePinned result
-            (core_in (telling S.stored S.is_closed S.failed) self.new) }
-        ensures moves { Moves (λ n x. (x ≡ node) × IsNewNode (core_in (telling S.stored S.is_closed S.failed) self.old)
-            n) (state_in (telling S.stored S.is_closed S.failed) self.old)
-            (state_in (telling S.stored S.is_closed S.failed) self.new) }
+            (pager_core (storage_view S.PagableStorage) self.new) }
+        ensures moves { Moves (λ n x. (x ≡ node) × IsNewNode (pager_core (storage_view S.PagableStorage) self.old) n)
+            (pager_state (storage_view S.PagableStorage) self.old)
+            (pager_state (storage_view S.PagableStorage) self.new) }
         ensures storage { self.new.storage ≡ self.old.storage }
     {
         self.new_node(alloc, node, Mode::LoosePinned)
@@ -139,12 +140,12 @@ impl<E: Env<Node: NodeSet<E>>, S: PagableStorage<E>> Pager<E, S> {
         alloc: Global,
         node: E::Node,
     ) -> Result<HandleNumber, (Error, E::Node)>
-        ensures step { BirthCall (core_in (telling S.stored S.is_closed S.failed) self.old) Owner.Caller node
+        ensures step { InsertCall (pager_core (storage_view S.PagableStorage) self.old) Owner.Caller node
             (E.Node.type_of node) (E.Node.refs_of node) Mode.Shared result
-            (core_in (telling S.stored S.is_closed S.failed) self.new) }
-        ensures moves { Moves (λ n x. (x ≡ node) × IsNewNode (core_in (telling S.stored S.is_closed S.failed) self.old)
-            n) (state_in (telling S.stored S.is_closed S.failed) self.old)
-            (state_in (telling S.stored S.is_closed S.failed) self.new) }
+            (pager_core (storage_view S.PagableStorage) self.new) }
+        ensures moves { Moves (λ n x. (x ≡ node) × IsNewNode (pager_core (storage_view S.PagableStorage) self.old) n)
+            (pager_state (storage_view S.PagableStorage) self.old)
+            (pager_state (storage_view S.PagableStorage) self.new) }
         ensures storage { self.new.storage ≡ self.old.storage }
     {
         self.new_node(alloc, node, Mode::Shared)
@@ -163,8 +164,8 @@ impl<E: Env<Node: NodeSet<E>>, S: PagableStorage<E>> Pager<E, S> {
         node_type: u32,
         key: DataKey,
     ) -> Result<HandleNumber, Error>
-        ensures { Calls OnlyTables (telling S.stored S.is_closed S.failed) self.old
-            (λ w w'. AwayBirthCall w Owner.Caller node_type key result w') self.new }
+        ensures { Calls OnlyTables (storage_view S.PagableStorage) self.old
+            (λ w w'. InsertPagedOutCall w Owner.Caller node_type key result w') self.new }
     {
         create::insert_paged_out(&mut self.tables, alloc, Owner::Caller, node_type, key)
     }
@@ -183,16 +184,14 @@ impl<E: Env<Node: NodeSet<E>>, S: PagableStorage<E>> Pager<E, S> {
         node: E::Node,
     ) -> Result<HandleNumber, (Error, E::Node)>
         requires listed { references.items ≡ E.Node.refs_of node }
-        requires fresh { (stored : ℕ → Option Blob) (closed : Bool) (failures : ℕ)
-            → early_fault (core_of self.old.tables stored closed failures) me load kind
+        requires fresh { (storage : StorageView) → early_fault (core_of self.old.tables storage) me load kind
             (E.Node.type_of node) references.items ≡ None }
-        requires unknown { usable (plain_of self.old.tables) kind.0 key ≡ None }
-        ensures step { AdoptCall (core_in (telling S.stored S.is_closed S.failed) self.old) me load kind key node
-            (E.Node.type_of node) (E.Node.refs_of node) result
-            (core_in (telling S.stored S.is_closed S.failed) self.new) }
-        ensures moves { Moves (λ n x. (x ≡ node) × IsNewNode (core_in (telling S.stored S.is_closed S.failed) self.old)
-            n) (state_in (telling S.stored S.is_closed S.failed) self.old)
-            (state_in (telling S.stored S.is_closed S.failed) self.new) }
+        requires unknown { usable (core_alone self.old.tables) kind.0 key ≡ None }
+        ensures step { AdoptCall (pager_core (storage_view S.PagableStorage) self.old) me load kind key node
+            (E.Node.type_of node) (E.Node.refs_of node) result (pager_core (storage_view S.PagableStorage) self.new) }
+        ensures moves { Moves (λ n x. (x ≡ node) × IsNewNode (pager_core (storage_view S.PagableStorage) self.old) n)
+            (pager_state (storage_view S.PagableStorage) self.old)
+            (pager_state (storage_view S.PagableStorage) self.new) }
         ensures storage { self.new.storage ≡ self.old.storage }
     {
         if let Err(e) = create::make_ready_to_learn(&mut self.tables) {
@@ -209,12 +208,12 @@ impl<E: Env<Node: NodeSet<E>>, S: PagableStorage<E>> Pager<E, S> {
 
     /// Returns why a value that a load has read can't be used, if memory for its references ran
     /// out: NoSuchHandle if the load isn't open, and otherwise `e`.
-    fn unlisted(&self, me: Owner, load: LoadNumber, e: Error) -> Error
+    fn listing_error(&self, me: Owner, load: LoadNumber, e: Error) -> Error
         ensures { e ≡ Error.OutOfMemory → (later : Option Error)
-            → Refused (earlier (load_fault (core_in (telling S.stored S.is_closed S.failed) self.now) me load) later)
-            (closed_fault (core_in (telling S.stored S.is_closed S.failed) self.now) load) (Unit {0})
-            (core_in (telling S.stored S.is_closed S.failed) self.now) result
-            (core_in (telling S.stored S.is_closed S.failed) self.now) }
+            → Refused (earlier (load_fault (pager_core (storage_view S.PagableStorage) self.now) me load) later)
+            (closed_fault (pager_core (storage_view S.PagableStorage) self.now) load) (Unit {0})
+            (pager_core (storage_view S.PagableStorage) self.now) result
+            (pager_core (storage_view S.PagableStorage) self.now) }
     {
         match load_table::load_of(&self.tables.loads, load.0) {
             Some(_) => e,
@@ -245,18 +244,17 @@ impl<E: Env<Node: NodeSet<E>>, S: PagableStorage<E>> Pager<E, S> {
         key: DataKey,
         node: E::Node,
     ) -> Result<HandleNumber, (Error, E::Node)>
-        ensures step { AdoptCall (core_in (telling S.stored S.is_closed S.failed) self.old) Owner.Caller load kind key
-            node (E.Node.type_of node) (E.Node.refs_of node) result
-            (core_in (telling S.stored S.is_closed S.failed) self.new) }
-        ensures moves { Moves (λ n x. (x ≡ node) × IsNewNode (core_in (telling S.stored S.is_closed S.failed) self.old)
-            n) (state_in (telling S.stored S.is_closed S.failed) self.old)
-            (state_in (telling S.stored S.is_closed S.failed) self.new) }
+        ensures step { AdoptCall (pager_core (storage_view S.PagableStorage) self.old) Owner.Caller load kind key node
+            (E.Node.type_of node) (E.Node.refs_of node) result (pager_core (storage_view S.PagableStorage) self.new) }
+        ensures moves { Moves (λ n x. (x ≡ node) × IsNewNode (pager_core (storage_view S.PagableStorage) self.old) n)
+            (pager_state (storage_view S.PagableStorage) self.old)
+            (pager_state (storage_view S.PagableStorage) self.new) }
         ensures storage { self.new.storage ≡ self.old.storage }
     {
-        self.load_adopt_by(Owner::Caller, alloc, load, kind, key, node)
+        self.load_adopt_for(Owner::Caller, alloc, load, kind, key, node)
     }
 
-    pub(crate) fn load_adopt_by(
+    pub(crate) fn load_adopt_for(
         &mut self,
         me: Owner,
         alloc: Global,
@@ -265,17 +263,16 @@ impl<E: Env<Node: NodeSet<E>>, S: PagableStorage<E>> Pager<E, S> {
         key: DataKey,
         node: E::Node,
     ) -> Result<HandleNumber, (Error, E::Node)>
-        ensures step { AdoptCall (core_in (telling S.stored S.is_closed S.failed) self.old) me load kind key node
-            (E.Node.type_of node) (E.Node.refs_of node) result
-            (core_in (telling S.stored S.is_closed S.failed) self.new) }
-        ensures moves { Moves (λ n x. (x ≡ node) × IsNewNode (core_in (telling S.stored S.is_closed S.failed) self.old)
-            n) (state_in (telling S.stored S.is_closed S.failed) self.old)
-            (state_in (telling S.stored S.is_closed S.failed) self.new) }
+        ensures step { AdoptCall (pager_core (storage_view S.PagableStorage) self.old) me load kind key node
+            (E.Node.type_of node) (E.Node.refs_of node) result (pager_core (storage_view S.PagableStorage) self.new) }
+        ensures moves { Moves (λ n x. (x ≡ node) × IsNewNode (pager_core (storage_view S.PagableStorage) self.old) n)
+            (pager_state (storage_view S.PagableStorage) self.old)
+            (pager_state (storage_view S.PagableStorage) self.new) }
         ensures storage { self.new.storage ≡ self.old.storage }
     {
         let references = match node.refs(alloc) {
             Ok(references) => references,
-            Err(e) => return Err((self.unlisted(me, load, e), node)),
+            Err(e) => return Err((self.listing_error(me, load, e), node)),
         };
         let node_type = node.node_type();
         let lists = !self.storage.has_closed();
@@ -311,15 +308,15 @@ impl<E: Env<Node: NodeSet<E>>, S: PagableStorage<E>> Pager<E, S> {
         load: LoadNumber,
         value: E::Node,
     ) -> Result<HandleNumber, (Error, Option<E::Node>)>
-        ensures step { EndCall (core_in (telling S.stored S.is_closed S.failed) self.old) Owner.Caller load value
-            (E.Node.type_of value) (E.Node.refs_of value) result
-            (core_in (telling S.stored S.is_closed S.failed) self.new) }
-        ensures moves { Moves (λ n x. (x ≡ value) × IsCellOf (core_in (telling S.stored S.is_closed S.failed) self.old)
-            load n) (state_in (telling S.stored S.is_closed S.failed) self.old)
-            (state_in (telling S.stored S.is_closed S.failed) self.new) }
+        ensures step { EndCall (pager_core (storage_view S.PagableStorage) self.old) Owner.Caller load value
+            (E.Node.type_of value) (E.Node.refs_of value) result (pager_core (storage_view S.PagableStorage) self.new) }
+        ensures moves { Moves (λ n x. (x ≡ value) × IsCellOf (pager_core (storage_view S.PagableStorage) self.old) load
+            n)
+            (pager_state (storage_view S.PagableStorage) self.old)
+            (pager_state (storage_view S.PagableStorage) self.new) }
         ensures storage { self.new.storage ≡ self.old.storage }
     {
-        self.load_end_by(Owner::Caller, alloc, load, value)
+        self.load_end_for(Owner::Caller, alloc, load, value)
     }
 
     /// Ends a load of an owner's, as `load_end` does for the caller. An access behind a lock ends
@@ -329,24 +326,25 @@ impl<E: Env<Node: NodeSet<E>>, S: PagableStorage<E>> Pager<E, S> {
     /// # Errors
     ///
     /// - those of `load_end`.
-    pub fn load_end_by(
+    pub fn load_end_for(
         &mut self,
         me: Owner,
         alloc: Global,
         load: LoadNumber,
         value: E::Node,
     ) -> Result<HandleNumber, (Error, Option<E::Node>)>
-        ensures step { EndCall (core_in (telling S.stored S.is_closed S.failed) self.old) me load value
-            (E.Node.type_of value) (E.Node.refs_of value) result
-            (core_in (telling S.stored S.is_closed S.failed) self.new) }
-        ensures moves { Moves (λ n x. (x ≡ value) × IsCellOf (core_in (telling S.stored S.is_closed S.failed) self.old)
-            load n) (state_in (telling S.stored S.is_closed S.failed) self.old)
-            (state_in (telling S.stored S.is_closed S.failed) self.new) }
+        ensures step { EndCall (pager_core (storage_view S.PagableStorage) self.old) me load value
+            (E.Node.type_of value)
+            (E.Node.refs_of value) result (pager_core (storage_view S.PagableStorage) self.new) }
+        ensures moves { Moves (λ n x. (x ≡ value) × IsCellOf (pager_core (storage_view S.PagableStorage) self.old) load
+            n)
+            (pager_state (storage_view S.PagableStorage) self.old)
+            (pager_state (storage_view S.PagableStorage) self.new) }
         ensures storage { self.new.storage ≡ self.old.storage }
     {
         let references = match value.refs(alloc) {
             Ok(references) => references,
-            Err(e) => return Err((self.unlisted(me, load, e), Some(value))),
+            Err(e) => return Err((self.listing_error(me, load, e), Some(value))),
         };
         let node_type = value.node_type();
         let tables = &mut self.tables;
@@ -354,7 +352,7 @@ impl<E: Env<Node: NodeSet<E>>, S: PagableStorage<E>> Pager<E, S> {
             Ok(ready) => ready,
             Err(Unended::Refused(e)) => return Err((e, Some(value))),
             Err(Unended::InVain(e)) => {
-                let _ = self.load_drop_by(me, load);
+                let _ = self.load_drop_for(me, load);
                 return Err((e, None));
             }
         };

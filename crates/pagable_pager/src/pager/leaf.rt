@@ -6,7 +6,7 @@ ghost use Rattle.pagable_core.specs.Data.{blob_of};
 ghost use Rattle.pagable_leaf.specs.Leaf.{IsLeaf};
 ghost use Rattle.pagable_load.specs.{Decoding.IsReadAs, AccessView.values_at};
 ghost use Rattle.pagable_tables.specs.HandleTable.{room};
-ghost use Rattle.pagable_pager.specs.{Leaf.{LeafBegun, LeafDropped, LeafFetched, LeafPinned, LeafUnbegun}, View.{core_in, state_in, telling}};
+ghost use Rattle.pagable_pager.specs.{Leaf.{LeafBegun, LeafDropped, LeafFetched, LeafPinned, LeafUnbegun}, View.{pager_core, pager_state, storage_view}};
 ghost use Rattle.pagable_pager_spec.specs.Access.{PinRun};
 
 use crate::pager::Pager;
@@ -70,17 +70,17 @@ impl<E: Env<Node: NodeSet<E>>, S: PagableStorage<E>> Pager<E, S> {
         ensures none { IfOk result (λ found. IfNone found (self.new ≡ self.old)) }
         ensures number { IfOk result (λ found. IfSome found (λ f. f.0.row.number ≡ handle)) }
         ensures leaf { IfOk result (λ found. IfSome found
-            (λ f. IsLeaf (core_in (telling S.stored S.is_closed S.failed) self.new) Owner.Caller f.0)) }
+            (λ f. IsLeaf (pager_core (storage_view S.PagableStorage) self.new) Owner.Caller f.0)) }
         ensures place { IfOk result (λ found. IfSome found (λ f. 1 ≤ room self.new.tables.ref_counts.handles)) }
         ensures fetched { IsTrue (S.is_honest self.new.storage)
             → IfOk result (λ found. IfSome found (λ f. LeafFetched
             (values_at E.Node.NodeSet E.Env E.Hash.KeyHash self.old.environment)
-            (state_in (telling S.stored S.is_closed S.failed) self.old) f.0 (blob_of (arc_value f.1))
-            (state_in (telling S.stored S.is_closed S.failed) self.new))) }
+            (pager_state (storage_view S.PagableStorage) self.old) f.0 (blob_of (arc_value f.1))
+            (pager_state (storage_view S.PagableStorage) self.new))) }
         ensures refused { IsTrue (S.is_honest self.new.storage)
             → IfErr result (λ e. PinRun (values_at E.Node.NodeSet E.Env E.Hash.KeyHash self.old.environment)
-            (state_in (telling S.stored S.is_closed S.failed) self.old) handle (Err e)
-            (state_in (telling S.stored S.is_closed S.failed) self.new)) }
+            (pager_state (storage_view S.PagableStorage) self.old) handle (Err e)
+            (pager_state (storage_view S.PagableStorage) self.new)) }
         ensures honest { IsTrue (S.is_honest self.new.storage) → IsTrue (S.is_honest self.old.storage) }
         ensures environment { self.new.environment ≡ self.old.environment }
     {
@@ -92,7 +92,7 @@ impl<E: Env<Node: NodeSet<E>>, S: PagableStorage<E>> Pager<E, S> {
         match self.fetch(alloc, leaf.key) {
             Ok(blob) => Ok(Some((leaf, blob))),
             Err(e) => {
-                leaf::give_up(&mut self.tables, Owner::Caller, leaf);
+                leaf::leave_unloaded(&mut self.tables, Owner::Caller, leaf);
                 Err(e)
             }
         }
@@ -103,16 +103,16 @@ impl<E: Env<Node: NodeSet<E>>, S: PagableStorage<E>> Pager<E, S> {
     /// # Errors
     ///
     /// - `OutOfMemory` if the load can't be allocated: no load is left.
-    pub(crate) fn begin_leaf(&mut self, leaf: Leaf) -> Result<LoadNumber, Error>
-        requires leaf { IsLeaf (core_in (telling S.stored S.is_closed S.failed) self.old) Owner.Caller leaf }
+    pub(crate) fn begin_leaf_load(&mut self, leaf: Leaf) -> Result<LoadNumber, Error>
+        requires leaf { IsLeaf (pager_core (storage_view S.PagableStorage) self.old) Owner.Caller leaf }
         requires place { 1 ≤ room self.old.tables.ref_counts.handles }
         ensures begun { IfOk result (λ l. LeafBegun (values_at E.Node.NodeSet E.Env E.Hash.KeyHash self.old.environment)
-            (state_in (telling S.stored S.is_closed S.failed) self.old) leaf l
-            (state_in (telling S.stored S.is_closed S.failed) self.new)) }
+            (pager_state (storage_view S.PagableStorage) self.old) leaf l
+            (pager_state (storage_view S.PagableStorage) self.new)) }
         ensures dropped { IfErr result (λ e. (e ≡ Error.OutOfMemory)
             × LeafUnbegun (values_at E.Node.NodeSet E.Env E.Hash.KeyHash self.old.environment)
-            (state_in (telling S.stored S.is_closed S.failed) self.old) leaf
-            (state_in (telling S.stored S.is_closed S.failed) self.new)) }
+            (pager_state (storage_view S.PagableStorage) self.old) leaf
+            (pager_state (storage_view S.PagableStorage) self.new)) }
         ensures storage { self.new.storage ≡ self.old.storage }
         ensures environment { self.new.environment ≡ self.old.environment }
     {
@@ -120,7 +120,7 @@ impl<E: Env<Node: NodeSet<E>>, S: PagableStorage<E>> Pager<E, S> {
             Ok(Beginning::Load(load, _)) => Ok(load),
             Ok(Beginning::InMemory) => unreachable!(),
             Err(e) => {
-                leaf::give_up(&mut self.tables, Owner::Caller, leaf);
+                leaf::leave_unloaded(&mut self.tables, Owner::Caller, leaf);
                 Err(e)
             }
         }
@@ -137,24 +137,24 @@ impl<E: Env<Node: NodeSet<E>>, S: PagableStorage<E>> Pager<E, S> {
         leaf: Leaf,
         value: E::Node,
     ) -> Result<HandleNumber, Error>
-        requires leaf { IsLeaf (core_in (telling S.stored S.is_closed S.failed) self.old) Owner.Caller leaf }
+        requires leaf { IsLeaf (pager_core (storage_view S.PagableStorage) self.old) Owner.Caller leaf }
         requires place { 1 ≤ room self.old.tables.ref_counts.handles }
         requires typed { E.Node.type_of value ≡ leaf.node_type }
         requires bare { E.Node.refs_of value ≡ [] }
         ensures pinned { IfOk result (λ k. LeafPinned (values_at E.Node.NodeSet E.Env E.Hash.KeyHash
-            self.old.environment) (state_in (telling S.stored S.is_closed S.failed) self.old) leaf value k
-            (state_in (telling S.stored S.is_closed S.failed) self.new)) }
+            self.old.environment) (pager_state (storage_view S.PagableStorage) self.old) leaf value k
+            (pager_state (storage_view S.PagableStorage) self.new)) }
         ensures dropped { IfErr result (λ e. (e ≡ Error.OutOfMemory)
             × LeafDropped (values_at E.Node.NodeSet E.Env E.Hash.KeyHash self.old.environment)
-            (state_in (telling S.stored S.is_closed S.failed) self.old) leaf
-            (state_in (telling S.stored S.is_closed S.failed) self.new)) }
+            (pager_state (storage_view S.PagableStorage) self.old) leaf
+            (pager_state (storage_view S.PagableStorage) self.new)) }
         ensures storage { self.new.storage ≡ self.old.storage }
         ensures environment { self.new.environment ≡ self.old.environment }
     {
         match place(&mut self.values, alloc, leaf.row.node.0, true, value) {
             Ok(()) => Ok(leaf::install(&mut self.tables, Owner::Caller, leaf)),
             Err((e, _value)) => {
-                leaf::give_up(&mut self.tables, Owner::Caller, leaf);
+                leaf::leave_unloaded(&mut self.tables, Owner::Caller, leaf);
                 Err(e)
             }
         }

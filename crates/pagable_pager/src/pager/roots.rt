@@ -2,7 +2,7 @@
 
 ghost use Rattle.std.specs.Prelude.{◌≡◌, IfErr, IfOk, IsTrue, OnErr, OnOk};
 ghost use Rattle.{pagable_core.specs.Roots.{RefusesRoot, Sets, Stands}, pagable_value_spec.specs.Stored.RefusesFlush};
-ghost use Rattle.{pagable_pager.specs.View.{AsksStorage, telling}, pagable_pager_spec.specs.Calls.Asked};
+ghost use Rattle.{pagable_pager.specs.View.{AsksStorage, storage_view}, pagable_pager_spec.specs.Calls.Asked};
 
 use crate::pager::Pager;
 use pagable_codec::{Env, NodeSet};
@@ -18,8 +18,7 @@ impl<E: Env<Node: NodeSet<E>>, S: Roots<E>> Pager<E, S> {
     /// - `OutOfMemory` if an allocation fails.
     /// - `Storage` if the storage fails.
     pub fn root(&mut self, name: &str) -> Result<Option<DataKey>, Error>
-        ensures asks { AsksStorage S.PagableStorage.is_honest
-            (telling S.PagableStorage.stored S.PagableStorage.is_closed S.PagableStorage.failed) self.old Asked self.new }
+        ensures asks { AsksStorage S.PagableStorage.is_honest (storage_view S.PagableStorage) self.old Asked self.new }
         ensures ok { IsTrue (S.PagableStorage.is_honest self.new.storage)
             → IfOk result (λ key. key ≡ S.Roots.roots self.old.storage name.now) }
         ensures same { IsTrue (S.PagableStorage.is_honest self.new.storage) → S.Roots.roots self.new.storage
@@ -42,8 +41,7 @@ impl<E: Env<Node: NodeSet<E>>, S: Roots<E>> Pager<E, S> {
     /// - `OutOfMemory` if an allocation fails.
     /// - `Storage` if the storage fails.
     pub fn set_root(&mut self, alloc: Global, name: &str, key: Option<DataKey>) -> Result<(), Error>
-        ensures asks { AsksStorage S.PagableStorage.is_honest
-            (telling S.PagableStorage.stored S.PagableStorage.is_closed S.PagableStorage.failed) self.old Asked self.new }
+        ensures asks { AsksStorage S.PagableStorage.is_honest (storage_view S.PagableStorage) self.old Asked self.new }
         ensures sets { IsTrue (S.PagableStorage.is_honest self.new.storage)
             → OnOk result (Sets name.now key (S.Roots.roots self.old.storage) (S.Roots.roots self.new.storage)) }
         ensures stands { IsTrue (S.PagableStorage.is_honest self.new.storage)

@@ -63,7 +63,7 @@ pub fn with_room<E: Env, T, C: Collects<T>, D: PagableDeserializer<E>>(
     ensures room { IfOk result (λ c. C.has_room c (min count (length (D.rest deserializer.old).bytes))) }
     ensures only { IfErr result memory }
     ensures same_rest { D.rest deserializer.new ≡ D.rest deserializer.old }
-    ensures moves { MovesOn (D.standing deserializer.old) (D.standing deserializer.new) }
+    ensures moves { MovesOn (D.input_state deserializer.old) (D.input_state deserializer.new) }
     ensures same_env { D.environment deserializer.new ≡ D.environment deserializer.old }
     ensures same_levels { D.levels deserializer.new ≡ D.levels deserializer.old }
 {
@@ -89,7 +89,7 @@ pub fn collect_items<
     ensures reads { Reads E.Env D.PagableDeserializer (memory_or T.read_causes.are)
         (λ c. Collected T.means.of C.puts (C.held c)) (λ x. items (read x (T.shape (D.environment deserializer.old)))
         count) deserializer.old deserializer.new result }
-    ensures holds { IfOk result (λ c. CollectsHeld (D.standing deserializer.old) T.beside C.puts (C.held c)) }
+    ensures holds { IfOk result (λ c. CollectsHeld (D.input_state deserializer.old) T.beside C.puts (C.held c)) }
 {
     let mut collected: C = with_room(alloc, count, deserializer)?;
     for index in 0..count {
@@ -116,7 +116,7 @@ pub fn read_collected<
     ensures reads { Reads E.Env D.PagableDeserializer (memory_or T.read_causes.are)
         (λ c. Collected T.means.of C.puts (C.held c)) (λ x. counted (read x (T.shape (D.environment deserializer.old))))
         deserializer.old deserializer.new result }
-    ensures holds { IfOk result (λ c. CollectsHeld (D.standing deserializer.old) T.beside C.puts (C.held c)) }
+    ensures holds { IfOk result (λ c. CollectsHeld (D.input_state deserializer.old) T.beside C.puts (C.held c)) }
 {
     let count = read_count(deserializer)?;
     collect_items(alloc, count, deserializer)

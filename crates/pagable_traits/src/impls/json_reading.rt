@@ -2,7 +2,7 @@
 //! one level deeper; a reader enters that level after it has read their length.
 
 ghost use Rattle.std.specs.{Prelude.{[], length, ◌≡◌, ◌≤◌}, Int.w64, Vec.vec_capacity};
-ghost use Rattle.pagable_value_spec.specs.{Reading.{bytes_of, items as items_at, read, seen, array_case, object_case}, Outcomes.{Gives, memory, never}, Composite.MeansPair, Meaning.{sequence, variant}};
+ghost use Rattle.pagable_value_spec.specs.{Reading.{bytes_of, items as items_at, read, seen, array_case, object_case}, Outcomes.{MatchesReading, memory, no_own_causes}, Composite.MeansPair, Meaning.{sequence, variant}};
 ghost use Rattle.pagable_value_spec.specs.{Numbers.unsigned_at, Shape.{both, json, text}, Cursor.{Is, MovesOn}};
 ghost use Rattle.pagable_traits.specs.{JsonData.{of_key, of_value}, Clauses.{Reads, part_of, ObjectOf}, Meanings.exactly, OwnCauses.reads_memory};
 
@@ -37,9 +37,9 @@ impl<'de, E: Env> PagableDeserialize<'de, E> for Value {
 }
 
 fn read_case<E: Env, D: PagableDeserializer<E>>(deserializer: &mut D) -> Result<usize, Error>
-    ensures gives { Gives never (λ n. (n, D.rest deserializer.new)) result
+    ensures gives { MatchesReading no_own_causes (λ n. (n, D.rest deserializer.new)) result
         (bytes_of (unsigned_at w64) (λ n. n) (D.rest deserializer.old)) }
-    ensures moves { MovesOn (D.standing deserializer.old) (D.standing deserializer.new) }
+    ensures moves { MovesOn (D.input_state deserializer.old) (D.input_state deserializer.new) }
     ensures same_env { D.environment deserializer.new ≡ D.environment deserializer.old }
     ensures same_levels { D.levels deserializer.new ≡ D.levels deserializer.old }
 {

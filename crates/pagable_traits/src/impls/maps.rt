@@ -96,7 +96,7 @@ impl<
     }
 }
 
-/// An item that the set has changes nothing.
+/// Adding an item that the set has already changes nothing.
 impl<T: Ord + Drop> Collects<T> for BTreeSet<T> {
     ghost held = { λ s. s.keys };
 

@@ -3,7 +3,7 @@
 
 ghost use Rattle.std.specs.{Int.{w8, w16, w32, w64, w128}, Prelude.{◌≡◌, ◌++◌, ◌<◌, ◌^◌, OnOk, IfErr}};
 ghost use Rattle.pagable_value_spec.specs.{Meaning.{number, integer, none, flag as flag_meaning}, Shape.{unsigned, signed, flag, letter, nothing, duration}};
-ghost use Rattle.pagable_value_spec.specs.{BasicValues.{duration_at, duration_form}, Outcomes.{Gives, never, memory, Extends}, Progress.{left, GoesOn}, CarriedTypes.{of_span, seconds_of, nanos_of}};
+ghost use Rattle.pagable_value_spec.specs.{BasicValues.{duration_at, duration_form}, Outcomes.{MatchesReading, no_own_causes, memory, Extends}, Progress.{left, GoesOn}, CarriedTypes.{of_span, seconds_of, nanos_of}};
 ghost use Rattle.pagable_traits.specs.{Meanings.{exactly}, OwnCauses.{writes_never}};
 
 use crate::encoded_as::{DecodedAs, EncodedAs};
@@ -377,7 +377,7 @@ fn write_span(span: Duration, writer: &mut PagableVecFlavor) -> Result<(), Error
 // seconds overflow.
 #[tactic(auto, unfolding(pagable_value_spec::specs::BasicValues::duration_at), using(crate::proofs::Parts::span_overflows, crate::proofs::Parts::span_read))]
 fn read_span<R: Reader>(reader: &mut R) -> Result<Duration, Error>
-    ensures gives { Gives never (λ d. ((seconds_of d, nanos_of d), left (R.track reader.new))) result
+    ensures gives { MatchesReading no_own_causes (λ d. ((seconds_of d, nanos_of d), left (R.track reader.new))) result
         (duration_at (left (R.track reader.old))) }
     ensures goes { GoesOn (R.track reader.old) (R.track reader.new) }
 {

@@ -1,6 +1,6 @@
 //! Texts, borrowed and boxed ones too, and paths, which are texts here.
 
-ghost use Rattle.std.specs.{Prelude.◌≡◌, Box.boxed_str_bytes, String.string_bytes};
+ghost use Rattle.std.specs.{Box.boxed_str_bytes, String.string_bytes};
 ghost use Rattle.pagable_value_spec.specs.{CarriedTypes.path_text, Outcomes.{memory, long_or}, Shape.{text as text_shape}, Meaning.{text as text_meaning}, Cursor.Is};
 ghost use Rattle.pagable_traits.specs.{Clauses.{Wrote, value as form}, Meanings.{exactly}, OwnCauses.{reads_memory, writes_memory, writes_long_or}};
 

@@ -7,21 +7,22 @@ use Rattle.pagable.proofs.events.load_step.Goals as goal
 pub returns-in_err-key : goal.returns-in_err-key
 returns-in_err-key g c =
     rw (failed c.from_residual.result c.from_residual.ensures.1) (drives-beside c.requires refl (omega arith) (λ q. refl)
-    (λ serving. step-refused (values_at g.E.Node.NodeSet g.E.Env g.E.Hash.KeyHash) _ _ c.args.pager.now _ serving c.is_whole.ensures
+    (λ serving. step-refused (values_at g.E.Node.NodeSet g.E.Env g.E.Hash.KeyHash) _ _ c.args.pager.now _ serving c.assert_invariant.ensures
     c.args.held.now.readings _ _ (λ q. refl) (grind (arith, common_steps, nat_tests, c.in_err-key.ensures.fault))))
 
 pub returns-in-Err : goal.returns-in-Err
 returns-in-Err g c =
     let short = c.in-Err.ensures.short in
     rw short.0 (drives-beside c.requires c.load_drop-told.ensures.only.storage (omega arith) (λ q. refl)
-    (λ serving. no-place-made (values_at g.E.Node.NodeSet g.E.Env g.E.Hash.KeyHash) _ _ c.load_drop-told.new.self _ serving c.is_whole.ensures
+    (λ serving. no-place-made (values_at g.E.Node.NodeSet g.E.Env g.E.Hash.KeyHash) _ _ c.load_drop-told.new.self _ serving c.assert_invariant.ensures
     c.prepare.new.readings _ _ _ c.in_ok-key.ensures.reads c.prepare.ensures.kept short.1 short.2
-    c.load_drop-told.result c.load_drop-told.ensures.step c.load_drop-told.ensures.only c.is_whole-in-Err.ensures))
+    c.load_drop-told.result c.load_drop-told.ensures.step c.load_drop-told.ensures.only c.assert_invariant-in-Err.ensures))
 
 pub returns-in_default-get_mut : goal.returns-in_default-get_mut
 returns-in_default-get_mut g c =
     rw c.get_mut.follows.holds-at-none (drives-beside c.requires refl (omega arith) (λ q. refl)
-    (λ serving. untyped-made (values_at g.E.Node.NodeSet g.E.Env g.E.Hash.KeyHash) _ _ c.args.pager.now _ serving c.is_whole.ensures c.prepare.new.readings
+    (λ serving. untyped-made (values_at g.E.Node.NodeSet g.E.Env g.E.Hash.KeyHash) _ _ c.args.pager.now _ serving c.assert_invariant.ensures
+    c.prepare.new.readings
     _ _ _ c.in_ok-key.ensures.reads c.prepare.ensures.kept (search rules) (search rules)))
 
 pub returns : goal.returns
@@ -29,7 +30,8 @@ returns g c =
     let ends : c.step_by-reply.new.lent.pager.now ≡ c.pager-1.given.0 = sym
     (c.pager-1.given.1 (sym (c.step_by-reply.ensures.lender ∙ c.new-lent.ensures.lent))) in
     drives c.requires (rw ends at (rw c.new-lent.ensures.same at c.step_by-reply.ensures.honest)) c.requires.on_tables (λ is serving.
-    step-made (values_at g.E.Node.NodeSet g.E.Env g.E.Hash.KeyHash) _ _ _ _ serving c.is_whole.ensures _ _ _ _ c.in_ok-key.ensures.reads c.prepare.new.readings
+    step-made (values_at g.E.Node.NodeSet g.E.Env g.E.Hash.KeyHash) _ _ _ _ serving c.assert_invariant.ensures _ _ _ _ c.in_ok-key.ensures.reads
+    c.prepare.new.readings
     _ _
     c.prepare.ensures.kept c.end.ensures c.in-Some.own.now c.step_by-reply.new.own (sym c.in-Some.ensures.value)
     ((rw ends at (rw c.new-lent.ensures.same at c.step_by-reply.ensures.step)) is) (record { here = search rules; others = search rules }))

@@ -4,13 +4,13 @@ use Rattle.pagable.proofs.events.serve.Goals as goal
 pub returns-in-Call : goal.returns-in-Call
 returns-in-Call g c =
     rw c.in-Call.is (drives c.requires c.make_call-reply.ensures.honest c.requires.on_tables
-    (λ is serving. call-made (values_at g.E.Node.NodeSet g.E.Env g.E.Hash.KeyHash) _ _ _ _ serving c.is_whole.ensures _ _ _
-    (c.make_call-reply.ensures.serves is) c.is_whole-in-Call.ensures c.forget.ensures))
+    (λ is serving. call-made (values_at g.E.Node.NodeSet g.E.Env g.E.Hash.KeyHash) _ _ _ _ serving c.assert_invariant.ensures _ _ _
+    (c.make_call-reply.ensures.serves is) c.assert_invariant-in-Call.ensures c.forget.ensures))
 
 pub returns-in-LoadStart : goal.returns-in-LoadStart
 returns-in-LoadStart g c = rw c.in-LoadStart.is (drives-beside c.requires c.load_begin-begun.ensures.only.storage (omega arith) (λ q. refl)
-    (λ serving. start-made (values_at g.E.Node.NodeSet g.E.Env g.E.Hash.KeyHash) _ _ _ _ serving c.is_whole.ensures _ _
-    (serves-same c.load_begin-begun.ensures.step c.load_begin-begun.ensures.only) c.is_whole-in-LoadStart.ensures))
+    (λ serving. start-made (values_at g.E.Node.NodeSet g.E.Env g.E.Hash.KeyHash) _ _ _ _ serving c.assert_invariant.ensures _ _
+    (serves-same c.load_begin-begun.ensures.step c.load_begin-begun.ensures.only) c.assert_invariant-in-LoadStart.ensures))
 
 pub returns-in-LoadStep : goal.returns-in-LoadStep
 returns-in-LoadStep g c = rw c.in-LoadStep.is c.load_step.ensures

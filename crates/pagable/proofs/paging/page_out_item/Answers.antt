@@ -6,6 +6,6 @@ returns g c =
     sym (c.pager-1.given.1 (sym (c.page_out_item_by.ensures.lender ∙ c.new-lent.ensures.lent))) in
     let pages = rw ends at (rw c.new-lent.ensures.same at c.page_out_item_by.ensures.pages) in
     record {
-      pages = λ is. record { over = (pages is).over c.is_whole.ensures };
+      pages = λ is. record { over = (pages is).over c.assert_invariant.ensures };
       honest = rw ends at (rw c.new-lent.ensures.same at c.page_out_item_by.ensures.honest);
     }

@@ -6,7 +6,7 @@ returns g c =
     sym (c.pager-1.given.1 (sym (c.page_out_pending_by.ensures.lender ∙ c.new-lent.ensures.lent))) in
     let pages = rw ends at (rw c.new-lent.ensures.same at c.page_out_pending_by.ensures.pages) in
     record {
-      pages = λ is. record { run = (pages is).over c.is_whole.ensures };
-      failed = λ is. failed-alone _ ((pages is).over c.is_whole.ensures);
+      pages = λ is. record { run = (pages is).over c.assert_invariant.ensures };
+      failed = λ is. failed-alone _ ((pages is).over c.assert_invariant.ensures);
       honest = rw ends at (rw c.new-lent.ensures.same at c.page_out_pending_by.ensures.honest);
     }

@@ -6,7 +6,7 @@ use Rattle.pagable.proofs.workers.worker_item.Goals as goal
 pub returns-in_err-ready : goal.returns-in_err-ready
 returns-in_err-ready g c =
     rw (failed c.from_residual.result c.from_residual.ensures.1) (refuses c.requires refl (omega arith) c.ready.ensures.same
-    (λ serving. refused _ serving c.is_whole.ensures (nothing-done _ c.is_whole.ensures) (λ l. refl) refl c.ready.ensures.same
+    (λ serving. refused _ serving c.assert_invariant.ensures (nothing-done _ c.assert_invariant.ensures) (λ l. refl) refl c.ready.ensures.same
     _ _ (λ q. refl) (λ stays. record {
       starts = tt;
       refused = (
@@ -19,7 +19,8 @@ returns-in_err-ready g c =
 pub returns-in_err-walk : goal.returns-in_err-walk
 returns-in_err-walk g c =
     rw (failed c.from_residual-in_err-walk.result c.from_residual-in_err-walk.ensures.1)
-    (refuses c.requires refl (omega arith) c.ready.ensures.same (λ serving. refused _ serving c.is_whole.ensures (nothing-done _ c.is_whole.ensures)
+    (refuses c.requires refl (omega arith) c.ready.ensures.same (λ serving. refused _ serving c.assert_invariant.ensures
+    (nothing-done _ c.assert_invariant.ensures)
     (λ l. refl) refl
     c.ready.ensures.same _ _ (λ q. refl) (λ stays. record { starts = tt; refused = (inr (inr c.in_err-walk.ensures.only, c.in_ok-ready.ensures.there), stays) })
     tt))
@@ -32,7 +33,8 @@ returns g c =
     let keeps = keeps-after c.ready.ensures.same c.put.ensures in
     drives c.requires (λ is. (told is).0) (one-on c.requires.on_tables _ _ keeps refl (begun-on c.in_ok-ready.ensures.there c.in_ok-walk.ensures.begun))
     (λ is serving.
-    item-started (values_at g.E.Node.NodeSet g.E.Env g.E.Hash.KeyHash) _ _ _ _ serving c.is_whole.ensures c.put.new.kept c.args.table c.in_ok-worker.worker
+    item-started (values_at g.E.Node.NodeSet g.E.Env g.E.Hash.KeyHash) _ _ _ _ serving c.assert_invariant.ensures c.put.new.kept c.args.table
+    c.in_ok-worker.worker
     c.in_ok-walk.walk
     c.in_ok-ready.ensures.there keeps c.args.item
     (told is).1 c.in_ok-walk.ensures.begun)
@@ -44,6 +46,6 @@ returns-in_err-worker g c =
     let told = rw ends at (rw c.new-lent.ensures.same at (told-so _ _ _ _ c.in_err-worker.ensures.refused.step)) in
     rw (failed c.from_residual-in_err-worker.result c.from_residual-in_err-worker.ensures.1)
     (drives c.requires (λ is. (told is).0) (stay-on c.requires.on_tables c.ready.ensures.same (omega arith))
-    (λ is serving. as-made (refused _ serving c.is_whole.ensures
+    (λ is serving. as-made (refused _ serving c.assert_invariant.ensures
     (told is).1.1 (λ l. refl) refl c.ready.ensures.same _ _ (λ q. refl)
     (λ stays. record { starts = tt; refused = (inr (inl (told is).1.0, c.in_ok-ready.ensures.there), stays) }) tt)))

@@ -6,13 +6,13 @@ use Rattle.pagable.proofs.workers.worker_listed.Goals as goal
 
 pub returns-then-place-pending : goal.returns-then-place-pending
 returns-then-place-pending g c = refuses c.requires refl (omega arith) (λ q. refl)
-    (λ serving. refused _ serving c.is_whole.ensures (nothing-done _ c.is_whole.ensures) (λ l. refl) refl (λ q. refl) _ _ (λ q. refl)
+    (λ serving. refused _ serving c.assert_invariant.ensures (nothing-done _ c.assert_invariant.ensures) (λ l. refl) refl (λ q. refl) _ _ (λ q. refl)
     (λ stays. record { starts = tt; refused = (inl (refl, inr (grind arith)), stays) }) tt)
 
 pub returns-in_err-ready : goal.returns-in_err-ready
 returns-in_err-ready g c =
     rw (failed c.from_residual.result c.from_residual.ensures.1) (refuses c.requires refl (omega arith) c.ready.ensures.same
-    (λ serving. refused _ serving c.is_whole.ensures (nothing-done _ c.is_whole.ensures) (λ l. refl) refl c.ready.ensures.same _ _
+    (λ serving. refused _ serving c.assert_invariant.ensures (nothing-done _ c.assert_invariant.ensures) (λ l. refl) refl c.ready.ensures.same _ _
     (λ q. refl) (λ stays. record {
       starts = tt;
       refused = (
@@ -29,12 +29,13 @@ returns g c =
     (c.pager-1.given.1 (sym (lender-is c.in_ok-worker.ensures.begins.acting ∙ c.new-lent.ensures.lent))) in
     let told = rw ends at (rw c.new-lent.ensures.same at (told-so _ _ _ _ c.in_ok-worker.ensures.begins.step)) in
     let keeps = keeps-after c.ready.ensures.same c.put.ensures in
-    drives c.requires (λ is. (told is).0) (one-on c.requires.on_tables _ _ keeps refl (begun-on c.in_ok-ready.ensures.there c.entry_walk-walk.ensures))
+    drives c.requires (λ is. (told is).0) (one-on c.requires.on_tables _ _ keeps refl (begun-on c.in_ok-ready.ensures.there c.new_entry_walk-walk.ensures))
     (λ is serving.
-    listed-started (values_at g.E.Node.NodeSet g.E.Env g.E.Hash.KeyHash) _ _ _ _ serving c.is_whole.ensures c.put.new.kept c.args.table c.in_ok-worker.worker
-    c.entry_walk-walk.result
+    listed-started (values_at g.E.Node.NodeSet g.E.Env g.E.Hash.KeyHash) _ _ _ _ serving c.assert_invariant.ensures c.put.new.kept c.args.table
+    c.in_ok-worker.worker
+    c.new_entry_walk-walk.result
     c.in_ok-ready.ensures.there keeps c.args.place c.in_ok-worker.reference
-    (told is).1 c.entry_walk-walk.ensures)
+    (told is).1 c.new_entry_walk-walk.ensures)
 
 pub returns-in_err-worker : goal.returns-in_err-worker
 returns-in_err-worker g c =
@@ -44,5 +45,5 @@ returns-in_err-worker g c =
     rw (failed c.from_residual-in_err-worker.result c.from_residual-in_err-worker.ensures.1)
     (drives c.requires (λ is. (told is).0) (stay-on c.requires.on_tables c.ready.ensures.same (omega arith)) (λ is serving.
     entry-refused (values_at g.E.Node.NodeSet g.E.Env g.E.Hash.KeyHash) _ _ _ _ serving
-    c.is_whole.ensures c.ready.new.walks c.args.table _ c.args.place c.in_ok-ready.ensures.there (grind arith)
+    c.assert_invariant.ensures c.ready.new.walks c.args.table _ c.args.place c.in_ok-ready.ensures.there (grind arith)
     (told is).1 c.ready.ensures.same))

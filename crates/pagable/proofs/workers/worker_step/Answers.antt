@@ -4,7 +4,7 @@ use Rattle.pagable.proofs.workers.worker_step.Goals as goal
 
 pub returns-then-is_done : goal.returns-then-is_done
 returns-then-is_done g c = refuses c.requires refl (omega arith) (λ q. refl)
-    (λ serving. refused _ serving c.is_whole.ensures (nothing-done _ c.is_whole.ensures) (λ l. refl) refl (λ q. refl) _ _ (λ q. refl)
+    (λ serving. refused _ serving c.assert_invariant.ensures (nothing-done _ c.assert_invariant.ensures) (λ l. refl) refl (λ q. refl) _ _ (λ q. refl)
     (λ stays. record { moves = tt; refused = (refl, search rules, stays) }) tt)
 
 pub returns-then-not-has_worker : goal.returns-then-not-has_worker
@@ -21,7 +21,7 @@ returns g c =
     record { here = writes.1; others = λ q other. writes.2 q (apart c.args.worker.0 q (λ is. other (sym is))) } in
     record {
       makes = λ is. worker-moved (values_at g.E.Node.NodeSet g.E.Env g.E.Hash.KeyHash c.args.pager.now.environment) _ _ _
-          (c.requires.serving (c.walk_on.ensures.honest is)) c.is_whole.ensures c.args.worker
+          (c.requires.serving (c.walk_on.ensures.honest is)) c.assert_invariant.ensures c.args.worker
           _ c.walk_on.new.walk (sym c.in-Some.ensures.value) c.walk_on.result (c.walk_on.ensures.walks is) keeps;
       honest = c.walk_on.ensures.honest;
       on_tables = one-on c.requires.on_tables c.args.worker.0 c.walk_on.new.walk keeps c.walk_on.ensures.count c.walk_on.ensures.on_table;

@@ -1,11 +1,10 @@
-use Rattle.{pagable_budget.{proofs.Evicting.Needed, specs.Budgets.cost_of}, pagable_pager.specs.View.telling, std.proofs.Common.{length, ◌≡◌, ◌≤◌}}
+use Rattle.{pagable_budget.{proofs.Evicting.Needed, specs.Budgets.cost_of}, pagable_pager.specs.View.storage_view, std.proofs.Common.{length, ◌≡◌, ◌≤◌}}
 use Rattle.pagable_budget.proofs.evictions.evict_above.Given as goal
 
 -- the pins evicted so far, no more than needed, and the total cost of those that are left
 abbrev pub invariant-loop-left : goal.invariant-loop-left
 invariant-loop-left g l = record {
-  so : Needed (telling g.S.PagableStorage.stored g.S.PagableStorage.is_closed g.S.PagableStorage.failed) l.most l.fn.pins.entries l.fn.pager l.pins.entries
-      l.pager;
+  so : Needed (storage_view g.S.PagableStorage) l.most l.fn.pins.entries l.fn.pager l.pins.entries l.pager;
   sum : l.left ≡ cost_of l.pins.entries;
   less : l.left ≤ l.cost;
   room : l.pins.cap ≡ l.fn.pins.cap;

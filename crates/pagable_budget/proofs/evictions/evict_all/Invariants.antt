@@ -1,9 +1,9 @@
-use Rattle.{pagable_budget.proofs.Evicting.SoFar, pagable_pager.specs.View.telling, std.proofs.Common.{length, ◌≡◌}}
+use Rattle.{pagable_budget.proofs.Evicting.SoFar, pagable_pager.specs.View.storage_view, std.proofs.Common.{length, ◌≡◌}}
 use Rattle.pagable_budget.proofs.evictions.evict_all.Given as goal
 
 abbrev pub invariant-loop-cost : goal.invariant-loop-cost
 invariant-loop-cost g l = record {
-  so : SoFar (telling g.S.PagableStorage.stored g.S.PagableStorage.is_closed g.S.PagableStorage.failed) l.fn.pins.entries l.fn.pager l.pins.entries l.pager;
+  so : SoFar (storage_view g.S.PagableStorage) l.fn.pins.entries l.fn.pager l.pins.entries l.pager;
   room : l.pins.cap ≡ l.fn.pins.cap;
 }
 

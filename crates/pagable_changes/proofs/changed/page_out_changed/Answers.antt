@@ -4,9 +4,9 @@ use Rattle.pagable_changes.proofs.changed.page_out_changed.Goals as goal
 pub returns-clause-reads : goal.returns-clause-reads
 returns-clause-reads g c = λ honest.
     changed_law g.row.E.Denot (values_at g.E.Node.NodeSet g.E.Env g.E.Hash.KeyHash c.args.pager.now.environment) _ _ _ _
-    (c.page_out_root.ensures.pages honest) c.is_whole.ensures
+    (c.page_out_root.ensures.pages honest) c.assert_invariant.ensures
     (record {
-      some = g.met.E.Node.NodeSet.has_meaning;
+      has_meaning = g.met.E.Node.NodeSet.has_meaning;
       refers = g.met.E.Node.NodeSet.refers;
       shaped = λ x. (_, g.met.E.Node.NodeSet.has_shape c.args.pager.now.environment x);
       own_reading = g.met.E.Node.NodeSet.read_causes_are_own;

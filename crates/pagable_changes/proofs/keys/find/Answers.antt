@@ -1,11 +1,11 @@
-use Rattle.pagable_changes.{proofs.Changing.{found-by, loose-kind, other-kind}, specs.Changes.{cell-has-key, cell-has-none}}
+use Rattle.{pagable_changes.{proofs.Changing.found-by, specs.Changes.{cell-has-key, cell-has-none}}, std.proofs.Common.sym}
 use Rattle.pagable_changes.proofs.keys.find.Goals as goal
 
-pub returns-then-reference-ne1 : goal.returns-then-reference-ne1
-returns-then-reference-ne1 g c = found-by _ _ _ c.found_at.result c.found_at.ensures (other-kind _ c.if-reference-ne1.true)
+pub returns-then-not-is_loose : goal.returns-then-not-is_loose
+returns-then-not-is_loose g c = found-by _ _ _ c.found_at.result c.found_at.ensures (sym c.if-not-is_loose.ensures)
 
 pub returns-in-Some : goal.returns-in-Some
-returns-in-Some g c = cell-has-key c.in-Some.key (loose-kind _ c.if-reference-ne1.false) c.in-Ok.ensures.at (rw c.in-Some.is at c.in-Ok.ensures.key)
+returns-in-Some g c = cell-has-key c.in-Some.key (sym c.if-not-is_loose.ensures) c.in-Ok.ensures.at (rw c.in-Some.is at c.in-Ok.ensures.key)
 
 pub returns-in-None : goal.returns-in-None
-returns-in-None g c = cell-has-none (loose-kind _ c.if-reference-ne1.false) c.in-Ok.ensures.at (rw c.in-None.is at c.in-Ok.ensures.key)
+returns-in-None g c = cell-has-none (sym c.if-not-is_loose.ensures) c.in-Ok.ensures.at (rw c.in-None.is at c.in-Ok.ensures.key)

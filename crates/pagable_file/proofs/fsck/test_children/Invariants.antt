@@ -1,7 +1,7 @@
 use Rattle.std.proofs.Common.{IsTrue, ℕ, take}
 use Rattle.std.specs.List.{AllByRecursion}
 use Rattle.pagable_value_spec.specs.Blob.{Blob}
-use Rattle.pagable_file.specs.{Blobs.{StaysPut, is_sure}, Flaws.{IsChild, IsFlaw, IsThere, Tested}, Rows.{blob_tree, root_tree}}
+use Rattle.pagable_file.specs.{Blobs.{StaysPut, is_sure}, Flaws.{IsChild, IsFlaw, IsThere, FindsFlaws}, Rows.{blob_tree, root_tree}}
 use Rattle.pagable_file.proofs.fsck.test_children.Given as goal
 
 -- the children so far were tested
@@ -12,4 +12,4 @@ invariant-loop-child g l =
     let rows = first.committed blob_tree in
     let so_far = take l.child-index l.children in
     StaysPut first now × ((of : Blob → ℕ) → IsTrue (is_sure now) → AllByRecursion (IsChild rows l.key) so_far
-    → Tested (IsFlaw of rows (first.committed root_tree)) l.fn.flaws.items l.flaws.items (AllByRecursion (IsThere rows) so_far))
+    → FindsFlaws (IsFlaw of rows (first.committed root_tree)) l.fn.flaws.items l.flaws.items (AllByRecursion (IsThere rows) so_far))

@@ -1,5 +1,5 @@
 use Rattle.std.proofs.Common.{SFits, Some, of_z, rules, subst, sym, to_z, to_z-of_z, w64, ℤ, ◌∙◌}
-use Rattle.pagable_file.specs.{Flaws.{IsFlaw, IsNameAt, IsSoundRoot, Tested}, Rows.{blob_tree, root_tree, row_at}}
+use Rattle.pagable_file.specs.{Flaws.{IsFlaw, IsNameAt, IsSoundRoot, FindsFlaws}, Rows.{blob_tree, root_tree, row_at}}
 use Rattle.pagable_file.proofs.Flawed.{passed, root_found, root_none, row_there}
 use Rattle.pagable_file.proofs.fsck.test_root.Goals as goal
 
@@ -14,7 +14,7 @@ returns-in_default-key_at-clause-tested g c of sure =
     let fits : SFits w64 c.args.place = search rules in
     let at = row_there (row_at roots place) row c.in_ok-look.field-0 (c.in_ok-look.ensures.found sure) c.if-not-branch.false in
     let own : IsNameAt place row (Some c.in-Some.name) = subst (IsNameAt place row) c.in-Some.is c.in_ok-name.ensures in
-    subst (λ (p : ℤ). Tested (IsFlaw of rows roots) old old (IsSoundRoot rows roots p)) (to_z-of_z fits)
+    subst (λ (p : ℤ). FindsFlaws (IsFlaw of rows roots) old old (IsSoundRoot rows roots p)) (to_z-of_z fits)
     (passed (IsFlaw of rows roots) old (IsSoundRoot rows roots place) (root_none rows roots place row c.in-Some.name at own
     (sym c.key_at.ensures ∙ c.in_default-key_at.is)))
 
@@ -31,7 +31,7 @@ returns-clause-tested g c of sure =
     let place : ℤ = to_z w64 (of_z w64 c.args.place) in
     let fits : SFits w64 c.args.place = search rules in
     let own : IsNameAt place row (Some c.in-Some.name) = subst (IsNameAt place row) c.in-Some.is c.in_ok-name.ensures in
-    subst (λ (p : ℤ). Tested (IsFlaw of rows roots) old new (IsSoundRoot rows roots p)) (to_z-of_z fits)
+    subst (λ (p : ℤ). FindsFlaws (IsFlaw of rows roots) old new (IsSoundRoot rows roots p)) (to_z-of_z fits)
     (root_found of first now next place row c.in-Some.name c.in-Some-key_at.key old new c.look.ensures.stays c.test_named.ensures.stays sure
     (λ s. row_there (row_at roots place) row c.in_ok-look.field-0 (c.in_ok-look.ensures.found s) c.if-not-branch.false) own
     (sym c.key_at.ensures ∙ c.in-Some-key_at.is) (c.in_ok-test_named.ensures.tested of))

@@ -7,5 +7,5 @@ pub returns-in_ok-read_blob-clause-found : goal.returns-in_ok-read_blob-clause-f
 returns-in_ok-read_blob-clause-found g c sure =
     let rows = (g.S.Store.view c.args.store.now).committed blob_tree in
     let here = rw c.if-branch.true at (c.in_ok-look.ensures.found sure) in
-    let fits : SFits w64 c.place_of.result = search rules in
-    (c.look.new.row, subst (λ (p : ℤ). row_at rows p ≡ Some c.look.new.row) (to_z-of_z fits ∙ c.place_of.ensures) here, c.in_ok-read_blob.ensures)
+    let fits : SFits w64 c.rowid_of.result = search rules in
+    (c.look.new.row, subst (λ (p : ℤ). row_at rows p ≡ Some c.look.new.row) (to_z-of_z fits ∙ c.rowid_of.ensures) here, c.in_ok-read_blob.ensures)

@@ -7,5 +7,5 @@ pub returns-then-branch-clause-found : goal.returns-then-branch-clause-found
 returns-then-branch-clause-found g c sure =
     let rows = (g.S.Store.view c.args.store.now).committed root_tree in
     let here = rw c.if-branch.true at (c.in_ok-look.ensures.found sure) in
-    let fits : SFits w64 c.place_of_name.result = search rules in
-    (c.look.new.row, subst (λ (p : ℤ). row_at rows p ≡ Some c.look.new.row) (to_z-of_z fits ∙ c.place_of_name.ensures) here, c.read_root.ensures)
+    let fits : SFits w64 c.rowid_of_name.result = search rules in
+    (c.look.new.row, subst (λ (p : ℤ). row_at rows p ≡ Some c.look.new.row) (to_z-of_z fits ∙ c.rowid_of_name.ensures) here, c.read_root.ensures)

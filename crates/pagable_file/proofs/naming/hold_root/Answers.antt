@@ -7,7 +7,7 @@ use Rattle.pagable_file.proofs.naming.hold_root.Goals as goal
 pub returns-clause-ok : goal.returns-clause-ok
 returns-clause-ok c =
     let it : PendingRoot = record { name = c.in_ok-text.text; key = c.args.key } in
-    let fits : SFits w64 c.place_of_name.result = search rules in
+    let fits : SFits w64 c.rowid_of_name.result = search rules in
     holds_root c.args.waiting.now c.insert.new.self c.args.name.now it c.in_ok-text.ensures.ok
     (λ q. subst (λ (p : ℤ). get int_eq c.insert.new.self q ≡ (if int_eq p q then Some it else get int_eq c.args.waiting.now q))
-    (to_z-of_z fits ∙ c.place_of_name.ensures) (c.in_ok-insert.ensures.updates.0 q))
+    (to_z-of_z fits ∙ c.rowid_of_name.ensures) (c.in_ok-insert.ensures.updates.0 q))

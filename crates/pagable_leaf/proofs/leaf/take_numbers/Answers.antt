@@ -7,7 +7,7 @@ returns-clause-does c =
     let w = c.requires.whole.core in
     let h = w.handles in
     record {
-      does = λ stored closed failures. refl;
+      does = λ storage. refl;
       whole = record {
         steady = record { sound = s.sound; next = λ i d within. (let n = s.next i d within in omega arith); fits = s.fits; worked = s.worked };
         core = record {

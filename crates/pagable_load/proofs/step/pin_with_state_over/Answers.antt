@@ -6,11 +6,11 @@ returns-in-Err g c =
     let h = c.args.handle in
     let k = c.in_ok-pinned.pinned in
     let e = c.in-Err.e in
-    let back : Acts g.A.Access.told g.A.Access.acting _ _ (λ a. TakesBack (values_at g.E.Node.NodeSet g.E.Env g.E.Hash.KeyHash a.environment)
+    let back : Acts g.A.Access.known_state g.A.Access.acting _ _ (λ a. TakesBack (values_at g.E.Node.NodeSet g.E.Env g.E.Hash.KeyHash a.environment)
     c.in_ok-pinned.was_unpinned h k) =
     acts_then c.unpin_again.ensures c.release-told.ensures (λ mid low t goes call. takes_back _ h mine k c.in_ok-pinned.was_unpinned mid low t
     c.release-told.result goes call) in
-    let both : Acts g.A.Access.told g.A.Access.acting _ _
+    let both : Acts g.A.Access.known_state g.A.Access.acting _ _
     (λ a s t. SharesPinned (arc_value {Z = Global}) s k (Err e) × TakesBack (values_at g.E.Node.NodeSet g.E.Env g.E.Hash.KeyHash a.environment)
     c.in_ok-pinned.was_unpinned h k s t) =
     acts_from c.in-Err.ensures back (λ s t shares taken. (shares, taken)) in

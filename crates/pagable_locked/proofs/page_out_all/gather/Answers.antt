@@ -1,5 +1,5 @@
 use Rattle.pagable_load.specs.AccessView.{values_at}
-use Rattle.std.proofs.Common.{rules, ap, sym, ◌∙◌, arith, subst, ◌+◌, vec_len, ℕ, ◌≡◌, ◌++◌, ◌∷◌, []}
+use Rattle.std.proofs.Common.{rules, sym, ◌∙◌, arith, ◌+◌, vec_len, ◌≡◌, ◌++◌, ◌∷◌, []}
 use Rattle.pagable_locked.specs.Answers.{AnswersEach, IsAnswerOf, items_of}
 use Rattle.pagable_locked.proofs.Order.{drop-next, snoc-each}
 use Rattle.pagable_locked.proofs.page_out_all.gather.Goals as goal

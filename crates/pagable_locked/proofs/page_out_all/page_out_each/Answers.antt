@@ -1,5 +1,5 @@
 use Rattle.pagable_load.specs.AccessView.{values_at}
-use Rattle.std.proofs.Common.{rules, ap, sym, ◌∙◌, subst, arith, take, ◌+◌, ◌∷◌, ◌++◌, [], refl}
+use Rattle.std.proofs.Common.{rules, subst, arith, take, ◌+◌}
 use Rattle.std.proofs.lemmas.Bool.Decides.{nat_tests}
 use Rattle.pagable_locked.specs.Answers.{AnswersEach, IsAnswerOf, items_of}
 use Rattle.pagable_locked.proofs.Order.{step-hit, step-miss}

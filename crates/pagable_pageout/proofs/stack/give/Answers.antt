@@ -1,4 +1,4 @@
-use Rattle.{std.proofs.Common.{◌∷◌, ap, ◌∙◌, sym}, std.specs.Arc.arc_value, pagable_pager_spec.specs.Workers.settle, pagable_pageout.specs.{Slots.{keys_of, written_of}, Tasks.{todos, waiting_todo}}}
+use Rattle.{std.proofs.Common.{◌∷◌, ap, ◌∙◌, sym}, std.specs.Arc.arc_value, pagable_pager_spec.specs.Workers.advance, pagable_pageout.specs.{Slots.{keys_of, written_of}, Tasks.{todos, waiting_todo}}}
 use Rattle.pagable_pageout.proofs.Stacks.{give-is, takes-next, todos-more}
 
 pub returns-clause-gives : Rattle.pagable_pageout.proofs.stack.give.Goals.returns-clause-gives
@@ -10,7 +10,7 @@ returns-clause-gives g c =
       x = waiting_todo w;
       rest = rest;
       was = ap todos c.in-Some.ensures.items ∙ todos-more c.pop.new.self.items w;
-      is = c.settle.ensures.todo ∙ ap (λ t. settle (t ∷ rest)) c.with_result.ensures
+      is = c.advance.ensures.todo ∙ ap (λ t. advance (t ∷ rest)) c.with_result.ensures
           ∙ sym (give-is w.node (written_of (arc_value w.written)) (keys_of w.children.items) rest d.reference d.found.key d.found.height);
     }
 

@@ -5,7 +5,8 @@ pub returns : Rattle.pagable_pageout.proofs.step.page_out_entry.Goals.returns
 returns g c =
     let first = c.start_entry-task in
     let shelf = shelf_of c.restart.new.self in
-    let paged : Acts g.A.Access.told g.A.Access.acting _ _ (λ a. PagesEntry (values_at g.E.Node.NodeSet g.E.Env g.E.Hash.KeyHash a.environment) c.args.place
+    let paged : Acts g.A.Access.known_state g.A.Access.acting _ _ (λ a. PagesEntry (values_at g.E.Node.NodeSet g.E.Env g.E.Hash.KeyHash a.environment)
+    c.args.place
     (answer_of c.told.result)) =
     rw c.told.ensures (acts_on c.in-Ok.ensures.begins (both-alone shelf (shelf_of c.run.new.table) refl refl c.run.ensures.acts)
     (λ s mid t starts run. entry-walked _ c.args.place _ c.in-Ok.begun.0 c.in-Ok.begun.1 shelf first.result.0 (todos first.result.1.items)

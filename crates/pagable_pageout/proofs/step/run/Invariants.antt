@@ -1,13 +1,13 @@
-use Rattle.{std.proofs.Common.{◌∷◌, ◌+◌, ◌*◌}, pagable_load.specs.AccessView.values_at, pagable_pageout.specs.{Joint.ActsBoth, Tasks.{EndsWith, IsWay, due, far, todo_of, todos}, Turns.HasWalked}}
+use Rattle.{std.proofs.Common.{◌∷◌, ◌+◌, ◌*◌}, pagable_load.specs.AccessView.values_at, pagable_pageout.specs.{Joint.ActsBoth, Tasks.{EndsWith, EachIsAwaited, due, far, todo_of, todos}, Turns.HasWalked}}
 use Rattle.pagable_pager_spec.specs.World.{Written}
 use Rattle.pagable_pageout.proofs.step.run.Given as goal
 
 -- the path leads to the task, and a run from here is one from the beginning
 abbrev pub invariant-loop-next : goal.invariant-loop-next
 invariant-loop-next g l = record {
-  way : IsWay (todo_of l.task ∷ todos l.path.items);
+  way : EachIsAwaited (todo_of l.task ∷ todos l.path.items);
   ends : (w : Written) → EndsWith w (todo_of l.fn.first ∷ todos l.fn.path.items) → EndsWith w (todo_of l.task ∷ todos l.path.items);
-  walked : ActsBoth g.A.Access.told g.A.Access.acting g.T.Claims.shelf l.fn.access l.fn.table l.access l.table (λ a. a)
+  walked : ActsBoth g.A.Access.known_state g.A.Access.acting g.T.Claims.shelf l.fn.access l.fn.table l.access l.table (λ a. a)
       (λ a s q s' q'. HasWalked (values_at g.E.Node.NodeSet g.E.Env g.E.Hash.KeyHash a.environment) a.me l.worker.0 q l.fn.first
       (todos l.fn.path.items) q' l.task (todos l.path.items) s s');
 }

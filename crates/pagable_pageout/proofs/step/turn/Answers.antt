@@ -1,4 +1,4 @@
-use Rattle.{pagable_pageout.proofs.ItemLast.{claimed-ends, failed-ends, goes-ends}, pagable_pageout.specs.Table.found_as}
+use Rattle.{pagable_pageout.proofs.ItemLast.{claimed-ends, failed-ends, goes-ends}, pagable_pageout.specs.Table.claim_result}
 use Rattle.pagable_load.proofs.LoadSteps.{tells_all}
 use Rattle.{pagable_pageout.{proofs.{Joint.{both-each, both-first, both-second}, WorkerTurns.{ends-failed, publishes, start-turns}}, specs.Tasks.todos}, pagable_pager_spec.specs.Events.no_shelf, std.proofs.Common.refl}
 use Rattle.pagable_pageout.proofs.step.turn.Goals as goal
@@ -60,7 +60,7 @@ returns-in-Release-clause-ends g c = rw c.in-Release.is c.release.ensures.ends
 
 pub returns-in-Start-clause-ends : goal.returns-in-Start-clause-ends
 returns-in-Start-clause-ends g c = rw c.in-Start.is (claimed-ends c.in-Start.reference c.in-Start.place (todos c.args.path.now.items) _
-    (found_as c.claim-claim.result) c.after_claim.result c.after_claim.ensures.todo)
+    (claim_result c.claim-claim.result) c.after_claim.result c.after_claim.ensures.todo)
 
 pub returns-in-Publish-clause-ends : goal.returns-in-Publish-clause-ends
 returns-in-Publish-clause-ends g c = rw c.in-Publish.is (goes-ends _ _ _ (λ w h. h))

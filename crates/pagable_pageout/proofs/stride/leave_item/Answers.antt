@@ -14,7 +14,7 @@ returns-in-Err-clause-acts g c n shelf =
     let w = c.args.waiting in
     let below = todos c.args.path.now.items in
     acts_map c.in-Err.ensures.acts (λ s t call. turn-comes _ _ n shelf (Task.Finish w) below shelf _ _ s t
-    (finish-fails _ _ n shelf below w c.requires c.in-Err.e c.refuse.result _ c.refuse.ensures.plain c.refuse.ensures.todo s t call))
+    (finish-fails _ _ n shelf below w c.requires c.in-Err.e c.fail_with.result _ c.fail_with.ensures.plain c.fail_with.ensures.todo s t call))
 
 pub returns-in-Ok-clause-ends : goal.returns-in-Ok-clause-ends
 returns-in-Ok-clause-ends g c =
@@ -23,4 +23,4 @@ returns-in-Ok-clause-ends g c =
     c.stored.ensures.over
 
 pub returns-in-Err-clause-ends : goal.returns-in-Err-clause-ends
-returns-in-Err-clause-ends g c = refused-ends _ _ c.refuse.result _ _ c.refuse.ensures.todo
+returns-in-Err-clause-ends g c = refused-ends _ _ c.fail_with.result _ _ c.fail_with.ensures.todo

@@ -38,7 +38,7 @@ returns-in-Ok-clause-acts g c =
 pub returns-clause-acts : goal.returns-clause-acts
 returns-clause-acts g c =
     both-first (λ q. acts_map c.in-Err.ensures.acts (λ s t left. node-refused _ _ c.args.worker.0 q c.args.path.now.items c.args.waiting c.requires.way
-    c.args.node c.requires.node refl c.in-Err.e c.refuse.result _ c.refuse.ensures.plain c.refuse.ensures.todo s t left)) no_shelf
+    c.args.node c.requires.node refl c.in-Err.e c.fail_with.result _ c.fail_with.ensures.plain c.fail_with.ensures.todo s t left)) no_shelf
 
 pub returns-clause-ends : goal.returns-clause-ends
-returns-clause-ends g c = refused-ends _ _ c.refuse.result _ _ c.refuse.ensures.todo
+returns-clause-ends g c = refused-ends _ _ c.fail_with.result _ _ c.fail_with.ensures.todo

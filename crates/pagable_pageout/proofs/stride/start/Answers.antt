@@ -1,5 +1,5 @@
 use Rattle.{pagable_load.{proofs.LoadSteps.tells_all, specs.{AccessView.values_at}}, pagable_pageout.proofs.{Joint.{both-on, both-second}, ItemLast.{claimed-ends, refused-ends}, Strides.{ends-as, turn-walked, waits-walked, walked-on}, WorkerTurns.{start-turns, steps-to}}}
-use Rattle.{pagable_pageout.specs.{Table.found_as, Tasks.todos, Turns.{HasWalked, StepsTo}, declared.{claims.ClaimResult.ClaimResult, tasks.{Task.Task, Turn.Turn}}}, pagable_pager_spec.specs.{Kinds.identity_of, World.{to_pin, to_start}}}
+use Rattle.{pagable_pageout.specs.{Table.claim_result, Tasks.todos, Turns.{HasWalked, StepsTo}, declared.{claims.ClaimResult.ClaimResult, tasks.{Task.Task, Turn.Turn}}}, pagable_pager_spec.specs.{Kinds.identity_of, World.{to_pin, to_start}}}
 use Rattle.{pagable_value_spec.specs.declared.error.Error.Error, pagable_pager_spec.specs.declared.events.{Claim.Claim, Action.Action}, std.proofs.Common.{Ok, ap, arith, false, refl, ◌∙◌, ◌∷◌, ◌≡◌}}
 use Rattle.pagable_pageout.proofs.stride.start.Goals as goal
 
@@ -55,7 +55,7 @@ returns-in-Ok-Waiting-clause-acts g c =
 
 pub returns-in_default-clause-ends : goal.returns-in_default-clause-ends
 returns-in_default-clause-ends g c = claimed-ends c.args.reference c.args.place (todos c.args.path.now.items) _
-    (found_as c.claim-found.result) c.after_claim.result c.after_claim.ensures.todo
+    (claim_result c.claim-found.result) c.after_claim.result c.after_claim.ensures.todo
 
 pub returns-in_default-clause-acts : goal.returns-in_default-clause-acts
 returns-in_default-clause-acts g c =

@@ -35,19 +35,20 @@ returns-in-Begun-clause-acts g c n =
     both-first (λ q. acts_map (rw c.in-Begun.is at c.in-Ok.ensures.takes)
     (λ s t call. turn-walked _ _ n q (Task.Pin c.args.reference c.args.place) below q
     (Task.Load c.args.reference c.args.place c.in-Begun.through c.new-reading.result) below _ _ s t
-    (pin-begins _ _ n q c.args.reference c.args.place below c.in-Begun.through c.in-Begun.load c.in-Begun.key c.new-reading.result says.reading says.key
-    says.for_cell s t call) refl refl)) no_shelf
+    (pin-begins _ _ n q c.args.reference c.args.place below c.in-Begun.through c.in-Begun.load c.in-Begun.key c.new-reading.result
+    (rw c.node_type.ensures at says.reading) says.key says.for_cell s t call) refl refl)) no_shelf
 
 pub returns-in-Err-clause-acts : goal.returns-in-Err-clause-acts
 returns-in-Err-clause-acts g c n =
     let below = todos c.args.path.now.items in
-    both-first (λ q. acts_map c.in-Err.ensures.takes (λ s t call. turn-walked _ _ n q (Task.Pin c.args.reference c.args.place) below q c.refuse.result
-    (todos c.refuse.new.path.items) _ _ s t
-    (pin-fails _ _ n q c.args.reference c.args.place below c.in-Err.e c.refuse.result _ c.refuse.ensures.plain c.refuse.ensures.todo s t call) refl refl))
+    both-first (λ q. acts_map c.in-Err.ensures.takes (λ s t call. turn-walked _ _ n q (Task.Pin c.args.reference c.args.place) below q c.fail_with.result
+    (todos c.fail_with.new.path.items) _ _ s t
+    (pin-fails _ _ n q c.args.reference c.args.place below c.in-Err.e c.fail_with.result _ c.fail_with.ensures.plain c.fail_with.ensures.todo s t call) refl
+    refl))
     no_shelf
 
 pub returns-in-Begun-clause-ends : goal.returns-in-Begun-clause-ends
 returns-in-Begun-clause-ends g c = goes-ends _ _ _ (λ w h. h)
 
 pub returns-in-Err-clause-ends : goal.returns-in-Err-clause-ends
-returns-in-Err-clause-ends g c = refused-ends _ _ c.refuse.result _ _ c.refuse.ensures.todo
+returns-in-Err-clause-ends g c = refused-ends _ _ c.fail_with.result _ _ c.fail_with.ensures.todo

@@ -8,8 +8,8 @@ returns-in-Ok-clause-acts g c n shelf = rw c.named_by-identity.ensures (acts_map
 
 pub returns-in-Err-clause-acts : Rattle.pagable_pageout.proofs.turns.finish.Goals.returns-in-Err-clause-acts
 returns-in-Err-clause-acts g c n shelf = rw c.named_by-identity.ensures (acts_map c.in-Err.ensures.acts
-    (finish-fails _ _ n shelf (todos c.args.path.now.items) c.args.waiting c.requires c.in-Err.e c.refuse.result _ c.refuse.ensures.plain
-    c.refuse.ensures.todo))
+    (finish-fails _ _ n shelf (todos c.args.path.now.items) c.args.waiting c.requires c.in-Err.e c.fail_with.result _ c.fail_with.ensures.plain
+    c.fail_with.ensures.todo))
 
 pub returns-in-Ok-clause-ends : Rattle.pagable_pageout.proofs.turns.finish.Goals.returns-in-Ok-clause-ends
 returns-in-Ok-clause-ends g c =
@@ -18,4 +18,4 @@ returns-in-Ok-clause-ends g c =
     c.stored.ensures.over
 
 pub returns-in-Err-clause-ends : Rattle.pagable_pageout.proofs.turns.finish.Goals.returns-in-Err-clause-ends
-returns-in-Err-clause-ends g c = refused-ends _ _ c.refuse.result _ _ c.refuse.ensures.todo
+returns-in-Err-clause-ends g c = refused-ends _ _ c.fail_with.result _ _ c.fail_with.ensures.todo

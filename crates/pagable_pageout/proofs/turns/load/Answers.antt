@@ -16,8 +16,8 @@ returns-in-Some-Pinned-clause-acts g c n shelf =
 pub returns-in-Some-Refused-clause-acts : goal.returns-in-Some-Refused-clause-acts
 returns-in-Some-Refused-clause-acts g c n shelf =
     rw c.named-identity.ensures (acts_map (rw c.in-Some-Refused.field-0-is at c.in-Some-Refused.ensures.acts)
-    (load-fails _ _ n shelf c.args.reference c.args.place (todos c.args.path.now.items) c.args.through c.args.reading c.in-Some-Refused.e _ c.refuse.result
-    _ c.refuse.ensures.plain c.refuse.ensures.todo))
+    (load-fails _ _ n shelf c.args.reference c.args.place (todos c.args.path.now.items) c.args.through c.args.reading c.in-Some-Refused.e _ c.fail_with.result
+    _ c.fail_with.ensures.plain c.fail_with.ensures.todo))
 
 pub returns-in-None-clause-ends : goal.returns-in-None-clause-ends
 returns-in-None-clause-ends g c = goes-ends _ _ _ (λ w h. h)
@@ -26,4 +26,4 @@ pub returns-in-Some-Pinned-clause-ends : goal.returns-in-Some-Pinned-clause-ends
 returns-in-Some-Pinned-clause-ends g c = goes-ends _ _ _ (λ w h. h)
 
 pub returns-in-Some-Refused-clause-ends : goal.returns-in-Some-Refused-clause-ends
-returns-in-Some-Refused-clause-ends g c = refused-ends _ _ c.refuse.result _ _ c.refuse.ensures.todo
+returns-in-Some-Refused-clause-ends g c = refused-ends _ _ c.fail_with.result _ _ c.fail_with.ensures.todo

@@ -11,12 +11,12 @@ returns-in-Begun-clause-acts g c n shelf =
     let says = c.new-reading.ensures in
     rw c.named-identity.ensures (acts_map (rw c.in-Begun.is at c.in-Ok.ensures)
     (pin-begins _ _ n shelf c.args.reference c.args.place (todos c.args.path.now.items) c.in-Begun.through c.in-Begun.load c.in-Begun.key
-    c.new-reading.result says.reading says.key says.for_cell))
+    c.new-reading.result (rw c.node_type.ensures at says.reading) says.key says.for_cell))
 
 pub returns-in-Err-clause-acts : Rattle.pagable_pageout.proofs.turns.pin.Goals.returns-in-Err-clause-acts
 returns-in-Err-clause-acts g c n shelf = rw c.named-identity.ensures (acts_map c.in-Err.ensures
-    (pin-fails _ _ n shelf c.args.reference c.args.place (todos c.args.path.now.items) c.in-Err.e c.refuse.result _ c.refuse.ensures.plain
-    c.refuse.ensures.todo))
+    (pin-fails _ _ n shelf c.args.reference c.args.place (todos c.args.path.now.items) c.in-Err.e c.fail_with.result _ c.fail_with.ensures.plain
+    c.fail_with.ensures.todo))
 
 pub returns-in-Held-clause-ends : Rattle.pagable_pageout.proofs.turns.pin.Goals.returns-in-Held-clause-ends
 returns-in-Held-clause-ends g c = goes-ends _ _ _ (λ w h. h)
@@ -25,4 +25,4 @@ pub returns-in-Begun-clause-ends : Rattle.pagable_pageout.proofs.turns.pin.Goals
 returns-in-Begun-clause-ends g c = goes-ends _ _ _ (λ w h. h)
 
 pub returns-in-Err-clause-ends : Rattle.pagable_pageout.proofs.turns.pin.Goals.returns-in-Err-clause-ends
-returns-in-Err-clause-ends g c = refused-ends _ _ c.refuse.result _ _ c.refuse.ensures.todo
+returns-in-Err-clause-ends g c = refused-ends _ _ c.fail_with.result _ _ c.fail_with.ensures.todo

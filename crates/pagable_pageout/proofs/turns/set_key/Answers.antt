@@ -7,10 +7,11 @@ returns-in-Ok-clause-acts g c n shelf = rw c.named-identity.ensures (acts_map (r
 
 pub returns-in-Err-clause-acts : Rattle.pagable_pageout.proofs.turns.set_key.Goals.returns-in-Err-clause-acts
 returns-in-Err-clause-acts g c n shelf = rw c.named-identity.ensures (acts_map (rw c.key.ensures at c.in-Err.ensures)
-    (set-fails _ _ n shelf (todos c.args.path.now.items) c.args.done c.args.through c.in-Err.e c.refuse.result _ c.refuse.ensures.plain c.refuse.ensures.todo))
+    (set-fails _ _ n shelf (todos c.args.path.now.items) c.args.done c.args.through c.in-Err.e c.fail_with.result _ c.fail_with.ensures.plain
+    c.fail_with.ensures.todo))
 
 pub returns-in-Ok-clause-ends : Rattle.pagable_pageout.proofs.turns.set_key.Goals.returns-in-Ok-clause-ends
 returns-in-Ok-clause-ends g c = goes-ends _ _ _ (λ w h. h)
 
 pub returns-in-Err-clause-ends : Rattle.pagable_pageout.proofs.turns.set_key.Goals.returns-in-Err-clause-ends
-returns-in-Err-clause-ends g c = refused-ends _ _ c.refuse.result _ _ c.refuse.ensures.todo
+returns-in-Err-clause-ends g c = refused-ends _ _ c.fail_with.result _ _ c.fail_with.ensures.todo

@@ -1,44 +1,44 @@
 use Rattle.pagable_pageout.proofs.ItemLast.{refused-ends, written-ends}
-use Rattle.{std.{proofs.Common.{◌∷◌, None, length, ap, ◌∙◌, subst, sym, arith}, specs.Arc.arc_value}, pagable_pageout.specs.Turns.just_open, pagable_pager_spec.specs.Workers.settle}
+use Rattle.{std.{proofs.Common.{◌∷◌, None, length, ap, ◌∙◌, subst, sym, arith}, specs.Arc.arc_value}, pagable_pageout.specs.Turns.just_open, pagable_pager_spec.specs.Workers.advance}
 use Rattle.pagable_pager_spec.specs.World.{to_finish, was_refused}
 use Rattle.{pagable_load.proofs.LoadSteps.tells_map, pagable_pageout.proofs.Joint.{both-second, both-stays}}
-use Rattle.pagable_pageout.{proofs.{Stacks.settle-way, WorkerTurns.{same-shelf, write-fails, write-turns}}, specs.{Slots.written_of, Tasks.{IsWay, back_of, fails, todos}}}
+use Rattle.pagable_pageout.{proofs.{Stacks.advance-way, WorkerTurns.{same-shelf, write-fails, write-turns}}, specs.{Slots.written_of, Tasks.{EachIsAwaited, back_of, fails, todos}}}
 use Rattle.pagable_pageout.proofs.turns.write.Goals as goal
 
 pub returns-in-Ok-clause-goes : goal.returns-in-Ok-clause-goes
 returns-in-Ok-clause-goes g c =
     let node = just_open c.args.reference c.args.place c.args.through (written_of (arc_value c.in-Ok.told)) in
-    let e = c.settle.ensures.todo ∙ ap (λ t. settle (t ∷ todos c.prepare.new.path.items)) c.in-Ok.ensures.open
-    ∙ ap (λ ps. settle (to_finish node ∷ todos ps)) c.in-Ok.ensures.path in
+    let e = c.advance.ensures.todo ∙ ap (λ t. advance (t ∷ todos c.prepare.new.path.items)) c.in-Ok.ensures.open
+    ∙ ap (λ ps. advance (to_finish node ∷ todos ps)) c.in-Ok.ensures.path in
     record {
-      way = subst IsWay (sym e) (settle-way node (todos c.args.path.now.items) (omega arith) c.requires.0 (omega (arith, c.requires.1)));
-      leads = let same = ap (λ ps. length (todos ps)) c.in-Ok.ensures.path in let less = c.settle.ensures.less in omega (arith, same, less);
+      way = subst EachIsAwaited (sym e) (advance-way node (todos c.args.path.now.items) (omega arith) c.requires.0 (omega (arith, c.requires.1)));
+      leads = let same = ap (λ ps. length (todos ps)) c.in-Ok.ensures.path in let less = c.advance.ensures.less in omega (arith, same, less);
     }
 
 pub returns-in-Ok-clause-step : goal.returns-in-Ok-clause-step
 returns-in-Ok-clause-step g c n =
     let w = written_of (arc_value c.in-Ok.told) in
-    let e = c.settle.ensures.todo ∙ ap (λ t. settle (t ∷ todos c.prepare.new.path.items)) c.in-Ok.ensures.open
-    ∙ ap (λ ps. settle (to_finish (just_open c.args.reference c.args.place c.args.through w) ∷ todos ps)) c.in-Ok.ensures.path in
+    let e = c.advance.ensures.todo ∙ ap (λ t. advance (t ∷ todos c.prepare.new.path.items)) c.in-Ok.ensures.open
+    ∙ ap (λ ps. advance (to_finish (just_open c.args.reference c.args.place c.args.through w) ∷ todos ps)) c.in-Ok.ensures.path in
     let noted = rw c.in-Ok.ensures.listed at c.note_written.ensures in
     rw c.named-identity.ensures (both-second (tells_map (λ s h. c.in-Ok.ensures.forms s c.args.pin h) c.share-shared.ensures)
     (rw c.named-identity.ensures at noted)
-    (λ s x y forms same. write-turns _ _ n x y c.args.reference c.args.place c.args.through c.args.pin (todos c.args.path.now.items) _ c.settle.result
-    c.settle.ensures.plain s c.in-Ok.told forms same e))
+    (λ s x y forms same. write-turns _ _ n x y c.args.reference c.args.place c.args.through c.args.pin (todos c.args.path.now.items) _ c.advance.result
+    c.advance.ensures.plain s c.in-Ok.told forms same e))
 
 pub returns-in-Err-clause-step : goal.returns-in-Err-clause-step
 returns-in-Err-clause-step g c n =
-    let e = c.refuse.ensures.todo ∙ ap (λ ps. fails (was_refused c.in-Err.e) (back_of None (todos ps))) c.in-Err.ensures.path in
+    let e = c.fail_with.ensures.todo ∙ ap (λ ps. fails (was_refused c.in-Err.e) (back_of None (todos ps))) c.in-Err.ensures.path in
     rw c.named-identity.ensures (both-stays (tells_map (λ s h. c.in-Err.ensures.forms s c.args.pin h) c.share-shared.ensures)
-    (λ s x forms. write-fails _ _ n x x c.args.reference c.args.place c.args.through c.args.pin (todos c.args.path.now.items) _ c.refuse.result
-    c.refuse.ensures.plain s c.in-Err.e forms (same-shelf x) e))
+    (λ s x forms. write-fails _ _ n x x c.args.reference c.args.place c.args.through c.args.pin (todos c.args.path.now.items) _ c.fail_with.result
+    c.fail_with.ensures.plain s c.in-Err.e forms (same-shelf x) e))
 
 pub returns-in-Ok-clause-ends : goal.returns-in-Ok-clause-ends
 returns-in-Ok-clause-ends g c =
     let node = just_open c.args.reference c.args.place c.args.through (written_of (arc_value c.in-Ok.told)) in
-    let e = c.settle.ensures.todo ∙ ap (λ t. settle (t ∷ todos c.prepare.new.path.items)) c.in-Ok.ensures.open
-    ∙ ap (λ ps. settle (to_finish node ∷ todos ps)) c.in-Ok.ensures.path in
-    written-ends _ node (todos c.args.path.now.items) _ c.settle.result (λ w h. h) e
+    let e = c.advance.ensures.todo ∙ ap (λ t. advance (t ∷ todos c.prepare.new.path.items)) c.in-Ok.ensures.open
+    ∙ ap (λ ps. advance (to_finish node ∷ todos ps)) c.in-Ok.ensures.path in
+    written-ends _ node (todos c.args.path.now.items) _ c.advance.result (λ w h. h) e
 
 pub returns-in-Err-clause-ends : goal.returns-in-Err-clause-ends
-returns-in-Err-clause-ends g c = refused-ends _ _ c.refuse.result _ _ c.refuse.ensures.todo
+returns-in-Err-clause-ends g c = refused-ends _ _ c.fail_with.result _ _ c.fail_with.ensures.todo

@@ -1,5 +1,7 @@
+use Rattle.pagable_tables.specs.Core.{no_blobs}
+use Rattle.pagable_tables.specs.Core.{StorageView}
 use Rattle.pagable_tables.proofs.{SameViews.forgets-gone, Views.told-whole, Wholeness.whole-so}
-use Rattle.pagable_tables.proofs.Words.{Blob, Bool, Counts, NodeNumber, None, Option, Some, ap, arith, core_of, counts_at, false, if_there, if◌then◌else◌, is_some, known_at, nat_tests, option_map, plain_of, refl, ℕ, ◌≡◌, ◌∙◌}
+use Rattle.pagable_tables.proofs.Words.{Counts, NodeNumber, None, Option, Some, ap, arith, core_of, counts_at, if_there, if◌then◌else◌, is_some, known_at, nat_tests, option_map, core_alone, refl, ℕ, ◌≡◌, ◌∙◌}
 use Rattle.pagable_tables.specs.Nodes.{cell_in, living}
 use Rattle.pagable_tables.proofs.cache.forget_gone.Goals as goal
 
@@ -16,11 +18,11 @@ returns-clause-does c =
     let t1 = record t { cache = c.keep_living.new.cache; cache_limit = c.saturating_add-t.result } in
     let known = λ (kind key : ℕ). number (known_at c.keep_living.new.cache kind key) in
     let is = λ (kind key : ℕ). ap number (c.keep_living.ensures kind key) ∙ left (counts_at t.ref_counts.nodes) (known_at t.cache kind key) in
-    let forgets = λ (stored : ℕ → Option Blob) (closed : Bool) (failures : ℕ). forgets-gone (core_of t stored closed failures) known is in
-    let plain = forgets (λ key. None) false 0 in
+    let forgets = λ (storage : StorageView). forgets-gone (core_of t storage) known is in
+    let plain = forgets no_blobs in
     record {
       does = forgets;
-      whole = whole-so c.requires.steady (told-whole (plain_of t1) c.requires.core refl (λ n. refl) refl plain.cache.only (λ l. refl) (λ v. refl) refl);
+      whole = whole-so c.requires.steady (told-whole (core_alone t1) c.requires.core refl (λ n. refl) refl plain.cache.only (λ l. refl) (λ v. refl) refl);
       later = λ later. record {
         given = later.given;
         since = later.since;

@@ -1,29 +1,32 @@
+use Rattle.pagable_tables.specs.Core.{StorageView}
+use Rattle.pagable_tables.proofs.CascadeStep.{opened-view}
+use Rattle.pagable_tables.specs.Core.{no_blobs}
 use Rattle.pagable_tables.proofs.{CallsKeepWhole.{known-suits, learns-whole}, CascadeStep.{begun-whole, closed-is}}
 use Rattle.pagable_tables.proofs.{OwnedByLoad.{begun-made, falls-made, found-again, later-on}, RowCounts.found-among, Wholeness.whole-so}
 use Rattle.pagable_tables.proofs.{CascadeEnd.{sheds-still, stays-first}, Views.{lone-falling, not-a-value, not-list, told-whole}}
-use Rattle.pagable_tables.proofs.Words.{Alike, NodeNumber, None, Owner, Owns, any_mode, ap, arith, core_of}
+use Rattle.pagable_tables.proofs.Words.{Alike, NodeNumber, Owner, Owns, any_mode, ap, arith, core_of}
 use Rattle.pagable_tables.proofs.Words.{counts_at, false, fits_mode, has_value, inl, inr, is_owner, is_pinning, is_valued, length, mode_of, nat_tests, not, offer_fault, only_handle, option_map}
 use Rattle.pagable_tables.proofs.SameViews.{alike-on, failed, not-recalled, owner-same, owner-self, same-cache}
-use Rattle.pagable_tables.proofs.Words.{plain_of, recall_fault, refl, sym, true, with_cached, with_known, ℕ, ◌+◌, ◌∙◌, ◌≡◌}
+use Rattle.pagable_tables.proofs.Words.{core_alone, recall_fault, refl, sym, true, with_cached, with_known, ℕ, ◌+◌, ◌∙◌, ◌≡◌}
 use Rattle.pagable_tables.proofs.cache.offer.Goals as goal
 
 pub make-requires-clause-suits : goal.make-requires-clause-suits
 make-requires-clause-suits g c = rw c.mode_of.ensures (known-suits c.requires.whole.core c.args.kind.0 c.args.key c.in-Some.node.0
-    (sym (c.in-Some.ensures (λ key. None) false 0)))
+    (sym (c.in-Some.ensures no_blobs)))
 
 pub unreachable-requires : goal.unreachable-requires
 unreachable-requires g c =
-    let came = (c.in_ok-known.ensures.does.does (λ key. None) false 0).made.1.rows in
+    let came = (c.in_ok-known.ensures.does.does no_blobs).made.1.rows in
     let again = found-again c.args.handle.0 _ _ _ c.in_ok-row.row _ c.in_ok-row.ensures.owns.live came refl in
-    grind (arith, nat_tests, again, owner-self, c.in_ok-row.ensures.owns.own, c.in_default-own.ensures.fault (λ key. None) false 0 any_mode)
+    grind (arith, nat_tests, again, owner-self, c.in_ok-row.ensures.owns.own, c.in_default-own.ensures.fault no_blobs any_mode)
 
 pub try_release_at-requires-clause-plain : goal.try_release_at-requires-clause-plain
 try_release_at-requires-clause-plain g c = ap is_valued (owner-same c.args.me c.in-Ok.at.row.owner c.in-Ok.ensures.owner)
-    ∙ not-a-value (plain_of c.args.t.now) c.args.me c.requires.holder
+    ∙ not-a-value (core_alone c.args.t.now) c.args.me c.requires.holder
 
 pub try_release_at-requires-clause-free : goal.try_release_at-requires-clause-free
 try_release_at-requires-clause-free g c = ap (is_owner Owner.List) (owner-same c.args.me c.in-Ok.at.row.owner c.in-Ok.ensures.owner)
-    ∙ not-list (plain_of c.args.t.now) c.args.me c.requires.holder
+    ∙ not-list (core_alone c.args.t.now) c.args.me c.requires.holder
 
 pub returns : goal.returns
 returns g c =
@@ -31,25 +34,26 @@ returns g c =
     let t1 = c.make.new.t in
     let node = c.in-Some.node in
     let made = c.in_ok-known.ensures.does in
-    let went = lone-falling {w = plain_of t1} made.whole.core (c.try_release_at.ensures.falls (plain_of t1) (plain_of t1)
-    (begun-whole t1 (λ key. None) false true 0 made.whole refl) (omega arith)) in
+    let went = lone-falling {w = core_alone t1} made.whole.core (c.try_release_at.ensures.falls (core_alone t1) (core_alone t1)
+    (begun-whole t1 no_blobs true made.whole refl) (omega arith)) in
     record {
-      offered = λ stored closed failures e.
-          (let w = core_of t stored false failures in
+      offered = λ storage e.
+          (let o : StorageView = record storage { closed = false } in
+          let w = core_of t o in
           let u = with_known w c.args.kind node.0 c.args.me in
           let owns : Owns w c.args.me c.args.handle (fits_mode c.args.kind.0) c.in_ok-row.row = grind (arith, nat_tests, c.in_ok-row.ensures.owns) in
-          let m = (made.does stored false failures).made in
-          let alike : Alike u (core_of t1 stored false failures) = rw c.mode_of.ensures at m.1 in
-          let begun = begun-made t t1 stored false failures node (mode_of c.args.kind.0) c.args.me made.whole alike true refl in
+          let m = (made.does o).made in
+          let alike : Alike u (core_of t1 o) = rw c.mode_of.ensures at m.1 in
+          let begun = begun-made t t1 o node (mode_of c.args.kind.0) c.args.me made.whole alike true refl in
           let given = found-among c.args.handle.0 w.rows c.in_ok-row.row owns.live in
           let spared : only_handle c.args.handle (w.last.handle + 1) ≡ false =
           let a = (c.requires.whole.core.handles.numbered c.in_ok-row.row given.0).1 in let b = given.1 in grind (arith, nat_tests) in
-          let falls = falls-made t t1 stored false failures node (mode_of c.args.kind.0) c.args.me made.whole alike c.in_ok-known.ensures.same
-          (not-a-value (plain_of t) c.args.me c.requires.holder)
+          let falls = falls-made t t1 o node (mode_of c.args.kind.0) c.args.me made.whole alike c.in_ok-known.ensures.same
+          (not-a-value (core_alone t) c.args.me c.requires.holder)
           c.try_release_at.new.t (rw c.in-Ok.ensures.number at (c.try_release_at.ensures.falls u u begun (let a = ap length alike.rows in omega arith)))
           spared in
-          let is = sym (c.in-Some.ensures stored false failures) in
-          rw (closed-is c.args.lists closed e ∙ ap not c.if-not-lists.false)
+          let is = sym (c.in-Some.ensures o) in
+          rw (opened-view storage (closed-is c.args.lists storage.closed e ∙ ap not c.if-not-lists.false))
           (record {
             answers = (
               c.in_ok-row.row,
@@ -62,33 +66,33 @@ returns g c =
       whole = whole-so c.try_release_at.ensures.steady went.whole;
       sheds = λ there.
           stays-first (λ n. c.in_ok-known.ensures.values n (λ eq pins. ap (λ k. has_value (counts_at t.ref_counts.nodes k)) eq
-          ∙ there node.0 (sym (c.in-Some.ensures (λ key. None) false 0)) (ap is_pinning (sym c.mode_of.ensures) ∙ pins))) c.try_release_at.ensures.sheds;
+          ∙ there node.0 (sym (c.in-Some.ensures no_blobs)) (ap is_pinning (sym c.mode_of.ensures) ∙ pins))) c.try_release_at.ensures.sheds;
       later = λ later. later-on (made.later later) went.newer refl refl refl;
     }
 
 pub forget_gone-requires : goal.forget_gone-requires
 forget_gone-requires g c =
-    let w = plain_of c.args.t.now in
+    let w = core_alone c.args.t.now in
     let owns : Owns w c.args.me c.args.handle (fits_mode c.args.kind.0) c.in_ok-row.row = grind (arith, nat_tests, c.in_ok-row.ensures.owns) in
-    let alike : Alike (with_cached w c.args.kind c.args.key c.in_ok-row.row.node) (plain_of (record c.args.t.now { cache = c.put.new.cache })) =
+    let alike : Alike (with_cached w c.args.kind c.args.key c.in_ok-row.row.node) (core_alone (record c.args.t.now { cache = c.put.new.cache })) =
     grind (arith, nat_tests, same-cache, c.in_ok-put.ensures.here, c.in_ok-put.ensures.others) in
     whole-so c.requires.whole.steady (learns-whole c.args.me c.args.kind c.args.key c.args.handle c.in_ok-row.row c.requires.whole.core owns
     c.in_ok-row.ensures.typed alike)
 
 pub returns-in_default-clause-offered : goal.returns-in_default-clause-offered
-returns-in_default-clause-offered g c stored closed failures e =
-    let w = core_of c.args.t.now stored false failures in
+returns-in_default-clause-offered g c storage e =
+    let o : StorageView = record storage { closed = false } in
+    let w = core_of c.args.t.now o in
     let owns : Owns w c.args.me c.args.handle (fits_mode c.args.kind.0) c.in_ok-row.row = grind (arith, nat_tests, c.in_ok-row.ensures.owns) in
-    let alike : Alike (with_cached w c.args.kind c.args.key c.in_ok-row.row.node)
-    (core_of (record c.args.t.now { cache = c.put.new.cache }) stored false failures) =
+    let alike : Alike (with_cached w c.args.kind c.args.key c.in_ok-row.row.node) (core_of (record c.args.t.now { cache = c.put.new.cache }) o) =
     grind (arith, nat_tests, same-cache, c.in_ok-put.ensures.here, c.in_ok-put.ensures.others) in
-    rw (closed-is c.args.lists closed e ∙ ap not c.if-not-lists.false)
+    rw (opened-view storage (closed-is c.args.lists storage.closed e ∙ ap not c.if-not-lists.false))
     (record {
       answers = (
         c.in_ok-row.row,
         owns,
         c.in_ok-row.ensures.typed,
-        (refl, sym (c.in_default.ensures stored false failures), alike-on alike (c.forget_gone.ensures.does.does stored false failures)),
+        (refl, sym (c.in_default.ensures o), alike-on alike (c.forget_gone.ensures.does.does o)),
       );
       refused = tt;
     })
@@ -99,19 +103,21 @@ returns-in_default-clause-whole g c = c.forget_gone.ensures.does.whole
 pub returns-in_err-put-clause-whole : goal.returns-in_err-put-clause-whole
 returns-in_err-put-clause-whole g c =
     let same = λ (kind key : ℕ). ap (option_map (λ (n : NodeNumber). n.0)) (c.in_err-put.ensures.err kind key) in
-    whole-so c.requires.whole.steady (told-whole (plain_of (record c.args.t.now { cache = c.put.new.cache }))
+    whole-so c.requires.whole.steady (told-whole (core_alone (record c.args.t.now { cache = c.put.new.cache }))
     c.requires.whole.core refl (λ n. refl) refl (λ kind key n is. sym (same kind key) ∙ is) (λ l. refl) (λ v. refl) refl)
 
 pub returns-in_err-known-clause-offered : goal.returns-in_err-known-clause-offered
-returns-in_err-known-clause-offered g c stored closed failures e =
-    let w = core_of c.args.t.now stored false failures in
+returns-in_err-known-clause-offered g c storage e =
+    let o : StorageView = record storage { closed = false } in
+    let w = core_of c.args.t.now o in
     let owns : Owns w c.args.me c.args.handle (fits_mode c.args.kind.0) c.in_ok-row.row = grind (arith, nat_tests, c.in_ok-row.ensures.owns) in
-    let is = sym (c.in-Some.ensures stored false failures) in
+    let is = sym (c.in-Some.ensures o) in
     let call = not-recalled w c.args.me c.args.kind c.args.key c.in-Some.node c.mode_of.result _ is c.mode_of.ensures _
-    (c.in_err-known.ensures.does.does stored false failures) in
+    (c.in_err-known.ensures.does.does o) in
     let cause : offer_fault w c.args.me c.args.kind c.args.key c.args.handle ≡ recall_fault w c.args.kind c.args.key =
     grind (arith, nat_tests, c.in_ok-row.ensures.typed) in
-    rw (closed-is c.args.lists closed e ∙ ap not c.if-not-lists.false) (rw (failed c.from_residual-in_err-known.result c.from_residual-in_err-known.ensures.1)
+    rw (opened-view storage (closed-is c.args.lists storage.closed e ∙ ap not c.if-not-lists.false))
+    (rw (failed c.from_residual-in_err-known.result c.from_residual-in_err-known.ensures.1)
     record {
       answers = tt;
       refused = record {
@@ -123,5 +129,5 @@ returns-in_err-known-clause-offered g c stored closed failures e =
 pub returns-in_err-known-clause-sheds : goal.returns-in_err-known-clause-sheds
 returns-in_err-known-clause-sheds g c there = stays-first (λ n. c.in_err-known.ensures.values n
     (λ eq pins. ap (λ k. has_value (counts_at c.args.t.now.ref_counts.nodes k)) eq
-    ∙ there c.in-Some.node.0 (sym (c.in-Some.ensures (λ key. None) false 0)) (ap is_pinning (sym c.mode_of.ensures) ∙ pins)))
+    ∙ there c.in-Some.node.0 (sym (c.in-Some.ensures no_blobs)) (ap is_pinning (sym c.mode_of.ensures) ∙ pins)))
     (sheds-still c.make.new.t.ref_counts _ c.in_err-known.ensures.does.whole.steady)

@@ -3,13 +3,13 @@ use Rattle.pagable_tables.proofs.Words.{AreKept, Bool, Core, IsFalling, List, So
 use Rattle.pagable_tables.proofs.Words.{◌+◌, ◌≡◌, ◌≤◌}
 use Rattle.pagable_tables.proofs.cascade.cascade.Given as goal
 
-abbrev pub invariant-fall : goal.invariant-fall
-invariant-fall g l = ((stack : List ℕ) × IsFalling l.t stack owns_nothing × (2 * valued (live l.t.handles.places.items) + length stack ≤ l.left))
+abbrev pub invariant-finish_cascade : goal.invariant-finish_cascade
+invariant-finish_cascade g l = ((stack : List ℕ) × IsFalling l.t stack owns_nothing × (2 * valued (live l.t.handles.places.items) + length stack ≤ l.left))
     × ((before w : Core) (given : ℕ → Bool) → SoFar before w given l.lists l.initial.t → SoFar before w given l.lists l.t)
     × (AreKept (counts_at l.initial.t.nodes) (row_by l.initial.values) → (n : ℕ)
     → Lasting (counts_at l.t.nodes n) (row_by l.initial.values n) (row_by l.values n))
     × (length (live l.t.handles.places.items) ≤ length (live l.initial.t.handles.places.items))
     × (l.lists ≡ false → l.t.list.items ≡ l.initial.t.list.items)
 
-abbrev pub decreases-fall : goal.decreases-fall
-decreases-fall g l = l.left
+abbrev pub decreases-finish_cascade : goal.decreases-finish_cascade
+decreases-finish_cascade g l = l.left

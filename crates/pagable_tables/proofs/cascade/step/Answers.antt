@@ -1,7 +1,7 @@
 use Rattle.pagable_tables.proofs.CascadeStep.{done-fits, done-gone, fallen, fits-same, is_owned, taken-fits, taken-owned, taken-there, top-stands}
 use Rattle.pagable_tables.proofs.{CascadeStep.top-there, Counting.gives-sums, HandleTable.{none-found, only-row}}
 use Rattle.pagable_tables.proofs.CascadeEnd.{gives-fewer, gives-unlisted}
-use Rattle.pagable_tables.proofs.Words.{ArcRef, GivesUp, HandleNumber, HandleRow, RefCounts, IsFalling, List, Some, ValueStays, [], alive, ap, append-nil}
+use Rattle.pagable_tables.proofs.Words.{ArcRef, ReleasesWithoutCascade, HandleNumber, HandleRow, RefCounts, IsFalling, List, Some, ValueStays, [], alive, ap, append-nil}
 use Rattle.pagable_tables.proofs.Words.{arith}
 use Rattle.pagable_tables.proofs.Words.{cases_eq, counts_at, false, inl, inr, is_valued, length, live, nat_tests, one, owner_value, owns, owns_nothing, refl, refs_at, slice_get, subst, sym, ℕ, ◌&&◌}
 use Rattle.pagable_tables.proofs.{Words.{is_at, sum_by-le-sum_by, ◌++◌, ◌==◌, ◌∙◌, ◌∷◌, ◌≡◌, ◌≢◌}, WorkCounts.work-more}
@@ -33,8 +33,8 @@ module _ (t mid : RefCounts) (ns : List ℕ) (p : ArcRef) (i : ℕ) (x : HandleR
         },
       )
 
-pub give_up-requires-clause-falling : goal.give_up-requires-clause-falling
-give_up-requires-clause-falling c =
+pub release_without_cascade-requires-clause-falling : goal.release_without_cascade-requires-clause-falling
+release_without_cascade-requires-clause-falling c =
     let t = c.args.t.now in
     let s = top-stands t c.requires.falling.0 c.requires.some c.requires.falling.1 in
     let e = c.in-Some.ensures in
@@ -89,13 +89,13 @@ returns-in-Some-look c stack w =
     let mid : RefCounts = record t { nodes = c.pop_reference.new.nodes } in
     let o = taken t mid s.0 c.in-Some.reference c.in-Some-look.at.place x s.2 e.here e.others e.counts e.work
     c.in-Some-look.ensures.place (ap (λ (n : HandleNumber). n.0) c.in-Some-look.ensures.number) in
-    let g : GivesUp mid (t.top ∷ s.0) x false c.args.lists c.give_up.new.t = c.give_up.ensures (t.top ∷ s.0) o.1 in
+    let g : ReleasesWithoutCascade mid (t.top ∷ s.0) x false c.args.lists c.release_without_cascade.new.t = c.release_without_cascade.ensures (t.top ∷ s.0) o.1 in
     record {
       rest = g.more;
       falling = g.falling;
       less = grind (arith, nat_tests, gives-sums g (λ h. one (is_valued h.owner)), ap (λ k. one (is_valued k)) o.0, ap length s.1);
       cells = λ m some. grind (arith, nat_tests, e.counts m, g.cells m);
-      values = λ m _. subst (λ o. ValueStays o (counts_at c.give_up.new.t.nodes m)) (e.counts m) (g.values m);
+      values = λ m _. subst (λ o. ValueStays o (counts_at c.release_without_cascade.new.t.nodes m)) (e.counts m) (g.values m);
       gone = tt;
       fewer = gives-fewer g;
       unlisting = λ none. gives-unlisted none g;

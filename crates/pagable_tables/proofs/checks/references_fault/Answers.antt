@@ -1,5 +1,6 @@
+use Rattle.pagable_tables.specs.Core.{StorageView}
 use Rattle.pagable_tables.proofs.SameViews.{fault-at, named-other, seen-more}
-use Rattle.pagable_tables.proofs.Words.{ArcRef, Blob, Bool, None, Option, Some, arith, core_of, get_or, sym, ℕ, ◌∙◌, ◌∷◌}
+use Rattle.pagable_tables.proofs.Words.{ArcRef, None, Some, arith, core_of, get_or, sym, ◌∙◌, ◌∷◌}
 
 abbrev blank : ArcRef
 blank = record { kind = record { 0 = 0 }; node = record { 0 = 0 }; handle = record { 0 = 0 } }
@@ -9,8 +10,7 @@ loop-i-preserved c =
     let l = c.loop-i in
     let rs = c.args.references.now in
     let named = l.invariant.same _ ∙ sym c.is_named-is_seen.ensures in
-    let none = λ (stored : ℕ → Option Blob) (closed : Bool) (failures : ℕ). sym (c.fault_of.ensures stored closed failures l.invariant.seen named)
-    ∙ c.in_default.is in
+    let none = λ (storage : StorageView). sym (c.fault_of.ensures storage l.invariant.seen named) ∙ c.in_default.is in
     record {
       seen = (get_or rs l.i blank).handle.0 ∷ l.invariant.seen;
       same = seen-more l.invariant.seen rs l.i blank (omega arith) l.invariant.same;
@@ -18,13 +18,13 @@ loop-i-preserved c =
           (l.invariant.lowest q (omega (arith, c.min-lowest.ensures)));
       highest = λ q above. named-other rs l.i blank q (omega (arith, c.max-highest.ensures)) (omega arith)
           (l.invariant.highest q (omega (arith, c.max-highest.ensures)));
-      rest = λ stored closed failures. l.invariant.rest stored closed failures
-          ∙ fault-at (core_of c.args.t.now stored closed failures) c.args.me l.invariant.seen rs l.i blank None (omega arith) (none stored closed failures);
+      rest = λ storage. l.invariant.rest storage ∙ fault-at (core_of c.args.t.now storage) c.args.me l.invariant.seen rs l.i blank None (omega arith)
+          (none storage);
     }
 
 pub returns-in-Some : Rattle.pagable_tables.proofs.checks.references_fault.Goals.returns-in-Some
-returns-in-Some c stored closed failures =
+returns-in-Some c storage =
     let l = c.loop-i in
-    let fault = sym (c.fault_of.ensures stored closed failures l.invariant.seen (l.invariant.same _ ∙ sym c.is_named-is_seen.ensures)) ∙ c.in-Some.is in
-    sym (l.invariant.rest stored closed failures ∙ fault-at (core_of c.args.t.now stored closed failures) c.args.me l.invariant.seen c.args.references.now l.i _
-    (Some c.in-Some.e) (omega arith) fault)
+    let fault = sym (c.fault_of.ensures storage l.invariant.seen (l.invariant.same _ ∙ sym c.is_named-is_seen.ensures)) ∙ c.in-Some.is in
+    sym (l.invariant.rest storage ∙ fault-at (core_of c.args.t.now storage) c.args.me l.invariant.seen c.args.references.now l.i _ (Some c.in-Some.e)
+    (omega arith) fault)

@@ -1,4 +1,5 @@
-use Rattle.pagable_tables.proofs.Words.{◌≡◌, ◌<◌, ℕ, Bool, false, Option, List, [], take, drop, Blob, is_in, references_fault, is_named_by, core_of}
+use Rattle.pagable_tables.specs.Core.{StorageView}
+use Rattle.pagable_tables.proofs.Words.{◌≡◌, ◌<◌, ℕ, false, List, [], take, drop, is_in, references_fault, is_named_by, core_of}
 use Rattle.pagable_tables.proofs.checks.references_fault.Given as goal
 
 abbrev pub invariant-loop-i : goal.invariant-loop-i
@@ -7,6 +8,6 @@ invariant-loop-i l = record {
   same : (q : ℕ) → is_in seen q ≡ is_named_by (take l.i l.references) q;
   lowest : (q : ℕ) → q < l.lowest → is_named_by (take l.i l.references) q ≡ false;
   highest : (q : ℕ) → l.highest < q → is_named_by (take l.i l.references) q ≡ false;
-  rest : (stored : ℕ → Option Blob) (closed : Bool) (failures : ℕ) → references_fault (core_of l.t stored closed failures) l.me [] l.references
-      ≡ references_fault (core_of l.t stored closed failures) l.me seen (drop l.i l.references);
+  rest : (storage : StorageView) → references_fault (core_of l.t storage) l.me [] l.references
+      ≡ references_fault (core_of l.t storage) l.me seen (drop l.i l.references);
 }

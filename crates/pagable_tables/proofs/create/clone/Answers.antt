@@ -4,4 +4,4 @@ pub make-requires-clause-suits : Rattle.pagable_tables.proofs.create.clone.Goals
 make-requires-clause-suits c = grind (arith, nat_tests, found-among, c.in-Some.ensures.found)
 
 pub returns : Rattle.pagable_tables.proofs.create.clone.Goals.returns
-returns c = does-as c.make.ensures.does (λ stored closed failures made. grind (arith, nat_tests, c.in-Some.ensures.found))
+returns c = does-as c.make.ensures.does (λ storage made. grind (arith, nat_tests, c.in-Some.ensures.found))

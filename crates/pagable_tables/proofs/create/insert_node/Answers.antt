@@ -1,6 +1,6 @@
 use Rattle.pagable_tables.proofs.{CascadeStep.rows-told, LoadEnd.born-fits, OwnedByLoad.{bears-goes, does-so}, Views.not-a-value}
 use Rattle.pagable_tables.proofs.Words.{Counts, HandleRow, NodeRow, None, Option, Some, [], ap, arith}
-use Rattle.pagable_tables.proofs.Words.{counts_at, false, has_key, inl, inr, is_named_by, is_pinning, key_in, live, moved, nat_tests, one, option_map, owner_value, plain_of, refl, refs_at, ℕ}
+use Rattle.pagable_tables.proofs.Words.{counts_at, false, has_key, inl, inr, is_named_by, is_pinning, key_in, live, moved, nat_tests, one, option_map, owner_value, core_alone, refl, refs_at, ℕ}
 use Rattle.pagable_tables.proofs.{Words.{cases_eq, ◌≤◌}, WorkCounts.{work-moved, work-push, work-told}}
 use Rattle.pagable_tables.specs.{CascadeInvariant.is_worker, Nodes.work_at}
 use Rattle.pagable_tables.proofs.{SameViews.same-cache, Words.{◌++◌, ◌+◌, ◌∙◌, ◌∷◌, ◌≡◌, ◌≢◌}}
@@ -32,12 +32,12 @@ returns-clause-does c =
     let more : (q : ℕ) → work_at t.nodes q ≤ work_at c.put.new.self q = λ q. let a =
     λ (ne : q ≢ n). ap works (c.put.ensures.others q ne) in grind (arith, nat_tests, cases_eq q n) in
     let worked = work-push given x t.nodes c.put.new.self before more (let a = before n in omega (arith, none, worker)) in
-    let unvalued = not-a-value (plain_of u) me c.requires.holder in
-    let fits = born-fits (plain_of u) me rs w.core.handles.ordered c.requires.fit unvalued at (counts_at c.put.new.self) (refs_at t.nodes)
+    let unvalued = not-a-value (core_alone u) me c.requires.holder in
+    let fits = born-fits (core_alone u) me rs w.core.handles.ordered c.requires.fit unvalued at (counts_at c.put.new.self) (refs_at t.nodes)
     (refs_at c.put.new.self) t.top x _ w.steady.fits refl
     refl (elim c.requires.bare [ inl none ↦ inl none | inr so ↦ inr so.1 ]) (omega arith) free here others (ap refers c.put.ensures.here)
     (λ q ne. ap refers (c.put.ensures.others q ne)) in
-    does-so (λ stored closed failures. grind (arith, nat_tests, same-cache))
+    does-so (λ storage. grind (arith, nat_tests, same-cache))
     (record {
       sound = c.push.ensures.sound;
       next = c.in-Ok.ensures.next;

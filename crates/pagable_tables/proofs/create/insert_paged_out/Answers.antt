@@ -6,13 +6,13 @@ insert_node-requires-clause-fit c = none-named _ c.args.me _ c.new.ensures.items
 
 pub returns : goal.returns
 returns c = does-then c.make_ready_to_learn.ensures.does c.insert_node.ensures.does
-    (λ stored closed failures room born. away-born c.args.me c.args.node_type c.args.key c.get.result _ c.insert_node.result room
+    (λ storage room born. away-born c.args.me c.args.node_type c.args.key c.get.result _ c.insert_node.result room
     c.in_ok-make_ready_to_learn.ensures.ready.node_left c.get.ensures.value (omega arith) c.new.ensures.items born)
 
 pub returns-in_err-make_ready_to_learn : goal.returns-in_err-make_ready_to_learn
 returns-in_err-make_ready_to_learn c = rw (failed c.from_residual.result c.from_residual.ensures.1) (let ready = c.make_ready_to_learn.ensures.does in
     record {
-      does = λ stored closed failures. record { made = tt; refused = weaker (c.in_err-make_ready_to_learn.ensures.refused stored closed failures) };
+      does = λ storage. record { made = tt; refused = weaker (c.in_err-make_ready_to_learn.ensures.refused storage) };
       whole = ready.whole;
       later = ready.later;
     })

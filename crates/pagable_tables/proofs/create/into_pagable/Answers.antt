@@ -4,16 +4,13 @@ use Rattle.pagable_tables.proofs.create.into_pagable.Goals as goal
 
 pub returns-in_err-at : goal.returns-in_err-at
 returns-in_err-at c = rw (failed c.from_residual.result c.from_residual.ensures.1)
-    (nothing-does c.requires (λ stored closed failures. record {
-      turned = tt;
-      refused = (c.in_err-at.ensures.fault stored closed failures is_pinned, still _);
-    }))
+    (nothing-does c.requires (λ storage. record { turned = tt; refused = (c.in_err-at.ensures.fault storage is_pinned, still _) }))
 
 pub returns : goal.returns
 returns c =
     let row = c.in_ok-at.at.row in
     let number = c.in_ok-at.ensures.number in
-    does-as c.set_loose_pinned.ensures.does (λ stored closed failures turned. record {
+    does-as c.set_loose_pinned.ensures.does (λ storage turned. record {
       turned = (
         row,
         record { live = c.in_ok-at.ensures.found; own = owner-same c.args.me row.owner c.in_ok-at.ensures.owner; as_asked = search rules },

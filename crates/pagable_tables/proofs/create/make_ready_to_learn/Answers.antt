@@ -7,8 +7,8 @@ returns-in_err-and-clause-does c = widens-does c.args.t.now _ _ _ c.requires c.r
     (λ kind key. rw c.reserve-cache.ensures.entries refl)
 
 pub returns-in_err-and-clause-refused : goal.returns-in_err-and-clause-refused
-returns-in_err-and-clause-refused c stored closed failures = rw (failed c.from_residual.result c.from_residual.ensures.1)
-    (record { why = inr (refl, grind (arith, nat_tests), tt); stays = room-alike ((returns-in_err-and-clause-does c).does stored closed failures) })
+returns-in_err-and-clause-refused c storage = rw (failed c.from_residual.result c.from_residual.ensures.1)
+    (record { why = inr (refl, grind (arith, nat_tests), tt); stays = room-alike ((returns-in_err-and-clause-does c).does storage) })
 
 pub returns-clause-does : goal.returns-clause-does
 returns-clause-does c = widens-does c.args.t.now _ _ _ c.requires c.reserve-handles.ensures.widens

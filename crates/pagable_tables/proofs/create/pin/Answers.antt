@@ -6,9 +6,9 @@ use Rattle.pagable_tables.proofs.create.pin.Goals as goal
 
 pub returns-in_err-at : goal.returns-in_err-at
 returns-in_err-at c = rw (failed c.from_residual.result c.from_residual.ensures.1) (nothing-does c.requires.whole
-    (λ stored closed failures.
-    let w = core_of c.args.t.now stored closed failures in
-    let why = handle-first w c.args.me c.args.handle is_loose c.in_err-at.field-0.0 _ (c.in_err-at.ensures.fault stored closed failures is_loose)
+    (λ storage.
+    let w = core_of c.args.t.now storage in
+    let why = handle-first w c.args.me c.args.handle is_loose c.in_err-at.field-0.0 _ (c.in_err-at.ensures.fault storage is_loose)
     (λ f so. let a = spent-late w.last.handle _ f so in omega arith) in
     record { pins = tt; refused = record { why = inl why; stays = still _ } }))
 
@@ -16,8 +16,8 @@ pub returns : goal.returns
 returns c =
     let row = c.in_ok-at.at.row in
     does-as c.in_ok-pin_here.ensures.does
-    (λ stored closed failures m.
-    let w = core_of c.args.t.now stored closed failures in
+    (λ storage m.
+    let w = core_of c.args.t.now storage in
     let here : is_here w row.node.0 ≡ true = search rules in
     let owns : Owns w c.args.me c.args.handle is_loose row = record {
       live = c.in_ok-at.ensures.found;
@@ -30,8 +30,8 @@ pub returns-in_err-pin_here : goal.returns-in_err-pin_here
 returns-in_err-pin_here c =
     let row = c.in_ok-at.at.row in
     rw (failed c.from_residual-in_err-pin_here.result c.from_residual-in_err-pin_here.ensures.1) (does-as c.in_err-pin_here.ensures.does
-    (λ stored closed failures m.
-    let w = core_of c.args.t.now stored closed failures in
+    (λ storage m.
+    let w = core_of c.args.t.now storage in
     let here : is_here w row.node.0 ≡ true = search rules in
     let so : is_handle_here w c.args.handle ≡ true = ap (if_there (λ (row : HandleRow). is_here w row.node.0) false) c.in_ok-at.ensures.found ∙ here in
     let owns : Owns w c.args.me c.args.handle is_loose row = record {

@@ -14,8 +14,7 @@ returns-clause-does c =
     let here = e.here ∙ ap (λ (k : Counts). Some (record k { holds = y.holds })) (c.counts_more-pinned.ensures
     ∙ ap (λ p. record y { pins = y.pins + one (not p); holds = y.holds + 1 }) c.pins.ensures) in
     does-so
-    (λ stored closed failures. alike _ _ (c.set.ensures.becomes.rows ∙ changed-known t.handles.places.items c.args.at.place x w.steady.sound.ordered
-    c.requires.place turned)
+    (λ storage. alike _ _ (c.set.ensures.becomes.rows ∙ changed-known t.handles.places.items c.args.at.place x w.steady.sound.ordered c.requires.place turned)
     (λ q. grind (arith, nat_tests, cases_eq q x.node.0, is, here, e.others q)) refl (record { handles = omega arith; entries = omega arith }) refl)
     (record {
       sound = c.set.ensures.becomes.sound;

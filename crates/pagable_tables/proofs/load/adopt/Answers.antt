@@ -1,8 +1,8 @@
-use Rattle.pagable_tables.proofs.{SameViews.fitting, Words.{arith, first_key, key_in, nat_tests, plain_of, ◌≡◌}}
+use Rattle.pagable_tables.proofs.{SameViews.fitting, Words.{arith, first_key, key_in, nat_tests, core_alone, ◌≡◌}}
 
 pub learn_new-requires-clause-fit : Rattle.pagable_tables.proofs.load.adopt.Goals.learn_new-requires-clause-fit
-learn_new-requires-clause-fit c = fitting (plain_of c.args.t.now) c.requires.asked.0 c.args.load c.args.kind c.args.key c.requires.asked.1
+learn_new-requires-clause-fit c = fitting (core_alone c.args.t.now) c.requires.asked.0 c.args.load c.args.kind c.args.key c.requires.asked.1
     c.args.references.items c.requires.asked.2
 
 pub returns : Rattle.pagable_tables.proofs.load.adopt.Goals.returns
-returns c = let is : key_in c.if-is_pinned_kind.own_key ≡ first_key c.args.kind.0 c.args.key = grind (arith, nat_tests) in rw is at c.learn_new.ensures
+returns c = let is : key_in c.if-is_pinned.own_key ≡ first_key c.args.kind.0 c.args.key = grind (arith, nat_tests) in rw is at c.learn_new.ensures

@@ -1,7 +1,7 @@
 use Rattle.pagable_tables.proofs.Words.{Error, arith, is_loose_kind, nat_tests, not, refl, refused_if, type_of, ◌==◌, ◌≡◌}
 
 pub returns : Rattle.pagable_tables.proofs.load.adopt_fault.Goals.returns
-returns c stored closed failures =
+returns c storage =
     let mode : c.then_some-mode.result ≡ refused_if (is_loose_kind c.args.kind.0) Error.WrongMode = grind (arith, nat_tests) in
     let typed : c.then_some-typed.result ≡ refused_if (not (c.args.node_type == type_of c.args.kind.0)) Error.WrongKind = grind (arith, nat_tests) in
     rw (
@@ -12,5 +12,5 @@ returns c stored closed failures =
       c.load_of.ensures,
       mode,
       typed,
-      c.references_fault-fit.ensures stored closed failures,
+      c.references_fault-fit.ensures storage,
     ) refl

@@ -4,7 +4,7 @@ use Rattle.pagable_tables.proofs.load.hand_over_named.Goals as goal
 
 pub loop-reference-init : goal.loop-reference-init
 loop-reference-init g c =
-    let t = record c.args.t.now { unlisted = None } in (
+    let t = record c.args.t.now { listing_error = None } in (
       aside c.args.t.now None [] owns_nothing c.requires,
       omega arith,
       λ before w f few. none-given before w c.args.lists t c.args.load c.args.references.now f,
@@ -26,7 +26,7 @@ returns-clause-falls g c before w f few owned =
     let i = c.loop-reference.invariant in
     let k = c.loop-reference.reference-index in
     record {
-      told = c.fall.result;
-      falls = c.fall.ensures.falls before w _ (all-given before w c.args.lists c.loop-reference.t c.args.load c.args.references.now k
+      told = c.finish_cascade.result;
+      falls = c.finish_cascade.ensures.falls before w _ (all-given before w c.args.lists c.loop-reference.t c.args.load c.args.references.now k
           (take_all k c.args.references.now (omega arith)) owned (i.2 before w f few));
     }

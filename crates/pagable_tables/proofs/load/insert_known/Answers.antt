@@ -1,5 +1,7 @@
+use Rattle.pagable_tables.specs.Core.{no_blobs_of}
+use Rattle.pagable_tables.specs.Core.{StorageView}
 use Rattle.pagable_tables.proofs.{CallsKeepWhole.adopted-whole, CascadeStep.closed-is, Views.settles, Wholeness.whole-so}
-use Rattle.pagable_tables.proofs.Words.{Alike, Blob, Bool, IndexMap, Last, NodeNumber, None, Option, Owner, Some, adopted, ap}
+use Rattle.pagable_tables.proofs.Words.{Alike, IndexMap, Last, NodeNumber, Option, Owner, Some, adopted, ap}
 use Rattle.pagable_tables.proofs.Words.{core_of, false, has_key, inl, inr, is_shared, key_in, mode_of, next_node, not, option_map, refl, subst, sym, true, with_handle, with_node, ℕ, ◌+◌, ◌/◌, ◌∙◌}
 use Rattle.pagable_tables.proofs.{SameViews.{if-open, learned}, Words.◌≡◌}
 
@@ -13,20 +15,21 @@ returns c =
     let rs = c.args.references.items in
     let t1 = c.insert_node-handle.new.t in
     let born = c.insert_node-handle.ensures.does in
-    let new : (stored : ℕ → Option Blob) (closed : Bool) (failures : ℕ) → c.args.lists ≡ not closed
-    → Alike (adopted (core_of t stored closed failures) c.args.load c.args.kind c.args.key (key_in c.args.own_key) rs)
-    (core_of (record t1 { cache = c.learn_if.new.cache }) stored closed failures) =
-    λ stored closed failures e.
-    (let w = core_of t stored closed failures in
+    let new : (storage : StorageView) → c.args.lists ≡ not storage.closed
+    → Alike (adopted (core_of t storage) c.args.load c.args.kind c.args.key (key_in c.args.own_key) rs)
+    (core_of (record t1 { cache = c.learn_if.new.cache }) storage) =
+    λ storage e.
+    (let w = core_of t storage in
     let u = with_handle (with_node w (c.args.kind.0 / 3) (key_in c.args.own_key) rs) (next_node w) (mode_of c.args.kind.0) owner in
-    let w' = core_of t1 stored closed failures in
-    let cache = (core_of (record t1 { cache = c.learn_if.new.cache }) stored closed failures).cache in
-    let b = born.does stored closed failures in
-    let a : Alike u w' = subst (λ m. Alike (with_handle (with_node w (c.args.kind.0 / 3) (key_in c.args.own_key) rs) (next_node w) m owner) w')
-    c.mode_of.ensures b.leaves in
+    let w' = core_of t1 storage in
+    let cache = (core_of (record t1 { cache = c.learn_if.new.cache }) storage).cache in
+    let b = born.does storage in
+    let a : Alike u w' = subst (λ q. Alike (with_handle (with_node w q (key_in c.args.own_key) rs) (next_node w) (mode_of c.args.kind.0) owner) w')
+    c.node_type.ensures (subst (λ m. Alike (with_handle (with_node w c.node_type.result (key_in c.args.own_key) rs) (next_node w) m owner) w')
+    c.mode_of.ensures b.leaves) in
     let node : t1.last_node ≡ t.last_node + 1 = ap (λ (l : Last). l.node) a.last in
-    if-open closed u (record w' { cache = cache }) c.args.kind c.args.key (next_node w)
-    (λ shut. subst (λ (m : IndexMap (ℕ × ℕ) NodeNumber _). Alike u (core_of (record t1 { cache = m }) stored closed failures))
+    if-open storage.closed u (record w' { cache = cache }) c.args.kind c.args.key (next_node w)
+    (λ shut. subst (λ (m : IndexMap (ℕ × ℕ) NodeNumber _). Alike u (core_of (record t1 { cache = m }) storage))
     (sym (c.learn_if.ensures.same (e ∙ ap not shut))) a)
     (λ stands. learned u w' c.args.kind c.args.key (next_node w) cache a (ap number (c.learn_if.ensures.here (e ∙ ap not stands)) ∙ ap Some node)
     (λ k q other. ap number (c.learn_if.ensures.others k q other)))) in
@@ -34,11 +37,10 @@ returns c =
     let unkeyed : is_shared (mode_of c.args.kind.0) ≡ true → has_key (key_in c.args.own_key) ≡ false =
     elim r.bare [ inl none ↦ λ is. ap (λ k. has_key (key_in k)) none | inr so ↦ λ is. absurd (let a = so.0 in cc) ] in
     record {
-      does = λ stored closed failures. let n = (born.does stored closed failures).next in
-          (record { above = n.above; is_left = n.is_left }, new stored closed failures);
-      whole = whole-so born.whole.steady (settles (adopted-whole (core_of t (λ key. None) (not c.args.lists) 0) r.whole.core c.args.load c.args.kind c.args.key
+      does = λ storage. let n = (born.does storage).next in (record { above = n.above; is_left = n.is_left }, new storage);
+      whole = whole-so born.whole.steady (settles (adopted-whole (core_of t (no_blobs_of c.args.lists)) r.whole.core c.args.load c.args.kind c.args.key
           (key_in c.args.own_key) rs r.holder r.fit
-          r.ready.node_left r.ready.handle_left unkeyed) (new (λ key. None) (not c.args.lists) 0 (closed-is (not c.args.lists) c.args.lists refl)));
+          r.ready.node_left r.ready.handle_left unkeyed) (new (no_blobs_of c.args.lists) (closed-is (not c.args.lists) c.args.lists refl)));
       later = λ later. let l = born.later later in record {
         given = l.given;
         since = l.since;

@@ -5,8 +5,7 @@ returns c =
     let born = c.insert_known-handle.ensures in
     let forgets = c.forget_gone.ensures.does in
     record {
-      does = λ stored closed failures. let (next, alike) = born.does stored closed failures in
-          (next, λ lists. alike-on (alike lists) (forgets.does stored closed failures));
+      does = λ storage. let (next, alike) = born.does storage in (next, λ lists. alike-on (alike lists) (forgets.does storage));
       whole = forgets.whole;
       later = λ later. forgets.later (born.later later);
     }

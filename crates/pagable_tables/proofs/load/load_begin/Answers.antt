@@ -3,7 +3,7 @@ use Rattle.pagable_tables.proofs.Views.{newer-alike, newer-handle, newer-then, r
 use Rattle.pagable_tables.proofs.Views.{settles}
 use Rattle.pagable_tables.proofs.Words.{Alike, BeginCall, Core, Err, Error, HandleNumber, HandleRow, Mode, None, OptionalDataKey, Owner, Owns, Some, ap}
 use Rattle.pagable_tables.proofs.Words.{arith, core_of, false}
-use Rattle.pagable_tables.proofs.Words.{find_row, greatest, if_there, inl, inr, is_here, is_loose, is_owner, load_at, nat_tests, of_cell, plain_of, refl, rules, sym, true, type_at, with_handle}
+use Rattle.pagable_tables.proofs.Words.{find_row, greatest, if_there, inl, inr, is_here, is_loose, is_owner, load_at, nat_tests, of_cell, core_alone, refl, rules, sym, true, type_at, with_handle}
 use Rattle.pagable_tables.proofs.{SameViews.{failed, handle-first, owner-same, same-cache, still}, Words.{with_load, ◌+◌, ◌<◌, ◌∙◌, ◌≡◌}}
 use Rattle.pagable_pager_spec.specs.LoadCalls.{begin_fault}
 use Rattle.pagable_pager_spec.specs.World.{key_at}
@@ -11,13 +11,13 @@ use Rattle.pagable_tables.proofs.load.load_begin.Goals as goal
 
 pub returns-in_err-at : goal.returns-in_err-at
 returns-in_err-at c = rw (failed c.from_residual.result c.from_residual.ensures.1) (nothing-does c.requires.whole
-    (λ stored closed failures.
-    let w = core_of c.args.t.now stored closed failures in
+    (λ storage.
+    let w = core_of c.args.t.now storage in
     record {
       begins = tt;
       refused = record {
-        why = inl (handle-first w c.args.me c.args.handle is_loose _ _
-            (c.in_err-at.ensures.fault stored closed failures is_loose) (λ f is. grind (arith, nat_tests)));
+        why = inl (handle-first w c.args.me c.args.handle is_loose _ _ (c.in_err-at.ensures.fault storage is_loose)
+            (λ f is. grind (arith, nat_tests)));
         stays = still w;
       };
     }))
@@ -34,8 +34,8 @@ unbegun {w} me h row found own loose here loads handles stays =
 
 pub returns-in_err-open : goal.returns-in_err-open
 returns-in_err-open c = rw (failed c.from_residual-in_err-open.result c.from_residual-in_err-open.ensures.1) (does-by
-    (λ stored closed failures. unbegun c.args.me c.args.handle c.in_ok-at.at.row c.in_ok-at.ensures.found c.in_ok-at.ensures.owner (search rules) (search rules)
-    (omega arith) (omega arith)
+    (λ storage. unbegun c.args.me c.args.handle c.in_ok-at.at.row c.in_ok-at.ensures.found c.in_ok-at.ensures.owner (search rules) (search rules) (omega arith)
+    (omega arith)
     (grind (arith, nat_tests, same-cache, c.in_err-open.ensures.err)))
     c.requires.whole.steady (λ begins. settles (roomy-whole c.requires.whole.core) begins.refused.stays)
     (λ begins later. later-less later (newer-alike begins.refused.stays) refl (λ l load is. sym (c.in_err-open.ensures.err l) ∙ is) (still-reaches refl)))
@@ -44,10 +44,10 @@ pub returns-in-Err : goal.returns-in-Err
 returns-in-Err c =
     let t = c.args.t.now in
     let left : t.ref_counts.last_handle < greatest = omega arith in
-    let memory : c.in-Err.e ≡ Error.OutOfMemory = (let why = (c.in-Err.ensures.made (plain_of t)).refused.why in grind (arith, nat_tests, left)) in
+    let memory : c.in-Err.e ≡ Error.OutOfMemory = (let why = (c.in-Err.ensures.made (core_alone t)).refused.why in grind (arith, nat_tests, left)) in
     rw memory (does-by
-    (λ stored closed failures.
-    let a = (c.in-Err.ensures.made (core_of (record t { ref_counts = c.add.new.t; loads = c.close.new.rows }) stored closed failures)).refused.stays in
+    (λ storage.
+    let a = (c.in-Err.ensures.made (core_of (record t { ref_counts = c.add.new.t; loads = c.close.new.rows }) storage)).refused.stays in
     unbegun c.args.me c.args.handle c.in_ok-at.at.row c.in_ok-at.ensures.found c.in_ok-at.ensures.owner (search rules) (search rules) (omega arith) left
     (grind (arith, nat_tests, c.requires.whole.core.loads.numbered, c.in_ok-open.ensures.others, c.close.ensures.gone, c.close.ensures.others)))
     c.add.ensures.steady (λ begins. settles (roomy-whole c.requires.whole.core) begins.refused.stays)
@@ -61,9 +61,9 @@ returns c =
     let row = c.in_ok-at.at.row in
     let l = t.last_load + 1 in
     does-by
-    (λ stored closed failures.
-    let w = core_of t stored closed failures in
-    let w' = core_of (record t { ref_counts = c.add.new.t; loads = c.open.new.rows; last_load = l }) stored closed failures in
+    (λ storage.
+    let w = core_of t storage in
+    let w' = core_of (record t { ref_counts = c.add.new.t; loads = c.open.new.rows; last_load = l }) storage in
     let own : Owns w c.args.me c.args.handle is_loose row = record {
       live = c.in_ok-at.ensures.found;
       own = owner-same c.args.me row.owner c.in_ok-at.ensures.owner;
@@ -90,7 +90,7 @@ returns c =
       refused = tt;
     })
     c.add.ensures.steady (begin-whole c.args.me c.args.handle c.requires.whole.core c.requires.owner)
-    (λ begins later. let n = newer-then (newer-handle (plain_of t) begins.begins.0.node Mode.LooseUnpinned (Owner.Load (record { 0 = l })))
+    (λ begins later. let n = newer-then (newer-handle (core_alone t) begins.begins.0.node Mode.LooseUnpinned (Owner.Load (record { 0 = l })))
     (newer-alike begins.begins.2.4.2) in
     later-opened c.requires.whole.core later n l _ (grind (arith, nat_tests))
     c.in_ok-open.ensures.here refl c.in_ok-open.ensures.others refl refl)

@@ -6,7 +6,7 @@ pub returns : Rattle.pagable_tables.proofs.load.load_key.Goals.returns
 returns c =
     let t = c.args.t.now in
     let l = t.last_load + 1 in
-    does-by (λ stored closed failures. grind (arith, nat_tests, same-cache, c.in_ok-open.ensures.here, c.in_ok-open.ensures.others)) c.requires.whole.steady
+    does-by (λ storage. grind (arith, nat_tests, same-cache, c.in_ok-open.ensures.here, c.in_ok-open.ensures.others)) c.requires.whole.steady
     (λ begins. settles (loaded-whole c.args.key of_key c.args.me c.requires.whole.core c.requires.owner begins.begins.1.is_left (λ node t h is. absurd (cc)))
     begins.begins.2)
     (λ begins later. later-opened c.requires.whole.core later (record { last = omega arith; kept = λ o q gives own. inl own }) l _ (grind (arith, nat_tests))
@@ -14,6 +14,6 @@ returns c =
 
 pub returns-in_err-open : Rattle.pagable_tables.proofs.load.load_key.Goals.returns-in_err-open
 returns-in_err-open c = rw (failed c.from_residual.result c.from_residual.ensures.1)
-    (does-by (λ stored closed failures. grind (arith, nat_tests, same-cache, c.in_err-open.ensures.err)) c.requires.whole.steady
+    (does-by (λ storage. grind (arith, nat_tests, same-cache, c.in_err-open.ensures.err)) c.requires.whole.steady
     (λ begins. (alike-goes c.requires.whole.core begins.refused.stays).whole)
     (λ begins later. later-less later (newer-alike begins.refused.stays) refl (λ l load is. sym (c.in_err-open.ensures.err l) ∙ is) (still-reaches refl)))

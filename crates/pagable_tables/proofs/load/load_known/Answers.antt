@@ -3,14 +3,11 @@ use Rattle.pagable_tables.proofs.Words.{arith, core_of, is_usable, nat_tests, sp
 
 pub returns-in_err-_row-clause-does : Rattle.pagable_tables.proofs.load.load_known.Goals.returns-in_err-_row-clause-does
 returns-in_err-_row-clause-does c =
-    rw (failed c.from_residual.result c.from_residual.ensures.1) (nothing-does c.requires.whole
-    (λ stored closed failures. let w = core_of c.args.t.now stored closed failures in record {
+    rw (failed c.from_residual.result c.from_residual.ensures.1) (nothing-does c.requires.whole (λ storage. let w = core_of c.args.t.now storage in record {
       gives = tt;
-      refused = not-own w c.args.me c.args.load (where_so (is_usable w c.args.kind c.args.key) (spent w.last.handle)) _
-          (c.in_err-_row.ensures.fault stored closed failures) (λ f so. let b = spent-late w.last.handle (is_usable w c.args.kind c.args.key) f so in
-          omega arith);
+      refused = not-own w c.args.me c.args.load (where_so (is_usable w c.args.kind c.args.key) (spent w.last.handle)) _ (c.in_err-_row.ensures.fault storage)
+          (λ f so. let b = spent-late w.last.handle (is_usable w c.args.kind c.args.key) f so in omega arith);
     }))
 
 pub returns-clause-does : Rattle.pagable_tables.proofs.load.load_known.Goals.returns-clause-does
-returns-clause-does c = does-as c.cache_get.ensures.does (λ stored closed failures call. let own = c.in_ok-_row.ensures.own stored closed failures in
-    grind (arith, nat_tests, no-load-fault))
+returns-clause-does c = does-as c.cache_get.ensures.does (λ storage call. let own = c.in_ok-_row.ensures.own storage in grind (arith, nat_tests, no-load-fault))

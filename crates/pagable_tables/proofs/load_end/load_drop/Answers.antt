@@ -4,19 +4,21 @@ use Rattle.pagable_pager_spec.specs.Refusals.{OwnsLoad}
 
 pub returns-in_err-row : Rattle.pagable_tables.proofs.load_end.load_drop.Goals.returns-in_err-row
 returns-in_err-row g c = rw (failed c.from_residual.result c.from_residual.ensures.1)
-    (nothing-release_at c.requires.whole (λ stored closed failures e. record
-    { does = inl (record { e = c.in_err-row.field-0.0; why = c.in_err-row.ensures.fault stored closed failures; told = refl; stays = still _ }) }))
+    (nothing-release_at c.requires.whole (λ storage e. record {
+      does = inl
+          (record { e = c.in_err-row.field-0.0; why = c.in_err-row.ensures.fault storage; told = refl; stays = still _ });
+    }))
 
-pub drop_up_to-requires-clause-own : Rattle.pagable_tables.proofs.load_end.load_drop.Goals.drop_up_to-requires-clause-own
-drop_up_to-requires-clause-own g c stored closed failures =
+pub drop_until-requires-clause-own : Rattle.pagable_tables.proofs.load_end.load_drop.Goals.drop_until-requires-clause-own
+drop_until-requires-clause-own g c storage =
     let n = c.last_of-until.ensures.notes in
-    subst (λ (w : Core). OwnsLoad w c.args.me c.args.load (load_in c.in_ok-row.row))
-    (sym (core-same c.args.t.now c.last_of-until.new.t n.same n.rows stored closed failures)) (c.in_ok-row.ensures.own stored closed failures)
+    subst (λ (w : Core). OwnsLoad w c.args.me c.args.load (load_in c.in_ok-row.row)) (sym (core-same c.args.t.now c.last_of-until.new.t n.same n.rows storage))
+    (c.in_ok-row.ensures.own storage)
 
-pub drop_up_to-requires-clause-above : Rattle.pagable_tables.proofs.load_end.load_drop.Goals.drop_up_to-requires-clause-above
-drop_up_to-requires-clause-above g c =
+pub drop_until-requires-clause-above : Rattle.pagable_tables.proofs.load_end.load_drop.Goals.drop_until-requires-clause-above
+drop_until-requires-clause-above g c =
     above-noted c.args.load c.in_ok-row.row.since c.last_of-until.ensures.notes
     (λ q own. c.requires.later.since c.args.load.0 c.in_ok-row.row q c.in_ok-row.ensures.row own)
 
 pub returns : Rattle.pagable_tables.proofs.load_end.load_drop.Goals.returns
-returns g c = noted-release_at c.last_of-until.ensures.notes c.drop_up_to.ensures
+returns g c = noted-release_at c.last_of-until.ensures.notes c.drop_until.ensures

@@ -1,20 +1,20 @@
+use Rattle.pagable_tables.specs.Core.{no_blobs}
 use Rattle.pagable_tables.proofs.{CallsKeepWhole.{MayHand, may-hand}, LastHandles.{core-same, noted-release_at}}
-use Rattle.pagable_tables.proofs.Words.{Core, None, ap, arith, false, nat_tests, plain_of, sym, ◌∙◌}
+use Rattle.pagable_tables.proofs.Words.{Core, ap, arith, nat_tests, core_alone, sym, ◌∙◌}
 use Rattle.pagable_pager_spec.specs.LoadCalls.{hand_over_fault}
 use Rattle.pagable_tables.proofs.load_end.load_take.Goals as goal
 
 pub unwrap-row-requires : goal.unwrap-row-requires
 unwrap-row-requires g c =
-    let can : MayHand (plain_of c.args.t.now) c.args.me c.args.load c.args.named.now = may-hand c.requires.whole.core c.args.me c.args.load c.args.named.now
-    (sym (c.hand_over_fault.ensures (λ key. None) false 0) ∙ c.in_default.is) in
+    let can : MayHand (core_alone c.args.t.now) c.args.me c.args.load c.args.named.now = may-hand c.requires.whole.core c.args.me c.args.load c.args.named.now
+    (sym (c.hand_over_fault.ensures no_blobs) ∙ c.in_default.is) in
     let own = can.own in grind (arith, nat_tests, c.load_of.ensures)
 
-pub take_up_to-requires-clause-free : goal.take_up_to-requires-clause-free
-take_up_to-requires-clause-free g c stored closed failures =
+pub take_until-requires-clause-free : goal.take_until-requires-clause-free
+take_until-requires-clause-free g c storage =
     let n = c.last_of-until.ensures.notes in
-    ap (λ (w : Core). hand_over_fault w c.args.me c.args.load c.args.named.now)
-    (core-same c.args.t.now c.last_of-until.new.t n.same n.rows stored closed failures)
-    ∙ sym (c.hand_over_fault.ensures stored closed failures) ∙ c.in_default.is
+    ap (λ (w : Core). hand_over_fault w c.args.me c.args.load c.args.named.now) (core-same c.args.t.now c.last_of-until.new.t n.same n.rows storage)
+    ∙ sym (c.hand_over_fault.ensures storage) ∙ c.in_default.is
 
 pub returns : goal.returns
-returns g c = noted-release_at c.last_of-until.ensures.notes c.take_up_to.ensures
+returns g c = noted-release_at c.last_of-until.ensures.notes c.take_until.ensures

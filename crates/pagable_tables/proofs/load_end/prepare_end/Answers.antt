@@ -1,6 +1,8 @@
+use Rattle.pagable_tables.specs.Core.{no_blobs}
+use Rattle.pagable_tables.specs.Core.{StorageView}
 use Rattle.pagable_tables.proofs.{LoadEnd.references-placed, OwnedByLoad.widens-does}
-use Rattle.pagable_tables.proofs.Words.{ArcRef, Blob, Bool, Core, Ending, HandleNumber, HandleRow, IsReady, List, LoadNumber, LoadRow, MayEnd}
-use Rattle.pagable_tables.proofs.Words.{NodeNumber, None, Option, Owner, Places, Some, Tables, any_mode, ap, arith, core_of, end_fault, false, load_at, load_in, nat_tests, not, of_cell, option_map}
+use Rattle.pagable_tables.proofs.Words.{ArcRef, Core, Ending, HandleNumber, HandleRow, IsReady, List, LoadNumber, LoadRow, MayEnd}
+use Rattle.pagable_tables.proofs.Words.{NodeNumber, None, Owner, Places, Some, Tables, any_mode, ap, arith, core_of, end_fault, load_at, load_in, nat_tests, not, of_cell, option_map}
 use Rattle.pagable_tables.proofs.{SameViews.{alike, both-none, no-load-fault, owner-same}, Words.{refl, root_in, sym, ℕ, ◌∙◌, ◌≡◌}}
 use Rattle.pagable_tables.specs.declared.load_table.LoadRoot.{LoadRoot}
 use Rattle.pagable_tables.proofs.load_end.prepare_end.Goals as goal
@@ -11,35 +13,33 @@ ready-placed : (w : Core) (places : Places) (rows : List HandleRow) (me : Owner)
 ready-placed w places rows me l node_type refs e same r = grind (arith, nat_tests, references-placed)
 
 -- why an open load of a cell can end
-ends-at : (t : Tables) (stored : ℕ → Option Blob) (closed : Bool) (failures : ℕ) (me : Owner) (l : LoadNumber) (node_type : ℕ) (refs : List ArcRef)
-    (row : LoadRow) (node : NodeNumber) (type : ℕ)
-    (h : HandleNumber) → None ≡ end_fault (core_of t stored closed failures) me l node_type refs → Some row ≡ load_at t.loads l.0 → row.root
-    ≡ LoadRoot.Cell node type h
-    → MayEnd (core_of t stored closed failures) me l node h node_type refs
-ends-at t stored closed failures me l node_type refs row node type h none is cell = grind (arith, nat_tests, both-none)
+ends-at : (t : Tables) (storage : StorageView) (me : Owner) (l : LoadNumber) (node_type : ℕ) (refs : List ArcRef) (row : LoadRow) (node : NodeNumber) (type : ℕ)
+    (h : HandleNumber) → None ≡ end_fault (core_of t storage) me l node_type refs → Some row ≡ load_at t.loads l.0 → row.root ≡ LoadRoot.Cell node type h
+    → MayEnd (core_of t storage) me l node h node_type refs
+ends-at t storage me l node_type refs row node type h none is cell = grind (arith, nat_tests, both-none)
 
 pub unwrap-row-requires : goal.unwrap-row-requires
-unwrap-row-requires c = let none = sym c.in_default.is ∙ c.end_fault.ensures (λ key. None) false 0 in grind (arith, nat_tests, both-none, c.load_of.ensures)
+unwrap-row-requires c = let none = sym c.in_default.is ∙ c.end_fault.ensures no_blobs in grind (arith, nat_tests, both-none, c.load_of.ensures)
 
 pub unreachable-requires : goal.unreachable-requires
 unreachable-requires c =
-    let none = sym c.in_default.is ∙ c.end_fault.ensures (λ key. None) false 0 in let is =
+    let none = sym c.in_default.is ∙ c.end_fault.ensures no_blobs in let is =
     sym c.unwrap-row.ensures ∙ c.load_of.ensures in grind (arith, nat_tests, both-none, c.in_default-root.is)
 
 pub returns-in-Ok-reserve-clause-ready : goal.returns-in-Ok-reserve-clause-ready
-returns-in-Ok-reserve-clause-ready c stored closed failures =
+returns-in-Ok-reserve-clause-ready c storage =
     let t = c.args.t.now in
     let me = c.args.me in
     let l = c.args.load in
-    let w = core_of t stored closed failures in
+    let w = core_of t storage in
     let load = load_in c.unwrap-row.result in
     let is : w.loads l.0 ≡ Some load = ap (option_map load_in) (sym c.load_of.ensures ∙ c.unwrap-row.ensures) in
     let node = c.in-Cell.field-0 in
     let h = c.in-Cell.handle in
     let cell : load.root ≡ of_cell node c.in-Cell.field-1 h = ap root_in c.in-Cell.is in
     let begun = (c.requires.core.loads.roots l.0 load node c.in-Cell.field-1 h is cell).begun c.in-Ok.at.row c.in-Ok.ensures.found in
-    let may = ends-at t stored closed failures me l c.args.node_type c.args.references.now c.unwrap-row.result node c.in-Cell.field-1 h
-    (sym c.in_default.is ∙ c.end_fault.ensures stored closed failures) (sym c.unwrap-row.ensures ∙ c.load_of.ensures) c.in-Cell.is in
+    let may = ends-at t storage me l c.args.node_type c.args.references.now c.unwrap-row.result node c.in-Cell.field-1 h
+    (sym c.in_default.is ∙ c.end_fault.ensures storage) (sym c.unwrap-row.ensures ∙ c.load_of.ensures) c.in-Cell.is in
     let e : Ending = record { load = c.unwrap-row.result; row = c.in-Ok.at.row; is_away = not c.is_here-is_away.result } in
     let ready : IsReady w me l c.args.node_type c.args.references.now e =
     grind (
@@ -53,7 +53,7 @@ returns-in-Ok-reserve-clause-ready c stored closed failures =
       c.counts_of.ensures,
       c.requires.steady.fits.pinned,
     ) in
-    let w' = core_of (record t { ref_counts = record t.ref_counts { handles = c.reserve.new.handles } }) stored closed failures in
+    let w' = core_of (record t { ref_counts = record t.ref_counts { handles = c.reserve.new.handles } }) storage in
     ready-placed w w'.places w'.rows me l c.args.node_type c.args.references.now e c.reserve.ensures.widens.rows ready
 
 pub returns-in-Ok-reserve-clause-does : goal.returns-in-Ok-reserve-clause-does
@@ -61,10 +61,10 @@ returns-in-Ok-reserve-clause-does c = widens-does c.args.t.now c.reserve.new.han
     c.reserve.ensures.widens (λ n. refl) (λ n. refl) (λ n. refl) (λ kind key. refl)
 
 pub returns-in-Err-reserve-clause-unended : goal.returns-in-Err-reserve-clause-unended
-returns-in-Err-reserve-clause-unended c stored closed failures =
-    let w = core_of c.args.t.now stored closed failures in
-    let may = ends-at c.args.t.now stored closed failures c.args.me c.args.load c.args.node_type c.args.references.now c.unwrap-row.result _ _ _
-    (sym c.in_default.is ∙ c.end_fault.ensures stored closed failures) (sym c.unwrap-row.ensures ∙ c.load_of.ensures) c.in-Cell.is in
+returns-in-Err-reserve-clause-unended c storage =
+    let w = core_of c.args.t.now storage in
+    let may = ends-at c.args.t.now storage c.args.me c.args.load c.args.node_type c.args.references.now c.unwrap-row.result _ _ _
+    (sym c.in_default.is ∙ c.end_fault.ensures storage) (sym c.unwrap-row.ensures ∙ c.load_of.ensures) c.in-Cell.is in
     grind (arith, nat_tests, no-load-fault, alike, c.reserve.ensures.widens.rows, c.reserve.ensures.widens.capacity)
 
 pub returns-in-Err-reserve-clause-does : goal.returns-in-Err-reserve-clause-does
@@ -72,7 +72,7 @@ returns-in-Err-reserve-clause-does c = widens-does c.args.t.now c.reserve.new.ha
     c.reserve.ensures.widens (λ n. refl) (λ n. refl) (λ n. refl) (λ kind key. refl)
 
 pub returns-in-Err-clause-unended : goal.returns-in-Err-clause-unended
-returns-in-Err-clause-unended c stored closed failures =
-    let may = ends-at c.args.t.now stored closed failures c.args.me c.args.load c.args.node_type c.args.references.now c.unwrap-row.result _ _ _
-    (sym c.in_default.is ∙ c.end_fault.ensures stored closed failures) (sym c.unwrap-row.ensures ∙ c.load_of.ensures) c.in-Cell.is in
-    (record { node = c.in-Cell.field-0; h = c.in-Cell.handle; may = may; why = c.in-Err.ensures.fault stored closed failures any_mode }, refl)
+returns-in-Err-clause-unended c storage =
+    let may = ends-at c.args.t.now storage c.args.me c.args.load c.args.node_type c.args.references.now c.unwrap-row.result _ _ _
+    (sym c.in_default.is ∙ c.end_fault.ensures storage) (sym c.unwrap-row.ensures ∙ c.load_of.ensures) c.in-Cell.is in
+    (record { node = c.in-Cell.field-0; h = c.in-Cell.handle; may = may; why = c.in-Err.ensures.fault storage any_mode }, refl)

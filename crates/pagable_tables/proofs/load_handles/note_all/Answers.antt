@@ -1,4 +1,5 @@
-use Rattle.pagable_tables.proofs.{LastHandles.{core-same, noted-later}, Words.{None, false, refl, subst, sym}}
+use Rattle.pagable_tables.specs.Core.{no_blobs}
+use Rattle.pagable_tables.proofs.{LastHandles.{core-same, noted-later}, Words.{refl, subst, sym}}
 use Rattle.pagable_pager_spec.specs.Pager as pager
 use Rattle.pagable_tables.proofs.load_handles.note_all.Goals as goal
 
@@ -11,7 +12,7 @@ returns-clause-notes c =
       rows = c.note_above.ensures.rows;
       whole = record {
         steady = c.requires.whole.steady;
-        core = subst pager.IsWhole (sym (core-same t t1 refl c.note_above.ensures.rows (λ key. None) false 0))
+        core = subst pager.IsWhole (sym (core-same t t1 refl c.note_above.ensures.rows no_blobs))
             c.requires.whole.core;
       };
       later = noted-later t t1 refl c.note_above.ensures.rows refl c.note_above.ensures.told c.requires.later;

@@ -1,20 +1,14 @@
 use Rattle.pagable_tables.proofs.{CallsKeepWhole.schedule-goes, CascadeEnd.sheds-still, CascadeStep.{begun-whole, closed-is}}
 use Rattle.pagable_tables.proofs.{OwnedByLoad.{lazily-so, nothing-release_at, sheds-with}, Views.{alike-goes, not-a-value}, Words.{Err, Error, Ok, Owns}}
 use Rattle.pagable_tables.proofs.SameViews.{alike, failed, owner-same, still}
-use Rattle.pagable_tables.proofs.Words.{ScheduleCall, ap, arith, core_of, inl, inr, is_unpinned, is_valued, nat_tests, not, plain_of, refl, rules, ◌∙◌}
+use Rattle.pagable_tables.proofs.Words.{ScheduleCall, ap, arith, core_of, inl, inr, is_unpinned, is_valued, nat_tests, not, core_alone, refl, rules, ◌∙◌}
 use Rattle.pagable_tables.proofs.{Words.{Owner, live, only_handle}, WorkCounts.work-moved}
 use Rattle.pagable_tables.proofs.pending.schedule_for_paging.Goals as goal
 
 pub returns-in_err-at : goal.returns-in_err-at
 returns-in_err-at g c =
     rw (failed c.from_residual.result c.from_residual.ensures.1) (nothing-release_at c.requires.whole
-    (λ stored closed failures e. record {
-      moves = tt;
-      refused = record {
-        why = inl (c.in_err-at.ensures.fault stored closed failures is_unpinned);
-        stays = still _;
-      };
-    }))
+    (λ storage e. record { moves = tt; refused = record { why = inl (c.in_err-at.ensures.fault storage is_unpinned); stays = still _ } }))
 
 pub returns-then-not-lists : goal.returns-then-not-lists
 returns-then-not-lists g c =
@@ -22,14 +16,20 @@ returns-then-not-lists g c =
     let row = c.in_ok-at.at.row in
     sheds-with (lazily-so {lists = c.args.lists} {old = t} {new = record t { ref_counts = c.try_release_at.new.t }}
     {step = λ w w'. ScheduleCall w c.args.me c.args.handle (Ok tt) w'}
-    (λ stored closed failures e.
-    let w = core_of t stored closed failures in
-    let falls = rw c.in_ok-at.ensures.number at (c.try_release_at.ensures.falls w w (begun-whole t stored closed c.args.lists failures c.requires.whole e)
-    (omega arith)) in
+    (λ storage e.
+    let w = core_of t storage in
+    let falls = rw c.in_ok-at.ensures.number at (c.try_release_at.ensures.falls w w (begun-whole t storage c.args.lists c.requires.whole e) (omega arith)) in
     let own : Owns w c.args.me c.args.handle is_unpinned row =
     record { live = c.in_ok-at.ensures.found; own = owner-same c.args.me row.owner c.in_ok-at.ensures.owner; as_asked = search rules } in
     record {
-      moves = (row, own, inr (closed-is c.args.lists closed e ∙ ap not c.if-not-lists.true, record { told = c.try_release_at.result; falls = falls }));
+      moves = (
+        row,
+        own,
+        inr (
+          closed-is c.args.lists storage.closed e ∙ ap not c.if-not-lists.true,
+          record { told = c.try_release_at.result; falls = falls },
+        ),
+      );
       refused = tt;
     })
     c.try_release_at.ensures.steady (schedule-goes c.args.me c.args.handle c.requires.whole.core c.requires.holder) refl refl refl)
@@ -39,7 +39,7 @@ pub returns : goal.returns
 returns g c =
     let w = c.requires.whole.steady in
     let unvalued = ap is_valued (owner-same c.args.me c.in_ok-at.at.row.owner c.in_ok-at.ensures.owner)
-    ∙ not-a-value (plain_of c.args.t.now) c.args.me c.requires.holder in
+    ∙ not-a-value (core_alone c.args.t.now) c.args.me c.requires.holder in
     let steady = c.hand_over.ensures.stands (record c.args.t.now.ref_counts { list = c.push_back.new.self }) unvalued refl
     (work-moved c.args.t.now.ref_counts.nodes (only_handle c.in_ok-at.at.row.number) Owner.List (live c.args.t.now.ref_counts.handles.places.items) refl
     w.worked)
@@ -47,7 +47,7 @@ returns g c =
     let t = c.args.t.now in
     let new = record t { ref_counts = record t.ref_counts { list = c.push_back.new.self; handles = c.hand_over.new.handles } } in
     sheds-with (lazily-so {lists = c.args.lists} {old = t} {new = new} {step = λ w w'. ScheduleCall w c.args.me c.args.handle (Ok tt) w'}
-    (λ stored closed failures e.
+    (λ storage e.
     grind (
       arith,
       nat_tests,
@@ -71,7 +71,7 @@ returns-in_err-reserve g c =
     let new = record t { ref_counts = record t.ref_counts { list = c.reserve.new.self } } in
     rw (failed c.from_residual-in_err-reserve.result c.from_residual-in_err-reserve.ensures.1) (sheds-with
     (lazily-so {lists = c.args.lists} {old = t} {new = new} {step = λ w w'. ScheduleCall w c.args.me c.args.handle (Err Error.OutOfMemory) w'}
-    (λ stored closed failures e1. grind (
+    (λ storage e1. grind (
       arith,
       nat_tests,
       closed-is,

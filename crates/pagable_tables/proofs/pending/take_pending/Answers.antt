@@ -1,10 +1,11 @@
+use Rattle.pagable_tables.specs.Core.{no_blobs}
+use Rattle.pagable_tables.specs.Core.{StorageView}
 use Rattle.pagable_tables.proofs.{CascadeStep.{entry-lives, entry-unvalued, fits-same, held-here, some-held}, HandleTable.{length-live-le, row-le-live}}
 use Rattle.pagable_tables.proofs.Wholeness.{whole-so}
 use Rattle.pagable_tables.proofs.{CallsKeepWhole.take-whole, OwnedByLoad.{later-by, load-kept, worker-kept}, RowCounts.found-among, Views.not-a-value}
-use Rattle.pagable_tables.proofs.Words.{Blob}
-use Rattle.pagable_tables.proofs.Words.{Bool, InReach, None, Option, Some, TakeCall, ap, arith, core_of, false, inl, inr, live, moved, nat_tests, only_handle, plain_of, reach_at, refl, rules}
+use Rattle.pagable_tables.proofs.Words.{InReach, Some, TakeCall, ap, arith, core_of, inl, inr, live, moved, nat_tests, only_handle, core_alone, reach_at, refl, rules}
 use Rattle.pagable_tables.proofs.SameViews.{alike, at-work-still}
-use Rattle.pagable_tables.proofs.Words.{[], cases_eq, counts_at, is_at, one, refs_at, slice_get_read, subst, times, ℕ, ◌<◌, ◌∙◌, ◌≡◌}
+use Rattle.pagable_tables.proofs.Words.{[], cases_eq, counts_at, is_at, one, refs_at, slice_get_read, subst, times, ◌<◌, ◌∙◌, ◌≡◌}
 use Rattle.pagable_tables.proofs.WorkCounts.{work-few, work-more}
 use Rattle.pagable_tables.specs.CascadeInvariant.{AreAtWork, is_work}
 
@@ -28,14 +29,14 @@ returns c =
     let h = c.in-Some.handle in
     let w = c.requires.whole in
     let given = c.hand_over.ensures.becomes.rows ∙ ap (λ q. moved (only_handle q) c.args.me (live t.handles.places.items)) c.in-Some-look.ensures.number in
-    let taken : (stored : ℕ → Option Blob) (closed : Bool) (failures : ℕ) → TakeCall (core_of u stored closed failures) c.args.me c.args.place (Some h)
+    let taken : (storage : StorageView) → TakeCall (core_of u storage) c.args.me c.args.place (Some h)
     (core_of (record u {
       ref_counts = record t { handles = c.hand_over.new.handles; list = c.remove.new.self; nodes = c.add_work.new.nodes };
       workers = c.reach_to.new.workers;
-    }) stored closed failures) =
-    λ stored closed failures.
-    (let w' = core_of (record u { ref_counts = record t { handles = c.hand_over.new.handles; list = c.remove.new.self; nodes = c.add_work.new.nodes } }) stored
-    closed failures in (
+    }) storage) =
+    λ storage.
+    (let w' = core_of (record u { ref_counts = record t { handles = c.hand_over.new.handles; list = c.remove.new.self; nodes = c.add_work.new.nodes } })
+    storage in (
       slice_get_read t.list.items _ c.args.place h refl (omega arith) c.in-Some.ensures.value,
       at-work-still (alike _ w' given (λ n. rw (c.add_work.ensures.counts n) refl) c.in-Some.ensures.items
           (record { handles = omega arith; entries = omega arith }) refl) c.reach_to.ensures.at_work,
@@ -55,7 +56,7 @@ returns c =
     let here = λ (same : n ≡ x.node.0). k.here (times (is_work n) new) in
     grind (arith, nat_tests, cases_eq n x.node.0) in
     let steady = c.hand_over.ensures.stands (record t { list = c.remove.new.self; nodes = c.add_work.new.nodes }) unvalued
-    (not-a-value (plain_of u) c.args.me c.requires.holder)
+    (not-a-value (core_alone u) c.args.me c.requires.holder)
     (subst (λ r. AreAtWork r c.add_work.new.nodes) c.hand_over.ensures.becomes.rows worked)
     (record {
       sound = w.steady.sound;
@@ -66,7 +67,7 @@ returns c =
     }) in
     record {
       taken = taken;
-      whole = whole-so steady (take-whole _ c.args.me c.args.place h w.core c.requires.holder (taken (λ key. None) false 0));
+      whole = whole-so steady (take-whole _ c.args.me c.args.place h w.core c.requires.holder (taken no_blobs));
       later = λ other later.
           (let row = found-among h.0 (live t.handles.places.items) c.in-Some-look.at.row c.in-Some-look.ensures.found in
           let numbered : 0 < h.0 = (let n = w.core.handles.numbered c.in-Some-look.at.row row.0 in let a = n.0 in let is = row.1 in omega arith) in

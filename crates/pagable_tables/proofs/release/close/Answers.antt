@@ -1,21 +1,22 @@
+use Rattle.pagable_tables.specs.Core.{no_blobs}
 use Rattle.pagable_tables.proofs.{CallsKeepWhole.close-whole, Views.newer-falls, Wholeness.whole-so}
-use Rattle.pagable_tables.proofs.Words.{inl, is_listed, is_owned_by, known_at, option_map, plain_of, refl, shut, subst, sym, with_tables, ℕ, ◌≡◌}
+use Rattle.pagable_tables.proofs.Words.{inl, is_listed, is_owned_by, known_at, option_map, core_alone, refl, shut, subst, sym, with_tables, ℕ, ◌≡◌}
 use Rattle.pagable_tables.proofs.{CascadeStep.{begun, owned-listed, unmixed}, OwnedByLoad.{later-on, passes-given}}
 use Rattle.pagable_tables.proofs.Words.{Falls, FallsAnyhow, RefCounts, NodeNumber, None, Ok, Owner, ap, arith, core_of, false}
 use Rattle.pagable_tables.proofs.release.close.Goals as goal
 
 pub returns-clause-closed : goal.returns-clause-closed
-returns-clause-closed g c stored closed failures failures' le =
+returns-clause-closed g c storage failures' le =
     let t = c.args.t.now in
-    let w = core_of t stored closed failures in
+    let w = core_of t storage in
     let u = shut w failures' in
     let none : (kind key : ℕ) → known_at c.clear.new.self kind key ≡ None = λ kind key. rw c.clear.ensures.empty refl in
     let whole = c.requires.whole in
-    let left : RefCounts = record t.ref_counts { list = c.clear-2.new.self; unlisted = None } in
+    let left : RefCounts = record t.ref_counts { list = c.clear-2.new.self; listing_error = None } in
     let so-far = begun w u false left refl (λ p own. refl) (unmixed t whole) (λ q. omega arith) refl c.clear-2.ensures.items refl whole.core.handles.within.0
     (record { handles = omega arith; entries = omega arith }) (λ n. refl) refl in
     let falls = c.release_owned.ensures.falls w u w (λ l. refl) so-far (omega arith)
-    (λ q is. let given = passes-given (is_owned_by Owner.List) (plain_of t) q whole.core.handles is in ((given.0, inl given.0), given.1)) in
+    (λ q is. let given = passes-given (is_owned_by Owner.List) (core_alone t) q whole.core.handles is in ((given.0, inl given.0), given.1)) in
     let listed : FallsAnyhow w u (is_listed w) (with_tables u c.release_owned.new.t) =
     record {
       told = c.release_owned.result;
@@ -31,7 +32,7 @@ returns-clause-closed g c stored closed failures failures' le =
 
 pub returns-clause-whole : goal.returns-clause-whole
 returns-clause-whole g c = whole-so c.release_owned.ensures.steady (close-whole (Ok tt) c.requires.whole.core
-    (returns-clause-closed g c (λ key. None) false 0 0 (omega arith)))
+    (returns-clause-closed g c no_blobs 0 (omega arith)))
 
 pub returns-clause-later : goal.returns-clause-later
-returns-clause-later g c later = later-on later (newer-falls (returns-clause-closed g c (λ key. None) false 0 0 (omega arith)).falls.falls) refl refl refl
+returns-clause-later g c later = later-on later (newer-falls (returns-clause-closed g c no_blobs 0 (omega arith)).falls.falls) refl refl refl

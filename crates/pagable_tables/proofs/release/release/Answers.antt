@@ -5,23 +5,18 @@ use Rattle.pagable_tables.proofs.SameViews.{failed, owner-same, still}
 pub returns-in_err-at : Rattle.pagable_tables.proofs.release.release.Goals.returns-in_err-at
 returns-in_err-at g c =
     rw (failed c.from_residual.result c.from_residual.ensures.1) (nothing-release_at c.requires.whole
-    (λ stored closed failures e. record {
-      does = inl (record {
-        e = c.in_err-at.field-0.0;
-        why = c.in_err-at.ensures.fault stored closed failures any_mode;
-        told = refl;
-        stays = still _;
-      });
+    (λ storage e. record {
+      does = inl (record { e = c.in_err-at.field-0.0; why = c.in_err-at.ensures.fault storage any_mode; told = refl; stays = still _ });
     }))
 
 pub returns : Rattle.pagable_tables.proofs.release.release.Goals.returns
 returns g c =
     let row = c.in_ok-at.at.row in
     sheds-with (does-as (lazily-so {lists = c.args.lists} {step = λ w w'. Falls w w (only_handle c.args.handle) c.try_release_at.result w'}
-    (λ stored closed failures e. rw c.in_ok-at.ensures.number at (c.try_release_at.ensures.falls _ _
-    (begun-whole c.args.t.now stored closed c.args.lists failures c.requires.whole e) (omega arith)))
+    (λ storage e. rw c.in_ok-at.ensures.number at (c.try_release_at.ensures.falls _ _ (begun-whole c.args.t.now storage c.args.lists c.requires.whole e)
+    (omega arith)))
     c.try_release_at.ensures.steady (lone-falling c.requires.whole.core) refl refl refl)
-    (λ stored closed failures fell e. record {
+    (λ storage fell e. record {
       does = inr (
         row,
         record {

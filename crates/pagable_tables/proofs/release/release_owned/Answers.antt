@@ -36,7 +36,7 @@ loop-at-preserved g c =
 
 pub returns-clause-falls : goal.returns-clause-falls
 returns-clause-falls g c before u w loads f few between =
-    c.fall.ensures.falls before u _ (onto before u w c.args.lists c.args.giving (λ is. (c.requires.listed is).0) c.args.reach
+    c.finish_cascade.ensures.falls before u _ (onto before u w c.args.lists c.args.giving (λ is. (c.requires.listed is).0) c.args.reach
     (λ q e. (between q e).0) c.loop-at.t c.loop-at.left
     (passes_in (gives_row w c.args.giving) u.rows) (λ r e. e) (λ r e. grind (arith, nat_tests))
     (λ r e below. c.in_default.ensures.none w r loads (between r e).0 below)

@@ -7,7 +7,7 @@ use Rattle.pagable_tables.proofs.release.release_owned.Given as goal
 abbrev pub invariant-loop-at : goal.invariant-loop-at
 invariant-loop-at g l = IsFalling l.t [] owns_nothing
     × (length (live l.t.handles.places.items) ≤ length (live l.fn.t.handles.places.items))
-    × ((before u w : Core) → LoadsAre l.loads w → SoFar before u nobody l.lists (record l.fn.t { unlisted = None })
+    × ((before u w : Core) → LoadsAre l.loads w → SoFar before u nobody l.lists (record l.fn.t { listing_error = None })
     → length (live l.fn.t.handles.places.items) ≤ length u.rows
     → ((q : ℕ) → passes_in (gives_row w l.giving) u.rows q ≡ true → InReach l.reach q × (q ≤ l.until))
     → SoFar before u (past_of u w l.giving l.left) l.lists l.t)

@@ -2,24 +2,19 @@ use Rattle.pagable_tables.proofs.{CallsKeepWhole.keyed-whole, CascadeEnd.stays-f
 use Rattle.pagable_tables.proofs.{OwnedByLoad.{does-as, lazily-so, nothing-release_at, sheds-with}, RowCounts.found-among, Views.falling}
 use Rattle.pagable_tables.proofs.Views.{loose-unshared, unturned}
 use Rattle.pagable_tables.proofs.Words.{Falls, GetsKey, Some, [], any_mode, arith, cases_eq, counts_at, if◌then◌else◌, inl, inr, keyed, nat_tests, nobody}
-use Rattle.pagable_tables.proofs.{SameViews.{failed, owner-same, still}, Words.{plain_of, refl, sym, with_key, ◌==◌, ◌∙◌, ◌∷◌, ◌≡◌}}
+use Rattle.pagable_tables.proofs.{SameViews.{failed, owner-same, still}, Words.{core_alone, refl, sym, with_key, ◌==◌, ◌∙◌, ◌∷◌, ◌≡◌}}
 use Rattle.pagable_tables.proofs.{Words.live, WorkCounts.work-more}
 use Rattle.pagable_tables.proofs.release.set_data_key.Goals as goal
 
 pub returns-in_err-at : goal.returns-in_err-at
 returns-in_err-at g c =
     rw (failed c.from_residual.result c.from_residual.ensures.1) (nothing-release_at c.requires.whole
-    (λ stored closed failures e. record {
-      does = inl (record {
-        e = c.in_err-at.field-0.0;
-        why = c.in_err-at.ensures.fault stored closed failures any_mode;
-        told = refl;
-        stays = still _;
-      });
+    (λ storage e. record {
+      does = inl (record { e = c.in_err-at.field-0.0; why = c.in_err-at.ensures.fault storage any_mode; told = refl; stays = still _ });
     }))
 
-pub fall-requires : goal.fall-requires
-fall-requires g c =
+pub finish_cascade-requires : goal.finish_cascade-requires
+finish_cascade-requires g c =
     let t = c.args.t.now.ref_counts in
     let n = c.in_ok-at.at.row.node.0 in
     let y = c.unwrap-counts.result in
@@ -43,13 +38,12 @@ returns g c =
     let is : counts_at t.ref_counts.nodes row.node.0 ≡ Some c.unwrap-counts.result = sym c.counts_of.ensures ∙ c.unwrap-counts.ensures in
     let cells : GetsKey (counts_at t.ref_counts.nodes) (counts_at c.set_counts.new.nodes) row.node.0 c.args.key =
     λ m. grind (arith, nat_tests, cases_eq m row.node.0, here, is, c.set_counts.ensures.others m, c.get.ensures.above, c.get.ensures.value) in
-    let there = (found-among c.args.handle.0 (plain_of t).rows row c.in_ok-at.ensures.found).0 in
-    let stands = unturned (with_key (plain_of t) row.node c.args.key) (keyed-whole c.requires.whole.core row there c.args.key (loose-unshared row.mode loose))
+    let there = (found-among c.args.handle.0 (core_alone t).rows row c.in_ok-at.ensures.found).0 in
+    let stands = unturned (with_key (core_alone t) row.node c.args.key) (keyed-whole c.requires.whole.core row there c.args.key (loose-unshared row.mode loose))
     in
     let own = owner-same c.args.me row.owner c.in_ok-at.ensures.owner in
-    sheds-with (does-as (lazily-so {lists = c.args.lists} {step = λ w w'. Falls w (with_key w row.node c.args.key) nobody c.fall.result w'}
-    (λ stored closed failures e. c.fall.ensures.falls _ _ nobody (keyed-on t stored closed c.args.lists failures c.requires.whole e row.node c.args.key _ refl
-    cells))
-    c.fall.ensures.steady (λ fell. falling fell stands) refl refl refl)
-    (λ stored closed failures fell e. record { does = inr (row, record { live = c.in_ok-at.ensures.found; own = own; as_asked = refl }, inr (loose, fell e)) }))
-    (stays-first (λ m. grind (arith, nat_tests, cases_eq m row.node.0, here, is, c.set_counts.ensures.others m)) c.fall.ensures.sheds)
+    sheds-with (does-as (lazily-so {lists = c.args.lists} {step = λ w w'. Falls w (with_key w row.node c.args.key) nobody c.finish_cascade.result w'}
+    (λ storage e. c.finish_cascade.ensures.falls _ _ nobody (keyed-on t storage c.args.lists c.requires.whole e row.node c.args.key _ refl cells))
+    c.finish_cascade.ensures.steady (λ fell. falling fell stands) refl refl refl)
+    (λ storage fell e. record { does = inr (row, record { live = c.in_ok-at.ensures.found; own = own; as_asked = refl }, inr (loose, fell e)) }))
+    (stays-first (λ m. grind (arith, nat_tests, cases_eq m row.node.0, here, is, c.set_counts.ensures.others m)) c.finish_cascade.ensures.sheds)

@@ -1,19 +1,19 @@
 use Rattle.pagable_tables.proofs.{CascadeStep.begun-whole, Counting.and-left, OwnedByLoad.{lazily-so, passes-given, sheds-with}, Views.lone-falling}
 use Rattle.pagable_tables.proofs.Words.{ReleaseSet, InReach, arith, core_of, gives_row, nat_tests}
-use Rattle.pagable_tables.proofs.Words.{plain_of, refl, subst, sym}
+use Rattle.pagable_tables.proofs.Words.{core_alone, refl, subst, sym}
 
 pub returns : Rattle.pagable_tables.proofs.workers.release_node.Goals.returns
 returns g c =
     let t = c.args.t.now in
     sheds-with (lazily-so
-    (λ stored closed failures e.
-    let w = core_of t stored closed failures in
+    (λ storage e.
+    let w = core_of t storage in
     record {
       told = c.release_owned.result;
-      falls = c.release_owned.ensures.falls w w w (λ l. refl) (begun-whole t stored closed c.args.lists failures c.requires.whole e) (omega arith)
+      falls = c.release_owned.ensures.falls w w w (λ l. refl) (begun-whole t storage c.args.lists c.requires.whole e) (omega arith)
           (λ q gives. (
             subst (λ r. InReach r q) (sym c.reach_of-reach.ensures) (c.requires.later.reach c.args.worker.0 q (grind (arith, nat_tests, and-left))),
-            (passes-given (gives_row w (ReleaseSet.AtNode c.args.worker c.args.node)) (plain_of t) q c.requires.whole.core.handles gives).1,
+            (passes-given (gives_row w (ReleaseSet.AtNode c.args.worker c.args.node)) (core_alone t) q c.requires.whole.core.handles gives).1,
           ));
     })
     c.release_owned.ensures.steady

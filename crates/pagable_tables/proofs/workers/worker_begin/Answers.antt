@@ -4,7 +4,7 @@ use Rattle.pagable_tables.proofs.{SameViews.{failed, same-cache}, Words.{refl, �
 
 pub returns-in_err-open-clause-does : Rattle.pagable_tables.proofs.workers.worker_begin.Goals.returns-in_err-open-clause-does
 returns-in_err-open-clause-does c = rw (failed c.from_residual.result c.from_residual.ensures.1)
-    (does-by (λ stored closed failures. grind (arith, nat_tests, same-cache, c.in_err-open.ensures.err)) c.requires.steady
+    (does-by (λ storage. grind (arith, nat_tests, same-cache, c.in_err-open.ensures.err)) c.requires.steady
     (λ begun. settles (roomy-whole c.requires.core) begun.refused.1)
     (λ begun later. later-less later (newer-alike begun.refused.1) refl (λ l load is. is)
     (record {
@@ -13,14 +13,8 @@ returns-in_err-open-clause-does c = rw (failed c.from_residual.result c.from_res
     })))
 
 pub returns-clause-does : Rattle.pagable_tables.proofs.workers.worker_begin.Goals.returns-clause-does
-returns-clause-does c = does-by (λ stored closed failures. grind (
-  arith,
-  nat_tests,
-  same-cache,
-  one-more-works,
-  c.in_ok-open.ensures.here,
-  c.in_ok-open.ensures.others,
-)) c.requires.steady
+returns-clause-does c = does-by (λ storage. grind (arith, nat_tests, same-cache, one-more-works, c.in_ok-open.ensures.here, c.in_ok-open.ensures.others))
+    c.requires.steady
     (λ begun. settles (worker-whole c.requires.core) begun.begun.1)
     (λ begun later. later-begun c.requires.core later refl (c.args.t.now.last_worker + 1) refl (grind (arith, nat_tests, c.in_ok-open.ensures.here))
     (λ u other. grind (arith, nat_tests, c.in_ok-open.ensures.others)))

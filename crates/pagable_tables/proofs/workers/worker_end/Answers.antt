@@ -1,7 +1,7 @@
 use Rattle.pagable_tables.proofs.{CallsKeepWhole.worker-end-whole, CascadeStep.begun-less}
 use Rattle.pagable_tables.proofs.{OwnedByLoad.{in-reach, later-less, lazily-by, loads-anew, passes-given, sheds-with, updated-by}, Views.newer-falls}
 use Rattle.pagable_tables.proofs.Words.{Falls}
-use Rattle.pagable_tables.proofs.Words.{ReleaseSet, InReach, None, Some, arith, cases_eq, core_of, gives_row, is_some, is_workers, left_load, load_at, nat_tests, plain_of, refl, subst, sym, with_tables}
+use Rattle.pagable_tables.proofs.Words.{ReleaseSet, InReach, None, Some, arith, cases_eq, core_of, gives_row, is_some, is_workers, left_load, load_at, nat_tests, core_alone, refl, subst, sym, with_tables}
 use Rattle.pagable_tables.proofs.Words.{without_worker, worker_at, ◌∙◌, ◌≡◌}
 
 pub returns : Rattle.pagable_tables.proofs.workers.worker_end.Goals.returns
@@ -9,17 +9,16 @@ returns g c =
     let t = c.args.t.now in
     let v = c.args.worker.0 in
     sheds-with (lazily-by
-    (λ stored closed failures e.
-    let w = core_of t stored closed failures in
+    (λ storage e.
+    let w = core_of t storage in
     let u = without_worker w v in
     let h = c.release_owned.new.t in
     let r = c.release_owned.result in
-    let w' = core_of (record t { ref_counts = h; loads = c.close_loads.new.loads; workers = c.close.new.rows }) stored closed failures in
-    let falls = c.release_owned.ensures.falls w u w (λ l. refl) (begun-less t u.loads u.workers stored closed c.args.lists failures c.requires.whole e)
-    (omega arith)
+    let w' = core_of (record t { ref_counts = h; loads = c.close_loads.new.loads; workers = c.close.new.rows }) storage in
+    let falls = c.release_owned.ensures.falls w u w (λ l. refl) (begun-less t u.loads u.workers storage c.args.lists c.requires.whole e) (omega arith)
     (λ q is. (
       subst (λ r. InReach r q) (sym c.reach_of-reach.ensures) (in-reach t c.requires.whole c.requires.later c.args.worker q is),
-      (passes-given (gives_row w (ReleaseSet.Worker c.args.worker)) (plain_of t) q c.requires.whole.core.handles is).1,
+      (passes-given (gives_row w (ReleaseSet.Worker c.args.worker)) (core_alone t) q c.requires.whole.core.handles is).1,
     )) in
     let loads = loads-anew w u (with_tables u h) (is_workers w v) r w'.loads (λ l. let left = c.close_loads.ensures l in grind (arith, nat_tests)) falls in
     record {

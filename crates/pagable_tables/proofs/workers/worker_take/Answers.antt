@@ -6,10 +6,9 @@ returns c =
     let e = c.in_ok-worker.ensures in
     let taken = c.take_pending.ensures in
     record {
-      does = λ stored closed failures. takes-worker (core_of c.args.t.now stored closed failures) (core_of t1 stored closed failures) _ c.args.place
-          c.in_ok-worker.worker c.take_pending.result
+      does = λ storage. takes-worker (core_of c.args.t.now storage) (core_of t1 storage) _ c.args.place c.in_ok-worker.worker c.take_pending.result
           (let same = c.worker_begin.ensures.same in let more = e.more in let last = e.number.1 in grind (arith, nat_tests)) e.number.0 c.requires.within
-          (taken.taken stored closed failures);
+          (taken.taken storage);
       whole = taken.whole;
       later = λ later. taken.later (λ m. refl) (c.worker_begin.ensures.does.later later);
     }

@@ -1,10 +1,10 @@
-use Rattle.{pagable.proofs.Running.SoFar, pagable_load.specs.AccessView.values_at, pagable_pager.specs.View.telling, std.{proofs.Common.{length, vec_len, ◌+◌, ◌≤◌}, specs.Vec.vec_capacity}}
+use Rattle.{pagable.proofs.Running.SoFar, pagable_load.specs.AccessView.values_at, pagable_pager.specs.View.storage_view, std.{proofs.Common.{length, vec_len, ◌+◌, ◌≤◌}, specs.Vec.vec_capacity}}
 use Rattle.pagable.proofs.machine.Machine.run.Given as goal
 
 -- the events so far have happened, and there is room for the replies to the rest
 abbrev pub invariant-loop-event : goal.invariant-loop-event
 invariant-loop-event g l =
-    let tells = telling g.S.PagableStorage.stored g.S.PagableStorage.is_closed g.S.PagableStorage.failed in
+    let tells = storage_view g.S.PagableStorage in
     record {
       room : length l.rest.items + vec_len l.replies ≤ vec_capacity l.replies;
       run : SoFar g.S.PagableStorage.is_honest tells (λ e. values_at g.E.Node.NodeSet g.E.Env g.E.Hash.KeyHash e) l.fn.self l.fn.events.items l.rest.items

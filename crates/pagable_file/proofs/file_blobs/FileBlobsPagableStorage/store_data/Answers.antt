@@ -4,7 +4,7 @@ use Rattle.std.specs.{Arc.arc_value, HashMap.get, Ordering.int_eq}
 use Rattle.sqlite_trees.specs.Tree.{Trees}
 use Rattle.pagable_core.specs.{Data.blob_of, declared.storage.data.PagableData.PagableData}
 use Rattle.pagable_value_spec.specs.{Blob.{Blob, key_of}, Stored.Adds}
-use Rattle.pagable_file.specs.{Rows.{blob_tree, place_of}, Blobs.{stored_with, unless}}
+use Rattle.pagable_file.specs.{Rows.{blob_tree, rowid_of}, Blobs.{stored_with, unless}}
 use Rattle.pagable_file.proofs.Fetching.{adds_found, adds_held, adds_holding, all_keyed, any_err, found_refuses, held_refuses, same_entries}
 use Rattle.pagable_file.proofs.file_blobs.FileBlobsPagableStorage.store_data.Goals as goal
 
@@ -26,7 +26,7 @@ returns-in-Ok-Some-clause-adds g c honest =
     let blob = blob_of c.args.blob in
     let old = (g.S.Store.view it.store).committed blob_tree in
     let new = (g.S.Store.view c.read.new.store).committed blob_tree in
-    let free : None ≡ get int_eq it.waiting (place_of key) = search rules in
+    let free : None ≡ get int_eq it.waiting (rowid_of key) = search rules in
     subst (λ (k : ℕ). Adds k blob (unless it.closed (stored_with it.waiting old)) (unless it.closed (stored_with it.waiting new))) c.compute_key-key.ensures
     (adds_found it.closed it.waiting old new key c.in-Ok-Some.found blob c.if-self.false free
     (rw c.in-Ok-Some.field-0-is at (c.in-Ok-Some.ensures.found honest)) c.in_ok-is_found-in-Ok-Some.ensures.ok
@@ -41,16 +41,16 @@ invariant_of-self-in-Break-branch-4 g c =
     c.compute_key-key.ensures ∙ ap (λ (d : PagableData). hash (blob_of d)) (sym c.in_ok-blob.ensures.ok) in
     record {
       settled = c.read.ensures.stays.settled it.settled;
-      named = all_keyed hash it.waiting c.hold.new.waiting c.compute_key-key.result (blob_of (arc_value arc)) c.hold.result own it.named c.hold.ensures.ok
-          c.hold.ensures.err;
+      named = all_keyed hash it.waiting c.add_waiting.new.waiting c.compute_key-key.result (blob_of (arc_value arc)) c.add_waiting.result own it.named c.add_waiting.ensures.ok
+          c.add_waiting.ensures.err;
     }
 
-pub returns-in_err-hold-clause-err : goal.returns-in_err-hold-clause-err
-returns-in_err-hold-clause-err g c honest =
+pub returns-in_err-add_waiting-clause-err : goal.returns-in_err-add_waiting-clause-err
+returns-in_err-add_waiting-clause-err g c honest =
     let it = c.args.self.now in
-    any_err c.from_residual-in_err-hold.result _
-    (same_entries it.closed it.waiting c.hold.new.waiting ((g.S.Store.view it.store).committed blob_tree)
-    ((g.S.Store.view c.read.new.store).committed blob_tree) c.in_err-hold.ensures.err (ap (λ (t : Trees). t blob_tree) (c.read.ensures.stays.same honest)))
+    any_err c.from_residual-in_err-add_waiting.result _
+    (same_entries it.closed it.waiting c.add_waiting.new.waiting ((g.S.Store.view it.store).committed blob_tree)
+    ((g.S.Store.view c.read.new.store).committed blob_tree) c.in_err-add_waiting.ensures.err (ap (λ (t : Trees). t blob_tree) (c.read.ensures.stays.same honest)))
 
 pub invariant_of-self-2 : goal.invariant_of-self-2
 invariant_of-self-2 g c =
@@ -61,8 +61,8 @@ invariant_of-self-2 g c =
     c.compute_key-key.ensures ∙ ap (λ (d : PagableData). hash (blob_of d)) (sym c.in_ok-blob.ensures.ok) in
     record {
       settled = c.read.ensures.stays.settled it.settled;
-      named = all_keyed hash it.waiting c.hold.new.waiting c.compute_key-key.result (blob_of (arc_value arc)) c.hold.result own it.named c.hold.ensures.ok
-          c.hold.ensures.err;
+      named = all_keyed hash it.waiting c.add_waiting.new.waiting c.compute_key-key.result (blob_of (arc_value arc)) c.add_waiting.result own it.named c.add_waiting.ensures.ok
+          c.add_waiting.ensures.err;
     }
 
 pub returns-clause-adds : goal.returns-clause-adds
@@ -74,11 +74,11 @@ returns-clause-adds g c honest =
     let old = (g.S.Store.view it.store).committed blob_tree in
     let new = (g.S.Store.view c.read.new.store).committed blob_tree in
     let was = unless it.closed (stored_with it.waiting old) in
-    let is = unless it.closed (stored_with c.hold.new.waiting new) in
-    let free : None ≡ get int_eq it.waiting (place_of key) = search rules in
+    let is = unless it.closed (stored_with c.add_waiting.new.waiting new) in
+    let free : None ≡ get int_eq it.waiting (rowid_of key) = search rules in
     let same : blob_of (arc_value arc) ≡ blob = ap blob_of c.in_ok-blob.ensures.ok in
     subst (λ (k : ℕ). Adds k blob was is) c.compute_key-key.ensures (subst (λ (b : Blob). Adds key b was is) same
-    (adds_holding it.closed it.waiting c.hold.new.waiting old new key (blob_of (arc_value arc)) c.if-self.false free c.in_ok-hold.ensures.ok
+    (adds_holding it.closed it.waiting c.add_waiting.new.waiting old new key (blob_of (arc_value arc)) c.if-self.false free c.in_ok-add_waiting.ensures.ok
     (rw c.in-Ok-None.field-0-is at (c.in-Ok-None.ensures.found honest)) (ap (λ (t : Trees). t blob_tree) (c.read.ensures.stays.same honest))))
 
 pub returns-in_err-is_held-clause-refused : goal.returns-in_err-is_held-clause-refused

@@ -3,7 +3,8 @@ use Rattle.pagable_load.proofs.reading.Reading.run.Given as goal
 
 abbrev pub invariant-loop-answer : goal.invariant-loop-answer
 invariant-loop-answer g l = record {
-  so_far : Acts g.A.Access.told g.A.Access.acting l.fn.access l.access (λ a s t. HasGone (values_at g.E.Node.NodeSet g.E.Env g.E.Hash.KeyHash a.environment)
+  so_far : Acts g.A.Access.known_state g.A.Access.acting l.fn.access l.access
+      (λ a s t. HasGone (values_at g.E.Node.NodeSet g.E.Env g.E.Hash.KeyHash a.environment)
       a.me l.fn.self l.self s t);
   ahead : AllAhead (values_at g.E.Node.NodeSet g.E.Env g.E.Hash.KeyHash (g.A.Access.acting l.access).environment).types
       (frames_of l.self.top l.self.below.items) (rows_of l.ahead);

@@ -1,36 +1,36 @@
 use Rattle.pagable_load.specs.AccessView.{AdoptsValue, values_at}
 use Rattle.pagable_pager.proofs.Invariant.{adopted_live, brings-so, told-if}
-use Rattle.pagable_pager.specs.View.{core_in, telling}
+use Rattle.pagable_pager.specs.View.{pager_core, storage_view}
 use Rattle.pagable_tables.proofs.SameViews.{failed}
-use Rattle.std.{proofs.Common.{Err, Ok, rules, subst}, specs.Prelude.IsTrue}
+use Rattle.std.{proofs.Common.{Ok, rules, subst}, specs.Prelude.IsTrue}
 use Rattle.pagable_pager.proofs.lent.LentAccess.load_adopt.Goals as goal
 
 pub returns-in_err-adopted : goal.returns-in_err-adopted
 returns-in_err-adopted g c =
-    let tells = telling g.S.PagableStorage.stored g.S.PagableStorage.is_closed g.S.PagableStorage.failed in
+    let tells = storage_view g.S.PagableStorage in
     let e = c.in_err-adopted.ensures in
     record {
-      step = told-if _ _ _ _ (λ h. subst (λ s. IsTrue (g.S.PagableStorage.is_honest s)) c.load_adopt_by-adopted.ensures.storage h)
-          (λ h. brings-so tells (λ e. values_at g.E.Node.NodeSet g.E.Env g.E.Hash.KeyHash e) c.args.self.now.pager.now c.load_adopt_by-adopted.new.self
-          (λ w'. AdoptsValue (core_in tells c.args.self.now.pager.now) c.args.self.now.me c.args.load c.args.kind c.args.key c.args.node
+      step = told-if _ _ _ _ (λ h. subst (λ s. IsTrue (g.S.PagableStorage.is_honest s)) c.load_adopt_for-adopted.ensures.storage h)
+          (λ h. brings-so tells (λ e. values_at g.E.Node.NodeSet g.E.Env g.E.Hash.KeyHash e) c.args.self.now.pager.now c.load_adopt_for-adopted.new.self
+          (λ w'. AdoptsValue (pager_core tells c.args.self.now.pager.now) c.args.self.now.me c.args.load c.args.kind c.args.key c.args.node
           (g.E.Node.NodeSet.type_of c.args.node) (g.E.Node.NodeSet.refs_of c.args.node) (c.from_residual.result) w')
-          (rw (failed c.from_residual.result c.from_residual.ensures.1) (record { adopted = e.step; made = tt })) e.moves c.is_whole-2.ensures);
+          (rw (failed c.from_residual.result c.from_residual.ensures.1) (record { adopted = e.step; made = tt })) e.moves c.assert_invariant-2.ensures);
       acting = search rules;
     }
 
 pub returns : goal.returns
 returns g c =
-    let tells = telling g.S.PagableStorage.stored g.S.PagableStorage.is_closed g.S.PagableStorage.failed in
+    let tells = storage_view g.S.PagableStorage in
     let e = c.in_ok-adopted.ensures in
     record {
-      step = told-if _ _ _ _ (λ h. subst (λ s. IsTrue (g.S.PagableStorage.is_honest s)) c.load_adopt_by-adopted.ensures.storage h)
-          (λ h. brings-so tells (λ e. values_at g.E.Node.NodeSet g.E.Env g.E.Hash.KeyHash e) c.args.self.now.pager.now c.load_adopt_by-adopted.new.self
-          (λ w'. AdoptsValue (core_in tells c.args.self.now.pager.now) c.args.self.now.me c.args.load c.args.kind c.args.key c.args.node
+      step = told-if _ _ _ _ (λ h. subst (λ s. IsTrue (g.S.PagableStorage.is_honest s)) c.load_adopt_for-adopted.ensures.storage h)
+          (λ h. brings-so tells (λ e. values_at g.E.Node.NodeSet g.E.Env g.E.Hash.KeyHash e) c.args.self.now.pager.now c.load_adopt_for-adopted.new.self
+          (λ w'. AdoptsValue (pager_core tells c.args.self.now.pager.now) c.args.self.now.me c.args.load c.args.kind c.args.key c.args.node
           (g.E.Node.NodeSet.type_of c.args.node) (g.E.Node.NodeSet.refs_of c.args.node) (Ok c.reference.result) w')
           (record {
             adopted = rw c.reference.ensures.handle e.step;
             made = c.reference.ensures.made
-                (adopted_live c.is_whole.ensures.whole.handles e.step.adopts);
-          }) e.moves c.is_whole-2.ensures);
+                (adopted_live c.assert_invariant.ensures.whole.handles e.step.adopts);
+          }) e.moves c.assert_invariant-2.ensures);
       acting = search rules;
     }

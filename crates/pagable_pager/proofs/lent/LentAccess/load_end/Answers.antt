@@ -1,14 +1,14 @@
-use Rattle.{pagable_load.specs.AccessView.values_at, pagable_pager.{proofs.Invariant.{brings-so, told-if}, specs.View.{core_in, telling}}, pagable_pager_spec.specs.LoadCalls.EndCall, std.{proofs.Common.{rules, subst}, specs.Prelude.IsTrue}}
+use Rattle.{pagable_load.specs.AccessView.values_at, pagable_pager.{proofs.Invariant.{brings-so, told-if}, specs.View.{pager_core, storage_view}}, pagable_pager_spec.specs.LoadCalls.EndCall, std.{proofs.Common.{rules, subst}, specs.Prelude.IsTrue}}
 
 pub returns : Rattle.pagable_pager.proofs.lent.LentAccess.load_end.Goals.returns
 returns g c =
-    let tells = telling g.S.PagableStorage.stored g.S.PagableStorage.is_closed g.S.PagableStorage.failed in
-    let e = c.load_end_by-ended.ensures in
+    let tells = storage_view g.S.PagableStorage in
+    let e = c.load_end_for-ended.ensures in
     record {
       step = told-if _ _ _ _ (λ h. subst (λ s. IsTrue (g.S.PagableStorage.is_honest s)) e.storage h)
-          (λ h. brings-so tells (λ e. values_at g.E.Node.NodeSet g.E.Env g.E.Hash.KeyHash e) c.args.self.now.pager.now c.load_end_by-ended.new.self
-          (λ w'. EndCall (core_in tells c.args.self.now.pager.now) c.args.self.now.me c.args.load c.args.value (g.E.Node.NodeSet.type_of c.args.value)
-          (g.E.Node.NodeSet.refs_of c.args.value) c.settled.result w')
-          (rw c.settled.ensures.same e.step) e.moves c.settled.ensures.whole);
+          (λ h. brings-so tells (λ e. values_at g.E.Node.NodeSet g.E.Env g.E.Hash.KeyHash e) c.args.self.now.pager.now c.load_end_for-ended.new.self
+          (λ w'. EndCall (pager_core tells c.args.self.now.pager.now) c.args.self.now.me c.args.load c.args.value (g.E.Node.NodeSet.type_of c.args.value)
+          (g.E.Node.NodeSet.refs_of c.args.value) c.with_invariant.result w')
+          (rw c.with_invariant.ensures.same e.step) e.moves c.with_invariant.ensures.whole);
       acting = search rules;
     }

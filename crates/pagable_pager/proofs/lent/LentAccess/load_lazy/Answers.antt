@@ -1,15 +1,15 @@
-use Rattle.{pagable_load.specs.AccessView.{TakesLazily, values_at}, pagable_pager.{proofs.Invariant.{all_there, called_fewer, lazy_live, told-if}, specs.View.{core_in, telling}}, std.{proofs.Common.{Ok, rules, subst}, specs.Prelude.IsTrue}}
+use Rattle.{pagable_load.specs.AccessView.{TakesLazily, values_at}, pagable_pager.{proofs.Invariant.{fewer_of_same, called_fewer, lazy_live, told-if}, specs.View.{pager_core, storage_view}}, std.{proofs.Common.{Ok, rules, subst}, specs.Prelude.IsTrue}}
 
 pub returns : Rattle.pagable_pager.proofs.lent.LentAccess.load_lazy.Goals.returns
 returns g c =
-    let tells = telling g.S.PagableStorage.stored g.S.PagableStorage.is_closed g.S.PagableStorage.failed in
+    let tells = storage_view g.S.PagableStorage in
     let e = c.in_ok-taken.ensures in
     record {
       step = told-if _ _ _ _ (λ h. subst (λ s. IsTrue (g.S.PagableStorage.is_honest s)) e.only.storage h)
-          (λ h. called_fewer tells (λ e. values_at g.E.Node.NodeSet g.E.Env g.E.Hash.KeyHash e) c.args.self.now.pager.now c.load_lazy_by-taken.new.self
-          (λ w'. TakesLazily (core_in tells c.args.self.now.pager.now) c.args.self.now.me c.args.load c.args.kind c.args.key (Ok c.reference.result) w')
+          (λ h. called_fewer tells (λ e. values_at g.E.Node.NodeSet g.E.Env g.E.Hash.KeyHash e) c.args.self.now.pager.now c.load_lazy_for-taken.new.self
+          (λ w'. TakesLazily (pager_core tells c.args.self.now.pager.now) c.args.self.now.me c.args.load c.args.kind c.args.key (Ok c.reference.result) w')
           (record { taken = rw c.reference.ensures.handle e.step; made = c.reference.ensures.made (lazy_live e.step) })
-          (all_there tells (λ e. values_at g.E.Node.NodeSet g.E.Env g.E.Hash.KeyHash e) _ _
-          (record { values = e.only.values; environment = e.only.environment })) c.is_whole.ensures);
+          (fewer_of_same tells (λ e. values_at g.E.Node.NodeSet g.E.Env g.E.Hash.KeyHash e) _ _
+          (record { values = e.only.values; environment = e.only.environment })) c.assert_invariant.ensures);
       acting = search rules;
     }

@@ -1,20 +1,20 @@
-use Rattle.{pagable_core.specs.Data.blob_of, pagable_load.specs.AccessView.{AsksFor, values_at}, pagable_pager.{proofs.Invariant.{all_there, called_fewer, found-made, still-at-work, told-if}, specs.View.{core_in, telling}}}
+use Rattle.{pagable_core.specs.Data.blob_of, pagable_load.specs.AccessView.{AsksFor, values_at}, pagable_pager.{proofs.Invariant.{fewer_of_same, called_fewer, found-made, still-at-work, told-if}, specs.View.{pager_core, storage_view}}}
 use Rattle.{either.specs.declared.Either.Either, std.{proofs.Common.{Ok, rules}, specs.Arc.arc_value}}
 use Rattle.pagable_pager.proofs.lent.LentAccess.load_nested.Goals as goal
 
 pub invariant_of-self : goal.invariant_of-self
-invariant_of-self g c = record { at_work = still-at-work c.args.self.now.me c.load_fetch_by-found.ensures.kept c.args.self.now.at_work }
+invariant_of-self g c = record { at_work = still-at-work c.args.self.now.me c.load_fetch_for-found.ensures.kept c.args.self.now.at_work }
 
 pub returns-in-Left : goal.returns-in-Left
 returns-in-Left g c =
-    let tells = telling g.S.PagableStorage.stored g.S.PagableStorage.is_closed g.S.PagableStorage.failed in
+    let tells = storage_view g.S.PagableStorage in
     let e = c.in_ok-handle.ensures in
     record {
       step = told-if _ _ _ _ e.honest (λ h. called_fewer tells (λ e. values_at g.E.Node.NodeSet g.E.Env g.E.Hash.KeyHash e) c.args.self.now.pager.now
-          c.load_fetch_by-found.new.self
-          (λ w'. AsksFor (λ d. blob_of (arc_value d)) (core_in tells c.args.self.now.pager.now) c.args.self.now.me c.args.load c.args.kind c.args.key
+          c.load_fetch_for-found.new.self
+          (λ w'. AsksFor (λ d. blob_of (arc_value d)) (pager_core tells c.args.self.now.pager.now) c.args.self.now.me c.args.load c.args.kind c.args.key
           (Ok (Either.Left c.reference.result)) w')
           (found-made (λ d. blob_of (arc_value d)) c.in_ok-handle.field-0 c.in-Left.is c.reference.ensures.handle c.reference.ensures.made (e.step h))
-          (all_there tells (λ e. values_at g.E.Node.NodeSet g.E.Env g.E.Hash.KeyHash e) _ _ e.only) c.is_whole.ensures);
+          (fewer_of_same tells (λ e. values_at g.E.Node.NodeSet g.E.Env g.E.Hash.KeyHash e) _ _ e.only) c.assert_invariant.ensures);
       acting = search rules;
     }

@@ -1,16 +1,17 @@
-use Rattle.{pagable_core.specs.Data.blob_of, pagable_load.specs.AccessView.values_at, pagable_value_spec.specs.Blob.key_of, pagable_pager.{proofs.Invariant.{all_there, called_fewer, told-if}, specs.View.{core_in, telling}}}
+use Rattle.{pagable_core.specs.Data.blob_of, pagable_load.specs.AccessView.values_at, pagable_value_spec.specs.Blob.key_of, pagable_pager.{proofs.Invariant.{fewer_of_same, called_fewer, told-if}, specs.View.{pager_core, storage_view}}}
 use Rattle.{pagable_pager_spec.specs.Calls.StoreCall, std.proofs.Common.rules}
 
 pub returns-clause-acts : Rattle.pagable_pager.proofs.lent.LentAccess.store_keyed.Goals.returns-clause-acts
 returns-clause-acts g c =
-    let tells = telling g.S.PagableStorage.stored g.S.PagableStorage.is_closed g.S.PagableStorage.failed in
+    let tells = storage_view g.S.PagableStorage in
     let asks = c.store_keyed.ensures.asks in
     let digest = key_of g.E.Hash.KeyHash.digest in
     record {
       step = told-if _ _ _ _ asks.honest (λ h. called_fewer tells (λ e. values_at g.E.Node.NodeSet g.E.Env g.E.Hash.KeyHash e) c.args.self.now.pager.now
           c.store_keyed.new.self
-          (λ w'. StoreCall digest (core_in tells c.args.self.now.pager.now) (blob_of c.args.blob) c.settled.result w') (rw c.settled.ensures.same (asks.step h))
-          (all_there tells (λ e. values_at g.E.Node.NodeSet g.E.Env g.E.Hash.KeyHash e) _ _
-          (record { values = asks.only.values; environment = asks.only.environment })) c.settled.ensures.whole);
+          (λ w'. StoreCall digest (pager_core tells c.args.self.now.pager.now) (blob_of c.args.blob) c.with_invariant.result w')
+          (rw c.with_invariant.ensures.same (asks.step h))
+          (fewer_of_same tells (λ e. values_at g.E.Node.NodeSet g.E.Env g.E.Hash.KeyHash e) _ _
+          (record { values = asks.only.values; environment = asks.only.environment })) c.with_invariant.ensures.whole);
       acting = search rules;
     }

@@ -7,4 +7,5 @@ returns-in_err-set_key_through g c =
     rw (p.1, p.2) (acts_map c.in_err-set_key_through.ensures (λ s t sets. record { closes = tt; refused = sets }))
 
 pub returns : goal.returns
-returns g c = acts_then c.in_ok-set_key_through.ensures c.give_up.ensures (λ s mid t sets gives. record { closes = (mid, sets, gives); refused = tt })
+returns g c = acts_then c.in_ok-set_key_through.ensures c.release_worker_node.ensures
+    (λ s mid t sets gives. record { closes = (mid, sets, gives); refused = tt })

@@ -1,3 +1,4 @@
+use Rattle.pagable_pager.specs.View.{storage_view}
 use Rattle.{std.proofs.Common.refl, pagable_pager.proofs.Invariant.{new-asked, new-memory, new-refused, new-so, new-told, new-unknown, roomier}}
 use Rattle.pagable_pager.proofs.pager.Pager.adopt_as_new.Goals as goal
 
@@ -6,7 +7,7 @@ invariant_of-self g c = roomier c.self.invariant c.self.inside.values c.make_rea
 
 pub returns-in-Err-clause-step : goal.returns-in-Err-clause-step
 returns-in-Err-clause-step g c = rw (← c.self.view_is) (new-refused c.self.invariant c.self.view_is _ _ _ _ c.args.node c.requires.listed c.requires.fresh
-    c.requires.unknown (c.in-Err.ensures.refused _ _ _))
+    c.requires.unknown (c.in-Err.ensures.refused (storage_view g.S.PagableStorage c.self.inside.storage)))
 
 pub invariant_of-self-in-Err-place : goal.invariant_of-self-in-Err-place
 invariant_of-self-in-Err-place g c = roomier c.self.invariant c.place.new.values c.make_ready_to_learn.ensures.does c.in-Err-place.ensures.kept

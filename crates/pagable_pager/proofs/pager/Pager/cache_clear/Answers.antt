@@ -1,3 +1,4 @@
+use Rattle.pagable_pager.specs.View.{storage_view}
 use Rattle.pagable_pager.specs.Setting.{environment_of}
 use Rattle.{pagable_pager.proofs.Invariant.called, pagable_theorems.proofs.ValuesOwned.{rests-then, spares-same}, std.proofs.Common.refl}
 
@@ -7,7 +8,7 @@ invariant_of-self g c = called c.self.invariant c.cache_clear.new.t c.cache_clea
 
 pub returns : Rattle.pagable_pager.proofs.pager.Pager.cache_clear.Goals.returns
 returns g c = rw (← c.self.view_is) (record {
-  step = c.cache_clear.ensures.does _ _ _;
+  step = c.cache_clear.ensures.does (storage_view g.S.PagableStorage c.self.inside.storage);
   only = record {
     values = refl {a = c.self.inside.values};
     storage = refl {a = c.self.inside.storage};

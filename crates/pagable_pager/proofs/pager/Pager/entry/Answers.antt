@@ -1,7 +1,10 @@
-use Rattle.std.proofs.{Common.{None, false}, lemmas.Option.IfSome_then}
+use Rattle.pagable_pager.specs.View.{storage_view}
+use Rattle.pagable_tables.specs.Core.{no_blobs}
+use Rattle.std.proofs.{lemmas.Option.IfSome_then}
 
 pub returns-clause-found : Rattle.pagable_pager.proofs.pager.Pager.entry.Goals.returns-clause-found
-returns-clause-found g c = rw (← c.self.view_is) (IfSome_then c.entry.result c.entry.ensures.found (λ e f. f _ _ _))
+returns-clause-found g c = rw (← c.self.view_is) (IfSome_then c.entry.result c.entry.ensures.found
+    (λ e f. f (storage_view g.S.PagableStorage c.self.inside.storage)))
 
 pub returns-clause-keyed : Rattle.pagable_pager.proofs.pager.Pager.entry.Goals.returns-clause-keyed
-returns-clause-keyed g c = rw (← c.self.view_is) (IfSome_then c.entry.result c.entry.ensures.keyed (λ e f. f (λ key. None) false 0))
+returns-clause-keyed g c = rw (← c.self.view_is) (IfSome_then c.entry.result c.entry.ensures.keyed (λ e f. f no_blobs))

@@ -1,8 +1,12 @@
-use Rattle.{std.proofs.Common.refl, pagable_pager.{proofs.Invariant.is-new, specs.View.telling}}
+use Rattle.pagable_pager.{proofs.Invariant.is-new, specs.View.storage_view}
 
 pub returns-clause-empty : Rattle.pagable_pager.proofs.pager.Pager.new.Goals.returns-clause-empty
 returns-clause-empty g c =
     let e = c.new.ensures in
-    is-new (telling g.S.PagableStorage.stored g.S.PagableStorage.is_closed g.S.PagableStorage.failed)
-    (record { tables = c.new.result; values = c.new-2.result; storage = c.args.storage; environment = c.new-3.result.env })
+    is-new (storage_view g.S.PagableStorage) (record {
+      tables = c.new.result;
+      values = c.new-2.result;
+      storage = c.args.storage;
+      environment = c.new-3.result.env;
+    })
     e.rows e.nodes e.list e.cache c.new-2.ensures e.loads e.workers e.last

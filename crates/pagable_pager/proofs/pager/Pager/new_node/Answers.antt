@@ -1,6 +1,7 @@
+use Rattle.pagable_pager.specs.View.{storage_view}
 use Rattle.pagable_pager.proofs.Invariant.{born-so, born-told, only-room, roomier}
 use Rattle.pagable_tables.proofs.SameViews.{room-alike}
-use Rattle.std.proofs.Common.{inr, refl}
+use Rattle.std.proofs.Common.{inr, refl, ◌∙◌}
 use Rattle.pagable_pager.proofs.pager.Pager.new_node.Goals as goal
 
 pub invariant_of-self : goal.invariant_of-self
@@ -31,3 +32,12 @@ returns g c =
     c.insert_node.ensures.does
     c.in_default.ensures.ready.node_left c.in_default.ensures.fit c.deref.ensures.value c.node_type-node_type.ensures.value c.in-Ok.ensures.ok in
     rw (← c.self.view_is) (record { step = born.0; moves = born.1; storage = refl })
+
+pub returns-in-Err-prepare-clause-step : goal.returns-in-Err-prepare-clause-step
+returns-in-Err-prepare-clause-step g c = rw (← c.self.view_is) (record {
+  made = tt;
+  refused = (
+    refl,
+    (rw (c.deref.ensures.value ∙ c.in-Ok.ensures.ok) at c.in-Err-prepare.ensures.refused) (storage_view g.S.PagableStorage c.self.inside.storage),
+  );
+})

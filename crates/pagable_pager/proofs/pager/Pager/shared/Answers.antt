@@ -1,8 +1,12 @@
-use Rattle.{std.{proofs.Common.refl, specs.Arc.arc_value}, pagable_pager.{proofs.Invariant.is-new, specs.View.telling}}
+use Rattle.{std.{specs.Arc.arc_value}, pagable_pager.{proofs.Invariant.is-new, specs.View.storage_view}}
 
 pub returns-clause-empty : Rattle.pagable_pager.proofs.pager.Pager.shared.Goals.returns-clause-empty
 returns-clause-empty g c =
     let e = c.new.ensures in
-    is-new (telling g.S.PagableStorage.stored g.S.PagableStorage.is_closed g.S.PagableStorage.failed)
-    (record { tables = c.new.result; values = c.new-2.result; storage = c.args.storage; environment = (arc_value c.args.setting).env })
+    is-new (storage_view g.S.PagableStorage) (record {
+      tables = c.new.result;
+      values = c.new-2.result;
+      storage = c.args.storage;
+      environment = (arc_value c.args.setting).env;
+    })
     e.rows e.nodes e.list e.cache c.new-2.ensures e.loads e.workers e.last

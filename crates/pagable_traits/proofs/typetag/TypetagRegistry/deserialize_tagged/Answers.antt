@@ -11,4 +11,4 @@ returns-clause-reads g c = body_read g.E.Env g.D.PagableDeserializer g.F.TagRead
     c.in_ok-tag.ensures c.as_str.ensures.value refl c.in-Some.ensures.found c.in-Some.ensures.own c.read.ensures.reads c.read.ensures.of_tag
 
 pub returns-clause-holds : Rattle.pagable_traits.proofs.typetag.TypetagRegistry.deserialize_tagged.Goals.returns-clause-holds
-returns-clause-holds g c = held_so g.T.PagableTagged.body_beside c.read.result c.in_ok-tag.ensures.moves c.read.ensures.holds
+returns-clause-holds g c = held_so g.T.PagableTagged.body_holds_target c.read.result c.in_ok-tag.ensures.moves c.read.ensures.holds

@@ -1,4 +1,4 @@
-use Rattle.pagable_core.specs.Data.{blob_of, stored_in}
+use Rattle.pagable_core.specs.Data.{blob_of}
 use Rattle.std.{proofs.Common.arith, specs.Arc.arc_value}
 use Rattle.pagable_core.proofs.storage.in_memory.InMemoryBlobsPagableStorage.fetch_data_blocking.Goals as goal
 

@@ -5,5 +5,5 @@ returns-clause-reads g c = reads-as g.E.Env g.D.PagableDeserializer c.read_colle
     (λ h. reads_list _ g.T.Carried.means.of c.read_collected.result (λ v. v.items) _ _ _ _ h)
 
 pub returns-clause-holds : Rattle.pagable_traits.proofs.impls.lists.VecPagableDeserialize.pagable_deserialize.Goals.returns-clause-holds
-returns-clause-holds g c = list_holds g.T.Carried.beside (g.D.PagableDeserializer.standing c.args.deserializer.now)
+returns-clause-holds g c = list_holds g.T.Carried.beside (g.D.PagableDeserializer.input_state c.args.deserializer.now)
     (λ v. v.items) c.read_collected.result c.read_collected.ensures.holds

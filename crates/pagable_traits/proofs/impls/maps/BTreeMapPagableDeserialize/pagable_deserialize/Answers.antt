@@ -9,5 +9,5 @@ returns-clause-reads g c =
     (λ x. x.entries) _ _ _ _ _ h)
 
 pub returns-clause-holds : Rattle.pagable_traits.proofs.impls.maps.BTreeMapPagableDeserialize.pagable_deserialize.Goals.returns-clause-holds
-returns-clause-holds g c = sorted_map_holds g.K.Carried.beside g.V.Carried.beside (g.D.PagableDeserializer.standing c.args.deserializer.now)
+returns-clause-holds g c = sorted_map_holds g.K.Carried.beside g.V.Carried.beside (g.D.PagableDeserializer.input_state c.args.deserializer.now)
     (λ m. m.entries) c.read_collected.result g.K.Ord.cmp c.read_collected.ensures.holds

@@ -8,5 +8,5 @@ returns-clause-reads g c =
     (λ h. reads_hash_map _ g.K.Carried.means.of g.V.Carried.means.of g.K.PartialEq.eq same c.read_collected.result (λ x. x.entries) _ _ _ _ _ h)
 
 pub returns-clause-holds : Rattle.pagable_traits.proofs.impls.maps.HashMapPagableDeserialize.pagable_deserialize.Goals.returns-clause-holds
-returns-clause-holds g c = hash_map_holds g.K.Carried.beside g.V.Carried.beside (g.D.PagableDeserializer.standing c.args.deserializer.now)
+returns-clause-holds g c = hash_map_holds g.K.Carried.beside g.V.Carried.beside (g.D.PagableDeserializer.input_state c.args.deserializer.now)
     (λ m. m.entries) c.read_collected.result g.K.PartialEq.eq c.read_collected.ensures.holds

@@ -1,0 +1,2 @@
+pub mod DurableLines
+pub mod Lines

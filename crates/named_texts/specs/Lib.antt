@@ -1,0 +1,3 @@
+pub mod Durable
+pub mod Line
+pub mod Named

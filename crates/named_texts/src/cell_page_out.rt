@@ -1,0 +1,76 @@
+//! The page-out of one cell of a storage that threads may share.
+
+use crate::text_storage::TextStorage;
+use pagable::storage::handle::Storage;
+use pagable::{
+    DataKey, Error, HandleNumber, KeyHash, LentTable, OptionalDataKey, PagableStorage, PageOutError,
+};
+use pagable_pageout::page_out_entry;
+use pagable_testkit::text::TextEnv;
+use std::alloc::Global;
+use std::sync::Wait;
+
+/// Makes a handle of the caller's loose and unpinned, and moves it to the end of the list.
+fn list<R: Wait, H: KeyHash, S: PagableStorage<TextEnv<H>>>(
+    rt: &R,
+    storage: &TextStorage<H, S>,
+    handle: HandleNumber,
+) -> Result<(), Error> {
+    let _loosened = storage.into_pagable(rt, handle);
+    storage.unpin(rt, handle)?;
+    storage.schedule_for_paging(rt, handle)
+}
+
+/// Lists an unpinned clone of a handle; if that fails, releases the clone.
+fn list_clone<R: Wait, H: KeyHash, S: PagableStorage<TextEnv<H>>>(
+    rt: &R,
+    storage: &TextStorage<H, S>,
+    handle: HandleNumber,
+) -> Result<(), Error> {
+    let clone = storage.clone_handle(rt, handle)?;
+    let listed = list(rt, storage, clone);
+    if listed.is_err() {
+        let _released = storage.release(rt, clone);
+    }
+    listed
+}
+
+/// Pages out the last entry of the list, and returns its cell's key; None if the list is empty.
+fn page_out_last<R: Wait, H: KeyHash, S: PagableStorage<TextEnv<H>>>(
+    rt: &R,
+    alloc: Global,
+    storage: &TextStorage<H, S>,
+) -> Result<Option<DataKey>, PageOutError> {
+    let pending = storage.pending_paging_count(rt);
+    if pending == 0 {
+        return Ok(None);
+    }
+    let mut access = storage.access(rt);
+    let mut table = LentTable::new(alloc);
+    page_out_entry(&mut access, alloc, &mut table, pending - 1)
+}
+
+/// Pages out the cell of a handle of any mode, and returns its key. If the cell has a key already,
+/// returns that and does nothing. No other thread may use the storage meanwhile.
+///
+/// # Errors
+///
+/// - `NoSuchHandle` if the handle isn't live.
+/// - `Closed` after the storage was closed.
+/// - `OutOfMemory`, `NumbersSpent`, or the error of writing or storing the text: the cell is then in
+///   the list.
+pub fn page_out<R: Wait, H: KeyHash, S: PagableStorage<TextEnv<H>>>(
+    rt: &R,
+    alloc: Global,
+    storage: &TextStorage<H, S>,
+    handle: HandleNumber,
+) -> Result<DataKey, Error> {
+    if let OptionalDataKey::Some(key) = storage.key(rt, handle)? {
+        return Ok(key);
+    }
+    list_clone(rt, storage, handle)?;
+    match page_out_last(rt, alloc, storage)? {
+        Some(key) => Ok(key),
+        None => Err(Error::Closed),
+    }
+}

@@ -1,0 +1,28 @@
+use Rattle.pagable_changes.{proofs.Changing.{blob-fails-by, err-any, key-fails-by, leaves-by, lets-same, sets-same, unset-same}, specs.Changes.nothing-is-stored}
+use Rattle.{pagable_load.specs.AccessView.values_at, std.proofs.Common.{IsTrue, subst, ◌∙◌}}
+use Rattle.pagable_changes.proofs.turns.finish_open_node.Goals as goal
+
+pub returns-in-Err-clause-fails : goal.returns-in-Err-clause-fails
+returns-in-Err-clause-fails g c = λ honest. nothing-is-stored _
+
+pub returns-in_err-reserve-clause-fails : goal.returns-in_err-reserve-clause-fails
+returns-in_err-reserve-clause-fails g c = λ honest. err-any c.from_residual.result (λ e. nothing-is-stored e)
+
+pub returns-in-Err-store-clause-fails : goal.returns-in-Err-store-clause-fails
+returns-in-Err-store-clause-fails g c = λ honest. blob-fails-by (values_at g.E.Node.NodeSet g.E.Env g.E.Hash.KeyHash c.args.pager.now.environment)
+    c.in-Ok.ensures (c.in-Err-store.ensures.called honest)
+
+pub returns-in-Err-set_for-clause-fails : goal.returns-in-Err-set_for-clause-fails
+returns-in-Err-set_for-clause-fails g c = λ honest.
+    let stored = subst (λ s. IsTrue (g.S.PagableStorage.is_honest s)) c.in-Err-set_for.ensures.keeps.storage honest in
+    key-fails-by (values_at g.E.Node.NodeSet g.E.Env g.E.Hash.KeyHash c.args.pager.now.environment) c.in-Ok.ensures (c.in-Ok-store.ensures.called stored)
+    (unset-same (values_at g.E.Node.NodeSet g.E.Env g.E.Hash.KeyHash) c.in-Ok-store.ensures.environment c.in-Err-set_for.ensures.refused)
+
+pub returns-clause-leaves : goal.returns-clause-leaves
+returns-clause-leaves g c = λ honest.
+    let set = c.in-Ok-set_for.ensures in
+    let stored = subst (λ s. IsTrue (g.S.PagableStorage.is_honest s)) (c.let_go.ensures.keeps.storage ∙ set.keeps.storage) honest in
+    leaves-by (values_at g.E.Node.NodeSet g.E.Env g.E.Hash.KeyHash c.args.pager.now.environment) c.in-Ok.ensures
+    (c.in-Ok-store.ensures.called stored) c.reserve.ensures.rows (sets-same (values_at g.E.Node.NodeSet g.E.Env g.E.Hash.KeyHash)
+    c.in-Ok-store.ensures.environment set.sets)
+    (lets-same (values_at g.E.Node.NodeSet g.E.Env g.E.Hash.KeyHash) (set.keeps.environment ∙ c.in-Ok-store.ensures.environment) c.let_go.ensures.lets)

@@ -1,0 +1,16 @@
+use Rattle.pagable_changes.proofs.Changing.{lets-same, none-left, one-given-up}
+use Rattle.{pagable_load.specs.AccessView.values_at, std.proofs.Common.◌∙◌}
+use Rattle.pagable_changes.proofs.turns.release_path.Goals as goal
+
+pub loop-node-preserved : goal.loop-node-preserved
+loop-node-preserved g c =
+    let i = c.loop-node.invariant in
+    record {
+      so = λ s' gives. i.so s' (one-given-up (values_at g.E.Node.NodeSet g.E.Env g.E.Hash.KeyHash c.args.pager.now.environment) c.in-Some.node
+          c.in-Some.ensures.some (lets-same (values_at g.E.Node.NodeSet g.E.Env g.E.Hash.KeyHash) i.keeps.environment c.let_go.ensures.lets) gives);
+      keeps = record { storage = c.let_go.ensures.keeps.storage ∙ i.keeps.storage; environment = c.let_go.ensures.keeps.environment ∙ i.keeps.environment };
+    }
+
+pub returns-clause-gives : goal.returns-clause-gives
+returns-clause-gives g c = c.loop-node.invariant.so _ (none-left (values_at g.E.Node.NodeSet g.E.Env g.E.Hash.KeyHash c.args.pager.now.environment)
+    c.in_default.ensures.none)

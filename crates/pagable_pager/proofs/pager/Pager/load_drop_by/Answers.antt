@@ -1,9 +1,0 @@
-use Rattle.{pagable_pager.proofs.Invariant.{release_at-by}, pagable_theorems.proofs.ValuesOwned.dropped}
-
-pub invariant_of-self : Rattle.pagable_pager.proofs.pager.Pager.load_drop_by.Goals.invariant_of-self
-invariant_of-self g c =
-    (release_at-by c.self.invariant _ _ c.load_drop.ensures c.has_closed-lists.ensures (λ left. dropped c.self.invariant.state left)).0
-
-pub returns : Rattle.pagable_pager.proofs.pager.Pager.load_drop_by.Goals.returns
-returns g c = rw (← c.self.view_is)
-    (release_at-by c.self.invariant _ _ c.load_drop.ensures c.has_closed-lists.ensures (λ left. dropped c.self.invariant.state left)).1

@@ -1,9 +1,0 @@
-use Rattle.{pagable_pager.proofs.Invariant.{owner-free, release_at-by}, pagable_theorems.proofs.ValuesOwned.scheduled}
-
-pub invariant_of-self : Rattle.pagable_pager.proofs.pager.Pager.schedule_for_paging_by.Goals.invariant_of-self
-invariant_of-self g c = (release_at-by c.self.invariant _ _ c.schedule_for_paging.ensures c.has_closed-lists.ensures
-    (λ left. scheduled c.self.invariant.state left (owner-free c.self.invariant c.args.me c.self.view_is c.requires) c.schedule_for_paging.result)).0
-
-pub returns : Rattle.pagable_pager.proofs.pager.Pager.schedule_for_paging_by.Goals.returns
-returns g c = rw (← c.self.view_is) (release_at-by c.self.invariant _ _ c.schedule_for_paging.ensures c.has_closed-lists.ensures
-    (λ left. scheduled c.self.invariant.state left (owner-free c.self.invariant c.args.me c.self.view_is c.requires) c.schedule_for_paging.result)).1

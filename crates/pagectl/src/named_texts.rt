@@ -1,6 +1,0 @@
-//! Named texts in a pager, and a line of answer for each line that asks for them.
-
-mod command;
-mod names;
-pub mod serve;
-mod session;
