@@ -3,5 +3,5 @@ NAMES = [
     ('*', 'BirthCall', 'InsertCall'), ('*', 'AwayBirthCall', 'InsertPagedOutCall'), ('*', 'birth_fault', 'insert_fault'),
     ('*', 'WellFormed', 'IsPagerWhole'), ('*', 'Represents', 'PagerStandsFor'), ('*', 'unlisted', 'listing_error'),
     ({'pagable_tables', 'pagable_leaf'}, 'fall', 'finish_cascade'), ({'pagable_load'}, 'meet', 'perform'), ({'pagable_file'}, 'Tested', 'FindsFlaws'),
-    ({'pagable_pageout'}, 'settle', 'advance'), ({'pagable_pageout'}, 'refuse', 'fail_with'), ({'pagable_locked'}, 'Probe', 'ClaimFound'),
+    ('*','settle','advance'), ({'pagable_pageout'}, 'refuse', 'fail_with'), ({'pagable_locked'}, 'Probe', 'ClaimFound'),
 ]
