@@ -57,7 +57,7 @@ def copied(folder, tests=None):
     for module in modules:
         shutil.copy(HERE / f"{module}.rattle", source / f"{module}.rt")
     if "values" in modules:
-        specs = folder / CRATE / "specs"
+        specs = source.parent / "specs"
         specs.mkdir()
         shutil.copy(HERE / "values.specs", specs / "Values.antt")
         (specs / "Lib.antt").write_text("pub mod Values\n", encoding="utf-8")
