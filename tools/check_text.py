@@ -95,7 +95,7 @@ def stale_code():
     text = readme.read_text(encoding="utf-8")
     found = []
     for shown in SHOWN.finditer(text):
-        lines = (CRATES.parent / shown[1]).read_text(encoding="utf-8").partition("\n#[cfg(test)]")[0].splitlines(keepends=True)
+        lines = (CRATES.parent / shown[1]).read_text(encoding="utf-8").splitlines(keepends=True)
         code = "".join(line for line in lines if not line.startswith("//!")).lstrip("\n")
         if code.rstrip("\n") != shown[2].rstrip("\n"):
             found.append((readme, text[: shown.start(2)].count("\n") + 1))

@@ -8,6 +8,7 @@ They are built unproved, by `rt try`, as tools/speed/build.py says, in a copy of
 """
 import pathlib
 import random
+import resource
 import shutil
 import subprocess
 import sys
@@ -50,6 +51,30 @@ def expect_failure(found, said, why, what):
         sys.exit(f"{what}: {found!r} in place of {said!r} and a failure by {why!r}")
 
 
+def expect_usage(program, usage, *calls):
+    """Ends the program where a wrong call isn't answered by the usage on standard error alone, and by the status 2."""
+    for words in calls:
+        done = subprocess.run([program, *words], stdin=subprocess.DEVNULL, capture_output=True, text=True, timeout=120)
+        expect((done.returncode, done.stdout, done.stderr), (2, "", f"usage: {usage}\n"), f"a call with {words}")
+
+
+def expect_no_store(program, work, *words):
+    """Ends the program where a store that can't be opened, or holds something else, isn't named with the reason."""
+    other = work / "other.store"
+    other.write_text("no store")
+    for store, why in [(work / "none" / "a.store", "the file cannot be opened"), (other, "the file is none of blobs")]:
+        expect_failure(run(program, [store, *words]), "", [f"opening {store}", why], f"the store {store}")
+
+
+def expect_fault(program, words, text=""):
+    """Ends the program where a run whose files may have 400,000 bytes doesn't say that the disk failed."""
+    less = lambda: resource.setrlimit(resource.RLIMIT_FSIZE, (400_000, 400_000))
+    # (the signal of a file that grows too long stays ignored, as it is here)
+    how = {"preexec_fn": less, "restore_signals": False, "capture_output": True, "text": True, "timeout": 120}
+    done = subprocess.run([program, *map(str, words)], input=text, **how)
+    expect((done.returncode, "the storage failed: the disk failed" in done.stderr), (1, True), done.stderr)
+
+
 def built_once(program, store, folder, cache):
     """Builds a folder by the program and by the model, and compares what is said and what is written."""
     said, files, why = models.build(cache, folder)
@@ -77,12 +102,35 @@ def failing(program, folder, store, cache):
     return 3
 
 
+def many_lines(program, folder, store, cache):
+    """Builds of 1,500 lines, which run none of these again, also behind a build that fails and an edit at both ends."""
+    ended = lambda: built_once(program, store, folder, cache).splitlines()[-1:]
+    bits = [[place >> bit & 1 for bit in range(11)] for place in range(1500)]
+    lines = [f"{place}.txt concat {' '.join('ab'[bit] + '.txt' for bit in row)}\n" for place, row in enumerate(bits)]
+    few, last = (folder / "BUILD").read_text(), ["last.txt count a.txt\n"]
+    for rules, wanted in [
+        (lines, ["1500 of 1500 commands ran"]),
+        (["more.txt turn a.txt\n", *lines], []),
+        (lines, ["0 of 1500 commands ran"]),
+        ([*last, *lines[:-1]], ["1 of 1500 commands ran"]),
+        (lines, ["0 of 1500 commands ran"]),
+    ]:
+        (folder / "BUILD").write_text("".join(rules))
+        expect(ended(), wanted, "a build of many lines")
+    expect_fault(program, [folder / "less.store", folder])
+    (folder / "BUILD").write_text(few)
+    return 6
+
+
 def build_cache(program, work):
-    """A first build, a second one, edits that change a part and nothing, a lost target, builds that fail, and drawn
-    edits and failures."""
+    """Wrong calls and stores, builds that fail, builds of many lines, a first build, a second one, edits that change a
+    part and nothing, a lost target, and drawn edits and failures."""
     folder, store, cache = work / "folder", work / "build.store", set()
     shutil.copytree(TOP / "crates" / "build_cache" / "data", folder)
-    runs = failing(program, folder, work / "failing.store", set())
+    expect_usage(program, "build_cache STORE FOLDER", [], ["a"], ["a", "b", "c"])
+    expect_no_store(program, work, folder)
+    runs = 5 + failing(program, folder, work / "failing.store", set())
+    runs += many_lines(program, folder, work / "many.store", set())
     ended = lambda: built_once(program, store, folder, cache).splitlines()[-1]
     expect(ended(), "5 of 6 commands ran", "the first build")
     expect(ended(), "0 of 6 commands ran", "the second build")
@@ -105,8 +153,11 @@ def build_cache(program, work):
 
 
 def heap_snapshot(program, work):
-    """A program in one run, and stopped at drawn places, from process to process."""
+    """Wrong calls and stores, a program in one run, and stopped at drawn places, from process to process."""
     file = TOP / "crates" / "heap_snapshot" / "data" / "squares.txt"
+    usage = "heap_snapshot STORE LINES [PROGRAM]"
+    expect_usage(program, usage, [], ["a"], ["a", "b"], ["a", "-1"], ["a", "1.5", "c"], ["a", "1", "c", "d"])
+    expect_no_store(program, work, 1)
     machine = models.Machine(file.read_text())
     expect(run(program, [work / "none.store", 1])[0], 1, "a machine that isn't there")
     why = [f"reading the program {work / 'none.txt'}"]
@@ -118,11 +169,14 @@ def heap_snapshot(program, work):
         most = random.randrange(1, 1000)
         expect(run(program, [store, most, *words]), (0, machine.run(most)), f"run {runs}, of {most} lines")
         runs, words = runs + 1, []
-    return runs + 3
+    return runs + 11
 
 
 def spreadsheet(program, work):
-    """Drawn lines, in drawn portions from run to run."""
+    """Wrong calls and stores, a disk without room, and drawn lines, in drawn portions from run to run."""
+    expect_usage(program, "spreadsheet STORE", [], ["-a"], ["a", "b"])
+    expect_no_store(program, work)
+    expect_fault(program, [work / "less.store"], "".join(f"set A{number} 1\n" for number in range(1000)))
     sheet, runs = models.Sheet(), 30
     for _ in range(runs):
         sheet.begin()
@@ -130,7 +184,7 @@ def spreadsheet(program, work):
         wanted = "".join(f"{sheet.answer(line)}\n" for line in lines)
         found = run(program, [work / "sheet.store"], "".join(f"{line}\n" for line in lines))
         expect(found, (0, wanted), "\n".join(lines))
-    return runs
+    return runs + 6
 
 
 def main():

@@ -52,7 +52,7 @@ fn set<B: Blobs>(
     Ok(String::from_str(alloc, "set\n")?)
 }
 
-/// Makes the name that words spell stand for their key.
+/// Reads a name and a key from `words`, and makes the name stand for the key.
 fn root<B: Blobs>(alloc: Global, blobs: &mut B, words: &str) -> Result<String, Refusal> {
     let Some((name, word)) = words.split_once(' ') else {
         return Err(Refusal::BadLine);

@@ -10,12 +10,14 @@ use sqlite_trees::store::Store;
 use std::alloc::Global;
 use std::sync::Arc;
 
-/// An open file of blobs. Each call makes the call of `FileBlobs` with its name, and fails as that does.
+/// An open file of blobs. Each call makes the call on a `FileBlobs` that does the same, and fails
+/// as that does.
 pub trait Blobs: Drop {
     /// Lists all blobs.
     fn list(&mut self, alloc: Global) -> Result<Vec<Listed>, Error>;
 
-    /// Lists the names that stood for keys at the last flush, and maybe others that once did.
+    /// Lists all names that stand for a key, also those not yet flushed, and maybe some that once
+    /// did.
     fn root_names(&mut self, alloc: Global) -> Result<Vec<String>, Error>;
 
     /// Returns the key that a name stands for, if it stands for one.

@@ -6,7 +6,7 @@ use crate::refusal::Refusal;
 use std::alloc::{AllocError, Global};
 use std::{fs, io};
 
-/// Returns a path with more at its end.
+/// Returns `path` with `more` appended.
 fn path_with(alloc: Global, path: &str, more: &str) -> Result<String, AllocError> {
     format!(in alloc; "{path}{more}")
 }
@@ -25,7 +25,7 @@ fn remove_log(rt: &HostRuntime, path: &str) -> io::Result<()> {
     remove(rt, log.as_str())
 }
 
-/// Replaces a file by a new one. Both are closed.
+/// Moves the file `new` over the one at `path`, and removes both logs. Both files must be closed.
 fn replace(rt: &HostRuntime, path: &str, new: &str) -> io::Result<()> {
     remove_log(rt, new)?;
     remove_log(rt, path)?;

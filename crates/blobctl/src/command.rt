@@ -33,8 +33,8 @@ pub enum Verb {
 }
 
 impl Verb {
-    /// Returns whether the command stores or sets something, so that the file may be a new one.
-    pub fn changes_file(self) -> bool {
+    /// Returns whether the command creates the file if there is none: it stores, sets or flushes.
+    pub fn creates_file(self) -> bool {
         match self {
             Verb::Put | Verb::Root | Verb::Drop | Verb::Flush => true,
             _ => false,

@@ -23,7 +23,8 @@ struct Walk {
     found: Vec<Reached>,
 }
 
-/// Visits a key, unless the walk has seen it, and makes its children due.
+/// Fetches the blob under a key and notes it as reached, unless the walk has seen the key, and
+/// plans to visit its children.
 fn visit<B: Blobs>(
     alloc: Global,
     blobs: &mut B,

@@ -64,17 +64,17 @@ fn run_alone<B: InFile>(
     }
 }
 
-/// Returns whether a line is a command that changes nothing, for a file that isn't there.
+/// Returns whether the file isn't there, and the line is a command that doesn't create it.
 fn finds_no_file(rt: &HostRuntime, path: &str, line: &str) -> io::Result<bool> {
     match parse(line) {
-        Some((verb, _)) if !verb.changes_file() => Ok(!fs::exists(rt, path)?),
+        Some((verb, _)) if !verb.creates_file() => Ok(!fs::exists(rt, path)?),
         _ => Ok(false),
     }
 }
 
 /// Opens the file of a path, and runs the command of a line or, if the line is empty, those of the
-/// input. Returns false if the file can't be opened, the command fails, or it finds a flaw. A command
-/// that changes nothing doesn't create the file.
+/// input. Returns false if the file can't be opened, the command fails, or it finds a flaw. Only an
+/// empty line and a command that stores, sets or flushes create the file.
 ///
 /// # Errors
 ///

@@ -16,8 +16,8 @@ const BUILD: u32 = 1;
 /// the record of its output.
 const STEP: u32 = 2;
 
-/// How many steps a build keeps, those that were used last.
-const KEPT_STEPS: usize = 1000;
+/// How many steps a build keeps besides those of its own rules, the last used of all others.
+const OTHER_STEPS: usize = 1000;
 
 /// The outputs of steps, by their commands and the keys of their inputs.
 type Steps = LruCache<String, HandleNumber>;
@@ -35,7 +35,7 @@ struct Build<'a, R: RecordCalls> {
     ran: u64,
 }
 
-/// The job of building a folder. A build that fails saves the steps that it ran, too.
+/// The job of building a folder. A build that fails saves the steps that it ran, too, and forgets none.
 #[derive(Drop)]
 pub struct FolderBuild<'a> {
     /// The runtime, for files and output.
@@ -68,7 +68,7 @@ impl<'a> Job for FolderBuild<'a> {
 
 /// Reads the steps of the last build, if there is one. It reads no output.
 fn read_steps<R: RecordCalls>(store: &mut R, build: Option<HandleNumber>) -> Result<Steps> {
-    let mut steps = LruCache::new(store.alloc(), NonZeroUsize::new(KEPT_STEPS).unwrap())?;
+    let mut steps = LruCache::unbounded(store.alloc())?;
     let Some(build) = build else {
         return Ok(steps);
     };
@@ -82,7 +82,8 @@ fn read_steps<R: RecordCalls>(store: &mut R, build: Option<HandleNumber>) -> Res
 }
 
 impl<'a, R: RecordCalls> Build<'a, R> {
-    /// Builds the targets of all rules, in their order, and says how many commands ran.
+    /// Builds the targets of all rules, in their order, says how many commands ran, and forgets the steps
+    /// that are too many.
     fn build_targets(&mut self) -> Result<()> {
         let text = self.read_file("BUILD")?;
         let rules = read_rules(self.rt.alloc(), text.as_str())?;
@@ -91,6 +92,8 @@ impl<'a, R: RecordCalls> Build<'a, R> {
                 .context(format_args!("building {}", rule.target))?;
         }
         println!(self.rt; "{} of {} commands ran", self.ran, rules.len())?;
+        let others = NonZeroUsize::new(OTHER_STEPS).unwrap();
+        self.steps.resize(others.saturating_add(rules.len()));
         Ok(())
     }
 

@@ -6,15 +6,18 @@ mod build;
 mod rule;
 
 use crate::build::FolderBuild;
-use anyhow::{Result, bail};
+use anyhow::Result;
 use record_store::run_over_file;
 use std::env;
+use std::process::ExitCode;
 
-fn main(rt: HostRuntime) -> Result<()> {
+fn main(rt: HostRuntime) -> Result<ExitCode> {
     let words: Vec<String> = env::args(&rt)?.skip(1).collect(rt.alloc())?;
     let [path, folder] = words.as_slice() else {
-        bail!("usage: build_cache STORE FOLDER");
+        eprintln!(rt; "usage: build_cache STORE FOLDER")?;
+        return Ok(ExitCode::from(2));
     };
     let folder = folder.as_str();
-    run_over_file(&rt, path.as_str(), &FolderBuild { rt: &rt, folder })
+    run_over_file(&rt, path.as_str(), &FolderBuild { rt: &rt, folder })?;
+    Ok(ExitCode::SUCCESS)
 }

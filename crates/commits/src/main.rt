@@ -42,7 +42,7 @@ fn keep(alloc: Global, pager: &mut CommitPager) -> Result<HandleNumber, Error> {
     Ok(second)
 }
 
-/// Prints what a commit says.
+/// Prints a commit's message.
 fn print(rt: &HostRuntime, commit: &Commit) {
     let _ = println!(rt; "{}", commit.message.as_str());
 }

@@ -87,10 +87,10 @@ impl Machine {
             [] => {}
             [_label] => {}
             ["show", word] => return Ok(Some(self.number(store, word)?)),
-            ["go", label] => self.go(program, label)?,
+            ["go", label] => self.go_to_label(program, label)?,
             ["go", label, "unless", word] => {
                 if self.is_zero(store, word)? {
-                    self.go(program, label)?;
+                    self.go_to_label(program, label)?;
                 }
             }
             [name, "=", ref words @ ..] => {
@@ -103,7 +103,7 @@ impl Machine {
     }
 
     /// Goes on at the line with a label.
-    fn go(&mut self, program: &[&str], label: &str) -> Result<()> {
+    fn go_to_label(&mut self, program: &[&str], label: &str) -> Result<()> {
         let place = program.iter().position(|line| line.trim() == label);
         self.place = place.context(format_args!("no line is labelled {label}"))?;
         Ok(())

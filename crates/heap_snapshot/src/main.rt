@@ -6,9 +6,10 @@
 mod machine;
 
 use crate::machine::{Machine, insert_first};
-use anyhow::{Context, Result, bail};
+use anyhow::{Context, Result};
 use pagable::HandleNumber;
 use record_store::{Job, RecordCalls, run_over_file};
+use std::process::ExitCode;
 use std::{env, fs};
 
 /// The job of running some lines.
@@ -60,20 +61,36 @@ impl<'a> Run<'a> {
     }
 }
 
-fn main(rt: HostRuntime) -> Result<()> {
-    let words: Vec<String> = env::args(&rt)?.skip(1).collect(rt.alloc())?;
-    let (store, most, text) = match words.as_slice() {
+/// Reads the words after the program's name: the store, how many lines to run at most, and the path of a
+/// program, if there is one. Returns None for a wrong call.
+fn read_words(words: &[String]) -> Option<(&str, u64, Option<&str>)> {
+    let (store, most, path) = match words {
         [store, most] => (store, most, None),
-        [store, most, path] => {
-            let text = fs::read_to_string(&rt, path.as_str());
-            let text = text.context(format_args!("reading the program {path}"))?;
-            (store, most, Some(text))
-        }
-        _ => bail!("usage: heap_snapshot STORE LINES [PROGRAM]"),
+        [store, most, path] => (store, most, Some(path.as_str())),
+        _ => return None,
     };
-    let most = most.as_str().parse::<u64>();
-    let most = most.context("LINES is how many lines to run at most")?;
+    let most = most.as_str().parse::<u64>().ok()?;
+    Some((store.as_str(), most, path))
+}
+
+/// Reads the program of a file, if there is a path of one.
+fn read_program(rt: &HostRuntime, path: Option<&str>) -> Result<Option<String>> {
+    let Some(path) = path else {
+        return Ok(None);
+    };
+    let text = fs::read_to_string(rt, path);
+    Ok(Some(text.context(format_args!("reading the program {path}"))?))
+}
+
+fn main(rt: HostRuntime) -> Result<ExitCode> {
+    let words: Vec<String> = env::args(&rt)?.skip(1).collect(rt.alloc())?;
+    let Some((store, most, path)) = read_words(words.as_slice()) else {
+        eprintln!(rt; "usage: heap_snapshot STORE LINES [PROGRAM]")?;
+        return Ok(ExitCode::from(2));
+    };
+    let text = read_program(&rt, path)?;
     let program = text.as_ref().map(String::as_str);
     let rt = &rt;
-    run_over_file(rt, store.as_str(), &Run { rt, program, most })
+    run_over_file(rt, store, &Run { rt, program, most })?;
+    Ok(ExitCode::SUCCESS)
 }

@@ -131,7 +131,7 @@ impl OfNode<History> for Commit {
     ghost small = { zero_is_small };
 }
 
-/// The forms of a commit are read again.
+/// Proves that each encoding of a commit is read back.
 #[tactic(auto, using(crate::specs::Commits::commit_is_read))]
 pub fn commits_are_read<E: Env>()
     ensures { (e : E) → IsReadThroughout (E.parts e) (⟦<Commit as Carried<E>>⟧.shape e) }

@@ -1,5 +1,5 @@
 -- Lines about texts under names of roots, taken apart at their spaces.
-use Rattle.std.proofs.Common.{◌≡◌, ◌≢◌, ◌⊎◌, ℕ, List, ◌∷◌, ◌++◌, sym, subst, codes, inl, inr, refl}
+use Rattle.std.proofs.Common.{◌≡◌, ◌⊎◌, ℕ, List, ◌∷◌, ◌++◌, sym, subst, codes, inl, inr, refl}
 use Rattle.named_texts.specs.Line.{IsName, LacksSpace}
 use Rattle.named_texts.specs.Durable.{SpellsDurable}
 use Rattle.named_texts.specs.declared.durable_command.DurableCommand.{DurableCommand}
@@ -17,14 +17,6 @@ flush_lacks = letters_lack (codes "flush") refl
 
 stat_lacks : LacksSpace (codes "stat")
 stat_lacks = letters_lack (codes "stat") refl
-
--- a line without a space
-pub one_durable_word : (line : List ℕ) → LacksSpace line → line ≢ codes "flush" → line ≢ codes "stat"
-    → (command : DurableCommand) → SpellsDurable line command → ⊥
-one_durable_word line lacks flush stat (Save name root) h = uncut (codes "save") line (name.now ++ 32 ∷ root.now) lacks (sym h.2)
-one_durable_word line lacks flush stat (Open root new) h = uncut (codes "open") line (root.now ++ 32 ∷ new.now) lacks (sym h.2)
-one_durable_word line lacks flush stat Flush h = flush h
-one_durable_word line lacks flush stat Stat h = stat h
 
 module _ (word : List ℕ) (lacks : LacksSpace word) where
   -- a line with one space

@@ -57,17 +57,6 @@ word_lacks Out = letters_lack (codes "out") refl
 pub name_lacks : (w : List ℕ) → IsName w → LacksSpace w
 name_lacks w h = letters_lack w h.2
 
--- a line without a space
-pub one_word : (line : List ℕ) → LacksSpace line → line ≢ codes "pending" → line ≢ codes "pageout" → (command : Command) → Spells line command → ⊥
-one_word line lacks pending pageout (New name text) (_, inl e) = uncut (codes "new") line (name.now ++ 32 ∷ text.now) lacks (sym e)
-one_word line lacks pending pageout (New name text) (_, inr e) = uncut (codes "new") line name.now lacks (sym e.0)
-one_word line lacks pending pageout (Pin name new) h = uncut (codes "pin") line (name.now ++ 32 ∷ new.now) lacks (sym h.2)
-one_word line lacks pending pageout (Clone name new) h = uncut (codes "clone") line (name.now ++ 32 ∷ new.now) lacks (sym h.2)
-one_word line lacks pending pageout (Release name) h = uncut (codes "release") line name.now lacks (sym h.1)
-one_word line lacks pending pageout (Of verb name) h = uncut (word_of verb) line name.now lacks (sym h.1)
-one_word line lacks pending pageout Pending h = pending h
-one_word line lacks pending pageout PageOut h = pageout h
-
 module _ (word name : List ℕ) (lacks : LacksSpace word) (whole : LacksSpace name) where
   -- a line of two words: the second is a name, and the first is one of those that a name alone may follow
   pub two_words : (command : Command) → Spells (word ++ 32 ∷ name) command → IsName name

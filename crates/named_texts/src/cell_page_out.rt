@@ -10,8 +10,8 @@ use pagable_testkit::text::TextEnv;
 use std::alloc::Global;
 use std::sync::Wait;
 
-/// Makes a handle of the caller's loose and unpinned, and moves it to the end of the list.
-fn list<R: Wait, H: KeyHash, S: PagableStorage<TextEnv<H>>>(
+/// Makes a handle loose, unpins it, and moves it to the end of the list of what waits for page-out.
+fn schedule_unpinned<R: Wait, H: KeyHash, S: PagableStorage<TextEnv<H>>>(
     rt: &R,
     storage: &TextStorage<H, S>,
     handle: HandleNumber,
@@ -21,14 +21,15 @@ fn list<R: Wait, H: KeyHash, S: PagableStorage<TextEnv<H>>>(
     storage.schedule_for_paging(rt, handle)
 }
 
-/// Lists an unpinned clone of a handle; if that fails, releases the clone.
-fn list_clone<R: Wait, H: KeyHash, S: PagableStorage<TextEnv<H>>>(
+/// Clones a handle, unpins the clone, and puts it at the end of the list of what waits for
+/// page-out; if that fails, releases it.
+fn schedule_clone<R: Wait, H: KeyHash, S: PagableStorage<TextEnv<H>>>(
     rt: &R,
     storage: &TextStorage<H, S>,
     handle: HandleNumber,
 ) -> Result<(), Error> {
     let clone = storage.clone_handle(rt, handle)?;
-    let listed = list(rt, storage, clone);
+    let listed = schedule_unpinned(rt, storage, clone);
     if listed.is_err() {
         let _released = storage.release(rt, clone);
     }
@@ -68,7 +69,7 @@ pub fn page_out<R: Wait, H: KeyHash, S: PagableStorage<TextEnv<H>>>(
     if let OptionalDataKey::Some(key) = storage.key(rt, handle)? {
         return Ok(key);
     }
-    list_clone(rt, storage, handle)?;
+    schedule_clone(rt, storage, handle)?;
     match page_out_last(rt, alloc, storage)? {
         Some(key) => Ok(key),
         None => Err(Error::Closed),

@@ -8,7 +8,7 @@ ghost use Rattle.std.specs.{Char.is_ascii_alphanumeric, List.list_all, Prelude.{
 pub enum Verb {
     /// `unpin NAME`: unpins the handle.
     Unpin,
-    /// `loose NAME`: makes a Pinned handle a loose one, which pins.
+    /// `loose NAME`: turns the name's Pinned handle into a loose one, which still pins its cell.
     Loose,
     /// `count NAME`: counts the handles that pin its cell.
     Count,
@@ -49,7 +49,7 @@ pub fn parse(line: &str) -> Option<Command<'_>>
     let (word, rest) = line.split_once(' ')?;
     match rest.split_once(' ') {
         None => of_name(word, rest),
-        Some((name, behind)) => of_two(word, name, behind),
+        Some((name, behind)) => of_name_and_rest(word, name, behind),
     }
 }
 
@@ -73,7 +73,7 @@ fn of_name<'a>(word: &str, name: &'a str) -> Option<Command<'a>>
 /// Returns the command of a word, a name and the text behind its space. The text of `new` is all of
 /// that.
 #[tactic(auto, using(crate::proofs::Lines::more_words))]
-fn of_two<'a>(word: &str, name: &'a str, behind: &'a str) -> Option<Command<'a>>
+fn of_name_and_rest<'a>(word: &str, name: &'a str, behind: &'a str) -> Option<Command<'a>>
     requires word { LacksSpace word.now }
     requires name { LacksSpace name.now }
     ensures { AnswersLine (word.now ++ 32 ∷ (name.now ++ 32 ∷ behind.now)) result }
@@ -105,7 +105,7 @@ fn verb_of(word: &str) -> Option<Verb>
     }
 }
 
-/// Says whether a word is a name.
+/// Says whether a word is 1 to 16 ASCII letters and digits.
 pub(crate) fn is_name(word: &str) -> bool
     ensures { IsTrue result ↔ IsName word.now }
 {

@@ -8,7 +8,7 @@ use std::collections::HashSet;
 use std::fmt;
 use std::sync::Wait;
 
-/// What the roots of a storage stand for.
+/// How many roots a storage has, and how much they stand for.
 #[derive(Clone, Copy)]
 pub struct Counts {
     /// The blobs of the roots' keys, each counted once.

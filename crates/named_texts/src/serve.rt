@@ -14,7 +14,7 @@ use std::io;
 use std::io::{BufRead, Write};
 use std::sync::Wait;
 
-/// Why lines over a storage aren't served to their end.
+/// Why `serve_durable` ended before the end of the input.
 #[derive(Drop)]
 pub enum ServeError {
     /// The storage can't tell its names of roots, or no session can be made.
@@ -24,7 +24,8 @@ pub enum ServeError {
 }
 
 /// Answers each line of the input with one line, over blobs in memory whose keys the hash `H`
-/// computes. It answers a line that spells no command too, and goes on.
+/// computes. It answers a line that spells no command with `bad line`, and an empty line not at
+/// all.
 ///
 /// # Errors
 ///

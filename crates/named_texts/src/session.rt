@@ -18,7 +18,7 @@ use std::sync::{Arc, Wait};
 /// What a command answers, in one line.
 #[derive(Drop)]
 pub enum Answer {
-    /// One of the words of the answers.
+    /// A word, such as `ok`, `yes` or `none`.
     Word(&'static str),
     /// A count, or a key's number.
     Number(u128),
@@ -104,7 +104,7 @@ fn run<R: Wait, H: KeyHash, S: PagableStorage<TextEnv<H>>>(
         Command::Release(name) => release(rt, names, storage, name),
         Command::Of(verb, name) => {
             let handle = names.find(name)?;
-            Ok(ask(rt, storage, verb, handle)?)
+            Ok(run_verb(rt, storage, verb, handle)?)
         }
         Command::Pending => Ok(Answer::Number(storage.pending_paging_count(rt) as u128)),
         Command::PageOut => match storage.page_out_pending(rt, alloc) {
@@ -188,7 +188,7 @@ fn release<R: Wait, H: KeyHash, S: PagableStorage<TextEnv<H>>>(
 
 /// Unpins a handle, makes a Pinned handle loose, or returns how many handles pin its cell, the number
 /// of the cell's key, or whether the cell is paged out.
-fn ask<R: Wait, H: KeyHash, S: PagableStorage<TextEnv<H>>>(
+fn run_verb<R: Wait, H: KeyHash, S: PagableStorage<TextEnv<H>>>(
     rt: &R,
     storage: &TextStorage<H, S>,
     verb: Verb,

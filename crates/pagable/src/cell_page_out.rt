@@ -29,7 +29,8 @@ fn entry_by<'a, E: Env<Node: NodeSet<E>>, S: PagableStorage<E>>(
     page_out_entry(lent, alloc, &mut table, place)
 }
 
-// Pages out the last entry of the list. Returns None if the list is empty, as it is after `close`.
+// Pages out the cell of the last entry of the page-out list, and returns the cell's key. Returns
+// None if the list is empty, as it is after `close`.
 fn last_entry<E: Env<Node: NodeSet<E>>, S: PagableStorage<E>>(
     alloc: Global,
     pager: &mut Pager<E, S>,
@@ -48,8 +49,8 @@ fn last_entry<E: Env<Node: NodeSet<E>>, S: PagableStorage<E>>(
     entry_by(&mut lent, alloc, pending - 1)
 }
 
-// Pages out the last entry of the list, and returns its key. Fails with Closed if the list is
-// empty.
+// Pages out the cell of the last entry of the page-out list, and returns the cell's key. Fails with
+// Closed if the list is empty.
 fn last_key<E: Env<Node: NodeSet<E>>, S: PagableStorage<E>>(
     alloc: Global,
     pager: &mut Pager<E, S>,
@@ -67,7 +68,8 @@ fn last_key<E: Env<Node: NodeSet<E>>, S: PagableStorage<E>>(
     }
 }
 
-// Lists an unpinned clone of the handle; if that fails, releases the clone.
+// Clones the handle, makes the clone loose and unpinned, and puts it at the end of the page-out
+// list; if that fails, releases the clone.
 fn list_clone<E: Env<Node: NodeSet<E>>, S: PagableStorage<E>>(
     pager: &mut Pager<E, S>,
     handle: HandleNumber,

@@ -87,8 +87,12 @@ fn make_call<E: Env<Node: NodeSet<E>>, S: PagableStorage<E>>(
     }
 }
 
-// Forgets the load if its step has ended it.
-fn end<N: Drop>(readings: &mut IndexMap<u64, Reading>, load: u64, ended: &Option<LoadAnswer<N>>)
+// Drops the kept progress of a load if its step has ended it.
+fn forget_if_ended<N: Drop>(
+    readings: &mut IndexMap<u64, Reading>,
+    load: u64,
+    ended: &Option<LoadAnswer<N>>,
+)
     ensures { KeepsOne (kept_at readings.old) load (rest_after ended.now (kept_at readings.old load))
         (kept_at readings.new) }
 {
@@ -97,10 +101,10 @@ fn end<N: Drop>(readings: &mut IndexMap<u64, Reading>, load: u64, ended: &Option
     }
 }
 
-// Keeps an open load's progress if it isn't kept yet: at its first step, for a load of a cell.
-// Fails with OutOfMemory if there is no place for it.
+// Makes and keeps the progress of an open load of a cell, if none is kept yet, as at its first
+// step. Does nothing for a load of a key. Fails with OutOfMemory if there is no place for it.
 #[tactic(auto, using(crate::proofs::Driven::unprepared))]
-fn prepare(
+fn keep_reading(
     readings: &mut IndexMap<u64, Reading>,
     alloc: Global,
     load: LoadNumber,
@@ -148,8 +152,9 @@ fn step_by<'a, E: Env<Node: NodeSet<E>>, S: PagableStorage<E>>(
     LoadReply { ended, steps }
 }
 
-// Makes a load's next step. Fails with NoSuchHandle and NotYours, and with WrongMode if a call
-// began the load as one of a key: then nothing changes, and no step is counted.
+// Makes a load's next step. Fails with NoSuchHandle if the load isn't open, with NotYours if the
+// caller didn't begin it, and with WrongMode if a call (`Call::LoadKey`) began it as a load of a
+// key: then nothing changes, and no step is counted.
 fn load_step<E: Env<Node: NodeSet<E>>, S: PagableStorage<E>>(
     pager: &mut Pager<E, S>,
     held: &mut Held<E>,
@@ -163,7 +168,7 @@ fn load_step<E: Env<Node: NodeSet<E>>, S: PagableStorage<E>>(
 {
     pager.assert_invariant();
     let (key, cell_type) = pager.load_of(load)?;
-    if let Err(e) = prepare(&mut held.readings, alloc, load, key, cell_type) {
+    if let Err(e) = keep_reading(&mut held.readings, alloc, load, key, cell_type) {
         // There is no place for the load's progress, so the load is dropped: this is its only step.
         let _told = pager.load_drop(load);
         pager.assert_invariant();
@@ -178,7 +183,7 @@ fn load_step<E: Env<Node: NodeSet<E>>, S: PagableStorage<E>>(
     };
     let mut lent = Lent::new(pager);
     let reply = step_by(&mut lent, alloc, own);
-    end(&mut held.readings, load.0, &reply.ended);
+    forget_if_ended(&mut held.readings, load.0, &reply.ended);
     Ok(reply)
 }
 
@@ -189,7 +194,7 @@ fn closed_by<N: Drop>(call: &Call<N, PagableData>) -> Option<LoadNumber> {
     }
 }
 
-// Forgets the load if it is closed.
+// Drops the kept progress of a load that isn't open any more.
 fn forget<E: Env<Node: NodeSet<E>>, S: PagableStorage<E>>(
     pager: &Pager<E, S>,
     readings: &mut IndexMap<u64, Reading>,

@@ -146,9 +146,9 @@ fn page_out_pending_by<'a, E: Env<Node: NodeSet<E>>, S: PagableStorage<E>>(
     page_out_pending_over(lent, alloc)
 }
 
-/// Pages out the entries that are in the list at the call, with all that they refer to, from the
-/// last to the first, up to the first failure. Entries that are listed meanwhile wait for the next
-/// call. An entry whose cell has a key is only released.
+/// Pages out the cells that wait for page-out when it is called, with all that they refer to, from
+/// the last entry of the list to the first, up to the first failure. Entries that are listed
+/// meanwhile wait for the next call. An entry whose cell has a key is only released.
 ///
 /// # Errors
 ///

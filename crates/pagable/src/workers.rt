@@ -25,7 +25,7 @@ use std::sync::Arc;
 pub enum Begun {
     /// An item.
     Item(Arc<SerializedData>),
-    /// An entry of the list: its handle, and the cell under its loose kind.
+    /// An entry of the page-out list: a loose reference to its cell, by the entry's handle.
     Entry(ArcRef),
 }
 
@@ -167,7 +167,8 @@ pub fn worker_item<E: Env<Node: NodeSet<E>>, S: PagableStorage<E>>(
     Ok(worker)
 }
 
-/// Begins a worker on a table, for the entry at this index of the list, from 0 on.
+/// Begins a worker on a table, for the entry at this index, from 0 on, of the list of cells that
+/// wait for page-out.
 ///
 /// # Errors
 ///

@@ -4,7 +4,7 @@ use Rattle.pagable_budget.specs.Budgets.{Admits, BudgetView, Clears, Evicts, Evi
 use Rattle.pagable_budget.specs.Budgets.{costs-too-much, counted, evicts-more, evicts-none, hit, last-goes, missed, more, no-cell, no-memory-is-left, none-is-kept, pin-is-kept, touched}
 use Rattle.pagable_budget.specs.declared.{bound.BudgetStats.BudgetStats, evictions.KeptPin.KeptPin}
 use Rattle.{pagable.specs.Cells.Releases, pagable_pager.specs.View.{PagerView, Telling, pager_core}, pagable_pager_spec.specs.{Calls.NodeCall, Basics.{Error, HandleNumber, NodeNumber}}}
-use Rattle.std.proofs.Common.{[], Bool, Err, IsErrAnd, List, None, Ok, OnErr, OnOk, Option, Result, Some, is_ok, ap, ap₂, append-nil, append_assoc, arith, false, length, length-append, nat_eq, refl, subst, sym, take, true, ℕ, ◌+◌, ◌++◌, ◌-◌, ◌<◌, ◌^◌, ◌∙◌, ◌∷◌, ◌≡◌, ◌≤◌}
+use Rattle.std.proofs.Common.{[], Bool, Err, IsErrAnd, List, None, Ok, OnErr, OnOk, Option, Result, Some, is_ok, ap, ap₂, append-nil, append_assoc, arith, false, length, length-append, nat_eq, refl, subst, sym, take, true, ℕ, ◌+◌, ◌++◌, ◌-◌, ◌<◌, ◌^◌, ◌∙◌, ◌∷◌, ◌≡◌}
 use Rattle.std.proofs.lemmas.{List.{Sums.{sum_by-cons, sum_by_push}, take_all}, Option.same_Some}
 use Rattle.std.specs.{Map.{lookup, lookup_entry, remove_entry}, Option.{option_map, option_map_or}, Prelude.{is_some, slice_get}}
 
@@ -190,14 +190,6 @@ pub ruleset ends = (evict-none)
 pub ruleset gone = (all-evicted, all-empty)
 
 -- ---- what a budget holds, within its bound
-
-pub bounded-with : (pins pins' : LruCache ℕ KeptPin) (cost most cell : ℕ) (pin : KeptPin) → IsBounded pins cost most → cost + pin.cost ≤ most
-    → pins'.entries ≡ (cell, pin) ∷ pins.entries → pins'.cap ≡ pins.cap → IsBounded pins' (cost + pin.cost) most
-bounded-with pins pins' cost most cell pin was fits are room = record {
-  sum = omega (arith, was.sum, ap cost_of are, sum_by-cons (λ (k : Kept). k.1.cost) (cell, pin) pins.entries);
-  within = fits;
-  wide = room ∙ was.wide;
-}
 
 -- pins in another order cost the same
 pub bounded-promoted : (pins pins' : LruCache ℕ KeptPin) (cost most cell : ℕ) → IsBounded pins cost most → pins'

@@ -156,8 +156,8 @@ impl Budget {
         Ok(pinned)
     }
 
-    // Keeps a pin of the budget's own beside the caller's. If it has one of this cell already,
-    // makes that the most recently used.
+    // Counts a hit or a miss, and keeps a pin of the budget's own beside the caller's, if it can.
+    // If it has one of this cell already, makes that the most recently used instead.
     fn keep<E: Env<Node: NodeSet<E>>, S: PagableStorage<E>>(
         &mut self,
         pager: &mut Pager<E, S>,
@@ -203,12 +203,13 @@ impl Budget {
             return;
         }
         if let Ok(handle) = pager.clone(pinned) {
-            self.store(pager, cell, KeptPin { handle, cost });
+            self.insert_pin(pager, cell, KeptPin { handle, cost });
         }
     }
 
-    // Makes room for a pin and keeps it. If memory runs out, releases it.
-    fn store<E: Env<Node: NodeSet<E>>, S: PagableStorage<E>>(
+    // Evicts pins as far as the bound requires for this pin, and keeps it. If memory for keeping it
+    // runs out, releases it.
+    fn insert_pin<E: Env<Node: NodeSet<E>>, S: PagableStorage<E>>(
         &mut self,
         pager: &mut Pager<E, S>,
         cell: u64,

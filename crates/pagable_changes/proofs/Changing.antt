@@ -1,13 +1,13 @@
 -- What the calls of a page-out amount to.
 use Rattle.pagable_changes.specs.Changes.{AllHave, FoundKeys, ReleasesPath, GoesDown, GoesNowhere, HasKey, HasNoKey, IsFound, IsOver, SetKeyFails, FinishFails, FinishesOpenNode, LetsGo, PinsLoosely, SetsFor, SetsKey}
-use Rattle.pagable_changes.specs.Changes.{Stage, StoresBlob, TakesKey, Turn, TurnFails, Turned, Turns, TurnsFail, TurnsOut, Walks, WritesTaken, all-is-stored, blob-is-refused, cell-gets-key}
+use Rattle.pagable_changes.specs.Changes.{Stage, StoresBlob, TakesKey, Turn, TurnFails, Turned, Turns, TurnsFail, TurnsOut, Walks, all-is-stored, blob-is-refused, cell-gets-key}
 use Rattle.pagable_changes.specs.Changes.{goes-down, isnt-entered, key-is-refused, key-was-found, last-is-left, none-are-asked, none-is-open, none-was-found, nothing_found, one-goes-first, one-more-has}
 use Rattle.pagable_changes.specs.Changes.{one-more-turn, stage, turns-once, walk-is-refused, written_of}
 use Rattle.pagable_changes.specs.declared.{keys.FoundKey.FoundKey, nodes.OpenNode.OpenNode}
 use Rattle.pagable_value_spec.specs.Merkle.{blob_of}
-use Rattle.pagable_pager_spec.specs.{Access.MakesCall, Pager.PagerState, Basics.{ArcRef, Blob, Error, HandleNumber, is_loose_kind}, World.{Core, Values, Written}}
-use Rattle.std.proofs.Common.{Err, IfErr, List, None, Ok, OnOk, Option, Result, Some, [], ap, arith, false, length, refl, subst, sym, take, true, ℕ, ◌%◌, ◌++◌, ◌+◌, ◌∙◌, ◌∷◌, ◌≡◌, ◌≢◌, ◌≤◌}
-use Rattle.std.proofs.lemmas.{Bool.Decides.nat_tests, List.{take_all, take_more}, Option.{get_or_from_slice_get, slice_get_within}}
+use Rattle.pagable_pager_spec.specs.{Access.MakesCall, Pager.PagerState, Basics.{ArcRef, Blob, Error, HandleNumber, is_loose_kind}, World.{Core, Values}}
+use Rattle.std.proofs.Common.{Err, IfErr, List, None, Ok, OnOk, Option, Result, Some, [], ap, false, length, refl, subst, sym, take, true, ℕ, ◌++◌, ◌+◌, ◌∙◌, ◌∷◌, ◌≡◌, ◌≤◌}
+use Rattle.std.proofs.lemmas.{List.{take_all, take_more}, Option.{get_or_from_slice_get, slice_get_within}}
 use Rattle.std.specs.Prelude.{slice_get}
 
 -- what was done in an environment that is the same
@@ -22,11 +22,6 @@ pins-same says {c = c} {r} {s} {s'} same p = subst (λ x. PinsLoosely (says x) c
 pub lets-same : {N E X : Type 0} (says : E → Values N) {e e' : E} {c k : HandleNumber} {s s' : PagerState N X} → e' ≡ e → LetsGo (says e') c k s s'
     → LetsGo (says e) c k s s'
 lets-same says {c = c} {k} {s} {s'} same p = subst (λ x. LetsGo (says x) c k s s') same p
-
-pub writes-same : {N E X : Type 0} (says : E → Values N) {e e' : E} {r : ArcRef} {c k : HandleNumber} {w : Written} {s : PagerState N X} → e' ≡ e
-    → WritesTaken (says e') s r c k w
-    → WritesTaken (says e) s r c k w
-writes-same says {r = r} {c} {k} {w} {s} same p = subst (λ x. WritesTaken (says x) s r c k w) same p
 
 pub sets-same : {N E X : Type 0} (says : E → Values N) {e e' : E} {found found' : FoundKeys} {o : OpenNode} {key : ℕ} {s s' : PagerState N X} → e' ≡ e
     → SetsFor (says e') found o key s found' s' → SetsFor (says e) found o key s found' s'
@@ -63,7 +58,8 @@ found-by found w r (Some k) is eager = key-was-found k eager (sym is)
 found-by found w r None is eager = none-was-found eager (sym is)
 
 module _ {N E : Type 0} (v : Values N) (o : OpenNode) (key : ℕ) (s s' : PagerState N E) (found : FoundKeys) where
-  pub sets-cell : (r : Result (Unit {0}) Error) → is_loose_kind o.reference.kind.0 ≡ true → SetsKey v s o.through key r s' → OnOk r (SetsFor v found o key s found s')
+  pub sets-cell : (r : Result (Unit {0}) Error) → is_loose_kind o.reference.kind.0 ≡ true → SetsKey v s o.through key r s'
+      → OnOk r (SetsFor v found o key s found s')
   sets-cell (Ok u) is sets = cell-gets-key found s' is sets (λ n. refl)
   sets-cell (Err e) is sets = tt
 

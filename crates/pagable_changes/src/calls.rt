@@ -1,4 +1,5 @@
-//! The pager's calls that a page-out makes; after each the pager's invariant holds.
+//! The pager's calls that a page-out makes. Each function here makes one call (`release_both` two), and
+//! states after it that the pager's invariant holds.
 
 ghost use Rattle.std.specs.Prelude.{IsTrue, Ok, true, ◌≡◌};
 ghost use Rattle.pagable_changes.specs.{Changes.LetsGo, Keeping.KeepsStorage};
@@ -35,7 +36,8 @@ pub(crate) fn clone<E: Env<Node: NodeSet<E>>, S: PagableStorage<E>>(
 ) -> Result<HandleNumber, Error>
     ensures called { MakesCall (values_at E.Node.NodeSet E.Env E.Hash.KeyHash pager.old.environment)
         (λ w'. CloneCall (pager_core (storage_view S.PagableStorage) pager.old) owners.Caller handle result w')
-        (pager_state (storage_view S.PagableStorage) pager.old) (pager_state (storage_view S.PagableStorage) pager.new) }
+        (pager_state (storage_view S.PagableStorage) pager.old)
+        (pager_state (storage_view S.PagableStorage) pager.new) }
     ensures keeps { KeepsStorage pager.old pager.new }
 {
     let cloned = pager.clone(handle);
@@ -49,7 +51,8 @@ pub(crate) fn loosen<E: Env<Node: NodeSet<E>>, S: PagableStorage<E>>(
 ) -> Result<HandleNumber, Error>
     ensures called { MakesCall (values_at E.Node.NodeSet E.Env E.Hash.KeyHash pager.old.environment)
         (λ w'. LoosenCall (pager_core (storage_view S.PagableStorage) pager.old) owners.Caller handle result w')
-        (pager_state (storage_view S.PagableStorage) pager.old) (pager_state (storage_view S.PagableStorage) pager.new) }
+        (pager_state (storage_view S.PagableStorage) pager.old)
+        (pager_state (storage_view S.PagableStorage) pager.new) }
     ensures keeps { KeepsStorage pager.old pager.new }
 {
     let turned = pager.into_pagable(handle);
@@ -63,7 +66,8 @@ pub(crate) fn pin<E: Env<Node: NodeSet<E>>, S: PagableStorage<E>>(
 ) -> Result<Pinning, Error>
     ensures called { MakesCall (values_at E.Node.NodeSet E.Env E.Hash.KeyHash pager.old.environment)
         (λ w'. PinCall (pager_core (storage_view S.PagableStorage) pager.old) owners.Caller handle result w')
-        (pager_state (storage_view S.PagableStorage) pager.old) (pager_state (storage_view S.PagableStorage) pager.new) }
+        (pager_state (storage_view S.PagableStorage) pager.old)
+        (pager_state (storage_view S.PagableStorage) pager.new) }
     ensures keeps { KeepsStorage pager.old pager.new }
 {
     let pinned = pager.pin(handle);
@@ -77,7 +81,8 @@ pub(crate) fn release<E: Env<Node: NodeSet<E>>, S: PagableStorage<E>>(
 ) -> Result<(), Error>
     ensures called { MakesCall (values_at E.Node.NodeSet E.Env E.Hash.KeyHash pager.old.environment)
         (λ w'. ReleaseCall (pager_core (storage_view S.PagableStorage) pager.old) owners.Caller handle result w')
-        (pager_state (storage_view S.PagableStorage) pager.old) (pager_state (storage_view S.PagableStorage) pager.new) }
+        (pager_state (storage_view S.PagableStorage) pager.old)
+        (pager_state (storage_view S.PagableStorage) pager.new) }
     ensures keeps { KeepsStorage pager.old pager.new }
 {
     let released = pager.release(handle);
@@ -92,7 +97,8 @@ pub(crate) fn set_key<E: Env<Node: NodeSet<E>>, S: PagableStorage<E>>(
 ) -> Result<(), Error>
     ensures called { MakesCall (values_at E.Node.NodeSet E.Env E.Hash.KeyHash pager.old.environment)
         (λ w'. SetKeyCall (pager_core (storage_view S.PagableStorage) pager.old) owners.Caller handle key result w')
-        (pager_state (storage_view S.PagableStorage) pager.old) (pager_state (storage_view S.PagableStorage) pager.new) }
+        (pager_state (storage_view S.PagableStorage) pager.old)
+        (pager_state (storage_view S.PagableStorage) pager.new) }
     ensures keeps { KeepsStorage pager.old pager.new }
 {
     let set = pager.set_data_key(handle, key);
@@ -109,7 +115,8 @@ pub(crate) fn store<E: Env<Node: NodeSet<E>>, S: PagableStorage<E>>(
         → MakesCall (values_at E.Node.NodeSet E.Env E.Hash.KeyHash pager.old.environment)
         (λ w'. StoreCall (key_of E.Hash.digest) (pager_core (storage_view S.PagableStorage) pager.old)
         (blob_of blob) result w')
-        (pager_state (storage_view S.PagableStorage) pager.old) (pager_state (storage_view S.PagableStorage) pager.new) }
+        (pager_state (storage_view S.PagableStorage) pager.old)
+        (pager_state (storage_view S.PagableStorage) pager.new) }
     ensures honest { IsTrue (S.is_honest pager.new.storage) → IsTrue (S.is_honest pager.old.storage) }
     ensures environment { pager.new.environment ≡ pager.old.environment }
 {
@@ -120,13 +127,14 @@ pub(crate) fn store<E: Env<Node: NodeSet<E>>, S: PagableStorage<E>>(
 
 // Releases the two handles of a node that the page-out took. They are one handle if the node's
 // reference isn't loose.
-pub(crate) fn let_go<E: Env<Node: NodeSet<E>>, S: PagableStorage<E>>(
+pub(crate) fn release_both<E: Env<Node: NodeSet<E>>, S: PagableStorage<E>>(
     pager: &mut Pager<E, S>,
     through: HandleNumber,
     pin: HandleNumber,
 )
     ensures lets { LetsGo (values_at E.Node.NodeSet E.Env E.Hash.KeyHash pager.old.environment) through pin
-        (pager_state (storage_view S.PagableStorage) pager.old) (pager_state (storage_view S.PagableStorage) pager.new) }
+        (pager_state (storage_view S.PagableStorage) pager.old)
+        (pager_state (storage_view S.PagableStorage) pager.new) }
     ensures keeps { KeepsStorage pager.old pager.new }
 {
     let _unpinned = release(pager, pin);

@@ -23,7 +23,8 @@ pub struct FoundKey {
     pub height: u64,
 }
 
-/// What was found for nodes that have no cell of their own, by node number.
+/// The keys that a page-out found for nodes which it reached by references that aren't loose, by
+/// node number.
 pub(crate) type FoundKeys = NumberTable<FoundKey>;
 
 // Returns what was found for a node.
@@ -103,7 +104,7 @@ fn reference_at(references: &Vec<ArcRef>, at: usize) -> Option<ArcRef>
 
 // Appends the key of the reference at this index, and returns the height that it gives to its
 // holder. Fails with `TooDeep` if the reference has no key.
-fn take_key<E: Env<Node: NodeSet<E>>, S: PagableStorage<E>>(
+fn append_key_at<E: Env<Node: NodeSet<E>>, S: PagableStorage<E>>(
     pager: &Pager<E, S>,
     found: &FoundKeys,
     references: &Vec<ArcRef>,
@@ -129,8 +130,8 @@ fn take_key<E: Env<Node: NodeSet<E>>, S: PagableStorage<E>>(
     }
 }
 
-/// Collects the keys of these references, and returns them with the height of their holder. Fails
-/// with `TooDeep` if a reference has no key yet: then its target holds the holder.
+/// Collects the keys of what these references name, and returns them with the height of the node
+/// that holds the references. Fails with `TooDeep` if one has no key yet.
 pub(crate) fn collect_keys<E: Env<Node: NodeSet<E>>, S: PagableStorage<E>>(
     alloc: Global,
     pager: &Pager<E, S>,
@@ -144,7 +145,7 @@ pub(crate) fn collect_keys<E: Env<Node: NodeSet<E>>, S: PagableStorage<E>>(
     let mut height = 0;
     let mut at = 0;
     while at < references.len() {
-        let above = match take_key(pager, found, references, at, &mut keys) {
+        let above = match append_key_at(pager, found, references, at, &mut keys) {
             Ok(above) => above,
             Err(e) => return Err(e),
         };

@@ -1,11 +1,12 @@
-//! Nodes that a page-out is writing: how it takes them, and what it wrote of them.
+//! Nodes that a page-out is writing: it pins each, writes its value, and keeps both until the blob
+//! is stored.
 
 ghost use Rattle.std.specs.Prelude.{IfErr, IfOk, true, ◌≡◌};
 ghost use Rattle.pagable_changes.specs.Changes.{EnterFails, Enters, IsFormOf, PinsLoosely, TakeFails, Takes, Writes, WritesTaken, written_of};
 ghost use Rattle.{pagable_changes.specs.Keeping.KeepsStorage, pagable_load.specs.AccessView.values_at};
 ghost use Rattle.{pagable_pager.specs.View.{pager_state, storage_view}, pagable_pager_spec.specs.Basics.is_loose_kind};
 
-use crate::calls::{clone, is_at, let_go, loosen, pin, release};
+use crate::calls::{clone, is_at, loosen, pin, release, release_both};
 use pagable_codec::{Env, NodeSet};
 use pagable_core::{PagableStorage, SerializedData, SerializerForPaging, SessionOf};
 use pagable_pager::Pager;
@@ -49,8 +50,8 @@ fn pin_loosely<E: Env<Node: NodeSet<E>>, S: PagableStorage<E>>(
     }
 }
 
-// Takes a loose reference's cell: clones the reference's handle (and makes the clone loose if it is
-// Pinned), and pins the cell by the clone. Returns the clone and the pin.
+// Pins a loose reference's cell: clones the reference's handle (and makes the clone loose if it is
+// Pinned), and pins the cell by the clone. Returns the clone and the new Pinned handle.
 fn take_loose<E: Env<Node: NodeSet<E>>, S: PagableStorage<E>>(
     pager: &mut Pager<E, S>,
     reference: ArcRef,
@@ -77,7 +78,8 @@ fn take_loose<E: Env<Node: NodeSet<E>>, S: PagableStorage<E>>(
     }
 }
 
-// Takes a reference's node. A clone of a handle that isn't loose pins the node itself.
+// Pins a reference's node. Returns a clone of the reference's handle, and the handle that pins the
+// node: the clone itself, if the reference isn't loose.
 fn take<E: Env<Node: NodeSet<E>>, S: PagableStorage<E>>(
     pager: &mut Pager<E, S>,
     reference: ArcRef,
@@ -141,7 +143,7 @@ fn write_pinned<E: Env<Node: NodeSet<E>>, S: PagableStorage<E>>(
 
 // Writes the value as `write_pinned` does, after a test that both handles are of the reference's
 // node.
-fn write_taken<E: Env<Node: NodeSet<E>>, S: PagableStorage<E>>(
+fn check_and_write<E: Env<Node: NodeSet<E>>, S: PagableStorage<E>>(
     alloc: Global,
     pager: &Pager<E, S>,
     reference: ArcRef,
@@ -160,7 +162,8 @@ fn write_taken<E: Env<Node: NodeSet<E>>, S: PagableStorage<E>>(
     write_pinned(alloc, pager, reference, pin)
 }
 
-/// Takes a reference's node and writes it. If the writing fails, releases what it took.
+/// Pins a reference's node and writes its value. If it can't be written, releases the handles that
+/// this made.
 pub(crate) fn enter<E: Env<Node: NodeSet<E>>, S: PagableStorage<E>>(
     alloc: Global,
     pager: &mut Pager<E, S>,
@@ -181,7 +184,7 @@ pub(crate) fn enter<E: Env<Node: NodeSet<E>>, S: PagableStorage<E>>(
         Ok(taken) => taken,
         Err(e) => return Err(e),
     };
-    match write_taken(alloc, pager, reference, through, pin) {
+    match check_and_write(alloc, pager, reference, through, pin) {
         Ok(written) => Ok(OpenNode {
             reference,
             place,
@@ -191,7 +194,7 @@ pub(crate) fn enter<E: Env<Node: NodeSet<E>>, S: PagableStorage<E>>(
             keyed: 0,
         }),
         Err(e) => {
-            let_go(pager, through, pin);
+            release_both(pager, through, pin);
             Err(e)
         }
     }

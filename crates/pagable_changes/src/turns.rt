@@ -6,7 +6,7 @@ ghost use Rattle.{pagable_changes.specs.Keeping.KeepsStorage, pagable_core.specs
 ghost use Rattle.pagable_pager.specs.View.{pager_core, pager_state, storage_view};
 ghost use Rattle.pagable_tables.specs.NumberTable.{place_at, row_by};
 
-use crate::calls::{let_go, set_key, store};
+use crate::calls::{release_both, set_key, store};
 use crate::keys::{FoundKey, FoundKeys, LONGEST_PATH, collect_keys, find};
 use crate::nodes::{OpenNode, enter};
 use pagable_codec::{Env, NodeSet};
@@ -38,7 +38,7 @@ fn blob_of_node<E: Env<Node: NodeSet<E>>, S: PagableStorage<E>>(
 
 // Sets the key of a cell; for a node that the page-out didn't reach by a loose reference, records
 // the key for the rest of this page-out.
-fn set_for<E: Env<Node: NodeSet<E>>, S: PagableStorage<E>>(
+fn keep_key<E: Env<Node: NodeSet<E>>, S: PagableStorage<E>>(
     pager: &mut Pager<E, S>,
     found: &mut FoundKeys,
     node: &OpenNode,
@@ -91,11 +91,11 @@ fn finish_open_node<E: Env<Node: NodeSet<E>>, S: PagableStorage<E>>(
         Ok(key) => key,
         Err(e) => return Err(e),
     };
-    match set_for(pager, found, node, FoundKey { key, height }) {
+    match keep_key(pager, found, node, FoundKey { key, height }) {
         Ok(()) => {}
         Err(e) => return Err(e),
     }
-    let_go(pager, node.through, node.pin);
+    release_both(pager, node.through, node.pin);
     Ok(key)
 }
 
@@ -119,7 +119,8 @@ fn is_too_deep(node: &OpenNode, reference: ArcRef, place: u64) -> bool {
     }
 }
 
-// Enters the target of a reference that has no key; the node at hand waits on the path.
+// Pins and writes the target, which has no key, of a reference of the node at hand. The target
+// becomes the node at hand, and the old one waits on the path.
 fn go_down<E: Env<Node: NodeSet<E>>, S: PagableStorage<E>>(
     alloc: Global,
     pager: &mut Pager<E, S>,
@@ -156,7 +157,8 @@ fn next_of(node: &OpenNode) -> Option<ArcRef>
     node.written.arcs.get(node.keyed).copied()
 }
 
-// Handles the node's next reference: passes it if it has a key, else enters its target.
+// Handles the node's next reference: counts it as keyed if its target has a key; otherwise makes
+// the target the node at hand, as `go_down` does.
 fn go_on<E: Env<Node: NodeSet<E>>, S: PagableStorage<E>>(
     alloc: Global,
     pager: &mut Pager<E, S>,
@@ -202,8 +204,9 @@ fn pop_node(path: &mut Vec<OpenNode>) -> Option<OpenNode>
     path.pop()
 }
 
-// Leaves a node whose references all have keys, and resumes the last node on the path. If the path
-// is empty, returns the left node's key.
+// Stores the node at hand, whose references all have keys, as `finish_open_node` does. Then the
+// last node on the path becomes the node at hand; if the path is empty, returns the stored node's
+// key.
 fn go_up<E: Env<Node: NodeSet<E>>, S: PagableStorage<E>>(
     alloc: Global,
     pager: &mut Pager<E, S>,
@@ -239,8 +242,8 @@ fn go_up<E: Env<Node: NodeSet<E>>, S: PagableStorage<E>>(
     }
 }
 
-// Makes one turn: handles the node's next reference, or leaves the node if it has none left.
-// Returns the root's key after the last turn.
+// Makes one turn: handles the next reference of the node at hand, or stores the node if it has none
+// left. Returns the root's key after the last turn, else None.
 fn turn<E: Env<Node: NodeSet<E>>, S: PagableStorage<E>>(
     alloc: Global,
     pager: &mut Pager<E, S>,
@@ -315,15 +318,17 @@ fn release_path<E: Env<Node: NodeSet<E>>, S: PagableStorage<E>>(
     path: &mut Vec<OpenNode>,
 )
     ensures gives { ReleasesPath (values_at E.Node.NodeSet E.Env E.Hash.KeyHash pager.old.environment) path.old.items
-        (pager_state (storage_view S.PagableStorage) pager.old) (pager_state (storage_view S.PagableStorage) pager.new) }
+        (pager_state (storage_view S.PagableStorage) pager.old)
+        (pager_state (storage_view S.PagableStorage) pager.new) }
     ensures keeps { KeepsStorage pager.old pager.new }
 {
     while let Some(node) = pop_node(path) {
-        let_go(pager, node.through, node.pin);
+        release_both(pager, node.through, node.pin);
     }
 }
 
-/// Writes a node and all nodes without a key that it reaches, and returns its key.
+/// Stores the first node and all nodes without a key that it reaches, and returns its key. An error
+/// releases all handles that the nodes have.
 pub(crate) fn walk<E: Env<Node: NodeSet<E>>, S: PagableStorage<E>>(
     alloc: Global,
     pager: &mut Pager<E, S>,
@@ -342,7 +347,7 @@ pub(crate) fn walk<E: Env<Node: NodeSet<E>>, S: PagableStorage<E>>(
     match make_turns(alloc, pager, &mut found, &mut path, &mut node) {
         Ok(key) => Ok(key),
         Err(e) => {
-            let_go(pager, node.through, node.pin);
+            release_both(pager, node.through, node.pin);
             release_path(pager, &mut path);
             Err(e)
         }

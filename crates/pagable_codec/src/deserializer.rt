@@ -94,7 +94,7 @@ pub trait PagableDeserializer<E: Env> {
         ensures ok { OnOk result ((levels self.new ≡ levels self.old + 1) × (levels self.old < deepest)) }
         ensures err { IfErr result (λ e. (e ≡ Error.TooDeep) × (deepest ≤ levels self.old)
             × (levels self.new ≡ levels self.old)) }
-        ensures same_standing { input_state self.new ≡ input_state self.old }
+        ensures same_input { input_state self.new ≡ input_state self.old }
         ensures same_rest { rest self.new ≡ rest self.old }
         ensures same_env { environment self.new ≡ environment self.old };
 
@@ -102,7 +102,7 @@ pub trait PagableDeserializer<E: Env> {
     fn leave(&mut self)
         requires { 0 < levels self.old }
         ensures up { levels self.new ≡ levels self.old - 1 }
-        ensures same_standing { input_state self.new ≡ input_state self.old }
+        ensures same_input { input_state self.new ≡ input_state self.old }
         ensures same_rest { rest self.new ≡ rest self.old }
         ensures same_env { environment self.new ≡ environment self.old };
 

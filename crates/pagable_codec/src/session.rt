@@ -102,7 +102,8 @@ impl<K: Ord + Drop, V: SessionValue> SessionMap<K, V> {
             × Updates K.cmp self.old.values self.new.values key (Some x)) }
         ensures err { OnErr result (IsUnchanged self.old.values self.new.values) }
         ensures only { IfErr result (λ e. memory e.0) }
-        ensures back { IfErr result (λ e. (e.1 ≡ key) × IsHandedBack (F.post make) (get K.cmp self.old.values key) e.2) }
+        ensures back { IfErr result (λ e. (e.1 ≡ key) × IsHandedBack (F.post make)
+            (get K.cmp self.old.values key) e.2) }
     {
         match self.get(&key) {
             Err(refusal) => return Err((refusal, key, None)),

@@ -1,3 +1,4 @@
 pub mod Taking
 pub mod Weighing
 pub mod Adding
+mod Names

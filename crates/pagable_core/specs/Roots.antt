@@ -1,6 +1,6 @@
 -- Names that stand for keys in a storage of blobs.
-use Rattle.std.specs.Prelude.{◌≡◌, ℕ, Bool, true, if◌then◌else◌, List, Option, Some, None, IsSome}
-use Rattle.std.specs.Str.{bytes_eq}
+use Rattle.std.specs.Prelude.{◌≡◌, ℕ, Bool, true, if◌then◌else◌, List, Option, Some, None, IsSome, IsTrue, String, string_bytes}
+use Rattle.std.specs.{List.list_any, Str.{IsUtf8, bytes_eq}}
 use Rattle.pagable_value_spec.specs.{Blob.Blob, Stored.HasFailed, declared.error.Error.Error}
 
 -- the name stands for this key now, or for none; each other name stands for what it stood for
@@ -18,3 +18,10 @@ RefusesRoot key stored closed before after Error.Closed = closed ≡ true
 RefusesRoot key stored closed before after Error.OutOfMemory = Unit {0}
 RefusesRoot key stored closed before after (Error.Storage code) = HasFailed before after
 RefusesRoot key stored closed before after _ = ⊥
+
+abbrev pub is_among : {A : Type 0} → List ℕ → List (String A) → Bool
+is_among name names = list_any (λ it. bytes_eq name (string_bytes it)) names
+
+-- each name, which is UTF-8, is listed if it stands for a key
+abbrev pub ListsAll : {A : Type 0} → (List ℕ → Option ℕ) → List (String A) → Type 0
+ListsAll roots names = (name : List ℕ) → IsUtf8 name → IsSome (roots name) → IsTrue (is_among name names)

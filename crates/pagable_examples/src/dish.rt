@@ -27,17 +27,17 @@ impl<E: Env> Carried<E> for Dish {
     ghost means = { dish_means };
 }
 
-/// Each dish has one meaning,
+/// Each dish has one meaning: its name and its weight.
 impl<E: Env> OneMeaning<E> for Dish {
     ghost single = { dish_single };
 }
 
-/// so equal dishes have equal encodings, since a name and a number have one encoding each;
+/// Equal dishes have equal encodings, since a name and a number have one encoding each.
 impl<E: Env> Canonical<E> for Dish {
     ghost one_form = { λ e. two_has_one_form (refl, refl) (basic_has_one_form tt) (basic_has_one_form tt) };
 }
 
-/// and a dish may be a key of a map and an item of a set.
+/// A dish may be a key of a map and an item of a set.
 impl<E: Env> PagableKey<E> for Dish {
     ghost key = { key_seen (λ d. (d.name, d.grams)) (pair_key (key_seen string_bytes text_key) number_key) };
 }

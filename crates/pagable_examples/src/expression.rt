@@ -50,7 +50,7 @@ fn write_below<S: PagableSerializer<Sheet>>(
     done
 }
 
-// Writes which variant it is, and its fields.
+// Writes a flag, true for a number and false for a sum, and then the fields.
 #[cycle(writing)]
 fn write_node<S: PagableSerializer<Sheet>>(
     value: &Expression,
@@ -97,7 +97,7 @@ fn sum_of(alloc: Global, left: Expression, right: Expression) -> Result<Expressi
     Ok(Expression::Sum(left, right))
 }
 
-// Reads which variant it is, and its fields.
+// Reads a flag, true for a number and false for a sum, and then the fields.
 #[cycle(reading)]
 #[tactic(auto, unfolding(pagable_value_spec::specs::Reading::read, pagable_value_spec::specs::Reading::read_with), using(pagable_traits::proofs::Parts::reads))]
 fn read_node<D: PagableDeserializer<Sheet>>(

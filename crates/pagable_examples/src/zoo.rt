@@ -20,7 +20,8 @@ pub struct Zoo {
     pub animals: TypetagRegistry<Animal, AnimalReader>,
 }
 
-/// Makes the registry of these values. It gives each its index and ignores the one in the entry.
+/// Makes the registry of these values. The registry gives each its index; the index 0 of the
+/// entries made here is ignored.
 fn registry_of<T: Copy + Ord>(
     alloc: Global,
     values: &[T],

@@ -4,7 +4,7 @@ use Rattle.std.specs.{HashMap.get, List.{AllByRecursion as Each, Contains}, Prel
 use Rattle.std.proofs.lemmas.{Bool.Decides.nat_tests, List.{map_more, take_more}, Slice.Eq.bytes_eq-Decides}
 use Rattle.pagable_value_spec.specs.{Blob.{Blob}, Stored.{Adds, Keeps}}
 use Rattle.pagable_core.specs.Roots.{Sets}
-use Rattle.pagable_file.specs.Copies.{AreCopied, Copied, end_of, HasCopied, IsCopied, IsCopiedRoot, IsInBoth, IsPath, Matches, Reaches}
+use Rattle.pagable_file.specs.Copies.{AreCopied, CopiedKeys, end_of, HasCopied, IsCopied, IsCopiedRoot, IsInBoth, IsPath, Matches, Reaches}
 
 -- a blob that was added stands under its key, and what stood elsewhere still does
 pub adds_stored : (key : ℕ) (blob : Blob) (old new : ℕ → Option Blob) → Adds key blob old new → new key ≡ Some blob
@@ -33,17 +33,17 @@ same_keeps old new same q other h = ap (λ f. f q) same ∙ h
 pub keeps_then : (a b c : ℕ → Option Blob) → Keeps a b → Keeps b c → Keeps a c
 keeps_then a b c f g key blob h = g key blob (f key blob h)
 
-each_copied : (copied more : Copied) → ((q : ℕ) → HasCopied copied q → HasCopied more q) → (keys : List ℕ) → Each (HasCopied copied) keys
+each_copied : (copied more : CopiedKeys) → ((q : ℕ) → HasCopied copied q → HasCopied more q) → (keys : List ℕ) → Each (HasCopied copied) keys
     → Each (HasCopied more) keys
 each_copied copied more f [] h = tt
 each_copied copied more f (k ∷ keys) h = (f k h.0, each_copied copied more f keys h.1)
 
 -- what stays where the copy grows
-pub copied_stays : (from to next : ℕ → Option Blob) (copied : Copied) → Keeps to next → AreCopied from to copied → AreCopied from next copied
+pub copied_stays : (from to next : ℕ → Option Blob) (copied : CopiedKeys) → Keeps to next → AreCopied from to copied → AreCopied from next copied
 copied_stays from to next copied keeps all key h = let it = all key h in
     record { blob = it.blob; there = it.there; stored = keeps key it.blob it.stored; children = it.children }
 
-still : (copied more : Copied) (key : ℕ) → ((q : ℕ) → get nat_eq more q ≡ (if nat_eq key q then Some tt else get nat_eq copied q)) → (q : ℕ)
+still : (copied more : CopiedKeys) (key : ℕ) → ((q : ℕ) → get nat_eq more q ≡ (if nat_eq key q then Some tt else get nat_eq copied q)) → (q : ℕ)
     → HasCopied copied q → HasCopied more q
 still copied more key each q h = go (nat_eq key q) (each q)
   where
@@ -52,7 +52,7 @@ still copied more key each q h = go (nat_eq key q) (each q)
     go false e = subst IsSome (sym e) h
 
 -- one more key was copied
-pub copied_more : (from to next : ℕ → Option Blob) (copied more : Copied) (key : ℕ) (blob : Blob)
+pub copied_more : (from to next : ℕ → Option Blob) (copied more : CopiedKeys) (key : ℕ) (blob : Blob)
     → ((q : ℕ) → get nat_eq more q ≡ (if nat_eq key q then Some tt else get nat_eq copied q)) → from key ≡ Some blob → next key ≡ Some blob
     → Each (HasCopied copied) blob.keys → Keeps to next → AreCopied from to copied → AreCopied from next more
 copied_more from to next copied more key blob each there stored children keeps all q h = go (nat_eq key q) refl (each q)
@@ -73,7 +73,7 @@ copied_more from to next copied more key blob each there stored children keeps a
         let it = all q (subst IsSome f h) in
         record { blob = it.blob; there = it.there; stored = keeps q it.blob it.stored; children = each_copied copied more grows it.blob.keys it.children }
 
-pub none_copied : (from to : ℕ → Option Blob) (copied : Copied) → ((q : ℕ) → get nat_eq copied q ≡ None) → AreCopied from to copied
+pub none_copied : (from to : ℕ → Option Blob) (copied : CopiedKeys) → ((q : ℕ) → get nat_eq copied q ≡ None) → AreCopied from to copied
 none_copied from to copied none key h = let no : IsSome {T = Unit {0}} None = subst IsSome (none key) h in absurd (cc)
 
 -- a child of a copied key was copied
@@ -86,7 +86,7 @@ some_one : (a b : Blob) → Some a ≡ Some b → a ≡ b
 some_one a b e = cc
 
 -- what a copied key reaches was copied
-reached : (from to : ℕ → Option Blob) (copied : Copied) → AreCopied from to copied → (key : ℕ) (path : List ℕ) → IsPath from key path → HasCopied copied key
+reached : (from to : ℕ → Option Blob) (copied : CopiedKeys) → AreCopied from to copied → (key : ℕ) (path : List ℕ) → IsPath from key path → HasCopied copied key
     → HasCopied copied (end_of key path)
 reached from to copied all key [] h has = has
 reached from to copied all key (child ∷ path) h has =
@@ -96,19 +96,19 @@ reached from to copied all key (child ∷ path) h has =
     let among : Contains it.blob.keys child = subst (λ (b : Blob). Contains b.keys child) (sym same) step.2 in
     reached from to copied all child path h.1 (of_each (HasCopied copied) it.blob.keys among.0 child among.1 among.2 it.children)
 
-pub in_both : (from to : ℕ → Option Blob) (copied : Copied) → AreCopied from to copied → (root key : ℕ) → HasCopied copied root → Reaches from root key
+pub in_both : (from to : ℕ → Option Blob) (copied : CopiedKeys) → AreCopied from to copied → (root key : ℕ) → HasCopied copied root → Reaches from root key
     → IsInBoth from to key
 in_both from to copied all root key has r =
     let it = all key (subst (HasCopied copied) r.2 (reached from to copied all root r.0 r.1 has)) in
     (it.blob, it.there, it.stored)
 
-pub is_copied_root : (from to : ℕ → Option Blob) (copied : Copied) (wanted copies : List ℕ → Option ℕ) (name : List ℕ) → AreCopied from to copied
+pub is_copied_root : (from to : ℕ → Option Blob) (copied : CopiedKeys) (wanted copies : List ℕ → Option ℕ) (name : List ℕ) → AreCopied from to copied
     → Matches copied wanted copies name → IsCopiedRoot from to wanted copies name
 is_copied_root from to copied wanted copies name all m root is =
     let it = m root is in
     record { set = it.0; blobs = λ key r. in_both from to copied all root key it.1 r }
 
-pub all_roots : {A : Type 0} (text : A → List ℕ) (from to : ℕ → Option Blob) (copied : Copied) (wanted copies : List ℕ → Option ℕ) (names : List A)
+pub all_roots : {A : Type 0} (text : A → List ℕ) (from to : ℕ → Option Blob) (copied : CopiedKeys) (wanted copies : List ℕ → Option ℕ) (names : List A)
     → AreCopied from to copied
     → Each (λ n. Matches copied wanted copies (text n)) names → Each (λ n. IsCopiedRoot from to wanted copies (text n)) names
 all_roots text from to copied wanted copies [] all h = tt
@@ -118,7 +118,7 @@ all_roots text from to copied wanted copies (n ∷ names) all h = (
 )
 
 -- a name was set to the key that is wanted
-pub matches_set : (copied : Copied) (wanted old new : List ℕ → Option ℕ) (name : List ℕ) (root : ℕ) → Some root ≡ wanted name → HasCopied copied root
+pub matches_set : (copied : CopiedKeys) (wanted old new : List ℕ → Option ℕ) (name : List ℕ) (root : ℕ) → Some root ≡ wanted name → HasCopied copied root
     → Sets name (Some root) old new → Matches copied wanted new name
 matches_set copied wanted old new name root is has sets other h =
     let same : Some root ≡ Some other = is ∙ h in
@@ -127,7 +127,7 @@ matches_set copied wanted old new name root is has sets other h =
     let set : new name ≡ Some root = sets name ∙ rw own refl in
     (set ∙ same, subst (HasCopied copied) one has)
 
-pub others_stay : (copied : Copied) (wanted old new : List ℕ → Option ℕ) (name : List ℕ) (root : ℕ) → Some root ≡ wanted name → HasCopied copied root
+pub others_stay : (copied : CopiedKeys) (wanted old new : List ℕ → Option ℕ) (name : List ℕ) (root : ℕ) → Some root ≡ wanted name → HasCopied copied root
     → Sets name (Some root) old new → (q : List ℕ) → Matches copied wanted old q → Matches copied wanted new q
 others_stay copied wanted old new name root is has sets q m = go (bytes_eq name q) refl
   where
@@ -135,7 +135,7 @@ others_stay copied wanted old new name root is has sets q m = go (bytes_eq name 
     go true e = subst (λ (n : List ℕ). Matches copied wanted new n) ((bytes_eq-Decides name q).0 e) (matches_set copied wanted old new name root is has sets)
     go false e = λ other h. let it = m other h in (sets q ∙ (rw e it.0), it.1)
 
-pub matches_none : (copied : Copied) (wanted roots : List ℕ → Option ℕ) (name : List ℕ) → None ≡ wanted name → Matches copied wanted roots name
+pub matches_none : (copied : CopiedKeys) (wanted roots : List ℕ → Option ℕ) (name : List ℕ) → None ≡ wanted name → Matches copied wanted roots name
 matches_none copied wanted roots name none root h = let no : None ≡ Some root = none ∙ h in absurd (cc)
 
 -- the keys of the names so far, with one more
@@ -154,7 +154,8 @@ each_more P [] x h p = (p, tt)
 each_more P (y ∷ xs) x h p = (h.0, each_more P xs x h.1 p)
 
 -- one more name was set
-pub set_more : {A : Type 0} (text : A → List ℕ) (copied : Copied) (wanted old new : List ℕ → Option ℕ) (names : List A) (i : ℕ) (x : A) → i < length names → x
+pub set_more : {A : Type 0} (text : A → List ℕ) (copied : CopiedKeys) (wanted old new : List ℕ → Option ℕ) (names : List A) (i : ℕ) (x : A)
+    → i < length names → x
     ≡ get_or names i x → ((q : List ℕ) → Matches copied wanted old q → Matches copied wanted new q)
     → Matches copied wanted new (text x) → Each (λ n. Matches copied wanted old (text n)) (take i names)
     → Each (λ n. Matches copied wanted new (text n)) (take (i + 1) names)

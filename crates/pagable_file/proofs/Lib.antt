@@ -4,6 +4,7 @@ mod Fetching
 mod Flawed
 mod Keys
 mod Named
+mod Names
 mod Opening
 mod Places
 mod Putting

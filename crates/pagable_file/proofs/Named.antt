@@ -4,7 +4,7 @@ use Rattle.std.proofs.lemmas.{Bool.Decides.{Decides-int_eq}, Slice.Eq.bytes_eq-D
 use Rattle.std.specs.{HashMap.get, Map.lookup, Ordering.int_eq, Prelude.{◌==◌, if◌then◌else◌, is_some}, Str.bytes_eq, String.string_bytes}
 use Rattle.sqlite_value.specs.Order.{Row, bytes, column}
 use Rattle.sqlite_trees.specs.{Tree.Trees, View.View}
-use Rattle.pagable_value_spec.specs.{Blob.Blob, Outcomes.memory, Stored.{HasFailed, RefusesFlush}, declared.error.Error.Error}
+use Rattle.pagable_value_spec.specs.{Blob.Blob, Outcomes.memory, Stored.{HasFailed, IsMemoryOrFailure}, declared.error.Error.Error}
 use Rattle.pagable_file.specs.Rows.{blob_in, blob_tree, blobs_in, rowid_of, rowid_of_name, root_in, root_of_row, root_tree, roots_in, row_at}
 use Rattle.pagable_core.specs.Roots.{RefusesRoot, Sets, Stands}
 use Rattle.pagable_file.specs.Blobs.{before, before_root, found_root, HasPlace, HoldsRoot, IsFoundAs, IsNamedAs, IsNotOther, reads_blob, roots_unless, roots_with, unless, StaysPut, stored_with, Waiting, WaitingRoots, is_sure}
@@ -124,7 +124,7 @@ by_entries waiting after rows same = λ i q. before_root q (lookup (int_eq (rowi
 failed_since : (was mid now : ℕ) → was ≤ mid → HasFailed mid now → HasFailed was now
 failed_since was mid now le h = grind arith
 
-pub refuses_root : (key : Option ℕ) (stored : ℕ → Option Blob) (closed : Bool) (was mid now : ℕ) (e : Error) → was ≤ mid → RefusesFlush mid now e
+pub refuses_root : (key : Option ℕ) (stored : ℕ → Option Blob) (closed : Bool) (was mid now : ℕ) (e : Error) → was ≤ mid → IsMemoryOrFailure mid now e
     → RefusesRoot key stored closed was now e
 refuses_root key stored closed was mid now (error.Storage code) le h = failed_since was mid now le h
 refuses_root key stored closed was mid now x0 le h = grind arith

@@ -1,5 +1,5 @@
 -- The row at a place after other rows were put, and the blobs that the table then has.
-use Rattle.std.proofs.Common.{◌≡◌, ◌≢◌, ◌∙◌, ℕ, ℤ, Bool, true, false, List, [], ◌∷◌, Option, Some, None, filter, refl, sym, ap, true≢false, Ordering, Less, Equal, Greater, is_eq, subst}
+use Rattle.std.proofs.Common.{◌≡◌, ◌∙◌, ℕ, ℤ, Bool, true, false, List, [], ◌∷◌, Option, Some, None, filter, refl, sym, ap, true≢false, Ordering, Less, Equal, Greater, is_eq, subst}
 use Rattle.std.specs.{Ordering.{int_eq, match_ordering}, Prelude.{◌==◌, if◌then◌else◌, slice_get}, Cmp.signed_Decides, List.{IsDistinct, AllByRecursion as Each}, Map.{keys_of, lookup}, Str.bytes_eq, String.string_bytes}
 use Rattle.sqlite_value.specs.{declared.value.Value.TheVariants.Int, Order.{Row, value_cmp}}
 use Rattle.sqlite_value.proofs.OrderLemmas.{value_cmp_total, value_cmp-Int}

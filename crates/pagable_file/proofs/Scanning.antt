@@ -1,10 +1,11 @@
 -- Going over all rows of a table.
-use Rattle.std.proofs.Common.{◌≡◌, ◌∙◌, ℤ, true, false, List, [], ◌∷◌, ◌++◌, map, Some, refl, sym, ap, append-nil}
+use Rattle.std.proofs.Common.{◌≡◌, ◌∙◌, ℤ, true, false, List, [], ◌∷◌, ◌++◌, map, Some, refl, sym, ap}
+use Rattle.std.specs.{List.AllByRecursion, Prelude.String}
 use Rattle.sqlite_value.specs.{declared.value.Value.{Value}, declared.value.Value.TheVariants.Int, Order.{Row}}
 use Rattle.sqlite_trees.specs.{Tree.{from_key, rowid, sought}, View.{Advances, View, with_cursor}, declared.{store.Direction.TheVariants.Forward}}
 use Rattle.sqlite_value.specs.declared.keys.Order.{Order}
-use Rattle.pagable_file.specs.Blobs.{MovesOnly}
-use Rattle.pagable_file.proofs.Settling.{moved_then}
+use Rattle.pagable_file.specs.{Blobs.{MovesOnly, WaitingRoots}, Names.{IsListed, KeepsNames}}
+use Rattle.pagable_file.proofs.{Names.{Passed, listed_more, passed_all, passed_more, passed_none}, Settling.moved_then}
 
 -- the places so far go before those of the rows that the cursor has left
 pub record Listing (first now : View) (rows : List Row) (places : List ℤ) : Type 0 where
@@ -51,10 +52,35 @@ listing_goes_on first now next rows places after row place l (left, here, is) id
       rest = ap (λ (p : List ℤ). map Int p ++ map rowid left) all ∙ rest;
     }
 
-pub listing_ends : (first now next : View) (rows : List Row) (places : List ℤ) (row : Row) → Listing first now rows places → Advances now next 0 row false
-    → (map Int places ≡ map rowid rows) × MovesOnly first next
-listing_ends first now next rows places row l (here, is) =
-    let same : l.left ≡ [] = some_same l.left [] (sym l.at ∙ here) in (
-      sym (append-nil (map Int places)) ∙ ap (λ (r : List Row). map Int places ++ map rowid r) (sym same) ∙ l.rest,
-      moved_then first now next l.moved (is ∙ ap (λ (v : View). record now { cursors = v.cursors }) (sym is)),
-    )
+-- the names of the rows that the cursor has passed are listed
+pub record Naming {A : Type 0} (first now : View) (rows : List Row) (waiting : WaitingRoots) (names : List (String A)) : Type 0 where
+  pub left : List Row
+  pub moved : MovesOnly first now
+  pub at : now.cursors 0 ≡ Some left
+  pub passed : Passed (IsListed waiting names) left rows
+
+pub naming_starts : {A : Type 0} (first now : View) (o : Order) (key : Row) (rows : List Row) (waiting : WaitingRoots) (names : List (String A)) → key ≡ []
+    → now ≡ with_cursor first 0 (sought o Forward key rows) → Naming first now rows waiting names
+naming_starts first now o key rows waiting names none is = record {
+  left = rows;
+  moved = is ∙ ap (λ (v : View). record first { cursors = v.cursors }) (sym is);
+  at = ap (λ (v : View). v.cursors 0) is ∙ ap Some (ap (λ (k : Row). from_key o k rows) none ∙ all_sought o rows);
+  passed = passed_none (IsListed waiting names) rows;
+}
+
+pub naming_goes_on : {A : Type 0} (first now next : View) (rows : List Row) (waiting : WaitingRoots) (old new : List (String A)) (row : Row)
+    → Naming first now rows waiting old → Advances now next 0 row true → KeepsNames old new → IsListed waiting new row → Naming first next rows waiting new
+naming_goes_on first now next rows waiting old new row n (left, here, is) keeps listed = record {
+  left = left;
+  moved = moved_then first now next n.moved (is ∙ ap (λ (v : View). record now { cursors = v.cursors }) (sym is));
+  at = ap (λ (v : View). v.cursors 0) is;
+  passed = passed_more (IsListed waiting old) (IsListed waiting new) row n.left left rows n.passed (some_same n.left (row ∷ left) (sym n.at ∙ here))
+      (listed_more waiting old new keeps) listed;
+}
+
+pub naming_ends : {A : Type 0} (first now next : View) (rows : List Row) (waiting : WaitingRoots) (names : List (String A)) (row : Row)
+    → Naming first now rows waiting names → Advances now next 0 row false → AllByRecursion (IsListed waiting names) rows × MovesOnly first next
+naming_ends first now next rows waiting names row n (here, is) = (
+  passed_all (IsListed waiting names) n.left rows n.passed (some_same n.left [] (sym n.at ∙ here)),
+  moved_then first now next n.moved (is ∙ ap (λ (v : View). record now { cursors = v.cursors }) (sym is)),
+)

@@ -4,20 +4,20 @@ use Rattle.std.specs.{HashMap.{HashMap, get}, List.{AllByRecursion, Contains}, d
 use Rattle.pagable_value_spec.specs.Blob.{Blob}
 
 -- the keys that were copied
-abbrev pub Copied : Type 0
-Copied = HashMap ℕ (Unit {0}) (BuildHasherDefault FoldHasher)
+abbrev pub CopiedKeys : Type 0
+CopiedKeys = HashMap ℕ (Unit {0}) (BuildHasherDefault FoldHasher)
 
-abbrev pub HasCopied : Copied → ℕ → Type 0
+abbrev pub HasCopied : CopiedKeys → ℕ → Type 0
 HasCopied copied key = IsSome (get nat_eq copied key)
 
 -- both storages have the same blob under the key, and its children were copied
-pub record IsCopied (from to : ℕ → Option Blob) (copied : Copied) (key : ℕ) : Type 0 where
+pub record IsCopied (from to : ℕ → Option Blob) (copied : CopiedKeys) (key : ℕ) : Type 0 where
   pub blob : Blob
   pub there : from key ≡ Some blob
   pub stored : to key ≡ Some blob
   pub children : AllByRecursion (HasCopied copied) blob.keys
 
-abbrev pub AreCopied : (ℕ → Option Blob) → (ℕ → Option Blob) → Copied → Type 0
+abbrev pub AreCopied : (ℕ → Option Blob) → (ℕ → Option Blob) → CopiedKeys → Type 0
 AreCopied from to copied = (key : ℕ) → HasCopied copied key → IsCopied from to copied key
 
 -- each key of a path is a child of the one before it
@@ -40,7 +40,7 @@ abbrev pub IsInBoth : (ℕ → Option Blob) → (ℕ → Option Blob) → ℕ �
 IsInBoth from to key = (blob : Blob) × (from key ≡ Some blob) × (to key ≡ Some blob)
 
 -- a name stands for the wanted key, if there is one, and that was copied
-abbrev pub Matches : Copied → (List ℕ → Option ℕ) → (List ℕ → Option ℕ) → List ℕ → Type 0
+abbrev pub Matches : CopiedKeys → (List ℕ → Option ℕ) → (List ℕ → Option ℕ) → List ℕ → Type 0
 Matches copied wanted roots name = (root : ℕ) → wanted name ≡ Some root → (roots name ≡ Some root)
     × HasCopied copied root
 

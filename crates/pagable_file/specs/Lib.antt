@@ -3,3 +3,4 @@ pub mod Blobs
 pub mod Closing
 pub mod Flaws
 pub mod Copies
+pub mod Names

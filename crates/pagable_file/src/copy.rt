@@ -15,7 +15,7 @@ use std::collections::HashMap;
 const BATCH: usize = 1_000;
 
 /// The keys whose blobs were copied with all that they reach.
-pub type Copied = HashMap<DataKey, ()>;
+pub type CopiedKeys = HashMap<DataKey, ()>;
 
 /// A task of the copy. It copies a blob's children before the blob itself.
 #[derive(Drop)]
@@ -28,7 +28,7 @@ enum Visit {
 
 /// Tests that each child was copied. Fails with `TooDeep` if one wasn't, which happens only if
 /// references make a ring.
-fn test_children(copied: &Copied, children: &[DataKey]) -> Result<(), Error>
+fn test_children(copied: &CopiedKeys, children: &[DataKey]) -> Result<(), Error>
     ensures { OnOk result (AllByRecursion (HasCopied copied.now) children.now) }
 {
     for child in children {
@@ -56,13 +56,13 @@ fn store_copy<E: Env, T: PagableStorage<E>>(
     Ok(())
 }
 
-/// Copies the blob of a key whose children were copied.
+/// Copies the blob under `key`. Fails with `TooDeep` if a child of the blob wasn't copied before.
 #[tactic(auto, using(crate::proofs::Copying::copying))]
 fn copy_blob<E: Env, S: PagableStorage<E>, T: PagableStorage<E>>(
     alloc: Global,
     from: &mut S,
     to: &mut T,
-    copied: &mut Copied,
+    copied: &mut CopiedKeys,
     key: DataKey,
 ) -> Result<(), Error>
     ensures copied { IsTrue (S.is_honest from.new) → IsTrue (T.is_honest to.new)
@@ -84,7 +84,7 @@ fn copy_blob<E: Env, S: PagableStorage<E>, T: PagableStorage<E>>(
 fn enter<E: Env, S: PagableStorage<E>>(
     alloc: Global,
     from: &mut S,
-    seen: &mut Copied,
+    seen: &mut CopiedKeys,
     due: &mut Vec<Visit>,
     key: DataKey,
 ) -> Result<(), Error>
@@ -99,7 +99,7 @@ fn enter<E: Env, S: PagableStorage<E>>(
     push_children(due, blob.arcs.as_slice())
 }
 
-/// Plans to enter these keys next.
+/// Pushes a task that enters each of these keys.
 fn push_children(due: &mut Vec<Visit>, children: &[DataKey]) -> Result<(), Error> {
     for child in children {
         due.push(Visit::Enter(*child))?;
@@ -124,8 +124,8 @@ fn make_visit<E: Env, S: PagableStorage<E>, T: PagableStorage<E>, W: Watch>(
     alloc: Global,
     from: &mut S,
     to: &mut T,
-    seen: &mut Copied,
-    copied: &mut Copied,
+    seen: &mut CopiedKeys,
+    copied: &mut CopiedKeys,
     due: &mut Vec<Visit>,
     next: Visit,
     watch: &mut W,
@@ -160,7 +160,7 @@ fn copy_reached<E: Env, S: PagableStorage<E>, T: PagableStorage<E>, W: Watch>(
     to: &mut T,
     keys: Vec<Visit>,
     watch: &mut W,
-) -> Result<Copied, Error>
+) -> Result<CopiedKeys, Error>
     ensures copied { IsTrue (S.is_honest from.new) → IsTrue (T.is_honest to.new)
         → IfOk result (AreCopied (S.stored from.old) (T.stored to.new)) }
     ensures same { IsTrue (S.is_honest from.new) → S.stored from.new ≡ S.stored from.old }
@@ -220,12 +220,12 @@ fn begin(alloc: Global, keys: &[Option<DataKey>]) -> Result<Vec<Visit>, Error> {
     Ok(due)
 }
 
-/// Lets a name stand for a key whose blob was copied.
+/// Sets the root of `name` to `key`, if given. Fails with `NoData` if its blob wasn't copied.
 #[tactic(auto, using(crate::proofs::Copying::naming))]
 fn set_copied<E: Env, T: Roots<E>>(
     alloc: Global,
     to: &mut T,
-    copied: &Copied,
+    copied: &CopiedKeys,
     name: &str,
     key: Option<DataKey>,
 ) -> Result<(), Error>
@@ -248,12 +248,12 @@ fn set_copied<E: Env, T: Roots<E>>(
     Ok(())
 }
 
-/// Lets names stand for keys whose blobs were copied.
+/// Sets the root of each name to its key in `keys`, if it has one, as `set_copied` does.
 #[tactic(auto, using(crate::proofs::Copying::naming))]
 fn set_all<E: Env, T: Roots<E>>(
     alloc: Global,
     to: &mut T,
-    copied: &Copied,
+    copied: &CopiedKeys,
     names: &[String],
     keys: &[Option<DataKey>],
 ) -> Result<(), Error>
@@ -279,7 +279,7 @@ fn set_all<E: Env, T: Roots<E>>(
 ///
 /// Some blobs may have been copied, and some roots set.
 ///
-/// - as a fetch of `from`, or a store, a flush or a `set_root` of `to`.
+/// - as a fetch or a `root` of `from`, or a store, a flush or a `set_root` of `to`.
 /// - `TooDeep` if references make a ring.
 #[tactic(auto, using(crate::proofs::Copying::whole))]
 pub fn copy<E: Env, S: Roots<E>, T: Roots<E>, W: Watch>(

@@ -2,7 +2,7 @@
 
 ghost use Rattle.std.specs.{Arc.arc_value, Prelude.{◌≡◌, ◌≤◌, ◌⊎◌, [], false, is_some, IfErr, IfOk, IsTrue, OnOk, Some}};
 ghost use Rattle.{sqlite.specs.Held.state, sqlite_trees.specs.{Tree.Trees, View.IsClean}};
-ghost use Rattle.{pagable_core.specs.Data.blob_of, pagable_value_spec.specs.{Blob.key_of, Stored.RefusesFlush}};
+ghost use Rattle.{pagable_core.specs.Data.blob_of, pagable_value_spec.specs.{Blob.key_of, Stored.IsMemoryOrFailure}};
 ghost use Rattle.pagable_file.specs.{Blobs.{AreKeyed, HasBlob, IsNotHeld, RefusesFound, RefusesHeld, RefusesRead, Settled, blob_pending, is_sure, roots_with, settled_prop, stored_with, unless}, Rows.{blob_tree, blobs_in, root_tree, roots_in}};
 
 use crate::fault::Fault;
@@ -78,7 +78,8 @@ impl<E: Env, S: Alter + Drop> FileBlobs<E, S> {
         ensures open { IfOk result (λ blobs. blobs.closed ≡ false) }
         ensures clean { IfOk result (λ blobs. IsTrue (is_sure (S.Store.view blobs.store))
             → IsClean (S.Store.view conn.store)) }
-        ensures nothing_waits { IfOk result (λ blobs. (blobs.waiting.entries ≡ []) × (blobs.waiting_roots.entries ≡ [])) }
+        ensures nothing_waits { IfOk result (λ blobs. (blobs.waiting.entries ≡ [])
+            × (blobs.waiting_roots.entries ≡ [])) }
         ensures blobs { IfOk result (λ blobs. IsTrue (is_sure (S.Store.view blobs.store))
             → (S.Store.view blobs.store).committed blob_tree ≡ (state S.Store conn).committed.trees blob_tree) }
         ensures roots { IfOk result (λ blobs. IsTrue (is_sure (S.Store.view blobs.store))
@@ -123,7 +124,7 @@ impl<E: Env, S: Store> FileBlobs<E, S> {
             → unless self.new.closed (stored_with self.new.waiting ((S.view self.new.store).committed blob_tree))
             ≡ unless self.old.closed (stored_with self.old.waiting ((S.view self.old.store).committed blob_tree)) }
         ensures sure { IsTrue (is_sure (S.view self.new.store)) → IsTrue (is_sure (S.view self.old.store)) }
-        ensures only { IfErr result (RefusesFlush self.old.stats.failures self.new.stats.failures) }
+        ensures only { IfErr result (IsMemoryOrFailure self.old.stats.failures self.new.stats.failures) }
         ensures later { self.old.stats.failures ≤ self.new.stats.failures }
         ensures open { self.new.closed ≡ self.old.closed }
     {
@@ -171,7 +172,7 @@ impl<E: Env, S: Store> FileBlobs<E, S> {
             ≡ roots_with self.old.waiting_roots ((S.view self.old.store).committed root_tree) }
         ensures nothing_waits { OnOk result ((self.new.waiting.entries ≡ []) × (self.new.waiting_roots.entries ≡ [])) }
         ensures sure { IsTrue (is_sure (S.view self.new.store)) → IsTrue (is_sure (S.view self.old.store)) }
-        ensures only { IfErr result (RefusesFlush self.old.stats.failures self.new.stats.failures) }
+        ensures only { IfErr result (IsMemoryOrFailure self.old.stats.failures self.new.stats.failures) }
         ensures later { self.old.stats.failures ≤ self.new.stats.failures }
         ensures open { self.new.closed ≡ self.old.closed }
         ensures crash { IsTrue (is_sure (S.view self.old.store)) → IsClean (S.view self.new.store) → (db : Trees)
@@ -231,7 +232,7 @@ impl<E: Env, S: Store> PagableStorage<E> for FileBlobs<E, S> {
             return Ok(blob);
         }
         match read(alloc, &mut self.store, &mut self.row, key) {
-            Ok(found) => tested::<E>(alloc, &mut self.stats, key, found),
+            Ok(found) => test_fetched::<E>(alloc, &mut self.stats, key, found),
             Err(error) => Err(refuse(&mut self.stats, error)),
         }
     }
@@ -252,13 +253,13 @@ impl<E: Env, S: Store> PagableStorage<E> for FileBlobs<E, S> {
         }
         let key = blob.compute_key::<E::Hash>();
         if let Some(held) = waiting_at(&self.waiting, key) {
-            is_held(&mut self.stats, held, key, &blob)?;
+            test_held(&mut self.stats, held, key, &blob)?;
             return Ok(key);
         }
         match read(alloc, &mut self.store, &mut self.row, key) {
             Ok(None) => {}
             Ok(Some(found)) => {
-                is_found(&mut self.stats, &found, &blob)?;
+                test_found(&mut self.stats, &found, &blob)?;
                 return Ok(key);
             }
             Err(error) => return Err(refuse(&mut self.stats, error)),
@@ -292,8 +293,9 @@ impl<E: Env, S: Store> PagableStorage<E> for FileBlobs<E, S> {
     }
 }
 
-/// Returns the blob that waits at a key's place, shared. Fails with `NoData` if it is another
-/// key's.
+/// Returns one more `Arc` of the blob in `held`, the entry that waits for a flush at the rowid of
+/// `key`. Fails with `NoData` if the entry is another key's, and with `OutOfMemory` if the blob
+/// can't be shared once more.
 fn held_blob(held: &Pending, key: DataKey) -> Result<Arc<PagableData>, Error>
     ensures ok { IfOk result (λ blob. (blob_of (arc_value blob) ≡ blob_pending held.now) × (held.now.key ≡ key)) }
     ensures only { IfErr result (IsNotHeld held.now.key key) }
@@ -304,9 +306,10 @@ fn held_blob(held: &Pending, key: DataKey) -> Result<Arc<PagableData>, Error>
     Ok(held.blob.clone()?)
 }
 
-/// Returns the blob that was read, shared. Fails with `NoData` if none was read, and with `Storage`
-/// if its key isn't the one that was asked for.
-fn tested<E: Env>(
+/// Returns the blob in `found`, which was read at the rowid of `key`, in a new `Arc`, and counts
+/// the fetch. Fails with `NoData` if there was no row or another key's, with `Storage` if the row
+/// is damaged or its blob has another key, and with `OutOfMemory`.
+fn test_fetched<E: Env>(
     alloc: Global,
     stats: &mut Stats,
     key: DataKey,
@@ -338,8 +341,14 @@ fn count_fetch(stats: &mut Stats, bytes: usize)
     stats.fetched_bytes = stats.fetched_bytes.saturating_add(bytes as u64);
 }
 
-/// Tests that what waits at a key's place is this blob under this key.
-fn is_held(stats: &mut Stats, held: &Pending, key: DataKey, blob: &PagableData) -> Result<(), Error>
+/// Tests that `held`, which waits for a flush, is `blob` under `key`. Fails with `Storage` if it is
+/// another key's, else with `KeyTaken`.
+fn test_held(
+    stats: &mut Stats,
+    held: &Pending,
+    key: DataKey,
+    blob: &PagableData,
+) -> Result<(), Error>
     ensures ok { OnOk result ((held.now.key ≡ key) × (blob_pending held.now ≡ blob_of blob.now)) }
     ensures only { IfErr result (RefusesHeld held.now key (blob_of blob.now) stats.old.failures stats.new.failures) }
     ensures later { stats.old.failures ≤ stats.new.failures }
@@ -354,8 +363,9 @@ fn is_held(stats: &mut Stats, held: &Pending, key: DataKey, blob: &PagableData) 
     Ok(())
 }
 
-/// Tests that what was read at a key's place is this blob under this key.
-fn is_found(stats: &mut Stats, found: &Reading, blob: &PagableData) -> Result<(), Error>
+/// Tests that `found`, read at a key's rowid, is `blob`. Fails with `Storage` if it is another
+/// key's or damaged, else with `KeyTaken`.
+fn test_found(stats: &mut Stats, found: &Reading, blob: &PagableData) -> Result<(), Error>
     ensures ok { OnOk result (HasBlob (Some found.now) (blob_of blob.now)) }
     ensures only { IfErr result (RefusesFound found.now (blob_of blob.now) stats.old.failures stats.new.failures) }
     ensures later { stats.old.failures ≤ stats.new.failures }

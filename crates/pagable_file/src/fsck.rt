@@ -2,7 +2,7 @@
 
 ghost use Rattle.std.specs.{List.AllByRecursion, Prelude.{[], ℕ, IfErr, IfOk, IsTrue, List, OnOk, Some, is_some, option_map, ◌≡◌, ◌≤◌, ◌↔◌}, String.string_bytes};
 ghost use Rattle.sqlite_value.specs.Order.{Row as SqlRow};
-ghost use Rattle.{pagable_core.specs.Data.blob_of, pagable_value_spec.specs.{Blob.{Blob, key_of}, Stored.RefusesFlush}};
+ghost use Rattle.{pagable_core.specs.Data.blob_of, pagable_value_spec.specs.{Blob.{Blob, key_of}, Stored.IsMemoryOrFailure}};
 ghost use Rattle.pagable_file.specs.{Blobs.{Settled, StaysPut, is_sure}, Flaws.{IsChild, IsFlaw, IsNameAt, IsSoundBlob, IsSoundPlace, IsSoundRoot, IsThere, IsWhole, FindsFlaws, blob_at, keyed}};
 ghost use Rattle.pagable_file.specs.Rows.{blob_tree, blobs_in, root_tree, roots_in};
 
@@ -26,19 +26,22 @@ use std::alloc::{AllocError, Global};
 /// A flaw of a file of blobs.
 #[derive(Debug, PartialEq, Drop)]
 pub enum Flaw {
-    /// The row at this place of the table of blobs belongs to no key, so no fetch finds it.
+    /// The row with this rowid in the table of blobs has no key, a key of another rowid, or child
+    /// keys that aren't keys, so no fetch returns it.
     StrayBlob(i64),
     /// The blob under this key has another key.
     WrongKey(DataKey),
     /// The first key's blob refers to the second key, under which no blob is stored.
     MissingChild(DataKey, DataKey),
-    /// The row at this place of the table of roots belongs to no name, so no look-up finds it.
+    /// The row with this rowid in the table of roots has a name that isn't UTF-8 or has another
+    /// rowid, so no look-up finds it.
     StrayRoot(i64),
     /// The name stands for the key, under which no blob is stored.
     MissingRoot(String, DataKey),
 }
 
-/// Reads the key and the blob of a row at a place. Returns None if the row there is no key's blob.
+/// Reads the key and the blob of `row`, whose rowid is `place`. Returns None if the row has no key,
+/// a key of another rowid, or child keys that aren't keys.
 #[tactic(auto, unfolding(crate::specs::Flaws::blob_at, crate::specs::Rows::blob_in))]
 fn read_at(
     alloc: Global,
@@ -76,7 +79,7 @@ fn is_there<S: Store>(
     Ok(is_blob(&found))
 }
 
-/// Tests that the table has a child of a key's blob.
+/// Adds a flaw if the table has no blob under `child`, to which the blob under `key` refers.
 #[tactic(auto, using(crate::proofs::Flawed::testing))]
 fn test_child<S: Store>(
     alloc: Global,
@@ -101,7 +104,7 @@ fn test_child<S: Store>(
     Ok(())
 }
 
-/// Tests that the table has each child of a key's blob.
+/// Adds a flaw for each of `children`, the children of the blob under `key`, that the table lacks.
 #[tactic(auto, using(crate::proofs::Flawed::looping))]
 fn test_children<S: Store>(
     alloc: Global,
@@ -125,7 +128,7 @@ fn test_children<S: Store>(
     Ok(())
 }
 
-/// Tests that a key's blob has this key.
+/// Adds a flaw if the key computed from `blob` isn't `key`.
 #[tactic(auto, using(crate::proofs::Flawed::testing))]
 fn test_key<H: KeyHash>(
     flaws: &mut Vec<Flaw>,
@@ -143,7 +146,8 @@ fn test_key<H: KeyHash>(
     Ok(())
 }
 
-/// Tests that a key's blob has this key, and that the table has its children.
+/// Tests that the blob under `key` has this key, and that a blob is stored under each key that it
+/// refers to. Adds a flaw for each of these that isn't so.
 #[tactic(auto, using(crate::proofs::Flawed::testing))]
 fn test_blob<H: KeyHash, S: Store>(
     alloc: Global,
@@ -166,7 +170,7 @@ fn test_blob<H: KeyHash, S: Store>(
     Ok(())
 }
 
-/// Tests the row at a place of the table of blobs.
+/// Tests the row with the rowid `place` in the table of blobs, and adds its flaws.
 #[tactic(auto, using(crate::proofs::Flawed::testing))]
 fn test_row<H: KeyHash, S: Store>(
     alloc: Global,
@@ -221,8 +225,8 @@ fn test_rows<H: KeyHash, S: Store, W: Watch>(
     Ok(())
 }
 
-/// Reads the name of the root's row at a place. Returns None if the row has no text, or a name with
-/// another place.
+/// Reads the name in `row`, a root's row whose rowid is `place`. Returns None if the name isn't
+/// UTF-8, or has another rowid.
 fn read_name_at(alloc: Global, row: &Row, place: i64) -> Result<Option<String>, AllocError>
     ensures { IfOk result (IsNameAt place row.now) }
 {
@@ -236,7 +240,7 @@ fn read_name_at(alloc: Global, row: &Row, place: i64) -> Result<Option<String>, 
     Ok(Some(name))
 }
 
-/// Tests that the table has the blob of the key that a name stands for.
+/// Adds a flaw if the table has no blob under `key`, for which `name` stands.
 #[tactic(auto, using(crate::proofs::Flawed::testing))]
 fn test_named<S: Store>(
     alloc: Global,
@@ -361,7 +365,7 @@ impl<E: Env, S: Store> FileBlobs<E, S> {
             ≡ (S.view self.old.store).committed }
         ensures waits { (self.new.waiting ≡ self.old.waiting) × (self.new.waiting_roots ≡ self.old.waiting_roots) }
         ensures sure { IsTrue (is_sure (S.view self.new.store)) → IsTrue (is_sure (S.view self.old.store)) }
-        ensures only { IfErr result (RefusesFlush self.old.stats.failures self.new.stats.failures) }
+        ensures only { IfErr result (IsMemoryOrFailure self.old.stats.failures self.new.stats.failures) }
         ensures later { self.old.stats.failures ≤ self.new.stats.failures }
         ensures open { self.new.closed ≡ self.old.closed }
     {

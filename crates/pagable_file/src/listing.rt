@@ -1,7 +1,7 @@
 //! A list of a file's blobs, without their bytes.
 
 ghost use Rattle.std.specs.Prelude.{IfErr, IsTrue, ◌≡◌, ◌≤◌};
-ghost use Rattle.pagable_value_spec.specs.Stored.{RefusesFlush};
+ghost use Rattle.pagable_value_spec.specs.Stored.{IsMemoryOrFailure};
 ghost use Rattle.pagable_file.specs.Blobs.{Settled, StaysPut, is_sure};
 
 use crate::file_blobs::FileBlobs;
@@ -28,7 +28,8 @@ pub struct Listed {
     pub children: u64,
 }
 
-/// Reads the list entry of the row at a place, or returns None if the row has no key.
+/// Reads the list entry of the row at `place` in the table of blobs. Returns None if there is no
+/// row, or the row has no key.
 #[tactic(auto, using(crate::proofs::Named::stays_then))]
 fn list_row<S: Store>(
     store: &mut S,
@@ -89,7 +90,7 @@ fn list_all<S: Store>(
 }
 
 impl<E: Env, S: Store> FileBlobs<E, S> {
-    /// Lists the blobs of the file, in the order of their places. Blobs that wait for a flush
+    /// Lists the blobs of the file, in ascending order of their rowids. Blobs that wait for a flush
     /// aren't listed.
     ///
     /// # Errors
@@ -101,7 +102,7 @@ impl<E: Env, S: Store> FileBlobs<E, S> {
             ≡ (S.view self.old.store).committed }
         ensures waits { (self.new.waiting ≡ self.old.waiting) × (self.new.waiting_roots ≡ self.old.waiting_roots) }
         ensures sure { IsTrue (is_sure (S.view self.new.store)) → IsTrue (is_sure (S.view self.old.store)) }
-        ensures only { IfErr result (RefusesFlush self.old.stats.failures self.new.stats.failures) }
+        ensures only { IfErr result (IsMemoryOrFailure self.old.stats.failures self.new.stats.failures) }
         ensures later { self.old.stats.failures ≤ self.new.stats.failures }
         ensures open { self.new.closed ≡ self.old.closed }
     {

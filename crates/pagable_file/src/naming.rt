@@ -1,8 +1,8 @@
-//! Look-ups in what waits and then in a table: whether a blob is stored under a key, and whether a
-//! name may be set.
+//! Look-ups among the entries that wait for a flush and then in a table: whether a blob is stored
+//! under a key, and whether a name may be set.
 
 ghost use Rattle.std.specs.{HashMap.get, Ordering.int_eq, Str.bytes_eq, String.string_bytes, Prelude.{◌≡◌, ◌≤◌, None, false, is_some, if◌then◌else◌, IfErr, IfOk, IsTrue, OnErr, OnOk, true}};
-ghost use Rattle.pagable_value_spec.specs.{Outcomes.memory, Stored.RefusesFlush};
+ghost use Rattle.pagable_value_spec.specs.{Outcomes.memory, Stored.IsMemoryOrFailure};
 ghost use Rattle.pagable_core.specs.Roots.{RefusesRoot, Stands};
 ghost use Rattle.pagable_file.specs.Blobs.{HasPlace, HoldsRoot, IsNotOther, Settled, StaysPut, found_root, is_sure, reads_blob, stored_with};
 ghost use Rattle.pagable_file.specs.Rows.{blob_tree, root_tree, row_at};
@@ -40,7 +40,7 @@ pub fn has<S: Store>(
     ensures ok { IsTrue (is_sure (S.view store.new)) → IfOk result
         (λ there. there ≡ is_some (stored_with waiting.now ((S.view store.old).committed blob_tree) key)) }
     ensures stays { StaysPut (S.view store.old) (S.view store.new) }
-    ensures only { IfErr result (RefusesFlush stats.old.failures stats.new.failures) }
+    ensures only { IfErr result (IsMemoryOrFailure stats.old.failures stats.new.failures) }
     ensures later { stats.old.failures ≤ stats.new.failures }
 {
     if let Some(held) = waiting_at(waiting, key) {
@@ -82,8 +82,8 @@ fn test_key<S: Store>(
     }
 }
 
-/// Returns the key that a name stands for, by what waits at its place; None if another name waits
-/// there.
+/// Returns the key that `name` stands for by `held`, the entry that waits for a flush at the name's
+/// place; None if the entry is another name's, or says that the name stands for no key any more.
 pub fn held_root(held: &PendingRoot, name: &str) -> Option<DataKey>
     ensures { result ≡ (if bytes_eq (string_bytes held.now.name) name.now then held.now.key else None) }
 {
@@ -94,7 +94,8 @@ pub fn held_root(held: &PendingRoot, name: &str) -> Option<DataKey>
     }
 }
 
-/// Returns the key that a name stands for, by the row that was read at its place.
+/// Returns the key that a name stands for by `found`, the row that was read at the name's rowid;
+/// None if there is no row, or it is another name's.
 pub fn read_key_of(found: Option<Naming>) -> Option<DataKey>
     ensures { result ≡ found_root found }
 {
@@ -104,10 +105,11 @@ pub fn read_key_of(found: Option<Naming>) -> Option<DataKey>
     }
 }
 
-/// Tests that the name that waits at this name's place is this one.
+/// Tests that `held`, the entry that waits at the rowid of `name`, is of that name. Fails with
+/// `Storage` if not.
 fn test_held(stats: &mut Stats, held: &PendingRoot, name: &str) -> Result<(), Error>
     ensures ok { OnOk result (bytes_eq (string_bytes held.now.name) name.now ≡ true) }
-    ensures only { IfErr result (RefusesFlush stats.old.failures stats.new.failures) }
+    ensures only { IfErr result (IsMemoryOrFailure stats.old.failures stats.new.failures) }
     ensures later { stats.old.failures ≤ stats.new.failures }
 {
     if held.name.as_bytes() == name.as_bytes() {
@@ -117,10 +119,11 @@ fn test_held(stats: &mut Stats, held: &PendingRoot, name: &str) -> Result<(), Er
     }
 }
 
-/// Tests that the row that was read at a name's place isn't another name's.
+/// Tests that `found`, the row that was read at a name's rowid, isn't another name's. Fails with
+/// `Storage` if it is.
 fn test_found(stats: &mut Stats, found: Option<Naming>) -> Result<(), Error>
     ensures ok { OnOk result (IsNotOther found) }
-    ensures only { IfErr result (RefusesFlush stats.old.failures stats.new.failures) }
+    ensures only { IfErr result (IsMemoryOrFailure stats.old.failures stats.new.failures) }
     ensures later { stats.old.failures ≤ stats.new.failures }
 {
     match found {
@@ -143,7 +146,7 @@ fn test_place<S: Store>(
         → OnOk result (HasPlace name.now (get int_eq waiting.now (spec.rowid_of_name name.now))
         (row_at ((S.view store.old).committed root_tree) (spec.rowid_of_name name.now))) }
     ensures stays { StaysPut (S.view store.old) (S.view store.new) }
-    ensures only { IfErr result (RefusesFlush stats.old.failures stats.new.failures) }
+    ensures only { IfErr result (IsMemoryOrFailure stats.old.failures stats.new.failures) }
     ensures later { stats.old.failures ≤ stats.new.failures }
 {
     if let Some(held) = root_at(waiting, name) {

@@ -1,12 +1,13 @@
 //! The blobs that were stored, and the names that were set, since the last flush.
 
-ghost use Rattle.std.specs.{Arc.arc_value, HashMap.get, Ordering.int_eq, Prelude.{◌≡◌, ◌↔◌, IfErr, IsTrue, OnErr, OnOk, option_copied}};
-ghost use Rattle.{pagable_core.specs.Data.blob_of, pagable_file.specs.Blobs.Holds, pagable_value_spec.specs.Outcomes.memory};
+ghost use Rattle.std.specs.{Arc.arc_value, HashMap.get, List.AllByRecursion, Ordering.int_eq, Prelude.{◌≡◌, ◌↔◌, IfErr, IfOk, IsTrue, OnErr, OnOk, option_copied}};
+ghost use Rattle.{pagable_core.specs.Data.blob_of, pagable_file.specs.{Blobs.Holds, Names.{IsWaitingListed, KeepsNames}}, pagable_value_spec.specs.Outcomes.memory};
 ghost use Rattle.pagable_file.specs.Rows as spec;
 
 use crate::rows::{rowid_of, rowid_of_name};
 use pagable_core::PagableData;
 use pagable_flavors::{DataKey, Error};
+use std::alloc::Global;
 use std::collections::HashMap;
 use std::sync::Arc;
 
@@ -39,14 +40,36 @@ pub fn waiting_at(waiting: &Waiting, key: DataKey) -> Option<&Pending>
     waiting.get(&rowid_of(key))
 }
 
-/// Returns the name that waits at a name's place, if one does.
+/// Returns the entry that waits for a flush at the rowid of `name`, if one does. It may be
+/// another name's.
 pub fn root_at<'a>(waiting: &'a WaitingRoots, name: &str) -> Option<&'a PendingRoot>
     ensures { option_copied result ≡ get int_eq waiting.now (spec.rowid_of_name name.now) }
 {
     waiting.get(&rowid_of_name(name))
 }
 
-/// Adds a blob to those that wait. Fails with `OutOfMemory` only; then nothing changes.
+/// Appends to `names` those that wait for a flush and are to stand for a key. Fails with
+/// `OutOfMemory` only.
+#[tactic(auto, using(crate::proofs::Names::adding))]
+pub fn push_waiting(
+    alloc: Global,
+    mut names: Vec<String>,
+    waiting: &WaitingRoots,
+) -> Result<Vec<String>, Error>
+    ensures keeps { IfOk result (λ all. KeepsNames names.items all.items) }
+    ensures listed { IfOk result (λ all. AllByRecursion (λ e. IsWaitingListed all.items e.1) waiting.now.entries) }
+    ensures only { IfErr result memory }
+{
+    for (_, root) in waiting {
+        if root.key.is_some() {
+            names.push(String::from_str(alloc, root.name.as_str())?)?;
+        }
+    }
+    Ok(names)
+}
+
+/// Adds a blob to those that wait for a flush, at the rowid of `key`. Fails with `OutOfMemory`
+/// only; then nothing changes.
 #[tactic(auto, using(crate::proofs::Fetching::holds))]
 pub fn add_waiting(waiting: &mut Waiting, key: DataKey, blob: Arc<PagableData>) -> Result<(), Error>
     ensures ok { OnOk result (Holds key (blob_of (arc_value blob)) waiting.old waiting.new) }

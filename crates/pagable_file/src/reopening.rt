@@ -17,7 +17,8 @@ use sqlite_trees::store::Store;
 use std::alloc::Global;
 use std::sync::Arc;
 
-/// Closes a database, after its log has been copied into its file.
+/// Copies the log of a database into its file, and closes and returns both. Fails with `Io` if an
+/// earlier failure shut the store.
 fn close_store<D: Disk + Drop>(alloc: Global, store: FileStore<D>) -> Result<Files<D>, OpenError>
     requires settled { Settled (view store) }
     ensures usable { IfOk result (λ files. IsTrue (D.Disk.is_usable files.log) × IsTrue (D.Disk.is_usable files.db)) }
@@ -65,7 +66,8 @@ impl<E: Env, D: Disk + Drop> FileBlobs<E, FileStore<D>> {
         options: Options,
     ) -> Result<FileBlobs<E, FileStore<D>>, OpenError>
         ensures open { IfOk result (λ again. again.closed ≡ false) }
-        ensures nothing_waits { IfOk result (λ again. (again.waiting.entries ≡ []) × (again.waiting_roots.entries ≡ [])) }
+        ensures nothing_waits { IfOk result (λ again. (again.waiting.entries ≡ [])
+            × (again.waiting_roots.entries ≡ [])) }
         ensures sure { IfOk result (λ again. IsTrue (is_sure (view again.store)) → IsTrue (is_sure (view self.store))) }
         ensures blobs { IfOk result (λ again. IsTrue (is_sure (view again.store))
             → (view again.store).committed blob_tree ≡ (view self.store).committed blob_tree) }

@@ -5,8 +5,8 @@ ghost use Rattle.pagable_file.specs.{Blobs.{roots_unless, roots_with}, Rows.{roo
 use crate::file_blobs::FileBlobs;
 use crate::lookup::read_name;
 use crate::naming::{held_root, hold_root, read_key_of, test_root};
-use crate::pending::root_at;
-use crate::scan::all_names;
+use crate::pending::{push_waiting, root_at};
+use crate::scan::committed_names;
 use crate::stats::refuse;
 use pagable_codec::Env;
 use pagable_core::Roots;
@@ -55,8 +55,8 @@ impl<E: Env, S: Store> Roots<E> for FileBlobs<E, S> {
         if self.closed {
             return Ok(Vec::new(alloc));
         }
-        match all_names(alloc, &mut self.store, &mut self.row) {
-            Ok(names) => Ok(names),
+        match committed_names(alloc, &mut self.store, &mut self.row, &self.waiting_roots) {
+            Ok(names) => push_waiting(alloc, names, &self.waiting_roots),
             Err(error) => Err(refuse(&mut self.stats, error)),
         }
     }

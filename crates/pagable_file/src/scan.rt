@@ -1,10 +1,11 @@
 //! Scans of all rows of a table.
 
-ghost use Rattle.std.specs.Prelude.{IfOk, IsTrue, OnErr, OnOk, map, ◌≡◌, ◌≤◌};
+ghost use Rattle.std.specs.{List.AllByRecursion, Prelude.{IfOk, IsTrue, OnErr, OnOk, map, ◌≡◌, ◌≤◌}};
 ghost use Rattle.sqlite_value.specs.declared.value.Value.TheVariants.{Int};
 ghost use Rattle.sqlite_trees.specs.{Tree.{Trees, rowid}, View.{IsClean, KeepsCommitted, doubt}, declared.store.Shape.TheVariants.Table};
-ghost use Rattle.pagable_file.specs.Blobs.{MovesOnly, Settled, StaysPut, is_sure};
+ghost use Rattle.pagable_file.specs.{Blobs.{MovesOnly, Settled, StaysPut, is_sure}, Names.{IsListed, KeepsNames}, Rows.root_tree};
 
+use crate::pending::WaitingRoots;
 use crate::tables::ROOTS;
 use sqlite_trees::error::StoreError;
 use sqlite_trees::sound::bytes_of;
@@ -74,9 +75,41 @@ pub fn all_places<S: Store>(
     }
 }
 
-/// Returns the names of all roots whose names are texts, in the order of their places.
+/// Appends the name in a row of the names' table, unless an entry waits for a flush at its place, or
+/// the name isn't a text.
+#[tactic(auto, using(crate::proofs::Names::adding))]
+fn push_name(
+    alloc: Global,
+    row: &Row,
+    waiting: &WaitingRoots,
+    names: &mut Vec<String>,
+) -> Result<(), StoreError>
+    ensures keeps { KeepsNames names.old.items names.new.items }
+    ensures listed { OnOk result (IsListed waiting.now names.new.items row.now) }
+{
+    let ValueRef::Int(place) = row.get(0) else {
+        return Err(StoreError::Corrupt);
+    };
+    if waiting.contains_key(&place) {
+        return Ok(());
+    }
+    if let Ok(name) = str::from_utf8(bytes_of(row.get(2))) {
+        names.push(String::from_str(alloc, name)?)?;
+    }
+    Ok(())
+}
+
+/// Returns the names in the table, but for those at whose places an entry waits for a flush, in the
+/// order of their places.
 #[tactic(auto, using(crate::proofs::Settling::scanning))]
-fn names<S: Store>(alloc: Global, store: &mut S, row: &mut Row) -> Result<Vec<String>, StoreError>
+fn names<S: Store>(
+    alloc: Global,
+    store: &mut S,
+    row: &mut Row,
+    waiting: &WaitingRoots,
+) -> Result<Vec<String>, StoreError>
+    ensures all { IfOk result (λ names. IsClean (S.view store.new)
+        → AllByRecursion (IsListed waiting.now names.items) ((S.view store.old).trees root_tree)) }
     ensures ok { OnOk result (IsClean (S.view store.new) → MovesOnly (S.view store.old) (S.view store.new)) }
     ensures err { OnErr result (IsClean (S.view store.new) → KeepsCommitted (S.view store.old) (S.view store.new)) }
     ensures clean { doubt (S.view store.old).is_clean ≤ doubt (S.view store.new).is_clean }
@@ -87,27 +120,29 @@ fn names<S: Store>(alloc: Global, store: &mut S, row: &mut Row) -> Result<Vec<St
     store.seek(CURSOR, ROOTS, row, Direction::Forward)?;
     'rows: for _ in 0..u64::MAX {
         if !store.next(CURSOR, row)? {
-            break;
+            return Ok(names);
         }
-        if let Ok(name) = str::from_utf8(bytes_of(row.get(2))) {
-            names.push(String::from_str(alloc, name)?)?;
-        }
+        push_name(alloc, row, waiting, &mut names)?;
     }
-    Ok(names)
+    Err(StoreError::Full)
 }
 
-/// Returns the names of all roots, in the order of their places. If it fails, it rolls back.
+/// Returns the names in the table, but for those at whose places an entry waits for a flush, in the
+/// order of their places. If it fails, it rolls back.
 #[tactic(auto, using(crate::proofs::Settling::scanning))]
-pub fn all_names<S: Store>(
+pub fn committed_names<S: Store>(
     alloc: Global,
     store: &mut S,
     row: &mut Row,
+    waiting: &WaitingRoots,
 ) -> Result<Vec<String>, StoreError>
     requires settled { Settled (S.view store.old) }
+    ensures all { IsTrue (is_sure (S.view store.new)) → IfOk result
+        (λ names. AllByRecursion (IsListed waiting.now names.items) ((S.view store.old).committed root_tree)) }
     ensures stays { StaysPut (S.view store.old) (S.view store.new) }
     ensures crash { (db : Trees) → S.recovers store.new db → S.recovers store.old db }
 {
-    match names(alloc, store, row) {
+    match names(alloc, store, row, waiting) {
         Ok(names) => Ok(names),
         Err(error) => {
             store.rollback();

@@ -1,7 +1,7 @@
 //! Counts of what was asked of a file of blobs.
 
 ghost use Rattle.std.specs.Prelude.{◌≡◌, ◌≤◌};
-ghost use Rattle.pagable_value_spec.specs.Stored.{HasFailed, RefusesFlush};
+ghost use Rattle.pagable_value_spec.specs.Stored.{HasFailed, IsMemoryOrFailure};
 ghost use Rattle.pagable_value_spec.specs.declared.error.Error.TheVariants as error;
 
 use crate::fault::Fault;
@@ -48,7 +48,7 @@ pub fn fail(stats: &mut Stats, fault: Fault) -> Error
 
 /// Returns a store's error as the storage's error, and counts it unless it is `OutOfMemory`.
 pub fn refuse(stats: &mut Stats, refused: StoreError) -> Error
-    ensures named { RefusesFlush stats.old.failures stats.new.failures result }
+    ensures named { IsMemoryOrFailure stats.old.failures stats.new.failures result }
     ensures later { stats.old.failures ≤ stats.new.failures }
 {
     match Fault::of_store(refused) {

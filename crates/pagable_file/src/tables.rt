@@ -42,13 +42,14 @@ fn table(name: &'static str, sql: &'static str) -> Object<'static>
     }
 }
 
-/// Returns whether a row of the list of objects is this table.
-fn lists(row: &Row, name: &str, sql: &str) -> bool {
+/// Returns whether `row`, a row of the database's schema, is of the table with this name and this
+/// SQL.
+fn is_this_table(row: &Row, name: &str, sql: &str) -> bool {
     bytes_of(row.get(2)) == name.as_bytes() && bytes_of(row.get(4)) == sql.as_bytes()
 }
 
 /// Returns whether the store has neither of the two tables.
-fn is_free<S: Store>(store: &S) -> bool
+fn has_neither_table<S: Store>(store: &S) -> bool
     ensures blobs { IsTrue result → (S.view store.now).shape blob_tree ≡ shape.Absent }
     ensures roots { IsTrue result → (S.view store.now).shape root_tree ≡ shape.Absent }
 {
@@ -56,7 +57,7 @@ fn is_free<S: Store>(store: &S) -> bool
 }
 
 /// Returns whether the store has both tables.
-fn is_there<S: Store>(store: &S) -> bool
+fn has_both_tables<S: Store>(store: &S) -> bool
     ensures blobs { IsTrue result → (S.view store.now).shape blob_tree ≡ shape.Table }
     ensures roots { IsTrue result → (S.view store.now).shape root_tree ≡ shape.Table }
 {
@@ -85,8 +86,8 @@ fn test<S: Alter>(store: &S, objects: &[Row]) -> Result<(), OpenError> {
         return Err(OpenError::Newer(store.version()));
     }
     let ours = objects.len() == 2
-        && lists(&objects[0], "blobs", BLOBS_SQL)
-        && lists(&objects[1], "roots", ROOTS_SQL);
+        && is_this_table(&objects[0], "blobs", BLOBS_SQL)
+        && is_this_table(&objects[1], "roots", ROOTS_SQL);
     if ours {
         Ok(())
     } else {
@@ -103,14 +104,14 @@ pub fn prepare<S: Alter>(alloc: Global, store: &mut S) -> Result<(), OpenError>
 {
     let objects = store.objects(alloc)?;
     if objects.is_empty() {
-        if !is_free(store) {
+        if !has_neither_table(store) {
             return Err(OpenError::Io);
         }
         make(store)?;
         return Ok(());
     }
     test(store, objects.as_slice())?;
-    if is_there(store) {
+    if has_both_tables(store) {
         Ok(())
     } else {
         Err(OpenError::NotBlobs)

@@ -18,7 +18,7 @@ pub use Rattle.pagable_tables.specs.CascadeInvariant.{entries_of, entry, is_bare
 pub use Rattle.pagable_tables.specs.{CascadeSteps.{ValueStays, after, is_fallen_by, is_listing, is_node}, Nodes.{cell_in, falls_in, has_value, holds_in}}
 pub use Rattle.pagable_tables.specs.{CascadeInvariant.{is_valued, named, often, owns, owns_nothing, valued}, CascadeSteps.{keyed, landed, unpinned}}
 pub use Rattle.pagable_tables.specs.{Core.{InReach, IsNoLess, LoadsAre, gives_row}, Nodes.{key_in, next_in, pins_in}}
-pub use Rattle.pagable_tables.specs.{CascadeProgress.{Begins, IsApart, SoFar, is_plain_pin}, Core.{AreLater, left_load, passes_in}}
+pub use Rattle.pagable_tables.specs.{CascadeProgress.{Begins, IsApart, SoFar, is_plain_pin}, Core.{OwnLaterHandles, left_load, passes_in}}
 pub use Rattle.pagable_tables.specs.HandleTable.{AreSound, IsBefore, IsNext, alive, is_live_place, live}
 pub use Rattle.pagable_tables.specs.{CascadeProgress.{told_by, with_tables}, Core.named_at, EndingLoads.{IsReady, has_come}}
 pub use Rattle.pagable_tables.specs.declared.{cascade.RefCounts.RefCounts, handle_table.Handles.Handles, release.ReleaseSet.ReleaseSet}

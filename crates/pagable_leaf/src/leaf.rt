@@ -3,7 +3,7 @@
 
 ghost use Rattle.pagable_tables.specs.Core.{StorageView};
 ghost use Rattle.pagable_leaf.specs.Leaf.{DropsLeaf, IsLeaf, PinsLeaf, with_numbers};
-ghost use Rattle.pagable_tables.specs.{Core.{AreLater, Does, IsWhole, OnlyRoom, core_of, core_alone}, EndingLoads.has_come, HandleTable.room};
+ghost use Rattle.pagable_tables.specs.{Core.{OwnLaterHandles, Does, IsWhole, OnlyRoom, core_of, core_alone}, EndingLoads.has_come, HandleTable.room};
 ghost use Rattle.pagable_tables.specs.Nodes.{counts_at, has_value};
 ghost use Rattle.pagable_pager_spec.specs.{LoadCalls.BeginCall, Pager.{MayOwnLoad}, World.{greatest}};
 ghost use Rattle.std.specs.Prelude.{Err, IfErr, IfNone, IfOk, IfSome, Option, ℕ, ◌+◌, ◌<◌, ◌≡◌, ◌≤◌};
@@ -26,7 +26,7 @@ pub struct Leaf {
 
 /// Returns the cell of a loose handle that `me` owns, if its value isn't in memory, and numbers are
 /// left for a load, the load's handle and a pin.
-pub fn find(t: &Tables, me: Owner, handle: HandleNumber) -> Option<Leaf>
+pub fn find_unloaded(t: &Tables, me: Owner, handle: HandleNumber) -> Option<Leaf>
     requires { IsWhole t.now }
     ensures leaf { (storage : StorageView) → IfSome result (IsLeaf (core_of t.now storage) me) }
     ensures number { IfSome result (λ leaf. leaf.row.number ≡ handle) }
@@ -46,8 +46,8 @@ pub fn find(t: &Tables, me: Owner, handle: HandleNumber) -> Option<Leaf>
     })
 }
 
-/// Finds the cell of a loose handle as `find` does, and makes room for a pin of it. Returns None,
-/// and changes nothing, if `find` does.
+/// Finds the cell of a loose handle as `find_unloaded` does, and makes room for a pin of it. Returns None,
+/// and changes nothing, if `find_unloaded` does.
 ///
 /// # Errors
 ///
@@ -63,7 +63,7 @@ pub fn prepare(t: &mut Tables, me: Owner, handle: HandleNumber) -> Result<Option
     ensures refused { (storage : StorageView) → IfErr result
         (λ e. BeginCall (core_of t.old storage) me handle (Err e) (core_of t.new storage)) }
 {
-    let Some(leaf) = find(t, me, handle) else {
+    let Some(leaf) = find_unloaded(t, me, handle) else {
         return Ok(None);
     };
     match handle_table::reserve(&mut t.ref_counts.handles, 1) {
@@ -100,7 +100,7 @@ pub fn install(t: &mut Tables, me: Owner, leaf: Leaf) -> HandleNumber
     ensures come { (n : ℕ) → has_value (counts_at t.new.ref_counts.nodes n)
         ≡ has_come (counts_at t.old.ref_counts.nodes) leaf.row.node n }
     ensures whole { IsWhole t.new }
-    ensures later { AreLater t.old → AreLater t.new }
+    ensures later { OwnLaterHandles t.old → OwnLaterHandles t.new }
 {
     take_numbers(t);
     let Ok(handle) = pin_here(t, me, leaf.row) else {

@@ -170,10 +170,6 @@ pub none_ahead : (types : Types) (frames : List Frame) (rows : List (List ArcRef
 none_ahead types [] rows is = record { are = tt }
 none_ahead types (f ∷ fs) rows is = record { are = subst (AreAhead types (f ∷ fs)) (sym is) (inl refl, none_known types fs) }
 
-pub top_ahead : {types : Types} {frames : List Frame} {row : List ArcRef} {rows : List (List ArcRef)} → AllAhead types frames (row ∷ rows)
-    → IsAhead types frames row
-top_ahead {types} {frames} {row} {rows} a = record { is = λ f fs there. (subst (λ fr. AreAhead types fr (row ∷ rows)) there a.are).0 }
-
 pub with_top : {types : Types} (frames : List Frame) {row row' : List ArcRef} {rows : List (List ArcRef)} → AllAhead types frames (row ∷ rows)
     → IsAhead types frames row' → AllAhead types frames (row' ∷ rows)
 with_top [] a h = record { are = tt }
@@ -256,9 +252,6 @@ module _ (types : Types) (new : List Frame) (rows mid rows' : List (List ArcRef)
   grew false old row row' rest place kind last has after count at of kept left (inr (r, go)) a =
       let was = subst (AreAhead types old) (sym left ∙ has) a in
       subst (AreAhead types new) (sym after) (more_on new types old r go row row' rest f fs place kind last is count at of was kept)
-
-pub follows_none : (b : Bool) (new : List Frame) (rows rows' : List (List ArcRef)) → new ≡ [] → Follows b new rows rows'
-follows_none b new rows rows' is = record { follows = λ types old go a. record { are = subst (λ fr. AreAhead types fr rows') (sym is) tt } }
 
 pub follows_new : (b : Bool) (new : List Frame) (rows mid : List (List ArcRef)) (f : Frame) (fs : List Frame) (top top' : Vec ArcRef Global)
     (below below' : Vec (Vec ArcRef Global) Global) → new ≡ f ∷ fs → f.got ≡ []

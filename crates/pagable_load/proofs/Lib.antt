@@ -1,4 +1,5 @@
 mod Batches
 pub mod LoadSteps
+pub mod Entries
 mod HeldByPins
 mod FromRoot

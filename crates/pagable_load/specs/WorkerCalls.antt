@@ -1,10 +1,10 @@
 -- What a worker's calls of an access do, in terms of the specification.
-use Rattle.std.specs.Prelude.{Err, IfErr, IfOk, None, Ok, OnOk, Option, Result, Some, length, true, ℕ, ◌≡◌, ◌≤◌, ◌⊎◌}
+use Rattle.std.specs.Prelude.{Bool, Err, IfErr, IfOk, None, Ok, OnOk, Option, Result, Some, false, length, true, ℕ, ◌≡◌, ◌≤◌, ◌⊎◌}
 use Rattle.std.specs.Arc.{arc_value}
 use Rattle.{pagable_load.specs.{PinStart.Shares, declared.access.{TakenValue.TakenValue, WorkerNode.WorkerNode}}, pagable_value_spec.specs.Blob.{Blob, key_of}}
-use Rattle.pagable_pager_spec.specs.{Calls.{SetKeyCall, StoreCall}, Cascade.FallsAnyhow, Workers.is_workers_at}
-use Rattle.{pagable_load.specs.declared.access.PinnedOrLoading.PinnedOrLoading, pagable_value_spec.specs.declared.{error.Error.Error, numbers.{ArcRef.ArcRef, HandleNumber.HandleNumber, LoadNumber.LoadNumber}}}
-use Rattle.{pagable_value_spec.specs.declared.numbers.WorkerNumber.WorkerNumber, pagable_pager_spec.specs.{Access.{MakesCall, WorkerStarts}, Calls.CloneCall, Events.{IsEntry, with_entry_taken}, Kinds.HasKinds}}
+use Rattle.pagable_pager_spec.specs.{Calls.{ReleaseCall, SetKeyCall, StoreCall, TakeCall}, Cascade.FallsAnyhow, Workers.is_workers_at}
+use Rattle.{pagable_load.specs.declared.access.PinnedOrLoading.PinnedOrLoading, pagable_value_spec.specs.declared.{data_key.OptionalDataKey.OptionalDataKey, error.Error.Error, numbers.{ArcRef.ArcRef, HandleNumber.HandleNumber, LoadNumber.LoadNumber}}}
+use Rattle.{pagable_value_spec.specs.declared.numbers.WorkerNumber.WorkerNumber, pagable_pager_spec.specs.{Access.{EntryHas, MakesCall, WorkerStarts}, Calls.CloneCall, Events.{IsEntry, with_entry_taken}, Kinds.HasKinds}}
 use Rattle.pagable_pager_spec.specs.{Kinds.{HasNoKinds, loose_kind}, LoadCalls.BeginCall, Pager.PagerState, Refusals.WorkerFault, Workers.{PinRefused, PinsAtOnce, RowIs}, World.{Alike, Core, Values}}
 use Rattle.pagable_pager_spec.specs.declared.{pinning.Beginning.Beginning, handle_row.{HandleRow.HandleRow, Owner.Owner}}
 
@@ -73,6 +73,25 @@ pub record StartsEntry {N E : Type 0} (v : Values N) (s : PagerState N E) (place
   pub kinds : HasKinds type
   pub is : r ≡ record { kind = record { 0 = loose_kind type }; node = row.node; handle = h }
   pub starts : WorkerStarts v (with_entry_taken s.core place h n) s n.0 t
+
+-- an entry whose cell has a key is taken from the list, and released
+pub record ReleasesEntry {N E : Type 0} (v : Values N) (s : PagerState N E) (me : Owner) (place : ℕ)
+    (t : PagerState N E) : Type 0 where
+  pub h : HandleNumber
+  pub key : ℕ
+  pub has : EntryHas s.core place h (OptionalDataKey.Some key)
+  pub mid : PagerState N E
+  pub takes : MakesCall v (λ w'. TakeCall s.core me place (Some h) w') s mid
+  pub refused : Result (Unit {0}) Error
+  pub releases : MakesCall v (λ w'. ReleaseCall mid.core me h refused w') mid t
+
+-- whether the cell of the entry at a place had a key, so that the entry was released; past the list's end, none
+abbrev pub ReleasesIfKeyed : {N E : Type 0} → Values N → PagerState N E → Owner → ℕ → Option Bool
+    → PagerState N E → Type 0
+ReleasesIfKeyed v s me place None t = (length s.core.list ≤ place) × Alike s.core t.core
+ReleasesIfKeyed v s me place (Some false) t = ((h : HandleNumber)
+    × EntryHas s.core place h OptionalDataKey.None) × (t ≡ s)
+ReleasesIfKeyed v s me place (Some true) t = ReleasesEntry v s me place t
 
 abbrev pub EntryFault : Core → ℕ → Error → Type 0
 EntryFault w place e = ((e ≡ Error.NoSuchHandle) × (length w.list ≤ place))

@@ -3,7 +3,7 @@
 
 ghost use Rattle.std.specs.{Arc.arc_value, Prelude.{IfErr, IfNone, IfOk, IfSome, length, Option, ◌≡◌, ◌≤◌}};
 ghost use Rattle.{pagable_core.specs.Data.blob_of, pagable_load.specs.{PinStart.{Shares, StartsPin}, AccessView.{Acting, Acts, ActsThen, AdoptsValue, as_caller, as_worker, AsksFor, Brings}}};
-ghost use Rattle.{pagable_load.specs.{AccessView.{IsReadBy, TakesLazily, IfKnown, values_at}, WorkerCalls.{ClosesNode, fault_in, RefusesEntry, SetsThrough, SharesTaken, StartsEntry, StoresNode, taken_of, TakesReference}}, pagable_value_spec.specs.Blob.key_of};
+ghost use Rattle.{pagable_load.specs.{AccessView.{IsReadBy, TakesLazily, IfKnown, values_at}, WorkerCalls.{ClosesNode, fault_in, RefusesEntry, ReleasesIfKeyed, SetsThrough, SharesTaken, StartsEntry, StoresNode, taken_of, TakesReference}}, pagable_value_spec.specs.Blob.key_of};
 ghost use Rattle.{pagable_value_spec.specs.declared.numbers.HandleNumber.HandleNumber as Handle, pagable_pager_spec.specs.{Access.{MakesCall, EntryHas, WorkerStarts}, Calls.ReleaseCall}};
 ghost use Rattle.pagable_pager_spec.specs.{Calls.{ScheduleCall, SetKeyCall, StoreCall, TakeCall, UnpinCall}, Cascade.FallsAnyhow, declared.calls.Want.Want, LoadCalls.{LoadFetchCall, BeginKeyCall}};
 ghost use Rattle.pagable_pager_spec.specs.{LoadCalls.{DropCall, EndCall, from_store, HandOverCall}, Pager.{IsCellOf, IsNewNode, PagerState}, Workers.{claim_fault, is_workers_at, WorkerEnds}, World.Alike};
@@ -338,24 +338,24 @@ pub trait WorkerAccess<E: Env<Node: NodeSet<E>>>: Access<E> {
     /// # Errors
     ///
     /// - those of cloning the handle, of pinning the clone, and of the load's begin.
-    fn take_reference(&mut self, reference: ArcRef) -> Result<PinnedOrLoading, Error>
+    fn pin_or_load_reference(&mut self, reference: ArcRef) -> Result<PinnedOrLoading, Error>
         ensures { Acts Self.known_state Self.acting self.old self.new
             (λ a s t. MakesCall (values_at E.Node.NodeSet E.Env E.Hash.KeyHash a.environment)
             (λ w'. TakesReference s.core a.me reference result w') s t) };
 
-    /// Does what `take_reference` does, and shares the value that is pinned then. If the value
+    /// Does what `pin_or_load_reference` does, and shares the value that is pinned then. If the value
     /// can't be shared, the worker has the handles all the same.
     ///
     /// # Errors
     ///
-    /// - those of `take_reference`.
+    /// - those of `pin_or_load_reference`.
     fn take_value(&mut self, reference: ArcRef) -> Result<TakenValue<E::Node>, Error>
         ensures takes { Acts Self.known_state Self.acting self.old self.new
             (λ a s t. MakesCall (values_at E.Node.NodeSet E.Env E.Hash.KeyHash a.environment)
             (λ w'. TakesReference s.core a.me reference (result_map taken_of result) w') s t) }
         ensures shares { IfOk result (λ taken. IfKnown (Self.known_state self.new) (λ s. SharesTaken s taken)) }
     {
-        match self.take_reference(reference)? {
+        match self.pin_or_load_reference(reference)? {
             PinnedOrLoading::Held(through, pin) => Ok(TakenValue::Held(
                 through,
                 pin,
@@ -376,7 +376,7 @@ pub trait WorkerAccess<E: Env<Node: NodeSet<E>>>: Access<E> {
     /// # Errors
     ///
     /// - those of `set_data_key`.
-    fn set_key_through(&mut self, loose: Option<HandleNumber>, key: DataKey) -> Result<(), Error>
+    fn set_key_if_loose(&mut self, loose: Option<HandleNumber>, key: DataKey) -> Result<(), Error>
         ensures { Acts Self.known_state Self.acting self.old self.new
             (λ a s t. SetsThrough (values_at E.Node.NodeSet E.Env E.Hash.KeyHash a.environment) a.me loose key result s
             t) }
@@ -387,28 +387,28 @@ pub trait WorkerAccess<E: Env<Node: NodeSet<E>>>: Access<E> {
         }
     }
 
-    /// Sets the key of a worker's node, if it is to get one, and releases all handles that the
-    /// worker has of the node.
+    /// Sets the key of a worker's node by its loose handle, if `at` has one, and releases all
+    /// handles that the worker has of the node.
     ///
     /// # Errors
     ///
     /// - those of `set_data_key`: the worker keeps its handles.
-    fn close_node(&mut self, at: WorkerNode, key: DataKey) -> Result<(), Error>
+    fn set_key_and_release(&mut self, at: WorkerNode, key: DataKey) -> Result<(), Error>
         ensures { Acts Self.known_state Self.acting self.old self.new
             (λ a s t. ClosesNode (values_at E.Node.NodeSet E.Env E.Hash.KeyHash a.environment) a.me at key result s t) }
     {
-        self.set_key_through(at.loose, key)?;
+        self.set_key_if_loose(at.loose, key)?;
         self.release_worker_node(at.worker, at.node);
         Ok(())
     }
 
-    /// Stores the blob of a worker's node, does with its key what `close_node` does, and returns
-    /// the key.
+    /// Stores the blob of a worker's node, sets the node's key and releases the worker's handles of
+    /// the node, as `set_key_and_release` does, and returns the key.
     ///
     /// # Errors
     ///
     /// - those of `store`: no key is set, and the worker keeps its handles.
-    /// - those of `close_node`: the blob is stored.
+    /// - those of `set_key_and_release`: the blob is stored.
     fn store_node(
         &mut self,
         alloc: Global,
@@ -421,7 +421,7 @@ pub trait WorkerAccess<E: Env<Node: NodeSet<E>>>: Access<E> {
             (blob_of blob) result s t) }
     {
         let key = self.store(alloc, blob)?;
-        self.close_node(at, key)?;
+        self.set_key_and_release(at, key)?;
         Ok(key)
     }
 
@@ -445,12 +445,12 @@ pub trait WorkerAccess<E: Env<Node: NodeSet<E>>>: Access<E> {
             (blob_of blob) result s t) }
     {
         let stored = self.store_keyed(alloc, key, blob)?;
-        self.close_node(at, stored)?;
+        self.set_key_and_release(at, stored)?;
         Ok(stored)
     }
 
-    /// Puts a loose unpinned handle at the end of the list; after the storage was closed, releases
-    /// it.
+    /// Puts a loose unpinned handle at the end of the list of cells that wait for page-out; if the
+    /// storage is closed, releases the handle instead.
     ///
     /// # Errors
     ///
@@ -476,9 +476,9 @@ pub trait WorkerAccess<E: Env<Node: NodeSet<E>>>: Access<E> {
             (λ a s t. WorkerFault s.core e × MakesCall (values_at E.Node.NodeSet E.Env E.Hash.KeyHash a.environment)
             (λ w'. Alike s.core w') s t)) };
 
-    /// Begins a worker for the list entry at this place, counted from 0. The worker owns the entry
-    /// and is the owner of calls from now on. Returns the reference that the worker pages out: the
-    /// entry's handle, as a loose one of its cell.
+    /// Begins a worker for the entry at this place, counted from 0, of the list of cells that wait
+    /// for page-out. The worker owns the entry and is the owner of calls from now on. Returns the
+    /// reference that the worker pages out: the entry's handle, as a loose one of its cell.
     ///
     /// # Errors
     ///
@@ -499,7 +499,7 @@ pub trait WorkerAccess<E: Env<Node: NodeSet<E>>>: Access<E> {
             (λ a s t. MakesCall (values_at E.Node.NodeSet E.Env E.Hash.KeyHash a.environment)
             (λ w'. WorkerEnds s.core worker.0 w') s t) };
 
-    /// Returns how many entries the list has.
+    /// Returns how many entries wait for page-out.
     fn pending(&self) -> usize
         ensures { IfKnown (Self.known_state self.now) (λ s. result ≡ length s.core.list) };
 
@@ -510,9 +510,25 @@ pub trait WorkerAccess<E: Env<Node: NodeSet<E>>>: Access<E> {
             (λ s. (h : Handle) × EntryHas s.core place h key)) }
         ensures none { IfNone result (IfKnown (Self.known_state self.now) (λ s. length s.core.list ≤ place)) };
 
-    /// Takes the list entry at this place for the owner; returns None past the list's end.
+    /// Removes the entry at this place from the page-out list, and returns its handle, which this
+    /// owner has from now on; returns None past the list's end.
     fn take_pending(&mut self, place: usize) -> Option<HandleNumber>
         ensures { Acts Self.known_state Self.acting self.old self.new
             (λ a s t. MakesCall (values_at E.Node.NodeSet E.Env E.Hash.KeyHash a.environment)
             (λ w'. TakeCall s.core a.me place result w') s t) };
+
+    /// Releases the list entry at this place if its cell has a key. Returns whether it did so; None
+    /// past the list's end. An access behind a lock takes the lock once for all of it.
+    fn release_if_keyed(&mut self, place: usize) -> Option<bool>
+        ensures { Acts Self.known_state Self.acting self.old self.new
+            (λ a s t. ReleasesIfKeyed (values_at E.Node.NodeSet E.Env E.Hash.KeyHash a.environment) s a.me place
+            result t) }
+    {
+        let OptionalDataKey::Some(_) = self.entry_key(place)? else {
+            return Some(false);
+        };
+        let entry = self.take_pending(place)?;
+        let _told = self.release(entry);
+        Some(true)
+    }
 }

@@ -15,18 +15,19 @@ use pagable_value_spec::{ArcRef, DataKey, Kind};
 use std::alloc::Global;
 use std::mem::replace;
 
-/// What is known to be ahead of a load's blobs: for each blob a row of references of the kinds that
-/// it asks for, from its first reference on. An empty row says nothing.
+/// What is known of the references that a load's blobs will ask for: for each blob a row, which has
+/// at each place a reference of the kind that is asked for there, from the blob's first reference
+/// on. An empty row says nothing.
 #[derive(Drop)]
 pub struct Ahead {
     /// The row of the innermost blob.
     pub top: Vec<ArcRef>,
-    /// The rows of the blobs that wait for it, the root's first.
+    /// The rows of the blobs below the innermost one, the root's first.
     pub below: Vec<Vec<ArcRef>>,
 }
 
 impl Ahead {
-    /// Makes the rows of which nothing is known.
+    /// Makes the `Ahead` that knows nothing: its rows are empty.
     #[tactic(auto, using(crate::proofs::Batches::leaving))]
     pub(crate) fn new(alloc: Global) -> Ahead
         ensures { rows_of result ≡ [] ∷ [] }
@@ -91,7 +92,8 @@ fn are_stand_ins(noted: &[ArcRef]) -> bool
 }
 
 impl Reading {
-    // Finds the row of the innermost blob, with the values of the references that it has got.
+    // Finds the row of the innermost blob by two trial reads, with the values of the references
+    // that the blob has got. Returns None if the reads find no row, or memory runs out.
     fn plan_batch<E: Env<Node: NodeSet<E>>, A: Access<E>>(
         &self,
         access: &A,
@@ -173,7 +175,8 @@ impl Reading {
         }
     }
 
-    // Returns the kind and key of the reference that the load needs next, if the row says so.
+    // Returns the kind and key of the reference that the load needs next, if the row reaches as far
+    // as this reference.
     fn told(&self, row: &[ArcRef]) -> Option<(Kind, DataKey)>
         ensures tells { IfSome result (λ k. (types : Types)
             → IsAhead types (frames_of self.now.top self.now.below.items) row.now

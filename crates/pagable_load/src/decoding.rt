@@ -103,18 +103,19 @@ impl<'g, E: Env<Node: NodeSet<E>>, A: Access<E>> References<E> for ResolvedRefer
     }
 }
 
-/// What a blob asks for next.
+/// What a trial to read a blob leads to.
 #[derive(Drop)]
 pub enum Decoded<N: Drop> {
-    /// Nothing: it was read, and this is its value.
+    /// The blob was read to its end, and this is its value.
     Read(N),
-    /// A reference of this kind, with this key.
+    /// The reader needs the reference of this kind and key to go on.
     Wants(Kind, DataKey),
-    /// Nothing: it can't be read.
+    /// The blob can't be read, for this reason.
     Refused(Error),
 }
 
-/// Reads the blob as a value of this type, and returns also what the references noted.
+/// Reads the blob as a value of this type, with its references as `ResolvedReferences` looks them
+/// up. Returns also `noted`, with the stand-ins that were appended.
 pub(crate) fn read_got<E: Env<Node: NodeSet<E>>, A: Access<E>>(
     access: &A,
     alloc: Global,

@@ -51,7 +51,7 @@ pub struct Reading {
     pub for_cell: bool,
     /// The innermost blob; None before the root's is fetched.
     pub top: Option<Frame>,
-    /// The blobs that wait for it, the root's first.
+    /// The blobs that wait, each for the value of the next one, the root's first.
     pub below: Vec<Frame>,
     pub steps: u64,
 }
@@ -65,11 +65,11 @@ pub enum Need<N: Drop> {
     Nested(Kind, DataKey),
     /// A loose reference, which isn't loaded.
     Lazy(Kind, DataKey),
-    /// A node for this value of the innermost blob.
+    /// A node of this value, as which the innermost blob was read.
     Adopt(N),
     /// Nothing more: this is the root's value, for the cell or the caller.
     End(N),
-    /// Nothing: the innermost blob can't be read.
+    /// Nothing more: the innermost blob can't be read, and the load fails with this error.
     Refuse(Error),
 }
 
@@ -114,8 +114,9 @@ impl Reading {
     }
 }
 
-/// Shares the value of a reference that is loaded with its holder; None for any other, and for one
-/// whose handle shares none. Fails with OutOfMemory only.
+/// Shares the value of a reference that is loaded with the value that holds it. Returns None for a
+/// loose reference, and if the reference's handle pins no value or isn't live. Fails with
+/// OutOfMemory only.
 #[tactic(auto, using(crate::proofs::LoadSteps::sharing))]
 pub(crate) fn value_of<E: Env<Node: NodeSet<E>>, A: Access<E>>(
     access: &A,
@@ -137,7 +138,7 @@ pub(crate) fn value_of<E: Env<Node: NodeSet<E>>, A: Access<E>>(
     }
 }
 
-// Returns whether none of these is loaded with its holder.
+// Returns whether all of these references are loose, so that none is loaded with its holder.
 fn are_read_later(got: &[ArcRef]) -> bool
     ensures { result ≡ true → AreLater (length got.now) got.now }
 {
@@ -149,8 +150,9 @@ fn are_read_later(got: &[ArcRef]) -> bool
     true
 }
 
-// Shares the values of these references, by their places; returns no list if none of them is loaded
-// with its holder. Fails with OutOfMemory only.
+// Shares the values of these references, and returns them in the same order, with None for each
+// that `value_of` gives none for. Returns an empty list if all references are loose. Fails with
+// OutOfMemory only.
 pub(crate) fn lend<E: Env<Node: NodeSet<E>>, A: Access<E>>(
     access: &A,
     alloc: Global,
@@ -173,9 +175,9 @@ pub(crate) fn lend<E: Env<Node: NodeSet<E>>, A: Access<E>>(
 
 impl Reading {
     /// Returns what the load needs next. It reads the innermost blob from its front, with the
-    /// values of the references that the load has got, and changes nothing. If memory for these
-    /// values runs out, the blob can't be read. A value that was read holds, beside its references,
-    /// the values that their handles pin.
+    /// values of the references that the load has got, and changes nothing. If there is no memory
+    /// to share these values, it returns `Refuse`. A value that was read holds, beside its
+    /// references, the values that their handles pin.
     #[tactic(auto, using(crate::proofs::LoadSteps::needing, crate::proofs::LoadSteps::tells_all))]
     pub fn next<E: Env<Node: NodeSet<E>>, A: Access<E>>(
         &self,
@@ -259,7 +261,7 @@ impl Reading {
         self.top = Some(top);
     }
 
-    /// Makes the root's blob the only one.
+    /// Makes the root's blob the innermost one, with no other below it.
     #[tactic(auto, using(crate::proofs::LoadSteps::stacking))]
     pub(crate) fn put_root(&mut self, alloc: Global, blob: Arc<PagableData>)
         ensures few { length (blob_of (arc_value blob)).keys < 2 ^ 63 }

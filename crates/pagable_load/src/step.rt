@@ -17,8 +17,8 @@ use std::alloc::Global;
 use std::sync::Arc;
 
 impl Reading {
-    /// Takes a loose reference without reading it, as a step that isn't counted yet, and returns
-    /// it.
+    /// Takes a loose reference for the innermost blob without reading it, and returns it. Leaves
+    /// `steps` as it is.
     pub(crate) fn take_lazy<E: Env<Node: NodeSet<E>>, A: Access<E>>(
         &mut self,
         access: &mut A,
@@ -45,7 +45,8 @@ impl Reading {
         Ok(taken)
     }
 
-    // Makes a node of the innermost blob's value, for the blob below it.
+    // Makes a node of the innermost blob's value, and gives its reference to the blob below, which
+    // becomes the innermost one.
     #[tactic(auto, using(crate::proofs::Batches::node_leads))]
     fn step_adopt<E: Env<Node: NodeSet<E>>, A: Access<E>>(
         &mut self,
@@ -122,7 +123,8 @@ impl Reading {
         Ok(Some(LoadAnswer::Read(value)))
     }
 
-    // Does what the load needs, by at most one call of the access.
+    // Gets what the load needs, by at most one call of the access. Returns how the load ended, or
+    // None if it goes on.
     fn perform<E: Env<Node: NodeSet<E>>, A: Access<E>>(
         &mut self,
         access: &mut A,
@@ -189,9 +191,9 @@ impl Reading {
         self.top = None;
     }
 
-    // Ends the load if nothing is left to get, as a step that isn't counted yet; otherwise does
-    // what it needs.
-    fn end_or_meet<E: Env<Node: NodeSet<E>>, A: Access<E>>(
+    // Finds what the load needs next, and gets it; ends the load if it needs nothing more. The
+    // caller counts this step in `steps`.
+    fn try_step<E: Env<Node: NodeSet<E>>, A: Access<E>>(
         &mut self,
         access: &mut A,
         alloc: Global,
@@ -227,7 +229,7 @@ impl Reading {
             (frames_of self.new.top self.new.below.items) (Ok result) }
         ensures same { IsSameLoad self.old self.new (one_more self.old.steps) }
     {
-        match self.end_or_meet(access, alloc) {
+        match self.try_step(access, alloc) {
             Ok(answer) => {
                 self.steps = self.steps.saturating_add(1);
                 answer
@@ -240,7 +242,7 @@ impl Reading {
         }
     }
 
-    // Fetches the blob of the load's own key, as a step that isn't counted yet.
+    // Fetches the blob of the load's own key. The caller counts this step in `steps`.
     fn get_root<E: Env<Node: NodeSet<E>>, A: Access<E>>(
         &mut self,
         access: &mut A,
@@ -340,7 +342,8 @@ impl Reading {
             (frames_of self.new.top self.new.below.items) (Ok result) }
         ensures same { IsSameLoad self.old self.new (one_more self.old.steps) }
         ensures ahead { IfNone result (AllAhead (values_at E.Node.NodeSet E.Env E.Hash.KeyHash
-            (A.acting access.old).environment).types (frames_of self.new.top self.new.below.items) (rows_of ahead.new)) }
+            (A.acting access.old).environment).types (frames_of self.new.top self.new.below.items)
+            (rows_of ahead.new)) }
     {
         self.plan_batch_if_useful(access, alloc, &mut ahead.top);
         let need = self.needed::<E, A>(access, alloc, ahead.top.as_slice());
@@ -386,7 +389,8 @@ impl Reading {
 
 // ---- whole operations
 
-// Pins a loose handle's cell, and returns whether the handle was unpinned before.
+// Pins a loose handle's cell, loading its value if it isn't in memory. Returns the new Pinned
+// handle, and whether the loose handle was unpinned before.
 #[tactic(auto, using(crate::proofs::LoadSteps::acts_map, crate::proofs::LoadSteps::start_refused))]
 fn pin_first<E: Env<Node: NodeSet<E>>, A: Access<E>>(
     access: &mut A,
@@ -410,7 +414,8 @@ fn pin_first<E: Env<Node: NodeSet<E>>, A: Access<E>>(
     }
 }
 
-// Unpins a loose handle if it was unpinned before. A cell that can't be listed then is ignored.
+// Unpins a loose handle again if it was unpinned before. Ignores an error, which says that a cell
+// can't be listed for page-out.
 fn unpin_again<E: Env<Node: NodeSet<E>>, A: Access<E>>(
     access: &mut A,
     handle: HandleNumber,

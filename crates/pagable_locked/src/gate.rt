@@ -23,7 +23,7 @@ impl Gate for NoGate {
     fn at(&self, _worker: usize, _claim_number: u64) {}
 }
 
-/// The claims of one of several workers, which calls a gate after each of them.
+/// The claims of one of several workers. It calls a gate after each identity that it claims.
 #[derive(Drop)]
 pub struct GatedClaims<'a, R: Wait, E: Env<Node: NodeSet<E>>, L: Ledger, G: Gate> {
     claims: SharedClaims<'a, R, E, L>,
@@ -47,7 +47,7 @@ impl<'a, R: Wait, E: Env<Node: NodeSet<E>>, L: Ledger, G: Gate> GatedClaims<'a, 
         }
     }
 
-    /// Returns the worker's part of the total of claims.
+    /// Returns the worker's share, which counts the claims that it made.
     pub fn into_share(self) -> WalkShare<L> {
         let share = self.claims.into_share();
         WalkShare { share }

@@ -112,7 +112,7 @@ impl<E: Env<Node: NodeSet<E>>, S: PagableStorage<E>> HandlePin<E, S> {
         let _told = access.release(pinned);
     }
 
-    // Drops a load.
+    // Drops the load of this reading.
     fn drop_load<R: Wait>(&self, rt: &R, reading: &CellReading) {
         let _told = self.storage.access(rt).load_drop(reading.load());
     }

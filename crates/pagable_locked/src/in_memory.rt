@@ -65,7 +65,8 @@ impl<E: Env<Node: NodeSet<E>>> InMemoryPagableStorage<E> {
         self.handle.is_sound(rt)
     }
 
-    /// Pages out the list: see `PagableStorageHandle::page_out_pending`, also for the errors.
+    /// Pages out the cells that wait for page-out: see `PagableStorageHandle::page_out_pending`,
+    /// also for the errors.
     pub fn page_out_pending<R: Wait>(&self, rt: &R, alloc: Global) -> Result<(), PageOutError> {
         self.handle.page_out_pending(rt, alloc)
     }

@@ -18,7 +18,7 @@ use std::sync::{Arc, Mutex, Wait};
 /// The access of one thread to a pager behind a lock, for the caller or for a worker of this
 /// thread. Each call takes the lock, makes one call of the pager for its owner, and releases the
 /// lock; environment and session are outside the lock. A call for a worker that isn't running fails
-/// with NotYours.
+/// with NotYours, apart from `share`, `store` and `store_keyed`, which need no owner.
 #[derive(Drop)]
 pub struct Locked<'a, R: Wait, E: Env<Node: NodeSet<E>>, S: PagableStorage<E>> {
     rt: &'a R,
@@ -180,9 +180,9 @@ impl<'a, R: Wait, E: Env<Node: NodeSet<E>>, S: PagableStorage<E>> WorkerAccess<E
         Lent::for_owner(&mut *pager, self.me)?.check_reference(reference)
     }
 
-    fn take_reference(&mut self, reference: ArcRef) -> Result<PinnedOrLoading, Error> {
+    fn pin_or_load_reference(&mut self, reference: ArcRef) -> Result<PinnedOrLoading, Error> {
         let mut pager = lock_briefly(self.pager, self.rt);
-        Lent::for_owner(&mut *pager, self.me)?.take_reference(reference)
+        Lent::for_owner(&mut *pager, self.me)?.pin_or_load_reference(reference)
     }
 
     fn take_value(&mut self, reference: ArcRef) -> Result<TakenValue<E::Node>, Error> {
@@ -190,14 +190,14 @@ impl<'a, R: Wait, E: Env<Node: NodeSet<E>>, S: PagableStorage<E>> WorkerAccess<E
         Lent::for_owner(&mut *pager, self.me)?.take_value(reference)
     }
 
-    fn set_key_through(&mut self, loose: Option<HandleNumber>, key: DataKey) -> Result<(), Error> {
+    fn set_key_if_loose(&mut self, loose: Option<HandleNumber>, key: DataKey) -> Result<(), Error> {
         let mut pager = lock_briefly(self.pager, self.rt);
-        Lent::for_owner(&mut *pager, self.me)?.set_key_through(loose, key)
+        Lent::for_owner(&mut *pager, self.me)?.set_key_if_loose(loose, key)
     }
 
-    fn close_node(&mut self, at: WorkerNode, key: DataKey) -> Result<(), Error> {
+    fn set_key_and_release(&mut self, at: WorkerNode, key: DataKey) -> Result<(), Error> {
         let mut pager = lock_briefly(self.pager, self.rt);
-        Lent::for_owner(&mut *pager, self.me)?.close_node(at, key)
+        Lent::for_owner(&mut *pager, self.me)?.set_key_and_release(at, key)
     }
 
     fn store_node(
@@ -264,6 +264,14 @@ impl<'a, R: Wait, E: Env<Node: NodeSet<E>>, S: PagableStorage<E>> WorkerAccess<E
         let mut pager = lock_briefly(self.pager, self.rt);
         match Lent::for_owner(&mut *pager, self.me) {
             Ok(mut lent) => lent.take_pending(place),
+            Err(_) => None,
+        }
+    }
+
+    fn release_if_keyed(&mut self, place: usize) -> Option<bool> {
+        let mut pager = lock_briefly(self.pager, self.rt);
+        match Lent::for_owner(&mut *pager, self.me) {
+            Ok(mut lent) => lent.release_if_keyed(place),
             Err(_) => None,
         }
     }

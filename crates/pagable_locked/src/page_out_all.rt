@@ -28,7 +28,7 @@ pub struct PageOutReport {
     pub claims: u64,
 }
 
-// What a worker gets at its beginning.
+// What a worker is started with: its number and its share.
 #[derive(Drop)]
 struct Job<L: Ledger> {
     worker: usize,
@@ -92,7 +92,7 @@ fn page_out_each<'a, R: Wait, E: Env<Node: NodeSet<E>>, S: PagableStorage<E>, L:
     Ok(keys)
 }
 
-// Does a worker's job.
+// Pages out the items of a worker's job.
 fn work<'a, R: Wait, E: Env<Node: NodeSet<E>>, S: PagableStorage<E>, L: Ledger, G: Gate>(
     rt: &R,
     alloc: Global,
@@ -132,7 +132,8 @@ fn jobs<L: Ledger>(
     Ok(jobs)
 }
 
-// Returns the workers' lists in their order, and merges all their shares. Fails if a worker did.
+// Returns the workers' lists of results in the order of the workers, and merges their shares into
+// `all`. Fails if a worker failed, or with OutOfMemory.
 fn gather<E: Env<Node: NodeSet<E>>, L: Ledger>(
     alloc: Global,
     items: &[Arc<SerializedData>],
@@ -160,7 +161,8 @@ fn gather<E: Env<Node: NodeSet<E>>, L: Ledger>(
     Ok(lists)
 }
 
-// Returns the results of all lists, in the order of the items.
+// Returns the results from all workers' lists, in the order of the items. Fails with OutOfMemory
+// alone.
 fn in_order<E: Env<Node: NodeSet<E>>>(
     alloc: Global,
     items: &[Arc<SerializedData>],

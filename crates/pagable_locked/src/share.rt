@@ -13,7 +13,7 @@ pub struct ClaimShare<L: Ledger> {
 }
 
 impl<L: Ledger> ClaimShare<L> {
-    /// Makes a share of claims of a ledger's share.
+    /// Makes a share of the claims from a share of the ledger.
     pub(crate) fn of(share: Share<L>) -> ClaimShare<L>
         requires { 0 < share.parts }
         ensures { result.share ≡ share }
@@ -41,7 +41,7 @@ impl<L: Ledger> ClaimShare<L> {
     }
 }
 
-/// One part, which a worker's walk owns.
+/// A share of one part, which a worker owns while it runs.
 #[derive(Drop)]
 pub struct WalkShare<L: Ledger> {
     pub share: ClaimShare<L>,

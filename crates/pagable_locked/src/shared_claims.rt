@@ -43,7 +43,7 @@ impl<'a, R: Wait, E: Env<Node: NodeSet<E>>, L: Ledger> SharedClaims<'a, R, E, L>
         }
     }
 
-    /// Returns the worker's part of the total of claims.
+    /// Returns the worker's share, which counts the claims that it made.
     pub fn into_share(self) -> ClaimShare<L>
         ensures { result.share.parts ≡ 1 }
     {

@@ -105,8 +105,8 @@ impl<E: Env<Node: NodeSet<E>>, S: PagableStorage<E>> PagableStorageHandle<E, S> 
         }
     }
 
-    /// Moves a loose handle of the caller's that pins nothing to the end of the list, which owns it
-    /// from then on. After `close` the handle is released instead.
+    /// Moves a loose handle of the caller's that pins nothing to the end of the list of cells that
+    /// wait for page-out, which owns it from then on. After `close` it releases the handle instead.
     ///
     /// # Errors
     ///
@@ -224,12 +224,7 @@ impl<E: Env<Node: NodeSet<E>>, S: PagableStorage<E>> PagableStorageHandle<E, S> 
         self.inner.pager.lock(rt).cache_get(kind, key)
     }
 
-    /// Empties the cache.
-    ///
-    /// # Errors
-    ///
-    /// - `NumbersSpent`, `OutOfMemory` if a cell couldn't be listed: the cache is empty all the
-    ///   same.
+    /// Empties the cache. Never fails.
     pub fn cache_clear<R: Wait>(&self, rt: &R) -> Result<(), Error> {
         self.inner.pager.lock(rt).cache_clear()
     }
@@ -280,9 +275,10 @@ impl<E: Env<Node: NodeSet<E>>, S: PagableStorage<E>> PagableStorageHandle<E, S> 
         answer
     }
 
-    /// Pages out the entries that are in the list at the call, with all that they refer to, from
-    /// the last to the first, up to the first failure. Entries that are listed meanwhile wait for
-    /// the next call; an entry that another thread takes meanwhile is skipped.
+    /// Pages out the cells that wait for page-out when it is called, with all that they refer to,
+    /// from the last entry of the list to the first, up to the first failure. Entries that are
+    /// listed meanwhile wait for the next call; an entry that another thread takes meanwhile is
+    /// skipped.
     ///
     /// # Errors
     ///
@@ -293,9 +289,9 @@ impl<E: Env<Node: NodeSet<E>>, S: PagableStorage<E>> PagableStorageHandle<E, S> 
         page_out_pending_over(&mut access, alloc)
     }
 
-    /// Closes the storage: blobs, cache and list are empty from then on. Each fetch fails with
-    /// `NoData`, storing fails with `Closed`, and nothing is cached or listed any more. It can't
-    /// fail.
+    /// Closes the storage: there are no blobs, no cached nodes and no cells waiting for page-out
+    /// from then on. Each fetch fails with `NoData`, storing fails with `Closed`, and nothing is
+    /// cached or listed any more. It can't fail.
     pub fn close<R: Wait>(&self, rt: &R) -> Result<(), Error> {
         self.inner.pager.lock(rt).close()
     }

@@ -126,7 +126,7 @@ impl<E: Env<Node: NodeSet<E>>, L: Ledger> Slots<E, L> {
     // Says whether the worker that has claimed an identity is `asker`, or waits for it, directly or
     // through others. A wait for a slot that has an outcome is over, even if its worker doesn't
     // know it yet; no chain is longer than the number of waits.
-    fn leads_to<R: Wait>(&self, rt: &R, asker: WorkerNumber, identity: Identity) -> bool {
+    fn would_deadlock<R: Wait>(&self, rt: &R, asker: WorkerNumber, identity: Identity) -> bool {
         let mut claimed = identity;
         for _ in 0..=self.waits.len() {
             let Some(worker) = self.open_claimer(rt, claimed) else {
@@ -168,7 +168,7 @@ impl<E: Env<Node: NodeSet<E>>, L: Ledger> Slots<E, L> {
             Outcome::Published(found) => Ok(ClaimFound::Ended(Some(found))),
             Outcome::Failed => Ok(ClaimFound::Ended(None)),
             Outcome::Open => {
-                if self.leads_to(rt, worker, identity) {
+                if self.would_deadlock(rt, worker, identity) {
                     return Err(Error::TooDeep);
                 }
                 self.waits.insert(worker.0, identity)?;
@@ -237,8 +237,8 @@ impl<E: Env<Node: NodeSet<E>>, L: Ledger> SlotTable<E, L> {
         self.slots.lock(rt).try_claim(identity, share)
     }
 
-    /// Returns the number of claimed identities, once all shares are merged: the count of the whole
-    /// share.
+    /// Returns the number of claimed identities, which is the count of `all`. `all` has to be the
+    /// whole share, into which all other shares were merged.
     pub fn claims<R: Wait>(&self, rt: &R, all: &mut ClaimShare<L>) -> u64
         requires { all.old.share.parts ≡ L.parts }
         ensures claims { (result ≡ all.old.share.amount) × (all.new.share.amount ≡ all.old.share.amount) }

@@ -24,7 +24,8 @@ where
     block_on(rt, poll_fn(|cx| pin.poll(rt, alloc, cx)))
 }
 
-/// Polls a pin so many times, and gives it up where it is pending then.
+/// Polls a pin at most `polls` times, and returns it once it is ready. If it never is, cancels it,
+/// and returns None.
 pub fn pinned_by_hand<E: Env, T: OfNode<E> + Drop, P: Polls<E> + Drop, R>(
     rt: &R,
     alloc: Global,

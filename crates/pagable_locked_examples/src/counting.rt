@@ -1,4 +1,5 @@
-//! A storage that counts its calls, also for who has no hold of it any more.
+//! A storage that counts its calls. Its counts can be read after the storage was handed over to a
+//! pager.
 
 use futures::task::{Context, Poll};
 use pagable_core::{PagableData, PagableStorage};
@@ -16,7 +17,7 @@ pub struct StorageCalls {
 }
 
 impl StorageCalls {
-    /// Makes counts of nothing. Refused with OutOfMemory.
+    /// Makes two counts of 0. Fails with `OutOfMemory` only.
     pub fn new(alloc: Global) -> Result<Arc<StorageCalls>, Error> {
         let calls = StorageCalls {
             fetches: AtomicU64::new(0),

@@ -16,7 +16,7 @@ use std::sync::ledger::{Blank, Ledger};
 use std::sync::{Arc, Wait};
 use std::thread;
 
-/// Makes a cell of a text, of which the handle is loose and pins.
+/// Inserts a cell with a text, and returns its handle, which is loose and pins the cell.
 pub fn new_cell<H: KeyHash, S: PagableStorage<TextEnv<H>>, R: Wait>(
     rt: &R,
     alloc: Global,
@@ -56,7 +56,7 @@ pub fn item(
     Ok(Arc::new(alloc, SerializedData { bytes, arcs })?)
 }
 
-/// Pages an item out on a new table: its key, and the claims that were made.
+/// Pages an item out on a new table, and returns its key and how many claims were made.
 pub fn page_out<E: Env<Node: NodeSet<E>>, S: PagableStorage<E>, R: Wait>(
     rt: &R,
     alloc: Global,
@@ -84,7 +84,7 @@ fn page_out_on<L: Ledger, E: Env<Node: NodeSet<E>>, S: PagableStorage<E>, R: Wai
     }
 }
 
-/// Yields until a flag is 1, at most a million times: whether it was.
+/// Yields until a flag is 1, at most a million times. Returns whether it became 1.
 pub fn is_set(flag: &AtomicU64) -> bool {
     for _ in 0..1_000_000u32 {
         if flag.load(Ordering::SeqCst) == 1 {

@@ -1,4 +1,4 @@
-//! A storage whose polled fetches wait.
+//! A storage whose first polls of `fetch_data` are pending.
 
 use futures::task::{Context, Poll};
 use pagable_core::{PagableData, PagableStorage};

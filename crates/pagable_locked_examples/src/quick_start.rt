@@ -28,14 +28,3 @@ pub fn page_out_and_read_back<R: Wait>(rt: &R, alloc: Global, text: &str) -> Res
     cell.release(rt, &handle)?;
     Ok(is_same)
 }
-
-#[cfg(test)]
-mod tests {
-    use super::*;
-
-    #[test]
-    fn text_is_the_same(rt: HostRuntime) -> Result<(), Error> {
-        assert!(rt; page_out_and_read_back(&rt, rt.alloc(), "hello world")?);
-        Ok(())
-    }
-}

@@ -88,7 +88,7 @@ impl Record {
         Ok(OneNode::new(Arc::new(alloc, made)?))
     }
 
-    /// Makes a loose reference one that a record can hold.
+    /// Turns a loose reference to a record into one that a record can hold.
     pub fn reference(of: PagableArc<Record>) -> RecordRef
         ensures { plain 1 result ≡ loose 0 of }
     {
@@ -194,7 +194,7 @@ impl InNode<Records> for Record {
     ghost reads_as = { λ e h. h };
 }
 
-/// The forms of a record are read back.
+/// States that each form of a record is read back as it was written.
 #[tactic(auto, using(crate::specs::Records::record_is_read))]
 pub fn records_are_read<E: Env>()
     ensures { (e : E) → IsReadThroughout (E.parts e) (⟦<Record as Carried<E>>⟧.shape e) }

@@ -8,7 +8,7 @@ use Rattle.pagable_pager_spec.specs.declared.events.WorkerAnswer.{WorkerAnswer}
 use Rattle.std.proofs.Common.{List, None, Option, Some, [], drop, length, refl, subst, sym, ℕ, ◌++◌, ◌∷◌, ◌≡◌}
 use Rattle.std.specs.Prelude.{IfOk, max}
 use Rattle.pagable_pager_spec.specs.Basics.{above}
-use Rattle.pagable_pageout.specs.Turns.{IsStored, claim_todo, plan}
+use Rattle.pagable_pageout.specs.Turns.{FollowsStore, claim_todo, plan}
 use Rattle.pagable_value_spec.specs.declared.error.Error.{Error}
 use Rattle.pagable_pager_spec.specs.declared.events.Claim.{Claim}
 use Rattle.std.proofs.Common.{Ok, Err, Result}
@@ -51,9 +51,6 @@ pub known-ends : (w : Written) (r : ArcRef) (key height : ℕ) (todo : List Todo
 known-ends w r key height [] h = h
 known-ends w r key height (x ∷ below) h = give-ends w r key height (x ∷ below) h
 
-pub fails-ends : (w : Written) (fault : Fault) (back : Option HandleNumber) → EndsWith w (fails fault back)
-fails-ends w fault back = tt
-
 -- what is to be done after a claim
 
 pub claim-ends : (w : Written) (r : ArcRef) (place : ℕ) (below : List Todo) (found : Result Claim Error) → EndsWith w (to_start r place ∷ below)
@@ -94,7 +91,7 @@ module _ {X XN XH XK XV : Type 0} {g : Environments X XN XH XK XV} {gh : Hashes 
   alone-ends r key height below k none = record { stays = λ w h. tt; over = λ w h. absurd (subst (EndsWith w) none h) }
 
   pub stored-ends : (node : Option Node) (written : Written) (keys : List ℕ) (key : ℕ) (turn : Turn X XN XH XK XV g gh go gq gp gn)
-      (path : List (Waiting X XN XH XK XV g gh go gq gp gn)) → IsStored node key turn → IfKey turn (λ k. ∥ IsOver gh.digest (values_at gn g gh) written k ∥₁)
+      (path : List (Waiting X XN XH XK XV g gh go gq gp gn)) → FollowsStore node key turn → IfKey turn (λ k. ∥ IsOver gh.digest (values_at gn g gh) written k ∥₁)
       → Ends (waits_as node written keys ∷ todos path) turn (plan turn path)
   stored-ends None written keys key turn path is over =
       let at : ∥ IsOver gh.digest (values_at gn g gh) written key ∥₁ = subst (λ t. IfKey t (λ k. ∥ IsOver gh.digest (values_at gn g gh) written k ∥₁)) is

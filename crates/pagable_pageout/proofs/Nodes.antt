@@ -1,8 +1,8 @@
 -- At a node whose references are done a worker makes one call of the access and one of its table: these do what its tasks there do one by one.
 use Rattle.{pagable_load.specs.{AccessView.values_at, WorkerCalls.{SetsThrough, StoresNode}}, pagable_value_spec.specs.{Blob.{Blob, key_of}, Merkle.blob_of, declared.{error.Error.Error, numbers.{ArcRef.ArcRef, HandleNumber.HandleNumber}}}}
-use Rattle.pagable_pageout.{proofs.{Strides.{comes-on, turn-comes, turn-walked}, WorkerTurns.{finish-fails, finish-stores, key-set, key-unset, publishes, release-ends, release-gives, set-fails, set-goes}}, specs.Strides.{ComesTo, HandsOn, LeavesNode, worker_node}}
+use Rattle.pagable_pageout.{proofs.{Strides.{comes-on, turn-comes, turn-walked}, WorkerTurns.{finish-fails, finish-stores, key-set, key-unset, publishes, release-ends, release-gives, set-fails, set-goes}}, specs.Strides.{ComesTo, HandsOn, StoresAndReleasesNode, worker_node}}
 use Rattle.pagable_pageout.specs.{Results.{ResultStands, ResultsStand, more-results, no-results, stands-over}, Slots.{ids_of, keys_of, written_of}, Tasks.{Awaits, IsPlain, EachIsAwaited, back_of, fails, todo_of, todos, waiting_todo, waits_as}}
-use Rattle.pagable_pageout.specs.Turns.{HasWalked, IsStored, SetsFor, Stores}
+use Rattle.pagable_pageout.specs.Turns.{HasWalked, FollowsStore, SetsFor, Stores}
 use Rattle.pagable_pageout.specs.declared.{results.SlotResult.SlotResult, tasks.{Done.Done, Node.Node, Task.Task, Turn.Turn, Waiting.Waiting}}
 use Rattle.pagable_pager_spec.specs.{Access.MakesCall, Calls.StoreCall, Cascade.FallsAnyhow, Kinds.identity_of, Pager.PagerState, Basics.{is_loose_kind, longest_path}, Workers.{is_workers_at, with_changed_slot, with_outcome}}
 use Rattle.pagable_pager_spec.specs.{World.{SameShelf, Shelf, Todo, Values, published, to_set, was_refused}, declared.{events.WorkerAnswer.WorkerAnswer, handle_row.Owner.Owner}}
@@ -28,7 +28,7 @@ module _ {N E : Type 0} (v : Values N) (me : Owner) (n : ℕ) (node : Node) (blo
   called-stores : (r : Result ℕ Error) (t : PagerState N E) → MakesCall v (λ w'. StoreCall (key_of v.hash) s.core blob r w') s t → Stores v s blob r t
   called-stores r t call = record { stored = call.step; moves = call.moves; whole = λ w. call.whole }
 
-  pub node-leaves : (r : Result ℕ Error) (t : PagerState N E) → StoresNode v me (worker_node n node) blob r s t → LeavesNode v me n node s blob r t
+  pub node-leaves : (r : Result ℕ Error) (t : PagerState N E) → StoresNode v me (worker_node n node) blob r s t → StoresAndReleasesNode v me n node s blob r t
   node-leaves (Ok key) t h = let (mid, call, closes) = h.stores in record { stores = (mid, called-stores (Ok key) mid call, closes); refused = tt }
   node-leaves (Err e) t h = record {
     stores = tt;
@@ -130,12 +130,12 @@ module _ {X XN XH XK XV : Type 0} {g : Environments X XN XH XK XV} {gh : Hashes 
       let same : todo_of next ≡ to_set node.reference node.through key node.height = λ i. to_set (reference i) node.through (same_key i) (height i) in
       turn-walked v me n shelf (Task.Finish w) (todos path) shelf next (todos path) (todo_of next ∷ todos path) _ s t
       (finish-stores v me n shelf (todos path) w way key (Turn.Goes next) path refl
-      (subst (λ o. IsStored o key (Turn.Goes next)) (sym is) (next, refl, same, tt)) s t stores) refl refl
+      (subst (λ o. FollowsStore o key (Turn.Goes next)) (sym is) (next, refl, same, tt)) s t stores) refl refl
 
   -- the node is left: its blob is stored, its key set, its result published, and its handles are given up
   pub node-left : (d : Done X XN XH XK XV g gh go gq gp gn) (key : ℕ) → d.reference ≡ node.reference → d.found.key ≡ key → d.found.height ≡ node.height
       → (shelf' : Shelf) (turn : Turn X XN XH XK XV g gh go gq gp gn) (after : List Todo) → HandsOn d (todos path) turn after
-      → (s t : PagerState N E) → LeavesNode v me n node s (blob_of (written_of (arc_value w.written)).bytes (keys_of w.children.items)) (Ok key) t
+      → (s t : PagerState N E) → StoresAndReleasesNode v me n node s (blob_of (written_of (arc_value w.written)).bytes (keys_of w.children.items)) (Ok key) t
       → SameShelf (with_changed_slot shelf d.found.identity (with_outcome (published d.found.key d.found.height))) shelf'
       → ComesTo v me n shelf (Task.Finish w) (todos path) shelf' turn after s t
   node-left d key reference same_key height shelf' turn after hands s t left same =
@@ -157,7 +157,7 @@ module _ {X XN XH XK XV : Type 0} {g : Environments X XN XH XK XV} {gh : Hashes 
   -- the blob or the key is refused, and the walk fails
   pub node-refused : v.hash ≡ gh.digest → (e : Error) (task : Task X XN XH XK XV g gh go gq gp gn) (after : List Todo) → IsPlain task → after
       ≡ fails (was_refused e) (back_of None (todos path)) → (s t : PagerState N E)
-      → LeavesNode v me n node s (blob_of (written_of (arc_value w.written)).bytes (keys_of w.children.items)) (Err e) t
+      → StoresAndReleasesNode v me n node s (blob_of (written_of (arc_value w.written)).bytes (keys_of w.children.items)) (Err e) t
       → ComesTo v me n shelf (Task.Finish w) (todos path) shelf (Turn.Goes task) after s t
   unfolding node-done
   node-refused hash e task after plain failed s t left = elim left.refused [

@@ -1,14 +1,14 @@
 -- Page-outs of an item and of the entries of the list, from the runs of their workers.
 use Rattle.pagable_theorems.proofs.{LoadResults.{entry-answered, item-answered}, StepBounds.{Spares, none-shorter, release-spares-list, spares-then, walk-spares-list}}
-use Rattle.pagable_load.{proofs.LoadSteps.{acts_all, acts_from, acts_map, acts_same, acts_then, tells_map}, specs.{AccessView.{Acting, as_caller}, WorkerCalls.{RefusesEntry, StartsEntry}}}
+use Rattle.pagable_load.{proofs.LoadSteps.{acts_all, acts_map, acts_same, acts_then, tells_map}, specs.{AccessView.{Acting, as_caller}, WorkerCalls.{RefusesEntry, ReleasesIfKeyed, StartsEntry}}}
 use Rattle.pagable_value_spec.specs.declared.{data_key.OptionalDataKey.OptionalDataKey, error.Error.Error, numbers.{ArcRef.ArcRef, HandleNumber.HandleNumber, WorkerNumber.WorkerNumber}}
 use Rattle.pagable_pageout.{proofs.WorkerTurns.{alike, plain-fits, same-shelf}, specs.{PageOuts.{HasPaged, PagesAt, PagesEntry, PagesEntryIfThere, PagesItem, PagesList, answer_of, there}, Tasks.{IsPlain, todo_of}}}
 use Rattle.{pagable_pageout.specs.{Turns.{Fits, IsAlone, RunsTo, Walked, plain}, declared.tasks.{PageOutError.PageOutError, Task.Task}}, pagable_pager_spec.specs.Access.AccessState}
 use Rattle.pagable_pager_spec.specs.Access.{MakesCall, EntryHas, ListRun, WorkerRun, WorkerStarts, entry-is-refused, entry-is-walked, fails, item-is-walked, no-entry-worker, no-more, no-worker, pages}
-use Rattle.pagable_pager_spec.specs.{Access.{skips, worker-ends, worker-goes-on}, Calls.{ReleaseCall, TakeCall}, Events.{entry_task, no_shelf}, Kinds.{identity_of, owner_worker}, Pager.PagerState}
+use Rattle.pagable_pager_spec.specs.{Access.{skips, worker-ends, worker-goes-on}, Events.{entry_task, no_shelf}, Kinds.{identity_of, owner_worker}, Pager.PagerState}
 use Rattle.pagable_pager_spec.specs.{Pager.IsPagerWhole, Refusals.WorkerFault, Workers.first_todo, World.{Alike, SameShelf, Seen, Shelf, Todo, Values, Written, of_entry, of_item}, declared.events.Action.Action}
 use Rattle.{pagable_pager_spec.specs.declared.{events.WorkerAnswer.WorkerAnswer, handle_row.Owner.Owner}, std.proofs.Common.{Err, List, None, Ok, Option, Result, Some, ap, arith, inl, length, refl, subst, sym}}
-use Rattle.std.{proofs.{Common.{ℕ, ◌+◌, ◌<◌, ◌∙◌, ◌∷◌, ◌≡◌, ◌≤◌}, lemmas.{Bool.Decides.nat_tests, Grind.common_steps, List.Edits.length-remove}}, specs.List.remove}
+use Rattle.std.{proofs.{Common.{Bool, false, true, ℕ, ◌+◌, ◌<◌, ◌∙◌, ◌∷◌, ◌≡◌, ◌≢◌, ◌≤◌}, lemmas.{Bool.Decides.nat_tests, Grind.common_steps, List.Edits.length-remove}}, specs.List.remove}
 use Rattle.pagable_codec.specs.declared.{env.Env.Ghosts as Environments, hash.KeyHash.Ghosts as Hashes, nodes.NodeSet.Ghosts as Nodes}
 use Rattle.std.specs.declared.cmp.{Ord.Ghosts as Orders, PartialEq.Ghosts as Equalities, PartialOrd.Ghosts as PartialOrders}
 
@@ -100,26 +100,18 @@ module _ {N E : Type 0} (v : Values N) where
 
   -- ---- a place of the list
 
-  pub at-past : (place : ℕ) (s t : PagerState N E) → length s.core.list ≤ place → PagesAt v place (Ok tt) s t
-  at-past place s t past = record { done = λ whole within. absurd (omega (arith, past, within)) }
-
-  pub at-gone : (place : ℕ) (taken : Option HandleNumber) → ((h : HandleNumber) → taken ≡ Some h → ⊥) → (me : Owner) (s t : PagerState N E)
-      → MakesCall v (λ w'. TakeCall s.core me place taken w') s t → PagesAt v place (Ok tt) s t
-  at-gone place taken none me s t call = grind (arith, nat_tests, common_steps)
-
-  -- the entry is taken and released
-  pub at-skipped : {me : Owner} → me ≡ Owner.Caller → (place key : ℕ) (k : HandleNumber) (told : Result (Unit {0}) Error) (s mid t : PagerState N E)
-      → MakesCall v (λ w'. TakeCall s.core me place (Some k) w') s mid → MakesCall v (λ w'. ReleaseCall mid.core me k told w') mid t
-      → (h : HandleNumber) × EntryHas s.core place h (OptionalDataKey.Some key) → PagesAt v place (Ok tt) s t
-  at-skipped mine place key k told s mid t takes releases (h, has) =
-      let e : h ≡ k = cc (takes.step.0, has.listed) in
-      let keyed = subst (λ x. EntryHas s.core place x (OptionalDataKey.Some key)) e has in
-      let out = rw mine at releases in
+  -- past the list's end, or the entry is taken and released
+  pub at-released : {me : Owner} → me ≡ Owner.Caller → (place : ℕ) (keyed : Option Bool) (s t : PagerState N E) → keyed ≢ Some false
+      → ReleasesIfKeyed v s me place keyed t → PagesAt v place (Ok tt) s t
+  at-released mine place None s t keyed (past, same) = record { done = λ whole within. absurd (omega (arith, past, within)) }
+  at-released mine place (Some false) s t keyed r = absurd (keyed refl)
+  at-released mine place (Some true) s t keyed r =
+      let out = rw mine at r.releases in
       record {
         done = λ whole within. record {
           whole = out.whole;
-          long = entries-stay place s mid t within takes.step.1.list (none-shorter takes.whole.whole out.whole.whole (release-spares-list told out.step));
-          goes = λ i next answer s' more. skips i place key k told answer s mid t s' next keyed (rw mine at takes) out more;
+          long = entries-stay place s r.mid t within r.takes.step.1.list (none-shorter r.takes.whole.whole out.whole.whole (release-spares-list r.refused out.step));
+          goes = λ i next answer s' more. skips i place r.key r.h r.refused answer s r.mid t s' next r.has (rw mine at r.takes) out more;
           stops = tt;
         };
       }
@@ -132,14 +124,15 @@ module _ {N E : Type 0} (v : Values N) where
         record { whole = p.whole; long = p.long; goes = λ i next answer s' more. pages i place key h answer s t s' next has p.run more; stops = tt };
   }
 
-  pub at-done : (place : ℕ) (key : Option ℕ) (s t : PagerState N E) → (h : HandleNumber) × EntryHas s.core place h OptionalDataKey.None
-      → PagesEntryIfThere v place (Ok key) s t → PagesAt v place (Ok tt) s t
-  at-done place None s t has gone = at-past place s t gone
-  at-done place (Some key) s t has pages_it = at-paged place key s t has pages_it
+  pub at-done : (place : ℕ) (key : Option ℕ) (s mid t : PagerState N E) → ((h : HandleNumber) × EntryHas s.core place h OptionalDataKey.None) × (mid ≡ s)
+      → PagesEntryIfThere v place (Ok key) mid t → PagesAt v place (Ok tt) s t
+  at-done place None s mid t (has, same) gone = record { done = λ whole within. absurd (omega (arith, subst (λ x. PagesEntryIfThere v place (Ok None) x t) same gone, within)) }
+  at-done place (Some key) s mid t (has, same) pages_it =
+      at-paged place key s t has (subst (λ x. PagesEntryIfThere v place (Ok (Some key)) x t) same pages_it)
 
-  pub at-failed : (place : ℕ) (why : PageOutError) (s t : PagerState N E) → (h : HandleNumber) × EntryHas s.core place h OptionalDataKey.None
+  failed-there : (place : ℕ) (why : PageOutError) (s t : PagerState N E) → (h : HandleNumber) × EntryHas s.core place h OptionalDataKey.None
       → PagesEntry v place (answer_of (Err why)) s t → PagesAt v place (Err why) s t
-  at-failed place (PageOutError.Failed e) s t (h, has) pages_it = record {
+  failed-there place (PageOutError.Failed e) s t (h, has) pages_it = record {
     done = λ whole within. let p = pages_it.pages whole within in record {
       whole = p.whole;
       long = p.long;
@@ -147,10 +140,15 @@ module _ {N E : Type 0} (v : Values N) where
       stops = λ i next. fails i place h e s t next has p.run;
     };
   }
-  at-failed place PageOutError.AlreadyFailed s t (h, has) pages_it = record {
+  failed-there place PageOutError.AlreadyFailed s t (h, has) pages_it = record {
     done = λ whole within. let p = pages_it.pages whole within in
         absurd (p.unfailed refl);
   }
+
+  pub at-failed : (place : ℕ) (why : PageOutError) (s mid t : PagerState N E) → ((h : HandleNumber) × EntryHas s.core place h OptionalDataKey.None) × (mid ≡ s)
+      → PagesEntry v place (answer_of (Err why)) mid t → PagesAt v place (Err why) s t
+  at-failed place why s mid t (has, same) pages_it =
+      failed-there place why s t has (subst (λ x. PagesEntry v place (answer_of (Err why)) x t) same pages_it)
 
   -- ---- the list
 
@@ -176,6 +174,6 @@ pub ruleset items = (nat_tests, acts_all, acts_map, item-unstarted, item-unbegun
 
 pub ruleset entries = (nat_tests, acts_map, entry-gone, entry-refused)
 
-pub ruleset places = (nat_tests, tells_map, acts_same, acts_from, acts_map, at-past, at-gone, at-done, at-failed)
+pub ruleset places = (nat_tests, acts_map, acts_then, at-released, at-done, at-failed)
 
 pub ruleset listed = (nat_tests, acts_map, acts_then, tells_map, acts_same, none-paged, more-paged, ends-paged, all-paged)

@@ -10,14 +10,6 @@ use Rattle.std.specs.declared.cmp.{Ord.Ghosts as Orders, PartialEq.Ghosts as Equ
 
 module _ {X XN XH XK XV : Type 0} {g : Environments X XN XH XK XV} {gh : Hashes XH} {go : Orders XK} {gq : Equalities XK} {gp : PartialOrders XK}
     {gn : Nodes XN X XN XH XK XV} where
-  -- an item stays at the list's end from one turn to the next
-  pub ends-on : (todo mid after : List Todo) (first last : Turn X XN XH XK XV g gh go gq gp gn) (next : Task X XN XH XK XV g gh go gq gp gn) → first
-      ≡ Turn.Goes next → Ends todo first mid → Ends mid last after → Ends todo last after
-  ends-on todo mid after first last next is one two = record { stays = λ w h. two.stays w (to w h); over = λ w h. two.over w (to w h) }
-    where
-      to : (w : Written) → EndsWith w todo → EndsWith w mid
-      to w h = subst (λ (t : Turn X XN XH XK XV g gh go gq gp gn). IfGoes t (EndsWith w mid)) is (one.stays w h)
-
   -- what leaves less to do leaves less again
   pub leads-on : (turn : Turn X XN XH XK XV g gh go gq gp gn) (d e f : ℕ) → e < d → IfGoes turn (f < e) → IfGoes turn (f < d)
   leads-on (Turn.Goes t) d e f less again = omega (arith, less, again)

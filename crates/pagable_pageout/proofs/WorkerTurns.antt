@@ -7,7 +7,7 @@ use Rattle.{pagable_load.specs.declared.access.PinnedOrLoading.PinnedOrLoading, 
 use Rattle.pagable_pageout.specs.{Joint.IsNear, Table.{IsFoundOf, claim_result}, Tasks.{EntryGetsResult, IsPlain, EachIsAwaited, back_of, fails, fault_of, todo_of, todos, waiting_todo, waits_as}, Turns.{ClaimFits, IsTaskAfterClaim, Closes}}
 use Rattle.pagable_pageout.specs.Turns.{Fits, HasWalked, HoldsPin, IsAlone, IsLoading, IsOfKind, LeavesFit, RunsTo, SetsFor, Stepped, StepsAlone, StepsTo, TaskFits, Turned, TurnsTo, answer_in, claim_todo, is_waiting}
 use Rattle.pagable_pageout.specs.Turns.{plain, plain_took, plan, worker_state}
-use Rattle.pagable_pageout.specs.{Turns.{Forms, GoesBack, IsForm, IsPinned, IsStored, Stores, WriteRefused, named_by}, declared.{claims.ClaimResult.ClaimResult, tasks.PageOutError.PageOutError}}
+use Rattle.pagable_pageout.specs.{Turns.{Forms, GoesBackOnList, IsForm, IsPinned, FollowsStore, Stores, WriteRefused, named_by}, declared.{claims.ClaimResult.ClaimResult, tasks.PageOutError.PageOutError}}
 use Rattle.{pagable_pageout.specs.declared.tasks.{Done.Done, StepResult.StepResult, Node.Node, Task.Task, Turn.Turn, Waiting.Waiting}, pagable_pager_spec.specs.Access.{MakesCall, ReadingStep, WalkStep, worker-ends}}
 use Rattle.pagable_pager_spec.specs.{Access.worker-goes-on, Calls.{ScheduleCall, SetKeyCall}, Cascade.FallsAnyhow, Events.Ends, Kinds.{identity_of, owner_worker}, Loads.{EndsPinned, gone_on}}
 use Rattle.pagable_pager_spec.specs.{Pager.{HoldsItsNodes, Moves, PagerState, TodoBrings, TookWrites, ValueCall, IsPagerWhole}, Basics.{ArcRef, Error, HandleNumber, Identity, LoadNumber, NodeNumber, if_there, type_of}}
@@ -51,10 +51,6 @@ module _ {X XN XH XK XV : Type 0} {g : Environments X XN XH XK XV} {gh : Hashes 
   pub claim-fits : (r : ArcRef) (place : ℕ) (claim : Result (ClaimResult X XN XH XK XV g gh go gq gp gn) Error) → IfOk claim (IsFoundOf (identity_of r))
       → IfOk claim (IsNear place) → ClaimFits r place claim
   claim-fits r place claim own near = grind (arith, nat_tests)
-
-  pub claim-near : (v : ℕ) (s s' : Shelf) (i : Identity) (place : ℕ) (claim : Result (ClaimResult X XN XH XK XV g gh go gq gp gn) Error)
-      → ClaimsThere v s i place (claim_result claim) s' → IfOk claim (IsNear place)
-  claim-near v s s' i place claim there = grind (arith, nat_tests)
 
   -- a task that needs nothing fits
   pub plain-fits : (n : ℕ) (w : Core) (t : Task X XN XH XK XV g gh go gq gp gn) → IsPlain t → TaskFits n w t
@@ -392,7 +388,7 @@ pub ruleset pinning = (nat_tests, acts_map, load-reads-none)
 module _ {X XN XH XK XV : Type 0} {g : Environments X XN XH XK XV} {gh : Hashes XH} {go : Orders XK} {gq : Equalities XK} {gp : PartialOrders XK}
     {gn : Nodes XN X XN XH XK XV} where
   pub stored-way : (node : Option Node) (written : Written) (keys : List ℕ) (key : ℕ) (turn : Turn X XN XH XK XV g gh go gq gp gn)
-      (path : List (Waiting X XN XH XK XV g gh go gq gp gn)) → IsStored node key turn → EachIsAwaited (waits_as node written keys ∷ todos path)
+      (path : List (Waiting X XN XH XK XV g gh go gq gp gn)) → FollowsStore node key turn → EachIsAwaited (waits_as node written keys ∷ todos path)
       → EachIsAwaited (plan turn path)
   stored-way given written keys key turn path is way = grind (arith, nat_tests, common_steps)
 
@@ -400,7 +396,7 @@ module _ {X XN XH XK XV : Type 0} {g : Environments X XN XH XK XV} {gh : Hashes 
     {gn : Nodes XN X XN XH XK XV} {N E : Type 0} (v : Values N) (me : Owner) (n : ℕ) (shelf : Shelf) (below : List Todo) where
   module _ (w : Waiting X XN XH XK XV g gh go gq gp gn) (way : EachIsAwaited (waiting_todo w ∷ below)) where
     pub finish-stores : (key : ℕ) (turn : Turn X XN XH XK XV g gh go gq gp gn) (path : List (Waiting X XN XH XK XV g gh go gq gp gn)) → todos path ≡ below
-        → IsStored w.node key turn → (s t : PagerState N E)
+        → FollowsStore w.node key turn → (s t : PagerState N E)
         → Stores v s (blob_of (written_of (arc_value w.written)).bytes (keys_of w.children.items)) (Ok key) t
         → TurnsTo v me n shelf (Task.Finish w) below shelf (record { action = Action.Store (named_by w.node) (Ok key); turn = turn; counted = true })
         (plan turn path) s t
@@ -496,7 +492,7 @@ module _ {X XN XH XK XV : Type 0} {g : Environments X XN XH XK XV} {gh : Hashes 
 module _ {X XN XH XK XV : Type 0} {g : Environments X XN XH XK XV} {gh : Hashes XH} {go : Orders XK} {gq : Equalities XK} {gp : PartialOrders XK}
     {gn : Nodes XN X XN XH XK XV} {N E : Type 0} (v : Values N) (me : Owner) (n : ℕ) (shelf : Shelf) where
   pub ends-failed : (shelf' : Shelf) (why : PageOutError) (back : Option HandleNumber) (below : List Todo) → SameShelf (with_failed shelf n) shelf'
-      → (s t : PagerState N E) → GoesBack v me back s t
+      → (s t : PagerState N E) → GoesBackOnList v me back s t
       → TurnsTo {g = g} {gh = gh} {go = go} {gq = gq} {gp = gp} {gn = gn} v me n shelf (Task.Fail why back) below shelf'
       (record { action = Action.Fail; turn = Turn.Answers (answer_of_fault (fault_of why)); counted = true }) [] s t
   ends-failed shelf' why back below same s t call = grind (arith, nat_tests, common_steps, none_comes)
@@ -516,13 +512,13 @@ module _ {N E : Type 0} (v : Values N) (me : Owner) (r : ArcRef) (through : Hand
 
 -- an entry goes back, or none does
 module _ {N E : Type 0} (v : Values N) (me : Owner) where
-  pub back-none : (back : Option HandleNumber) → ((h : HandleNumber) → back ≡ Some h → ⊥) → (s : PagerState N E) → GoesBack v me back s s
+  pub back-none : (back : Option HandleNumber) → ((h : HandleNumber) → back ≡ Some h → ⊥) → (s : PagerState N E) → GoesBackOnList v me back s s
   back-none back none s = grind (arith, nat_tests, common_steps, alike)
 
   pub back-some : (back : Option HandleNumber) (h : HandleNumber) (r : Result (Unit {0}) Error) → back ≡ Some h → (s t : PagerState N E)
       → MakesCall v (λ w'. ScheduleCall s.core me h r w') s t
-      → GoesBack v me back s t
-  back-some back h r is s t call = subst (λ b. GoesBack v me b s t) (sym is) (record { goes = (r, call.step); moves = call.moves; whole = λ w. call.whole })
+      → GoesBackOnList v me back s t
+  back-some back h r is s t call = subst (λ b. GoesBackOnList v me b s t) (sym is) (record { goes = (r, call.step); moves = call.moves; whole = λ w. call.whole })
 
 pub ruleset keys = (nat_tests, acts_map, acts_all, key-unset, key-set)
 

@@ -8,16 +8,16 @@ use Rattle.pagable_codec.specs.declared.{env.Env.Ghosts as Environments, hash.Ke
 use Rattle.std.specs.declared.cmp.{Ord.Ghosts as Orders, PartialEq.Ghosts as Equalities, PartialOrd.Ghosts as PartialOrders}
 
 -- the handle through which a written node's cell gets its key, where its reference is a loose one
-abbrev pub loose_of : Node → Option HandleNumber
-loose_of n = if is_loose_kind n.reference.kind.0 then Some n.through else None
+abbrev pub loose_handle_of : Node → Option HandleNumber
+loose_handle_of n = if is_loose_kind n.reference.kind.0 then Some n.through else None
 
 -- the node of a written node's reference, where the worker has handles
 abbrev pub worker_node : ℕ → Node → WorkerNode
-worker_node v n = record { worker = record { 0 = v }; node = n.reference.node; loose = loose_of n }
+worker_node v n = record { worker = record { 0 = v }; node = n.reference.node; loose = loose_handle_of n }
 
 -- The blob of a written node is stored, its key set, and the worker's handles of it are released; the first of these
 -- calls that fails is the last.
-pub record LeavesNode {N E : Type 0} (v : Values N) (me : Owner) (n : ℕ) (node : Node) (s : PagerState N E)
+pub record StoresAndReleasesNode {N E : Type 0} (v : Values N) (me : Owner) (n : ℕ) (node : Node) (s : PagerState N E)
     (blob : Blob) (r : Result ℕ Error) (t : PagerState N E) : Type 0 where
   pub stores : IfOk r (λ key. (mid : PagerState N E) × Stores v s blob (Ok key) mid
       × ClosesNode v me (worker_node n node) key (Ok tt) mid t)

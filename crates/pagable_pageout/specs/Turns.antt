@@ -244,9 +244,9 @@ named_by (Some n) = Some (identity_of n.reference)
 -- the key of a stored node is set next; that of an item is answered
 module _ {X XN XH XK XV : Type 0} {g : Environments X XN XH XK XV} {gh : Hashes XH} {go : Orders XK}
     {gq : Equalities XK} {gp : PartialOrders XK} {gn : Nodes XN X XN XH XK XV} where
-  abbrev pub IsStored : Option Node → ℕ → Turn X XN XH XK XV g gh go gq gp gn → Type 0
-  IsStored None key turn = turn ≡ Turn.Answers (WorkerAnswer.Key key)
-  IsStored (Some n) key turn = (task : Task X XN XH XK XV g gh go gq gp gn) × (turn ≡ Turn.Goes task)
+  abbrev pub FollowsStore : Option Node → ℕ → Turn X XN XH XK XV g gh go gq gp gn → Type 0
+  FollowsStore None key turn = turn ≡ Turn.Answers (WorkerAnswer.Key key)
+  FollowsStore (Some n) key turn = (task : Task X XN XH XK XV g gh go gq gp gn) × (turn ≡ Turn.Goes task)
       × (todo_of task ≡ to_set n.reference n.through key n.height) × IsPlain task
 
 -- the key is set through the handle, where the reference's kind has one
@@ -257,7 +257,7 @@ pub record SetsFor {N E : Type 0} (v : Values N) (me : Owner) (r : ArcRef) (thro
   pub whole : IsPagerWhole v s → IsPagerWhole v t
 
 -- the entry is put back on the list, if there is one
-pub record GoesBack {N E : Type 0} (v : Values N) (me : Owner) (back : Option HandleNumber)
+pub record GoesBackOnList {N E : Type 0} (v : Values N) (me : Owner) (back : Option HandleNumber)
     (s t : PagerState N E) : Type 0 where
   pub goes : MatchOption back (Alike s.core t.core) (λ h. (r : Result (Unit {0}) Error)
       × ScheduleCall s.core me h r t.core)

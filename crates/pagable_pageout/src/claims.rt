@@ -1,5 +1,5 @@
-//! The calls that a walk makes on a table of claims: on a lent table, whose slots contracts tell,
-//! or on one that threads share, of which they tell nothing.
+//! The calls that a worker makes on a table of claims: on a lent table, of whose slots contracts
+//! say what each call does, or on one that threads share, of whose slots they say nothing.
 
 ghost use Rattle.std.specs.Prelude.{IfOk, None, Option};
 ghost use Rattle.{pagable_pageout.specs.{Joint.IsNear, Slots.{ClaimsThere, with_references}, Table.{IsFoundOf, claim_result}}, pagable_pager_spec.specs.Access.IfBothKnown};
@@ -22,8 +22,8 @@ pub enum ClaimResult<E: Env<Node: NodeSet<E>>> {
     AlreadyFailed,
 }
 
-/// A table of claims, for the walks of workers. If contracts tell its slots, each call says what it
-/// does to them.
+/// A table of claims, which workers use when they page out. If a table tells its slots to
+/// contracts, each call's contract says what it does to them.
 pub trait Claims<E: Env<Node: NodeSet<E>>> {
     // the slots, if they are told
     ghost shelf: { Self → Option Shelf };
@@ -49,7 +49,7 @@ pub trait Claims<E: Env<Node: NodeSet<E>>> {
         ensures own { IfOk result (IsFoundOf identity) }
         ensures near { IfOk result (IsNear place) };
 
-    /// Forgets for whom a worker waits, if it does. It can't fail.
+    /// Forgets for which identity a worker waits, if it waits for one. It can't fail.
     fn forget_wait(&mut self, worker: WorkerNumber)
         ensures { IfBothKnown (shelf self.old) (shelf self.new) (λ s s'. SameShelf (with_wait s worker.0 None) s') };
 
@@ -59,8 +59,8 @@ pub trait Claims<E: Env<Node: NodeSet<E>>> {
         ensures { IfBothKnown (shelf self.old) (shelf self.new)
             (λ s s'. SameShelf (with_changed_slot s identity (with_references references.items)) s') };
 
-    /// Publishes the result of a claimed identity. An outcome that is there already stays. It takes
-    /// no memory and can't fail.
+    /// Sets the result of a claimed identity in its slot, where other workers find it. An outcome
+    /// that the slot has already stays. It takes no memory and can't fail.
     fn publish(&mut self, found: &SlotResult<E>)
         ensures { IfBothKnown (shelf self.old) (shelf self.new)
             (λ s s'. SameShelf (with_changed_slot s found.now.identity

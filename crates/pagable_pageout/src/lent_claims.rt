@@ -17,7 +17,8 @@ use std::alloc::Global;
 const FEW: usize = 16;
 
 impl<E: Env<Node: NodeSet<E>>> LentTable<E> {
-    // Returns the worker that this one waits for, if it waits.
+    // Returns the worker whose result this one waits for; None if it doesn't wait, or an outcome
+    // is there.
     fn waits_for(&self, worker: u64) -> Option<u64>
         ensures { result ≡ waits_for (shelf_of self.now) worker }
     {
@@ -81,7 +82,7 @@ impl<E: Env<Node: NodeSet<E>>> LentTable<E> {
         }
     }
 
-    /// Forgets for whom a worker waits, if it does.
+    /// Forgets for which identity a worker waits, if it waits for one.
     pub fn stop_waiting(&mut self, worker: WorkerNumber)
         ensures { SameShelf (with_wait (shelf_of self.old) worker.0 None) (shelf_of self.new) }
     {
@@ -110,8 +111,8 @@ impl<E: Env<Node: NodeSet<E>>> LentTable<E> {
         Ok(())
     }
 
-    // Notes that a worker waits for the result of an identity, whose worker doesn't wait for this
-    // one. Fails with OutOfMemory if the table can't grow.
+    // Notes that a worker waits for the result of an identity. The worker that claimed the identity
+    // doesn't wait for this one. Fails with OutOfMemory if the table can't grow.
     fn wait_for(&mut self, worker: WorkerNumber, identity: Identity) -> Result<(), Error>
         requires { (slot : Slot) × IsOpenSlot (shelf_of self.old) identity slot
             × ComesToEnd (shelf_of self.old) worker.0 slot.worker }
@@ -192,8 +193,8 @@ impl<E: Env<Node: NodeSet<E>>> LentTable<E> {
         }
     }
 
-    /// Publishes the result of a claimed identity. An outcome that is there already stays. It takes
-    /// no memory.
+    /// Sets the result of a claimed identity in its slot. An outcome that the slot has already
+    /// stays. It takes no memory.
     pub fn set_success(&mut self, found: SlotResult<E>)
         ensures { SameShelf (with_changed_slot (shelf_of self.old) found.identity
             (with_outcome (published found.key found.height))) (shelf_of self.new) }

@@ -9,7 +9,8 @@ use pagable_codec::{Env, NodeSet};
 use pagable_value_spec::{DataKey, Identity};
 use std::marker::PhantomData;
 
-/// The result of a node's page-out: its key, and its height, which is at most the longest path.
+/// The result of a node's page-out: the node's identity, key, and height, which is at most 128, the
+/// longest path.
 #[derive(Drop)]
 pub struct SlotResult<E: Env<Node: NodeSet<E>>> {
     pub identity: Identity,

@@ -73,8 +73,8 @@ fn with_result<E: Env<Node: NodeSet<E>>>(waiting: Waiting<E>, done: Done<E>) -> 
     }
 }
 
-/// Gives a result to the last entry of the path, which waits for it, and takes that up as `advance`
-/// does. Returns the result back as an error if the path is empty.
+/// Pops the last entry of the path, which waits for this result, adds the result to it, and returns
+/// the next task as `advance` does. Returns the result back as an error if the path is empty.
 #[tactic(auto, using(crate::proofs::Stacks::giving))]
 pub fn give<E: Env<Node: NodeSet<E>>>(
     path: &mut Vec<Waiting<E>>,
@@ -96,8 +96,8 @@ pub fn give<E: Env<Node: NodeSet<E>>>(
     Ok(advance(path, with_result(waiting, done)))
 }
 
-/// Fails the walk: clears the path, and returns the task of failing. If the path was empty, that
-/// task also puts `entry` back on the list.
+/// Clears the path, and returns the task that fails the worker. If the path was empty, that task
+/// also puts `entry` back on the list of cells that wait for page-out.
 #[tactic(auto, using(crate::proofs::Stacks::paths))]
 pub fn fail<E: Env<Node: NodeSet<E>>>(
     path: &mut Vec<Waiting<E>>,
@@ -116,7 +116,7 @@ pub fn fail<E: Env<Node: NodeSet<E>>>(
     Task::Fail(why, None)
 }
 
-/// Fails the walk by an error of one of its own steps, as `fail` does.
+/// Does what `fail` does, with the error of one of the worker's own steps as the reason.
 pub fn fail_with<E: Env<Node: NodeSet<E>>>(
     path: &mut Vec<Waiting<E>>,
     e: &Error,

@@ -153,7 +153,7 @@ pub fn run<E: Env<Node: NodeSet<E>>, A: WorkerAccess<E>, T: Claims<E>>(
 
 // ---- page-outs
 
-/// Returns a worker's answer as the result of a page-out.
+/// Turns a worker's answer into the result of a page-out.
 fn told(answer: WorkerAnswer) -> Result<DataKey, PageOutError>
     ensures { answer_of result ≡ answer }
 {
@@ -197,7 +197,7 @@ pub fn page_out_item_over<E: Env<Node: NodeSet<E>>, A: WorkerAccess<E>, T: Claim
     }
 }
 
-// Returns the result for an entry that was there.
+// Turns the answer for an entry that was in the list into the result of `page_out_entry`.
 fn was_there(answer: Result<DataKey, PageOutError>) -> Result<Option<DataKey>, PageOutError>
     ensures { result ≡ there answer }
 {
@@ -207,8 +207,8 @@ fn was_there(answer: Result<DataKey, PageOutError>) -> Result<Option<DataKey>, P
     }
 }
 
-/// Pages out the entry at an index of the list, by a worker of its own, on the table, whose claims
-/// it forgets first; returns the cell's key. Returns None if no entry is there any more: behind a
+/// Pages out the entry at an index of the page-out list, by a worker of its own, and returns the
+/// cell's key. It empties the table first. Returns None if no entry is there any more: behind a
 /// lock another thread may have taken it.
 ///
 /// # Errors
@@ -248,26 +248,19 @@ fn page_out_at<E: Env<Node: NodeSet<E>>, A: WorkerAccess<E>>(
     ensures { Acts A.known_state A.acting access.old access.new
         (λ a. PagesAt (values_at E.Node.NodeSet E.Env E.Hash.KeyHash a.environment) place result) }
 {
-    match access.entry_key(place) {
-        None => Ok(()),
-        Some(OptionalDataKey::Some(_)) => {
-            let Some(entry) = access.take_pending(place) else {
-                return Ok(());
-            };
-            let _told = access.release(entry);
-            Ok(())
-        }
+    match access.release_if_keyed(place) {
         // (or another thread has taken the entry meanwhile)
-        Some(OptionalDataKey::None) => match page_out_entry(access, alloc, table, place) {
+        Some(false) => match page_out_entry(access, alloc, table, place) {
             Ok(_) => Ok(()),
             Err(why) => Err(why),
         },
+        _ => Ok(()),
     }
 }
 
-/// Pages out the entries that are in the list at the call, from the last to the first, each on an
-/// empty table. An entry whose cell has a key is only released. Entries that are listed meanwhile
-/// stay. The access is the caller's before and after.
+/// Pages out the cells that wait for page-out when it is called, from the last entry of the list to
+/// the first, each on an empty table of claims. If a cell has a key, it only releases the entry.
+/// Entries that are listed meanwhile stay. The access is the caller's before and after.
 ///
 /// # Errors
 ///

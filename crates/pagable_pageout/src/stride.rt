@@ -9,7 +9,7 @@ ghost use Rattle.{pagable_load.specs.{PinStart.Shares, AccessView.{Acts, IfKnown
 use crate::stack::{advance, fail_with, give};
 use crate::step::{end_answered, step};
 use crate::tasks::{Done, Node, StepResult, Task, Turn, Waiting, named};
-use crate::turns::{after_claim, claim, done_with, prepare, store, store_node, stored};
+use crate::turns::{after_claim, claim, done_with, store, store_node, stored, write_claimed};
 use crate::{ClaimResult, Claims};
 use pagable_codec::{Env, NodeSet};
 use pagable_load::{Reading, TakenValue, WorkerAccess};
@@ -18,8 +18,9 @@ use pagable_value_spec::{ArcRef, Error, HandleNumber, WorkerNumber};
 use std::alloc::Global;
 use std::sync::Arc;
 
-// Fails the walk by this error instead of making a claim: the worker waits for nothing.
-fn unclaimed<E: Env<Node: NodeSet<E>>, T: Claims<E>>(
+// Makes no claim, and returns the task that fails the worker with this error. From then on the
+// worker waits for no identity.
+fn fail_unclaimed<E: Env<Node: NodeSet<E>>, T: Claims<E>>(
     table: &mut T,
     worker: WorkerNumber,
     path: &mut Vec<Waiting<E>>,
@@ -37,8 +38,8 @@ fn unclaimed<E: Env<Node: NodeSet<E>>, T: Claims<E>>(
     fail_with(path, &e, Some(reference.handle))
 }
 
-// Writes the value that was shared from the handle that pins it, and returns the task of its first
-// reference.
+// Writes the shared value of a claimed node. Returns the task of its first reference, with the node
+// on the path, or of finishing it if it has none; after an error, the task that fails the worker.
 fn enter<E: Env<Node: NodeSet<E>>, A: WorkerAccess<E>, T: Claims<E>>(
     access: &A,
     alloc: Global,
@@ -60,7 +61,7 @@ fn enter<E: Env<Node: NodeSet<E>>, A: WorkerAccess<E>, T: Claims<E>>(
         (λ a s q s' q'. HasWalked (values_at E.Node.NodeSet E.Env E.Hash.KeyHash a.environment) a.me n q
         (Task.Write reference place through pin) (todos path.old.items) q' result (todos path.new.items) s s') }
 {
-    match prepare(access, alloc, path, reference, place, through, shared) {
+    match write_claimed(access, alloc, path, reference, place, through, shared) {
         Ok((waiting, references, told)) => {
             let _written = told;
             table.note_written(named(reference), references);
@@ -70,9 +71,10 @@ fn enter<E: Env<Node: NodeSet<E>>, A: WorkerAccess<E>, T: Claims<E>>(
     }
 }
 
-// Pins what was claimed and writes it, if its value is in memory; else begins a load of it.
+// Pins the node that was claimed and writes its value, if this is in memory; otherwise begins a
+// load of it. Returns the next task.
 #[tactic(auto, using(std::proofs::lemmas::Bool::Decides::nat_tests))]
-fn take<E: Env<Node: NodeSet<E>>, A: WorkerAccess<E>, T: Claims<E>>(
+fn pin_and_write<E: Env<Node: NodeSet<E>>, A: WorkerAccess<E>, T: Claims<E>>(
     access: &mut A,
     alloc: Global,
     table: &mut T,
@@ -105,8 +107,9 @@ fn take<E: Env<Node: NodeSet<E>>, A: WorkerAccess<E>, T: Claims<E>>(
     }
 }
 
-// Claims what a reference names and, if it was free, pins and writes it as `take` does. Fails the
-// walk with TooDeep if the claim would have to wait: no other worker makes steps meanwhile.
+// Claims what a reference names and, if it was free, pins and writes it as `pin_and_write` does.
+// Fails the worker with TooDeep if the claim would have to wait: no other worker makes steps
+// meanwhile.
 #[tactic(auto, using(std::proofs::lemmas::Bool::Decides::nat_tests))]
 fn start<E: Env<Node: NodeSet<E>>, A: WorkerAccess<E>, T: Claims<E>>(
     access: &mut A,
@@ -129,13 +132,13 @@ fn start<E: Env<Node: NodeSet<E>>, A: WorkerAccess<E>, T: Claims<E>>(
     let checked = access.check_reference(reference);
     let found = claim(table, worker, reference, place, checked);
     match found {
-        Ok(ClaimResult::Claimed) => take(access, alloc, table, path, reference, place),
-        Ok(ClaimResult::Waiting) => unclaimed(table, worker, path, reference, Error::TooDeep),
+        Ok(ClaimResult::Claimed) => pin_and_write(access, alloc, table, path, reference, place),
+        Ok(ClaimResult::Waiting) => fail_unclaimed(table, worker, path, reference, Error::TooDeep),
         other => after_claim(path, reference, place, other),
     }
 }
 
-// Claims what a reference names, as `start` does.
+// Does what `start` does, and returns the next task as a `Turn`.
 fn begin<E: Env<Node: NodeSet<E>>, A: WorkerAccess<E>, T: Claims<E>>(
     access: &mut A,
     alloc: Global,
@@ -279,7 +282,13 @@ pub fn stride<E: Env<Node: NodeSet<E>>, A: WorkerAccess<E>, T: Claims<E>>(
     match task {
         Task::Start(reference, place) => {
             if *left == 0 {
-                return Turn::Goes(unclaimed(table, worker, path, reference, Error::NumbersSpent));
+                return Turn::Goes(fail_unclaimed(
+                    table,
+                    worker,
+                    path,
+                    reference,
+                    Error::NumbersSpent,
+                ));
             }
             // (the count shows that the path is no longer than a u64 tells)
             let _entries = path.len();

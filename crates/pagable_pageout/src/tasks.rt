@@ -17,11 +17,11 @@ use std::sync::Arc;
 pub enum PageOutError {
     /// One of the worker's own steps failed with this error.
     Failed(Error),
-    /// Another worker failed at an identity whose result this one needs.
+    /// Another worker had claimed a node whose result this worker needs, and failed.
     AlreadyFailed,
 }
 
-/// A written node.
+/// A node that a worker has claimed, and whose value it has written.
 ///
 /// - `reference`: the reference by which it was claimed.
 /// - `place`: its depth on the path.
@@ -72,7 +72,7 @@ impl<E: Env<Node: NodeSet<E>>> Done<E> {
 pub enum Task<E: Env<Node: NodeSet<E>>> {
     /// Claims what the reference names, at this place on the path.
     Start(ArcRef, u64),
-    /// Pins what was claimed.
+    /// Pins the claimed node, or begins a load of it.
     Pin(ArcRef, u64),
     /// Makes the next step of the load that began through this handle.
     Load(ArcRef, u64, HandleNumber, Reading),
@@ -86,7 +86,8 @@ pub enum Task<E: Env<Node: NodeSet<E>>> {
     Publish(Done<E>),
     /// Releases the worker's handles of the node.
     Release(Done<E>),
-    /// Fails the worker's claims, and puts this entry back on the list.
+    /// Marks the worker's open claims as failed, and puts the entry, if there is one, back on the
+    /// list of cells that wait for page-out.
     Fail(PageOutError, Option<HandleNumber>),
 }
 
@@ -99,8 +100,8 @@ pub enum Turn<E: Env<Node: NodeSet<E>>> {
     Answers(WorkerAnswer),
 }
 
-/// A step: its action, what it leads to, and whether it counts as a step. A claim that has to wait
-/// and the steps of a load don't count.
+/// What a worker's step did (`action`), what it leads to, and whether it counts as a step. A claim
+/// that has to wait and the steps of a load don't count.
 #[derive(Drop)]
 pub struct StepResult<E: Env<Node: NodeSet<E>>> {
     pub action: Action<Arc<SerializedData>>,

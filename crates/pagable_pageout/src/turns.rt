@@ -4,9 +4,9 @@
 
 ghost use Rattle.std.specs.{Arc.arc_value, Prelude.{IfErr, IfOk, length, List, OnOk, Some, vec_capacity, vec_len, ℕ, ◌*◌, ◌+◌, ◌<◌, ◌∷◌, ◌≡◌, ◌≤◌}};
 ghost use Rattle.{pagable_core.specs.Data.blob_of, pagable_load.specs.{Frames.reading_of, PinStart.Shares, AccessView.{Acts, values_at}, WorkerCalls.fault_in}, pagable_value_spec.specs.Blob.key_of};
-ghost use Rattle.{pagable_value_spec.specs.Merkle.blob_of as blob_over, pagable_pageout.specs.{Results.{HasFormOf, IsOver}, Joint.ActsBoth, Strides.{LeavesNode, loose_of}, Tasks.{due, Ends, GoesOn, IfKey, most}, Slots.{keys_of, written_of}, Table.claim_result}};
+ghost use Rattle.{pagable_value_spec.specs.Merkle.blob_of as blob_over, pagable_pageout.specs.{Results.{HasFormOf, IsOver}, Joint.ActsBoth, Strides.{StoresAndReleasesNode, loose_handle_of}, Tasks.{due, Ends, GoesOn, IfKey, most}, Slots.{keys_of, written_of}, Table.claim_result}};
 ghost use Rattle.pagable_pageout.specs.{Tasks.{Awaits, AwaitsLow, fault_of, EachIsAwaited, todo_of, todos, waiting_todo}, Turns.{claim_todo, ClaimFits, IsTaskAfterClaim, Forms, plan, worker_state, TurnsTo}};
-ghost use Rattle.{pagable_pageout.specs.Turns.{GoesBack, IsForm, IsStored, just_open, named_by, SetsFor, Stores, WriteRefused}, pagable_pager_spec.specs.{Access.IfBothKnown, Kinds.identity_of, Pager.PagerState, Basics.longest_path, Workers.claim_fault}};
+ghost use Rattle.{pagable_pageout.specs.Turns.{GoesBackOnList, IsForm, FollowsStore, just_open, named_by, SetsFor, Stores, WriteRefused}, pagable_pager_spec.specs.{Access.IfBothKnown, Kinds.identity_of, Pager.PagerState, Basics.longest_path, Workers.claim_fault}};
 ghost use Rattle.pagable_pager_spec.specs.{Workers.{ClaimStep, is_counted_claim}, World.{answer_of_fault, Core, result_map, Shelf, to_finish, to_load, to_pin, to_release, to_set, to_start, to_write, Todo}};
 
 use crate::stack::{advance, fail, fail_with, give};
@@ -21,8 +21,8 @@ use std::alloc::Global;
 use std::marker::PhantomData;
 use std::sync::Arc;
 
-/// Claims what a reference names, at this place on the path. `checked` is the check of the
-/// reference itself.
+/// Claims what a reference names, at this place on the path, if `checked`, the result of checking
+/// the reference, is no error.
 ///
 /// # Errors
 ///
@@ -54,8 +54,8 @@ pub fn claim<E: Env<Node: NodeSet<E>>, T: Claims<E>>(
     }
 }
 
-/// Returns what a claim found, of a result only key and height; and whether the claim counts as a
-/// step: it doesn't if it waits.
+/// Returns what a claim found, with the key and height of a result that was known, and whether the
+/// claim counts as a step: it doesn't if the worker has to wait.
 pub fn found<E: Env<Node: NodeSet<E>>>(
     claim: &Result<ClaimResult<E>, Error>,
 ) -> (Result<Claim, Error>, bool)
@@ -104,7 +104,7 @@ pub fn after_claim<E: Env<Node: NodeSet<E>>>(
     }
 }
 
-/// Pins what was claimed, or begins a load of it.
+/// Pins the node that was claimed, or begins a load of its value if that isn't in memory.
 #[tactic(auto, using(std::proofs::lemmas::Bool::Decides::nat_tests))]
 pub fn pin<E: Env<Node: NodeSet<E>>, A: WorkerAccess<E>>(
     access: &mut A,
@@ -115,13 +115,14 @@ pub fn pin<E: Env<Node: NodeSet<E>>, A: WorkerAccess<E>>(
 ) -> StepResult<E>
     requires { EachIsAwaited (to_pin reference place ∷ todos path.old.items) }
     ensures ends { Ends (to_pin reference place ∷ todos path.old.items) result.turn (plan result.turn path.new.items) }
-    ensures goes { GoesOn (to_pin reference place ∷ todos path.old.items) result.turn (plan result.turn path.new.items) }
+    ensures goes { GoesOn (to_pin reference place ∷ todos path.old.items) result.turn
+        (plan result.turn path.new.items) }
     ensures acts { (n : ℕ) (shelf : Shelf) → Acts A.known_state A.acting access.old access.new
         (λ a. TurnsTo (values_at E.Node.NodeSet E.Env E.Hash.KeyHash a.environment) a.me n shelf
         (Task.Pin reference place) (todos path.old.items) shelf result (plan result.turn path.new.items)) }
 {
     let identity = named(reference);
-    match access.take_reference(reference) {
+    match access.pin_or_load_reference(reference) {
         Ok(taken) => match taken {
             PinnedOrLoading::Held(through, pin) => StepResult {
                 action: Action::Pin(identity, Ok(PinStep::Held(pin))),
@@ -209,8 +210,9 @@ fn written<E: Env<Node: NodeSet<E>>>(
     Ok(SerializedData { bytes, arcs })
 }
 
-// Writes the value that was shared from the handle that pins it. Fails with WrongKind if its type
-// isn't the kind's, with WrongMode if the handle pins nothing, and as `written` does.
+// Writes the shared value of a claimed node. Fails with WrongKind if its type isn't that of the
+// reference's kind, with WrongMode if there is no value, with the error of sharing it, and as
+// `written` does.
 fn form<E: Env<Node: NodeSet<E>>>(
     env: &E,
     session: &SessionOf<E>,
@@ -235,11 +237,11 @@ fn form<E: Env<Node: NodeSet<E>>>(
     }
 }
 
-// Writes the value that was shared, and returns the node with room for the results of its
-// references; these references; and what was written, once more. It makes room on the path for the
-// node first. Fails as `form` does, or with OutOfMemory.
+// Reserves room on the path for a claimed node, and writes its shared value. Returns the node, with
+// room for the results of its references; a copy of these references; and one more `Arc` of what
+// was written. Fails as `form` does, or with OutOfMemory.
 #[tactic(auto, using(crate::proofs::WorkerTurns::forming))]
-pub(crate) fn prepare<E: Env<Node: NodeSet<E>>, A: WorkerAccess<E>>(
+pub(crate) fn write_claimed<E: Env<Node: NodeSet<E>>, A: WorkerAccess<E>>(
     access: &A,
     alloc: Global,
     path: &mut Vec<Waiting<E>>,
@@ -308,7 +310,7 @@ pub fn write<E: Env<Node: NodeSet<E>>, A: WorkerAccess<E>, T: Claims<E>>(
 {
     let identity = named(reference);
     let shared = access.share(pin);
-    match prepare(access, alloc, path, reference, place, through, shared) {
+    match write_claimed(access, alloc, path, reference, place, through, shared) {
         Ok((waiting, references, told)) => {
             table.note_written(identity, references);
             StepResult {
@@ -367,8 +369,8 @@ fn named_by(node: &Option<Node>) -> Option<Identity>
 // Returns the handle through which a written node's cell gets its key, if its reference is a loose
 // one.
 #[tactic(auto, using(std::proofs::lemmas::Bool::Decides::nat_tests))]
-fn loose_of(node: Node) -> Option<HandleNumber>
-    ensures { result ≡ loose_of node }
+fn loose_handle_of(node: Node) -> Option<HandleNumber>
+    ensures { result ≡ loose_handle_of node }
 {
     if node.reference.kind.is_loose() {
         return Some(node.through);
@@ -388,14 +390,14 @@ pub(crate) fn store_node<E: Env<Node: NodeSet<E>>, A: WorkerAccess<E>>(
     ensures key { IfOk result (λ key. key ≡ key_of E.Hash.digest
         (blob_over (written_of (arc_value waiting.now.written)).bytes (keys_of waiting.now.children.items))) }
     ensures acts { Acts A.known_state A.acting access.old access.new
-        (λ a s t. LeavesNode (values_at E.Node.NodeSet E.Env E.Hash.KeyHash a.environment) a.me worker.0 node s
+        (λ a s t. StoresAndReleasesNode (values_at E.Node.NodeSet E.Env E.Hash.KeyHash a.environment) a.me worker.0 node s
         (blob_over (written_of (arc_value waiting.now.written)).bytes (keys_of waiting.now.children.items)) result t) }
 {
     let blob = blob(alloc, waiting)?;
     let at = WorkerNode {
         worker,
         node: node.reference.node,
-        loose: loose_of(node),
+        loose: loose_handle_of(node),
     };
     access.store_node(alloc, blob, at)
 }
@@ -431,7 +433,7 @@ pub(crate) fn stored<E: Env<Node: NodeSet<E>>>(waiting: Waiting<E>, key: DataKey
         ≡ length (written_of (arc_value waiting.written)).references }
     requires key { key ≡ key_of E.Hash.digest (blob_over (written_of (arc_value waiting.written)).bytes
         (keys_of waiting.children.items)) }
-    ensures stored { IsStored waiting.node key result }
+    ensures stored { FollowsStore waiting.node key result }
     ensures over { IfKey result (λ key. ∥ IsOver E.Hash.digest (values_at E.Node.NodeSet E.Env E.Hash.KeyHash)
         (written_of (arc_value waiting.written)) key ∥₁) }
 {
@@ -562,7 +564,7 @@ pub fn give_back<E: Env<Node: NodeSet<E>>, A: WorkerAccess<E>>(
     back: Option<HandleNumber>,
 )
     ensures { Acts A.known_state A.acting access.old access.new
-        (λ a s t. GoesBack (values_at E.Node.NodeSet E.Env E.Hash.KeyHash a.environment) a.me back s t) }
+        (λ a s t. GoesBackOnList (values_at E.Node.NodeSet E.Env E.Hash.KeyHash a.environment) a.me back s t) }
 {
     let Some(entry) = back else {
         return;

@@ -12,7 +12,7 @@ use Rattle.pagable_theorems.proofs.ValuesOwned.{not-load, pinned-here, recalls, 
 use Rattle.pagable_tables.proofs.SameViews.{adopted-past}
 use Rattle.pagable_tables.proofs.SameViews.{adopts-new as made-new, born-past, early-past, fault-by, next-past, no-load-fault, refused-memory, refused-new}
 use Rattle.pagable_tables.proofs.SameViews.{room-alike, room-fault, still, told-later}
-use Rattle.pagable_tables.specs.Core.{AreLater, Bears, BeginsWorker, Does, DoesShed, IsWhole}
+use Rattle.pagable_tables.specs.Core.{OwnLaterHandles, Bears, BeginsWorker, Does, DoesShed, IsWhole}
 use Rattle.pagable_tables.specs.{EndingLoads.{AsksKnown, IsReady, IsVain, ShedsBeside, early_fault, has_come}, declared.nodes.Counts.Counts}
 use Rattle.pagable_tables.proofs.LoadEnd.{installs-wider, may-wider}
 use Rattle.pagable_tables.specs.{Core.{OnlyRoom, TakesWorker, core_of, core_alone}, declared.{load_end.Ending.Ending, tables.Tables.Tables}}
@@ -53,7 +53,7 @@ whole-over t storage whole shut =
     }
 
 -- tables that are whole leave the pager in step, where the core stays well-formed
-pub in-step : {N S E : Type 0} {tells : Telling S} {says : E → Values N} (q : PagerView N S E) → IsWhole q.tables → AreLater q.tables
+pub in-step : {N S E : Type 0} {tells : Telling S} {says : E → Values N} (q : PagerView N S E) → IsWhole q.tables → OwnLaterHandles q.tables
     → (IsRight (pager_state tells q) → IsPagerWhole (says q.environment) (pager_state tells q)) → IsPager tells says q
 in-step {tells = tells} q whole later state = search (whole-over)
 
@@ -115,7 +115,7 @@ module _ {N S E : Type 0} {tells : Telling S} {says : E → Values N} {p : Pager
         && is_here (core_alone t) n then value_in p.values n else None)
     swept whole sheds n = grind (arith, nat_tests, here-told, kept-in, left-map, nat_eq)
 
-    pub release_at : IsWhole t → AreLater t → Goes → (Leaves (value_in p.values) (pager_state tells gone)
+    pub release_at : IsWhole t → OwnLaterHandles t → Goes → (Leaves (value_in p.values) (pager_state tells gone)
         → IsPagerWhole (says p.environment) (pager_state tells gone))
         → IsPager tells says gone
     release_at whole later sheds state = in-step gone whole later (λ right. state (record { swept = swept whole sheds; right = right }))
@@ -145,7 +145,7 @@ module _ {N S E : Type 0} {tells : Telling S} {says : E → Values N} {p : Pager
             },
           )
 
-    module _ (whole : IsWhole t) (later : AreLater t) (sheds : Goes) where
+    module _ (whole : IsWhole t) (later : OwnLaterHandles t) (sheds : Goes) where
       pub same-so : Alike (pager_core tells p) (pager_core tells gone) → IsPager tells says gone
       same-so a = release_at whole later sheds (stayed is.state (unmoved a is.state.whole.shut))
 
@@ -621,5 +621,5 @@ module _ {N S E : Type 0} {tells : Telling S} {says : E → Values N} {p : Pager
   pub shut-told : Calls FewerValues tells p (λ w w'. CloseCall w (Ok tt) w') new
   shut-told = record { step = shut-call; only = record { values = less is t values sheds; environment = refl } }
 
-  pub shut-pager : AreLater t → IsPager tells says new
+  pub shut-pager : OwnLaterHandles t → IsPager tells says new
   shut-pager later = in-step new whole later (λ right. closed is.state (record { swept = swept is t values whole sheds; right = right }) shut-call)

@@ -8,7 +8,7 @@ use Rattle.pagable_theorems.proofs.{LoadProgress.row-pins, Trees.same_some}
 use Rattle.pagable_value_spec.specs.{Stored.RefusesFetch, declared.{error.Error.Error}}
 use Rattle.pagable_value_spec.specs.declared.numbers.{ArcRef.ArcRef, HandleNumber.HandleNumber, LoadNumber.LoadNumber, NodeNumber.NodeNumber}
 use Rattle.pagable_tables.proofs.{CallsKeepWhole.begin-whole, SameViews.{alike-on, still}, Views.opened}
-use Rattle.pagable_tables.specs.{Core.{AreLater, ArePlaced, Does, IsWhole, OnlyRoom, core_of, core_alone}, EndingLoads.has_come, HandleTable.room}
+use Rattle.pagable_tables.specs.{Core.{OwnLaterHandles, ArePlaced, Does, IsWhole, OnlyRoom, core_of, core_alone}, EndingLoads.has_come, HandleTable.room}
 use Rattle.pagable_tables.specs.{Nodes.{counts_at, has_value}, declared.tables.Tables.Tables}
 use Rattle.pagable_pager_spec.specs.{Access.{MakesCall, LoadRun, LoadStarts, PinRun, ReadingStep, load-ends, load-fails, load-goes-on, load-is-refused, load-pins}, Calls.{FetchCall, row_of, with_handle}, Kinds.{is_pin, pins}, LoadCalls.{BeginCall, EndCall, with_load}}
 use Rattle.pagable_pager_spec.specs.{LoadCalls.{Installs, LoadCloses, MayEnd}, Loads.{ReadsRoot, gone_on, root_frame}, Pager.{HoldsItsNodes, IsCellOf, PagerState, IsPagerWhole}, Basics.{Blob, one, updated}}
@@ -119,7 +119,7 @@ module _ {N S E : Type 0} {tells : Telling S} {says : E → Values N} {p : Pager
       (bare : (says p.environment).references x ≡ []) (ends : (storage : StorageView)
       → PinsLeaf (core_of p.tables storage) Owner.Caller leaf.row leaf.key leaf.node_type k (core_of t storage))
       (come : (n : ℕ) → has_value (counts_at t.ref_counts.nodes n) ≡ has_come (counts_at p.tables.ref_counts.nodes) leaf.row.node n) (whole : IsWhole t)
-      (later : AreLater t)
+      (later : OwnLaterHandles t)
       (placed : (n : ℕ) → value_in values n ≡ with_value true leaf.row.node.0 x (value_in p.values) n) where
     abbrev after : PagerView N S E
     after = record p { tables = t; values = values }

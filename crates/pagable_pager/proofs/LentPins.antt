@@ -2,7 +2,7 @@
 use Rattle.pagable_pager.{proofs.Leaf.{dropped-run, loads-pinned, loads-refused, pinned-run}, specs.Leaf.{EndsCell, LeafBegun, LeafDropped, LeafFetched, LeafLoads, LeafPinned, PinsAway, SharesNew, rooted_reading}}
 use Rattle.{pagable_leaf.specs.declared.leaf.Leaf.Leaf, pagable_load.{proofs.LoadSteps.{taken_back, takes_back}, specs.{Decoding.IsReadAs, Frames.{IsLoadOf, reading_of}, PinStart.{SharesPinned, TakesBack, is_unpinned_at}, LoadSteps.Runs, AccessView.Acting}}}
 use Rattle.{pagable_load.specs.declared.reading.Reading.Reading as Own, pagable_value_spec.specs.{Blob.Blob, declared.{error.Error.Error, numbers.{HandleNumber.HandleNumber, LoadNumber.LoadNumber}}}}
-use Rattle.pagable_pager_spec.specs.{Access.{MakesCall, LoadRun, PinRun, PinsOver, IfBothKnown}, Calls.{ReleaseCall, UnpinCall}, Pager.PagerState, World.{Reading, Values, of_cell}, declared.{events.LoadAnswer.LoadAnswer, handle_row.Owner.Owner}}
+use Rattle.pagable_pager_spec.specs.{Access.{MakesCall, LoadRun, PinRun, IfBothKnown}, Calls.{ReleaseCall, UnpinCall}, Pager.PagerState, World.{Reading, Values, of_cell}, declared.{events.LoadAnswer.LoadAnswer, handle_row.Owner.Owner}}
 use Rattle.std.{proofs.Common.{Bool, Err, None, Ok, Result, Some, [], ap, false, if◌then◌else◌, inl, refl, subst, sym, true, ◌∙◌, ◌≡◌}, specs.Prelude.{IsTrue}}
 
 -- an access lends what it lent before, for whom it did, and where
@@ -93,9 +93,6 @@ module _ {N E : Type 0} (says : E → Values N) {e1 e0 : E} (same : e1 ≡ e0) {
 -- ---- the value that a new pin shares
 
 module _ {N E : Type 0} (v : Values N) (h k : HandleNumber) where
-  pub shares-it : {X : Type 0} (see : X → N) (y : X) (s : PagerState N E) → SharesPinned see s k (Ok y) → SharesNew v h k s (Ok (k, see y)) s
-  shares-it see y s d = record { shares = λ was first. record { pins = (first.pinned.0, d.given); refused = tt } }
-
   pub shares-back : {X : Type 0} (see : X → N) (e : Error) (s t : PagerState N E) → SharesPinned see s k (Err e) → TakesBack v true h k s t
       → SharesNew v h k s (Err e) t
   shares-back see e s t d back = record { shares = λ was first. taken_back v h see k true e was s t first d back }
@@ -106,15 +103,3 @@ module _ {N E : Type 0} (v : Values N) (h k : HandleNumber) where
       (told, subst (λ m. MakesCall v (λ w'. UnpinCall s.core m h told w') s low) mine unpins) releases
 
 -- ---- a pin by a lent pager
-
-pub pin-refused : {N E : Type 0} {v : Values N} {s t : PagerState N E} {h : HandleNumber} {r : Result (HandleNumber × N) Error} (e : Error)
-    → PinsAway v s h (Err e) t → r ≡ Err e → PinsOver v s h r t
-pin-refused {v = v} {s = s} {t = t} {h = h} e away is = subst (λ q. PinsOver v s h q t) (sym is) (record { pins = tt; refused = inl away.refused })
-
-pub pin-shared : {N E : Type 0} {v : Values N} {s mid t : PagerState N E} {h k : HandleNumber} {r : Result (HandleNumber × N) Error}
-    → PinsAway v s h (Ok (Some k)) mid → SharesNew v h k mid r t → PinsOver v s h r t
-pin-shared {s = s} away new = new.shares s (record { pinned = (away.goes.0, sym away.goes.1); refused = tt })
-
-pub pin-over : {N E : Type 0} {v : Values N} {s mid t : PagerState N E} {h : HandleNumber} {r : Result (HandleNumber × N) Error} → PinsAway v s h (Ok None) mid
-    → PinsOver v mid h r t → PinsOver v s h r t
-pin-over {N} {E} {v = v} {t = t} {h = h} {r = r} away over = subst (λ (q : PagerState N E). PinsOver v q h r t) away.goes over

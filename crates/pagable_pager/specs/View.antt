@@ -3,7 +3,7 @@ use Rattle.std.specs.declared.sync.Arc.{Arc}
 use Rattle.std.specs.{Arc.arc_value, Global.Global, Option.option_map, Prelude.{Bool, IsTrue, None, Option, Some, false, true, ℕ, ◌+◌, ◌≡◌}}
 use Rattle.{either.specs.declared.Either.Either, pagable_value_spec.specs.declared.numbers.{ArcRef.ArcRef, HandleNumber.HandleNumber, LoadNumber.LoadNumber, WorkerNumber.WorkerNumber}}
 use Rattle.pagable_core.specs.declared.storage.traits.PagableStorage.{Ghosts as Storages}
-use Rattle.pagable_tables.specs.{Core.{AreLater, StorageView, core_of}, Nodes.{counts_at, pins_in}, NumberTable.row_by}
+use Rattle.pagable_tables.specs.{Core.{OwnLaterHandles, StorageView, core_of}, Nodes.{counts_at, pins_in}, NumberTable.row_by}
 use Rattle.pagable_tables.specs.declared.{number_table.NumberTable.NumberTable, tables.Tables.Tables}
 use Rattle.pagable_pager_spec.specs.Kinds.{HasKinds, loose_kind}
 use Rattle.pagable_pager_spec.specs.{Events.{IsEntry, with_entry_taken, with_worker}, LoadCalls.{Given, from_cache, from_store}, Pager.{PagerState, IsPagerWhole}, Basics.{Blob, updated}, Refusals.OwnsLoad}
@@ -52,7 +52,7 @@ storage_view g s = record { stored = g.stored s; closed = g.is_closed s; failure
 -- satisfies the invariant for the environment's values.
 pub record IsPager {N S E : Type 0} (tells : Telling S) (says : E → Values N) (p : PagerView N S E) : Type 0 where
   pub tables : tables.IsWhole p.tables
-  pub later : AreLater p.tables
+  pub later : OwnLaterHandles p.tables
   pub state : IsPagerWhole (says p.environment) (pager_state tells p)
 
 -- values, storage and environment are the same

@@ -103,7 +103,7 @@ impl<'a, E: Env<Node: NodeSet<E>>, S: PagableStorage<E>> Lent<'a, E, S> {
     ///
     /// - `OutOfMemory` if there is no room for the handle, the blob or its value: no load is left.
     /// - those of fetching the blob and of the load's steps: no load is left.
-    pub(crate) fn pin_away(
+    pub(crate) fn pin_paged_out(
         &mut self,
         alloc: Global,
         handle: HandleNumber,
@@ -310,12 +310,15 @@ impl<'a, E: Env<Node: NodeSet<E>>, S: PagableStorage<E>> WorkerAccess<E> for Len
         }
     }
 
-    fn take_reference(&mut self, reference: ArcRef) -> Result<PinnedOrLoading, Error> {
-        with_invariant(self.pager.take_reference(self.me, reference), self.pager)
+    fn pin_or_load_reference(&mut self, reference: ArcRef) -> Result<PinnedOrLoading, Error> {
+        with_invariant(
+            self.pager.pin_or_load_reference(self.me, reference),
+            self.pager,
+        )
     }
 
     fn take_value(&mut self, reference: ArcRef) -> Result<TakenValue<E::Node>, Error> {
-        match self.take_reference(reference)? {
+        match self.pin_or_load_reference(reference)? {
             PinnedOrLoading::Held(through, pin) => Ok(TakenValue::Held(
                 through,
                 pin,
@@ -329,15 +332,15 @@ impl<'a, E: Env<Node: NodeSet<E>>, S: PagableStorage<E>> WorkerAccess<E> for Len
         self.pager.release_node(worker, node);
     }
 
-    fn set_key_through(&mut self, loose: Option<HandleNumber>, key: DataKey) -> Result<(), Error> {
+    fn set_key_if_loose(&mut self, loose: Option<HandleNumber>, key: DataKey) -> Result<(), Error> {
         match loose {
             Some(handle) => self.set_data_key(handle, key),
             None => Ok(()),
         }
     }
 
-    fn close_node(&mut self, at: WorkerNode, key: DataKey) -> Result<(), Error> {
-        self.set_key_through(at.loose, key)?;
+    fn set_key_and_release(&mut self, at: WorkerNode, key: DataKey) -> Result<(), Error> {
+        self.set_key_if_loose(at.loose, key)?;
         self.release_worker_node(at.worker, at.node);
         Ok(())
     }
@@ -349,7 +352,7 @@ impl<'a, E: Env<Node: NodeSet<E>>, S: PagableStorage<E>> WorkerAccess<E> for Len
         at: WorkerNode,
     ) -> Result<DataKey, Error> {
         let key = self.store(alloc, blob)?;
-        self.close_node(at, key)?;
+        self.set_key_and_release(at, key)?;
         Ok(key)
     }
 
@@ -361,7 +364,7 @@ impl<'a, E: Env<Node: NodeSet<E>>, S: PagableStorage<E>> WorkerAccess<E> for Len
         at: WorkerNode,
     ) -> Result<DataKey, Error> {
         let stored = self.store_keyed(alloc, key, blob)?;
-        self.close_node(at, stored)?;
+        self.set_key_and_release(at, stored)?;
         Ok(stored)
     }
 
@@ -397,6 +400,15 @@ impl<'a, E: Env<Node: NodeSet<E>>, S: PagableStorage<E>> WorkerAccess<E> for Len
 
     fn take_pending(&mut self, place: usize) -> Option<HandleNumber> {
         with_invariant(self.pager.take_pending_for(self.me, place), self.pager)
+    }
+
+    fn release_if_keyed(&mut self, place: usize) -> Option<bool> {
+        let OptionalDataKey::Some(_) = self.entry_key(place)? else {
+            return Some(false);
+        };
+        let entry = self.take_pending(place)?;
+        let _told = self.release(entry);
+        Some(true)
     }
 }
 
@@ -438,7 +450,8 @@ impl<'a, E: Env<Node: NodeSet<E>>, S: PagableStorage<E>> DeserializedArcCache<'a
         self.pager.cache_get(kind, key)
     }
 
-    /// Returns what `get` returns, with its kind and key. Nothing is stored for an empty cell.
+    /// Returns the kind, the key and the handle that `get` returns for them. If the cache has no
+    /// node there, the cell is empty, and nothing is stored for it.
     ///
     /// # Errors
     ///
@@ -447,7 +460,8 @@ impl<'a, E: Env<Node: NodeSet<E>>, S: PagableStorage<E>> DeserializedArcCache<'a
         ensures lent { self.new.pager.ghost_name ≡ self.old.pager.ghost_name }
         ensures place { IfOk result (λ cell. (cell.kind ≡ kind) × (cell.key ≡ key)) }
         ensures calls { Calls OnlyTables (storage_view S.PagableStorage) self.old.pager.now
-            (λ w w'. RecallCall w Owner.Caller kind key (result_map (λ cell. cell.handle) result) w') self.new.pager.now }
+            (λ w w'. RecallCall w Owner.Caller kind key (result_map (λ cell. cell.handle) result) w')
+            self.new.pager.now }
     {
         let handle = self.pager.cache_get(kind, key)?;
         Ok(ArcCell { kind, key, handle })

@@ -5,14 +5,14 @@ ghost use Rattle.std.specs.{Arc.arc_value, Option.option_map, Prelude.{IfErr, If
 ghost use Rattle.{futures.specs.{Poll.{IfReady, OnPending}, Task.{IsArmed, Keeps}}, pagable_pager.specs.Polling.PollCall};
 ghost use Rattle.pagable_core.specs.Data.{blob_of};
 ghost use Rattle.pagable_load.specs.{PinStart.Shares, AccessView.values_at};
-ghost use Rattle.pagable_value_spec.specs.{Blob.{Blob, key_of}, Stored.{RefusesFetch, RefusesFlush, RefusesStore}};
+ghost use Rattle.pagable_value_spec.specs.{Blob.{Blob, key_of}, Stored.{RefusesFetch, IsMemoryOrFailure, RefusesStore}};
 ghost use Rattle.pagable_tables.specs.{Core.root_in, EndingLoads.AsksKnown, Soundness.is_sound};
 ghost use Rattle.pagable_pager.specs.View.{AsksStorage, Calls, FewerValues, FitsWant, KeepsWorkers, OnlyTables, ReadsAs, SameValues, pager_core, from_cache_or_store, may_call, pager_state, storage_view, type_of_root};
 ghost use Rattle.pagable_pager_spec.specs.{Calls.{CloseCall, FetchCall, FlushCall, StoreCall}, LoadCalls.{LoadFetchCall, BeginCall, BeginKeyCall, LazyCall}, Pager.{IsNew, ValueCall, IsPagerWhole}};
 ghost use Rattle.pagable_pager_spec.specs.{Refusals.load_fault, World.{greatest, result_map}};
 
-// A function whose name ends in `_by` is the call of that name for an owner: the caller, or a
-// worker at work.
+// A function whose name ends in `_for` does what the function without this ending does, for the
+// owner that it is given: the caller, or a worker at work.
 pub mod calls;
 pub mod insert;
 pub mod leaf;
@@ -62,10 +62,16 @@ impl<E: Env<Node: NodeSet<E>>, S: PagableStorage<E>> Model for Pager<E, S> {
     } };
 
     ghost invariant = { λ p. IsPager (storage_view S.PagableStorage) (values_at E.Node.NodeSet E.Env E.Hash.KeyHash)
-        (record { tables = p.tables; values = p.values; storage = p.storage; environment = environment_of p.setting }) };
+        (record {
+          tables = p.tables;
+          values = p.values;
+          storage = p.storage;
+          environment = environment_of p.setting;
+        }) };
 }
 
-/// Returns the type of the cell's value, if it is a load of a cell.
+/// Returns the type of the cell's value, if this is the root of a load of a cell; None if it is
+/// that of a load of a key.
 pub(crate) fn cell_type(root: LoadRoot) -> Option<u32>
     ensures { result ≡ type_of_root (root_in root) }
 {
@@ -307,14 +313,14 @@ impl<E: Env<Node: NodeSet<E>>, S: PagableStorage<E>> Pager<E, S> {
             self.new }
         ensures sure { IsTrue (S.is_honest self.new.storage)
             → OnOk result (S.flushed self.new.storage ≡ S.stored self.new.storage) }
-        ensures refused { IfErr result (RefusesFlush (S.failed self.old.storage) (S.failed self.new.storage)) }
+        ensures refused { IfErr result (IsMemoryOrFailure (S.failed self.old.storage) (S.failed self.new.storage)) }
     {
         self.storage.flush()
     }
 
-    /// Closes the storage, which drops all blobs. Releases all list entries, with all that follows,
-    /// and empties the cache; from then on nothing is listed or cached. Never fails, and allocates
-    /// nothing.
+    /// Closes the storage, which drops all blobs. Releases the handles of all cells that wait for
+    /// page-out, with all that follows, and empties the cache; from then on nothing is listed for
+    /// page-out or cached. Never fails, and allocates nothing.
     pub fn close(&mut self) -> Result<(), Error>
         ensures calls { Calls FewerValues (storage_view S.PagableStorage) self.old (λ w w'. CloseCall w result w')
             self.new }
@@ -346,8 +352,8 @@ impl<E: Env<Node: NodeSet<E>>, S: PagableStorage<E>> Pager<E, S> {
         load::load_key(&mut self.tables, me, key)
     }
 
-    /// Begins a load of a loose handle's cell, which owns an unpinned clone of the handle. Returns
-    /// `InMemory` and changes nothing if the value is in memory.
+    /// Begins a load of a loose handle's cell. The load owns an unpinned clone of the handle.
+    /// Returns `InMemory` and changes nothing if the value is in memory.
     ///
     /// # Errors
     ///
@@ -375,8 +381,8 @@ impl<E: Env<Node: NodeSet<E>>, S: PagableStorage<E>> Pager<E, S> {
         load::load_begin(&mut self.tables, me, handle)
     }
 
-    /// Makes a handle of the node that the cache has, for the load; returns None if the cache has
-    /// none.
+    /// Makes a handle, which the load owns, of the node that the cache has under the kind and key;
+    /// returns None if the cache has none. Fails as `load_fetch` does, except for the blob.
     fn load_known(
         &mut self,
         me: Owner,
@@ -387,7 +393,8 @@ impl<E: Env<Node: NodeSet<E>>, S: PagableStorage<E>> Pager<E, S> {
         ensures step { AsksKnown (pager_core (storage_view S.PagableStorage) self.old) me load kind key result
             (pager_core (storage_view S.PagableStorage) self.new) }
         ensures none { IfOk result (λ found. IfNone found
-            (pager_core (storage_view S.PagableStorage) self.new ≡ pager_core (storage_view S.PagableStorage) self.old)) }
+            (pager_core (storage_view S.PagableStorage) self.new
+            ≡ pager_core (storage_view S.PagableStorage) self.old)) }
         ensures only { OnlyTables self.old self.new }
     {
         load::load_known(&mut self.tables, me, load, kind, key)

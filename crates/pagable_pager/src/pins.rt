@@ -63,7 +63,8 @@ pub(crate) fn read_rest<E: Env<Node: NodeSet<E>>, A: Access<E>>(
 }
 
 // Shares the value of a new pin, made by a handle that was unpinned before. If the value can't be
-// shared, undoes the pin.
+// shared, undoes the pin. So the pin and this together do all that a pin with its value does
+// (`PinsOver`), from the state before the pin.
 fn share_new<E: Env<Node: NodeSet<E>>, A: Access<E>>(
     access: &mut A,
     handle: HandleNumber,
@@ -84,8 +85,8 @@ fn share_new<E: Env<Node: NodeSet<E>>, A: Access<E>>(
     }
 }
 
-// Pins by a lent pager. (The borrow checker accepts a lent struct where its own type is required,
-// but not where any access is.)
+// Pins as `pin` does, over a lent pager. (The borrow checker accepts a lent struct where its own
+// type is required, but not where any access is.)
 fn pin_lent<'a, E: Env<Node: NodeSet<E>>, S: PagableStorage<E>>(
     lent: &mut Lent<'a, E, S>,
     alloc: Global,
@@ -100,7 +101,7 @@ fn pin_lent<'a, E: Env<Node: NodeSet<E>>, S: PagableStorage<E>>(
     ensures honest { IsTrue (S.is_honest lent.new.pager.now.storage) → IsTrue (S.is_honest lent.old.pager.now.storage) }
     ensures lender { lent.new.pager.ghost_name ≡ lent.old.pager.ghost_name }
 {
-    let found = lent.pin_away(alloc, handle)?;
+    let found = lent.pin_paged_out(alloc, handle)?;
     let Some(pinned) = found else {
         return pin_over(lent, alloc, handle);
     };

@@ -7,8 +7,8 @@ use pagable_codec::Env;
 use pagable_core::Setting;
 use std::sync::Arc;
 
-/// Environment and session of a pager: its own, or shared with users outside of it, as outside a
-/// lock.
+/// Environment and session of a pager: its own, or shared with code that uses them without the
+/// pager, as threads do outside of its lock.
 #[derive(Drop)]
 pub(crate) enum PagerSetting<E: Env> {
     Owned(Setting<E>),

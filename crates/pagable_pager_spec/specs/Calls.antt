@@ -2,7 +2,7 @@
 -- `me` is the caller's part: the one who makes the call and owns what it returns.
 use Rattle.std.specs.{List.remove, Prelude.{[], Bool, Err, false, IfErr, IfOk, if◌then◌else◌, is_some, length, List, min, nat_lt, None, not, Ok, Option, Result, slice_get, Some, true, ℕ, ◌&&◌, ◌++◌}}
 use Rattle.std.specs.Prelude.{◌+◌, ◌-◌, ◌<◌, ◌==◌, ◌||◌, ◌∷◌, ◌≡◌, ◌≤◌, ◌⊎◌}
-use Rattle.{pagable_value_spec.specs.Stored.{Adds, RefusesFetch, RefusesFlush, RefusesStore}, pagable_pager_spec.specs.{Cascade.{Falls, FallsAnyhow, nobody, only_handle}, Kinds.{any_mode, fits_mode}}}
+use Rattle.{pagable_value_spec.specs.Stored.{Adds, RefusesFetch, IsMemoryOrFailure, RefusesStore}, pagable_pager_spec.specs.{Cascade.{Falls, FallsAnyhow, nobody, only_handle}, Kinds.{any_mode, fits_mode}}}
 use Rattle.pagable_pager_spec.specs.{Kinds.{is_handle, is_loose, is_pinned, is_unpinned, mode_of, owner_value, pins}, Basics.{ArcRef, Blob, changed, Error, HandleNumber, HandleRow, if_there, Kind, Mode}}
 use Rattle.pagable_pager_spec.specs.{Basics.{NodeNumber, OptionalDataKey, Owner, Pinning, times, type_of, updated}, Refusals.{AreHandlesFull, earlier, handle_fault, is_type, live_fault, Owns}}
 use Rattle.pagable_pager_spec.specs.{Refusals.{references_fault, Refused, refused_if, spent, where_so}, World.{Alike, Cell, Core, greatest, is_here, key_at, row_at, type_at, usable}}
@@ -151,8 +151,8 @@ CountCall w h r = Looks w h (λ n row. n ≡ pins row.node.0 w.rows) r
 abbrev pub KeyCall : Core → HandleNumber → Result OptionalDataKey Error → Type 0
 KeyCall w h r = Looks w h (λ key row. key ≡ key_at w row.node.0) r
 
-abbrev pub AwayCall : Core → HandleNumber → Result Bool Error → Type 0
-AwayCall w h r = Looks w h (λ b row. b ≡ not (is_here w row.node.0)) r
+abbrev pub IsPagedOutCall : Core → HandleNumber → Result Bool Error → Type 0
+IsPagedOutCall w h r = Looks w h (λ b row. b ≡ not (is_here w row.node.0)) r
 
 abbrev pub NodeCall : Core → HandleNumber → Result NodeNumber Error → Type 0
 NodeCall w h r = Looks w h (λ n row. n ≡ row.node) r
@@ -270,7 +270,7 @@ pub record StoreCall (digest : Blob → ℕ) (w : Core) (blob : Blob) (r : Resul
 -- the storage writes what it has held back
 pub record FlushCall (w : Core) (r : Result (Unit {0}) Error) (w' : Core) : Type 0 where
   pub asked : Asked w w'
-  pub refused : IfErr r (λ e. RefusesFlush w.failures w'.failures e)
+  pub refused : IfErr r (λ e. IsMemoryOrFailure w.failures w'.failures e)
 
 abbrev pub is_listed : Core → ℕ → Bool
 is_listed w q = nat_lt 0 (times (λ (h : HandleNumber). h.0 == q) w.list)

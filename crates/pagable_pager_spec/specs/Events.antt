@@ -5,7 +5,7 @@ use Rattle.pagable_pager_spec.specs.Basics.{Mode, Blob, Error, HandleNumber, Wor
 use Rattle.pagable_pager_spec.specs.{Basics.{LoadAnswer, WorkerAnswer, Event, SameAt, updated, if_there, or_else}, Kinds.{loose_kind, HasKinds, HasNoKinds}, World.{Core, Alike, Seen, digest, result_map}}
 use Rattle.pagable_pager_spec.specs.World.{OpenLoad, of_cell, of_key, Root, Shelf, Frame, Reading, Task, of_item, of_entry, Walking, Work, World, row_at, type_at, one_more, SameShelf, Values}
 use Rattle.pagable_pager_spec.specs.{Cascade.only_handle, Refusals.{WorkerFault, earlier, load_fault, refused_if}, Calls.{InsertCall, InsertPagedOutCall, CloneCall, PinCall, UnpinCall, ReleaseCall, LoosenCall, SetKeyCall}}
-use Rattle.pagable_pager_spec.specs.Calls.{CountCall, KeyCall, AwayCall, NodeCall, TypeCall, ScheduleCall, TakeCall, room_of, ReserveCall, RecallCall, OfferCall, ClearCall, FetchCall, StoreCall}
+use Rattle.pagable_pager_spec.specs.Calls.{CountCall, KeyCall, IsPagedOutCall, NodeCall, TypeCall, ScheduleCall, TakeCall, room_of, ReserveCall, RecallCall, OfferCall, ClearCall, FetchCall, StoreCall}
 use Rattle.pagable_pager_spec.specs.{Calls.{FlushCall, CloseCall, moved}, LoadCalls.{BeginCall, BeginKeyCall, Given, from_cache, from_store, LoadFetchCall, AdoptCall, LazyCall, EndCall, HandOverCall, DropCall}}
 use Rattle.pagable_pager_spec.specs.{Loads.{ReadingDoes, gone_on}, Workers.{WorkerState, WalkDoes, WorkerEnds, first_todo, fresh, answer_after, is_counted}}
 
@@ -30,7 +30,7 @@ CallDoes m w me (Call.IntoPagable h) (Reply.Handle r) w' = LoosenCall w me h r w
 CallDoes m w me (Call.SetDataKey h key) (Reply.Done r) w' = SetKeyCall w me h key r w'
 CallDoes m w me (Call.Count h) (Reply.Count r) w' = CountCall w h r × Alike w w'
 CallDoes m w me (Call.Key h) (Reply.KeyFound r) w' = KeyCall w h r × Alike w w'
-CallDoes m w me (Call.IsPagedOut h) (Reply.Away r) w' = AwayCall w h r × Alike w w'
+CallDoes m w me (Call.IsPagedOut h) (Reply.Away r) w' = IsPagedOutCall w h r × Alike w w'
 CallDoes m w me (Call.NodeOf h) (Reply.Node r) w' = NodeCall w h r × Alike w w'
 CallDoes m w me (Call.NodeLive n) (Reply.NodeType t) w' = TypeCall w n t × Alike w w'
 CallDoes m w me (Call.ScheduleForPaging h) (Reply.Done r) w' = ScheduleCall w me h r w'

@@ -1,11 +1,11 @@
 -- When the rows of loads take note of more handles, nothing else changes, so the core is the same.
 use Rattle.pagable_tables.specs.Core.{StorageView}
 use Rattle.pagable_tables.proofs.{HandleTable.le_or_lt, OwnedByLoad.none-passes}
-use Rattle.pagable_tables.proofs.Words.{AreLater, Bool, Core, HandleRow, IndexMap, List, LoadNumber, LoadRow, None, Option, Owner, Place, Some, Tables}
+use Rattle.pagable_tables.proofs.Words.{OwnLaterHandles, Bool, Core, HandleRow, IndexMap, List, LoadNumber, LoadRow, None, Option, Owner, Place, Some, Tables}
 use Rattle.pagable_tables.proofs.Words.{ap, arith, cases_Bool, cases_eq, core_of, false, get_or, inl, inr, is_owned_by, is_owned_in, is_owner, length, live, load_at, load_in, nat_tests, option_map, owner_worker, passes_in, core_alone}
 use Rattle.pagable_tables.proofs.{SameViews.owner-same, Words.{refl, subst, sym, true, ℕ, ◌+◌, ◌<◌, ◌∙◌, ◌≡◌, ◌≤◌}}
 use Rattle.pagable_tables.proofs.Words.{RefCounts, NumberTable, Sheds, counts_at, row_by}
-use Rattle.pagable_tables.specs.Core.{AreRaised, AreTold, Does, DoesShed, IsOwnedAbove, IsWhole, Notes, Raised}
+use Rattle.pagable_tables.specs.Core.{AreRaised, AreTold, Does, DoesShed, IsOwnedAbove, Notes, Raised}
 
 pub raised-same : (o : Option LoadRow) → Raised o o
 raised-same None = tt
@@ -61,10 +61,10 @@ noted-last places l row q number told above own = elim (le_or_lt q row.last) [
 ]
 
 pub noted-later : (t t' : Tables) → t' ≡ record t { loads = t'.loads; noted = t'.noted } → AreRaised t.loads t'.loads → t'.noted ≡ t.ref_counts.last_handle
-    → AreTold t'.loads t.ref_counts.handles.places.items t.noted (length t.ref_counts.handles.places.items) → AreLater t → AreLater t'
+    → AreTold t'.loads t.ref_counts.handles.places.items t.noted (length t.ref_counts.handles.places.items) → OwnLaterHandles t → OwnLaterHandles t'
 noted-later t t' same raised noted told later =
     let from = λ (l : ℕ) (load : LoadRow) (at : load_at t'.loads l ≡ Some load). raised-from (load_at t.loads l) (load_at t'.loads l) load (raised l) at in
-    let after : AreLater (record t { loads = t'.loads; noted = t'.noted }) = record {
+    let after : OwnLaterHandles (record t { loads = t'.loads; noted = t'.noted }) = record {
       given = λ l load at. let (old, was, is, more) = from l load at in let since = ap (λ (x : LoadRow). x.since) is in let g =
           later.given l old was in omega arith;
       since = λ l load q at own. let (old, was, is, more) = from l load at in let since = ap (λ (x : LoadRow). x.since) is in let g =
@@ -84,14 +84,11 @@ noted-later t t' same raised noted told later =
                 (λ k d within above owner. told (record { 0 = l }) load k d at within above owner) high own
           ];
     } in
-    subst AreLater (sym same) after
+    subst OwnLaterHandles (sym same) after
 
 -- the same handles are owned
 pub above-noted : {t t1 : Tables} (l : LoadNumber) (since : ℕ) → Notes t t1 → IsOwnedAbove t l since → IsOwnedAbove t1 l since
 above-noted l since n above q own = above q (sym (ap (λ (u : Tables). is_owned_in (core_alone u) (Owner.Load l) q) n.same) ∙ own)
-
-pub none-noted : {t : Tables} → IsWhole t → AreLater t → Notes t t
-none-noted whole later = record { same = refl; rows = λ l. raised-same _; whole = whole; later = later }
 
 -- what is done to the tables that tell more is done to those that tell less
 pub noted-does : {t t1 t2 : Tables} {step : Core → Core → Type 0} → Notes t t1 → Does t1 step t2 → Does t step t2

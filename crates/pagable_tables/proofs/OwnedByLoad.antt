@@ -9,7 +9,7 @@ use Rattle.pagable_tables.proofs.RowCounts.{among-last, at-most-sum, found-among
 use Rattle.pagable_tables.proofs.CascadeEnd.{and_owned, no-entry, owned, passes-here, passes-left, passes-none, regiven, sheds-still}
 use Rattle.pagable_tables.proofs.Views.{Goes, IsNewer, OnlyNewer, alike-goes, born-whole, named-mine}
 use Rattle.pagable_tables.proofs.Views.{newer-handle, newer-moved, newer-then, not-list, owned-moved, settled}
-use Rattle.pagable_tables.proofs.Words.{Alike, AllPairs, Among, ArcRef, AreLater, ArePlaced, InsertPagedOutCall, Bears}
+use Rattle.pagable_tables.proofs.Words.{Alike, AllPairs, Among, ArcRef, OwnLaterHandles, ArePlaced, InsertPagedOutCall, Bears}
 use Rattle.pagable_tables.proofs.Words.{Bool, Core, Error, Falls, Fits, ReleaseSet, HandleNumber, HandleRow, Handles, HandlesAreWhole, HasRoom, RefCounts, InReach, IndexMap, IsBefore, IsClosed, IsFalling}
 use Rattle.pagable_tables.proofs.Words.{IsHandleBefore, IsLeast, IsNoLess, Last, List, LoadNumber, LoadRow, MayHold, MayOwnLoad, Mode, NodeNumber, NodeRow, NumberTable, None, Ok, OnlyRoom, OpenLoad, Option}
 use Rattle.pagable_tables.proofs.Words.{OptionalDataKey, Owner, Place, Places, HandleRange, Result, Sheds, SoFar, Some, Tables, TakeCall, [], alive, and_parts, ap, arith, cases_Bool, cases_eq, changed}
@@ -21,7 +21,7 @@ use Rattle.pagable_tables.proofs.Words.{slice_get-get_or, subst, suc, sum_by, su
 use Rattle.pagable_tables.proofs.SameViews.{born-past, found-map, moved-twice, named-none}
 use Rattle.pagable_tables.proofs.Words.{with_tables, with_worker, ℕ, ◌&&◌, ◌++◌, ◌+◌, ◌-◌, ◌<◌, ◌==◌, ◌||◌, ◌∙◌, ◌∷◌, ◌≡◌, ◌≢◌, ◌≤◌, ◌⊎◌}
 use Rattle.pagable_tables.proofs.SameViews.{named-take, next-past, owner-same, owner-self, room-alike, same-cache}
-use Rattle.pagable_tables.specs.{CascadeInvariant.AreAtWork, Core.{Does, DoesShed, IsWhole, TakesWorker, gives}, HandleTable.{Becomes, Widens}, Nodes.work_at}
+use Rattle.pagable_tables.specs.{CascadeInvariant.AreAtWork, Core.{Does, DoesShed, IsWhole, TakesWorker, gives}, HandleTable.{Becomes, Widens}, Nodes.most_worker_handles_at}
 use Rattle.pagable_tables.proofs.WorkCounts.{work-more, work-told}
 use Rattle.pagable_pager_spec.specs.Workers.{is_load_of}
 use Rattle.pagable_pager_spec.specs.Pager as pager
@@ -68,7 +68,7 @@ pub owned-given : (w : Core) (o : Owner) (q : ℕ) → pager.HandlesAreWhole w �
 owned-given w o q whole own = (passes-given (is_owned_by o) w q whole own).1
 
 -- all that a worker gives up when it ends is in its reach
-pub in-reach : (t : Tables) → IsWhole t → AreLater t → (v : WorkerNumber) (q : ℕ)
+pub in-reach : (t : Tables) → IsWhole t → OwnLaterHandles t → (v : WorkerNumber) (q : ℕ)
     → passes_in (gives_row (core_alone t) (ReleaseSet.Worker v)) (core_alone t).rows q
     ≡ true → InReach (reach_at t.workers v.0) q
 in-reach t whole later v q is = let (row, e, passes) = there-is (gives_row w (ReleaseSet.Worker v)) (find_row q w.rows) is in
@@ -105,12 +105,12 @@ pub ruleset working = (nat_tests, one-more-works)
 -- ---- what loads own is what they owned, or has come since: while loads and workers come and go
 
 -- the open loads are ones that were open, and what a worker got besides is in its reach
-pub later-by : {t t' : Tables} → AreLater t → t.ref_counts.last_handle ≤ t'.ref_counts.last_handle → t'.noted ≡ t.noted
+pub later-by : {t t' : Tables} → OwnLaterHandles t → t.ref_counts.last_handle ≤ t'.ref_counts.last_handle → t'.noted ≡ t.noted
     → ((l : ℕ) (load : LoadRow) → load_at t'.loads l ≡ Some load → load_at t.loads l ≡ Some load) → IsNoLess t.workers t'.workers
     → ((l q : ℕ) → owned (Owner.Load (record { 0 = l })) q (core_alone t').rows ≡ true → (owned (Owner.Load (record { 0 = l })) q (core_alone t).rows ≡ true)
     ⊎ (t.ref_counts.last_handle < q))
     → ((v q : ℕ) → owned (owner_worker v) q (core_alone t').rows ≡ true → (owned (owner_worker v) q (core_alone t).rows ≡ true) ⊎ (t.ref_counts.last_handle < q)
-    ⊎ InReach (reach_at t'.workers v) q) → AreLater t'
+    ⊎ InReach (reach_at t'.workers v) q) → OwnLaterHandles t'
 later-by {t} {t'} later last noted loads less own work =
     let wider : (v q : ℕ) → owned (owner_worker v) q (core_alone t).rows ≡ true → InReach (reach_at t'.workers v) q =
     λ v q had. less.wider v q (later.reach v q had) in
@@ -120,12 +120,12 @@ pub still-reaches : {S : Type 0} {workers workers' : IndexMap ℕ HandleRange S}
 still-reaches {S} {workers} {workers'} same = subst (λ u. IsNoLess workers u) (sym same)
     (record { wider = λ v q in-reach. in-reach; before = λ v. omega arith })
 
-pub later-less : {t t' : Tables} → AreLater t → OnlyNewer (core_alone t) (core_alone t') → t'.noted ≡ t.noted
-    → ((l : ℕ) (load : LoadRow) → load_at t'.loads l ≡ Some load → load_at t.loads l ≡ Some load) → IsNoLess t.workers t'.workers → AreLater t'
+pub later-less : {t t' : Tables} → OwnLaterHandles t → OnlyNewer (core_alone t) (core_alone t') → t'.noted ≡ t.noted
+    → ((l : ℕ) (load : LoadRow) → load_at t'.loads l ≡ Some load → load_at t.loads l ≡ Some load) → IsNoLess t.workers t'.workers → OwnLaterHandles t'
 later-less later newer noted loads less = grind (arith, nat_tests, later-by)
 
-pub later-on : {t t' : Tables} → AreLater t → OnlyNewer (core_alone t) (core_alone t') → t'.loads ≡ t.loads → t'.workers ≡ t.workers → t'.noted ≡ t.noted
-    → AreLater t'
+pub later-on : {t t' : Tables} → OwnLaterHandles t → OnlyNewer (core_alone t) (core_alone t') → t'.loads ≡ t.loads → t'.workers ≡ t.workers → t'.noted ≡ t.noted
+    → OwnLaterHandles t'
 later-on later newer loads same noted = later-less later newer noted (λ l load is. ap (λ m. load_at m l) (sym loads) ∙ is) (still-reaches same)
 
 pub closed-still : (at at' : ℕ → Option LoadRow) (m : ℕ) → at' m ≡ None → ((q : ℕ) → q ≢ m → at' q ≡ at q) → (l : ℕ) (load : LoadRow) → at' l ≡ Some load → at l
@@ -136,9 +136,9 @@ none-owned : (w : Core) (o : Owner) (q : ℕ) → ((h : HandleRow) → Among w.r
 none-owned w o q nobody own = let (row, e, is) = there-is (is_owned_by o) (find_row q w.rows) own in
     nobody row (found-among q w.rows row e).0 (owner-same o row.owner is)
 
-pub later-opened : {t t' : Tables} → pager.IsWhole (core_alone t) → AreLater t → OnlyNewer (core_alone t) (core_alone t') → (m : ℕ) (row : LoadRow)
+pub later-opened : {t t' : Tables} → pager.IsWhole (core_alone t) → OwnLaterHandles t → OnlyNewer (core_alone t) (core_alone t') → (m : ℕ) (row : LoadRow)
     → load_at t.loads m ≡ None → load_at t'.loads m ≡ Some row → row.since ≡ t.ref_counts.last_handle
-    → ((q : ℕ) → q ≢ m → load_at t'.loads q ≡ load_at t.loads q) → t'.workers ≡ t.workers → t'.noted ≡ t.noted → AreLater t'
+    → ((q : ℕ) → q ≢ m → load_at t'.loads q ≡ load_at t.loads q) → t'.workers ≡ t.workers → t'.noted ≡ t.noted → OwnLaterHandles t'
 later-opened {t} {t'} whole later newer m row none here since others same noted =
     let new-owns : (q : ℕ) → owned (Owner.Load (record { 0 = m })) q (core_alone t).rows ≡ true → ⊥ = λ q own.
     none-owned (core_alone t) (Owner.Load (record { 0 = m })) q (λ h among of. absurd (let a = whole.owners_there.loads h (record { 0 = m }) among of in
@@ -163,18 +163,18 @@ later-opened {t} {t'} whole later newer m row none here since others same noted 
       new-owns,
     )
 
-pub later-begun : {t t' : Tables} → pager.IsWhole (core_alone t) → AreLater t → t' ≡ record t { workers = t'.workers; last_worker = t'.last_worker } → (v : ℕ)
+pub later-begun : {t t' : Tables} → pager.IsWhole (core_alone t) → OwnLaterHandles t → t' ≡ record t { workers = t'.workers; last_worker = t'.last_worker } → (v : ℕ)
     → v
     ≡ t.last_worker + 1
     → reach_at t'.workers v ≡ record { since = t.ref_counts.last_handle; beside = 0 } → ((u : ℕ) → u ≢ v → reach_at t'.workers u ≡ reach_at t.workers u)
-    → AreLater t'
+    → OwnLaterHandles t'
 later-begun {t} {t'} whole later same v new here others =
     let at-rest : (m : ℕ) → m ≡ v → (core_alone t).workers m ≡ true → ⊥ = λ m e is. let a = whole.workers_numbered m is in absurd (omega arith) in
     let working : (m : ℕ) (o : Owner) → is_owner (owner_worker m) o ≡ true → pager.MayOwnLoad (core_alone t) o → (core_alone t).workers m ≡ true =
     λ m o owns may. grind (arith, nat_tests) in
     let nobody : (q : ℕ) → owned (owner_worker v) q (core_alone t).rows ≡ true → ⊥ =
     λ q own. none-owned (core_alone t) (owner_worker v) q (λ h among of. at-rest v refl (whole.owners_there.workers h v among of)) own in
-    subst AreLater (sym same) (grind (
+    subst OwnLaterHandles (sym same) (grind (
       arith,
       nat_tests,
       cases_eq,
@@ -192,7 +192,7 @@ later-begun {t} {t'} whole later same v new here others =
 
 -- ---- handles that come to a worker
 
-module _ (t : Tables) (later : AreLater t) (s : ℕ → Bool) (me : Owner) (other : (l : LoadNumber) → is_owner (Owner.Load l) me ≡ false) (rows : List HandleRow)
+module _ (t : Tables) (later : OwnLaterHandles t) (s : ℕ → Bool) (me : Owner) (other : (l : LoadNumber) → is_owner (Owner.Load l) me ≡ false) (rows : List HandleRow)
     (are : rows ≡ moved s me (core_alone t).rows) where
   pub load-kept : (l q : ℕ) → owned (Owner.Load (record { 0 = l })) q rows ≡ true → owned (Owner.Load (record { 0 = l })) q (core_alone t).rows ≡ true
   load-kept l q own = let o : Owner = Owner.Load (record { 0 = l }) in and-left (owned o q (core_alone t).rows) (not (s q))
@@ -207,7 +207,7 @@ module _ (t : Tables) (later : AreLater t) (s : ℕ → Bool) (me : Owner) (othe
       → ((q : ℕ) → s q ≡ true → is_owned_in (core_alone t) (Owner.Load l) q ≡ true)
       → IsNewer rows (core_alone t').rows t.ref_counts.last_handle t'.ref_counts.last_handle
       → ((m : ℕ) (load : LoadRow) → load_at t'.loads m ≡ Some load → load_at t.loads m ≡ Some load) → t'.workers ≡ t.workers → t'.noted ≡ t.noted
-      → AreLater t'
+      → OwnLaterHandles t'
   later-handed {t'} l row here mine its newer loads same noted =
       let after : (v q : ℕ) → is_owner (owner_worker v) me ≡ true → s q ≡ true → InReach (reach_at t'.workers v) q =
       λ v q is gone. subst (λ u. InReach (reach_at u v) q) (sym same)
@@ -451,7 +451,7 @@ Each old step new = (storage : StorageView) → step (core_of old storage) (core
 module _ {old new : Tables} {step : Core → Core → Type 0} where
   pub does-by : Each old step new → IsFalling new.ref_counts [] owns_nothing
       → (step (core_alone old) (core_alone new) → ArePlaced (core_alone new) → pager.IsWhole (core_alone new))
-      → (step (core_alone old) (core_alone new) → AreLater old → AreLater new) → Does old step new
+      → (step (core_alone old) (core_alone new) → OwnLaterHandles old → OwnLaterHandles new) → Does old step new
   does-by does steady whole later = let plain = does no_blobs in record { does = does; whole = whole-so steady (whole plain); later = later plain }
 
   -- loads and workers are those that were
@@ -481,7 +481,7 @@ listing lists t = core_of t (no_blobs_of lists)
 module _ {lists : Bool} {old new : Tables} {step : Core → Core → Type 0} (does : Each old (λ w w'. lists ≡ not w.closed → step w w') new)
     (steady : IsFalling new.ref_counts [] owns_nothing) where
   pub lazily-by : (step (listing lists old) (listing lists new) → ArePlaced (core_alone new) → pager.IsWhole (core_alone new))
-      → (step (listing lists old) (listing lists new) → AreLater old → AreLater new) → Does old (λ w w'. lists ≡ not w.closed → step w w') new
+      → (step (listing lists old) (listing lists new) → OwnLaterHandles old → OwnLaterHandles new) → Does old (λ w w'. lists ≡ not w.closed → step w w') new
   lazily-by whole later = let plain = does (no_blobs_of lists) (closed-is (not lists) lists refl) in
       record { does = does; whole = whole-so steady (whole plain); later = later plain }
 
@@ -504,7 +504,8 @@ nothing-release_at {t = t} whole does = record { does = does; whole = whole; lat
 -- handles widen, and nodes and the cache are told as they were
 pub widens-does : (t : Tables) (h : Handles) (nodes : NumberTable NodeRow) (cache : IndexMap (ℕ × ℕ) NodeNumber _) → IsWhole t → Widens t.ref_counts.handles h
     → ((n : ℕ) → counts_at nodes n ≡ counts_at t.ref_counts.nodes n) → ((n : ℕ) → refs_at nodes n ≡ refs_at t.ref_counts.nodes n)
-    → ((n : ℕ) → work_at nodes n ≡ work_at t.ref_counts.nodes n) → ((kind key : ℕ) → known_at cache kind key ≡ known_at t.cache kind key)
+    → ((n : ℕ) → most_worker_handles_at nodes n ≡ most_worker_handles_at t.ref_counts.nodes n)
+    → ((kind key : ℕ) → known_at cache kind key ≡ known_at t.cache kind key)
     → Does t OnlyRoom (record t { ref_counts = record t.ref_counts { handles = h; nodes = nodes }; cache = cache })
 widens-does t h nodes cache whole e counts refs work known = does-so (λ storage. grind (arith, nat_tests, e.rows, e.capacity, counts, known))
     (record {

@@ -1,6 +1,6 @@
 -- The handles of each node that workers own, counted, as handles are added, removed and changed.
 use Rattle.pagable_value_spec.specs.declared.numbers.WorkerNumber.{WorkerNumber}
-use Rattle.pagable_tables.specs.{CascadeInvariant.{AreAtWork, is_work, is_worker}, Nodes.work_at}
+use Rattle.pagable_tables.specs.{CascadeInvariant.{AreAtWork, is_work, is_worker}, Nodes.most_worker_handles_at}
 use Rattle.pagable_tables.proofs.{Counting.{one-le, ones}, RowCounts.{at-most-sum, counted, found-among, found-so, sum-map}}
 use Rattle.pagable_tables.proofs.Words.{AllPairs, Bool, Core, ReleaseSet, HandleNumber, HandleRow}
 use Rattle.pagable_tables.proofs.Words.{IsHandleBefore, List, NodeNumber, NodeRow, None, NumberTable, Option, Owner, Some, [], ap, arith, cases_eq, false, find_row, gives_row, held}
@@ -10,7 +10,8 @@ use Rattle.pagable_tables.proofs.Words.{sum_by_push, sym, take, times, true, zer
 pub work-told : (nodes : NumberTable NodeRow) (rows rows' : List HandleRow) → rows' ≡ rows → AreAtWork rows nodes → AreAtWork rows' nodes
 work-told nodes rows rows' e w = subst (λ r. AreAtWork r nodes) (sym e) w
 
-pub work-more : (rows : List HandleRow) (nodes nodes' : NumberTable NodeRow) → ((n : ℕ) → work_at nodes n ≤ work_at nodes' n) → AreAtWork rows nodes
+pub work-more : (rows : List HandleRow) (nodes nodes' : NumberTable NodeRow) → ((n : ℕ) → most_worker_handles_at nodes n ≤ most_worker_handles_at nodes' n)
+    → AreAtWork rows nodes
     → AreAtWork rows nodes'
 work-more rows nodes nodes' more w n = omega (arith, more n, w n)
 
@@ -37,12 +38,12 @@ work-moved nodes s o rows e w n = omega (arith, moves n s o rows, none-to n s o 
 
 -- where those that moved come to a worker, their nodes may have no other handles
 pub work-comes : (nodes nodes' : NumberTable NodeRow) (s : ℕ → Bool) (o : Owner) (rows : List HandleRow) → AllPairs IsHandleBefore rows → AreAtWork rows nodes
-    → ((n : ℕ) → work_at nodes n ≤ work_at nodes' n) → ((q : ℕ) (row : HandleRow) → s q ≡ true → find_row q rows ≡ Some row
-    → held row.node.0 rows ≤ work_at nodes' row.node.0)
+    → ((n : ℕ) → most_worker_handles_at nodes n ≤ most_worker_handles_at nodes' n) → ((q : ℕ) (row : HandleRow) → s q ≡ true → find_row q rows ≡ Some row
+    → held row.node.0 rows ≤ most_worker_handles_at nodes' row.node.0)
     → AreAtWork (moved s o rows) nodes'
 work-comes nodes nodes' s o rows ordered w more here n = at (times (λ h. s h.number.0 && is_at n h) rows) refl
   where
-    at : (many : ℕ) → times (λ h. s h.number.0 && is_at n h) rows ≡ many → times (is_work n) (moved s o rows) ≤ work_at nodes' n
+    at : (many : ℕ) → times (λ h. s h.number.0 && is_at n h) rows ≡ many → times (is_work n) (moved s o rows) ≤ most_worker_handles_at nodes' n
     at zero e =
         let fewer = sum_by-le-sum_by (λ (h : HandleRow). one (s h.number.0 && (is_at n h && is_worker o))) (λ h. one (s h.number.0 && is_at n h)) rows
         (λ h. grind (arith, nat_tests)) in
@@ -54,15 +55,15 @@ work-comes nodes nodes' s o rows ordered w more here n = at (times (λ h. s h.nu
         let less = sum_by-le-sum_by (λ (h : HandleRow). one (is_work n h)) (λ h. one (is_at n h)) (moved s o rows) (λ h. grind (arith, nat_tests)) in
         let same = sum-map (λ h. one (is_at n h)) (λ h. one (is_at n h)) (λ (h : HandleRow). if s h.number.0 then record h { owner = o } else h) rows
         (λ h among. grind (arith, nat_tests)) in
-        omega (arith, all, less, same, ap (λ m. held m rows) is.1, ap (work_at nodes') is.1)
+        omega (arith, all, less, same, ap (λ m. held m rows) is.1, ap (most_worker_handles_at nodes') is.1)
 
 one-work : (x : HandleRow) → one (is_work x.node.0 x) ≡ one (is_worker x.owner)
 one-work x = grind (arith, nat_tests)
 
 -- a handle more
 pub work-push : (rows : List HandleRow) (x : HandleRow) (nodes nodes' : NumberTable NodeRow) → AreAtWork rows nodes
-    → ((n : ℕ) → work_at nodes n ≤ work_at nodes' n)
-    → (times (is_work x.node.0) rows + one (is_worker x.owner) ≤ work_at nodes' x.node.0) → AreAtWork (rows ++ x ∷ []) nodes'
+    → ((n : ℕ) → most_worker_handles_at nodes n ≤ most_worker_handles_at nodes' n)
+    → (times (is_work x.node.0) rows + one (is_worker x.owner) ≤ most_worker_handles_at nodes' x.node.0) → AreAtWork (rows ++ x ∷ []) nodes'
 work-push rows x nodes nodes' w more here n =
     let push = sum_by_push (λ (h : HandleRow). one (is_work n h)) rows x in
     elim (cases_eq n x.node.0) [
@@ -72,7 +73,7 @@ work-push rows x nodes nodes' w more here n =
         here,
         ap (λ m. times (is_work m) rows) same,
         ap (λ m. one (is_work m x)) same,
-        ap (work_at nodes') same,
+        ap (most_worker_handles_at nodes') same,
         worked,
       )
       | inr other ↦ let none : one (is_work n x) ≡ 0 = grind (arith, nat_tests) in omega (arith, push, none, w n, more n)
@@ -83,7 +84,7 @@ work-few n rows = omega (arith, ones rows, sum_by-le-sum_by (λ h. one (is_work 
 
 -- where no worker has a handle of the node none is given up there
 pub none-at-work : (v : WorkerNumber) (m : NodeNumber) (w : Core) (rows : List HandleRow) (nodes : NumberTable NodeRow) → AreAtWork rows nodes
-    → work_at nodes m.0 ≡ 0 → (q : ℕ)
+    → most_worker_handles_at nodes m.0 ≡ 0 → (q : ℕ)
     → passes_in (gives_row w (ReleaseSet.AtNode v m)) rows q ≡ false
 none-at-work v m w rows nodes worked none q = at (find_row q rows) refl
   where

@@ -1,6 +1,6 @@
 -- When handles, nodes and list agree, also in the midst of a cascade.
 use Rattle.pagable_value_spec.specs.declared.numbers.{ArcRef.ArcRef, NodeNumber.NodeNumber}
-use Rattle.pagable_tables.specs.{HandleTable.{AreSound, IsNext, live}, Nodes.{counts_at, falls_in, holds_in, next_in, pins_in, refs_at, work_at}}
+use Rattle.pagable_tables.specs.{HandleTable.{AreSound, IsNext, live}, Nodes.{counts_at, falls_in, holds_in, next_in, pins_in, refs_at, most_worker_handles_at}}
 use Rattle.pagable_tables.specs.declared.{cascade.RefCounts.RefCounts, nodes.{Counts.Counts, NodeRow.NodeRow}, number_table.NumberTable.NumberTable}
 use Rattle.pagable_pager_spec.specs.{Calls.row_of, Kinds.{held, is_at, is_handle, is_owned_by, owner_value, pins}, Basics.{one, times}}
 use Rattle.pagable_pager_spec.specs.declared.{handle_row.{HandleRow.HandleRow, Owner.Owner}, mode.Mode.Mode}
@@ -68,7 +68,7 @@ is_work n h = is_at n h && is_worker h.owner
 
 -- the bound in each node's row is at least the number of its handles that workers own
 abbrev pub AreAtWork : List HandleRow → NumberTable NodeRow → Type 0
-AreAtWork rows nodes = (n : ℕ) → times (is_work n) rows ≤ work_at nodes n
+AreAtWork rows nodes = (n : ℕ) → times (is_work n) rows ≤ most_worker_handles_at nodes n
 
 pub record IsFalling (t : RefCounts) (stack : List ℕ) (extra : ℕ → ℕ → ℕ) : Type 0 where
   pub sound : AreSound t.handles

@@ -42,7 +42,7 @@ pub record HasPlaces (old new : RefCounts) : Type 0 where
   pub entries : deque_capacity old.list ≤ deque_capacity new.list
 
 -- an entry for the node was added at the end of handles and list, or nothing was
-pub record Comes (old : RefCounts) (node : NodeNumber) (listed : Bool) (new : RefCounts) : Type 0 where
+pub record AddsEntryIf (old : RefCounts) (node : NodeNumber) (listed : Bool) (new : RefCounts) : Type 0 where
   pub sound : AreSound new.handles
   pub next : IsNext (new.last_handle + 1) new.handles.places.items
   pub rows : live new.handles.places.items ≡ live old.handles.places.items
@@ -57,7 +57,7 @@ pub record Comes (old : RefCounts) (node : NodeNumber) (listed : Bool) (new : Re
 -- If an entry is wanted, it is added, or there is an error, of which the first is kept; if none is wanted nothing
 -- changes.
 pub record MayList (old : RefCounts) (node : NodeNumber) (wanted listed : Bool) (new : RefCounts) : Type 0 where
-  pub comes : Comes old node listed new
+  pub comes : AddsEntryIf old node listed new
   pub only : listed ≡ true → wanted ≡ true
   pub told : (listed ≡ true) ⊎ (wanted ≡ false) → new.listing_error ≡ old.listing_error
   pub why : listed ≡ false → wanted ≡ true → (e : Error) × IsUnlisted old e

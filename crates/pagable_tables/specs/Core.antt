@@ -145,7 +145,7 @@ pub record TakesWorker (w : Core) (place : ℕ) (r : Result WorkerNumber Error) 
 
 -- ---- loads and workers own only handles that were made since they began
 
-pub record AreLater (t : Tables) : Type 0 where
+pub record OwnLaterHandles (t : Tables) : Type 0 where
   -- all handles of an open load have numbers above the last one that was given out before it began
   pub given : (l : ℕ) (load : LoadRow) → load_at t.loads l ≡ Some load → load.since ≤ t.ref_counts.last_handle
   pub since : (l : ℕ) (load : LoadRow) (q : ℕ) → load_at t.loads l ≡ Some load
@@ -188,7 +188,7 @@ pub record Notes (old new : Tables) : Type 0 where
   pub same : new ≡ record old { loads = new.loads; noted = new.noted }
   pub rows : AreRaised old.loads new.loads
   pub whole : IsWhole new
-  pub later : AreLater new
+  pub later : OwnLaterHandles new
 
 -- ---- what a call of the tables does: its step in the core, and what it keeps
 
@@ -197,7 +197,7 @@ pub record Notes (old new : Tables) : Type 0 where
 pub record Does (old : Tables) (step : Core → Core → Type 0) (new : Tables) : Type 0 where
   pub does : (storage : StorageView) → step (core_of old storage) (core_of new storage)
   pub whole : IsWhole new
-  pub later : AreLater old → AreLater new
+  pub later : OwnLaterHandles old → OwnLaterHandles new
 
 -- The same, where `lists` is set exactly while the storage is open; and the value of each node is dropped when it has
 -- to be.
@@ -205,7 +205,7 @@ pub record DoesShed {X : Type 0} (lists : Bool) (old : Tables) (values : NumberT
     (new : Tables) (values' : NumberTable X) : Type 0 where
   pub does : (storage : StorageView) → lists ≡ not storage.closed → step (core_of old storage) (core_of new storage)
   pub whole : IsWhole new
-  pub later : AreLater old → AreLater new
+  pub later : OwnLaterHandles old → OwnLaterHandles new
   pub sheds : Sheds (counts_at old.ref_counts.nodes) (row_by values) (counts_at new.ref_counts.nodes) (row_by values')
 
 -- ---- handles that get another owner, one after the other as they are named, or are pinned

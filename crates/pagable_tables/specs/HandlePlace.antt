@@ -29,14 +29,6 @@ number_in Owner.List = 0
 number_in (Owner.Load l) = l.0
 number_in (Owner.Worker v) = v.0
 
--- an owner is its kind and its number again
-pub owner-again : (o : Owner) → owner_in (kind_in o) (number_in o) ≡ o
-owner-again Owner.Caller = refl
-owner-again (Owner.Value n) = refl
-owner-again Owner.List = refl
-owner-again (Owner.Load l) = refl
-owner-again (Owner.Worker v) = refl
-
 pub kind-again : (k : OwnerKind) (n : ℕ) → kind_in (owner_in k n) ≡ k
 kind-again OwnerKind.Caller n = refl
 kind-again OwnerKind.Value n = refl

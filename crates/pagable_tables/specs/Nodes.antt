@@ -17,8 +17,8 @@ living at None = None
 living at (Some n) = if is_some (at n.0) then Some n else None
 
 -- at least the number of the node's handles that workers own
-abbrev pub work_at : NumberTable NodeRow → ℕ → ℕ
-work_at nodes n = option_map_or (λ (r : NodeRow). r.at_work) (row_by nodes n) 0
+abbrev pub most_worker_handles_at : NumberTable NodeRow → ℕ → ℕ
+most_worker_handles_at nodes n = option_map_or (λ (r : NodeRow). r.at_work) (row_by nodes n) 0
 
 -- the references, if they are to be added
 abbrev pub coming : Bool → List ArcRef → List ArcRef

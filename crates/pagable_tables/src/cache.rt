@@ -4,7 +4,7 @@ ghost use Rattle.pagable_tables.specs.Core.{StorageView};
 ghost use Rattle.indexmap.specs.IndexMap.{get, spare};
 ghost use Rattle.pagable_value_spec.specs.declared.numbers.NodeNumber.{NodeNumber};
 ghost use Rattle.pagable_tables.specs.CascadeInvariant.{owns};
-ghost use Rattle.pagable_tables.specs.{Core.{AreLater, Does, IsWhole, MayHold, core_of, core_alone}, Indexes.known_at};
+ghost use Rattle.pagable_tables.specs.{Core.{OwnLaterHandles, Does, IsWhole, MayHold, core_of, core_alone}, Indexes.known_at};
 ghost use Rattle.pagable_tables.specs.{Nodes.{counts_at, has_value, living}, NumberTable.row_by, ValuesKept.Sheds};
 ghost use Rattle.pagable_pager_spec.specs.Calls.{OfferCall, RecallCall, offer_fault};
 ghost use Rattle.pagable_pager_spec.specs.{Kinds.{fits_mode, is_pinning, mode_of}, Basics.{type_of}};
@@ -163,6 +163,9 @@ pub fn offered(t: &Tables, me: Owner, kind: Kind, handle: HandleNumber) -> Resul
 /// - `NumbersSpent` if no number is left for the new handle.
 /// - `OutOfMemory` if the cache or the handles can't grow. After each error the tables are
 ///   unchanged.
+///
+/// If loads and workers owned only handles that were made since they began, they still do
+/// (`later`).
 #[tactic(auto, using(std::proofs::lemmas::Bool::Decides::nat_tests))]
 pub fn offer<N: Drop>(
     t: &mut Tables,
@@ -182,7 +185,7 @@ pub fn offer<N: Drop>(
         → has_value (counts_at t.old.ref_counts.nodes n) ≡ true)
         → Sheds (counts_at t.old.ref_counts.nodes) (row_by values.old) (counts_at t.new.ref_counts.nodes)
         (row_by values.new) }
-    ensures later { AreLater t.old → AreLater t.new }
+    ensures later { OwnLaterHandles t.old → OwnLaterHandles t.new }
 {
     let row = offered(t, me, kind, handle)?;
     if !lists {

@@ -6,10 +6,10 @@
 ghost use Rattle.pagable_value_spec.specs.declared.numbers.NodeNumber.{NodeNumber};
 ghost use Rattle.pagable_tables.specs.CascadeInvariant.{IsFalling, is_valued, is_worker, owns, owns_nothing};
 ghost use Rattle.pagable_tables.specs.CascadeProgress.{IsApart, SoFar, told_by, with_tables};
-ghost use Rattle.pagable_tables.specs.CascadeSteps.{Comes, ReleasesWithoutCascade, IsUnlisted, Leaves, MayList, Steps, after};
+ghost use Rattle.pagable_tables.specs.CascadeSteps.{AddsEntryIf, ReleasesWithoutCascade, IsUnlisted, Leaves, MayList, Steps, after};
 ghost use Rattle.pagable_tables.specs.CascadeSteps.{is_listing, is_node, landed};
 ghost use Rattle.pagable_tables.specs.HandleTable.{AreSound, IsNext, alive, live};
-ghost use Rattle.pagable_tables.specs.{Nodes.{counts_at, refs_at, work_at}, NumberTable.row_by, ValuesKept.Sheds};
+ghost use Rattle.pagable_tables.specs.{Nodes.{counts_at, refs_at, most_worker_handles_at}, NumberTable.row_by, ValuesKept.Sheds};
 ghost use Rattle.pagable_tables.specs.declared.cascade.RefCounts.{RefCounts};
 ghost use Rattle.pagable_pager_spec.specs.{Cascade.Falls, Kinds.is_owner, Basics.one, World.Core};
 ghost use Rattle.pagable_pager_spec.specs.declared.{handle_row.{HandleRow.HandleRow, Owner.Owner}, mode.Mode.Mode};
@@ -41,12 +41,13 @@ pub struct RefCounts {
     pub last_handle: u64,
 }
 
-/// Lists this node's cell by a new handle. Fails with NumbersSpent if no handle number is left, and
-/// with OutOfMemory if the handles or the list can't grow.
+/// Lists this node's cell for page-out, by a new handle that the list owns. Fails with NumbersSpent
+/// if no handle number is left, and with OutOfMemory if the handles or the list can't grow: then
+/// there is no new handle or entry, and at most more room.
 fn push_pending(t: &mut RefCounts, node: NodeNumber) -> Result<(), Error>
     requires sound { AreSound t.old.handles }
     requires next { IsNext (t.old.last_handle + 1) t.old.handles.places.items }
-    ensures comes { Comes t.old node (is_ok result) t.new }
+    ensures comes { AddsEntryIf t.old node (is_ok result) t.new }
     ensures told { t.new.listing_error ≡ t.old.listing_error }
     ensures why { IfErr result (IsUnlisted t.old) }
 {
@@ -131,9 +132,10 @@ fn counts_after(counts: Counts, pinning: bool, stays: bool, listed: bool, top: u
 /// and it doesn't stay.
 fn leave_work(nodes: &mut Nodes, row: HandleRow, stays: bool)
     requires { IsSome (counts_at nodes.old row.node.0) }
-    ensures here { work_at nodes.old row.node.0 ≤ work_at nodes.new row.node.0 +
+    ensures here { most_worker_handles_at nodes.old row.node.0 ≤ most_worker_handles_at nodes.new row.node.0 +
         (if stays then 0 else one (is_worker row.owner)) }
-    ensures others { (q : ℕ) → q ≢ row.node.0 → work_at nodes.new q ≡ work_at nodes.old q }
+    ensures others { (q : ℕ) → q ≢ row.node.0 → most_worker_handles_at nodes.new q
+        ≡ most_worker_handles_at nodes.old q }
     ensures counts { (q : ℕ) → counts_at nodes.new q ≡ counts_at nodes.old q }
     ensures refs { (q : ℕ) → refs_at nodes.new q ≡ refs_at nodes.old q }
 {
@@ -184,8 +186,9 @@ fn finish_node(nodes: &mut Nodes, node: u64, counts: Counts)
     ensures here { counts_at nodes.new node ≡ landed counts }
     ensures others { (q : ℕ) → q ≢ node → counts_at nodes.new q ≡ counts_at nodes.old q }
     ensures refs { (q : ℕ) → refs_at nodes.new q ≡ refs_at nodes.old q }
-    ensures work { (q : ℕ) → q ≢ node → work_at nodes.new q ≡ work_at nodes.old q }
-    ensures here_work { counts.holds ≢ 0 → work_at nodes.new node ≡ work_at nodes.old node }
+    ensures work { (q : ℕ) → q ≢ node → most_worker_handles_at nodes.new q ≡ most_worker_handles_at nodes.old q }
+    ensures here_work { counts.holds ≢ 0 → most_worker_handles_at nodes.new node
+        ≡ most_worker_handles_at nodes.old node }
 {
     if counts.holds == 0 {
         nodes.remove(node);

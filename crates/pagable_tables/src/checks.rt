@@ -172,8 +172,8 @@ fn is_before(named: &[HandleNumber], place: usize, lowest: u64, highest: u64, nu
     false
 }
 
-/// Returns why this owner can't hand the handle over, if it can't. `is_seen` says that the handle
-/// was named before.
+/// Returns why this owner can't hand over one handle of a list, if it can't: `NoSuchHandle` if the
+/// handle isn't live, `NotYours` if it is another's, or if the list named it before (`is_seen`).
 fn hand_fault(handles: &Handles, owner: Owner, handle: HandleNumber, is_seen: bool) -> Option<Error>
     requires { AreSound handles.now }
     ensures { result ≡ if_there (λ (row : HandleRow). refused_if (not (is_owner owner row.owner) || is_seen)
@@ -229,7 +229,8 @@ pub(crate) fn hand_over_fault(
 /// - `NotYours` if another began it.
 pub fn load_row(t: &Tables, me: Owner, load: LoadNumber) -> Result<LoadRow, Error>
     ensures row { IfOk result (λ row. load_at t.now.loads load.0 ≡ Some row) }
-    ensures own { IfOk result (λ row. (storage : StorageView) → OwnsLoad (core_of t.now storage) me load (load_in row)) }
+    ensures own { IfOk result (λ row. (storage : StorageView)
+        → OwnsLoad (core_of t.now storage) me load (load_in row)) }
     ensures fault { IfErr result (λ e. (storage : StorageView) → load_fault (core_of t.now storage) me load ≡ Some e) }
 {
     let row = load_table::load_of(&t.loads, load.0).ok_or(Error::NoSuchHandle)?;

@@ -62,7 +62,7 @@ pub fn up_to_from(places: &[Place], number: u64, guess: usize) -> usize
 
 /// Returns the live handle of this number if its row is at this index.
 #[tactic(auto, using(crate::proofs::HandleTable::looks))]
-fn at(places: &[Place], place: usize, number: u64) -> Option<HandleAt>
+fn live_handle_at(places: &[Place], place: usize, number: u64) -> Option<HandleAt>
     requires { AllPairs IsBefore places.now }
     ensures none { IfNone result ((p : Place) → slice_get places.now place ≡ Some p → p.row.number.0 ≡ number
         → p.is_live ≡ false) }
@@ -87,12 +87,12 @@ fn at_once(places: &[Place], number: u64) -> Option<HandleAt>
     ensures number { IfSome result (λ at. at.row.number.0 ≡ number) }
 {
     let above = number.checked_sub(places.first()?.number())?;
-    if let Some(at) = at(places, above as usize, number) {
+    if let Some(at) = live_handle_at(places, above as usize, number) {
         return Some(at);
     }
     let end = places.len() - 1;
     let back = places[end].number().saturating_sub(number) as usize;
-    at(places, end.saturating_sub(back), number)
+    live_handle_at(places, end.saturating_sub(back), number)
 }
 
 /// Returns the live handle of this number, with its index. It takes one or two looks if no number
@@ -109,7 +109,7 @@ pub fn look(handles: &Handles, number: HandleNumber) -> Option<HandleAt>
         return Some(at);
     }
     let last = up_to(&handles.places, number.0).checked_sub(1)?;
-    at(&handles.places, last, number.0)
+    live_handle_at(&handles.places, last, number.0)
 }
 
 /// Returns how many handles can still be pushed without a request for memory.
@@ -133,7 +133,7 @@ fn compact(handles: &mut Handles)
 /// Removes the dead rows at the end, so that a search from the end meets few of them; and all dead
 /// rows if more than half are dead.
 #[tactic(auto, using(crate::proofs::HandleTable::ends))]
-fn clear(handles: &mut Handles)
+fn remove_dead_rows(handles: &mut Handles)
     requires { AreCounted handles.old }
     ensures { Becomes handles.old (live handles.old.places.items) handles.new }
 {
@@ -161,7 +161,7 @@ pub fn kill(handles: &mut Handles, at: HandleAt)
 {
     handles.places[at.place] = Place::new(at.row, false);
     handles.dead += 1;
-    clear(handles);
+    remove_dead_rows(handles);
 }
 
 /// Replaces the handle's row by another one of the same number.
@@ -268,7 +268,8 @@ fn hand_over_live(handles: &mut Handles, handle: HandleNumber, owner: Owner)
 #[tactic(auto, using(crate::proofs::SameViews::naming))]
 pub fn hand_over_all(handles: &mut Handles, references: &[ArcRef], owner: Owner)
     requires { AreSound handles.old }
-    ensures { Becomes handles.old (moved (is_named_by references.now) owner (live handles.old.places.items)) handles.new }
+    ensures { Becomes handles.old (moved (is_named_by references.now) owner
+        (live handles.old.places.items)) handles.new }
 {
     for reference in references {
         hand_over_live(handles, reference.handle, owner);

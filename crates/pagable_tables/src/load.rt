@@ -5,7 +5,7 @@ ghost use Rattle.indexmap.specs.IndexMap.{get, spare};
 ghost use Rattle.pagable_value_spec.specs.declared.numbers.{LoadNumber.LoadNumber, NodeNumber.NodeNumber};
 ghost use Rattle.pagable_tables.specs.CascadeInvariant.{IsFalling, owns_nothing};
 ghost use Rattle.pagable_tables.specs.CascadeProgress.{SoFar, with_tables};
-ghost use Rattle.pagable_tables.specs.Core.{AreLater, Does, IsReady, IsWhole, MayHold, core_of, core_alone};
+ghost use Rattle.pagable_tables.specs.Core.{OwnLaterHandles, Does, IsReady, IsWhole, MayHold, core_of, core_alone};
 ghost use Rattle.pagable_tables.specs.{EndingLoads.{AsksKnown, early_fault}, HandleTable.live};
 ghost use Rattle.pagable_tables.specs.{Nodes.{counts_at, has_value, key_in}, NumberTable.row_by, ValuesKept.Sheds};
 ghost use Rattle.pagable_tables.specs.declared.{cascade.RefCounts.RefCounts, load_table.LoadRow.LoadRow};
@@ -49,7 +49,7 @@ use std::alloc::Global;
 #[tactic(auto, using(crate::proofs::CascadeStep::counting))]
 pub fn load_begin(t: &mut Tables, me: Owner, handle: HandleNumber) -> Result<Beginning, Error>
     requires whole { IsWhole t.old }
-    requires later { AreLater t.old }
+    requires later { OwnLaterHandles t.old }
     requires owner { MayOwnLoad (core_alone t.old) me }
     ensures { Does t.old (λ w w'. BeginCall w me handle result w') t.new }
 {
@@ -101,7 +101,7 @@ pub fn load_known(
     key: DataKey,
 ) -> Result<Option<HandleNumber>, Error>
     requires whole { IsWhole t.old }
-    requires later { AreLater t.old }
+    requires later { OwnLaterHandles t.old }
     ensures does { Does t.old (λ w w'. AsksKnown w me load kind key result w') t.new }
     ensures none { IfOk result (λ found. IfNone found (t.new ≡ t.old)) }
 {
@@ -117,7 +117,7 @@ pub fn load_known(
 /// - `OutOfMemory` if the loads' table can't grow: nothing changes.
 pub fn load_key(t: &mut Tables, me: Owner, key: DataKey) -> Result<Beginning, Error>
     requires whole { IsWhole t.old }
-    requires later { AreLater t.old }
+    requires later { OwnLaterHandles t.old }
     requires owner { MayOwnLoad (core_alone t.old) me }
     ensures { Does t.old (λ w w'. BeginKeyCall w me key result w') t.new }
 {
@@ -138,7 +138,8 @@ pub fn load_key(t: &mut Tables, me: Owner, key: DataKey) -> Result<Beginning, Er
 }
 
 /// Inserts a node, returns a handle of it that the load owns, and caches the node if `lists`. It
-/// can't fail: all was made ready.
+/// can't fail: all was made ready. A node with a key of its own (`own_key` isn't 0) may not be a
+/// shared one, and may have references only if its handle pins it.
 fn insert_known(
     t: &mut Tables,
     load: LoadNumber,
@@ -209,7 +210,7 @@ pub fn load_lazy(
     alloc: Global,
 ) -> Result<HandleNumber, Error>
     requires whole { IsWhole t.old }
-    requires later { AreLater t.old }
+    requires later { OwnLaterHandles t.old }
     ensures { Does t.old (λ w w'. lists ≡ not w.closed → LazyCall w me load kind key result w') t.new }
 {
     let _row = load_row(t, me, load)?;
@@ -294,7 +295,7 @@ pub fn adopt_if_known<N: Drop>(
     lists: bool,
 ) -> Result<Option<HandleNumber>, Error>
     requires whole { IsWhole t.old }
-    requires later { AreLater t.old }
+    requires later { OwnLaterHandles t.old }
     requires valued { (n : ℕ) → usable (core_alone t.old) kind.0 key ≡ Some n → is_loose_kind kind.0 ≡ false
         → has_value (counts_at t.old.ref_counts.nodes n) ≡ true }
     ensures known { (storage : StorageView) → lists ≡ not storage.closed
@@ -302,7 +303,8 @@ pub fn adopt_if_known<N: Drop>(
         references.now k (core_of t.new storage))) }
     ensures fresh { (storage : StorageView) → IfOk result
         (λ found. IfNone found (early_fault (core_of t.old storage) me load kind node_type references.now ≡ None)) }
-    ensures given { IfOk result (λ found. IfSome found (λ k. (n : ℕ) × (usable (core_alone t.old) kind.0 key ≡ Some n))) }
+    ensures given { IfOk result (λ found. IfSome found
+        (λ k. (n : ℕ) × (usable (core_alone t.old) kind.0 key ≡ Some n))) }
     ensures unknown { IfOk result (λ found. IfNone found (usable (core_alone t.old) kind.0 key ≡ None)) }
     ensures same { IfOk result (λ found. IfNone found (t.new ≡ t.old)) }
     ensures kept { IfOk result (λ found. IfNone found (values.new ≡ values.old)) }
@@ -310,7 +312,7 @@ pub fn adopt_if_known<N: Drop>(
         (λ e. Refused (adopt_fault (core_of t.old storage) me load kind key node_type references.now)
         (load_fault (core_of t.old storage) me load) (Unit {0}) (core_of t.old storage) e (core_of t.new storage)) }
     ensures whole { IsWhole t.new }
-    ensures later { AreLater t.new }
+    ensures later { OwnLaterHandles t.new }
     ensures sheds { Sheds (counts_at t.old.ref_counts.nodes) (row_by values.old) (counts_at t.new.ref_counts.nodes)
         (row_by values.new) }
 {
@@ -337,7 +339,7 @@ pub fn adopt(
     lists: bool,
 ) -> HandleNumber
     requires whole { IsWhole t.old }
-    requires later { AreLater t.old }
+    requires later { OwnLaterHandles t.old }
     requires ready { IsReady t.old }
     requires learns { 0 < spare t.old.cache }
     requires asked { (me : Owner) × (node_type : ℕ) × (early_fault (core_alone t.old) me load kind node_type

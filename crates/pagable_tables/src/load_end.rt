@@ -3,11 +3,11 @@
 ghost use Rattle.pagable_tables.specs.Core.{StorageView};
 ghost use Rattle.pagable_value_spec.specs.declared.numbers.{LoadNumber.LoadNumber, NodeNumber.NodeNumber};
 ghost use Rattle.pagable_tables.specs.CascadeInvariant.{AreAtWork, is_worker};
-ghost use Rattle.pagable_tables.specs.Core.{AreLater, Does, DoesShed, IsOwnedAbove, IsOwnedUpTo, IsWhole, OnlyRoom};
+ghost use Rattle.pagable_tables.specs.Core.{OwnLaterHandles, Does, DoesShed, IsOwnedAbove, IsOwnedUpTo, IsWhole, OnlyRoom};
 ghost use Rattle.pagable_tables.specs.Core.{core_of, load_in};
 ghost use Rattle.pagable_tables.specs.EndingLoads.{HasPlace, IsReady as IsEndReady, ShedsBeside, Unends};
 ghost use Rattle.pagable_tables.specs.HandleTable.{AreSound, Becomes, live, room};
-ghost use Rattle.pagable_tables.specs.{Nodes.{coming, counts_at, holds_in, refs_at, work_at}, NumberTable.row_by};
+ghost use Rattle.pagable_tables.specs.{Nodes.{coming, counts_at, holds_in, refs_at, most_worker_handles_at}, NumberTable.row_by};
 ghost use Rattle.pagable_tables.specs.declared.{cascade.RefCounts.RefCounts, load_table.LoadRow.LoadRow};
 ghost use Rattle.pagable_tables.specs.declared.release.ReleaseSet.{ReleaseSet};
 ghost use Rattle.pagable_pager_spec.specs.{Calls.{is_named_by, moved}, Kinds.{find_row, held, is_owner, owner_value}};
@@ -149,7 +149,7 @@ fn join(t: &mut RefCounts, node: NodeNumber, references: Vec<ArcRef>, comes: boo
     ensures handles { Becomes t.old.handles (moved (is_named_by (coming comes references.items)) (owner_value node.0)
         (live t.old.handles.places.items)) t.new.handles }
     ensures counts { (n : ℕ) → counts_at t.new.nodes n ≡ counts_at t.old.nodes n }
-    ensures work { (n : ℕ) → work_at t.new.nodes n ≡ work_at t.old.nodes n }
+    ensures work { (n : ℕ) → most_worker_handles_at t.new.nodes n ≡ most_worker_handles_at t.old.nodes n }
     ensures here { comes ≡ true → refs_at t.new.nodes node.0 ≡ references.items }
     ensures others { (n : ℕ) → n ≢ node.0 → refs_at t.new.nodes n ≡ refs_at t.old.nodes n }
     ensures none { comes ≡ false → t.new ≡ t.old }
@@ -220,7 +220,7 @@ pub fn install<N: Drop>(
     lists: bool,
 ) -> HandleNumber
     requires whole { IsWhole t.old }
-    requires later { AreLater t.old }
+    requires later { OwnLaterHandles t.old }
     requires ready { (storage : StorageView) → IsEndReady (core_of t.old storage) me load node_type references.items
         ending }
     requires place { HasPlace t.old load ending }
@@ -284,7 +284,7 @@ pub fn load_drop<N: Drop>(
     lists: bool,
 ) -> Result<(), Error>
     requires whole { IsWhole t.old }
-    requires later { AreLater t.old }
+    requires later { OwnLaterHandles t.old }
     ensures { DoesShed lists t.old values.old (λ w w'. DropCall w me load result w') t.new values.new }
 {
     let row = load_row(t, me, load)?;
@@ -298,8 +298,8 @@ fn may_work(handles: &Handles, nodes: &mut Nodes, handle: HandleNumber)
     requires sound { AreSound handles.now }
     requires holding { (n : ℕ) → holds_in (counts_at nodes.old n) ≡ held n (live handles.now.places.items) }
     ensures here { IfSome (find_row handle.0 (live handles.now.places.items))
-        (λ row. held row.node.0 (live handles.now.places.items) ≤ work_at nodes.new row.node.0) }
-    ensures work { (n : ℕ) → work_at nodes.old n ≤ work_at nodes.new n }
+        (λ row. held row.node.0 (live handles.now.places.items) ≤ most_worker_handles_at nodes.new row.node.0) }
+    ensures work { (n : ℕ) → most_worker_handles_at nodes.old n ≤ most_worker_handles_at nodes.new n }
     ensures counts { (n : ℕ) → counts_at nodes.new n ≡ counts_at nodes.old n }
     ensures refs { (n : ℕ) → refs_at nodes.new n ≡ refs_at nodes.old n }
 {
@@ -318,7 +318,7 @@ fn all_may_work(handles: &Handles, nodes: &mut Nodes, named: &[HandleNumber], me
     requires holding { (n : ℕ) → holds_in (counts_at nodes.old n) ≡ held n (live handles.now.places.items) }
     requires worked { AreAtWork (live handles.now.places.items) nodes.old }
     ensures worked { AreAtWork (moved (is_in (numbers_of named.now)) me (live handles.now.places.items)) nodes.new }
-    ensures work { (n : ℕ) → work_at nodes.old n ≤ work_at nodes.new n }
+    ensures work { (n : ℕ) → most_worker_handles_at nodes.old n ≤ most_worker_handles_at nodes.new n }
     ensures counts { (n : ℕ) → counts_at nodes.new n ≡ counts_at nodes.old n }
     ensures refs { (n : ℕ) → refs_at nodes.new n ≡ refs_at nodes.old n }
 {
@@ -342,7 +342,7 @@ fn take_until<N: Drop>(
     lists: bool,
 )
     requires whole { IsWhole t.old }
-    requires later { AreLater t.old }
+    requires later { OwnLaterHandles t.old }
     requires free { (storage : StorageView)
         → hand_over_fault (core_of t.old storage) me load named.now ≡ None }
     requires up_to { IsOwnedUpTo t.old load until }
@@ -383,7 +383,7 @@ pub fn load_take<N: Drop>(
     lists: bool,
 ) -> Result<(), Error>
     requires whole { IsWhole t.old }
-    requires later { AreLater t.old }
+    requires later { OwnLaterHandles t.old }
     ensures { DoesShed lists t.old values.old (λ w w'. HandOverCall w me load named.now result w') t.new values.new }
 {
     if let Some(e) = hand_over_fault(t, me, load, named) {

@@ -1,7 +1,7 @@
 //! The last handle that a load owns, as its row notes it.
 
 ghost use Rattle.pagable_value_spec.specs.declared.numbers.LoadNumber.{LoadNumber};
-ghost use Rattle.pagable_tables.specs.Core.{AreLater, AreRaised, AreTold, IsOwnedUpTo, IsWhole, Notes};
+ghost use Rattle.pagable_tables.specs.Core.{OwnLaterHandles, AreRaised, AreTold, IsOwnedUpTo, IsWhole, Notes};
 ghost use Rattle.pagable_tables.specs.{HandleTable.AreSound, Indexes.load_at};
 ghost use Rattle.pagable_tables.specs.declared.{load_table.LoadRow.LoadRow, place.Place.Place};
 ghost use Rattle.pagable_pager_spec.specs.declared.handle_row.{HandleRow.HandleRow, Owner.Owner};
@@ -53,7 +53,7 @@ fn note_above(loads: &mut Loads, handles: &Handles, number: u64)
 /// it is called.
 fn note_all(t: &mut Tables)
     requires whole { IsWhole t.old }
-    requires later { AreLater t.old }
+    requires later { OwnLaterHandles t.old }
     ensures notes { Notes t.old t.new }
     ensures all { t.new.noted ≡ t.old.ref_counts.last_handle }
 {
@@ -66,7 +66,7 @@ fn note_all(t: &mut Tables)
 /// first; else it is the last handle number given out.
 pub fn last_of(t: &mut Tables, load: LoadNumber, since: u64) -> u64
     requires whole { IsWhole t.old }
-    requires later { AreLater t.old }
+    requires later { OwnLaterHandles t.old }
     ensures notes { Notes t.old t.new }
     ensures last { IsOwnedUpTo t.new load result }
 {

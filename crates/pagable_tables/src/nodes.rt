@@ -3,7 +3,7 @@
 ghost use Rattle.indexmap.specs.IndexMap.{get};
 ghost use Rattle.pagable_value_spec.specs.declared.data_key.OptionalDataKey.{OptionalDataKey};
 ghost use Rattle.pagable_tables.specs.CascadeInvariant.{is_worker};
-ghost use Rattle.pagable_tables.specs.Nodes.{cell_in, counts_at, key_in, pins_in, refs_at, work_at};
+ghost use Rattle.pagable_tables.specs.Nodes.{cell_in, counts_at, key_in, pins_in, refs_at, most_worker_handles_at};
 ghost use Rattle.pagable_tables.specs.NumberTable.{place_at, row_by};
 ghost use Rattle.pagable_pager_spec.specs.{Kinds.is_in_memory, Basics.{if_there, one, type_of}, Refusals.is_type};
 ghost use Rattle.pagable_pager_spec.specs.{World.Cell, declared.handle_row.Owner.Owner};
@@ -127,7 +127,7 @@ pub fn set_counts(nodes: &mut Nodes, node: u64, counts: Counts)
     ensures here { counts_at nodes.new node ≡ Some counts }
     ensures others { (q : ℕ) → q ≢ node → counts_at nodes.new q ≡ counts_at nodes.old q }
     ensures refs { (q : ℕ) → refs_at nodes.new q ≡ refs_at nodes.old q }
-    ensures work { (q : ℕ) → work_at nodes.new q ≡ work_at nodes.old q }
+    ensures work { (q : ℕ) → most_worker_handles_at nodes.new q ≡ most_worker_handles_at nodes.old q }
 {
     let rows = &mut nodes.chunks[chunk_of(node)];
     if let Some(row) = &mut rows[place_of(node)] {
@@ -137,7 +137,7 @@ pub fn set_counts(nodes: &mut Nodes, node: u64, counts: Counts)
 
 /// Returns an upper bound of how many handles of the node workers own, 0 if there is no such node.
 pub fn work_of(nodes: &Nodes, node: u64) -> u64
-    ensures { result ≡ work_at nodes.now node }
+    ensures { result ≡ most_worker_handles_at nodes.now node }
 {
     nodes.get(node).map_or(0, |row| row.at_work)
 }
@@ -146,8 +146,8 @@ pub fn work_of(nodes: &Nodes, node: u64) -> u64
 #[tactic(auto, unfolding(crate::specs::NumberTable::place_at, crate::specs::NumberTable::row_by))]
 pub fn set_work(nodes: &mut Nodes, node: u64, work: u64)
     requires { IsSome (counts_at nodes.old node) }
-    ensures here { work_at nodes.new node ≡ work }
-    ensures others { (q : ℕ) → q ≢ node → work_at nodes.new q ≡ work_at nodes.old q }
+    ensures here { most_worker_handles_at nodes.new node ≡ work }
+    ensures others { (q : ℕ) → q ≢ node → most_worker_handles_at nodes.new q ≡ most_worker_handles_at nodes.old q }
     ensures counts { (q : ℕ) → counts_at nodes.new q ≡ counts_at nodes.old q }
     ensures refs { (q : ℕ) → refs_at nodes.new q ≡ refs_at nodes.old q }
 {
@@ -164,7 +164,7 @@ pub fn pop_reference(nodes: &mut Nodes, node: u64) -> Option<ArcRef>
     ensures others { (q : ℕ) → q ≢ node → refs_at nodes.new q ≡ refs_at nodes.old q }
     ensures here { refs_at nodes.old node ≡ refs_at nodes.new node ++ option_to_list result }
     ensures none { IfNone result (refs_at nodes.new node ≡ []) }
-    ensures work { (q : ℕ) → work_at nodes.new q ≡ work_at nodes.old q }
+    ensures work { (q : ℕ) → most_worker_handles_at nodes.new q ≡ most_worker_handles_at nodes.old q }
 {
     let rows = nodes.chunks.get_mut(chunk_of(node))?;
     match rows.get_mut(place_of(node))? {
@@ -180,7 +180,7 @@ pub fn set_references(nodes: &mut Nodes, node: u64, references: Vec<ArcRef>)
     ensures counts { (q : ℕ) → counts_at nodes.new q ≡ counts_at nodes.old q }
     ensures here { refs_at nodes.new node ≡ references.items }
     ensures others { (q : ℕ) → q ≢ node → refs_at nodes.new q ≡ refs_at nodes.old q }
-    ensures work { (q : ℕ) → work_at nodes.new q ≡ work_at nodes.old q }
+    ensures work { (q : ℕ) → most_worker_handles_at nodes.new q ≡ most_worker_handles_at nodes.old q }
 {
     let rows = &mut nodes.chunks[chunk_of(node)];
     if let Some(row) = &mut rows[place_of(node)] {
@@ -209,7 +209,8 @@ pub fn is_here(counts: Option<Counts>) -> bool
 
 /// Says whether a node with these counts has the type of this kind.
 pub fn is_of(counts: Option<Counts>, kind: Kind) -> bool
-    ensures { result ≡ is_type (type_of kind.0) (if_there (λ (cell : Cell). Some cell.node_type) None (cell_in counts)) }
+    ensures { result ≡ is_type (type_of kind.0) (if_there (λ (cell : Cell). Some cell.node_type) None
+        (cell_in counts)) }
 {
     counts.map_or(false, |c| c.node_type == kind.node_type())
 }
@@ -230,9 +231,9 @@ pub fn counts_more(counts: Counts, pinning: bool) -> Counts
 /// Adds one to the node's bound of handles that workers own, if `owner` is a worker.
 pub fn add_work(nodes: &mut Nodes, node: u64, owner: Owner)
     requires { IsSome (counts_at nodes.old node) }
-    ensures here { (k : ℕ) → k < 2 ^ 64 → k ≤ work_at nodes.old node + one (is_worker owner)
-        → k ≤ work_at nodes.new node }
-    ensures others { (q : ℕ) → work_at nodes.old q ≤ work_at nodes.new q }
+    ensures here { (k : ℕ) → k < 2 ^ 64 → k ≤ most_worker_handles_at nodes.old node + one (is_worker owner)
+        → k ≤ most_worker_handles_at nodes.new node }
+    ensures others { (q : ℕ) → most_worker_handles_at nodes.old q ≤ most_worker_handles_at nodes.new q }
     ensures counts { (q : ℕ) → counts_at nodes.new q ≡ counts_at nodes.old q }
     ensures refs { (q : ℕ) → refs_at nodes.new q ≡ refs_at nodes.old q }
 {

@@ -2,7 +2,7 @@
 
 ghost use Rattle.pagable_tables.specs.Core.{StorageView};
 ghost use Rattle.pagable_value_spec.specs.declared.numbers.LoadNumber.{LoadNumber};
-ghost use Rattle.pagable_tables.specs.Core.{AreLater, DoesShed, InReach, IsNoLess, IsWhole, MayHold, core_of};
+ghost use Rattle.pagable_tables.specs.Core.{OwnLaterHandles, DoesShed, InReach, IsNoLess, IsWhole, MayHold, core_of};
 ghost use Rattle.pagable_tables.specs.{Core.core_alone, Indexes.{reach_at, worker_at}};
 ghost use Rattle.pagable_pager_spec.specs.{Calls.{ScheduleCall, TakeCall}, Kinds.{is_owner, is_unpinned, owner_worker}};
 ghost use Rattle.pagable_pager_spec.specs.{declared.handle_row.Owner.Owner};
@@ -77,7 +77,7 @@ pub fn take_pending(t: &mut Tables, me: Owner, place: usize) -> Option<HandleNum
     requires holder { MayHold (core_alone t.old) me }
     ensures taken { (storage : StorageView) → TakeCall (core_of t.old storage) me place result (core_of t.new storage) }
     ensures whole { IsWhole t.new }
-    ensures later { ((m : LoadNumber) → is_owner (Owner.Load m) me ≡ false) → AreLater t.old → AreLater t.new }
+    ensures later { ((m : LoadNumber) → is_owner (Owner.Load m) me ≡ false) → OwnLaterHandles t.old → OwnLaterHandles t.new }
 {
     if place >= t.ref_counts.list.len() {
         return None;

@@ -5,7 +5,7 @@ ghost use Rattle.indexmap.specs.IndexMap.{get};
 ghost use Rattle.pagable_value_spec.specs.declared.{data_key.OptionalDataKey.OptionalDataKey};
 ghost use Rattle.pagable_value_spec.specs.declared.numbers.NodeNumber.{NodeNumber};
 ghost use Rattle.pagable_tables.specs.{Core.{IsWhole, core_of, core_alone}, Nodes.key_in};
-ghost use Rattle.pagable_pager_spec.specs.{Calls.{AwayCall, CountCall, KeyCall, Looks, NodeCall, TypeCall}, Events.IsEntry};
+ghost use Rattle.pagable_pager_spec.specs.{Calls.{IsPagedOutCall, CountCall, KeyCall, Looks, NodeCall, TypeCall}, Events.IsEntry};
 ghost use Rattle.pagable_pager_spec.specs.{Kinds.{is_loose, is_pinning}, World.key_at};
 ghost use Rattle.pagable_pager_spec.specs.declared.handle_row.HandleRow.{HandleRow};
 ghost use Rattle.std.specs.Prelude.{IfNone, IfSome, None, Ok, Option, Some, if◌then◌else◌, length, ◌*◌};
@@ -79,7 +79,7 @@ pub fn key(t: &Tables, handle: HandleNumber) -> Result<OptionalDataKey, Error>
 /// - `NoSuchHandle` if the handle isn't live.
 pub fn is_paged_out(t: &Tables, handle: HandleNumber) -> Result<bool, Error>
     requires { IsWhole t.now }
-    ensures { (storage : StorageView) → AwayCall (core_of t.now storage) handle result }
+    ensures { (storage : StorageView) → IsPagedOutCall (core_of t.now storage) handle result }
 {
     let at = handle_table::look(&t.ref_counts.handles, handle).ok_or(Error::NoSuchHandle)?;
     Ok(!is_here(nodes::counts_of(&t.ref_counts.nodes, at.row.node.0)))

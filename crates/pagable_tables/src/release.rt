@@ -8,9 +8,9 @@ ghost use Rattle.pagable_value_spec.specs.declared.numbers.{LoadNumber.LoadNumbe
 ghost use Rattle.pagable_value_spec.specs.declared.numbers.WorkerNumber.{WorkerNumber};
 ghost use Rattle.pagable_tables.specs.CascadeInvariant.{AreAtWork, IsFalling, is_valued, owns_nothing};
 ghost use Rattle.pagable_tables.specs.CascadeProgress.{SoFar, with_tables};
-ghost use Rattle.pagable_tables.specs.Core.{AreLater, DoesShed, InReach, IsLast, IsWhole, LoadsAre, core_of};
+ghost use Rattle.pagable_tables.specs.Core.{OwnLaterHandles, DoesShed, InReach, IsLast, IsWhole, LoadsAre, core_of};
 ghost use Rattle.pagable_tables.specs.{Core.{gives_row, passes_in}, HandleTable.{AreSound, alive, live}};
-ghost use Rattle.pagable_tables.specs.{Nodes.{counts_at, work_at}, NumberTable.row_by, ValuesKept.Sheds};
+ghost use Rattle.pagable_tables.specs.{Nodes.{counts_at, most_worker_handles_at}, NumberTable.row_by, ValuesKept.Sheds};
 ghost use Rattle.pagable_tables.specs.declared.{cascade.RefCounts.RefCounts, release.ReleaseSet.ReleaseSet};
 ghost use Rattle.pagable_pager_spec.specs.Calls.{CloseCall, ReleaseCall, SetKeyCall, UnpinCall};
 ghost use Rattle.pagable_pager_spec.specs.{Cascade.{Falls, nobody, only_handle}, Kinds.is_owner, LoadCalls.is_owned_in};
@@ -99,7 +99,7 @@ fn last(
 /// Says whether the set is that of a worker at a node of which no worker owns a handle.
 fn is_done(nodes: &Nodes, giving: ReleaseSet) -> bool
     ensures { result ≡ true → (v : WorkerNumber) × (n : NodeNumber) × (giving ≡ ReleaseSet.AtNode v n)
-        × (work_at nodes.now n.0 ≡ 0) }
+        × (most_worker_handles_at nodes.now n.0 ≡ 0) }
 {
     match giving {
         ReleaseSet::AtNode(_, node) => nodes::work_of(nodes, node.0) == 0,
@@ -190,7 +190,7 @@ pub fn close<N: Drop>(t: &mut Tables, values: &mut Arcs<N>)
     ensures closed { (storage : StorageView) (failures : ℕ) → storage.failures ≤ failures
         → CloseCall (core_of t.old storage) (Ok tt) (core_of t.new (shut_view failures)) }
     ensures whole { IsWhole t.new }
-    ensures later { AreLater t.old → AreLater t.new }
+    ensures later { OwnLaterHandles t.old → OwnLaterHandles t.new }
     ensures sheds { Sheds (counts_at t.old.ref_counts.nodes) (row_by values.old) (counts_at t.new.ref_counts.nodes)
         (row_by values.new) }
 {

@@ -80,7 +80,7 @@ fn references_of(nodes: &Nodes, node: u64) -> &[ArcRef]
 }
 
 // Says whether exactly one of these references has this handle.
-fn is_named_once(references: &[ArcRef], handle: u64) -> bool
+fn is_in_one_reference(references: &[ArcRef], handle: u64) -> bool
     ensures { result ≡ (count_by (λ (r : Reference). r.handle.0 == handle) references.now == 1) }
 {
     let named = references.iter().filter(|r| r.handle.0 == handle);
@@ -103,7 +103,7 @@ fn is_had(t: &Tables, row: HandleRow) -> bool
     match row.owner {
         Owner::Caller => true,
         Owner::Value(node) => {
-            is_named_once(references_of(&t.ref_counts.nodes, node.0), row.number.0)
+            is_in_one_reference(references_of(&t.ref_counts.nodes, node.0), row.number.0)
         }
         Owner::List => is_unpinned(row.mode) && is_listed_once(t, row.number.0),
         Owner::Load(load) => load_table::load_of(&t.loads, load.0).is_some(),

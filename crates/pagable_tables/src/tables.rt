@@ -1,7 +1,7 @@
 //! All tables of a pager together, and the room that they have for handles and list entries.
 
 ghost use Rattle.pagable_value_spec.specs.declared.numbers.NodeNumber.{NodeNumber};
-ghost use Rattle.pagable_tables.specs.{Core.{AreLater, Does, IsWhole, core_alone}, HandleTable.room};
+ghost use Rattle.pagable_tables.specs.{Core.{OwnLaterHandles, Does, IsWhole, core_alone}, HandleTable.room};
 ghost use Rattle.pagable_tables.specs.{Indexes.{known_at, load_at, worker_at}, Nodes.counts_at};
 ghost use Rattle.pagable_tables.specs.declared.cascade.RefCounts.{RefCounts};
 ghost use Rattle.pagable_pager_spec.specs.Calls.{ClearCall, ReserveCall, room_of};
@@ -62,7 +62,7 @@ pub fn new(alloc: Global) -> Tables
     ensures last { (result.last_node ≡ 0) × (result.ref_counts.last_handle ≡ 0) × (result.last_load ≡ 0)
         × (result.last_worker ≡ 0) }
     ensures whole { IsWhole result }
-    ensures later { AreLater result }
+    ensures later { OwnLaterHandles result }
 {
     Tables {
         ref_counts: RefCounts {

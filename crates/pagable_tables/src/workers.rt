@@ -2,7 +2,7 @@
 
 ghost use Rattle.indexmap.specs.IndexMap.{get};
 ghost use Rattle.pagable_value_spec.specs.declared.numbers.{NodeNumber.NodeNumber, WorkerNumber.WorkerNumber};
-ghost use Rattle.pagable_tables.specs.Core.{AreLater, BeginsWorker, Does, DoesShed, IsWhole, TakesWorker, left_load};
+ghost use Rattle.pagable_tables.specs.Core.{OwnLaterHandles, BeginsWorker, Does, DoesShed, IsWhole, TakesWorker, left_load};
 ghost use Rattle.pagable_tables.specs.Indexes.{load_at, reach_at, worker_at};
 ghost use Rattle.pagable_tables.specs.declared.{load_table.LoadRow.LoadRow, release.ReleaseSet.ReleaseSet};
 ghost use Rattle.pagable_pager_spec.specs.{Cascade.FallsAnyhow, Kinds.{is_owner, owner_worker}, Basics.updated};
@@ -75,7 +75,7 @@ pub fn release_node<N: Drop>(
     lists: bool,
 )
     requires whole { IsWhole t.old }
-    requires later { AreLater t.old }
+    requires later { OwnLaterHandles t.old }
     ensures { DoesShed lists t.old values.old (λ w w'. FallsAnyhow w w (is_workers_at w worker.0 node.0) w') t.new
         values.new }
 {
@@ -109,7 +109,7 @@ fn close_loads(loads: &mut Loads, worker: WorkerNumber)
 /// loads.
 pub fn worker_end<N: Drop>(t: &mut Tables, values: &mut Arcs<N>, worker: WorkerNumber, lists: bool)
     requires whole { IsWhole t.old }
-    requires later { AreLater t.old }
+    requires later { OwnLaterHandles t.old }
     ensures { DoesShed lists t.old values.old (λ w w'. WorkerEnds w worker.0 w') t.new values.new }
 {
     let giving = ReleaseSet::Worker(worker);

@@ -1,5 +1,5 @@
 -- The errors of a storage that fails once, and of one that passes on the errors of its memory.
-use Rattle.{pagable_testkit.specs.Failing.failures_of, pagable_value_spec.specs.{Blob.Blob, Stored.{HasFailed, RefusesFetch, RefusesStore, RefusesFlush}, declared.error.Error.Error}}
+use Rattle.{pagable_testkit.specs.Failing.failures_of, pagable_value_spec.specs.{Blob.Blob, Stored.{HasFailed, RefusesFetch, RefusesStore, IsMemoryOrFailure}, declared.error.Error.Error}}
 use Rattle.futures.specs.{Poll.IfReady, declared.task.Poll.Poll}
 use Rattle.std.{proofs.{Common.{◌≡◌, ◌+◌, ◌-◌, ◌^◌, ◌<◌, ℕ, Bool, true, false, min, arith, Option, Result, Ok, Err, inl, inr}, lemmas.Bool.cases_lt}, specs.{Int.from_bool, Prelude.IfErr}}
 
@@ -34,7 +34,7 @@ module _ {X : Type 0} (failed : Bool) (before after : ℕ) where
   store_may_refuse (Ok x) blob closed h = tt
   store_may_refuse (Err e) blob closed h = (h.0, store_refused (Err e) blob h.0 closed h.1)
 
-  pub flush_refused : (r : Result X Error) → IfErr r (RefusesFlush before after) → IfErr r (RefusesFlush (failures_of failed before) (failures_of failed after))
+  pub flush_refused : (r : Result X Error) → IfErr r (IsMemoryOrFailure before after) → IfErr r (IsMemoryOrFailure (failures_of failed before) (failures_of failed after))
   flush_refused x0 h = grind (arith, passed-on)
 
 pub ruleset refusing = (own_failure, fetch_refused, poll_refused, store_refused, store_may_refuse, flush_refused)
@@ -57,7 +57,7 @@ module _ {X : Type 0} (c : ℕ) where
   store_may_be_passed (Ok x) blob closed h = tt
   store_may_be_passed (Err e) blob closed h = (h.0, store_passed (Err e) blob h.0 closed h.1)
 
-  pub flush_passed : (r : Result X Error) → IfErr r (RefusesFlush 0 0) → IfErr r (RefusesFlush c c)
+  pub flush_passed : (r : Result X Error) → IfErr r (IsMemoryOrFailure 0 0) → IfErr r (IsMemoryOrFailure c c)
   flush_passed x0 h = grind (arith, never)
 
 pub ruleset unfailing = (fetch_passed, store_passed, store_may_be_passed, flush_passed)

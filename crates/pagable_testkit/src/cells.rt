@@ -10,7 +10,7 @@ use pagable_traits::{
 use std::alloc::Global;
 use std::marker::PhantomData;
 
-/// The environment of these values. The hash `H` computes its keys.
+/// The environment of the values of test cases (`CellNode`). The hash `H` computes its keys.
 #[derive(Drop)]
 pub struct CellEnv<H> {
     hash: PhantomData<H>,
@@ -42,13 +42,14 @@ type Lists = (
     (Vec<RawRef<7>>, (Vec<RawRef<8>>, (Vec<RawRef<1>>, Names))),
 );
 
-/// A byte and lists.
+/// A byte, and lists of references.
 type Mixed = (u8, Lists);
 
-/// A link to the next link by a loose reference, of the link's own kind.
+/// A link that may refer to another link by a loose reference. Its type number is 3, so the kind is
+/// 10.
 type Link = Chain<10>;
 
-/// A link to the next link by a shared reference, of the link's own kind.
+/// A link that may refer to another by a shared reference. Its type number is 4, so the kind is 12.
 type ArcLink = Chain<12>;
 
 /// Shared references to names.

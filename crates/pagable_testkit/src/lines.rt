@@ -48,7 +48,8 @@ pub trait Answering {
     ) -> io::Result<()>;
 }
 
-/// Has each line of the input answered, one after another, and flushes each answer.
+/// Reads the lines of the input one after another, has `answering` write the answer to each, and
+/// flushes it.
 ///
 /// # Errors
 ///
@@ -67,7 +68,7 @@ pub fn serve<A: Answering, R: BufRead, W: Write + Drop>(
     outcome
 }
 
-/// Has each line of the input answered, into a buffered writer.
+/// Reads each line, has `answering` write its answer to a buffered writer, and flushes that.
 fn answer_each<A: Answering, R: BufRead, W: Write>(
     alloc: Global,
     answering: &mut A,

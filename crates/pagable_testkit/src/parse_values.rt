@@ -21,7 +21,7 @@ pub fn references(alloc: Global, spelled: &str) -> anyhow::Result<Vec<ArcRef>> {
     Ok(references)
 }
 
-/// Parses a reference: its kind, its node and its handle.
+/// Parses a reference `KIND:NODE:HANDLE`. A part that is no number, or is missing, is 0.
 fn reference(word: &str) -> ArcRef {
     let (kind, rest) = word.split_once(':').unwrap_or((word, ""));
     let (node, handle) = rest.split_once(':').unwrap_or((rest, ""));
@@ -59,8 +59,8 @@ fn link<const KIND: u32>(reference: ArcRef) -> anyhow::Result<Chain<KIND>> {
     })
 }
 
-/// Appends a value as lines spell it, without its type. The byte before lists is left out if it is
-/// 0.
+/// Appends a value as lines spell it, without its type: a text, two bytes in hex, or its
+/// references. Before those of a `Mixed` value stand its byte and `/`, unless the byte is 0.
 pub fn push_node(alloc: Global, text: &mut String, node: &CellNode) -> Result<(), Error> {
     match node {
         CellNode::Name(name) | CellNode::Note(name) => text.push_str(name.as_str())?,
@@ -97,7 +97,7 @@ pub fn node(alloc: Global, spelled: &str) -> anyhow::Result<CellNode> {
     }
 }
 
-/// Parses a byte and lists.
+/// Parses a `Mixed` value, such as `5/7:1:2`.
 fn mixed(alloc: Global, spelled: &str) -> anyhow::Result<CellNode> {
     let (tag, rest) = spelled.split_once('/').unwrap_or(("0", spelled));
     let tag = tag.parse::<u8>()?;
@@ -111,7 +111,7 @@ fn mixed(alloc: Global, spelled: &str) -> anyhow::Result<CellNode> {
     Ok(node)
 }
 
-/// Makes a value that holds references of one kind.
+/// Makes a value of the type 3, 4, 5 or 6, which holds these references. Fails for another type.
 fn node_case(alloc: Global, node_type: &str, references: &[ArcRef]) -> anyhow::Result<CellNode> {
     match (node_type, references) {
         ("5", names) => Ok(CellNode::Names(of_kinds(alloc, names)?)),

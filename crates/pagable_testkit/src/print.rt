@@ -38,7 +38,7 @@ fn fault(word: &'static str, refusal: &Error) -> Told {
     (word, number, None)
 }
 
-/// Returns the result of a load's begin.
+/// Returns `memory`, or `load` with the load's number and key.
 fn begun(begun: &Beginning) -> Told {
     match begun {
         Beginning::InMemory => ("memory", None, None),
@@ -204,7 +204,8 @@ fn push_work(
     }
 }
 
-/// Appends what was written of a value, as an item is spelled.
+/// Appends a space and what was written of a value: `0x` and the bytes in hex, a colon, and the
+/// references, separated by commas.
 fn push_written(alloc: Global, text: &mut String, written: &SerializedData) -> anyhow::Result<()> {
     text.push_str(" ")?;
     push_bytes(alloc, text, written.bytes.as_slice())?;

@@ -73,8 +73,8 @@ impl<'a> Write for Faltering<'a> {
     }
 }
 
-/// Returns whether `serve` answered all lines, and how many bytes of the writer's buffer stayed
-/// free.
+/// Runs `serve` with a writer into `free` that fails once, after `left` bytes. Returns whether
+/// `serve` answered all lines, and how many bytes of `free` it left unwritten.
 fn serve_into(
     alloc: Global,
     source: Source<'_>,

@@ -1,7 +1,7 @@
 //! Storages for tests: one over another storage, which fails once; and one in memory, which answers
 //! wrongly once.
 
-ghost use Rattle.std.specs.Prelude.{◌≡◌, true, false};
+ghost use Rattle.std.specs.Prelude.{◌≡◌, not, true, false};
 ghost use Rattle.pagable_testkit.specs.Failing.{failures_of};
 
 use futures::task::{Context, Poll};
@@ -30,7 +30,7 @@ impl<S> FailingStorage<S> {
         }
     }
 
-    /// Returns whether this call is the one that fails.
+    /// Counts this call, and returns whether it is the one that fails.
     fn fails_now(&mut self) -> bool
         ensures same_inner { self.new.inner ≡ self.old.inner }
         ensures raised { result ≡ true → (self.old.has_failed ≡ false) × (self.new.has_failed ≡ true) }
@@ -133,7 +133,6 @@ pub struct DoubtfulBlobs<E: Env> {
     fetches_before: u64,
     has_lied: bool,
     failures: u64,
-    // No call reads this field.
     is_honest: bool,
 }
 
@@ -151,7 +150,14 @@ impl<E: Env> DoubtfulBlobs<E> {
         }
     }
 
-    /// Returns whether this fetch is the one that is answered wrongly.
+    /// Returns whether the wrong answer was taken for true.
+    pub fn was_believed(&self) -> bool
+        ensures { result ≡ not self.now.is_honest }
+    {
+        !self.is_honest
+    }
+
+    /// Counts this fetch, and returns whether it is the one that is answered wrongly.
     fn lies_now(&mut self) -> bool
         ensures blobs { self.new.blobs ≡ self.old.blobs }
         ensures failures { self.new.failures ≡ self.old.failures }
@@ -234,48 +240,5 @@ impl<E: Env> PagableStorage<E> for DoubtfulBlobs<E> {
 
     fn failures(&self) -> u64 {
         self.failures
-    }
-}
-
-#[cfg(test)]
-mod tests {
-    use super::*;
-    use crate::text::TextEnv;
-    use pagable_core::Sha256Key;
-
-    fn one_blob(alloc: Global) -> Result<PagableData, Error> {
-        Ok(PagableData {
-            bytes: vec![in alloc; 5]?,
-            arcs: Vec::new(alloc),
-        })
-    }
-
-    #[test]
-    fn refuses_a_blob_of_another_key(rt: HostRuntime) -> Result<(), Error> {
-        let alloc = rt.alloc();
-        let blobs = InMemoryBlobs::<TextEnv<Sha256Key>>::new(alloc);
-        let mut storage = DoubtfulBlobs::new(blobs, Lie::Empty, 1);
-        let key = storage.store_data(alloc, one_blob(alloc)?)?;
-        assert!(rt; storage.fetch_data_blocking(alloc, key).is_ok());
-        let refused = storage.fetch_data_blocking(alloc, key);
-        assert!(rt; matches!(refused, Err(Error::Storage(2))));
-        assert_eq!(rt; storage.failures(), 1);
-        assert!(rt; storage.is_honest);
-        assert!(rt; storage.fetch_data_blocking(alloc, key).is_ok());
-        Ok(())
-    }
-
-    #[test]
-    fn takes_a_missing_blob_as_true(rt: HostRuntime) -> Result<(), Error> {
-        let alloc = rt.alloc();
-        let blobs = InMemoryBlobs::<TextEnv<Sha256Key>>::new(alloc);
-        let mut storage = DoubtfulBlobs::new(blobs, Lie::Nothing, 0);
-        let key = storage.store_data(alloc, one_blob(alloc)?)?;
-        let refused = storage.fetch_data_blocking(alloc, key);
-        assert!(rt; matches!(refused, Err(Error::NoData(_))));
-        assert_eq!(rt; storage.failures(), 0);
-        assert!(rt; !storage.is_honest);
-        assert!(rt; storage.fetch_data_blocking(alloc, key).is_ok());
-        Ok(())
     }
 }

@@ -4,8 +4,8 @@ use Rattle.pagable_theorems.proofs.{RoundTrip.{Under, alone, here, narrowed, par
 use Rattle.pagable_theorems.proofs.Trees.{more-two, no-two, none-along, number-along, one-two, pair-along, pattern-along, plain-along, put_all-two, reference-along, sequence-two, sorted-two, text-along}
 use Rattle.pagable_theorems.proofs.{Trees.variant-along, Words.{Bool, Err, Error, Form, IsReadable, LiesIn, List, Meaning, None, Ok, Option, Result, Shape, Some, Throughout, [], ap, append-nil}}
 use Rattle.pagable_theorems.proofs.Words.{append_assoc, arith, cases_Bool, cases_lt, drop, followed, if◌then◌else◌, inl, inr, length, length-append, map, nat_tests, none, pair, put_all, read, refl}
-use Rattle.pagable_theorems.{proofs.Words.{rename, rest, rules, subst, suc, sym, true, variant, zero, ℕ, ◌*◌, ◌++◌, ◌+◌, ◌==◌, ◌∙◌, ◌∷◌, ◌≡◌, ◌≤◌, ◌⊎◌}, specs.FormLaws.{IsLasting, IsLocal, IsNatural}}
-use Rattle.{pagable_theorems.specs.FormLaws.{IsReadOver, IsReadThrough, IsRenamed, IsUsed, KeepsForms, at, with_more}, pagable_value_spec.specs.BasicValues.{bool_at, bytes_at, carried, char_at, duration_at}}
+use Rattle.pagable_theorems.{proofs.Words.{rename, rest, rules, subst, suc, sym, true, variant, zero, ℕ, ◌*◌, ◌++◌, ◌+◌, ◌==◌, ◌∙◌, ◌∷◌, ◌≡◌, ◌≤◌, ◌⊎◌}, specs.FormLaws.{FaultStays, IsLocal, IsNatural}}
+use Rattle.{pagable_theorems.specs.FormLaws.{IsReadOver, IsReadThrough, RenamesLookUps, IsUsed, KeepsForms, at, with_more}, pagable_value_spec.specs.BasicValues.{bool_at, bytes_at, carried, char_at, duration_at}}
 use Rattle.pagable_value_spec.specs.{BasicValues.{length_at, longest, nanos_of_second, text_at}, Canonical.HasNoReference, CarriedTypes.{of_entries, of_hash_map, of_tagged}, Keys.{code_order, put_placed_item}}
 use Rattle.pagable_value_spec.specs.{Keys.{put_sorted, put_sorted_item, text_order}, Meaning.{absent, entry, failure, lifted, present, sequence, success}, Numbers.{Read, byte_at, last_of, more_of}}
 use Rattle.pagable_value_spec.specs.{Numbers.{signed_at, signed_from, unsigned_at, varint_at}, Reading.{Context, Deeper, Gets, JsonCase, Look, Rest, array_case, below, bytes_of, choose, counted, deepest}}
@@ -448,7 +448,7 @@ used context s input after m e =
     let alone : more f.used (rest [] []) ≡ f.used = rw (append-nil f.used.bytes, append-nil f.used.refs) refl in
     record { bytes = f.used.bytes; refs = f.used.refs; whole = f.whole; alone = rw alone at (f.reads (rest [] [])) }
 
-pub lasting : {A B : Type 0} → IsLasting A B
+pub lasting : {A B : Type 0} → FaultStays A B
 lasting context s front x y e is not_end not_keys = elim (comes-of context s front is).1
     [ inl end ↦ absurd (grind (arith, nat_tests)) | inr stays ↦ stays (rest x y) ]
 
@@ -507,7 +507,7 @@ pub read_over : {A B C : Type 0} → IsReadOver A B C
 read_over f look levels parts s input = natural f (λ b. b) (λ kind a. look kind (f a)) look levels parts s input (λ kind a. grind (arith, nat_tests))
     ∙ (grind (arith, nat_tests, rename_same))
 
-pub renamed : {A B D : Type 0} → IsRenamed A B D
+pub renamed : {A B D : Type 0} → RenamesLookUps A B D
 renamed {A} {B} {D} g look levels parts s input =
     let all = natural (λ a. a) g look (λ kind a. look kind a >>= λ b. Ok (g b)) levels parts s input (λ kind a. refl) in
     ap (λ (k : List A). read (at levels (λ kind a. look kind a >>= λ b. Ok (g b)) parts) s (rest input.bytes k)) (sym (map-id input.refs)) ∙ all

@@ -5,7 +5,7 @@ use Rattle.pagable_theorems.proofs.Words.{EventReply, Frame, HandleNumber, Handl
 use Rattle.pagable_theorems.proofs.Words.{Some, Task, Todo, Action, World, WorkerNumber, WorkerReply, WorkerSteps, [], answer_after, any_mode, arith, false, inl, inr, nat_tests, owner_worker, refl, row_at, subst, sym, to_finish, true}
 use Rattle.pagable_theorems.proofs.Words.{to_item, to_load, to_pin, to_set, to_start, to_write, ℕ, ◌∙◌, ◌∷◌, ◌≡◌, ◌⊎◌}
 use Rattle.pagable_theorems.specs.RefusalLaws.{StorageIsTold, TellsOfStorage, refusal_of, refusal_of_end, refusal_of_reply, refusal_of_step}
-use Rattle.{pagable_value_spec.specs.Stored.{HasFailed, RefusesFlush, RefusesStore}, pagable_pager_spec.specs.Calls.{InsertPagedOutCall, InsertCall, IsRefused, Looks, OfferCall, RecallCall, ReleaseCall, ScheduleCall}}
+use Rattle.{pagable_value_spec.specs.Stored.{HasFailed, IsMemoryOrFailure, RefusesStore}, pagable_pager_spec.specs.Calls.{InsertPagedOutCall, InsertCall, IsRefused, Looks, OfferCall, RecallCall, ReleaseCall, ScheduleCall}}
 use Rattle.pagable_pager_spec.specs.{Calls.{SetKeyCall, UnpinCall, insert_fault}, Cascade.Falls, Events.{Ends, StartedItem, StartedListed}, Kinds.{fits_mode, is_loose, is_pinned, is_unpinned}}
 use Rattle.pagable_pager_spec.specs.{LoadCalls.{AdoptCall, BeginCall, BeginKeyCall, DropCall, EndCall, HandOverCall, LazyCall, cell_fault, root_fault}, declared.events.TableNumber.TableNumber, Refusals.{handle_fault, live_fault, spent, where_so}}
 use Rattle.pagable_pager_spec.specs.Workers.{ClaimStep, KeySetFor, PinRefused, claim_fault}
@@ -146,7 +146,7 @@ said w w' _ (says-else e says) = silent w w' e says
 of-store : (w w' : Core) (blob : Blob) (found : Option Blob) (closed : Bool) (e : Error) → RefusesStore blob found closed w.failures w'.failures e → Says w w' e
 of-store w w' blob found closed e h = grind (arith, nat_tests, has-failed, says-else)
 
-of-flush : (w w' : Core) (e : Error) → RefusesFlush w.failures w'.failures e → Says w w' e
+of-flush : (w w' : Core) (e : Error) → IsMemoryOrFailure w.failures w'.failures e → Says w w' e
 of-flush w w' e h = grind (arith, nat_tests, has-failed, says-else)
 
 module _ {N B W : Type 0} (m : Seen N B W) (lawful : IsLawful m.values) (w : Core) (me : Owner) (w' : Core) where

@@ -61,8 +61,8 @@ IsUsed A B = (context : Context A B) (s : Shape) (input after : Rest A) (m : Mea
     ≡ Ok (m, after) → Used context s input after m
 
 -- A fault stays the first fault whatever follows, unless the fault is that the bytes or the references end.
-abbrev pub IsLasting : Type 0 → Type 0 → Type 0
-IsLasting A B = (context : Context A B) (s : Shape) (front : Rest A) (x : List ℕ) (y : List A) (e : Error)
+abbrev pub FaultStays : Type 0 → Type 0 → Type 0
+FaultStays A B = (context : Context A B) (s : Shape) (front : Rest A) (x : List ℕ) (y : List A) (e : Error)
     → read context s front ≡ Err e → (e ≡ Error.UnexpectedEnd → ⊥) → (e ≡ Error.NoMoreKeys → ⊥)
     → read context s (with_more front x y) ≡ Err e
 
@@ -83,8 +83,8 @@ IsReadOver A B C = (f : A → C) (look : Look C B) (levels : ℕ) (parts : ℕ �
     (x.0, rest x.1.bytes (map f x.1.refs)))
 
 -- Renaming the results of look-ups is the same as renaming what was read.
-abbrev pub IsRenamed : Type 0 → Type 0 → Type 0 → Type 0
-IsRenamed A B D = (g : B → D) (look : Look A B) (levels : ℕ) (parts : ℕ → Shape) (s : Shape) (input : Rest A)
+abbrev pub RenamesLookUps : Type 0 → Type 0 → Type 0 → Type 0
+RenamesLookUps A B D = (g : B → D) (look : Look A B) (levels : ℕ) (parts : ℕ → Shape) (s : Shape) (input : Rest A)
     → read (at levels (λ kind a. look kind a >>= λ b. Ok (g b)) parts) s input
     ≡ (read (at levels look parts) s input >>= λ x. Ok (rename g x.0, x.1))
 

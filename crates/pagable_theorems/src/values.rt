@@ -2,7 +2,7 @@
 #![tactic(auto, using(crate::proofs::Laws::value_laws))]
 
 ghost use Rattle.{std.specs.Prelude.ℕ, pagable_value_spec.specs.{Canonical.{IsReadable, Throughout}, Shape.Shape}};
-ghost use Rattle.pagable_theorems.specs.FormLaws.{IsReadAgain, IsPrefixFree, CanonicalHasOneForm, IsLocal, IsUsed, IsLasting, IsNatural, IsReadOver, IsRenamed, IsReadThrough, KeepsForms};
+ghost use Rattle.pagable_theorems.specs.FormLaws.{IsReadAgain, IsPrefixFree, CanonicalHasOneForm, IsLocal, IsUsed, FaultStays, IsNatural, IsReadOver, RenamesLookUps, IsReadThrough, KeepsForms};
 ghost use Rattle.pagable_theorems.specs.FormLaws.{IsOneKeyMeaning, IsAnyOrder, FloatHasNoForm, WholeIsBounded, TreeLaws, IsOneItemKey};
 
 /// States the laws of forms and of the keys of maps.
@@ -40,10 +40,10 @@ pub fn forms<A, B>()
 pub fn reading<A, B, C, D>()
     ensures is_local { IsLocal A B }
     ensures is_used { IsUsed A B }
-    ensures is_lasting { IsLasting A B }
+    ensures fault_stays { FaultStays A B }
     ensures is_natural { IsNatural A B C D }
     ensures is_read_over { IsReadOver A B C }
-    ensures is_renamed { IsRenamed A B D }
+    ensures renames_look_ups { RenamesLookUps A B D }
     ensures is_read_through { IsReadThrough A B C D }
 {}
 

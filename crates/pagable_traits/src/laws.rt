@@ -33,7 +33,8 @@ pub fn hash_map_is_carried<
     K: PagableKey<E> + Hash + PagableSerialize<E> + PagableDeserialize<'static, E> + Drop,
     V: PagableSerialize<E> + PagableDeserialize<'static, E> + Drop,
 >()
-    ensures means { (x : _) (m : Meaning Reference) → ⟦<HashMap<K, V> as Carried<E>>⟧.means.of x m ↔ MeansHashMap K.Carried.means.of V.Carried.means.of x.entries m }
+    ensures means { (x : _) (m : Meaning Reference) → ⟦<HashMap<K, V> as Carried<E>>⟧.means.of x m
+        ↔ MeansHashMap K.Carried.means.of V.Carried.means.of x.entries m }
     ensures any_order { (x y : _) (m : Meaning Reference) → IsUnique K.eq x → IsPermutation x.entries y.entries
         → ⟦<HashMap<K, V> as Carried<E>>⟧.means.of x m → ⟦<HashMap<K, V> as Carried<E>>⟧.means.of y m }
 {}
@@ -62,7 +63,8 @@ pub fn carried_types_are_read<
         ∷ ⟦<Duration as Carried<E>>⟧.shape e ∷ ⟦<Value as Carried<E>>⟧.shape e ∷ []) }
     ensures over { (e : E) → IsReadThroughout (E.parts e) (T.shape e)
         → AreRead (E.parts e) (⟦<Option<T> as Carried<E>>⟧.shape e
-        ∷ ⟦<OnceLock<T> as Carried<E>>⟧.shape e ∷ ⟦<Vec<T> as Carried<E>>⟧.shape e ∷ ⟦<SmallVec<T, N> as Carried<E>>⟧.shape e
+        ∷ ⟦<OnceLock<T> as Carried<E>>⟧.shape e ∷ ⟦<Vec<T> as Carried<E>>⟧.shape e
+        ∷ ⟦<SmallVec<T, N> as Carried<E>>⟧.shape e
         ∷ ⟦<[T; N] as Carried<E>>⟧.shape e ∷ ⟦<BoxedSlice<T> as Carried<E>>⟧.shape e ∷ []) }
     ensures alike { (e : E) → IsReadThroughout (E.parts e) (T.shape e)
         → IsReadThroughout (E.parts e) (⟦<O as Carried<E>>⟧.shape e) }
@@ -71,7 +73,8 @@ pub fn carried_types_are_read<
         × (IsReadThroughout (E.parts e) (H.shape e) → IsReadThroughout (E.parts e)
         (⟦<IndexSet<H> as Carried<E>>⟧.shape e)) }
     ensures two { (e : E) → IsReadThroughout (E.parts e) (T.shape e) → IsReadThroughout (E.parts e) (X.shape e)
-        → AreRead (E.parts e) (⟦<Result<T, X> as Carried<E>>⟧.shape e ∷ ⟦<(T, X) as Carried<E>>⟧.shape e ∷ ⟦<Thin<T, X> as Carried<E>>⟧.shape e ∷ []) }
+        → AreRead (E.parts e) (⟦<Result<T, X> as Carried<E>>⟧.shape e ∷ ⟦<(T, X) as Carried<E>>⟧.shape e
+        ∷ ⟦<Thin<T, X> as Carried<E>>⟧.shape e ∷ []) }
     ensures maps { (e : E) → IsReadThroughout (E.parts e) (T.shape e)
         → (IsReadThroughout (E.parts e) (K.shape e) → IsReadThroughout (E.parts e)
         (⟦<BTreeMap<K, T> as Carried<E>>⟧.shape e))
@@ -81,7 +84,7 @@ pub fn carried_types_are_read<
 
 /// The forms of a static value are read back.
 #[tactic(auto, using(crate::specs::StaticValues::static_is_read))]
-pub fn static_value_is_carried<E: Env, T: HasStaticValueRegistry<E>>()
+pub fn static_value_is_read<E: Env, T: HasStaticValueRegistry<E>>()
     ensures again { (e : E) → IsReadThroughout (E.parts e) (⟦<StaticValue<T> as Carried<E>>⟧.shape e) }
 {}
 
@@ -101,6 +104,6 @@ pub fn tagged_has_meaning<E: Env, T: PagableTagged<E>>()
 
 /// The forms of a regular expression are read back.
 #[tactic(auto, using(crate::specs::ReadBack::basic_is_read))]
-pub fn saved_regex_is_carried<E: Env>()
+pub fn saved_regex_is_read<E: Env>()
     ensures again { (e : E) → IsReadThroughout (E.parts e) (⟦<SavedRegex as Carried<E>>⟧.shape e) }
 {}

@@ -115,7 +115,8 @@ impl<E: Env, A: Refers<E>, B: Refers<E>, C: Refers<E>> Refers<E> for (A, B, C) {
     }
 
     ghost in_order = { λ e. both_in_order (E.parts e) (A.Carried.shape e) (both (B.Carried.shape e) (C.Carried.shape e))
-        (A.in_order e) (both_in_order (E.parts e) (B.Carried.shape e) (C.Carried.shape e) (B.in_order e) (C.in_order e)) };
+        (A.in_order e) (both_in_order (E.parts e) (B.Carried.shape e) (C.Carried.shape e) (B.in_order e)
+        (C.in_order e)) };
 }
 
 impl<E: Env, A: Refers<E>, B: Refers<E>, C: Refers<E>, D: Refers<E>> Refers<E> for (A, B, C, D) {
@@ -168,6 +169,7 @@ impl<E: Env, T: Refers<E>> Refers<E> for Vec<T> {
 /// References are read throughout, as `carried_types_are_read` states for other types.
 #[tactic(auto, using(crate::specs::References::reference_is_read))]
 pub fn references_are_read<E: Env, T: OfNode<E>, const PINS: bool, const KIND: u32>()
-    ensures { (e : E) → AreRead (E.parts e) (⟦<HoldingArc<T, PINS> as Carried<E>>⟧.shape e ∷ ⟦<PagableArc<T> as Carried<E>>⟧.shape e ∷ ⟦<RawRef<KIND> as Carried<E>>⟧.shape e
+    ensures { (e : E) → AreRead (E.parts e) (⟦<HoldingArc<T, PINS> as Carried<E>>⟧.shape e
+        ∷ ⟦<PagableArc<T> as Carried<E>>⟧.shape e ∷ ⟦<RawRef<KIND> as Carried<E>>⟧.shape e
         ∷ []) }
 {}

@@ -41,7 +41,8 @@ pub trait PagableTagged<E: Env>: Sized {
         serializer: &mut S,
     ) -> Result<(), Error>
         ensures { Wrote E.Env S.PagableSerializer (form (body_means.of self.now)
-            (bodies (S.environment serializer.old) (tag self.now))) body_causes.are serializer.old serializer.new result };
+            (bodies (S.environment serializer.old) (tag self.now))) body_causes.are serializer.old
+            serializer.new result };
 
     /// Writes the tag and then the body, whichever tags are registered.
     ///
@@ -206,7 +207,8 @@ fn last_reader<'r, T, F: ForTag>(
     ensures found { IfSome result (λ f. IsLastFor tag.now
         (map (λ x. (string_bytes x.tag, x.deserialize)) registrations.now) f.now) }
     ensures own { IfSome result (λ f. F.own_tag f.now ≡ tag.now) }
-    ensures missing { IfNone result (NoneFor tag.now (map (λ x. (string_bytes x.tag, x.deserialize)) registrations.now)) }
+    ensures missing { IfNone result (NoneFor tag.now (map (λ x. (string_bytes x.tag, x.deserialize))
+        registrations.now)) }
 {
     let count = registrations.len();
     for passed in 0..count {

@@ -48,7 +48,7 @@ fn zoo(alloc: Global, names: &str) -> Option<Zoo> {
 }
 
 /// Writes a new animal: a dog of the age that the input gives, or a cat.
-fn new_animal(alloc: Global, zoo: &Zoo, input: &[u8]) -> Outcome {
+fn write_animal(alloc: Global, zoo: &Zoo, input: &[u8]) -> Outcome {
     let animal = match input {
         [age] => Animal::Dog(*age),
         _ => Animal::Cat,
@@ -72,7 +72,7 @@ fn registered(alloc: Global, zoo: &Zoo, name: &str, input: &[u8]) -> Option<Outc
     match name {
         "StaticStr" => static_text(alloc, zoo, input),
         "StaticBytes" => static_bytes(alloc, zoo, input),
-        "NewAnimal" => Some(new_animal(alloc, zoo, input)),
+        "NewAnimal" => Some(write_animal(alloc, zoo, input)),
         _ => Some(replay_in::<Zoo, Animal>(alloc, zoo, input)),
     }
 }

@@ -34,10 +34,10 @@ impl Draws {
     }
 }
 
-/// What each place of an input holds.
+/// What each element of a drawn input is.
 #[derive(Clone, Copy)]
 enum Drawn {
-    /// A number, of 1 to 64 bits, as the place says.
+    /// A number of at most 64 - `place` % 64 bits.
     Number,
     Byte,
     /// A text of 0 to 31 letters.
@@ -48,7 +48,7 @@ enum Drawn {
     Entry,
 }
 
-/// Draws what this place holds and appends it.
+/// Draws the element with the index `place`, and appends its encoding.
 fn append(
     alloc: Global,
     drawn: Drawn,
@@ -78,7 +78,8 @@ fn append(
     }
 }
 
-/// Returns the type's name, the seed, and what each place holds, for the name of an input.
+/// Returns, for the name of an input, its type's name, its seed, and what each of its elements is;
+/// None for an unknown name.
 fn plan_of(name: &str) -> Option<(&'static str, u64, Drawn)> {
     match name {
         "numbers" => Some(("Vec<u64>", 1, Drawn::Number)),
@@ -90,7 +91,7 @@ fn plan_of(name: &str) -> Option<(&'static str, u64, Drawn)> {
     }
 }
 
-/// Draws a value with `count` places; returns its type's name and its bytes. The name is one of
+/// Draws a value of `count` elements; returns its type's name and its bytes. The name is one of
 /// `numbers`, `bytes`, `texts`, `maps` and `ordered`; for another the answer is `None`. The entries
 /// of a map are in the order in which they were drawn.
 pub fn input_of(

@@ -10,8 +10,8 @@ use pagable_traits::{
 use std::alloc::{AllocError, Global};
 use std::fmt::Display;
 
-/// The value that was read twice alike; or the number of the error that both readings met; or `None`
-/// if the two readings differ.
+/// The value that was read and written; or the number of the error that reading met; or `None` if
+/// two readings, or two ways of writing, that must agree don't.
 pub type Outcome = Result<Taken, Option<u32>>;
 
 /// A value that was read.
@@ -47,8 +47,8 @@ pub fn written_bytes(outcome: &Outcome) -> Option<&[u8]> {
     Some(outcome.as_ref().ok()?.written.as_ref().ok()?.as_slice())
 }
 
-/// Prints an outcome: `ok USED WRITTEN = SHOWN` or `refused N`. WRITTEN is left out if it is what was
-/// read.
+/// Prints an outcome: `ok USED WRITTEN = SHOWN`, `refused N`, or `unlike` for `Err(None)`. WRITTEN
+/// is left out if it is what was read, and `= SHOWN` if the value isn't shown.
 pub fn text(alloc: Global, outcome: &Outcome, input: &[u8]) -> Result<String, AllocError> {
     let taken = match outcome {
         Ok(taken) => taken,

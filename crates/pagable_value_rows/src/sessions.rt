@@ -32,8 +32,8 @@ fn in_one_thread<R: Wait>(rt: &R, names: &Names) -> [Option<u32>; 5] {
     [before, made, set, first(rt, names, 7), found(rt, names, 8)]
 }
 
-/// Returns what two threads find that each give a name its number, what one finds of another name
-/// while the other sets this one's number, and what is found then.
+/// Returns the number of the name 7 that each of two threads gets when both give it one, the number
+/// of the name 8 that one gets while the other sets that of 7 to 2, and the number of 7 after that.
 fn in_two_threads<R: Threads + Wait + Sync>(rt: &R, names: &Names) -> [Option<u32>; 4] {
     let (left, right) = join(rt, || first(rt, names, 7), || first(rt, names, 7));
     let (set, other) = join(rt, || names.set(rt, 7, 2).is_ok(), || first(rt, names, 8));
@@ -62,7 +62,7 @@ fn lent<R: Wait>(rt: &R, alloc: Global) -> [Option<bool>; 5] {
     [before, paging, reading, has_one(rt, own), has_one(rt, own)]
 }
 
-/// Says whether all of this holds.
+/// Says whether sessions share and keep what they must.
 pub fn hold<R: Threads + Wait + Sync>(rt: &R, alloc: Global) -> bool {
     let one = in_one_thread(rt, &Names::new(alloc));
     let two = in_two_threads(rt, &Names::default(alloc));

@@ -21,7 +21,8 @@ use std::sync::OnceLock;
 use std::sync::atomic::AtomicI64;
 use std::time::Duration;
 
-/// Reads what a hash map wrote as a map sorted by key, and writes that one: it must be as long.
+/// Reads the encoding of a hash map as a map sorted by key, and returns that map's encoding, or
+/// `Err(None)` if its length differs.
 fn sorted(alloc: Global, taken: &Taken) -> Option<Outcome> {
     let bytes = taken.written.as_ref().ok()?;
     let map: BTreeMap<String, i32> = read(alloc, &AnyEnv, bytes.as_slice()).ok()?;
@@ -49,7 +50,8 @@ fn serialized(alloc: Global, numbers: &[i32]) -> Result<Vec<u8>, u32> {
     finished(done, out)
 }
 
-/// Reads a list and writes it as a slice: as a lent one, without its count, or by `serialize_slice`.
+/// Reads a list and writes its items as a slice: as `&[i32]`, without their count, if `is_lent`,
+/// else by `serialize_slice`.
 fn slice(alloc: Global, input: &[u8], is_lent: bool) -> Option<Outcome> {
     let used = replay::<Vec<i32>>(alloc, input)?.ok()?.used;
     let numbers: Vec<i32> = read(alloc, &AnyEnv, input).ok()?;
@@ -113,8 +115,8 @@ fn map(alloc: Global, name: &str, input: &[u8]) -> Option<Outcome> {
     }
 }
 
-/// Answers for arrays, headers with lists, lists that aren't vectors, and the calls above; hands
-/// other names on.
+/// Answers for arrays, headers with lists, lists that aren't vectors, slices, a number read into a
+/// box, and byte arrays; hands other names on.
 fn array(alloc: Global, name: &str, input: &[u8]) -> Option<Outcome> {
     match name {
         "[u16;2]" => replay::<[u16; 2]>(alloc, input),
@@ -179,7 +181,8 @@ fn unsigned(alloc: Global, name: &str, input: &[u8]) -> Option<Outcome> {
     }
 }
 
-/// Answers for numbers with a sign and vectors; hands other names on.
+/// Reads an input as the type of this name, and writes it again. Answers itself for numbers with a
+/// sign and vectors.
 pub fn answer(alloc: Global, name: &str, input: &[u8]) -> Option<Outcome> {
     match name {
         "i8" => replay::<i8>(alloc, input),

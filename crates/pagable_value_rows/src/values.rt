@@ -21,15 +21,15 @@ fn json(alloc: Global, text: &str) -> Result<String, AllocError> {
 }
 
 /// Makes one step of FNV-1a of 64 bits, with a number in place of a byte.
-fn summed(sum: u64, number: u64) -> u64 {
+fn checksum_step(sum: u64, number: u64) -> u64 {
     (sum ^ number).wrapping_mul(0x0000_0100_0000_01b3)
 }
 
 /// Returns the check sum of bytes, after their count.
-fn sum_of(bytes: &[u8]) -> u64 {
-    let mut sum = summed(0xcbf2_9ce4_8422_2325, bytes.len() as u64);
+fn checksum_of(bytes: &[u8]) -> u64 {
+    let mut sum = checksum_step(0xcbf2_9ce4_8422_2325, bytes.len() as u64);
     for byte in bytes {
-        sum = summed(sum, u64::from(*byte));
+        sum = checksum_step(sum, u64::from(*byte));
     }
     sum
 }
@@ -41,7 +41,11 @@ fn drawn(alloc: Global, name: &str, count: u32) -> anyhow::Result<String> {
     };
     let outcome = types::answer(alloc, name_of_type, input.as_slice());
     let bytes = outcome.as_ref().and_then(written_bytes).unwrap_or_default();
-    Ok(format!(in alloc; "{name} {} bytes wrote {:016x}", bytes.len(), sum_of(bytes))?)
+    Ok(format!(in alloc;
+        "{name} {} bytes wrote {:016x}",
+        bytes.len(),
+        checksum_of(bytes)
+    )?)
 }
 
 /// Prints where a regular expression first matches in a text: from which byte up to which.
@@ -54,7 +58,7 @@ fn find(alloc: Global, pattern: &str, text: &str) -> anyhow::Result<String> {
     }
 }
 
-/// Answers an input of a verb.
+/// Answers `write`, `drawn`, `find`, or else `reason`.
 pub fn answer(alloc: Global, name: &str, verb: &str, input: &str) -> anyhow::Result<String> {
     match verb {
         "write" => Ok(json(alloc, input)?),

@@ -32,10 +32,10 @@ RefusesStore blob found closed before after Error.OutOfMemory = Unit {0}
 RefusesStore blob found closed before after (Error.Storage code) = HasFailed before after
 RefusesStore blob found closed before after _ = ⊥
 
-abbrev pub RefusesFlush : ℕ → ℕ → Error → Type 0
-RefusesFlush before after Error.OutOfMemory = Unit {0}
-RefusesFlush before after (Error.Storage code) = HasFailed before after
-RefusesFlush before after _ = ⊥
+abbrev pub IsMemoryOrFailure : ℕ → ℕ → Error → Type 0
+IsMemoryOrFailure before after Error.OutOfMemory = Unit {0}
+IsMemoryOrFailure before after (Error.Storage code) = HasFailed before after
+IsMemoryOrFailure before after _ = ⊥
 
 -- count is the number of keys under which a blob is stored
 pub record IsCount (stored : ℕ → Option Blob) (count : ℕ) : Type 0 where

@@ -31,7 +31,8 @@ fn answer<H: KeyHash, R: Runtime + AllocGlobal + Wait>(rt: &R) -> io::Result<()>
     serve::<H, _, _, _>(rt, alloc, &mut reader, io::writer(rt))
 }
 
-/// Answers the lines of the input, with keys by the hash that the word names, and returns the status.
+/// Answers the lines of the input, with keys by the hash that the program's one argument names, and
+/// returns the status. If the arguments are anything else, it says how to call it, and returns 2.
 fn run<R: Runtime + AllocGlobal + Wait>(rt: &R) -> io::Result<ExitCode> {
     let word = wanted(rt)?;
     match word.as_ref().map(String::as_str) {

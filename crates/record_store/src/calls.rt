@@ -2,7 +2,8 @@
 
 ghost use Rattle.std.specs.{Arc.arc_value, Prelude.{slice_get, string_bytes, ◌≡◌}};
 
-use pagable::{DataKey, Error, HandleNumber, Record};
+use crate::store_error::StoreError;
+use pagable::{DataKey, HandleNumber, Record};
 use std::alloc::Global;
 use std::sync::Arc;
 
@@ -52,7 +53,7 @@ pub trait RecordCalls {
         tag: u32,
         text: &str,
         over: &[HandleNumber],
-    ) -> Result<HandleNumber, Error>;
+    ) -> Result<HandleNumber, StoreError>;
 
     /// Reads the record of a handle that pins nothing, loading it if it isn't in memory. The handle
     /// pins nothing afterwards either; the budget keeps the record in memory, as the most recently
@@ -61,21 +62,21 @@ pub trait RecordCalls {
     /// # Errors
     ///
     /// - as `paging::pin`.
-    fn read(&mut self, handle: HandleNumber) -> Result<RecordView, Error>;
+    fn read(&mut self, handle: HandleNumber) -> Result<RecordView, StoreError>;
 
     /// Returns another handle of a handle's record.
     ///
     /// # Errors
     ///
     /// - as `Pager::clone`.
-    fn clone_handle(&mut self, handle: HandleNumber) -> Result<HandleNumber, Error>;
+    fn clone_handle(&mut self, handle: HandleNumber) -> Result<HandleNumber, StoreError>;
 
     /// Releases handles, one after another.
     ///
     /// # Errors
     ///
     /// - as `Pager::release`: the call stops at the first handle that fails.
-    fn release(&mut self, handles: &[HandleNumber]) -> Result<(), Error>;
+    fn release(&mut self, handles: &[HandleNumber]) -> Result<(), StoreError>;
 
     /// Releases the handles of the pending list. A record to which nothing else refers is dropped
     /// and never written; another record is written together with a record that refers to it.
@@ -83,7 +84,7 @@ pub trait RecordCalls {
     /// # Errors
     ///
     /// - as `Pager::release`.
-    fn release_waiting(&mut self) -> Result<(), Error>;
+    fn release_waiting(&mut self) -> Result<(), StoreError>;
 
     /// Returns the key of a handle's record. For that it pages out the record, with what changed of
     /// all that it reaches.
@@ -91,7 +92,7 @@ pub trait RecordCalls {
     /// # Errors
     ///
     /// - as `page_out_changed`.
-    fn key(&mut self, handle: HandleNumber) -> Result<DataKey, Error>;
+    fn key(&mut self, handle: HandleNumber) -> Result<DataKey, StoreError>;
 
     /// Computes the key of a record with the tag `TEXT`, this text and no references. It inserts
     /// nothing.
@@ -99,7 +100,7 @@ pub trait RecordCalls {
     /// # Errors
     ///
     /// - `TooLong`, `OutOfMemory`.
-    fn key_of_text(&self, text: &str) -> Result<DataKey, Error>;
+    fn key_of_text(&self, text: &str) -> Result<DataKey, StoreError>;
 
     /// Pages out a handle's record with what changed of all that it reaches, sets the root's name
     /// to its key, and flushes both together. The store stays open.
@@ -108,5 +109,5 @@ pub trait RecordCalls {
     ///
     /// - as `page_out_changed`, `Pager::set_root` and `Pager::flush`: after another open the name
     ///   stands for the key of the last flush.
-    fn save(&mut self, name: &str, handle: HandleNumber) -> Result<(), Error>;
+    fn save(&mut self, name: &str, handle: HandleNumber) -> Result<(), StoreError>;
 }

@@ -38,21 +38,22 @@ pub fn run_over<J: Job, S: Roots<Records> + Drop>(
     job.run(&mut store, last)
 }
 
-// Runs a job over the records of a storage that was to be opened. It takes a storage of any type, so
-// that no way out needs a proof about the parts of a file of blobs.
+// Runs a job over the records of a storage that was to be opened at a path. It takes a storage of any
+// type, so that no way out needs a proof about the parts of a file of blobs.
 fn run_over_opened<J: Job, S: Roots<Records> + Drop>(
     alloc: Global,
+    path: &str,
     storage: Result<S, OpenError>,
     job: &J,
 ) -> Result<()> {
-    run_over(alloc, storage.context("opening the store")?, job)
+    run_over(alloc, storage.context(format_args!("opening {path}"))?, job)
 }
 
 /// Runs a job over the records of a file, which it creates if there is none.
 ///
 /// # Errors
 ///
-/// - as `FileBlobs::open` and `run_over`.
+/// - as `FileBlobs::open`, with the path, and `run_over`.
 pub fn run_over_file<J: Job>(rt: &HostRuntime, path: &str, job: &J) -> Result<()> {
-    run_over_opened(rt.alloc(), FileBlobs::open(rt, path), job)
+    run_over_opened(rt.alloc(), path, FileBlobs::open(rt, path), job)
 }

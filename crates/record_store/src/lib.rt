@@ -5,7 +5,9 @@
 pub mod calls;
 pub mod job;
 pub mod record_store;
+pub mod store_error;
 
 pub use calls::{RecordCalls, RecordView, TEXT};
 pub use job::{Job, run_over, run_over_file};
 pub use record_store::RecordStore;
+pub use store_error::StoreError;

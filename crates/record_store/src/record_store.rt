@@ -3,6 +3,7 @@
 ghost use Rattle.std.specs.Prelude.{IsTrue, OnOk, ◌≡◌};
 
 use crate::calls::{RecordCalls, RecordView, TEXT};
+use crate::store_error::StoreError;
 use pagable::cells::{cell_of, insert};
 use pagable::typed_references::loose;
 use pagable::{
@@ -72,31 +73,32 @@ impl<S: Roots<Records>> RecordCalls for RecordStore<S> {
         tag: u32,
         text: &str,
         over: &[HandleNumber],
-    ) -> Result<HandleNumber, Error> {
+    ) -> Result<HandleNumber, StoreError> {
         let refs = self.references(over)?;
         let node = Record::node(self.alloc, tag, text, refs)?;
-        Ok(insert(self.alloc, &mut self.pager, node)?)
+        let inserted = insert(self.alloc, &mut self.pager, node).map_err(Error::from);
+        Ok(inserted?)
     }
 
-    fn read(&mut self, handle: HandleNumber) -> Result<RecordView, Error> {
+    fn read(&mut self, handle: HandleNumber) -> Result<RecordView, StoreError> {
         let (pinned, node) = self.budget.pin(self.alloc, &mut self.pager, handle, 1)?;
         let view = self.view(node.as_ref());
         self.end_pin(pinned, handle)?;
-        view
+        Ok(view?)
     }
 
-    fn clone_handle(&mut self, handle: HandleNumber) -> Result<HandleNumber, Error> {
-        self.pager.clone(handle)
+    fn clone_handle(&mut self, handle: HandleNumber) -> Result<HandleNumber, StoreError> {
+        Ok(self.pager.clone(handle)?)
     }
 
-    fn release(&mut self, handles: &[HandleNumber]) -> Result<(), Error> {
+    fn release(&mut self, handles: &[HandleNumber]) -> Result<(), StoreError> {
         for handle in handles {
             self.pager.release(*handle)?;
         }
         Ok(())
     }
 
-    fn release_waiting(&mut self) -> Result<(), Error> {
+    fn release_waiting(&mut self) -> Result<(), StoreError> {
         for place in (0..self.pager.pending()).rev() {
             if let Some(handle) = self.pager.take_pending(place) {
                 self.pager.release(handle)?;
@@ -105,25 +107,25 @@ impl<S: Roots<Records>> RecordCalls for RecordStore<S> {
         Ok(())
     }
 
-    fn key(&mut self, handle: HandleNumber) -> Result<DataKey, Error> {
-        page_out_changed(self.alloc, &mut self.pager, handle)
+    fn key(&mut self, handle: HandleNumber) -> Result<DataKey, StoreError> {
+        Ok(page_out_changed(self.alloc, &mut self.pager, handle)?)
     }
 
-    fn key_of_text(&self, text: &str) -> Result<DataKey, Error> {
+    fn key_of_text(&self, text: &str) -> Result<DataKey, StoreError> {
         let record = Record::new(self.alloc, TEXT, text, Vec::new(self.alloc))?;
         let bytes = to_bytes(self.alloc, self.pager.env(), &record)?;
         let arcs = Vec::new(self.alloc);
         Ok(PagableData { bytes, arcs }.compute_key::<Sha256Key>())
     }
 
-    fn save(&mut self, name: &str, handle: HandleNumber) -> Result<(), Error>
+    fn save(&mut self, name: &str, handle: HandleNumber) -> Result<(), StoreError>
         ensures flushed { IsTrue (S.PagableStorage.is_honest self.new.pager.storage)
             → OnOk result (S.PagableStorage.flushed self.new.pager.storage
             ≡ S.PagableStorage.stored self.new.pager.storage) }
     {
         let key = self.key(handle)?;
         self.pager.set_root(self.alloc, name, Some(key))?;
-        self.pager.flush()
+        Ok(self.pager.flush()?)
     }
 }
 
@@ -142,7 +144,7 @@ impl<S: Roots<Records> + Drop> RecordStore<S> {
         storage: S,
         name: &str,
         kept: u64,
-    ) -> Result<(RecordStore<S>, Option<HandleNumber>), Error> {
+    ) -> Result<(RecordStore<S>, Option<HandleNumber>), StoreError> {
         let budget = Budget::new(alloc, kept)?;
         let pager = Pager::new(alloc, storage, Records);
         let mut store = RecordStore {

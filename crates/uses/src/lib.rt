@@ -37,7 +37,8 @@ pub fn look_up<E: Env<Node: NodeSet<E>>, S: PagableStorage<E>>(
     pager: &mut Pager<E, S>,
     key: DataKey,
 ) -> Result<Option<Arc<PagableData>>, Error>
-    ensures keyed { IfOk result (λ found. IfSome found (λ blob. key_of E.Hash.digest (blob_of (arc_value blob)) ≡ key)) }
+    ensures keyed { IfOk result (λ found. IfSome found
+        (λ blob. key_of E.Hash.digest (blob_of (arc_value blob)) ≡ key)) }
 {
     match pager.fetch(alloc, key) {
         Ok(blob) => Ok(Some(blob)),

@@ -1,4 +1,5 @@
-//! What a bundle refers to is read with it by a shared reference or a pin, and is what stands in the pager.
+//! Tests that a bundle is read together with the links to which it refers by shared references and
+//! pins, and that these are the links of the pager.
 
 use crate::calls::let_go;
 use pagable::paging::{deserialize_pagable_data, page_out_pending};
@@ -12,14 +13,16 @@ use pagable_testkit::linked::{Linked, LinkedNode};
 use std::alloc::Global;
 use std::sync::Arc;
 
-/// The blobs of a link, of one before it, and of a bundle of that one, shared and pinned. Keys are sums
-/// of each byte times its place.
+/// The blobs of a link without a next one (key 1), of a link to it (key 20), and of a bundle that
+/// refers to the latter by a shared reference and by a pin. Keys are sums of each byte times its
+/// place.
 const ONE: &'static str = "00 01:1 010001:20,20";
 
-/// The blobs of a link before both, and of a bundle of the latter two, both shared, and the first of them pinned too.
+/// The blobs of a link to the one under the key 20 (key 210), and of a bundle that refers to both,
+/// 20 and 210, by shared references, and to 20 by a pin too.
 const TWO: &'static str = "01:20 020001:20,210,20";
 
-/// Stores the blobs, which are parted by spaces. The last one's key is answered.
+/// Stores the blobs that a text spells, separated by spaces, and returns the last one's key.
 fn store<S: PagableStorage<Linked>>(
     alloc: Global,
     pager: &mut Pager<Linked, S>,
@@ -52,7 +55,7 @@ fn stands<const KIND: u32, S: PagableStorage<Linked>>(
     there.is_some() && next(link) == there
 }
 
-/// Whether a bundle holds the links that stand in the pager.
+/// Says whether a bundle's shared links and its first pinned link are the pager's own.
 fn holds<S: PagableStorage<Linked>>(pager: &Pager<Linked, S>, bundle: &Bundle) -> bool {
     let Some(pinned) = bundle.pinned.first() else {
         return false;
@@ -65,7 +68,8 @@ fn holds<S: PagableStorage<Linked>>(pager: &Pager<Linked, S>, bundle: &Bundle) -
     stands(pager, pinned.get(), pinned.reference::<Linked>().handle)
 }
 
-/// The bundle of a key, if it holds so many shared links, and what stands in the pager.
+/// Reads the bundle under a key. Returns None unless it has `count` shared links, and the links
+/// that it holds are the very ones that stand in the pager, and no copies.
 fn read<S: PagableStorage<Linked>>(
     alloc: Global,
     pager: &mut Pager<Linked, S>,
@@ -77,7 +81,7 @@ fn read<S: PagableStorage<Linked>>(
     (links.shared.len() == count && holds(pager, links)).then_some(bundle)
 }
 
-/// The key under which a page-out stores a value, which begins without one.
+/// Inserts a value, which then has no key, pages it out, and returns the key that it got.
 fn paged_out<T: OfNode<Linked> + Drop, S: PagableStorage<Linked>>(
     alloc: Global,
     pager: &mut Pager<Linked, S>,
@@ -89,8 +93,9 @@ fn paged_out<T: OfNode<Linked> + Drop, S: PagableStorage<Linked>>(
     pager.key(cell).ok()
 }
 
-/// Says whether bundles hold the links of the pager where they are read with them, where they were
-/// there, and where one of two was there; and whether such a bundle is written as it was.
+/// Reads bundles in three cases: no link of it is in memory yet, all are, and one of two is. Says
+/// whether in each the links that the bundle holds are the very ones that stand in the pager; and
+/// whether a page-out of the last bundle returns the key that it was read from.
 fn hold_in<S: PagableStorage<Linked>>(alloc: Global, pager: &mut Pager<Linked, S>) -> Option<bool> {
     let one = store(alloc, pager, ONE)?;
     let_go(read(alloc, pager, one, 1)?);
@@ -100,7 +105,7 @@ fn hold_in<S: PagableStorage<Linked>>(alloc: Global, pager: &mut Pager<Linked, S
     Some(paged_out(alloc, pager, both)? == OptionalDataKey::Some(two))
 }
 
-/// The same in a new pager.
+/// Returns whether `hold_in` holds in a new pager.
 pub fn hold(alloc: Global) -> bool {
     let mut pager = Pager::new(alloc, InMemoryBlobs::new(alloc), Linked);
     let answer = hold_in(alloc, &mut pager);

@@ -15,14 +15,16 @@ type CellStorage<H> = FailingStorage<InMemoryBlobs<CellEnv<H>>>;
 
 type CellMachine<H> = Machine<CellEnv<H>, CellStorage<H>>;
 
-/// Answers rows of events, by the machine that the last row of the word `machine` has made: by this hash or by that.
+/// The machine that answers rows of events, with keys by weight or by SHA-256. A row that begins
+/// with `machine` replaces it by a new one.
 #[derive(Drop)]
 pub enum Calls {
     Weigh(CellMachine<WeighHash>),
     Sha256(CellMachine<Sha256Key>),
 }
 
-/// A storage without blobs, of which one call fails, after as many others as the word tells, or which is closed.
+/// Makes a storage without blobs. It is closed if the word is `closed`; if the word is a number,
+/// one of its calls fails, after that many others.
 fn storage_of<H: KeyHash>(alloc: Global, word: &str) -> CellStorage<H> {
     let mut blobs: InMemoryBlobs<CellEnv<H>> = InMemoryBlobs::new(alloc);
     if word == "closed" {
@@ -31,7 +33,7 @@ fn storage_of<H: KeyHash>(alloc: Global, word: &str) -> CellStorage<H> {
     FailingStorage::new(blobs, word.parse::<u64>().unwrap_or(u64::MAX))
 }
 
-/// A pager without cells over such a storage.
+/// Makes a pager without cells over the storage that `storage_of` makes.
 pub fn pager_over<H: KeyHash>(alloc: Global, word: &str) -> Pager<CellEnv<H>, CellStorage<H>> {
     Pager::new(alloc, storage_of(alloc, word), CellEnv::new())
 }
@@ -42,11 +44,12 @@ fn assign<T: Drop>(place: &mut T, value: T) {
     *place = value;
 }
 
-/// Drops a value. It is generic for the same reason.
+/// Drops a value. It is generic, so that the checker needn't follow how its parts are dropped.
 pub fn let_go<T: Drop>(_value: T) {}
 
 impl Calls {
-    /// A machine without cells, over a storage as the word tells, or with keys by SHA-256.
+    /// Makes a machine without cells: with keys by SHA-256 if the word is `sha256`, else by weight,
+    /// over the storage that `storage_of` makes.
     pub fn new(alloc: Global, word: &str) -> Calls {
         match word {
             "sha256" => Calls::Sha256(Machine::over(alloc, storage_of(alloc, ""), CellEnv::new())),
@@ -54,7 +57,7 @@ impl Calls {
         }
     }
 
-    /// The answer to a row, in one line.
+    /// Answers a row in one line, or makes the machine that it asks for.
     pub fn answer(&mut self, alloc: Global, line: &str) -> anyhow::Result<String> {
         let (word, rest) = split(line);
         if word == "machine" {
@@ -68,7 +71,8 @@ impl Calls {
     }
 }
 
-/// The answer to a row by a machine: a look at its pager, or to events, or to the last of these.
+/// Answers a row by a machine: `look N` by its pager's state, `last EVENTS` by the reply to the
+/// last event, and events by all their replies.
 fn answer<E: Env<Node = CellNode>, S: PagableStorage<E>>(
     alloc: Global,
     machine: &mut Machine<E, S>,
@@ -85,7 +89,8 @@ where
     }
 }
 
-/// What events answer, which the machine gets as one list: so many of them, from the last on.
+/// Runs the events that `asked` spells on the machine as one list, and returns the last `most` of
+/// their replies.
 fn run<E: Env<Node = CellNode>, S: PagableStorage<E>>(
     alloc: Global,
     machine: &mut Machine<E, S>,
@@ -102,7 +107,7 @@ where
     print::replies(alloc, replies.as_slice().get(before..).unwrap_or_default())
 }
 
-/// Where the node of a live handle stands.
+/// Returns the state of the node of a live handle.
 fn standing<E: Env<Node = CellNode>, S: PagableStorage<E>>(
     pager: &Pager<E, S>,
     handle: HandleNumber,
@@ -114,7 +119,8 @@ where
     Ok((node, count, pager.key(handle)?, pager.is_paged_out(handle)?))
 }
 
-/// How long the list is, and each live handle from 1 up to this number, with its value if that is in memory.
+/// Tells, in one line, how many entries wait for page-out, and then each live handle of a number
+/// from 1 to `last`: where its node stands, and the node's value if the handle pins it.
 fn look<E: Env<Node = CellNode>, S: PagableStorage<E>>(
     alloc: Global,
     pager: &Pager<E, S>,

@@ -33,7 +33,7 @@ fn one<T: Drop>(alloc: Global, item: T) -> Option<Vec<T>> {
     Some(list)
 }
 
-/// A bundle of one link by each sort of references.
+/// Makes a bundle that refers to one new link by each sort of references.
 fn bundle<S: PagableStorage<Linked>>(
     alloc: Global,
     pager: &mut Pager<Linked, S>,
@@ -63,7 +63,8 @@ fn loose_link(node: &LinkedNode) -> Option<HandleNumber> {
     }
 }
 
-/// Whether a link of nothing is paged out by its pin, under the key 1, and stays in memory.
+/// Says whether a page-out of a pinned link without a next one stores it under the key 1, and
+/// leaves it in memory.
 fn is_kept<S: PagableStorage<Linked>>(alloc: Global, pager: &mut Pager<Linked, S>) -> Option<bool> {
     let pinned = pager
         .new_pinned(alloc, node(alloc, Link { next: None })?)
@@ -72,7 +73,8 @@ fn is_kept<S: PagableStorage<Linked>>(alloc: Global, pager: &mut Pager<Linked, S
     Some(Some(key) == DataKey::new(1) && !pager.is_paged_out(pinned).ok()?)
 }
 
-/// Inserts a link to what was never there. The link comes back, and `?` drops it.
+/// Tries to insert a link that refers to an unknown handle. The error brings the link back, and `?`
+/// drops it.
 fn insert_unknown<S: PagableStorage<Linked>>(
     alloc: Global,
     pager: &mut Pager<Linked, S>,
@@ -89,7 +91,7 @@ fn insert_unknown<S: PagableStorage<Linked>>(
     Ok(insert(alloc, pager, Link::into_node(link))?)
 }
 
-/// Pages out the cell of a Shared handle, which has no key of its own.
+/// Tries to page out the cell of a Shared handle, which fails with `WrongMode`.
 fn page_out_shared<S: PagableStorage<Linked>>(
     alloc: Global,
     pager: &mut Pager<Linked, S>,
@@ -99,7 +101,8 @@ fn page_out_shared<S: PagableStorage<Linked>>(
     Ok(page_out(alloc, pager, shared)?)
 }
 
-/// Whether `?` makes the refusal of what gives values back, and of a page-out.
+/// Says whether `?` makes an `Error` of an insert's error, which brings a value back, and of a
+/// page-out's.
 fn are_refused<S: PagableStorage<Linked>>(alloc: Global, pager: &mut Pager<Linked, S>) -> bool {
     let is_unknown = insert_unknown(alloc, pager) == Err(Error::NoSuchHandle);
     is_unknown && page_out_shared(alloc, pager) == Err(Error::WrongMode)

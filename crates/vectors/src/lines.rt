@@ -9,7 +9,7 @@ use pagable_value_rows::{dispatch, values};
 use std::alloc::{AllocError, Global};
 use std::fmt::Write;
 
-/// What comes of the bytes of a type.
+/// Prints what comes of reading bytes as a type.
 fn read_bytes(alloc: Global, name: &str, bytes: &[u8]) -> Result<String, AllocError> {
     match dispatch::answer(alloc, name, bytes) {
         Some(outcome) => text(alloc, &outcome, bytes),
@@ -17,7 +17,8 @@ fn read_bytes(alloc: Global, name: &str, bytes: &[u8]) -> Result<String, AllocEr
     }
 }
 
-/// What every front of an input but the whole comes to, which has to be the same.
+/// Reads each proper prefix of an input as a type. Returns the one answer to all, or `unlike` if
+/// they differ.
 fn cut(alloc: Global, name: &str, input: &str) -> anyhow::Result<String> {
     let bytes = bytes_of(alloc, input)?;
     let mut common = String::new(alloc);
@@ -32,7 +33,7 @@ fn cut(alloc: Global, name: &str, input: &str) -> anyhow::Result<String> {
     Ok(common)
 }
 
-/// Whether the reason that is a text is the same where the text is written to it in two parts.
+/// Says whether a `Reason` made of a text equals one to which the text was written in two parts.
 fn is_reason_in_parts(text: &str) -> bool {
     let (front, rest) = text.split_at(text.floor_char_boundary(30));
     let mut reason = Reason::new(front);
@@ -59,8 +60,8 @@ fn answer_all(alloc: Global, name: &str, verb: &str, inputs: &str) -> anyhow::Re
     Ok(answers)
 }
 
-/// The answer to a line: of values, which has a name, a verb, and what the verb is about; or of
-/// events, of which the first may be without arguments, and the next a read.
+/// Answers a line: of values, which is a name, a verb and inputs; or of events. If the first word
+/// ends with `;`, it is an event without arguments, and a `read` after it is an event too.
 pub fn answer(alloc: Global, calls: &mut Calls, line: &str) -> anyhow::Result<String> {
     let (name, rest) = line.split_once(' ').unwrap_or((line, ""));
     let (verb, inputs) = rest.split_once(' ').unwrap_or((rest, ""));

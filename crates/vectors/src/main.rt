@@ -24,7 +24,8 @@ fn compare(rt: &HostRuntime, calls: &mut Calls, file: &str) -> anyhow::Result<bo
     rows::compare(rt, calls, file, text.as_str())
 }
 
-/// Compares files one after the other: the rows of calls of one go on where those of the file before have ended.
+/// Compares files one after the other. Rows of events go on with the machine that the file before
+/// has left. Fails if a row is answered otherwise than it expects.
 fn compare_each(rt: &HostRuntime, calls: &mut Calls, files: &[String]) -> anyhow::Result<()> {
     let mut all_hold = true;
     for file in files {

@@ -36,7 +36,7 @@ fn lines_hold(alloc: Global, calls: &mut Calls, text: &str, row: u32) -> anyhow:
     Ok(true)
 }
 
-/// Whether the writing of 129 arrays in one another is refused.
+/// Says whether writing a JSON value of 129 nested arrays fails with `TooDeep`.
 fn are_too_deep(alloc: Global) -> anyhow::Result<bool> {
     let mut value = Value::Array(Vec::new(alloc));
     for _ in 0..128 {
@@ -45,8 +45,8 @@ fn are_too_deep(alloc: Global) -> anyhow::Result<bool> {
     Ok(written(alloc, &AnyEnv, &value) == Err(Error::TooDeep.number()))
 }
 
-/// Whether the first of two bytes can be written over.
-fn write_over(alloc: Global) -> Result<bool, Error> {
+/// Says whether `write_at` replaces the first of two bytes that were written, and not the second.
+fn can_write_over(alloc: Global) -> Result<bool, Error> {
     let mut out = PagableVecFlavor::new(alloc);
     out.write_u8(0)?;
     out.write_u8(7)?;
@@ -54,7 +54,7 @@ fn write_over(alloc: Global) -> Result<bool, Error> {
     Ok(out.finalize().as_slice() == [9u8, 7].as_slice())
 }
 
-/// Whether a number and a text become bytes by one call, and come of them by another.
+/// Says whether `to_bytes` writes a number and a text, and `from_bytes` reads both again.
 fn are_bytes(alloc: Global) -> Result<bool, Error> {
     let value = (300u16, String::from_str(alloc, "hi")?);
     let bytes = to_bytes(alloc, &Records, &value)?;
@@ -63,8 +63,8 @@ fn are_bytes(alloc: Global) -> Result<bool, Error> {
     Ok(is_same && bytes.as_slice() == [0xac, 0x02, 0x02, 0x68, 0x69].as_slice())
 }
 
-/// Whether an item that refers to a shared text comes to its key by one call.
-fn is_item_paged_out<E: Env<Node = CellNode>, S: PagableStorage<E>>(
+/// Says whether `page_out_item` returns the right key for an item that refers to a shared text.
+fn item_gets_its_key<E: Env<Node = CellNode>, S: PagableStorage<E>>(
     alloc: Global,
     pager: &mut Pager<E, S>,
 ) -> anyhow::Result<bool>
@@ -113,7 +113,8 @@ where
     Ok(listed == 2 && pager.pending() == 0 && fetched == Some(Error::Storage(7)))
 }
 
-/// Whether a row's values of which no line says what they are hold too, by a pager without cells.
+/// Says whether the test that a row has beside its lines succeeds in a pager without cells. Most
+/// rows have none, and succeed.
 fn others_hold_in<E: Env<Node = CellNode>, S: PagableStorage<E>>(
     alloc: Global,
     pager: &mut Pager<E, S>,
@@ -125,14 +126,15 @@ where
     match number {
         1 => Ok(are_bytes(alloc)?),
         6 => are_too_deep(alloc),
-        10 => is_item_paged_out(alloc, pager),
+        10 => item_gets_its_key(alloc, pager),
         14 => is_stored_once(alloc, pager),
-        24 => Ok(write_over(alloc)?),
+        24 => Ok(can_write_over(alloc)?),
         _ => Ok(true),
     }
 }
 
-/// The same by a new pager, of whose storage the second call fails in the row 14.
+/// Says whether `others_hold_in` holds in a new pager, whose storage fails its second call for the
+/// row 14.
 fn others_hold(alloc: Global, number: u32) -> anyhow::Result<bool> {
     let mut pager = pager_over::<WeighHash>(alloc, if number == 14 { "1" } else { "" });
     let answer = others_hold_in(alloc, &mut pager, number);

@@ -36,7 +36,8 @@ impl<'de, R> PagableDeserializerImpl<'de, PagableSlice<'de>, R> {
             ≡ at_front (R.answer references) (R.lends_at references) bytes.now arcs.now }
         ensures levels { ⟦<PagableDeserializerImpl<'de, PagableSlice<'de>, R> as PagableDeserializer<E>>⟧.levels result
             ≡ 0 }
-        ensures env { ⟦<PagableDeserializerImpl<'de, PagableSlice<'de>, R> as PagableDeserializer<E>>⟧.environment result ≡ R.environment references }
+        ensures env { ⟦<PagableDeserializerImpl<'de, PagableSlice<'de>, R> as PagableDeserializer<E>>⟧.environment result
+            ≡ R.environment references }
         ensures lends { ⟦<PagableDeserializerImpl<'de, PagableSlice<'de>, R> as PagableDeserializer<E>>⟧.lends result
             ≡ R.lends references }
     {

@@ -80,7 +80,8 @@ impl<'e, E: Env> PagableSerializerImpl<'e, E> {
     /// Returns what was written. It never fails.
     pub fn finish(self) -> Result<SerializedData, Error>
         ensures ok { IsOk result }
-        ensures data { IfOk result (λ d. out_of d ≡ ⟦<PagableSerializerImpl<'e, E> as PagableSerializer<E>>⟧.out self.entry) }
+        ensures data { IfOk result (λ d. out_of d
+            ≡ ⟦<PagableSerializerImpl<'e, E> as PagableSerializer<E>>⟧.out self.entry) }
     {
         let (arcs, bytes) = (self.arcs, self.writer.finalize());
         Ok(SerializedData { bytes, arcs })

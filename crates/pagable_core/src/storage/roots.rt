@@ -1,7 +1,7 @@
 //! Names that stand for keys.
 
 ghost use Rattle.std.specs.Prelude.{◌≡◌, ◌≤◌, ℕ, List, Option, false, IfErr, IfOk, IsTrue, OnErr, OnOk};
-ghost use Rattle.{pagable_core.specs.Roots.{RefusesRoot, Sets, Stands}, pagable_value_spec.specs.Stored.RefusesFlush};
+ghost use Rattle.{pagable_core.specs.Roots.{ListsAll, RefusesRoot, Sets, Stands}, pagable_value_spec.specs.Stored.IsMemoryOrFailure};
 
 use crate::storage::traits::PagableStorage;
 use pagable_codec::Env;
@@ -25,7 +25,7 @@ pub trait Roots<E: Env>: PagableStorage<E> {
     fn root(&mut self, name: &str) -> Result<Option<DataKey>, Error>
         ensures ok { IsTrue (Self.PagableStorage.is_honest self.new)
             → IfOk result (λ key. key ≡ roots self.old name.now) }
-        ensures only { IfErr result (RefusesFlush (Self.PagableStorage.failed self.old)
+        ensures only { IfErr result (IsMemoryOrFailure (Self.PagableStorage.failed self.old)
             (Self.PagableStorage.failed self.new)) }
         ensures same { IsTrue (Self.PagableStorage.is_honest self.new) → roots self.new ≡ roots self.old }
         ensures stays { IsTrue (Self.PagableStorage.is_honest self.new)
@@ -65,19 +65,21 @@ pub trait Roots<E: Env>: PagableStorage<E> {
         ensures open { Self.PagableStorage.is_closed self.new ≡ Self.PagableStorage.is_closed self.old }
         ensures later { Self.PagableStorage.failed self.old ≤ Self.PagableStorage.failed self.new };
 
-    /// Returns the names that stood for a key at the last flush, and maybe others that once did, in
-    /// no particular order.
+    /// Returns all names that stand for a key, and maybe others that once did, in no particular
+    /// order.
     ///
     /// # Errors
     ///
     /// - `OutOfMemory`.
     /// - `Storage` only if the call raised the storage's count of failures.
     fn root_names(&mut self, alloc: Global) -> Result<Vec<String>, Error>
+        ensures all { IsTrue (Self.PagableStorage.is_honest self.new)
+            → IfOk result (λ names. ListsAll (roots self.old) names.items) }
         ensures same { IsTrue (Self.PagableStorage.is_honest self.new) → roots self.new ≡ roots self.old }
         ensures stays { IsTrue (Self.PagableStorage.is_honest self.new)
             → (Self.PagableStorage.stored self.new ≡ Self.PagableStorage.stored self.old)
             × (Self.PagableStorage.flushed self.new ≡ Self.PagableStorage.flushed self.old) }
-        ensures only { IfErr result (RefusesFlush (Self.PagableStorage.failed self.old)
+        ensures only { IfErr result (IsMemoryOrFailure (Self.PagableStorage.failed self.old)
             (Self.PagableStorage.failed self.new)) }
         ensures honest { IsTrue (Self.PagableStorage.is_honest self.new)
             → IsTrue (Self.PagableStorage.is_honest self.old) }

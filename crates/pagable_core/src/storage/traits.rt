@@ -1,7 +1,7 @@
 //! The trait of a storage of blobs.
 
 ghost use Rattle.std.specs.{Arc.arc_value, Prelude.{◌≡◌, ◌≤◌, ℕ, Bool, true, false, IsTrue, Option, Some, None, OnOk, OnErr, IfOk, IfErr}};
-ghost use Rattle.{futures.specs.{Poll.{IfReady, OnPending}, Task.{IsArmed, Keeps as KeepsPoll}}, pagable_core.specs.Data.blob_of, pagable_value_spec.specs.{Blob.{Blob, key_of}, Stored.{Adds, Keeps, RefusesFetch, RefusesStore, RefusesFlush}}};
+ghost use Rattle.{futures.specs.{Poll.{IfReady, OnPending}, Task.{IsArmed, Keeps as KeepsPoll}}, pagable_core.specs.Data.blob_of, pagable_value_spec.specs.{Blob.{Blob, key_of}, Stored.{Adds, Keeps, RefusesFetch, RefusesStore, IsMemoryOrFailure}}};
 
 use crate::storage::data::PagableData;
 use futures::task::{Context, Poll};
@@ -154,7 +154,7 @@ pub trait PagableStorage<E: Env>: Sized {
     /// - `Storage` only if the call raised the count of failures.
     fn flush(&mut self) -> Result<(), Error>
         ensures sure { IsTrue (is_honest self.new) → OnOk result (flushed self.new ≡ stored self.new) }
-        ensures only { IfErr result (RefusesFlush (failed self.old) (failed self.new)) }
+        ensures only { IfErr result (IsMemoryOrFailure (failed self.old) (failed self.new)) }
         ensures same { IsTrue (is_honest self.new) → stored self.new ≡ stored self.old }
         ensures honest { IsTrue (is_honest self.new) → IsTrue (is_honest self.old) }
         ensures open { is_closed self.new ≡ is_closed self.old }

@@ -12,7 +12,8 @@ use pagable_value_spec::Error;
 fn varint_of(bytes: &[u8], more: usize, last: u8) -> Result<(u64, usize), Error>
     requires ends { (0 < last) × (last < 128) }
     requires fits { varint_limit more last ≤ 2 ^ 64 }
-    ensures gives { MatchesReading no_own_causes (λ n. (n.0, drop n.1 bytes.now)) result (varint_at more last bytes.now) }
+    ensures gives { MatchesReading no_own_causes (λ n. (n.0, drop n.1 bytes.now)) result
+        (varint_at more last bytes.now) }
     ensures bound { IfOk result (λ n. n.0 < varint_limit more last) }
     ensures within { IfOk result (λ n. n.1 ≤ length bytes.now) }
 {
@@ -36,7 +37,8 @@ fn varint_of(bytes: &[u8], more: usize, last: u8) -> Result<(u64, usize), Error>
 pub(super) fn wide_varint_of(bytes: &[u8], more: usize, last: u8) -> Result<(u128, usize), Error>
     requires ends { (0 < last) × (last < 128) }
     requires fits { varint_limit more last ≤ 2 ^ 128 }
-    ensures gives { MatchesReading no_own_causes (λ n. (n.0, drop n.1 bytes.now)) result (varint_at more last bytes.now) }
+    ensures gives { MatchesReading no_own_causes (λ n. (n.0, drop n.1 bytes.now)) result
+        (varint_at more last bytes.now) }
     ensures within { IfOk result (λ n. n.1 ≤ length bytes.now) }
 {
     let mut low = 0u128;

@@ -5,7 +5,7 @@
 ghost use Rattle.std.specs.{Option.option_map, Prelude.{IfErr, IfNone, IfOk, IfSome, IsSome, length, true, ◌<◌, ◌≡◌, ◌≤◌}};
 ghost use Rattle.{pagable_load.specs.{PinStart.{StartsPin, is_unpinned_at}, AccessView.{IsMade, values_at}, WorkerCalls.{EntryFault, TakesReference}}, pagable_tables.specs.Core.{BeginsWorker, TakesWorker}};
 ghost use Rattle.pagable_pager.specs.View.{Calls, OnlyLess, OnlyTables, Settles, TakesEntry, pager_core, may_call, storage_view};
-ghost use Rattle.pagable_pager_spec.specs.Calls.{AwayCall, ClearCall, CloneCall, CountCall, KeyCall, Looks, LoosenCall, NodeCall, OfferCall, PinCall, RecallCall, ReleaseCall, ReserveCall};
+ghost use Rattle.pagable_pager_spec.specs.Calls.{IsPagedOutCall, ClearCall, CloneCall, CountCall, KeyCall, Looks, LoosenCall, NodeCall, OfferCall, PinCall, RecallCall, ReleaseCall, ReserveCall};
 ghost use Rattle.pagable_pager_spec.specs.{Calls.{ScheduleCall, SetKeyCall, TakeCall, TypeCall, UnpinCall, room_of}, Cascade.FallsAnyhow, Events.{IsEntry, reading_of_load}};
 ghost use Rattle.pagable_pager_spec.specs.{Kinds.is_loose, LoadCalls.{DropCall, HandOverCall}, Workers.{WorkerEnds, is_workers_at}, World.{Alike, Reading, key_at, row_at}};
 
@@ -120,7 +120,7 @@ impl<E: Env<Node: NodeSet<E>>, S: PagableStorage<E>> Pager<E, S> {
     ///
     /// - `NoSuchHandle` if the handle isn't live.
     pub fn is_paged_out(&self, handle: HandleNumber) -> Result<bool, Error>
-        ensures { AwayCall (pager_core (storage_view S.PagableStorage) self.now) handle result }
+        ensures { IsPagedOutCall (pager_core (storage_view S.PagableStorage) self.now) handle result }
     {
         queries::is_paged_out(&self.tables, handle)
     }
@@ -215,8 +215,8 @@ impl<E: Env<Node: NodeSet<E>>, S: PagableStorage<E>> Pager<E, S> {
         }
     }
 
-    /// Takes the list entry at this place for the caller, as a loose unpinned handle. Returns None
-    /// past the list's end.
+    /// Removes the entry at this place from the page-out list, and returns its handle, a loose
+    /// unpinned one, which the caller owns from then on. Returns None past the list's end.
     pub fn take_pending(&mut self, place: usize) -> Option<HandleNumber>
         ensures { Calls OnlyTables (storage_view S.PagableStorage) self.old
             (λ w w'. TakeCall w Owner.Caller place result w') self.new }
@@ -232,8 +232,8 @@ impl<E: Env<Node: NodeSet<E>>, S: PagableStorage<E>> Pager<E, S> {
         pending::take_pending(&mut self.tables, me, place)
     }
 
-    /// Puts a loose unpinned handle at the end of the list. After the storage was closed, releases
-    /// it instead, as `release` does.
+    /// Puts a loose unpinned handle at the end of the list of cells that wait for page-out. If the
+    /// storage is closed, releases the handle instead, as `release` does.
     ///
     /// # Errors
     ///
@@ -308,15 +308,15 @@ impl<E: Env<Node: NodeSet<E>>, S: PagableStorage<E>> Pager<E, S> {
         queries::pending(&self.tables)
     }
 
-    /// Returns how many handles, and how many list entries, can be added without an allocation: the
-    /// smaller number.
+    /// Returns how many handles and as many entries of the page-out list can be added without an
+    /// allocation.
     pub fn room(&self) -> usize
         ensures { result ≡ room_of (pager_core (storage_view S.PagableStorage) self.now) }
     {
         tables::room(&self.tables)
     }
 
-    /// Makes `room` at least this much, and changes nothing else.
+    /// Allocates so much that `room` returns at least `more`, and changes nothing else.
     ///
     /// # Errors
     ///
@@ -478,8 +478,8 @@ impl<E: Env<Node: NodeSet<E>>, S: PagableStorage<E>> Pager<E, S> {
         queries::is_loose(&self.tables, handle)
     }
 
-    /// Returns the handle at this place of the list, with type and key of its cell; None past the
-    /// list's end.
+    /// Returns the handle at this place of the page-out list, with type and key of its cell; None
+    /// past the list's end.
     pub(crate) fn entry(&self, place: usize) -> Option<(HandleRow, u32, OptionalDataKey)>
         ensures found { IfSome result (λ e. IsEntry (pager_core (storage_view S.PagableStorage) self.now) place
             e.0.number
@@ -493,13 +493,14 @@ impl<E: Env<Node: NodeSet<E>>, S: PagableStorage<E>> Pager<E, S> {
 
     /// Begins a worker. Fails with NumbersSpent or OutOfMemory.
     pub(crate) fn worker_begin(&mut self) -> Result<WorkerNumber, Error>
-        ensures { Calls OnlyTables (storage_view S.PagableStorage) self.old (λ w w'. BeginsWorker w result w') self.new }
+        ensures { Calls OnlyTables (storage_view S.PagableStorage) self.old
+            (λ w w'. BeginsWorker w result w') self.new }
     {
         workers::worker_begin(&mut self.tables)
     }
 
-    /// Begins a worker for the list entry at this place, which the worker owns then. Fails with
-    /// NumbersSpent or OutOfMemory.
+    /// Begins a worker, and removes the entry at this place from the page-out list: the worker owns
+    /// its handle then. Fails with NumbersSpent or OutOfMemory.
     pub(crate) fn worker_take(&mut self, place: usize) -> Result<WorkerNumber, Error>
         requires { place < length (pager_core (storage_view S.PagableStorage) self.old).list }
         ensures { Calls OnlyTables (storage_view S.PagableStorage) self.old (λ w w'. TakesWorker w place result w')
@@ -552,9 +553,9 @@ impl<E: Env<Node: NodeSet<E>>, S: PagableStorage<E>> Pager<E, S> {
         workers::worker_end(&mut self.tables, &mut self.values, worker, lists);
     }
 
-    /// Clones a reference's handle for this owner and pins the clone, or begins a load by it. If
-    /// that fails, the owner keeps the clone.
-    pub(crate) fn take_reference(
+    /// Clones a reference's handle for this owner; then pins a loose clone, or begins a load by it
+    /// if the value isn't in memory. If the pin or load fails, the owner keeps the clone.
+    pub(crate) fn pin_or_load_reference(
         &mut self,
         me: Owner,
         reference: ArcRef,

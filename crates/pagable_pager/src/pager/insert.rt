@@ -28,7 +28,8 @@ pub(crate) fn place<N: Drop>(
     comes: bool,
     value: N,
 ) -> Result<(), (Error, N)>
-    ensures placed { OnOk result ((n : ℕ) → value_in values.new n ≡ with_value comes node value (value_in values.old) n) }
+    ensures placed { OnOk result ((n : ℕ) → value_in values.new n
+        ≡ with_value comes node value (value_in values.old) n) }
     ensures only { IfErr result (λ e. e.0 ≡ Error.OutOfMemory) }
     ensures back { IfErr result (λ e. e.1 ≡ value) }
     ensures kept { OnErr result ((n : ℕ) → value_in values.new n ≡ value_in values.old n) }
@@ -170,9 +171,9 @@ impl<E: Env<Node: NodeSet<E>>, S: PagableStorage<E>> Pager<E, S> {
         create::insert_paged_out(&mut self.tables, alloc, Owner::Caller, node_type, key)
     }
 
-    /// Makes a node of a value that a load has read, if the cache has none for it and the load and
-    /// the references have no fault. Fails with NumbersSpent or OutOfMemory, and hands the value
-    /// back.
+    /// Makes a node of a value that a load has read. The caller has found that the cache has no
+    /// usable node for it, and that the load and the references have no fault. Fails with
+    /// NumbersSpent or OutOfMemory, and hands the value back.
     fn adopt_as_new(
         &mut self,
         me: Owner,
@@ -206,8 +207,8 @@ impl<E: Env<Node: NodeSet<E>>, S: PagableStorage<E>> Pager<E, S> {
         Ok(load::adopt(tables, load, kind, key, references, lists))
     }
 
-    /// Returns why a value that a load has read can't be used, if memory for its references ran
-    /// out: NoSuchHandle if the load isn't open, and otherwise `e`.
+    /// Returns the error of a load that couldn't list the references of a value that it has read,
+    /// since memory ran out: NoSuchHandle if the load isn't open, and otherwise `e`.
     fn listing_error(&self, me: Owner, load: LoadNumber, e: Error) -> Error
         ensures { e ≡ Error.OutOfMemory → (later : Option Error)
             → Refused (earlier (load_fault (pager_core (storage_view S.PagableStorage) self.now) me load) later)

@@ -56,7 +56,8 @@ pub(crate) fn read_leaf<E: Env<Node: NodeSet<E>>, A: Access<E>>(
 
 impl<E: Env<Node: NodeSet<E>>, S: PagableStorage<E>> Pager<E, S> {
     /// Finds the cell of a loose handle of the caller's, if its value isn't in memory, reserves
-    /// room for a pin, and fetches the cell's blob.
+    /// room for a pin, and fetches the cell's blob. Returns None and changes nothing if the value
+    /// is in memory, or the handle can't be pinned by a load.
     ///
     /// # Errors
     ///
@@ -126,7 +127,7 @@ impl<E: Env<Node: NodeSet<E>>, S: PagableStorage<E>> Pager<E, S> {
         }
     }
 
-    /// Pins the cell with this value.
+    /// Gives the cell this value and pins it; returns the Pinned handle.
     ///
     /// # Errors
     ///

@@ -1,7 +1,7 @@
 //! Names of root keys in a pager's storage.
 
 ghost use Rattle.std.specs.Prelude.{◌≡◌, IfErr, IfOk, IsTrue, OnErr, OnOk};
-ghost use Rattle.{pagable_core.specs.Roots.{RefusesRoot, Sets, Stands}, pagable_value_spec.specs.Stored.RefusesFlush};
+ghost use Rattle.{pagable_core.specs.Roots.{RefusesRoot, Sets, Stands}, pagable_value_spec.specs.Stored.IsMemoryOrFailure};
 ghost use Rattle.{pagable_pager.specs.View.{AsksStorage, storage_view}, pagable_pager_spec.specs.Calls.Asked};
 
 use crate::pager::Pager;
@@ -23,7 +23,7 @@ impl<E: Env<Node: NodeSet<E>>, S: Roots<E>> Pager<E, S> {
             → IfOk result (λ key. key ≡ S.Roots.roots self.old.storage name.now) }
         ensures same { IsTrue (S.PagableStorage.is_honest self.new.storage) → S.Roots.roots self.new.storage
             ≡ S.Roots.roots self.old.storage }
-        ensures refused { IfErr result (RefusesFlush (S.PagableStorage.failed self.old.storage)
+        ensures refused { IfErr result (IsMemoryOrFailure (S.PagableStorage.failed self.old.storage)
             (S.PagableStorage.failed self.new.storage)) }
     {
         self.storage.root(name)

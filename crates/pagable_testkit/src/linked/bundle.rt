@@ -75,7 +75,7 @@ impl<'de> PagableDeserialize<'de, Linked> for Bundle {
     }
 }
 
-/// The forms of a bundle are read back, because those of references are.
+/// Proves that each encoding of a bundle is read back, since those of references are.
 #[tactic(auto, using(crate::specs::Linked::bundle_is_read))]
 pub fn bundles_are_read()
     ensures { (e : Linked) → IsReadThroughout no_parts (⟦<Bundle as Carried<Linked>>⟧.shape e) }

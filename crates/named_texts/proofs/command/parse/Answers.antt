@@ -10,11 +10,11 @@ of_name-requires-clause-word c = (split_some c.args.line.now (c.in_ok-word.word,
 pub of_name-requires-clause-name : goal.of_name-requires-clause-name
 of_name-requires-clause-name c = split_none c.in_ok-word.rest.now c.in-None.ensures.cases
 
-pub of_two-requires-clause-word : goal.of_two-requires-clause-word
-of_two-requires-clause-word c = (split_some c.args.line.now (c.in_ok-word.word, c.in_ok-word.rest) c.in_ok-word.ensures.cases).0
+pub of_name_and_rest-requires-clause-word : goal.of_name_and_rest-requires-clause-word
+of_name_and_rest-requires-clause-word c = (split_some c.args.line.now (c.in_ok-word.word, c.in_ok-word.rest) c.in_ok-word.ensures.cases).0
 
-pub of_two-requires-clause-name : goal.of_two-requires-clause-name
-of_two-requires-clause-name c = (split_some c.in_ok-word.rest.now (c.in-Some.name, c.in-Some.behind) c.in-Some.ensures.cases).0
+pub of_name_and_rest-requires-clause-name : goal.of_name_and_rest-requires-clause-name
+of_name_and_rest-requires-clause-name c = (split_some c.in_ok-word.rest.now (c.in-Some.name, c.in-Some.behind) c.in-Some.ensures.cases).0
 
 pub returns-in-None : goal.returns-in-None
 returns-in-None c = let parts = (split_some c.args.line.now (c.in_ok-word.word, c.in_ok-word.rest) c.in_ok-word.ensures.cases).1 in
@@ -23,4 +23,4 @@ returns-in-None c = let parts = (split_some c.args.line.now (c.in_ok-word.word, 
 pub returns-in-Some : goal.returns-in-Some
 returns-in-Some c = let parts = (split_some c.args.line.now (c.in_ok-word.word, c.in_ok-word.rest) c.in_ok-word.ensures.cases).1 in
     let behind = (split_some c.in_ok-word.rest.now (c.in-Some.name, c.in-Some.behind) c.in-Some.ensures.cases).1 in
-    subst (λ line. AnswersLine line c.of_two.result) (sym (parts ∙ ap (λ rest. c.in_ok-word.word.now ++ 32 ∷ rest) behind)) c.of_two.ensures
+    subst (λ line. AnswersLine line c.of_name_and_rest.result) (sym (parts ∙ ap (λ rest. c.in_ok-word.word.now ++ 32 ∷ rest) behind)) c.of_name_and_rest.ensures

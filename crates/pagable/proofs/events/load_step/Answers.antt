@@ -15,15 +15,15 @@ returns-in-Err g c =
     let short = c.in-Err.ensures.short in
     rw short.0 (drives-beside c.requires c.load_drop-told.ensures.only.storage (omega arith) (λ q. refl)
     (λ serving. no-place-made (values_at g.E.Node.NodeSet g.E.Env g.E.Hash.KeyHash) _ _ c.load_drop-told.new.self _ serving c.assert_invariant.ensures
-    c.prepare.new.readings _ _ _ c.in_ok-key.ensures.reads c.prepare.ensures.kept short.1 short.2
+    c.keep_reading.new.readings _ _ _ c.in_ok-key.ensures.reads c.keep_reading.ensures.kept short.1 short.2
     c.load_drop-told.result c.load_drop-told.ensures.step c.load_drop-told.ensures.only c.assert_invariant-in-Err.ensures))
 
 pub returns-in_default-get_mut : goal.returns-in_default-get_mut
 returns-in_default-get_mut g c =
     rw c.get_mut.follows.holds-at-none (drives-beside c.requires refl (omega arith) (λ q. refl)
     (λ serving. untyped-made (values_at g.E.Node.NodeSet g.E.Env g.E.Hash.KeyHash) _ _ c.args.pager.now _ serving c.assert_invariant.ensures
-    c.prepare.new.readings
-    _ _ _ c.in_ok-key.ensures.reads c.prepare.ensures.kept (search rules) (search rules)))
+    c.keep_reading.new.readings
+    _ _ _ c.in_ok-key.ensures.reads c.keep_reading.ensures.kept (search rules) (search rules)))
 
 pub returns : goal.returns
 returns g c =
@@ -31,7 +31,7 @@ returns g c =
     (c.pager-1.given.1 (sym (c.step_by-reply.ensures.lender ∙ c.new-lent.ensures.lent))) in
     drives c.requires (rw ends at (rw c.new-lent.ensures.same at c.step_by-reply.ensures.honest)) c.requires.on_tables (λ is serving.
     step-made (values_at g.E.Node.NodeSet g.E.Env g.E.Hash.KeyHash) _ _ _ _ serving c.assert_invariant.ensures _ _ _ _ c.in_ok-key.ensures.reads
-    c.prepare.new.readings
+    c.keep_reading.new.readings
     _ _
-    c.prepare.ensures.kept c.end.ensures c.in-Some.own.now c.step_by-reply.new.own (sym c.in-Some.ensures.value)
+    c.keep_reading.ensures.kept c.forget_if_ended.ensures c.in-Some.own.now c.step_by-reply.new.own (sym c.in-Some.ensures.value)
     ((rw ends at (rw c.new-lent.ensures.same at c.step_by-reply.ensures.step)) is) (record { here = search rules; others = search rules }))

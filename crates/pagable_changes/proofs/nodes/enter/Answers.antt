@@ -5,7 +5,7 @@ use Rattle.pagable_changes.proofs.nodes.enter.Goals as goal
 pub returns-in-Err-clause-fails : goal.returns-in-Err-clause-fails
 returns-in-Err-clause-fails g c = isnt-taken _ _ c.in-Err.ensures.fails
 
-pub returns-in-Err-write_taken-clause-fails : goal.returns-in-Err-write_taken-clause-fails
-returns-in-Err-write_taken-clause-fails g c =
+pub returns-in-Err-check_and_write-clause-fails : goal.returns-in-Err-check_and_write-clause-fails
+returns-in-Err-check_and_write-clause-fails g c =
     isnt-written _ _ _ _ _ c.in-Ok.ensures.takes (lets-same (values_at g.E.Node.NodeSet g.E.Env g.E.Hash.KeyHash) c.in-Ok.ensures.keeps.environment
-    c.let_go.ensures.lets)
+    c.release_both.ensures.lets)

@@ -12,17 +12,17 @@ pub returns-in-Err-store-clause-fails : goal.returns-in-Err-store-clause-fails
 returns-in-Err-store-clause-fails g c = λ honest. blob-fails-by (values_at g.E.Node.NodeSet g.E.Env g.E.Hash.KeyHash c.args.pager.now.environment)
     c.in-Ok.ensures (c.in-Err-store.ensures.called honest)
 
-pub returns-in-Err-set_for-clause-fails : goal.returns-in-Err-set_for-clause-fails
-returns-in-Err-set_for-clause-fails g c = λ honest.
-    let stored = subst (λ s. IsTrue (g.S.PagableStorage.is_honest s)) c.in-Err-set_for.ensures.keeps.storage honest in
+pub returns-in-Err-keep_key-clause-fails : goal.returns-in-Err-keep_key-clause-fails
+returns-in-Err-keep_key-clause-fails g c = λ honest.
+    let stored = subst (λ s. IsTrue (g.S.PagableStorage.is_honest s)) c.in-Err-keep_key.ensures.keeps.storage honest in
     key-fails-by (values_at g.E.Node.NodeSet g.E.Env g.E.Hash.KeyHash c.args.pager.now.environment) c.in-Ok.ensures (c.in-Ok-store.ensures.called stored)
-    (unset-same (values_at g.E.Node.NodeSet g.E.Env g.E.Hash.KeyHash) c.in-Ok-store.ensures.environment c.in-Err-set_for.ensures.refused)
+    (unset-same (values_at g.E.Node.NodeSet g.E.Env g.E.Hash.KeyHash) c.in-Ok-store.ensures.environment c.in-Err-keep_key.ensures.refused)
 
 pub returns-clause-leaves : goal.returns-clause-leaves
 returns-clause-leaves g c = λ honest.
-    let set = c.in-Ok-set_for.ensures in
-    let stored = subst (λ s. IsTrue (g.S.PagableStorage.is_honest s)) (c.let_go.ensures.keeps.storage ∙ set.keeps.storage) honest in
+    let set = c.in-Ok-keep_key.ensures in
+    let stored = subst (λ s. IsTrue (g.S.PagableStorage.is_honest s)) (c.release_both.ensures.keeps.storage ∙ set.keeps.storage) honest in
     leaves-by (values_at g.E.Node.NodeSet g.E.Env g.E.Hash.KeyHash c.args.pager.now.environment) c.in-Ok.ensures
     (c.in-Ok-store.ensures.called stored) c.reserve.ensures.rows (sets-same (values_at g.E.Node.NodeSet g.E.Env g.E.Hash.KeyHash)
     c.in-Ok-store.ensures.environment set.sets)
-    (lets-same (values_at g.E.Node.NodeSet g.E.Env g.E.Hash.KeyHash) (set.keeps.environment ∙ c.in-Ok-store.ensures.environment) c.let_go.ensures.lets)
+    (lets-same (values_at g.E.Node.NodeSet g.E.Env g.E.Hash.KeyHash) (set.keeps.environment ∙ c.in-Ok-store.ensures.environment) c.release_both.ensures.lets)

@@ -7,8 +7,8 @@ loop-node-preserved g c =
     let i = c.loop-node.invariant in
     record {
       so = λ s' gives. i.so s' (one-given-up (values_at g.E.Node.NodeSet g.E.Env g.E.Hash.KeyHash c.args.pager.now.environment) c.in-Some.node
-          c.in-Some.ensures.some (lets-same (values_at g.E.Node.NodeSet g.E.Env g.E.Hash.KeyHash) i.keeps.environment c.let_go.ensures.lets) gives);
-      keeps = record { storage = c.let_go.ensures.keeps.storage ∙ i.keeps.storage; environment = c.let_go.ensures.keeps.environment ∙ i.keeps.environment };
+          c.in-Some.ensures.some (lets-same (values_at g.E.Node.NodeSet g.E.Env g.E.Hash.KeyHash) i.keeps.environment c.release_both.ensures.lets) gives);
+      keeps = record { storage = c.release_both.ensures.keeps.storage ∙ i.keeps.storage; environment = c.release_both.ensures.keeps.environment ∙ i.keeps.environment };
     }
 
 pub returns-clause-gives : goal.returns-clause-gives

@@ -5,9 +5,9 @@ use Rattle.pagable_file.proofs.tables.prepare.Goals as goal
 pub returns-then-is_empty : goal.returns-then-is_empty
 returns-then-is_empty g c =
     let store = c.args.store.now in
-    let free = c.if-not-is_free.false in
+    let free = c.if-not-has_neither_table.false in
     record {
       found = made_is_found (g.S.Store.view store) (g.S.Store.view c.make.new.store) c.requires.idle c.in_ok-make.ensures.made c.make.ensures.clean
-          (λ sound. (g.met.S.Store.ordered store sound blob_tree, g.met.S.Store.ordered store sound root_tree)) (c.is_free.ensures.blobs free)
-          (c.is_free.ensures.roots free);
+          (λ sound. (g.met.S.Store.ordered store sound blob_tree, g.met.S.Store.ordered store sound root_tree)) (c.has_neither_table.ensures.blobs free)
+          (c.has_neither_table.ensures.roots free);
     }

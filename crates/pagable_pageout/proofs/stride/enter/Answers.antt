@@ -7,7 +7,7 @@ use Rattle.pagable_pageout.proofs.stride.enter.Goals as goal
 pub returns-in-Ok-clause-goes : goal.returns-in-Ok-clause-goes
 returns-in-Ok-clause-goes g c =
     let node = just_open c.args.reference c.args.place c.args.through (written_of (arc_value c.in-Ok.told)) in
-    let e = c.advance.ensures.todo ∙ ap (λ t. advance (t ∷ todos c.prepare.new.path.items)) c.in-Ok.ensures.open
+    let e = c.advance.ensures.todo ∙ ap (λ t. advance (t ∷ todos c.write_claimed.new.path.items)) c.in-Ok.ensures.open
     ∙ ap (λ ps. advance (to_finish node ∷ todos ps)) c.in-Ok.ensures.path in
     record {
       way = subst EachIsAwaited (sym e) (advance-way node (todos c.args.path.now.items) (omega arith) c.requires.0 (omega (arith, c.requires.1)));
@@ -18,7 +18,7 @@ pub returns-in-Ok-clause-step : goal.returns-in-Ok-clause-step
 returns-in-Ok-clause-step g c n pin shares =
     let w = written_of (arc_value c.in-Ok.told) in
     let below = todos c.args.path.now.items in
-    let e = c.advance.ensures.todo ∙ ap (λ t. advance (t ∷ todos c.prepare.new.path.items)) c.in-Ok.ensures.open
+    let e = c.advance.ensures.todo ∙ ap (λ t. advance (t ∷ todos c.write_claimed.new.path.items)) c.in-Ok.ensures.open
     ∙ ap (λ ps. advance (to_finish (just_open c.args.reference c.args.place c.args.through w) ∷ todos ps)) c.in-Ok.ensures.path in
     let noted = rw c.in-Ok.ensures.listed at c.note_written.ensures in
     both-second (tells_map (λ s h. c.in-Ok.ensures.forms s pin h) shares) (rw c.named.ensures at noted)
@@ -41,7 +41,7 @@ returns-in-Err-clause-step g c n pin shares =
 pub returns-in-Ok-clause-ends : goal.returns-in-Ok-clause-ends
 returns-in-Ok-clause-ends g c =
     let node = just_open c.args.reference c.args.place c.args.through (written_of (arc_value c.in-Ok.told)) in
-    let e = c.advance.ensures.todo ∙ ap (λ t. advance (t ∷ todos c.prepare.new.path.items)) c.in-Ok.ensures.open
+    let e = c.advance.ensures.todo ∙ ap (λ t. advance (t ∷ todos c.write_claimed.new.path.items)) c.in-Ok.ensures.open
     ∙ ap (λ ps. advance (to_finish node ∷ todos ps)) c.in-Ok.ensures.path in
     written-ends _ node (todos c.args.path.now.items) _ c.advance.result (λ w h. h) e
 

@@ -4,10 +4,10 @@ use Rattle.{pagable_value_spec.specs.declared.error.Error.Error, pagable_pager_s
 use Rattle.pagable_pageout.proofs.stride.start.Goals as goal
 
 pub returns-in-Ok-Claimed-clause-ends : goal.returns-in-Ok-Claimed-clause-ends
-returns-in-Ok-Claimed-clause-ends g c = ends-as _ _ _ _ (λ w h. h) c.take.ensures.ends
+returns-in-Ok-Claimed-clause-ends g c = ends-as _ _ _ _ (λ w h. h) c.pin_and_write.ensures.ends
 
 pub returns-in-Ok-Claimed-clause-goes : goal.returns-in-Ok-Claimed-clause-goes
-returns-in-Ok-Claimed-clause-goes g c = record { way = c.take.ensures.goes.way; leads = let less = c.take.ensures.goes.leads in omega (arith, less) }
+returns-in-Ok-Claimed-clause-goes g c = record { way = c.pin_and_write.ensures.goes.way; leads = let less = c.pin_and_write.ensures.goes.leads in omega (arith, less) }
 
 pub returns-in-Ok-Claimed-clause-acts : goal.returns-in-Ok-Claimed-clause-acts
 returns-in-Ok-Claimed-clause-acts g c =
@@ -23,12 +23,12 @@ returns-in-Ok-Claimed-clause-acts g c =
     (λ s x y fault step. turn-walked _ _ n x (Task.Start r place) below y (Task.Pin r place) below _ _ s s
     (start-turns _ _ n x y r place below (to_pin r place ∷ below) (Ok ClaimResult.Claimed) (Task.Pin r place) refl refl s (step s.core below fault)) refl
     refl))
-    (c.take.ensures.acts n)
-    (λ s mid s' x y z one two. walked-on _ _ n x (Task.Start r place) below y z (Task.Pin r place) c.take.result below
-    (todos c.take.new.path.items) s mid s' one two) refl
+    (c.pin_and_write.ensures.acts n)
+    (λ s mid s' x y z one two. walked-on _ _ n x (Task.Start r place) below y z (Task.Pin r place) c.pin_and_write.result below
+    (todos c.pin_and_write.new.path.items) s mid s' one two) refl
 
 pub returns-in-Ok-Waiting-clause-ends : goal.returns-in-Ok-Waiting-clause-ends
-returns-in-Ok-Waiting-clause-ends g c = refused-ends _ _ c.unclaimed.result _ _ c.unclaimed.ensures.todo
+returns-in-Ok-Waiting-clause-ends g c = refused-ends _ _ c.fail_unclaimed.result _ _ c.fail_unclaimed.ensures.todo
 
 pub returns-in-Ok-Waiting-clause-acts : goal.returns-in-Ok-Waiting-clause-acts
 returns-in-Ok-Waiting-clause-acts g c =
@@ -49,8 +49,8 @@ returns-in-Ok-Waiting-clause-acts g c =
     (λ s x y fault step. steps-to _ n _ x y (Task.Start r place) below (to_start r place ∷ below) _ s s s
     (start-turns _ _ n x y r place below (to_start r place ∷ below) (Ok ClaimResult.Waiting) (Task.Start r place) refl tt s (step s.core below fault))
     (record { closes = refl })))
-    (both-second {P = λ s. Unit {0}} {D = λ a s q s' q'. Unit {0}} (tells_all (λ s. tt)) c.unclaimed.ensures.table (λ s x y u same. tt))
-    (λ s mid s' x y z step none. waits-walked _ _ n x r place below y z _ (todos c.unclaimed.new.path.items) _ Error.TooDeep c.unclaimed.result s mid s' step
+    (both-second {P = λ s. Unit {0}} {D = λ a s q s' q'. Unit {0}} (tells_all (λ s. tt)) c.fail_unclaimed.ensures.table (λ s x y u same. tt))
+    (λ s mid s' x y z step none. waits-walked _ _ n x r place below y z _ (todos c.fail_unclaimed.new.path.items) _ Error.TooDeep c.fail_unclaimed.result s mid s' step
     refl) refl
 
 pub returns-in_default-clause-ends : goal.returns-in_default-clause-ends

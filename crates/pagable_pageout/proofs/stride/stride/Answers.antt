@@ -9,14 +9,14 @@ returns-then-left-eq0-clause-acts g c =
     let place = c.in-Start.place in
     let n = c.args.worker.0 in
     let below = todos c.args.path.now.items in
-    let says = c.unclaimed.ensures in
+    let says = c.fail_unclaimed.ensures in
     rw c.in-Start.is (both-second {P = λ s. Unit {0}} (tells_all (λ s. tt)) says.table
-    (λ s x y u same. walk-strides _ _ n x (Task.Start r place) below y c.unclaimed.result (todos c.unclaimed.new.path.items) s s
-    (turn-walked _ _ n x (Task.Start r place) below y c.unclaimed.result (todos c.unclaimed.new.path.items) _ _ s s
-    (start-refused _ _ n x y r place below _ c.unclaimed.result says.todo says.plain same s) refl refl)))
+    (λ s x y u same. walk-strides _ _ n x (Task.Start r place) below y c.fail_unclaimed.result (todos c.fail_unclaimed.new.path.items) s s
+    (turn-walked _ _ n x (Task.Start r place) below y c.fail_unclaimed.result (todos c.fail_unclaimed.new.path.items) _ _ s s
+    (start-refused _ _ n x y r place below _ c.fail_unclaimed.result says.todo says.plain same s) refl refl)))
 
 pub returns-then-left-eq0-clause-ends : goal.returns-then-left-eq0-clause-ends
-returns-then-left-eq0-clause-ends g c = rw c.in-Start.is (refused-ends _ _ c.unclaimed.result _ _ c.unclaimed.ensures.todo)
+returns-then-left-eq0-clause-ends g c = rw c.in-Start.is (refused-ends _ _ c.fail_unclaimed.result _ _ c.fail_unclaimed.ensures.todo)
 
 pub returns-else-left-eq0-clause-ends : goal.returns-else-left-eq0-clause-ends
 returns-else-left-eq0-clause-ends g c = rw c.in-Start.is c.begin.ensures.ends

@@ -2,7 +2,7 @@ use Rattle.pagable_tables.proofs.{CascadeStep.{given-fits, held-here, owned-by-n
 use Rattle.pagable_tables.proofs.Words.{Fits, HandleRow, RefCounts, MayList, Some, after, ap, arith}
 use Rattle.pagable_tables.proofs.Words.{cases_eq, counts_at, entry, if◌then◌else◌, is_fallen_by, is_pin, is_pinning, live, nat_tests, one, owns_nothing, pins_in, refl, refs_at, subst, sum_by, sym}
 use Rattle.pagable_tables.proofs.Words.{true, unpinned, ℕ, ◌+◌, ◌-◌, ◌∙◌, ◌∷◌, ◌≡◌, ◌≢◌, ◌≤◌}
-use Rattle.pagable_tables.specs.{CascadeInvariant.is_work, Nodes.work_at}
+use Rattle.pagable_tables.specs.{CascadeInvariant.is_work, Nodes.most_worker_handles_at}
 
 pub returns : Rattle.pagable_tables.proofs.cascade.release_without_cascade.Goals.returns
 returns c stack w =
@@ -61,7 +61,7 @@ returns c stack w =
             (given-fits _ at' _ refs' _ rows' old.top stack x counts stays listed (old.last_handle + 1) w.fits is plain sums here others same some live' b
             refl);
         worked = λ m.
-            let was = c.set_counts.ensures.work m ∙ ap (λ s. work_at s m) e.nodes in
+            let was = c.set_counts.ensures.work m ∙ ap (λ s. most_worker_handles_at s m) e.nodes in
             let sum = sums (λ h. one (is_work m h)) in
             grind (arith, nat_tests, cases_eq m n, w.worked m, was, sum, k.here, k.others m);
       };

@@ -5,14 +5,14 @@ use Rattle.pagable_tables.proofs.Words.{ArcRef, ReleasesWithoutCascade, HandleNu
 use Rattle.pagable_tables.proofs.Words.{arith}
 use Rattle.pagable_tables.proofs.Words.{cases_eq, counts_at, false, inl, inr, is_valued, length, live, nat_tests, one, owner_value, owns, owns_nothing, refl, refs_at, slice_get, subst, sym, ℕ, ◌&&◌}
 use Rattle.pagable_tables.proofs.{Words.{is_at, sum_by-le-sum_by, ◌++◌, ◌==◌, ◌∙◌, ◌∷◌, ◌≡◌, ◌≢◌}, WorkCounts.work-more}
-use Rattle.pagable_tables.specs.{CascadeInvariant.is_work, Nodes.work_at}
+use Rattle.pagable_tables.specs.{CascadeInvariant.is_work, Nodes.most_worker_handles_at}
 use Rattle.pagable_tables.proofs.cascade.step.Goals as goal
 
 -- the first node that falls has this reference, which was taken
 module _ (t mid : RefCounts) (ns : List ℕ) (p : ArcRef) (i : ℕ) (x : HandleRow) (w : IsFalling t (t.top ∷ ns) owns_nothing)
     (popped : refs_at t.nodes t.top ≡ refs_at mid.nodes t.top ++ p ∷ [])
     (others : (m : ℕ) → m ≢ t.top → refs_at mid.nodes m ≡ refs_at t.nodes m) (same : (m : ℕ) → counts_at mid.nodes m ≡ counts_at t.nodes m)
-    (work : (m : ℕ) → work_at mid.nodes m ≡ work_at t.nodes m) (at : slice_get t.handles.places.items i ≡ Some (alive x))
+    (work : (m : ℕ) → most_worker_handles_at mid.nodes m ≡ most_worker_handles_at t.nodes m) (at : slice_get t.handles.places.items i ≡ Some (alive x))
     (number : x.number.0 ≡ p.handle.0) where
   taken : (x.owner ≡ owner_value t.top) × IsFalling (record t { nodes = mid.nodes }) (t.top ∷ ns) (owns x)
   taken =
@@ -57,7 +57,7 @@ unreachable-requires c =
 -- nothing was taken
 untouched : (t mid : RefCounts) (stack : List ℕ) → IsFalling t stack owns_nothing → refs_at t.nodes t.top ≡ refs_at mid.nodes t.top ++ []
     → ((m : ℕ) → m ≢ t.top → refs_at mid.nodes m ≡ refs_at t.nodes m) → ((m : ℕ) → counts_at mid.nodes m ≡ counts_at t.nodes m)
-    → ((m : ℕ) → work_at mid.nodes m ≡ work_at t.nodes m)
+    → ((m : ℕ) → most_worker_handles_at mid.nodes m ≡ most_worker_handles_at t.nodes m)
     → IsFalling (record t { nodes = mid.nodes }) stack owns_nothing
 untouched t mid stack w here others same work =
     let refs : (m : ℕ) → refs_at mid.nodes m ≡ refs_at t.nodes m = λ m. grind (arith, nat_tests, cases_eq, append-nil) in
@@ -89,7 +89,8 @@ returns-in-Some-look c stack w =
     let mid : RefCounts = record t { nodes = c.pop_reference.new.nodes } in
     let o = taken t mid s.0 c.in-Some.reference c.in-Some-look.at.place x s.2 e.here e.others e.counts e.work
     c.in-Some-look.ensures.place (ap (λ (n : HandleNumber). n.0) c.in-Some-look.ensures.number) in
-    let g : ReleasesWithoutCascade mid (t.top ∷ s.0) x false c.args.lists c.release_without_cascade.new.t = c.release_without_cascade.ensures (t.top ∷ s.0) o.1 in
+    let g : ReleasesWithoutCascade mid (t.top ∷ s.0) x false c.args.lists c.release_without_cascade.new.t =
+    c.release_without_cascade.ensures (t.top ∷ s.0) o.1 in
     record {
       rest = g.more;
       falling = g.falling;

@@ -2,7 +2,7 @@ use Rattle.pagable_tables.proofs.{CascadeStep.rows-told, LoadEnd.born-fits, Owne
 use Rattle.pagable_tables.proofs.Words.{Counts, HandleRow, NodeRow, None, Option, Some, [], ap, arith}
 use Rattle.pagable_tables.proofs.Words.{counts_at, false, has_key, inl, inr, is_named_by, is_pinning, key_in, live, moved, nat_tests, one, option_map, owner_value, core_alone, refl, refs_at, ℕ}
 use Rattle.pagable_tables.proofs.{Words.{cases_eq, ◌≤◌}, WorkCounts.{work-moved, work-push, work-told}}
-use Rattle.pagable_tables.specs.{CascadeInvariant.is_worker, Nodes.work_at}
+use Rattle.pagable_tables.specs.{CascadeInvariant.is_worker, Nodes.most_worker_handles_at}
 use Rattle.pagable_tables.proofs.{SameViews.same-cache, Words.{◌++◌, ◌+◌, ◌∙◌, ◌∷◌, ◌≡◌, ◌≢◌}}
 use Rattle.std.specs.Option.{option_map_or}
 
@@ -27,9 +27,9 @@ returns-clause-does c =
     let given = moved (is_named_by rs) (owner_value n) (live t.handles.places.items) in
     let works = λ (o : Option NodeRow). option_map_or (λ (r : NodeRow). r.at_work) o 0 in
     let before = work-moved t.nodes (is_named_by rs) (owner_value n) (live t.handles.places.items) refl w.steady.worked in
-    let none : work_at t.nodes n ≡ 0 = grind (arith, nat_tests, free) in
-    let worker : work_at c.put.new.self n ≡ one (is_worker me) = grind (arith, nat_tests, ap works c.put.ensures.here, c.is_worker.ensures) in
-    let more : (q : ℕ) → work_at t.nodes q ≤ work_at c.put.new.self q = λ q. let a =
+    let none : most_worker_handles_at t.nodes n ≡ 0 = grind (arith, nat_tests, free) in
+    let worker : most_worker_handles_at c.put.new.self n ≡ one (is_worker me) = grind (arith, nat_tests, ap works c.put.ensures.here, c.is_worker.ensures) in
+    let more : (q : ℕ) → most_worker_handles_at t.nodes q ≤ most_worker_handles_at c.put.new.self q = λ q. let a =
     λ (ne : q ≢ n). ap works (c.put.ensures.others q ne) in grind (arith, nat_tests, cases_eq q n) in
     let worked = work-push given x t.nodes c.put.new.self before more (let a = before n in omega (arith, none, worker)) in
     let unvalued = not-a-value (core_alone u) me c.requires.holder in

@@ -65,7 +65,8 @@ release_without_cascade-requires-clause-falling g c = (
 
 pub finish_cascade-requires : goal.finish_cascade-requires
 finish_cascade-requires g c =
-    let e = c.release_without_cascade.ensures [] (mine c.args.t.now.ref_counts c.args.me c.in_ok-at.at.row c.requires.whole.steady c.requires.plain c.in_ok-at.ensures.owner) in
+    let e = c.release_without_cascade.ensures [] (mine c.args.t.now.ref_counts c.args.me c.in_ok-at.at.row c.requires.whole.steady c.requires.plain
+    c.in_ok-at.ensures.owner) in
     record { falling = (e.more, e.falling, omega (arith, e.long)) }
 
 pub returns-in-LoosePinned : goal.returns-in-LoosePinned
@@ -79,7 +80,8 @@ returns-in-LoosePinned g c =
     sheds-with (does-as (lazily-so {lists = c.args.lists} {step = λ w w'. Falls w (with_mode w c.args.handle Mode.LooseUnpinned) nobody c.finish_cascade.result
     w'}
     (λ storage e.
-    rw c.in_ok-at.ensures.number at (c.finish_cascade.ensures.falls _ _ nobody (lowered-on t storage c.args.lists c.requires.whole e row c.release_without_cascade.new.t up)))
+    rw c.in_ok-at.ensures.number at (c.finish_cascade.ensures.falls _ _ nobody
+    (lowered-on t storage c.args.lists c.requires.whole e row c.release_without_cascade.new.t up)))
     c.finish_cascade.ensures.steady (λ fell. falling fell turns) refl refl refl)
     (λ storage fell e. record {
       does = inr (

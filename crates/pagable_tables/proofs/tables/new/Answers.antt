@@ -1,4 +1,4 @@
-use Rattle.pagable_tables.proofs.{CascadeEnd.passes-none, Words.{AreLater, None, Tables, [], ap, arith, known_at, live, load_at, nat_tests, row_by}}
+use Rattle.pagable_tables.proofs.{CascadeEnd.passes-none, Words.{OwnLaterHandles, None, Tables, [], ap, arith, known_at, live, load_at, nat_tests, row_by}}
 use Rattle.pagable_tables.{proofs.Words.{refl, worker_at, ℕ, ◌≡◌}, specs.Core.IsWhole}
 
 nothing-whole : (t : Tables) → t.ref_counts.handles.dead ≡ 0 → t.ref_counts.handles.places.items ≡ [] → ((n : ℕ) → row_by t.ref_counts.nodes n ≡ None)
@@ -8,7 +8,7 @@ nothing-whole : (t : Tables) → t.ref_counts.handles.dead ≡ 0 → t.ref_count
 nothing-whole t dead rows found list cache loads workers last = grind (arith, nat_tests)
 
 nothing-later : (t : Tables) → live t.ref_counts.handles.places.items ≡ [] → ((l : ℕ) → load_at t.loads l ≡ None) → ((v : ℕ) → worker_at t.workers v ≡ None)
-    → t.noted ≡ 0 → AreLater t
+    → t.noted ≡ 0 → OwnLaterHandles t
 nothing-later t none loads workers noted = grind (arith, nat_tests, passes-none)
 
 pub returns-clause-later : Rattle.pagable_tables.proofs.tables.new.Goals.returns-clause-later

@@ -6,7 +6,7 @@ returns-then-cost-self g c = costs-too-much (subst (λ n. n < c.args.cost) (ap (
 
 pub returns-in-Ok : goal.returns-in-Ok
 returns-in-Ok g c =
-    clone-is-stored _ _ _ _ (subst (λ n. c.args.cost ≤ n) (ap (λ (b : BudgetView). b.most) c.self.view_is) c.if-cost-self.false) c.in-Ok.ensures c.store.ensures
+    clone-is-stored _ _ _ _ (subst (λ n. c.args.cost ≤ n) (ap (λ (b : BudgetView). b.most) c.self.view_is) c.if-cost-self.false) c.in-Ok.ensures c.insert_pin.ensures
 
 pub returns-in_default : goal.returns-in_default
 returns-in_default g c = clone-is-refused _ _ (subst (λ n. c.args.cost ≤ n) (ap (λ (b : BudgetView). b.most) c.self.view_is) c.if-cost-self.false)

@@ -16,8 +16,8 @@ returns-in-Some-clause-adds g c honest =
     let rows = (g.S.Store.view it.store).committed blob_tree in
     let stored = unless it.closed (stored_with it.waiting rows) in
     subst (λ (k : ℕ). Adds k blob stored stored) c.compute_key-key.ensures
-    (adds_held it.closed it.waiting rows key c.in-Some.held.now blob c.if-self.false c.in-Some.ensures c.in_ok-is_held.ensures.ok.0
-    c.in_ok-is_held.ensures.ok.1)
+    (adds_held it.closed it.waiting rows key c.in-Some.held.now blob c.if-self.false c.in-Some.ensures c.in_ok-test_held.ensures.ok.0
+    c.in_ok-test_held.ensures.ok.1)
 
 pub returns-in-Ok-Some-clause-adds : goal.returns-in-Ok-Some-clause-adds
 returns-in-Ok-Some-clause-adds g c honest =
@@ -29,7 +29,7 @@ returns-in-Ok-Some-clause-adds g c honest =
     let free : None ≡ get int_eq it.waiting (rowid_of key) = search rules in
     subst (λ (k : ℕ). Adds k blob (unless it.closed (stored_with it.waiting old)) (unless it.closed (stored_with it.waiting new))) c.compute_key-key.ensures
     (adds_found it.closed it.waiting old new key c.in-Ok-Some.found blob c.if-self.false free
-    (rw c.in-Ok-Some.field-0-is at (c.in-Ok-Some.ensures.found honest)) c.in_ok-is_found-in-Ok-Some.ensures.ok
+    (rw c.in-Ok-Some.field-0-is at (c.in-Ok-Some.ensures.found honest)) c.in_ok-test_found-in-Ok-Some.ensures.ok
     (ap (λ (t : Trees). t blob_tree) (c.read.ensures.stays.same honest)))
 
 pub invariant_of-self-in-Break-branch-4 : goal.invariant_of-self-in-Break-branch-4
@@ -41,7 +41,8 @@ invariant_of-self-in-Break-branch-4 g c =
     c.compute_key-key.ensures ∙ ap (λ (d : PagableData). hash (blob_of d)) (sym c.in_ok-blob.ensures.ok) in
     record {
       settled = c.read.ensures.stays.settled it.settled;
-      named = all_keyed hash it.waiting c.add_waiting.new.waiting c.compute_key-key.result (blob_of (arc_value arc)) c.add_waiting.result own it.named c.add_waiting.ensures.ok
+      named = all_keyed hash it.waiting c.add_waiting.new.waiting c.compute_key-key.result (blob_of (arc_value arc)) c.add_waiting.result own it.named
+          c.add_waiting.ensures.ok
           c.add_waiting.ensures.err;
     }
 
@@ -50,7 +51,8 @@ returns-in_err-add_waiting-clause-err g c honest =
     let it = c.args.self.now in
     any_err c.from_residual-in_err-add_waiting.result _
     (same_entries it.closed it.waiting c.add_waiting.new.waiting ((g.S.Store.view it.store).committed blob_tree)
-    ((g.S.Store.view c.read.new.store).committed blob_tree) c.in_err-add_waiting.ensures.err (ap (λ (t : Trees). t blob_tree) (c.read.ensures.stays.same honest)))
+    ((g.S.Store.view c.read.new.store).committed blob_tree) c.in_err-add_waiting.ensures.err
+    (ap (λ (t : Trees). t blob_tree) (c.read.ensures.stays.same honest)))
 
 pub invariant_of-self-2 : goal.invariant_of-self-2
 invariant_of-self-2 g c =
@@ -61,7 +63,8 @@ invariant_of-self-2 g c =
     c.compute_key-key.ensures ∙ ap (λ (d : PagableData). hash (blob_of d)) (sym c.in_ok-blob.ensures.ok) in
     record {
       settled = c.read.ensures.stays.settled it.settled;
-      named = all_keyed hash it.waiting c.add_waiting.new.waiting c.compute_key-key.result (blob_of (arc_value arc)) c.add_waiting.result own it.named c.add_waiting.ensures.ok
+      named = all_keyed hash it.waiting c.add_waiting.new.waiting c.compute_key-key.result (blob_of (arc_value arc)) c.add_waiting.result own it.named
+          c.add_waiting.ensures.ok
           c.add_waiting.ensures.err;
     }
 
@@ -81,13 +84,13 @@ returns-clause-adds g c honest =
     (adds_holding it.closed it.waiting c.add_waiting.new.waiting old new key (blob_of (arc_value arc)) c.if-self.false free c.in_ok-add_waiting.ensures.ok
     (rw c.in-Ok-None.field-0-is at (c.in-Ok-None.ensures.found honest)) (ap (λ (t : Trees). t blob_tree) (c.read.ensures.stays.same honest))))
 
-pub returns-in_err-is_held-clause-refused : goal.returns-in_err-is_held-clause-refused
-returns-in_err-is_held-clause-refused g c =
+pub returns-in_err-test_held-clause-refused : goal.returns-in_err-test_held-clause-refused
+returns-in_err-test_held-clause-refused g c =
     let out = err_from_is_err_and c.from_residual.result c.from_residual.ensures.1 in
     rw (out.1, out.2) (held_refuses c.in-Some.held.now c.compute_key-key.result (blob_of c.args.blob) c.args.self.now.closed _ _ _
-    c.in_err-is_held.ensures.only)
+    c.in_err-test_held.ensures.only)
 
-pub returns-in_err-is_found-in-Ok-Some-clause-refused : goal.returns-in_err-is_found-in-Ok-Some-clause-refused
-returns-in_err-is_found-in-Ok-Some-clause-refused g c =
-    let out = err_from_is_err_and c.from_residual-in_err-is_found-in-Ok-Some.result c.from_residual-in_err-is_found-in-Ok-Some.ensures.1 in
-    rw (out.1, out.2) (found_refuses c.in-Ok-Some.found (blob_of c.args.blob) c.args.self.now.closed _ _ _ c.in_err-is_found-in-Ok-Some.ensures.only)
+pub returns-in_err-test_found-in-Ok-Some-clause-refused : goal.returns-in_err-test_found-in-Ok-Some-clause-refused
+returns-in_err-test_found-in-Ok-Some-clause-refused g c =
+    let out = err_from_is_err_and c.from_residual-in_err-test_found-in-Ok-Some.result c.from_residual-in_err-test_found-in-Ok-Some.ensures.1 in
+    rw (out.1, out.2) (found_refuses c.in-Ok-Some.found (blob_of c.args.blob) c.args.self.now.closed _ _ _ c.in_err-test_found-in-Ok-Some.ensures.only)

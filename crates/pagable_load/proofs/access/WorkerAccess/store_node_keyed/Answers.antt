@@ -6,12 +6,12 @@ returns-in_err-stored-clause-acts g c =
     let p = err_from_is_err_and c.from_residual.result c.from_residual.ensures.1 in
     rw (p.1, p.2) (acts_map c.in_err-stored.ensures.acts (λ s t call. record { stores = tt; refused = inl call }))
 
-pub returns-in_err-close_node-clause-acts : goal.returns-in_err-close_node-clause-acts
-returns-in_err-close_node-clause-acts g c =
-    let p = err_from_is_err_and c.from_residual-in_err-close_node.result c.from_residual-in_err-close_node.ensures.1 in
-    rw (p.1, p.2) (acts_then c.in_ok-stored.ensures.acts c.in_err-close_node.ensures
+pub returns-in_err-set_key_and_release-clause-acts : goal.returns-in_err-set_key_and_release-clause-acts
+returns-in_err-set_key_and_release-clause-acts g c =
+    let p = err_from_is_err_and c.from_residual-in_err-set_key_and_release.result c.from_residual-in_err-set_key_and_release.ensures.1 in
+    rw (p.1, p.2) (acts_then c.in_ok-stored.ensures.acts c.in_err-set_key_and_release.ensures
     (λ s mid t call closes. record { stores = tt; refused = inr (c.in_ok-stored.stored, mid, call, closes) }))
 
 pub returns-clause-acts : goal.returns-clause-acts
-returns-clause-acts g c = acts_then c.in_ok-stored.ensures.acts c.in_ok-close_node.ensures
+returns-clause-acts g c = acts_then c.in_ok-stored.ensures.acts c.in_ok-set_key_and_release.ensures
     (λ s mid t call closes. record { stores = (mid, call, closes); refused = tt })

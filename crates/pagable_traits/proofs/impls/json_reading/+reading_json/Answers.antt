@@ -66,7 +66,7 @@ array_part-returns-in_err-enter g t c =
     let told = c.in_ok-count.ensures in
     let down = c.in_err-enter.ensures in
     read-deep g.E.Env g.D.PagableDeserializer c.from_residual-in_err-enter.result c.from_residual-in_err-enter.ensures.1 told.moves told.same_env
-    told.same_levels down.err down.same_standing down.same_env (array-deep _ _ _ _ _ told.gives)
+    told.same_levels down.err down.same_input down.same_env (array-deep _ _ _ _ _ told.gives)
 
 pub object_part-returns-in_err-count : goal.object_part-returns-in_err-count
 object_part-returns-in_err-count g t c =
@@ -79,7 +79,7 @@ object_part-returns-in_err-enter g t c =
     let told = c.in_ok-count.ensures in
     let down = c.in_err-enter.ensures in
     read-deep g.E.Env g.D.PagableDeserializer c.from_residual-in_err-enter.result c.from_residual-in_err-enter.ensures.1 told.moves told.same_env
-    told.same_levels down.err down.same_standing down.same_env (object-deep _ _ _ _ _ told.gives)
+    told.same_levels down.err down.same_input down.same_env (object-deep _ _ _ _ _ told.gives)
 
 pub read_items-returns : goal.read_items-returns
 read_items-returns g t c =
