@@ -1,0 +1,1 @@
+PROOFS={'pagable_pageout': {'Turns':'WorkerTurns'}}
