@@ -152,9 +152,9 @@ fn page_out_pending_by<'a, E: Env<Node: NodeSet<E>>, S: PagableStorage<E>>(
 ///
 /// # Errors
 ///
-/// - `Failed` with the error of the first entry that fails: if it fails before its cell is pinned,
-///   it is listed again, at the end; those before it stay listed. `AlreadyFailed` can't happen,
-///   since there is no other worker.
+/// - `Failed` with the error of the first entry that fails: it keeps its place if no worker can
+///   begin; if it fails later, but before its cell is pinned, it is listed again, at the end; those
+///   before it stay listed. `AlreadyFailed` can't happen, since there is no other worker.
 pub fn page_out_pending<E: Env<Node: NodeSet<E>>, S: PagableStorage<E>>(
     alloc: Global,
     pager: &mut Pager<E, S>,

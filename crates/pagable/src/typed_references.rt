@@ -30,7 +30,8 @@ fn node_of_type<E: Env<Node: NodeSet<E>>, S: PagableStorage<E>>(
     }
 }
 
-/// Makes a loose reference of a loose handle, for a value of another type to hold.
+/// Makes a loose reference of a loose handle, for a value of another type to hold. It doesn't test
+/// that the handle is loose.
 ///
 /// # Errors
 ///

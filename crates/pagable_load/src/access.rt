@@ -518,7 +518,8 @@ pub trait WorkerAccess<E: Env<Node: NodeSet<E>>>: Access<E> {
             (λ w'. TakeCall s.core a.me place result w') s t) };
 
     /// Releases the list entry at this place if its cell has a key. Returns whether it did so; None
-    /// past the list's end. An access behind a lock takes the lock once for all of it.
+    /// past the list's end. It ignores an error of the release, which says that a cell can't be
+    /// listed for page-out. An access behind a lock takes the lock once for all of it.
     fn release_if_keyed(&mut self, place: usize) -> Option<bool>
         ensures { Acts Self.known_state Self.acting self.old self.new
             (λ a s t. ReleasesIfKeyed (values_at E.Node.NodeSet E.Env E.Hash.KeyHash a.environment) s a.me place

@@ -18,7 +18,8 @@ use std::sync::{Arc, Mutex, Wait};
 /// The access of one thread to a pager behind a lock, for the caller or for a worker of this
 /// thread. Each call takes the lock, makes one call of the pager for its owner, and releases the
 /// lock; environment and session are outside the lock. A call for a worker that isn't running fails
-/// with NotYours, apart from `share`, `store` and `store_keyed`, which need no owner.
+/// with NotYours; `take_pending` and `release_if_keyed` return None then. `share`, `store`,
+/// `store_keyed`, `pending`, `entry_key` and the calls that name their worker ask for no owner.
 #[derive(Drop)]
 pub struct Locked<'a, R: Wait, E: Env<Node: NodeSet<E>>, S: PagableStorage<E>> {
     rt: &'a R,

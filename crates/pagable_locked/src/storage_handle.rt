@@ -282,8 +282,9 @@ impl<E: Env<Node: NodeSet<E>>, S: PagableStorage<E>> PagableStorageHandle<E, S> 
     ///
     /// # Errors
     ///
-    /// - `Failed` with the error of the first entry that fails: it is listed again, at the end, and
-    ///   those before it stay listed.
+    /// - `Failed` with the error of the first entry that fails: it is listed again, at the end, or
+    ///   keeps its place if no worker could begin; those before it stay listed. If others have
+    ///   filled the list meanwhile and it can't grow, it is listed when its next pin goes.
     pub fn page_out_pending<R: Wait>(&self, rt: &R, alloc: Global) -> Result<(), PageOutError> {
         let mut access = self.access(rt);
         page_out_pending_over(&mut access, alloc)

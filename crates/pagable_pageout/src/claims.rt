@@ -37,7 +37,8 @@ pub trait Claims<E: Env<Node: NodeSet<E>>> {
     ///   workers would wait for each other in a ring.
     /// - `OutOfMemory` if the table can't grow.
     ///
-    /// After each error the slots are unchanged, and the worker waits for nothing.
+    /// After each error no claim and no result has changed, and the worker waits for nothing. A table
+    /// that threads share may have one more slot then, which nobody has claimed.
     fn claim_for(
         &mut self,
         worker: WorkerNumber,
