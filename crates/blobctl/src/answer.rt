@@ -1,6 +1,6 @@
 //! What commands answer.
 
-use crate::blobs::{Blobs, InFile};
+use crate::blobs::{Blobs, BlobsInFile};
 use crate::command::{Verb, key_of};
 use crate::look::{graph, list, roots, stat, tree};
 use crate::progress::Progress;
@@ -42,7 +42,7 @@ fn put<B: Blobs>(alloc: Global, blobs: &mut B, words: &str) -> Result<String, Re
 }
 
 /// Makes a name stand for a key, or for none, and says so.
-fn set<B: Blobs>(
+fn set_root<B: Blobs>(
     alloc: Global,
     blobs: &mut B,
     name: &str,
@@ -53,12 +53,16 @@ fn set<B: Blobs>(
 }
 
 /// Reads a name and a key from `words`, and makes the name stand for the key.
-fn root<B: Blobs>(alloc: Global, blobs: &mut B, words: &str) -> Result<String, Refusal> {
+fn parse_and_set_root<B: Blobs>(
+    alloc: Global,
+    blobs: &mut B,
+    words: &str,
+) -> Result<String, Refusal> {
     let Some((name, word)) = words.split_once(' ') else {
         return Err(Refusal::BadLine);
     };
     let key = key_of(word)?;
-    Ok(set(alloc, blobs, name, Some(key))?)
+    Ok(set_root(alloc, blobs, name, Some(key))?)
 }
 
 /// Commits what was stored and set, and says so.
@@ -75,7 +79,7 @@ fn fsck<B: Blobs>(rt: &HostRuntime, blobs: &mut B) -> Result<(String, bool), Err
     for flaw in &flaws {
         write_flaw(&mut text, flaw)?;
     }
-    writeln!(text, "{} blobs, {} flaws", progress.done(), flaws.len())?;
+    writeln!(text, "{} blobs, {} flaws", progress.count(), flaws.len())?;
     Ok((text, flaws.is_empty()))
 }
 
@@ -93,8 +97,13 @@ fn copy_roots<B: Blobs>(rt: &HostRuntime, from: &mut B, to: &mut B) -> Result<us
 ///
 /// # Errors
 ///
-/// - `Blobs`, `File` as either file fails: some blobs may have been copied.
-pub fn copy_to<B: InFile>(rt: &HostRuntime, blobs: &mut B, path: &str) -> Result<usize, Refusal> {
+/// - `Blobs` if a call on either file fails, `File` if the other file can't be opened or closed:
+///   some blobs may have been copied.
+pub fn copy_to<B: BlobsInFile>(
+    rt: &HostRuntime,
+    blobs: &mut B,
+    path: &str,
+) -> Result<usize, Refusal> {
     let mut to = B::open(rt, path)?;
     let count = copy_roots(rt, blobs, &mut to)?;
     to.close(rt.alloc())?;
@@ -102,7 +111,7 @@ pub fn copy_to<B: InFile>(rt: &HostRuntime, blobs: &mut B, path: &str) -> Result
 }
 
 /// Copies what the roots reach into the file of a path, and says how many blobs these are.
-fn copy<B: InFile>(rt: &HostRuntime, blobs: &mut B, path: &str) -> Result<String, Refusal> {
+fn copy<B: BlobsInFile>(rt: &HostRuntime, blobs: &mut B, path: &str) -> Result<String, Refusal> {
     let count = copy_to(rt, blobs, path)?;
     Ok(format!(in rt.alloc(); "{count} blobs copied\n")?)
 }
@@ -112,9 +121,10 @@ fn copy<B: InFile>(rt: &HostRuntime, blobs: &mut B, path: &str) -> Result<String
 /// # Errors
 ///
 /// - `BadLine` if a word after the verb is no key or no bytes.
-/// - `AmongLines` for `gc`.
-/// - `Blobs`, `File` as the file fails, or the other one of `copy`.
-pub fn answer<B: InFile>(rt: &HostRuntime, blobs: &mut B, verb: Verb, words: &str) -> Answer {
+/// - `GcAmongLines` for `gc`.
+/// - `Blobs` if a call on the file fails, or one on the file that `copy` writes.
+/// - `File` if the file that `copy` writes can't be opened or closed.
+pub fn answer<B: BlobsInFile>(rt: &HostRuntime, blobs: &mut B, verb: Verb, words: &str) -> Answer {
     let alloc = rt.alloc();
     let text = match verb {
         Verb::Stat => stat(alloc, blobs)?,
@@ -124,10 +134,10 @@ pub fn answer<B: InFile>(rt: &HostRuntime, blobs: &mut B, verb: Verb, words: &st
         Verb::Dot => graph(alloc, blobs, key_of(words)?)?,
         Verb::Fsck => return Ok(fsck(rt, blobs)?),
         Verb::Copy => copy(rt, blobs, words)?,
-        Verb::Gc => return Err(Refusal::AmongLines),
+        Verb::Gc => return Err(Refusal::GcAmongLines),
         Verb::Put => put(alloc, blobs, words)?,
-        Verb::Root => root(alloc, blobs, words)?,
-        Verb::Drop => set(alloc, blobs, words, None)?,
+        Verb::Root => parse_and_set_root(alloc, blobs, words)?,
+        Verb::Drop => set_root(alloc, blobs, words, None)?,
         Verb::Flush => flush(alloc, blobs)?,
     };
     Ok((text, true))

@@ -3,7 +3,7 @@
 use pagable_codec::Env;
 use pagable_core::{PagableData, PagableStorage, Roots};
 use pagable_file::copy::copy;
-use pagable_file::{FileBlobs, Flaw, Listed, OpenError, Watch};
+use pagable_file::{FileBlobs, Flaw, ListedBlob, OpenError, Watch};
 use pagable_flavors::{DataKey, Error};
 use sqlite::{File, FileStore};
 use sqlite_trees::store::Store;
@@ -14,7 +14,7 @@ use std::sync::Arc;
 /// as that does.
 pub trait Blobs: Drop {
     /// Lists all blobs.
-    fn list(&mut self, alloc: Global) -> Result<Vec<Listed>, Error>;
+    fn list(&mut self, alloc: Global) -> Result<Vec<ListedBlob>, Error>;
 
     /// Lists all names that stand for a key, also those not yet flushed, and maybe some that once
     /// did.
@@ -49,7 +49,7 @@ pub trait Blobs: Drop {
 }
 
 /// Blobs in the file of a path.
-pub trait InFile: Blobs {
+pub trait BlobsInFile: Blobs {
     /// Opens the file of a path, which it creates if there is none.
     fn open(rt: &HostRuntime, path: &str) -> Result<Self, OpenError>;
 
@@ -57,7 +57,7 @@ pub trait InFile: Blobs {
     fn close(self, alloc: Global) -> Result<(), OpenError>;
 }
 
-impl<E: Env> InFile for FileBlobs<E, FileStore<File>> {
+impl<E: Env> BlobsInFile for FileBlobs<E, FileStore<File>> {
     fn open(rt: &HostRuntime, path: &str) -> Result<FileBlobs<E, FileStore<File>>, OpenError> {
         FileBlobs::open(rt, path)
     }
@@ -69,7 +69,7 @@ impl<E: Env> InFile for FileBlobs<E, FileStore<File>> {
 }
 
 impl<E: Env, S: Store + Drop> Blobs for FileBlobs<E, S> {
-    fn list(&mut self, alloc: Global) -> Result<Vec<Listed>, Error> {
+    fn list(&mut self, alloc: Global) -> Result<Vec<ListedBlob>, Error> {
         FileBlobs::list(self, alloc)
     }
 

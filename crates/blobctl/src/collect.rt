@@ -1,7 +1,7 @@
 //! Drops what no root of a file reaches: a copy beside the file replaces it.
 
 use crate::answer::{Answer, copy_to};
-use crate::blobs::InFile;
+use crate::blobs::BlobsInFile;
 use crate::refusal::Refusal;
 use std::alloc::{AllocError, Global};
 use std::{fs, io};
@@ -33,7 +33,11 @@ fn replace(rt: &HostRuntime, path: &str, new: &str) -> io::Result<()> {
 }
 
 /// Copies what the roots reach into a new file, closes that, and returns how many blobs these are.
-fn copy_beside<B: InFile>(rt: &HostRuntime, blobs: &mut B, new: &str) -> Result<usize, Refusal> {
+fn copy_beside<B: BlobsInFile>(
+    rt: &HostRuntime,
+    blobs: &mut B,
+    new: &str,
+) -> Result<usize, Refusal> {
     remove(rt, new)?;
     remove_log(rt, new)?;
     copy_to(rt, blobs, new)
@@ -43,8 +47,10 @@ fn copy_beside<B: InFile>(rt: &HostRuntime, blobs: &mut B, new: &str) -> Result<
 ///
 /// # Errors
 ///
-/// - `Blobs`, `File`, `System` as either file or the system fails: the file has what it had.
-pub fn collect<B: InFile>(rt: &HostRuntime, path: &str, mut blobs: B) -> Answer {
+/// - `Blobs` if a call on either file fails, `File` if a file can't be opened or closed, `System`
+///   if one can't be moved or removed: the file has what it had.
+/// - `Blobs` with `OutOfMemory` also if the answer can't get memory: the file is replaced then.
+pub fn collect_garbage<B: BlobsInFile>(rt: &HostRuntime, path: &str, mut blobs: B) -> Answer {
     let new = path_with(rt.alloc(), path, ".new")?;
     let count = copy_beside(rt, &mut blobs, new.as_str())?;
     blobs.close(rt.alloc())?;

@@ -14,11 +14,11 @@ pub enum Verb {
     Roots,
     /// `tree KEY`: what a key reaches.
     Tree,
-    /// `dot KEY`: the same as a graph in the language of Graphviz.
+    /// `dot KEY`: what a key reaches, as a graph in the language of Graphviz.
     Dot,
     /// `fsck`: what is wrong with the file.
     Fsck,
-    /// `copy FILE`: copies what the roots reach into another file.
+    /// `copy FILE`: copies into FILE what the roots reach.
     Copy,
     /// `gc`: drops what no root reaches.
     Gc,
@@ -63,13 +63,13 @@ pub fn key_of(word: &str) -> Result<DataKey, Refusal> {
 pub fn parse(line: &str) -> Option<(Verb, &str)> {
     let words = line.trim_end();
     match words.split_once(' ') {
-        Some((word, rest)) => Some((of_words(word)?, rest)),
-        None => Some((of_word(words)?, "")),
+        Some((word, rest)) => Some((verb_before_words(word)?, rest)),
+        None => Some((verb_alone(words)?, "")),
     }
 }
 
-/// Reads the verb of a word with nothing after it.
-fn of_word(word: &str) -> Option<Verb> {
+/// Returns the verb that a word spells if nothing follows it, or None.
+fn verb_alone(word: &str) -> Option<Verb> {
     match word {
         "stat" => Some(Verb::Stat),
         "list" => Some(Verb::List),
@@ -81,8 +81,8 @@ fn of_word(word: &str) -> Option<Verb> {
     }
 }
 
-/// Reads the verb of a word with more after it.
-fn of_words(word: &str) -> Option<Verb> {
+/// Returns the verb that a word spells if other words follow it, or None.
+fn verb_before_words(word: &str) -> Option<Verb> {
     match word {
         "tree" => Some(Verb::Tree),
         "dot" => Some(Verb::Dot),

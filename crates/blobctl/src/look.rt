@@ -1,14 +1,14 @@
 //! The commands that show a file of blobs.
 
 use crate::blobs::Blobs;
-use crate::reach::{Reached, walk_from};
+use crate::reach::{ReachedBlob, walk_from};
 use crate::show::{digits, write_blob, write_point};
-use pagable_file::Listed;
+use pagable_file::ListedBlob;
 use pagable_flavors::{DataKey, Error};
 use std::alloc::{AllocError, Global};
 
 /// Adds up the bytes of blobs.
-fn total(all: &[Listed]) -> u64 {
+fn total(all: &[ListedBlob]) -> u64 {
     all.iter()
         .fold(0, |sum: u64, blob| sum.saturating_add(blob.bytes))
 }

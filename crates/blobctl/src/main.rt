@@ -67,8 +67,8 @@ fn answer_words<W: Wait>(rt: &HostRuntime, waits: &W) -> io::Result<Option<bool>
     Ok(Some(done))
 }
 
-/// Returns the status: 0; 1 if what the words ask for fails or finds a flaw; 2 if they ask for nothing
-/// that there is.
+/// Serves what the program's arguments ask for, and returns the exit status: 0; 1 if the command
+/// fails or finds a flaw; 2, after printing the usage, if the arguments are none of the usage.
 fn status<W: Wait>(rt: &HostRuntime, waits: &W) -> io::Result<ExitCode> {
     match answer_words(rt, waits)? {
         Some(true) => Ok(ExitCode::SUCCESS),

@@ -2,34 +2,34 @@
 
 use pagable_file::Watch;
 
-/// How many blobs go by from one line to the next.
+/// How many blobs are counted from one printed line to the next.
 const STEP: u64 = 10_000;
 
-/// Counts blobs, and shows a line after each `STEP`.
+/// Counts blobs, and prints their number on standard error after each `STEP` of them.
 #[derive(Drop)]
 pub struct Progress<'a> {
     rt: &'a HostRuntime,
-    done: u64,
+    count: u64,
 }
 
 impl<'a> Progress<'a> {
     /// Makes the counter, at zero blobs.
     pub fn new(rt: &'a HostRuntime) -> Progress<'a> {
-        Progress { rt, done: 0 }
+        Progress { rt, count: 0 }
     }
 
     /// Returns how many blobs were counted.
-    pub fn done(&self) -> u64 {
-        self.done
+    pub fn count(&self) -> u64 {
+        self.count
     }
 }
 
 impl<'a> Watch for Progress<'a> {
     fn note(&mut self) {
-        self.done = self.done.saturating_add(1);
-        if self.done % STEP == 0 {
+        self.count = self.count.saturating_add(1);
+        if self.count % STEP == 0 {
             let rt = self.rt;
-            let _shown = eprintln!(rt; "{} blobs", self.done);
+            let _shown = eprintln!(rt; "{} blobs", self.count);
         }
     }
 }

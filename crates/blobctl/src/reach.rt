@@ -1,16 +1,16 @@
 //! A walk over all that a key reaches.
 
 use crate::blobs::Blobs;
-use pagable_file::Listed;
+use pagable_file::ListedBlob;
 use pagable_flavors::{DataKey, Error};
 use std::alloc::Global;
 use std::collections::HashMap;
 
 /// A blob that a walk has reached.
 #[derive(Drop)]
-pub struct Reached {
+pub struct ReachedBlob {
     /// The blob's key, and how many bytes and children it has.
-    pub blob: Listed,
+    pub blob: ListedBlob,
     /// The keys of its children.
     pub children: Vec<DataKey>,
 }
@@ -19,8 +19,8 @@ pub struct Reached {
 #[derive(Drop)]
 struct Walk {
     seen: HashMap<DataKey, ()>,
-    due: Vec<DataKey>,
-    found: Vec<Reached>,
+    to_visit: Vec<DataKey>,
+    found: Vec<ReachedBlob>,
 }
 
 /// Fetches the blob under a key and notes it as reached, unless the walk has seen the key, and
@@ -36,14 +36,14 @@ fn visit<B: Blobs>(
     }
     let blob = blobs.fetch(alloc, key)?;
     let children = blob.arcs.as_slice();
-    walk.due.extend_from_slice(children)?;
-    let listed = Listed {
+    walk.to_visit.extend_from_slice(children)?;
+    let listed = ListedBlob {
         key,
         bytes: blob.bytes.len() as u64,
         children: children.len() as u64,
     };
     let children = Vec::from_slice(alloc, children)?;
-    walk.found.push(Reached {
+    walk.found.push(ReachedBlob {
         blob: listed,
         children,
     })?;
@@ -59,15 +59,15 @@ pub fn walk_from<B: Blobs>(
     alloc: Global,
     blobs: &mut B,
     key: DataKey,
-) -> Result<Vec<Reached>, Error> {
+) -> Result<Vec<ReachedBlob>, Error> {
     let mut walk = Walk {
         seen: HashMap::new(alloc),
-        due: Vec::new(alloc),
+        to_visit: Vec::new(alloc),
         found: Vec::new(alloc),
     };
-    walk.due.push(key)?;
+    walk.to_visit.push(key)?;
     for _ in 0..u64::MAX {
-        let Some(next) = walk.due.pop() else {
+        let Some(next) = walk.to_visit.pop() else {
             break;
         };
         visit(alloc, blobs, &mut walk, next)?;

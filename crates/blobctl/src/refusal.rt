@@ -12,7 +12,7 @@ pub enum Refusal {
     /// The line is no command.
     BadLine,
     /// `gc` came as a line of the input.
-    AmongLines,
+    GcAmongLines,
     /// A call on the blobs failed.
     Blobs(Error),
     /// A file couldn't be opened or closed.
@@ -49,7 +49,7 @@ impl fmt::Display for Refusal {
     fn fmt<W: fmt::Write>(&self, f: &mut fmt::Formatter<W>) -> fmt::Result {
         match self {
             Refusal::BadLine => f.write_str("bad line"),
-            Refusal::AmongLines => {
+            Refusal::GcAmongLines => {
                 f.write_str("error: gc is asked for behind the file's name alone")
             }
             Refusal::Blobs(error) => write_error(f, error),

@@ -1,15 +1,15 @@
 //! The service of one command, or of the lines of the input.
 
 use crate::answer::{Answer, answer};
-use crate::blobs::InFile;
-use crate::collect::collect;
+use crate::blobs::BlobsInFile;
+use crate::collect::collect_garbage;
 use crate::command::{Verb, parse};
 use crate::refusal::Refusal;
 use std::io::{BufRead, BufReader};
 use std::{fs, io};
 
 /// Prints an answer. Returns false if the command failed, or the answer names a flaw.
-fn tell(rt: &HostRuntime, answer: Answer) -> io::Result<bool> {
+fn print_answer(rt: &HostRuntime, answer: Answer) -> io::Result<bool> {
     match answer {
         Ok((text, is_good)) => {
             rt.print(text.as_str())?;
@@ -24,20 +24,29 @@ fn tell(rt: &HostRuntime, answer: Answer) -> io::Result<bool> {
 
 /// Runs a command over an open file, and prints its answer. Returns false if the command fails or finds
 /// a flaw.
-fn run<B: InFile>(rt: &HostRuntime, blobs: &mut B, verb: Verb, words: &str) -> io::Result<bool> {
-    tell(rt, answer(rt, blobs, verb, words))
+fn run<B: BlobsInFile>(
+    rt: &HostRuntime,
+    blobs: &mut B,
+    verb: Verb,
+    words: &str,
+) -> io::Result<bool> {
+    print_answer(rt, answer(rt, blobs, verb, words))
 }
 
 /// Answers a line; None stands for one that isn't text.
-fn run_line<B: InFile>(rt: &HostRuntime, blobs: &mut B, line: Option<&str>) -> io::Result<bool> {
+fn run_line<B: BlobsInFile>(
+    rt: &HostRuntime,
+    blobs: &mut B,
+    line: Option<&str>,
+) -> io::Result<bool> {
     match line.and_then(parse) {
         Some((verb, words)) => run(rt, blobs, verb, words),
-        None => tell(rt, Err(Refusal::BadLine)),
+        None => print_answer(rt, Err(Refusal::BadLine)),
     }
 }
 
 /// Answers each line of the input.
-fn run_lines<B: InFile>(rt: &HostRuntime, blobs: &mut B) -> io::Result<bool> {
+fn run_lines<B: BlobsInFile>(rt: &HostRuntime, blobs: &mut B) -> io::Result<bool> {
     let mut reader = BufReader::new(rt.alloc(), rt.reader())?;
     let mut line = Vec::new(rt.alloc());
     for _ in 0..u64::MAX {
@@ -51,7 +60,7 @@ fn run_lines<B: InFile>(rt: &HostRuntime, blobs: &mut B) -> io::Result<bool> {
 }
 
 /// Runs one command over a file, and commits what it changes.
-fn run_alone<B: InFile>(
+fn run_alone<B: BlobsInFile>(
     rt: &HostRuntime,
     blobs: &mut B,
     verb: Verb,
@@ -79,7 +88,7 @@ fn finds_no_file(rt: &HostRuntime, path: &str, line: &str) -> io::Result<bool> {
 /// # Errors
 ///
 /// - an error of reading or writing, or of making a buffer.
-pub fn serve<B: InFile>(rt: &HostRuntime, path: &str, line: &str) -> io::Result<bool> {
+pub fn serve<B: BlobsInFile>(rt: &HostRuntime, path: &str, line: &str) -> io::Result<bool> {
     if finds_no_file(rt, path, line)? {
         eprintln!(rt; "blobctl: {path}: there is no such file")?;
         return Ok(false);
@@ -92,7 +101,7 @@ pub fn serve<B: InFile>(rt: &HostRuntime, path: &str, line: &str) -> io::Result<
         }
     };
     match parse(line) {
-        Some((Verb::Gc, _)) => tell(rt, collect(rt, path, blobs)),
+        Some((Verb::Gc, _)) => print_answer(rt, collect_garbage(rt, path, blobs)),
         Some((verb, words)) => run_alone(rt, &mut blobs, verb, words),
         None => run_lines(rt, &mut blobs),
     }

@@ -1,17 +1,17 @@
 //! Lines that show keys, blobs and flaws.
 
-use crate::reach::Reached;
-use pagable_file::{Flaw, Listed};
+use crate::reach::ReachedBlob;
+use pagable_file::{Flaw, ListedBlob};
 use pagable_flavors::DataKey;
 use std::alloc::AllocError;
 
-/// Returns the number that a key's hex digits spell.
+/// Returns the number whose 32 hex digits show a key.
 pub fn digits(key: DataKey) -> u128 {
     key.get().swap_bytes()
 }
 
-/// Adds the line of a blob.
-pub fn write_blob(text: &mut String, blob: &Listed) -> Result<(), AllocError> {
+/// Appends a line with a blob's key, and how many bytes and children it has.
+pub fn write_blob(text: &mut String, blob: &ListedBlob) -> Result<(), AllocError> {
     let key = digits(blob.key);
     writeln!(
         text,
@@ -21,7 +21,7 @@ pub fn write_blob(text: &mut String, blob: &Listed) -> Result<(), AllocError> {
 }
 
 /// Adds a blob as a point of a graph, with an edge to each child.
-pub fn write_point(text: &mut String, reached: &Reached) -> Result<(), AllocError> {
+pub fn write_point(text: &mut String, reached: &ReachedBlob) -> Result<(), AllocError> {
     let key = digits(reached.blob.key);
     writeln!(text, "  \"{key:032x}\";")?;
     for child in &reached.children {
@@ -30,7 +30,7 @@ pub fn write_point(text: &mut String, reached: &Reached) -> Result<(), AllocErro
     Ok(())
 }
 
-/// Adds the line of a flaw.
+/// Appends a line that tells a flaw.
 pub fn write_flaw(text: &mut String, flaw: &Flaw) -> Result<(), AllocError> {
     match flaw {
         Flaw::StrayBlob(place) => writeln!(text, "the row of blobs at {place} is no key's"),

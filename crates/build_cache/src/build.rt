@@ -31,8 +31,8 @@ struct Build<'a, R: RecordCalls> {
     steps: Steps,
     /// The outputs of this build, by the names of their targets.
     targets: BTreeMap<String, HandleNumber>,
-    /// How many commands it ran.
-    ran: u64,
+    /// How many commands this build has run.
+    commands_run: u64,
 }
 
 /// The job of building a folder. A build that fails saves the steps that it ran, too, and forgets none.
@@ -57,7 +57,7 @@ impl<'a> Job for FolderBuild<'a> {
             store,
             steps,
             targets: BTreeMap::new(self.rt.alloc()),
-            ran: 0,
+            commands_run: 0,
         };
         let built = build.build_targets();
         let record = build.insert_steps()?;
@@ -74,7 +74,7 @@ fn read_steps<R: RecordCalls>(store: &mut R, build: Option<HandleNumber>) -> Res
     };
     for step in store.read(build)?.refs.iter().rev() {
         let step = store.read(*step)?;
-        if let Some(output) = step.first() {
+        if let Some(output) = step.first_reference() {
             steps.put(String::from_str(store.alloc(), step.text())?, output)?;
         }
     }
@@ -82,8 +82,8 @@ fn read_steps<R: RecordCalls>(store: &mut R, build: Option<HandleNumber>) -> Res
 }
 
 impl<'a, R: RecordCalls> Build<'a, R> {
-    /// Builds the targets of all rules, in their order, says how many commands ran, and forgets the steps
-    /// that are too many.
+    /// Builds the targets of all rules, in their order, and says how many commands ran. Then it keeps as
+    /// many steps as there are rules, and `OTHER_STEPS` more: those used last. It forgets the others.
     fn build_targets(&mut self) -> Result<()> {
         let text = self.read_file("BUILD")?;
         let rules = read_rules(self.rt.alloc(), text.as_str())?;
@@ -91,7 +91,7 @@ impl<'a, R: RecordCalls> Build<'a, R> {
             self.build_target(rule)
                 .context(format_args!("building {}", rule.target))?;
         }
-        println!(self.rt; "{} of {} commands ran", self.ran, rules.len())?;
+        println!(self.rt; "{} of {} commands ran", self.commands_run, rules.len())?;
         let others = NonZeroUsize::new(OTHER_STEPS).unwrap();
         self.steps.resize(others.saturating_add(rules.len()));
         Ok(())
@@ -137,7 +137,7 @@ impl<'a, R: RecordCalls> Build<'a, R> {
         for input in &rule.inputs {
             self.push_input(&mut text, input)?;
         }
-        self.ran = self.ran.saturating_add(1);
+        self.commands_run = self.commands_run.saturating_add(1);
         let output = run_command(self.rt.alloc(), rule.command, text.as_str())?;
         Ok(self.store.insert(TEXT, output.as_str(), &[])?)
     }
@@ -167,7 +167,8 @@ impl<'a, R: RecordCalls> Build<'a, R> {
         fs::write(self.rt, path.as_str(), view.text()).context("writing it")
     }
 
-    /// Inserts the record of this build, with the steps that it keeps.
+    /// Inserts the records of the steps that this build keeps, and then its own, which refers to
+    /// them.
     fn insert_steps(&mut self) -> Result<HandleNumber> {
         let mut records = Vec::new(self.rt.alloc());
         for (step, output) in self.steps.iter() {

@@ -19,7 +19,8 @@ pub struct Rule<'a> {
 /// # Errors
 ///
 /// - an error that names the line, if a line is no rule.
-/// - an error that names the target and its input, if that line or a later one makes the input.
+/// - an error that names a target and its input, if only the target's own line or a later one makes
+///   the input.
 /// - out of memory.
 pub fn read_rules(alloc: Global, text: &str) -> Result<Vec<Rule<'_>>> {
     let mut rules = Vec::new(alloc);

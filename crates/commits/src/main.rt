@@ -35,7 +35,7 @@ fn insert_commit(
 }
 
 /// Inserts both commits and pages them out. Answers the handle of the second.
-fn keep(alloc: Global, pager: &mut CommitPager) -> Result<HandleNumber, Error> {
+fn insert_commits(alloc: Global, pager: &mut CommitPager) -> Result<HandleNumber, Error> {
     let first = insert_commit(alloc, pager, "first", None)?;
     let second = insert_commit(alloc, pager, "second", Some(first))?;
     page_out_pending(alloc, pager)?;
@@ -62,7 +62,7 @@ fn show(rt: &HostRuntime, pager: &mut CommitPager, commit: HandleNumber) -> Resu
 
 /// Keeps the commits, and shows both.
 fn run(rt: &HostRuntime, pager: &mut CommitPager) -> Result<(), Error> {
-    let second = keep(rt.alloc(), pager)?;
+    let second = insert_commits(rt.alloc(), pager)?;
     show(rt, pager, second)?;
     pager.release(second)
 }

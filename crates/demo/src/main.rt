@@ -9,7 +9,7 @@ use pagable::{Error, InMemoryBlobs, Pager, Record, Records};
 type RecordPager = Pager<Records, InMemoryBlobs<Records>>;
 
 /// Keeps a text in a pager, and prints each step.
-fn keep(rt: &HostRuntime, pager: &mut RecordPager, text: &str) -> Result<(), Error> {
+fn keep_text(rt: &HostRuntime, pager: &mut RecordPager, text: &str) -> Result<(), Error> {
     let alloc = rt.alloc();
 
     // A value becomes a cell. Nothing pins it, so it waits for page-out.
@@ -30,5 +30,5 @@ fn keep(rt: &HostRuntime, pager: &mut RecordPager, text: &str) -> Result<(), Err
 
 fn main(rt: HostRuntime) -> anyhow::Result<()> {
     let mut pager = Pager::new(rt.alloc(), InMemoryBlobs::new(rt.alloc()), Records);
-    Ok(keep(&rt, &mut pager, "hello world")?)
+    Ok(keep_text(&rt, &mut pager, "hello world")?)
 }

@@ -95,7 +95,7 @@ impl Machine {
             }
             [name, "=", ref words @ ..] => {
                 let value = self.evaluate(store, words)?;
-                self.set(store, name, value)?;
+                self.set_variable(store, name, value)?;
             }
             _ => bail!("a line is LABEL, A = .., go LABEL, go LABEL unless A or show A"),
         }
@@ -110,7 +110,12 @@ impl Machine {
     }
 
     /// Makes a variable hold a value, and releases the value that it held.
-    fn set<R: RecordCalls>(&mut self, store: &mut R, name: &str, to: HandleNumber) -> Result<()> {
+    fn set_variable<R: RecordCalls>(
+        &mut self,
+        store: &mut R,
+        name: &str,
+        to: HandleNumber,
+    ) -> Result<()> {
         let name = String::from_str(store.alloc(), name)?;
         if let Some(replaced) = self.variables.insert(name, to)? {
             store.release(&[replaced])?;

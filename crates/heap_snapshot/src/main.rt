@@ -19,7 +19,7 @@ struct Run<'a> {
     /// The program to begin; None to go on with the saved machine.
     program: Option<&'a str>,
     /// How many lines to run at most.
-    most: u64,
+    max_lines: u64,
 }
 
 impl<'a> Job for Run<'a> {
@@ -45,7 +45,7 @@ impl<'a> Run<'a> {
     fn run_lines<R: RecordCalls>(&self, store: &mut R, machine: &mut Machine) -> Result<()> {
         let text = store.read(machine.program)?;
         let lines: Vec<&str> = text.text().lines().collect(store.alloc())?;
-        for count in 0..self.most {
+        for count in 0..self.max_lines {
             let Some(line) = lines.get(machine.place) else {
                 break;
             };
@@ -64,13 +64,13 @@ impl<'a> Run<'a> {
 /// Reads the words after the program's name: the store, how many lines to run at most, and the path of a
 /// program, if there is one. Returns None for a wrong call.
 fn read_words(words: &[String]) -> Option<(&str, u64, Option<&str>)> {
-    let (store, most, path) = match words {
-        [store, most] => (store, most, None),
-        [store, most, path] => (store, most, Some(path.as_str())),
+    let (store, max_lines, path) = match words {
+        [store, max_lines] => (store, max_lines, None),
+        [store, max_lines, path] => (store, max_lines, Some(path.as_str())),
         _ => return None,
     };
-    let most = most.as_str().parse::<u64>().ok()?;
-    Some((store.as_str(), most, path))
+    let max_lines = max_lines.as_str().parse::<u64>().ok()?;
+    Some((store.as_str(), max_lines, path))
 }
 
 /// Reads the program of a file, if there is a path of one.
@@ -84,13 +84,21 @@ fn read_program(rt: &HostRuntime, path: Option<&str>) -> Result<Option<String>> 
 
 fn main(rt: HostRuntime) -> Result<ExitCode> {
     let words: Vec<String> = env::args(&rt)?.skip(1).collect(rt.alloc())?;
-    let Some((store, most, path)) = read_words(words.as_slice()) else {
+    let Some((store, max_lines, path)) = read_words(words.as_slice()) else {
         eprintln!(rt; "usage: heap_snapshot STORE LINES [PROGRAM]")?;
         return Ok(ExitCode::from(2));
     };
     let text = read_program(&rt, path)?;
     let program = text.as_ref().map(String::as_str);
     let rt = &rt;
-    run_over_file(rt, store, &Run { rt, program, most })?;
+    run_over_file(
+        rt,
+        store,
+        &Run {
+            rt,
+            program,
+            max_lines,
+        },
+    )?;
     Ok(ExitCode::SUCCESS)
 }

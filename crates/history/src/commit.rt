@@ -1,8 +1,9 @@
-//! A type of one's own: commits, and their environment.
+//! An example of a value type that a program defines: commits, and their environment.
 
-ghost use Rattle.std.specs.{Arc.arc_value, Prelude.{Some, ◌≡◌}};
-ghost use Rattle.{history.specs.Commits.commit_spelled, pagable_traits.specs.ReadBack.IsReadThroughout};
+ghost use Rattle.history.specs.Commits.{commit_encoding};
 ghost use Rattle.pagable_nodes.specs.Nodes.{one_held, zero_is_small};
+ghost use Rattle.pagable_traits.specs.ReadBack.{IsReadableThroughout};
+ghost use Rattle.std.specs.{Arc.arc_value, Prelude.{Some, ◌≡◌}};
 
 use pagable_core::Sha256Key;
 use pagable_flavors::Error;
@@ -35,7 +36,7 @@ impl Env for History {
 /// A commit. A loose reference to one is of the kind 1: three times the type's number, and 1.
 #[derive(Drop)]
 pub struct Commit {
-    /// When it was made, in seconds since 1970.
+    /// When the commit was made, in seconds since 1970.
     pub time: u64,
     pub message: String,
     pub parent: Option<RawRef<1>>,
@@ -43,17 +44,17 @@ pub struct Commit {
 }
 
 impl<E: Env> Carried<E> for Commit {
-    ghost shape = { λ e. commit_spelled.shape };
+    ghost shape = { λ e. commit_encoding.shape };
 
-    ghost means = { commit_spelled.means };
+    ghost means = { commit_encoding.means };
 }
 
 impl<E: Env> OneMeaning<E> for Commit {
-    ghost single = { commit_spelled.single };
+    ghost single = { commit_encoding.single };
 }
 
 impl<E: Env> Canonical<E> for Commit {
-    ghost one_form = { λ e. commit_spelled.one_form (E.parts e) };
+    ghost one_form = { λ e. commit_encoding.one_form (E.parts e) };
 }
 
 impl<E: Env> Refers<E> for Commit {
@@ -62,11 +63,11 @@ impl<E: Env> Refers<E> for Commit {
         Refers::<E>::list_references(&fields, list)
     }
 
-    ghost in_order = { λ e. commit_spelled.in_order (E.parts e) };
+    ghost in_order = { λ e. commit_encoding.in_order (E.parts e) };
 }
 
 impl<E: Env> PagableSerialize<E> for Commit {
-    ghost write_causes = { commit_spelled.writes };
+    ghost write_causes = { commit_encoding.writes };
 
     fn pagable_serialize<S: PagableSerializer<E>>(&self, serializer: &mut S) -> Result<(), Error> {
         let fields = (&self.time, (&self.message, (&self.parent, &self.merged)));
@@ -75,7 +76,7 @@ impl<E: Env> PagableSerialize<E> for Commit {
 }
 
 impl<'de, E: Env> PagableDeserialize<'de, E> for Commit {
-    ghost read_causes = { commit_spelled.reads };
+    ghost read_causes = { commit_encoding.reads };
 
     fn pagable_deserialize<D: PagableDeserializer<E>>(
         alloc: Global,
@@ -93,9 +94,9 @@ impl<'de, E: Env> PagableDeserialize<'de, E> for Commit {
 }
 
 impl<E: Env> NodeValue<E> for Commit {
-    ghost spelled = { commit_spelled };
+    ghost encoding = { commit_encoding };
 
-    fn list(&self, alloc: Global) -> Result<Vec<ArcRef>, Error> {
+    fn list_refs(&self, alloc: Global) -> Result<Vec<ArcRef>, Error> {
         references_of::<E, Commit>(alloc, self)
     }
 
@@ -131,8 +132,8 @@ impl OfNode<History> for Commit {
     ghost small = { zero_is_small };
 }
 
-/// Proves that each encoding of a commit is read back.
+/// Proves that a reader reads back each encoding of a commit.
 #[tactic(auto, using(crate::specs::Commits::commit_is_read))]
 pub fn commits_are_read<E: Env>()
-    ensures { (e : E) → IsReadThroughout (E.parts e) (⟦<Commit as Carried<E>>⟧.shape e) }
+    ensures { (e : E) → IsReadableThroughout (E.parts e) (⟦<Commit as Carried<E>>⟧.shape e) }
 {}

@@ -1,4 +1,5 @@
-//! Types of one's own whose values refer to each other: commits alone, and commits, folders and files.
+//! Two examples of value types that a program defines, whose values refer to each other: commits
+//! alone, and commits, folders and files.
 #![tactic(auto)]
 
 pub mod commit;

@@ -1,8 +1,8 @@
 //! An environment of three types: commits, folders and files, which refer to each other.
 
-ghost use Rattle.std.specs.{Arc.arc_value, Prelude.{Some, ◌≡◌}};
-ghost use Rattle.history.specs.Projects.{file_spelled, folder_spelled};
+ghost use Rattle.history.specs.Projects.{file_encoding, folder_encoding};
 ghost use Rattle.pagable_nodes.specs.Nodes.{first_held, second_held, third_held, three_are_small};
+ghost use Rattle.std.specs.{Arc.arc_value, Prelude.{Some, ◌≡◌}};
 
 use crate::commit::Commit;
 use pagable_core::Sha256Key;
@@ -33,64 +33,68 @@ impl Env for Project {
     ghost parts = { λ e number. nothing };
 }
 
-/// A node of a project.
+/// A node that holds a commit, a folder or a file.
 pub type ProjectNode = EitherNode<Commit, Folder, File>;
 
-/// A folder: its name, the commit that it came with, and its files.
+/// A folder: its name, the commit that added it, and its files.
 #[derive(Drop)]
 pub struct Folder {
     pub name: String,
-    pub since: RawRef<1>,
+    pub added_in: RawRef<1>,
     pub files: Vec<RawRef<7>>,
 }
 
 impl<E: Env> Carried<E> for Folder {
-    ghost shape = { λ e. folder_spelled.shape };
+    ghost shape = { λ e. folder_encoding.shape };
 
-    ghost means = { folder_spelled.means };
+    ghost means = { folder_encoding.means };
 }
 
 impl<E: Env> OneMeaning<E> for Folder {
-    ghost single = { folder_spelled.single };
+    ghost single = { folder_encoding.single };
 }
 
 impl<E: Env> Canonical<E> for Folder {
-    ghost one_form = { λ e. folder_spelled.one_form (E.parts e) };
+    ghost one_form = { λ e. folder_encoding.one_form (E.parts e) };
 }
 
 impl<E: Env> Refers<E> for Folder {
     fn list_references(&self, list: &mut Vec<ArcRef>) -> Result<(), Error> {
-        Refers::<E>::list_references(&(&self.name, (&self.since, &self.files)), list)
+        Refers::<E>::list_references(&(&self.name, (&self.added_in, &self.files)), list)
     }
 
-    ghost in_order = { λ e. folder_spelled.in_order (E.parts e) };
+    ghost in_order = { λ e. folder_encoding.in_order (E.parts e) };
 }
 
 impl<E: Env> PagableSerialize<E> for Folder {
-    ghost write_causes = { folder_spelled.writes };
+    ghost write_causes = { folder_encoding.writes };
 
     fn pagable_serialize<S: PagableSerializer<E>>(&self, serializer: &mut S) -> Result<(), Error> {
-        (&self.name, (&self.since, &self.files)).pagable_serialize(serializer)
+        (&self.name, (&self.added_in, &self.files)).pagable_serialize(serializer)
     }
 }
 
 impl<'de, E: Env> PagableDeserialize<'de, E> for Folder {
-    ghost read_causes = { folder_spelled.reads };
+    ghost read_causes = { folder_encoding.reads };
 
     fn pagable_deserialize<D: PagableDeserializer<E>>(
         alloc: Global,
         deserializer: &mut D,
     ) -> Result<Self, Error> {
         let fields = PagableDeserialize::pagable_deserialize(alloc, deserializer)?;
-        let (name, (since, files)) = fields;
-        Ok(Folder { name, since, files })
+        let (name, (added_in, files)) = fields;
+        Ok(Folder {
+            name,
+            added_in,
+            files,
+        })
     }
 }
 
 impl<E: Env> NodeValue<E> for Folder {
-    ghost spelled = { folder_spelled };
+    ghost encoding = { folder_encoding };
 
-    fn list(&self, alloc: Global) -> Result<Vec<ArcRef>, Error> {
+    fn list_refs(&self, alloc: Global) -> Result<Vec<ArcRef>, Error> {
         references_of::<E, Folder>(alloc, self)
     }
 
@@ -115,17 +119,17 @@ pub struct File {
 }
 
 impl<E: Env> Carried<E> for File {
-    ghost shape = { λ e. file_spelled.shape };
+    ghost shape = { λ e. file_encoding.shape };
 
-    ghost means = { file_spelled.means };
+    ghost means = { file_encoding.means };
 }
 
 impl<E: Env> OneMeaning<E> for File {
-    ghost single = { file_spelled.single };
+    ghost single = { file_encoding.single };
 }
 
 impl<E: Env> Canonical<E> for File {
-    ghost one_form = { λ e. file_spelled.one_form (E.parts e) };
+    ghost one_form = { λ e. file_encoding.one_form (E.parts e) };
 }
 
 impl<E: Env> Refers<E> for File {
@@ -133,11 +137,11 @@ impl<E: Env> Refers<E> for File {
         Refers::<E>::list_references(&(&self.length, (&self.text, &self.folder)), list)
     }
 
-    ghost in_order = { λ e. file_spelled.in_order (E.parts e) };
+    ghost in_order = { λ e. file_encoding.in_order (E.parts e) };
 }
 
 impl<E: Env> PagableSerialize<E> for File {
-    ghost write_causes = { file_spelled.writes };
+    ghost write_causes = { file_encoding.writes };
 
     fn pagable_serialize<S: PagableSerializer<E>>(&self, serializer: &mut S) -> Result<(), Error> {
         (&self.length, (&self.text, &self.folder)).pagable_serialize(serializer)
@@ -145,7 +149,7 @@ impl<E: Env> PagableSerialize<E> for File {
 }
 
 impl<'de, E: Env> PagableDeserialize<'de, E> for File {
-    ghost read_causes = { file_spelled.reads };
+    ghost read_causes = { file_encoding.reads };
 
     fn pagable_deserialize<D: PagableDeserializer<E>>(
         alloc: Global,
@@ -162,9 +166,9 @@ impl<'de, E: Env> PagableDeserialize<'de, E> for File {
 }
 
 impl<E: Env> NodeValue<E> for File {
-    ghost spelled = { file_spelled };
+    ghost encoding = { file_encoding };
 
-    fn list(&self, alloc: Global) -> Result<Vec<ArcRef>, Error> {
+    fn list_refs(&self, alloc: Global) -> Result<Vec<ArcRef>, Error> {
         references_of::<E, File>(alloc, self)
     }
 

@@ -1,10 +1,11 @@
 -- Lines about texts under names of roots, taken apart at their spaces.
-use Rattle.std.proofs.Common.{◌≡◌, ◌⊎◌, ℕ, List, ◌∷◌, ◌++◌, sym, subst, codes, inl, inr, refl}
-use Rattle.named_texts.specs.Line.{IsName, LacksSpace}
-use Rattle.named_texts.specs.Durable.{SpellsDurable}
-use Rattle.named_texts.specs.declared.durable_command.DurableCommand.{DurableCommand}
-use Rattle.named_texts.specs.declared.durable_command.DurableCommand.TheVariants.{Save, Open, Flush, Stat}
 use Rattle.named_texts.proofs.Lines.{cut, letters_lack, name_lacks, uncut}
+use Rattle.named_texts.specs.{
+  Durable.SpellsDurable,
+  Line.{IsName, LacksSpace},
+  declared.durable_command.DurableCommand.{DurableCommand, TheVariants.{Flush, Open, Save, Stat}},
+}
+use Rattle.std.proofs.Common.{List, codes, inl, inr, refl, subst, sym, ℕ, ◌++◌, ◌∷◌, ◌≡◌, ◌⊎◌}
 
 save_lacks : LacksSpace (codes "save")
 save_lacks = letters_lack (codes "save") refl

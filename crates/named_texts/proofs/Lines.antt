@@ -1,13 +1,14 @@
 -- Lines that are taken apart at their spaces.
-use Rattle.std.proofs.Common.{length, get_or, suc, ◌≡◌, ◌≢◌, ◌⊎◌, ℕ, ◌<◌, refl, arith, List, [], ◌∷◌, ◌++◌, sym, subst, true, Bor, codes, None, Some, inl, inr}
-use Rattle.std.specs.List.{list_all}
-use Rattle.std.proofs.lemmas.Str.Pattern.{IsSplitOnceResult, split_parts}
-use Rattle.std.specs.Char.{is_ascii_alphanumeric}
-use Rattle.named_texts.specs.Line.{IsName, LacksSpace, Spells, word_of}
-use Rattle.named_texts.specs.declared.command.Command.{Command}
-use Rattle.named_texts.specs.declared.command.Command.TheVariants.{New, Pin, Clone, Release, Of, Pending, PageOut}
-use Rattle.named_texts.specs.declared.command.Verb.{Verb}
-use Rattle.named_texts.specs.declared.command.Verb.TheVariants.{Unpin, Loose, Count, Key, Out}
+use Rattle.named_texts.specs.{
+  Line.{IsName, LacksSpace, Spells, word_of},
+  declared.command.Command.{Command, TheVariants.{Clone, New, PageOut, Pending, Pin, Release, RunVerb}},
+  declared.command.Verb.{TheVariants.{Count, IsPagedOut, Key, Loose, Unpin}, Verb},
+}
+use Rattle.std.proofs.{
+  Common.{Bor, List, None, Some, arith, codes, get_or, inl, inr, length, refl, subst, suc, sym, true, ℕ, [], ◌++◌, ◌<◌, ◌∷◌, ◌≡◌, ◌≢◌, ◌⊎◌},
+  lemmas.Str.Pattern.{IsSplitOnceResult, split_parts},
+}
+use Rattle.std.specs.{Char.is_ascii_alphanumeric, List.list_all}
 
 pub letters_lack : (w : List ℕ) → list_all is_ascii_alphanumeric w ≡ true → LacksSpace w
 letters_lack [] h = tt
@@ -52,7 +53,7 @@ word_lacks Unpin = letters_lack (codes "unpin") refl
 word_lacks Loose = letters_lack (codes "loose") refl
 word_lacks Count = letters_lack (codes "count") refl
 word_lacks Key = letters_lack (codes "key") refl
-word_lacks Out = letters_lack (codes "out") refl
+word_lacks IsPagedOut = letters_lack (codes "out") refl
 
 pub name_lacks : (w : List ℕ) → IsName w → LacksSpace w
 name_lacks w h = letters_lack w h.2
@@ -68,7 +69,7 @@ module _ (word name : List ℕ) (lacks : LacksSpace word) (whole : LacksSpace na
   two_words (Pin n new) h = absurd (uncut n.now name new.now whole (sym (cut word (codes "pin") name (n.now ++ 32 ∷ new.now) lacks pin_lacks h.2).1))
   two_words (Clone n new) h = absurd (uncut n.now name new.now whole (sym (cut word (codes "clone") name (n.now ++ 32 ∷ new.now) lacks clone_lacks h.2).1))
   two_words (Release n) h = let parts = cut word (codes "release") name n.now lacks release_lacks h.1 in (subst IsName (sym parts.1) h.0, inr (inl parts.0))
-  two_words (Of verb n) h = let parts = cut word (word_of verb) name n.now lacks (word_lacks verb) h.1 in
+  two_words (RunVerb verb n) h = let parts = cut word (word_of verb) name n.now lacks (word_lacks verb) h.1 in
       (subst IsName (sym parts.1) h.0, inr (inr (verb, parts.0)))
   two_words Pending h = absurd (uncut word (codes "pending") name pending_lacks h)
   two_words PageOut h = absurd (uncut word (codes "pageout") name pageout_lacks h)
@@ -91,7 +92,7 @@ module _ (word name : List ℕ) (lacks : LacksSpace word) (whole : LacksSpace na
       (subst IsName (sym named.0) h.0, inr (subst IsName (sym named.1) h.1, inr parts.0))
   more_words behind (Release n) h = absurd (uncut name n.now behind (name_lacks n.now h.0)
       (cut word (codes "release") (name ++ 32 ∷ behind) n.now lacks release_lacks h.1).1)
-  more_words behind (Of verb n) h = absurd (uncut name n.now behind (name_lacks n.now h.0)
+  more_words behind (RunVerb verb n) h = absurd (uncut name n.now behind (name_lacks n.now h.0)
       (cut word (word_of verb) (name ++ 32 ∷ behind) n.now lacks (word_lacks verb) h.1).1)
   more_words behind Pending h = absurd (uncut word (codes "pending") (name ++ 32 ∷ behind) pending_lacks h)
   more_words behind PageOut h = absurd (uncut word (codes "pageout") (name ++ 32 ∷ behind) pageout_lacks h)

@@ -1,11 +1,10 @@
 -- The lines about texts under names of roots, as lists of bytes, and what their commands do to the names of handles.
-use Rattle.std.specs.Prelude.{◌≡◌, ◌++◌, ◌∷◌, List, ℕ, Option, Result, codes}
-use Rattle.std.specs.Option.{MatchOption}
-use Rattle.named_texts.specs.Line.{IsName}
-use Rattle.named_texts.specs.Named.{Gives, SameNames}
-use Rattle.named_texts.specs.declared.durable_command.DurableCommand.{DurableCommand}
-use Rattle.named_texts.specs.declared.durable_command.DurableCommand.TheVariants.{Save, Open, Flush, Stat}
-use Rattle.named_texts.specs.declared.names.Names.{Names}
+use Rattle.named_texts.specs.{
+  Line.IsName,
+  Named.{GivesName, SameNames},
+  declared.{durable_command.DurableCommand.{DurableCommand, TheVariants.{Flush, Open, Save, Stat}}, names.Names.Names},
+}
+use Rattle.std.specs.{Option.MatchOption, Prelude.{List, Option, Result, codes, ℕ, ◌++◌, ◌∷◌, ◌≡◌}}
 
 -- the line is the command's: its word, and its two names, with one space before each
 abbrev pub SpellsDurable : List ℕ → DurableCommand → Type 0
@@ -24,6 +23,6 @@ AnswersDurableLine line answer = MatchOption answer ((command : DurableCommand) 
 -- what a command does to the names of handles, whatever it answers
 abbrev pub ServesDurable : {A E : Type 0} → DurableCommand → Result A E → Names → Names → Type 0
 ServesDurable (Save name root) answer old new = SameNames old new
-ServesDurable (Open root given) answer old new = Gives given.now answer old new
+ServesDurable (Open root given) answer old new = GivesName given.now answer old new
 ServesDurable Flush answer old new = SameNames old new
 ServesDurable Stat answer old new = SameNames old new

@@ -1,12 +1,14 @@
 -- The lines about named texts, as lists of bytes.
-use Rattle.std.specs.Prelude.{◌≡◌, ◌≢◌, ◌⊎◌, ◌≤◌, ◌++◌, ◌∷◌, [], List, ℕ, Option, codes, length, true}
-use Rattle.std.specs.Option.{MatchOption}
-use Rattle.std.specs.List.{list_all}
-use Rattle.std.specs.Char.{is_ascii_alphanumeric}
-use Rattle.named_texts.specs.declared.command.Command.{Command}
-use Rattle.named_texts.specs.declared.command.Command.TheVariants.{New, Pin, Clone, Release, Of, Pending, PageOut}
-use Rattle.named_texts.specs.declared.command.Verb.{Verb}
-use Rattle.named_texts.specs.declared.command.Verb.TheVariants.{Unpin, Loose, Count, Key, Out}
+use Rattle.named_texts.specs.declared.command.{
+  Command.{Command, TheVariants.{Clone, New, PageOut, Pending, Pin, Release, RunVerb}},
+  Verb.{TheVariants.{Count, IsPagedOut, Key, Loose, Unpin}, Verb},
+}
+use Rattle.std.specs.{
+  Char.is_ascii_alphanumeric,
+  List.list_all,
+  Option.MatchOption,
+  Prelude.{List, Option, codes, length, true, ℕ, [], ◌++◌, ◌∷◌, ◌≡◌, ◌≢◌, ◌≤◌, ◌⊎◌},
+}
 
 -- 1 to 16 ASCII letters and digits
 abbrev pub IsName : List ℕ → Type 0
@@ -18,7 +20,7 @@ word_of Unpin = codes "unpin"
 word_of Loose = codes "loose"
 word_of Count = codes "count"
 word_of Key = codes "key"
-word_of Out = codes "out"
+word_of IsPagedOut = codes "out"
 
 -- the line is the command's: its word, and its names and text, with one space before each; an empty text may lack it
 abbrev pub Spells : List ℕ → Command → Type 0
@@ -27,7 +29,7 @@ Spells line (New name text) = IsName name.now × ((line ≡ codes "new " ++ (nam
 Spells line (Pin name new) = IsName name.now × IsName new.now × (line ≡ codes "pin " ++ (name.now ++ 32 ∷ new.now))
 Spells line (Clone name new) = IsName name.now × IsName new.now × (line ≡ codes "clone " ++ (name.now ++ 32 ∷ new.now))
 Spells line (Release name) = IsName name.now × (line ≡ codes "release " ++ name.now)
-Spells line (Of verb name) = IsName name.now × (line ≡ word_of verb ++ 32 ∷ name.now)
+Spells line (RunVerb verb name) = IsName name.now × (line ≡ word_of verb ++ 32 ∷ name.now)
 Spells line Pending = line ≡ codes "pending"
 Spells line PageOut = line ≡ codes "pageout"
 

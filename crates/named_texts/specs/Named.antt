@@ -1,11 +1,14 @@
 -- The names of handles, and what a command does to them.
-use Rattle.std.specs.Prelude.{◌≡◌, ◌≢◌, IsSome, List, None, ℕ, Result, String, string_bytes}
-use Rattle.std.specs.Result.{MatchResult}
-use Rattle.named_texts.specs.declared.command.Command.{Command}
-use Rattle.named_texts.specs.declared.command.Command.TheVariants.{New, Pin, Clone, Release, Of, Pending, PageOut}
-use Rattle.std.specs.HashMap.{get_by_text}
-use Rattle.std.specs.Global.{Global}
-use Rattle.named_texts.specs.declared.names.Names.{Names}
+use Rattle.named_texts.specs.declared.{
+  command.Command.{Command, TheVariants.{Clone, New, PageOut, Pending, Pin, Release, RunVerb}},
+  names.Names.Names,
+}
+use Rattle.std.specs.{
+  Global.Global,
+  HashMap.get_by_text,
+  Prelude.{IsSome, List, None, Result, String, string_bytes, ℕ, ◌≡◌, ◌≢◌},
+  Result.MatchResult,
+}
 
 -- nothing has the name
 abbrev pub IsFree : List ℕ → Names → Type 0
@@ -17,24 +20,24 @@ SameNames old new = (name : String Global) → get_by_text new.handles (string_b
     ≡ get_by_text old.handles (string_bytes name)
 
 -- the same of each name but this one
-abbrev pub OtherNames : List ℕ → Names → Names → Type 0
-OtherNames name old new = (other : String Global) → string_bytes other ≢ name
+abbrev pub KeepsOtherNames : List ℕ → Names → Names → Type 0
+KeepsOtherNames name old new = (other : String Global) → string_bytes other ≢ name
     → get_by_text new.handles (string_bytes other) ≡ get_by_text old.handles (string_bytes other)
 
 -- the name was free and has a handle now, and each other has the handle that it had
 abbrev pub IsNamed : List ℕ → Names → Names → Type 0
-IsNamed name old new = IsFree name old × IsSome (get_by_text new.handles name) × OtherNames name old new
+IsNamed name old new = IsFree name old × IsSome (get_by_text new.handles name) × KeepsOtherNames name old new
 
 -- if a call succeeds, its new name is given; if it fails, each name has the handle that it had
-abbrev pub Gives : {A E : Type 0} → List ℕ → Result A E → Names → Names → Type 0
-Gives name answer old new = MatchResult answer (λ a. IsNamed name old new) (λ e. SameNames old new)
+abbrev pub GivesName : {A E : Type 0} → List ℕ → Result A E → Names → Names → Type 0
+GivesName name answer old new = MatchResult answer (λ a. IsNamed name old new) (λ e. SameNames old new)
 
 -- what a command does to the names, whatever it answers
 abbrev pub Serves : {A E : Type 0} → Command → Result A E → Names → Names → Type 0
-Serves (New name text) answer old new = Gives name.now answer old new
-Serves (Pin name given) answer old new = Gives given.now answer old new
-Serves (Clone name given) answer old new = Gives given.now answer old new
-Serves (Release name) answer old new = IsFree name.now new × OtherNames name.now old new
-Serves (Of verb name) answer old new = SameNames old new
+Serves (New name text) answer old new = GivesName name.now answer old new
+Serves (Pin name given) answer old new = GivesName given.now answer old new
+Serves (Clone name given) answer old new = GivesName given.now answer old new
+Serves (Release name) answer old new = IsFree name.now new × KeepsOtherNames name.now old new
+Serves (RunVerb verb name) answer old new = SameNames old new
 Serves Pending answer old new = SameNames old new
 Serves PageOut answer old new = SameNames old new

@@ -1,7 +1,11 @@
 //! The lines about named texts, whatever storage is below.
 
 ghost use Rattle.named_texts.specs.{Line.{AnswersLine, IsName, LacksSpace, word_of}, declared.command.Verb.Verb};
-ghost use Rattle.std.specs.{Char.is_ascii_alphanumeric, List.list_all, Prelude.{IfNone, IfSome, IsTrue, ◌++◌, ◌≡◌, ◌↔◌, ◌∷◌, ◌≢◌}};
+ghost use Rattle.std.specs.{
+  Char.is_ascii_alphanumeric,
+  List.list_all,
+  Prelude.{IfNone, IfSome, IsTrue, ◌++◌, ◌↔◌, ◌∷◌, ◌≡◌, ◌≢◌},
+};
 
 /// What a line asks of the handle of one name.
 #[derive(Clone, Copy)]
@@ -15,10 +19,10 @@ pub enum Verb {
     /// `key NAME`: shows its cell's key.
     Key,
     /// `out NAME`: says whether its cell is paged out.
-    Out,
+    IsPagedOut,
 }
 
-/// One line, understood. A name is 1 to 16 ASCII letters and digits.
+/// A command that a line spells. A name in it is 1 to 16 ASCII letters and digits.
 #[derive(Clone, Copy)]
 pub enum Command<'a> {
     /// `new NAME TEXT`: inserts a new cell with the text, under a new name.
@@ -30,7 +34,7 @@ pub enum Command<'a> {
     /// `release NAME`: releases the handle, and frees the name.
     Release(&'a str),
     /// `unpin NAME`, `loose NAME`, `count NAME`, `key NAME` or `out NAME`.
-    Of(Verb, &'a str),
+    RunVerb(Verb, &'a str),
     /// `pending`: counts the cells that are listed for page-out.
     Pending,
     /// `pageout`: pages out the list.
@@ -48,14 +52,14 @@ pub fn parse(line: &str) -> Option<Command<'_>>
     }
     let (word, rest) = line.split_once(' ')?;
     match rest.split_once(' ') {
-        None => of_name(word, rest),
-        Some((name, behind)) => of_name_and_rest(word, name, behind),
+        None => parse_word_and_name(word, rest),
+        Some((name, behind)) => parse_word_name_and_rest(word, name, behind),
     }
 }
 
-/// Returns the command of a word and a name.
+/// Returns the command that a word and a name spell, or None if they spell none.
 #[tactic(auto, using(crate::proofs::Lines::two_words))]
-fn of_name<'a>(word: &str, name: &'a str) -> Option<Command<'a>>
+fn parse_word_and_name<'a>(word: &str, name: &'a str) -> Option<Command<'a>>
     requires word { LacksSpace word.now }
     requires name { LacksSpace name.now }
     ensures { AnswersLine (word.now ++ 32 ∷ name.now) result }
@@ -66,14 +70,14 @@ fn of_name<'a>(word: &str, name: &'a str) -> Option<Command<'a>>
     match word {
         "new" => Some(Command::New(name, "")),
         "release" => Some(Command::Release(name)),
-        _ => Some(Command::Of(verb_of(word)?, name)),
+        _ => Some(Command::RunVerb(verb_of(word)?, name)),
     }
 }
 
-/// Returns the command of a word, a name and the text behind its space. The text of `new` is all of
-/// that.
+/// Returns the command that a word, a name and the rest of the line spell, or None if they spell
+/// none. The rest is the text of `new`, and the second name of `pin` and `clone`.
 #[tactic(auto, using(crate::proofs::Lines::more_words))]
-fn of_name_and_rest<'a>(word: &str, name: &'a str, behind: &'a str) -> Option<Command<'a>>
+fn parse_word_name_and_rest<'a>(word: &str, name: &'a str, behind: &'a str) -> Option<Command<'a>>
     requires word { LacksSpace word.now }
     requires name { LacksSpace name.now }
     ensures { AnswersLine (word.now ++ 32 ∷ (name.now ++ 32 ∷ behind.now)) result }
@@ -90,7 +94,7 @@ fn of_name_and_rest<'a>(word: &str, name: &'a str, behind: &'a str) -> Option<Co
     }
 }
 
-/// Returns what a word asks of a name.
+/// Returns the verb that a word spells, or None if it spells none.
 fn verb_of(word: &str) -> Option<Verb>
     ensures some { IfSome result (λ verb. word.now ≡ word_of verb) }
     ensures none { IfNone result ((verb : Verb) → word.now ≢ word_of verb) }
@@ -100,7 +104,7 @@ fn verb_of(word: &str) -> Option<Verb>
         "loose" => Some(Verb::Loose),
         "count" => Some(Verb::Count),
         "key" => Some(Verb::Key),
-        "out" => Some(Verb::Out),
+        "out" => Some(Verb::IsPagedOut),
         _ => None,
     }
 }

@@ -13,7 +13,7 @@ use std::sync::Wait;
 pub struct Counts {
     /// The blobs of the roots' keys, each counted once.
     pub blobs: u64,
-    /// The bytes of these blobs.
+    /// The bytes of the blobs of the roots' keys.
     pub bytes: u64,
     /// The names that stand for keys.
     pub names: u64,
@@ -31,15 +31,15 @@ impl fmt::Display for Counts {
 
 /// The counts so far, and the keys whose blobs were counted.
 #[derive(Drop)]
-struct Counting {
+struct RootCounter {
     counts: Counts,
     keys: HashSet<DataKey>,
 }
 
-impl Counting {
+impl RootCounter {
     /// Begins a count. It allocates nothing.
-    fn new(alloc: Global) -> Counting {
-        Counting {
+    fn new(alloc: Global) -> RootCounter {
+        RootCounter {
             counts: Counts {
                 blobs: 0,
                 bytes: 0,
@@ -81,7 +81,7 @@ pub fn count_roots<R: Wait, H: KeyHash, S: Roots<TextEnv<H>>>(
     storage: &TextStorage<H, S>,
     names: &[String],
 ) -> Result<Counts, Error> {
-    let mut counting = Counting::new(alloc);
+    let mut counting = RootCounter::new(alloc);
     for name in names {
         if let Some(key) = storage.root(rt, name.as_str())? {
             counting.count_root(rt, alloc, storage, key)?;

@@ -5,7 +5,8 @@ ghost use Rattle.std.specs.Prelude.{◌++◌, ◌∷◌};
 
 use crate::command::is_name;
 
-/// One line, understood. A name of a handle or of a root is 1 to 16 ASCII letters and digits.
+/// A command that a line spells. A name of a handle or of a root in it is 1 to 16 ASCII letters and
+/// digits.
 #[derive(Clone, Copy)]
 pub enum DurableCommand<'a> {
     /// `save NAME ROOT`: pages out the name's cell, and makes ROOT stand for its key.
@@ -30,13 +31,17 @@ pub fn parse_durable(line: &str) -> Option<DurableCommand<'_>>
     let (word, rest) = line.split_once(' ')?;
     match rest.split_once(' ') {
         None => None,
-        Some((first, second)) => of_two_names(word, first, second),
+        Some((first, second)) => parse_word_and_two_names(word, first, second),
     }
 }
 
-/// Returns the command of a word and two names.
+/// Returns the command that a word and two names spell, or None if they spell none.
 #[tactic(auto, using(crate::proofs::DurableLines::three_words))]
-fn of_two_names<'a>(word: &str, first: &'a str, second: &'a str) -> Option<DurableCommand<'a>>
+fn parse_word_and_two_names<'a>(
+    word: &str,
+    first: &'a str,
+    second: &'a str,
+) -> Option<DurableCommand<'a>>
     requires word { LacksSpace word.now }
     requires first { LacksSpace first.now }
     ensures { AnswersDurableLine (word.now ++ 32 ∷ (first.now ++ 32 ∷ second.now)) result }

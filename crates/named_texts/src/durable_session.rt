@@ -1,6 +1,6 @@
 //! Named handles over a storage that keeps texts under names of roots.
 
-ghost use Rattle.named_texts.specs.{Durable.ServesDurable, Named.Gives};
+ghost use Rattle.named_texts.specs.{Durable.ServesDurable, Named.GivesName};
 
 use crate::cell_page_out::page_out;
 use crate::counts::count_roots;
@@ -55,8 +55,8 @@ impl<'a, R: Wait, H: KeyHash, S: Roots<TextEnv<H>>> DurableSession<'a, R, H, S> 
     ///
     /// # Errors
     ///
-    /// - `NoName` if no handle has the name or the root's name stands for no key; `BadName` if a
-    ///   handle has the name already that is to be a new one.
+    /// - `NoName` if no handle has the name or the root's name stands for no key; `BadName` if the
+    ///   command gives a name that another handle has already.
     /// - the errors of the calls on the storage that the command makes.
     pub fn run(&mut self, alloc: Global, command: DurableCommand<'_>) -> Result<Answer, Refusal> {
         self.session.run_durable(alloc, &mut self.roots, command)
@@ -137,13 +137,13 @@ fn open_root<R: Wait, H: KeyHash, S: Roots<TextEnv<H>>>(
     root: &str,
     new: &str,
 ) -> Result<Answer, Refusal>
-    ensures { Gives new.now result names.old names.new }
+    ensures { GivesName new.now result names.old names.new }
 {
     let Some(key) = storage.root(rt, root)? else {
         return Err(Refusal::NoName);
     };
     let room = names.make_room(alloc, new)?;
     let (_node, handle) = storage.new_paged_out(rt, alloc, TEXT, key)?;
-    names.give(room, handle);
+    names.give_name(room, handle);
     Ok(Answer::Word("ok"))
 }

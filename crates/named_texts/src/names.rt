@@ -1,6 +1,6 @@
 //! Names of handles.
 
-ghost use Rattle.named_texts.specs.Named.{IsFree, OtherNames, SameNames};
+ghost use Rattle.named_texts.specs.Named.{IsFree, KeepsOtherNames, SameNames};
 ghost use Rattle.std.specs.{HashMap.{get_by_text, spare}, Prelude.{IfErr, IfOk, List, Some, string_bytes, ℕ, ◌<◌, ◌≡◌}};
 
 use pagable::{Error, HandleNumber};
@@ -10,7 +10,7 @@ use std::collections::HashMap;
 /// Why a command fails.
 #[derive(Drop)]
 pub enum Refusal {
-    /// A handle has the name already that was to be a new one.
+    /// The command gives a name that another handle has already.
     BadName,
     /// No handle has the name, or the root's name stands for no key.
     NoName,
@@ -82,18 +82,18 @@ impl Names {
     }
 
     /// Gives a handle a name, for which there is room.
-    pub fn give(&mut self, name: String, handle: HandleNumber)
+    pub fn give_name(&mut self, name: String, handle: HandleNumber)
         requires { 0 < spare self.old.handles }
         ensures named { get_by_text self.new.handles (string_bytes name) ≡ Some handle }
-        ensures others { OtherNames (string_bytes name) self.old self.new }
+        ensures others { KeepsOtherNames (string_bytes name) self.old self.new }
     {
         let _given = self.handles.insert(name, handle);
     }
 
     /// Frees a name, whether a handle has it or not.
-    pub fn free(&mut self, name: &str)
+    pub fn free_name(&mut self, name: &str)
         ensures is_free { IsFree name.now self.new }
-        ensures others { OtherNames name.now self.old self.new }
+        ensures others { KeepsOtherNames name.now self.old self.new }
     {
         let _handle = self.handles.remove(name);
     }

@@ -7,7 +7,7 @@ use crate::names::Refusal;
 use crate::session::{Answer, Session};
 use pagable::{Error, InMemoryBlobs, KeyHash, PagableStorage, Roots};
 use pagable_testkit::lines;
-use pagable_testkit::lines::Answering;
+use pagable_testkit::lines::LineAnswerer;
 use pagable_testkit::text::TextEnv;
 use std::alloc::Global;
 use std::io;
@@ -67,7 +67,7 @@ pub fn serve_durable<H: KeyHash, S: Roots<TextEnv<H>> + Drop, T: Wait, R: BufRea
     }
 }
 
-impl<'a, T: Wait, H: KeyHash, S: PagableStorage<TextEnv<H>>> Answering for Session<'a, T, H, S> {
+impl<'a, T: Wait, H: KeyHash, S: PagableStorage<TextEnv<H>>> LineAnswerer for Session<'a, T, H, S> {
     /// Writes no answer to an empty line.
     fn answer<W: Write>(
         &mut self,
@@ -88,7 +88,7 @@ impl<'a, T: Wait, H: KeyHash, S: PagableStorage<TextEnv<H>>> Answering for Sessi
     }
 }
 
-impl<'a, T: Wait, H: KeyHash, S: Roots<TextEnv<H>>> Answering for DurableSession<'a, T, H, S> {
+impl<'a, T: Wait, H: KeyHash, S: Roots<TextEnv<H>>> LineAnswerer for DurableSession<'a, T, H, S> {
     /// Answers a line that spells no durable command as its session does.
     fn answer<W: Write>(
         &mut self,

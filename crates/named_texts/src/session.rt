@@ -1,6 +1,6 @@
 //! Named handles over a storage of texts.
 
-ghost use Rattle.named_texts.specs.Named.{Gives, IsFree, OtherNames, Serves};
+ghost use Rattle.named_texts.specs.Named.{GivesName, IsFree, KeepsOtherNames, Serves};
 
 use crate::command::{Command, Verb};
 use crate::counts::Counts;
@@ -24,7 +24,7 @@ pub enum Answer {
     Number(u128),
     /// The text of a value that was pinned.
     Value(Arc<TextNode>),
-    /// What the roots of the storage stand for.
+    /// The counts of the storage's roots, and of their blobs and bytes.
     Counts(Counts),
 }
 
@@ -79,8 +79,8 @@ impl<'a, R: Wait, H: KeyHash, S: PagableStorage<TextEnv<H>>> Session<'a, R, H, S
     ///
     /// # Errors
     ///
-    /// - `BadName` if a handle has the name already that is to be a new one, `NoName` if none has the
-    ///   name.
+    /// - `BadName` if the command gives a name that another handle has already; `NoName` if no
+    ///   handle has the name that it asks for.
     /// - the errors of the call on the storage that the command makes.
     pub fn run(&mut self, alloc: Global, command: Command<'_>) -> Result<Answer, Refusal> {
         run(self.rt, alloc, &mut self.names, &self.storage, command)
@@ -98,11 +98,11 @@ fn run<R: Wait, H: KeyHash, S: PagableStorage<TextEnv<H>>>(
     ensures { Serves command.entry result names.old names.new }
 {
     match command {
-        Command::New(name, text) => make(rt, alloc, names, storage, name, text),
+        Command::New(name, text) => insert_text(rt, alloc, names, storage, name, text),
         Command::Pin(name, new) => pin(rt, alloc, names, storage, name, new),
         Command::Clone(name, new) => clone(rt, alloc, names, storage, name, new),
         Command::Release(name) => release(rt, names, storage, name),
-        Command::Of(verb, name) => {
+        Command::RunVerb(verb, name) => {
             let handle = names.find(name)?;
             Ok(run_verb(rt, storage, verb, handle)?)
         }
@@ -116,7 +116,7 @@ fn run<R: Wait, H: KeyHash, S: PagableStorage<TextEnv<H>>>(
 }
 
 /// Inserts a cell with a text, and gives its loose handle a new name.
-fn make<R: Wait, H: KeyHash, S: PagableStorage<TextEnv<H>>>(
+fn insert_text<R: Wait, H: KeyHash, S: PagableStorage<TextEnv<H>>>(
     rt: &R,
     alloc: Global,
     names: &mut Names,
@@ -124,12 +124,12 @@ fn make<R: Wait, H: KeyHash, S: PagableStorage<TextEnv<H>>>(
     name: &str,
     text: &str,
 ) -> Result<Answer, Refusal>
-    ensures { Gives name.now result names.old names.new }
+    ensures { GivesName name.now result names.old names.new }
 {
     let room = names.make_room(alloc, name)?;
     let node = TextNode::new(alloc, text)?;
     let (_node, handle) = storage.insert(rt, alloc, node, FirstHandle::Loose)?;
-    names.give(room, handle);
+    names.give_name(room, handle);
     Ok(Answer::Word("ok"))
 }
 
@@ -142,12 +142,12 @@ fn pin<R: Wait, H: KeyHash, S: PagableStorage<TextEnv<H>>>(
     name: &str,
     new: &str,
 ) -> Result<Answer, Refusal>
-    ensures { Gives new.now result names.old names.new }
+    ensures { GivesName new.now result names.old names.new }
 {
     let handle = names.find(name)?;
     let room = names.make_room(alloc, new)?;
     let pinned = storage.pin(rt, alloc, handle)?;
-    names.give(room, pinned.handle);
+    names.give_name(room, pinned.handle);
     Ok(Answer::Value(pinned.value))
 }
 
@@ -160,12 +160,12 @@ fn clone<R: Wait, H: KeyHash, S: PagableStorage<TextEnv<H>>>(
     name: &str,
     new: &str,
 ) -> Result<Answer, Refusal>
-    ensures { Gives new.now result names.old names.new }
+    ensures { GivesName new.now result names.old names.new }
 {
     let handle = names.find(name)?;
     let room = names.make_room(alloc, new)?;
     let cloned = storage.clone_handle(rt, handle)?;
-    names.give(room, cloned);
+    names.give_name(room, cloned);
     Ok(Answer::Word("ok"))
 }
 
@@ -178,10 +178,10 @@ fn release<R: Wait, H: KeyHash, S: PagableStorage<TextEnv<H>>>(
     name: &str,
 ) -> Result<Answer, Refusal>
     ensures is_free { IsFree name.now names.new }
-    ensures others { OtherNames name.now names.old names.new }
+    ensures others { KeepsOtherNames name.now names.old names.new }
 {
     let handle = names.find(name)?;
-    names.free(name);
+    names.free_name(name);
     storage.release(rt, handle)?;
     Ok(Answer::Word("ok"))
 }
@@ -202,7 +202,7 @@ fn run_verb<R: Wait, H: KeyHash, S: PagableStorage<TextEnv<H>>>(
             OptionalDataKey::None => Ok(Answer::Word("none")),
             OptionalDataKey::Some(key) => Ok(Answer::Number(key.get())),
         },
-        Verb::Out => match storage.is_paged_out(rt, handle)? {
+        Verb::IsPagedOut => match storage.is_paged_out(rt, handle)? {
             true => Ok(Answer::Word("yes")),
             false => Ok(Answer::Word("no")),
         },

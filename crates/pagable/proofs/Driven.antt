@@ -1,26 +1,64 @@
 -- Each event of the machine, by what the pager and the machine's loads, tables and workers tell of it.
-use Rattle.pagable.specs.{Driving.{IsWalkKept, IsIn, shelf_at, IsBegun}, declared.workers.{Held.Held, Walk.Walk}, Paged.{value-is-read, node-comes-back, reading-is-refused}}
-use Rattle.pagable.specs.Driving.{IsOnTable, Given, kept_at, holding, Answer, ByNumber, Serves, plainly, plain_reply, Forgets, machine_of, IsPrepared, Kept, ReadsFor, rest_after}
-use Rattle.pagable.{specs.Driving.{IsServing, Stepped, IsTaken, Holding, Makes, KeepsOne, readings_in, IsKept}, proofs.Keeping.{Leaves, call-leaves, at-one, nothing-done, Served, as-made}}
-use Rattle.pagable.proofs.Keeping.{event-passes, kept-one, held-anyhow, makes-with, one-serves, like, still-kept, are-these, kept-on, as-before, makes, not-same, same-work, leaves-so, by-call, refused}
-use Rattle.{pagable_theorems.proofs.HandlesKept.updated-at, pagable_pager_spec.specs.{LoadCalls.{LoadCloses, DropCall}, declared.{calls.{Call.Call, Reply.Reply}, handle_row.Owner.Owner, events.EventReply.EventReply}}}
-use Rattle.pagable_pager_spec.specs.{declared.{events.{LoadReply.LoadReply, TableNumber.TableNumber, Event.Event, LoadAnswer.LoadAnswer}, pinning.Beginning.Beginning}, World.{Reading, one_more, Alike}}
-use Rattle.pagable_pager_spec.specs.{World.{OpenLoad, Written, of_item, of_key, Frame, of_entry, Seen, Last, Core, Root, Values, SameShelf}, Basics.{updated, or_else}}
-use Rattle.pagable_pager_spec.specs.{Access.{WorkerStarts, ReadingStep}, Pager.{Moves, CallBrings, PagerState, world_of, FitsRoot, IsPagerWhole}, Events.{reading_at, Happens, entry_task, reading_after}}
-use Rattle.pagable_pager_spec.specs.{Events.{Starts, with_entry_taken, step_fault, IsTable, reading_of_root, with_worker, no_shelf, CallDoes}, Kinds.{identity_of, is_owner}, Workers.fresh, Refusals.OwnsLoad}
-use Rattle.{pagable_pager_spec.specs.Order.step_of, std.specs.{declared.{vec.Vec.Vec, sync.Arc.Arc, alloc.Global.Global}, Prelude.{is_none, is_some, Result, slice_get}, Option.option_map}}
-use Rattle.std.proofs.Common.{Ok, ◌+◌, ◌≤◌, ◌++◌, Some, ℕ, subst, zero, Option, ◌≢◌, ◌∙◌, refl, ◌==◌, ◌≡◌, arith, rules, [], if◌then◌else◌, false, true, inr, ap, length, ◌∷◌, suc, Err, ◌<◌, None, List}
-use Rattle.{std.proofs.{Common.{sym, inl}, lemmas.{Bool.Decides.nat_tests, List.length-append, Grind.common_steps}}, pagable_pager.{proofs.Invariant.less-moves, specs.View.Telling}}
-use Rattle.{pagable_pager.specs.View.{type_of_root, OnlyTables, pager_state, pager_core, PagerView, OnlyLess, ReadsAs, value_in}, pagable_pageout.{proofs.WorkerTurns.plain-fits, specs.Slots.written_of}}
-use Rattle.{pagable_pageout.specs.{Tasks.IsPlain, Turns.LeavesFit, declared.{lent_table.LentTable.LentTable, tasks.{Task.Task, Turn.Turn}}, Table.shelf_of}, pagable_load.specs.Frames.{IsLoadOf, reading_of, is_cell}}
-use Rattle.{pagable_load.{proofs.LoadSteps.none_comes, specs.{declared.reading.Reading.Reading as Own, WorkerCalls.{RefusesEntry, StartsEntry}}}, pagable_theorems.proofs.{ReadingSteps.{caller-free, reading-feels}, Trees.same_some}}
-use Rattle.{pagable_theorems.proofs.{Trees.same-number, Effects.{owned-mine, IsMine}}, pagable_core.specs.declared.{context.writing.SerializedData.SerializedData, storage.data.PagableData.PagableData}}
-use Rattle.pagable_value_spec.specs.declared.{error.Error.Error}
-use Rattle.pagable_value_spec.specs.declared.numbers.{ArcRef.ArcRef, HandleNumber.HandleNumber, LoadNumber.LoadNumber, WorkerNumber.WorkerNumber}
-use Rattle.pagable_tables.proofs.SameViews.{no-load-fault, still}
-use Rattle.pagable_pager_spec.specs.World as world
+use Rattle.pagable.proofs.{
+  Keeping.{Leaves, Served, are-these, as-before, as-made, at-one, by-call, call-leaves, event-passes, held-anyhow, kept-on, kept-one, leaves-so, like, makes},
+  Keeping.{makes-with, not-same, nothing-done, one-serves, refused, same-work, still-kept},
+}
+use Rattle.pagable.specs.{
+  Driving.{Answer, ByNumber, Forgets, Given, Holding, IsBegun, IsKept, IsOnTable, IsPrepared, IsServing, IsTableNumber, IsTaken, IsWalkKept, Kept, Makes},
+  Driving.{ReadsFor, Serves, SetsOne, StepsLoad, holding, kept_at, machine_of, plain_reply, plainly, readings_in, rest_after, shelf_at},
+  Paged.{node-comes-back, reading-is-refused, value-is-read},
+  declared.workers.{LoadsAndWorkers.LoadsAndWorkers, WorkerProgress.WorkerProgress},
+}
 use Rattle.pagable_codec.specs.declared.{env.Env.Ghosts as Environments, hash.KeyHash.Ghosts as Hashes, nodes.NodeSet.Ghosts as Nodes}
-use Rattle.std.specs.declared.cmp.{Ord.Ghosts as Orders, PartialEq.Ghosts as Equalities, PartialOrd.Ghosts as PartialOrders}
+use Rattle.pagable_core.specs.declared.{context.writing.SerializedData.SerializedData, storage.data.PagableData.PagableData}
+use Rattle.pagable_load.proofs.LoadSteps.{none_comes}
+use Rattle.pagable_load.specs.{Frames.{IsLoadOf, is_cell, reading_of}, WorkerCalls.{RefusesEntry, StartsEntry}, declared.reading.Reading.Reading as Own}
+use Rattle.pagable_pageout.proofs.WorkerTurns.{plain-fits}
+use Rattle.pagable_pageout.specs.{
+  Slots.written_of,
+  Table.shelf_of,
+  Tasks.NeedsNoPager,
+  Turns.LeavesFit,
+  declared.{lent_table.LentTable.LentTable, tasks.{Task.Task, Turn.Turn}},
+}
+use Rattle.pagable_pager.proofs.Invariant.{less-moves}
+use Rattle.pagable_pager.specs.View.{AddsNoValue, ChangesOnlyTables, PagerView, ReadsAs, Telling, pager_core, pager_state, type_of_root, value_in}
+use Rattle.pagable_pager_spec.specs.{
+  Access.{ReadingStep, WorkerStarts},
+  Basics.{or_else, updated},
+  Events.{CallDoes, Happens, IsTable, Starts, entry_task, no_shelf, reading_after, reading_at, reading_of_root, step_fault, with_entry_taken, with_worker},
+  Kinds.{identity_of, is_owner},
+  LoadCalls.{DropCall, LoadCloses},
+  Order.step_of,
+  Pager.{CallBrings, FitsRoot, IsPagerWhole, Moves, PagerState, world_of},
+  Refusals.OwnsLoad,
+  Workers.fresh,
+  World.{Alike, Core, Frame, Last, OpenLoad, Reading, Root, SameShelf, Seen, Values, Written, of_entry, of_item, of_key, one_more},
+  declared.{calls.{Call.Call, Reply.Reply}, events.{Event.Event, EventReply.EventReply, LoadAnswer.LoadAnswer, LoadReply.LoadReply, TableNumber.TableNumber}},
+  declared.{handle_row.Owner.Owner, pinning.Beginning.Beginning},
+}
+use Rattle.pagable_tables.proofs.SameViews.{no-load-fault, still}
+use Rattle.pagable_theorems.proofs.{
+  Effects.{IsMine, owned-mine},
+  HandlesKept.updated-at,
+  ReadingSteps.{caller-free, reading-feels},
+  Trees.{same-number, same_some},
+}
+use Rattle.pagable_value_spec.specs.declared.{
+  error.Error.Error,
+  numbers.{ArcRef.ArcRef, HandleNumber.HandleNumber, LoadNumber.LoadNumber, WorkerNumber.WorkerNumber},
+}
+use Rattle.std.proofs.{
+  Common.{Err, List, None, Ok, Option, Some, ap, arith, false, if◌then◌else◌, inl, inr, length, refl, rules, subst, suc, sym, true, zero, ℕ, [], ◌++◌, ◌+◌},
+  Common.{◌<◌, ◌==◌, ◌∙◌, ◌∷◌, ◌≡◌, ◌≢◌, ◌≤◌},
+  lemmas.{Bool.Decides.nat_tests, Grind.common_steps, List.length-append},
+}
+use Rattle.std.specs.{
+  Option.option_map,
+  Prelude.{Result, is_none, is_some, slice_get},
+  declared.{alloc.Global.Global, cmp.{Ord.Ghosts as Orders, PartialEq.Ghosts as Equalities, PartialOrd.Ghosts as PartialOrders}, sync.Arc.Arc, vec.Vec.Vec},
+}
+use Rattle.pagable_pager_spec.specs.World as world
 
 module _ {X XN XH XK XV : Type 0} {g : Environments X XN XH XK XV} {gh : Hashes XH} {go : Orders XK} {gq : Equalities XK} {gp : PartialOrders XK}
     {gn : Nodes XN X XN XH XK XV} {N E : Type 0} (s : PagerState N E) (h : Holding g gh go gq gp gn) (l : LoadNumber) (load : OpenLoad)
@@ -57,7 +95,7 @@ module _ {X XN XH XK XV : Type 0} {g : Environments X XN XH XK XV} {gh : Hashes 
       → OwnsLoad s.core Owner.Caller l load → reading_at (world_of (machine_of s h)) l ≡ Some reading
       → ReadingStep m.values Owner.Caller reading s reply.ended frames s'
       → reply.steps ≡ one_more reading.steps → IsMine s.core Owner.Caller reading.load
-      → KeepsOne h.readings l.0 x kept' → option_map reading_of x ≡ reading_after reply.ended reading frames
+      → SetsOne h.readings l.0 x kept' → option_map reading_of x ≡ reading_after reply.ended reading frames
       → ((now : Own) → x ≡ Some now → (now.load ≡ l) × ReadsFor load now)
       → Makes m s h (Event.LoadStep l) (EventReply.LoadMoved (Ok reply)) s' (record h { readings = kept' })
   steps l load reading x reply frames o at step counts mine keeps goes again =
@@ -108,25 +146,26 @@ module _ {X XN XH XK XV : Type 0} {g : Environments X XN XH XK XV} {gh : Hashes 
 
 -- a worker that has just begun is on its table
 pub begun-on : {X XN XH XK XV : Type 0} {g : Environments X XN XH XK XV} {gh : Hashes XH} {go : Orders XK} {gq : Equalities XK} {gp : PartialOrders XK}
-    {gn : Nodes XN X XN XH XK XV} {last : ℕ} {t : TableNumber} {task : world.Task} {k : Walk X XN XH XK XV g gh go gq gp gn} → (0 < t.0) × (t.0 ≤ last)
+    {gn : Nodes XN X XN XH XK XV} {last : ℕ} {t : TableNumber} {task : world.Task} {k : WorkerProgress X XN XH XK XV g gh go gq gp gn}
+    → (0 < t.0) × (t.0 ≤ last)
     → IsBegun t task k → IsOnTable last k
 begun-on {t = t} {k = k} there begun = let same : k.table ≡ t.0 = ap (λ (x : world.Walking). x.table) begun.walking in
     record { table = rw same there; way = begun.way }
 
 begun-fits : {X XN XH XK XV : Type 0} {g : Environments X XN XH XK XV} {gh : Hashes XH} {go : Orders XK} {gq : Equalities XK} {gp : PartialOrders XK}
     {gn : Nodes XN X XN XH XK XV} (v : ℕ) (w : Core) (turn : Turn X XN XH XK XV g gh go gq gp gn)
-    → ((task : Task X XN XH XK XV g gh go gq gp gn) → turn ≡ Turn.Goes task → IsPlain task) → LeavesFit v w turn
+    → ((task : Task X XN XH XK XV g gh go gq gp gn) → turn ≡ Turn.Goes task → NeedsNoPager task) → LeavesFit v w turn
 begun-fits v w (Turn.Goes task) plain = plain-fits v w task (plain task refl)
 begun-fits v w (Turn.Answers answer) plain = tt
 
 module _ {X XN XH XK XV : Type 0} {g : Environments X XN XH XK XV} {gh : Hashes XH} {go : Orders XK} {gq : Equalities XK} {gp : PartialOrders XK}
     {gn : Nodes XN X XN XH XK XV} {N B W E : Type 0} (m : Seen N B W) (s s' : PagerState N E)
-    (h : Holding g gh go gq gp gn) {walks' : ℕ → Option (Walk X XN XH XK XV g gh go gq gp gn)} (serving : IsServing s.core h)
+    (h : Holding g gh go gq gp gn) {walks' : ℕ → Option (WorkerProgress X XN XH XK XV g gh go gq gp gn)} (serving : IsServing s.core h)
     (was : IsPagerWhole m.values s)
     (formed : IsPagerWhole m.values s') (on : Leaves Owner.Caller (updated (s.core.last.worker + 1) true s.core.workers) s.core s'.core)
-    (t : TableNumber) (task : world.Task) (n : WorkerNumber) (k : Walk X XN XH XK XV g gh go gq gp gn) (table : IsTable (world_of (machine_of s h)) t)
+    (t : TableNumber) (task : world.Task) (n : WorkerNumber) (k : WorkerProgress X XN XH XK XV g gh go gq gp gn) (table : IsTable (world_of (machine_of s h)) t)
     (next : n.0 ≡ s.core.last.worker + 1) (begun : IsBegun t task k)
-    (keeps : KeepsOne h.walks n.0 (Some k) walks') where
+    (keeps : SetsOne h.walks n.0 (Some k) walks') where
   abbrev with_walk : Holding g gh go gq gp gn
   with_walk = record h { walks = walks' }
 
@@ -162,10 +201,10 @@ module _ {N S E : Type 0} {v : Values N} {tells : Telling S} {old new : PagerVie
   pub serves : Moves (CallBrings (pager_core tells old) call) (pager_state tells old) (pager_state tells new) → Serves v tells old call r new
   serves moves = record { step = record { does = does }; moves = moves }
 
-  pub serves-less : OnlyLess old new → Serves v tells old call r new
+  pub serves-less : AddsNoValue old new → Serves v tells old call r new
   serves-less only = serves (less-moves tells old new only)
 
-  pub serves-same : OnlyTables old new → Serves v tells old call r new
+  pub serves-same : ChangesOnlyTables old new → Serves v tells old call r new
   serves-same only = serves (record { each = λ n x is. inl (subst (λ values. value_in values n ≡ Some x) only.values is); environment = only.environment })
 
 typed-so : (t : Option ℕ) → is_none t ≡ false → (type : ℕ) × (t ≡ Some type)
@@ -177,13 +216,13 @@ pub unprepared : {kept kept' : Kept} (l : LoadNumber) (key : ℕ) (t : Option �
 unprepared l key t same = record { taken = λ own is. record { why = inl (sym (same l.0) ∙ is) }; full = λ none. same; others = λ q other. same q }
 
 -- what is kept anew after what was kept stayed
-pub keeps-after : {Y : Type 0} {k mid kept' : ℕ → Option Y} {l : ℕ} {own : Option Y} → ((q : ℕ) → mid q ≡ k q) → KeepsOne mid l own kept'
-    → KeepsOne k l own kept'
+pub keeps-after : {Y : Type 0} {k mid kept' : ℕ → Option Y} {l : ℕ} {own : Option Y} → ((q : ℕ) → mid q ≡ k q) → SetsOne mid l own kept'
+    → SetsOne k l own kept'
 keeps-after as_was keeps = record { here = keeps.here; others = λ q other. keeps.others q other ∙ as_was q }
 
 module _ {X XN XH XK XV : Type 0} {g : Environments X XN XH XK XV} {gh : Hashes XH} {go : Orders XK} {gq : Equalities XK} {gp : PartialOrders XK}
     {gn : Nodes XN X XN XH XK XV} {N S E : Type 0} (v : E → Values N) (tells : Telling S) (old new : PagerView N S E)
-    (held : Held X XN XH XK XV g gh go gq gp gn) (serving : IsServing (pager_core tells old) (holding held))
+    (held : LoadsAndWorkers X XN XH XK XV g gh go gq gp gn) (serving : IsServing (pager_core tells old) (holding held))
     (was : IsPagerWhole (v old.environment) (pager_state tells old)) where
   abbrev m : Seen N PagableData Written
   m = plainly (v old.environment)
@@ -197,7 +236,7 @@ module _ {X XN XH XK XV : Type 0} {g : Environments X XN XH XK XV} {gh : Hashes 
   abbrev h : Holding g gh go gq gp gn
   h = holding held
 
-  abbrev Takes : Given N → Answer N → PagerView N S E → Held X XN XH XK XV g gh go gq gp gn → Type 0
+  abbrev Takes : Given N → Answer N → PagerView N S E → LoadsAndWorkers X XN XH XK XV g gh go gq gp gn → Type 0
   Takes event reply now left = Served (v old.environment) tells old held event reply now left
 
   whole-still : {comes : ℕ → N → Type 0} → Moves comes s s' → IsPagerWhole (v new.environment) s' → IsPagerWhole (v old.environment) s'
@@ -217,7 +256,7 @@ module _ {X XN XH XK XV : Type 0} {g : Environments X XN XH XK XV} {gh : Hashes 
     abbrev kept : ByNumber Own
     kept = held.readings
 
-    abbrev anew : Held X XN XH XK XV g gh go gq gp gn
+    abbrev anew : LoadsAndWorkers X XN XH XK XV g gh go gq gp gn
     anew = record held { readings = kept' }
 
     pub call-made : (call : Call N PagableData) (reply : Reply N (Arc PagableData Global)) → Serves (v old.environment) tells old call reply new
@@ -233,7 +272,7 @@ module _ {X XN XH XK XV : Type 0} {g : Environments X XN XH XK XV} {gh : Hashes 
     pub key-made : (key t : ℕ) (l : LoadNumber) (k : ℕ) (own : Own) → Serves (v old.environment) tells old (Call.LoadKey key)
         (Reply.Begun (Ok (Beginning.Load l k))) new
         → IsPagerWhole (v new.environment) s' → reading_of own ≡ fresh l t → own.key ≡ key → own.for_cell ≡ false
-        → KeepsOne (kept_at kept) l.0 (Some own) (kept_at kept')
+        → SetsOne (kept_at kept) l.0 (Some own) (kept_at kept')
         → Takes (Event.LoadKey key t) (EventReply.Started (Ok (Beginning.Load l k))) new anew
     key-made key t l k own serves formed is key_is sort keeps =
         let w = whole-still serves.moves formed in
@@ -280,11 +319,11 @@ module _ {X XN XH XK XV : Type 0} {g : Environments X XN XH XK XV} {gh : Hashes 
 
     module _ (l : LoadNumber) (key : ℕ) (t : Option ℕ) (reads : ReadsAs s.core l key t) where
       pub step-made : (kept1 : ByNumber Own) (mid : Kept) (reply : LoadReply N) → IsPrepared (kept_at kept) l key t (kept_at kept1)
-          → KeepsOne mid l.0 (rest_after reply.ended (mid l.0)) (kept_at kept') → (own own' : Own) → kept_at kept1 l.0 ≡ Some own
-          → Stepped (v old.environment) Owner.Caller own reply own' s s'
-          → KeepsOne (kept_at kept1) l.0 (Some own') mid → Takes (Event.LoadStep l) (EventReply.LoadMoved (Ok reply)) new anew
+          → SetsOne mid l.0 (rest_after reply.ended (mid l.0)) (kept_at kept') → (own own' : Own) → kept_at kept1 l.0 ≡ Some own
+          → StepsLoad (v old.environment) Owner.Caller own reply own' s s'
+          → SetsOne (kept_at kept1) l.0 (Some own') mid → Takes (Event.LoadStep l) (EventReply.LoadMoved (Ok reply)) new anew
       step-made kept1 mid reply ready ends own own' there step keeps1 =
-          let keeps : KeepsOne (kept_at kept) l.0 (rest_after reply.ended (Some own')) (kept_at kept') =
+          let keeps : SetsOne (kept_at kept) l.0 (rest_after reply.ended (Some own')) (kept_at kept') =
           record {
             here = ends.here ∙ ap (rest_after reply.ended) keeps1.here;
             others = λ q other. ends.others q other ∙ keeps1.others q other
@@ -312,7 +351,7 @@ module _ {X XN XH XK XV : Type 0} {g : Environments X XN XH XK XV} {gh : Hashes 
           only (Some answer) now is = absurd (cc)
 
       pub no-place-made : IsPrepared (kept_at kept) l key t (kept_at kept') → kept_at kept' l.0 ≡ None → is_none t ≡ false
-          → (told : Result (Unit {0}) Error) → DropCall s.core Owner.Caller l told s'.core → OnlyLess old new → IsPagerWhole (v new.environment) s'
+          → (told : Result (Unit {0}) Error) → DropCall s.core Owner.Caller l told s'.core → AddsNoValue old new → IsPagerWhole (v new.environment) s'
           → Takes (Event.LoadStep l) (EventReply.LoadMoved (Ok (record { ended = Some (LoadAnswer.Refused Error.OutOfMemory); steps = 1 }))) new anew
       no-place-made ready none of_cell told drop only formed =
           let unkept : kept_at kept l.0 ≡ None = sym (ready.full none l.0) ∙ none in
@@ -362,11 +401,11 @@ module _ {X XN XH XK XV : Type 0} {g : Environments X XN XH XK XV} {gh : Hashes 
       })
       (record { each = λ n x is. inl is; environment = refl }) (record { each = λ n x is. inl is; environment = refl }) tt serving.readings))
 
-  module _ (walks' : ByNumber (Walk X XN XH XK XV g gh go gq gp gn)) (t : TableNumber) where
-    abbrev left : Held X XN XH XK XV g gh go gq gp gn
+  module _ (walks' : ByNumber (WorkerProgress X XN XH XK XV g gh go gq gp gn)) (t : TableNumber) where
+    abbrev left : LoadsAndWorkers X XN XH XK XV g gh go gq gp gn
     left = record held { walks = walks' }
 
-    pub entry-refused : (e : Error) (i : ℕ) → IsIn t.0 held.tables.items → i < length s.core.list → RefusesEntry (v old.environment) s i e s'
+    pub entry-refused : (e : Error) (i : ℕ) → IsTableNumber t.0 held.tables.items → i < length s.core.list → RefusesEntry (v old.environment) s i e s'
         → ((q : ℕ) → kept_at walks' q ≡ kept_at held.walks q) → Takes (Event.WorkerListed t i) (EventReply.WorkerMade (Err e)) new left
     entry-refused e i there within r same_walks = as-made (refused m serving was r.stays (λ l. refl) refl same_walks (Event.WorkerListed t i)
         (EventReply.WorkerMade (Err e)) (λ q. refl)
@@ -382,8 +421,8 @@ module _ {X XN XH XK XV : Type 0} {g : Environments X XN XH XK XV} {gh : Hashes 
           );
         }) tt)
 
-    module _ (n : WorkerNumber) (k : Walk X XN XH XK XV g gh go gq gp gn) (table : IsIn t.0 held.tables.items)
-        (keeps : KeepsOne (kept_at held.walks) n.0 (Some k) (kept_at walks')) where
+    module _ (n : WorkerNumber) (k : WorkerProgress X XN XH XK XV g gh go gq gp gn) (table : IsTableNumber t.0 held.tables.items)
+        (keeps : SetsOne (kept_at held.walks) n.0 (Some k) (kept_at walks')) where
       pub listed-started : (i : ℕ) (r : ArcRef) → StartsEntry (v old.environment) s i n r s' → IsBegun t (of_entry r.handle (identity_of r)) k
           → Takes (Event.WorkerListed t i) (EventReply.WorkerMade (Ok n)) new left
       listed-started i r entry begun =

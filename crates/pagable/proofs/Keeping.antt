@@ -1,22 +1,48 @@
 -- A machine's loads and workers agree with its pager after each event: by what each call, step, begin and end leaves, and that it leaves other owners' handles
 -- alone.
-use Rattle.pagable.specs.Driving.{AllKept, AllOnTables, Answer, Drives, HeldFitsPager, IsOnTable, is_done, kept_at, Forgets, Given, Holding, IsKept, IsServing, IsWalkKept, KeepsOne, Kept, Makes, holding, machine_of, plain_answer, plain_event, plainly}
-use Rattle.{pagable.specs.{Driving.{readings_in, walking_of, work_of}, declared.workers.{Held.Held, Walk.Walk}}, pagable_theorems.proofs.{CallEffects.calls-go, Effects.{Effect, Spares, listed-free}}}
-use Rattle.pagable_theorems.proofs.{Effects.{then-fell, worker-apart}, HandlesKept.{Goes, RowsGo, fell-anyhow, quiet-goes, stands-whole}, ReadingSteps.{caller-free, event-goes}, StepBounds.event-spares}
-use Rattle.{pagable_theorems.{proofs.Trees.{counted, one-true, same-number, same_some, self-number}, specs.TreeSteps.{Change, nothing_felt}}, pagable_load.specs.{Frames.reading_of, AccessView.Acting}}
-use Rattle.{pagable_load.specs.declared.reading.Reading.Reading as Own, pagable_value_spec.specs.declared.numbers.{ArcRef.ArcRef, HandleNumber.HandleNumber}, pagable_pager.specs.View.PagerView}
-use Rattle.pagable_pager.specs.View.{Telling, pager_core, pager_state}
-use Rattle.pagable_tables.proofs.SameViews.{still}
-use Rattle.pagable_pageout.specs.{Joint.both, Turns.{IsOfKind, LeavesFit, TaskFits}}
-use Rattle.pagable_pageout.specs.declared.{lent_table.LentTable.LentTable, tasks.{Task.Task, Turn.Turn}}
-use Rattle.pagable_pager_spec.specs.{Access.{MakesCall, IfBothKnown}, Calls.{CloseCall, is_listed, shut}, Cascade.fallen, Events.{CallStep, CallDoes, Ends, Happens, ReadingsAre, Stays, WorkStays}, Kinds.is_owner}
-use Rattle.pagable_pager_spec.specs.{Kinds.owner_worker, Order.step_of, Pager.{EventBrings, EventHolds, HandlesAreWhole, IsMachineWhole, IsReadingWhole, IsWalkingWhole, IsWhole, Moves, OwnersAreThere, PagerState}}
-use Rattle.pagable_pager_spec.specs.{Pager.{ReplyWrites, IsPagerWhole, world_of}, Basics.{SameAt, if_there, one, times, updated}, World.{Alike, Cell, Core, OpenLoad, Reading, Seen, Values, Walking, World}}
-use Rattle.{pagable_pager_spec.specs.declared.{calls.{Call.Call, Reply.Reply}, events.{Event.Event, EventReply.EventReply, WorkerAnswer.WorkerAnswer}, handle_row.Owner.Owner}, std.proofs.Common.{Bool, List, None}}
-use Rattle.std.proofs.Common.{Option, Some, [], ap, arith, false, inl, inr, length, refl, rules, subst, sym, true, ℕ, ◌<◌, ◌==◌, ◌∙◌, ◌≡◌, ◌≢◌, ◌≤◌, ◌⊎◌}
-use Rattle.std.{proofs.lemmas.{Bool.{Decides.nat_tests, false_from_ne_true}, Grind.common_steps}, specs.{Option.option_map, Prelude.{IsTrue, Result, if◌then◌else◌, is_some}}}
+use Rattle.pagable.specs.{
+  Driving.{AllKept, AllOnTables, Answer, Drives, Forgets, Given, HeldFitsPager, Holding, IsKept, IsOnTable, IsServing, IsWalkKept, Kept, Makes, SetsOne},
+  Driving.{holding, is_done, kept_at, machine_of, plain_answer, plain_event, plainly, readings_in, walking_of, work_of},
+  declared.workers.{LoadsAndWorkers.LoadsAndWorkers, WorkerProgress.WorkerProgress},
+}
 use Rattle.pagable_codec.specs.declared.{env.Env.Ghosts as Environments, hash.KeyHash.Ghosts as Hashes, nodes.NodeSet.Ghosts as Nodes}
-use Rattle.std.specs.declared.cmp.{Ord.Ghosts as Orders, PartialEq.Ghosts as Equalities, PartialOrd.Ghosts as PartialOrders}
+use Rattle.pagable_load.specs.{AccessView.Acting, Frames.reading_of, declared.reading.Reading.Reading as Own}
+use Rattle.pagable_pageout.specs.{Joint.both, Turns.{IsOfKind, LeavesFit, TaskFits}, declared.{lent_table.LentTable.LentTable, tasks.{Task.Task, Turn.Turn}}}
+use Rattle.pagable_pager.specs.View.{PagerView, Telling, pager_core, pager_state}
+use Rattle.pagable_pager_spec.specs.{
+  Access.{IfBothKnown, MakesCall},
+  Basics.{SameAt, if_there, one, times, updated},
+  Calls.{CloseCall, is_listed, shut},
+  Cascade.fallen,
+  Events.{CallDoes, CallStep, Ends, Happens, ReadingsAre, Stays, WorkStays},
+  Kinds.{is_owner, owner_worker},
+  Order.step_of,
+  Pager.{EventBrings, EventHolds, HandlesAreWhole, IsMachineWhole, IsPagerWhole, IsReadingWhole, IsWalkingWhole, IsWhole, Moves, OwnersAreThere, PagerState},
+  Pager.{ReplyWrites, world_of},
+  World.{Alike, Cell, Core, OpenLoad, Reading, Seen, Values, Walking, World},
+  declared.{calls.{Call.Call, Reply.Reply}, events.{Event.Event, EventReply.EventReply, WorkerAnswer.WorkerAnswer}, handle_row.Owner.Owner},
+}
+use Rattle.pagable_tables.proofs.SameViews.{still}
+use Rattle.pagable_theorems.proofs.{
+  CallEffects.calls-go,
+  Effects.{Effect, Spares, listed-free, then-fell, worker-apart},
+  EventEffects.event-goes,
+  HandlesKept.{Goes, RowsGo, fell-anyhow, quiet-goes, stands-whole},
+  ReadingSteps.caller-free,
+  StepBounds.event-spares,
+  Trees.{counted, one-true, same-number, same_some, self-number},
+}
+use Rattle.pagable_theorems.specs.TreeSteps.{Change, nothing_felt}
+use Rattle.pagable_value_spec.specs.declared.numbers.{ArcRef.ArcRef, HandleNumber.HandleNumber}
+use Rattle.std.proofs.{
+  Common.{Bool, List, None, Option, Some, ap, arith, false, inl, inr, length, refl, rules, subst, sym, true, ℕ, [], ◌<◌, ◌==◌, ◌∙◌, ◌≡◌, ◌≢◌, ◌≤◌, ◌⊎◌},
+  lemmas.{Bool.{Decides.nat_tests, false_from_ne_true}, Grind.common_steps},
+}
+use Rattle.std.specs.{
+  Option.option_map,
+  Prelude.{IsTrue, Result, if◌then◌else◌, is_some},
+  declared.cmp.{Ord.Ghosts as Orders, PartialEq.Ghosts as Equalities, PartialOrd.Ghosts as PartialOrders},
+}
 
 -- an access lends what it lent before
 pub lender-is : {E : Type 0} {a b : Acting E} → a ≡ b → a.lender ≡ b.lender
@@ -167,7 +193,7 @@ module _ {v : ℕ} {w w' : Core} (whole : HandlesAreWhole w) (passes : Passes v 
   turn-on (Turn.Answers answer) fits = tt
 
   pub walk-on : {X XN XH XK XV : Type 0} {g : Environments X XN XH XK XV} {gh : Hashes XH} {go : Orders XK} {gq : Equalities XK} {gp : PartialOrders XK}
-      {gn : Nodes XN X XN XH XK XV} {last last' : ℕ} {k : Walk X XN XH XK XV g gh go gq gp gn} → last ≤ last' → w'.workers v ≡ w.workers v
+      {gn : Nodes XN X XN XH XK XV} {last last' : ℕ} {k : WorkerProgress X XN XH XK XV g gh go gq gp gn} → last ≤ last' → w'.workers v ≡ w.workers v
       → IsWalkKept w last v k → IsWalkKept w' last' v k
   walk-on more same k = first_of (grind (arith, common_steps, nat_tests), grind (arith, nat_tests, turn-on), search (rules, turn-on))
 
@@ -180,7 +206,7 @@ are-these w' kept' target same l = first_of (grind (arith, common_steps, nat_tes
 pub not-same : (q l : ℕ) → (q == l) ≡ false → q ≢ l
 not-same q l e is = let f : (q == l) ≡ true = ap (λ n. n == l) is ∙ self-number l in absurd (cc)
 
-pub at-one : {Y Z : Type 0} (f : Y → Z) {kept kept' : ℕ → Option Y} (l : ℕ) (x : Option Y) (new : Option Z) (old : ℕ → Option Z) → KeepsOne kept l x kept'
+pub at-one : {Y Z : Type 0} (f : Y → Z) {kept kept' : ℕ → Option Y} (l : ℕ) (x : Option Y) (new : Option Z) (old : ℕ → Option Z) → SetsOne kept l x kept'
     → option_map f x ≡ new → (q : ℕ)
     → option_map f (kept q) ≡ old q
     → option_map f (kept' q) ≡ updated l new old q
@@ -190,7 +216,7 @@ at-one f {kept} {kept'} l x new old k is q same = first_of (
   search (rules, same-number, not-same),
 )
 
-pub one-or-old : {Y : Type 0} {kept kept' : ℕ → Option Y} (l : ℕ) (x : Option Y) → KeepsOne kept l x kept' → (q : ℕ) (own : Y) → kept' q ≡ Some own
+pub one-or-old : {Y : Type 0} {kept kept' : ℕ → Option Y} (l : ℕ) (x : Option Y) → SetsOne kept l x kept' → (q : ℕ) (own : Y) → kept' q ≡ Some own
     → ((q ≢ l) × (kept q ≡ Some own)) ⊎ ((q ≡ l) × (x ≡ Some own))
 one-or-old {kept = kept} {kept'} l x k q own is = first_of (
   grind (arith, common_steps, nat_tests),
@@ -216,7 +242,7 @@ module _ {w : Core} {kept : Kept} (all : AllKept w kept) {me : Owner} {works : �
   pub kept-on : {kept' : Kept} → ((l : ℕ) (own : Own) → kept' l ≡ Some own → (kept l ≡ Some own) ⊎ IsKept w' l own) → AllKept w' kept'
   kept-on anew l own is = elim (anew l own is) [ inl was ↦ still-kept l own (all l own was) | inr new ↦ new ]
 
-  pub kept-one : {kept' : Kept} (l : ℕ) (x : Option Own) → KeepsOne kept l x kept' → ((own : Own) → x ≡ Some own → IsKept w' l own) → AllKept w' kept'
+  pub kept-one : {kept' : Kept} (l : ℕ) (x : Option Own) → SetsOne kept l x kept' → ((own : Own) → x ≡ Some own → IsKept w' l own) → AllKept w' kept'
   kept-one l x keeps new = kept-on (λ q own is. elim (one-or-old l x keeps q own is)
       [ inl there ↦ inl there.1 | inr (here, same) ↦ inr (subst (λ n. IsKept w' n own) (sym here) (new own same)) ])
 
@@ -270,7 +296,7 @@ makes-with m s s' {h} {h'} formed event reply happens moves holds writes now =
 -- of one worker this is kept from now on
 pub one-serves : {X XN XH XK XV : Type 0} {g : Environments X XN XH XK XV} {gh : Hashes XH} {go : Orders XK} {gq : Equalities XK} {gp : PartialOrders XK}
     {gn : Nodes XN X XN XH XK XV} {w w' : Core} {h h' : Holding g gh go gq gp gn} → IsServing w h → HandlesAreWhole w
-    → (v : ℕ) (k : Walk X XN XH XK XV g gh go gq gp gn) → KeepsOne h.walks v (Some k) h'.walks
+    → (v : ℕ) (k : WorkerProgress X XN XH XK XV g gh go gq gp gn) → SetsOne h.walks v (Some k) h'.walks
     → length h.tables ≤ length h'.tables → AllKept w' h'.readings → ((q : ℕ) → q ≢ v → Passes q w w') → ((q : ℕ) → q ≢ v → w'.workers q ≡ w.workers q)
     → IsWalkKept w' (length h'.tables) v k
     → IsServing w' h'
@@ -360,7 +386,7 @@ nothing-done s was = record { step = still s.core; moves = record { each = λ n 
 module _ {X XN XH XK XV : Type 0} {g : Environments X XN XH XK XV} {gh : Hashes XH} {go : Orders XK} {gq : Equalities XK} {gp : PartialOrders XK}
     {gn : Nodes XN X XN XH XK XV} where
   -- those that are kept are kept as before, beside no fewer tables
-  pub stay-on : {tables tables' : List (LentTable X XN XH XK XV g gh go gq gp gn)} {walks walks' : ℕ → Option (Walk X XN XH XK XV g gh go gq gp gn)}
+  pub stay-on : {tables tables' : List (LentTable X XN XH XK XV g gh go gq gp gn)} {walks walks' : ℕ → Option (WorkerProgress X XN XH XK XV g gh go gq gp gn)}
       → AllOnTables tables walks → ((v : ℕ) → walks' v ≡ walks v) → length tables ≤ length tables' → AllOnTables tables' walks'
   stay-on all same more = record {
     each = λ v k is.
@@ -370,8 +396,9 @@ module _ {X XN XH XK XV : Type 0} {g : Environments X XN XH XK XV} {gh : Hashes 
   }
 
   -- and one is kept anew
-  pub one-on : {tables tables' : List (LentTable X XN XH XK XV g gh go gq gp gn)} {walks walks' : ℕ → Option (Walk X XN XH XK XV g gh go gq gp gn)}
-      → AllOnTables tables walks → (n : ℕ) (new : Walk X XN XH XK XV g gh go gq gp gn) → KeepsOne walks n (Some new) walks' → length tables' ≡ length tables
+  pub one-on : {tables tables' : List (LentTable X XN XH XK XV g gh go gq gp gn)} {walks walks' : ℕ → Option (WorkerProgress X XN XH XK XV g gh go gq gp gn)}
+      → AllOnTables tables walks → (n : ℕ) (new : WorkerProgress X XN XH XK XV g gh go gq gp gn) → SetsOne walks n (Some new) walks'
+      → length tables' ≡ length tables
       → IsOnTable (length tables') new → AllOnTables tables' walks'
   one-on {tables} {tables'} all n new keeps len on = record {
     each = λ v k is. elim (one-or-old n (Some new) keeps v k is) [
@@ -386,21 +413,22 @@ module _ {X XN XH XK XV : Type 0} {g : Environments X XN XH XK XV} {gh : Hashes 
 
 -- what a machine over a pager does, made of both
 pub record Served {X XN XH XK XV : Type 0} {g : Environments X XN XH XK XV} {gh : Hashes XH} {go : Orders XK} {gq : Equalities XK} {gp : PartialOrders XK}
-    {gn : Nodes XN X XN XH XK XV} {N S E : Type 0} (v : Values N) (tells : Telling S) (old : PagerView N S E) (held : Held X XN XH XK XV g gh go gq gp gn)
+    {gn : Nodes XN X XN XH XK XV} {N S E : Type 0} (v : Values N) (tells : Telling S) (old : PagerView N S E)
+    (held : LoadsAndWorkers X XN XH XK XV g gh go gq gp gn)
     (event : Given N)
-    (reply : Answer N) (new : PagerView N S E) (held' : Held X XN XH XK XV g gh go gq gp gn) : Type 0 where
+    (reply : Answer N) (new : PagerView N S E) (held' : LoadsAndWorkers X XN XH XK XV g gh go gq gp gn) : Type 0 where
   pub made : Makes (plainly v) (pager_state tells old) (holding held) (plain_event event) (plain_answer reply) (pager_state tells new) (holding held')
 
 pub as-made : {X XN XH XK XV : Type 0} {g : Environments X XN XH XK XV} {gh : Hashes XH} {go : Orders XK} {gq : Equalities XK} {gp : PartialOrders XK}
     {gn : Nodes XN X XN XH XK XV} {N S E : Type 0} {v : Values N} {tells : Telling S} {old new : PagerView N S E}
-    {held held' : Held X XN XH XK XV g gh go gq gp gn} {event : Given N} {reply : Answer N}
+    {held held' : LoadsAndWorkers X XN XH XK XV g gh go gq gp gn} {event : Given N} {reply : Answer N}
     → Makes (plainly v) (pager_state tells old) (holding held) (plain_event event) (plain_answer reply) (pager_state tells new) (holding held')
     → Served v tells old held event reply new held'
 as-made makes = record { made = makes }
 
 module _ {X XN XH XK XV : Type 0} {g : Environments X XN XH XK XV} {gh : Hashes XH} {go : Orders XK} {gq : Equalities XK} {gp : PartialOrders XK}
     {gn : Nodes XN X XN XH XK XV} {N S E : Type 0} {honest : S → Bool} {v : Values N} {tells : Telling S} {old new : PagerView N S E}
-    {held held' : Held X XN XH XK XV g gh go gq gp gn}
+    {held held' : LoadsAndWorkers X XN XH XK XV g gh go gq gp gn}
     {event : Given N} {reply : Answer N} (was : HeldFitsPager honest tells old held) where
   -- a machine over a pager does what is made of both, as long as the storage is honest
   pub drives : (IsTrue (honest new.storage) → IsTrue (honest old.storage)) → AllOnTables held'.tables.items (kept_at held'.walks)

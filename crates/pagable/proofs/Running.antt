@@ -1,22 +1,55 @@
 -- A worker's step, and the table that it changes. And a run continues by one more event, and the headline holds of it after whatever was before.
-use Rattle.{pagable.proofs.Keeping.{Leaves, are-these, as-before, at-one, end-leaves, event-passes, kept-on, leaves-so, makes-with, not-same, one-serves, works_after}, std.specs.Prelude.slice_get}
-use Rattle.{pagable.specs.Driving.{Answer, Drives, plain_answer, plain_event, plain_moved, plainly, readings_in, shelf_at, table_view, view_of, walking_of}, std.specs.Map.lookup}
-use Rattle.pagable.specs.Driving.{Given, Holding, HeldFitsPager, IsServing, IsWalkKept, KeepsOne, MachineView, Makes, Runs, WalksOn, claims_at, claims_of, holding, machine_in, machine_of}
-use Rattle.{pagable.specs.declared.workers.{Held.Held, Walk.Walk}, pagable_core.specs.declared.{context.writing.SerializedData.SerializedData, storage.data.PagableData.PagableData}}
-use Rattle.{pagable_theorems.proofs.{Chains.headline_law, Effects.owned-mine, HandlesKept.updated-at, ReadingSteps.{FrontMine, walk-goes}, Trees.{chains_join, same-number}}, std.specs.Option.option_map}
-use Rattle.{pagable_value_spec.specs.declared.numbers.WorkerNumber.WorkerNumber, pagable_pager.specs.View.{PagerView, Telling, pager_state}, pagable_pageout.specs.{Slots.{is_same, slot_of}, Table.shelf_of}}
-use Rattle.pagable_pageout.specs.{Tasks.{EachIsAwaited, todo_of, todos}, Turns.{LeavesFit, Stepped, TaskFits, answer_in, plain, plain_took, plan}}
-use Rattle.{pagable_pageout.specs.declared.{lent_table.LentTable.LentTable, tasks.{Task.Task, Turn.Turn}}, pagable_pager_spec.specs.{Events.{Ends, Happens, WorkerSteps, no_shelf, steps_after}, Kinds.{is_owner, owner_worker}}}
-use Rattle.pagable_pager_spec.specs.{Pager.{MachineState, PagerState, TodoBrings, IsPagerWhole, world_of}, Basics.{if_there, updated}, Runs.{AreMoments, EventDoes, HasRun, Moment, state_after}}
-use Rattle.pagable_pager_spec.specs.{Workers.{WorkerState, answer_after, is_counted}, World.{Core, SameShelf, Seen, Shelf, Todo, Values, Written}, declared.events.{Event.Event, EventReply.EventReply, Action.Action}}
-use Rattle.{pagable_pager_spec.specs.declared.events.{WorkerAnswer.WorkerAnswer, WorkerReply.WorkerReply}, std.proofs.Common.{Bool, List, None, Ok, Option, Some, [], ap, arith, false, if◌then◌else◌, inl}}
-use Rattle.std.proofs.{Common.{inr, length, map, refl, rules, subst, suc, sym, true, zero, ℕ, ◌++◌, ◌==◌, ◌∙◌, ◌∷◌, ◌≡◌, ◌≢◌, ◌≤◌}, Math.{ListN.set, Path.fun_ext}, lemmas.Bool.Decides.nat_tests}
-use Rattle.std.proofs.lemmas.{Grind.common_steps, List.{append-nil, append_assoc, get_or-set_other, get_or-set_same, length-map, length-set, map-append, nil_from_length}, Map.Made.lookup-map_values}
-use Rattle.std.proofs.lemmas.Option.{slice_get-map, slice_get_cases, slice_get_past, slice_get_read, slice_get_within}
-use Rattle.std.specs.{Prelude.{IsTrue, is_none, is_some, nat_eq}, declared.{alloc.Global.Global, sync.Arc.Arc}}
-use Rattle.pagable_pager_spec.specs.Workers as workers
+use Rattle.pagable.proofs.{
+  Keeping.{Leaves, are-these, as-before, at-one, end-leaves, event-passes, kept-on, leaves-so, makes-with, not-same, one-serves, works_after},
+}
+use Rattle.pagable.specs.{
+  Driving.{Answer, Drives, Given, HeldFitsPager, Holding, IsServing, IsWalkKept, MachineView, Makes, Runs, SetsOne, WalksOn, claims_at, claims_of, holding},
+  Driving.{machine_in, machine_of, plain_answer, plain_event, plain_moved, plainly, readings_in, shelf_at, table_view, view_of, walking_of},
+  declared.workers.{LoadsAndWorkers.LoadsAndWorkers, WorkerProgress.WorkerProgress},
+}
 use Rattle.pagable_codec.specs.declared.{env.Env.Ghosts as Environments, hash.KeyHash.Ghosts as Hashes, nodes.NodeSet.Ghosts as Nodes}
-use Rattle.std.specs.declared.cmp.{Ord.Ghosts as Orders, PartialEq.Ghosts as Equalities, PartialOrd.Ghosts as PartialOrders}
+use Rattle.pagable_core.specs.declared.{context.writing.SerializedData.SerializedData, storage.data.PagableData.PagableData}
+use Rattle.pagable_pageout.specs.{
+  Slots.{is_same, slot_of},
+  Table.shelf_of,
+  Tasks.{EachIsAwaited, todo_of, todos},
+  Turns.{LeavesFit, Stepped, TaskFits, answer_in, plain, plain_took, todos_after},
+  declared.{lent_table.LentTable.LentTable, tasks.{Task.Task, Turn.Turn}},
+}
+use Rattle.pagable_pager.specs.View.{PagerView, Telling, pager_state}
+use Rattle.pagable_pager_spec.specs.{
+  Basics.{if_there, updated},
+  Events.{Ends, Happens, WorkerSteps, no_shelf, steps_after},
+  Kinds.{is_owner, owner_worker},
+  Pager.{IsPagerWhole, MachineState, PagerState, TodoBrings, world_of},
+  Runs.{AreMoments, EventDoes, HasRun, Moment, state_after},
+  Workers.{WorkerState, answer_after, is_counted},
+  World.{Core, SameShelf, Seen, Shelf, Todo, Values, Written},
+  declared.events.{Action.Action, Event.Event, EventReply.EventReply, WorkerAnswer.WorkerAnswer, WorkerReply.WorkerReply},
+}
+use Rattle.pagable_theorems.proofs.{
+  Chains.headline_law,
+  Effects.owned-mine,
+  EventEffects.{FrontMine, walk-goes},
+  HandlesKept.updated-at,
+  Trees.{chains_join, same-number},
+}
+use Rattle.pagable_value_spec.specs.declared.numbers.WorkerNumber.{WorkerNumber}
+use Rattle.std.proofs.{
+  Common.{Bool, List, None, Ok, Option, Some, ap, arith, false, if◌then◌else◌, inl, inr, length, map, refl, rules, subst, suc, sym, true, zero, ℕ, [], ◌++◌},
+  Common.{◌==◌, ◌∙◌, ◌∷◌, ◌≡◌, ◌≢◌, ◌≤◌},
+  Math.{ListN.set, Path.fun_ext},
+  lemmas.{Bool.Decides.nat_tests, Grind.common_steps},
+  lemmas.{List.{append-nil, append_assoc, get_or-set_other, get_or-set_same, length-map, length-set, map-append, nil_from_length}, Map.Made.lookup-map_values},
+  lemmas.Option.{slice_get-map, slice_get_cases, slice_get_past, slice_get_read, slice_get_within},
+}
+use Rattle.std.specs.{
+  Map.lookup,
+  Option.option_map,
+  Prelude.{IsTrue, is_none, is_some, nat_eq, slice_get},
+  declared.{alloc.Global.Global, cmp.{Ord.Ghosts as Orders, PartialEq.Ghosts as Equalities, PartialOrd.Ghosts as PartialOrders}, sync.Arc.Arc},
+}
+use Rattle.pagable_pager_spec.specs.Workers as workers
 
 -- ---- a table of a list is written in its place
 
@@ -63,11 +96,12 @@ works-others answer n q works other = grind (arith, nat_tests, same-number)
 
 module _ {X XN XH XK XV : Type 0} {g : Environments X XN XH XK XV} {gh : Hashes XH} {go : Orders XK} {gq : Equalities XK} {gp : PartialOrders XK}
     {gn : Nodes XN X XN XH XK XV} {N E : Type 0} (v : Values N) (s s' : PagerState N E)
-    (h : Holding g gh go gq gp gn) {tables' : List (LentTable X XN XH XK XV g gh go gq gp gn)} {walks' : ℕ → Option (Walk X XN XH XK XV g gh go gq gp gn)}
+    (h : Holding g gh go gq gp gn) {tables' : List (LentTable X XN XH XK XV g gh go gq gp gn)}
+    {walks' : ℕ → Option (WorkerProgress X XN XH XK XV g gh go gq gp gn)}
     (serving : IsServing s.core h)
-    (was : IsPagerWhole v s) (n : WorkerNumber) (k k' : Walk X XN XH XK XV g gh go gq gp gn) (kept : h.walks n.0 ≡ Some k)
+    (was : IsPagerWhole v s) (n : WorkerNumber) (k k' : WorkerProgress X XN XH XK XV g gh go gq gp gn) (kept : h.walks n.0 ≡ Some k)
     (reply : WorkerReply (Arc SerializedData Global)) (on : WalksOn v n.0 h.tables k s reply tables' k' s')
-    (keeps : KeepsOne h.walks n.0 (Some k') walks') where
+    (keeps : SetsOne h.walks n.0 (Some k') walks') where
   abbrev after : Holding g gh go gq gp gn
   after = record h { tables = tables'; walks = walks' }
 
@@ -92,7 +126,7 @@ module _ {X XN XH XK XV : Type 0} {g : Environments X XN XH XK XV} {gh : Hashes 
   fits : TaskFits n.0 s.core on.task
   fits = subst (λ t. LeavesFit n.0 s.core t) on.had mine.fits
 
-  done : Stepped v n.0 (shelf_of on.table) todo s (shelf_of on.table') on.moved (plan turn k'.path.items) s'
+  done : Stepped v n.0 (shelf_of on.table) todo s (shelf_of on.table') on.moved (todos_after turn k'.path.items) s'
   done = on.steps.steps (record { me_is = refl; whole = was; task_fits = fits })
 
   ends : Ends (answer_in turn) n.0 done.does.after.core s'.core
@@ -104,8 +138,8 @@ module _ {X XN XH XK XV : Type 0} {g : Environments X XN XH XK XV} {gh : Hashes 
       end-leaves (answer_in turn) n.0 (leaves-so goes.does (front-mine n.0 s.core on.task (todos k.path.items) fits)) ends
 
   -- its list and table are those that the machine knows
-  todo-is : plan k.turn k.path.items ≡ todo
-  todo-is = ap (λ t. plan t k.path.items) on.had
+  todo-is : todos_after k.turn k.path.items ≡ todo
+  todo-is = ap (λ t. todos_after t k.path.items) on.had
 
   len : length tables' ≡ length h.tables
   len = ap length on.sets ∙ length-set h.tables on.place on.table'
@@ -145,7 +179,7 @@ module _ {X XN XH XK XV : Type 0} {g : Environments X XN XH XK XV} {gh : Hashes 
       record {
         stands = record {
           table = rw (on.after.table, len) mine.stands.table;
-          way = subst (λ t. EachIsAwaited (plan t k'.path.items)) (sym on.after.turn) on.way;
+          way = subst (λ t. EachIsAwaited (todos_after t k'.path.items)) (sym on.after.turn) on.way;
         };
         at_work = grind (arith, nat_tests, at_work, leaves, updated-at);
         fits = subst (λ t. LeavesFit n.0 s'.core t) (sym on.after.turn) done.fits;
@@ -192,7 +226,7 @@ module _ {X XN XH XK XV : Type 0} {g : Environments X XN XH XK XV} {gh : Hashes 
       by None = refl
       by (Some t) = claims-are t
 
-  module _ {N S E : Type 0} (tells : Telling S) (p : PagerView N S E) (h : Held X XN XH XK XV g gh go gq gp gn) where
+  module _ {N S E : Type 0} (tells : Telling S) (p : PagerView N S E) (h : LoadsAndWorkers X XN XH XK XV g gh go gq gp gn) where
     -- the machine by what it keeps
     abbrev pub raw_in : MachineState N E
     raw_in = machine_of (pager_state tells p) (holding h)
@@ -223,7 +257,8 @@ module _ {N E B W : Type 0} (m : Seen N B W) where
 module _ {N S E : Type 0} {X XN XH XK XV : Type 0} {g : Environments X XN XH XK XV} {gh : Hashes XH} {go : Orders XK} {gq : Equalities XK}
     {gp : PartialOrders XK} {gn : Nodes XN X XN XH XK XV} (honest : S → Bool) (tells : Telling S) (v : E → Values N) (old : MachineView N S E) where
   -- the events so far have happened, as long as the storage is honest, and the others are left
-  pub record SoFar (all rest : List (Given N)) (replies : List (Answer N)) (p : PagerView N S E) (h : Held X XN XH XK XV g gh go gq gp gn) : Type 0 where
+  pub record SoFar (all rest : List (Given N)) (replies : List (Answer N)) (p : PagerView N S E)
+      (h : LoadsAndWorkers X XN XH XK XV g gh go gq gp gn) : Type 0 where
     pub done : List (Given N)
     pub left : done ++ rest ≡ all
     pub run : IsTrue (honest p.storage) → HasRun (plainly (v old.pager.environment)) (machine_in tells old) (map plain_event done) (map plain_answer replies)
@@ -232,7 +267,8 @@ module _ {N S E : Type 0} {X XN XH XK XV : Type 0} {g : Environments X XN XH XK 
     pub faithful : IsTrue (honest p.storage) → IsTrue (honest old.pager.storage)
     pub in_step : HeldFitsPager honest tells p h
 
-  pub at-first : (all : List (Given N)) (p : PagerView N S E) (h : Held X XN XH XK XV g gh go gq gp gn) → old ≡ view_of p h → HeldFitsPager honest tells p h
+  pub at-first : (all : List (Given N)) (p : PagerView N S E) (h : LoadsAndWorkers X XN XH XK XV g gh go gq gp gn) → old ≡ view_of p h
+      → HeldFitsPager honest tells p h
       → SoFar all all [] p h
   unfolding state_after
   at-first all p h is in_step = record {
@@ -246,7 +282,7 @@ module _ {N S E : Type 0} {X XN XH XK XV : Type 0} {g : Environments X XN XH XK 
   }
 
   pub one-more : (all rest : List (Given N)) (event : Given N) (replies : List (Answer N)) (reply : Answer N) (p q : PagerView N S E)
-      (h h' : Held X XN XH XK XV g gh go gq gp gn)
+      (h h' : LoadsAndWorkers X XN XH XK XV g gh go gq gp gn)
       → SoFar all (event ∷ rest) replies p h → Drives honest (v p.environment) tells p h event reply q h' → SoFar all rest (replies ++ reply ∷ []) q h'
   one-more all rest event replies reply p q h h' so made =
       record {
@@ -263,7 +299,7 @@ module _ {N S E : Type 0} {X XN XH XK XV : Type 0} {g : Environments X XN XH XK 
         in_step = record { on_tables = made.on_tables; serving = λ is. (made.makes is).serving };
       }
 
-  pub all-ran : (all rest : List (Given N)) (replies : List (Answer N)) (p : PagerView N S E) (h : Held X XN XH XK XV g gh go gq gp gn)
+  pub all-ran : (all rest : List (Given N)) (replies : List (Answer N)) (p : PagerView N S E) (h : LoadsAndWorkers X XN XH XK XV g gh go gq gp gn)
       → length rest ≡ 0 → SoFar all rest replies p h → IsTrue (honest p.storage) → Runs (v old.pager.environment) tells old all replies (view_of p h)
   all-ran all rest replies p h none so is_true =
       let is : so.done ≡ all = sym (append-nil so.done) ∙ ap (λ xs. so.done ++ xs) (sym (nil_from_length rest none)) ∙ so.left in

@@ -1,11 +1,19 @@
 -- Calls on one cell that consist of a few calls of the pager.
+use Rattle.either.specs.declared.Either.{Either}
+use Rattle.pagable_pager.specs.View.{AddsNoValue, Calls, ChangesOnlyTables, PagerView, Telling, pager_core, pager_state}
+use Rattle.pagable_pager_spec.specs.{
+  Access.PinsOver,
+  Basics.{Error, HandleNumber, Kind},
+  Calls.{Asked, CloneCall, InsertCall, InsertPagedOutCall, RecallCall, ReleaseCall, UnpinCall},
+  Pager.{IsNewNode, Moves, ValueCall},
+  World.{Core, Values},
+  declared.{handle_row.Owner.Owner, mode.Mode.Mode},
+}
+use Rattle.pagable_value_spec.specs.Stored.{RefusesFetch}
 use Rattle.std.specs.Prelude.{Bool, Err, IfErr, IfOk, None, Ok, Option, Result, Some, is_some, ℕ, ◌≡◌}
-use Rattle.{either.specs.declared.Either.Either, pagable_value_spec.specs.Stored.RefusesFetch, pagable_pager.specs.View.{Calls, OnlyLess, OnlyTables, PagerView, Telling, pager_core, pager_state}}
-use Rattle.pagable_pager_spec.specs.{Access.PinsOver, Calls.{Asked, InsertPagedOutCall, InsertCall, CloneCall, RecallCall, ReleaseCall, UnpinCall}, Pager.{IsNewNode, Moves, ValueCall}}
-use Rattle.pagable_pager_spec.specs.{Basics.{Error, HandleNumber, Kind}, World.{Core, Values}, declared.{handle_row.Owner.Owner, mode.Mode.Mode}}
 
 -- the storage was asked whether it has a blob under the key
-pub record AsksWhether (w : Core) (key : ℕ) (r : Result Bool Error) (w' : Core) : Type 0 where
+pub record AsksWhetherStored (w : Core) (key : ℕ) (r : Result Bool Error) (w' : Core) : Type 0 where
   pub asked : Asked w w'
   pub told : IfOk r (λ b. is_some (w.stored key) ≡ b)
   pub refused : IfErr r (RefusesFetch key (w.stored key) w.failures w'.failures)
@@ -21,13 +29,13 @@ module _ {N S E : Type 0} (tells : Telling S) where
     pub storage : new.storage ≡ old.storage
 
   abbrev pub Unpins : PagerView N S E → HandleNumber → Result (Unit {0}) Error → PagerView N S E → Type 0
-  Unpins old h told new = Calls OnlyLess tells old (λ w w'. UnpinCall w Owner.Caller h told w') new
+  Unpins old h told new = Calls AddsNoValue tells old (λ w w'. UnpinCall w Owner.Caller h told w') new
 
   abbrev pub Releases : PagerView N S E → HandleNumber → Result (Unit {0}) Error → PagerView N S E → Type 0
-  Releases old h told new = Calls OnlyLess tells old (λ w w'. ReleaseCall w Owner.Caller h told w') new
+  Releases old h told new = Calls AddsNoValue tells old (λ w w'. ReleaseCall w Owner.Caller h told w') new
 
   abbrev pub Recalls : PagerView N S E → Kind → ℕ → Result (Option HandleNumber) Error → PagerView N S E → Type 0
-  Recalls old kind key r new = Calls OnlyTables tells old (λ w w'. RecallCall w Owner.Caller kind key r w') new
+  Recalls old kind key r new = Calls ChangesOnlyTables tells old (λ w w'. RecallCall w Owner.Caller kind key r w') new
 
   abbrev pub Pins : (E → Values N) → PagerView N S E → HandleNumber → Result (HandleNumber × N) Error → PagerView N S E
       → Type 0
@@ -56,18 +64,18 @@ module _ {N S E : Type 0} (tells : Telling S) where
         → OpensCell old number t key (Ok h) new
     cell-is-new : (kind : Kind) (r : Result HandleNumber Error) (mid new : PagerView N S E) → kind.0 ≡ number
         → Recalls old kind key (Ok None) mid
-        → Calls OnlyTables tells mid (λ w w'. InsertPagedOutCall w Owner.Caller t key r w') new
+        → Calls ChangesOnlyTables tells mid (λ w w'. InsertPagedOutCall w Owner.Caller t key r w') new
         → OpensCell old number t key r new
 
   -- a clone of the handle is pinned, and released
   pub data Follows (says : E → Values N) (old : PagerView N S E) (h : HandleNumber) : Result (HandleNumber × N) Error
       → PagerView N S E → Type 0 where
     clone-is-refused : (e : Error) (new : PagerView N S E)
-        → Calls OnlyTables tells old (λ w w'. CloneCall w Owner.Caller h (Err e) w') new
+        → Calls ChangesOnlyTables tells old (λ w w'. CloneCall w Owner.Caller h (Err e) w') new
         → Follows says old h (Err e) new
     clone-is-pinned : (c : HandleNumber) (told : Result (Unit {0}) Error) (r : Result (HandleNumber × N) Error)
         (mid low new : PagerView N S E)
-        → Calls OnlyTables tells old (λ w w'. CloneCall w Owner.Caller h (Ok c) w') mid → Pins says mid c r low
+        → Calls ChangesOnlyTables tells old (λ w w'. CloneCall w Owner.Caller h (Ok c) w') mid → Pins says mid c r low
         → Releases low c told new
         → Follows says old h r new
 

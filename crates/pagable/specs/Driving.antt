@@ -1,24 +1,60 @@
 -- A machine's loads, tables and workers as the definitions know them, and when they agree with its pager; what its
 -- calls, events and runs do.
-use Rattle.std.specs.{Arc.arc_value, HashMap.{HashMap, get}, Map.lookup, Option.option_map, Prelude.{Bool, List, None, Option, Some, is_none, is_some, length, map, nat_eq, set, slice_get, suc}}
-use Rattle.std.specs.{Prelude.{IsTrue, true, zero, ℕ, ◌++◌, ◌<◌, ◌≡◌, ◌≢◌, ◌≤◌, ◌⊎◌}, declared.{alloc.Global.Global, hash.{BuildHasherDefault.BuildHasherDefault, FoldHasher.FoldHasher}, sync.Arc.Arc}}
-use Rattle.{pagable.specs.declared.workers.{Begun.Begun, Held.Held, Walk.Walk}, pagable_core.specs.Data.blob_of, pagable_load.specs.{Frames.{IsLoadOf, is_cell, reading_of}, LoadSteps.IsSameLoad}}
-use Rattle.{pagable_core.specs.declared.{context.writing.SerializedData.SerializedData, storage.data.PagableData.PagableData}, pagable_pager_spec.specs.declared.handle_row.Owner.Owner}
-use Rattle.{pagable_load.specs.declared.reading.Reading.Reading as Own, pagable_value_spec.specs.declared.numbers.LoadNumber.LoadNumber, pagable_pager.specs.View.{PagerView, Telling, pager_core, pager_state}}
-use Rattle.pagable_pageout.specs.{Slots.{is_same, slot_of, written_of}, Table.shelf_of, Tasks.{IsPlain, EachIsAwaited, todos}, Turns.{LeavesFit, StepsTo, answer_in, plain_took, plan}}
-use Rattle.pagable_pageout.specs.declared.{lent_table.LentTable.LentTable, tasks.{StepResult.StepResult, Task.Task, Turn.Turn}}
-use Rattle.pagable_pager_spec.specs.{Access.ReadingStep, declared.events.{Event.Event, EventReply.EventReply, LoadAnswer.LoadAnswer, LoadReply.LoadReply, TableNumber.TableNumber, WorkerReply.WorkerReply}}
-use Rattle.pagable_pager_spec.specs.{Events.{CallStep, new_walking, no_shelf, steps_after}, Theorem.Headline, Kinds.{identity_of, owner_worker}}
-use Rattle.pagable_pager_spec.specs.Pager.{CallBrings, FitsRoot, IsIdle, IsMachineWhole, MachineState}
-use Rattle.pagable_pager_spec.specs.{Pager.{Moves, PagerState}, Basics.{Identity, if_there}, Runs.{AreMoments, EventDoes, HasRun, Moment, state_after}, Workers.fresh, World.{Core, OpenLoad, Seen}}
-use Rattle.pagable_pager_spec.specs.{World.{Reading, Shelf, Slot, Values, Walking, Work, Written, of_entry, of_item, one_more, result_map}, declared.calls.{Call.Call, Found.Found, Reply.Reply}}
+use Rattle.pagable.specs.declared.{
+  workers.{LoadsAndWorkers.LoadsAndWorkers, PageOutTarget.PageOutTarget, WorkerProgress.WorkerProgress},
+}
+use Rattle.pagable_codec.specs.{
+  declared.{env.Env.Ghosts as Environments, hash.KeyHash.Ghosts as Hashes, nodes.NodeSet.Ghosts as Nodes},
+}
+use Rattle.pagable_core.specs.{
+  Data.blob_of,
+  declared.{context.writing.SerializedData.SerializedData, storage.data.PagableData.PagableData},
+}
+use Rattle.pagable_load.specs.{
+  Frames.{IsLoadOf, is_cell, reading_of},
+  LoadSteps.IsSameLoad,
+  declared.reading.Reading.Reading as Own,
+}
+use Rattle.pagable_pageout.specs.{
+  Slots.{is_same, slot_of, written_of},
+  Table.shelf_of,
+  Tasks.{EachIsAwaited, NeedsNoPager, todos},
+  Turns.{LeavesFit, PerformsStep, answer_in, plain_took, todos_after},
+  declared.{lent_table.LentTable.LentTable, tasks.{StepResult.StepResult, Task.Task, Turn.Turn}},
+}
+use Rattle.pagable_pager.specs.View.{PagerView, Telling, pager_core, pager_state}
+use Rattle.pagable_pager_spec.specs.{
+  Access.ReadingStep,
+  Basics.{Identity, if_there},
+  Events.{CallStep, new_walking, no_shelf, steps_after},
+  Kinds.{identity_of, owner_worker},
+  Pager.{CallBrings, FitsRoot, IsIdle, IsMachineWhole, MachineState, Moves, PagerState},
+  Runs.{AreMoments, EventDoes, HasRun, Moment, state_after},
+  Theorem.Headline,
+  Workers.fresh,
+  World.{Core, OpenLoad, Reading, Seen, Shelf, Slot, Values, Walking, Work, Written, of_entry, of_item, one_more},
+  World.result_map,
+  declared.calls.{Call.Call, Found.Found, Reply.Reply},
+  declared.events.{Event.Event, EventReply.EventReply, LoadAnswer.LoadAnswer, LoadReply.LoadReply},
+  declared.{events.{TableNumber.TableNumber, WorkerReply.WorkerReply}, handle_row.Owner.Owner},
+}
+use Rattle.pagable_value_spec.specs.declared.numbers.LoadNumber.{LoadNumber}
+use Rattle.std.specs.{
+  Arc.arc_value,
+  HashMap.{HashMap, get},
+  Map.lookup,
+  Option.option_map,
+  Prelude.{Bool, IsTrue, List, None, Option, Some, is_none, is_some, length, map, nat_eq, set, slice_get, suc, true},
+  Prelude.{zero, ℕ, ◌++◌, ◌<◌, ◌≡◌, ◌≢◌, ◌≤◌, ◌⊎◌},
+  declared.alloc.Global.Global,
+  declared.cmp.{Ord.Ghosts as Orders, PartialEq.Ghosts as Equalities, PartialOrd.Ghosts as PartialOrders},
+  declared.{hash.{BuildHasherDefault.BuildHasherDefault, FoldHasher.FoldHasher}, sync.Arc.Arc},
+}
 use Rattle.pagable_pager_spec.specs.World as world
-use Rattle.pagable_codec.specs.declared.{env.Env.Ghosts as Environments, hash.KeyHash.Ghosts as Hashes, nodes.NodeSet.Ghosts as Nodes}
-use Rattle.std.specs.declared.cmp.{Ord.Ghosts as Orders, PartialEq.Ghosts as Equalities, PartialOrd.Ghosts as PartialOrders}
 
-abbrev pub task_of : Begun → world.Task
-task_of (Begun.Item item) = of_item (written_of (arc_value item))
-task_of (Begun.Entry r) = of_entry r.handle (identity_of r)
+abbrev pub task_of : PageOutTarget → world.Task
+task_of (PageOutTarget.Item item) = of_item (written_of (arc_value item))
+task_of (PageOutTarget.Entry r) = of_entry r.handle (identity_of r)
 
 module _ {X XN XH XK XV : Type 0} {g : Environments X XN XH XK XV} {gh : Hashes XH} {go : Orders XK}
     {gq : Equalities XK} {gp : PartialOrders XK} {gn : Nodes XN X XN XH XK XV} where
@@ -27,35 +63,37 @@ module _ {X XN XH XK XV : Type 0} {g : Environments X XN XH XK XV} {gh : Hashes 
   shelf_at tables zero = no_shelf
   shelf_at tables (suc t) = if_there shelf_of no_shelf (slice_get tables t)
 
-  abbrev pub walking_of : Walk X XN XH XK XV g gh go gq gp gn → Walking
+  abbrev pub walking_of : WorkerProgress X XN XH XK XV g gh go gq gp gn → Walking
   walking_of k = record {
     table = k.table;
     task = task_of k.begun;
-    todo = plan k.turn k.path.items;
+    todo = todos_after k.turn k.path.items;
     steps = k.steps;
     answer = answer_in k.turn;
   }
 
   -- Its table exists, and its list of tasks is in order.
-  pub record IsOnTable (last : ℕ) (k : Walk X XN XH XK XV g gh go gq gp gn) : Type 0 where
+  pub record IsOnTable (last : ℕ) (k : WorkerProgress X XN XH XK XV g gh go gq gp gn) : Type 0 where
     pub table : (0 < k.table) × (k.table ≤ last)
-    pub way : EachIsAwaited (plan k.turn k.path.items)
+    pub way : EachIsAwaited (todos_after k.turn k.path.items)
 
   -- It is on its table, it is running until it has answered, and its task fits.
-  pub record IsWalkKept (w : Core) (last v : ℕ) (k : Walk X XN XH XK XV g gh go gq gp gn) : Type 0 where
+  pub record IsWalkKept (w : Core) (last v : ℕ) (k : WorkerProgress X XN XH XK XV g gh go gq gp gn) : Type 0 where
     pub stands : IsOnTable last k
     pub at_work : w.workers v ≡ is_none (answer_in k.turn)
     pub fits : LeavesFit v w k.turn
 
   -- a worker that has just begun on this table
-  pub record IsBegun (t : TableNumber) (task : world.Task) (k : Walk X XN XH XK XV g gh go gq gp gn) : Type 0 where
+  pub record IsBegun (t : TableNumber) (task : world.Task)
+      (k : WorkerProgress X XN XH XK XV g gh go gq gp gn) : Type 0 where
     pub walking : walking_of k ≡ new_walking t task
-    pub way : EachIsAwaited (plan k.turn k.path.items)
-    pub plain : (x : Task X XN XH XK XV g gh go gq gp gn) → k.turn ≡ Turn.Goes x → IsPlain x
+    pub way : EachIsAwaited (todos_after k.turn k.path.items)
+    pub plain : (x : Task X XN XH XK XV g gh go gq gp gn) → k.turn ≡ Turn.Goes x → NeedsNoPager x
 
   -- the worker after a step
-  pub record IsAfter (k : Walk X XN XH XK XV g gh go gq gp gn) (moved : StepResult X XN XH XK XV g gh go gq gp gn)
-      (k' : Walk X XN XH XK XV g gh go gq gp gn) : Type 0 where
+  pub record IsAfter (k : WorkerProgress X XN XH XK XV g gh go gq gp gn)
+      (moved : StepResult X XN XH XK XV g gh go gq gp gn)
+      (k' : WorkerProgress X XN XH XK XV g gh go gq gp gn) : Type 0 where
     pub table : k'.table ≡ k.table
     pub begun : k'.begun ≡ k.begun
     pub steps : k'.steps ≡ steps_after k.steps moved.counted
@@ -63,8 +101,9 @@ module _ {X XN XH XK XV : Type 0} {g : Environments X XN XH XK XV} {gh : Hashes 
 
   -- A worker that hasn't answered makes a step on its table.
   pub record WalksOn {N E : Type 0} (v : Values N) (n : ℕ) (tables : List (LentTable X XN XH XK XV g gh go gq gp gn))
-      (k : Walk X XN XH XK XV g gh go gq gp gn) (s : PagerState N E) (reply : WorkerReply (Arc SerializedData Global))
-      (tables' : List (LentTable X XN XH XK XV g gh go gq gp gn)) (k' : Walk X XN XH XK XV g gh go gq gp gn)
+      (k : WorkerProgress X XN XH XK XV g gh go gq gp gn) (s : PagerState N E)
+      (reply : WorkerReply (Arc SerializedData Global))
+      (tables' : List (LentTable X XN XH XK XV g gh go gq gp gn)) (k' : WorkerProgress X XN XH XK XV g gh go gq gp gn)
       (s' : PagerState N E) : Type 0 where
     pub task : Task X XN XH XK XV g gh go gq gp gn
     pub table : LentTable X XN XH XK XV g gh go gq gp gn
@@ -75,18 +114,18 @@ module _ {X XN XH XK XV : Type 0} {g : Environments X XN XH XK XV} {gh : Hashes 
     pub on : k.table ≡ suc place
     pub there : slice_get tables place ≡ Some table
     pub sets : tables' ≡ set tables place table'
-    pub steps : StepsTo v (owner_worker n) n (shelf_of table) task (todos k.path.items) (shelf_of table') moved
-        (plan moved.turn k'.path.items) s s'
-    pub way : EachIsAwaited (plan moved.turn k'.path.items)
+    pub steps : PerformsStep v (owner_worker n) n (shelf_of table) task (todos k.path.items) (shelf_of table') moved
+        (todos_after moved.turn k'.path.items) s s'
+    pub way : EachIsAwaited (todos_after moved.turn k'.path.items)
     pub after : IsAfter k moved k'
     pub replies : reply ≡ record { action = moved.action; answer = answer_in moved.turn; steps = k'.steps }
 
   -- a table has this number
-  abbrev pub IsIn : ℕ → List (LentTable X XN XH XK XV g gh go gq gp gn) → Type 0
-  IsIn t tables = (0 < t) × (t ≤ length tables)
+  abbrev pub IsTableNumber : ℕ → List (LentTable X XN XH XK XV g gh go gq gp gn) → Type 0
+  IsTableNumber t tables = (0 < t) × (t ≤ length tables)
 
   -- whether there is no worker, or it has answered
-  abbrev pub is_done : Option (Walk X XN XH XK XV g gh go gq gp gn) → Bool
+  abbrev pub is_done : Option (WorkerProgress X XN XH XK XV g gh go gq gp gn) → Bool
   is_done found = if_there (λ (walking : Walking). is_some walking.answer) true (option_map walking_of found)
 
 -- ---- when a machine agrees with its pager, and what one event does to both
@@ -100,7 +139,7 @@ pub record Holding {X XN XH XK XV : Type 0} (g : Environments X XN XH XK XV) (gh
     (gq : Equalities XK) (gp : PartialOrders XK) (gn : Nodes XN X XN XH XK XV) : Type 0 where
   pub readings : Kept
   pub tables : List (LentTable X XN XH XK XV g gh go gq gp gn)
-  pub walks : ℕ → Option (Walk X XN XH XK XV g gh go gq gp gn)
+  pub walks : ℕ → Option (WorkerProgress X XN XH XK XV g gh go gq gp gn)
 
 -- a load that is open and that the machine keeps
 abbrev pub readings_in : Kept → Core → ℕ → Option Reading
@@ -140,13 +179,14 @@ module _ {X XN XH XK XV : Type 0} {g : Environments X XN XH XK XV} {gh : Hashes 
     {gq : Equalities XK} {gp : PartialOrders XK} {gn : Nodes XN X XN XH XK XV} where
   -- each worker is on its table, whatever the storage answered
   pub record AllOnTables (tables : List (LentTable X XN XH XK XV g gh go gq gp gn))
-      (walks : ℕ → Option (Walk X XN XH XK XV g gh go gq gp gn)) : Type 0 where
-    pub each : (v : ℕ) (k : Walk X XN XH XK XV g gh go gq gp gn) → walks v ≡ Some k → IsOnTable (length tables) k
+      (walks : ℕ → Option (WorkerProgress X XN XH XK XV g gh go gq gp gn)) : Type 0 where
+    pub each : (v : ℕ) (k : WorkerProgress X XN XH XK XV g gh go gq gp gn) → walks v ≡ Some k
+        → IsOnTable (length tables) k
 
   -- what holds of a machine after each event, beside what holds of its pager, as long as its storage is honest
   pub record IsServing (w : Core) (h : Holding g gh go gq gp gn) : Type 0 where
     pub readings : AllKept w h.readings
-    pub walks : (v : ℕ) (k : Walk X XN XH XK XV g gh go gq gp gn) → h.walks v ≡ Some k
+    pub walks : (v : ℕ) (k : WorkerProgress X XN XH XK XV g gh go gq gp gn) → h.walks v ≡ Some k
         → IsWalkKept w (length h.tables) v k
     pub each_walks : (v : ℕ) → w.workers v ≡ true → is_some (h.walks v) ≡ true
 
@@ -163,7 +203,7 @@ pub record Forgets (w : Core) (kept kept' : Kept) : Type 0 where
   pub only : (l : ℕ) (own : Own) → kept' l ≡ Some own → kept l ≡ Some own
 
 -- this is kept of this number, and what is kept of others is unchanged
-pub record KeepsOne {Y : Type 0} (kept : ℕ → Option Y) (l : ℕ) (own : Option Y) (kept' : ℕ → Option Y) : Type 0 where
+pub record SetsOne {Y : Type 0} (kept : ℕ → Option Y) (l : ℕ) (own : Option Y) (kept' : ℕ → Option Y) : Type 0 where
   pub here : kept' l ≡ own
   pub others : (q : ℕ) → q ≢ l → kept' q ≡ kept q
 
@@ -179,7 +219,7 @@ pub record IsPrepared (kept : Kept) (l : LoadNumber) (key : ℕ) (t : Option ℕ
   pub others : (q : ℕ) → q ≢ l.0 → kept' q ≡ kept q
 
 -- A load made a step, which is counted.
-pub record Stepped {N E : Type 0} (v : Values N) (me : Owner) (own : Own) (reply : LoadReply N) (new : Own)
+pub record StepsLoad {N E : Type 0} (v : Values N) (me : Owner) (own : Own) (reply : LoadReply N) (new : Own)
     (s s' : PagerState N E) : Type 0 where
   pub does : IsLoadOf s.core me own → ReadingStep v me (reading_of own) s reply.ended (reading_of new).frames s'
   pub same : IsSameLoad own new (one_more own.steps)
@@ -209,7 +249,7 @@ plain_reply (Reply.Pin r) = Reply.Pin r
 plain_reply (Reply.Done r) = Reply.Done r
 plain_reply (Reply.Count r) = Reply.Count r
 plain_reply (Reply.KeyFound r) = Reply.KeyFound r
-plain_reply (Reply.Away r) = Reply.Away r
+plain_reply (Reply.PagedOut r) = Reply.PagedOut r
 plain_reply (Reply.Node r) = Reply.Node r
 plain_reply (Reply.NodeType t) = Reply.NodeType t
 plain_reply (Reply.Length n) = Reply.Length n
@@ -304,7 +344,8 @@ module _ {X XN XH XK XV : Type 0} {g : Environments X XN XH XK XV} {gh : Hashes 
   abbrev pub table_view : LentTable X XN XH XK XV g gh go gq gp gn → TableView
   table_view t = record { slots = map (λ e. (e.0, slot_of e.1)) t.slots.entries; waits = t.waits.entries }
 
-  abbrev pub view_of : {N S E : Type 0} → PagerView N S E → Held X XN XH XK XV g gh go gq gp gn → MachineView N S E
+  abbrev pub view_of : {N S E : Type 0} → PagerView N S E → LoadsAndWorkers X XN XH XK XV g gh go gq gp gn
+      → MachineView N S E
   view_of p h = record {
     pager = p;
     readings = h.readings;
@@ -312,21 +353,22 @@ module _ {X XN XH XK XV : Type 0} {g : Environments X XN XH XK XV} {gh : Hashes 
     walks = map (λ e. (e.0, walking_of e.1)) h.walks.entries;
   }
 
-  abbrev pub holding : Held X XN XH XK XV g gh go gq gp gn → Holding g gh go gq gp gn
+  abbrev pub holding : LoadsAndWorkers X XN XH XK XV g gh go gq gp gn → Holding g gh go gq gp gn
   holding h = record { readings = kept_at h.readings; tables = h.tables.items; walks = kept_at h.walks }
 
 module _ {N S E : Type 0} {X XN XH XK XV : Type 0} {g : Environments X XN XH XK XV} {gh : Hashes XH} {go : Orders XK}
     {gq : Equalities XK} {gp : PartialOrders XK} {gn : Nodes XN X XN XH XK XV} where
   -- what holds of each machine: whatever its storage answered, and as long as that is honest
   pub record HeldFitsPager (is_honest : S → Bool) (tells : Telling S) (p : PagerView N S E)
-      (h : Held X XN XH XK XV g gh go gq gp gn) : Type 0 where
+      (h : LoadsAndWorkers X XN XH XK XV g gh go gq gp gn) : Type 0 where
     pub on_tables : AllOnTables h.tables.items (kept_at h.walks)
     pub serving : IsTrue (is_honest p.storage) → IsServing (pager_core tells p) (holding h)
 
   -- One event, as long as the storage is honest afterwards. A storage that is honest afterwards was honest before.
   pub record Drives (is_honest : S → Bool) (v : Values N) (tells : Telling S) (old : PagerView N S E)
-      (held : Held X XN XH XK XV g gh go gq gp gn) (event : Given N) (reply : Answer N) (new : PagerView N S E)
-      (held' : Held X XN XH XK XV g gh go gq gp gn) : Type 0 where
+      (held : LoadsAndWorkers X XN XH XK XV g gh go gq gp gn) (event : Given N) (reply : Answer N)
+      (new : PagerView N S E)
+      (held' : LoadsAndWorkers X XN XH XK XV g gh go gq gp gn) : Type 0 where
     pub makes : IsTrue (is_honest new.storage) → Makes (plainly v) (pager_state tells old) (holding held)
         (plain_event event) (plain_answer reply) (pager_state tells new) (holding held')
     pub honest : IsTrue (is_honest new.storage) → IsTrue (is_honest old.storage)

@@ -1,8 +1,15 @@
 -- Page-out of one cell: the calls that list a clone of its handle, and the page-out of that entry.
-use Rattle.std.specs.Prelude.{Err, None, Ok, Option, Result, Some, length, ℕ, ◌+◌, ◌≡◌}
-use Rattle.{pagable.specs.Cells.{Releases, Unpins}, pagable_pager.specs.View.{Calls, OnlyLess, OnlyTables, PagerView, Telling, pager_core, pager_state}}
+use Rattle.pagable.specs.Cells.{Releases, Unpins}
 use Rattle.pagable_pageout.specs.{PageOuts.PagesEntryIfThere, declared.tasks.PageOutError.PageOutError}
-use Rattle.pagable_pager_spec.specs.{Calls.{CloneCall, KeyCall, LoosenCall, ScheduleCall}, Pager.PagerState, Basics.{Error, HandleNumber, OptionalDataKey}, World.Values, declared.handle_row.Owner.Owner}
+use Rattle.pagable_pager.specs.View.{AddsNoValue, Calls, ChangesOnlyTables, PagerView, Telling, pager_core, pager_state}
+use Rattle.pagable_pager_spec.specs.{
+  Basics.{Error, HandleNumber, OptionalDataKey},
+  Calls.{CloneCall, KeyCall, LoosenCall, ScheduleCall},
+  Pager.PagerState,
+  World.Values,
+  declared.handle_row.Owner.Owner,
+}
+use Rattle.std.specs.Prelude.{Err, None, Ok, Option, Result, Some, length, ℕ, ◌+◌, ◌≡◌}
 
 -- the last entry of the list is paged out, if there is one
 pub data PagesLastEntry {N E : Type 0} (v : Values N) (s : PagerState N E) : Result (Option ℕ) PageOutError
@@ -21,17 +28,17 @@ pub data PagesLast {N E : Type 0} (v : Values N) (s : PagerState N E) : Result �
 
 module _ {N S E : Type 0} (tells : Telling S) where
   abbrev pub Clones : PagerView N S E → HandleNumber → Result HandleNumber Error → PagerView N S E → Type 0
-  Clones old h r new = Calls OnlyTables tells old (λ w w'. CloneCall w Owner.Caller h r w') new
+  Clones old h r new = Calls ChangesOnlyTables tells old (λ w w'. CloneCall w Owner.Caller h r w') new
 
   -- a clone of the handle; a Pinned clone is made loose
   pub record ClonesLoosely (old : PagerView N S E) (h c : HandleNumber) (new : PagerView N S E) : Type 0 where
     pub mid : PagerView N S E
     pub told : Result HandleNumber Error
     pub clones : Clones old h (Ok c) mid
-    pub loosens : Calls OnlyTables tells mid (λ w w'. LoosenCall w Owner.Caller c told w') new
+    pub loosens : Calls ChangesOnlyTables tells mid (λ w w'. LoosenCall w Owner.Caller c told w') new
 
   abbrev pub Schedules : PagerView N S E → HandleNumber → Result (Unit {0}) Error → PagerView N S E → Type 0
-  Schedules old h told new = Calls OnlyLess tells old (λ w w'. ScheduleCall w Owner.Caller h told w') new
+  Schedules old h told new = Calls AddsNoValue tells old (λ w w'. ScheduleCall w Owner.Caller h told w') new
 
   -- a clone of the handle is unpinned and listed; or it is released
   pub data ListsClone (old : PagerView N S E) (h : HandleNumber) : Result (Unit {0}) Error → PagerView N S E

@@ -1,7 +1,13 @@
 -- Page-outs over a lent pager, and reads of a key as a value of one of the caller's types.
+use Rattle.pagable_pageout.specs.{PageOuts.seen_as_failure, Turns.plain, declared.tasks.PageOutError.PageOutError}
+use Rattle.pagable_pager_spec.specs.{
+  Access.{AllHaveResults, ListRun, PagesOutItemOver, ReadsOver},
+  Pager.PagerState,
+  World.{Shelf, Values, Written},
+  declared.events.WorkerAnswer.WorkerAnswer,
+}
+use Rattle.pagable_value_spec.specs.declared.error.Error.{Error}
 use Rattle.std.specs.Prelude.{Err, None, Ok, Option, Result, Some, length, ℕ, ◌≡◌, ◌⊎◌}
-use Rattle.{pagable_value_spec.specs.declared.error.Error.Error, pagable_pageout.specs.{PageOuts.seen_as_failure, Turns.plain, declared.tasks.PageOutError.PageOutError}}
-use Rattle.pagable_pager_spec.specs.{Access.{AllHaveResults, ListRun, PagesOutItemOver, ReadsOver}, Pager.PagerState, World.{Shelf, Values, Written}, declared.events.WorkerAnswer.WorkerAnswer}
 use Rattle.pagable_value_spec.specs.declared.error.Error.TheVariants as errors
 
 -- an item's page-out, on a table of which each claim has a result
@@ -16,8 +22,8 @@ pub record PagesOutList {N E : Type 0} (v : Values N) (s : PagerState N E) (answ
   pub run : ListRun (plain v) (length s.core.list) s (seen_as_failure answer) s'
 
 -- one of the worker's own steps failed
-abbrev pub IsRefusal : PageOutError → Type 0
-IsRefusal why = (e : Error) × (why ≡ PageOutError.Failed e)
+abbrev pub IsFailed : PageOutError → Type 0
+IsFailed why = (e : Error) × (why ≡ PageOutError.Failed e)
 
 -- A read of the key, and the value that its node holds. If no value can be taken out of the node, for lack of memory or
 -- since it holds none, the node is returned.

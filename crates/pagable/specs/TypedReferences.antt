@@ -1,9 +1,14 @@
 -- Typed references of handles, and why a handle has none.
+use Rattle.pagable_pager_spec.specs.{
+  Basics.{ArcRef, Error, HandleNumber, NodeNumber},
+  Pager.{PagerState, ValueCall},
+  World.{Core, row_at, type_at},
+  declared.handle_row.HandleRow.HandleRow,
+}
 use Rattle.std.specs.Prelude.{None, Ok, Option, Some, ℕ, ◌≡◌, ◌≢◌, ◌⊎◌}
-use Rattle.pagable_pager_spec.specs.{Pager.{PagerState, ValueCall}, Basics.{ArcRef, Error, HandleNumber, NodeNumber}, World.{Core, row_at, type_at}, declared.handle_row.HandleRow.HandleRow}
 
 -- the handle is live, and its node is this one and of this type
-pub record IsAt (w : Core) (h : HandleNumber) (t : ℕ) (node : NodeNumber) : Type 0 where
+pub record IsNodeOfType (w : Core) (h : HandleNumber) (t : ℕ) (node : NodeNumber) : Type 0 where
   pub row : HandleRow
   pub live : row_at w h ≡ Some row
   pub at : node ≡ row.node
@@ -11,7 +16,7 @@ pub record IsAt (w : Core) (h : HandleNumber) (t : ℕ) (node : NodeNumber) : Ty
 
 -- the reference, of the kind of this number, names the handle with its node, which is of this type
 pub record Refers (w : Core) (h : HandleNumber) (t number : ℕ) (r : ArcRef) : Type 0 where
-  pub at : IsAt w h t r.node
+  pub at : IsNodeOfType w h t r.node
   pub handle : r.handle ≡ h
   pub kind : r.kind.0 ≡ number
 

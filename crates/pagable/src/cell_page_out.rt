@@ -1,8 +1,10 @@
 //! Page-out of one cell of a lent pager.
 
-ghost use Rattle.std.specs.Prelude.{IsTrue, ◌≡◌};
-ghost use Rattle.{pagable.specs.PageOuts.{ListsClone, PagesLast, PagesLastEntry, PagesOutCell, PagesOutClone}, pagable_load.specs.AccessView.values_at, pagable_pager.specs.View.{pager_state, storage_view}};
+ghost use Rattle.pagable.specs.PageOuts.{ListsClone, PagesLast, PagesLastEntry, PagesOutCell, PagesOutClone};
+ghost use Rattle.pagable_load.specs.AccessView.{values_at};
 ghost use Rattle.pagable_pageout.specs.PageOuts.{PagesEntryIfThere};
+ghost use Rattle.pagable_pager.specs.View.{pager_state, storage_view};
+ghost use Rattle.std.specs.Prelude.{IsTrue, ◌≡◌};
 ghost use Rattle.pagable_pager_spec.specs.declared.handle_row.Owner.TheVariants as owners;
 
 use pagable_codec::{Env, NodeSet};
@@ -12,7 +14,7 @@ use pagable_pager::{Lent, Pager};
 use pagable_value_spec::{DataKey, Error, HandleNumber, OptionalDataKey};
 use std::alloc::Global;
 
-fn entry_by<'a, E: Env<Node: NodeSet<E>>, S: PagableStorage<E>>(
+fn page_out_entry_lent<'a, E: Env<Node: NodeSet<E>>, S: PagableStorage<E>>(
     lent: &mut Lent<'a, E, S>,
     alloc: Global,
     place: usize,
@@ -31,7 +33,7 @@ fn entry_by<'a, E: Env<Node: NodeSet<E>>, S: PagableStorage<E>>(
 
 // Pages out the cell of the last entry of the page-out list, and returns the cell's key. Returns
 // None if the list is empty, as it is after `close`.
-fn last_entry<E: Env<Node: NodeSet<E>>, S: PagableStorage<E>>(
+fn page_out_last_if_there<E: Env<Node: NodeSet<E>>, S: PagableStorage<E>>(
     alloc: Global,
     pager: &mut Pager<E, S>,
 ) -> Result<Option<DataKey>, PageOutError>
@@ -46,12 +48,12 @@ fn last_entry<E: Env<Node: NodeSet<E>>, S: PagableStorage<E>>(
         return Ok(None);
     }
     let mut lent = Lent::new(pager);
-    entry_by(&mut lent, alloc, pending - 1)
+    page_out_entry_lent(&mut lent, alloc, pending - 1)
 }
 
 // Pages out the cell of the last entry of the page-out list, and returns the cell's key. Fails with
 // Closed if the list is empty.
-fn last_key<E: Env<Node: NodeSet<E>>, S: PagableStorage<E>>(
+fn page_out_last<E: Env<Node: NodeSet<E>>, S: PagableStorage<E>>(
     alloc: Global,
     pager: &mut Pager<E, S>,
 ) -> Result<DataKey, PageOutError>
@@ -61,7 +63,7 @@ fn last_key<E: Env<Node: NodeSet<E>>, S: PagableStorage<E>>(
         (pager_state (storage_view S.PagableStorage) pager.new) }
     ensures honest { IsTrue (S.is_honest pager.new.storage) → IsTrue (S.is_honest pager.old.storage) }
 {
-    match last_entry(alloc, pager) {
+    match page_out_last_if_there(alloc, pager) {
         Ok(Some(key)) => Ok(key),
         Ok(None) => Err(PageOutError::Failed(Error::Closed)),
         Err(why) => Err(why),
@@ -106,7 +108,7 @@ fn page_out_clone<E: Env<Node: NodeSet<E>>, S: PagableStorage<E>>(
     ensures honest { IsTrue (S.is_honest pager.new.storage) → IsTrue (S.is_honest pager.old.storage) }
 {
     match list_clone(pager, handle) {
-        Ok(()) => last_key(alloc, pager),
+        Ok(()) => page_out_last(alloc, pager),
         Err(e) => Err(PageOutError::Failed(e)),
     }
 }
@@ -119,7 +121,7 @@ fn page_out_clone<E: Env<Node: NodeSet<E>>, S: PagableStorage<E>>(
 ///
 /// - `Failed` with `NoSuchHandle` if the handle isn't live, `WrongMode` if it is Shared, or
 ///   `Closed` after `close`.
-/// - As `page_out_pending` at this cell, which may wait in the list then.
+/// - The errors of `page_out_pending` for this cell, which may then wait in the page-out list.
 pub fn page_out<E: Env<Node: NodeSet<E>>, S: PagableStorage<E>>(
     alloc: Global,
     pager: &mut Pager<E, S>,

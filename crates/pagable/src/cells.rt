@@ -1,10 +1,12 @@
 //! Calls on one cell of a lent pager, each of a few calls of the pager.
 
-ghost use Rattle.std.specs.{Arc.arc_value, Fn.FnOnceReturnsAt, Prelude.{IfErr, IsTrue, None}};
-ghost use Rattle.{pagable.specs.Cells.{AsksWhether, Follows, InsertsCell, Looks, LooksByPin, OpensCell}, pagable_load.specs.AccessView.values_at};
-ghost use Rattle.{pagable_value_spec.specs.Stored.RefusesFetch, pagable_pager.specs.View.{AsksStorage, storage_view}};
-ghost use Rattle.pagable_traits.specs.References.{loose_kind};
+ghost use Rattle.pagable.specs.Cells.{AsksWhetherStored, Follows, InsertsCell, Looks, LooksByPin, OpensCell};
+ghost use Rattle.pagable_load.specs.AccessView.{values_at};
+ghost use Rattle.pagable_pager.specs.View.{AsksStorage, storage_view};
 ghost use Rattle.pagable_pager_spec.specs.World.{result_map};
+ghost use Rattle.pagable_traits.specs.References.{loose_kind};
+ghost use Rattle.pagable_value_spec.specs.Stored.{RefusesFetch};
+ghost use Rattle.std.specs.{Arc.arc_value, Fn.FnOnceReturnsAt, Prelude.{IfErr, IsTrue, None}};
 
 use crate::paging::pin;
 use either::Either;
@@ -74,7 +76,7 @@ pub fn contains<E: Env<Node: NodeSet<E>>, S: PagableStorage<E>>(
     key: DataKey,
 ) -> Result<bool, Error>
     ensures asks { AsksStorage S.is_honest (storage_view S.PagableStorage) pager.old
-        (λ w w'. AsksWhether w key result w') pager.new }
+        (λ w w'. AsksWhetherStored w key result w') pager.new }
     ensures refused { IfErr result (RefusesFetch key None (S.failed pager.old.storage) (S.failed pager.new.storage)) }
 {
     match pager.fetch(alloc, key).err() {

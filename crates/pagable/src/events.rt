@@ -1,13 +1,19 @@
-//! Runs one event of a machine: a call of the pager, or a step of a load or of a worker. Each is a
-//! step of the world that leaves the machine whole, as long as the storage is honest
-//! afterwards.
+//! Runs one event of a machine: a call of the pager, or a step of a load or of a worker. Each event
+//! does what the definitions say of it, as long as the storage is honest afterwards, and the
+//! machine's loads and workers then agree with its pager.
 
-ghost use Rattle.std.specs.{Arc.arc_value, Prelude.{IfErr, IsTrue, None, OnOk, false, is_none, true, ◌*◌, ◌≡◌}};
-ghost use Rattle.pagable.specs.Driving.{Drives, Forgets, HeldFitsPager, IsPrepared, KeepsOne, Serves, Stepped, kept_at, plain_found, rest_after};
-ghost use Rattle.{pagable_core.specs.Data.blob_of, pagable_load.specs.AccessView.values_at, pagable_pager.specs.View.{pager_core, from_cache_or_store, pager_state, storage_view}};
+ghost use Rattle.pagable.specs.{
+  Driving.{Drives, Forgets, HeldFitsPager, IsPrepared, Serves, SetsOne, StepsLoad, kept_at, plain_found, rest_after},
+};
+ghost use Rattle.pagable_core.specs.Data.{blob_of};
+ghost use Rattle.pagable_load.specs.AccessView.{values_at};
+ghost use Rattle.pagable_pager.specs.View.{from_cache_or_store, pager_core, pager_state, storage_view};
 ghost use Rattle.pagable_pager_spec.specs.{Events.given_of, World.result_map, declared.handle_row.Owner.Owner};
+ghost use Rattle.std.specs.{Arc.arc_value, Prelude.{IfErr, IsTrue, None, OnOk, false, is_none, true, ◌*◌, ◌≡◌}};
 
-use crate::workers::{Held, put, table_new, worker_item, worker_listed, worker_step};
+use crate::workers::{
+    LoadsAndWorkers, begin_entry_worker, begin_item_worker, make_table, put, step_worker,
+};
 use either::Either;
 use indexmap::IndexMap;
 use pagable_codec::{Env, NodeSet};
@@ -19,9 +25,12 @@ use pagable_value_spec::{DataKey, Error, HandleNumber, LoadNumber};
 use std::alloc::Global;
 use std::sync::Arc;
 
+// Turns the result of `Pager::load_fetch` into the result in a reply: a cached node's handle, or
+// the fetched blob.
 fn found(
     given: Result<Either<HandleNumber, Arc<PagableData>>, Error>,
 ) -> Result<Found<Arc<PagableData>>, Error>
+    // The result in the reply stands for the same handle, blob or error as the one that is given.
     ensures { result_map (given_of blob_of) (result_map plain_found result)
         ≡ result_map (from_cache_or_store (λ d. blob_of (arc_value d))) given }
 {
@@ -57,7 +66,7 @@ fn make_call<E: Env<Node: NodeSet<E>>, S: PagableStorage<E>>(
         Call::SetDataKey(handle, key) => Reply::Done(pager.set_data_key(handle, key)),
         Call::Count(handle) => Reply::Count(pager.count(handle)),
         Call::Key(handle) => Reply::KeyFound(pager.key(handle)),
-        Call::IsPagedOut(handle) => Reply::Away(pager.is_paged_out(handle)),
+        Call::IsPagedOut(handle) => Reply::PagedOut(pager.is_paged_out(handle)),
         Call::NodeOf(handle) => Reply::Node(pager.node_of(handle)),
         Call::NodeLive(node) => Reply::NodeType(pager.node_live(node)),
         Call::ScheduleForPaging(handle) => Reply::Done(pager.schedule_for_paging(handle)),
@@ -93,7 +102,7 @@ fn forget_if_ended<N: Drop>(
     load: u64,
     ended: &Option<LoadAnswer<N>>,
 )
-    ensures { KeepsOne (kept_at readings.old) load (rest_after ended.now (kept_at readings.old load))
+    ensures { SetsOne (kept_at readings.old) load (rest_after ended.now (kept_at readings.old load))
         (kept_at readings.new) }
 {
     if ended.is_some() {
@@ -101,8 +110,8 @@ fn forget_if_ended<N: Drop>(
     }
 }
 
-// Makes and keeps the progress of an open load of a cell, if none is kept yet, as at its first
-// step. Does nothing for a load of a key. Fails with OutOfMemory if there is no place for it.
+// Makes and keeps the progress of an open load of a cell, if none is kept yet, as before the load's
+// first step. Does nothing for a load of a key. Fails with OutOfMemory if it can't get memory.
 #[tactic(auto, using(crate::proofs::Driven::unprepared))]
 fn keep_reading(
     readings: &mut IndexMap<u64, Reading>,
@@ -113,7 +122,7 @@ fn keep_reading(
 ) -> Result<(), Error>
     ensures kept { IsPrepared (kept_at readings.old) load key cell_type (kept_at readings.new) }
     ensures placed { OnOk result (kept_at readings.new load.0 ≡ None → is_none cell_type ≡ true) }
-    ensures short { IfErr result (λ e. (e ≡ Error.OutOfMemory) × (kept_at readings.new load.0 ≡ None)
+    ensures refused { IfErr result (λ e. (e ≡ Error.OutOfMemory) × (kept_at readings.new load.0 ≡ None)
         × (is_none cell_type ≡ false)) }
 {
     if readings.get(&load.0).is_some() {
@@ -133,14 +142,14 @@ fn keep_reading(
 
 // Makes one step of a load over a lent pager. (The borrow checker accepts a lent struct where a
 // function asks for its own type, and not where it asks for any access.)
-fn step_by<'a, E: Env<Node: NodeSet<E>>, S: PagableStorage<E>>(
+fn step_lent<'a, E: Env<Node: NodeSet<E>>, S: PagableStorage<E>>(
     lent: &mut Lent<'a, E, S>,
     alloc: Global,
     own: &mut Reading,
 ) -> LoadReply<E::Node>
     requires { lent.old.me ≡ Owner.Caller }
     ensures step { IsTrue (S.is_honest lent.new.pager.now.storage)
-        → Stepped (values_at E.Node.NodeSet E.Env E.Hash.KeyHash lent.old.pager.now.environment) Owner.Caller own.old
+        → StepsLoad (values_at E.Node.NodeSet E.Env E.Hash.KeyHash lent.old.pager.now.environment) Owner.Caller own.old
         result own.new
         (pager_state (storage_view S.PagableStorage) lent.old.pager.now)
         (pager_state (storage_view S.PagableStorage) lent.new.pager.now) }
@@ -157,7 +166,7 @@ fn step_by<'a, E: Env<Node: NodeSet<E>>, S: PagableStorage<E>>(
 // key: then nothing changes, and no step is counted.
 fn load_step<E: Env<Node: NodeSet<E>>, S: PagableStorage<E>>(
     pager: &mut Pager<E, S>,
-    held: &mut Held<E>,
+    held: &mut LoadsAndWorkers<E>,
     alloc: Global,
     load: LoadNumber,
 ) -> Result<LoadReply<E::Node>, Error>
@@ -167,7 +176,7 @@ fn load_step<E: Env<Node: NodeSet<E>>, S: PagableStorage<E>>(
         pager.old held.old (Event.LoadStep load) (EventReply.LoadMoved result) pager.new held.new }
 {
     pager.assert_invariant();
-    let (key, cell_type) = pager.load_of(load)?;
+    let (key, cell_type) = pager.load_key_and_type(load)?;
     if let Err(e) = keep_reading(&mut held.readings, alloc, load, key, cell_type) {
         // There is no place for the load's progress, so the load is dropped: this is its only step.
         let _told = pager.load_drop(load);
@@ -182,12 +191,14 @@ fn load_step<E: Env<Node: NodeSet<E>>, S: PagableStorage<E>>(
         return Err(Error::WrongMode);
     };
     let mut lent = Lent::new(pager);
-    let reply = step_by(&mut lent, alloc, own);
+    let reply = step_lent(&mut lent, alloc, own);
     forget_if_ended(&mut held.readings, load.0, &reply.ended);
     Ok(reply)
 }
 
-fn closed_by<N: Drop>(call: &Call<N, PagableData>) -> Option<LoadNumber> {
+// Returns the load of a call that closes a load if it succeeds (LoadEnd, LoadTake, LoadDrop), and
+// None for any other call.
+fn load_closed_by<N: Drop>(call: &Call<N, PagableData>) -> Option<LoadNumber> {
     match call {
         Call::LoadEnd(load, _) | Call::LoadTake(load, _) | Call::LoadDrop(load) => Some(*load),
         _ => None,
@@ -195,7 +206,7 @@ fn closed_by<N: Drop>(call: &Call<N, PagableData>) -> Option<LoadNumber> {
 }
 
 // Drops the kept progress of a load that isn't open any more.
-fn forget<E: Env<Node: NodeSet<E>>, S: PagableStorage<E>>(
+fn forget_if_closed<E: Env<Node: NodeSet<E>>, S: PagableStorage<E>>(
     pager: &Pager<E, S>,
     readings: &mut IndexMap<u64, Reading>,
     load: Option<LoadNumber>,
@@ -206,14 +217,14 @@ fn forget<E: Env<Node: NodeSet<E>>, S: PagableStorage<E>>(
     let Some(load) = load else {
         return;
     };
-    if let Err(Error::NoSuchHandle) = pager.load_of(load) {
+    if let Err(Error::NoSuchHandle) = pager.load_key_and_type(load) {
         readings.swap_remove(&load.0);
     }
 }
 
 fn load_key<E: Env<Node: NodeSet<E>>, S: PagableStorage<E>>(
     pager: &mut Pager<E, S>,
-    held: &mut Held<E>,
+    held: &mut LoadsAndWorkers<E>,
     alloc: Global,
     key: DataKey,
     node_type: u32,
@@ -244,9 +255,9 @@ fn load_key<E: Env<Node: NodeSet<E>>, S: PagableStorage<E>>(
 }
 
 /// Runs the event, and returns its reply.
-pub fn serve<E: Env<Node: NodeSet<E>>, S: PagableStorage<E>>(
+pub fn run_event<E: Env<Node: NodeSet<E>>, S: PagableStorage<E>>(
     pager: &mut Pager<E, S>,
-    held: &mut Held<E>,
+    held: &mut LoadsAndWorkers<E>,
     alloc: Global,
     event: Event<E::Node, PagableData, SerializedData>,
 ) -> EventReply<E::Node, Arc<PagableData>, Arc<SerializedData>>
@@ -258,10 +269,10 @@ pub fn serve<E: Env<Node: NodeSet<E>>, S: PagableStorage<E>>(
     pager.assert_invariant();
     match event {
         Event::Call(call) => {
-            let closed = closed_by(&call);
+            let closed = load_closed_by(&call);
             let reply = make_call(pager, alloc, call);
             pager.assert_invariant();
-            forget(pager, &mut held.readings, closed);
+            forget_if_closed(pager, &mut held.readings, closed);
             EventReply::CallReply(reply)
         }
         // A load of a cell is kept from its first step on.
@@ -274,15 +285,15 @@ pub fn serve<E: Env<Node: NodeSet<E>>, S: PagableStorage<E>>(
             EventReply::Started(load_key(pager, held, alloc, key, node_type))
         }
         Event::LoadStep(load) => EventReply::LoadMoved(load_step(pager, held, alloc, load)),
-        Event::TableNew => EventReply::TableMade(table_new(pager, held, alloc)),
+        Event::TableNew => EventReply::TableMade(make_table(pager, held, alloc)),
         Event::WorkerItem(table, item) => {
-            EventReply::WorkerMade(worker_item(pager, held, alloc, table, item))
+            EventReply::WorkerMade(begin_item_worker(pager, held, alloc, table, item))
         }
         Event::WorkerListed(table, place) => {
-            EventReply::WorkerMade(worker_listed(pager, held, alloc, table, place))
+            EventReply::WorkerMade(begin_entry_worker(pager, held, alloc, table, place))
         }
         Event::WorkerStep(worker) => {
-            EventReply::WorkerMoved(worker_step(pager, held, alloc, worker))
+            EventReply::WorkerMoved(step_worker(pager, held, alloc, worker))
         }
     }
 }

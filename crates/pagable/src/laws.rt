@@ -1,8 +1,9 @@
 //! Laws of the definitions, for carried types and for blobs in memory, as contracts of functions
 //! that do nothing.
 
+ghost use Rattle.pagable_theorems.specs.FormLaws.{FormIsReadBack, IsPrefixFree};
+ghost use Rattle.pagable_traits.specs.ReadBack.{IsReadableThroughout};
 ghost use Rattle.std.specs.Prelude.{IsTrue};
-ghost use Rattle.{pagable_theorems.specs.FormLaws.{IsReadAgain, IsPrefixFree}, pagable_traits.specs.ReadBack.IsReadThroughout};
 
 use pagable_core::{InMemoryBlobs, PagableStorage};
 use pagable_traits::{Carried, Env};
@@ -14,8 +15,10 @@ use pagable_traits::{Carried, Env};
 /// encoding has the same meaning.
 #[tactic(auto, using(pagable_theorems::proofs::RoundTrip::read_again, pagable_theorems::proofs::RoundTrip::prefix_free))]
 pub fn forms_are_read_again<A, B, E: Env, T: Carried<E>>()
-    ensures again { (e : E) → IsReadThroughout (E.parts e) (T.shape e) → IsReadAgain A B (E.parts e) (T.shape e) }
-    ensures prefix_free { (e : E) → IsReadThroughout (E.parts e) (T.shape e) → IsPrefixFree A (E.parts e) (T.shape e) }
+    ensures again { (e : E) → IsReadableThroughout (E.parts e) (T.shape e)
+        → FormIsReadBack A B (E.parts e) (T.shape e) }
+    ensures prefix_free { (e : E) → IsReadableThroughout (E.parts e) (T.shape e)
+        → IsPrefixFree A (E.parts e) (T.shape e) }
 {}
 
 /// States that a storage in memory is always honest: no layer lies below it that could answer

@@ -54,8 +54,8 @@ pub mod pagable_arc {
     pub use pagable_pager::{ArcCell, DeserializedArcCache, Pager};
     pub use pagable_pager_spec::handle_row::Owner;
     pub use pagable_pager_spec::{
-        Action, Beginning, Call, Claim, Event, EventReply, Found, LoadAnswer, LoadReply, Mode,
-        PinStep, Pinning, Reply, TableNumber, Want, WorkerAnswer, WorkerReply,
+        Action, Beginning, Call, Claim, Event, EventReply, FetchTarget, Found, LoadAnswer,
+        LoadReply, Mode, PinStep, Pinning, Reply, TableNumber, WorkerAnswer, WorkerReply,
     };
     pub use pagable_traits::{
         Arc, FirstHandle, HoldingArc, NewPin, PagableArc, PinFuture, PinStage, PinnedPagableArc,
@@ -73,9 +73,11 @@ pub mod nodes {
     };
 }
 
-/// The parts of which a caller's own types make their encoding.
+/// The functions by which a caller's own types write and read counts and flags in their encoding.
 pub mod parts {
-    pub use pagable_codec::parts::{places_for, read_count, read_flag, write_count, write_flag};
+    pub use pagable_codec::parts::{
+        items_to_reserve, read_count, read_flag, write_count, write_flag,
+    };
 }
 
 /// Blobs, their keys, and storages.
@@ -104,9 +106,9 @@ pub mod storage {
         pub use pagable_core::SerializerForPaging;
     }
 
-    /// The trait of stores, and the setting that their values share; the accesses to a pager, lent
-    /// or behind a lock, and the calls over any of them; the tables of claims, and why a page-out
-    /// fails.
+    /// The traits of storages without and with named roots, and the `Setting` that all values over
+    /// a storage share; the accesses to a pager, lent or behind a lock, and the functions that pin,
+    /// read and page out by any of them; the tables of claims, and why a page-out fails.
     pub mod traits {
         pub use pagable_core::{PagableStorage, Roots, Setting};
         pub use pagable_load::{Access, WorkerAccess, pin_over, read_over};
@@ -136,7 +138,7 @@ pub mod traits {
 /// Tagged types, and the registries of their readers.
 pub mod typetag {
     pub use pagable_traits::{
-        ForTag, HasTypetagRegistry, PagableRegisteredFor, PagableTagged, TagReader,
+        HasOwnTag, HasTypetagRegistry, PagableRegisteredFor, PagableTagged, TagReader,
         TypetagRegistration, TypetagRegistry, deserialize_tagged,
     };
 }
@@ -154,7 +156,7 @@ pub use pagable_nodes::{
 };
 pub use pagable_traits::encoded_as::{DecodedAs, EncodedAs};
 pub use pagable_traits::{
-    Arc, ArcErase, ArcEraseType, Canonical, Carried, EagerlyCarried, Env, ForTag,
+    Arc, ArcErase, ArcEraseType, Canonical, Carried, EagerlyCarried, Env, HasOwnTag,
     HasStaticValueRegistry, HasTypetagRegistry, HoldingArc, InNode, KeyHash, NodeSet, OfNode,
     OneMeaning, Pagable, PagableArc, PagableBoxDeserialize, PagableDeserialize,
     PagableDeserializeOwned, PagableDeserializer, PagableEagerDeserialize, PagableEagerSerialize,
@@ -187,7 +189,7 @@ pub use pagable_pageout::{
 pub use pagable_pager::{ArcCell, DeserializedArcCache, Lent, Pager};
 pub use pagable_pager_spec::handle_row::Owner;
 pub use pagable_pager_spec::{
-    Action, Beginning, Call, Claim, Event, EventReply, Found, LoadAnswer, LoadReply, Mode, PinStep,
-    Pinning, Reply, TableNumber, Want, WorkerAnswer, WorkerReply,
+    Action, Beginning, Call, Claim, Event, EventReply, FetchTarget, Found, LoadAnswer, LoadReply,
+    Mode, PinStep, Pinning, Reply, TableNumber, WorkerAnswer, WorkerReply,
 };
 pub use pagable_traits::{FirstHandle, NewPin};

@@ -1,11 +1,14 @@
 //! A pager that runs lists of events.
 
-ghost use Rattle.std.specs.Prelude.{◌≡◌, IfOk, IfErr, IsTrue, OnErr};
-ghost use Rattle.{pagable_theorems.specs.{SmallWorlds.StartsWell, PageOutLaws.NobodyWorks}, pagable_load.specs.AccessView.values_at, pagable.specs.Driving.{Runs, machine_in}};
-ghost use Rattle.{pagable_pager.specs.View.{pager_core, pager_state, storage_view}, pagable_pager_spec.specs.Pager.{IsIdle, IsNew}};
+ghost use Rattle.pagable.specs.Driving.{Runs, machine_in};
+ghost use Rattle.pagable_load.specs.AccessView.{values_at};
+ghost use Rattle.pagable_pager.specs.View.{pager_core, pager_state, storage_view};
+ghost use Rattle.pagable_pager_spec.specs.Pager.{IsIdle, IsNew};
+ghost use Rattle.pagable_theorems.specs.{PageOutLaws.NobodyWorks, SmallWorlds.StartsWell};
+ghost use Rattle.std.specs.Prelude.{IfErr, IfOk, IsTrue, OnErr, ◌≡◌};
 
 use crate::events;
-use crate::workers::Held;
+use crate::workers::LoadsAndWorkers;
 use indexmap::IndexMap;
 use pagable_codec::{Env, NodeSet};
 use pagable_core::{PagableData, PagableStorage, SerializedData};
@@ -22,7 +25,7 @@ use std::sync::Arc;
 pub struct Machine<E: Env<Node: NodeSet<E>>, S: PagableStorage<E>> {
     pager: Pager<E, S>,
     // Its loads, tables and workers.
-    held: Held<E>,
+    held: LoadsAndWorkers<E>,
 }
 
 impl<E: Env<Node: NodeSet<E>>, S: PagableStorage<E>> Model for Machine<E, S> {
@@ -39,8 +42,9 @@ impl<E: Env<Node: NodeSet<E>>, S: PagableStorage<E>> Model for Machine<E, S> {
 }
 
 impl<E: Env<Node: NodeSet<E>>, S: PagableStorage<E>> Machine<E, S> {
-    /// Makes a machine over a pager for which no worker is running (`Pager::is_at_rest`): so it is
-    /// between any two calls, since a page-out by one call ends its workers. It takes no memory.
+    /// Makes a machine over a pager for which no worker is running (`Pager::is_at_rest`). None is
+    /// running between two calls, since a page-out by one call ends its workers. The call takes no
+    /// memory.
     pub fn new(alloc: Global, pager: Pager<E, S>) -> Machine<E, S>
         requires nobody { NobodyWorks (pager_core (storage_view S.PagableStorage) pager) }
         ensures pager { result.pager ≡ pager }
@@ -48,7 +52,7 @@ impl<E: Env<Node: NodeSet<E>>, S: PagableStorage<E>> Machine<E, S> {
     {
         Machine {
             pager,
-            held: Held {
+            held: LoadsAndWorkers {
                 readings: IndexMap::new(alloc),
                 tables: Vec::new(alloc),
                 walks: IndexMap::new(alloc),
@@ -57,7 +61,7 @@ impl<E: Env<Node: NodeSet<E>>, S: PagableStorage<E>> Machine<E, S> {
     }
 
     /// Makes a machine over a new pager, over a storage as it is. It takes no memory. Runs that
-    /// begin at it meet what the headline asks of their start.
+    /// begin at this machine meet what the main theorem (`Headline`) asks of their start.
     pub fn over(alloc: Global, storage: S, env: E) -> Machine<E, S>
         ensures empty { IsNew (pager_state (storage_view S.PagableStorage) result.pager) }
         ensures starts { StartsWell (values_at E.Node.NodeSet E.Env E.Hash.KeyHash env)
@@ -77,11 +81,12 @@ impl<E: Env<Node: NodeSet<E>>, S: PagableStorage<E>> Machine<E, S> {
 
     /// Runs the events in their order, and returns one reply for each.
     ///
-    /// Events, replies and machines are a run of the definitions, for which the headline holds,
-    /// together with the events that led from an idle machine to this one: each event is one step
-    /// that leaves the machine whole, and if the events meet what is asked of them, every node
-    /// keeps its tree and each pin gives it. This holds as long as no wrong answer of the storage
-    /// was taken as true (`PagableStorage::is_honest`), which is always so in memory.
+    /// The events and replies are a run of the definitions (`Runs`), and the main theorem
+    /// (`Headline`) holds of them, together with the events that led from an idle machine to this
+    /// one: each event is one step that keeps the machine's invariant (`IsMachineWhole`), and if
+    /// the events meet what is asked of them, every node keeps its tree, and each pin returns a
+    /// value that stands for its node's tree. All of it holds as long as no wrong answer of the
+    /// storage was taken as true (`PagableStorage::is_honest`), which is always so in memory.
     ///
     /// # Errors
     ///
@@ -107,7 +112,7 @@ impl<E: Env<Node: NodeSet<E>>, S: PagableStorage<E>> Machine<E, S> {
         };
         let mut rest = VecDeque::from_vec(events);
         while let Some(event) = rest.pop_front() {
-            let reply = events::serve(&mut self.pager, &mut self.held, alloc, event);
+            let reply = events::run_event(&mut self.pager, &mut self.held, alloc, event);
             replies.push_reserved(reply);
         }
         Ok(replies)

@@ -1,9 +1,12 @@
 //! Pins, reads and page-outs over a lent pager. Contracts tell what they do as long as the storage
 //! is honest afterwards.
 
+ghost use Rattle.pagable.specs.Paged.{IsFailed, PagesOutItem, PagesOutList, ReadsValue};
+ghost use Rattle.pagable_load.specs.AccessView.{values_at};
+ghost use Rattle.pagable_pageout.specs.{PageOuts.{PagesItem, PagesList, answer_of}, Slots.written_of, Table.shelf_of};
+ghost use Rattle.pagable_pager.specs.View.{pager_state, storage_view};
+ghost use Rattle.pagable_pager_spec.specs.Access.{ReadsOver};
 ghost use Rattle.std.specs.{Arc.arc_value, Prelude.{IfErr, IsTrue, ◌≡◌}};
-ghost use Rattle.{pagable.specs.Paged.{IsRefusal, PagesOutItem, PagesOutList, ReadsValue}, pagable_load.specs.AccessView.values_at, pagable_pager.specs.View.{pager_state, storage_view}};
-ghost use Rattle.{pagable_pageout.specs.{PageOuts.{answer_of, PagesItem, PagesList}, Slots.written_of, Table.shelf_of}, pagable_pager_spec.specs.Access.ReadsOver};
 ghost use Rattle.pagable_pager_spec.specs.declared.handle_row.Owner.TheVariants as owners;
 
 use pagable_codec::{Env, NodeSet, OfNode};
@@ -16,7 +19,7 @@ use pagable_value_spec::{DataKey, Error};
 use std::alloc::Global;
 use std::sync::Arc;
 
-fn read_by<'a, E: Env<Node: NodeSet<E>>, S: PagableStorage<E>>(
+fn read_lent<'a, E: Env<Node: NodeSet<E>>, S: PagableStorage<E>>(
     lent: &mut Lent<'a, E, S>,
     alloc: Global,
     key: DataKey,
@@ -53,7 +56,7 @@ pub fn read<E: Env<Node: NodeSet<E>>, S: PagableStorage<E>>(
     ensures honest { IsTrue (S.is_honest pager.new.storage) → IsTrue (S.is_honest pager.old.storage) }
 {
     let mut lent = Lent::new(pager);
-    read_by(&mut lent, alloc, key, node_type)
+    read_lent(&mut lent, alloc, key, node_type)
 }
 
 /// Reads a key as a value of the type T, as `read` does, and returns the value that its node holds.
@@ -85,7 +88,7 @@ pub fn deserialize_pagable_data<E: Env<Node: NodeSet<E>>, S: PagableStorage<E>, 
     }
 }
 
-fn page_out_item_by<'a, E: Env<Node: NodeSet<E>>, S: PagableStorage<E>>(
+fn page_out_item_lent<'a, E: Env<Node: NodeSet<E>>, S: PagableStorage<E>>(
     lent: &mut Lent<'a, E, S>,
     alloc: Global,
     table: &mut LentTable<E>,
@@ -128,10 +131,10 @@ pub fn page_out_item<E: Env<Node: NodeSet<E>>, S: PagableStorage<E>>(
 {
     pager.assert_invariant();
     let mut lent = Lent::new(pager);
-    page_out_item_by(&mut lent, alloc, table, item)
+    page_out_item_lent(&mut lent, alloc, table, item)
 }
 
-fn page_out_pending_by<'a, E: Env<Node: NodeSet<E>>, S: PagableStorage<E>>(
+fn page_out_pending_lent<'a, E: Env<Node: NodeSet<E>>, S: PagableStorage<E>>(
     lent: &mut Lent<'a, E, S>,
     alloc: Global,
 ) -> Result<(), PageOutError>
@@ -163,10 +166,10 @@ pub fn page_out_pending<E: Env<Node: NodeSet<E>>, S: PagableStorage<E>>(
         → PagesOutList (values_at E.Node.NodeSet E.Env E.Hash.KeyHash pager.old.environment)
         (pager_state (storage_view S.PagableStorage) pager.old)
         result (pager_state (storage_view S.PagableStorage) pager.new) }
-    ensures failed { IsTrue (S.is_honest pager.new.storage) → IfErr result IsRefusal }
+    ensures failed { IsTrue (S.is_honest pager.new.storage) → IfErr result IsFailed }
     ensures honest { IsTrue (S.is_honest pager.new.storage) → IsTrue (S.is_honest pager.old.storage) }
 {
     pager.assert_invariant();
     let mut lent = Lent::new(pager);
-    page_out_pending_by(&mut lent, alloc)
+    page_out_pending_lent(&mut lent, alloc)
 }

@@ -1,9 +1,10 @@
 //! Typed references made of a lent pager's handles, for values to hold: when such a value is
 //! inserted, it becomes the handle's owner.
 
+ghost use Rattle.pagable.specs.TypedReferences.{IsHeldBy, IsNodeOfType, Refers, RefusesHolding, RefusesReference};
+ghost use Rattle.pagable_pager.specs.View.{pager_core, pager_state, storage_view};
+ghost use Rattle.pagable_traits.specs.References.{holding_kind, holding_reference, loose_kind, loose_reference};
 ghost use Rattle.std.specs.{Arc.arc_value, Prelude.{IfErr, IfOk}};
-ghost use Rattle.{pagable.specs.TypedReferences.{IsAt, IsHeldBy, Refers, RefusesHolding, RefusesReference}, pagable_pager.specs.View.{pager_core, pager_state, storage_view}};
-ghost use Rattle.pagable_traits.specs.References.{holding, holding_kind, loose, loose_kind};
 
 use pagable_codec::{ArcRef, Env, NodeSet, OfNode};
 use pagable_core::PagableStorage;
@@ -19,7 +20,7 @@ fn node_of_type<E: Env<Node: NodeSet<E>>, S: PagableStorage<E>>(
     handle: HandleNumber,
     node_type: u32,
 ) -> Result<NodeNumber, Error>
-    ensures named { IfOk result (IsAt (pager_core (storage_view S.PagableStorage) pager.now) handle node_type) }
+    ensures named { IfOk result (IsNodeOfType (pager_core (storage_view S.PagableStorage) pager.now) handle node_type) }
     ensures refused { IfErr result (RefusesReference (pager_core (storage_view S.PagableStorage) pager.now) handle
         node_type) }
 {
@@ -30,8 +31,9 @@ fn node_of_type<E: Env<Node: NodeSet<E>>, S: PagableStorage<E>>(
     }
 }
 
-/// Makes a loose reference of a loose handle, for a value of another type to hold. It doesn't test
-/// that the handle is loose.
+/// Makes a loose reference from a loose handle of a cell whose value is of type `T`. A value of
+/// another type than `T` may hold it; a type that refers to itself holds a `RawRef`. The call
+/// doesn't test that the handle is loose.
 ///
 /// # Errors
 ///
@@ -42,7 +44,7 @@ pub fn loose<T: OfNode<E>, E: Env<Node: NodeSet<E>>, S: PagableStorage<E>>(
     handle: HandleNumber,
 ) -> Result<PagableArc<T>, Error>
     ensures named { IfOk result (λ a. Refers (pager_core (storage_view S.PagableStorage) pager.now) handle T.TYPE
-        (loose_kind T.TYPE) (loose T.TYPE a)) }
+        (loose_kind T.TYPE) (loose_reference T.TYPE a)) }
     ensures refused { IfErr result (RefusesReference (pager_core (storage_view S.PagableStorage) pager.now) handle
         T.TYPE) }
 {
@@ -70,7 +72,7 @@ pub fn holding<
     const PINS: bool,
 >(alloc: Global, pager: &Pager<E, S>, handle: HandleNumber) -> Result<HoldingArc<T, PINS>, Error>
     ensures named { IfOk result (λ a. Refers (pager_core (storage_view S.PagableStorage) pager.now) handle T.TYPE
-        (holding_kind T.TYPE PINS) (holding T.TYPE PINS a)) }
+        (holding_kind T.TYPE PINS) (holding_reference T.TYPE PINS a)) }
     ensures value { IfOk result (λ a. IsHeldBy (pager_state (storage_view S.PagableStorage) pager.now) handle T.held
         (arc_value a.value)) }
     ensures refused { IfErr result (RefusesHolding (pager_state (storage_view S.PagableStorage) pager.now) handle T.TYPE

@@ -1,10 +1,26 @@
 //! What a machine keeps beside its pager: progress of loads, tables and workers; and the events
 //! that make tables and workers and step workers.
 
-ghost use Rattle.std.specs.{HashMap.spare, Prelude.{◌≡◌, ◌<◌, ◌⊎◌, ℕ, Some, IfOk, IsTrue, IfErr, OnOk, false, true, ◌∷◌, length, is_some}};
-ghost use Rattle.{pagable.specs.Driving.{Drives, HeldFitsPager, KeepsOne, kept_at, IsBegun, IsIn, IsOnTable, WalksOn, is_done}, pagable_load.specs.AccessView.values_at};
-ghost use Rattle.{pagable_pager.specs.View.{pager_core, pager_state, storage_view}, pagable_pageout.specs.{Slots.written_of, Table.shelf_of, Tasks.{EachIsAwaited, todo_of, todos}, Turns.{StepsTo, answer_in, plan}}};
-ghost use Rattle.pagable_pager_spec.specs.{Kinds.{identity_of, owner_worker}, World.{of_entry, of_item}, declared.events.{Event.Event, EventReply.EventReply}};
+ghost use Rattle.pagable.specs.{
+  Driving.{Drives, HeldFitsPager, IsBegun, IsOnTable, IsTableNumber, SetsOne, WalksOn, is_done, kept_at},
+};
+ghost use Rattle.pagable_load.specs.AccessView.{values_at};
+ghost use Rattle.pagable_pageout.specs.{
+  Slots.written_of,
+  Table.shelf_of,
+  Tasks.{EachIsAwaited, todo_of, todos},
+  Turns.{PerformsStep, answer_in, todos_after},
+};
+ghost use Rattle.pagable_pager.specs.View.{pager_core, pager_state, storage_view};
+ghost use Rattle.pagable_pager_spec.specs.{
+  Kinds.{identity_of, owner_worker},
+  World.{of_entry, of_item},
+  declared.events.{Event.Event, EventReply.EventReply},
+};
+ghost use Rattle.std.specs.{
+  HashMap.spare,
+  Prelude.{IfErr, IfOk, IsTrue, OnOk, Some, false, is_some, length, true, ℕ, ◌<◌, ◌∷◌, ◌≡◌, ◌⊎◌},
+};
 
 use indexmap::IndexMap;
 use pagable_codec::{Env, NodeSet};
@@ -12,7 +28,7 @@ use pagable_core::{PagableStorage, SerializedData};
 use pagable_load::{Reading, WorkerAccess};
 use pagable_pageout::stack::{start_entry, start_item};
 use pagable_pageout::step::step;
-use pagable_pageout::{LentTable, StepResult, Task, Turn, Waiting};
+use pagable_pageout::{LentTable, StepResult, Task, Turn, WaitingValue};
 use pagable_pager::{Lent, Pager};
 use pagable_pager_spec::{TableNumber, WorkerAnswer, WorkerReply};
 use pagable_value_spec::{ArcRef, Error, WorkerNumber};
@@ -22,51 +38,51 @@ use std::sync::Arc;
 
 /// What a worker pages out.
 #[derive(Drop)]
-pub enum Begun {
+pub enum PageOutTarget {
     /// An item.
     Item(Arc<SerializedData>),
     /// An entry of the page-out list: a loose reference to its cell, by the entry's handle.
     Entry(ArcRef),
 }
 
-/// A worker: its table (counted from 1), what it pages out, how many steps it has made, its path,
-/// and its task or its answer.
+/// The state of a page-out worker: its table (counted from 1), what it pages out, how many steps it
+/// has made, the nodes that wait on its path, and its next task or its answer.
 #[derive(Drop)]
-pub struct Walk<E: Env<Node: NodeSet<E>>> {
+pub struct WorkerProgress<E: Env<Node: NodeSet<E>>> {
     pub table: u64,
-    pub begun: Begun,
+    pub begun: PageOutTarget,
     pub steps: u64,
-    pub path: Vec<Waiting<E>>,
+    pub path: Vec<WaitingValue<E>>,
     pub turn: Turn<E>,
 }
 
-/// The progress of loads by their numbers; the tables in the order in which they were made; and the
-/// workers by their numbers.
+/// What a machine keeps beside its pager: the progress of loads by their numbers; the workers'
+/// tables of claims, in the order in which they were made; and the workers by their numbers.
 #[derive(Drop)]
-pub struct Held<E: Env<Node: NodeSet<E>>> {
+pub struct LoadsAndWorkers<E: Env<Node: NodeSet<E>>> {
     pub readings: IndexMap<u64, Reading>,
     pub tables: Vec<LentTable<E>>,
-    pub walks: IndexMap<u64, Walk<E>>,
+    pub walks: IndexMap<u64, WorkerProgress<E>>,
 }
 
 /// Keeps a value under a number; the map has room for it.
 pub fn put<V: Drop>(kept: &mut IndexMap<u64, V>, number: u64, value: V)
     requires { 0 < spare kept.old }
-    ensures { KeepsOne (kept_at kept.old) number (Some value) (kept_at kept.new) }
+    ensures { SetsOne (kept_at kept.old) number (Some value) (kept_at kept.new) }
 {
     let Ok(_) = kept.insert(number, value) else {
         unreachable!();
     };
 }
 
-/// Makes a new table, under the next number.
+/// Makes a new table of claims for workers, under the next number.
 ///
 /// # Errors
 ///
 /// - `OutOfMemory` if it can't get memory: nothing changes.
-pub fn table_new<E: Env<Node: NodeSet<E>>, S: PagableStorage<E>>(
+pub fn make_table<E: Env<Node: NodeSet<E>>, S: PagableStorage<E>>(
     pager: &Pager<E, S>,
-    held: &mut Held<E>,
+    held: &mut LoadsAndWorkers<E>,
     alloc: Global,
 ) -> Result<TableNumber, Error>
     requires { HeldFitsPager S.is_honest (storage_view S.PagableStorage) pager.now held.old }
@@ -80,19 +96,19 @@ pub fn table_new<E: Env<Node: NodeSet<E>>, S: PagableStorage<E>>(
     Ok(TableNumber(held.tables.len() as u64))
 }
 
-// Makes room for one more worker on a table. Fails with NoSuchHandle if there is no such table, and
-// with OutOfMemory.
-fn ready<E: Env<Node: NodeSet<E>>>(
-    walks: &mut IndexMap<u64, Walk<E>>,
+// Makes room for one more worker, after a test that its table exists. Fails with NoSuchHandle if
+// there is no such table, and with OutOfMemory.
+fn make_room_for_worker<E: Env<Node: NodeSet<E>>>(
+    walks: &mut IndexMap<u64, WorkerProgress<E>>,
     tables: &Vec<LentTable<E>>,
     table: TableNumber,
 ) -> Result<(), Error>
     ensures same { (q : ℕ) → kept_at walks.new q ≡ kept_at walks.old q }
-    ensures there { OnOk result (IsIn table.0 tables.now.items) }
+    ensures table_exists { OnOk result (IsTableNumber table.0 tables.now.items) }
     ensures room { OnOk result (0 < spare walks.new) }
     ensures refused { IfErr result (λ e. ((e ≡ Error.NoSuchHandle)
         × ((table.0 ≡ 0) ⊎ (length tables.now.items < table.0)))
-        ⊎ ((e ≡ Error.OutOfMemory) × IsIn table.0 tables.now.items)) }
+        ⊎ ((e ≡ Error.OutOfMemory) × IsTableNumber table.0 tables.now.items)) }
 {
     if !(0 < table.0 && table.0 <= tables.len() as u64) {
         return Err(Error::NoSuchHandle);
@@ -102,37 +118,37 @@ fn ready<E: Env<Node: NodeSet<E>>>(
 }
 
 // Makes a worker for an item, with its first task. Fails with OutOfMemory alone.
-fn new_item_walk<E: Env<Node: NodeSet<E>>>(
+fn new_item_worker<E: Env<Node: NodeSet<E>>>(
     alloc: Global,
     table: TableNumber,
     item: SerializedData,
-) -> Result<Walk<E>, Error>
+) -> Result<WorkerProgress<E>, Error>
     ensures begun { IfOk result (λ k. IsBegun table (of_item (written_of item)) k) }
     ensures only { IfErr result (λ e. e ≡ Error.OutOfMemory) }
 {
     let item = Arc::new(alloc, item)?;
     let shared = Arc::try_clone(&item)?;
     let (task, path) = start_item(alloc, shared)?;
-    Ok(Walk {
+    Ok(WorkerProgress {
         table: table.0,
-        begun: Begun::Item(item),
+        begun: PageOutTarget::Item(item),
         steps: 0,
         path,
         turn: Turn::Goes(task),
     })
 }
 
-fn new_entry_walk<E: Env<Node: NodeSet<E>>>(
+fn new_entry_worker<E: Env<Node: NodeSet<E>>>(
     alloc: Global,
     table: TableNumber,
     reference: ArcRef,
-) -> Walk<E>
+) -> WorkerProgress<E>
     ensures { IsBegun table (of_entry reference.handle (identity_of reference)) result }
 {
     let (task, path) = start_entry(alloc, reference);
-    Walk {
+    WorkerProgress {
         table: table.0,
-        begun: Begun::Entry(reference),
+        begun: PageOutTarget::Entry(reference),
         steps: 0,
         path,
         turn: Turn::Goes(task),
@@ -146,9 +162,9 @@ fn new_entry_walk<E: Env<Node: NodeSet<E>>>(
 /// - `NoSuchHandle` if there is no such table.
 /// - `NumbersSpent` if no worker number is left.
 /// - `OutOfMemory`. After each error nothing has changed.
-pub fn worker_item<E: Env<Node: NodeSet<E>>, S: PagableStorage<E>>(
+pub fn begin_item_worker<E: Env<Node: NodeSet<E>>, S: PagableStorage<E>>(
     pager: &mut Pager<E, S>,
-    held: &mut Held<E>,
+    held: &mut LoadsAndWorkers<E>,
     alloc: Global,
     table: TableNumber,
     item: SerializedData,
@@ -159,8 +175,8 @@ pub fn worker_item<E: Env<Node: NodeSet<E>>, S: PagableStorage<E>>(
         pager.old held.old (Event.WorkerItem table item) (EventReply.WorkerMade result) pager.new held.new }
 {
     pager.assert_invariant();
-    ready(&mut held.walks, &held.tables, table)?;
-    let walk = new_item_walk(alloc, table, item)?;
+    make_room_for_worker(&mut held.walks, &held.tables, table)?;
+    let walk = new_item_worker(alloc, table, item)?;
     let mut lent = Lent::new(pager);
     let worker = lent.worker_begin()?;
     put(&mut held.walks, worker.0, walk);
@@ -176,9 +192,9 @@ pub fn worker_item<E: Env<Node: NodeSet<E>>, S: PagableStorage<E>>(
 /// - `WrongKind` if the cell's type is too great a number for its kinds.
 /// - `NumbersSpent` if no worker number is left.
 /// - `OutOfMemory`. After each error nothing has changed.
-pub fn worker_listed<E: Env<Node: NodeSet<E>>, S: PagableStorage<E>>(
+pub fn begin_entry_worker<E: Env<Node: NodeSet<E>>, S: PagableStorage<E>>(
     pager: &mut Pager<E, S>,
-    held: &mut Held<E>,
+    held: &mut LoadsAndWorkers<E>,
     alloc: Global,
     table: TableNumber,
     place: u64,
@@ -192,32 +208,32 @@ pub fn worker_listed<E: Env<Node: NodeSet<E>>, S: PagableStorage<E>>(
     if place >= pager.pending() as u64 {
         return Err(Error::NoSuchHandle);
     }
-    ready(&mut held.walks, &held.tables, table)?;
+    make_room_for_worker(&mut held.walks, &held.tables, table)?;
     let mut lent = Lent::new(pager);
     let (worker, reference) = lent.worker_listed(place as usize)?;
-    let walk = new_entry_walk(alloc, table, reference);
+    let walk = new_entry_worker(alloc, table, reference);
     put(&mut held.walks, worker.0, walk);
     Ok(worker)
 }
 
 // Makes one step over a lent pager. (The borrow checker accepts a lent struct where a function asks
 // for its own type, and not where it asks for any access.)
-fn step_by<'a, E: Env<Node: NodeSet<E>>, S: PagableStorage<E>>(
+fn step_lent<'a, E: Env<Node: NodeSet<E>>, S: PagableStorage<E>>(
     lent: &mut Lent<'a, E, S>,
     alloc: Global,
     table: &mut LentTable<E>,
     worker: WorkerNumber,
-    path: &mut Vec<Waiting<E>>,
+    path: &mut Vec<WaitingValue<E>>,
     task: Task<E>,
 ) -> StepResult<E>
     requires me { lent.old.me ≡ owner_worker worker.0 }
     requires way { EachIsAwaited (todo_of task ∷ todos path.old.items) }
-    ensures way { EachIsAwaited (plan result.turn path.new.items) }
+    ensures way { EachIsAwaited (todos_after result.turn path.new.items) }
     ensures step { IsTrue (S.is_honest lent.new.pager.now.storage)
-        → StepsTo (values_at E.Node.NodeSet E.Env E.Hash.KeyHash lent.old.pager.now.environment)
+        → PerformsStep (values_at E.Node.NodeSet E.Env E.Hash.KeyHash lent.old.pager.now.environment)
         (owner_worker worker.0) worker.0 (shelf_of table.old) task (todos path.old.items)
         (shelf_of table.new) result
-        (plan result.turn path.new.items) (pager_state (storage_view S.PagableStorage) lent.old.pager.now)
+        (todos_after result.turn path.new.items) (pager_state (storage_view S.PagableStorage) lent.old.pager.now)
         (pager_state (storage_view S.PagableStorage) lent.new.pager.now) }
     ensures honest { IsTrue (S.is_honest lent.new.pager.now.storage) → IsTrue (S.is_honest lent.old.pager.now.storage) }
     ensures lender { lent.new.pager.ghost_name ≡ lent.old.pager.ghost_name }
@@ -225,7 +241,7 @@ fn step_by<'a, E: Env<Node: NodeSet<E>>, S: PagableStorage<E>>(
     step(lent, alloc, table, worker, path, task)
 }
 
-fn answer_of<E: Env<Node: NodeSet<E>>>(turn: &Turn<E>) -> Option<WorkerAnswer>
+fn answer_of_turn<E: Env<Node: NodeSet<E>>>(turn: &Turn<E>) -> Option<WorkerAnswer>
     ensures { result ≡ answer_in turn.now }
 {
     match turn {
@@ -234,14 +250,14 @@ fn answer_of<E: Env<Node: NodeSet<E>>>(turn: &Turn<E>) -> Option<WorkerAnswer>
     }
 }
 
-fn walk_on<E: Env<Node: NodeSet<E>>, S: PagableStorage<E>>(
+fn step_running_worker<E: Env<Node: NodeSet<E>>, S: PagableStorage<E>>(
     pager: &mut Pager<E, S>,
     alloc: Global,
     tables: &mut Vec<LentTable<E>>,
     worker: WorkerNumber,
-    walk: &mut Walk<E>,
+    walk: &mut WorkerProgress<E>,
 ) -> WorkerReply<Arc<SerializedData>>
-    requires has { is_some (answer_in walk.old.turn) ≡ false }
+    requires unanswered { is_some (answer_in walk.old.turn) ≡ false }
     requires at_work { (pager_core (storage_view S.PagableStorage) pager.old).workers worker.0 ≡ true }
     requires on_table { IsOnTable (length tables.old.items) walk.old }
     ensures walks { IsTrue (S.is_honest pager.new.storage)
@@ -259,21 +275,21 @@ fn walk_on<E: Env<Node: NodeSet<E>>, S: PagableStorage<E>>(
     };
     let table = &mut tables[(walk.table - 1) as usize];
     let mut lent = Lent::for_worker(pager, worker);
-    let moved = step_by(&mut lent, alloc, table, worker, &mut walk.path, task);
+    let moved = step_lent(&mut lent, alloc, table, worker, &mut walk.path, task);
     walk.steps = walk.steps.saturating_add(u64::from(moved.counted));
     walk.turn = moved.turn;
     WorkerReply {
         action: moved.action,
-        answer: answer_of(&walk.turn),
+        answer: answer_of_turn(&walk.turn),
         steps: walk.steps,
     }
 }
 
-fn is_done<E: Env<Node: NodeSet<E>>>(walks: &IndexMap<u64, Walk<E>>, worker: u64) -> bool
+fn is_done<E: Env<Node: NodeSet<E>>>(walks: &IndexMap<u64, WorkerProgress<E>>, worker: u64) -> bool
     ensures { result ≡ is_done (kept_at walks.now worker) }
 {
     match walks.get(&worker) {
-        Some(walk) => answer_of(&walk.turn).is_some(),
+        Some(walk) => answer_of_turn(&walk.turn).is_some(),
         None => true,
     }
 }
@@ -283,9 +299,9 @@ fn is_done<E: Env<Node: NodeSet<E>>>(walks: &IndexMap<u64, Walk<E>>, worker: u64
 /// # Errors
 ///
 /// - `NoSuchHandle` if there is no such worker or it has answered: nothing changes.
-pub fn worker_step<E: Env<Node: NodeSet<E>>, S: PagableStorage<E>>(
+pub fn step_worker<E: Env<Node: NodeSet<E>>, S: PagableStorage<E>>(
     pager: &mut Pager<E, S>,
-    held: &mut Held<E>,
+    held: &mut LoadsAndWorkers<E>,
     alloc: Global,
     worker: WorkerNumber,
 ) -> Result<WorkerReply<Arc<SerializedData>>, Error>
@@ -305,5 +321,5 @@ pub fn worker_step<E: Env<Node: NodeSet<E>>, S: PagableStorage<E>>(
     let Some(walk) = held.walks.get_mut(&worker.0) else {
         unreachable!();
     };
-    Ok(walk_on(pager, alloc, &mut held.tables, worker, walk))
+    Ok(step_running_worker(pager, alloc, &mut held.tables, worker, walk))
 }

@@ -1,11 +1,20 @@
 -- Which pins leave and join a list of pins, what they cost, and what that does to the pager.
-use Rattle.lru.{proofs.Pairs.{cut_end, last_of_push, lookup-lookup_entry, promoted_absent}, specs.LruCache.{LruCache, last_entry, lru_cache, promoted, put_entries}}
-use Rattle.pagable_budget.specs.Budgets.{Admits, BudgetView, Clears, Evicts, EvictsAbove, EvictsLast, Inserts, IsBounded, IsNeeded, Keeps, Kept, Stores, Trims, cell-is-kept, cell-is-new, clone-is-refused, clone-is-stored, cost_of}
-use Rattle.pagable_budget.specs.Budgets.{costs-too-much, counted, evicts-more, evicts-none, hit, last-goes, missed, more, no-cell, no-memory-is-left, none-is-kept, pin-is-kept, touched}
-use Rattle.pagable_budget.specs.declared.{bound.BudgetStats.BudgetStats, evictions.KeptPin.KeptPin}
-use Rattle.{pagable.specs.Cells.Releases, pagable_pager.specs.View.{PagerView, Telling, pager_core}, pagable_pager_spec.specs.{Calls.NodeCall, Basics.{Error, HandleNumber, NodeNumber}}}
-use Rattle.std.proofs.Common.{[], Bool, Err, IsErrAnd, List, None, Ok, OnErr, OnOk, Option, Result, Some, is_ok, ap, ap₂, append-nil, append_assoc, arith, false, length, length-append, nat_eq, refl, subst, sym, take, true, ℕ, ◌+◌, ◌++◌, ◌-◌, ◌<◌, ◌^◌, ◌∙◌, ◌∷◌, ◌≡◌}
-use Rattle.std.proofs.lemmas.{List.{Sums.{sum_by-cons, sum_by_push}, take_all}, Option.same_Some}
+use Rattle.lru.proofs.Pairs.{cut_end, last_of_push, lookup-lookup_entry, promoted_absent}
+use Rattle.lru.specs.LruCache.{LruCache, last_entry, lru_cache, promoted, put_entries}
+use Rattle.pagable.specs.Cells.{Releases}
+use Rattle.pagable_budget.specs.{
+  Budgets.{Admits, BudgetView, Clears, Evicts, EvictsAbove, EvictsLast, Inserts, IsBounded, IsNeeded, Keeps, Kept, Stores, Trims, cell-is-kept, cell-is-new},
+  Budgets.{clone-is-refused, clone-is-stored, cost_of, costs-too-much, counted, evicts-more, evicts-none, hit, last-goes, missed, more, no-cell},
+  Budgets.{no-memory-is-left, none-is-kept, pin-is-kept, touched},
+  declared.{bound.BudgetStats.BudgetStats, evictions.KeptPin.KeptPin},
+}
+use Rattle.pagable_pager.specs.View.{PagerView, Telling, pager_core}
+use Rattle.pagable_pager_spec.specs.{Basics.{Error, HandleNumber, NodeNumber}, Calls.NodeCall}
+use Rattle.std.proofs.{
+  Common.{Bool, Err, IsErrAnd, List, None, Ok, OnErr, OnOk, Option, Result, Some, ap, append-nil, append_assoc, ap₂, arith, false, is_ok, length},
+  Common.{length-append, nat_eq, refl, subst, sym, take, true, ℕ, [], ◌++◌, ◌+◌, ◌-◌, ◌<◌, ◌^◌, ◌∙◌, ◌∷◌, ◌≡◌},
+  lemmas.{List.{Sums.{sum_by-cons, sum_by_push}, take_all}, Option.same_Some},
+}
 use Rattle.std.specs.{Map.{lookup, lookup_entry, remove_entry}, Option.{option_map, option_map_or}, Prelude.{is_some, slice_get}}
 
 -- ---- the last element of a list

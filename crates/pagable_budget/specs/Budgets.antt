@@ -1,10 +1,20 @@
 -- What a budget keeps, and what its calls do to it and to its pager.
-use Rattle.std.specs.Prelude.{[], Bool, Err, List, None, Ok, Option, Result, Some, false, is_some, length, min, nat_eq, sum_by, true, ℕ, ◌+◌, ◌++◌, ◌-◌, ◌<◌, ◌^◌, ◌∷◌, ◌≡◌, ◌≤◌}
-use Rattle.{lru.specs.LruCache.{LruCache, promoted}, std.specs.Map.lookup}
-use Rattle.pagable_budget.specs.declared.{bound.BudgetStats.BudgetStats, evictions.KeptPin.KeptPin}
+use Rattle.lru.specs.LruCache.{LruCache, promoted}
 use Rattle.pagable.specs.{Cells.{Pins, Releases}, PageOuts.Clones, Paged.PagesOutList}
-use Rattle.{pagable_pager.specs.View.{PagerView, Telling, pager_core}, pagable_pageout.specs.declared.tasks.PageOutError.PageOutError}
-use Rattle.pagable_pager_spec.specs.{Calls.NodeCall, Pager.PagerState, Basics.{Error, HandleNumber, NodeNumber}, World.{Values, greatest}}
+use Rattle.pagable_budget.specs.declared.{bound.BudgetStats.BudgetStats, evictions.KeptPin.KeptPin}
+use Rattle.pagable_pageout.specs.declared.tasks.PageOutError.{PageOutError}
+use Rattle.pagable_pager.specs.View.{PagerView, Telling, pager_core}
+use Rattle.pagable_pager_spec.specs.{
+  Basics.{Error, HandleNumber, NodeNumber},
+  Calls.NodeCall,
+  Pager.PagerState,
+  World.{Values, greatest},
+}
+use Rattle.std.specs.{
+  Map.lookup,
+  Prelude.{Bool, Err, List, None, Ok, Option, Result, Some, false, is_some, length, min, nat_eq, sum_by, true, ℕ, []},
+  Prelude.{◌++◌, ◌+◌, ◌-◌, ◌<◌, ◌^◌, ◌∷◌, ◌≡◌, ◌≤◌},
+}
 
 -- the number of a cell, and the pin that the budget keeps of it
 abbrev pub Kept : Type 0

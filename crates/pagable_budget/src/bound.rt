@@ -1,11 +1,16 @@
 //! A budget: pins kept up to a total cost, and counts of hits, misses and evictions.
 
-ghost use Rattle.std.specs.Map.{lookup};
-ghost use Rattle.std.specs.Prelude.{IfOk, IsTrue, None, is_some, length, nat_eq, ◌-◌, ◌≡◌, ◌≤◌};
-ghost use Rattle.pagable_budget.specs.Budgets.{Admits, Clears, Keeps, PinsWithin, Stores, Trims};
-ghost use Rattle.pagable_budget.specs.Budgets.{cost_of, counted, new_budget, touched};
-ghost use Rattle.{pagable_load.specs.AccessView.values_at, pagable_pager.specs.View.storage_view};
-ghost use Rattle.{pagable_pager_spec.specs.World.result_map, std.specs.Arc.arc_value};
+ghost use Rattle.pagable_budget.specs.{
+  Budgets.{Admits, Clears, Keeps, PinsWithin, Stores, Trims, cost_of, counted, new_budget, touched},
+};
+ghost use Rattle.pagable_load.specs.AccessView.{values_at};
+ghost use Rattle.pagable_pager.specs.View.{storage_view};
+ghost use Rattle.pagable_pager_spec.specs.World.{result_map};
+ghost use Rattle.std.specs.{
+  Arc.arc_value,
+  Map.lookup,
+  Prelude.{IfOk, IsTrue, None, is_some, length, nat_eq, ◌-◌, ◌≡◌, ◌≤◌},
+};
 
 use crate::evictions::{KeptPin, KeptPins, evict_above, evict_all, insert};
 use lru::LruCache;
@@ -93,7 +98,7 @@ impl Budget {
     }
 
     /// Returns the bound: the greatest total cost of the kept pins.
-    pub fn most(&self) -> u64
+    pub fn max_cost(&self) -> u64
         ensures { result ≡ self.now.most }
     {
         self.most
@@ -108,7 +113,7 @@ impl Budget {
     }
 
     /// Returns how many pins are kept.
-    pub fn kept(&self) -> usize
+    pub fn kept_count(&self) -> usize
         ensures { result ≡ length self.now.pins }
     {
         self.pins.len()

@@ -1,9 +1,8 @@
 //! The pins that a budget keeps, most recently used first, and their eviction.
 
-ghost use Rattle.std.specs.Map.{lookup};
-ghost use Rattle.std.specs.Prelude.{[], None, nat_eq, ◌-◌, ◌^◌, ◌≡◌, ◌≤◌};
 ghost use Rattle.pagable_budget.specs.Budgets.{Evicts, EvictsAbove, EvictsLast, Inserts, cost_of};
 ghost use Rattle.pagable_pager.specs.View.{storage_view};
+ghost use Rattle.std.specs.{Map.lookup, Prelude.{None, nat_eq, [], ◌-◌, ◌^◌, ◌≡◌, ◌≤◌}};
 
 use lru::LruCache;
 use pagable_codec::{Env, NodeSet};
@@ -81,7 +80,7 @@ pub(crate) fn evict_all<E: Env<Node: NodeSet<E>>, S: PagableStorage<E>>(
 #[tactic(auto, using(crate::proofs::Evicting::inserts))]
 pub(crate) fn insert(pins: &mut KeptPins, cell: u64, pin: KeptPin) -> bool
     requires new { lookup (nat_eq cell) pins.old.entries ≡ None }
-    requires wide { pins.old.cap ≡ 2 ^ 64 - 1 }
+    requires unbounded { pins.old.cap ≡ 2 ^ 64 - 1 }
     ensures { Inserts cell pin result pins.old pins.new }
 {
     // The cache has room for more pins than there can be, so it never evicts one by itself.

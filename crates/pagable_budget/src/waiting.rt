@@ -1,8 +1,9 @@
 //! Page-out of the pending list, if it is too long.
 
-ghost use Rattle.std.specs.Prelude.{IsTrue};
-ghost use Rattle.{pagable_budget.specs.Budgets.PagesOutAbove, pagable_load.specs.AccessView.values_at};
+ghost use Rattle.pagable_budget.specs.Budgets.{PagesOutAbove};
+ghost use Rattle.pagable_load.specs.AccessView.{values_at};
 ghost use Rattle.pagable_pager.specs.View.{pager_state, storage_view};
+ghost use Rattle.std.specs.Prelude.{IsTrue};
 
 use pagable::paging::page_out_pending;
 use pagable_codec::{Env, NodeSet};

@@ -1,16 +1,21 @@
 -- Which keys cells have after a call: those that they had, except for the one that it sets; and that the keys of its
 -- references make a node's own key.
-use Rattle.pagable_changes.specs.Changes.{AllHave, FoundKeys, HasKey, none-are-asked, one-more-has}
+use Rattle.pagable_changes.specs.Changes.{AllHaveKeys, FoundKeys, HasKey, none-are-asked, one-more-has}
+use Rattle.pagable_pager_spec.specs.{
+  Basics.{Among, ArcRef, Blob, HandleNumber, OptionalDataKey, if_there},
+  Pager.kids_of,
+  World.{Cell, Core, Values, key_at, row_at, type_at},
+  declared.{calls.{Call.Call, Reply.Reply}, handle_row.{HandleRow.HandleRow, Owner.Owner}},
+}
 use Rattle.pagable_theorems.proofs.Decoding.{among-left, among-right}
-use Rattle.pagable_theorems.specs.TreeSteps.{Bears, CallFeels, Change, CoreGoes, Sets}
-use Rattle.pagable_theorems.specs.TreeSteps.{feels-adopted, feels-away, feels-birth, feels-end, feels-key, feels-known, feels-lazy, feels-nothing}
+use Rattle.pagable_theorems.specs.{
+  TreeSteps.{Bears, CallFeels, Change, CoreGoes, Sets, feels-adopted, feels-away, feels-birth, feels-end, feels-key, feels-known, feels-lazy, feels-nothing},
+}
 use Rattle.pagable_value_spec.specs.{Height.{Kid, kid, tree_of_kid}, Merkle.{KeyOf, KeysOf, more-keys, no-keys}, Trees.{Tree, Types}}
-use Rattle.pagable_pager_spec.specs.Pager.{kids_of}
-use Rattle.pagable_pager_spec.specs.Basics.{Among, ArcRef, Blob, HandleNumber, OptionalDataKey, if_there}
-use Rattle.pagable_pager_spec.specs.World.{Cell, Core, Values, key_at, row_at, type_at}
-use Rattle.pagable_pager_spec.specs.declared.{calls.{Call.Call, Reply.Reply}, handle_row.{HandleRow.HandleRow, Owner.Owner}}
-use Rattle.std.proofs.Common.{List, None, Some, [], ap, arith, inl, inr, refl, subst, sym, ℕ, ◌++◌, ◌∙◌, ◌∷◌, ◌≡◌, ◌⊎◌}
-use Rattle.std.proofs.lemmas.{Bool.Decides.nat_tests, List.map-append}
+use Rattle.std.proofs.{
+  Common.{List, None, Some, ap, arith, inl, inr, refl, subst, sym, ℕ, [], ◌++◌, ◌∙◌, ◌∷◌, ◌≡◌, ◌⊎◌},
+  lemmas.{Bool.Decides.nat_tests, List.map-append},
+}
 
 -- ---- which keys calls set
 
@@ -86,7 +91,7 @@ module _ {hash : List ℕ → List ℕ} {types : Types} where
   one-more-key k key no-keys is = more-keys k [] key [] is no-keys
   one-more-key k key (more-keys x kids q keys first rest) is = more-keys x _ q _ first (one-more-key k key rest is)
 
-  pub all-keys : {found : FoundKeys} {w : Core} {rs : List ArcRef} {keys : List ℕ} (trees : ℕ → Tree) → AllHave found w rs keys
+  pub all-keys : {found : FoundKeys} {w : Core} {rs : List ArcRef} {keys : List ℕ} (trees : ℕ → Tree) → AllHaveKeys found w rs keys
       → ((r : ArcRef) (key : ℕ) → Among rs r → HasKey found w r key → KeyOf hash types (tree_of_kid (kid r.kind.0 (trees r.node.0).meaning)) key)
       → KeysOf hash types (kids_of trees rs) keys
   all-keys trees none-are-asked each = no-keys

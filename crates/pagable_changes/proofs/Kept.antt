@@ -1,147 +1,48 @@
 -- After each turn the pager stands for the trees that it stood for; what was written of each open node is a form of its
 -- tree; and each key that was found is read as its node's tree, and is its Merkle key if the keys that cells had are
 -- Merkle keys.
-use Rattle.pagable_changes.proofs.CellKeys.{IsQuiet, KeysGo, SetsAt, all-keys, quiet-keys, set-keys}
-use Rattle.pagable_changes.specs.{Changes.{AllHave, EnterFails, Enters, FoundKeys, ReleasesPath, GoesNowhere, HasKey, FinishFails, FinishesOpenNode, LetsGo, PagesOutChanged, PagesOutKeyless, PinsLoosely, SetsFor, Stage, StoresBlob}, Keys.{ChangedLaw, HasMerkleKeys}}
-use Rattle.pagable_changes.specs.Changes.{TakeFails, Takes, Turn, TurnFails, Turns, Walks, all-is-stored, blob-is-refused, both-go, cell-gets-key, cell-has-key, cell-is-away}
-use Rattle.pagable_changes.specs.Changes.{cell-is-not-pinned, cell-is-pinned, cell-is-taken, clone-is-refused, goes-down, goes-up, has-key, isnt-entered, isnt-left, isnt-taken, isnt-written}
-use Rattle.pagable_changes.specs.Changes.{key-is-found, key-is-refused, key-was-found, no-turn, node-is-refused, node-is-taken, none-are-asked, none-is-open, nothing-is-begun, nothing-is-done}
-use Rattle.pagable_changes.specs.Changes.{nothing-is-stored, nothing_found, one-goes, one-goes-first, one-more-has, one-more-turn, pin-is-refused, root-has-key, root-has-none, root-is-refused}
-use Rattle.pagable_changes.specs.Changes.{no-handle, root-is-walked, stage, walk-is-refused, way-is-refused, written_of}
-use Rattle.pagable_changes.specs.declared.{keys.FoundKey.FoundKey, nodes.OpenNode.OpenNode}
-use Rattle.pagable_theorems.proofs.{LoadResults.{After, after-then, rows-stay}, CallEffects.calls-go, Decoding.{among-left, among-right}, FormsOfTrees.{given-of, leads-on, tree-form, wrote}, HandlesKept.{among-found, found-number}}
-use Rattle.pagable_theorems.proofs.{Moments.{Stands, call-stays, no-value, still-settled}, ReadingSteps.caller-free, Naturality.keeps_forms, LoadProgress.{pushed, row-held, tree-stays}}
-use Rattle.pagable_theorems.proofs.{RoundTrip.{Looked, all-looked, form-again, one-looked}, Trees.{same-number, same_some}}
-use Rattle.pagable_theorems.specs.{CallerLaws.IsCall, FormLaws.rest}
-use Rattle.pagable_theorems.specs.TreeSteps.{CallFeels, Change, CoreGoes, FollowsTo, Ground, KeepsStored, WroteTree, followed-leads, pair-leads, reference-leads, variant-leads}
-use Rattle.pagable_value_spec.specs.{Canonical.IsReadableType, Merkle.{KeyOf, KeysOf, StoredAs, blob_of, key-of, key_of_ref, kind_of_ref}, Meaning.{Meaning, rename}, Reading.{deepest, read}, Writing.kind_of_arc}
-use Rattle.pagable_value_spec.specs.Trees.{IsFollowed, KeyRef, ReadsAs, ReadsTree, Tree, Types, integer-followed, key_ref, none-followed, number-followed, pair-followed, pattern-followed, reference-followed, text-followed, type_of, variant-followed}
-use Rattle.pagable_pager_spec.specs.{Access.MakesCall, Events.CallDoes, Pager.{NodeStands, PagerState, SameTrees, IsPagerWhole, away, here, kids_of}, Runs.{AsksWell, KeepsOpen}}
-use Rattle.pagable_pager_spec.specs.Basics.{Among, ArcRef, Blob, Error, HandleNumber, NodeNumber, OptionalDataKey, if_there, is_loose_kind}
-use Rattle.pagable_pager_spec.specs.{Calls.{KeyCall, NodeCall}, Kinds.{held, is_loose}, Refusals.Owns}
-use Rattle.pagable_pager_spec.specs.World.{Core, IsLawful, Seen, Values, Written, key_at, row_at}
-use Rattle.pagable_pager_spec.specs.declared.{calls.{Call.Call, Reply.Reply}, events.Event.Event, handle_row.{HandleRow.HandleRow, Owner.Owner}}
-use Rattle.std.proofs.Common.{Err, IfOk, List, Ok, Option, Result, Some, [], ap, append-nil, arith, if◌then◌else◌, inl, inr, map, refl, subst, suc, sym, true, zero, ℕ, ◌++◌, ◌==◌, ◌∙◌, ◌∷◌, ◌≡◌, ◌<◌, ◌≤◌}
-use Rattle.std.proofs.lemmas.{Bool.{Decides.nat_tests, cases_Bool}, List.map-append}
-
--- what is so of each of both lists is so of each of them together
-both-all : {X : Type 0} {P : X → Type 0} (xs ys : List X) → ((x : X) → Among xs x → P x) → ((x : X) → Among ys x → P x) → (x : X) → Among (xs ++ ys) x → P x
-both-all [] ys f g x among = g x among
-both-all (y ∷ xs) ys f g x (zero, is) = f x (zero, is)
-both-all (y ∷ xs) ys f g x (suc i, is) = both-all xs ys (λ z (j, at). f z (suc j, at)) g x (i, is)
-
-alone : {X : Type 0} (P : X → Type 0) (y : X) → P y → (x : X) → Among (y ∷ []) x → P x
-alone P y p x (zero, is) = subst P (same_some _ _ is) p
-alone P y p x (suc i, is) = absurd cc
-
-looked-keys : (refs : List KeyRef) → Looked (λ kind key. Ok (key_ref kind key)) kind_of_ref (map key_of_ref refs) refs (Ok [])
-looked-keys [] = all-looked []
-looked-keys (r ∷ refs) = one-looked r.key (map key_of_ref refs) r refs (Ok []) refl (looked-keys refs)
-
--- what is stored as a form reads as its meaning
-stored-reads : (store : ℕ → Option Blob) (types : Types) (type key : ℕ) (m : Meaning KeyRef) → IsReadableType types type → StoredAs store types type key m
-    → ReadsAs store types type key m
-unfolding read
-stored-reads store types type key m can h =
-    let whole = rw append-nil at (form-again [] h.form (looked-keys h.refs) (can h.shape h.is)) in
-    record { blob = blob_of h.bytes (map key_of_ref h.refs); stored = h.stored; rest = rest [] []; reads = rw h.is whole }
-
--- ---- the keys that references have now
-
-abbrev number_of : OptionalDataKey → ℕ
-number_of (OptionalDataKey.Some key) = key
-number_of OptionalDataKey.None = 0
-
-abbrev key_now : FoundKeys → Core → ArcRef → ℕ
-key_now found w r = if is_loose_kind r.kind.0 then number_of (key_at w r.node.0) else if_there (λ (k : FoundKey). k.key) 0 (found r.node.0)
-
-abbrev keyed : FoundKeys → Core → ArcRef → KeyRef
-keyed found w r = key_ref r.kind.0 (key_now found w r)
-
--- the cell of the reference has this key
-cell-key : {w : Core} (r : ArcRef) {key : ℕ} → NodeCall w r.handle (Ok r.node) → KeyCall w r.handle (Ok (OptionalDataKey.Some key)) → key_at w r.node.0
-    ≡ OptionalDataKey.Some key
-cell-key {w} r at keys =
-    let rows : keys.found.0 ≡ at.found.0 = same_some _ _ (sym keys.found.1 ∙ at.found.1) in
-    ap (λ n. key_at w n.0) (at.found.2 ∙ ap (λ (q : HandleRow). q.node) (sym rows)) ∙ sym keys.found.2
-
-has-now : {found : FoundKeys} {w : Core} {r : ArcRef} {key : ℕ} → HasKey found w r key → key_now found w r ≡ key
-has-now {r = r} (cell-has-key key loose at keys) = rw (loose) (ap number_of (cell-key r at keys))
-has-now (key-was-found k eager is) = rw (eager) (ap (λ o. if_there (λ (k : FoundKey). k.key) 0 o) is)
-
-keys-now : {found : FoundKeys} {w : Core} {rs : List ArcRef} {keys : List ℕ} → AllHave found w rs keys → keys ≡ map key_of_ref (map (keyed found w) rs)
-keys-now none-are-asked = refl
-keys-now {found} {w} (one-more-has rs keys r key all one) =
-    ap (λ ks. ks ++ key ∷ []) (keys-now all) ∙ ap (λ k. map key_of_ref (map (keyed found w) rs) ++ k ∷ []) (sym (has-now one))
-    ∙ sym (map-append key_of_ref (map (keyed found w) rs) (keyed found w r ∷ [])) ∙ ap (λ ks. map key_of_ref ks) (sym (map-append (keyed found w) rs (r ∷ [])))
-
-each-has : {found : FoundKeys} {w : Core} {rs : List ArcRef} {keys : List ℕ} → AllHave found w rs keys → (r : ArcRef) → Among rs r → (key : ℕ)
-    × HasKey found w r key
-each-has none-are-asked r among = absurd cc
-each-has {found} {w} (one-more-has rs keys q key all one) r (i, is) = elim (pushed rs q i r is) [
-  | inl old ↦ each-has all r (i, old)
-  | inr new ↦ (key, subst (λ x. HasKey found w x key) new.1 one)
-]
-
-module _ {stored : ℕ → Option Blob} {types : Types} {trees : ℕ → Tree} (f : ArcRef → ℕ) (rs : List ArcRef)
-    (reads : (r : ArcRef) → Among rs r → ((trees r.node.0).type ≡ type_of r.kind.0) × ReadsTree stored types (f r) (trees r.node.0)) where
-  follows-keys : {x : Meaning ArcRef} {a : Meaning ⊥} → FollowsTo trees rs x a
-      → IsFollowed (ReadsAs stored types) (rename (λ (r : ArcRef). key_ref r.kind.0 (f r)) x) a
-  unfolding rename
-  follows-keys (pair-leads x y a b h k) = pair-followed _ _ a b (follows-keys h) (follows-keys k)
-  follows-keys (variant-leads i x a h) = variant-followed i _ a (follows-keys h)
-  follows-keys (reference-leads r a among is) =
-      let p = reads r among in
-      let under : ReadsAs stored types (type_of r.kind.0) (f r) p.1.own = subst (λ t. ReadsAs stored types t (f r) p.1.own) p.0 p.1.reads in
-      reference-followed (key_ref r.kind.0 (f r)) p.1.own a under (subst (λ m. IsFollowed (ReadsAs stored types) p.1.own m) is p.1.follows)
-  follows-keys (followed-leads kind x a none h) = absurd none
-  follows-keys h = search (number-followed, integer-followed, text-followed, pattern-followed, none-followed)
-
--- a form of a tree, stored over keys that read as what its references lead to, reads as the tree
-blob-reads : {types : Types} {g : Ground} {n key : ℕ} {written : Written} {keys : List ℕ} {found : FoundKeys} {w : Core} → WroteTree types g n written
-    → AllHave found w written.references keys
-    → ((r : ArcRef) → Among written.references r → ((g.trees r.node.0).type ≡ type_of r.kind.0)
-    × ReadsTree g.stored types (key_now found w r) (g.trees r.node.0))
-    → g.stored key ≡ Some (blob_of written.bytes keys) → ReadsTree g.stored types key (g.trees n)
-blob-reads {types} {g} {n} {key} {written} {keys} {found} {w} wrote_it have reads is_stored =
-    let form = keeps_forms (keyed found w) kind_of_arc kind_of_ref types.parts deepest wrote_it.shape wrote_it.own written.bytes written.references
-    (λ r. refl) wrote_it.form in
-    let under : StoredAs g.stored types (g.trees n).type key (rename (keyed found w) wrote_it.own) = record {
-      shape = wrote_it.shape;
-      is = wrote_it.is;
-      bytes = written.bytes;
-      refs = map (keyed found w) written.references;
-      form = form;
-      stored = is_stored ∙ ap (λ ks. Some (blob_of written.bytes ks)) (keys-now have);
-    } in
-    record {
-      own = rename (keyed found w) wrote_it.own;
-      reads = stored-reads g.stored types (g.trees n).type key _ wrote_it.can under;
-      follows = follows-keys (key_now found w) written.references reads wrote_it.follows;
-    }
-
--- the node that was entered first
-abbrev first_of : List OpenNode → OpenNode → OpenNode
-first_of [] o = o
-first_of (x ∷ xs) o = x
-
-first-down : (path : List OpenNode) (o child : OpenNode) → first_of (path ++ o ∷ []) child ≡ first_of path o
-first-down [] o child = refl
-first-down (x ∷ xs) o child = refl
-
-first-same : (path : List OpenNode) (o : OpenNode) (next : ℕ) → (first_of path (record o { keyed = next })).reference ≡ (first_of path o).reference
-first-same [] o next = refl
-first-same (x ∷ xs) o next = refl
-
-ok-map : {X Y : Type 0} {P Q : X → Type 0} (r : Result X Y) → ((x : X) → P x → Q x) → IfOk r P → IfOk r Q
-ok-map (Ok x) f p = f x p
-ok-map (Err y) f p = tt
-
-self-equal : (n : ℕ) → (n == n) ≡ true
-self-equal n = grind (arith, nat_tests)
-
-abbrev seen_in : {N : Type 0} → Values N → Seen N Blob Written
-seen_in v = record { values = v; blob_of = λ b. b; written_of = λ w. w }
+use Rattle.pagable_changes.proofs.{
+  CellKeys.{IsQuiet, KeysGo, SetsAt, all-keys, quiet-keys, set-keys},
+  FormsOverKeys.{alone, blob-reads, both-all, cell-key, each-has, first-down, first-same, first_of, has-now, key_now, ok-map, seen_in, self-equal},
+}
+use Rattle.pagable_changes.specs.{
+  Changes.{AllHaveKeys, FinishFails, FinishesOpenNode, FoundKeys, HasKey, OpenChildFails, OpenNodeFails, OpensNode, PagesOutChanged, PagesOutKeyless},
+  Changes.{PinNodeFails, PinsLoosely, PinsNode, RecordsKey, ReleasesBoth, ReleasesPath, Stage, StoresBlob, Turn, TurnFails, Turns, Walks, all-is-stored},
+  Changes.{blob-is-refused, both-go, cell-gets-key, cell-has-key, cell-is-away, cell-is-not-pinned, cell-is-pinned, cell-is-taken, clone-is-refused, goes-down},
+  Changes.{goes-up, has-key, isnt-entered, isnt-left, isnt-taken, isnt-written, key-is-found, key-is-refused, key-was-found, no-handle, no-turn},
+  Changes.{node-is-refused, node-is-taken, none-is-open, nothing-is-begun, nothing-is-done, nothing-is-stored, nothing_found, one-goes, one-goes-first},
+  Changes.{one-more-turn, pin-is-refused, root-has-key, root-has-none, root-is-refused, root-is-walked, stage, walk-is-refused, way-is-refused, written_of},
+  Keys.{ChangedLaw, HasMerkleKeys},
+  declared.{keys.FoundKey.FoundKey, nodes.OpenNode.OpenNode},
+}
+use Rattle.pagable_pager_spec.specs.{
+  Access.MakesCall,
+  Basics.{Among, ArcRef, Blob, Error, HandleNumber, NodeNumber, OptionalDataKey},
+  Events.CallDoes,
+  Kinds.{held, is_loose},
+  Pager.{IsPagerWhole, NodeStands, PagerState, SameTrees, away, here, kids_of},
+  Refusals.Owns,
+  Runs.{AsksWell, KeepsOpen},
+  World.{Core, IsLawful, Values, Written, key_at, row_at},
+  declared.{calls.{Call.Call, Reply.Reply}, events.Event.Event, handle_row.{HandleRow.HandleRow, Owner.Owner}},
+}
+use Rattle.pagable_theorems.proofs.{
+  CallEffects.calls-go,
+  Decoding.{among-left, among-right},
+  FormsOfTrees.{given-of, leads-on, tree-form, wrote},
+  HandlesKept.{among-found, found-number},
+  LoadProgress.{row-held, tree-stays},
+  LoadResults.{After, after-then, rows-stay},
+  Operations.{Stands, call-stays, no-value, still-settled},
+  ReadingSteps.caller-free,
+  Trees.{same-number, same_some},
+}
+use Rattle.pagable_theorems.specs.{CallerLaws.IsCall, TreeSteps.{CallFeels, Change, CoreGoes, FollowsTo, Ground, KeepsStored, WroteTree}}
+use Rattle.pagable_value_spec.specs.{Canonical.IsReadableType, Merkle.{KeyOf, KeysOf, blob_of, key-of}, Trees.{ReadsTree, Tree, type_of}}
+use Rattle.std.proofs.{
+  Common.{Err, IfOk, List, Ok, Result, Some, ap, arith, if◌then◌else◌, inl, inr, refl, subst, sym, ℕ, [], ◌<◌, ◌==◌, ◌∙◌, ◌∷◌, ◌≡◌, ◌≤◌},
+  lemmas.Bool.{Decides.nat_tests, cases_Bool},
+}
 
 -- M: that each cell that had a key where the page-out began had the Merkle key of its tree
 module _ {N E : Type 0} (v : Values N) (lawful : IsLawful v) (M : Type 0) where
@@ -212,7 +113,7 @@ module _ {N E : Type 0} (v : Values N) (lawful : IsLawful v) (M : Type 0) where
       → AsksWell v s trees call reply → Stands v s trees → Went s trees s'
   quietly call reply quiet = by-call call reply (λ c feels goes. quiet-keys feels quiet goes) (λ m n key set. absurd set)
 
-  lets-go : {s s' : PagerState N E} {trees : ℕ → Tree} {c k : HandleNumber} → LetsGo v c k s s' → Stands v s trees → Went s trees s'
+  lets-go : {s s' : PagerState N E} {trees : ℕ → Tree} {c k : HandleNumber} → ReleasesBoth v c k s s' → Stands v s trees → Went s trees s'
   lets-go {c = c} {k} (both-go told freed mid s' first last) at =
       let a = quietly (Call.Release k) (Reply.Done told) tt tt first (λ d. d) tt at in
       went-then a (quietly (Call.Release c) (Reply.Done freed) tt tt last (λ d. d) tt a.now)
@@ -224,14 +125,14 @@ module _ {N E : Type 0} (v : Values N) (lawful : IsLawful v) (M : Type 0) where
   pins-go {c = c} (cell-is-away key s' call) at = quietly (Call.Pin c) (Reply.Pin _) tt tt call (λ d. d) tt at
   pins-go {c = c} (cell-is-not-pinned e s' call) at = quietly (Call.Pin c) (Reply.Pin _) tt tt call (λ d. d) tt at
 
-  takes-go : {s s' : PagerState N E} {trees : ℕ → Tree} {r : ArcRef} {c k : HandleNumber} → Takes v r s c k s' → Stands v s trees → Went s trees s'
+  takes-go : {s s' : PagerState N E} {trees : ℕ → Tree} {r : ArcRef} {c k : HandleNumber} → PinsNode v r s c k s' → Stands v s trees → Went s trees s'
   takes-go {r = r} (cell-is-taken c k told mid low s' loose clones loosens pins) at =
       let a = quietly (Call.Clone r.handle) (Reply.Handle (Ok c)) tt tt clones (λ d. d) tt at in
       let b = quietly (Call.IntoPagable c) (Reply.Handle told) tt tt loosens (λ d. d) tt a.now in
       went-then a (went-then b (pins-go pins b.now))
   takes-go {r = r} (node-is-taken c s' loose clones) at = quietly (Call.Clone r.handle) (Reply.Handle (Ok c)) tt tt clones (λ d. d) tt at
 
-  fails-to-take : {s s' : PagerState N E} {trees : ℕ → Tree} {r : ArcRef} {e : Error} → TakeFails v r s e s' → Stands v s trees → Went s trees s'
+  fails-to-take : {s s' : PagerState N E} {trees : ℕ → Tree} {r : ArcRef} {e : Error} → PinNodeFails v r s e s' → Stands v s trees → Went s trees s'
   fails-to-take {r = r} (clone-is-refused e s' clones) at = quietly (Call.Clone r.handle) (Reply.Handle (Err e)) tt tt clones (λ d. d) tt at
   fails-to-take {r = r} (pin-is-refused c told freed e mid low late s' clones loosens pins releases) at =
       let a = quietly (Call.Clone r.handle) (Reply.Handle (Ok c)) tt tt clones (λ d. d) tt at in
@@ -239,11 +140,11 @@ module _ {N E : Type 0} (v : Values N) (lawful : IsLawful v) (M : Type 0) where
       let d = pins-go pins b.now in
       went-then a (went-then b (went-then d (quietly (Call.Release c) (Reply.Done freed) tt tt releases (λ x. x) tt d.now)))
 
-  fails-to-enter : {s s' : PagerState N E} {trees : ℕ → Tree} {r : ArcRef} {e : Error} → EnterFails v r s e s' → Stands v s trees → Went s trees s'
+  fails-to-enter : {s s' : PagerState N E} {trees : ℕ → Tree} {r : ArcRef} {e : Error} → OpenNodeFails v r s e s' → Stands v s trees → Went s trees s'
   fails-to-enter (isnt-taken e s' fails) at = fails-to-take fails at
   fails-to-enter (isnt-written e c k mid s' takes lets) at = let a = takes-go takes at in went-then a (lets-go lets a.now)
 
-  goes-nowhere : {s s' : PagerState N E} {trees : ℕ → Tree} {r : ArcRef} {e : Error} → GoesNowhere v r s e s' → Stands v s trees → Went s trees s'
+  goes-nowhere : {s s' : PagerState N E} {trees : ℕ → Tree} {r : ArcRef} {e : Error} → OpenChildFails v r s e s' → Stands v s trees → Went s trees s'
   goes-nowhere (way-is-refused e) at = went-same at
   goes-nowhere (node-is-refused e s' fails) at = fails-to-enter fails at
 
@@ -263,8 +164,8 @@ module _ {N E : Type 0} (v : Values N) (lawful : IsLawful v) (M : Type 0) where
     pub given : o.reference.node.0 ≤ s.core.last.node
     pub wrote : WroteTree v.types (ground s trees) o.reference.node.0 (written_of o.written)
     pub typed : (r : ArcRef) → Among (written_of o.written).references r → (trees r.node.0).type ≡ type_of r.kind.0
-    pub small : o.through.0 ≤ s.core.last.handle
-    pub through : (row : HandleRow) → row_at s.core o.through ≡ Some row → row.node ≡ o.reference.node
+    pub small : o.cloned.0 ≤ s.core.last.handle
+    pub cloned : (row : HandleRow) → row_at s.core o.cloned ≡ Some row → row.node ≡ o.reference.node
 
   abbrev FoundFits : PagerState N E → (ℕ → Tree) → FoundKeys → Type 0
   FoundFits s trees found = (n : ℕ) (k : FoundKey) → found n ≡ Some k → KeyReads s trees n k.key
@@ -304,11 +205,11 @@ module _ {N E : Type 0} (v : Values N) (lawful : IsLawful v) (M : Type 0) where
     wrote = wrote-on a f.given f.wrote;
     typed = λ r among. ap (λ (t : Tree). t.type) (a.after.same r.node.0 (f.wrote.given r among)) ∙ f.typed r among;
     small = let more = a.after.handles in let g = f.small in omega (arith, more, g);
-    through = λ row live. let was = a.after.rows o.through.0 row live f.small in sym was.at ∙ f.through was.was was.live;
+    cloned = λ row live. let was = a.after.rows o.cloned.0 row live f.small in sym was.at ∙ f.cloned was.was was.live;
   }
 
   module _ (readable : (t : ℕ) → IsReadableType v.types t) where
-    enters-fit : {s s' : PagerState N E} {trees : ℕ → Tree} {r : ArcRef} {o : OpenNode} → Enters v r s o s' → Stands v s trees
+    enters-fit : {s s' : PagerState N E} {trees : ℕ → Tree} {r : ArcRef} {o : OpenNode} → OpensNode v r s o s' → Stands v s trees
         → (a : Went s trees s') × OpenFits s' a.trees' o
     enters-fit {s} {s'} {trees} {r} {o} e at =
         let a = takes-go e.takes at in
@@ -323,7 +224,7 @@ module _ {N E : Type 0} (v : Values N) (lawful : IsLawful v) (M : Type 0) where
         let typed = well.typed r.node.0 x has in
         let live = given-of well.whole.handles r.node.0 typed in
         let o_is = e.of in
-        let through = w.at.found in
+        let cloned = w.at.found in
         let written : WroteTree v.types (ground s' a.trees') r.node.0 (written_of o.written) =
         wrote a.now.stands well a.now.settled lawful r.node.0 (written_of o.written) (readable _)
         (record { x = x; held = has; form = w.writes.form.form; listed = w.writes.form.listed }) in (
@@ -334,9 +235,9 @@ module _ {N E : Type 0} (v : Values N) (lawful : IsLawful v) (M : Type 0) where
             typed = λ q among.
                 let is = well.references r.node.0 x q has (subst (λ rs. Among rs q) w.writes.form.listed among) in
                 same_some _ _ (sym (a.now.stands.typed q.node.0 (given-of well.whole.handles q.node.0 is.typed).0) ∙ is.typed);
-            small = subst (λ n. n ≤ s'.core.last.handle) (found-number o.through.0 s'.core.rows through.0 through.1)
-                (well.whole.handles.numbered through.0 (among-found o.through.0 s'.core.rows through.0 through.1)).1;
-            through = λ row is. ap (λ (q : HandleRow). q.node) (same_some _ _ (sym is ∙ through.1)) ∙ sym through.2 ∙ ap (λ (q : ArcRef). q.node) (sym o_is);
+            small = subst (λ n. n ≤ s'.core.last.handle) (found-number o.cloned.0 s'.core.rows cloned.0 cloned.1)
+                (well.whole.handles.numbered cloned.0 (among-found o.cloned.0 s'.core.rows cloned.0 cloned.1)).1;
+            cloned = λ row is. ap (λ (q : HandleRow). q.node) (same_some _ _ (sym is ∙ cloned.1)) ∙ sym cloned.2 ∙ ap (λ (q : ArcRef). q.node) (sym o_is);
           },
         )
 
@@ -369,7 +270,7 @@ module _ {N E : Type 0} (v : Values N) (lawful : IsLawful v) (M : Type 0) where
       pub reads : KeyReads mid went.trees' o.reference.node.0 key
 
     stores-fit : {s mid : PagerState N E} {trees : ℕ → Tree} {o : OpenNode} {found : FoundKeys} {key : ℕ} {keys : List ℕ}
-        → AllHave found s.core (written_of o.written).references keys
+        → AllHaveKeys found s.core (written_of o.written).references keys
         → StoresBlob v s (blob_of (written_of o.written).bytes keys) (Ok key) mid → Stands v s trees → AreKeyed s trees → OpenFits s trees o
         → FoundFits s trees found → Stored s trees o key mid
     stores-fit {s} {mid} {trees} {o} {found} {key} {keys} have stores at keyed fits founds =
@@ -395,9 +296,9 @@ module _ {N E : Type 0} (v : Values N) (lawful : IsLawful v) (M : Type 0) where
 
     -- the key that is set through the node's handle is its tree's
     set-is-key : {s : PagerState N E} {trees : ℕ → Tree} {o : OpenNode} {key : ℕ} → OpenFits s trees o → KeyReads s trees o.reference.node.0 key
-        → M → (n q : ℕ) → SetsAt s.core o.through key n q → KeyOf v.hash v.types (trees n) q
+        → M → (n q : ℕ) → SetsAt s.core o.cloned key n q → KeyOf v.hash v.types (trees n) q
     set-is-key {trees = trees} {o} f k m n q (row, live, at_node, is) =
-        let node : n ≡ o.reference.node.0 = at_node ∙ ap (λ (x : NodeNumber). x.0) (f.through row live) in
+        let node : n ≡ o.reference.node.0 = at_node ∙ ap (λ (x : NodeNumber). x.0) (f.cloned row live) in
         rw (node, is) (k.is_key m)
 
     -- its key is set, or found from now on
@@ -405,13 +306,13 @@ module _ {N E : Type 0} (v : Values N) (lawful : IsLawful v) (M : Type 0) where
       pub went : Went s trees s'
       pub found : FoundFits s' went.trees' found'
 
-    sets-fit : {s s' : PagerState N E} {trees : ℕ → Tree} {o : OpenNode} {found found' : FoundKeys} {key : ℕ} → SetsFor v found o key s found' s'
+    sets-fit : {s s' : PagerState N E} {trees : ℕ → Tree} {o : OpenNode} {found found' : FoundKeys} {key : ℕ} → RecordsKey v found o key s found' s'
         → Stands v s trees → OpenFits s trees o
         → FoundFits s trees found → KeyReads s trees o.reference.node.0 key → Set s trees found' s'
     sets-fit {s} {trees = trees} {o} {key = key} (cell-gets-key found' s' loose sets same) at f founds k =
-        let b = by-call (Call.SetDataKey o.through key) (Reply.Done (Ok tt)) (λ c feels goes. set-keys o.through key (refl, refl) feels goes)
+        let b = by-call (Call.SetDataKey o.cloned key) (Reply.Done (Ok tt)) (λ c feels goes. set-keys o.cloned key (refl, refl) feels goes)
         (set-is-key f k) tt sets (λ d. d)
-        (λ row owns. subst (λ n. ReadsTree s.core.stored v.types key (trees n.0)) (sym (f.through row owns.live)) k.reads) at in
+        (λ row owns. subst (λ n. ReadsTree s.core.stored v.types key (trees n.0)) (sym (f.cloned row owns.live)) k.reads) at in
         record { went = b; found = λ n x is. key-on b (founds n x (sym (same n) ∙ is)) }
     sets-fit {s} {trees = trees} {o} {key = key} (key-is-found x found' eager is there others) at f founds k = record {
       went = went-same at;
@@ -448,9 +349,9 @@ module _ {N E : Type 0} (v : Values N) (lawful : IsLawful v) (M : Type 0) where
         quietly (Call.Store _) (Reply.Stored (Err e)) tt tt stores (λ d. d) tt at
     finish_open_node-fails {o = o} (key-is-refused e key keys mid s' have stores unset) at keyed fits founds =
         let a = stores-fit have stores at keyed fits founds in
-        let asks = λ (row : HandleRow) (owns : Owns mid.core Owner.Caller o.through is_loose row).
-        subst (λ n. ReadsTree mid.core.stored v.types key (a.went.trees' n.0)) (sym (a.fits.through row owns.live)) a.reads.reads in
-        went-then a.went (by-call (Call.SetDataKey o.through key) (Reply.Done (Err e)) (λ c feels goes. set-keys o.through key (refl, refl) feels goes)
+        let asks = λ (row : HandleRow) (owns : Owns mid.core Owner.Caller o.cloned is_loose row).
+        subst (λ n. ReadsTree mid.core.stored v.types key (a.went.trees' n.0)) (sym (a.fits.cloned row owns.live)) a.reads.reads in
+        went-then a.went (by-call (Call.SetDataKey o.cloned key) (Reply.Done (Err e)) (λ c feels goes. set-keys o.cloned key (refl, refl) feels goes)
         (set-is-key a.fits a.reads) tt unset.refused (λ d. d) asks a.went.now)
 
     -- ---- turn by turn
@@ -465,7 +366,7 @@ module _ {N E : Type 0} (v : Values N) (lawful : IsLawful v) (M : Type 0) where
       pub first : (first_of a.path a.node).reference ≡ r
 
     looks-further : {s : PagerState N E} {trees : ℕ → Tree} {o : OpenNode} (next : ℕ) → OpenFits s trees o → OpenFits s trees (record o { keyed = next })
-    looks-further next f = record { given = f.given; wrote = f.wrote; typed = f.typed; small = f.small; through = f.through }
+    looks-further next f = record { given = f.given; wrote = f.wrote; typed = f.typed; small = f.small; cloned = f.cloned }
 
     turn-fits : {a b : Stage N E} {trees : ℕ → Tree} {r : ArcRef} → Turn v a b → Fits a trees r → (w : Went a.pager trees b.pager) × Fits b w.trees' r
     turn-fits {a} {b} {trees} {r} (has-key b2 next is) f =

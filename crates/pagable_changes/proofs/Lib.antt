@@ -1,3 +1,4 @@
 mod CellKeys
 mod Changing
+mod FormsOverKeys
 mod Kept

@@ -1,12 +1,19 @@
--- A page-out of nodes without a key: which nodes it enters, what it writes, stores and releases, as calls of the pager.
-use Rattle.std.specs.Prelude.{Err, List, None, Ok, Option, Result, Some, [], false, slice_get, true, ℕ, ◌++◌, ◌∷◌, ◌≡◌, ◌≢◌}
+-- A page-out of nodes without a key: which nodes it opens, what it writes, stores and releases, as calls of the pager.
 use Rattle.pagable_changes.specs.declared.{keys.FoundKey.FoundKey, nodes.OpenNode.OpenNode}
-use Rattle.{pagable_core.specs.declared.context.writing.SerializedData.SerializedData, pagable_value_spec.specs.Merkle.blob_of, pagable_pager_spec.specs.Access.MakesCall}
-use Rattle.pagable_pager_spec.specs.Calls.{CloneCall, KeyCall, LoosenCall, NodeCall, PinCall, ReleaseCall, SetKeyCall, StoreCall}
-use Rattle.pagable_pager_spec.specs.{Kinds.loose_kind, Pager.{PagerState, ValueCall}}
-use Rattle.pagable_pager_spec.specs.Basics.{Among, ArcRef, Blob, Error, HandleNumber, OptionalDataKey, is_loose_kind, type_of}
-use Rattle.pagable_pager_spec.specs.declared.{pinning.Pinning.Pinning, handle_row.Owner.Owner}
-use Rattle.pagable_pager_spec.specs.World.{Core, HasForm, Values, Written, digest, type_at}
+use Rattle.pagable_core.specs.declared.context.writing.SerializedData.{SerializedData}
+use Rattle.pagable_pager_spec.specs.{
+  Access.MakesCall,
+  Basics.{Among, ArcRef, Blob, Error, HandleNumber, OptionalDataKey, is_loose_kind, type_of},
+  Calls.{CloneCall, KeyCall, LoosenCall, NodeCall, PinCall, ReleaseCall, SetKeyCall, StoreCall},
+  Kinds.loose_kind,
+  Pager.{PagerState, ValueCall},
+  World.{Core, HasForm, Values, Written, digest, type_at},
+  declared.{handle_row.Owner.Owner, pinning.Pinning.Pinning},
+}
+use Rattle.pagable_value_spec.specs.Merkle.{blob_of}
+use Rattle.std.specs.{
+  Prelude.{Err, List, None, Ok, Option, Result, Some, false, slice_get, true, ℕ, [], ◌++◌, ◌∷◌, ◌≡◌, ◌≢◌},
+}
 
 abbrev pub written_of : SerializedData → Written
 written_of d = record { bytes = d.bytes.items; references = d.arcs.items }
@@ -31,19 +38,19 @@ pub data HasNoKey (found : FoundKeys) (w : Core) (r : ArcRef) : Type 0 where
       → KeyCall w r.handle (Ok OptionalDataKey.None) → HasNoKey found w r
   none-was-found : is_loose_kind r.kind.0 ≡ false → found r.node.0 ≡ None → HasNoKey found w r
 
-abbrev pub IsFound : FoundKeys → Core → ArcRef → Option FoundKey → Type 0
-IsFound found w r (Some k) = HasKey found w r k.key
-IsFound found w r None = HasNoKey found w r
+abbrev pub IsKeyOfTarget : FoundKeys → Core → ArcRef → Option FoundKey → Type 0
+IsKeyOfTarget found w r (Some k) = HasKey found w r k.key
+IsKeyOfTarget found w r None = HasNoKey found w r
 
 -- each reference has the key at its index
-pub data AllHave (found : FoundKeys) (w : Core) : List ArcRef → List ℕ → Type 0 where
-  none-are-asked : AllHave found w [] []
-  one-more-has : (rs : List ArcRef) (keys : List ℕ) (r : ArcRef) (key : ℕ) → AllHave found w rs keys
+pub data AllHaveKeys (found : FoundKeys) (w : Core) : List ArcRef → List ℕ → Type 0 where
+  none-are-asked : AllHaveKeys found w [] []
+  one-more-has : (rs : List ArcRef) (keys : List ℕ) (r : ArcRef) (key : ℕ) → AllHaveKeys found w rs keys
       → HasKey found w r key
-      → AllHave found w (rs ++ r ∷ []) (keys ++ key ∷ [])
+      → AllHaveKeys found w (rs ++ r ∷ []) (keys ++ key ∷ [])
 
 -- the reference at this index has a key, which is appended
-pub record TakesKey (found : FoundKeys) (w : Core) (rs : List ArcRef) (at : ℕ) (keys keys' : List ℕ) : Type 0 where
+pub record AppendsKey (found : FoundKeys) (w : Core) (rs : List ArcRef) (at : ℕ) (keys keys' : List ℕ) : Type 0 where
   pub r : ArcRef
   pub key : ℕ
   pub there : slice_get rs at ≡ Some r
@@ -51,9 +58,9 @@ pub record TakesKey (found : FoundKeys) (w : Core) (rs : List ArcRef) (at : ℕ)
   pub added : keys' ≡ keys ++ key ∷ []
 
 -- the blob of a node whose references all have keys: what was written of it, with these keys
-pub record IsOver (found : FoundKeys) (w : Core) (o : OpenNode) (blob : Blob) : Type 0 where
+pub record IsBlobOfNode (found : FoundKeys) (w : Core) (o : OpenNode) (blob : Blob) : Type 0 where
   pub keys : List ℕ
-  pub have : AllHave found w (written_of o.written).references keys
+  pub have : AllHaveKeys found w (written_of o.written).references keys
   pub is : blob ≡ blob_of (written_of o.written).bytes keys
 
 -- a form of the value that lists exactly its references
@@ -72,7 +79,7 @@ abbrev pub stage : {N E : Type 0} → List OpenNode → OpenNode → FoundKeys �
 stage path node found s = record { path = path; node = node; found = found; pager = s }
 
 -- the handle as a loose reference to its cell
-pub record IsRoot (w : Core) (h : HandleNumber) (r : ArcRef) : Type 0 where
+pub record IsReferenceToCellOf (w : Core) (h : HandleNumber) (r : ArcRef) : Type 0 where
   pub handle : r.handle ≡ h
   pub at : NodeCall w h (Ok r.node)
   pub t : ℕ
@@ -99,12 +106,12 @@ module _ {N E : Type 0} (v : Values N) where
   abbrev pub StoresBlob : PagerState N E → Blob → Result ℕ Error → PagerState N E → Type 0
   StoresBlob s blob r s' = MakesCall v (λ w'. StoreCall (digest v) s.core blob r w') s s'
 
-  -- The two handles of a taken node are released. They are one handle if the node's reference isn't loose.
-  pub data LetsGo (through pin : HandleNumber) (s : PagerState N E) : PagerState N E → Type 0 where
+  -- The two handles of an open node are released. They are one handle if the node's reference isn't loose.
+  pub data ReleasesBoth (cloned pin : HandleNumber) (s : PagerState N E) : PagerState N E → Type 0 where
     both-go : (told freed : Result (Unit {0}) Error) (mid s' : PagerState N E) → Releases s pin told mid
-        → Releases mid through freed s' → LetsGo through pin s s'
-    one-goes : (told : Result (Unit {0}) Error) (s' : PagerState N E) → pin ≡ through → Releases s pin told s'
-        → LetsGo through pin s s'
+        → Releases mid cloned freed s' → ReleasesBoth cloned pin s s'
+    one-goes : (told : Result (Unit {0}) Error) (s' : PagerState N E) → pin ≡ cloned → Releases s pin told s'
+        → ReleasesBoth cloned pin s s'
 
   -- a cell whose value is in memory is pinned by a loose handle
   pub data PinsLoosely (c : HandleNumber) (s : PagerState N E) : Result HandleNumber Error → PagerState N E
@@ -115,22 +122,22 @@ module _ {N E : Type 0} (v : Values N) where
         → PinsLoosely c s (Err Error.WrongMode) s'
     cell-is-not-pinned : (e : Error) (s' : PagerState N E) → Pins s c (Err e) s' → PinsLoosely c s (Err e) s'
 
-  -- The page-out takes a reference's node: it clones the handle, and for a loose reference pins the cell by the clone,
+  -- The page-out pins a reference's node: it clones the handle, and for a loose reference pins the cell by the clone,
   -- which it first makes loose if it is Pinned.
-  pub data Takes (r : ArcRef) (s : PagerState N E) : HandleNumber → HandleNumber → PagerState N E → Type 0 where
+  pub data PinsNode (r : ArcRef) (s : PagerState N E) : HandleNumber → HandleNumber → PagerState N E → Type 0 where
     cell-is-taken : (c k : HandleNumber) (told : Result HandleNumber Error) (mid low s' : PagerState N E)
         → is_loose_kind r.kind.0 ≡ true
-        → Clones s r.handle (Ok c) mid → Loosens mid c told low → PinsLoosely c low (Ok k) s' → Takes r s c k s'
+        → Clones s r.handle (Ok c) mid → Loosens mid c told low → PinsLoosely c low (Ok k) s' → PinsNode r s c k s'
     node-is-taken : (c : HandleNumber) (s' : PagerState N E) → is_loose_kind r.kind.0 ≡ false
-        → Clones s r.handle (Ok c) s' → Takes r s c c s'
+        → Clones s r.handle (Ok c) s' → PinsNode r s c c s'
 
-  -- it fails to take the node, and releases a clone that it made
-  pub data TakeFails (r : ArcRef) (s : PagerState N E) : Error → PagerState N E → Type 0 where
-    clone-is-refused : (e : Error) (s' : PagerState N E) → Clones s r.handle (Err e) s' → TakeFails r s e s'
+  -- it fails to pin the node, and releases a clone that it made
+  pub data PinNodeFails (r : ArcRef) (s : PagerState N E) : Error → PagerState N E → Type 0 where
+    clone-is-refused : (e : Error) (s' : PagerState N E) → Clones s r.handle (Err e) s' → PinNodeFails r s e s'
     pin-is-refused : (c : HandleNumber) (told : Result HandleNumber Error) (freed : Result (Unit {0}) Error) (e : Error)
         (mid low late s' : PagerState N E)
         → Clones s r.handle (Ok c) mid → Loosens mid c told low → PinsLoosely c low (Err e) late
-        → Releases late c freed s' → TakeFails r s e s'
+        → Releases late c freed s' → PinNodeFails r s e s'
 
   -- the value that a handle pins is written; it is of the reference's type
   pub record Writes (s : PagerState N E) (r : ArcRef) (pin : HandleNumber) (written : Written) : Type 0 where
@@ -140,111 +147,113 @@ module _ {N E : Type 0} (v : Values N) where
     pub form : IsFormOf v x written
 
   -- the value is written, and both handles are of the reference's node
-  pub record WritesTaken (s : PagerState N E) (r : ArcRef) (through pin : HandleNumber)
+  pub record WritesNode (s : PagerState N E) (r : ArcRef) (cloned pin : HandleNumber)
       (written : Written) : Type 0 where
-    pub at : NodeCall s.core through (Ok r.node)
+    pub at : NodeCall s.core cloned (Ok r.node)
     pub pin_at : NodeCall s.core pin (Ok r.node)
     pub writes : Writes s r pin written
 
-  -- the page-out takes a reference's node and writes it
-  pub record Enters (r : ArcRef) (s : PagerState N E) (o : OpenNode) (s' : PagerState N E) : Type 0 where
+  -- the page-out opens a reference's node: it pins the node and writes it
+  pub record OpensNode (r : ArcRef) (s : PagerState N E) (o : OpenNode) (s' : PagerState N E) : Type 0 where
     pub of : o.reference ≡ r
-    pub takes : Takes r s o.through o.pin s'
-    pub writes : WritesTaken s' r o.through o.pin (written_of o.written)
+    pub takes : PinsNode r s o.cloned o.pin s'
+    pub writes : WritesNode s' r o.cloned o.pin (written_of o.written)
 
   -- it fails, and keeps nothing of the node
-  pub data EnterFails (r : ArcRef) (s : PagerState N E) : Error → PagerState N E → Type 0 where
-    isnt-taken : (e : Error) (s' : PagerState N E) → TakeFails r s e s' → EnterFails r s e s'
-    isnt-written : (e : Error) (c k : HandleNumber) (mid s' : PagerState N E) → Takes r s c k mid → LetsGo c k mid s'
-        → EnterFails r s e s'
+  pub data OpenNodeFails (r : ArcRef) (s : PagerState N E) : Error → PagerState N E → Type 0 where
+    isnt-taken : (e : Error) (s' : PagerState N E) → PinNodeFails r s e s' → OpenNodeFails r s e s'
+    isnt-written : (e : Error) (c k : HandleNumber) (mid s' : PagerState N E) → PinsNode r s c k mid
+        → ReleasesBoth c k mid s'
+        → OpenNodeFails r s e s'
 
   -- A cell gets its key. For a node that the page-out didn't reach by a loose reference the key is found from now on.
-  pub data SetsFor (found : FoundKeys) (o : OpenNode) (key : ℕ) (s : PagerState N E) : FoundKeys → PagerState N E
+  pub data RecordsKey (found : FoundKeys) (o : OpenNode) (key : ℕ) (s : PagerState N E) : FoundKeys → PagerState N E
       → Type 0 where
     cell-gets-key : (found' : FoundKeys) (s' : PagerState N E) → is_loose_kind o.reference.kind.0 ≡ true
-        → SetsKey s o.through key (Ok tt) s'
-        → ((n : ℕ) → found' n ≡ found n) → SetsFor found o key s found' s'
+        → SetsKey s o.cloned key (Ok tt) s'
+        → ((n : ℕ) → found' n ≡ found n) → RecordsKey found o key s found' s'
     key-is-found : (k : FoundKey) (found' : FoundKeys) → is_loose_kind o.reference.kind.0 ≡ false → k.key ≡ key
         → found' o.reference.node.0 ≡ Some k → ((n : ℕ) → n ≢ o.reference.node.0 → found' n ≡ found n)
-        → SetsFor found o key s found' s
+        → RecordsKey found o key s found' s
 
   -- A node whose references all have keys is stored with these, gets its key, and its handles are released.
   pub record FinishesOpenNode (found : FoundKeys) (s : PagerState N E) (o : OpenNode) (key : ℕ) (found' : FoundKeys)
       (s' : PagerState N E) : Type 0 where
     pub keys : List ℕ
-    pub have : AllHave found s.core (written_of o.written).references keys
+    pub have : AllHaveKeys found s.core (written_of o.written).references keys
     pub mid : PagerState N E
     pub stores : StoresBlob s (blob_of (written_of o.written).bytes keys) (Ok key) mid
     pub low : PagerState N E
-    pub sets : SetsFor found o key mid found' low
-    pub lets : LetsGo o.through o.pin low s'
+    pub sets : RecordsKey found o key mid found' low
+    pub lets : ReleasesBoth o.cloned o.pin low s'
 
   -- setting a cell's key fails
   pub record SetKeyFails (o : OpenNode) (key : ℕ) (s : PagerState N E) (e : Error) (s' : PagerState N E) : Type 0 where
     pub of_cell : is_loose_kind o.reference.kind.0 ≡ true
-    pub refused : SetsKey s o.through key (Err e) s'
+    pub refused : SetsKey s o.cloned key (Err e) s'
 
   -- leaving a node fails: before its blob is stored, or at storing it, or at setting its key
   pub data FinishFails (found : FoundKeys) (s : PagerState N E) (o : OpenNode) : Error → PagerState N E → Type 0 where
     nothing-is-stored : (e : Error) → FinishFails found s o e s
     blob-is-refused : (e : Error) (keys : List ℕ) (s' : PagerState N E)
-        → AllHave found s.core (written_of o.written).references keys
+        → AllHaveKeys found s.core (written_of o.written).references keys
         → StoresBlob s (blob_of (written_of o.written).bytes keys) (Err e) s' → FinishFails found s o e s'
     key-is-refused : (e : Error) (key : ℕ) (keys : List ℕ) (mid s' : PagerState N E)
-        → AllHave found s.core (written_of o.written).references keys
+        → AllHaveKeys found s.core (written_of o.written).references keys
         → StoresBlob s (blob_of (written_of o.written).bytes keys) (Ok key) mid → SetKeyFails o key mid e s'
         → FinishFails found s o e s'
 
-  -- A turn: the next reference has a key and is passed; or it has none, its target is entered and this node waits; or
+  -- A turn: the next reference has a key and is passed; or it has none, its target is opened and this node waits; or
   -- all have keys, and the node is left for the one that waits for it.
   pub data Turn (a : Stage N E) : Stage N E → Type 0 where
     has-key : (b : Stage N E) (next : ℕ) → b ≡ record a { node = record a.node { keyed = next } } → Turn a b
     goes-down : (b : Stage N E) (r : ArcRef) → Among (written_of a.node.written).references r
         → HasNoKey a.found a.pager.core r → b.path ≡ a.path ++ a.node ∷ []
-        → b.found ≡ a.found → Enters r a.pager b.node b.pager → Turn a b
+        → b.found ≡ a.found → OpensNode r a.pager b.node b.pager → Turn a b
     goes-up : (b : Stage N E) (key : ℕ) → a.path ≡ b.path ++ b.node ∷ []
         → FinishesOpenNode a.found a.pager a.node key b.found b.pager → Turn a b
 
   -- a turn; or the last node is left, and its key is returned
-  pub data Turned (a : Stage N E) : Option ℕ → Stage N E → Type 0 where
-    turns-once : (b : Stage N E) → Turn a b → Turned a None b
+  pub data MakesTurn (a : Stage N E) : Option ℕ → Stage N E → Type 0 where
+    turns-once : (b : Stage N E) → Turn a b → MakesTurn a None b
     last-is-left : (key : ℕ) (b : Stage N E) → a.path ≡ [] → FinishesOpenNode a.found a.pager a.node key b.found b.pager
-        → Turned a (Some key) b
+        → MakesTurn a (Some key) b
 
   -- some turns, one after another
   pub data Turns : Stage N E → Stage N E → Type 0 where
     no-turn : (a : Stage N E) → Turns a a
     one-more-turn : (a b c : Stage N E) → Turns a b → Turn b c → Turns a c
 
-  -- a reference's target is entered and this node waits; or entering it fails
-  pub record GoesDown (r : ArcRef) (path : List OpenNode) (o : OpenNode) (s : PagerState N E) (path' : List OpenNode)
+  -- a reference's target is opened and this node waits; or opening it fails
+  pub record OpensChild (r : ArcRef) (path : List OpenNode) (o : OpenNode) (s : PagerState N E) (path' : List OpenNode)
       (o' : OpenNode) (s' : PagerState N E) : Type 0 where
     pub waits : path' ≡ path ++ o ∷ []
-    pub enters : Enters r s o' s'
+    pub enters : OpensNode r s o' s'
 
-  pub data GoesNowhere (r : ArcRef) (s : PagerState N E) : Error → PagerState N E → Type 0 where
-    way-is-refused : (e : Error) → GoesNowhere r s e s
-    node-is-refused : (e : Error) (s' : PagerState N E) → EnterFails r s e s' → GoesNowhere r s e s'
+  pub data OpenChildFails (r : ArcRef) (s : PagerState N E) : Error → PagerState N E → Type 0 where
+    way-is-refused : (e : Error) → OpenChildFails r s e s
+    node-is-refused : (e : Error) (s' : PagerState N E) → OpenNodeFails r s e s' → OpenChildFails r s e s'
 
   -- a turn fails
   pub data TurnFails (a : Stage N E) : Error → PagerState N E → Type 0 where
     nothing-is-done : (e : Error) → TurnFails a e a.pager
     isnt-entered : (e : Error) (r : ArcRef) (s' : PagerState N E) → Among (written_of a.node.written).references r
         → HasNoKey a.found a.pager.core r
-        → GoesNowhere r a.pager e s' → TurnFails a e s'
+        → OpenChildFails r a.pager e s' → TurnFails a e s'
     isnt-left : (e : Error) (s' : PagerState N E) → FinishFails a.found a.pager a.node e s' → TurnFails a e s'
 
   -- the handles of these nodes are released, from the last node to the first
   pub data ReleasesPath : List OpenNode → PagerState N E → PagerState N E → Type 0 where
     none-is-open : (s : PagerState N E) → ReleasesPath [] s s
-    one-goes-first : (path : List OpenNode) (o : OpenNode) (s mid s' : PagerState N E) → LetsGo o.through o.pin s mid
+    one-goes-first : (path : List OpenNode) (o : OpenNode) (s mid s' : PagerState N E)
+        → ReleasesBoth o.cloned o.pin s mid
         → ReleasesPath path mid s' → ReleasesPath (path ++ o ∷ []) s s'
 
   -- turns that lead from one stage to the last node, which is left; or to an error, with the nodes that were open then
-  pub record TurnsOut (a : Stage N E) (key : ℕ) (b : Stage N E) : Type 0 where
+  pub record TurnsUntilKey (a : Stage N E) (key : ℕ) (b : Stage N E) : Type 0 where
     pub last : Stage N E
     pub so : Turns a last
-    pub out : Turned last (Some key) b
+    pub out : MakesTurn last (Some key) b
 
   pub record TurnsFail (a : Stage N E) (e : Error) (path : List OpenNode) (node : OpenNode)
       (s' : PagerState N E) : Type 0 where
@@ -254,22 +263,23 @@ module _ {N E : Type 0} (v : Values N) where
     pub path_is : path ≡ last.path
     pub node_is : node ≡ last.node
 
-  -- The walk from an entered node: turns until the last node is left, or until an error, after which all handles are
+  -- The walk from an open node: turns until the last node is left, or until an error, after which all handles are
   -- released.
   pub data Walks (first : OpenNode) (s : PagerState N E) : Result ℕ Error → PagerState N E → Type 0 where
     all-is-stored : (a b : Stage N E) (key : ℕ) → Turns (stage [] first nothing_found s) a → a.path ≡ []
         → FinishesOpenNode a.found a.pager a.node key b.found b.pager → Walks first s (Ok key) b.pager
     walk-is-refused : (a : Stage N E) (e : Error) (mid low s' : PagerState N E)
         → Turns (stage [] first nothing_found s) a → TurnFails a e mid
-        → LetsGo a.node.through a.node.pin mid low → ReleasesPath a.path low s' → Walks first s (Err e) s'
+        → ReleasesBoth a.node.cloned a.node.pin mid low → ReleasesPath a.path low s' → Walks first s (Err e) s'
 
   -- the page-out of a handle's cell that has no key: the walk from it
   pub data PagesOutKeyless (s : PagerState N E) (h : HandleNumber) : Result ℕ Error → PagerState N E → Type 0 where
     nothing-is-begun : (e : Error) → PagesOutKeyless s h (Err e) s
-    root-is-refused : (r : ArcRef) (e : Error) (s' : PagerState N E) → IsRoot s.core h r → EnterFails r s e s'
+    root-is-refused : (r : ArcRef) (e : Error) (s' : PagerState N E) → IsReferenceToCellOf s.core h r
+        → OpenNodeFails r s e s'
         → PagesOutKeyless s h (Err e) s'
     root-is-walked : (r : ArcRef) (first : OpenNode) (answer : Result ℕ Error) (mid s' : PagerState N E)
-        → IsRoot s.core h r → Enters r s first mid
+        → IsReferenceToCellOf s.core h r → OpensNode r s first mid
         → Walks first mid answer s' → PagesOutKeyless s h answer s'
 
   -- The page-out of a handle's cell: the key that the cell has, or the walk from it.

@@ -1,5 +1,6 @@
 -- What calls leave as it was in a pager.
-use Rattle.{pagable_pager.specs.View.PagerView, std.specs.Prelude.◌≡◌}
+use Rattle.pagable_pager.specs.View.{PagerView}
+use Rattle.std.specs.Prelude.{◌≡◌}
 
 -- storage and environment are the same
 pub record KeepsStorage {N S E : Type 0} (old new : PagerView N S E) : Type 0 where

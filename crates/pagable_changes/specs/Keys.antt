@@ -1,9 +1,16 @@
 -- The law of a page-out that takes the keys of cells: nodes keep their trees, the returned key is read as the root's
 -- tree, and it is the root's Merkle key if the keys that it took are Merkle keys.
+use Rattle.pagable_changes.specs.Changes.{PagesOutChanged}
+use Rattle.pagable_pager_spec.specs.{
+  Basics.{Error, HandleNumber, OptionalDataKey, ReadsTree, Tree},
+  Pager.{IsPagerWhole, PagerStandsFor, PagerState, SameTrees},
+  Runs.HoldsSettled,
+  World.{IsLawful, Values, key_at, row_at},
+  declared.handle_row.HandleRow.HandleRow,
+}
+use Rattle.pagable_theorems.specs.PageOutLaws.{NobodyWorks}
+use Rattle.pagable_value_spec.specs.{Canonical.IsReadableType, Merkle.KeyOf}
 use Rattle.std.specs.Prelude.{IfOk, Result, Some, ℕ, ◌≡◌}
-use Rattle.{pagable_changes.specs.Changes.PagesOutChanged, pagable_theorems.specs.PageOutLaws.NobodyWorks, pagable_value_spec.specs.{Canonical.IsReadableType, Merkle.KeyOf}}
-use Rattle.pagable_pager_spec.specs.Pager.{PagerState, PagerStandsFor, SameTrees, IsPagerWhole}
-use Rattle.pagable_pager_spec.specs.{Basics.{Error, HandleNumber, OptionalDataKey, ReadsTree, Tree}, Runs.HoldsSettled, World.{IsLawful, Values, key_at, row_at}, declared.handle_row.HandleRow.HandleRow}
 
 -- each cell that has a key has the Merkle key of its tree
 abbrev pub HasMerkleKeys : {N E : Type 0} → Values N → PagerState N E → (ℕ → Tree) → Type 0

@@ -1,12 +1,16 @@
 //! The pager's calls that a page-out makes. Each function here makes one call (`release_both` two), and
 //! states after it that the pager's invariant holds.
 
-ghost use Rattle.std.specs.Prelude.{IsTrue, Ok, true, ◌≡◌};
-ghost use Rattle.pagable_changes.specs.{Changes.LetsGo, Keeping.KeepsStorage};
-ghost use Rattle.{pagable_core.specs.Data.blob_of, pagable_load.specs.AccessView.values_at, pagable_value_spec.specs.Blob.key_of};
+ghost use Rattle.pagable_changes.specs.{Changes.ReleasesBoth, Keeping.KeepsStorage};
+ghost use Rattle.pagable_core.specs.Data.{blob_of};
+ghost use Rattle.pagable_load.specs.AccessView.{values_at};
 ghost use Rattle.pagable_pager.specs.View.{pager_core, pager_state, storage_view};
-ghost use Rattle.pagable_pager_spec.specs.Access.{MakesCall};
-ghost use Rattle.pagable_pager_spec.specs.Calls.{CloneCall, LoosenCall, NodeCall, PinCall, ReleaseCall, SetKeyCall, StoreCall};
+ghost use Rattle.pagable_pager_spec.specs.{
+  Access.MakesCall,
+  Calls.{CloneCall, LoosenCall, NodeCall, PinCall, ReleaseCall, SetKeyCall, StoreCall},
+};
+ghost use Rattle.pagable_value_spec.specs.Blob.{key_of};
+ghost use Rattle.std.specs.Prelude.{IsTrue, Ok, true, ◌≡◌};
 ghost use Rattle.pagable_pager_spec.specs.declared.handle_row.Owner.TheVariants as owners;
 
 use pagable_codec::{Env, NodeSet};
@@ -17,7 +21,7 @@ use pagable_value_spec::{DataKey, Error, HandleNumber, NodeNumber};
 use std::alloc::Global;
 
 // Returns whether the handle is live and of this node.
-pub(crate) fn is_at<E: Env<Node: NodeSet<E>>, S: PagableStorage<E>>(
+pub(crate) fn is_handle_of<E: Env<Node: NodeSet<E>>, S: PagableStorage<E>>(
     pager: &Pager<E, S>,
     handle: HandleNumber,
     node: NodeNumber,
@@ -125,20 +129,20 @@ pub(crate) fn store<E: Env<Node: NodeSet<E>>, S: PagableStorage<E>>(
     stored
 }
 
-// Releases the two handles of a node that the page-out took. They are one handle if the node's
-// reference isn't loose.
+// Releases the page-out's two handles of a node: the one that pins it, and the clone of its
+// reference's handle. They are one handle if the reference isn't loose.
 pub(crate) fn release_both<E: Env<Node: NodeSet<E>>, S: PagableStorage<E>>(
     pager: &mut Pager<E, S>,
-    through: HandleNumber,
+    cloned: HandleNumber,
     pin: HandleNumber,
 )
-    ensures lets { LetsGo (values_at E.Node.NodeSet E.Env E.Hash.KeyHash pager.old.environment) through pin
+    ensures releases { ReleasesBoth (values_at E.Node.NodeSet E.Env E.Hash.KeyHash pager.old.environment) cloned pin
         (pager_state (storage_view S.PagableStorage) pager.old)
         (pager_state (storage_view S.PagableStorage) pager.new) }
     ensures keeps { KeepsStorage pager.old pager.new }
 {
     let _unpinned = release(pager, pin);
-    if pin.0 != through.0 {
-        let _released = release(pager, through);
+    if pin.0 != cloned.0 {
+        let _released = release(pager, cloned);
     }
 }

@@ -1,10 +1,14 @@
 //! The page-out of a root, at the cost of what changed.
 
-ghost use Rattle.std.specs.Prelude.{IfOk, IsTrue, ◌≡◌};
-ghost use Rattle.{pagable_changes.specs.{Changes.{IsRoot, PagesOutChanged, PagesOutKeyless}, Keys.KeepsTrees}, pagable_load.specs.AccessView.values_at};
+ghost use Rattle.pagable_changes.specs.{
+  Changes.{IsReferenceToCellOf, PagesOutChanged, PagesOutKeyless},
+  Keys.KeepsTrees,
+};
+ghost use Rattle.pagable_load.specs.AccessView.{values_at};
 ghost use Rattle.pagable_pager.specs.View.{pager_core, pager_state, storage_view};
+ghost use Rattle.std.specs.Prelude.{IfOk, IsTrue, ◌≡◌};
 
-use crate::nodes::enter;
+use crate::nodes::open_node;
 use crate::turns::walk;
 use pagable_codec::{Env, NodeSet};
 use pagable_core::PagableStorage;
@@ -17,7 +21,7 @@ fn root_of<E: Env<Node: NodeSet<E>>, S: PagableStorage<E>>(
     pager: &Pager<E, S>,
     handle: HandleNumber,
 ) -> Result<ArcRef, Error>
-    ensures { IfOk result (λ r. IsRoot (pager_core (storage_view S.PagableStorage) pager.now) handle r) }
+    ensures { IfOk result (λ r. IsReferenceToCellOf (pager_core (storage_view S.PagableStorage) pager.now) handle r) }
 {
     let node = pager.node_of(handle)?;
     let Some(node_type) = pager.node_live(node) else {
@@ -46,7 +50,7 @@ fn page_out_keyless<E: Env<Node: NodeSet<E>>, S: PagableStorage<E>>(
         Ok(root) => root,
         Err(e) => return Err(e),
     };
-    let first = match enter(alloc, pager, root, 0) {
+    let first = match open_node(alloc, pager, root, 0) {
         Ok(first) => first,
         Err(e) => return Err(e),
     };
@@ -101,7 +105,7 @@ pub fn page_out_changed<E: Env<Node: NodeSet<E>>, S: PagableStorage<E>>(
         → PagesOutChanged (values_at E.Node.NodeSet E.Env E.Hash.KeyHash pager.old.environment)
         (pager_state (storage_view S.PagableStorage) pager.old) handle result
         (pager_state (storage_view S.PagableStorage) pager.new) }
-    ensures reads { IsTrue (S.is_honest pager.new.storage)
+    ensures keeps_trees { IsTrue (S.is_honest pager.new.storage)
         → KeepsTrees (values_at E.Node.NodeSet E.Env E.Hash.KeyHash pager.old.environment)
         (pager_state (storage_view S.PagableStorage) pager.old) handle result
         (pager_state (storage_view S.PagableStorage) pager.new) }

@@ -1,11 +1,12 @@
 //! The keys of references: a cell's own key, or the key that this page-out found for another node.
 
-ghost use Rattle.std.specs.Prelude.{[], IfOk, Ok, OnOk, slice_get, ◌++◌, ◌∷◌, ◌≡◌};
-ghost use Rattle.{pagable_changes.specs.Changes.{AllHave, IsFound, TakesKey}, pagable_pager_spec.specs.Calls.{KeyCall, NodeCall}};
+ghost use Rattle.pagable_changes.specs.Changes.{AllHaveKeys, AppendsKey, IsKeyOfTarget};
 ghost use Rattle.pagable_pager.specs.View.{pager_core, storage_view};
+ghost use Rattle.pagable_pager_spec.specs.Calls.{KeyCall, NodeCall};
 ghost use Rattle.pagable_tables.specs.NumberTable.{row_by};
+ghost use Rattle.std.specs.Prelude.{IfOk, Ok, OnOk, slice_get, [], ◌++◌, ◌∷◌, ◌≡◌};
 
-use crate::calls::is_at;
+use crate::calls::is_handle_of;
 use pagable_codec::{Env, NodeSet};
 use pagable_core::PagableStorage;
 use pagable_pager::Pager;
@@ -27,7 +28,8 @@ pub struct FoundKey {
 /// node number.
 pub(crate) type FoundKeys = NumberTable<FoundKey>;
 
-// Returns what was found for a node.
+// Returns the key that the page-out found for a node, with the length of the longest path below the
+// node. Returns None if it found none yet.
 fn found_at(found: &FoundKeys, node: NodeNumber) -> Option<FoundKey>
     ensures { result ≡ row_by found.now node.0 }
 {
@@ -39,12 +41,13 @@ fn cell_key<E: Env<Node: NodeSet<E>>, S: PagableStorage<E>>(
     pager: &Pager<E, S>,
     reference: ArcRef,
 ) -> Result<OptionalDataKey, Error>
-    ensures at { IfOk result (λ key. NodeCall (pager_core (storage_view S.PagableStorage) pager.now) reference.handle
+    ensures of_node { IfOk result (λ key. NodeCall (pager_core (storage_view S.PagableStorage)
+        pager.now) reference.handle
         (Ok reference.node)) }
     ensures key { IfOk result (λ key. KeyCall (pager_core (storage_view S.PagableStorage) pager.now) reference.handle
         (Ok key)) }
 {
-    if !is_at(pager, reference.handle, reference.node) {
+    if !is_handle_of(pager, reference.handle, reference.node) {
         return Err(Error::NoSuchHandle);
     }
     match pager.key(reference.handle) {
@@ -55,12 +58,12 @@ fn cell_key<E: Env<Node: NodeSet<E>>, S: PagableStorage<E>>(
 
 /// Returns the key of a reference's target: for a loose reference its cell's key, else the key that
 /// was found before. Returns None if the target has no key yet. Fails with `NoSuchHandle` only.
-pub(crate) fn find<E: Env<Node: NodeSet<E>>, S: PagableStorage<E>>(
+pub(crate) fn find_key<E: Env<Node: NodeSet<E>>, S: PagableStorage<E>>(
     pager: &Pager<E, S>,
     found: &FoundKeys,
     reference: ArcRef,
 ) -> Result<Option<FoundKey>, Error>
-    ensures { IfOk result (λ key. IsFound (λ n. row_by found.now n)
+    ensures { IfOk result (λ key. IsKeyOfTarget (λ n. row_by found.now n)
         (pager_core (storage_view S.PagableStorage) pager.now)
         reference key) }
 {
@@ -77,8 +80,8 @@ pub(crate) fn find<E: Env<Node: NodeSet<E>>, S: PagableStorage<E>>(
     }
 }
 
-// Returns the height that a reference of this kind gives to its holder, if its target has this
-// height.
+// Returns the length of the longest path from the holder of a reference through its target, whose
+// own longest path has the length `height`: 0 for a loose reference, else one more.
 fn height_above(reference: ArcRef, height: u64) -> u64 {
     if reference.kind.is_loose() {
         0
@@ -102,8 +105,8 @@ fn reference_at(references: &Vec<ArcRef>, at: usize) -> Option<ArcRef>
     references.get(at).copied()
 }
 
-// Appends the key of the reference at this index, and returns the height that it gives to its
-// holder. Fails with `TooDeep` if the reference has no key.
+// Appends the key of the target of the reference at this index, and returns the length of the
+// longest path through that reference. Fails with `TooDeep` if the target has no key yet.
 fn append_key_at<E: Env<Node: NodeSet<E>>, S: PagableStorage<E>>(
     pager: &Pager<E, S>,
     found: &FoundKeys,
@@ -111,13 +114,13 @@ fn append_key_at<E: Env<Node: NodeSet<E>>, S: PagableStorage<E>>(
     at: usize,
     keys: &mut Vec<DataKey>,
 ) -> Result<u64, Error>
-    ensures { OnOk result (TakesKey (λ n. row_by found.now n) (pager_core (storage_view S.PagableStorage) pager.now)
+    ensures { OnOk result (AppendsKey (λ n. row_by found.now n) (pager_core (storage_view S.PagableStorage) pager.now)
         references.now.items at keys.old.items keys.new.items) }
 {
     let Some(reference) = reference_at(references, at) else {
         return Err(Error::TooDeep);
     };
-    let known = match find(pager, found, reference) {
+    let known = match find_key(pager, found, reference) {
         Ok(known) => known,
         Err(e) => return Err(e),
     };
@@ -130,15 +133,17 @@ fn append_key_at<E: Env<Node: NodeSet<E>>, S: PagableStorage<E>>(
     }
 }
 
-/// Collects the keys of what these references name, and returns them with the height of the node
-/// that holds the references. Fails with `TooDeep` if one has no key yet.
+/// Collects the keys of the targets of these references, and returns them with the length of the
+/// longest path below the node that holds the references. Fails with `TooDeep` if a target has no
+/// key yet.
 pub(crate) fn collect_keys<E: Env<Node: NodeSet<E>>, S: PagableStorage<E>>(
     alloc: Global,
     pager: &Pager<E, S>,
     found: &FoundKeys,
     references: &Vec<ArcRef>,
 ) -> Result<(Vec<DataKey>, u64), Error>
-    ensures { IfOk result (λ r. AllHave (λ n. row_by found.now n) (pager_core (storage_view S.PagableStorage) pager.now)
+    ensures { IfOk result (λ r. AllHaveKeys (λ n. row_by found.now n)
+        (pager_core (storage_view S.PagableStorage) pager.now)
         references.now.items r.0.items) }
 {
     let mut keys = Vec::with_capacity(alloc, references.len())?;

@@ -1,12 +1,16 @@
 //! Nodes that a page-out is writing: it pins each, writes its value, and keeps both until the blob
 //! is stored.
 
+ghost use Rattle.pagable_changes.specs.{
+  Changes.{IsFormOf, OpenNodeFails, OpensNode, PinNodeFails, PinsLoosely, PinsNode, Writes, WritesNode, written_of},
+  Keeping.KeepsStorage,
+};
+ghost use Rattle.pagable_load.specs.AccessView.{values_at};
+ghost use Rattle.pagable_pager.specs.View.{pager_state, storage_view};
+ghost use Rattle.pagable_pager_spec.specs.Basics.{is_loose_kind};
 ghost use Rattle.std.specs.Prelude.{IfErr, IfOk, true, ◌≡◌};
-ghost use Rattle.pagable_changes.specs.Changes.{EnterFails, Enters, IsFormOf, PinsLoosely, TakeFails, Takes, Writes, WritesTaken, written_of};
-ghost use Rattle.{pagable_changes.specs.Keeping.KeepsStorage, pagable_load.specs.AccessView.values_at};
-ghost use Rattle.{pagable_pager.specs.View.{pager_state, storage_view}, pagable_pager_spec.specs.Basics.is_loose_kind};
 
-use crate::calls::{clone, is_at, loosen, pin, release, release_both};
+use crate::calls::{clone, is_handle_of, loosen, pin, release, release_both};
 use pagable_codec::{Env, NodeSet};
 use pagable_core::{PagableStorage, SerializedData, SerializerForPaging, SessionOf};
 use pagable_pager::Pager;
@@ -21,12 +25,12 @@ pub struct OpenNode {
     pub reference: ArcRef,
     /// Its depth: how many references, none of them loose, lead to it from the last cell on the
     /// path.
-    pub place: u64,
-    /// The page-out's handle in the reference's mode, and its handle that pins the node. They are
-    /// one handle if the reference isn't loose.
-    pub through: HandleNumber,
+    pub depth: u64,
+    /// Two handles of the node that the page-out owns: a clone of the reference's handle, and the
+    /// handle that pins the node. They are one handle if the reference isn't loose.
+    pub cloned: HandleNumber,
     pub pin: HandleNumber,
-    /// The form of its value.
+    /// The node's value, written: its bytes and its references.
     pub written: SerializedData,
     /// How many of its references, from the first on, were found to have a key.
     pub keyed: usize,
@@ -52,27 +56,28 @@ fn pin_loosely<E: Env<Node: NodeSet<E>>, S: PagableStorage<E>>(
 
 // Pins a loose reference's cell: clones the reference's handle (and makes the clone loose if it is
 // Pinned), and pins the cell by the clone. Returns the clone and the new Pinned handle.
-fn take_loose<E: Env<Node: NodeSet<E>>, S: PagableStorage<E>>(
+fn pin_loose_node<E: Env<Node: NodeSet<E>>, S: PagableStorage<E>>(
     pager: &mut Pager<E, S>,
     reference: ArcRef,
 ) -> Result<(HandleNumber, HandleNumber), Error>
     requires loose { is_loose_kind reference.kind.0 ≡ true }
-    ensures takes { IfOk result (λ t. Takes (values_at E.Node.NodeSet E.Env E.Hash.KeyHash pager.old.environment)
+    ensures pins { IfOk result (λ t. PinsNode (values_at E.Node.NodeSet E.Env E.Hash.KeyHash pager.old.environment)
         reference
         (pager_state (storage_view S.PagableStorage) pager.old) t.0 t.1
         (pager_state (storage_view S.PagableStorage) pager.new)) }
-    ensures fails { IfErr result (λ e. TakeFails (values_at E.Node.NodeSet E.Env E.Hash.KeyHash pager.old.environment)
+    ensures fails { IfErr result (λ e. PinNodeFails (values_at E.Node.NodeSet E.Env E.Hash.KeyHash
+        pager.old.environment)
         reference
         (pager_state (storage_view S.PagableStorage) pager.old) e
         (pager_state (storage_view S.PagableStorage) pager.new)) }
     ensures keeps { KeepsStorage pager.old pager.new }
 {
-    let through = clone(pager, reference.handle)?;
-    let _turned = loosen(pager, through);
-    match pin_loosely(pager, through) {
-        Ok(pin) => Ok((through, pin)),
+    let cloned = clone(pager, reference.handle)?;
+    let _turned = loosen(pager, cloned);
+    match pin_loosely(pager, cloned) {
+        Ok(pin) => Ok((cloned, pin)),
         Err(e) => {
-            let _released = release(pager, through);
+            let _released = release(pager, cloned);
             Err(e)
         }
     }
@@ -80,30 +85,31 @@ fn take_loose<E: Env<Node: NodeSet<E>>, S: PagableStorage<E>>(
 
 // Pins a reference's node. Returns a clone of the reference's handle, and the handle that pins the
 // node: the clone itself, if the reference isn't loose.
-fn take<E: Env<Node: NodeSet<E>>, S: PagableStorage<E>>(
+fn pin_node<E: Env<Node: NodeSet<E>>, S: PagableStorage<E>>(
     pager: &mut Pager<E, S>,
     reference: ArcRef,
 ) -> Result<(HandleNumber, HandleNumber), Error>
-    ensures takes { IfOk result (λ t. Takes (values_at E.Node.NodeSet E.Env E.Hash.KeyHash pager.old.environment)
+    ensures pins { IfOk result (λ t. PinsNode (values_at E.Node.NodeSet E.Env E.Hash.KeyHash pager.old.environment)
         reference
         (pager_state (storage_view S.PagableStorage) pager.old) t.0 t.1
         (pager_state (storage_view S.PagableStorage) pager.new)) }
-    ensures fails { IfErr result (λ e. TakeFails (values_at E.Node.NodeSet E.Env E.Hash.KeyHash pager.old.environment)
+    ensures fails { IfErr result (λ e. PinNodeFails (values_at E.Node.NodeSet E.Env E.Hash.KeyHash
+        pager.old.environment)
         reference
         (pager_state (storage_view S.PagableStorage) pager.old) e
         (pager_state (storage_view S.PagableStorage) pager.new)) }
     ensures keeps { KeepsStorage pager.old pager.new }
 {
     if reference.kind.is_loose() {
-        return take_loose(pager, reference);
+        return pin_loose_node(pager, reference);
     }
     match clone(pager, reference.handle) {
-        Ok(through) => Ok((through, through)),
+        Ok(cloned) => Ok((cloned, cloned)),
         Err(e) => Err(e),
     }
 }
 
-// Writes a value.
+// Writes a node's value as bytes and references. It stores nothing.
 fn write<E: Env<Node: NodeSet<E>>>(
     env: &E,
     session: &SessionOf<E>,
@@ -147,54 +153,55 @@ fn check_and_write<E: Env<Node: NodeSet<E>>, S: PagableStorage<E>>(
     alloc: Global,
     pager: &Pager<E, S>,
     reference: ArcRef,
-    through: HandleNumber,
+    cloned: HandleNumber,
     pin: HandleNumber,
 ) -> Result<SerializedData, Error>
-    ensures { IfOk result (λ d. WritesTaken (values_at E.Node.NodeSet E.Env E.Hash.KeyHash pager.now.environment)
-        (pager_state (storage_view S.PagableStorage) pager.now) reference through pin (written_of d)) }
+    ensures { IfOk result (λ d. WritesNode (values_at E.Node.NodeSet E.Env E.Hash.KeyHash pager.now.environment)
+        (pager_state (storage_view S.PagableStorage) pager.now) reference cloned pin (written_of d)) }
 {
-    if !is_at(pager, through, reference.node) {
+    if !is_handle_of(pager, cloned, reference.node) {
         return Err(Error::NoSuchHandle);
     }
-    if !is_at(pager, pin, reference.node) {
+    if !is_handle_of(pager, pin, reference.node) {
         return Err(Error::NoSuchHandle);
     }
     write_pinned(alloc, pager, reference, pin)
 }
 
-/// Pins a reference's node and writes its value. If it can't be written, releases the handles that
-/// this made.
-pub(crate) fn enter<E: Env<Node: NodeSet<E>>, S: PagableStorage<E>>(
+/// Pins a reference's node and writes its value. If the node can't be pinned or its value can't be
+/// written, releases the handles that the call made.
+pub(crate) fn open_node<E: Env<Node: NodeSet<E>>, S: PagableStorage<E>>(
     alloc: Global,
     pager: &mut Pager<E, S>,
     reference: ArcRef,
-    place: u64,
+    depth: u64,
 ) -> Result<OpenNode, Error>
-    ensures enters { IfOk result (λ o. Enters (values_at E.Node.NodeSet E.Env E.Hash.KeyHash pager.old.environment)
+    ensures opens { IfOk result (λ o. OpensNode (values_at E.Node.NodeSet E.Env E.Hash.KeyHash pager.old.environment)
         reference
         (pager_state (storage_view S.PagableStorage) pager.old) o
         (pager_state (storage_view S.PagableStorage) pager.new)) }
-    ensures fails { IfErr result (λ e. EnterFails (values_at E.Node.NodeSet E.Env E.Hash.KeyHash pager.old.environment)
+    ensures fails { IfErr result (λ e. OpenNodeFails (values_at E.Node.NodeSet E.Env E.Hash.KeyHash
+        pager.old.environment)
         reference
         (pager_state (storage_view S.PagableStorage) pager.old) e
         (pager_state (storage_view S.PagableStorage) pager.new)) }
     ensures keeps { KeepsStorage pager.old pager.new }
 {
-    let (through, pin) = match take(pager, reference) {
+    let (cloned, pin) = match pin_node(pager, reference) {
         Ok(taken) => taken,
         Err(e) => return Err(e),
     };
-    match check_and_write(alloc, pager, reference, through, pin) {
+    match check_and_write(alloc, pager, reference, cloned, pin) {
         Ok(written) => Ok(OpenNode {
             reference,
-            place,
-            through,
+            depth,
+            cloned,
             pin,
             written,
             keyed: 0,
         }),
         Err(e) => {
-            release_both(pager, through, pin);
+            release_both(pager, cloned, pin);
             Err(e)
         }
     }

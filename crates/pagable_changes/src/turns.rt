@@ -1,14 +1,21 @@
 //! The walk of a page-out over the nodes that have no key, turn by turn.
 
-ghost use Rattle.std.specs.Prelude.{[], IfErr, IfNone, IfOk, IfSome, IsSome, IsTrue, OnErr, OnOk, Some, slice_get, ◌++◌, ◌∷◌, ◌≡◌};
-ghost use Rattle.pagable_changes.specs.Changes.{ReleasesPath, GoesDown, GoesNowhere, IsOver, SetKeyFails, FinishFails, FinishesOpenNode, SetsFor, Turn, TurnFails, Turned, TurnsFail, TurnsOut, Walks, stage};
-ghost use Rattle.{pagable_changes.specs.Keeping.KeepsStorage, pagable_core.specs.Data.blob_of, pagable_load.specs.AccessView.values_at};
+ghost use Rattle.pagable_changes.specs.{
+  Changes.{FinishFails, FinishesOpenNode, IsBlobOfNode, MakesTurn, OpenChildFails, OpensChild, RecordsKey},
+  Changes.{ReleasesPath, SetKeyFails, Turn, TurnFails, TurnsFail, TurnsUntilKey, Walks, stage},
+  Keeping.KeepsStorage,
+};
+ghost use Rattle.pagable_core.specs.Data.{blob_of};
+ghost use Rattle.pagable_load.specs.AccessView.{values_at};
 ghost use Rattle.pagable_pager.specs.View.{pager_core, pager_state, storage_view};
 ghost use Rattle.pagable_tables.specs.NumberTable.{place_at, row_by};
+ghost use Rattle.std.specs.{
+  Prelude.{IfErr, IfNone, IfOk, IfSome, IsSome, IsTrue, OnErr, OnOk, Some, slice_get, [], ◌++◌, ◌∷◌, ◌≡◌},
+};
 
 use crate::calls::{release_both, set_key, store};
-use crate::keys::{FoundKey, FoundKeys, LONGEST_PATH, collect_keys, find};
-use crate::nodes::{OpenNode, enter};
+use crate::keys::{FoundKey, FoundKeys, LONGEST_PATH, collect_keys, find_key};
+use crate::nodes::{OpenNode, open_node};
 use pagable_codec::{Env, NodeSet};
 use pagable_core::{PagableData, PagableStorage};
 use pagable_pager::Pager;
@@ -25,27 +32,28 @@ fn blob_of_node<E: Env<Node: NodeSet<E>>, S: PagableStorage<E>>(
     found: &FoundKeys,
     node: &OpenNode,
 ) -> Result<(PagableData, u64), Error>
-    ensures { IfOk result (λ r. IsOver (λ n. row_by found.now n) (pager_core (storage_view S.PagableStorage) pager.now)
+    ensures { IfOk result (λ r. IsBlobOfNode (λ n. row_by found.now n)
+        (pager_core (storage_view S.PagableStorage) pager.now)
         node.now (blob_of r.0)) }
 {
     let (arcs, height) = collect_keys(alloc, pager, found, &node.written.arcs)?;
-    if height > LONGEST_PATH || node.place > LONGEST_PATH - height {
+    if height > LONGEST_PATH || node.depth > LONGEST_PATH - height {
         return Err(Error::TooDeep);
     }
     let bytes = Vec::from_slice(alloc, node.written.bytes.as_slice())?;
     Ok((PagableData { bytes, arcs }, height))
 }
 
-// Sets the key of a cell; for a node that the page-out didn't reach by a loose reference, records
-// the key for the rest of this page-out.
-fn keep_key<E: Env<Node: NodeSet<E>>, S: PagableStorage<E>>(
+// Records the key of a node that was stored: sets it on the cell, if the page-out reached the node
+// by a loose reference; else keeps it in `found` for the rest of the page-out.
+fn record_key<E: Env<Node: NodeSet<E>>, S: PagableStorage<E>>(
     pager: &mut Pager<E, S>,
     found: &mut FoundKeys,
     node: &OpenNode,
     known: FoundKey,
 ) -> Result<(), Error>
     requires ready { IsSome (place_at found.old node.now.reference.node.0) }
-    ensures sets { OnOk result (SetsFor (values_at E.Node.NodeSet E.Env E.Hash.KeyHash pager.old.environment)
+    ensures sets { OnOk result (RecordsKey (values_at E.Node.NodeSet E.Env E.Hash.KeyHash pager.old.environment)
         (λ n. row_by found.old n) node.now known.key
         (pager_state (storage_view S.PagableStorage) pager.old) (λ n. row_by found.new n)
         (pager_state (storage_view S.PagableStorage) pager.new)) }
@@ -56,7 +64,7 @@ fn keep_key<E: Env<Node: NodeSet<E>>, S: PagableStorage<E>>(
     ensures keeps { KeepsStorage pager.old pager.new }
 {
     if node.reference.kind.is_loose() {
-        return set_key(pager, node.through, known.key);
+        return set_key(pager, node.cloned, known.key);
     }
     found.put(node.reference.node.0, known);
     Ok(())
@@ -69,7 +77,7 @@ fn finish_open_node<E: Env<Node: NodeSet<E>>, S: PagableStorage<E>>(
     found: &mut FoundKeys,
     node: &OpenNode,
 ) -> Result<DataKey, Error>
-    ensures leaves { IsTrue (S.is_honest pager.new.storage)
+    ensures finishes { IsTrue (S.is_honest pager.new.storage)
         → IfOk result (λ key. FinishesOpenNode (values_at E.Node.NodeSet E.Env E.Hash.KeyHash pager.old.environment)
         (λ n. row_by found.old n)
         (pager_state (storage_view S.PagableStorage) pager.old) node.now key (λ n. row_by found.new n)
@@ -91,58 +99,60 @@ fn finish_open_node<E: Env<Node: NodeSet<E>>, S: PagableStorage<E>>(
         Ok(key) => key,
         Err(e) => return Err(e),
     };
-    match keep_key(pager, found, node, FoundKey { key, height }) {
+    match record_key(pager, found, node, FoundKey { key, height }) {
         Ok(()) => {}
         Err(e) => return Err(e),
     }
-    release_both(pager, node.through, node.pin);
+    release_both(pager, node.cloned, node.pin);
     Ok(key)
 }
 
 // Returns the depth of the target of a node's reference: 0 through a loose reference, else one more
 // than the node's.
-fn place_below(node: &OpenNode, reference: ArcRef) -> u64 {
+fn depth_below(node: &OpenNode, reference: ArcRef) -> u64 {
     if reference.kind.is_loose() {
         0
     } else {
-        node.place.saturating_add(1)
+        node.depth.saturating_add(1)
     }
 }
 
 // Returns whether a reference's target is too deep, or whether the reference is a loose one to a
 // node that isn't older: a cell without a key was made before what refers to it.
-fn is_too_deep(node: &OpenNode, reference: ArcRef, place: u64) -> bool {
+fn is_too_deep(node: &OpenNode, reference: ArcRef, depth: u64) -> bool {
     if reference.kind.is_loose() {
         reference.node.0 >= node.reference.node.0
     } else {
-        place > LONGEST_PATH
+        depth > LONGEST_PATH
     }
 }
 
 // Pins and writes the target, which has no key, of a reference of the node at hand. The target
 // becomes the node at hand, and the old one waits on the path.
-fn go_down<E: Env<Node: NodeSet<E>>, S: PagableStorage<E>>(
+fn open_child<E: Env<Node: NodeSet<E>>, S: PagableStorage<E>>(
     alloc: Global,
     pager: &mut Pager<E, S>,
     path: &mut Vec<OpenNode>,
     node: &mut OpenNode,
     reference: ArcRef,
 ) -> Result<(), Error>
-    ensures goes { OnOk result (GoesDown (values_at E.Node.NodeSet E.Env E.Hash.KeyHash pager.old.environment) reference
+    ensures opens { OnOk result (OpensChild (values_at E.Node.NodeSet E.Env E.Hash.KeyHash
+        pager.old.environment) reference
         path.old.items node.old (pager_state (storage_view S.PagableStorage) pager.old) path.new.items node.new
         (pager_state (storage_view S.PagableStorage) pager.new)) }
-    ensures fails { IfErr result (λ e. GoesNowhere (values_at E.Node.NodeSet E.Env E.Hash.KeyHash pager.old.environment)
+    ensures fails { IfErr result (λ e. OpenChildFails (values_at E.Node.NodeSet E.Env E.Hash.KeyHash
+        pager.old.environment)
         reference (pager_state (storage_view S.PagableStorage) pager.old) e
         (pager_state (storage_view S.PagableStorage) pager.new)) }
     ensures stays { OnErr result ((path.new.items ≡ path.old.items) × (node.new ≡ node.old)) }
     ensures keeps { KeepsStorage pager.old pager.new }
 {
-    let place = place_below(node, reference);
-    if is_too_deep(node, reference, place) {
+    let depth = depth_below(node, reference);
+    if is_too_deep(node, reference, depth) {
         return Err(Error::TooDeep);
     }
     path.reserve(1)?;
-    let child = match enter(alloc, pager, reference, place) {
+    let child = match open_node(alloc, pager, reference, depth) {
         Ok(child) => child,
         Err(e) => return Err(e),
     };
@@ -151,15 +161,15 @@ fn go_down<E: Env<Node: NodeSet<E>>, S: PagableStorage<E>>(
 }
 
 // Returns the node's next reference, the first that wasn't found to have a key.
-fn next_of(node: &OpenNode) -> Option<ArcRef>
+fn next_reference(node: &OpenNode) -> Option<ArcRef>
     ensures { result ≡ slice_get node.now.written.arcs.items node.now.keyed }
 {
     node.written.arcs.get(node.keyed).copied()
 }
 
-// Handles the node's next reference: counts it as keyed if its target has a key; otherwise makes
-// the target the node at hand, as `go_down` does.
-fn go_on<E: Env<Node: NodeSet<E>>, S: PagableStorage<E>>(
+// Processes the node's next reference: counts it as keyed if its target has a key; otherwise makes
+// the target the node at hand, as `open_child` does.
+fn process_reference<E: Env<Node: NodeSet<E>>, S: PagableStorage<E>>(
     alloc: Global,
     pager: &mut Pager<E, S>,
     found: &FoundKeys,
@@ -180,7 +190,7 @@ fn go_on<E: Env<Node: NodeSet<E>>, S: PagableStorage<E>>(
     ensures stays { OnErr result ((path.new.items ≡ path.old.items) × (node.new ≡ node.old)) }
     ensures keeps { KeepsStorage pager.old pager.new }
 {
-    let known = match find(pager, found, reference) {
+    let known = match find_key(pager, found, reference) {
         Ok(known) => known,
         Err(e) => return Err(e),
     };
@@ -189,7 +199,7 @@ fn go_on<E: Env<Node: NodeSet<E>>, S: PagableStorage<E>>(
             node.keyed = node.keyed.saturating_add(1);
             Ok(())
         }
-        None => go_down(alloc, pager, path, node, reference),
+        None => open_child(alloc, pager, path, node, reference),
     }
 }
 
@@ -207,7 +217,7 @@ fn pop_node(path: &mut Vec<OpenNode>) -> Option<OpenNode>
 // Stores the node at hand, whose references all have keys, as `finish_open_node` does. Then the
 // last node on the path becomes the node at hand; if the path is empty, returns the stored node's
 // key.
-fn go_up<E: Env<Node: NodeSet<E>>, S: PagableStorage<E>>(
+fn finish_and_pop<E: Env<Node: NodeSet<E>>, S: PagableStorage<E>>(
     alloc: Global,
     pager: &mut Pager<E, S>,
     found: &mut FoundKeys,
@@ -215,7 +225,7 @@ fn go_up<E: Env<Node: NodeSet<E>>, S: PagableStorage<E>>(
     node: &mut OpenNode,
 ) -> Result<Option<DataKey>, Error>
     ensures turns { IsTrue (S.is_honest pager.new.storage)
-        → IfOk result (λ key. Turned (values_at E.Node.NodeSet E.Env E.Hash.KeyHash pager.old.environment)
+        → IfOk result (λ key. MakesTurn (values_at E.Node.NodeSet E.Env E.Hash.KeyHash pager.old.environment)
         (stage path.old.items node.old (λ n. row_by found.old n)
         (pager_state (storage_view S.PagableStorage) pager.old))
         key (stage path.new.items node.new (λ n. row_by found.new n)
@@ -242,9 +252,9 @@ fn go_up<E: Env<Node: NodeSet<E>>, S: PagableStorage<E>>(
     }
 }
 
-// Makes one turn: handles the next reference of the node at hand, or stores the node if it has none
-// left. Returns the root's key after the last turn, else None.
-fn turn<E: Env<Node: NodeSet<E>>, S: PagableStorage<E>>(
+// Makes one turn: processes the next reference of the node at hand, or stores the node if none
+// is left. Returns the root's key after the last turn, else None.
+fn make_turn<E: Env<Node: NodeSet<E>>, S: PagableStorage<E>>(
     alloc: Global,
     pager: &mut Pager<E, S>,
     found: &mut FoundKeys,
@@ -252,7 +262,7 @@ fn turn<E: Env<Node: NodeSet<E>>, S: PagableStorage<E>>(
     node: &mut OpenNode,
 ) -> Result<Option<DataKey>, Error>
     ensures turns { IsTrue (S.is_honest pager.new.storage)
-        → IfOk result (λ key. Turned (values_at E.Node.NodeSet E.Env E.Hash.KeyHash pager.old.environment)
+        → IfOk result (λ key. MakesTurn (values_at E.Node.NodeSet E.Env E.Hash.KeyHash pager.old.environment)
         (stage path.old.items node.old (λ n. row_by found.old n)
         (pager_state (storage_view S.PagableStorage) pager.old))
         key (stage path.new.items node.new (λ n. row_by found.new n)
@@ -266,9 +276,9 @@ fn turn<E: Env<Node: NodeSet<E>>, S: PagableStorage<E>>(
     ensures honest { IsTrue (S.is_honest pager.new.storage) → IsTrue (S.is_honest pager.old.storage) }
     ensures environment { pager.new.environment ≡ pager.old.environment }
 {
-    match next_of(node) {
-        None => go_up(alloc, pager, found, path, node),
-        Some(reference) => match go_on(alloc, pager, found, path, node, reference) {
+    match next_reference(node) {
+        None => finish_and_pop(alloc, pager, found, path, node),
+        Some(reference) => match process_reference(alloc, pager, found, path, node, reference) {
             Ok(()) => Ok(None),
             Err(e) => Err(e),
         },
@@ -284,7 +294,7 @@ fn make_turns<E: Env<Node: NodeSet<E>>, S: PagableStorage<E>>(
     node: &mut OpenNode,
 ) -> Result<DataKey, Error>
     ensures turns { IsTrue (S.is_honest pager.new.storage)
-        → IfOk result (λ key. TurnsOut (values_at E.Node.NodeSet E.Env E.Hash.KeyHash pager.old.environment)
+        → IfOk result (λ key. TurnsUntilKey (values_at E.Node.NodeSet E.Env E.Hash.KeyHash pager.old.environment)
         (stage path.old.items node.old (λ n. row_by found.old n)
         (pager_state (storage_view S.PagableStorage) pager.old))
         key (stage path.new.items node.new (λ n. row_by found.new n)
@@ -300,7 +310,7 @@ fn make_turns<E: Env<Node: NodeSet<E>>, S: PagableStorage<E>>(
     let mut left = u64::MAX;
     while left > 0 {
         left -= 1;
-        let turned = match turn(alloc, pager, found, path, node) {
+        let turned = match make_turn(alloc, pager, found, path, node) {
             Ok(turned) => turned,
             Err(e) => return Err(e),
         };
@@ -317,18 +327,18 @@ fn release_path<E: Env<Node: NodeSet<E>>, S: PagableStorage<E>>(
     pager: &mut Pager<E, S>,
     path: &mut Vec<OpenNode>,
 )
-    ensures gives { ReleasesPath (values_at E.Node.NodeSet E.Env E.Hash.KeyHash pager.old.environment) path.old.items
+    ensures releases { ReleasesPath (values_at E.Node.NodeSet E.Env E.Hash.KeyHash pager.old.environment) path.old.items
         (pager_state (storage_view S.PagableStorage) pager.old)
         (pager_state (storage_view S.PagableStorage) pager.new) }
     ensures keeps { KeepsStorage pager.old pager.new }
 {
     while let Some(node) = pop_node(path) {
-        release_both(pager, node.through, node.pin);
+        release_both(pager, node.cloned, node.pin);
     }
 }
 
-/// Stores the first node and all nodes without a key that it reaches, and returns its key. An error
-/// releases all handles that the nodes have.
+/// Stores the first node and all nodes without a key that it reaches, and returns the first node's
+/// key. If it fails, it releases the handles of all nodes that the page-out is writing.
 pub(crate) fn walk<E: Env<Node: NodeSet<E>>, S: PagableStorage<E>>(
     alloc: Global,
     pager: &mut Pager<E, S>,
@@ -347,7 +357,7 @@ pub(crate) fn walk<E: Env<Node: NodeSet<E>>, S: PagableStorage<E>>(
     match make_turns(alloc, pager, &mut found, &mut path, &mut node) {
         Ok(key) => Ok(key),
         Err(e) => {
-            release_both(pager, node.through, node.pin);
+            release_both(pager, node.cloned, node.pin);
             release_path(pager, &mut path);
             Err(e)
         }

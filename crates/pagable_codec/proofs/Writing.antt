@@ -1,9 +1,22 @@
 -- What writing a part adds, and what has no form.
-use Rattle.pagable_value_spec.specs.{BasicValues.{bool_form, char_form, longest, text_form}, Form.{flag-form, letter-form, nothing-form, reference-form}}
-use Rattle.pagable_value_spec.specs.{Form.{signed-form, text-form, unsigned-form}, Outcomes.{Extends, long_or, memory}, Lengths.long_or_memory, Meaning.{Meaning, integer, number}, Numbers.{IsSigned, bound}}
-use Rattle.pagable_value_spec.specs.{Numbers.{signed_form, unsigned_form}, Refusals.is_writing_fault, Shape.{Shape, signed, unsigned}, Cursor.Is, Writing.{FormAt, Grows, Nesting, NoForm, Out, Refused}}
-use Rattle.{pagable_value_spec.specs.{Writing.{Writes, WritesSome, added, kind_of_arc}, declared.{error.Error.Error, numbers.ArcRef.ArcRef}}, std.proofs.Common.{Bool, List, Result, [], ap, append_assoc}}
-use Rattle.std.{proofs.{Common.{arith, false, length, refl, sym, ℕ, ◌++◌, ◌<◌, ◌∙◌, ◌∷◌, ◌≡◌, ◌≤◌}, lemmas.List.append-nil}, specs.{Char.IsScalar, Int.Width, Prelude.{IfErr, ℤ}, Str.IsUtf8}}
+use Rattle.pagable_value_spec.specs.{
+  BasicValues.{bool_form, char_form, longest, text_form},
+  Cursor.Is,
+  Form.{flag-form, letter-form, nothing-form, reference-form, signed-form, text-form, unsigned-form},
+  Lengths.long_or_memory,
+  Meaning.{Meaning, integer, number},
+  Numbers.{IsSigned, bound, signed_form, unsigned_form},
+  Outcomes.{Extends, IsOutOfMemory, long_or},
+  Refusals.is_writing_fault,
+  Shape.{Shape, signed, unsigned},
+  Writing.{FormAt, Grows, Nesting, NoForm, Out, Refused, Writes, WritesSome, added, kind_of_arc},
+  declared.{error.Error.Error, numbers.ArcRef.ArcRef},
+}
+use Rattle.std.proofs.{
+  Common.{Bool, List, Result, ap, append_assoc, arith, false, length, refl, sym, ℕ, [], ◌++◌, ◌<◌, ◌∙◌, ◌∷◌, ◌≡◌, ◌≤◌},
+  lemmas.List.append-nil,
+}
+use Rattle.std.specs.{Char.IsScalar, Int.Width, Prelude.{IfErr, ℤ}, Str.IsUtf8}
 use Rattle.pagable_value_spec.specs.Meaning as meanings
 use Rattle.pagable_value_spec.specs.Shape as shapes
 
@@ -71,11 +84,11 @@ writes_nothing n old = record {
 
 -- ---- refusals
 
-pub memory_refuses : (e : Error) (M : Meaning ArcRef → Type 0) (n : Nesting) (s : Shape) → memory e → Refused M n s e
+pub memory_refuses : (e : Error) (M : Meaning ArcRef → Type 0) (n : Nesting) (s : Shape) → IsOutOfMemory e → Refused M n s e
 memory_refuses e M n s h = λ fault. let none : is_writing_fault e ≡ false = rw h refl in absurd cc
 
--- want of memory says nothing of the value
-pub refused_memory : {X : Type 0} (r : Result X Error) (M : Meaning ArcRef → Type 0) (n : Nesting) (s : Shape) → IfErr r memory → IfErr r (Refused M n s)
+-- OutOfMemory says nothing of the value
+pub refused_memory : {X : Type 0} (r : Result X Error) (M : Meaning ArcRef → Type 0) (n : Nesting) (s : Shape) → IfErr r IsOutOfMemory → IfErr r (Refused M n s)
 refused_memory r M n s h = grind (arith, memory_refuses)
 
 -- ---- texts
@@ -98,7 +111,7 @@ pub refused_text : {X Y : Type 0} (r : Result Y Error) (meaning : X → Meaning 
     → IfErr r (long_or_memory (length t)) → IfErr r (Refused (Is meaning x) n shapes.text)
 refused_text r meaning x n t is h = grind (arith, no_text n t, memory_refuses)
 
-pub only_long : {Y : Type 0} (r : Result Y Error) (len : ℕ) → IfErr r (long_or_memory len) → IfErr r (long_or memory)
+pub only_long : {Y : Type 0} (r : Result Y Error) (len : ℕ) → IfErr r (long_or_memory len) → IfErr r (long_or IsOutOfMemory)
 only_long r len h = grind arith
 
 pub ruleset parts = (

@@ -1,8 +1,18 @@
-//! What values are read from.
+//! The trait of deserializers, from which values are read.
 
-ghost use Rattle.std.specs.{Arc.arc_value, Borrow.{Lends, sem}, Prelude.{◌≡◌, ◌≤◌, ◌<◌, ◌+◌, ◌-◌, ℕ, Option, Some, drop, option_and_then, option_map, OnOk, IfOk, IfErr}};
-ghost use Rattle.pagable_value_spec.specs.{Outcomes.{MatchesReading, memory, no_own_causes}, Meaning.reference as meaning_of, Reading.{Rest, reference_at, deepest}, Cursor.{Answer, InputState, rest_at, answer_at, IsLent, IsWithin}};
-ghost use Rattle.pagable_value_spec.specs.{Cursor.MovesOn, Progress.{left, GoesOn}, declared.numbers.ArcRef.ArcRef as Reference};
+ghost use Rattle.pagable_value_spec.specs.{
+  Cursor.{Answer, InputState, IsLent, IsWithin, MovesOn, answer_at, rest_at},
+  Meaning.reference as meaning_of,
+  Outcomes.{IsOutOfMemory, MatchesReading, no_own_causes},
+  Progress.{MovesForward, left},
+  Reading.{Rest, deepest, reference_at},
+  declared.numbers.ArcRef.ArcRef as Reference,
+};
+ghost use Rattle.std.specs.{
+  Arc.arc_value,
+  Borrow.{Lends, sem},
+  Prelude.{IfErr, IfOk, OnOk, Option, Some, drop, option_and_then, option_map, ℕ, ◌+◌, ◌-◌, ◌<◌, ◌≡◌, ◌≤◌},
+};
 
 use crate::env::Env;
 use crate::of_node::OfNode;
@@ -17,10 +27,10 @@ use std::sync::Arc;
 pub trait PagableDeserializer<E: Env> {
     type Reader: Reader;
 
-    // All that it was given, the nodes that references lend, and how much it has read.
+    // The deserializer's whole input, the nodes that are lent with references, and the position.
     ghost input_state: { Self → InputState E.Node };
 
-    // What it hasn't read yet.
+    // The part of the input that the deserializer hasn't read yet.
     ghost rest: { Self → Rest Answer };
 
     // How many levels are entered.
@@ -30,7 +40,7 @@ pub trait PagableDeserializer<E: Env> {
 
     ghost reader: { Self → Self.Reader };
 
-    // The nodes that it lends by the references that it has read.
+    // The nodes that the deserializer lends by the references that it has read.
     ghost lends: { Self → Reference → Option E.Node };
 
     // The deserializer with another reader.
@@ -38,6 +48,7 @@ pub trait PagableDeserializer<E: Env> {
 
     /// Returns the reader of bytes, which basic types use.
     fn serde(&mut self) -> &mut Self::Reader
+        // what the borrowed reader is in the end, is the deserializer's reader afterwards
         ensures* writes_back { sem 𝓛 (Lends Self.row Self.Reader.row self.entry result (with_reader self.old)) }
         ensures value { result.now ≡ reader self.old };
 
@@ -58,8 +69,8 @@ pub trait PagableDeserializer<E: Env> {
         ensures same_env { environment self.new ≡ environment self.old }
         ensures same_levels { levels self.new ≡ levels self.old };
 
-    /// Returns the value of a reference that was read together with its value, shared; or None if
-    /// the deserializer lends no value of this type by it.
+    /// Returns a shared pointer to a reference's value, if the value was read together with the
+    /// reference. Returns None if the deserializer lends no value of type `T` by this reference.
     ///
     /// # Errors
     ///
@@ -71,9 +82,9 @@ pub trait PagableDeserializer<E: Env> {
     ) -> Result<Option<Arc<T>>, Error>
         ensures value { IfOk result (λ found. option_map arc_value found
             ≡ option_and_then T.held (lends self.now reference)) }
-        ensures only { IfErr result memory };
+        ensures only { IfErr result IsOutOfMemory };
 
-    /// Returns how many bytes and references it has read.
+    /// Returns how many bytes and references the deserializer has read.
     fn position(&self) -> PagableCursor
         ensures cursor { result ≡ (input_state self.now).cursor }
         ensures within { IsWithin (input_state self.now).whole result };
@@ -110,23 +121,24 @@ pub trait PagableDeserializer<E: Env> {
     fn env(&self) -> &E
         ensures { result.now ≡ environment self.now };
 
-    /// Returns the values that this session of reading shares: the context that the deserializer
-    /// was made with. What a lock holds is no part of a value, so no clause says which session it
-    /// is.
+    /// Returns the context of the session in which the deserializer reads: the map of values that
+    /// it was made with. No clause says which context, since what a lock holds is no part of a
+    /// value.
     fn session_context(&self) -> &SessionContext<E::CtxKey, E::CtxValue>;
 
     // What isn't read follows from the deserializer's position, and its reader is at the same
     // position.
     ghost rest_is: { (s : Self) → rest s ≡ rest_at (input_state s) };
 
-    ghost bytes_are: { (s : Self) → (rest s).bytes ≡ left (Self.Reader.track (reader s)) };
+    ghost bytes_are: { (s : Self) → (rest s).bytes ≡ left (Self.Reader.reader_state (reader s)) };
 
     // Another reader changes only the bytes that are left; a reader that has moved on moves the
     // deserializer on.
     ghost rest_of_with: { (s : Self) (r : Self.Reader) → rest (with_reader s r)
-        ≡ record (rest s) { bytes = left (Self.Reader.track r) } };
+        ≡ record (rest s) { bytes = left (Self.Reader.reader_state r) } };
 
-    ghost moves_of_with: { (s : Self) (r : Self.Reader) → GoesOn (Self.Reader.track (reader s)) (Self.Reader.track r)
+    ghost moves_of_with: { (s : Self) (r : Self.Reader)
+        → MovesForward (Self.Reader.reader_state (reader s)) (Self.Reader.reader_state r)
         → MovesOn (input_state s) (input_state (with_reader s r)) };
 
     ghost levels_of_with: { (s : Self) (r : Self.Reader) → levels (with_reader s r) ≡ levels s };

@@ -1,11 +1,12 @@
 //! The caller's environment.
 
-ghost use Rattle.{pagable_value_spec.specs.Shape.Shape, std.specs.Prelude.ℕ};
+ghost use Rattle.pagable_value_spec.specs.Shape.{Shape};
+ghost use Rattle.std.specs.Prelude.{ℕ};
 
 use crate::hash::KeyHash;
 
-/// The types that a caller provides. The environment's value is lent to all that reads and writes
-/// values.
+/// An environment: the types that a caller provides for nodes, keys and sessions. Serializers and
+/// deserializers lend its value to the types that they write and read.
 pub trait Env: Sized {
     /// The nodes: one case for each value type, with the calls of `NodeSet`.
     type Node: Drop;
@@ -16,7 +17,7 @@ pub trait Env: Sized {
     /// The keys of a session's values; `()` if no session is used.
     type CtxKey: Ord + Drop;
 
-    /// The values of a session; its calls require `SessionValue`.
+    /// The values of a session. The session's calls require that they are `SessionValue`s.
     type CtxValue: Drop;
 
     // The shapes of the value parts that have numbers. Each such part is one level deeper.

@@ -1,24 +1,24 @@
 //! Hashes that make keys.
 
-ghost use Rattle.std.specs.Prelude.{◌≡◌, List, ℕ, [], ◌++◌};
+ghost use Rattle.std.specs.Prelude.{List, ℕ, [], ◌++◌, ◌≡◌};
 
 /// A hash of 16 bytes. Its result depends on the bytes it was given, not on how calls cut them.
 pub trait KeyHash: Sized {
     // The hash was given these bytes.
-    ghost holds: { Self → List ℕ → Type 0 };
+    ghost has_input: { Self → List ℕ → Type 0 };
 
     // The hash of bytes.
     ghost digest: { List ℕ → List ℕ };
 
     /// Creates a hash that was given no bytes.
     fn new() -> Self
-        ensures { holds result [] };
+        ensures { has_input result [] };
 
     /// Adds bytes to the hash's input.
     fn update(&mut self, bytes: &[u8])
-        ensures { (front : List ℕ) → holds self.old front → holds self.new (front ++ bytes.now) };
+        ensures { (front : List ℕ) → has_input self.old front → has_input self.new (front ++ bytes.now) };
 
     /// Returns the hash of all bytes that it was given.
     fn finish(self) -> [u8; 16]
-        ensures { (all : List ℕ) → holds self all → result ≡ digest all };
+        ensures { (all : List ℕ) → has_input self all → result ≡ digest all };
 }

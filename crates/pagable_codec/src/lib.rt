@@ -1,5 +1,6 @@
-//! What values are written to and read from: the traits of environments, nodes, hashes, serializers
-//! and deserializers, the values that a session shares, and the flags and counts in many encodings.
+//! Defines what values are written to and read from: the traits of environments, nodes, hashes,
+//! serializers and deserializers, the values that a session shares, and the flags and counts that
+//! many encodings begin with.
 #![tactic(auto)]
 
 pub mod deserializer;

@@ -1,8 +1,15 @@
 //! The values of nodes: one case for each value type of an environment.
 
-ghost use Rattle.pagable_value_spec.specs.{Meaning.Meaning, Reading.read_typed, References.{SameReferences, references_in}, Refusals.{is_own_reading, may_refuse_writing}, Shape.Shape, Cursor.GivesSome};
-ghost use Rattle.pagable_value_spec.specs.{Cursor.{HoldsLentValues, MovesOn, SomeMeaning, handles_at}, Writing.{Grows, Refused, WritesSome, nesting}, declared.error.Error.Error as Refusal};
-ghost use Rattle.pagable_value_spec.specs.declared.numbers.ArcRef.{ArcRef as Reference};
+ghost use Rattle.pagable_value_spec.specs.{
+  Cursor.{GivesSome, HoldsLentValues, MovesOn, SomeMeaning, handles_at},
+  Meaning.Meaning,
+  Reading.read_typed,
+  References.{SameReferences, references_in},
+  Refusals.{is_own_reading, may_refuse_writing},
+  Shape.Shape,
+  Writing.{Grows, Refused, WritesSome, nesting},
+  declared.{error.Error.Error as Refusal, numbers.ArcRef.ArcRef as Reference},
+};
 ghost use Rattle.std.specs.Prelude.{IfErr, IfOk, List, OnOk, Option, Some, true, ℕ, ◌++◌, ◌<◌, ◌^◌, ◌≡◌};
 
 use crate::deserializer::PagableDeserializer;
@@ -69,7 +76,7 @@ pub trait NodeSet<E: Env>: Sized {
             (nesting (S.levels serializer.old) (E.parts (S.environment serializer.old)))
             (own_shape (S.environment serializer.old) self.now)) }
         ensures only { IfErr result (write_causes (type_of self.now)) }
-        ensures err { Grows (S.out serializer.old) (S.out serializer.new) }
+        ensures grows { Grows (S.out serializer.old) (S.out serializer.new) }
         ensures same_env { S.environment serializer.new ≡ S.environment serializer.old }
         ensures same_levels { S.levels serializer.new ≡ S.levels serializer.old };
 

@@ -1,6 +1,6 @@
 //! How a value type's values are put into nodes and taken out of them.
 
-ghost use Rattle.pagable_value_spec.specs.Outcomes.{memory};
+ghost use Rattle.pagable_value_spec.specs.Outcomes.{IsOutOfMemory};
 ghost use Rattle.std.specs.{Arc.arc_value, Prelude.{IfErr, IfOk, Option, Some, option_map, ℕ, ◌<◌, ◌^◌, ◌≡◌}};
 
 use crate::env::Env;
@@ -31,7 +31,7 @@ pub trait OfNode<E: Env>: Sized {
     /// - `OutOfMemory` only.
     fn from_node(alloc: Global, node: &E::Node) -> Result<Option<Arc<Self>>, Error>
         ensures value { IfOk result (λ found. option_map arc_value found ≡ held node.now) }
-        ensures only { IfErr result memory };
+        ensures only { IfErr result IsOutOfMemory };
 
     ghost small: { TYPE < 2 ^ 30 };
 }

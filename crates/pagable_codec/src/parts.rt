@@ -1,8 +1,14 @@
 //! Flags and counts: the first part of the encodings of options, lists, maps and other types.
 
-ghost use Rattle.pagable_value_spec.specs.{BasicValues.{bool_at, bool_form, length_at, length_form, longest}, Outcomes.{MatchesReading, memory, no_own_causes}, Lengths.long_or_memory, Reading.bytes_of, Cursor.MovesOn};
-ghost use Rattle.pagable_value_spec.specs.Writing.{Grows, added};
-ghost use Rattle.std.specs.Prelude.{IfErr, OnOk, [], length, min, ◌≡◌, ◌≤◌};
+ghost use Rattle.pagable_value_spec.specs.{
+  BasicValues.{bool_at, bool_form, length_at, length_form, longest},
+  Cursor.MovesOn,
+  Lengths.long_or_memory,
+  Outcomes.{IsOutOfMemory, MatchesReading, no_own_causes},
+  Reading.bytes_of,
+  Writing.{Grows, added},
+};
+ghost use Rattle.std.specs.Prelude.{IfErr, OnOk, length, min, [], ◌≡◌, ◌≤◌};
 
 use crate::deserializer::PagableDeserializer;
 use crate::env::Env;
@@ -20,8 +26,8 @@ pub fn write_flag<E: Env, S: PagableSerializer<E>>(
     serializer: &mut S,
 ) -> Result<(), Error>
     ensures ok { OnOk result (S.out serializer.new ≡ added (S.out serializer.old) (bool_form flag) []) }
-    ensures only { IfErr result memory }
-    ensures err { Grows (S.out serializer.old) (S.out serializer.new) }
+    ensures only { IfErr result IsOutOfMemory }
+    ensures grows { Grows (S.out serializer.old) (S.out serializer.new) }
     ensures same_env { S.environment serializer.new ≡ S.environment serializer.old }
     ensures same_levels { S.levels serializer.new ≡ S.levels serializer.old }
 {
@@ -42,7 +48,7 @@ pub fn write_count<E: Env, S: PagableSerializer<E>>(
     ensures ok { OnOk result (S.out serializer.new ≡ added (S.out serializer.old) (length_form count) []) }
     ensures within { OnOk result (count ≤ longest) }
     ensures only { IfErr result (long_or_memory count) }
-    ensures err { Grows (S.out serializer.old) (S.out serializer.new) }
+    ensures grows { Grows (S.out serializer.old) (S.out serializer.new) }
     ensures same_env { S.environment serializer.new ≡ S.environment serializer.old }
     ensures same_levels { S.levels serializer.new ≡ S.levels serializer.old }
 {
@@ -54,7 +60,7 @@ pub fn write_count<E: Env, S: PagableSerializer<E>>(
 /// # Errors
 ///
 /// - `BadBool` if the byte is neither 0 nor 1.
-/// - a fault of the input, if it has no byte left.
+/// - `UnexpectedEnd` if no byte is left.
 pub fn read_flag<E: Env, D: PagableDeserializer<E>>(deserializer: &mut D) -> Result<bool, Error>
     ensures gives { MatchesReading no_own_causes (λ b. (b, D.rest deserializer.new)) result
         (bytes_of bool_at (λ b. b) (D.rest deserializer.old)) }
@@ -70,7 +76,7 @@ pub fn read_flag<E: Env, D: PagableDeserializer<E>>(deserializer: &mut D) -> Res
 /// # Errors
 ///
 /// - `TooLong` if the count is above 4,294,967,295.
-/// - a fault of the input's bytes.
+/// - `UnexpectedEnd`, `BadVarint` as the reader's `read_u64`.
 pub fn read_count<E: Env, D: PagableDeserializer<E>>(deserializer: &mut D) -> Result<usize, Error>
     ensures gives { MatchesReading no_own_causes (λ n. (n, D.rest deserializer.new)) result
         (bytes_of length_at (λ n. n) (D.rest deserializer.old)) }
@@ -83,7 +89,10 @@ pub fn read_count<E: Env, D: PagableDeserializer<E>>(deserializer: &mut D) -> Re
 
 /// Returns the number of items to reserve room for: `count`, but at most the number of bytes left,
 /// so that a count alone reserves no memory.
-pub fn places_for<E: Env, D: PagableDeserializer<E>>(count: usize, deserializer: &mut D) -> usize
+pub fn items_to_reserve<E: Env, D: PagableDeserializer<E>>(
+    count: usize,
+    deserializer: &mut D,
+) -> usize
     ensures few { result ≡ min count (length (D.rest deserializer.old).bytes) }
     ensures same_rest { D.rest deserializer.new ≡ D.rest deserializer.old }
     ensures moves { MovesOn (D.input_state deserializer.old) (D.input_state deserializer.new) }

@@ -1,7 +1,11 @@
-//! What values are written to.
+//! The trait of serializers, to which values are written.
 
-ghost use Rattle.std.specs.{Borrow.{Lends, sem}, Prelude.{◌≡◌, ◌<◌, ◌≤◌, ◌+◌, ◌-◌, List, ℕ, [], ◌∷◌, length, OnOk, OnErr, IfErr}};
-ghost use Rattle.{pagable_flavors.specs.contracts.vec_flavor.PagableVecFlavor.the_row as writer_row, pagable_value_spec.specs.{Reading.deepest, Writing.{Out, added, end_of, overwritten}}};
+ghost use Rattle.pagable_flavors.specs.contracts.vec_flavor.PagableVecFlavor.{the_row as writer_row};
+ghost use Rattle.pagable_value_spec.specs.{Reading.deepest, Writing.{Out, added, end_of, overwritten}};
+ghost use Rattle.std.specs.{
+  Borrow.{Lends, sem},
+  Prelude.{IfErr, List, OnErr, OnOk, length, ℕ, [], ◌+◌, ◌-◌, ◌<◌, ◌∷◌, ◌≡◌, ◌≤◌},
+};
 
 use crate::env::Env;
 use crate::session::SessionContext;
@@ -24,6 +28,7 @@ pub trait PagableSerializer<E: Env> {
 
     /// Returns the writer of bytes, which basic types use.
     fn serde(&mut self) -> &mut PagableVecFlavor
+        // what the borrowed writer holds in the end, are the serializer's bytes afterwards
         ensures* writes_back { sem 𝓛 (Lends Self.row writer_row self.entry result (with_bytes self.old)) }
         ensures value { result.now ≡ (out self.old).bytes };
 
@@ -74,8 +79,8 @@ pub trait PagableSerializer<E: Env> {
     fn env(&self) -> &E
         ensures { result.now ≡ environment self.now };
 
-    /// Returns the values that this session of writing shares: the context that the serializer was
-    /// made with. What a lock holds is no part of a value, so no clause says which session it is.
+    /// Returns the context of the session in which the serializer writes: the map of values that it
+    /// was made with. No clause says which context, since what a lock holds is no part of a value.
     fn session_context(&self) -> &SessionContext<E::CtxKey, E::CtxValue>;
 
     ghost out_of_with: { (s : Self) (w : List ℕ) → out (with_bytes s w) ≡ record (out s) { bytes = w } };

@@ -1,7 +1,17 @@
 //! The values that one session of reading and writing shares: a map behind a lock.
 
-ghost use Rattle.{pagable_value_spec.specs.{Outcomes.memory, Composite.MayHold, Session.{IsHandedBack, IsCloneOf, Under}}, std.{proofs.Common.rules, specs.{BTreeMap.{IsEmpty, IsUnchanged, Updates, get}, Cmp.Rules.comparing, Sync.Mutex.mutex_guard_value}}};
-ghost use Rattle.std.specs.Prelude.{IfErr, IfOk, IfSome, IsSome, IsTrue, None, OnErr, OnOk, Some, refl, ◌≡◌};
+ghost use Rattle.pagable_value_spec.specs.{
+  Composite.MayHold,
+  Outcomes.IsOutOfMemory,
+  Session.{DoesUnderLock, IsCloneOf, IsHandedBack},
+};
+ghost use Rattle.std.proofs.Common.{rules};
+ghost use Rattle.std.specs.{
+  BTreeMap.{IsEmpty, IsUnchanged, Updates, get},
+  Cmp.Rules.comparing,
+  Prelude.{IfErr, IfOk, IfSome, IsSome, IsTrue, None, OnErr, OnOk, Some, refl, ◌≡◌},
+  Sync.Mutex.mutex_guard_value,
+};
 
 use pagable_flavors::Error;
 use std::alloc::Global;
@@ -58,7 +68,7 @@ impl<K: Ord + Drop, V: SessionValue> SessionMap<K, V> {
     pub fn get(&self, key: &K) -> Result<Option<V>, Error>
         ensures value { IfOk result (IsCloneOf V.is_clone (get K.cmp self.now.values key.now)) }
         ensures there { OnErr result (IsSome (get K.cmp self.now.values key.now)) }
-        ensures only { IfErr result memory }
+        ensures only { IfErr result IsOutOfMemory }
     {
         Ok(self.values.get(key).cloned()?)
     }
@@ -71,13 +81,13 @@ impl<K: Ord + Drop, V: SessionValue> SessionMap<K, V> {
     pub fn set(&mut self, key: K, value: V) -> Result<(), (Error, K, V)>
         ensures ok { OnOk result (Updates K.cmp self.old.values self.new.values key (Some value)) }
         ensures err { OnErr result (IsUnchanged self.old.values self.new.values) }
-        ensures only { IfErr result (λ e. memory e.0) }
+        ensures only { IfErr result (λ e. IsOutOfMemory e.0) }
         ensures back { IfErr result (λ e. (e.1 ≡ key) × (e.2 ≡ value)) }
     {
         match self.values.insert(key, value) {
             Ok(_) => Ok(()),
             Err(failed) => {
-                let (refusal, (key, value)) = Error::parted(failed);
+                let (refusal, (key, value)) = Error::split_failed_allocation(failed);
                 Err((refusal, key, value))
             }
         }
@@ -101,7 +111,7 @@ impl<K: Ord + Drop, V: SessionValue> SessionMap<K, V> {
         ensures made { IfOk result (λ y. get K.cmp self.old.values key ≡ None → (x : V) × F.post make x × V.is_clone x y
             × Updates K.cmp self.old.values self.new.values key (Some x)) }
         ensures err { OnErr result (IsUnchanged self.old.values self.new.values) }
-        ensures only { IfErr result (λ e. memory e.0) }
+        ensures only { IfErr result (λ e. IsOutOfMemory e.0) }
         ensures back { IfErr result (λ e. (e.1 ≡ key) × IsHandedBack (F.post make)
             (get K.cmp self.old.values key) e.2) }
     {
@@ -151,7 +161,7 @@ impl<K: Ord + Drop, V: Drop> SessionContext<K, V> {
 impl<K: Ord + Drop, V: SessionValue> SessionContext<K, V> {
     /// Takes the lock, and with it the map.
     #[tactic(auto, unfolding(pagable_value_spec::specs::Composite::MayHold))]
-    fn lent<R: Wait>(&self, rt: &R) -> MutexGuard<'_, SessionMap<K, V>>
+    fn lock_map<R: Wait>(&self, rt: &R) -> MutexGuard<'_, SessionMap<K, V>>
         ensures { MayHold self.now (mutex_guard_value result) }
     {
         self.map.lock(rt)
@@ -159,7 +169,7 @@ impl<K: Ord + Drop, V: SessionValue> SessionContext<K, V> {
 
     /// Releases the lock; the map stays as the caller left it.
     #[tactic(auto, unfolding(pagable_value_spec::specs::Composite::MayHold))]
-    fn give_back(&self, map: MutexGuard<'_, SessionMap<K, V>>)
+    fn unlock_map(&self, map: MutexGuard<'_, SessionMap<K, V>>)
         ensures { MayHold self.now (mutex_guard_value map.entry) }
     {
         drop(map);
@@ -171,14 +181,14 @@ impl<K: Ord + Drop, V: SessionValue> SessionContext<K, V> {
     ///
     /// - `OutOfMemory` only.
     pub fn get<R: Wait>(&self, rt: &R, key: &K) -> Result<Option<V>, Error>
-        ensures does { Under self.now (λ (old new : SessionMap K V). IfOk result
+        ensures does { DoesUnderLock self.now (λ (old new : SessionMap K V). IfOk result
             (IsCloneOf V.is_clone (get K.cmp old.values key.now))
             × OnErr result (IsSome (get K.cmp old.values key.now))) }
-        ensures only { IfErr result memory }
+        ensures only { IfErr result IsOutOfMemory }
     {
-        let map = self.lent(rt);
+        let map = self.lock_map(rt);
         let value = map.get(key);
-        self.give_back(map);
+        self.unlock_map(map);
         value
     }
 
@@ -188,14 +198,14 @@ impl<K: Ord + Drop, V: SessionValue> SessionContext<K, V> {
     ///
     /// - `OutOfMemory` only: the map is unchanged, and the caller gets key and value back.
     pub fn set<R: Wait>(&self, rt: &R, key: K, value: V) -> Result<(), (Error, K, V)>
-        ensures does { Under self.now (λ (old new : SessionMap K V). OnOk result
+        ensures does { DoesUnderLock self.now (λ (old new : SessionMap K V). OnOk result
             (Updates K.cmp old.values new.values key (Some value)) × OnErr result (IsUnchanged old.values new.values)) }
-        ensures only { IfErr result (λ e. memory e.0) }
+        ensures only { IfErr result (λ e. IsOutOfMemory e.0) }
         ensures back { IfErr result (λ e. (e.1 ≡ key) × (e.2 ≡ value)) }
     {
-        let mut map = self.lent(rt);
+        let mut map = self.lock_map(rt);
         let done = map.set(key, value);
-        self.give_back(map);
+        self.unlock_map(map);
         done
     }
 
@@ -212,18 +222,18 @@ impl<K: Ord + Drop, V: SessionValue> SessionContext<K, V> {
         make: F,
     ) -> Result<V, (Error, K, Option<V>)>
         requires { F.pre make }
-        ensures does { Under self.now (λ (old new : SessionMap K V).
+        ensures does { DoesUnderLock self.now (λ (old new : SessionMap K V).
             IfOk result (λ y. (x : V) → get K.cmp old.values key ≡ Some x → V.is_clone x y
             × IsUnchanged old.values new.values) ×
             IfOk result (λ y. get K.cmp old.values key ≡ None → (x : V) × F.post make x × V.is_clone x y
             × Updates K.cmp old.values new.values key (Some x)) ×
             OnErr result (IsUnchanged old.values new.values)) }
-        ensures only { IfErr result (λ e. memory e.0) }
+        ensures only { IfErr result (λ e. IsOutOfMemory e.0) }
         ensures back { IfErr result (λ e. (e.1 ≡ key) × IfSome e.2 (F.post make)) }
     {
-        let mut map = self.lent(rt);
+        let mut map = self.lock_map(rt);
         let value = map.get_or_insert_with(key, make);
-        self.give_back(map);
+        self.unlock_map(map);
         value
     }
 }

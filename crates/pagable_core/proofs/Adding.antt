@@ -1,8 +1,20 @@
 -- Adding a blob to what is stored, and how many blobs a map holds.
-use Rattle.std.proofs.{Common.{◌≡◌, ◌∙◌, ℕ, Bool, false, cond, Option, Some, None, Result, sym, inl, inr, arith}, lemmas.Bool.{eqb-true, Decides.{Decides-eqb, nat_tests}}}
-use Rattle.std.{proofs.lemmas.Map.{Entries.length-keys_of, Made.AllPairs-from_IsDistinct, Views.{IsSome-lookup_from_Contains, Contains-keys_from_lookup}}, specs.{Arc.arc_value, Cmp.nat_eq_equiv}}
-use Rattle.std.specs.{Global.Global, HashMap.{IsUnique, get, hash_map_len}, Map.keys_of, Prelude.{◌==◌, ◌↔◌, ◌≢◌, IsSome, IsTrue, OnErr, OnOk, nat_eq, option_map, if◌then◌else◌}, declared.sync.Arc.Arc}
-use Rattle.{pagable_core.specs.{Data.{Blobs, blob_of, stored_in}, declared.storage.data.PagableData.PagableData}, pagable_value_spec.specs.{Blob.Blob, Stored.{Adds, AreNamed, IsCount, Keeps}, declared.error.Error.Error}}
+use Rattle.pagable_core.specs.{Data.{Blobs, blob_of, stored_in}, declared.storage.data.PagableData.PagableData}
+use Rattle.pagable_value_spec.specs.{Blob.Blob, Stored.{Adds, AreNamed, IsCount, Keeps}, declared.error.Error.Error}
+use Rattle.std.proofs.{
+  Common.{Bool, None, Option, Result, Some, arith, cond, false, inl, inr, sym, ℕ, ◌∙◌, ◌≡◌},
+  lemmas.Bool.{Decides.{Decides-eqb, nat_tests}, eqb-true},
+  lemmas.Map.{Entries.length-keys_of, Made.AllPairs-from_IsDistinct, Views.{Contains-keys_from_lookup, IsSome-lookup_from_Contains}},
+}
+use Rattle.std.specs.{
+  Arc.arc_value,
+  Cmp.nat_eq_equiv,
+  Global.Global,
+  HashMap.{IsUnique, get, hash_map_len},
+  Map.keys_of,
+  Prelude.{IsSome, IsTrue, OnErr, OnOk, if◌then◌else◌, nat_eq, option_map, ◌==◌, ◌↔◌, ◌≢◌},
+  declared.sync.Arc.Arc,
+}
 
 -- a blob that stands there already adds nothing
 pub adds_nothing : (stored : ℕ → Option Blob) (key : ℕ) (blob : Blob) → stored key ≡ Some blob → Adds key blob stored stored

@@ -1,7 +1,10 @@
 -- A list of all names.
-use Rattle.std.proofs.{Common.{◌≡◌, ◌∙◌, Bool, true, false, IsSome, IsTrue, List, [], ◌∷◌, ◌++◌, ℕ, refl, sym}, lemmas.{List.Folds.list_any-append, Map.Made.is_some-lookup}}
-use Rattle.std.specs.{HashMap.{HashMap, get_by_text, keys}, Prelude.{String, string_bytes, ◌||◌}, Str.bytes_eq}
 use Rattle.pagable_core.specs.Roots.{is_among}
+use Rattle.std.proofs.{
+  Common.{Bool, IsSome, IsTrue, List, false, refl, sym, true, ℕ, [], ◌++◌, ◌∙◌, ◌∷◌, ◌≡◌},
+  lemmas.{List.Folds.list_any-append, Map.Made.is_some-lookup},
+}
+use Rattle.std.specs.{HashMap.{HashMap, get_by_text, keys}, Prelude.{String, string_bytes, ◌||◌}, Str.bytes_eq}
 
 -- each name is a key of the map
 pub keys_are_named : {A X S : Type 0} (roots : HashMap (String A) X S) (name : List ℕ) → IsSome (get_by_text roots name)

@@ -1,7 +1,12 @@
 -- Weighing one more byte, and what the preimage of a blob is made of.
-use Rattle.std.proofs.Common.{◌≡◌, ℕ, ◌+◌, ◌*◌, ◌%◌, ◌^◌, ◌<◌, List, [], ◌∷◌, ◌++◌, length, take, get_or, arith, refl, sym, append_assoc, length-append}
-use Rattle.std.{proofs.{Math.Nat.{add-mod-mod, mod-add-mod}, lemmas.{Nat.mul-mod_first, List.{take_more, flat_map_more}}}, specs.Int.{w64, w128}}
-use Rattle.{std.specs.{Int.to_le_bytes, List.flat_map}, pagable_core.specs.{Data.IsWeighed, declared.storage.weigh.WeighHash.WeighHash}, pagable_value_spec.specs.Blob.{weight, preimage}}
+use Rattle.pagable_core.specs.{Data.IsWeighed, declared.storage.weigh.WeighHash.WeighHash}
+use Rattle.pagable_value_spec.specs.Blob.{preimage, weight}
+use Rattle.std.proofs.{
+  Common.{List, append_assoc, arith, get_or, length, length-append, refl, sym, take, ℕ, [], ◌%◌, ◌*◌, ◌++◌, ◌+◌, ◌<◌, ◌^◌, ◌∷◌, ◌≡◌},
+  Math.Nat.{add-mod-mod, mod-add-mod},
+  lemmas.{List.{flat_map_more, take_more}, Nat.mul-mod_first},
+}
+use Rattle.std.specs.{Int.{to_le_bytes, w128, w64}, List.flat_map}
 
 pub weight-more : (i b : ℕ) (bs : List ℕ) → weight i (bs ++ b ∷ []) ≡ weight i bs + (i + length bs) * b
 unfolding weight

@@ -1,7 +1,14 @@
 -- What the serializer and the deserializer over memory are in the words of the definitions.
-use Rattle.std.{proofs.Common.{arith, ap}, specs.{Global.Global, Prelude.{ℕ, ◌+◌, List, [], ◌∷◌, Option, Result, Vec, refl}}}
-use Rattle.{pagable_core.specs.declared.context.writing.{SerializedData.SerializedData, SerializerOver.SerializerOver}, pagable_value_spec.specs.Reading.Rest}
-use Rattle.pagable_value_spec.specs.{Cursor.{Answer, InputState, MovesOn}, Progress.{Track, GoesOn}, Writing.Out, declared.{error.Error.Error, numbers.ArcRef.ArcRef}}
+use Rattle.pagable_core.specs.declared.context.writing.{SerializedData.SerializedData, SerializerOver.SerializerOver}
+use Rattle.pagable_value_spec.specs.{
+  Cursor.{Answer, InputState, MovesOn},
+  Progress.{MovesForward, ReaderState},
+  Reading.Rest,
+  Writing.Out,
+  declared.{error.Error.Error, numbers.ArcRef.ArcRef},
+}
+use Rattle.std.proofs.Common.{ap, arith}
+use Rattle.std.specs.{Global.Global, Prelude.{List, Option, Result, Vec, refl, ℕ, [], ◌+◌, ◌∷◌}}
 
 -- nothing was written
 abbrev pub nothing : Out
@@ -17,9 +24,10 @@ answers_from answer place [] = []
 answers_from answer place (key ∷ keys) = (λ kind. answer place key kind) ∷ answers_from answer (place + 1) keys
 
 -- the state of a deserializer whose keys and reader are at these positions, with what it is lent at each place
-abbrev pub standing_of : {N : Type 0} → (ℕ → ℕ → ℕ → Result ArcRef Error) → (ℕ → Option (ArcRef × N)) → Track → Track
+abbrev pub input_state_at : {N : Type 0} → (ℕ → ℕ → ℕ → Result ArcRef Error) → (ℕ → Option (ArcRef × N))
+    → ReaderState → ReaderState
     → InputState N
-standing_of answer lent keys reader = record {
+input_state_at answer lent keys reader = record {
   whole = record { bytes = reader.all; refs = answers_from answer 0 keys.all };
   lent = lent;
   cursor = record { byte_pos = reader.position; arc_index = keys.position };
@@ -28,13 +36,13 @@ standing_of answer lent keys reader = record {
 -- the state at the start of these bytes and keys
 abbrev pub at_front : {N : Type 0} → (ℕ → ℕ → ℕ → Result ArcRef Error) → (ℕ → Option (ArcRef × N)) → List ℕ → List ℕ
     → InputState N
-at_front answer lent bytes keys = standing_of answer lent (record { all = keys; position = 0 })
+at_front answer lent bytes keys = input_state_at answer lent (record { all = keys; position = 0 })
     (record { all = bytes; position = 0 })
 
 -- a reader that has moved on moves the deserializer on
 pub moves_of : {N : Type 0} (answer : ℕ → ℕ → ℕ → Result ArcRef Error) (lent : ℕ → Option (ArcRef × N))
-    (keys old new : Track) → GoesOn old new → MovesOn (standing_of answer lent keys old)
-    (standing_of answer lent keys new)
+    (keys old new : ReaderState) → MovesForward old new → MovesOn (input_state_at answer lent keys old)
+    (input_state_at answer lent keys new)
 moves_of answer lent keys old new g = record {
   whole = ap (λ (bytes : List ℕ). let x : Rest Answer =
       record { bytes = bytes; refs = answers_from answer 0 keys.all } in x) g.all;

@@ -1,7 +1,13 @@
 -- Blobs as the code keeps them, and the bytes that a hash was given.
-use Rattle.std.specs.{Arc.arc_value, Global.Global, HashMap.{HashMap, get}, Prelude.{◌≡◌, ◌%◌, ◌^◌, ◌+◌, List, ℕ, length, Option, option_map, nat_eq}}
-use Rattle.std.specs.declared.{hash.{BuildHasherDefault.BuildHasherDefault, FoldHasher.FoldHasher}, sync.Arc.Arc}
-use Rattle.{pagable_core.specs.declared.storage.{data.PagableData.PagableData, weigh.WeighHash.WeighHash}, pagable_value_spec.specs.Blob.{Blob, weight}}
+use Rattle.pagable_core.specs.declared.storage.{data.PagableData.PagableData, weigh.WeighHash.WeighHash}
+use Rattle.pagable_value_spec.specs.Blob.{Blob, weight}
+use Rattle.std.specs.{
+  Arc.arc_value,
+  Global.Global,
+  HashMap.{HashMap, get},
+  Prelude.{List, Option, length, nat_eq, option_map, ℕ, ◌%◌, ◌+◌, ◌^◌, ◌≡◌},
+  declared.{hash.{BuildHasherDefault.BuildHasherDefault, FoldHasher.FoldHasher}, sync.Arc.Arc},
+}
 
 -- the blob without its place in memory
 abbrev pub blob_of : PagableData → Blob

@@ -1,16 +1,19 @@
 -- Names that stand for keys in a storage of blobs.
-use Rattle.std.specs.Prelude.{◌≡◌, ℕ, Bool, true, if◌then◌else◌, List, Option, Some, None, IsSome, IsTrue, String, string_bytes}
-use Rattle.std.specs.{List.list_any, Str.{IsUtf8, bytes_eq}}
 use Rattle.pagable_value_spec.specs.{Blob.Blob, Stored.HasFailed, declared.error.Error.Error}
+use Rattle.std.specs.{
+  List.list_any,
+  Prelude.{Bool, IsSome, IsTrue, List, None, Option, Some, String, if◌then◌else◌, string_bytes, true, ℕ, ◌≡◌},
+  Str.{IsUtf8, bytes_eq},
+}
 
 -- the name stands for this key now, or for none; each other name stands for what it stood for
 abbrev pub Sets : List ℕ → Option ℕ → (List ℕ → Option ℕ) → (List ℕ → Option ℕ) → Type 0
 Sets name key old new = (q : List ℕ) → new q ≡ (if bytes_eq name q then key else old q)
 
 -- a blob is stored under the key, if there is a key
-abbrev pub Stands : (ℕ → Option Blob) → Option ℕ → Type 0
-Stands stored None = Unit {0}
-Stands stored (Some key) = IsSome (stored key)
+abbrev pub HasBlobIfKey : (ℕ → Option Blob) → Option ℕ → Type 0
+HasBlobIfKey stored None = Unit {0}
+HasBlobIfKey stored (Some key) = IsSome (stored key)
 
 abbrev pub RefusesRoot : Option ℕ → (ℕ → Option Blob) → Bool → ℕ → ℕ → Error → Type 0
 RefusesRoot key stored closed before after (Error.NoData k) = (key ≡ Some k) × (stored k ≡ None)

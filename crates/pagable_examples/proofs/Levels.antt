@@ -1,7 +1,16 @@
 -- A part one level deeper, in any environment: what writing and reading it on that level says of it.
-use Rattle.std.{proofs.Common.{Err, Result, arith, refl, suc, ℕ, ◌+◌, ◌-◌, ◌<◌, ◌≡◌, ◌≤◌}, specs.Prelude.IfErr}
-use Rattle.{pagable_codec.proofs.Reading.{moves_refl, moves_trans}, pagable_value_spec.specs.{Form.nested-form, Meaning.Meaning, Reading.{Rest, below, deepest, read, read_with}}}
-use Rattle.pagable_value_spec.specs.{Shape.{Shape, nested}, Cursor.{Answer, handles_at}, Writing.{NoForm, Out, Refused, WritesSome, nesting}, declared.{error.Error.Error, numbers.ArcRef.ArcRef}}
+use Rattle.pagable_codec.proofs.Reading.{moves_refl, moves_trans}
+use Rattle.pagable_value_spec.specs.{
+  Cursor.{Answer, handles_at},
+  Form.nested-form,
+  Meaning.Meaning,
+  Reading.{Rest, below, deepest, read, read_with},
+  Shape.{Shape, nested},
+  Writing.{NoForm, Out, Refused, WritesSome, nesting},
+  declared.{error.Error.Error, numbers.ArcRef.ArcRef},
+}
+use Rattle.std.proofs.Common.{Err, Result, arith, refl, suc, ℕ, ◌+◌, ◌-◌, ◌<◌, ◌≡◌, ◌≤◌}
+use Rattle.std.specs.Prelude.{IfErr}
 use Rattle.pagable_value_spec.specs.declared.error.Error.TheVariants as errors
 
 module _ (parts : ℕ → Shape) (part : ℕ) where

@@ -1,7 +1,15 @@
 -- The tags of animals, and the body under each tag.
-use Rattle.std.specs.{Int.w8, Prelude.{List, [], cond, refl, ℕ, ◌∷◌}, Str.bytes_eq}
-use Rattle.{pagable_examples.specs.declared.animal.{Animal.Animal, AnimalReader.AnimalReader}, pagable_value_spec.specs.{CarriedTypes.of_tagged, Meaning.{Meaning, none, number}}}
-use Rattle.{pagable_value_spec.specs.{Shape.{Shape, nothing, unsigned}, Cursor.Is, Tagged.MeansTagged, declared.numbers.ArcRef.ArcRef}, pagable_traits.specs.Meanings.Meanings}
+use Rattle.pagable_examples.specs.declared.animal.{Animal.Animal, AnimalReader.AnimalReader}
+use Rattle.pagable_traits.specs.Meanings.{Meanings}
+use Rattle.pagable_value_spec.specs.{
+  CarriedTypes.of_tagged,
+  Cursor.Is,
+  Meaning.{Meaning, none, number},
+  Shape.{Shape, nothing, unsigned},
+  Tagged.MeansTagged,
+  declared.numbers.ArcRef.ArcRef,
+}
+use Rattle.std.specs.{Int.w8, Prelude.{List, cond, refl, ℕ, [], ◌∷◌}, Str.bytes_eq}
 use Rattle.pagable_examples.specs.declared.animal.Animal.TheVariants as animals
 use Rattle.pagable_examples.specs.declared.animal.AnimalReader.TheVariants as readers
 
@@ -32,9 +40,9 @@ animal_means = record {
   is = λ x. record { body = body_of x; is_body = refl; is = refl };
 }
 
-abbrev pub tag_read : AnimalReader → List ℕ
-tag_read readers.Dog = dog
-tag_read _ = cat
+abbrev pub tag_of_reader : AnimalReader → List ℕ
+tag_of_reader readers.Dog = dog
+tag_of_reader _ = cat
 
 abbrev pub grammar_of : AnimalReader → Shape
 grammar_of readers.Cat = nothing

@@ -1,6 +1,7 @@
 -- What static texts and bytes mean.
-use Rattle.std.{proofs.{Common.ap, lemmas.Slice.Eq.bytes_eq-Decides}, specs.{Borrow.Bor, Prelude.{IsTrue, List, [], map, refl, ℕ, ◌∷◌, ◌≡◌}, Str.bytes_eq}}
 use Rattle.pagable_value_spec.specs.{Canonical.HasNoReference, Meaning.{Meaning, number, sequence, text}}
+use Rattle.std.proofs.{Common.ap, lemmas.Slice.Eq.bytes_eq-Decides}
+use Rattle.std.specs.{Borrow.Bor, Prelude.{IsTrue, List, map, refl, ℕ, [], ◌∷◌, ◌≡◌}, Str.bytes_eq}
 
 abbrev pub of_text : List ℕ → Meaning ⊥
 of_text bytes = text bytes

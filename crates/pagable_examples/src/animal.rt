@@ -1,24 +1,30 @@
 //! An enum whose values are written as a tag and a body, and the readers of the bodies by their tags.
 
+ghost use Rattle.pagable_examples.specs.Animals.{animal_means, body_of, grammar_of, tag_of, tag_of_reader, written};
+ghost use Rattle.pagable_traits.specs.{
+  Meanings.exactly,
+  OwnCauses.{reads_memory_or, reads_never, writes_long_or, writes_memory_or},
+  StaticValues.writes_unregistered,
+};
+ghost use Rattle.pagable_value_spec.specs.{CarriedTypes.tagged_by, Tagged.grammars};
 ghost use Rattle.std.specs.Prelude.{◌≡◌};
-ghost use Rattle.{pagable_examples.specs.Animals.{animal_means, body_of, grammar_of, tag_of, tag_read, written}, pagable_value_spec.specs.{CarriedTypes.tagged_by, Tagged.grammars}};
-ghost use Rattle.pagable_traits.specs.{Meanings.exactly, OwnCauses.{reads_memory_or, reads_never, writes_long_or, writes_memory_or}, StaticValues.writes_unregistered};
 
 use crate::zoo::Zoo;
 use pagable_flavors::Error;
 use pagable_traits::{
-    Carried, ForTag, PagableDeserialize, PagableDeserializer, PagableSerialize, PagableSerializer,
-    PagableTagged, TagReader, deserialize_tagged,
+    Carried, HasOwnTag, PagableDeserialize, PagableDeserializer, PagableSerialize,
+    PagableSerializer, PagableTagged, TagReader, deserialize_tagged,
 };
 use std::alloc::Global;
 
-/// An animal. Older versions wrote a cat's lives: `OldCat` can still be read, but not written.
+/// An animal. Older versions wrote the number of a cat's lives: such a cat, an `OldCat`, can still
+/// be read, but not written.
 #[derive(Drop)]
 pub enum Animal {
     Cat,
-    /// Its lives.
+    /// A cat as older versions wrote it, with the number of its lives.
     OldCat(u8),
-    /// Its age in years.
+    /// A dog, with its age in years.
     Dog(u8),
 }
 
@@ -33,7 +39,7 @@ pub enum AnimalReader {
 impl AnimalReader {
     /// Returns the tag of the animals that it reads.
     pub fn tag(self) -> &'static str
-        ensures { result.now ≡ tag_read self }
+        ensures { result.now ≡ tag_of_reader self }
     {
         match self {
             AnimalReader::Cat | AnimalReader::OldCat => "Cat",
@@ -58,7 +64,7 @@ impl PagableTagged<Zoo> for Animal {
         }
     }
 
-    /// Writes nothing for a cat, and a dog's age. Fails with `Unregistered` for an `OldCat`.
+    /// Writes no byte for a cat, and the age of a dog. Fails with `Unregistered` for an `OldCat`.
     #[tactic(auto, using(pagable_codec::proofs::Writing::parts))]
     fn pagable_serialize_body<S: PagableSerializer<Zoo>>(
         &self,
@@ -72,8 +78,8 @@ impl PagableTagged<Zoo> for Animal {
     }
 }
 
-impl ForTag for AnimalReader {
-    ghost own_tag = { tag_read };
+impl HasOwnTag for AnimalReader {
+    ghost own_tag = { tag_of_reader };
 }
 
 impl TagReader<Zoo, Animal> for AnimalReader {

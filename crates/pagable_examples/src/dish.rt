@@ -1,9 +1,16 @@
 //! A struct of named fields, which are written one after the other, with nothing between them.
 
+ghost use Rattle.pagable_examples.specs.Dishes.{dish_means, dish_single};
+ghost use Rattle.pagable_traits.specs.{
+  KeyLaws.{key_seen, number_key, pair_key, text_key},
+  OwnCauses.{reads_either, reads_memory, reads_never, writes_either, writes_long_or, writes_memory},
+  ReadBack.IsReadableThroughout,
+};
+ghost use Rattle.pagable_value_spec.specs.{
+  OneForm.{basic_has_one_form, two_has_one_form},
+  Shape.{both, text, unsigned},
+};
 ghost use Rattle.std.specs.{Int.w16, Prelude.refl, String.string_bytes};
-ghost use Rattle.{pagable_examples.specs.Dishes.{dish_means, dish_single}, pagable_value_spec.specs.{OneForm.{basic_has_one_form, two_has_one_form}, Shape.{both, text, unsigned}}};
-ghost use Rattle.pagable_traits.specs.{KeyLaws.{key_seen, number_key, pair_key, text_key}, OwnCauses.{reads_either, reads_memory, reads_never, writes_either, writes_long_or, writes_memory}};
-ghost use Rattle.pagable_traits.specs.ReadBack.{IsReadThroughout};
 
 use pagable_flavors::Error;
 use pagable_traits::impls::maps::write_entry;
@@ -17,7 +24,7 @@ use std::alloc::Global;
 #[derive(PartialEq, Eq, Hash, Drop)]
 pub struct Dish {
     pub name: String,
-    /// Its weight in grams.
+    /// The weight of the dish in grams.
     pub grams: u16,
 }
 
@@ -65,5 +72,5 @@ impl<'de, E: Env> PagableDeserialize<'de, E> for Dish {
 /// Proves that each encoding of a dish is read back, since those of a text and of a number are.
 #[tactic(auto, using(crate::specs::Dishes::dish_is_read))]
 pub fn dishes_are_read<E: Env>()
-    ensures { (e : E) → IsReadThroughout (E.parts e) (⟦<Dish as Carried<E>>⟧.shape e) }
+    ensures { (e : E) → IsReadableThroughout (E.parts e) (⟦<Dish as Carried<E>>⟧.shape e) }
 {}

@@ -1,7 +1,12 @@
 //! A type that holds values of its own type, each one level deeper: sums inside sums.
 
-ghost use Rattle.{pagable_examples.specs.Expressions.{IsSum, expression, node, nodes, of_expression}, pagable_value_spec.specs.{Outcomes.{deep_or, memory}, Reading.read, Shape.nested, Cursor.Is}};
-ghost use Rattle.pagable_traits.specs.{Clauses.{Reads, Wrote}, Meanings.exactly, OwnCauses.{reads_memory, writes_deep_or, writes_memory}};
+ghost use Rattle.pagable_examples.specs.Expressions.{IsSum, expression_form, nodes, of_expression, variant_shape};
+ghost use Rattle.pagable_traits.specs.{
+  Clauses.{Reads, Wrote},
+  Meanings.exactly,
+  OwnCauses.{reads_memory, writes_deep_or, writes_memory},
+};
+ghost use Rattle.pagable_value_spec.specs.{Cursor.Is, Outcomes.{IsOutOfMemory, deep_or}, Reading.read, Shape.nested};
 
 use pagable_codec::parts::{read_flag, write_flag};
 use pagable_core::WeighHash;
@@ -21,9 +26,9 @@ pub enum Expression {
 
 /// An environment without nodes, whose part 0 is an expression.
 #[derive(Drop)]
-pub struct Sheet;
+pub struct ExpressionEnv;
 
-impl Env for Sheet {
+impl Env for ExpressionEnv {
     type Node = ();
 
     type Hash = WeighHash;
@@ -37,26 +42,27 @@ impl Env for Sheet {
 
 // Enters a level, writes an expression there, and leaves the level whatever the result is.
 #[cycle(writing)]
-fn write_below<S: PagableSerializer<Sheet>>(
+fn write_nested<S: PagableSerializer<ExpressionEnv>>(
     value: &Expression,
     serializer: &mut S,
 ) -> Result<(), Error>
-    ensures { Wrote ⟦<Sheet as Env>⟧ S.PagableSerializer (expression value.now (nested 0))
-        (deep_or memory) serializer.old serializer.new result }
+    ensures { Wrote ⟦<ExpressionEnv as Env>⟧ S.PagableSerializer (expression_form value.now (nested 0))
+        (deep_or IsOutOfMemory) serializer.old serializer.new result }
 {
     serializer.enter()?;
-    let done = write_node(value, serializer);
+    let done = write_variant(value, serializer);
     serializer.leave();
     done
 }
 
 // Writes a flag, true for a number and false for a sum, and then the fields.
 #[cycle(writing)]
-fn write_node<S: PagableSerializer<Sheet>>(
+fn write_variant<S: PagableSerializer<ExpressionEnv>>(
     value: &Expression,
     serializer: &mut S,
 ) -> Result<(), Error>
-    ensures { Wrote ⟦<Sheet as Env>⟧ S.PagableSerializer (expression value.now node) (deep_or memory) serializer.old
+    ensures { Wrote ⟦<ExpressionEnv as Env>⟧ S.PagableSerializer (expression_form value.now variant_shape)
+        (deep_or IsOutOfMemory) serializer.old
         serializer.new result }
 {
     match value {
@@ -66,8 +72,8 @@ fn write_node<S: PagableSerializer<Sheet>>(
         }
         Expression::Sum(left, right) => {
             write_flag(false, serializer)?;
-            write_below(left, serializer)?;
-            write_below(right, serializer)
+            write_nested(left, serializer)?;
+            write_nested(right, serializer)
         }
     }
 }
@@ -75,15 +81,15 @@ fn write_node<S: PagableSerializer<Sheet>>(
 // Enters a level, reads an expression there, and leaves the level whatever the result is.
 #[cycle(reading)]
 #[tactic(auto, using(crate::proofs::Levels::reading))]
-fn read_below<D: PagableDeserializer<Sheet>>(
+fn read_nested<D: PagableDeserializer<ExpressionEnv>>(
     alloc: Global,
     deserializer: &mut D,
 ) -> Result<Expression, Error>
-    ensures { Reads ⟦<Sheet as Env>⟧ D.PagableDeserializer memory (Is of_expression)
+    ensures { Reads ⟦<ExpressionEnv as Env>⟧ D.PagableDeserializer IsOutOfMemory (Is of_expression)
         (λ x. read x (nested 0)) deserializer.old deserializer.new result }
 {
     deserializer.enter()?;
-    let read = read_node(alloc, deserializer);
+    let read = read_variant(alloc, deserializer);
     deserializer.leave();
     read
 }
@@ -100,46 +106,47 @@ fn sum_of(alloc: Global, left: Expression, right: Expression) -> Result<Expressi
 // Reads a flag, true for a number and false for a sum, and then the fields.
 #[cycle(reading)]
 #[tactic(auto, unfolding(pagable_value_spec::specs::Reading::read, pagable_value_spec::specs::Reading::read_with), using(pagable_traits::proofs::Parts::reads))]
-fn read_node<D: PagableDeserializer<Sheet>>(
+fn read_variant<D: PagableDeserializer<ExpressionEnv>>(
     alloc: Global,
     deserializer: &mut D,
 ) -> Result<Expression, Error>
-    ensures { Reads ⟦<Sheet as Env>⟧ D.PagableDeserializer memory (Is of_expression) (λ x. read x node) deserializer.old
+    ensures { Reads ⟦<ExpressionEnv as Env>⟧ D.PagableDeserializer IsOutOfMemory (Is of_expression)
+        (λ x. read x variant_shape) deserializer.old
         deserializer.new result }
 {
     if read_flag(deserializer)? {
         let number = u64::pagable_deserialize(alloc, deserializer)?;
         return Ok(Expression::Number(number));
     }
-    let left = read_below(alloc, deserializer)?;
-    let right = read_below(alloc, deserializer)?;
+    let left = read_nested(alloc, deserializer)?;
+    let right = read_nested(alloc, deserializer)?;
     sum_of(alloc, left, right)
 }
 
-impl Carried<Sheet> for Expression {
+impl Carried<ExpressionEnv> for Expression {
     ghost shape = { λ e. nested 0 };
 
     ghost means = { exactly of_expression };
 }
 
-impl PagableSerialize<Sheet> for Expression {
+impl PagableSerialize<ExpressionEnv> for Expression {
     ghost write_causes = { writes_deep_or writes_memory };
 
-    fn pagable_serialize<S: PagableSerializer<Sheet>>(
+    fn pagable_serialize<S: PagableSerializer<ExpressionEnv>>(
         &self,
         serializer: &mut S,
     ) -> Result<(), Error> {
-        write_below(self, serializer)
+        write_nested(self, serializer)
     }
 }
 
-impl<'de> PagableDeserialize<'de, Sheet> for Expression {
+impl<'de> PagableDeserialize<'de, ExpressionEnv> for Expression {
     ghost read_causes = { reads_memory };
 
-    fn pagable_deserialize<D: PagableDeserializer<Sheet>>(
+    fn pagable_deserialize<D: PagableDeserializer<ExpressionEnv>>(
         alloc: Global,
         deserializer: &mut D,
     ) -> Result<Self, Error> {
-        read_below(alloc, deserializer)
+        read_nested(alloc, deserializer)
     }
 }

@@ -1,8 +1,8 @@
 //! An enum of two variants that is encoded as an `Option`: the shortest way if one variant has no
 //! field.
 
-ghost use Rattle.std.specs.Prelude.{◌≡◌};
 ghost use Rattle.pagable_examples.specs.Sizes.{tenths_of};
+ghost use Rattle.std.specs.Prelude.{◌≡◌};
 
 use pagable_flavors::Error;
 use pagable_traits::encoded_as::{DecodedAs, EncodedAs};
@@ -12,12 +12,12 @@ use pagable_traits::{Env, PagableSerialize, PagableSerializer};
 #[derive(Clone, Copy, PartialEq)]
 pub enum Size {
     Small,
-    /// Its content in tenths of a litre.
+    /// A large glass, with the tenths of a litre that it holds.
     Large(u8),
 }
 
 impl Size {
-    /// Returns how many tenths of a litre a large glass holds.
+    /// Returns how many tenths of a litre a large glass holds, or None for a small one.
     pub fn tenths(self) -> Option<u8>
         ensures { result ≡ tenths_of self }
     {
@@ -31,7 +31,7 @@ impl Size {
 impl EncodedAs for Size {
     type Other = Option<u8>;
 
-    ghost other = { tenths_of };
+    ghost as_other = { tenths_of };
 }
 
 impl DecodedAs for Size {

@@ -1,8 +1,8 @@
-//! A type that is written and read eagerly: it holds no reference, and needs no
-//! `Carried`.
+//! A type that is written and read eagerly: it holds no reference, and doesn't implement `Carried`.
 
+ghost use Rattle.pagable_traits.specs.{Meanings.exactly, OwnCauses.{reads_never, writes_memory}};
+ghost use Rattle.pagable_value_spec.specs.{Meaning.number, Shape.unsigned};
 ghost use Rattle.std.specs.Int.{w16};
-ghost use Rattle.{pagable_value_spec.specs.{Meaning.number, Shape.unsigned}, pagable_traits.specs.{Meanings.exactly, OwnCauses.{reads_never, writes_memory}}};
 
 use pagable_flavors::Error;
 use pagable_traits::{

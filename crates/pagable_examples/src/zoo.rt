@@ -1,6 +1,9 @@
 //! An environment with registries of static values and of tags.
 
-ghost use Rattle.pagable_examples.specs.Words.{is_equal, meets_equal, numbers_apart, numbers_refer_to_nothing, of_numbers, of_text, text_refers_to_nothing, texts_apart};
+ghost use Rattle.pagable_examples.specs.{
+  Words.{is_equal, meets_equal, numbers_apart, numbers_refer_to_nothing, of_numbers, of_text, text_refers_to_nothing},
+  Words.texts_apart,
+};
 ghost use Rattle.pagable_value_spec.specs.Shape.{nothing};
 
 use crate::animal::{Animal, AnimalReader};
@@ -88,9 +91,9 @@ impl Env for Zoo {
 }
 
 impl HasStaticValueRegistry<Zoo> for &'static str {
-    ghost plain = { λ x. of_text x.now };
+    ghost plain_meaning = { λ x. of_text x.now };
 
-    ghost known = { λ e. e.words };
+    ghost registered_values = { λ e. e.words };
 
     fn registry(env: &Zoo) -> &StaticValueRegistry<&'static str> {
         &env.words
@@ -104,9 +107,9 @@ impl HasStaticValueRegistry<Zoo> for &'static str {
 }
 
 impl HasStaticValueRegistry<Zoo> for &'static [u8] {
-    ghost plain = { λ x. of_numbers x.now };
+    ghost plain_meaning = { λ x. of_numbers x.now };
 
-    ghost known = { λ e. e.blobs };
+    ghost registered_values = { λ e. e.blobs };
 
     fn registry(env: &Zoo) -> &StaticValueRegistry<&'static [u8]> {
         &env.blobs

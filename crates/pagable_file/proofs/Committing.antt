@@ -1,15 +1,18 @@
 -- What a commit makes of what waits for a flush.
-use Rattle.std.proofs.Common.{◌≡◌, ◌∙◌, ◌≤◌, ◌⊎◌, ℕ, Bool, false, IsTrue, List, [], Option, Some, inl, inr, refl, sym, ap, arith}
-use Rattle.std.specs.Prelude.{◌==◌, if◌then◌else◌}
-use Rattle.std.specs.{HashMap.IsUnique, List.{AllByRecursion as Each}, Ordering.int_eq}
-use Rattle.sqlite_value.specs.Order.{Row}
-use Rattle.sqlite_trees.specs.{Tree.Trees, View.{IsClean, View, doubt}}
-use Rattle.pagable_file.specs.{Rows.{blob_tree, blobs_in, root_tree, roots_in}, Blobs.{CanBeKeyIf, Fits, Saved, SavedAs, Settled, StaysPut, Waiting, WaitingRoots, Wrote, is_sure, pending_root_row, pending_row, put_all, roots_with, stored_with, unless}}
+use Rattle.pagable_file.proofs.{Fetching.same_number, Places.{all_named, all_stored, no_name_waits, none_waits}, Settling.shown_is_committed}
+use Rattle.pagable_file.specs.{
+  Blobs.{CanBeKeyIfSome, Fits, LeavesCommitted, Saved, SavedAs, Settled, WaitingBlobs, WaitingRoots, Wrote, is_honest_view, pending_root_row, pending_row},
+  Blobs.{put_all, roots_with, stored_with, unless},
+  Rows.{blob_tree, blobs_in, root_tree, roots_in},
+}
 use Rattle.pagable_value_spec.specs.{Blob.Blob, Stored.Adds}
-use Rattle.pagable_file.proofs.{Fetching.same_number, Places.{all_named, all_stored, no_name_waits, none_waits}, Settling.{shown_is_committed}}
+use Rattle.sqlite_trees.specs.{Tree.Trees, View.{IsClean, View, doubt}}
+use Rattle.sqlite_value.specs.Order.{Row}
+use Rattle.std.proofs.Common.{Bool, IsTrue, List, Option, Some, ap, arith, false, inl, inr, refl, sym, ℕ, [], ◌∙◌, ◌≡◌, ◌≤◌, ◌⊎◌}
+use Rattle.std.specs.{HashMap.IsUnique, List.AllByRecursion as Each, Ordering.int_eq, Prelude.{if◌then◌else◌, ◌==◌}}
 
-module _ (waiting : Waiting) (roots : WaitingRoots) (once : IsUnique int_eq waiting) (roots_once : IsUnique int_eq roots)
-    (fit : Each (λ e. Fits e.1) waiting.entries) (roots_fit : Each (λ e. CanBeKeyIf e.1.key) roots.entries) where
+module _ (waiting : WaitingBlobs) (roots : WaitingRoots) (once : IsUnique int_eq waiting) (roots_once : IsUnique int_eq roots)
+    (fit : Each (λ e. Fits e.1) waiting.entries) (roots_fit : Each (λ e. CanBeKeyIfSome e.1.key) roots.entries) where
   -- the tables with all that waited
   blobs_then : (rows now : List Row) → now ≡ put_all pending_row waiting.entries rows → blobs_in now ≡ stored_with waiting rows
   blobs_then rows now is = ap blobs_in is ∙ (λ i q. all_stored waiting rows once fit q i)
@@ -19,7 +22,7 @@ module _ (waiting : Waiting) (roots : WaitingRoots) (once : IsUnique int_eq wait
 
   module _ (old new : View) (was : Settled old)
       (saved : Saved old new (put_all pending_row waiting.entries (old.trees blob_tree)) (put_all pending_root_row roots.entries (old.trees root_tree)))
-      (sure : IsTrue (is_sure new)) where
+      (sure : IsTrue (is_honest_view new)) where
     shown : old.trees ≡ old.committed
     shown = shown_is_committed old was (saved.sure sure)
 
@@ -31,24 +34,25 @@ module _ (waiting : Waiting) (roots : WaitingRoots) (once : IsUnique int_eq wait
     committed_roots = roots_then (old.trees root_tree) (new.committed root_tree) (saved.roots_are sure)
         ∙ ap (λ (t : ℕ → List Row). roots_with roots (t root_tree)) shown
 
-    pub stored_stays : (after : Waiting) → after.entries ≡ [] → stored_with after (new.committed blob_tree) ≡ stored_with waiting (old.committed blob_tree)
+    pub stored_stays : (after : WaitingBlobs) → after.entries ≡ [] → stored_with after (new.committed blob_tree) ≡ stored_with waiting (old.committed blob_tree)
     stored_stays after none = none_waits after (new.committed blob_tree) none ∙ committed_blobs
 
     pub roots_stay : (after : WaitingRoots) → after.entries ≡ [] → roots_with after (new.committed root_tree) ≡ roots_with roots (old.committed root_tree)
     roots_stay after none = no_name_waits after (new.committed root_tree) none ∙ committed_roots
 
-pub blobs_kept : (waiting : Waiting) (old new : View) → StaysPut old new → IsTrue (is_sure new) → stored_with waiting (new.committed blob_tree)
+pub blobs_kept : (waiting : WaitingBlobs) (old new : View) → LeavesCommitted old new → IsTrue (is_honest_view new)
+    → stored_with waiting (new.committed blob_tree)
     ≡ stored_with waiting (old.committed blob_tree)
 blobs_kept waiting old new stays sure = ap (λ (t : ℕ → List Row). stored_with waiting (t blob_tree)) (stays.same sure)
 
-pub roots_kept : (roots : WaitingRoots) (old new : View) → StaysPut old new → IsTrue (is_sure new) → roots_with roots (new.committed root_tree)
+pub roots_kept : (roots : WaitingRoots) (old new : View) → LeavesCommitted old new → IsTrue (is_honest_view new) → roots_with roots (new.committed root_tree)
     ≡ roots_with roots (old.committed root_tree)
 roots_kept roots old new stays sure = ap (λ (t : ℕ → List Row). roots_with roots (t root_tree)) (stays.same sure)
 
 -- what a crash leaves of a commit
-pub crashed : (old mid new : View) (waiting : Waiting) (roots : WaitingRoots) (Mid Old : Trees → Type 0)
+pub crashed : (old mid new : View) (waiting : WaitingBlobs) (roots : WaitingRoots) (Mid Old : Trees → Type 0)
     → (IsClean mid → Wrote old mid (put_all pending_row waiting.entries (old.trees blob_tree)) (put_all pending_root_row roots.entries (old.trees root_tree)))
-    → IsUnique int_eq waiting → IsUnique int_eq roots → Each (λ e. Fits e.1) waiting.entries → Each (λ e. CanBeKeyIf e.1.key) roots.entries
+    → IsUnique int_eq waiting → IsUnique int_eq roots → Each (λ e. Fits e.1) waiting.entries → Each (λ e. CanBeKeyIfSome e.1.key) roots.entries
     → doubt mid.is_clean ≤ doubt new.is_clean
     → ((db : Trees) → Mid db → Old db) → (db : Trees) → ((mid.is_broken ≡ false) × (db ≡ mid.trees)) ⊎ Mid db → IsClean new → SavedAs old waiting roots db
     ⊎ Old db
@@ -65,7 +69,7 @@ crashed old mid new waiting roots Mid Old wrote once roots_once fit roots_fit fa
     })
 
 -- the tables after a crash in a commit
-pub crash_holds : (old : View) (waiting : Waiting) (roots : WaitingRoots) (db : Trees) (Old : Trees → Type 0) → Settled old → IsTrue (is_sure old)
+pub crash_holds : (old : View) (waiting : WaitingBlobs) (roots : WaitingRoots) (db : Trees) (Old : Trees → Type 0) → Settled old → IsTrue (is_honest_view old)
     → SavedAs old waiting roots db ⊎ Old db
     → ((blobs_in (db blob_tree) ≡ stored_with waiting (old.committed blob_tree)) × (roots_in (db root_tree) ≡ roots_with roots (old.committed root_tree)))
     ⊎ Old db
@@ -88,7 +92,7 @@ flushed_has stored0 stored1 stored2 closed rows key blob adds same flushed usabl
     ap (λ c. unless c (blobs_in rows) key) (sym usable) ∙ ap (λ (f : ℕ → Option Blob). f key) (flushed ∙ same) ∙ adds.each key ∙ here
 
 -- and is found again where nothing waits
-pub found_last : (again : Bool) (waiting : Waiting) (rows now : List Row) (key : ℕ) (blob found : Blob) → blobs_in rows key ≡ Some blob → again ≡ false
+pub found_last : (again : Bool) (waiting : WaitingBlobs) (rows now : List Row) (key : ℕ) (blob found : Blob) → blobs_in rows key ≡ Some blob → again ≡ false
     → waiting.entries ≡ [] → now ≡ rows
     → unless again (stored_with waiting now) key ≡ Some found → found ≡ blob
 found_last again waiting rows now key blob found there usable none kept here =

@@ -1,11 +1,16 @@
 -- What a look-up in what waits and in the table says of what is stored.
-use Rattle.std.proofs.Common.{◌≡◌, ◌≢◌, ◌∙◌, ℕ, ℤ, Bool, true, false, List, [], Option, Some, None, Result, Ok, Err, refl, sym, ap, subst, true≢false, inl, inr, arith}
-use Rattle.std.proofs.lemmas.Bool.{eqb-true, Decides.{nat_tests, Decides-int_eq}}
-use Rattle.std.specs.{HashMap.get, Map.lookup, Ordering.int_eq, Prelude.{◌==◌, OnErr, OnOk, if◌then◌else◌}}
-use Rattle.sqlite_value.specs.Order.{Row}
+use Rattle.pagable_file.specs.{
+  Blobs.{AreKeyed, HasBlob, HasNone, Holds, IsFoundAs, RefusesFound, RefusesHeld, WaitingBlobs, before, blob_pending, stored_with, unless},
+  Rows.{blob_in, blob_of_row, blobs_in, row_at, rowid_of},
+  declared.{pending.PendingBlob.PendingBlob, rows.Reading.Reading},
+}
 use Rattle.pagable_value_spec.specs.{Blob.Blob, Stored.{Adds, Keeps, RefusesStore}, declared.error.Error.Error}
-use Rattle.pagable_file.specs.{Rows.{rowid_of, row_at, blob_in, blob_of_row, blobs_in}, Blobs.{AreKeyed, before, blob_pending, HasBlob, Holds, HasNone, IsFoundAs, RefusesFound, RefusesHeld, stored_with, unless, Waiting}}
-use Rattle.pagable_file.specs.declared.{pending.Pending.Pending, rows.Reading.Reading}
+use Rattle.sqlite_value.specs.Order.{Row}
+use Rattle.std.proofs.{
+  Common.{Bool, Err, List, None, Ok, Option, Result, Some, ap, arith, false, inl, inr, refl, subst, sym, true, true≢false, ℕ, ℤ, [], ◌∙◌, ◌≡◌, ◌≢◌},
+  lemmas.Bool.{Decides.{Decides-int_eq, nat_tests}, eqb-true},
+}
+use Rattle.std.specs.{HashMap.get, Map.lookup, Ordering.int_eq, Prelude.{OnErr, OnOk, if◌then◌else◌, ◌==◌}}
 use Rattle.pagable_file.specs.declared.rows.Reading.TheVariants as reading
 use Rattle.pagable_value_spec.specs.declared.error.Error.TheVariants as error
 
@@ -15,13 +20,15 @@ same_number a = grind (arith, nat_tests)
 other_number : (a b : ℕ) → a ≢ b → (a == b) ≡ false
 other_number a b h = grind (arith, nat_tests)
 
-pub held_stored : (closed : Bool) (waiting : Waiting) (rows : List Row) (key : ℕ) (it : Pending) → closed ≡ false → Some it ≡ get int_eq waiting (rowid_of key)
+pub held_stored : (closed : Bool) (waiting : WaitingBlobs) (rows : List Row) (key : ℕ) (it : PendingBlob) → closed ≡ false → Some it
+    ≡ get int_eq waiting (rowid_of key)
     → it.key ≡ key
     → unless closed (stored_with waiting rows) key ≡ Some (blob_pending it)
 unfolding stored_with
 held_stored closed waiting rows key it usable e same = rw (usable, sym e, same, same_number key) refl
 
-pub held_other : (closed : Bool) (waiting : Waiting) (rows : List Row) (key : ℕ) (it : Pending) → closed ≡ false → Some it ≡ get int_eq waiting (rowid_of key)
+pub held_other : (closed : Bool) (waiting : WaitingBlobs) (rows : List Row) (key : ℕ) (it : PendingBlob) → closed ≡ false → Some it
+    ≡ get int_eq waiting (rowid_of key)
     → it.key ≢ key
     → unless closed (stored_with waiting rows) key ≡ None
 unfolding stored_with
@@ -41,13 +48,13 @@ row_has_none rows key (Some reading.Other) f none = rw (f.1, f.2) refl
 row_has_none rows key (Some reading.Damaged) f none = absurd none
 row_has_none rows key (Some (reading.Blob it)) f none = absurd none
 
-pub read_stored : (closed : Bool) (waiting : Waiting) (rows : List Row) (key : ℕ) (found : Option Reading) (blob : Blob) → closed ≡ false → None
+pub read_stored : (closed : Bool) (waiting : WaitingBlobs) (rows : List Row) (key : ℕ) (found : Option Reading) (blob : Blob) → closed ≡ false → None
     ≡ get int_eq waiting (rowid_of key)
     → IsFoundAs rows key found → HasBlob found blob → unless closed (stored_with waiting rows) key ≡ Some blob
 unfolding stored_with
 read_stored closed waiting rows key found blob usable e f has = rw (usable, sym e) (row_has rows key found blob f has)
 
-pub read_none : (closed : Bool) (waiting : Waiting) (rows : List Row) (key : ℕ) (found : Option Reading) → closed ≡ false → None
+pub read_none : (closed : Bool) (waiting : WaitingBlobs) (rows : List Row) (key : ℕ) (found : Option Reading) → closed ≡ false → None
     ≡ get int_eq waiting (rowid_of key)
     → IsFoundAs rows key found → HasNone found → unless closed (stored_with waiting rows) key ≡ None
 unfolding stored_with
@@ -58,7 +65,7 @@ pub adds_nothing : (stored : ℕ → Option Blob) (key : ℕ) (blob : Blob) → 
 adds_nothing stored key blob h = record { each = λ q. grind (arith, nat_tests, eqb-true); free = inr h }
 
 -- a blob comes to what waits, where nothing waits and the table has no row
-pub adds_waiting : (closed : Bool) (waiting after : Waiting) (rows : List Row) (key : ℕ) (it : Pending) → closed ≡ false → it.key ≡ key
+pub adds_waiting : (closed : Bool) (waiting after : WaitingBlobs) (rows : List Row) (key : ℕ) (it : PendingBlob) → closed ≡ false → it.key ≡ key
     → get int_eq waiting (rowid_of key) ≡ None
     → ((q : ℤ) → get int_eq after q ≡ (if int_eq (rowid_of key) q then Some it else get int_eq waiting q)) → row_at rows (rowid_of key) ≡ None
     → Adds key (blob_pending it) (unless closed (stored_with waiting rows)) (unless closed (stored_with after rows))
@@ -85,7 +92,7 @@ adds_waiting closed waiting after rows key it usable own free comes none = rw us
             let same : q ≡ key = eqb-true q key f in
             absurd (true≢false (sym ((Decides-int_eq (rowid_of key) (rowid_of q)).1 (ap rowid_of (sym same))) ∙ e))
 
-pub adds_holding : (closed : Bool) (waiting after : Waiting) (old new : List Row) (key : ℕ) (blob : Blob) → closed ≡ false → None
+pub adds_holding : (closed : Bool) (waiting after : WaitingBlobs) (old new : List Row) (key : ℕ) (blob : Blob) → closed ≡ false → None
     ≡ get int_eq waiting (rowid_of key) → Holds key blob waiting after
     → IsFoundAs old key None → new ≡ old → Adds key blob (unless closed (stored_with waiting old)) (unless closed (stored_with after new))
 adds_holding closed waiting after old new key blob usable free h none same =
@@ -94,12 +101,12 @@ adds_holding closed waiting after old new key blob usable free h none same =
     subst (λ (rows : List Row). Adds key blob (unless closed (stored_with waiting old)) (unless closed (stored_with after rows))) (sym same)
     (subst (λ (b : Blob). Adds key b (unless closed (stored_with waiting old)) (unless closed (stored_with after old))) h.content here)
 
-pub holds : (waiting after : Waiting) (key : ℕ) (it : Pending) → it.key ≡ key
+pub holds : (waiting after : WaitingBlobs) (key : ℕ) (it : PendingBlob) → it.key ≡ key
     → ((q : ℤ) → get int_eq after q ≡ (if int_eq (rowid_of key) q then Some it else get int_eq waiting q)) → Holds key (blob_pending it) waiting after
 holds waiting after key it own each = record { it = it; own = own; content = refl; each = each }
 
 -- each blob that waits stays under its own key, whether one came or not
-pub all_keyed : (key_of : Blob → ℕ) (old after : Waiting) (key : ℕ) (blob : Blob) (r : Result (Unit {0}) Error) → key ≡ key_of blob → AreKeyed key_of old
+pub all_keyed : (key_of : Blob → ℕ) (old after : WaitingBlobs) (key : ℕ) (blob : Blob) (r : Result (Unit {0}) Error) → key ≡ key_of blob → AreKeyed key_of old
     → OnOk r (Holds key blob old after) → OnErr r (after.entries ≡ old.entries) → AreKeyed key_of after
 all_keyed key_of old after key blob (Ok _) own keyed comes stays place it is = go (int_eq (rowid_of key) place) refl
   where
@@ -107,23 +114,24 @@ all_keyed key_of old after key blob (Ok _) own keyed comes stays place it is = g
     go true e =
         let same : Some comes.it ≡ Some it = rw e at (sym (comes.each place) ∙ is) in
         let one : comes.it ≡ it = cc in
-        ap (λ (p : Pending). key_of (blob_pending p)) (sym one) ∙ ap key_of comes.content ∙ sym own ∙ sym comes.own ∙ ap (λ (p : Pending). p.key) one
+        ap (λ (p : PendingBlob). key_of (blob_pending p)) (sym one) ∙ ap key_of comes.content ∙ sym own ∙ sym comes.own ∙ ap (λ (p : PendingBlob). p.key) one
     go false e = keyed place it (rw e at (sym (comes.each place) ∙ is))
 all_keyed key_of old after key blob (Err e) own keyed comes stays place it is = keyed place it (sym (ap (lookup (int_eq place)) stays) ∙ is)
 
-pub held_named : (key_of : Blob → ℕ) (waiting : Waiting) (key : ℕ) (it : Pending) → AreKeyed key_of waiting → Some it ≡ get int_eq waiting (rowid_of key)
+pub held_named : (key_of : Blob → ℕ) (waiting : WaitingBlobs) (key : ℕ) (it : PendingBlob) → AreKeyed key_of waiting → Some it
+    ≡ get int_eq waiting (rowid_of key)
     → it.key ≡ key → key_of (blob_pending it) ≡ key
 held_named key_of waiting key it keyed found own = keyed (rowid_of key) it (sym found) ∙ own
 
 -- nothing that waits has no key
-pub none_keyed : (key_of : Blob → ℕ) (waiting : Waiting) → waiting.entries ≡ [] → AreKeyed key_of waiting
+pub none_keyed : (key_of : Blob → ℕ) (waiting : WaitingBlobs) → waiting.entries ≡ [] → AreKeyed key_of waiting
 none_keyed key_of waiting none place it is = let same : None ≡ Some it = sym (ap (lookup (int_eq place)) none) ∙ is in absurd (cc)
 
 pub keeps_same : (old new : ℕ → Option Blob) → new ≡ old → Keeps old new
 keeps_same old new same key blob is = rw same is
 
 -- the same blobs where the table is as it was
-pub same_stored : (closed : Bool) (waiting : Waiting) (old new : List Row) → new ≡ old → unless closed (stored_with waiting new)
+pub same_stored : (closed : Bool) (waiting : WaitingBlobs) (old new : List Row) → new ≡ old → unless closed (stored_with waiting new)
     ≡ unless closed (stored_with waiting old)
 same_stored closed waiting old new same = ap (λ rows. unless closed (stored_with waiting rows)) same
 
@@ -131,12 +139,12 @@ pub same_flushed : (closed : Bool) (old new : List Row) → new ≡ old → unle
 same_flushed closed old new same = ap (λ rows. unless closed (blobs_in rows)) same
 
 -- what stands there already, whether it waits or was read, adds nothing
-pub adds_held : (closed : Bool) (waiting : Waiting) (rows : List Row) (key : ℕ) (it : Pending) (blob : Blob) → closed ≡ false → Some it
+pub adds_held : (closed : Bool) (waiting : WaitingBlobs) (rows : List Row) (key : ℕ) (it : PendingBlob) (blob : Blob) → closed ≡ false → Some it
     ≡ get int_eq waiting (rowid_of key) → it.key ≡ key → blob_pending it ≡ blob
     → Adds key blob (unless closed (stored_with waiting rows)) (unless closed (stored_with waiting rows))
 adds_held closed waiting rows key it blob usable found own is = adds_nothing _ key blob (held_stored closed waiting rows key it usable found own ∙ ap Some is)
 
-pub adds_found : (closed : Bool) (waiting : Waiting) (old new : List Row) (key : ℕ) (found : Reading) (blob : Blob) → closed ≡ false → None
+pub adds_found : (closed : Bool) (waiting : WaitingBlobs) (old new : List Row) (key : ℕ) (found : Reading) (blob : Blob) → closed ≡ false → None
     ≡ get int_eq waiting (rowid_of key) → IsFoundAs old key (Some found) → HasBlob (Some found) blob
     → new ≡ old → Adds key blob (unless closed (stored_with waiting old)) (unless closed (stored_with waiting new))
 adds_found closed waiting old new key found blob usable free f has same =
@@ -144,7 +152,7 @@ adds_found closed waiting old new key found blob usable free f has same =
     (adds_nothing _ key blob (read_stored closed waiting old key (Some found) blob usable free f has))
 
 -- what waits and the table decide alone
-pub same_entries : (closed : Bool) (waiting after : Waiting) (old new : List Row) → after.entries ≡ waiting.entries → new ≡ old
+pub same_entries : (closed : Bool) (waiting after : WaitingBlobs) (old new : List Row) → after.entries ≡ waiting.entries → new ≡ old
     → unless closed (stored_with after new) ≡ unless closed (stored_with waiting old)
 unfolding stored_with
 same_entries closed waiting after old new same rows = ap (unless closed) both
@@ -153,13 +161,15 @@ same_entries closed waiting after old new same rows = ap (unless closed) both
     both = λ i q. before q (lookup (int_eq (rowid_of q)) (same i)) (blobs_in (rows i) q)
 
 -- refusals of what stands at a key's place, as those of a store
-pub held_refuses : (it : Pending) (key : ℕ) (blob : Blob) (closed : Bool) (was now : ℕ) (e : Error) → RefusesHeld it key blob was now e → (found : Option Blob)
+pub held_refuses : (it : PendingBlob) (key : ℕ) (blob : Blob) (closed : Bool) (was now : ℕ) (e : Error) → RefusesHeld it key blob was now e
+    → (found : Option Blob)
     × RefusesStore blob found closed was now e
 held_refuses it key blob closed was now error.KeyTaken h = (Some (blob_pending it), (blob_pending it, refl, h.1))
 held_refuses it key blob closed was now (error.Storage code) h = (None, h)
 held_refuses it key blob closed was now x0 h = grind arith
 
-pub held_refuses_only : (it : Pending) (key : ℕ) (blob : Blob) (closed : Bool) (waiting : Waiting) (rows : List Row) (was now : ℕ) (e : Error) → closed ≡ false
+pub held_refuses_only : (it : PendingBlob) (key : ℕ) (blob : Blob) (closed : Bool) (waiting : WaitingBlobs) (rows : List Row) (was now : ℕ)
+    (e : Error) → closed ≡ false
     → Some it ≡ get int_eq waiting (rowid_of key)
     → RefusesHeld it key blob was now e → RefusesStore blob (unless closed (stored_with waiting rows) key) closed was now e
 held_refuses_only it key blob closed waiting rows was now error.KeyTaken usable found h =
@@ -173,7 +183,7 @@ found_refuses found blob closed was now error.KeyTaken h = (Some h.0, (h.0, refl
 found_refuses found blob closed was now (error.Storage code) h = (None, h)
 found_refuses found blob closed was now x0 h = grind arith
 
-pub found_refuses_only : (found : Reading) (key : ℕ) (blob : Blob) (closed : Bool) (waiting : Waiting) (rows : List Row) (was now : ℕ) (e : Error) → closed
+pub found_refuses_only : (found : Reading) (key : ℕ) (blob : Blob) (closed : Bool) (waiting : WaitingBlobs) (rows : List Row) (was now : ℕ) (e : Error) → closed
     ≡ false → None ≡ get int_eq waiting (rowid_of key)
     → IsFoundAs rows key (Some found) → RefusesFound found blob was now e → RefusesStore blob (unless closed (stored_with waiting rows) key) closed was now e
 found_refuses_only found key blob closed waiting rows was now error.KeyTaken usable free f h =

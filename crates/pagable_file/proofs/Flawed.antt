@@ -1,19 +1,28 @@
 -- Which flaws a test of a file of blobs adds.
-use Rattle.std.proofs.Common.{◌≡◌, ◌≢◌, ◌∙◌, ◌<◌, ◌≤◌, ◌+◌, ℕ, String, get_or, string_bytes, suc, zero, ℤ, Bool, true, false, IsTrue, IsSome, List, [], ◌∷◌, ◌++◌, length, map, take, Option, Some, None, refl, sym, ap, subst, true≢false, arith}
-use Rattle.std.proofs.lemmas.List.{Elements.All-contains_itself, take_all, take_more}
-use Rattle.std.specs.declared.alloc.Global.{Global}
-use Rattle.std.specs.{List.{All, AllByRecursion as Each, Contains}, Ordering.int_eq, Cmp.signed_Decides, Prelude.{is_some, if◌then◌else◌, slice_index_or, ◌↔◌, option_map}, Str.{IsUtf8, bytes_eq}}
-use Rattle.std.proofs.lemmas.{Bool.Decides.nat_tests, Slice.Eq.bytes_eq-Decides, Str.IsUtf8-string_bytes}
-use Rattle.sqlite_value.specs.{declared.value.Value.TheVariants.Int, Order.{Row, bytes, column}}
-use Rattle.sqlite_trees.specs.{Tree.{Trees, has_rowid, rowid}, View.View}
-use Rattle.pagable_file.specs.Blobs.{StaysPut, is_sure}
+use Rattle.pagable_file.proofs.{Named.stays_then, Places.has_place}
+use Rattle.pagable_file.specs.{
+  Blobs.{LeavesCommitted, is_honest_view},
+  Flaws.{AddsFlawsUnless, IsChild, IsFlaw, IsNameAt, IsNamed, IsSoundBlob, IsSoundPlace, IsSoundRoot, IsThere, IsWhole, blob_at, keyed, keyed_at},
+  Rows.{blob_in, blob_tree, blobs_in, is_key, key_in, root_in, root_tree, roots_in, row_at, rowid_of, rowid_of_name},
+  declared.fsck.Flaw.Flaw,
+}
 use Rattle.pagable_value_spec.specs.Blob.{Blob}
-use Rattle.pagable_file.specs.Rows.{blob_in, blob_tree, blobs_in, root_tree, is_key, key_in, rowid_of, rowid_of_name, root_in, roots_in, row_at}
-use Rattle.pagable_file.specs.Flaws.{IsChild, IsFlaw, IsNameAt, IsNamed, IsSoundBlob, IsSoundPlace, IsSoundRoot, IsThere, IsWhole, FindsFlaws, blob_at, keyed, keyed_at}
-use Rattle.pagable_file.specs.declared.fsck.Flaw.{Flaw}
+use Rattle.sqlite_trees.specs.{Tree.{Trees, has_rowid, rowid}, View.View}
+use Rattle.sqlite_value.specs.{Order.{Row, bytes, column}, declared.value.Value.TheVariants.Int}
+use Rattle.std.proofs.{
+  Common.{Bool, IsSome, IsTrue, List, None, Option, Some, String, ap, arith, false, get_or, length, map, refl, string_bytes, subst, suc, sym, take, true},
+  Common.{true≢false, zero, ℕ, ℤ, [], ◌++◌, ◌+◌, ◌<◌, ◌∙◌, ◌∷◌, ◌≡◌, ◌≢◌, ◌≤◌},
+  lemmas.{Bool.Decides.nat_tests, List.{Elements.All-contains_itself, take_all, take_more}, Slice.Eq.bytes_eq-Decides, Str.IsUtf8-string_bytes},
+}
+use Rattle.std.specs.{
+  Cmp.signed_Decides,
+  List.{All, AllByRecursion as Each, Contains},
+  Ordering.int_eq,
+  Prelude.{if◌then◌else◌, is_some, option_map, slice_index_or, ◌↔◌},
+  Str.{IsUtf8, bytes_eq},
+  declared.alloc.Global.Global,
+}
 use Rattle.pagable_file.specs.declared.fsck.Flaw.TheVariants as flaw
-use Rattle.pagable_file.proofs.Places.{has_place}
-use Rattle.pagable_file.proofs.Named.{stays_then}
 
 each_more : {A : Type 0} (P : A → Type 0) (xs : List A) (x : A) → Each P xs → P x → Each P (xs ++ x ∷ [])
 each_more P [] x h p = (p, tt)
@@ -24,28 +33,28 @@ never_empty [] x e = absurd (cc)
 never_empty (y ∷ xs) x e = absurd (cc)
 
 -- a flaw was added
-pub flawed : (P : Flaw → Type 0) (old new : List Flaw) (x : Flaw) (Q : Type 0) → new ≡ old ++ x ∷ [] → P x → FindsFlaws P old new Q
+pub flawed : (P : Flaw → Type 0) (old new : List Flaw) (x : Flaw) (Q : Type 0) → new ≡ old ++ x ∷ [] → P x → AddsFlawsUnless P old new Q
 flawed P old new x Q is here = record {
   real = λ h. subst (Each P) (sym is) (each_more P old x h here);
   clear = λ none. absurd (never_empty old x (sym is ∙ none));
 }
 
 -- nothing was added
-pub passed : (P : Flaw → Type 0) (old : List Flaw) (Q : Type 0) → Q → FindsFlaws P old old Q
+pub passed : (P : Flaw → Type 0) (old : List Flaw) (Q : Type 0) → Q → AddsFlawsUnless P old old Q
 passed P old Q holds = record { real = λ h. h; clear = λ none. (none, holds) }
 
-pub tested_then : (P : Flaw → Type 0) (a b c : List Flaw) (Q R : Type 0) → FindsFlaws P a b Q → FindsFlaws P b c R → FindsFlaws P a c (Q × R)
+pub tested_then : (P : Flaw → Type 0) (a b c : List Flaw) (Q R : Type 0) → AddsFlawsUnless P a b Q → AddsFlawsUnless P b c R → AddsFlawsUnless P a c (Q × R)
 tested_then P a b c Q R f g = record {
   real = λ h. g.real (f.real h);
   clear = λ none. let late = g.clear none in let early = f.clear late.0 in (early.0, (early.1, late.1));
 }
 
-pub tested_as : (P : Flaw → Type 0) (a b : List Flaw) (Q R : Type 0) → (Q → R) → FindsFlaws P a b Q → FindsFlaws P a b R
+pub tested_as : (P : Flaw → Type 0) (a b : List Flaw) (Q R : Type 0) → (Q → R) → AddsFlawsUnless P a b Q → AddsFlawsUnless P a b R
 tested_as P a b Q R f t = record { real = t.real; clear = λ none. let it = t.clear none in (it.0, f it.1) }
 
 -- one more element passed
 pub tested_more : {A : Type 0} (P : Flaw → Type 0) (T : A → Type 0) (a b c : List Flaw) (xs next : List A) (x : A) → next ≡ xs ++ x ∷ []
-    → FindsFlaws P a b (Each T xs) → FindsFlaws P b c (T x) → FindsFlaws P a c (Each T next)
+    → AddsFlawsUnless P a b (Each T xs) → AddsFlawsUnless P b c (T x) → AddsFlawsUnless P a c (Each T next)
 tested_more P T a b c xs next x is f g = tested_as P a c (Each T xs × T x) (Each T next) (λ h. subst (Each T) (sym is) (each_more T xs x h.0 h.1))
     (tested_then P a b c (Each T xs) (T x) f g)
 
@@ -59,7 +68,7 @@ some_of None b e f = absurd (true≢false (sym f ∙ e))
 
 -- a child was looked for
 pub child_tested : (of : Blob → ℕ) (rows roots : List Row) (child : ℕ) (old : List Flaw) (there : Bool) → there ≡ is_some (blobs_in rows child) → there ≡ true
-    → FindsFlaws (IsFlaw of rows roots) old old (IsThere rows child)
+    → AddsFlawsUnless (IsFlaw of rows roots) old old (IsThere rows child)
 child_tested of rows roots child old there e is = passed (IsFlaw of rows roots) old (IsThere rows child) (some_of (blobs_in rows child) there e is)
 
 pub missing : (rows : List Row) (child : ℕ) (there : Bool) → there ≡ is_some (blobs_in rows child) → there ≡ false → blobs_in rows child ≡ None
@@ -67,26 +76,26 @@ missing rows child there e is = none_of (blobs_in rows child) there e is
 
 pub child_flaw : (of : Blob → ℕ) (rows roots : List Row) (key child : ℕ) (old new : List Flaw) (there : Bool) → new ≡ old ++ flaw.MissingChild key child ∷ []
     → IsChild rows key child → there ≡ is_some (blobs_in rows child) → there ≡ false
-    → FindsFlaws (IsFlaw of rows roots) old new (IsThere rows child)
+    → AddsFlawsUnless (IsFlaw of rows roots) old new (IsThere rows child)
 child_flaw of rows roots key child old new there is own e none = flawed (IsFlaw of rows roots) old new (flaw.MissingChild key child) (IsThere rows child) is
     (own, missing rows child there e none)
 
 pub root_flaw : (of : Blob → ℕ) (rows roots : List Row) (name : String Global) (key : ℕ) (old new : List Flaw) (there : Bool) → new ≡ old
     ++ flaw.MissingRoot name key ∷ [] → roots_in roots (string_bytes name) ≡ Some key → there ≡ is_some (blobs_in rows key)
-    → there ≡ false → FindsFlaws (IsFlaw of rows roots) old new (IsThere rows key)
+    → there ≡ false → AddsFlawsUnless (IsFlaw of rows roots) old new (IsThere rows key)
 root_flaw of rows roots name key old new there is own e none = flawed (IsFlaw of rows roots) old new (flaw.MissingRoot name key) (IsThere rows key) is
     (own, missing rows key there e none)
 
 pub key_flaw : (of : Blob → ℕ) (rows roots : List Row) (key : ℕ) (blob : Blob) (old new : List Flaw) → new ≡ old ++ flaw.WrongKey key ∷ [] → blobs_in rows key
-    ≡ Some blob → of blob ≢ key → FindsFlaws (IsFlaw of rows roots) old new (of blob ≡ key)
+    ≡ Some blob → of blob ≢ key → AddsFlawsUnless (IsFlaw of rows roots) old new (of blob ≡ key)
 key_flaw of rows roots key blob old new is at apart = flawed (IsFlaw of rows roots) old new (flaw.WrongKey key) (of blob ≡ key) is (blob, at, apart)
 
 pub stray_blob : (of : Blob → ℕ) (rows roots : List Row) (place : ℤ) (row : Row) (old new : List Flaw) (Q : Type 0) → new ≡ old ++ flaw.StrayBlob place ∷ []
-    → row_at rows place ≡ Some row → blob_at place row ≡ None → FindsFlaws (IsFlaw of rows roots) old new Q
+    → row_at rows place ≡ Some row → blob_at place row ≡ None → AddsFlawsUnless (IsFlaw of rows roots) old new Q
 stray_blob of rows roots place row old new Q is at none = flawed (IsFlaw of rows roots) old new (flaw.StrayBlob place) Q is (row, at, none)
 
 pub stray_root : (of : Blob → ℕ) (rows roots : List Row) (place : ℤ) (row : Row) (old new : List Flaw) (Q : Type 0) → new ≡ old ++ flaw.StrayRoot place ∷ []
-    → row_at roots place ≡ Some row → IsNameAt place row None → FindsFlaws (IsFlaw of rows roots) old new Q
+    → row_at roots place ≡ Some row → IsNameAt place row None → AddsFlawsUnless (IsFlaw of rows roots) old new Q
 stray_root of rows roots place row old new Q is at none = flawed (IsFlaw of rows roots) old new (flaw.StrayRoot place) Q is (row, at, none)
 
 -- the children of a blob that stands under a key are children of the key's
@@ -253,7 +262,7 @@ no_flaws of rows roots [] w h = refl
 no_flaws of rows roots (it ∷ all) w h = absurd (no_flaw of rows roots it w h.0)
 
 -- what a search that began with no flaw says
-pub exactly : (of : Blob → ℕ) (rows roots : List Row) (all : List Flaw) → FindsFlaws (IsFlaw of rows roots) [] all (IsWhole of rows roots) → (all ≡ [])
+pub exactly : (of : Blob → ℕ) (rows roots : List Row) (all : List Flaw) → AddsFlawsUnless (IsFlaw of rows roots) [] all (IsWhole of rows roots) → (all ≡ [])
     ↔ IsWhole of rows roots
 exactly of rows roots all t = (λ none. (t.clear none).1, λ w. no_flaws of rows roots all w (t.real tt))
 
@@ -268,7 +277,7 @@ name_is_in roots place row name key at own p is =
 
 -- one more element of a list was tested
 pub each_next : {A : Type 0} (P : Flaw → Type 0) (T : A → Type 0) (a b c : List Flaw) (xs : List A) (i : ℕ) (x : A) → i < length xs → x ≡ get_or xs i x
-    → FindsFlaws P a b (Each T (take i xs)) → FindsFlaws P b c (T x) → FindsFlaws P a c (Each T (take (i + 1) xs))
+    → AddsFlawsUnless P a b (Each T (take i xs)) → AddsFlawsUnless P b c (T x) → AddsFlawsUnless P a c (Each T (take (i + 1) xs))
 each_next P T a b c xs i x h is f g = tested_more P T a b c (take i xs) (take (i + 1) xs) x (take_more xs i x h ∙ ap (λ y. take i xs ++ y ∷ []) (sym is)) f g
 
 each_front : {A : Type 0} (P : A → Type 0) (xs : List A) (x : A) → Each P (xs ++ x ∷ []) → Each P xs
@@ -280,23 +289,23 @@ each_last P [] x h = h.0
 each_last P (y ∷ xs) x h = each_last P xs x h.1
 
 pub child_next : (P : Flaw → Type 0) (S T : ℕ → Type 0) (a b c : List Flaw) (xs : List ℕ) (i x : ℕ) → i < length xs → x ≡ get_or xs i x
-    → (Each S (take i xs) → FindsFlaws P a b (Each T (take i xs))) → (S x → FindsFlaws P b c (T x)) → Each S (take (i + 1) xs)
-    → FindsFlaws P a c (Each T (take (i + 1) xs))
+    → (Each S (take i xs) → AddsFlawsUnless P a b (Each T (take i xs))) → (S x → AddsFlawsUnless P b c (T x)) → Each S (take (i + 1) xs)
+    → AddsFlawsUnless P a c (Each T (take (i + 1) xs))
 child_next P S T a b c xs i x h is f g all =
     let split : Each S (take i xs ++ x ∷ []) = subst (Each S) (take_more xs i x h ∙ ap (λ (y : ℕ). take i xs ++ y ∷ []) (sym is)) all in
     each_next P T a b c xs i x h is (f (each_front S (take i xs) x split)) (g (each_last S (take i xs) x split))
 
 pub each_tested : {A : Type 0} (P : Flaw → Type 0) (T : A → Type 0) (a b : List Flaw) (xs : List A) (n : ℕ) → length xs ≤ n
-    → FindsFlaws P a b (Each T (take n xs))
-    → FindsFlaws P a b (Each T xs)
-each_tested P T a b xs n h t = subst (λ ys. FindsFlaws P a b (Each T ys)) (take_all n xs h) t
+    → AddsFlawsUnless P a b (Each T (take n xs))
+    → AddsFlawsUnless P a b (Each T xs)
+each_tested P T a b xs n h t = subst (λ ys. AddsFlawsUnless P a b (Each T ys)) (take_all n xs h) t
 
-pub blob_tested : (P : Flaw → Type 0) (of : Blob → ℕ) (rows : List Row) (a b c : List Flaw) (key : ℕ) (blob : Blob) → FindsFlaws P a b (of blob ≡ key)
-    → FindsFlaws P b c (Each (IsThere rows) blob.keys) → FindsFlaws P a c (IsSoundBlob of rows key blob)
+pub blob_tested : (P : Flaw → Type 0) (of : Blob → ℕ) (rows : List Row) (a b c : List Flaw) (key : ℕ) (blob : Blob) → AddsFlawsUnless P a b (of blob ≡ key)
+    → AddsFlawsUnless P b c (Each (IsThere rows) blob.keys) → AddsFlawsUnless P a c (IsSoundBlob of rows key blob)
 blob_tested P of rows a b c key blob f g = tested_as P a c ((of blob ≡ key) × Each (IsThere rows) blob.keys) (IsSoundBlob of rows key blob)
     (λ h. record { keyed = h.0; children = h.1 }) (tested_then P a b c (of blob ≡ key) (Each (IsThere rows) blob.keys) f g)
 
--- what a look at a place found
+-- what a look-up at a place found
 pub row_there : (o : Option Row) (row : Row) (found : Bool) → o ≡ (if found then Some row else None) → found ≡ true → o ≡ Some row
 row_there o row true e h = e
 row_there o row false e h = absurd (true≢false (sym h))
@@ -353,30 +362,31 @@ root_none rows roots place row name at own is other here = (one_name roots place
         absurd (cc)
 
 -- the row at a place was read, and its blob tested
-pub row_found : (of : Blob → ℕ) (a b e : View) (place : ℤ) (row : Row) (key : ℕ) (blob : Blob) (old new : List Flaw) → StaysPut a b → StaysPut b e
-    → IsTrue (is_sure e) → (IsTrue (is_sure b) → row_at (a.committed blob_tree) place ≡ Some row)
+pub row_found : (of : Blob → ℕ) (a b e : View) (place : ℤ) (row : Row) (key : ℕ) (blob : Blob) (old new : List Flaw) → LeavesCommitted a b → LeavesCommitted b e
+    → IsTrue (is_honest_view e) → (IsTrue (is_honest_view b) → row_at (a.committed blob_tree) place ≡ Some row)
     → blob_at place row ≡ Some (keyed key blob)
-    → (IsTrue (is_sure e) → blobs_in (b.committed blob_tree) key ≡ Some blob
-    → FindsFlaws (IsFlaw of (b.committed blob_tree) (b.committed root_tree)) old new (IsSoundBlob of (b.committed blob_tree) key blob))
-    → FindsFlaws (IsFlaw of (a.committed blob_tree) (a.committed root_tree)) old new (IsSoundPlace of (a.committed blob_tree) place)
+    → (IsTrue (is_honest_view e) → blobs_in (b.committed blob_tree) key ≡ Some blob
+    → AddsFlawsUnless (IsFlaw of (b.committed blob_tree) (b.committed root_tree)) old new (IsSoundBlob of (b.committed blob_tree) key blob))
+    → AddsFlawsUnless (IsFlaw of (a.committed blob_tree) (a.committed root_tree)) old new (IsSoundPlace of (a.committed blob_tree) place)
 row_found of a b e place row key blob old new first next sure found is test =
     let early = next.sure sure in
     let same : b.committed ≡ a.committed = first.same early in
     let at = found early in
     let here : blobs_in (a.committed blob_tree) key ≡ Some blob = at_is_in (a.committed blob_tree) place row key blob at is in
     let there : blobs_in (b.committed blob_tree) key ≡ Some blob = ap (λ (t : Trees). blobs_in (t blob_tree) key) same ∙ here in
-    let moved = subst (λ (t : Trees). FindsFlaws (IsFlaw of (t blob_tree) (t root_tree)) old new (IsSoundBlob of (t blob_tree) key blob)) same
+    let moved = subst (λ (t : Trees). AddsFlawsUnless (IsFlaw of (t blob_tree) (t root_tree)) old new (IsSoundBlob of (t blob_tree) key blob)) same
     (test sure there) in
     tested_as (IsFlaw of (a.committed blob_tree) (a.committed root_tree)) old new (IsSoundBlob of (a.committed blob_tree) key blob)
     (IsSoundPlace of (a.committed blob_tree) place) (place_sound of (a.committed blob_tree) place row key blob at is) moved
 
 -- the row of a root was read, and what it stands for looked for
-pub root_found : (of : Blob → ℕ) (a b e : View) (place : ℤ) (row : Row) (name : String Global) (key : ℕ) (old new : List Flaw) → StaysPut a b → StaysPut b e
-    → IsTrue (is_sure e) → (IsTrue (is_sure b) → row_at (a.committed root_tree) place ≡ Some row)
+pub root_found : (of : Blob → ℕ) (a b e : View) (place : ℤ) (row : Row) (name : String Global) (key : ℕ) (old new : List Flaw) → LeavesCommitted a b
+    → LeavesCommitted b e
+    → IsTrue (is_honest_view e) → (IsTrue (is_honest_view b) → row_at (a.committed root_tree) place ≡ Some row)
     → IsNameAt place row (Some name) → key_in (bytes (column row 3)) ≡ Some key
-    → (IsTrue (is_sure e) → roots_in (b.committed root_tree) (string_bytes name) ≡ Some key
-    → FindsFlaws (IsFlaw of (b.committed blob_tree) (b.committed root_tree)) old new (IsThere (b.committed blob_tree) key))
-    → FindsFlaws (IsFlaw of (a.committed blob_tree) (a.committed root_tree)) old new (IsSoundRoot (a.committed blob_tree) (a.committed root_tree) place)
+    → (IsTrue (is_honest_view e) → roots_in (b.committed root_tree) (string_bytes name) ≡ Some key
+    → AddsFlawsUnless (IsFlaw of (b.committed blob_tree) (b.committed root_tree)) old new (IsThere (b.committed blob_tree) key))
+    → AddsFlawsUnless (IsFlaw of (a.committed blob_tree) (a.committed root_tree)) old new (IsSoundRoot (a.committed blob_tree) (a.committed root_tree) place)
 root_found of a b e place row name key old new first next sure found own is test =
     let early = next.sure sure in
     let same : b.committed ≡ a.committed = first.same early in
@@ -384,55 +394,57 @@ root_found of a b e place row name key old new first next sure found own is test
     let here : roots_in (a.committed root_tree) (string_bytes name) ≡ Some key =
     name_is_in (a.committed root_tree) place row (string_bytes name) key at own.0 own.1 is in
     let there : roots_in (b.committed root_tree) (string_bytes name) ≡ Some key = ap (λ (t : Trees). roots_in (t root_tree) (string_bytes name)) same ∙ here in
-    let moved = subst (λ (t : Trees). FindsFlaws (IsFlaw of (t blob_tree) (t root_tree)) old new (IsThere (t blob_tree) key)) same (test sure there) in
+    let moved = subst (λ (t : Trees). AddsFlawsUnless (IsFlaw of (t blob_tree) (t root_tree)) old new (IsThere (t blob_tree) key)) same (test sure there) in
     tested_as (IsFlaw of (a.committed blob_tree) (a.committed root_tree)) old new (IsThere (a.committed blob_tree) key)
     (IsSoundRoot (a.committed blob_tree) (a.committed root_tree) place)
     (root_sound (a.committed blob_tree) (a.committed root_tree) place row name key at own is) moved
 
 -- one more element was tested, by a call behind others
 pub next_found : {A : Type 0} (of : Blob → ℕ) (T : List Row → List Row → A → Type 0) (a b e : View) (old mid new : List Flaw) (xs : List A) (i : ℕ) (x : A)
-    → i < length xs → x ≡ get_or xs i x → StaysPut a b → StaysPut b e → IsTrue (is_sure e)
-    → (IsTrue (is_sure b) → FindsFlaws (IsFlaw of (a.committed blob_tree) (a.committed root_tree)) old mid
+    → i < length xs → x ≡ get_or xs i x → LeavesCommitted a b → LeavesCommitted b e → IsTrue (is_honest_view e)
+    → (IsTrue (is_honest_view b) → AddsFlawsUnless (IsFlaw of (a.committed blob_tree) (a.committed root_tree)) old mid
     (Each (T (a.committed blob_tree) (a.committed root_tree)) (take i xs)))
-    → (IsTrue (is_sure e) → FindsFlaws (IsFlaw of (b.committed blob_tree) (b.committed root_tree)) mid new
+    → (IsTrue (is_honest_view e) → AddsFlawsUnless (IsFlaw of (b.committed blob_tree) (b.committed root_tree)) mid new
     (T (b.committed blob_tree) (b.committed root_tree) x))
-    → FindsFlaws (IsFlaw of (a.committed blob_tree) (a.committed root_tree)) old new
+    → AddsFlawsUnless (IsFlaw of (a.committed blob_tree) (a.committed root_tree)) old new
     (Each (T (a.committed blob_tree) (a.committed root_tree)) (take (i + 1) xs))
 next_found of T a b e old mid new xs i x h is first next sure so_far test =
     let early = next.sure sure in
     let same : b.committed ≡ a.committed = first.same early in
-    let moved = subst (λ (t : Trees). FindsFlaws (IsFlaw of (t blob_tree) (t root_tree)) mid new (T (t blob_tree) (t root_tree) x)) same (test sure) in
+    let moved = subst (λ (t : Trees). AddsFlawsUnless (IsFlaw of (t blob_tree) (t root_tree)) mid new (T (t blob_tree) (t root_tree) x)) same (test sure) in
     each_next (IsFlaw of (a.committed blob_tree) (a.committed root_tree)) (T (a.committed blob_tree) (a.committed root_tree)) old mid new xs i x h is
     (so_far early) moved
 
-pub child_found : (of : Blob → ℕ) (a b e : View) (key : ℕ) (old mid new : List Flaw) (xs : List ℕ) (i x : ℕ) → i < length xs → x ≡ get_or xs i x → StaysPut a b
-    → StaysPut b e → IsTrue (is_sure e)
-    → (IsTrue (is_sure b) → Each (IsChild (a.committed blob_tree) key) (take i xs)
-    → FindsFlaws (IsFlaw of (a.committed blob_tree) (a.committed root_tree)) old mid (Each (IsThere (a.committed blob_tree)) (take i xs)))
-    → (IsTrue (is_sure e) → IsChild (b.committed blob_tree) key x → FindsFlaws (IsFlaw of (b.committed blob_tree) (b.committed root_tree)) mid new
+pub child_found : (of : Blob → ℕ) (a b e : View) (key : ℕ) (old mid new : List Flaw) (xs : List ℕ) (i x : ℕ) → i < length xs → x ≡ get_or xs i x
+    → LeavesCommitted a b
+    → LeavesCommitted b e → IsTrue (is_honest_view e)
+    → (IsTrue (is_honest_view b) → Each (IsChild (a.committed blob_tree) key) (take i xs)
+    → AddsFlawsUnless (IsFlaw of (a.committed blob_tree) (a.committed root_tree)) old mid (Each (IsThere (a.committed blob_tree)) (take i xs)))
+    → (IsTrue (is_honest_view e) → IsChild (b.committed blob_tree) key x → AddsFlawsUnless (IsFlaw of (b.committed blob_tree) (b.committed root_tree)) mid new
     (IsThere (b.committed blob_tree) x))
-    → Each (IsChild (a.committed blob_tree) key) (take (i + 1) xs) → FindsFlaws (IsFlaw of (a.committed blob_tree) (a.committed root_tree)) old new
+    → Each (IsChild (a.committed blob_tree) key) (take (i + 1) xs) → AddsFlawsUnless (IsFlaw of (a.committed blob_tree) (a.committed root_tree)) old new
     (Each (IsThere (a.committed blob_tree)) (take (i + 1) xs))
 child_found of a b e key old mid new xs i x h is first next sure so_far test all =
     let early = next.sure sure in
     let same : b.committed ≡ a.committed = first.same early in
-    let test_here : (IsChild (a.committed blob_tree) key x → FindsFlaws (IsFlaw of (a.committed blob_tree) (a.committed root_tree)) mid new
+    let test_here : (IsChild (a.committed blob_tree) key x → AddsFlawsUnless (IsFlaw of (a.committed blob_tree) (a.committed root_tree)) mid new
     (IsThere (a.committed blob_tree) x)) =
-    subst (λ (t : Trees). IsChild (t blob_tree) key x → FindsFlaws (IsFlaw of (t blob_tree) (t root_tree)) mid new (IsThere (t blob_tree) x)) same
+    subst (λ (t : Trees). IsChild (t blob_tree) key x → AddsFlawsUnless (IsFlaw of (t blob_tree) (t root_tree)) mid new (IsThere (t blob_tree) x)) same
     (test sure) in
     child_next (IsFlaw of (a.committed blob_tree) (a.committed root_tree)) (IsChild (a.committed blob_tree) key) (IsThere (a.committed blob_tree)) old mid new
     xs i x h is (so_far early) test_here all
 
 -- all places of the two tables were tested
-pub whole_found : (of : Blob → ℕ) (a b c d e : View) (places names : List ℤ) (start mid end : List Flaw) → start ≡ [] → StaysPut a b → StaysPut b c
-    → StaysPut c d → StaysPut d e → IsTrue (is_sure e)
-    → (IsTrue (is_sure b) → map Int places ≡ map rowid (a.committed blob_tree))
-    → (IsTrue (is_sure c) → FindsFlaws (IsFlaw of (b.committed blob_tree) (b.committed root_tree)) start mid
+pub whole_found : (of : Blob → ℕ) (a b c d e : View) (places names : List ℤ) (start mid end : List Flaw) → start ≡ [] → LeavesCommitted a b
+    → LeavesCommitted b c
+    → LeavesCommitted c d → LeavesCommitted d e → IsTrue (is_honest_view e)
+    → (IsTrue (is_honest_view b) → map Int places ≡ map rowid (a.committed blob_tree))
+    → (IsTrue (is_honest_view c) → AddsFlawsUnless (IsFlaw of (b.committed blob_tree) (b.committed root_tree)) start mid
     (Each (IsSoundPlace of (b.committed blob_tree)) places))
-    → (IsTrue (is_sure d) → map Int names ≡ map rowid (c.committed root_tree))
-    → (IsTrue (is_sure e) → FindsFlaws (IsFlaw of (d.committed blob_tree) (d.committed root_tree)) mid end
+    → (IsTrue (is_honest_view d) → map Int names ≡ map rowid (c.committed root_tree))
+    → (IsTrue (is_honest_view e) → AddsFlawsUnless (IsFlaw of (d.committed blob_tree) (d.committed root_tree)) mid end
     (Each (IsSoundRoot (d.committed blob_tree) (d.committed root_tree)) names))
-    → FindsFlaws (IsFlaw of (a.committed blob_tree) (a.committed root_tree)) [] end (IsWhole of (a.committed blob_tree) (a.committed root_tree))
+    → AddsFlawsUnless (IsFlaw of (a.committed blob_tree) (a.committed root_tree)) [] end (IsWhole of (a.committed blob_tree) (a.committed root_tree))
 whole_found of a b c d e places names start mid end empty ab bc cd de sure found_blobs test_blobs found_names test_names =
     let sure_d = de.sure sure in
     let sure_c = cd.sure sure_d in
@@ -442,16 +454,16 @@ whole_found of a b c d e places names start mid end empty ab bc cd de sure found
     let same_d : d.committed ≡ a.committed = cd.same sure_d ∙ same_c in
     let rows = a.committed blob_tree in
     let roots = a.committed root_tree in
-    let blobs : FindsFlaws (IsFlaw of rows roots) start mid (Each (IsSoundPlace of rows) places) =
-    subst (λ (t : Trees). FindsFlaws (IsFlaw of (t blob_tree) (t root_tree)) start mid (Each (IsSoundPlace of (t blob_tree)) places)) same_b
+    let blobs : AddsFlawsUnless (IsFlaw of rows roots) start mid (Each (IsSoundPlace of rows) places) =
+    subst (λ (t : Trees). AddsFlawsUnless (IsFlaw of (t blob_tree) (t root_tree)) start mid (Each (IsSoundPlace of (t blob_tree)) places)) same_b
     (test_blobs sure_c) in
-    let named : FindsFlaws (IsFlaw of rows roots) mid end (Each (IsSoundRoot rows roots) names) =
-    subst (λ (t : Trees). FindsFlaws (IsFlaw of (t blob_tree) (t root_tree)) mid end (Each (IsSoundRoot (t blob_tree) (t root_tree)) names)) same_d
+    let named : AddsFlawsUnless (IsFlaw of rows roots) mid end (Each (IsSoundRoot rows roots) names) =
+    subst (λ (t : Trees). AddsFlawsUnless (IsFlaw of (t blob_tree) (t root_tree)) mid end (Each (IsSoundRoot (t blob_tree) (t root_tree)) names)) same_d
     (test_names sure) in
     let both = tested_then (IsFlaw of rows roots) start mid end (Each (IsSoundPlace of rows) places) (Each (IsSoundRoot rows roots) names) blobs named in
     let whole = tested_as (IsFlaw of rows roots) start end (Each (IsSoundPlace of rows) places × Each (IsSoundRoot rows roots) names) (IsWhole of rows roots)
     (λ h. is_whole of rows roots places names (found_blobs sure_b) (found_names sure_d ∙ ap (λ (t : Trees). map rowid (t root_tree)) same_c) h.0 h.1) both in
-    subst (λ (l : List Flaw). FindsFlaws (IsFlaw of rows roots) l end (IsWhole of rows roots)) empty whole
+    subst (λ (l : List Flaw). AddsFlawsUnless (IsFlaw of rows roots) l end (IsWhole of rows roots)) empty whole
 
 -- what an index within a list reads
 pub read_once : {A : Type 0} (xs : List A) (i : ℕ) (d e : A) → i < length xs → get_or xs i d ≡ get_or xs i e

@@ -1,7 +1,16 @@
 -- Keys as bytes, and back.
-use Rattle.std.proofs.Common.{◌≡◌, ◌∙◌, ℕ, suc, zero, ◌+◌, ◌*◌, ◌/◌, ◌%◌, ◌^◌, ◌<◌, ◌++◌, ◌∷◌, [], List, length, take, drop, get_or, Bool, true, false, Option, Some, None, refl, sym, ap, arith, append_assoc, append-nil, length-append}
-use Rattle.std.{proofs.{Math.Nat.{div-div-eq-div-mul, mod-add-div, mul-add, mul_assoc, mul_comm, pow-suc}, lemmas.{List.{take_more, flat_map_more}, Bool.Decides.nat_tests}}, specs.{Int.{byte_at, byte_worth, sum_through, to_le_bytes, from_le_bytes, w128}, List.{AllByRecursion as Each, flat_map}, Prelude.{◌==◌, option_map}}}
 use Rattle.pagable_file.specs.Rows.{CanBeKey, key_in, keys_from, keys_in, with_key}
+use Rattle.std.proofs.{
+  Common.{Bool, List, None, Option, Some, ap, append-nil, append_assoc, arith, drop, false, get_or, length, length-append, refl, suc, sym, take, true, zero, ℕ},
+  Common.{[], ◌%◌, ◌*◌, ◌++◌, ◌+◌, ◌/◌, ◌<◌, ◌^◌, ◌∙◌, ◌∷◌, ◌≡◌},
+  Math.Nat.{div-div-eq-div-mul, mod-add-div, mul-add, mul_assoc, mul_comm, pow-suc},
+  lemmas.{Bool.Decides.nat_tests, List.{flat_map_more, take_more}},
+}
+use Rattle.std.specs.{
+  Int.{byte_at, byte_worth, from_le_bytes, sum_through, to_le_bytes, w128},
+  List.{AllByRecursion as Each, flat_map},
+  Prelude.{option_map, ◌==◌},
+}
 
 -- the rest by m, and the rest of the quotient, make the rest by 256 m
 split : (n m r t a b : ℕ) → a + m * (r + 256 * t) ≡ n → b + m * 256 * t ≡ n → a + r * m ≡ b

@@ -1,20 +1,25 @@
 -- Names of roots, and whether a blob is stored under a key.
-use Rattle.std.proofs.Common.{◌≡◌, ◌∙◌, ◌≤◌, ℕ, ℤ, Bool, true, false, IsTrue, List, Option, Some, None, refl, sym, ap, subst, true≢false, arith}
-use Rattle.std.proofs.lemmas.{Bool.Decides.{Decides-int_eq}, Slice.Eq.bytes_eq-Decides}
-use Rattle.std.specs.{HashMap.get, Map.lookup, Ordering.int_eq, Prelude.{◌==◌, if◌then◌else◌, is_some}, Str.bytes_eq, String.string_bytes}
-use Rattle.sqlite_value.specs.Order.{Row, bytes, column}
+use Rattle.pagable_core.specs.Roots.{HasBlobIfKey, RefusesRoot, Sets}
+use Rattle.pagable_file.specs.{
+  Blobs.{HasNoOtherName, HoldsRoot, IsFoundAs, IsNamedAs, IsNotOther, LeavesCommitted, WaitingBlobs, WaitingRoots, before, before_root, found_root},
+  Blobs.{is_honest_view, reads_blob, roots_unless, roots_with, stored_with, unless},
+  Rows.{blob_in, blob_tree, blobs_in, root_in, root_of_row, root_tree, roots_in, row_at, rowid_of, rowid_of_name},
+  declared.{pending.{PendingBlob.PendingBlob, PendingRoot.PendingRoot}, rows.{Naming.Naming, Reading.Reading}},
+}
+use Rattle.pagable_value_spec.specs.{Blob.Blob, Outcomes.IsOutOfMemory, Stored.{HasFailed, IsMemoryOrFailure}, declared.error.Error.Error}
 use Rattle.sqlite_trees.specs.{Tree.Trees, View.View}
-use Rattle.pagable_value_spec.specs.{Blob.Blob, Outcomes.memory, Stored.{HasFailed, IsMemoryOrFailure}, declared.error.Error.Error}
-use Rattle.pagable_file.specs.Rows.{blob_in, blob_tree, blobs_in, rowid_of, rowid_of_name, root_in, root_of_row, root_tree, roots_in, row_at}
-use Rattle.pagable_core.specs.Roots.{RefusesRoot, Sets, Stands}
-use Rattle.pagable_file.specs.Blobs.{before, before_root, found_root, HasPlace, HoldsRoot, IsFoundAs, IsNamedAs, IsNotOther, reads_blob, roots_unless, roots_with, unless, StaysPut, stored_with, Waiting, WaitingRoots, is_sure}
-use Rattle.pagable_file.specs.declared.{pending.{Pending.Pending, PendingRoot.PendingRoot}, rows.{Naming.Naming, Reading.Reading}}
+use Rattle.sqlite_value.specs.Order.{Row, bytes, column}
+use Rattle.std.proofs.{
+  Common.{Bool, IsTrue, List, None, Option, Some, ap, arith, false, refl, subst, sym, true, true≢false, ℕ, ℤ, ◌∙◌, ◌≡◌, ◌≤◌},
+  lemmas.{Bool.Decides.Decides-int_eq, Slice.Eq.bytes_eq-Decides},
+}
+use Rattle.std.specs.{HashMap.get, Map.lookup, Ordering.int_eq, Prelude.{if◌then◌else◌, is_some, ◌==◌}, Str.bytes_eq, String.string_bytes}
 use Rattle.pagable_file.specs.declared.rows.Naming.TheVariants as naming
 use Rattle.pagable_file.specs.declared.rows.Reading.TheVariants as reading
 use Rattle.pagable_value_spec.specs.declared.error.Error.TheVariants as error
 
 -- whether a blob stands under a key, by what waits
-pub has_held : (waiting : Waiting) (rows : List Row) (key : ℕ) (it : Pending) → Some it ≡ get int_eq waiting (rowid_of key) → (it.key == key)
+pub has_held : (waiting : WaitingBlobs) (rows : List Row) (key : ℕ) (it : PendingBlob) → Some it ≡ get int_eq waiting (rowid_of key) → (it.key == key)
     ≡ is_some (stored_with waiting rows key)
 unfolding stored_with
 has_held waiting rows key it e = rw (sym e) (go (it.key == key) refl)
@@ -31,7 +36,8 @@ row_has_blob rows key (Some reading.Damaged) f = rw f.1 (ap is_some (sym f.2))
 row_has_blob rows key (Some (reading.Blob it)) f = rw f.1 (ap is_some (sym f.2))
 
 -- and by the table
-pub has_read : (waiting : Waiting) (rows : List Row) (key : ℕ) (found : Option Reading) → None ≡ get int_eq waiting (rowid_of key) → IsFoundAs rows key found
+pub has_read : (waiting : WaitingBlobs) (rows : List Row) (key : ℕ) (found : Option Reading) → None ≡ get int_eq waiting (rowid_of key)
+    → IsFoundAs rows key found
     → reads_blob found ≡ is_some (stored_with waiting rows key)
 unfolding stored_with
 has_read waiting rows key found e f = rw (sym e) (row_has_blob rows key found f)
@@ -57,22 +63,22 @@ root_read waiting rows name found e f = rw (sym e) (row_names rows name found f)
 -- no other name has the place
 pub place_held : (waiting : WaitingRoots) (rows : List Row) (name : List ℕ) (it : PendingRoot) → Some it ≡ get int_eq waiting (rowid_of_name name)
     → bytes_eq (string_bytes it.name) name ≡ true
-    → HasPlace name (get int_eq waiting (rowid_of_name name)) (row_at rows (rowid_of_name name))
+    → HasNoOtherName name (get int_eq waiting (rowid_of_name name)) (row_at rows (rowid_of_name name))
 place_held waiting rows name it e is = rw (sym e) is
 
 read_place : (rows : List Row) (name : List ℕ) (found : Option Naming) → IsNamedAs rows name found → IsNotOther found
-    → HasPlace name None (row_at rows (rowid_of_name name))
+    → HasNoOtherName name None (row_at rows (rowid_of_name name))
 read_place rows name None f h = rw f tt
 read_place rows name (Some (naming.Root key)) f h = rw f.1 f.2.0
 read_place rows name (Some naming.Other) f h = absurd h
 
 pub place_read : (waiting : WaitingRoots) (rows : List Row) (name : List ℕ) (found : Option Naming) → None ≡ get int_eq waiting (rowid_of_name name)
     → IsNamedAs rows name found → IsNotOther found
-    → HasPlace name (get int_eq waiting (rowid_of_name name)) (row_at rows (rowid_of_name name))
+    → HasNoOtherName name (get int_eq waiting (rowid_of_name name)) (row_at rows (rowid_of_name name))
 place_read waiting rows name found e f h = rw (sym e) (read_place rows name found f h)
 
 -- another name at the same place stands for nothing
-other_name : (name q : List ℕ) (held : Option PendingRoot) (row : Option Row) → HasPlace name held row → bytes_eq name q ≡ false
+other_name : (name q : List ℕ) (held : Option PendingRoot) (row : Option Row) → HasNoOtherName name held row → bytes_eq name q ≡ false
     → before_root q held (root_of_row q row) ≡ None
 unfolding root_in
 other_name name q (Some it) row h apart =
@@ -85,7 +91,7 @@ other_name name q None (Some row) h apart =
 
 -- a name that comes to what waits
 pub sets : (waiting after : WaitingRoots) (rows : List Row) (name : List ℕ) (key : Option ℕ)
-    → HasPlace name (get int_eq waiting (rowid_of_name name)) (row_at rows (rowid_of_name name)) → HoldsRoot name key waiting after
+    → HasNoOtherName name (get int_eq waiting (rowid_of_name name)) (row_at rows (rowid_of_name name)) → HoldsRoot name key waiting after
     → Sets name key (roots_with waiting rows) (roots_with after rows)
 unfolding roots_with roots_in
 sets waiting after rows name key free h q = rw (h.each (rowid_of_name q)) (go (int_eq (rowid_of_name name) (rowid_of_name q)) refl (bytes_eq name q) refl)
@@ -108,8 +114,8 @@ sets waiting after rows name key free h q = rw (h.each (rowid_of_name q)) (go (i
         let same : name ≡ q = (bytes_eq-Decides name q).0 f in
         absurd (true≢false (sym ((Decides-int_eq (rowid_of_name name) (rowid_of_name q)).1 (ap rowid_of_name same)) ∙ e))
 
--- one look after another
-pub stays_then : (a b c : View) → StaysPut a b → StaysPut b c → StaysPut a c
+-- one look-up after another
+pub stays_then : (a b c : View) → LeavesCommitted a b → LeavesCommitted b c → LeavesCommitted a c
 stays_then a b c f g = record { settled = λ was. g.settled (f.settled was); sure = λ h. f.sure (g.sure h); same = λ h. g.same h ∙ f.same (g.sure h) }
 
 pub holds_root : (waiting after : WaitingRoots) (name : List ℕ) (it : PendingRoot) → string_bytes it.name ≡ name
@@ -149,19 +155,20 @@ pub answers_read : (closed : Bool) (waiting : WaitingRoots) (rows : List Row) (n
     → IsNamedAs rows name found → key ≡ found_root found → key ≡ roots_unless closed (roots_with waiting rows) name
 answers_read closed waiting rows name found key usable e f is = rw usable (is ∙ root_read waiting rows name found e f)
 
-pub kept_stored : (closed : Bool) (waiting : Waiting) (old new : View) → StaysPut old new → IsTrue (is_sure new)
+pub kept_stored : (closed : Bool) (waiting : WaitingBlobs) (old new : View) → LeavesCommitted old new → IsTrue (is_honest_view new)
     → unless closed (stored_with waiting (new.committed blob_tree)) ≡ unless closed (stored_with waiting (old.committed blob_tree))
 kept_stored closed waiting old new stays sure = ap (λ (t : Trees). unless closed (stored_with waiting (t blob_tree))) (stays.same sure)
 
-pub kept_flushed : (closed : Bool) (old new : View) → StaysPut old new → IsTrue (is_sure new) → unless closed (blobs_in (new.committed blob_tree))
+pub kept_flushed : (closed : Bool) (old new : View) → LeavesCommitted old new → IsTrue (is_honest_view new) → unless closed (blobs_in (new.committed blob_tree))
     ≡ unless closed (blobs_in (old.committed blob_tree))
 kept_flushed closed old new stays sure = ap (λ (t : Trees). unless closed (blobs_in (t blob_tree))) (stays.same sure)
 
-pub kept_roots : (closed : Bool) (waiting : WaitingRoots) (old new : View) → StaysPut old new → IsTrue (is_sure new)
+pub kept_roots : (closed : Bool) (waiting : WaitingRoots) (old new : View) → LeavesCommitted old new → IsTrue (is_honest_view new)
     → roots_unless closed (roots_with waiting (new.committed root_tree)) ≡ roots_unless closed (roots_with waiting (old.committed root_tree))
 kept_roots closed waiting old new stays sure = ap (λ (t : Trees). roots_unless closed (roots_with waiting (t root_tree))) (stays.same sure)
 
-pub kept_entries : (closed : Bool) (waiting after : WaitingRoots) (old new : View) → after.entries ≡ waiting.entries → StaysPut old new → IsTrue (is_sure new)
+pub kept_entries : (closed : Bool) (waiting after : WaitingRoots) (old new : View) → after.entries ≡ waiting.entries → LeavesCommitted old new
+    → IsTrue (is_honest_view new)
     → roots_unless closed (roots_with after (new.committed root_tree)) ≡ roots_unless closed (roots_with waiting (old.committed root_tree))
 kept_entries closed waiting after old new same stays sure = kept_by same ∙ kept_roots closed waiting old new stays sure
   where
@@ -170,8 +177,8 @@ kept_entries closed waiting after old new same stays sure = kept_by same ∙ kep
     kept_by is = ap (roots_unless closed) (by_entries waiting after (new.committed root_tree) is)
 
 pub sets_in : (closed : Bool) (waiting after : WaitingRoots) (old new : View) (name text : List ℕ) (key : Option ℕ) → closed ≡ false → text ≡ name
-    → StaysPut old new → IsTrue (is_sure new)
-    → HasPlace name (get int_eq waiting (rowid_of_name name)) (row_at (old.committed root_tree) (rowid_of_name name)) → HoldsRoot text key waiting after
+    → LeavesCommitted old new → IsTrue (is_honest_view new)
+    → HasNoOtherName name (get int_eq waiting (rowid_of_name name)) (row_at (old.committed root_tree) (rowid_of_name name)) → HoldsRoot text key waiting after
     → Sets name key (roots_unless closed (roots_with waiting (old.committed root_tree))) (roots_unless closed (roots_with after (new.committed root_tree)))
 sets_in closed waiting after old new name text key usable is stays sure free h =
     let here : Sets name key (roots_with waiting (old.committed root_tree)) (roots_with after (old.committed root_tree)) =
@@ -186,14 +193,15 @@ there_in closed stored key there usable h = rw usable h
 pub none_in : (closed : Bool) (stored : ℕ → Option Blob) (key : ℕ) → closed ≡ true → false ≡ is_some (unless closed stored key)
 none_in closed stored key is = rw is refl
 
-pub stands_in : (closed : Bool) (stored : ℕ → Option Blob) (key : Option ℕ) → closed ≡ false → Stands stored key → Stands (unless closed stored) key
+pub stands_in : (closed : Bool) (stored : ℕ → Option Blob) (key : Option ℕ) → closed ≡ false → HasBlobIfKey stored key → HasBlobIfKey (unless closed stored) key
 stands_in closed stored key usable h = rw usable h
 
 pub refuses_in : (closed : Bool) (stored : ℕ → Option Blob) (key : Option ℕ) (was now : ℕ) (e : Error) → closed ≡ false → RefusesRoot key stored false was now e
     → RefusesRoot key (unless closed stored) closed was now e
 refuses_in closed stored key was now e usable h = rw usable h
 
-pub refuses_memory : (key : Option ℕ) (stored : ℕ → Option Blob) (closed : Bool) (was now : ℕ) (e : Error) → memory e → RefusesRoot key stored closed was now e
+pub refuses_memory : (key : Option ℕ) (stored : ℕ → Option Blob) (closed : Bool) (was now : ℕ) (e : Error) → IsOutOfMemory e
+    → RefusesRoot key stored closed was now e
 refuses_memory key stored closed was now e is = rw is tt
 
 pub ruleset roots_named = (

@@ -1,13 +1,29 @@
 -- Lists of names: which names they have, and that they leave none out.
-use Rattle.std.proofs.Common.{◌≡◌, ◌∙◌, ℕ, ℤ, Bool, true, false, List, [], ◌∷◌, ◌++◌, append_assoc, append-nil, Option, Some, None, IsSome, IsTrue, refl, sym, ap, subst, true≢false}
-use Rattle.std.proofs.lemmas.{List.Folds.list_any-append, Slice.Eq.bytes_eq-Decides}
-use Rattle.std.specs.{Cmp.signed_Decides, HashMap.get, List.AllByRecursion, Map.lookup, Ordering.int_eq, Prelude.{String, is_some, string_bytes, ◌||◌, IfOk, Result, Ok, Err, Vec}, Str.{IsUtf8, bytes_eq}}
-use Rattle.sqlite_value.specs.{declared.value.Value.TheVariants.Int, Order.{Row, bytes, column}}
-use Rattle.sqlite_trees.specs.Tree.{has_rowid, rowid}
 use Rattle.pagable_core.specs.Roots.{ListsAll, is_among}
-use Rattle.pagable_file.specs.{Blobs.{WaitingRoots, before_root, roots_unless, roots_with}, Names.{IsListed, IsWaitingListed, KeepsNames}, Rows.{root_in, root_of_row, roots_in, row_at, rowid_of_name}, declared.pending.PendingRoot.PendingRoot}
-use Rattle.pagable_value_spec.specs.declared.error.Error.{Error}
 use Rattle.pagable_file.proofs.Places.{has_place}
+use Rattle.pagable_file.specs.{
+  Blobs.{WaitingRoots, before_root, roots_unless, roots_with},
+  Names.{IsListed, IsWaitingListed, KeepsNames},
+  Rows.{root_in, root_of_row, roots_in, row_at, rowid_of_name},
+  declared.pending.PendingRoot.PendingRoot,
+}
+use Rattle.pagable_value_spec.specs.declared.error.Error.{Error}
+use Rattle.sqlite_trees.specs.Tree.{has_rowid, rowid}
+use Rattle.sqlite_value.specs.{Order.{Row, bytes, column}, declared.value.Value.TheVariants.Int}
+use Rattle.std.proofs.{
+  Common.{Bool, IsSome, IsTrue, List, None, Option, Some, ap, append-nil, append_assoc, false, refl, subst, sym, true, true≢false, ℕ, ℤ, [], ◌++◌, ◌∙◌, ◌∷◌},
+  Common.◌≡◌,
+  lemmas.{List.Folds.list_any-append, Slice.Eq.bytes_eq-Decides},
+}
+use Rattle.std.specs.{
+  Cmp.signed_Decides,
+  HashMap.get,
+  List.AllByRecursion,
+  Map.lookup,
+  Ordering.int_eq,
+  Prelude.{Err, IfOk, Ok, Result, String, Vec, is_some, string_bytes, ◌||◌},
+  Str.{IsUtf8, bytes_eq},
+}
 
 or_left : (a b : Bool) → IsTrue a → IsTrue (a || b)
 or_left true b h = refl

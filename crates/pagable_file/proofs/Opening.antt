@@ -1,16 +1,14 @@
 -- What an open finds.
-use Rattle.std.proofs.Common.{◌≡◌, ◌∙◌, ◌≤◌, false, IsTrue, List, [], ◌∷◌, map, take, refl, sym, ap, subst, arith}
-use Rattle.sqlite_value.specs.Order.{Row}
-use Rattle.sqlite_trees.specs.{Objects.catalog_tree, View.{IsClean, IsShaped, View, doubt}, declared.store.Shape.Shape}
-use Rattle.sqlite_trees.specs.declared.store.Shape.TheVariants as shape
-use Rattle.pagable_file.specs.{Closing.IsHeldIn, Rows.{blob_tree, root_tree}, Blobs.{Finds as FindsTables, IsIdle, TablesCreated, Settled, is_sure}}
 use Rattle.pagable_file.proofs.Settling.{in_use, sure_clean, sure_from, sure_open}
-use Rattle.std.proofs.Math.Logic.{∥∥₁_elim}
-use Rattle.sqlite_disk.specs.{declared.Disk.Ghosts, declared.Files.Files}
-use Rattle.sqlite_wal.specs.Reads.{AreClean}
-use Rattle.sqlite_trees.specs.{Props.Trees-set, Tree.Trees}
-use Rattle.sqlite_store.specs.declared.store.FileStore.{FileStore}
+use Rattle.pagable_file.specs.{Blobs.{FindsTables, IsIdle, Settled, TablesCreated, is_honest_view}, Closing.IsHeldIn, Rows.{blob_tree, root_tree}}
 use Rattle.sqlite.specs.{Files.{Finds, file_state}, Held.Held, Steps.IsFresh}
+use Rattle.sqlite_disk.specs.declared.{Disk.Ghosts, Files.Files}
+use Rattle.sqlite_store.specs.declared.store.FileStore.{FileStore}
+use Rattle.sqlite_trees.specs.{Objects.catalog_tree, Props.Trees-set, Tree.Trees, View.{IsClean, IsShaped, View, doubt}, declared.store.Shape.Shape}
+use Rattle.sqlite_value.specs.Order.{Row}
+use Rattle.sqlite_wal.specs.Reads.{AreClean}
+use Rattle.std.proofs.{Common.{IsTrue, List, ap, arith, false, map, refl, subst, sym, take, [], ◌∙◌, ◌∷◌, ◌≡◌, ◌≤◌}, Math.Logic.∥∥₁_elim}
+use Rattle.sqlite_trees.specs.declared.store.Shape.TheVariants as shape
 
 -- a tree that isn't there has no rows
 pub absent : (s : Shape) (rows : List Row) → s ≡ shape.Absent → IsShaped s rows → rows ≡ []
@@ -25,7 +23,7 @@ pub made_is_found : (old new : View) → IsIdle old → (IsClean new → TablesC
     → old.shape blob_tree ≡ shape.Absent → old.shape root_tree ≡ shape.Absent → FindsTables old new
 made_is_found old new idle made falls shaped no_blobs no_roots =
     let was : (IsClean new → IsClean old) = λ h. omega (arith, falls, h) in
-    let opened : (IsTrue (is_sure new) → IsTrue old.is_open) = λ h. subst (λ b. IsTrue b) (made (sure_clean new h)).is_open (sure_open new h) in
+    let opened : (IsTrue (is_honest_view new) → IsTrue old.is_open) = λ h. subst (λ b. IsTrue b) (made (sure_clean new h)).is_open (sure_open new h) in
     record {
       settled = λ h. (made (sure_clean new h)).settled;
       sure = λ h. sure_from old (was (sure_clean new h)) (opened h);

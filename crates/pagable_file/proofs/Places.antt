@@ -1,13 +1,27 @@
 -- The row at a place after other rows were put, and the blobs that the table then has.
-use Rattle.std.proofs.Common.{◌≡◌, ◌∙◌, ℕ, ℤ, Bool, true, false, List, [], ◌∷◌, Option, Some, None, filter, refl, sym, ap, true≢false, Ordering, Less, Equal, Greater, is_eq, subst}
-use Rattle.std.specs.{Ordering.{int_eq, match_ordering}, Prelude.{◌==◌, if◌then◌else◌, slice_get}, Cmp.signed_Decides, List.{IsDistinct, AllByRecursion as Each}, Map.{keys_of, lookup}, Str.bytes_eq, String.string_bytes}
-use Rattle.sqlite_value.specs.{declared.value.Value.TheVariants.Int, Order.{Row, value_cmp}}
-use Rattle.sqlite_value.proofs.OrderLemmas.{value_cmp_total, value_cmp-Int}
-use Rattle.sqlite_trees.specs.Tree.{rowid, has_rowid, put_row}
+use Rattle.pagable_file.proofs.Keys.{all_back, key_back}
+use Rattle.pagable_file.specs.{
+  Blobs.{CanBeKeyIfSome, Fits, WaitingBlobs, WaitingRoots, before, before_root, blob_pending, pending_root_row, pending_row, put_all, roots_with, stored_with},
+  Rows.{CanBeKey, blob_in, blob_of_row, blob_row, blobs_in, key_bytes, key_in, root_in, root_of_row, root_row, roots_in, row_at, rowid_of, rowid_of_name},
+  declared.pending.{PendingBlob.PendingBlob, PendingRoot.PendingRoot},
+}
 use Rattle.pagable_value_spec.specs.Blob.{Blob}
-use Rattle.pagable_file.specs.{Rows.{rowid_of, row_at, blob_in, blob_of_row, blobs_in, blob_row, CanBeKey, key_bytes, key_in, rowid_of_name, root_in, root_of_row, root_row, roots_in}, Blobs.{before, before_root, blob_pending, CanBeKeyIf, Fits, pending_root_row, pending_row, put_all, roots_with, stored_with, Waiting, WaitingRoots}}
-use Rattle.pagable_file.specs.declared.pending.{Pending.Pending, PendingRoot.PendingRoot}
-use Rattle.pagable_file.proofs.Keys.{key_back, all_back}
+use Rattle.sqlite_trees.specs.Tree.{has_rowid, put_row, rowid}
+use Rattle.sqlite_value.proofs.OrderLemmas.{value_cmp-Int, value_cmp_total}
+use Rattle.sqlite_value.specs.{Order.{Row, value_cmp}, declared.value.Value.TheVariants.Int}
+use Rattle.std.proofs.{
+  Common.{Bool, Equal, Greater, Less, List, None, Option, Ordering, Some, ap, false, filter, is_eq, refl, subst, sym, true, true≢false, ℕ, ℤ, [], ◌∙◌, ◌∷◌},
+  Common.◌≡◌,
+}
+use Rattle.std.specs.{
+  Cmp.signed_Decides,
+  List.{AllByRecursion as Each, IsDistinct},
+  Map.{keys_of, lookup},
+  Ordering.{int_eq, match_ordering},
+  Prelude.{if◌then◌else◌, slice_get, ◌==◌},
+  Str.bytes_eq,
+  String.string_bytes,
+}
 
 -- whether a row of one place is that of another
 pub has_place : (row : Row) (p id : ℤ) → rowid row ≡ Int p → has_rowid id row ≡ int_eq p id
@@ -89,12 +103,12 @@ pub row_reads : (id : ℤ) (key : ℕ) (blob : Blob) → CanBeKey key → Each C
 unfolding blob_in
 row_reads id key blob h ks q = rw (key_back key h, all_back blob.keys ks) refl
 
-bytes_back : (key : Option ℕ) → CanBeKeyIf key → key_in (key_bytes key) ≡ key
+bytes_back : (key : Option ℕ) → CanBeKeyIfSome key → key_in (key_bytes key) ≡ key
 unfolding key_in
 bytes_back None h = refl
 bytes_back (Some key) h = key_back key h
 
-pub root_reads : (id : ℤ) (name : List ℕ) (key : Option ℕ) → CanBeKeyIf key → (q : List ℕ) → root_in q (root_row id name key)
+pub root_reads : (id : ℤ) (name : List ℕ) (key : Option ℕ) → CanBeKeyIfSome key → (q : List ℕ) → root_in q (root_row id name key)
     ≡ (if bytes_eq name q then key else None)
 unfolding root_in
 root_reads id name key h q = rw (bytes_back key h) refl
@@ -108,18 +122,18 @@ found_fits P p (e ∷ es) it all is = go (int_eq p e.0) refl (found_fits P p es 
     go false h more = more (rw h at is)
 
 -- once all that waits is put, the tables have what was stored
-pub all_stored : (waiting : Waiting) (rows : List Row) → IsDistinct int_eq (keys_of waiting.entries) → Each (λ e. Fits e.1) waiting.entries
+pub all_stored : (waiting : WaitingBlobs) (rows : List Row) → IsDistinct int_eq (keys_of waiting.entries) → Each (λ e. Fits e.1) waiting.entries
     → (q : ℕ) → blobs_in (put_all pending_row waiting.entries rows) q ≡ stored_with waiting rows q
 unfolding blobs_in stored_with
 all_stored waiting rows once fit q = rw (row_at-put_all pending_row (λ p it. refl) (rowid_of q) waiting.entries once rows)
     (go (lookup (int_eq (rowid_of q)) waiting.entries) refl)
   where
-    go : (o : Option Pending) → lookup (int_eq (rowid_of q)) waiting.entries ≡ o
+    go : (o : Option PendingBlob) → lookup (int_eq (rowid_of q)) waiting.entries ≡ o
         → blob_of_row q (over pending_row (rowid_of q) o (row_at rows (rowid_of q))) ≡ before q o (blob_of_row q (row_at rows (rowid_of q)))
     go None h = refl
     go (Some it) h = let f = found_fits Fits (rowid_of q) waiting.entries it fit h in row_reads (rowid_of q) it.key (blob_pending it) f.0 f.1 q
 
-pub all_named : (waiting : WaitingRoots) (rows : List Row) → IsDistinct int_eq (keys_of waiting.entries) → Each (λ e. CanBeKeyIf e.1.key) waiting.entries
+pub all_named : (waiting : WaitingRoots) (rows : List Row) → IsDistinct int_eq (keys_of waiting.entries) → Each (λ e. CanBeKeyIfSome e.1.key) waiting.entries
     → (q : List ℕ) → roots_in (put_all pending_root_row waiting.entries rows) q ≡ roots_with waiting rows q
 unfolding roots_in roots_with
 all_named waiting rows once fit q = rw (row_at-put_all pending_root_row (λ p it. refl) (rowid_of_name q) waiting.entries once rows)
@@ -130,10 +144,10 @@ all_named waiting rows once fit q = rw (row_at-put_all pending_root_row (λ p it
         ≡ before_root q o (root_of_row q (row_at rows (rowid_of_name q)))
     go None h = refl
     go (Some it) h = root_reads (rowid_of_name q) (string_bytes it.name) it.key
-        (found_fits (λ (r : PendingRoot). CanBeKeyIf r.key) (rowid_of_name q) waiting.entries it fit h) q
+        (found_fits (λ (r : PendingRoot). CanBeKeyIfSome r.key) (rowid_of_name q) waiting.entries it fit h) q
 
 -- where nothing waits, the tables have all
-pub none_waits : (waiting : Waiting) (rows : List Row) → waiting.entries ≡ [] → stored_with waiting rows ≡ blobs_in rows
+pub none_waits : (waiting : WaitingBlobs) (rows : List Row) → waiting.entries ≡ [] → stored_with waiting rows ≡ blobs_in rows
 unfolding stored_with
 none_waits waiting rows none = λ i q. before q (lookup (int_eq (rowid_of q)) (none i)) (blobs_in rows q)
 

@@ -1,10 +1,10 @@
 -- Rows that are put one after the other into one of the two tables.
-use Rattle.std.proofs.Common.{◌≡◌, ◌∙◌, ℕ, ℤ, List, [], ◌∷◌, refl, sym, ap, subst}
-use Rattle.std.specs.List.{AllByRecursion as Each}
-use Rattle.sqlite_value.specs.Order.{Row}
-use Rattle.sqlite_trees.specs.{Tree.put_row, View.{OnlyWrites, SetsTree, View}}
-use Rattle.pagable_file.specs.{Blobs.{Wrote, put_all}, Rows.{blob_tree, root_tree}}
 use Rattle.pagable_file.proofs.Settling.{only_then}
+use Rattle.pagable_file.specs.{Blobs.{Wrote, put_all}, Rows.{blob_tree, root_tree}}
+use Rattle.sqlite_trees.specs.{Tree.put_row, View.{OnlyWrites, SetsTree, View}}
+use Rattle.sqlite_value.specs.Order.{Row}
+use Rattle.std.proofs.Common.{List, ap, refl, subst, sym, ℕ, ℤ, [], ◌∙◌, ◌∷◌, ◌≡◌}
+use Rattle.std.specs.List.{AllByRecursion as Each}
 
 module _ {A : Type 0} (row : ℤ → A → Row) (tree other : ℕ) where
   -- those that are left make of the table what all make of it

@@ -1,16 +1,15 @@
 -- Going over all rows of a table.
-use Rattle.std.proofs.Common.{◌≡◌, ◌∙◌, ℤ, true, false, List, [], ◌∷◌, ◌++◌, map, Some, refl, sym, ap}
-use Rattle.std.specs.{List.AllByRecursion, Prelude.String}
-use Rattle.sqlite_value.specs.{declared.value.Value.{Value}, declared.value.Value.TheVariants.Int, Order.{Row}}
-use Rattle.sqlite_trees.specs.{Tree.{from_key, rowid, sought}, View.{Advances, View, with_cursor}, declared.{store.Direction.TheVariants.Forward}}
-use Rattle.sqlite_value.specs.declared.keys.Order.{Order}
-use Rattle.pagable_file.specs.{Blobs.{MovesOnly, WaitingRoots}, Names.{IsListed, KeepsNames}}
 use Rattle.pagable_file.proofs.{Names.{Passed, listed_more, passed_all, passed_more, passed_none}, Settling.moved_then}
+use Rattle.pagable_file.specs.{Blobs.{MovesOnlyCursors, WaitingRoots}, Names.{IsListed, KeepsNames}}
+use Rattle.sqlite_trees.specs.{Tree.{from_key, rowid, sought}, View.{Advances, View, with_cursor}, declared.store.Direction.TheVariants.Forward}
+use Rattle.sqlite_value.specs.{Order.Row, declared.{keys.Order.Order, value.Value.{TheVariants.Int, Value}}}
+use Rattle.std.proofs.Common.{List, Some, ap, false, map, refl, sym, true, ℤ, [], ◌++◌, ◌∙◌, ◌∷◌, ◌≡◌}
+use Rattle.std.specs.{List.AllByRecursion, Prelude.String}
 
 -- the places so far go before those of the rows that the cursor has left
 pub record Listing (first now : View) (rows : List Row) (places : List ℤ) : Type 0 where
   pub left : List Row
-  pub moved : MovesOnly first now
+  pub moved : MovesOnlyCursors first now
   pub at : now.cursors 0 ≡ Some left
   pub rest : map Int places ++ map rowid left ≡ map rowid rows
 
@@ -41,7 +40,7 @@ pub listing_goes_on : (first now next : View) (rows : List Row) (places after : 
     → Advances now next 0 row true → rowid row ≡ Int place → after ≡ places ++ place ∷ [] → Listing first next rows after
 listing_goes_on first now next rows places after row place l (left, here, is) id all =
     let same : l.left ≡ row ∷ left = some_same l.left (row ∷ left) (sym l.at ∙ here) in
-    let go : MovesOnly now next = is ∙ ap (λ (v : View). record now { cursors = v.cursors }) (sym is) in
+    let go : MovesOnlyCursors now next = is ∙ ap (λ (v : View). record now { cursors = v.cursors }) (sym is) in
     let rest : map Int (places ++ place ∷ []) ++ map rowid left ≡ map rowid rows =
     more places place (map rowid left) ∙ ap (λ v. map Int places ++ v ∷ map rowid left) (sym id)
     ∙ ap (λ (r : List Row). map Int places ++ map rowid r) (sym same) ∙ l.rest in
@@ -55,7 +54,7 @@ listing_goes_on first now next rows places after row place l (left, here, is) id
 -- the names of the rows that the cursor has passed are listed
 pub record Naming {A : Type 0} (first now : View) (rows : List Row) (waiting : WaitingRoots) (names : List (String A)) : Type 0 where
   pub left : List Row
-  pub moved : MovesOnly first now
+  pub moved : MovesOnlyCursors first now
   pub at : now.cursors 0 ≡ Some left
   pub passed : Passed (IsListed waiting names) left rows
 
@@ -79,7 +78,7 @@ naming_goes_on first now next rows waiting old new row n (left, here, is) keeps 
 }
 
 pub naming_ends : {A : Type 0} (first now next : View) (rows : List Row) (waiting : WaitingRoots) (names : List (String A)) (row : Row)
-    → Naming first now rows waiting names → Advances now next 0 row false → AllByRecursion (IsListed waiting names) rows × MovesOnly first next
+    → Naming first now rows waiting names → Advances now next 0 row false → AllByRecursion (IsListed waiting names) rows × MovesOnlyCursors first next
 naming_ends first now next rows waiting names row n (here, is) = (
   passed_all (IsListed waiting names) n.left rows n.passed (some_same n.left [] (sym n.at ∙ here)),
   moved_then first now next n.moved (is ∙ ap (λ (v : View). record now { cursors = v.cursors }) (sym is)),

@@ -1,10 +1,13 @@
 -- The state that a store's calls leave between two calls of a file of blobs.
-use Rattle.std.proofs.Common.{◌≡◌, ◌∙◌, ℕ, ℤ, ◌≤◌, Bool, true, false, List, IsTrue, Result, Ok, Err, refl, sym, ap, subst, arith}
-use Rattle.std.specs.Prelude.{◌&&◌, OnErr, OnOk, Some, None, if◌then◌else◌, slice_get}
-use Rattle.sqlite_value.specs.Order.{Row}
+use Rattle.pagable_file.specs.{Blobs.{IsSettled, LeavesCommitted, MovesOnlyCursors, Saved, Settled, Wrote, is_honest_view}, Rows.{blob_tree, root_tree, row_at}}
 use Rattle.sqlite_trees.proofs.Doubt.{clean_of, no_doubt}
-use Rattle.sqlite_trees.specs.{View.{View, doubt, IsClean, IsFailure, IsRolledBack, KeepsCommitted, OnlyWrites, SetsTree, Commits, Finds}, declared.error.StoreError.StoreError}
-use Rattle.pagable_file.specs.{Rows.{blob_tree, root_tree, row_at}, Blobs.{is_sure, IsSettled, MovesOnly, Saved, Settled, StaysPut, Wrote}}
+use Rattle.sqlite_trees.specs.{
+  View.{Commits, Finds, IsClean, IsFailure, IsRolledBack, KeepsCommitted, OnlyWrites, SetsTree, View, doubt},
+  declared.error.StoreError.StoreError,
+}
+use Rattle.sqlite_value.specs.Order.{Row}
+use Rattle.std.proofs.Common.{Bool, Err, IsTrue, List, Ok, Result, ap, arith, false, refl, subst, sym, true, ℕ, ℤ, ◌∙◌, ◌≡◌, ◌≤◌}
+use Rattle.std.specs.Prelude.{None, OnErr, OnOk, Some, if◌then◌else◌, slice_get, ◌&&◌}
 
 both : (a b : Bool) → IsTrue (a && b) → IsTrue a × IsTrue b
 both true true h = (refl, refl)
@@ -16,30 +19,30 @@ and_so true true h g = refl
 and_so true false h g = g
 and_so false b h g = h
 
-pub sure_clean : (v : View) → IsTrue (is_sure v) → IsClean v
+pub sure_clean : (v : View) → IsTrue (is_honest_view v) → IsClean v
 sure_clean v h = no_doubt v.is_clean (both v.is_clean v.is_open h).0
 
-pub sure_open : (v : View) → IsTrue (is_sure v) → IsTrue v.is_open
+pub sure_open : (v : View) → IsTrue (is_honest_view v) → IsTrue v.is_open
 sure_open v h = (both v.is_clean v.is_open h).1
 
-pub sure_from : (v : View) → IsClean v → IsTrue v.is_open → IsTrue (is_sure v)
+pub sure_from : (v : View) → IsClean v → IsTrue v.is_open → IsTrue (is_honest_view v)
 sure_from v h g = and_so v.is_clean v.is_open (clean_of v.is_clean h) g
 
 -- a call that only read
-pub read_only : (old new : View) → doubt old.is_clean ≤ doubt new.is_clean → (IsClean new → new ≡ old) → StaysPut old new
+pub read_only : (old new : View) → doubt old.is_clean ≤ doubt new.is_clean → (IsClean new → new ≡ old) → LeavesCommitted old new
 read_only old new falls same = record {
-  settled = λ was h. let e = same (sure_clean new h) in subst IsSettled (sym e) (was (subst (λ (v : View). IsTrue (is_sure v)) e h));
-  sure = λ h. subst (λ (v : View). IsTrue (is_sure v)) (same (sure_clean new h)) h;
+  settled = λ was h. let e = same (sure_clean new h) in subst IsSettled (sym e) (was (subst (λ (v : View). IsTrue (is_honest_view v)) e h));
+  sure = λ h. subst (λ (v : View). IsTrue (is_honest_view v)) (same (sure_clean new h)) h;
   same = λ h. ap (λ (v : View). v.committed) (same (sure_clean new h));
 }
 
 -- a rollback after calls that kept the last commit
 pub rolled_back : (old mid new : View) → (IsClean mid → KeepsCommitted old mid) → IsRolledBack mid new → doubt old.is_clean ≤ doubt mid.is_clean
-    → doubt mid.is_clean ≤ doubt new.is_clean → StaysPut old new
+    → doubt mid.is_clean ≤ doubt new.is_clean → LeavesCommitted old new
 rolled_back old mid new kept back first second =
     let mid_clean : (IsClean new → IsClean mid) = λ h. omega (arith, second, h) in
     let old_clean : (IsClean new → IsClean old) = λ h. omega (arith, first, second, h) in
-    let was_open : (IsTrue (is_sure new) → IsTrue (is_sure old)) = λ h.
+    let was_open : (IsTrue (is_honest_view new) → IsTrue (is_honest_view old)) = λ h.
     let clean = sure_clean new h in
     sure_from old (old_clean clean) ((kept (mid_clean clean)).was_open ((back.kept clean).was_open (sure_open new h))) in
     record {
@@ -117,7 +120,7 @@ pub saved : (old mid new : View) (blobs roots : List Row) → (IsClean mid → W
 saved old mid new blobs roots wrote commits first second =
     let mid_clean : (IsClean new → IsClean mid) = λ h. omega (arith, second, h) in
     let old_clean : (IsClean new → IsClean old) = λ h. omega (arith, first, second, h) in
-    let was_sure : (IsTrue (is_sure new) → IsTrue (is_sure old)) = λ h.
+    let was_sure : (IsTrue (is_honest_view new) → IsTrue (is_honest_view old)) = λ h.
     let clean = sure_clean new h in
     let c = commits clean in
     let w = wrote (mid_clean clean) in
@@ -147,11 +150,11 @@ saved old mid new blobs roots wrote commits first second =
     }
 
 -- what was committed, by what the store shows between two calls
-pub shown_is_committed : (v : View) → Settled v → IsTrue (is_sure v) → v.trees ≡ v.committed
+pub shown_is_committed : (v : View) → Settled v → IsTrue (is_honest_view v) → v.trees ≡ v.committed
 shown_is_committed v was h = ((was h).idle (sure_open v h)).1
 
 -- a store that isn't broken is open
-pub in_use : (v : View) → (v.is_open ≡ false → IsTrue v.is_broken) → v.is_broken ≡ false → IsClean v → IsTrue (is_sure v)
+pub in_use : (v : View) → (v.is_open ≡ false → IsTrue v.is_broken) → v.is_broken ≡ false → IsClean v → IsTrue (is_honest_view v)
 in_use v shut sound clean = sure_from v clean (go v.is_open shut)
   where
     go : (b : Bool) → (b ≡ false → IsTrue v.is_broken) → IsTrue b
@@ -159,7 +162,7 @@ in_use v shut sound clean = sure_from v clean (go v.is_open shut)
     go false h = let no : IsTrue false = subst (λ b. IsTrue b) sound (h refl) in absurd (cc)
 
 -- cursors that moved
-pub moved : (old new : View) → doubt old.is_clean ≤ doubt new.is_clean → (IsClean new → MovesOnly old new) → StaysPut old new
+pub moved : (old new : View) → doubt old.is_clean ≤ doubt new.is_clean → (IsClean new → MovesOnlyCursors old new) → LeavesCommitted old new
 moved old new falls only = record {
   settled = λ was h.
       let e = only (sure_clean new h) in
@@ -178,11 +181,11 @@ moved old new falls only = record {
   same = λ h. ap (λ (v : View). v.committed) (only (sure_clean new h));
 }
   where
-    before : IsTrue (is_sure new) → IsTrue (is_sure old)
+    before : IsTrue (is_honest_view new) → IsTrue (is_honest_view old)
     before h = let clean = sure_clean new h in sure_from old (omega (arith, falls, clean))
         (subst (λ b. IsTrue b) (ap (λ (v : View). v.is_open) (only clean)) (sure_open new h))
 
-pub moved_keeps : (old new : View) → MovesOnly old new → KeepsCommitted old new
+pub moved_keeps : (old new : View) → MovesOnlyCursors old new → KeepsCommitted old new
 moved_keeps old new is = record {
   shape = ap (λ (v : View). v.shape) is;
   reals = ap (λ (v : View). v.reals) is;
@@ -194,25 +197,25 @@ moved_keeps old new is = record {
   marks = λ _. ap (λ (v : View). v.marks) is;
 }
 
-pub moved_then : (a b c : View) → MovesOnly a b → MovesOnly b c → MovesOnly a c
+pub moved_then : (a b c : View) → MovesOnlyCursors a b → MovesOnlyCursors b c → MovesOnlyCursors a c
 moved_then a b c f g = g ∙ ap (λ (v : View). record v { cursors = c.cursors }) f
 
-pub stays_self : (v : View) → StaysPut v v
+pub stays_self : (v : View) → LeavesCommitted v v
 stays_self v = record { settled = λ was. was; sure = λ h. h; same = λ h. refl }
 
 pub fell_back : (old mid new : View) (e : StoreError) → IsFailure old mid e → IsRolledBack mid new → doubt old.is_clean ≤ doubt mid.is_clean
-    → doubt mid.is_clean ≤ doubt new.is_clean → StaysPut old new
+    → doubt mid.is_clean ≤ doubt new.is_clean → LeavesCommitted old new
 fell_back old mid new e failed back first second = rolled_back old mid new (λ _. failed.kept) back first second
 
--- what a look finds is the row at the place
+-- what a look-up finds is the row at the place
 found_row : (rows : List Row) (id : ℤ) (row : Row) (found : Bool) → Finds rows id row found → row_at rows id ≡ (if found then Some row else None)
 unfolding row_at
 found_row rows id row true h = ap (λ all. slice_get all 0) h
 found_row rows id row false h = ap (λ all. slice_get all 0) h
 
-pub looked : (old new : View) (table : ℕ) (id : ℤ) (row : Row) (found : Bool) → Settled old → StaysPut old new
+pub looked : (old new : View) (table : ℕ) (id : ℤ) (row : Row) (found : Bool) → Settled old → LeavesCommitted old new
     → (IsClean new → Finds (old.trees table) id row found)
-    → IsTrue (is_sure new) → row_at (old.committed table) id ≡ (if found then Some row else None)
+    → IsTrue (is_honest_view new) → row_at (old.committed table) id ≡ (if found then Some row else None)
 looked old new table id row found was stays finds h =
     let same = shown_is_committed old was (stays.sure h) in
     ap (λ (t : ℕ → List Row). row_at (t table) id) (sym same) ∙ found_row (old.trees table) id row found (finds (sure_clean new h))
@@ -225,7 +228,7 @@ on_saved (Err e) old mid new blobs roots wrote commits first second = tt
 
 pub on_rolled_back : (r : Result (Unit {0}) StoreError) (old mid new : View) → (IsClean mid → KeepsCommitted old mid) → OnErr r (IsRolledBack mid new)
     → doubt old.is_clean ≤ doubt mid.is_clean
-    → doubt mid.is_clean ≤ doubt new.is_clean → OnErr r (StaysPut old new)
+    → doubt mid.is_clean ≤ doubt new.is_clean → OnErr r (LeavesCommitted old new)
 on_rolled_back (Ok x) old mid new kept back first second = tt
 on_rolled_back (Err e) old mid new kept back first second = rolled_back old mid new kept back first second
 

@@ -1,40 +1,55 @@
 -- The state of a file of blobs: what waits for a flush, and the rows of its tables.
-use Rattle.std.specs.Prelude.{◌≡◌, ℕ, ℤ, ◌≢◌, ◌==◌, ◌&&◌, Bool, true, false, if◌then◌else◌, List, [], IsTrue, Option, Some, None, fold}
-use Rattle.std.specs.{Arc.arc_value, HashMap.{HashMap, IsUnique, get}, List.AllByRecursion, Ordering.int_eq, Str.bytes_eq, String.string_bytes}
-use base.Stored.{Coded-set}
-use mathlib.Core.{Bool.{Bool-set}, HLevel.{Π_prop, Π_set, ×_prop}}
-use Rattle.std.specs.declared.hash.{BuildHasherDefault.BuildHasherDefault, FoldHasher.FoldHasher}
-use Rattle.sqlite_value.specs.Order.{Row, bytes, column}
-use Rattle.sqlite_trees.specs.contracts.store.Shape as shape_row
-use Rattle.sqlite_trees.specs.{Props.{Trees-set, marks_set}, declared.store.Shape.Shape, Tree.{Trees, put_row}, View.{View, IsClean, OnlyWrites}, declared.store.Shape.TheVariants.Table}
 use Rattle.pagable_core.specs.Data.{blob_of}
+use Rattle.pagable_file.specs.{
+  Rows.{CanBeKey, blob_in, blob_row, blob_tree, blobs_in, is_row_of, root_in, root_row, root_tree, roots_in, row_at},
+  Rows.{rowid_of, rowid_of_name},
+  declared.{pending.{PendingBlob.PendingBlob, PendingRoot.PendingRoot}, rows.{Naming.Naming, Reading.Reading}},
+}
 use Rattle.pagable_value_spec.specs.{Blob.Blob, Stored.HasFailed, declared.error.Error.Error}
-use Rattle.pagable_file.specs.Rows.{CanBeKey, rowid_of, rowid_of_name, blob_in, blobs_in, blob_row, root_row, roots_in, is_row_of, row_at, root_in, blob_tree, root_tree}
-use Rattle.pagable_file.specs.declared.{pending.{Pending.Pending, PendingRoot.PendingRoot}, rows.{Naming.Naming, Reading.Reading}}
+use Rattle.sqlite_trees.specs.{
+  Props.{Trees-set, marks_set},
+  Tree.{Trees, put_row},
+  View.{IsClean, OnlyWrites, View},
+  declared.store.Shape.{Shape, TheVariants.Table},
+}
+use Rattle.sqlite_value.specs.Order.{Row, bytes, column}
+use Rattle.std.specs.{
+  Arc.arc_value,
+  HashMap.{HashMap, IsUnique, get},
+  List.AllByRecursion,
+  Ordering.int_eq,
+  Prelude.{Bool, IsTrue, List, None, Option, Some, false, fold, if◌then◌else◌, true, ℕ, ℤ, [], ◌&&◌, ◌==◌, ◌≡◌, ◌≢◌},
+  Str.bytes_eq,
+  String.string_bytes,
+  declared.hash.{BuildHasherDefault.BuildHasherDefault, FoldHasher.FoldHasher},
+}
+use base.Stored.{Coded-set}
+use mathlib.Core.{Bool.Bool-set, HLevel.{Π_prop, Π_set, ×_prop}}
+use Rattle.sqlite_trees.specs.contracts.store.Shape as shape_row
 use Rattle.pagable_file.specs.declared.rows.Naming.TheVariants as naming
 use Rattle.pagable_file.specs.declared.rows.Reading.TheVariants as reading
 
 -- the blobs that wait for a flush, by their places
-abbrev pub Waiting : Type 0
-Waiting = HashMap ℤ Pending (BuildHasherDefault FoldHasher)
+abbrev pub WaitingBlobs : Type 0
+WaitingBlobs = HashMap ℤ PendingBlob (BuildHasherDefault FoldHasher)
 
-abbrev pub blob_pending : Pending → Blob
+abbrev pub blob_pending : PendingBlob → Blob
 blob_pending it = blob_of (arc_value it.blob)
 
 -- its key and its child keys are numbers that keys can have
-abbrev pub Fits : Pending → Type 0
+abbrev pub Fits : PendingBlob → Type 0
 Fits it = CanBeKey it.key × AllByRecursion CanBeKey (blob_pending it).keys
 
 -- the blob under each key: what waits at the key's place hides what the table has
-abbrev pub before : ℕ → Option Pending → Option Blob → Option Blob
+abbrev pub before : ℕ → Option PendingBlob → Option Blob → Option Blob
 before key None below = below
 before key (Some it) below = if it.key == key then Some (blob_pending it) else None
 
-unfoldable pub stored_with : Waiting → List Row → ℕ → Option Blob
+unfoldable pub stored_with : WaitingBlobs → List Row → ℕ → Option Blob
 stored_with waiting rows key = before key (get int_eq waiting (rowid_of key)) (blobs_in rows key)
 
 -- the row of the blob that waits at a place
-abbrev pub pending_row : ℤ → Pending → Row
+abbrev pub pending_row : ℤ → PendingBlob → Row
 pending_row place it = blob_row place it.key (blob_pending it)
 
 -- the names that wait for a flush, by their places
@@ -48,9 +63,9 @@ before_root name (Some it) below = if bytes_eq (string_bytes it.name) name then 
 unfoldable pub roots_with : WaitingRoots → List Row → List ℕ → Option ℕ
 roots_with waiting rows name = before_root name (get int_eq waiting (rowid_of_name name)) (roots_in rows name)
 
-abbrev pub CanBeKeyIf : Option ℕ → Type 0
-CanBeKeyIf None = Unit {0}
-CanBeKeyIf (Some key) = CanBeKey key
+abbrev pub CanBeKeyIfSome : Option ℕ → Type 0
+CanBeKeyIfSome None = Unit {0}
+CanBeKeyIfSome (Some key) = CanBeKey key
 
 abbrev pub pending_root_row : ℤ → PendingRoot → Row
 pending_root_row place it = root_row place (string_bytes it.name) it.key
@@ -71,8 +86,8 @@ abbrev pub unless : Bool → (ℕ → Option Blob) → ℕ → Option Blob
 unless closed blobs = if closed then no_blobs else blobs
 
 -- No wrong answer of the disk was taken for true, and no fault of it has shut the file.
-abbrev pub is_sure : View → Bool
-is_sure v = v.is_clean && v.is_open
+abbrev pub is_honest_view : View → Bool
+is_honest_view v = v.is_clean && v.is_open
 
 -- the state between two calls: the two tables exist, and nothing is written that isn't committed
 pub record IsSettled (v : View) : Type 0 where
@@ -84,7 +99,7 @@ pub record IsSettled (v : View) : Type 0 where
   pub unmarked : v.marks ≡ []
 
 abbrev pub Settled : View → Type 0
-Settled v = IsTrue (is_sure v) → IsSettled v
+Settled v = IsTrue (is_honest_view v) → IsSettled v
 
 shape_set : IsSet Shape
 shape_set = Coded-set shape_row.the_row.coded
@@ -104,13 +119,13 @@ pub settled_prop : (v : View) → IsProp (Settled v)
 settled_prop v = Π_prop (λ _. IsSettled-prop v)
 
 -- each blob that waits has the key that it waits under
-abbrev pub AreKeyed : (Blob → ℕ) → Waiting → Type 0
-AreKeyed key_of waiting = (place : ℤ) (it : Pending) → get int_eq waiting place ≡ Some it → key_of (blob_pending it)
+abbrev pub AreKeyed : (Blob → ℕ) → WaitingBlobs → Type 0
+AreKeyed key_of waiting = (place : ℤ) (it : PendingBlob) → get int_eq waiting place ≡ Some it → key_of (blob_pending it)
     ≡ it.key
 
 -- a blob is added to those that wait, in the place of what waited at its key's place
-pub record Holds (key : ℕ) (blob : Blob) (old new : Waiting) : Type 0 where
-  pub it : Pending
+pub record Holds (key : ℕ) (blob : Blob) (old new : WaitingBlobs) : Type 0 where
+  pub it : PendingBlob
   pub own : it.key ≡ key
   pub content : blob_pending it ≡ blob
   pub each : (place : ℤ) → get int_eq new place ≡ (if int_eq (rowid_of key) place then Some it else get int_eq old
@@ -123,21 +138,21 @@ pub record Wrote (old new : View) (blobs roots : List Row) : Type 0 where
   pub roots_are : new.trees root_tree ≡ roots
 
 -- only cursors moved
-abbrev pub MovesOnly : View → View → Type 0
-MovesOnly old new = new ≡ record old { cursors = new.cursors }
+abbrev pub MovesOnlyCursors : View → View → Type 0
+MovesOnlyCursors old new = new ≡ record old { cursors = new.cursors }
 
 -- a call that changes nothing of what was committed, if the file is sure
-pub record StaysPut (old new : View) : Type 0 where
+pub record LeavesCommitted (old new : View) : Type 0 where
   pub settled : Settled old → Settled new
-  pub sure : IsTrue (is_sure new) → IsTrue (is_sure old)
-  pub same : IsTrue (is_sure new) → new.committed ≡ old.committed
+  pub sure : IsTrue (is_honest_view new) → IsTrue (is_honest_view old)
+  pub same : IsTrue (is_honest_view new) → new.committed ≡ old.committed
 
 -- a call that committed these rows of the two tables, if the file is sure
 pub record Saved (old new : View) (blobs roots : List Row) : Type 0 where
   pub settled : Settled old → Settled new
-  pub sure : IsTrue (is_sure new) → IsTrue (is_sure old)
-  pub blobs_are : IsTrue (is_sure new) → new.committed blob_tree ≡ blobs
-  pub roots_are : IsTrue (is_sure new) → new.committed root_tree ≡ roots
+  pub sure : IsTrue (is_honest_view new) → IsTrue (is_honest_view old)
+  pub blobs_are : IsTrue (is_honest_view new) → new.committed blob_tree ≡ blobs
+  pub roots_are : IsTrue (is_honest_view new) → new.committed root_tree ≡ roots
 
 -- what a row says of a key
 abbrev pub IsReading : ℕ → Row → Reading → Type 0
@@ -161,11 +176,11 @@ IsNamedAs rows name None = row_at rows (rowid_of_name name) ≡ None
 IsNamedAs rows name (Some it) = (row : Row) × (row_at rows (rowid_of_name name) ≡ Some row) × IsNaming name row it
 
 -- the two tables with all that waited
-pub record SavedAs (old : View) (waiting : Waiting) (roots : WaitingRoots) (db : Trees) : Type 0 where
+pub record SavedAs (old : View) (waiting : WaitingBlobs) (roots : WaitingRoots) (db : Trees) : Type 0 where
   pub blobs_are : db blob_tree ≡ put_all pending_row waiting.entries (old.trees blob_tree)
   pub roots_are : db root_tree ≡ put_all pending_root_row roots.entries (old.trees root_tree)
   pub fit : AllByRecursion (λ e. Fits e.1) waiting.entries
-  pub roots_fit : AllByRecursion (λ e. CanBeKeyIf e.1.key) roots.entries
+  pub roots_fit : AllByRecursion (λ e. CanBeKeyIfSome e.1.key) roots.entries
   pub once : IsUnique int_eq waiting
   pub roots_once : IsUnique int_eq roots
 
@@ -189,12 +204,12 @@ RefusesRead found key before after (Error.Storage code) = HasFailed before after
 RefusesRead found key before after _ = ⊥
 
 -- what waits at a key's place is another key's, or memory runs out
-abbrev pub IsNotHeld : ℕ → ℕ → Error → Type 0
-IsNotHeld held key (Error.NoData k) = (k ≡ key) × (held ≢ key)
-IsNotHeld held key Error.OutOfMemory = Unit {0}
-IsNotHeld held key _ = ⊥
+abbrev pub RefusesOtherKey : ℕ → ℕ → Error → Type 0
+RefusesOtherKey held key (Error.NoData k) = (k ≡ key) × (held ≢ key)
+RefusesOtherKey held key Error.OutOfMemory = Unit {0}
+RefusesOtherKey held key _ = ⊥
 
-abbrev pub RefusesHeld : Pending → ℕ → Blob → ℕ → ℕ → Error → Type 0
+abbrev pub RefusesHeld : PendingBlob → ℕ → Blob → ℕ → ℕ → Error → Type 0
 RefusesHeld held key blob before after Error.KeyTaken = (held.key ≡ key) × (blob_pending held ≢ blob)
 RefusesHeld held key blob before after (Error.Storage code) = HasFailed before after
 RefusesHeld held key blob before after _ = ⊥
@@ -216,21 +231,21 @@ pub record TablesCreated (old new : View) : Type 0 where
   pub no_roots_there : new.committed root_tree ≡ []
 
 -- the two tables exist, and have the rows that they had
-pub record Finds (old new : View) : Type 0 where
+pub record FindsTables (old new : View) : Type 0 where
   pub settled : Settled new
-  pub sure : IsTrue (is_sure new) → IsTrue (is_sure old)
-  pub blobs_are : IsTrue (is_sure new) → new.committed blob_tree ≡ old.committed blob_tree
-  pub roots_are : IsTrue (is_sure new) → new.committed root_tree ≡ old.committed root_tree
+  pub sure : IsTrue (is_honest_view new) → IsTrue (is_honest_view old)
+  pub blobs_are : IsTrue (is_honest_view new) → new.committed blob_tree ≡ old.committed blob_tree
+  pub roots_are : IsTrue (is_honest_view new) → new.committed root_tree ≡ old.committed root_tree
 
 -- the key that each name stands for, unless the storage was closed
 abbrev pub roots_unless : Bool → (List ℕ → Option ℕ) → List ℕ → Option ℕ
 roots_unless closed roots = if closed then no_roots else roots
 
 -- no other name has this name's place, by what waits there, or else by the row there
-abbrev pub HasPlace : List ℕ → Option PendingRoot → Option Row → Type 0
-HasPlace name (Some it) below = bytes_eq (string_bytes it.name) name ≡ true
-HasPlace name None None = Unit {0}
-HasPlace name None (Some row) = bytes_eq (bytes (column row 2)) name ≡ true
+abbrev pub HasNoOtherName : List ℕ → Option PendingRoot → Option Row → Type 0
+HasNoOtherName name (Some it) below = bytes_eq (string_bytes it.name) name ≡ true
+HasNoOtherName name None None = Unit {0}
+HasNoOtherName name None (Some row) = bytes_eq (bytes (column row 2)) name ≡ true
 
 -- a name is added to those that wait, in the place of what waited at its place
 pub record HoldsRoot (name : List ℕ) (key : Option ℕ) (old new : WaitingRoots) : Type 0 where

@@ -1,23 +1,27 @@
 -- What a copy of one storage's blobs into another contains.
-use Rattle.std.specs.Prelude.{◌≡◌, ℕ, List, [], ◌∷◌, Option, Some, IsSome, nat_eq}
-use Rattle.std.specs.{HashMap.{HashMap, get}, List.{AllByRecursion, Contains}, declared.hash.{BuildHasherDefault.BuildHasherDefault, FoldHasher.FoldHasher}}
 use Rattle.pagable_value_spec.specs.Blob.{Blob}
+use Rattle.std.specs.{
+  HashMap.{HashMap, get},
+  List.{AllByRecursion, Contains},
+  Prelude.{IsSome, List, Option, Some, nat_eq, ℕ, [], ◌∷◌, ◌≡◌},
+  declared.hash.{BuildHasherDefault.BuildHasherDefault, FoldHasher.FoldHasher},
+}
 
 -- the keys that were copied
-abbrev pub CopiedKeys : Type 0
-CopiedKeys = HashMap ℕ (Unit {0}) (BuildHasherDefault FoldHasher)
+abbrev pub KeySet : Type 0
+KeySet = HashMap ℕ (Unit {0}) (BuildHasherDefault FoldHasher)
 
-abbrev pub HasCopied : CopiedKeys → ℕ → Type 0
+abbrev pub HasCopied : KeySet → ℕ → Type 0
 HasCopied copied key = IsSome (get nat_eq copied key)
 
 -- both storages have the same blob under the key, and its children were copied
-pub record IsCopied (from to : ℕ → Option Blob) (copied : CopiedKeys) (key : ℕ) : Type 0 where
+pub record IsCopied (from to : ℕ → Option Blob) (copied : KeySet) (key : ℕ) : Type 0 where
   pub blob : Blob
   pub there : from key ≡ Some blob
   pub stored : to key ≡ Some blob
   pub children : AllByRecursion (HasCopied copied) blob.keys
 
-abbrev pub AreCopied : (ℕ → Option Blob) → (ℕ → Option Blob) → CopiedKeys → Type 0
+abbrev pub AreCopied : (ℕ → Option Blob) → (ℕ → Option Blob) → KeySet → Type 0
 AreCopied from to copied = (key : ℕ) → HasCopied copied key → IsCopied from to copied key
 
 -- each key of a path is a child of the one before it
@@ -40,8 +44,8 @@ abbrev pub IsInBoth : (ℕ → Option Blob) → (ℕ → Option Blob) → ℕ �
 IsInBoth from to key = (blob : Blob) × (from key ≡ Some blob) × (to key ≡ Some blob)
 
 -- a name stands for the wanted key, if there is one, and that was copied
-abbrev pub Matches : CopiedKeys → (List ℕ → Option ℕ) → (List ℕ → Option ℕ) → List ℕ → Type 0
-Matches copied wanted roots name = (root : ℕ) → wanted name ≡ Some root → (roots name ≡ Some root)
+abbrev pub HasWantedRoot : KeySet → (List ℕ → Option ℕ) → (List ℕ → Option ℕ) → List ℕ → Type 0
+HasWantedRoot copied wanted roots name = (root : ℕ) → wanted name ≡ Some root → (roots name ≡ Some root)
     × HasCopied copied root
 
 -- a name stands for the same key in both, and both have the same blobs under all keys that this one reaches

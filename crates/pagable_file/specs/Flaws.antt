@@ -1,11 +1,18 @@
 -- The flaws of a file of blobs.
-use Rattle.std.specs.Prelude.{◌≡◌, ◌≢◌, ℕ, ℤ, List, String, [], Option, Some, None, IsSome, option_map, if◌then◌else◌}
-use Rattle.std.specs.declared.alloc.Global.{Global}
-use Rattle.std.specs.{List.{AllByRecursion, Contains}, Ordering.int_eq, Str.IsUtf8, String.string_bytes}
-use Rattle.sqlite_value.specs.Order.{Row, bytes, column}
+use Rattle.pagable_file.specs.{
+  Rows.{blob_in, blobs_in, key_in, roots_in, row_at, rowid_of, rowid_of_name},
+  declared.fsck.Flaw.Flaw,
+}
 use Rattle.pagable_value_spec.specs.Blob.{Blob}
-use Rattle.pagable_file.specs.Rows.{blob_in, blobs_in, key_in, rowid_of, rowid_of_name, roots_in, row_at}
-use Rattle.pagable_file.specs.declared.fsck.Flaw.{Flaw}
+use Rattle.sqlite_value.specs.Order.{Row, bytes, column}
+use Rattle.std.specs.{
+  List.{AllByRecursion, Contains},
+  Ordering.int_eq,
+  Prelude.{IsSome, List, None, Option, Some, String, if◌then◌else◌, option_map, ℕ, ℤ, [], ◌≡◌, ◌≢◌},
+  Str.IsUtf8,
+  String.string_bytes,
+  declared.alloc.Global.Global,
+}
 use Rattle.pagable_file.specs.declared.fsck.Flaw.TheVariants as flaw
 
 abbrev pub keyed : ℕ → Blob → ℕ × Blob
@@ -59,7 +66,7 @@ IsNameAt place row (Some name) = (string_bytes name ≡ bytes (column row 2))
     × (rowid_of_name (string_bytes name) ≡ place)
 
 -- the flaws that a test added are flaws; if there are none at all, this holds
-pub record FindsFlaws (P : Flaw → Type 0) (old new : List Flaw) (Q : Type 0) : Type 0 where
+pub record AddsFlawsUnless (P : Flaw → Type 0) (old new : List Flaw) (Q : Type 0) : Type 0 where
   pub real : AllByRecursion P old → AllByRecursion P new
   pub clear : new ≡ [] → (old ≡ []) × Q
 

@@ -1,10 +1,14 @@
 -- Which names a list of names has.
-use Rattle.std.specs.Prelude.{◌≡◌, ℕ, ℤ, List, None, IsSome, IsTrue, String, string_bytes, true}
-use Rattle.std.specs.{HashMap.get, Ordering.int_eq, Str.IsUtf8}
-use Rattle.sqlite_trees.specs.Tree.{has_rowid}
-use Rattle.sqlite_value.specs.Order.{Row, bytes, column}
 use Rattle.pagable_core.specs.Roots.{is_among}
 use Rattle.pagable_file.specs.{Blobs.WaitingRoots, declared.pending.PendingRoot.PendingRoot}
+use Rattle.sqlite_trees.specs.Tree.{has_rowid}
+use Rattle.sqlite_value.specs.Order.{Row, bytes, column}
+use Rattle.std.specs.{
+  HashMap.get,
+  Ordering.int_eq,
+  Prelude.{IsSome, IsTrue, List, None, String, string_bytes, true, ℕ, ℤ, ◌≡◌},
+  Str.IsUtf8,
+}
 
 -- each name that was there still is
 abbrev pub KeepsNames : {A : Type 0} → List (String A) → List (String A) → Type 0

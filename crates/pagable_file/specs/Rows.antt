@@ -1,10 +1,18 @@
 -- The rows of blobs and roots in the two tables.
-use Rattle.std.specs.Prelude.{ℕ, ℤ, pos, suc, zero, ◌%◌, ◌/◌, ◌^◌, ◌<◌, ◌==◌, ◌&&◌, Bool, false, not, if◌then◌else◌, List, [], ◌∷◌, length, take, drop, filter, Option, Some, None, option_map, slice_get}
-use Rattle.std.specs.{Int.{w64, w128, to_le_bytes, from_le_bytes}, List.flat_map, Str.bytes_eq}
-use Rattle.sqlite_value.specs.{declared.value.Value.TheVariants.{Null, Int, Text, Blob as Bytes}, Order.{Row, column, bytes}}
-use Rattle.sqlite_trees.specs.Tree.{has_rowid}
 use Rattle.pagable_value_spec.specs.Blob.{Blob}
 use Rattle.sha2.specs.Sha256.{sha256}
+use Rattle.sqlite_trees.specs.Tree.{has_rowid}
+use Rattle.sqlite_value.specs.{
+  Order.{Row, bytes, column},
+  declared.value.Value.TheVariants.{Blob as Bytes, Int, Null, Text},
+}
+use Rattle.std.specs.{
+  Int.{from_le_bytes, to_le_bytes, w128, w64},
+  List.flat_map,
+  Prelude.{Bool, List, None, Option, Some, drop, false, filter, if◌then◌else◌, length, not, option_map, pos, slice_get},
+  Prelude.{suc, take, zero, ℕ, ℤ, [], ◌%◌, ◌&&◌, ◌/◌, ◌<◌, ◌==◌, ◌^◌, ◌∷◌},
+  Str.bytes_eq,
+}
 
 abbrev pub blob_tree : ℕ
 blob_tree = 0

@@ -1,8 +1,13 @@
 //! The copy of all that roots reach, from one storage into another.
 
-ghost use Rattle.std.specs.{List.AllByRecursion, Prelude.{◌≡◌, IfOk, IsTrue, ℕ, List, OnOk, Option, Some, map}, String.string_bytes};
-ghost use Rattle.{pagable_core.specs.Data.blob_of, pagable_value_spec.specs.{Blob.{key_of}, Stored.Keeps}};
-ghost use Rattle.pagable_file.specs.Copies.{AreCopied, HasCopied, IsCopiedRoot, Matches};
+ghost use Rattle.pagable_core.specs.Data.{blob_of};
+ghost use Rattle.pagable_file.specs.Copies.{AreCopied, HasCopied, HasWantedRoot, IsCopiedRoot};
+ghost use Rattle.pagable_value_spec.specs.{Blob.key_of, Stored.Keeps};
+ghost use Rattle.std.specs.{
+  List.AllByRecursion,
+  Prelude.{IfOk, IsTrue, List, OnOk, Option, Some, map, ℕ, ◌≡◌},
+  String.string_bytes,
+};
 
 use crate::watch::Watch;
 use pagable_codec::Env;
@@ -15,20 +20,20 @@ use std::collections::HashMap;
 const BATCH: usize = 1_000;
 
 /// The keys whose blobs were copied with all that they reach.
-pub type CopiedKeys = HashMap<DataKey, ()>;
+pub type KeySet = HashMap<DataKey, ()>;
 
 /// A task of the copy. It copies a blob's children before the blob itself.
 #[derive(Drop)]
-enum Visit {
+enum CopyTask {
     /// Plan the copy of the key's children, and then of its blob.
-    Enter(DataKey),
+    Plan(DataKey),
     /// Copy the key's blob; its children were copied.
-    Leave(DataKey),
+    Copy(DataKey),
 }
 
 /// Tests that each child was copied. Fails with `TooDeep` if one wasn't, which happens only if
 /// references make a ring.
-fn test_children(copied: &CopiedKeys, children: &[DataKey]) -> Result<(), Error>
+fn test_children(copied: &KeySet, children: &[DataKey]) -> Result<(), Error>
     ensures { OnOk result (AllByRecursion (HasCopied copied.now) children.now) }
 {
     for child in children {
@@ -62,7 +67,7 @@ fn copy_blob<E: Env, S: PagableStorage<E>, T: PagableStorage<E>>(
     alloc: Global,
     from: &mut S,
     to: &mut T,
-    copied: &mut CopiedKeys,
+    copied: &mut KeySet,
     key: DataKey,
 ) -> Result<(), Error>
     ensures copied { IsTrue (S.is_honest from.new) → IsTrue (T.is_honest to.new)
@@ -81,11 +86,11 @@ fn copy_blob<E: Env, S: PagableStorage<E>, T: PagableStorage<E>>(
 }
 
 /// Plans the copy of a key's children and then of its blob, unless the key was seen before.
-fn enter<E: Env, S: PagableStorage<E>>(
+fn plan_copy<E: Env, S: PagableStorage<E>>(
     alloc: Global,
     from: &mut S,
-    seen: &mut CopiedKeys,
-    due: &mut Vec<Visit>,
+    seen: &mut KeySet,
+    due: &mut Vec<CopyTask>,
     key: DataKey,
 ) -> Result<(), Error>
     ensures same { IsTrue (S.is_honest from.new) → S.stored from.new ≡ S.stored from.old }
@@ -95,14 +100,14 @@ fn enter<E: Env, S: PagableStorage<E>>(
         return Ok(());
     }
     let blob = from.fetch_data_blocking(alloc, key)?;
-    due.push(Visit::Leave(key))?;
+    due.push(CopyTask::Copy(key))?;
     push_children(due, blob.arcs.as_slice())
 }
 
-/// Pushes a task that enters each of these keys.
-fn push_children(due: &mut Vec<Visit>, children: &[DataKey]) -> Result<(), Error> {
+/// Pushes a task for each of these keys that plans its copy.
+fn push_children(due: &mut Vec<CopyTask>, children: &[DataKey]) -> Result<(), Error> {
     for child in children {
-        due.push(Visit::Enter(*child))?;
+        due.push(CopyTask::Plan(*child))?;
     }
     Ok(())
 }
@@ -118,16 +123,17 @@ fn flush_batch<E: Env, T: PagableStorage<E>>(to: &mut T, count: usize) -> Result
     Ok(())
 }
 
-/// Performs one task.
+/// Performs one task of the copy: plans the copy of a blob and its children, or copies a blob,
+/// reports it to `watch`, and flushes after each `BATCH` blobs.
 #[tactic(auto, using(crate::proofs::Copying::copying))]
-fn make_visit<E: Env, S: PagableStorage<E>, T: PagableStorage<E>, W: Watch>(
+fn perform_task<E: Env, S: PagableStorage<E>, T: PagableStorage<E>, W: Watch>(
     alloc: Global,
     from: &mut S,
     to: &mut T,
-    seen: &mut CopiedKeys,
-    copied: &mut CopiedKeys,
-    due: &mut Vec<Visit>,
-    next: Visit,
+    seen: &mut KeySet,
+    copied: &mut KeySet,
+    due: &mut Vec<CopyTask>,
+    next: CopyTask,
     watch: &mut W,
 ) -> Result<(), Error>
     ensures copied { IsTrue (S.is_honest from.new) → IsTrue (T.is_honest to.new)
@@ -139,11 +145,11 @@ fn make_visit<E: Env, S: PagableStorage<E>, T: PagableStorage<E>, W: Watch>(
     ensures honest_copy { IsTrue (T.is_honest to.new) → IsTrue (T.is_honest to.old) }
 {
     match next {
-        Visit::Enter(key) => {
-            enter::<E, S>(alloc, from, seen, due, key)?;
+        CopyTask::Plan(key) => {
+            plan_copy::<E, S>(alloc, from, seen, due, key)?;
             Ok(())
         }
-        Visit::Leave(key) => {
+        CopyTask::Copy(key) => {
             copy_blob::<E, S, T>(alloc, from, to, copied, key)?;
             watch.note();
             flush_batch::<E, T>(to, copied.len())?;
@@ -158,9 +164,9 @@ fn copy_reached<E: Env, S: PagableStorage<E>, T: PagableStorage<E>, W: Watch>(
     alloc: Global,
     from: &mut S,
     to: &mut T,
-    keys: Vec<Visit>,
+    keys: Vec<CopyTask>,
     watch: &mut W,
-) -> Result<CopiedKeys, Error>
+) -> Result<KeySet, Error>
     ensures copied { IsTrue (S.is_honest from.new) → IsTrue (T.is_honest to.new)
         → IfOk result (AreCopied (S.stored from.old) (T.stored to.new)) }
     ensures same { IsTrue (S.is_honest from.new) → S.stored from.new ≡ S.stored from.old }
@@ -175,7 +181,7 @@ fn copy_reached<E: Env, S: PagableStorage<E>, T: PagableStorage<E>, W: Watch>(
         let Some(next) = due.pop() else {
             break;
         };
-        make_visit::<E, S, T, W>(
+        perform_task::<E, S, T, W>(
             alloc,
             from,
             to,
@@ -209,12 +215,12 @@ fn read_roots<E: Env, S: Roots<E>>(
     Ok(keys)
 }
 
-/// Makes a list of tasks that enter these keys.
-fn begin(alloc: Global, keys: &[Option<DataKey>]) -> Result<Vec<Visit>, Error> {
+/// Returns a task for each of these keys that plans its copy.
+fn first_tasks(alloc: Global, keys: &[Option<DataKey>]) -> Result<Vec<CopyTask>, Error> {
     let mut due = Vec::new(alloc);
     for key in keys {
         if let Some(key) = key {
-            due.push(Visit::Enter(*key))?;
+            due.push(CopyTask::Plan(*key))?;
         }
     }
     Ok(due)
@@ -222,18 +228,18 @@ fn begin(alloc: Global, keys: &[Option<DataKey>]) -> Result<Vec<Visit>, Error> {
 
 /// Sets the root of `name` to `key`, if given. Fails with `NoData` if its blob wasn't copied.
 #[tactic(auto, using(crate::proofs::Copying::naming))]
-fn set_copied<E: Env, T: Roots<E>>(
+fn set_copied_root<E: Env, T: Roots<E>>(
     alloc: Global,
     to: &mut T,
-    copied: &CopiedKeys,
+    copied: &KeySet,
     name: &str,
     key: Option<DataKey>,
 ) -> Result<(), Error>
     ensures set { IsTrue (T.PagableStorage.is_honest to.new) → (wanted : List ℕ → Option ℕ) → key ≡ wanted name.now
-        → OnOk result (Matches copied.now wanted (T.Roots.roots to.new) name.now) }
+        → OnOk result (HasWantedRoot copied.now wanted (T.Roots.roots to.new) name.now) }
     ensures others { IsTrue (T.PagableStorage.is_honest to.new) → (wanted : List ℕ → Option ℕ) → key ≡ wanted name.now
-        → OnOk result ((q : List ℕ) → Matches copied.now wanted (T.Roots.roots to.old) q
-        → Matches copied.now wanted (T.Roots.roots to.new) q) }
+        → OnOk result ((q : List ℕ) → HasWantedRoot copied.now wanted (T.Roots.roots to.old) q
+        → HasWantedRoot copied.now wanted (T.Roots.roots to.new) q) }
     ensures same { IsTrue (T.PagableStorage.is_honest to.new) → T.PagableStorage.stored to.new
         ≡ T.PagableStorage.stored to.old }
     ensures honest { IsTrue (T.PagableStorage.is_honest to.new) → IsTrue (T.PagableStorage.is_honest to.old) }
@@ -248,25 +254,26 @@ fn set_copied<E: Env, T: Roots<E>>(
     Ok(())
 }
 
-/// Sets the root of each name to its key in `keys`, if it has one, as `set_copied` does.
+/// Sets the root of each name to its key in `keys`, if it has one, as `set_copied_root` does.
 #[tactic(auto, using(crate::proofs::Copying::naming))]
-fn set_all<E: Env, T: Roots<E>>(
+fn set_roots<E: Env, T: Roots<E>>(
     alloc: Global,
     to: &mut T,
-    copied: &CopiedKeys,
+    copied: &KeySet,
     names: &[String],
     keys: &[Option<DataKey>],
 ) -> Result<(), Error>
     ensures set { IsTrue (T.PagableStorage.is_honest to.new) → (wanted : List ℕ → Option ℕ) → keys.now
         ≡ map (λ name. wanted (string_bytes name)) names.now
-        → OnOk result (AllByRecursion (λ name. Matches copied.now wanted (T.Roots.roots to.new) (string_bytes name))
+        → OnOk result (AllByRecursion (λ name. HasWantedRoot copied.now wanted (T.Roots.roots to.new)
+        (string_bytes name))
         names.now) }
     ensures same { IsTrue (T.PagableStorage.is_honest to.new) → T.PagableStorage.stored to.new
         ≡ T.PagableStorage.stored to.old }
     ensures honest { IsTrue (T.PagableStorage.is_honest to.new) → IsTrue (T.PagableStorage.is_honest to.old) }
 {
     for at in 0..names.len().min(keys.len()) {
-        set_copied::<E, T>(alloc, to, copied, names[at].as_str(), keys[at])?;
+        set_copied_root::<E, T>(alloc, to, copied, names[at].as_str(), keys[at])?;
     }
     Ok(())
 }
@@ -301,8 +308,8 @@ pub fn copy<E: Env, S: Roots<E>, T: Roots<E>, W: Watch>(
     ensures honest_copy { IsTrue (T.PagableStorage.is_honest to.new) → IsTrue (T.PagableStorage.is_honest to.old) }
 {
     let keys = read_roots::<E, S>(alloc, from, names)?;
-    let due = begin(alloc, keys.as_slice())?;
+    let due = first_tasks(alloc, keys.as_slice())?;
     let copied = copy_reached::<E, S, T, W>(alloc, from, to, due, watch)?;
-    set_all::<E, T>(alloc, to, &copied, names, keys.as_slice())?;
+    set_roots::<E, T>(alloc, to, &copied, names, keys.as_slice())?;
     Ok(copied.len())
 }

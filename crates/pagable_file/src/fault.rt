@@ -16,7 +16,7 @@ pub enum Fault {
     Shut,
     /// The blob is longer than a row of a table may be: a billion bytes.
     TooLong,
-    /// Another key or name has the place of this one.
+    /// Another key or name has the rowid that the given key or name needs.
     PlaceTaken,
 }
 

@@ -1,19 +1,28 @@
 //! A storage of blobs in a file.
 
-ghost use Rattle.std.specs.{Arc.arc_value, Prelude.{◌≡◌, ◌≤◌, ◌⊎◌, [], false, is_some, IfErr, IfOk, IsTrue, OnOk, Some}};
-ghost use Rattle.{sqlite.specs.Held.state, sqlite_trees.specs.{Tree.Trees, View.IsClean}};
-ghost use Rattle.{pagable_core.specs.Data.blob_of, pagable_value_spec.specs.{Blob.key_of, Stored.IsMemoryOrFailure}};
-ghost use Rattle.pagable_file.specs.{Blobs.{AreKeyed, HasBlob, IsNotHeld, RefusesFound, RefusesHeld, RefusesRead, Settled, blob_pending, is_sure, roots_with, settled_prop, stored_with, unless}, Rows.{blob_tree, blobs_in, root_tree, roots_in}};
+ghost use Rattle.pagable_core.specs.Data.{blob_of};
+ghost use Rattle.pagable_file.specs.{
+  Blobs.{AreKeyed, HasBlob, RefusesFound, RefusesHeld, RefusesOtherKey, RefusesRead, Settled, blob_pending},
+  Blobs.{is_honest_view, roots_with, settled_prop, stored_with, unless},
+  Rows.{blob_tree, blobs_in, root_tree, roots_in},
+};
+ghost use Rattle.pagable_value_spec.specs.{Blob.key_of, Stored.IsMemoryOrFailure};
+ghost use Rattle.sqlite.specs.Held.{state};
+ghost use Rattle.sqlite_trees.specs.{Tree.Trees, View.IsClean};
+ghost use Rattle.std.specs.{
+  Arc.arc_value,
+  Prelude.{IfErr, IfOk, IsTrue, OnOk, Some, false, is_some, [], ◌≡◌, ◌≤◌, ◌⊎◌},
+};
 
 use crate::fault::Fault;
 use crate::lookup::read;
-use crate::naming::has;
+use crate::naming::has_blob;
 use crate::open_error::OpenError;
-use crate::pending::{Pending, Waiting, WaitingRoots, add_waiting, is_same, waiting_at};
+use crate::pending::{PendingBlob, WaitingBlobs, WaitingRoots, add_waiting, is_same, waiting_at};
 use crate::rows::Reading;
 use crate::saving::save;
-use crate::stats::{Stats, fail, refuse};
-use crate::tables::prepare;
+use crate::stats::{Stats, count_failure, count_store_error};
+use crate::tables::prepare_tables;
 use futures::task::{Context, Poll};
 use pagable_codec::Env;
 use pagable_core::{PagableData, PagableStorage};
@@ -31,7 +40,7 @@ use std::sync::Arc;
 #[derive(Drop)]
 pub struct FileBlobs<E: Env, S: Store> {
     pub(crate) store: S,
-    pub(crate) waiting: Waiting,
+    pub(crate) waiting: WaitingBlobs,
     pub(crate) waiting_roots: WaitingRoots,
     pub(crate) row: Row,
     bytes: Vec<u8>,
@@ -76,17 +85,17 @@ impl<E: Env, S: Alter + Drop> FileBlobs<E, S> {
     #[tactic(auto, using(crate::proofs::Fetching::none_keyed))]
     pub fn over(alloc: Global, conn: Connection<S>) -> Result<FileBlobs<E, S>, OpenError>
         ensures open { IfOk result (λ blobs. blobs.closed ≡ false) }
-        ensures clean { IfOk result (λ blobs. IsTrue (is_sure (S.Store.view blobs.store))
+        ensures clean { IfOk result (λ blobs. IsTrue (is_honest_view (S.Store.view blobs.store))
             → IsClean (S.Store.view conn.store)) }
         ensures nothing_waits { IfOk result (λ blobs. (blobs.waiting.entries ≡ [])
             × (blobs.waiting_roots.entries ≡ [])) }
-        ensures blobs { IfOk result (λ blobs. IsTrue (is_sure (S.Store.view blobs.store))
+        ensures blobs { IfOk result (λ blobs. IsTrue (is_honest_view (S.Store.view blobs.store))
             → (S.Store.view blobs.store).committed blob_tree ≡ (state S.Store conn).committed.trees blob_tree) }
-        ensures roots { IfOk result (λ blobs. IsTrue (is_sure (S.Store.view blobs.store))
+        ensures roots { IfOk result (λ blobs. IsTrue (is_honest_view (S.Store.view blobs.store))
             → (S.Store.view blobs.store).committed root_tree ≡ (state S.Store conn).committed.trees root_tree) }
     {
         let mut store = conn.into_store();
-        prepare(alloc, &mut store)?;
+        prepare_tables(alloc, &mut store)?;
         Ok(FileBlobs {
             store,
             waiting: HashMap::new(alloc),
@@ -117,21 +126,22 @@ impl<E: Env, S: Store> FileBlobs<E, S> {
     /// - `Storage` only if the call raised the count of failures.
     #[tactic(auto, using(crate::proofs::Named::roots_named))]
     pub fn contains(&mut self, alloc: Global, key: DataKey) -> Result<bool, Error>
-        ensures ok { IsTrue (is_sure (S.view self.new.store))
+        ensures ok { IsTrue (is_honest_view (S.view self.new.store))
             → IfOk result (λ there. there ≡ is_some (unless self.old.closed
             (stored_with self.old.waiting ((S.view self.old.store).committed blob_tree)) key)) }
-        ensures same { IsTrue (is_sure (S.view self.new.store))
+        ensures same { IsTrue (is_honest_view (S.view self.new.store))
             → unless self.new.closed (stored_with self.new.waiting ((S.view self.new.store).committed blob_tree))
             ≡ unless self.old.closed (stored_with self.old.waiting ((S.view self.old.store).committed blob_tree)) }
-        ensures sure { IsTrue (is_sure (S.view self.new.store)) → IsTrue (is_sure (S.view self.old.store)) }
+        ensures sure { IsTrue (is_honest_view (S.view self.new.store))
+            → IsTrue (is_honest_view (S.view self.old.store)) }
         ensures only { IfErr result (IsMemoryOrFailure self.old.stats.failures self.new.stats.failures) }
-        ensures later { self.old.stats.failures ≤ self.new.stats.failures }
+        ensures failures_never_fall { self.old.stats.failures ≤ self.new.stats.failures }
         ensures open { self.new.closed ≡ self.old.closed }
     {
         if self.closed {
             return Ok(false);
         }
-        let there = has(
+        let there = has_blob(
             alloc,
             &mut self.store,
             &mut self.row,
@@ -158,24 +168,26 @@ impl<E: Env, S: Store> FileBlobs<E, S> {
     /// - `Storage` only if the call raised the count of failures.
     #[tactic(auto, using(crate::proofs::Committing::committing, crate::proofs::Fetching::none_keyed))]
     pub fn commit(&mut self) -> Result<(), Error>
-        ensures blobs { IsTrue (is_sure (S.view self.new.store))
+        ensures blobs { IsTrue (is_honest_view (S.view self.new.store))
             → OnOk result (blobs_in ((S.view self.new.store).committed blob_tree)
             ≡ stored_with self.old.waiting ((S.view self.old.store).committed blob_tree)) }
-        ensures roots { IsTrue (is_sure (S.view self.new.store))
+        ensures roots { IsTrue (is_honest_view (S.view self.new.store))
             → OnOk result (roots_in ((S.view self.new.store).committed root_tree)
             ≡ roots_with self.old.waiting_roots ((S.view self.old.store).committed root_tree)) }
-        ensures stored { IsTrue (is_sure (S.view self.new.store))
+        ensures stored { IsTrue (is_honest_view (S.view self.new.store))
             → stored_with self.new.waiting ((S.view self.new.store).committed blob_tree)
             ≡ stored_with self.old.waiting ((S.view self.old.store).committed blob_tree) }
-        ensures roots_stay { IsTrue (is_sure (S.view self.new.store))
+        ensures roots_stay { IsTrue (is_honest_view (S.view self.new.store))
             → roots_with self.new.waiting_roots ((S.view self.new.store).committed root_tree)
             ≡ roots_with self.old.waiting_roots ((S.view self.old.store).committed root_tree) }
         ensures nothing_waits { OnOk result ((self.new.waiting.entries ≡ []) × (self.new.waiting_roots.entries ≡ [])) }
-        ensures sure { IsTrue (is_sure (S.view self.new.store)) → IsTrue (is_sure (S.view self.old.store)) }
+        ensures sure { IsTrue (is_honest_view (S.view self.new.store))
+            → IsTrue (is_honest_view (S.view self.old.store)) }
         ensures only { IfErr result (IsMemoryOrFailure self.old.stats.failures self.new.stats.failures) }
-        ensures later { self.old.stats.failures ≤ self.new.stats.failures }
+        ensures failures_never_fall { self.old.stats.failures ≤ self.new.stats.failures }
         ensures open { self.new.closed ≡ self.old.closed }
-        ensures crash { IsTrue (is_sure (S.view self.old.store)) → IsClean (S.view self.new.store) → (db : Trees)
+        // A crash leaves all that waited, blobs and names, or what a crash before the call could leave.
+        ensures crash { IsTrue (is_honest_view (S.view self.old.store)) → IsClean (S.view self.new.store) → (db : Trees)
             → S.recovers self.new.store db
             → (blobs_in (db blob_tree) ≡ stored_with self.old.waiting ((S.view self.old.store).committed blob_tree))
             × (roots_in (db root_tree) ≡ roots_with self.old.waiting_roots
@@ -195,7 +207,7 @@ impl<E: Env, S: Store> FileBlobs<E, S> {
                 self.stats.flushes = self.stats.flushes.saturating_add(1);
                 Ok(())
             }
-            Err(error) => Err(refuse(&mut self.stats, error)),
+            Err(error) => Err(count_store_error(&mut self.stats, error)),
         }
     }
 
@@ -214,7 +226,7 @@ impl<E: Env, S: Store> PagableStorage<E> for FileBlobs<E, S> {
 
     ghost is_closed = { λ s. s.closed };
 
-    ghost is_honest = { λ s. is_sure (S.view s.store) };
+    ghost is_honest = { λ s. is_honest_view (S.view s.store) };
 
     ghost failed = { λ s. s.stats.failures };
 
@@ -233,7 +245,7 @@ impl<E: Env, S: Store> PagableStorage<E> for FileBlobs<E, S> {
         }
         match read(alloc, &mut self.store, &mut self.row, key) {
             Ok(found) => test_fetched::<E>(alloc, &mut self.stats, key, found),
-            Err(error) => Err(refuse(&mut self.stats, error)),
+            Err(error) => Err(count_store_error(&mut self.stats, error)),
         }
     }
 
@@ -262,7 +274,7 @@ impl<E: Env, S: Store> PagableStorage<E> for FileBlobs<E, S> {
                 test_found(&mut self.stats, &found, &blob)?;
                 return Ok(key);
             }
-            Err(error) => return Err(refuse(&mut self.stats, error)),
+            Err(error) => return Err(count_store_error(&mut self.stats, error)),
         }
         let blob = Arc::new(alloc, blob)?;
         add_waiting(&mut self.waiting, key, blob)?;
@@ -296,9 +308,9 @@ impl<E: Env, S: Store> PagableStorage<E> for FileBlobs<E, S> {
 /// Returns one more `Arc` of the blob in `held`, the entry that waits for a flush at the rowid of
 /// `key`. Fails with `NoData` if the entry is another key's, and with `OutOfMemory` if the blob
 /// can't be shared once more.
-fn held_blob(held: &Pending, key: DataKey) -> Result<Arc<PagableData>, Error>
+fn held_blob(held: &PendingBlob, key: DataKey) -> Result<Arc<PagableData>, Error>
     ensures ok { IfOk result (λ blob. (blob_of (arc_value blob) ≡ blob_pending held.now) × (held.now.key ≡ key)) }
-    ensures only { IfErr result (IsNotHeld held.now.key key) }
+    ensures only { IfErr result (RefusesOtherKey held.now.key key) }
 {
     if held.key != key {
         return Err(Error::NoData(key));
@@ -318,14 +330,14 @@ fn test_fetched<E: Env>(
     ensures ok { IfOk result (λ blob. HasBlob found (blob_of (arc_value blob))) }
     ensures named { IfOk result (λ blob. key_of E.Hash.digest (blob_of (arc_value blob)) ≡ key) }
     ensures only { IfErr result (RefusesRead found key stats.old.failures stats.new.failures) }
-    ensures later { stats.old.failures ≤ stats.new.failures }
+    ensures failures_never_fall { stats.old.failures ≤ stats.new.failures }
 {
     match found {
         None | Some(Reading::Other) => Err(Error::NoData(key)),
-        Some(Reading::Damaged) => Err(fail(stats, Fault::Damaged)),
+        Some(Reading::Damaged) => Err(count_failure(stats, Fault::Damaged)),
         Some(Reading::Blob(blob)) => {
             if blob.compute_key::<E::Hash>() != key {
-                return Err(fail(stats, Fault::Damaged));
+                return Err(count_failure(stats, Fault::Damaged));
             }
             count_fetch(stats, blob.bytes.len());
             Ok(Arc::new(alloc, blob)?)
@@ -341,43 +353,44 @@ fn count_fetch(stats: &mut Stats, bytes: usize)
     stats.fetched_bytes = stats.fetched_bytes.saturating_add(bytes as u64);
 }
 
-/// Tests that `held`, which waits for a flush, is `blob` under `key`. Fails with `Storage` if it is
-/// another key's, else with `KeyTaken`.
+/// Tests that `held`, the entry that waits for a flush at the rowid of `key`, has this key and
+/// `blob`. Fails with `Storage` if the entry is another key's, and with `KeyTaken` if it has this
+/// key and another blob.
 fn test_held(
     stats: &mut Stats,
-    held: &Pending,
+    held: &PendingBlob,
     key: DataKey,
     blob: &PagableData,
 ) -> Result<(), Error>
     ensures ok { OnOk result ((held.now.key ≡ key) × (blob_pending held.now ≡ blob_of blob.now)) }
     ensures only { IfErr result (RefusesHeld held.now key (blob_of blob.now) stats.old.failures stats.new.failures) }
-    ensures later { stats.old.failures ≤ stats.new.failures }
+    ensures failures_never_fall { stats.old.failures ≤ stats.new.failures }
 {
     if held.key != key {
-        return Err(fail(stats, Fault::PlaceTaken));
+        return Err(count_failure(stats, Fault::PlaceTaken));
     }
     if !is_same(&held.blob, blob) {
         return Err(Error::KeyTaken);
     }
-    stats.known = stats.known.saturating_add(1);
+    stats.already_stored = stats.already_stored.saturating_add(1);
     Ok(())
 }
 
-/// Tests that `found`, read at a key's rowid, is `blob`. Fails with `Storage` if it is another
-/// key's or damaged, else with `KeyTaken`.
+/// Tests that `found`, the row that was read at a key's rowid, has `blob`. Fails with `Storage` if
+/// the row is another key's or damaged, and with `KeyTaken` if it has another blob.
 fn test_found(stats: &mut Stats, found: &Reading, blob: &PagableData) -> Result<(), Error>
     ensures ok { OnOk result (HasBlob (Some found.now) (blob_of blob.now)) }
     ensures only { IfErr result (RefusesFound found.now (blob_of blob.now) stats.old.failures stats.new.failures) }
-    ensures later { stats.old.failures ≤ stats.new.failures }
+    ensures failures_never_fall { stats.old.failures ≤ stats.new.failures }
 {
     match found {
-        Reading::Other => Err(fail(stats, Fault::PlaceTaken)),
-        Reading::Damaged => Err(fail(stats, Fault::Damaged)),
+        Reading::Other => Err(count_failure(stats, Fault::PlaceTaken)),
+        Reading::Damaged => Err(count_failure(stats, Fault::Damaged)),
         Reading::Blob(there) => {
             if !is_same(there, blob) {
                 return Err(Error::KeyTaken);
             }
-            stats.known = stats.known.saturating_add(1);
+            stats.already_stored = stats.already_stored.saturating_add(1);
             Ok(())
         }
     }

@@ -1,17 +1,26 @@
 //! The check of a whole file of blobs.
 
-ghost use Rattle.std.specs.{List.AllByRecursion, Prelude.{[], ℕ, IfErr, IfOk, IsTrue, List, OnOk, Some, is_some, option_map, ◌≡◌, ◌≤◌, ◌↔◌}, String.string_bytes};
+ghost use Rattle.pagable_core.specs.Data.{blob_of};
+ghost use Rattle.pagable_file.specs.{
+  Blobs.{LeavesCommitted, Settled, is_honest_view},
+  Flaws.{AddsFlawsUnless, IsChild, IsFlaw, IsNameAt, IsSoundBlob, IsSoundPlace, IsSoundRoot, IsThere, IsWhole, blob_at},
+  Flaws.keyed,
+  Rows.{blob_tree, blobs_in, root_tree, roots_in},
+};
+ghost use Rattle.pagable_value_spec.specs.{Blob.{Blob, key_of}, Stored.IsMemoryOrFailure};
 ghost use Rattle.sqlite_value.specs.Order.{Row as SqlRow};
-ghost use Rattle.{pagable_core.specs.Data.blob_of, pagable_value_spec.specs.{Blob.{Blob, key_of}, Stored.IsMemoryOrFailure}};
-ghost use Rattle.pagable_file.specs.{Blobs.{Settled, StaysPut, is_sure}, Flaws.{IsChild, IsFlaw, IsNameAt, IsSoundBlob, IsSoundPlace, IsSoundRoot, IsThere, IsWhole, FindsFlaws, blob_at, keyed}};
-ghost use Rattle.pagable_file.specs.Rows.{blob_tree, blobs_in, root_tree, roots_in};
+ghost use Rattle.std.specs.{
+  List.AllByRecursion,
+  Prelude.{IfErr, IfOk, IsTrue, List, OnOk, Some, is_some, option_map, ℕ, [], ◌↔◌, ◌≡◌, ◌≤◌},
+  String.string_bytes,
+};
 
 use crate::file_blobs::FileBlobs;
-use crate::lookup::{look, read};
+use crate::lookup::{read, read_row_at};
 use crate::naming::is_blob;
 use crate::rows::{Reading, key_at, read_blob, rowid_of, rowid_of_name};
 use crate::scan::all_places;
-use crate::stats::refuse;
+use crate::stats::count_store_error;
 use crate::tables::{BLOBS, ROOTS};
 use crate::watch::Watch;
 use pagable_codec::{Env, KeyHash};
@@ -71,9 +80,9 @@ fn is_there<S: Store>(
     key: DataKey,
 ) -> Result<bool, StoreError>
     requires settled { Settled (S.view store.old) }
-    ensures ok { IsTrue (is_sure (S.view store.new)) → IfOk result
+    ensures ok { IsTrue (is_honest_view (S.view store.new)) → IfOk result
         (λ there. there ≡ is_some (blobs_in ((S.view store.old).committed blob_tree) key)) }
-    ensures stays { StaysPut (S.view store.old) (S.view store.new) }
+    ensures stays { LeavesCommitted (S.view store.old) (S.view store.new) }
 {
     let found = read(alloc, store, row, key)?;
     Ok(is_blob(&found))
@@ -90,12 +99,12 @@ fn test_child<S: Store>(
     child: DataKey,
 ) -> Result<(), StoreError>
     requires settled { Settled (S.view store.old) }
-    ensures tested { (of : Blob → ℕ) → IsTrue (is_sure (S.view store.new))
+    ensures tested { (of : Blob → ℕ) → IsTrue (is_honest_view (S.view store.new))
         → IsChild ((S.view store.old).committed blob_tree) key child
-        → OnOk result (FindsFlaws (IsFlaw of ((S.view store.old).committed blob_tree)
+        → OnOk result (AddsFlawsUnless (IsFlaw of ((S.view store.old).committed blob_tree)
         ((S.view store.old).committed root_tree)) flaws.old.items flaws.new.items
         (IsThere ((S.view store.old).committed blob_tree) child)) }
-    ensures stays { StaysPut (S.view store.old) (S.view store.new) }
+    ensures stays { LeavesCommitted (S.view store.old) (S.view store.new) }
 {
     if is_there(alloc, store, row, child)? {
         return Ok(());
@@ -115,12 +124,12 @@ fn test_children<S: Store>(
     children: &[DataKey],
 ) -> Result<(), StoreError>
     requires settled { Settled (S.view store.old) }
-    ensures tested { (of : Blob → ℕ) → IsTrue (is_sure (S.view store.new))
+    ensures tested { (of : Blob → ℕ) → IsTrue (is_honest_view (S.view store.new))
         → AllByRecursion (IsChild ((S.view store.old).committed blob_tree) key) children.now
-        → OnOk result (FindsFlaws (IsFlaw of ((S.view store.old).committed blob_tree)
+        → OnOk result (AddsFlawsUnless (IsFlaw of ((S.view store.old).committed blob_tree)
         ((S.view store.old).committed root_tree)) flaws.old.items flaws.new.items
         (AllByRecursion (IsThere ((S.view store.old).committed blob_tree)) children.now)) }
-    ensures stays { StaysPut (S.view store.old) (S.view store.new) }
+    ensures stays { LeavesCommitted (S.view store.old) (S.view store.new) }
 {
     for child in children {
         test_child(alloc, store, row, flaws, key, *child)?;
@@ -136,7 +145,7 @@ fn test_key<H: KeyHash>(
     blob: &PagableData,
 ) -> Result<(), StoreError>
     ensures { (rows roots : List SqlRow) → blobs_in rows key ≡ Some (blob_of blob.now)
-        → OnOk result (FindsFlaws (IsFlaw (key_of H.digest) rows roots) flaws.old.items flaws.new.items
+        → OnOk result (AddsFlawsUnless (IsFlaw (key_of H.digest) rows roots) flaws.old.items flaws.new.items
         (key_of H.digest (blob_of blob.now) ≡ key)) }
 {
     if blob.compute_key::<H>() == key {
@@ -158,12 +167,12 @@ fn test_blob<H: KeyHash, S: Store>(
     blob: &PagableData,
 ) -> Result<(), StoreError>
     requires settled { Settled (S.view store.old) }
-    ensures tested { IsTrue (is_sure (S.view store.new)) → blobs_in ((S.view store.old).committed blob_tree) key
+    ensures tested { IsTrue (is_honest_view (S.view store.new)) → blobs_in ((S.view store.old).committed blob_tree) key
         ≡ Some (blob_of blob.now)
-        → OnOk result (FindsFlaws (IsFlaw (key_of H.digest) ((S.view store.old).committed blob_tree)
+        → OnOk result (AddsFlawsUnless (IsFlaw (key_of H.digest) ((S.view store.old).committed blob_tree)
         ((S.view store.old).committed root_tree)) flaws.old.items flaws.new.items
         (IsSoundBlob (key_of H.digest) ((S.view store.old).committed blob_tree) key (blob_of blob.now))) }
-    ensures stays { StaysPut (S.view store.old) (S.view store.new) }
+    ensures stays { LeavesCommitted (S.view store.old) (S.view store.new) }
 {
     test_key::<H>(flaws, key, blob)?;
     test_children(alloc, store, row, flaws, key, blob.arcs.as_slice())?;
@@ -180,13 +189,13 @@ fn test_row<H: KeyHash, S: Store>(
     place: i64,
 ) -> Result<(), StoreError>
     requires settled { Settled (S.view store.old) }
-    ensures tested { IsTrue (is_sure (S.view store.new))
-        → OnOk result (FindsFlaws (IsFlaw (key_of H.digest) ((S.view store.old).committed blob_tree)
+    ensures tested { IsTrue (is_honest_view (S.view store.new))
+        → OnOk result (AddsFlawsUnless (IsFlaw (key_of H.digest) ((S.view store.old).committed blob_tree)
         ((S.view store.old).committed root_tree)) flaws.old.items flaws.new.items
         (IsSoundPlace (key_of H.digest) ((S.view store.old).committed blob_tree) place)) }
-    ensures stays { StaysPut (S.view store.old) (S.view store.new) }
+    ensures stays { LeavesCommitted (S.view store.old) (S.view store.new) }
 {
-    if !look(store, BLOBS, place, row)? {
+    if !read_row_at(store, BLOBS, place, row)? {
         return Ok(());
     }
     match read_at(alloc, row, place)? {
@@ -212,11 +221,11 @@ fn test_rows<H: KeyHash, S: Store, W: Watch>(
     watch: &mut W,
 ) -> Result<(), StoreError>
     requires settled { Settled (S.view store.old) }
-    ensures tested { IsTrue (is_sure (S.view store.new))
-        → OnOk result (FindsFlaws (IsFlaw (key_of H.digest) ((S.view store.old).committed blob_tree)
+    ensures tested { IsTrue (is_honest_view (S.view store.new))
+        → OnOk result (AddsFlawsUnless (IsFlaw (key_of H.digest) ((S.view store.old).committed blob_tree)
         ((S.view store.old).committed root_tree)) flaws.old.items flaws.new.items
         (AllByRecursion (IsSoundPlace (key_of H.digest) ((S.view store.old).committed blob_tree)) places.now)) }
-    ensures stays { StaysPut (S.view store.old) (S.view store.new) }
+    ensures stays { LeavesCommitted (S.view store.old) (S.view store.new) }
 {
     for place in places {
         watch.note();
@@ -251,12 +260,12 @@ fn test_named<S: Store>(
     key: DataKey,
 ) -> Result<(), StoreError>
     requires settled { Settled (S.view store.old) }
-    ensures tested { (of : Blob → ℕ) → IsTrue (is_sure (S.view store.new))
+    ensures tested { (of : Blob → ℕ) → IsTrue (is_honest_view (S.view store.new))
         → roots_in ((S.view store.old).committed root_tree) (string_bytes name) ≡ Some key
-        → OnOk result (FindsFlaws (IsFlaw of ((S.view store.old).committed blob_tree)
+        → OnOk result (AddsFlawsUnless (IsFlaw of ((S.view store.old).committed blob_tree)
         ((S.view store.old).committed root_tree)) flaws.old.items flaws.new.items
         (IsThere ((S.view store.old).committed blob_tree) key)) }
-    ensures stays { StaysPut (S.view store.old) (S.view store.new) }
+    ensures stays { LeavesCommitted (S.view store.old) (S.view store.new) }
 {
     if is_there(alloc, store, row, key)? {
         return Ok(());
@@ -275,13 +284,13 @@ fn test_root<S: Store>(
     place: i64,
 ) -> Result<(), StoreError>
     requires settled { Settled (S.view store.old) }
-    ensures tested { (of : Blob → ℕ) → IsTrue (is_sure (S.view store.new))
-        → OnOk result (FindsFlaws (IsFlaw of ((S.view store.old).committed blob_tree)
+    ensures tested { (of : Blob → ℕ) → IsTrue (is_honest_view (S.view store.new))
+        → OnOk result (AddsFlawsUnless (IsFlaw of ((S.view store.old).committed blob_tree)
         ((S.view store.old).committed root_tree)) flaws.old.items flaws.new.items
         (IsSoundRoot ((S.view store.old).committed blob_tree) ((S.view store.old).committed root_tree) place)) }
-    ensures stays { StaysPut (S.view store.old) (S.view store.new) }
+    ensures stays { LeavesCommitted (S.view store.old) (S.view store.new) }
 {
-    if !look(store, ROOTS, place, row)? {
+    if !read_row_at(store, ROOTS, place, row)? {
         return Ok(());
     }
     let Some(name) = read_name_at(alloc, row, place)? else {
@@ -305,12 +314,12 @@ fn test_roots<S: Store>(
     places: &[i64],
 ) -> Result<(), StoreError>
     requires settled { Settled (S.view store.old) }
-    ensures tested { (of : Blob → ℕ) → IsTrue (is_sure (S.view store.new))
-        → OnOk result (FindsFlaws (IsFlaw of ((S.view store.old).committed blob_tree)
+    ensures tested { (of : Blob → ℕ) → IsTrue (is_honest_view (S.view store.new))
+        → OnOk result (AddsFlawsUnless (IsFlaw of ((S.view store.old).committed blob_tree)
         ((S.view store.old).committed root_tree)) flaws.old.items flaws.new.items
         (AllByRecursion (IsSoundRoot ((S.view store.old).committed blob_tree)
         ((S.view store.old).committed root_tree)) places.now)) }
-    ensures stays { StaysPut (S.view store.old) (S.view store.new) }
+    ensures stays { LeavesCommitted (S.view store.old) (S.view store.new) }
 {
     for place in places {
         test_root(alloc, store, row, flaws, *place)?;
@@ -327,13 +336,13 @@ fn find_flaws<H: KeyHash, S: Store, W: Watch>(
     watch: &mut W,
 ) -> Result<Vec<Flaw>, StoreError>
     requires settled { Settled (S.view store.old) }
-    ensures exact { IsTrue (is_sure (S.view store.new))
+    ensures exact { IsTrue (is_honest_view (S.view store.new))
         → IfOk result (λ flaws. (flaws.items ≡ []) ↔ IsWhole (key_of H.digest) ((S.view store.old).committed blob_tree)
         ((S.view store.old).committed root_tree)) }
-    ensures real { IsTrue (is_sure (S.view store.new))
+    ensures real { IsTrue (is_honest_view (S.view store.new))
         → IfOk result (λ flaws. AllByRecursion (IsFlaw (key_of H.digest) ((S.view store.old).committed blob_tree)
         ((S.view store.old).committed root_tree)) flaws.items) }
-    ensures stays { StaysPut (S.view store.old) (S.view store.new) }
+    ensures stays { LeavesCommitted (S.view store.old) (S.view store.new) }
 {
     let mut flaws = Vec::new(alloc);
     let places = all_places(alloc, store, row, BLOBS)?;
@@ -354,24 +363,25 @@ impl<E: Env, S: Store> FileBlobs<E, S> {
     /// - `OutOfMemory`.
     /// - `Storage` only if the call raised the count of failures.
     pub fn fsck<W: Watch>(&mut self, alloc: Global, watch: &mut W) -> Result<Vec<Flaw>, Error>
-        ensures exact { IsTrue (is_sure (S.view self.new.store))
+        ensures exact { IsTrue (is_honest_view (S.view self.new.store))
             → IfOk result (λ flaws. (flaws.items ≡ [])
             ↔ IsWhole (key_of E.Hash.digest) ((S.view self.old.store).committed blob_tree)
             ((S.view self.old.store).committed root_tree)) }
-        ensures real { IsTrue (is_sure (S.view self.new.store))
+        ensures real { IsTrue (is_honest_view (S.view self.new.store))
             → IfOk result (λ flaws. AllByRecursion (IsFlaw (key_of E.Hash.digest)
             ((S.view self.old.store).committed blob_tree) ((S.view self.old.store).committed root_tree)) flaws.items) }
-        ensures same { IsTrue (is_sure (S.view self.new.store)) → (S.view self.new.store).committed
+        ensures same { IsTrue (is_honest_view (S.view self.new.store)) → (S.view self.new.store).committed
             ≡ (S.view self.old.store).committed }
         ensures waits { (self.new.waiting ≡ self.old.waiting) × (self.new.waiting_roots ≡ self.old.waiting_roots) }
-        ensures sure { IsTrue (is_sure (S.view self.new.store)) → IsTrue (is_sure (S.view self.old.store)) }
+        ensures sure { IsTrue (is_honest_view (S.view self.new.store))
+            → IsTrue (is_honest_view (S.view self.old.store)) }
         ensures only { IfErr result (IsMemoryOrFailure self.old.stats.failures self.new.stats.failures) }
-        ensures later { self.old.stats.failures ≤ self.new.stats.failures }
+        ensures failures_never_fall { self.old.stats.failures ≤ self.new.stats.failures }
         ensures open { self.new.closed ≡ self.old.closed }
     {
         match find_flaws::<E::Hash, S, W>(alloc, &mut self.store, &mut self.row, watch) {
             Ok(flaws) => Ok(flaws),
-            Err(error) => Err(refuse(&mut self.stats, error)),
+            Err(error) => Err(count_store_error(&mut self.stats, error)),
         }
     }
 }

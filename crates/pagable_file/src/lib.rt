@@ -29,7 +29,7 @@ pub use blob_env::BlobEnv;
 pub use fault::Fault;
 pub use file_blobs::FileBlobs;
 pub use fsck::Flaw;
-pub use listing::Listed;
+pub use listing::ListedBlob;
 pub use open_error::OpenError;
 pub use pagable_core::Roots;
 pub use stats::Stats;

@@ -1,14 +1,14 @@
 //! A list of a file's blobs, without their bytes.
 
-ghost use Rattle.std.specs.Prelude.{IfErr, IsTrue, ◌≡◌, ◌≤◌};
+ghost use Rattle.pagable_file.specs.Blobs.{LeavesCommitted, Settled, is_honest_view};
 ghost use Rattle.pagable_value_spec.specs.Stored.{IsMemoryOrFailure};
-ghost use Rattle.pagable_file.specs.Blobs.{Settled, StaysPut, is_sure};
+ghost use Rattle.std.specs.Prelude.{IfErr, IsTrue, ◌≡◌, ◌≤◌};
 
 use crate::file_blobs::FileBlobs;
-use crate::lookup::look;
+use crate::lookup::read_row_at;
 use crate::rows::key_at;
 use crate::scan::all_places;
-use crate::stats::refuse;
+use crate::stats::count_store_error;
 use crate::tables::BLOBS;
 use pagable_codec::Env;
 use pagable_flavors::{DataKey, Error};
@@ -20,7 +20,7 @@ use std::alloc::Global;
 
 /// A blob of the file, without its bytes.
 #[derive(Clone, Copy, Debug, PartialEq, Eq)]
-pub struct Listed {
+pub struct ListedBlob {
     pub key: DataKey,
     /// How many bytes it has, without its child keys.
     pub bytes: u64,
@@ -35,11 +35,11 @@ fn list_row<S: Store>(
     store: &mut S,
     row: &mut Row,
     place: i64,
-) -> Result<Option<Listed>, StoreError>
+) -> Result<Option<ListedBlob>, StoreError>
     requires settled { Settled (S.view store.old) }
-    ensures stays { StaysPut (S.view store.old) (S.view store.new) }
+    ensures stays { LeavesCommitted (S.view store.old) (S.view store.new) }
 {
-    if !look(store, BLOBS, place, row)? {
+    if !read_row_at(store, BLOBS, place, row)? {
         return Ok(None);
     }
     let Some(key) = key_at(row, 2) else {
@@ -47,7 +47,7 @@ fn list_row<S: Store>(
     };
     let bytes = bytes_of(row.get(3)).len() as u64;
     let children = (bytes_of(row.get(4)).len() / 16) as u64;
-    Ok(Some(Listed {
+    Ok(Some(ListedBlob {
         key,
         bytes,
         children,
@@ -61,9 +61,9 @@ fn list_rows<S: Store>(
     store: &mut S,
     row: &mut Row,
     places: &[i64],
-) -> Result<Vec<Listed>, StoreError>
+) -> Result<Vec<ListedBlob>, StoreError>
     requires settled { Settled (S.view store.old) }
-    ensures stays { StaysPut (S.view store.old) (S.view store.new) }
+    ensures stays { LeavesCommitted (S.view store.old) (S.view store.new) }
 {
     let mut all = Vec::new(alloc);
     for place in places {
@@ -80,9 +80,9 @@ fn list_all<S: Store>(
     alloc: Global,
     store: &mut S,
     row: &mut Row,
-) -> Result<Vec<Listed>, StoreError>
+) -> Result<Vec<ListedBlob>, StoreError>
     requires settled { Settled (S.view store.old) }
-    ensures stays { StaysPut (S.view store.old) (S.view store.new) }
+    ensures stays { LeavesCommitted (S.view store.old) (S.view store.new) }
 {
     let places = all_places(alloc, store, row, BLOBS)?;
     let all = list_rows(alloc, store, row, places.as_slice())?;
@@ -97,18 +97,19 @@ impl<E: Env, S: Store> FileBlobs<E, S> {
     ///
     /// - `OutOfMemory`.
     /// - `Storage` only if the call raised the count of failures.
-    pub fn list(&mut self, alloc: Global) -> Result<Vec<Listed>, Error>
-        ensures same { IsTrue (is_sure (S.view self.new.store)) → (S.view self.new.store).committed
+    pub fn list(&mut self, alloc: Global) -> Result<Vec<ListedBlob>, Error>
+        ensures same { IsTrue (is_honest_view (S.view self.new.store)) → (S.view self.new.store).committed
             ≡ (S.view self.old.store).committed }
         ensures waits { (self.new.waiting ≡ self.old.waiting) × (self.new.waiting_roots ≡ self.old.waiting_roots) }
-        ensures sure { IsTrue (is_sure (S.view self.new.store)) → IsTrue (is_sure (S.view self.old.store)) }
+        ensures sure { IsTrue (is_honest_view (S.view self.new.store))
+            → IsTrue (is_honest_view (S.view self.old.store)) }
         ensures only { IfErr result (IsMemoryOrFailure self.old.stats.failures self.new.stats.failures) }
-        ensures later { self.old.stats.failures ≤ self.new.stats.failures }
+        ensures failures_never_fall { self.old.stats.failures ≤ self.new.stats.failures }
         ensures open { self.new.closed ≡ self.old.closed }
     {
         match list_all(alloc, &mut self.store, &mut self.row) {
             Ok(all) => Ok(all),
-            Err(error) => Err(refuse(&mut self.stats, error)),
+            Err(error) => Err(count_store_error(&mut self.stats, error)),
         }
     }
 }

@@ -1,8 +1,11 @@
 //! Look-ups of one row of a table.
 
-ghost use Rattle.std.specs.Prelude.{◌≡◌, IfOk, IsTrue, None, Some, if◌then◌else◌};
+ghost use Rattle.pagable_file.specs.{
+  Blobs.{IsFoundAs, IsNamedAs, LeavesCommitted, Settled, is_honest_view},
+  Rows.{blob_tree, root_tree, row_at},
+};
 ghost use Rattle.sqlite_trees.specs.{Tree.Trees, declared.store.Shape.TheVariants.Table};
-ghost use Rattle.pagable_file.specs.{Blobs.{IsFoundAs, IsNamedAs, Settled, StaysPut, is_sure}, Rows.{blob_tree, root_tree, row_at}};
+ghost use Rattle.std.specs.Prelude.{IfOk, IsTrue, None, Some, if◌then◌else◌, ◌≡◌};
 
 use crate::rows::{Naming, Reading, read_blob, read_root, rowid_of, rowid_of_name};
 use crate::tables::{BLOBS, ROOTS};
@@ -15,18 +18,18 @@ use std::alloc::Global;
 /// Reads the row at a place of a table into `row`, or returns false if the table has none there. If
 /// it fails, it rolls back.
 #[tactic(auto, using(crate::proofs::Settling::reading))]
-pub fn look<S: Store>(
+pub fn read_row_at<S: Store>(
     store: &mut S,
     table: u32,
     place: i64,
     row: &mut Row,
 ) -> Result<bool, StoreError>
     requires settled { Settled (S.view store.old) }
-    requires table { IsTrue (is_sure (S.view store.old)) → (S.view store.old).shape table ≡ Table }
-    ensures found { IsTrue (is_sure (S.view store.new))
+    requires table { IsTrue (is_honest_view (S.view store.old)) → (S.view store.old).shape table ≡ Table }
+    ensures found { IsTrue (is_honest_view (S.view store.new))
         → IfOk result (λ found. row_at ((S.view store.old).committed table) place
         ≡ (if found then Some row.new else None)) }
-    ensures stays { StaysPut (S.view store.old) (S.view store.new) }
+    ensures stays { LeavesCommitted (S.view store.old) (S.view store.new) }
     ensures crash { (db : Trees) → S.recovers store.new db → S.recovers store.old db }
 {
     if store.is_broken() {
@@ -50,12 +53,12 @@ pub fn read<S: Store>(
     key: DataKey,
 ) -> Result<Option<Reading>, StoreError>
     requires settled { Settled (S.view store.old) }
-    ensures found { IsTrue (is_sure (S.view store.new))
+    ensures found { IsTrue (is_honest_view (S.view store.new))
         → IfOk result (IsFoundAs ((S.view store.old).committed blob_tree) key) }
-    ensures stays { StaysPut (S.view store.old) (S.view store.new) }
+    ensures stays { LeavesCommitted (S.view store.old) (S.view store.new) }
     ensures crash { (db : Trees) → S.recovers store.new db → S.recovers store.old db }
 {
-    if look(store, BLOBS, rowid_of(key), row)? {
+    if read_row_at(store, BLOBS, rowid_of(key), row)? {
         Ok(Some(read_blob(alloc, row, key)?))
     } else {
         Ok(None)
@@ -64,18 +67,18 @@ pub fn read<S: Store>(
 
 /// Reads the root of a name from its table, or returns None if the table has no row at the name's
 /// place.
-pub fn read_name<S: Store>(
+pub fn read_root_of_name<S: Store>(
     store: &mut S,
     row: &mut Row,
     name: &str,
 ) -> Result<Option<Naming>, StoreError>
     requires settled { Settled (S.view store.old) }
-    ensures found { IsTrue (is_sure (S.view store.new))
+    ensures found { IsTrue (is_honest_view (S.view store.new))
         → IfOk result (IsNamedAs ((S.view store.old).committed root_tree) name.now) }
-    ensures stays { StaysPut (S.view store.old) (S.view store.new) }
+    ensures stays { LeavesCommitted (S.view store.old) (S.view store.new) }
     ensures crash { (db : Trees) → S.recovers store.new db → S.recovers store.old db }
 {
-    if look(store, ROOTS, rowid_of_name(name), row)? {
+    if read_row_at(store, ROOTS, rowid_of_name(name), row)? {
         Ok(Some(read_root(row, name)))
     } else {
         Ok(None)

@@ -1,18 +1,27 @@
 //! Look-ups among the entries that wait for a flush and then in a table: whether a blob is stored
 //! under a key, and whether a name may be set.
 
-ghost use Rattle.std.specs.{HashMap.get, Ordering.int_eq, Str.bytes_eq, String.string_bytes, Prelude.{◌≡◌, ◌≤◌, None, false, is_some, if◌then◌else◌, IfErr, IfOk, IsTrue, OnErr, OnOk, true}};
-ghost use Rattle.pagable_value_spec.specs.{Outcomes.memory, Stored.IsMemoryOrFailure};
-ghost use Rattle.pagable_core.specs.Roots.{RefusesRoot, Stands};
-ghost use Rattle.pagable_file.specs.Blobs.{HasPlace, HoldsRoot, IsNotOther, Settled, StaysPut, found_root, is_sure, reads_blob, stored_with};
-ghost use Rattle.pagable_file.specs.Rows.{blob_tree, root_tree, row_at};
+ghost use Rattle.pagable_core.specs.Roots.{HasBlobIfKey, RefusesRoot};
+ghost use Rattle.pagable_file.specs.{
+  Blobs.{HasNoOtherName, HoldsRoot, IsNotOther, LeavesCommitted, Settled, found_root, is_honest_view, reads_blob},
+  Blobs.stored_with,
+  Rows.{blob_tree, root_tree, row_at},
+};
+ghost use Rattle.pagable_value_spec.specs.{Outcomes.IsOutOfMemory, Stored.IsMemoryOrFailure};
+ghost use Rattle.std.specs.{
+  HashMap.get,
+  Ordering.int_eq,
+  Prelude.{IfErr, IfOk, IsTrue, None, OnErr, OnOk, false, if◌then◌else◌, is_some, true, ◌≡◌, ◌≤◌},
+  Str.bytes_eq,
+  String.string_bytes,
+};
 ghost use Rattle.pagable_file.specs.Rows as spec;
 
 use crate::fault::Fault;
-use crate::lookup::{read, read_name};
-use crate::pending::{PendingRoot, Waiting, WaitingRoots, root_at, waiting_at};
+use crate::lookup::{read, read_root_of_name};
+use crate::pending::{PendingRoot, WaitingBlobs, WaitingRoots, waiting_at, waiting_root_at};
 use crate::rows::{Naming, Reading, rowid_of_name};
-use crate::stats::{Stats, fail, refuse};
+use crate::stats::{Stats, count_failure, count_store_error};
 use pagable_flavors::{DataKey, Error};
 use sqlite_trees::store::Store;
 use sqlite_value::row::Row;
@@ -28,27 +37,27 @@ pub fn is_blob(found: &Option<Reading>) -> bool
 /// Returns whether a blob is stored under a key. It reads the blob, but doesn't compute its key
 /// again.
 #[tactic(auto, using(crate::proofs::Named::looking))]
-pub fn has<S: Store>(
+pub fn has_blob<S: Store>(
     alloc: Global,
     store: &mut S,
     row: &mut Row,
-    waiting: &Waiting,
+    waiting: &WaitingBlobs,
     stats: &mut Stats,
     key: DataKey,
 ) -> Result<bool, Error>
     requires settled { Settled (S.view store.old) }
-    ensures ok { IsTrue (is_sure (S.view store.new)) → IfOk result
+    ensures ok { IsTrue (is_honest_view (S.view store.new)) → IfOk result
         (λ there. there ≡ is_some (stored_with waiting.now ((S.view store.old).committed blob_tree) key)) }
-    ensures stays { StaysPut (S.view store.old) (S.view store.new) }
+    ensures stays { LeavesCommitted (S.view store.old) (S.view store.new) }
     ensures only { IfErr result (IsMemoryOrFailure stats.old.failures stats.new.failures) }
-    ensures later { stats.old.failures ≤ stats.new.failures }
+    ensures failures_never_fall { stats.old.failures ≤ stats.new.failures }
 {
     if let Some(held) = waiting_at(waiting, key) {
         return Ok(held.key == key);
     }
     match read(alloc, store, row, key) {
         Ok(found) => Ok(is_blob(&found)),
-        Err(error) => Err(refuse(stats, error)),
+        Err(error) => Err(count_store_error(stats, error)),
     }
 }
 
@@ -58,23 +67,23 @@ fn test_key<S: Store>(
     alloc: Global,
     store: &mut S,
     row: &mut Row,
-    waiting: &Waiting,
+    waiting: &WaitingBlobs,
     stats: &mut Stats,
     key: &Option<DataKey>,
 ) -> Result<(), Error>
     requires settled { Settled (S.view store.old) }
-    ensures stands { IsTrue (is_sure (S.view store.new))
-        → OnOk result (Stands (stored_with waiting.now ((S.view store.old).committed blob_tree)) key.now) }
-    ensures refused { IsTrue (is_sure (S.view store.new))
+    ensures stands { IsTrue (is_honest_view (S.view store.new))
+        → OnOk result (HasBlobIfKey (stored_with waiting.now ((S.view store.old).committed blob_tree)) key.now) }
+    ensures refused { IsTrue (is_honest_view (S.view store.new))
         → IfErr result (RefusesRoot key.now (stored_with waiting.now ((S.view store.old).committed blob_tree)) false
         stats.old.failures stats.new.failures) }
-    ensures stays { StaysPut (S.view store.old) (S.view store.new) }
-    ensures later { stats.old.failures ≤ stats.new.failures }
+    ensures stays { LeavesCommitted (S.view store.old) (S.view store.new) }
+    ensures failures_never_fall { stats.old.failures ≤ stats.new.failures }
 {
     let Some(wanted) = key else {
         return Ok(());
     };
-    let there = has(alloc, store, row, waiting, stats, *wanted)?;
+    let there = has_blob(alloc, store, row, waiting, stats, *wanted)?;
     if there {
         Ok(())
     } else {
@@ -110,12 +119,12 @@ pub fn read_key_of(found: Option<Naming>) -> Option<DataKey>
 fn test_held(stats: &mut Stats, held: &PendingRoot, name: &str) -> Result<(), Error>
     ensures ok { OnOk result (bytes_eq (string_bytes held.now.name) name.now ≡ true) }
     ensures only { IfErr result (IsMemoryOrFailure stats.old.failures stats.new.failures) }
-    ensures later { stats.old.failures ≤ stats.new.failures }
+    ensures failures_never_fall { stats.old.failures ≤ stats.new.failures }
 {
     if held.name.as_bytes() == name.as_bytes() {
         Ok(())
     } else {
-        Err(fail(stats, Fault::PlaceTaken))
+        Err(count_failure(stats, Fault::PlaceTaken))
     }
 }
 
@@ -124,10 +133,10 @@ fn test_held(stats: &mut Stats, held: &PendingRoot, name: &str) -> Result<(), Er
 fn test_found(stats: &mut Stats, found: Option<Naming>) -> Result<(), Error>
     ensures ok { OnOk result (IsNotOther found) }
     ensures only { IfErr result (IsMemoryOrFailure stats.old.failures stats.new.failures) }
-    ensures later { stats.old.failures ≤ stats.new.failures }
+    ensures failures_never_fall { stats.old.failures ≤ stats.new.failures }
 {
     match found {
-        Some(Naming::Other) => Err(fail(stats, Fault::PlaceTaken)),
+        Some(Naming::Other) => Err(count_failure(stats, Fault::PlaceTaken)),
         Some(Naming::Root(_)) | None => Ok(()),
     }
 }
@@ -142,23 +151,23 @@ fn test_place<S: Store>(
     name: &str,
 ) -> Result<(), Error>
     requires settled { Settled (S.view store.old) }
-    ensures free { IsTrue (is_sure (S.view store.new))
-        → OnOk result (HasPlace name.now (get int_eq waiting.now (spec.rowid_of_name name.now))
+    ensures free { IsTrue (is_honest_view (S.view store.new))
+        → OnOk result (HasNoOtherName name.now (get int_eq waiting.now (spec.rowid_of_name name.now))
         (row_at ((S.view store.old).committed root_tree) (spec.rowid_of_name name.now))) }
-    ensures stays { StaysPut (S.view store.old) (S.view store.new) }
+    ensures stays { LeavesCommitted (S.view store.old) (S.view store.new) }
     ensures only { IfErr result (IsMemoryOrFailure stats.old.failures stats.new.failures) }
-    ensures later { stats.old.failures ≤ stats.new.failures }
+    ensures failures_never_fall { stats.old.failures ≤ stats.new.failures }
 {
-    if let Some(held) = root_at(waiting, name) {
+    if let Some(held) = waiting_root_at(waiting, name) {
         test_held(stats, held, name)?;
         return Ok(());
     }
-    match read_name(store, row, name) {
+    match read_root_of_name(store, row, name) {
         Ok(found) => {
             test_found(stats, found)?;
             Ok(())
         }
-        Err(error) => Err(refuse(stats, error)),
+        Err(error) => Err(count_store_error(stats, error)),
     }
 }
 
@@ -169,23 +178,23 @@ pub fn test_root<S: Store>(
     alloc: Global,
     store: &mut S,
     row: &mut Row,
-    waiting: &Waiting,
+    waiting: &WaitingBlobs,
     waiting_roots: &WaitingRoots,
     stats: &mut Stats,
     name: &str,
     key: &Option<DataKey>,
 ) -> Result<(), Error>
     requires settled { Settled (S.view store.old) }
-    ensures stands { IsTrue (is_sure (S.view store.new))
-        → OnOk result (Stands (stored_with waiting.now ((S.view store.old).committed blob_tree)) key.now) }
-    ensures free { IsTrue (is_sure (S.view store.new))
-        → OnOk result (HasPlace name.now (get int_eq waiting_roots.now (spec.rowid_of_name name.now))
+    ensures stands { IsTrue (is_honest_view (S.view store.new))
+        → OnOk result (HasBlobIfKey (stored_with waiting.now ((S.view store.old).committed blob_tree)) key.now) }
+    ensures free { IsTrue (is_honest_view (S.view store.new))
+        → OnOk result (HasNoOtherName name.now (get int_eq waiting_roots.now (spec.rowid_of_name name.now))
         (row_at ((S.view store.old).committed root_tree) (spec.rowid_of_name name.now))) }
-    ensures refused { IsTrue (is_sure (S.view store.new))
+    ensures refused { IsTrue (is_honest_view (S.view store.new))
         → IfErr result (RefusesRoot key.now (stored_with waiting.now ((S.view store.old).committed blob_tree)) false
         stats.old.failures stats.new.failures) }
-    ensures stays { StaysPut (S.view store.old) (S.view store.new) }
-    ensures later { stats.old.failures ≤ stats.new.failures }
+    ensures stays { LeavesCommitted (S.view store.old) (S.view store.new) }
+    ensures failures_never_fall { stats.old.failures ≤ stats.new.failures }
 {
     test_key(alloc, store, row, waiting, stats, key)?;
     test_place(store, row, waiting_roots, stats, name)?;
@@ -201,7 +210,7 @@ pub fn hold_root(
     key: Option<DataKey>,
 ) -> Result<(), Error>
     ensures ok { OnOk result (HoldsRoot name.now key waiting.old waiting.new) }
-    ensures only { IfErr result memory }
+    ensures only { IfErr result IsOutOfMemory }
     ensures err { OnErr result (waiting.new.entries ≡ waiting.old.entries) }
 {
     let text = String::from_str(alloc, name)?;

@@ -1,7 +1,15 @@
 //! The blobs that were stored, and the names that were set, since the last flush.
 
-ghost use Rattle.std.specs.{Arc.arc_value, HashMap.get, List.AllByRecursion, Ordering.int_eq, Prelude.{◌≡◌, ◌↔◌, IfErr, IfOk, IsTrue, OnErr, OnOk, option_copied}};
-ghost use Rattle.{pagable_core.specs.Data.blob_of, pagable_file.specs.{Blobs.Holds, Names.{IsWaitingListed, KeepsNames}}, pagable_value_spec.specs.Outcomes.memory};
+ghost use Rattle.pagable_core.specs.Data.{blob_of};
+ghost use Rattle.pagable_file.specs.{Blobs.Holds, Names.{IsWaitingListed, KeepsNames}};
+ghost use Rattle.pagable_value_spec.specs.Outcomes.{IsOutOfMemory};
+ghost use Rattle.std.specs.{
+  Arc.arc_value,
+  HashMap.get,
+  List.AllByRecursion,
+  Ordering.int_eq,
+  Prelude.{IfErr, IfOk, IsTrue, OnErr, OnOk, option_copied, ◌↔◌, ◌≡◌},
+};
 ghost use Rattle.pagable_file.specs.Rows as spec;
 
 use crate::rows::{rowid_of, rowid_of_name};
@@ -13,13 +21,13 @@ use std::sync::Arc;
 
 /// A blob that waits for a flush, with its key.
 #[derive(Drop)]
-pub struct Pending {
+pub struct PendingBlob {
     pub key: DataKey,
     pub blob: Arc<PagableData>,
 }
 
 /// The blobs that wait for a flush, by their places.
-pub type Waiting = HashMap<i64, Pending>;
+pub type WaitingBlobs = HashMap<i64, PendingBlob>;
 
 /// A name that waits for a flush, with the key that it stands for, or None if it stands for none
 /// any more.
@@ -34,7 +42,7 @@ pub type WaitingRoots = HashMap<i64, PendingRoot>;
 
 /// Returns the blob that waits for a flush at the rowid of `key`, if one does. It may be another
 /// key's, with the same low 63 bits.
-pub fn waiting_at(waiting: &Waiting, key: DataKey) -> Option<&Pending>
+pub fn waiting_at(waiting: &WaitingBlobs, key: DataKey) -> Option<&PendingBlob>
     ensures { option_copied result ≡ get int_eq waiting.now (spec.rowid_of key) }
 {
     waiting.get(&rowid_of(key))
@@ -42,7 +50,7 @@ pub fn waiting_at(waiting: &Waiting, key: DataKey) -> Option<&Pending>
 
 /// Returns the entry that waits for a flush at the rowid of `name`, if one does. It may be
 /// another name's.
-pub fn root_at<'a>(waiting: &'a WaitingRoots, name: &str) -> Option<&'a PendingRoot>
+pub fn waiting_root_at<'a>(waiting: &'a WaitingRoots, name: &str) -> Option<&'a PendingRoot>
     ensures { option_copied result ≡ get int_eq waiting.now (spec.rowid_of_name name.now) }
 {
     waiting.get(&rowid_of_name(name))
@@ -58,7 +66,7 @@ pub fn push_waiting(
 ) -> Result<Vec<String>, Error>
     ensures keeps { IfOk result (λ all. KeepsNames names.items all.items) }
     ensures listed { IfOk result (λ all. AllByRecursion (λ e. IsWaitingListed all.items e.1) waiting.now.entries) }
-    ensures only { IfErr result memory }
+    ensures only { IfErr result IsOutOfMemory }
 {
     for (_, root) in waiting {
         if root.key.is_some() {
@@ -71,12 +79,16 @@ pub fn push_waiting(
 /// Adds a blob to those that wait for a flush, at the rowid of `key`. Fails with `OutOfMemory`
 /// only; then nothing changes.
 #[tactic(auto, using(crate::proofs::Fetching::holds))]
-pub fn add_waiting(waiting: &mut Waiting, key: DataKey, blob: Arc<PagableData>) -> Result<(), Error>
+pub fn add_waiting(
+    waiting: &mut WaitingBlobs,
+    key: DataKey,
+    blob: Arc<PagableData>,
+) -> Result<(), Error>
     ensures ok { OnOk result (Holds key (blob_of (arc_value blob)) waiting.old waiting.new) }
-    ensures only { IfErr result memory }
+    ensures only { IfErr result IsOutOfMemory }
     ensures err { OnErr result (waiting.new.entries ≡ waiting.old.entries) }
 {
-    waiting.insert(rowid_of(key), Pending { key, blob })?;
+    waiting.insert(rowid_of(key), PendingBlob { key, blob })?;
     Ok(())
 }
 

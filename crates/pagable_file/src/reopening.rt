@@ -1,10 +1,14 @@
 //! Closing a file of blobs, and opening it again.
 
-ghost use Rattle.std.specs.{Arc.arc_value, Prelude.{◌≡◌, [], IfOk, IfSome, IsTrue, Some, false}};
+ghost use Rattle.pagable_core.specs.Data.{blob_of};
+ghost use Rattle.pagable_file.specs.{
+  Blobs.{Settled, is_honest_view, stored_with, unless},
+  Closing.IsHeldIn,
+  Rows.{blob_tree, blobs_in, root_tree},
+};
 ghost use Rattle.sqlite_store.specs.FileStore.{view};
 ghost use Rattle.sqlite_wal.specs.Reads.{AreClean};
-ghost use Rattle.pagable_core.specs.Data.{blob_of};
-ghost use Rattle.pagable_file.specs.{Blobs.{Settled, is_sure, stored_with, unless}, Closing.IsHeldIn, Rows.{blob_tree, blobs_in, root_tree}};
+ghost use Rattle.std.specs.{Arc.arc_value, Prelude.{IfOk, IfSome, IsTrue, Some, false, [], ◌≡◌}};
 
 use crate::file_blobs::FileBlobs;
 use crate::open_error::OpenError;
@@ -22,7 +26,7 @@ use std::sync::Arc;
 fn close_store<D: Disk + Drop>(alloc: Global, store: FileStore<D>) -> Result<Files<D>, OpenError>
     requires settled { Settled (view store) }
     ensures usable { IfOk result (λ files. IsTrue (D.Disk.is_usable files.log) × IsTrue (D.Disk.is_usable files.db)) }
-    ensures sure { IfOk result (λ files. AreClean D.Disk files.log files.db → IsTrue (is_sure (view store))) }
+    ensures sure { IfOk result (λ files. AreClean D.Disk files.log files.db → IsTrue (is_honest_view (view store))) }
     ensures holds { IfOk result (λ files. AreClean D.Disk files.log files.db
         → IsHeldIn D.Disk files (view store).committed) }
 {
@@ -68,10 +72,11 @@ impl<E: Env, D: Disk + Drop> FileBlobs<E, FileStore<D>> {
         ensures open { IfOk result (λ again. again.closed ≡ false) }
         ensures nothing_waits { IfOk result (λ again. (again.waiting.entries ≡ [])
             × (again.waiting_roots.entries ≡ [])) }
-        ensures sure { IfOk result (λ again. IsTrue (is_sure (view again.store)) → IsTrue (is_sure (view self.store))) }
-        ensures blobs { IfOk result (λ again. IsTrue (is_sure (view again.store))
+        ensures sure { IfOk result (λ again. IsTrue (is_honest_view (view again.store))
+            → IsTrue (is_honest_view (view self.store))) }
+        ensures blobs { IfOk result (λ again. IsTrue (is_honest_view (view again.store))
             → (view again.store).committed blob_tree ≡ (view self.store).committed blob_tree) }
-        ensures roots { IfOk result (λ again. IsTrue (is_sure (view again.store))
+        ensures roots { IfOk result (λ again. IsTrue (is_honest_view (view again.store))
             → (view again.store).committed root_tree ≡ (view self.store).committed root_tree) }
     {
         let files = close_store(alloc, self.into_store())?;
@@ -91,7 +96,7 @@ fn store_flushed<E: Env, S: Store + Drop>(
     mut blobs: FileBlobs<E, S>,
     blob: PagableData,
 ) -> Option<(FileBlobs<E, S>, DataKey)>
-    ensures { IfSome result (λ r. IsTrue (is_sure (S.view r.0.store))
+    ensures { IfSome result (λ r. IsTrue (is_honest_view (S.view r.0.store))
         → blobs_in ((S.view r.0.store).committed blob_tree) r.1 ≡ Some (blob_of blob)) }
 {
     let key = match blobs.store_data(alloc, blob) {
@@ -105,13 +110,14 @@ fn store_flushed<E: Env, S: Store + Drop>(
 }
 
 /// Fetches a blob. Returns None if the call fails.
-fn fetch_last<E: Env, S: Store + Drop>(
+fn fetch_blob<E: Env, S: Store + Drop>(
     alloc: Global,
     mut blobs: FileBlobs<E, S>,
     key: DataKey,
 ) -> Option<(FileBlobs<E, S>, Arc<PagableData>)>
-    ensures sure { IfSome result (λ r. IsTrue (is_sure (S.view r.0.store)) → IsTrue (is_sure (S.view blobs.store))) }
-    ensures found { IfSome result (λ r. IsTrue (is_sure (S.view r.0.store))
+    ensures sure { IfSome result (λ r. IsTrue (is_honest_view (S.view r.0.store))
+        → IsTrue (is_honest_view (S.view blobs.store))) }
+    ensures found { IfSome result (λ r. IsTrue (is_honest_view (S.view r.0.store))
         → unless blobs.closed (stored_with blobs.waiting ((S.view blobs.store).committed blob_tree)) key
         ≡ Some (blob_of (arc_value r.1))) }
 {
@@ -129,12 +135,12 @@ pub fn stored_again<E: Env, D: Disk + Drop>(
     blob: PagableData,
     options: Options,
 ) -> Option<(FileBlobs<E, FileStore<D>>, Arc<PagableData>)>
-    ensures { IfSome result (λ r. IsTrue (is_sure (view r.0.store)) → blob_of (arc_value r.1) ≡ blob_of blob) }
+    ensures { IfSome result (λ r. IsTrue (is_honest_view (view r.0.store)) → blob_of (arc_value r.1) ≡ blob_of blob) }
 {
     let (flushed, key) = store_flushed(alloc, blobs, blob)?;
     match flushed.reopen(alloc, options) {
         Ok(again) => {
-            let found = fetch_last(alloc, again, key)?;
+            let found = fetch_blob(alloc, again, key)?;
             Some(found)
         }
         Err(_) => None,

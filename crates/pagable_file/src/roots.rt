@@ -1,13 +1,13 @@
 //! The names of roots in a file of blobs.
 
-ghost use Rattle.pagable_file.specs.{Blobs.{roots_unless, roots_with}, Rows.{root_tree}};
+ghost use Rattle.pagable_file.specs.{Blobs.{roots_unless, roots_with}, Rows.root_tree};
 
 use crate::file_blobs::FileBlobs;
-use crate::lookup::read_name;
+use crate::lookup::read_root_of_name;
 use crate::naming::{held_root, hold_root, read_key_of, test_root};
-use crate::pending::{push_waiting, root_at};
+use crate::pending::{push_waiting, waiting_root_at};
 use crate::scan::committed_names;
-use crate::stats::refuse;
+use crate::stats::count_store_error;
 use pagable_codec::Env;
 use pagable_core::Roots;
 use pagable_flavors::{DataKey, Error};
@@ -22,12 +22,12 @@ impl<E: Env, S: Store> Roots<E> for FileBlobs<E, S> {
         if self.closed {
             return Ok(None);
         }
-        if let Some(held) = root_at(&self.waiting_roots, name) {
+        if let Some(held) = waiting_root_at(&self.waiting_roots, name) {
             return Ok(held_root(held, name));
         }
-        match read_name(&mut self.store, &mut self.row, name) {
+        match read_root_of_name(&mut self.store, &mut self.row, name) {
             Ok(found) => Ok(read_key_of(found)),
-            Err(error) => Err(refuse(&mut self.stats, error)),
+            Err(error) => Err(count_store_error(&mut self.stats, error)),
         }
     }
 
@@ -57,7 +57,7 @@ impl<E: Env, S: Store> Roots<E> for FileBlobs<E, S> {
         }
         match committed_names(alloc, &mut self.store, &mut self.row, &self.waiting_roots) {
             Ok(names) => push_waiting(alloc, names, &self.waiting_roots),
-            Err(error) => Err(refuse(&mut self.stats, error)),
+            Err(error) => Err(count_store_error(&mut self.stats, error)),
         }
     }
 }

@@ -5,11 +5,15 @@
 //! bytes first, as the hash returned them. A root's row is its place, NULL, its name, and the key
 //! that it stands for, or no bytes if it stands for none any more.
 
-ghost use Rattle.std.specs.{Int.{to_le_bytes, w128}, List.{AllByRecursion, flat_map}, Prelude.{◌≡◌, ◌++◌, ◌∷◌, [], IfOk, OnOk, option_map}};
-ghost use Rattle.sqlite_value.specs.{Order.{bytes, column}, declared.value.Value.TheVariants.{Blob as Bytes}};
 ghost use Rattle.pagable_core.specs.Data.{blob_of};
+ghost use Rattle.pagable_file.specs.{Blobs.{CanBeKeyIfSome, IsNaming, IsReading}, Rows.{CanBeKey, blob_row, root_row}};
+ghost use Rattle.sqlite_value.specs.{Order.{bytes, column}, declared.value.Value.TheVariants.Blob as Bytes};
+ghost use Rattle.std.specs.{
+  Int.{to_le_bytes, w128},
+  List.{AllByRecursion, flat_map},
+  Prelude.{IfOk, OnOk, option_map, [], ◌++◌, ◌∷◌, ◌≡◌},
+};
 ghost use Rattle.pagable_file.specs.Rows as spec;
-ghost use Rattle.pagable_file.specs.{Blobs.{CanBeKeyIf, IsNaming, IsReading}, Rows.{CanBeKey, blob_row, root_row}};
 
 use pagable_core::PagableData;
 use pagable_flavors::DataKey;
@@ -96,7 +100,7 @@ pub fn key_at(row: &Row, at: usize) -> Option<DataKey>
 pub enum Reading {
     /// The row is another key's.
     Other,
-    /// The row is the key's, but its child keys aren't keys.
+    /// The row is the key's, but the bytes in its column of child keys aren't a list of keys.
     Damaged,
     Blob(PagableData),
 }
@@ -129,7 +133,7 @@ pub fn read_blob(alloc: Global, row: &Row, key: DataKey) -> Result<Reading, Allo
 /// Writes a key as 16 bytes, or no bytes for no key.
 fn write_key(bytes: &mut Vec<u8>, key: Option<DataKey>) -> Result<(), AllocError>
     ensures ok { OnOk result (bytes.new.items ≡ spec.key_bytes key) }
-    ensures fit { OnOk result (CanBeKeyIf key) }
+    ensures fit { OnOk result (CanBeKeyIfSome key) }
 {
     bytes.clear();
     if let Some(key) = key {
@@ -141,7 +145,7 @@ fn write_key(bytes: &mut Vec<u8>, key: Option<DataKey>) -> Result<(), AllocError
 /// Appends a key to the row as 16 bytes, or no bytes for no key; `bytes` is a buffer.
 fn push_key(row: &mut Row, bytes: &mut Vec<u8>, key: Option<DataKey>) -> Result<(), AllocError>
     ensures ok { OnOk result (row.new ≡ row.old ++ Bytes (spec.key_bytes key) ∷ []) }
-    ensures fit { OnOk result (CanBeKeyIf key) }
+    ensures fit { OnOk result (CanBeKeyIfSome key) }
 {
     write_key(bytes, key)?;
     row.push(ValueRef::Blob(bytes.as_slice()))?;
@@ -210,7 +214,7 @@ pub fn write_root(
     key: Option<DataKey>,
 ) -> Result<(), AllocError>
     ensures row { OnOk result (row.new ≡ root_row place name.now key) }
-    ensures key { OnOk result (CanBeKeyIf key) }
+    ensures key { OnOk result (CanBeKeyIfSome key) }
 {
     write_key(bytes, key)?;
     row.clear();

@@ -1,10 +1,22 @@
 //! The transaction that commits all that waits for a flush.
 
-ghost use Rattle.std.specs.{HashMap.IsUnique, List.AllByRecursion, Ordering.int_eq, Prelude.{◌≡◌, ◌≤◌, ◌⊎◌, OnErr, OnOk}};
-ghost use Rattle.sqlite_trees.specs.{Tree.Trees, View.{IsClean, KeepsCommitted, doubt}, declared.store.Shape.TheVariants.Table};
-ghost use Rattle.pagable_file.specs.{Blobs.{CanBeKeyIf, Fits, Saved, SavedAs, Settled, StaysPut, Wrote, pending_root_row, pending_row, put_all}, Rows.{blob_tree, root_tree}};
+ghost use Rattle.pagable_file.specs.{
+  Blobs.{CanBeKeyIfSome, Fits, LeavesCommitted, Saved, SavedAs, Settled, Wrote, pending_root_row, pending_row, put_all},
+  Rows.{blob_tree, root_tree},
+};
+ghost use Rattle.sqlite_trees.specs.{
+  Tree.Trees,
+  View.{IsClean, KeepsCommitted, doubt},
+  declared.store.Shape.TheVariants.Table,
+};
+ghost use Rattle.std.specs.{
+  HashMap.IsUnique,
+  List.AllByRecursion,
+  Ordering.int_eq,
+  Prelude.{OnErr, OnOk, ◌≡◌, ◌≤◌, ◌⊎◌},
+};
 
-use crate::pending::{Waiting, WaitingRoots};
+use crate::pending::{WaitingBlobs, WaitingRoots};
 use crate::rows::{write_blob, write_root};
 use crate::tables::{BLOBS, ROOTS};
 use sqlite_trees::error::StoreError;
@@ -17,7 +29,7 @@ fn put_blobs<S: Store>(
     store: &mut S,
     row: &mut Row,
     bytes: &mut Vec<u8>,
-    waiting: &Waiting,
+    waiting: &WaitingBlobs,
 ) -> Result<(), StoreError>
     requires table { IsClean (S.view store.old) → (S.view store.old).shape blob_tree ≡ Table }
     ensures ok { OnOk result (IsClean (S.view store.new)
@@ -26,7 +38,7 @@ fn put_blobs<S: Store>(
     ensures fit { OnOk result (AllByRecursion (λ e. Fits e.1) waiting.now.entries) }
     ensures once { IsUnique int_eq waiting.now }
     ensures err { OnErr result (IsClean (S.view store.new) → KeepsCommitted (S.view store.old) (S.view store.new)) }
-    ensures clean { doubt (S.view store.old).is_clean ≤ doubt (S.view store.new).is_clean }
+    ensures doubt_never_falls { doubt (S.view store.old).is_clean ≤ doubt (S.view store.new).is_clean }
     ensures crash { (db : Trees) → S.recovers store.new db → S.recovers store.old db }
 {
     for (place, pending) in waiting {
@@ -36,7 +48,7 @@ fn put_blobs<S: Store>(
     Ok(())
 }
 
-/// Puts the waiting names into their table, in the same transaction.
+/// Puts the waiting names into their table, without a commit.
 #[tactic(auto, using(crate::proofs::Settling::writing, crate::proofs::Putting::putting))]
 fn put_roots<S: Store>(
     store: &mut S,
@@ -48,10 +60,10 @@ fn put_roots<S: Store>(
     ensures ok { OnOk result (IsClean (S.view store.new)
         → Wrote (S.view store.old) (S.view store.new) ((S.view store.old).trees blob_tree)
         (put_all pending_root_row waiting.now.entries ((S.view store.old).trees root_tree))) }
-    ensures fit { OnOk result (AllByRecursion (λ e. CanBeKeyIf e.1.key) waiting.now.entries) }
+    ensures fit { OnOk result (AllByRecursion (λ e. CanBeKeyIfSome e.1.key) waiting.now.entries) }
     ensures once { IsUnique int_eq waiting.now }
     ensures err { OnErr result (IsClean (S.view store.new) → KeepsCommitted (S.view store.old) (S.view store.new)) }
-    ensures clean { doubt (S.view store.old).is_clean ≤ doubt (S.view store.new).is_clean }
+    ensures doubt_never_falls { doubt (S.view store.old).is_clean ≤ doubt (S.view store.new).is_clean }
     ensures crash { (db : Trees) → S.recovers store.new db → S.recovers store.old db }
 {
     for (place, root) in waiting {
@@ -61,13 +73,13 @@ fn put_roots<S: Store>(
     Ok(())
 }
 
-/// Puts all that waits into the two tables.
+/// Puts the waiting blobs and names into the two tables, without a commit.
 #[tactic(auto, using(crate::proofs::Settling::writing, crate::proofs::Putting::putting))]
 fn put_waiting<S: Store>(
     store: &mut S,
     row: &mut Row,
     bytes: &mut Vec<u8>,
-    waiting: &Waiting,
+    waiting: &WaitingBlobs,
     roots: &WaitingRoots,
 ) -> Result<(), StoreError>
     requires blobs { IsClean (S.view store.old) → (S.view store.old).shape blob_tree ≡ Table }
@@ -77,11 +89,11 @@ fn put_waiting<S: Store>(
         ((S.view store.old).trees blob_tree)) (put_all pending_root_row roots.now.entries
         ((S.view store.old).trees root_tree))) }
     ensures fit { OnOk result (AllByRecursion (λ e. Fits e.1) waiting.now.entries) }
-    ensures roots_fit { OnOk result (AllByRecursion (λ e. CanBeKeyIf e.1.key) roots.now.entries) }
+    ensures roots_fit { OnOk result (AllByRecursion (λ e. CanBeKeyIfSome e.1.key) roots.now.entries) }
     ensures once { OnOk result (IsUnique int_eq waiting.now) }
     ensures roots_once { OnOk result (IsUnique int_eq roots.now) }
     ensures err { OnErr result (IsClean (S.view store.new) → KeepsCommitted (S.view store.old) (S.view store.new)) }
-    ensures clean { doubt (S.view store.old).is_clean ≤ doubt (S.view store.new).is_clean }
+    ensures doubt_never_falls { doubt (S.view store.old).is_clean ≤ doubt (S.view store.new).is_clean }
     ensures crash { (db : Trees) → S.recovers store.new db → S.recovers store.old db }
 {
     put_blobs(store, row, bytes, waiting)?;
@@ -89,14 +101,14 @@ fn put_waiting<S: Store>(
     Ok(())
 }
 
-/// Commits all that waits in one transaction. If it fails, what was committed before stays as it
-/// is.
+/// Commits the waiting blobs and names in one transaction. If the commit fails, what was committed
+/// before stays as it is.
 #[tactic(auto, using(crate::proofs::Settling::saving, crate::proofs::Committing::crashed))]
 pub fn save<S: Store>(
     store: &mut S,
     row: &mut Row,
     bytes: &mut Vec<u8>,
-    waiting: &Waiting,
+    waiting: &WaitingBlobs,
     roots: &WaitingRoots,
 ) -> Result<(), StoreError>
     requires settled { Settled (S.view store.old) }
@@ -104,10 +116,11 @@ pub fn save<S: Store>(
         (put_all pending_row waiting.now.entries ((S.view store.old).trees blob_tree))
         (put_all pending_root_row roots.now.entries ((S.view store.old).trees root_tree))) }
     ensures fit { OnOk result (AllByRecursion (λ e. Fits e.1) waiting.now.entries) }
-    ensures roots_fit { OnOk result (AllByRecursion (λ e. CanBeKeyIf e.1.key) roots.now.entries) }
+    ensures roots_fit { OnOk result (AllByRecursion (λ e. CanBeKeyIfSome e.1.key) roots.now.entries) }
     ensures once { OnOk result (IsUnique int_eq waiting.now) }
     ensures roots_once { OnOk result (IsUnique int_eq roots.now) }
-    ensures err { OnErr result (StaysPut (S.view store.old) (S.view store.new)) }
+    ensures err { OnErr result (LeavesCommitted (S.view store.old) (S.view store.new)) }
+    // A crash leaves all that waited, blobs and names, or what a crash before the call could leave.
     ensures crash { IsClean (S.view store.new) → (db : Trees) → S.recovers store.new db
         → SavedAs (S.view store.old) waiting.now roots.now db ⊎ S.recovers store.old db }
 {

@@ -1,9 +1,17 @@
 //! Scans of all rows of a table.
 
-ghost use Rattle.std.specs.{List.AllByRecursion, Prelude.{IfOk, IsTrue, OnErr, OnOk, map, ◌≡◌, ◌≤◌}};
+ghost use Rattle.pagable_file.specs.{
+  Blobs.{LeavesCommitted, MovesOnlyCursors, Settled, is_honest_view},
+  Names.{IsListed, KeepsNames},
+  Rows.root_tree,
+};
+ghost use Rattle.sqlite_trees.specs.{
+  Tree.{Trees, rowid},
+  View.{IsClean, KeepsCommitted, doubt},
+  declared.store.Shape.TheVariants.Table,
+};
 ghost use Rattle.sqlite_value.specs.declared.value.Value.TheVariants.{Int};
-ghost use Rattle.sqlite_trees.specs.{Tree.{Trees, rowid}, View.{IsClean, KeepsCommitted, doubt}, declared.store.Shape.TheVariants.Table};
-ghost use Rattle.pagable_file.specs.{Blobs.{MovesOnly, Settled, StaysPut, is_sure}, Names.{IsListed, KeepsNames}, Rows.root_tree};
+ghost use Rattle.std.specs.{List.AllByRecursion, Prelude.{IfOk, IsTrue, OnErr, OnOk, map, ◌≡◌, ◌≤◌}};
 
 use crate::pending::WaitingRoots;
 use crate::tables::ROOTS;
@@ -14,7 +22,7 @@ use sqlite_value::row::Row;
 use sqlite_value::value::ValueRef;
 use std::alloc::Global;
 
-/// The cursor of the scans.
+/// The number of the database's cursor that the scans use.
 const CURSOR: u16 = 0;
 
 /// Returns the places of all rows of a table, in ascending order.
@@ -28,9 +36,9 @@ fn places<S: Store>(
     requires table { IsClean (S.view store.old) → (S.view store.old).shape table ≡ Table }
     ensures found { IfOk result (λ places. IsClean (S.view store.new) → map Int places.items
         ≡ map rowid ((S.view store.old).trees table)) }
-    ensures ok { OnOk result (IsClean (S.view store.new) → MovesOnly (S.view store.old) (S.view store.new)) }
+    ensures ok { OnOk result (IsClean (S.view store.new) → MovesOnlyCursors (S.view store.old) (S.view store.new)) }
     ensures err { OnErr result (IsClean (S.view store.new) → KeepsCommitted (S.view store.old) (S.view store.new)) }
-    ensures clean { doubt (S.view store.old).is_clean ≤ doubt (S.view store.new).is_clean }
+    ensures doubt_never_falls { doubt (S.view store.old).is_clean ≤ doubt (S.view store.new).is_clean }
     ensures crash { (db : Trees) → S.recovers store.new db → S.recovers store.old db }
 {
     let mut places = Vec::new(alloc);
@@ -57,10 +65,10 @@ pub fn all_places<S: Store>(
     table: u32,
 ) -> Result<Vec<i64>, StoreError>
     requires settled { Settled (S.view store.old) }
-    requires table { IsTrue (is_sure (S.view store.old)) → (S.view store.old).shape table ≡ Table }
-    ensures found { IsTrue (is_sure (S.view store.new))
+    requires table { IsTrue (is_honest_view (S.view store.old)) → (S.view store.old).shape table ≡ Table }
+    ensures found { IsTrue (is_honest_view (S.view store.new))
         → IfOk result (λ places. map Int places.items ≡ map rowid ((S.view store.old).committed table)) }
-    ensures stays { StaysPut (S.view store.old) (S.view store.new) }
+    ensures stays { LeavesCommitted (S.view store.old) (S.view store.new) }
     ensures crash { (db : Trees) → S.recovers store.new db → S.recovers store.old db }
 {
     if store.is_broken() {
@@ -75,8 +83,8 @@ pub fn all_places<S: Store>(
     }
 }
 
-/// Appends the name in a row of the names' table, unless an entry waits for a flush at its place, or
-/// the name isn't a text.
+/// Appends the name in a row of the table of roots to `names`, unless an entry waits for a flush at
+/// the row's place, or the name isn't UTF-8.
 #[tactic(auto, using(crate::proofs::Names::adding))]
 fn push_name(
     alloc: Global,
@@ -110,9 +118,9 @@ fn names<S: Store>(
 ) -> Result<Vec<String>, StoreError>
     ensures all { IfOk result (λ names. IsClean (S.view store.new)
         → AllByRecursion (IsListed waiting.now names.items) ((S.view store.old).trees root_tree)) }
-    ensures ok { OnOk result (IsClean (S.view store.new) → MovesOnly (S.view store.old) (S.view store.new)) }
+    ensures ok { OnOk result (IsClean (S.view store.new) → MovesOnlyCursors (S.view store.old) (S.view store.new)) }
     ensures err { OnErr result (IsClean (S.view store.new) → KeepsCommitted (S.view store.old) (S.view store.new)) }
-    ensures clean { doubt (S.view store.old).is_clean ≤ doubt (S.view store.new).is_clean }
+    ensures doubt_never_falls { doubt (S.view store.old).is_clean ≤ doubt (S.view store.new).is_clean }
     ensures crash { (db : Trees) → S.recovers store.new db → S.recovers store.old db }
 {
     let mut names = Vec::new(alloc);
@@ -137,9 +145,9 @@ pub fn committed_names<S: Store>(
     waiting: &WaitingRoots,
 ) -> Result<Vec<String>, StoreError>
     requires settled { Settled (S.view store.old) }
-    ensures all { IsTrue (is_sure (S.view store.new)) → IfOk result
+    ensures all { IsTrue (is_honest_view (S.view store.new)) → IfOk result
         (λ names. AllByRecursion (IsListed waiting.now names.items) ((S.view store.old).committed root_tree)) }
-    ensures stays { StaysPut (S.view store.old) (S.view store.new) }
+    ensures stays { LeavesCommitted (S.view store.old) (S.view store.new) }
     ensures crash { (db : Trees) → S.recovers store.new db → S.recovers store.old db }
 {
     match names(alloc, store, row, waiting) {

@@ -1,7 +1,7 @@
 //! Counts of what was asked of a file of blobs.
 
-ghost use Rattle.std.specs.Prelude.{◌≡◌, ◌≤◌};
 ghost use Rattle.pagable_value_spec.specs.Stored.{HasFailed, IsMemoryOrFailure};
+ghost use Rattle.std.specs.Prelude.{◌≡◌, ◌≤◌};
 ghost use Rattle.pagable_value_spec.specs.declared.error.Error.TheVariants as error;
 
 use crate::fault::Fault;
@@ -18,7 +18,7 @@ pub struct Stats {
     /// Stored blobs that were new.
     pub stores: u64,
     /// Stored blobs that the storage had already.
-    pub known: u64,
+    pub already_stored: u64,
     /// Commits that succeeded.
     pub flushes: u64,
     /// Calls that failed with a fault.
@@ -31,14 +31,14 @@ impl Stats {
         fetches: 0,
         fetched_bytes: 0,
         stores: 0,
-        known: 0,
+        already_stored: 0,
         flushes: 0,
         failures: 0,
     };
 }
 
-/// Counts a failure, and returns it as an error.
-pub fn fail(stats: &mut Stats, fault: Fault) -> Error
+/// Counts a failure, and returns the error `Storage` with the fault's code.
+pub fn count_failure(stats: &mut Stats, fault: Fault) -> Error
     ensures storage { (code : _) × (result ≡ error.Storage code) }
     ensures counts { HasFailed stats.old.failures stats.new.failures }
 {
@@ -46,13 +46,14 @@ pub fn fail(stats: &mut Stats, fault: Fault) -> Error
     Error::Storage(fault.code())
 }
 
-/// Returns a store's error as the storage's error, and counts it unless it is `OutOfMemory`.
-pub fn refuse(stats: &mut Stats, refused: StoreError) -> Error
+/// Turns an error of the database below into the error of the storage, `OutOfMemory` or `Storage`,
+/// and counts a `Storage` as a failure.
+pub fn count_store_error(stats: &mut Stats, refused: StoreError) -> Error
     ensures named { IsMemoryOrFailure stats.old.failures stats.new.failures result }
-    ensures later { stats.old.failures ≤ stats.new.failures }
+    ensures failures_never_fall { stats.old.failures ≤ stats.new.failures }
 {
     match Fault::of_store(refused) {
-        Some(fault) => fail(stats, fault),
+        Some(fault) => count_failure(stats, fault),
         None => Error::of_library(true, Error::Closed),
     }
 }

@@ -1,9 +1,9 @@
 //! The two tables of a file of blobs.
 
-ghost use Rattle.std.specs.Prelude.{[], IsTrue, OnOk, ◌≡◌, ◌≤◌};
+ghost use Rattle.pagable_file.specs.{Blobs.{FindsTables, IsIdle, TablesCreated}, Rows.{blob_tree, root_tree}};
 ghost use Rattle.sqlite_trees.specs.{Objects.catalog_tree, View.{IsClean, doubt}};
+ghost use Rattle.std.specs.Prelude.{IsTrue, OnOk, [], ◌≡◌, ◌≤◌};
 ghost use Rattle.sqlite_trees.specs.declared.store.Shape.TheVariants as shape;
-ghost use Rattle.pagable_file.specs.{Blobs.{Finds, IsIdle, TablesCreated}, Rows.{blob_tree, root_tree}};
 
 use crate::open_error::OpenError;
 use sqlite_trees::error::StoreError;
@@ -28,7 +28,8 @@ const BLOBS_SQL: &str =
 const ROOTS_SQL: &str =
     "CREATE TABLE roots (place INTEGER PRIMARY KEY, name TEXT NOT NULL, key BLOB NOT NULL) STRICT";
 
-fn table(name: &'static str, sql: &'static str) -> Object<'static>
+// Returns the entry of the database's schema for a table with this name and this SQL.
+fn table_object(name: &'static str, sql: &'static str) -> Object<'static>
     ensures shape { result.shape ≡ shape.Table }
     ensures name { result.name.now ≡ name.now }
 {
@@ -65,23 +66,23 @@ fn has_both_tables<S: Store>(store: &S) -> bool
 }
 
 /// Creates the two tables in an empty database.
-fn make<S: Alter>(store: &mut S) -> Result<(), StoreError>
+fn create_tables<S: Alter>(store: &mut S) -> Result<(), StoreError>
     requires numbered { IsClean (S.Store.view store.old) → IsTrue (S.Store.view store.old).is_numbered }
     requires empty { IsClean (S.Store.view store.old) → (S.Store.view store.old).trees catalog_tree ≡ [] }
     requires blobs { (S.Store.view store.old).shape blob_tree ≡ shape.Absent }
     requires roots { (S.Store.view store.old).shape root_tree ≡ shape.Absent }
     ensures made { OnOk result (IsClean (S.Store.view store.new)
         → TablesCreated (S.Store.view store.old) (S.Store.view store.new)) }
-    ensures clean { doubt (S.Store.view store.old).is_clean ≤ doubt (S.Store.view store.new).is_clean }
+    ensures doubt_never_falls { doubt (S.Store.view store.old).is_clean ≤ doubt (S.Store.view store.new).is_clean }
 {
-    store.create(BLOBS, &table("blobs", BLOBS_SQL))?;
-    store.create(ROOTS, &table("roots", ROOTS_SQL))?;
+    store.create(BLOBS, &table_object("blobs", BLOBS_SQL))?;
+    store.create(ROOTS, &table_object("roots", ROOTS_SQL))?;
     store.set_version(VERSION)?;
     store.commit()
 }
 
 /// Tests that the database has exactly these two tables, in a version that this crate knows.
-fn test<S: Alter>(store: &S, objects: &[Row]) -> Result<(), OpenError> {
+fn test_tables<S: Alter>(store: &S, objects: &[Row]) -> Result<(), OpenError> {
     if store.version() > VERSION {
         return Err(OpenError::Newer(store.version()));
     }
@@ -97,20 +98,20 @@ fn test<S: Alter>(store: &S, objects: &[Row]) -> Result<(), OpenError> {
 
 /// Finds the two tables, and creates them if the database is empty.
 #[tactic(auto, using(crate::proofs::Opening::opening))]
-pub fn prepare<S: Alter>(alloc: Global, store: &mut S) -> Result<(), OpenError>
+pub fn prepare_tables<S: Alter>(alloc: Global, store: &mut S) -> Result<(), OpenError>
     requires numbered { IsClean (S.Store.view store.old) → IsTrue (S.Store.view store.old).is_numbered }
     requires idle { IsIdle (S.Store.view store.old) }
-    ensures found { OnOk result (Finds (S.Store.view store.old) (S.Store.view store.new)) }
+    ensures found { OnOk result (FindsTables (S.Store.view store.old) (S.Store.view store.new)) }
 {
     let objects = store.objects(alloc)?;
     if objects.is_empty() {
         if !has_neither_table(store) {
             return Err(OpenError::Io);
         }
-        make(store)?;
+        create_tables(store)?;
         return Ok(());
     }
-    test(store, objects.as_slice())?;
+    test_tables(store, objects.as_slice())?;
     if has_both_tables(store) {
         Ok(())
     } else {

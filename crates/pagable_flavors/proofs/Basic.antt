@@ -1,6 +1,10 @@
 -- UTF-8 as a test, and how large the number without a sign is that stands for one with a sign.
-use Rattle.std.proofs.{Common.{◌≡◌, ◌<◌, ◌^◌, ℕ, ℤ, List, false, FitsSigned, arith}, lemmas.Bool.false_from_ne_true, lemmas.Str.{IsUtf8-from_is_utf8, is_utf8-from_IsUtf8, chars_past_char, chars-nil}}
-use Rattle.{std.specs.{Int.{w16, w32}, Str.{IsUtf8, is_utf8}}, pagable_value_spec.specs.Numbers.zigzag}
+use Rattle.pagable_value_spec.specs.Numbers.{zigzag}
+use Rattle.std.proofs.{
+  Common.{FitsSigned, List, arith, false, ℕ, ℤ, ◌<◌, ◌^◌, ◌≡◌},
+  lemmas.{Bool.false_from_ne_true, Str.{IsUtf8-from_is_utf8, chars-nil, chars_past_char, is_utf8-from_IsUtf8}},
+}
+use Rattle.std.specs.{Int.{w16, w32}, Str.{IsUtf8, is_utf8}}
 
 pub not_utf8 : (bs : List ℕ) → (IsUtf8 bs → ⊥) → is_utf8 bs ≡ false
 not_utf8 bs h = false_from_ne_true (is_utf8 bs) (λ e. h (IsUtf8-from_is_utf8 bs e))

@@ -1,7 +1,11 @@
 -- Numbers of seven bits a byte, byte by byte.
-use Rattle.std.proofs.Common.{length, get_or, add-one, ◌≡◌, ℕ, zero, suc, ◌+◌, ◌-◌, ◌*◌, ◌/◌, ◌%◌, ◌<◌, ◌≤◌, ◌≢◌, refl, arith, List, [], ◌∷◌, ◌++◌, drop, Ok, Err, sym, ap, ◌∙◌, append_assoc}
-use Rattle.std.proofs.{Math.Seq.drop-cons, lemmas.Bool.le-ltb, lemmas.Bool.lt-ltb, lemmas.Bool.le-leb, lemmas.Bool.lt-leb, lemmas.List.append-nil, lemmas.List.drop_all}
-use Rattle.pagable_value_spec.specs.{Outcomes.Extends, Numbers.Read, Numbers.byte_at, Numbers.varint, Numbers.varint_at, Numbers.varint_limit, ReadSteps.◌>>=◌, Numbers.AppendsVarint}
+use Rattle.pagable_value_spec.specs.{Numbers.{AppendsVarint, Read, byte_at, varint, varint_at, varint_limit}, Outcomes.Extends, ReadSteps.◌>>=◌}
+use Rattle.std.proofs.{
+  Common.{Err, List, Ok, add-one, ap, append_assoc, arith, drop, get_or, length, refl, suc, sym, zero, ℕ, [], ◌%◌, ◌*◌, ◌++◌, ◌+◌, ◌-◌, ◌/◌, ◌<◌, ◌∙◌, ◌∷◌},
+  Common.{◌≡◌, ◌≢◌, ◌≤◌},
+  Math.Seq.drop-cons,
+  lemmas.{Bool.{le-leb, le-ltb, lt-leb, lt-ltb}, List.{append-nil, drop_all}},
+}
 use Rattle.pagable_value_spec.specs.declared.error.Error.TheVariants as errors
 
 -- What was read so far are the low bits, and what the rest reads as is the high part of the number.

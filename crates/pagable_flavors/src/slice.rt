@@ -1,7 +1,13 @@
 //! `PagableSlice`: a reader over a slice of bytes.
 
-ghost use Rattle.std.specs.Prelude.{◌≡◌, ◌≤◌, length, OnErr};
-ghost use Rattle.{pagable_flavors.specs.Calls.Reads, pagable_value_spec.specs.{BasicValues.bytes_at, Outcomes.{MatchesReading, no_own_causes}, Numbers.byte_at, Progress.{Track, left, GoesOn}}};
+ghost use Rattle.pagable_flavors.specs.Calls.{Reads};
+ghost use Rattle.pagable_value_spec.specs.{
+  BasicValues.bytes_at,
+  Numbers.byte_at,
+  Outcomes.{MatchesReading, no_own_causes},
+  Progress.{MovesForward, ReaderState, left},
+};
+ghost use Rattle.std.specs.Prelude.{OnErr, length, ◌≡◌, ◌≤◌};
 
 mod numbers;
 mod reading;
@@ -21,10 +27,10 @@ pub struct PagableSlice<'de> {
 }
 
 impl<'de> Model for PagableSlice<'de> {
-    ghost use Rattle.pagable_value_spec.specs.Progress.{Track};
+    ghost use Rattle.pagable_value_spec.specs.Progress.{ReaderState};
     ghost use Rattle.std.specs.Prelude.{length, ◌≤◌};
 
-    ghost Value = { Track };
+    ghost Value = { ReaderState };
 
     ghost view = { λ r. record { all = r.bytes.now; position = r.position } };
 
@@ -95,7 +101,7 @@ impl<'de> PagableSlice<'de> {
     pub fn try_take_n(&mut self, count: usize) -> Result<&'de [u8], Error>
         ensures gives { MatchesReading no_own_causes (λ b. (b.now, left self.new)) result
             (bytes_at count (left self.old)) }
-        ensures goes { GoesOn self.old self.new }
+        ensures moves { MovesForward self.old self.new }
         ensures err { OnErr result (self.new ≡ self.old) }
     {
         if count > self.bytes.len() - self.position {
@@ -110,7 +116,7 @@ impl<'de> PagableSlice<'de> {
     pub fn try_take_n_temp(&mut self, count: usize) -> Result<&'de [u8], Error>
         ensures gives { MatchesReading no_own_causes (λ b. (b.now, left self.new)) result
             (bytes_at count (left self.old)) }
-        ensures goes { GoesOn self.old self.new }
+        ensures moves { MovesForward self.old self.new }
         ensures err { OnErr result (self.new ≡ self.old) }
     {
         self.try_take_n(count)

@@ -1,7 +1,7 @@
 //! `PagableVecFlavor`: a writer into a vector of bytes.
 
-ghost use Rattle.pagable_value_spec.specs.Outcomes.{memory};
-ghost use Rattle.std.specs.Prelude.{IfErr, List, OnErr, OnOk, [], drop, length, take, ◌++◌, ◌+◌, ◌∷◌, ◌≡◌, ◌≤◌};
+ghost use Rattle.pagable_value_spec.specs.Outcomes.{IsOutOfMemory};
+ghost use Rattle.std.specs.Prelude.{IfErr, List, OnErr, OnOk, drop, length, take, [], ◌++◌, ◌+◌, ◌∷◌, ◌≡◌, ◌≤◌};
 
 mod writing;
 
@@ -70,7 +70,7 @@ impl PagableVecFlavor {
     /// - `OutOfMemory` if the writer can't grow: nothing is written.
     pub fn try_push(&mut self, byte: u8) -> Result<(), Error>
         ensures ok { OnOk result (self.new ≡ self.old ++ byte ∷ []) }
-        ensures only { IfErr result memory }
+        ensures only { IfErr result IsOutOfMemory }
         ensures err { OnErr result (self.new ≡ self.old) }
     {
         self.bytes.push(byte)?;
@@ -84,7 +84,7 @@ impl PagableVecFlavor {
     /// - `OutOfMemory` if the writer can't grow: nothing is written.
     pub fn try_extend(&mut self, bytes: &[u8]) -> Result<(), Error>
         ensures ok { OnOk result (self.new ≡ self.old ++ bytes.now) }
-        ensures only { IfErr result memory }
+        ensures only { IfErr result IsOutOfMemory }
         ensures err { OnErr result (self.new ≡ self.old) }
     {
         self.bytes.extend_from_slice(bytes)?;

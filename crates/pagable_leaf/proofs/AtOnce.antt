@@ -1,20 +1,26 @@
 -- A leaf that is loaded in one call: the numbers of a load and of its handle are taken, and the cell is pinned. A load by steps that begins, fetches and ends
 -- leaves the same.
-use Rattle.pagable_tables.specs.Core.{StorageView}
-use Rattle.pagable_tables.proofs.{CascadeStep.{aside, turned, unmixed}, Counting.{all-kept, kept-more, left-none, of_list, there-is}}
-use Rattle.pagable_tables.proofs.{HandleTable.found-append, OwnedByLoad.{changed-push, seen-before}, RowCounts.{found-among, sum-none}}
-use Rattle.pagable_tables.proofs.CascadeEnd.{ended}
-use Rattle.pagable_leaf.proofs.Words.{Alike, BeginCall, Bool, Core, Falls, HandleNumber, HandleRow, RefCounts, Installs, List}
-use Rattle.pagable_leaf.proofs.Words.{LoadNumber, MayEnd, Mode, None, Ok, Option, OptionalDataKey, Owner, Owns, SoFar, Some, Tables, [], append-nil, ap, arith, cases_Bool, cases_eq, changed, core_of}
-use Rattle.pagable_leaf.proofs.Words.{MustList, false, filter-append, find_row, greatest, if◌then◌else◌, inl, inr, is_handle, is_here, is_loose, is_named_by, is_owned_by, is_owned_in, is_pin, is_plain_pin, is_share, left_rows}
-use Rattle.pagable_leaf.proofs.Words.{length, moved, nat_tests, nobody, not, of_cell, one, or_else, owner_value, owns_nothing, pins, refl, row_of, sharing, subst, sum_by-cons, sum_by-le-sum_by, sum_by_push, sym}
-use Rattle.pagable_tables.proofs.SameViews.{alike-on, moved-nobody, named-none, owner-same, same-cache}
-use Rattle.pagable_leaf.proofs.Words.{times, type_at, with_handle, with_load, with_mode, with_pin, with_tables, without_load, ℕ, ◌&&◌, ◌++◌, ◌+◌, ◌<◌, ◌==◌, ◌∙◌, ◌∷◌, ◌≡◌, ◌≤◌}
-use Rattle.pagable_tables.proofs.Views.{none-named}
-use Rattle.pagable_leaf.proofs.Words.{Last, length-append, length-map}
-use Rattle.pagable_tables.specs.Core.{ArePlaced}
-use Rattle.{pagable_leaf.specs.Leaf.{PinsLeaf, with_numbers}, pagable_tables.specs.Core.IsWhole}
-use Rattle.pagable_pager_spec.specs.{declared.pinning.Beginning.Beginning, World.key_at}
+use Rattle.pagable_leaf.proofs.{
+  Words.{Alike, BeginCall, Bool, Core, Falls, HandleNumber, HandleRow, Installs, Last, List, LoadNumber, MayEnd, Mode, MustList, None, Ok, Option},
+  Words.{OptionalDataKey, Owner, Owns, RefCounts, ReleasedSoFar, Some, Tables, ap, append-nil, arith, cases_Bool, cases_eq, changed, core_of, false},
+  Words.{filter-append, find_row, greatest, if◌then◌else◌, inl, inr, is_handle, is_here, is_loose, is_named_by, is_owned_by, is_owned_in, is_pin, is_plain_pin},
+  Words.{is_share, left_rows, length, length-append, length-map, moved, nat_tests, nobody, not, of_cell, one, or_else, owner_value, owns_nothing, pins, refl},
+  Words.{row_of, sharing, subst, sum_by-cons, sum_by-le-sum_by, sum_by_push, sym, times, type_at, with_handle, with_load, with_mode, with_pin, with_tables},
+  Words.{without_load, ℕ, [], ◌&&◌, ◌++◌, ◌+◌, ◌<◌, ◌==◌, ◌∙◌, ◌∷◌, ◌≡◌, ◌≤◌},
+}
+use Rattle.pagable_leaf.specs.Leaf.{PinsLeaf, with_numbers}
+use Rattle.pagable_pager_spec.specs.{World.key_at, declared.pinning.Beginning.Beginning}
+use Rattle.pagable_tables.proofs.{
+  CascadeEnd.ended,
+  CascadeStep.{aside, turned, unmixed},
+  Counting.{all-kept, kept-more, left-none, of_list, there-is},
+  HandleTable.found-append,
+  OwnedByLoad.{changed-push, seen-before},
+  RowCounts.{found-among, sum-none},
+  SameViews.{alike-on, moved-nobody, named-none, owner-same, same-cache},
+  Views.none-named,
+}
+use Rattle.pagable_tables.specs.Core.{ArePlaced, IsWhole, StorageView}
 
 turned-more : (n q : ℕ) (rows : List HandleRow) → pins n rows ≤ pins n (changed (is_handle q) turned rows)
 turned-more n q [] = omega arith
@@ -128,7 +134,7 @@ module _ (t t1 : Tables) (storage : StorageView) (lists : Bool) (was : IsWhole t
     none-after = was.core.owners_there.listed g ∙ sum-none (λ h. one (is_handle g h && is_owned_by Owner.List h)) w.rows
         (λ h among. let n = was.core.handles.numbered h among in grind (arith, nat_tests))
 
-    so-far : SoFar u u only lists after
+    so-far : ReleasedSoFar u u only lists after
     so-far = record {
       begins = record {
         open_storage = e;

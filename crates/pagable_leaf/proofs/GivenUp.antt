@@ -1,16 +1,23 @@
 -- A load of a cell that begins and is dropped leaves only that its number and that of its handle are taken.
-use Rattle.pagable_tables.specs.Core.{StorageView}
-use Rattle.pagable_tables.proofs.{CascadeEnd.ended, CascadeStep.{aside, unmixed}, Counting.{all-kept, kept-more, left-none, of_list, there-is}}
-use Rattle.pagable_tables.proofs.{HandleTable.found-append, OwnedByLoad.seen-before, RowCounts.{found-among, sum-none}}
-use Rattle.pagable_leaf.proofs.Words.{Alike, BeginCall, Bool, Core, Falls, HandleNumber, HandleRow, RefCounts, LoadNumber, Mode, MustList, None, Ok, Option, OptionalDataKey, Owner, Owns}
-use Rattle.pagable_leaf.proofs.Words.{SoFar, Some, Tables, [], append-nil, ap, arith, cases_Bool, cases_eq, core_of, false, filter-append, find_row, greatest, inl, inr, is_handle, is_here, is_loose, is_owned_by}
-use Rattle.pagable_leaf.proofs.Words.{is_owned_in, is_pin, is_plain_pin, is_share, left_rows, nat_tests, nobody, of_cell, one, or_else, owns_nothing, refl, row_of, subst, sum_by_push, sym, times, type_at}
-use Rattle.pagable_tables.proofs.SameViews.{alike-on, owner-same, same-cache, still}
-use Rattle.pagable_leaf.proofs.Words.{with_handle, with_load, with_tables, without_load, not, if◌then◌else◌, ℕ, ◌&&◌, ◌+◌, ◌<◌, ◌==◌, ◌∙◌, ◌∷◌, ◌≡◌, ◌≤◌}
+use Rattle.pagable_leaf.proofs.{
+  Words.{Alike, BeginCall, Bool, Core, Falls, HandleNumber, HandleRow, LoadNumber, Mode, MustList, None, Ok, Option, OptionalDataKey, Owner, Owns, RefCounts},
+  Words.{ReleasedSoFar, Some, Tables, ap, append-nil, arith, cases_Bool, cases_eq, core_of, false, filter-append, find_row, greatest, if◌then◌else◌, inl, inr},
+  Words.{is_handle, is_here, is_loose, is_owned_by, is_owned_in, is_pin, is_plain_pin, is_share, left_rows, length-append, nat_tests, nobody, not, of_cell},
+  Words.{one, or_else, owns_nothing, refl, row_of, subst, sum_by_push, sym, times, type_at, with_handle, with_load, with_tables, without_load, ℕ, [], ◌&&◌},
+  Words.{◌+◌, ◌<◌, ◌==◌, ◌∙◌, ◌∷◌, ◌≡◌, ◌≤◌},
+}
 use Rattle.pagable_leaf.specs.Leaf.{DropsLeaf}
-use Rattle.pagable_tables.specs.{Core.{ArePlaced, IsWhole}, HandleTable.room}
-use Rattle.pagable_leaf.proofs.Words.{length-append}
 use Rattle.pagable_pager_spec.specs.{World.key_at, declared.pinning.Beginning.Beginning}
+use Rattle.pagable_tables.proofs.{
+  CascadeEnd.ended,
+  CascadeStep.{aside, unmixed},
+  Counting.{all-kept, kept-more, left-none, of_list, there-is},
+  HandleTable.found-append,
+  OwnedByLoad.seen-before,
+  RowCounts.{found-among, sum-none},
+  SameViews.{alike-on, owner-same, same-cache, still},
+}
+use Rattle.pagable_tables.specs.{Core.{ArePlaced, IsWhole, StorageView}, HandleTable.room}
 
 module _ (t : Tables) (storage : StorageView) (lists : Bool) (was : IsWhole t) (e : lists ≡ not storage.closed) (me : Owner) (row : HandleRow)
     (key type : ℕ) where
@@ -64,7 +71,7 @@ module _ (t : Tables) (storage : StorageView) (lists : Bool) (was : IsWhole t) (
     none-after = was.core.owners_there.listed g ∙ sum-none (λ h. one (is_handle g h && is_owned_by Owner.List h)) w.rows
         (λ h among. let n = was.core.handles.numbered h among in grind (arith, nat_tests))
 
-    so-far : SoFar u u only lists after
+    so-far : ReleasedSoFar u u only lists after
     so-far = record {
       begins = record {
         open_storage = e;

@@ -1,8 +1,17 @@
 -- Loads of leaves in one call: what a load by steps leaves that begins, gets its blob and ends, or is dropped.
-use Rattle.std.specs.Prelude.{Ok, Some, [], false, ℕ, ◌+◌, ◌<◌, ◌≡◌}
-use Rattle.{pagable_leaf.specs.declared.leaf.Leaf.Leaf, pagable_tables.specs.Core.ArePlaced, pagable_value_spec.specs.declared.{data_key.OptionalDataKey.OptionalDataKey, numbers.{HandleNumber.HandleNumber}}}
-use Rattle.pagable_pager_spec.specs.{Kinds.is_loose, LoadCalls.{BeginCall, Installs, LoadCloses, MayEnd}, Refusals.Owns, World.{Core, greatest, is_here, key_at, of_cell, type_at}}
-use Rattle.pagable_pager_spec.specs.declared.{pinning.Beginning.Beginning, handle_row.{HandleRow.HandleRow, Owner.Owner}}
+use Rattle.pagable_leaf.specs.declared.leaf.Leaf.{Leaf}
+use Rattle.pagable_pager_spec.specs.{
+  Kinds.is_loose,
+  LoadCalls.{BeginCall, Installs, LoadCloses, MayEnd},
+  Refusals.Owns,
+  World.{Core, greatest, is_here, key_at, of_cell, type_at},
+  declared.{handle_row.{HandleRow.HandleRow, Owner.Owner}, pinning.Beginning.Beginning},
+}
+use Rattle.pagable_tables.specs.Core.{ArePlaced}
+use Rattle.pagable_value_spec.specs.{
+  declared.{data_key.OptionalDataKey.OptionalDataKey, numbers.HandleNumber.HandleNumber},
+}
+use Rattle.std.specs.Prelude.{Ok, Some, false, ℕ, [], ◌+◌, ◌<◌, ◌≡◌}
 
 -- the numbers of a load and of its handle are taken
 abbrev pub with_numbers : Core → Core

@@ -1,16 +1,20 @@
-//! Loads of leaves, cells whose blobs have no references, in one call. They leave what a load by
-//! steps leaves that begins, gets the blob and ends, without making its row and its handle.
+//! Loads leaves (cells whose blobs have no references) in one call. The call leaves the state that
+//! a load leaves which begins, gets the blob and ends step by step; but it makes no row and no
+//! handle of a load.
 
-ghost use Rattle.pagable_tables.specs.Core.{StorageView};
 ghost use Rattle.pagable_leaf.specs.Leaf.{DropsLeaf, IsLeaf, PinsLeaf, with_numbers};
-ghost use Rattle.pagable_tables.specs.{Core.{OwnLaterHandles, Does, IsWhole, OnlyRoom, core_of, core_alone}, EndingLoads.has_come, HandleTable.room};
-ghost use Rattle.pagable_tables.specs.Nodes.{counts_at, has_value};
-ghost use Rattle.pagable_pager_spec.specs.{LoadCalls.BeginCall, Pager.{MayOwnLoad}, World.{greatest}};
+ghost use Rattle.pagable_pager_spec.specs.{LoadCalls.BeginCall, Pager.MayOwnLoad, World.greatest};
+ghost use Rattle.pagable_tables.specs.{
+  Core.{Does, IsWhole, OnlyRoom, OwnLaterHandles, StorageView, core_alone, core_of},
+  EndingLoads.has_value_once_loaded,
+  HandleTable.room,
+  Nodes.{counts_at, has_value},
+};
 ghost use Rattle.std.specs.Prelude.{Err, IfErr, IfNone, IfOk, IfSome, Option, ℕ, ◌+◌, ◌<◌, ◌≡◌, ◌≤◌};
 
 use pagable_pager_spec::handle_row::{HandleRow, Owner};
-use pagable_tables::checks::own;
-use pagable_tables::create::pin_here;
+use pagable_tables::checks::find_owned;
+use pagable_tables::create::pin_in_memory;
 use pagable_tables::kinds::is_loose_mode;
 use pagable_tables::tables::{self, Tables};
 use pagable_tables::{handle_table, nodes};
@@ -31,7 +35,7 @@ pub fn find_unloaded(t: &Tables, me: Owner, handle: HandleNumber) -> Option<Leaf
     ensures leaf { (storage : StorageView) → IfSome result (IsLeaf (core_of t.now storage) me) }
     ensures number { IfSome result (λ leaf. leaf.row.number ≡ handle) }
 {
-    let at = own(t, me, handle).ok()?;
+    let at = find_owned(t, me, handle).ok()?;
     let counts = nodes::counts_of(&t.ref_counts.nodes, at.row.node.0)?;
     if !is_loose_mode(at.row.mode) || counts.pins > 0 {
         return None;
@@ -46,13 +50,13 @@ pub fn find_unloaded(t: &Tables, me: Owner, handle: HandleNumber) -> Option<Leaf
     })
 }
 
-/// Finds the cell of a loose handle as `find_unloaded` does, and makes room for a pin of it. Returns None,
-/// and changes nothing, if `find_unloaded` does.
+/// Finds the cell of a loose handle as `find_unloaded` does, and makes room for a pin of it.
+/// Returns None, and changes nothing, if `find_unloaded` returns None.
 ///
 /// # Errors
 ///
 /// - `OutOfMemory` if the handles can't grow: nothing changes.
-pub fn prepare(t: &mut Tables, me: Owner, handle: HandleNumber) -> Result<Option<Leaf>, Error>
+pub fn prepare_pin(t: &mut Tables, me: Owner, handle: HandleNumber) -> Result<Option<Leaf>, Error>
     requires { IsWhole t.old }
     ensures leaf { (storage : StorageView) → IfOk result (λ found. IfSome found (IsLeaf (core_of t.new storage) me)) }
     ensures number { IfOk result (λ found. IfSome found (λ leaf. leaf.row.number ≡ handle)) }
@@ -88,22 +92,22 @@ pub fn take_numbers(t: &mut Tables)
     t.ref_counts.last_handle += 1;
 }
 
-/// Pins the cell, as a load does that begins and ends with a value without references: returns a
-/// new Pinned handle. The caller has stored the value itself already.
-pub fn install(t: &mut Tables, me: Owner, leaf: Leaf) -> HandleNumber
+/// Pins the cell and returns the new Pinned handle, as a load does that begins and ends with a
+/// value without references. The caller has stored the value among the values in memory already.
+pub fn pin_loaded_leaf(t: &mut Tables, me: Owner, leaf: Leaf) -> HandleNumber
     requires whole { IsWhole t.old }
     requires leaf { IsLeaf (core_alone t.old) me leaf }
     requires may { MayOwnLoad (core_alone t.old) me }
     requires place { 1 ≤ room t.old.ref_counts.handles }
     ensures pins { (storage : StorageView) → PinsLeaf (core_of t.old storage) me leaf.row leaf.key leaf.node_type result
         (core_of t.new storage) }
-    ensures come { (n : ℕ) → has_value (counts_at t.new.ref_counts.nodes n)
-        ≡ has_come (counts_at t.old.ref_counts.nodes) leaf.row.node n }
+    ensures values { (n : ℕ) → has_value (counts_at t.new.ref_counts.nodes n)
+        ≡ has_value_once_loaded (counts_at t.old.ref_counts.nodes) leaf.row.node n }
     ensures whole { IsWhole t.new }
     ensures later { OwnLaterHandles t.old → OwnLaterHandles t.new }
 {
     take_numbers(t);
-    let Ok(handle) = pin_here(t, me, leaf.row) else {
+    let Ok(handle) = pin_in_memory(t, me, leaf.row) else {
         unreachable!();
     };
     handle

@@ -1,15 +1,37 @@
 -- What a blob asks for depends on kinds alone: two readings with references of the same kinds run in parallel, up to where one of them asks for a reference
 -- that wasn't got.
-use Rattle.pagable_theorems.proofs.{Naturality.{Out, SameRest, Sober, both-faulty, both-given, both-refused, first-refused, typed_par}, Trees.{Along, reference-along}}
-use Rattle.pagable_load.specs.{Decoding.{AllAhead, AreAhead, AsksNext, Follows, Foresees, FramesGo, GoesFor, GotMore, IsAhead, IsAheadOf, KeptAt, LeftIf, NeedsNext, is_adoption, kinds_of, stacked}, LoadEnd.{LeadsOn, left_behind, left_in, many, to_do, weight, weight_on}}
-use Rattle.pagable_value_spec.specs.{Blob.Blob, Meaning.Meaning, Reading.{Rest, reference_at}, Cursor.{Answer, answer_at}, ReadSteps.◌>>=◌, declared.{error.Error.Error, numbers.ArcRef.ArcRef}}
-use Rattle.std.proofs.lemmas.{Bool.{cases_Bool, eqb-true}, Grind.common_steps, Option.slice_get_within}
-use Rattle.std.proofs.lemmas.{Bool.Decides.nat_tests, List.{append_assoc, at_drop_all, at_drop_more, length-append, length-map, map-append}, Option.{slice_get-get_or, slice_get_cases}}
-use Rattle.std.proofs.{Common.{inl, inr, length, refl, slice_get, subst, suc, sym, zero, ℕ, ◌*◌, ◌++◌, ◌+◌, ◌-◌, ◌<◌, ◌==◌, ◌^◌, ◌∙◌, ◌∷◌, ◌≡◌, ◌≤◌, ◌⊎◌}, Math.Nat.mul-le-mul_right}
-use Rattle.{pagable_value_spec.specs.declared.numbers.Kind.Kind, pagable_pager_spec.specs.Loads.{Need, answer_of, answers_from, asks, need_at, need_of, needs_lazy, needs_nested, next_by, next_of}}
-use Rattle.{pagable_pager_spec.specs.{Loads.read_with as read_blob, Basics.Types, World.Frame}, std.proofs.Common.{Bool, Err, List, None, Ok, Option, Result, Some, [], ap, arith, drop, false}}
-use Rattle.{pagable_load.specs.declared.reading.Need.Need as Needed, pagable_pager_spec.specs.declared.events.LoadAnswer.LoadAnswer}
-use Rattle.std.{proofs.Common.true, specs.{Prelude.IfNone, declared.{alloc.Global.Global, vec.Vec.Vec}}}
+use Rattle.pagable_load.specs.{
+  Decoding.{AsksNext, EachRowFits, Foresees, FramesChange, FramesChangeFor, GotMore, KeptIfKindAt, NeedsNext, RemovedIf, RowFits, RowFitsFrame, RowsFit},
+  Decoding.{RowsStayFit, is_adoption, kinds_of, stacked},
+  LoadEnd.{EndsOrLeavesLess, left_behind, left_in, many, to_do, weight, weight_on},
+  declared.reading.Need.Need as Needed,
+}
+use Rattle.pagable_pager_spec.specs.{
+  Basics.Types,
+  Loads.{Need, answer_of, answers_from, asks, need_at, need_of, needs_lazy, needs_nested, next_by, next_of, read_with as read_blob},
+  World.Frame,
+  declared.events.LoadAnswer.LoadAnswer,
+}
+use Rattle.pagable_theorems.proofs.{
+  Naturality.{Out, SameRest, Sober, both-faulty, both-given, both-refused, first-refused, typed_par},
+  Trees.{Along, reference-along},
+}
+use Rattle.pagable_value_spec.specs.{
+  Blob.Blob,
+  Cursor.{Answer, answer_at},
+  Meaning.Meaning,
+  ReadSteps.◌>>=◌,
+  Reading.{Rest, reference_at},
+  declared.{error.Error.Error, numbers.{ArcRef.ArcRef, Kind.Kind}},
+}
+use Rattle.std.proofs.{
+  Common.{Bool, Err, List, None, Ok, Option, Result, Some, ap, arith, drop, false, inl, inr, length, refl, slice_get, subst, suc, sym, true, zero, ℕ, [], ◌*◌},
+  Common.{◌++◌, ◌+◌, ◌-◌, ◌<◌, ◌==◌, ◌^◌, ◌∙◌, ◌∷◌, ◌≡◌, ◌≤◌, ◌⊎◌},
+  Math.Nat.mul-le-mul_right,
+  lemmas.{Bool.{Decides.nat_tests, cases_Bool, eqb-true}, Grind.common_steps},
+  lemmas.{List.{append_assoc, at_drop_all, at_drop_more, length-append, length-map, map-append}, Option.{slice_get-get_or, slice_get_cases, slice_get_within}},
+}
+use Rattle.std.specs.{Prelude.IfNone, declared.{alloc.Global.Global, vec.Vec.Vec}}
 use Rattle.pagable_value_spec.specs.Meaning as meanings
 
 -- ---- kinds that are asked for
@@ -117,7 +139,7 @@ foreseen types f row xs noted last kind key is split same next = grind (arith, n
 
 pub row_found : (types : Types) (f : Frame) (fs frames : List Frame) (row xs noted : List ArcRef) (last : ArcRef) (kind : Kind) (key : ℕ) → frames ≡ f ∷ fs
     → row ≡ xs ++ last ∷ []
-    → xs ≡ f.got ++ noted → kind.0 ≡ last.kind.0 → next_of types f.node_type f.blob xs ≡ asks kind key → IsAhead types frames row
+    → xs ≡ f.got ++ noted → kind.0 ≡ last.kind.0 → next_of types f.node_type f.blob xs ≡ asks kind key → RowFits types frames row
 row_found types f fs frames row xs noted last kind key there is split same next =
     record {
       is = λ g gs at. let e : f ∷ fs ≡ g ∷ gs = sym there ∙ at in let one : f ≡ g = cc in
@@ -139,7 +161,7 @@ still_ahead types f row r s h at same = grind (arith, nat_tests, append_assoc, k
 
 -- what a row tells of the innermost blob
 told_by : (types : Types) (top : Frame) (fs : List Frame) (row : List ArcRef) (r : ArcRef) (key : ℕ) → slice_get row (length top.got) ≡ Some r
-    → slice_get top.blob.keys (length top.got) ≡ Some key → IsAheadOf types top row → NeedsNext types (top ∷ fs) r.kind key
+    → slice_get top.blob.keys (length top.got) ≡ Some key → RowFitsFrame types top row → NeedsNext types (top ∷ fs) r.kind key
 told_by types top fs row r key at_row at_key (inl none) = absurd (let e : slice_get [] (length top.got)
     ≡ Some r = subst (λ xs. slice_get xs (length top.got) ≡ Some r) none at_row in cc)
 told_by types top fs row r key at_row at_key (inr h) =
@@ -150,7 +172,7 @@ told_by types top fs row r key at_row at_key (inr h) =
 
 pub row_tells : (types : Types) (top : Frame) (fs frames : List Frame) (row : List ArcRef) (r : ArcRef) (key place : ℕ) → frames ≡ top ∷ fs → place
     ≡ length top.got → slice_get row place ≡ Some r
-    → slice_get top.blob.keys place ≡ Some key → IsAhead types frames row → NeedsNext types frames r.kind key
+    → slice_get top.blob.keys place ≡ Some key → RowFits types frames row → NeedsNext types frames r.kind key
 row_tells types top fs frames row r key place is count at_row at_key h =
     let P : ℕ → Type 0 = λ n. (slice_get row n ≡ Some r) × (slice_get top.blob.keys n ≡ Some key) in
     let at : P (length top.got) = subst P count (at_row, at_key) in
@@ -162,16 +184,16 @@ last_of : (xs : List ArcRef) (x : ArcRef) → slice_get (xs ++ x ∷ []) (length
 last_of [] x = refl
 last_of (y ∷ xs) x = last_of xs x
 
-none_known : (types : Types) (frames : List Frame) → AreAhead types frames []
+none_known : (types : Types) (frames : List Frame) → EachRowFits types frames []
 none_known types [] = tt
 none_known types (f ∷ fs) = tt
 
-pub none_ahead : (types : Types) (frames : List Frame) (rows : List (List ArcRef)) → rows ≡ [] ∷ [] → AllAhead types frames rows
+pub none_ahead : (types : Types) (frames : List Frame) (rows : List (List ArcRef)) → rows ≡ [] ∷ [] → RowsFit types frames rows
 none_ahead types [] rows is = record { are = tt }
-none_ahead types (f ∷ fs) rows is = record { are = subst (AreAhead types (f ∷ fs)) (sym is) (inl refl, none_known types fs) }
+none_ahead types (f ∷ fs) rows is = record { are = subst (EachRowFits types (f ∷ fs)) (sym is) (inl refl, none_known types fs) }
 
-pub with_top : {types : Types} (frames : List Frame) {row row' : List ArcRef} {rows : List (List ArcRef)} → AllAhead types frames (row ∷ rows)
-    → IsAhead types frames row' → AllAhead types frames (row' ∷ rows)
+pub with_top : {types : Types} (frames : List Frame) {row row' : List ArcRef} {rows : List (List ArcRef)} → RowsFit types frames (row ∷ rows)
+    → RowFits types frames row' → RowsFit types frames (row' ∷ rows)
 with_top [] a h = record { are = tt }
 with_top (f ∷ fs) a h = record { are = (h.is f fs refl, a.are.1) }
 
@@ -188,8 +210,8 @@ pub ruleset leaving = (nat_tests, stacked_more, stacked_none)
 
 -- the innermost blob has got a reference, and its row stays where that is of its kind
 got_on : (types : Types) (f : Frame) (r : ArcRef) (row row' : List ArcRef) (place : ℕ) (kind : Kind) → place ≡ length f.got → kind.0 ≡ r.kind.0
-    → IsAheadOf types f row → KeptAt place kind row row'
-    → IsAheadOf types (record f { got = f.got ++ r ∷ [] }) row'
+    → RowFitsFrame types f row → KeptIfKindAt place kind row row'
+    → RowFitsFrame types (record f { got = f.got ++ r ∷ [] }) row'
 got_on types f r row row' place kind at of_kind h (inl none) = inl none
 got_on types f r row row' place kind at of_kind (inl none) (inr (same, (s, there, is))) = inl (same ∙ none)
 got_on types f r row row' place kind at of_kind (inr h) (inr (same, (s, there, is))) =
@@ -197,24 +219,24 @@ got_on types f r row row' place kind at of_kind (inr h) (inr (same, (s, there, i
     inr (subst (λ xs. Foresees types (record f { got = f.got ++ r ∷ [] }) (kinds_of xs)) (sym same) (still_ahead types f row s r h here (sym of_kind ∙ is)))
 
 -- what is known of the blobs before the innermost was read, and then of those below it
-left_on : (types : Types) (top : Frame) (below : List Frame) (rows mid : List (List ArcRef)) → LeftIf true rows mid → AreAhead types (top ∷ below) rows
-    → AreAhead types below mid
-left_on types top below rows mid (inl (row, is)) a = (subst (AreAhead types (top ∷ below)) is a).1
+left_on : (types : Types) (top : Frame) (below : List Frame) (rows mid : List (List ArcRef)) → RemovedIf true rows mid → EachRowFits types (top ∷ below) rows
+    → EachRowFits types below mid
+left_on types top below rows mid (inl (row, is)) a = (subst (EachRowFits types (top ∷ below)) is a).1
 left_on types top below rows mid (inr is) a = (none_ahead types below mid is).are
 
 -- a reference was got at the last place
 more_on : (new : List Frame) (types : Types) (old : List Frame) (r : ArcRef) (g : GotMore old new r) (row row' : List ArcRef) (rest : List (List ArcRef))
     (f : Frame) (fs : List Frame) (place : ℕ) (kind : Kind) (last : ArcRef)
-    → new ≡ f ∷ fs → place + 1 ≡ length f.got → slice_get f.got place ≡ Some last → kind ≡ last.kind → AreAhead types old (row ∷ rest)
-    → KeptAt place kind row row' → AreAhead types new (row' ∷ rest)
+    → new ≡ f ∷ fs → place + 1 ≡ length f.got → slice_get f.got place ≡ Some last → kind ≡ last.kind → EachRowFits types old (row ∷ rest)
+    → KeptIfKindAt place kind row row' → EachRowFits types new (row' ∷ rest)
 more_on new types old r g row row' rest f fs place kind last is count at of a kept =
     let same : f ≡ record g.f { got = g.f.got ++ r ∷ [] } = let e : f ∷ fs ≡ record g.f { got = g.f.got ++ r ∷ [] } ∷ g.fs = sym is ∙ g.is in cc in
     let gots : f.got ≡ g.f.got ++ r ∷ [] = ap (λ (x : Frame). x.got) same in
     let here : place ≡ length g.f.got = let n = length-append g.f.got (r ∷ []) in omega (arith, count, ap length gots, n) in
     let one : last ≡ r = let e : Some last ≡ Some r = sym at ∙ ap (λ xs. slice_get xs place) gots ∙ ap (slice_get (g.f.got ++ r ∷ [])) here
     ∙ last_of g.f.got r in cc in
-    let was = subst (λ fr. AreAhead types fr (row ∷ rest)) g.was a in
-    subst (λ fr. AreAhead types fr (row' ∷ rest)) (sym g.is) (
+    let was = subst (λ fr. EachRowFits types fr (row ∷ rest)) g.was a in
+    subst (λ fr. EachRowFits types fr (row' ∷ rest)) (sym g.is) (
       got_on types g.f r row row' place kind here
           (ap (λ (k : Kind). k.0) of ∙ ap (λ (x : ArcRef). x.kind.0) one) was.0 kept,
       was.1,
@@ -229,34 +251,36 @@ some_got old new r f fs g is =
 
 module _ (types : Types) (new : List Frame) (rows mid rows' : List (List ArcRef)) (f : Frame) (fs : List Frame) (is : new ≡ f ∷ fs) where
   -- a blob came, of which nothing was got
-  came : (b : Bool) (old : List Frame) → f.got ≡ [] → (rows' ≡ [] ∷ mid) ⊎ (rows' ≡ [] ∷ []) → LeftIf b rows mid → FramesGo b old new → AreAhead types old rows
-      → AreAhead types new rows'
+  came : (b : Bool) (old : List Frame) → f.got ≡ [] → (rows' ≡ [] ∷ mid) ⊎ (rows' ≡ [] ∷ []) → RemovedIf b rows mid → FramesChange b old new
+      → EachRowFits types old rows
+      → EachRowFits types new rows'
   came true old none after left go a = absurd (let some = some_got go.below new go.r f fs go.more is in omega (arith, some, ap length none))
   came false old none after left (inr (r, go)) a = absurd (let some = some_got old new r f fs go is in omega (arith, some, ap length none))
-  came false old none (inl after) left (inl go) a = subst (λ fr. AreAhead types fr rows') (sym go.is)
-      (subst (AreAhead types (go.f ∷ old)) (sym after) (inl refl, subst (AreAhead types old) (sym left) a))
+  came false old none (inl after) left (inl go) a = subst (λ fr. EachRowFits types fr rows') (sym go.is)
+      (subst (EachRowFits types (go.f ∷ old)) (sym after) (inl refl, subst (EachRowFits types old) (sym left) a))
   came false old none (inr after) left (inl go) a = (none_ahead types new rows' after).are
 
   -- a reference was got
   grew : (b : Bool) (old : List Frame) (row row' : List ArcRef) (rest : List (List ArcRef)) (place : ℕ) (kind : Kind) (last : ArcRef) → mid ≡ row ∷ rest → rows'
       ≡ row' ∷ rest
-      → place + 1 ≡ length f.got → slice_get f.got place ≡ Some last → kind ≡ last.kind → KeptAt place kind row row' → LeftIf b rows mid → FramesGo b old new
-      → AreAhead types old rows → AreAhead types new rows'
+      → place + 1 ≡ length f.got → slice_get f.got place ≡ Some last → kind ≡ last.kind → KeptIfKindAt place kind row row' → RemovedIf b rows mid
+      → FramesChange b old new
+      → EachRowFits types old rows → EachRowFits types new rows'
   grew true old row row' rest place kind last has after count at of kept left go a =
-      let was = left_on types go.top go.below rows mid left (subst (λ fr. AreAhead types fr rows) go.was a) in
-      subst (AreAhead types new) (sym after) (more_on new types go.below go.r go.more row row' rest f fs place kind last is count at of
-      (subst (AreAhead types go.below) has was) kept)
+      let was = left_on types go.top go.below rows mid left (subst (λ fr. EachRowFits types fr rows) go.was a) in
+      subst (EachRowFits types new) (sym after) (more_on new types go.below go.r go.more row row' rest f fs place kind last is count at of
+      (subst (EachRowFits types go.below) has was) kept)
   grew false old row row' rest place kind last has after count at of kept left (inl go) a =
       absurd (let e : f ∷ fs ≡ go.f ∷ old = sym is ∙ go.is in let same : f ≡ go.f = cc in
       omega (arith, count, ap length (ap (λ (x : Frame). x.got) same ∙ go.none)))
   grew false old row row' rest place kind last has after count at of kept left (inr (r, go)) a =
-      let was = subst (AreAhead types old) (sym left ∙ has) a in
-      subst (AreAhead types new) (sym after) (more_on new types old r go row row' rest f fs place kind last is count at of was kept)
+      let was = subst (EachRowFits types old) (sym left ∙ has) a in
+      subst (EachRowFits types new) (sym after) (more_on new types old r go row row' rest f fs place kind last is count at of was kept)
 
 pub follows_new : (b : Bool) (new : List Frame) (rows mid : List (List ArcRef)) (f : Frame) (fs : List Frame) (top top' : Vec ArcRef Global)
     (below below' : Vec (Vec ArcRef Global) Global) → new ≡ f ∷ fs → f.got ≡ []
-    → mid ≡ top.items ∷ stacked [] below.items → LeftIf b rows mid → top'.items ≡ [] → (below'.items ≡ below.items ++ top ∷ []) ⊎ (below'.items ≡ [])
-    → Follows b new rows (top'.items ∷ stacked [] below'.items)
+    → mid ≡ top.items ∷ stacked [] below.items → RemovedIf b rows mid → top'.items ≡ [] → (below'.items ≡ below.items ++ top ∷ []) ⊎ (below'.items ≡ [])
+    → RowsStayFit b new rows (top'.items ∷ stacked [] below'.items)
 follows_new b new rows mid f fs top top' below below' is none has left bare below_is =
     let after : (top'.items ∷ stacked [] below'.items ≡ [] ∷ mid) ⊎ (top'.items ∷ stacked [] below'.items ≡ [] ∷ []) =
     elim below_is [
@@ -270,8 +294,8 @@ follows_new b new rows mid f fs top top' below below' is none has left bare belo
 
 pub follows_got : (b : Bool) (new : List Frame) (rows mid : List (List ArcRef)) (f : Frame) (fs : List Frame) (row row' : List ArcRef)
     (rest : List (List ArcRef)) (place : ℕ) (last : ArcRef) → new ≡ f ∷ fs
-    → mid ≡ row ∷ rest → LeftIf b rows mid → place + 1 ≡ length f.got → slice_get f.got place ≡ Some last → KeptAt place last.kind row row'
-    → Follows b new rows (row' ∷ rest)
+    → mid ≡ row ∷ rest → RemovedIf b rows mid → place + 1 ≡ length f.got → slice_get f.got place ≡ Some last → KeptIfKindAt place last.kind row row'
+    → RowsStayFit b new rows (row' ∷ rest)
 follows_got b new rows mid f fs row row' rest place last is has left count at kept =
     record {
       follows = λ types old go a. record {
@@ -282,9 +306,9 @@ follows_got b new rows mid f fs row row' rest place last is has left count at ke
 
 -- what is ahead after a step that ends nothing
 pub ahead_then : {N : Type 0} (types : Types) (need : Needed N) (answer : Option (LoadAnswer N)) (old new : List Frame) (rows rows' : List (List ArcRef))
-    (b : Bool) → b ≡ is_adoption need → GoesFor need answer old new
-    → Follows b new rows rows' → AllAhead types old rows → IfNone answer (AllAhead types new rows')
-ahead_then types need None old new rows rows' b is goes follows a = follows.follows types old (subst (λ x. FramesGo x old new) (sym is) (goes.goes refl)) a
+    (b : Bool) → b ≡ is_adoption need → FramesChangeFor need answer old new
+    → RowsStayFit b new rows rows' → RowsFit types old rows → IfNone answer (RowsFit types new rows')
+ahead_then types need None old new rows rows' b is goes follows a = follows.follows types old (subst (λ x. FramesChange x old new) (sym is) (goes.goes refl)) a
 ahead_then types need (Some answer) old new rows rows' b is goes follows a = tt
 
 -- ---- a step of a load leaves less to do
@@ -307,10 +331,10 @@ wants types old f fs kind key is need = grind (arith, nat_tests, slice_get_withi
 -- ---- what each step leaves
 
 module _ {N : Type 0} {for_cell : Bool} {old new : List Frame} where
-  led : {o n : List Frame} → old ≡ o → new ≡ n → to_do n < to_do o → LeadsOn {N = N} for_cell old new (Ok None)
+  led : {o n : List Frame} → old ≡ o → new ≡ n → to_do n < to_do o → EndsOrLeavesLess {N = N} for_cell old new (Ok None)
   led {o} {n} a b lt = record { leads = subst (λ x. to_do x < to_do old) (sym b) (subst (λ x. to_do n < to_do x) (sym a) lt) }
 
-  pub root_leads : (f : Frame) → f.got ≡ [] → length f.blob.keys < 2 ^ 63 → old ≡ [] → new ≡ f ∷ [] → LeadsOn {N = N} for_cell old new (Ok None)
+  pub root_leads : (f : Frame) → f.got ≡ [] → length f.blob.keys < 2 ^ 63 → old ≡ [] → new ≡ f ∷ [] → EndsOrLeavesLess {N = N} for_cell old new (Ok None)
   root_leads f none few a b =
       let g : length f.got ≡ 0 = ap length none in
       let w = weight_some 129 in
@@ -318,7 +342,8 @@ module _ {N : Type 0} {for_cell : Bool} {old new : List Frame} where
       led a b (omega (arith, w, m))
 
   pub got_leads : (types : Types) (f : Frame) (fs : List Frame) (r : ArcRef) (kind : Kind) (key : ℕ)
-      → NeedsOne (need_of types old) kind key → old ≡ f ∷ fs → new ≡ record f { got = f.got ++ r ∷ [] } ∷ fs → LeadsOn {N = N} for_cell old new (Ok None)
+      → NeedsOne (need_of types old) kind key → old ≡ f ∷ fs → new ≡ record f { got = f.got ++ r ∷ [] } ∷ fs
+      → EndsOrLeavesLess {N = N} for_cell old new (Ok None)
   got_leads types f fs r kind key need a b =
       let left = wants types old f fs kind key a need in
       let n = length-append f.got (r ∷ []) in
@@ -328,7 +353,7 @@ module _ {N : Type 0} {for_cell : Bool} {old new : List Frame} where
       led a b (omega (arith, w, m))
 
   pub blob_leads : (types : Types) (g f : Frame) (fs : List Frame) (kind : Kind) (key : ℕ) → g.got ≡ [] → length g.blob.keys < 2 ^ 63 → length fs < 128
-      → NeedsOne (need_of types old) kind key → old ≡ f ∷ fs → new ≡ g ∷ f ∷ fs → LeadsOn {N = N} for_cell old new (Ok None)
+      → NeedsOne (need_of types old) kind key → old ≡ f ∷ fs → new ≡ g ∷ f ∷ fs → EndsOrLeavesLess {N = N} for_cell old new (Ok None)
   unfolding weight
   blob_leads types g f fs kind key none few short need a b =
       let left = wants types old f fs kind key a need in
@@ -341,7 +366,7 @@ module _ {N : Type 0} {for_cell : Bool} {old new : List Frame} where
       led a b (omega (arith, e, w, m, u))
 
   pub node_leads : (t u : Frame) (fs : List Frame) (r : ArcRef) → old ≡ t ∷ u ∷ fs → new ≡ record u { got = u.got ++ r ∷ [] } ∷ fs
-      → LeadsOn {N = N} for_cell old new (Ok None)
+      → EndsOrLeavesLess {N = N} for_cell old new (Ok None)
   node_leads t u fs r a b =
       let n = length-append u.got (r ∷ []) in
       let m : (length u.blob.keys - length (u.got ++ r ∷ [])) * weight_on fs ≡ left_behind u * weight_on fs =

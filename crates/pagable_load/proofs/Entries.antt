@@ -1,8 +1,14 @@
 -- An entry of the page-out list that is released.
-use Rattle.std.proofs.Common.{Result, Some, subst, ℕ, ◌≡◌}
-use Rattle.pagable_value_spec.specs.declared.{data_key.OptionalDataKey.OptionalDataKey, error.Error.Error, numbers.HandleNumber.HandleNumber}
-use Rattle.pagable_pager_spec.specs.{Access.{EntryHas, MakesCall}, Calls.{ReleaseCall, TakeCall}, Pager.PagerState, World.Values, declared.handle_row.Owner.Owner}
 use Rattle.pagable_load.specs.WorkerCalls.{ReleasesEntry}
+use Rattle.pagable_pager_spec.specs.{
+  Access.{EntryHas, MakesCall},
+  Calls.{ReleaseCall, TakeCall},
+  Pager.PagerState,
+  World.Values,
+  declared.handle_row.Owner.Owner,
+}
+use Rattle.pagable_value_spec.specs.declared.{data_key.OptionalDataKey.OptionalDataKey, error.Error.Error, numbers.HandleNumber.HandleNumber}
+use Rattle.std.proofs.Common.{Result, Some, subst, ℕ, ◌≡◌}
 
 -- the entry at a place is taken, and released
 pub entry-released : {N E : Type 0} (v : Values N) (me : Owner) (place key : ℕ) (k : HandleNumber) (refused : Result (Unit {0}) Error)

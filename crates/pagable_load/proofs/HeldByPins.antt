@@ -1,7 +1,13 @@
 -- What a decoded value holds beside its references is what their handles pin, since nothing else was lent.
-use Rattle.{pagable_load.{proofs.LoadSteps.{tells_all, tells_map}, specs.{ResolvedReferences.{Lends, LendsEach, lent_at, lent_by, lent_there}, AccessView.IfKnown}}, pagable_value_spec.specs.Cursor.{HoldsLentValues, IsOnlyLent, InputState}}
-use Rattle.{pagable_value_spec.specs.declared.{error.Error.Error, numbers.{ArcRef.ArcRef, HandleNumber.HandleNumber}}, pagable_pager_spec.specs.{Pager.{HoldsPinned, PagerState, ValueCall}, World.Values}}
-use Rattle.std.{proofs.{Common.{Err, List, None, Ok, Option, Result, Some, ap, arith, slice_get, subst, sym, ℕ, ◌∙◌, ◌≡◌}, lemmas.Bool.Decides.nat_tests}, specs.{Option.option_map, Prelude.{IfOk, option_and_then}}}
+use Rattle.pagable_load.proofs.LoadSteps.{tells_all, tells_map}
+use Rattle.pagable_load.specs.{AccessView.IfKnown, ResolvedReferences.{Lends, LendsEach, lent_at, lent_by, lent_there}}
+use Rattle.pagable_pager_spec.specs.{Pager.{HoldsPinned, PagerState, ValueCall}, World.Values}
+use Rattle.pagable_value_spec.specs.{
+  Cursor.{HoldsLentValues, InputState, IsOnlyLent},
+  declared.{error.Error.Error, numbers.{ArcRef.ArcRef, HandleNumber.HandleNumber}},
+}
+use Rattle.std.proofs.{Common.{Err, List, None, Ok, Option, Result, Some, ap, arith, slice_get, subst, sym, ℕ, ◌∙◌, ◌≡◌}, lemmas.Bool.Decides.nat_tests}
+use Rattle.std.specs.{Option.option_map, Prelude.{IfOk, option_and_then}}
 
 parts : {X Y : Type 0} (o : Option X) (p : Option Y) (q : X × Y) → option_and_then {U = X × Y} (λ a. option_map (λ b. (a, b)) p) o ≡ Some q → (o ≡ Some q.0)
     × (p ≡ Some q.1)

@@ -1,9 +1,22 @@
 -- What an access tells: its owner and environment; and, if it tells its pager's state, what each call does to that.
+use Rattle.either.specs.declared.Either.{Either}
+use Rattle.pagable_codec.specs.{
+  declared.{env.Env.Ghosts as Environments, hash.KeyHash.Ghosts as Hashes, nodes.NodeSet.Ghosts as Nodes},
+}
+use Rattle.pagable_pager_spec.specs.{
+  Access.IfBothKnown,
+  LoadCalls.{AdoptCall, Given, LazyCall, LoadFetchCall, from_cache, from_store},
+  Loads.ReadsRoot,
+  Pager.{IsPagerWhole, Moves, PagerState},
+  World.{Core, Reading, Values, result_map, row_at},
+  declared.{calls.FetchTarget.FetchTarget, handle_row.{HandleRow.HandleRow, Owner.Owner}},
+}
+use Rattle.pagable_value_spec.specs.{
+  Blob.Blob,
+  declared.{error.Error.Error, numbers.{ArcRef.ArcRef, HandleNumber.HandleNumber, Kind.Kind, LoadNumber.LoadNumber}},
+  declared.numbers.WorkerNumber.WorkerNumber,
+}
 use Rattle.std.specs.Prelude.{Err, IfOk, IfSome, List, Ok, Option, Result, Some, ℕ, ◌≡◌}
-use Rattle.{either.specs.declared.Either.Either, pagable_codec.specs.declared.{env.Env.Ghosts as Environments, hash.KeyHash.Ghosts as Hashes, nodes.NodeSet.Ghosts as Nodes}}
-use Rattle.pagable_value_spec.specs.{Blob.Blob, declared.{error.Error.Error, numbers.{ArcRef.ArcRef, HandleNumber.HandleNumber, Kind.Kind, LoadNumber.LoadNumber, WorkerNumber.WorkerNumber}}}
-use Rattle.pagable_pager_spec.specs.{Access.IfBothKnown, LoadCalls.{AdoptCall, LoadFetchCall, Given, LazyCall, from_cache, from_store}, Loads.ReadsRoot, Pager.{Moves, PagerState, IsPagerWhole}, World.{Core, Reading, Values, row_at, result_map}}
-use Rattle.pagable_pager_spec.specs.declared.{calls.Want.Want, handle_row.{HandleRow.HandleRow, Owner.Owner}}
 
 -- the owner for whom the calls are made, the environment of the values, and the lender of the pager
 pub record Acting (E : Type 0) : Type 0 where
@@ -47,7 +60,7 @@ pub record IfKnown {S : Type 0} (s : Option S) (P : S → Type 0) : Type 0 where
   pub holds : IfSome s P
 
 -- A call that may bring a value into memory: what it does to the core, and which value it may bring where.
-pub record Brings {N E : Type 0} (v : Values N) (does : Core → Type 0) (comes : ℕ → N → Type 0)
+pub record MakesCallBringing {N E : Type 0} (v : Values N) (does : Core → Type 0) (comes : ℕ → N → Type 0)
     (s s' : PagerState N E) : Type 0 where
   pub step : does s'.core
   pub moves : Moves comes s s'
@@ -80,7 +93,7 @@ IsFoundMade w kind (Either.Right blob) = Unit {0}
 -- a load asks for a reference, and gets a handle of the cache's node, or a blob
 pub record AsksFor {B : Type 0} (see : B → Blob) (w : Core) (me : Owner) (l : LoadNumber) (kind : Kind) (key : ℕ)
     (r : Result (Either ArcRef B) Error) (w' : Core) : Type 0 where
-  pub asked : LoadFetchCall w me l (Want.Nested kind key) (result_map (reference_or_blob see) r) w'
+  pub asked : LoadFetchCall w me l (FetchTarget.Nested kind key) (result_map (reference_or_blob see) r) w'
   pub made : IfOk r (λ found. IsFoundMade w' kind found)
 
 -- a load takes a loose reference without reading it

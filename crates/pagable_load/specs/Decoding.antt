@@ -1,8 +1,28 @@
 -- What decoding returns and what a load needs next, in terms of the specification; and what a blob asks for ahead.
-use Rattle.pagable_pager_spec.specs.{Loads.{is_faulty, need_of, needs_lazy, needs_nested, next_of, read_with, reads}, Basics.Types, World.{Frame, Reading, Values}, declared.events.LoadAnswer.LoadAnswer}
-use Rattle.std.specs.{Prelude.{Bool, Err, IsSome, List, None, Ok, Option, Result, Some, [], false, if◌then◌else◌, length, map, slice_get, true, ℕ, ◌++◌, ◌<◌, ◌∷◌, ◌≡◌, ◌⊎◌}, declared.{alloc.Global.Global, vec.Vec.Vec}}
-use Rattle.{pagable_load.specs.{Frames.reading_of, declared.{batch.Ahead.Ahead, decoding.Decoded.Decoded, reading.{Need.Need, Reading.Reading as Own}}}, pagable_value_spec.specs.{Blob.Blob, Height.is_eager, Meaning.Meaning, Reading.Rest}}
-use Rattle.{pagable_value_spec.specs.{Cursor.{Answer, GivesSome}, declared.{error.Error.Error, numbers.{ArcRef.ArcRef, Kind.Kind}}}, pagable_pager_spec.specs.Loads.{ReadsNode, ReadsRoot, RefusesBlob, asks}}
+use Rattle.pagable_load.specs.{
+  Frames.reading_of,
+  declared.{batch.Lookahead.Lookahead, decoding.Decoded.Decoded, reading.{Need.Need, Reading.Reading as Own}},
+}
+use Rattle.pagable_pager_spec.specs.{
+  Basics.Types,
+  Loads.{ReadsNode, ReadsRoot, RefusesBlob, asks, is_faulty, need_of, needs_lazy, needs_nested, next_of, read_with},
+  Loads.reads,
+  World.{Frame, Reading, Values},
+  declared.events.LoadAnswer.LoadAnswer,
+}
+use Rattle.pagable_value_spec.specs.{
+  Blob.Blob,
+  Cursor.{Answer, GivesSome},
+  Height.is_eager,
+  Meaning.Meaning,
+  Reading.Rest,
+  declared.{error.Error.Error, numbers.{ArcRef.ArcRef, Kind.Kind}},
+}
+use Rattle.std.specs.{
+  Prelude.{Bool, Err, IsSome, List, None, Ok, Option, Result, Some, false, if◌then◌else◌, length, map, slice_get, true},
+  Prelude.{ℕ, [], ◌++◌, ◌<◌, ◌∷◌, ◌≡◌, ◌⊎◌},
+  declared.{alloc.Global.Global, vec.Vec.Vec},
+}
 
 -- x is of the type t, and means what the blob reads as
 pub record IsReadAs {N : Type 0} (v : Values N) (t : ℕ) (blob : Blob) (got : List ArcRef) (x : N) : Type 0 where
@@ -76,21 +96,21 @@ pub record Foresees (types : Types) (f : Frame) (kinds : List ℕ) : Type 0 wher
       → AsksNext types f.node_type f.blob got kind
 
 -- the row is empty, or has the kinds that the blob asks for
-abbrev pub IsAheadOf : Types → Frame → List ArcRef → Type 0
-IsAheadOf types f row = (row ≡ []) ⊎ Foresees types f (kinds_of row)
+abbrev pub RowFitsFrame : Types → Frame → List ArcRef → Type 0
+RowFitsFrame types f row = (row ≡ []) ⊎ Foresees types f (kinds_of row)
 
 -- so it is for the innermost blob, if there is one
-pub record IsAhead (types : Types) (frames : List Frame) (row : List ArcRef) : Type 0 where
-  pub is : (f : Frame) (fs : List Frame) → frames ≡ f ∷ fs → IsAheadOf types f row
+pub record RowFits (types : Types) (frames : List Frame) (row : List ArcRef) : Type 0 where
+  pub is : (f : Frame) (fs : List Frame) → frames ≡ f ∷ fs → RowFitsFrame types f row
 
 -- and so it is for each blob that has a row
-abbrev pub AreAhead : Types → List Frame → List (List ArcRef) → Type 0
-AreAhead types [] rows = Unit {0}
-AreAhead types (f ∷ fs) [] = Unit {0}
-AreAhead types (f ∷ fs) (row ∷ rows) = IsAheadOf types f row × AreAhead types fs rows
+abbrev pub EachRowFits : Types → List Frame → List (List ArcRef) → Type 0
+EachRowFits types [] rows = Unit {0}
+EachRowFits types (f ∷ fs) [] = Unit {0}
+EachRowFits types (f ∷ fs) (row ∷ rows) = RowFitsFrame types f row × EachRowFits types fs rows
 
-pub record AllAhead (types : Types) (frames : List Frame) (rows : List (List ArcRef)) : Type 0 where
-  pub are : AreAhead types frames rows
+pub record RowsFit (types : Types) (frames : List Frame) (rows : List (List ArcRef)) : Type 0 where
+  pub are : EachRowFits types frames rows
 
 -- the rows of the vectors, the last vector's first, before these rows; below: the rows of all blobs, the innermost
 -- first
@@ -98,7 +118,7 @@ unfoldable pub stacked : List (List ArcRef) → List (Vec ArcRef Global) → Lis
 stacked rows [] = rows
 stacked rows (x ∷ xs) = stacked (x.items ∷ rows) xs
 
-abbrev pub rows_of : Ahead → List (List ArcRef)
+abbrev pub rows_of : Lookahead → List (List ArcRef)
 rows_of a = a.top.items ∷ stacked [] a.below.items
 
 -- the load needs a reference of this kind and key, to be loaded or not
@@ -106,14 +126,14 @@ pub record NeedsNext (types : Types) (frames : List Frame) (kind : Kind) (key : 
   pub is : need_of types frames ≡ (if is_eager kind.0 then needs_nested kind key else needs_lazy kind key)
 
 -- the row stays, and has this kind at this place; or it is emptied
-abbrev pub KeptAt : ℕ → Kind → List ArcRef → List ArcRef → Type 0
-KeptAt place kind old new = (new ≡ []) ⊎ ((new ≡ old) × ((r : ArcRef) × (slice_get old place ≡ Some r)
+abbrev pub KeptIfKindAt : ℕ → Kind → List ArcRef → List ArcRef → Type 0
+KeptIfKindAt place kind old new = (new ≡ []) ⊎ ((new ≡ old) × ((r : ArcRef) × (slice_get old place ≡ Some r)
     × (kind.0 ≡ r.kind.0)))
 
 -- the innermost blob's row is removed, if the blob was read; if it was the only row, an empty one is left
-abbrev pub LeftIf : Bool → List (List ArcRef) → List (List ArcRef) → Type 0
-LeftIf false old new = new ≡ old
-LeftIf true old new = ((row : List ArcRef) × (old ≡ row ∷ new)) ⊎ (new ≡ [] ∷ [])
+abbrev pub RemovedIf : Bool → List (List ArcRef) → List (List ArcRef) → Type 0
+RemovedIf false old new = new ≡ old
+RemovedIf true old new = ((row : List ArcRef) × (old ≡ row ∷ new)) ⊎ (new ≡ [] ∷ [])
 
 -- ---- what a load's step does to its frames, if it doesn't end the load
 
@@ -138,9 +158,9 @@ pub record CameBack (old new : List Frame) : Type 0 where
   pub was : old ≡ top ∷ below
   pub more : GotMore below new r
 
-abbrev pub FramesGo : Bool → List Frame → List Frame → Type 0
-FramesGo true old new = CameBack old new
-FramesGo false old new = CameNew old new ⊎ ((r : ArcRef) × GotMore old new r)
+abbrev pub FramesChange : Bool → List Frame → List Frame → Type 0
+FramesChange true old new = CameBack old new
+FramesChange false old new = CameNew old new ⊎ ((r : ArcRef) × GotMore old new r)
 
 -- the need is for a node of the innermost blob's value
 abbrev pub is_adoption : {N : Type 0} → Need N → Bool
@@ -148,15 +168,16 @@ is_adoption (Need.Adopt x) = true
 is_adoption need = false
 
 -- if the load goes on, the frames have changed as the need says
-pub record GoesFor {N : Type 0} (need : Need N) (answer : Option (LoadAnswer N)) (old new : List Frame) : Type 0 where
-  pub goes : answer ≡ None → FramesGo (is_adoption need) old new
+pub record FramesChangeFor {N : Type 0} (need : Need N) (answer : Option (LoadAnswer N))
+    (old new : List Frame) : Type 0 where
+  pub goes : answer ≡ None → FramesChange (is_adoption need) old new
 
 -- if the rows fit the old frames, the new rows fit the new ones
-pub record Follows (was_read : Bool) (new : List Frame) (rows rows' : List (List ArcRef)) : Type 0 where
-  pub follows : (types : Types) (old : List Frame) → FramesGo was_read old new → AllAhead types old rows
-      → AllAhead types new rows'
+pub record RowsStayFit (was_read : Bool) (new : List Frame) (rows rows' : List (List ArcRef)) : Type 0 where
+  pub follows : (types : Types) (old : List Frame) → FramesChange was_read old new → RowsFit types old rows
+      → RowsFit types new rows'
 
 -- a step that gets a reference, or the root's blob, doesn't end the load
-abbrev pub goes_on_with : {N X : Type 0} → Result X Error → Result (Option (LoadAnswer N)) Error
-goes_on_with (Ok x) = Ok None
-goes_on_with (Err e) = Err e
+abbrev pub without_answer : {N X : Type 0} → Result X Error → Result (Option (LoadAnswer N)) Error
+without_answer (Ok x) = Ok None
+without_answer (Err e) = Err e

@@ -1,7 +1,12 @@
 -- The frames of a load, as the specification has them.
-use Rattle.std.specs.{Arc.arc_value, Prelude.{Bool, List, None, Option, Some, [], false, true, ◌∷◌, ◌≡◌}}
-use Rattle.{pagable_core.specs.Data.blob_of, pagable_load.specs.declared.reading.{Frame.Frame as Held, Reading.Reading as Own}, pagable_pager_spec.specs.{Refusals.OwnsLoad, World.{Core, Frame, OpenLoad}}}
-use Rattle.pagable_pager_spec.specs.{World.{Reading, Root, of_cell, of_key}, declared.handle_row.Owner.Owner}
+use Rattle.pagable_core.specs.Data.{blob_of}
+use Rattle.pagable_load.specs.declared.reading.{Frame.Frame as Held, Reading.Reading as Own}
+use Rattle.pagable_pager_spec.specs.{
+  Refusals.OwnsLoad,
+  World.{Core, Frame, OpenLoad, Reading, Root, of_cell, of_key},
+  declared.handle_row.Owner.Owner,
+}
+use Rattle.std.specs.{Arc.arc_value, Prelude.{Bool, List, None, Option, Some, false, true, [], ◌∷◌, ◌≡◌}}
 
 abbrev pub frame_of : Held → Frame
 frame_of f = record {
@@ -13,13 +18,13 @@ frame_of f = record {
 }
 
 -- the frames of the list, the last one's first, before these frames
-unfoldable pub onto : List Frame → List Held → List Frame
-onto below [] = below
-onto below (f ∷ fs) = onto (frame_of f ∷ below) fs
+unfoldable pub frames_onto : List Frame → List Held → List Frame
+frames_onto below [] = below
+frames_onto below (f ∷ fs) = frames_onto (frame_of f ∷ below) fs
 
 abbrev pub frames_of : Option Held → List Held → List Frame
 frames_of None below = []
-frames_of (Some top) below = frame_of top ∷ onto [] below
+frames_of (Some top) below = frame_of top ∷ frames_onto [] below
 
 abbrev pub reading_of : Own → Reading
 reading_of r = record {

@@ -1,6 +1,10 @@
 -- Why every load ends: each step lowers a number. And how it ends.
-use Rattle.std.specs.Prelude.{ℕ, ◌≡◌, ◌+◌, ◌-◌, ◌*◌, ◌<◌, ◌^◌, Bool, true, false, zero, suc, List, [], ◌∷◌, length, Option, Some, None, Result, Ok, Err}
-use Rattle.{pagable_value_spec.specs.declared.error.Error.Error, pagable_pager_spec.specs.{declared.events.LoadAnswer.LoadAnswer, World.Frame}}
+use Rattle.pagable_pager_spec.specs.{World.Frame, declared.events.LoadAnswer.LoadAnswer}
+use Rattle.pagable_value_spec.specs.declared.error.Error.{Error}
+use Rattle.std.specs.{
+  Prelude.{Bool, Err, List, None, Ok, Option, Result, Some, false, length, suc, true, zero, ℕ, [], ◌*◌, ◌+◌, ◌-◌, ◌<◌},
+  Prelude.{◌^◌, ◌∷◌, ◌≡◌},
+}
 
 -- how many references a blob still has to get; below: after the one that it waits for
 abbrev pub left_in : Frame → ℕ
@@ -39,6 +43,6 @@ Leads for_cell old new (Ok (Some (LoadAnswer.Read x))) = for_cell ≡ false
 Leads for_cell old new (Ok (Some (LoadAnswer.Refused e))) = Unit {0}
 Leads for_cell old new (Err e) = Unit {0}
 
-pub record LeadsOn {N : Type 0} (for_cell : Bool) (old new : List Frame)
+pub record EndsOrLeavesLess {N : Type 0} (for_cell : Bool) (old new : List Frame)
     (r : Result (Option (LoadAnswer N)) Error) : Type 0 where
   pub leads : Leads for_cell old new r

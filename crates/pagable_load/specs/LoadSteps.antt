@@ -1,8 +1,20 @@
 -- What a load's step does, with or without what follows its failure, in terms of the specification.
-use Rattle.std.specs.Prelude.{IfErr, IfOk, List, None, Option, Result, Some, [], vec_capacity, vec_len, ℕ, ◌<◌, ◌∷◌, ◌≡◌}
-use Rattle.pagable_pager_spec.specs.{Access.{MakesCall, ReadingStep, LoadRun}, Loads.Meets, World.{Reading, Values, Frame}, LoadCalls.DropCall, Pager.{HoldsItsNodes, PagerState, ReadingBrings, Moves, IsPagerWhole}}
-use Rattle.{pagable_pager_spec.specs.declared.{handle_row.Owner.Owner, events.LoadAnswer.LoadAnswer}, pagable_value_spec.specs.declared.{numbers.LoadNumber.LoadNumber, error.Error.Error}}
-use Rattle.pagable_load.specs.{declared.reading.{Reading.Reading as Own, Frame.Frame as Held}, Frames.{frames_of, reading_of, frame_of, onto, IsLoadOf}}
+use Rattle.pagable_load.specs.{
+  Frames.{IsLoadOf, frame_of, frames_of, frames_onto, reading_of},
+  declared.reading.{Frame.Frame as Held, Reading.Reading as Own},
+}
+use Rattle.pagable_pager_spec.specs.{
+  Access.{LoadRun, MakesCall, ReadingStep},
+  LoadCalls.DropCall,
+  Loads.Meets,
+  Pager.{HoldsItsNodes, IsPagerWhole, Moves, PagerState, ReadingBrings},
+  World.{Frame, Reading, Values},
+  declared.{events.LoadAnswer.LoadAnswer, handle_row.Owner.Owner},
+}
+use Rattle.pagable_value_spec.specs.declared.{error.Error.Error, numbers.LoadNumber.LoadNumber}
+use Rattle.std.specs.{
+  Prelude.{IfErr, IfOk, List, None, Option, Result, Some, vec_capacity, vec_len, ℕ, [], ◌<◌, ◌∷◌, ◌≡◌},
+}
 
 -- a step failed, and the load is still open
 pub record Met {N E : Type 0} (v : Values N) (me : Owner) (reading : Reading) (s : PagerState N E) (e : Error)
@@ -12,7 +24,7 @@ pub record Met {N E : Type 0} (v : Values N) (me : Owner) (reading : Reading) (s
   pub holds : IsPagerWhole v s → Moves (λ n x. HoldsItsNodes v s x) s t
 
 -- A step, up to its failure if it fails; otherwise a whole one. It is asked that the load is open and is as `own` says.
-pub record Tries {N E : Type 0} (v : Values N) (me : Owner) (own : Own) (s : PagerState N E)
+pub record TriesStep {N E : Type 0} (v : Values N) (me : Owner) (own : Own) (s : PagerState N E)
     (r : Result (Option (LoadAnswer N)) Error) (frames : List Frame) (t : PagerState N E) : Type 0 where
   pub does : IsLoadOf s.core me own → IfOk r (λ answer. ReadingStep v me (reading_of own) s answer frames t)
   pub meets : IsLoadOf s.core me own → IfErr r (λ e. Met v me (reading_of own) s e t)
@@ -32,17 +44,17 @@ pub record IsSameLoad (old new : Own) (count : ℕ) : Type 0 where
 
 -- the innermost frame was taken off; there is room in it for one more reference, and for one more frame below
 pub record TakenOff (old new : Own) (top : Held) : Type 0 where
-  pub frames : frames_of old.top old.below.items ≡ frame_of top ∷ onto [] new.below.items
+  pub frames : frames_of old.top old.below.items ≡ frame_of top ∷ frames_onto [] new.below.items
   pub room : vec_len top.got < vec_capacity top.got
   pub place : vec_len new.below < vec_capacity new.below
 
 -- the two innermost frames were taken off; there is room in the lower one for one more reference
 pub record TakenTwo (old new : Own) (top under : Held) : Type 0 where
-  pub frames : frames_of old.top old.below.items ≡ frame_of top ∷ frame_of under ∷ onto [] new.below.items
+  pub frames : frames_of old.top old.below.items ≡ frame_of top ∷ frame_of under ∷ frames_onto [] new.below.items
   pub room : vec_len under.got < vec_capacity under.got
 
 -- all steps of a load, if it is open and is as `own` says
-pub record Runs {N E : Type 0} (v : Values N) (me : Owner) (own : Own) (s : PagerState N E) (answer : LoadAnswer N)
+pub record RunsLoad {N E : Type 0} (v : Values N) (me : Owner) (own : Own) (s : PagerState N E) (answer : LoadAnswer N)
     (t : PagerState N E) : Type 0 where
   pub run : IsLoadOf s.core me own → LoadRun v me (reading_of own) s answer t
 
@@ -53,7 +65,7 @@ pub record HasGone {N E : Type 0} (v : Values N) (me : Owner) (own now : Own) (s
       → LoadRun v me (reading_of now) t answer u → LoadRun v me (reading_of own) s answer u
 
 -- all steps up to the load's end; or some, if there is no answer yet
-abbrev pub RunsOrGoes : {N E : Type 0} → Values N → Owner → Own → Own → PagerState N E → Option (LoadAnswer N)
+abbrev pub RunsLoadOrPart : {N E : Type 0} → Values N → Owner → Own → Own → PagerState N E → Option (LoadAnswer N)
     → PagerState N E → Type 0
-RunsOrGoes v me own now s (Some answer) t = Runs v me own s answer t
-RunsOrGoes v me own now s None t = HasGone v me own now s t
+RunsLoadOrPart v me own now s (Some answer) t = RunsLoad v me own s answer t
+RunsLoadOrPart v me own now s None t = HasGone v me own now s t

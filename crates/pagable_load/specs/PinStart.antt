@@ -1,8 +1,24 @@
 -- The begin of a pin, and how a pin is undone.
-use Rattle.std.specs.{Option.option_map, Prelude.{Bool, Err, IfErr, IfOk, Ok, Option, Result, Some, false, true, ◌≡◌, ◌⊎◌}}
-use Rattle.{pagable_load.specs.declared.access.PinStart.PinStart, pagable_value_spec.specs.declared.{error.Error.Error, numbers.HandleNumber.HandleNumber}, pagable_theorems.specs.TreeSteps.HasPin, pagable_pager_spec.specs.Access.{MakesCall, IsValueOf, PinRun}}
-use Rattle.pagable_pager_spec.specs.{Calls.{PinCall, ReleaseCall, UnpinCall}, Events.reading_of_load, Kinds.is_unpinned, LoadCalls.BeginCall, Pager.{PagerState, ValueCall}, Basics.if_there}
-use Rattle.pagable_pager_spec.specs.{Refusals.live_fault, Workers.fresh, World.{Core, Values, row_at}, declared.{pinning.{Beginning.Beginning, Pinning.Pinning}, handle_row.{HandleRow.HandleRow, Owner.Owner}}}
+use Rattle.pagable_load.specs.declared.access.PinStart.{PinStart}
+use Rattle.pagable_pager_spec.specs.{
+  Access.{IsValueOf, MakesCall, PinRun},
+  Basics.if_there,
+  Calls.{PinCall, ReleaseCall, UnpinCall},
+  Events.reading_of_load,
+  Kinds.is_unpinned,
+  LoadCalls.BeginCall,
+  Pager.{PagerState, ValueCall},
+  Refusals.live_fault,
+  Workers.fresh,
+  World.{Core, Values, row_at},
+  declared.{handle_row.{HandleRow.HandleRow, Owner.Owner}, pinning.{Beginning.Beginning, Pinning.Pinning}},
+}
+use Rattle.pagable_theorems.specs.TreeSteps.{HasPin}
+use Rattle.pagable_value_spec.specs.declared.{error.Error.Error, numbers.HandleNumber.HandleNumber}
+use Rattle.std.specs.{
+  Option.option_map,
+  Prelude.{Bool, Err, IfErr, IfOk, Ok, Option, Result, Some, false, true, ◌≡◌, ◌⊎◌},
+}
 
 -- whether the handle is live, loose and unpinned
 abbrev pub is_unpinned_at : Core → HandleNumber → Bool
@@ -32,7 +48,7 @@ pub record SharesPinned {N E X : Type 0} (see : X → N) (s : PagerState N E) (k
   pub refused : IfErr r (λ e. HasPin s.core k → e ≡ Error.OutOfMemory)
 
 -- a pin with its load, and whether the handle was unpinned before
-pub record PinsFirst {N E : Type 0} (v : Values N) (s : PagerState N E) (h : HandleNumber)
+pub record PinsWithLoad {N E : Type 0} (v : Values N) (s : PagerState N E) (h : HandleNumber)
     (r : Result (HandleNumber × Bool) Error) (s' : PagerState N E) : Type 0 where
   pub pinned : IfOk r (λ a. PinRun v s h (Ok a.0) s' × (a.1 ≡ is_unpinned_at s.core h))
   pub refused : IfErr r (λ e. PinRun v s h (Err e) s')

@@ -1,8 +1,17 @@
 -- A pin in parts.
+use Rattle.pagable_load.specs.{
+  Frames.{IsLoadOf, reading_of},
+  declared.{access.PinStart.PinStart, pin.BegunPin.BegunPin, reading.Reading.Reading as Own},
+}
+use Rattle.pagable_pager_spec.specs.{
+  Access.LoadRun,
+  Loads.root_frame,
+  Pager.PagerState,
+  World.{Reading, Values},
+  declared.{events.LoadAnswer.LoadAnswer, handle_row.Owner.Owner},
+}
+use Rattle.pagable_value_spec.specs.{Blob.Blob, declared.{error.Error.Error, numbers.HandleNumber.HandleNumber}}
 use Rattle.std.specs.Prelude.{Err, IfErr, IfOk, Ok, Result, [], ◌∷◌}
-use Rattle.{pagable_value_spec.specs.{Blob.Blob, declared.{error.Error.Error, numbers.HandleNumber.HandleNumber}}, pagable_pager_spec.specs.{Access.LoadRun, Loads.root_frame, Pager.PagerState, World.{Reading, Values}}}
-use Rattle.pagable_load.specs.{Frames.{IsLoadOf, reading_of}, declared.{access.PinStart.PinStart, pin.BegunPin.BegunPin, reading.Reading.Reading as Own}}
-use Rattle.pagable_pager_spec.specs.declared.{events.LoadAnswer.LoadAnswer, handle_row.Owner.Owner}
 
 -- how the pin began, as numbers only
 abbrev pub begun_as : BegunPin → PinStart

@@ -1,7 +1,21 @@
 -- The look-ups in a list of references that were got, and the values that a load lends to a blob's reader.
-use Rattle.std.specs.{Option.option_map, Prelude.{Bool, Err, IfNone, IfSome, IsSome, List, None, Ok, Option, Result, Some, false, if◌then◌else◌, length, option_and_then, slice_get, true, ℕ, ◌<◌, ◌==◌, ◌≡◌, ◌≤◌, ◌⊎◌}}
-use Rattle.{pagable_pager_spec.specs.{Loads.answer_of, Pager.{PagerState, ValueCall}, Basics.if_there, Refusals.live_fault, World.row_at}, pagable_value_spec.specs.declared.{error.Error.Error, numbers.ArcRef.ArcRef}}
-use Rattle.pagable_value_spec.specs.{Height.is_eager, Refusals.may_refuse_reference}
+use Rattle.pagable_pager_spec.specs.{
+  Basics.if_there,
+  Loads.answer_of,
+  Pager.{PagerState, ValueCall},
+  Refusals.live_fault,
+  World.row_at,
+}
+use Rattle.pagable_value_spec.specs.{
+  Height.is_eager,
+  Refusals.may_refuse_reference,
+  declared.{error.Error.Error, numbers.ArcRef.ArcRef},
+}
+use Rattle.std.specs.{
+  Option.option_map,
+  Prelude.{Bool, Err, IfNone, IfSome, IsSome, List, None, Ok, Option, Result, Some, false, if◌then◌else◌, length},
+  Prelude.{option_and_then, slice_get, true, ℕ, ◌<◌, ◌==◌, ◌≡◌, ◌≤◌, ◌⊎◌},
+}
 
 abbrev pub answer_at : List ArcRef → ℕ → ℕ → ℕ → Result ArcRef Error
 answer_at got place key kind = answer_of (slice_get got place) kind
@@ -28,8 +42,8 @@ pub record Lends {N E : Type 0} (s : PagerState N E) (r : ArcRef) (found : Optio
       ⊎ IsSome (live_fault (row_at s.core r.handle)))
 
 -- none of the first `count` references is loaded with its holder
-abbrev pub AreLater : ℕ → List ArcRef → Type 0
-AreLater count got = (place : ℕ) (r : ArcRef) → place < count → slice_get got place ≡ Some r → is_eager r.kind.0 ≡ false
+abbrev pub AreLoose : ℕ → List ArcRef → Type 0
+AreLoose count got = (place : ℕ) (r : ArcRef) → place < count → slice_get got place ≡ Some r → is_eager r.kind.0 ≡ false
 
 -- each reference lends its own value, by its place, and nothing else is lent
 pub record LendsEach {A N E : Type 0} (see : A → N) (s : PagerState N E) (got : List ArcRef)

@@ -1,12 +1,30 @@
 -- What a worker's calls of an access do, in terms of the specification.
-use Rattle.std.specs.Prelude.{Bool, Err, IfErr, IfOk, None, Ok, OnOk, Option, Result, Some, false, length, true, ℕ, ◌≡◌, ◌≤◌, ◌⊎◌}
-use Rattle.std.specs.Arc.{arc_value}
-use Rattle.{pagable_load.specs.{PinStart.Shares, declared.access.{TakenValue.TakenValue, WorkerNode.WorkerNode}}, pagable_value_spec.specs.Blob.{Blob, key_of}}
-use Rattle.pagable_pager_spec.specs.{Calls.{ReleaseCall, SetKeyCall, StoreCall, TakeCall}, Cascade.FallsAnyhow, Workers.is_workers_at}
-use Rattle.{pagable_load.specs.declared.access.PinnedOrLoading.PinnedOrLoading, pagable_value_spec.specs.declared.{data_key.OptionalDataKey.OptionalDataKey, error.Error.Error, numbers.{ArcRef.ArcRef, HandleNumber.HandleNumber, LoadNumber.LoadNumber}}}
-use Rattle.{pagable_value_spec.specs.declared.numbers.WorkerNumber.WorkerNumber, pagable_pager_spec.specs.{Access.{EntryHas, MakesCall, WorkerStarts}, Calls.CloneCall, Events.{IsEntry, with_entry_taken}, Kinds.HasKinds}}
-use Rattle.pagable_pager_spec.specs.{Kinds.{HasNoKinds, loose_kind}, LoadCalls.BeginCall, Pager.PagerState, Refusals.WorkerFault, Workers.{PinRefused, PinsAtOnce, RowIs}, World.{Alike, Core, Values}}
-use Rattle.pagable_pager_spec.specs.declared.{pinning.Beginning.Beginning, handle_row.{HandleRow.HandleRow, Owner.Owner}}
+use Rattle.pagable_load.specs.{
+  PinStart.Shares,
+  declared.access.{PinnedOrLoading.PinnedOrLoading, TakenValue.TakenValue, WorkerNode.WorkerNode},
+}
+use Rattle.pagable_pager_spec.specs.{
+  Access.{EntryHas, MakesCall, WorkerStarts},
+  Calls.{CloneCall, ReleaseCall, SetKeyCall, StoreCall, TakeCall},
+  Cascade.FallsAnyhow,
+  Events.{IsEntry, with_entry_taken},
+  Kinds.{HasKinds, HasNoKinds, loose_kind},
+  LoadCalls.BeginCall,
+  Pager.PagerState,
+  Refusals.WorkerFault,
+  Workers.{PinRefused, PinsAtOnce, RowIs, is_workers_at},
+  World.{Alike, Core, Values},
+  declared.{handle_row.{HandleRow.HandleRow, Owner.Owner}, pinning.Beginning.Beginning},
+}
+use Rattle.pagable_value_spec.specs.{
+  Blob.{Blob, key_of},
+  declared.{data_key.OptionalDataKey.OptionalDataKey, error.Error.Error},
+  declared.numbers.{ArcRef.ArcRef, HandleNumber.HandleNumber, LoadNumber.LoadNumber, WorkerNumber.WorkerNumber},
+}
+use Rattle.std.specs.{
+  Arc.arc_value,
+  Prelude.{Bool, Err, IfErr, IfOk, None, Ok, OnOk, Option, Result, Some, false, length, true, ℕ, ◌≡◌, ◌≤◌, ◌⊎◌},
+}
 
 -- the error of a result, if it is one
 abbrev pub fault_in : {X : Type 0} → Result X Error → Option Error
@@ -40,28 +58,28 @@ SharesTaken s (TakenValue.Held through pin value) = Shares arc_value s pin value
 SharesTaken s (TakenValue.Begun through l key) = Unit {0}
 
 -- the key is set by the handle, if there is one
-abbrev pub SetsThrough : {N E : Type 0} → Values N → Owner → Option HandleNumber → ℕ → Result (Unit {0}) Error
+abbrev pub SetsKeyIfLoose : {N E : Type 0} → Values N → Owner → Option HandleNumber → ℕ → Result (Unit {0}) Error
     → PagerState N E → PagerState N E → Type 0
-SetsThrough v me None key r s t = (r ≡ Ok tt) × (t ≡ s)
-SetsThrough v me (Some h) key r s t = MakesCall v (λ w'. SetKeyCall s.core me h key r w') s t
+SetsKeyIfLoose v me None key r s t = (r ≡ Ok tt) × (t ≡ s)
+SetsKeyIfLoose v me (Some h) key r s t = MakesCall v (λ w'. SetKeyCall s.core me h key r w') s t
 
 -- The key of a worker's node is set, if it gets one, and then the worker's handles of the node are released. If setting
 -- the key fails, nothing more happens.
-pub record ClosesNode {N E : Type 0} (v : Values N) (me : Owner) (at : WorkerNode) (key : ℕ)
+pub record SetsKeyAndReleases {N E : Type 0} (v : Values N) (me : Owner) (at : WorkerNode) (key : ℕ)
     (r : Result (Unit {0}) Error) (s t : PagerState N E) : Type 0 where
-  pub closes : OnOk r ((mid : PagerState N E) × SetsThrough v me at.loose key (Ok tt) s mid
+  pub closes : OnOk r ((mid : PagerState N E) × SetsKeyIfLoose v me at.loose key (Ok tt) s mid
       × MakesCall v (λ w'. FallsAnyhow mid.core mid.core (is_workers_at mid.core at.worker.0 at.node.0) w') mid t)
-  pub refused : IfErr r (λ e. SetsThrough v me at.loose key (Err e) s t)
+  pub refused : IfErr r (λ e. SetsKeyIfLoose v me at.loose key (Err e) s t)
 
 -- The blob of a worker's node is stored, and the node is closed with its key. The first error ends it.
 pub record StoresNode {N E : Type 0} (v : Values N) (me : Owner) (at : WorkerNode) (blob : Blob) (r : Result ℕ Error)
     (s t : PagerState N E) : Type 0 where
   pub stores : IfOk r (λ key. (mid : PagerState N E) × MakesCall v
-      (λ w'. StoreCall (key_of v.hash) s.core blob (Ok key) w') s mid × ClosesNode v me at key (Ok tt) mid t)
+      (λ w'. StoreCall (key_of v.hash) s.core blob (Ok key) w') s mid × SetsKeyAndReleases v me at key (Ok tt) mid t)
   pub refused : IfErr r (λ e. MakesCall v (λ w'. StoreCall (key_of v.hash) s.core blob (Err e) w') s t
       ⊎ ((key : ℕ) × (mid : PagerState N E) × MakesCall v (λ w'. StoreCall (key_of v.hash) s.core blob (Ok key) w') s
       mid
-      × ClosesNode v me at key (Err e) mid t))
+      × SetsKeyAndReleases v me at key (Err e) mid t))
 
 -- the entry at this place moves to a new worker, as a loose reference to its cell
 pub record StartsEntry {N E : Type 0} (v : Values N) (s : PagerState N E) (place : ℕ) (n : WorkerNumber) (r : ArcRef)

@@ -1,13 +1,27 @@
 //! `Access`: the calls of a pager for one owner, over a pager that is lent or behind a lock; and
 //! `WorkerAccess`: what a page-out worker calls besides. Each call is one step.
 
-ghost use Rattle.std.specs.{Arc.arc_value, Prelude.{IfErr, IfNone, IfOk, IfSome, length, Option, ◌≡◌, ◌≤◌}};
-ghost use Rattle.{pagable_core.specs.Data.blob_of, pagable_load.specs.{PinStart.{Shares, StartsPin}, AccessView.{Acting, Acts, ActsThen, AdoptsValue, as_caller, as_worker, AsksFor, Brings}}};
-ghost use Rattle.{pagable_load.specs.{AccessView.{IsReadBy, TakesLazily, IfKnown, values_at}, WorkerCalls.{ClosesNode, fault_in, RefusesEntry, ReleasesIfKeyed, SetsThrough, SharesTaken, StartsEntry, StoresNode, taken_of, TakesReference}}, pagable_value_spec.specs.Blob.key_of};
-ghost use Rattle.{pagable_value_spec.specs.declared.numbers.HandleNumber.HandleNumber as Handle, pagable_pager_spec.specs.{Access.{MakesCall, EntryHas, WorkerStarts}, Calls.ReleaseCall}};
-ghost use Rattle.pagable_pager_spec.specs.{Calls.{ScheduleCall, SetKeyCall, StoreCall, TakeCall, UnpinCall}, Cascade.FallsAnyhow, declared.calls.Want.Want, LoadCalls.{LoadFetchCall, BeginKeyCall}};
-ghost use Rattle.pagable_pager_spec.specs.{LoadCalls.{DropCall, EndCall, from_store, HandOverCall}, Pager.{IsCellOf, IsNewNode, PagerState}, Workers.{claim_fault, is_workers_at, WorkerEnds}, World.Alike};
-ghost use Rattle.pagable_pager_spec.specs.{Refusals.WorkerFault, World.result_map};
+ghost use Rattle.pagable_core.specs.Data.{blob_of};
+ghost use Rattle.pagable_load.specs.{
+  AccessView.{Acting, Acts, ActsThen, AdoptsValue, AsksFor, IfKnown, IsReadBy, MakesCallBringing, TakesLazily},
+  AccessView.{as_caller, as_worker, values_at},
+  PinStart.{Shares, StartsPin},
+  WorkerCalls.{RefusesEntry, ReleasesIfKeyed, SetsKeyAndReleases, SetsKeyIfLoose, SharesTaken, StartsEntry, StoresNode},
+  WorkerCalls.{TakesReference, fault_in, taken_of},
+};
+ghost use Rattle.pagable_pager_spec.specs.{
+  Access.{EntryHas, MakesCall, WorkerStarts},
+  Calls.{ReleaseCall, ScheduleCall, SetKeyCall, StoreCall, TakeCall, UnpinCall},
+  Cascade.FallsAnyhow,
+  LoadCalls.{BeginKeyCall, DropCall, EndCall, HandOverCall, LoadFetchCall, from_store},
+  Pager.{IsCellOf, IsNewNode, PagerState},
+  Refusals.WorkerFault,
+  Workers.{WorkerEnds, claim_fault, is_workers_at},
+  World.{Alike, result_map},
+  declared.calls.FetchTarget.FetchTarget,
+};
+ghost use Rattle.pagable_value_spec.specs.{Blob.key_of, declared.numbers.HandleNumber.HandleNumber as Handle};
+ghost use Rattle.std.specs.{Arc.arc_value, Prelude.{IfErr, IfNone, IfOk, IfSome, Option, length, ◌≡◌, ◌≤◌}};
 
 use either::Either;
 use pagable_codec::{Env, NodeSet};
@@ -112,7 +126,7 @@ pub trait Access<E: Env<Node: NodeSet<E>>> {
     ///
     /// - `NoSuchHandle` if the handle isn't live: nothing changes.
     /// - `NotYours` if another than this owner has it: nothing changes.
-    /// - `NumbersSpent` or `OutOfMemory` if a cell that has to be listed isn't: the key is set all
+    /// - `NumbersSpent` or `OutOfMemory` if a cell can't be listed for page-out: the key is set all
     ///   the same.
     fn set_data_key(&mut self, handle: HandleNumber, key: DataKey) -> Result<(), Error>
         ensures { Acts known_state acting self.old self.new (λ a s t. MakesCall
@@ -126,7 +140,7 @@ pub trait Access<E: Env<Node: NodeSet<E>>> {
     /// - `NoSuchHandle` if the handle isn't live: nothing changes.
     /// - `NotYours` if another than this owner has it: nothing changes.
     /// - `WrongMode` if it isn't loose: nothing changes.
-    /// - `NumbersSpent` or `OutOfMemory` if a cell that has to be listed isn't: the handle is
+    /// - `NumbersSpent` or `OutOfMemory` if a cell can't be listed for page-out: the handle is
     ///   unpinned all the same.
     fn unpin(&mut self, handle: HandleNumber) -> Result<(), Error>
         ensures { Acts known_state acting self.old self.new (λ a s t. MakesCall
@@ -139,7 +153,7 @@ pub trait Access<E: Env<Node: NodeSet<E>>> {
     ///
     /// - `NoSuchHandle` if the handle isn't live: nothing changes.
     /// - `NotYours` if another than this owner has it: nothing changes.
-    /// - `NumbersSpent` or `OutOfMemory` if a cell that has to be listed isn't: the handle is
+    /// - `NumbersSpent` or `OutOfMemory` if a cell can't be listed for page-out: the handle is
     ///   released all the same.
     fn release(&mut self, handle: HandleNumber) -> Result<(), Error>
         ensures { Acts known_state acting self.old self.new (λ a s t. MakesCall
@@ -167,7 +181,7 @@ pub trait Access<E: Env<Node: NodeSet<E>>> {
     fn load_root(&mut self, alloc: Global, load: LoadNumber) -> Result<Arc<PagableData>, Error>
         ensures { Acts known_state acting self.old self.new (λ a s t. MakesCall
             (values_at E.Node.NodeSet E.Env E.Hash.KeyHash a.environment)
-            (λ w'. LoadFetchCall s.core a.me load Want.Root
+            (λ w'. LoadFetchCall s.core a.me load FetchTarget.Root
             (result_map (λ d. from_store (blob_of (arc_value d))) result) w') s
             t) };
 
@@ -232,7 +246,7 @@ pub trait Access<E: Env<Node: NodeSet<E>>> {
         key: DataKey,
         node: E::Node,
     ) -> Result<ArcRef, (Error, E::Node)>
-        ensures { Acts known_state acting self.old self.new (λ a s t. Brings
+        ensures { Acts known_state acting self.old self.new (λ a s t. MakesCallBringing
             (values_at E.Node.NodeSet E.Env E.Hash.KeyHash a.environment)
             (λ w'. AdoptsValue s.core a.me load kind key node (E.Node.type_of node) (E.Node.refs_of node) result w')
             (λ n x. (x ≡ node) × IsNewNode s.core n) s t) };
@@ -260,7 +274,7 @@ pub trait Access<E: Env<Node: NodeSet<E>>> {
         value: E::Node,
     ) -> Result<HandleNumber, (Error, Option<E::Node>)>
         requires { IsReadBy (values_at E.Node.NodeSet E.Env E.Hash.KeyHash (acting self.old).environment) load value }
-        ensures { Acts known_state acting self.old self.new (λ a s t. Brings
+        ensures { Acts known_state acting self.old self.new (λ a s t. MakesCallBringing
             (values_at E.Node.NodeSet E.Env E.Hash.KeyHash a.environment)
             (λ w'. EndCall s.core a.me load value (E.Node.type_of value) (E.Node.refs_of value) result w')
             (λ n x. (x ≡ value) × IsCellOf s.core load n) s t) };
@@ -285,8 +299,8 @@ pub trait Access<E: Env<Node: NodeSet<E>>> {
     ///
     /// - `NoSuchHandle` if the load isn't open: nothing changes.
     /// - `NotYours` if another than this owner began it: nothing changes.
-    /// - `NumbersSpent` or `OutOfMemory` if a cell that has to be listed isn't: the load is dropped
-    ///   all the same.
+    /// - `NumbersSpent` or `OutOfMemory` if a cell can't be listed for page-out: the load is
+    ///   dropped all the same.
     fn load_drop(&mut self, load: LoadNumber) -> Result<(), Error>
         ensures { Acts known_state acting self.old self.new (λ a s t. MakesCall
             (values_at E.Node.NodeSet E.Env E.Hash.KeyHash a.environment) (λ w'. DropCall s.core a.me load result w') s
@@ -337,7 +351,8 @@ pub trait WorkerAccess<E: Env<Node: NodeSet<E>>>: Access<E> {
     ///
     /// # Errors
     ///
-    /// - those of cloning the handle, of pinning the clone, and of the load's begin.
+    /// - those of cloning the handle: nothing changes.
+    /// - those of pinning the clone or of beginning the load: the worker keeps the clone.
     fn pin_or_load_reference(&mut self, reference: ArcRef) -> Result<PinnedOrLoading, Error>
         ensures { Acts Self.known_state Self.acting self.old self.new
             (λ a s t. MakesCall (values_at E.Node.NodeSet E.Env E.Hash.KeyHash a.environment)
@@ -349,7 +364,7 @@ pub trait WorkerAccess<E: Env<Node: NodeSet<E>>>: Access<E> {
     /// # Errors
     ///
     /// - those of `pin_or_load_reference`.
-    fn take_value(&mut self, reference: ArcRef) -> Result<TakenValue<E::Node>, Error>
+    fn pin_or_load_value(&mut self, reference: ArcRef) -> Result<TakenValue<E::Node>, Error>
         ensures takes { Acts Self.known_state Self.acting self.old self.new
             (λ a s t. MakesCall (values_at E.Node.NodeSet E.Env E.Hash.KeyHash a.environment)
             (λ w'. TakesReference s.core a.me reference (result_map taken_of result) w') s t) }
@@ -378,7 +393,8 @@ pub trait WorkerAccess<E: Env<Node: NodeSet<E>>>: Access<E> {
     /// - those of `set_data_key`.
     fn set_key_if_loose(&mut self, loose: Option<HandleNumber>, key: DataKey) -> Result<(), Error>
         ensures { Acts Self.known_state Self.acting self.old self.new
-            (λ a s t. SetsThrough (values_at E.Node.NodeSet E.Env E.Hash.KeyHash a.environment) a.me loose key result s
+            (λ a s t. SetsKeyIfLoose (values_at E.Node.NodeSet E.Env E.Hash.KeyHash a.environment) a.me
+            loose key result s
             t) }
     {
         match loose {
@@ -395,7 +411,8 @@ pub trait WorkerAccess<E: Env<Node: NodeSet<E>>>: Access<E> {
     /// - those of `set_data_key`: the worker keeps its handles.
     fn set_key_and_release(&mut self, at: WorkerNode, key: DataKey) -> Result<(), Error>
         ensures { Acts Self.known_state Self.acting self.old self.new
-            (λ a s t. ClosesNode (values_at E.Node.NodeSet E.Env E.Hash.KeyHash a.environment) a.me at key result s t) }
+            (λ a s t. SetsKeyAndReleases (values_at E.Node.NodeSet E.Env E.Hash.KeyHash a.environment) a.me
+            at key result s t) }
     {
         self.set_key_if_loose(at.loose, key)?;
         self.release_worker_node(at.worker, at.node);

@@ -3,13 +3,18 @@
 //! references find them: one notes what the reader asks for, and one checks the last of them with
 //! all that are before it.
 
-ghost use Rattle.std.specs.{Prelude.{false, IfSome, IsSome, [], length, true, ◌++◌, ◌∷◌, ◌≡◌, ◌⊎◌}};
-ghost use Rattle.pagable_load.specs.{Decoding.{Follows, IfValue, IsAhead, KeptAt, LeftIf, Needs, NeedsNext, rows_of}, Frames.frames_of, ResolvedReferences.AreStandIns, AccessView.{IfKnown, values_at}};
-ghost use Rattle.pagable_pager_spec.specs.{Pager.HoldsPinned, Basics.Types};
+ghost use Rattle.pagable_load.specs.{
+  AccessView.{IfKnown, values_at},
+  Decoding.{IfValue, KeptIfKindAt, Needs, NeedsNext, RemovedIf, RowFits, RowsStayFit, rows_of},
+  Frames.frames_of,
+  ResolvedReferences.AreStandIns,
+};
+ghost use Rattle.pagable_pager_spec.specs.{Basics.Types, Pager.HoldsPinned};
+ghost use Rattle.std.specs.Prelude.{IfSome, IsSome, false, length, true, [], ◌++◌, ◌∷◌, ◌≡◌, ◌⊎◌};
 
 use crate::access::Access;
-use crate::decoding::{Decoded, decode, read_got, stand_in_for};
-use crate::reading::{Need, Reading, is_read_at_once, lend, value_of};
+use crate::decoding::{Decoded, decode, read_with_references, stand_in_for};
+use crate::reading::{Need, Reading, is_read_at_once, value_of, values_of};
 use pagable_codec::{Env, NodeSet};
 use pagable_value_spec::{ArcRef, DataKey, Kind};
 use std::alloc::Global;
@@ -19,20 +24,20 @@ use std::mem::replace;
 /// at each place a reference of the kind that is asked for there, from the blob's first reference
 /// on. An empty row says nothing.
 #[derive(Drop)]
-pub struct Ahead {
+pub struct Lookahead {
     /// The row of the innermost blob.
     pub top: Vec<ArcRef>,
     /// The rows of the blobs below the innermost one, the root's first.
     pub below: Vec<Vec<ArcRef>>,
 }
 
-impl Ahead {
-    /// Makes the `Ahead` that knows nothing: its rows are empty.
+impl Lookahead {
+    /// Makes the `Lookahead` that knows nothing: its rows are empty.
     #[tactic(auto, using(crate::proofs::Batches::leaving))]
-    pub(crate) fn new(alloc: Global) -> Ahead
+    pub(crate) fn new(alloc: Global) -> Lookahead
         ensures { rows_of result ≡ [] ∷ [] }
     {
-        Ahead {
+        Lookahead {
             top: Vec::new(alloc),
             below: Vec::new(alloc),
         }
@@ -40,7 +45,7 @@ impl Ahead {
 
     // Adds an empty row for a new innermost blob. If memory runs out, forgets the rows of the blobs
     // below.
-    fn enter(&mut self, alloc: Global)
+    fn add_row(&mut self, alloc: Global)
         ensures top { self.new.top.items ≡ [] }
         ensures below { (self.new.below.items ≡ self.old.below.items ++ self.old.top ∷ [])
             ⊎ (self.new.below.items ≡ []) }
@@ -53,8 +58,8 @@ impl Ahead {
 
     // Removes the innermost blob's row if that blob was read.
     #[tactic(auto, using(crate::proofs::Batches::leaving))]
-    fn leave_if(&mut self, alloc: Global, was_read: bool)
-        ensures { LeftIf was_read (rows_of self.old) (rows_of self.new) }
+    fn remove_row_if(&mut self, alloc: Global, was_read: bool)
+        ensures { RemovedIf was_read (rows_of self.old) (rows_of self.new) }
     {
         if !was_read {
             return;
@@ -68,8 +73,8 @@ impl Ahead {
 
     // Keeps the innermost blob's row if it has this kind at this place, and empties it otherwise.
     // The blob has just got a reference of the kind there.
-    fn keep_if(&mut self, place: usize, kind: Kind)
-        ensures top { KeptAt place kind self.old.top.items self.new.top.items }
+    fn keep_row_if(&mut self, place: usize, kind: Kind)
+        ensures top { KeptIfKindAt place kind self.old.top.items self.new.top.items }
         ensures below { self.new.below ≡ self.old.below }
     {
         let row = self.top.as_slice();
@@ -99,7 +104,7 @@ impl Reading {
         access: &A,
         alloc: Global,
     ) -> Option<Vec<ArcRef>>
-        ensures { IfSome result (λ row. IsAhead (values_at E.Node.NodeSet E.Env E.Hash.KeyHash
+        ensures { IfSome result (λ row. RowFits (values_at E.Node.NodeSet E.Env E.Hash.KeyHash
             (A.acting access.now).environment).types (frames_of self.now.top self.now.below.items) row.items) }
     {
         let Some(top) = &self.top else {
@@ -107,11 +112,11 @@ impl Reading {
         };
         let blob = top.blob.as_ref();
         let got = top.got.as_slice();
-        let lent = lend::<E, A>(access, alloc, got).ok()?;
+        let lent = values_of::<E, A>(access, alloc, got).ok()?;
         // (A reader may ask for something else than the blob's encoding says, so nothing that it
         // notes is trusted.)
         let noting = Some(Vec::new(alloc));
-        let (_read, noted) = read_got(
+        let (_read, noted) = read_with_references(
             access,
             alloc,
             blob,
@@ -148,16 +153,18 @@ impl Reading {
         None
     }
 
-    /// Finds the row of the innermost blob, if none is known and a row is likely to help.
+    /// Fills `row`, if it is empty, with stand-ins for the references that the innermost blob will
+    /// ask for, of their kinds, after those that it has got. Two trial reads find them. Leaves
+    /// `row` as it is if trial reads aren't likely to save others, or find nothing.
     pub(crate) fn plan_batch_if_useful<E: Env<Node: NodeSet<E>>, A: Access<E>>(
         &self,
         access: &A,
         alloc: Global,
         row: &mut Vec<ArcRef>,
     )
-        requires { IsAhead (values_at E.Node.NodeSet E.Env E.Hash.KeyHash (A.acting access.now).environment).types
+        requires { RowFits (values_at E.Node.NodeSet E.Env E.Hash.KeyHash (A.acting access.now).environment).types
             (frames_of self.now.top self.now.below.items) row.old.items }
-        ensures { IsAhead (values_at E.Node.NodeSet E.Env E.Hash.KeyHash (A.acting access.now).environment).types
+        ensures { RowFits (values_at E.Node.NodeSet E.Env E.Hash.KeyHash (A.acting access.now).environment).types
             (frames_of self.now.top self.now.below.items) row.new.items }
     {
         let Some(top) = &self.top else {
@@ -177,9 +184,9 @@ impl Reading {
 
     // Returns the kind and key of the reference that the load needs next, if the row reaches as far
     // as this reference.
-    fn told(&self, row: &[ArcRef]) -> Option<(Kind, DataKey)>
+    fn next_by_row(&self, row: &[ArcRef]) -> Option<(Kind, DataKey)>
         ensures tells { IfSome result (λ k. (types : Types)
-            → IsAhead types (frames_of self.now.top self.now.below.items) row.now
+            → RowFits types (frames_of self.now.top self.now.below.items) row.now
             → NeedsNext types (frames_of self.now.top self.now.below.items) k.0 k.1) }
         ensures top { IfSome result (λ k. IsSome self.now.top) }
     {
@@ -194,25 +201,25 @@ impl Reading {
         Some((row[place].kind, keys[place]))
     }
 
-    /// Returns what the load needs next, and reads the innermost blob for it only if its row
-    /// doesn't say. What a value that was read holds beside its references is what their handles
-    /// pin.
+    /// Returns what the load needs next. Reads the innermost blob to find it only if `row`, the
+    /// references that the blob is known to ask for, doesn't reach so far. Beside its references, a
+    /// value that was read holds only values that their handles pin.
     #[tactic(auto, using(crate::proofs::LoadSteps::tells_all))]
-    pub(crate) fn needed<E: Env<Node: NodeSet<E>>, A: Access<E>>(
+    pub(crate) fn find_next_need<E: Env<Node: NodeSet<E>>, A: Access<E>>(
         &self,
         access: &A,
         alloc: Global,
         row: &[ArcRef],
     ) -> Need<E::Node>
-        requires { IsAhead (values_at E.Node.NodeSet E.Env E.Hash.KeyHash (A.acting access.now).environment).types
+        requires { RowFits (values_at E.Node.NodeSet E.Env E.Hash.KeyHash (A.acting access.now).environment).types
             (frames_of self.now.top self.now.below.items) row.now }
         ensures holds { IfKnown (A.known_state access.now) (λ s. IfValue result
             (HoldsPinned (values_at E.Node.NodeSet E.Env E.Hash.KeyHash (A.acting access.now).environment) s)) }
         ensures needs { Needs (values_at E.Node.NodeSet E.Env E.Hash.KeyHash (A.acting access.now).environment) self.now
             result }
     {
-        let Some((kind, key)) = self.told(row) else {
-            return self.next::<E, A>(access, alloc);
+        let Some((kind, key)) = self.next_by_row(row) else {
+            return self.next_need::<E, A>(access, alloc);
         };
         if is_read_at_once(kind) {
             return Need::Nested(kind, key);
@@ -220,23 +227,23 @@ impl Reading {
         Need::Lazy(kind, key)
     }
 
-    /// Updates the rows after a step that got what was needed: removes the row of a blob that was
-    /// read, adds an empty one for a new blob, and empties the row of a blob that got a reference
-    /// of another kind than its row says.
-    pub(crate) fn follow(&self, alloc: Global, ahead: &mut Ahead, was_read: bool)
-        ensures { Follows was_read (frames_of self.now.top self.now.below.items) (rows_of ahead.old)
+    /// Updates the rows of `ahead` after a step that got what the load needed: removes the row of a
+    /// blob that was read, adds an empty row for a new blob, and empties the row of a blob that got
+    /// a reference of another kind than its row says.
+    pub(crate) fn update_rows(&self, alloc: Global, ahead: &mut Lookahead, was_read: bool)
+        ensures { RowsStayFit was_read (frames_of self.now.top self.now.below.items) (rows_of ahead.old)
             (rows_of ahead.new) }
     {
-        ahead.leave_if(alloc, was_read);
+        ahead.remove_row_if(alloc, was_read);
         let Some(top) = &self.top else {
             return;
         };
         let got = top.got.as_slice();
         if got.is_empty() {
-            ahead.enter(alloc);
+            ahead.add_row(alloc);
             return;
         }
         let last = got.len() - 1;
-        ahead.keep_if(last, got[last].kind);
+        ahead.keep_row_if(last, got[last].kind);
     }
 }

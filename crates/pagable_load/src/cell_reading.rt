@@ -1,7 +1,8 @@
 //! A load of a cell up to the blob of its root.
 
+ghost use Rattle.pagable_load.specs.Frames.{reading_of};
+ghost use Rattle.pagable_pager_spec.specs.Workers.{fresh};
 ghost use Rattle.std.specs.Prelude.{true, ◌≡◌};
-ghost use Rattle.{pagable_load.specs.Frames.reading_of, pagable_pager_spec.specs.Workers.fresh};
 
 use crate::reading::Reading;
 use pagable_value_spec::{DataKey, LoadNumber};

@@ -1,8 +1,13 @@
 //! Reads a blob from its front, with the references that its load has got so far.
 
+ghost use Rattle.pagable_core.specs.Data.{blob_of};
+ghost use Rattle.pagable_load.specs.{
+  AccessView.{IfKnown, values_at},
+  Decoding.{Decodes, IfRead, ReadsWith},
+  ResolvedReferences.{LendsEach, stand_in},
+};
+ghost use Rattle.pagable_pager_spec.specs.Pager.{HoldsPinned};
 ghost use Rattle.std.specs.{Arc.arc_value, Prelude.{IfOk, None, ◌≡◌}};
-ghost use Rattle.{pagable_core.specs.Data.blob_of, pagable_load.specs.{Decoding.{Decodes, IfRead, ReadsWith}, ResolvedReferences.{LendsEach, stand_in}, AccessView.{IfKnown, values_at}}};
-ghost use Rattle.pagable_pager_spec.specs.{Pager.HoldsPinned};
 
 use crate::access::Access;
 use pagable_codec::{Env, NodeSet};
@@ -114,9 +119,11 @@ pub enum Decoded<N: Drop> {
     Refused(Error),
 }
 
-/// Reads the blob as a value of this type, with its references as `ResolvedReferences` looks them
-/// up. Returns also `noted`, with the stand-ins that were appended.
-pub(crate) fn read_got<E: Env<Node: NodeSet<E>>, A: Access<E>>(
+/// Reads the blob as a value of this type. `got` has the references that its load has got so far,
+/// and `lent` their shared values at the same places. If `noted` is Some, each further reference
+/// that the reader asks for is answered by a stand-in without a value, which is appended to
+/// `noted`; if it is None, the reading fails there. Returns the reading's result, and `noted`.
+pub(crate) fn read_with_references<E: Env<Node: NodeSet<E>>, A: Access<E>>(
     access: &A,
     alloc: Global,
     blob: &PagableData,
@@ -149,8 +156,9 @@ pub(crate) fn read_got<E: Env<Node: NodeSet<E>>, A: Access<E>>(
 }
 
 /// Reads a blob from its front as a value of this type, with the references that its load has got
-/// so far, whose values are lent by their places. What it asks for next depends on the blob alone,
-/// and not on earlier reads. What the value holds beside its references is what their handles pin.
+/// so far, and with their shared values, which `lent` has at the same places. The same blob, type
+/// and references ask for the same reference next at each read. Beside its references, a value
+/// holds only values that their handles pin.
 #[tactic(auto, using(crate::proofs::LoadSteps::tells_all))]
 pub fn decode<E: Env<Node: NodeSet<E>>, A: Access<E>>(
     access: &A,
@@ -166,7 +174,7 @@ pub fn decode<E: Env<Node: NodeSet<E>>, A: Access<E>>(
     ensures decodes { Decodes (values_at E.Node.NodeSet E.Env E.Hash.KeyHash (A.acting access.now).environment)
         node_type (blob_of blob.now) got.now result }
 {
-    let (read, _) = read_got(access, alloc, blob, node_type, got, lent, None);
+    let (read, _) = read_with_references(access, alloc, blob, node_type, got, lent, None);
     match read {
         Ok(value) => Decoded::Read(value),
         Err(Error::Storage(kind)) => {

@@ -13,6 +13,6 @@ pub mod step;
 pub use access::{Access, PinStart, PinnedOrLoading, TakenValue, WorkerAccess, WorkerNode};
 pub use cell_reading::CellReading;
 pub use decoding::{Decoded, ResolvedReferences, decode};
-pub use pin::{BegunPin, begin_reading};
+pub use pin::{BegunPin, begin_polled_pin};
 pub use reading::{Frame, Need, Reading};
 pub use step::{pin_over, pin_with_state_over, read_over, share_pinned};

@@ -1,9 +1,11 @@
 //! A pin of a loose handle in parts: its begin, and the load of its cell, whose root's blob the
 //! caller fetches in between.
 
+ghost use Rattle.pagable_core.specs.Data.{blob_of};
+ghost use Rattle.pagable_load.specs.{AccessView.{Acts, values_at}, PinStart.StartsPin, PolledPin.{PinsFrom, start_of}};
+ghost use Rattle.pagable_pager_spec.specs.Access.{MakesCall};
+ghost use Rattle.pagable_value_spec.specs.Blob.{key_of};
 ghost use Rattle.std.specs.{Arc.arc_value, Prelude.◌≡◌};
-ghost use Rattle.{pagable_core.specs.Data.blob_of, pagable_value_spec.specs.Blob.key_of, pagable_pager_spec.specs.Access.MakesCall};
-ghost use Rattle.pagable_load.specs.{PolledPin.{PinsFrom, start_of}, PinStart.StartsPin, AccessView.{Acts, values_at}};
 
 use crate::access::{Access, PinStart};
 use crate::cell_reading::CellReading;
@@ -30,7 +32,7 @@ pub enum BegunPin {
 /// # Errors
 ///
 /// - those of `Access::begin_pin`: nothing changes.
-pub fn begin_reading<E: Env<Node: NodeSet<E>>, A: Access<E>>(
+pub fn begin_polled_pin<E: Env<Node: NodeSet<E>>, A: Access<E>>(
     access: &mut A,
     alloc: Global,
     handle: HandleNumber,

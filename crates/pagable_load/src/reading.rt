@@ -1,10 +1,21 @@
 //! The progress of a load: the blobs that it reads, what it needs next, and the values of the
 //! references that it has got, which it lends to the reader of its innermost blob.
 
-ghost use Rattle.std.specs.{Arc.arc_value, Option.option_map, Prelude.{true, IfErr, IfOk, IsSome, OnOk, [], length, vec_capacity, vec_len, ◌++◌, ◌<◌, ◌^◌, ◌∷◌, ◌≡◌, ◌≤◌}};
-ghost use Rattle.{pagable_core.specs.Data.blob_of, pagable_load.specs.{Frames.{frame_of, frames_of, onto, reading_of}, ResolvedReferences.{AreLater, Lends, LendsEach}, LoadSteps.{IsSameLoad, TakenOff, TakenTwo}}};
-ghost use Rattle.{pagable_load.specs.{Decoding.{IfValue, Needs, is_adoption}, AccessView.{IfKnown, values_at}}, pagable_value_spec.specs.Height.{is_eager, longest_path}};
+ghost use Rattle.pagable_core.specs.Data.{blob_of};
+ghost use Rattle.pagable_load.specs.{
+  AccessView.{IfKnown, values_at},
+  Decoding.{IfValue, Needs, is_adoption},
+  Frames.{frame_of, frames_of, frames_onto, reading_of},
+  LoadSteps.{IsSameLoad, TakenOff, TakenTwo},
+  ResolvedReferences.{AreLoose, Lends, LendsEach},
+};
 ghost use Rattle.pagable_pager_spec.specs.{Loads.{handles_of, nested_frame, root_frame}, Pager.HoldsPinned};
+ghost use Rattle.pagable_value_spec.specs.Height.{is_eager, longest_path};
+ghost use Rattle.std.specs.{
+  Arc.arc_value,
+  Option.option_map,
+  Prelude.{IfErr, IfOk, IsSome, OnOk, length, true, vec_capacity, vec_len, [], ◌++◌, ◌<◌, ◌^◌, ◌∷◌, ◌≡◌, ◌≤◌},
+};
 
 use crate::access::Access;
 use crate::decoding::{Decoded, decode};
@@ -59,7 +70,7 @@ pub struct Reading {
 /// What a load needs next.
 #[derive(Drop)]
 pub enum Need<N: Drop> {
-    /// The blob of its own key.
+    /// The blob of the load's own key.
     Root,
     /// A reference that is loaded with the value: a node of the cache, or a blob.
     Nested(Kind, DataKey),
@@ -117,7 +128,7 @@ impl Reading {
 /// Shares the value of a reference that is loaded with the value that holds it. Returns None for a
 /// loose reference, and if the reference's handle pins no value or isn't live. Fails with
 /// OutOfMemory only.
-#[tactic(auto, using(crate::proofs::LoadSteps::sharing))]
+#[tactic(auto, using(crate::proofs::Lending::sharing))]
 pub(crate) fn value_of<E: Env<Node: NodeSet<E>>, A: Access<E>>(
     access: &A,
     reference: ArcRef,
@@ -140,7 +151,7 @@ pub(crate) fn value_of<E: Env<Node: NodeSet<E>>, A: Access<E>>(
 
 // Returns whether all of these references are loose, so that none is loaded with its holder.
 fn are_read_later(got: &[ArcRef]) -> bool
-    ensures { result ≡ true → AreLater (length got.now) got.now }
+    ensures { result ≡ true → AreLoose (length got.now) got.now }
 {
     for reference in got {
         if is_read_at_once(reference.kind) {
@@ -153,7 +164,7 @@ fn are_read_later(got: &[ArcRef]) -> bool
 // Shares the values of these references, and returns them in the same order, with None for each
 // that `value_of` gives none for. Returns an empty list if all references are loose. Fails with
 // OutOfMemory only.
-pub(crate) fn lend<E: Env<Node: NodeSet<E>>, A: Access<E>>(
+pub(crate) fn values_of<E: Env<Node: NodeSet<E>>, A: Access<E>>(
     access: &A,
     alloc: Global,
     got: &[ArcRef],
@@ -179,7 +190,7 @@ impl Reading {
     /// to share these values, it returns `Refuse`. A value that was read holds, beside its
     /// references, the values that their handles pin.
     #[tactic(auto, using(crate::proofs::LoadSteps::needing, crate::proofs::LoadSteps::tells_all))]
-    pub fn next<E: Env<Node: NodeSet<E>>, A: Access<E>>(
+    pub fn next_need<E: Env<Node: NodeSet<E>>, A: Access<E>>(
         &self,
         access: &A,
         alloc: Global,
@@ -194,7 +205,7 @@ impl Reading {
         };
         let blob = top.blob.as_ref();
         let got = top.got.as_slice();
-        let lent = match lend::<E, A>(access, alloc, got) {
+        let lent = match values_of::<E, A>(access, alloc, got) {
             Ok(lent) => lent,
             Err(e) => return Need::Refuse(e),
         };
@@ -220,8 +231,8 @@ impl Reading {
 // ---- the blobs of a load: the innermost apart from those that wait for it
 
 impl Reading {
-    /// Takes the innermost blob, and reserves room for one more reference in it and for one more
-    /// blob below. Fails with OutOfMemory only.
+    /// Takes the innermost blob off, and reserves room for one more reference in it, and in `below`
+    /// for one more blob that waits. Fails with OutOfMemory only.
     pub(crate) fn pop_frame(&mut self) -> Result<Frame, Error>
         requires { IsSome self.old.top }
         ensures ok { IfOk result (λ top. TakenOff self.old self.new top) }
@@ -234,8 +245,8 @@ impl Reading {
         Ok(top)
     }
 
-    /// Takes the innermost blob and the one below it, and reserves room for one more reference in
-    /// the latter. Fails with OutOfMemory only.
+    /// Takes the innermost blob and the one below it off, and reserves room for one more reference
+    /// in the lower one. Fails with OutOfMemory only.
     #[tactic(auto, using(crate::proofs::LoadSteps::stacking))]
     pub(crate) fn pop_two_frames(&mut self) -> Result<(Frame, Frame), Error>
         requires top { IsSome self.old.top }
@@ -250,11 +261,11 @@ impl Reading {
         Ok((top, under))
     }
 
-    /// Puts the blob back as the innermost one, with one more reference.
+    /// Puts `top` back as the innermost blob, with this reference after those that it has got.
     pub(crate) fn push_resolved(&mut self, mut top: Frame, reference: ArcRef)
         requires { vec_len top.got < vec_capacity top.got }
         ensures gets { frames_of self.new.top self.new.below.items
-            ≡ record (frame_of top) { got = top.got.items ++ reference ∷ [] } ∷ onto [] self.old.below.items }
+            ≡ record (frame_of top) { got = top.got.items ++ reference ∷ [] } ∷ frames_onto [] self.old.below.items }
         ensures same { IsSameLoad self.old self.new self.old.steps }
     {
         top.got.push(reference).unwrap();
@@ -288,7 +299,7 @@ impl Reading {
     ) -> Result<(), Error>
         requires { vec_len self.old.below < vec_capacity self.old.below }
         ensures ok { OnOk result (frames_of self.new.top self.new.below.items
-            ≡ nested_frame kind key (blob_of (arc_value blob)) ∷ frame_of top ∷ onto [] self.old.below.items) }
+            ≡ nested_frame kind key (blob_of (arc_value blob)) ∷ frame_of top ∷ frames_onto [] self.old.below.items) }
         ensures few { length (blob_of (arc_value blob)).keys < 2 ^ 63 }
         ensures short { OnOk result (length self.old.below.items < longest_path) }
         ensures deep { IfErr result (λ e. e ≡ Error.TooDeep) }
@@ -313,7 +324,10 @@ impl Reading {
 }
 
 /// Collects the handles of references, in order. Fails with OutOfMemory only.
-pub(crate) fn all_handles(alloc: Global, references: &[ArcRef]) -> Result<Vec<HandleNumber>, Error>
+pub(crate) fn collect_handles(
+    alloc: Global,
+    references: &[ArcRef],
+) -> Result<Vec<HandleNumber>, Error>
     ensures ok { IfOk result (λ handles. handles.items ≡ handles_of references.now) }
     ensures only { IfErr result (λ e. e ≡ Error.OutOfMemory) }
 {

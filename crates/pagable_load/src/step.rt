@@ -1,14 +1,29 @@
 //! A load's steps over an access to a pager, and a load that is run to its end. And whole
 //! operations over an access: a pin, with the load that it may need, and the read of a key.
 
-ghost use Rattle.std.specs.{Arc.arc_value, Prelude.{[], IfNone, IfOk, IfSome, IsSome, length, Ok, Some, true, ◌<◌, ◌≡◌}};
-ghost use Rattle.pagable_load.specs.{Decoding.{AllAhead, FramesGo, goes_on_with, GoesFor, GotMore, IfValue, Needs, rows_of}, LoadEnd.LeadsOn, Frames.{frames_of, reading_of}, PinStart.{PinsFirst, SharesPinned, Unpins}, LoadSteps.Drops};
-ghost use Rattle.{pagable_load.specs.{LoadSteps.{IsSameLoad, Runs, RunsOrGoes, Tries}, AccessView.{Acts, IfKnown, values_at}}, pagable_pager_spec.specs.{Access.{PinsOver, ReadsOver}, declared.handle_row.Owner.Owner}};
-ghost use Rattle.pagable_pager_spec.specs.{Loads.{need_of, needs_lazy, ReadsNode, ReadsRoot}, Pager.HoldsPinned, World.{one_more, result_map}};
+ghost use Rattle.pagable_load.specs.{
+  AccessView.{Acts, IfKnown, values_at},
+  Decoding.{FramesChange, FramesChangeFor, GotMore, IfValue, Needs, RowsFit, rows_of, without_answer},
+  Frames.{frames_of, reading_of},
+  LoadEnd.EndsOrLeavesLess,
+  LoadSteps.{Drops, IsSameLoad, RunsLoad, RunsLoadOrPart, TriesStep},
+  PinStart.{PinsWithLoad, SharesPinned, Unpins},
+};
+ghost use Rattle.pagable_pager_spec.specs.{
+  Access.{PinsOver, ReadsOver},
+  Loads.{ReadsNode, ReadsRoot, need_of, needs_lazy},
+  Pager.HoldsPinned,
+  World.{one_more, result_map},
+  declared.handle_row.Owner.Owner,
+};
+ghost use Rattle.std.specs.{
+  Arc.arc_value,
+  Prelude.{IfNone, IfOk, IfSome, IsSome, Ok, Some, length, true, [], ◌<◌, ◌≡◌},
+};
 
 use crate::access::{Access, PinStart};
-use crate::batch::Ahead;
-use crate::reading::{Need, Reading, all_handles};
+use crate::batch::Lookahead;
+use crate::reading::{Need, Reading, collect_handles};
 use either::Either;
 use pagable_codec::{Env, NodeSet};
 use pagable_pager_spec::LoadAnswer;
@@ -19,7 +34,7 @@ use std::sync::Arc;
 impl Reading {
     /// Takes a loose reference for the innermost blob without reading it, and returns it. Leaves
     /// `steps` as it is.
-    pub(crate) fn take_lazy<E: Env<Node: NodeSet<E>>, A: Access<E>>(
+    pub(crate) fn add_loose_reference<E: Env<Node: NodeSet<E>>, A: Access<E>>(
         &mut self,
         access: &mut A,
         alloc: Global,
@@ -30,10 +45,10 @@ impl Reading {
         requires need { need_of (values_at E.Node.NodeSet E.Env E.Hash.KeyHash (A.acting access.old).environment).types
             (frames_of self.old.top self.old.below.items) ≡ needs_lazy kind key }
         ensures acts { Acts A.known_state A.acting access.old access.new
-            (λ a s t. Tries (values_at E.Node.NodeSet E.Env E.Hash.KeyHash a.environment) a.me self.old s
-            (goes_on_with result) (frames_of self.new.top self.new.below.items) t) }
-        ensures leads { LeadsOn {N = E.Node} self.old.for_cell (frames_of self.old.top self.old.below.items)
-            (frames_of self.new.top self.new.below.items) (goes_on_with result) }
+            (λ a s t. TriesStep (values_at E.Node.NodeSet E.Env E.Hash.KeyHash a.environment) a.me self.old s
+            (without_answer result) (frames_of self.new.top self.new.below.items) t) }
+        ensures leads { EndsOrLeavesLess {N = E.Node} self.old.for_cell (frames_of self.old.top self.old.below.items)
+            (frames_of self.new.top self.new.below.items) (without_answer result) }
         ensures got { IfOk result (λ r. GotMore (frames_of self.old.top self.old.below.items)
             (frames_of self.new.top self.new.below.items) r) }
         ensures same { IsSameLoad self.old self.new self.old.steps }
@@ -61,11 +76,11 @@ impl Reading {
         requires holds { IfKnown (A.known_state access.old) (λ s. HoldsPinned
             (values_at E.Node.NodeSet E.Env E.Hash.KeyHash (A.acting access.old).environment) s value) }
         ensures acts { Acts A.known_state A.acting access.old access.new
-            (λ a s t. Tries (values_at E.Node.NodeSet E.Env E.Hash.KeyHash a.environment) a.me self.old s result
+            (λ a s t. TriesStep (values_at E.Node.NodeSet E.Env E.Hash.KeyHash a.environment) a.me self.old s result
             (frames_of self.new.top self.new.below.items) t) }
-        ensures leads { LeadsOn self.old.for_cell (frames_of self.old.top self.old.below.items)
+        ensures leads { EndsOrLeavesLess self.old.for_cell (frames_of self.old.top self.old.below.items)
             (frames_of self.new.top self.new.below.items) result }
-        ensures goes { IfOk result (λ answer. FramesGo true (frames_of self.old.top self.old.below.items)
+        ensures goes { IfOk result (λ answer. FramesChange true (frames_of self.old.top self.old.below.items)
             (frames_of self.new.top self.new.below.items)) }
         ensures same { IsSameLoad self.old self.new self.old.steps }
     {
@@ -94,9 +109,9 @@ impl Reading {
         requires holds { IfKnown (A.known_state access.old) (λ s. HoldsPinned
             (values_at E.Node.NodeSet E.Env E.Hash.KeyHash (A.acting access.old).environment) s value) }
         ensures acts { Acts A.known_state A.acting access.old access.new
-            (λ a s t. Tries (values_at E.Node.NodeSet E.Env E.Hash.KeyHash a.environment) a.me self.old s result
+            (λ a s t. TriesStep (values_at E.Node.NodeSet E.Env E.Hash.KeyHash a.environment) a.me self.old s result
             (frames_of self.new.top self.new.below.items) t) }
-        ensures leads { LeadsOn self.old.for_cell (frames_of self.old.top self.old.below.items)
+        ensures leads { EndsOrLeavesLess self.old.for_cell (frames_of self.old.top self.old.below.items)
             (frames_of self.new.top self.new.below.items) result }
         ensures ends { IfOk result (λ answer. IsSome answer) }
         ensures same { IsSameLoad self.old self.new self.old.steps }
@@ -117,7 +132,7 @@ impl Reading {
             };
         }
         let references = value.refs(alloc)?;
-        let named = all_handles(alloc, references.as_slice())?;
+        let named = collect_handles(alloc, references.as_slice())?;
         access.load_take(self.load, named.as_slice())?;
         self.top = None;
         Ok(Some(LoadAnswer::Read(value)))
@@ -125,7 +140,7 @@ impl Reading {
 
     // Gets what the load needs, by at most one call of the access. Returns how the load ended, or
     // None if it goes on.
-    fn perform<E: Env<Node: NodeSet<E>>, A: Access<E>>(
+    fn act_on_need<E: Env<Node: NodeSet<E>>, A: Access<E>>(
         &mut self,
         access: &mut A,
         alloc: Global,
@@ -136,11 +151,11 @@ impl Reading {
         requires holds { IfKnown (A.known_state access.old) (λ s. IfValue need
             (HoldsPinned (values_at E.Node.NodeSet E.Env E.Hash.KeyHash (A.acting access.old).environment) s)) }
         ensures acts { Acts A.known_state A.acting access.old access.new
-            (λ a s t. Tries (values_at E.Node.NodeSet E.Env E.Hash.KeyHash a.environment) a.me self.old s result
+            (λ a s t. TriesStep (values_at E.Node.NodeSet E.Env E.Hash.KeyHash a.environment) a.me self.old s result
             (frames_of self.new.top self.new.below.items) t) }
-        ensures leads { LeadsOn self.old.for_cell (frames_of self.old.top self.old.below.items)
+        ensures leads { EndsOrLeavesLess self.old.for_cell (frames_of self.old.top self.old.below.items)
             (frames_of self.new.top self.new.below.items) result }
-        ensures goes { IfOk result (λ answer. GoesFor need answer (frames_of self.old.top self.old.below.items)
+        ensures goes { IfOk result (λ answer. FramesChangeFor need answer (frames_of self.old.top self.old.below.items)
             (frames_of self.new.top self.new.below.items)) }
         ensures same { IsSameLoad self.old self.new self.old.steps }
     {
@@ -167,7 +182,7 @@ impl Reading {
                     Err(e) => Err(e),
                 }
             }
-            Need::Lazy(kind, key) => match self.take_lazy(access, alloc, kind, key) {
+            Need::Lazy(kind, key) => match self.add_loose_reference(access, alloc, kind, key) {
                 Ok(_) => Ok(None),
                 Err(e) => Err(e),
             },
@@ -199,15 +214,15 @@ impl Reading {
         alloc: Global,
     ) -> Result<Option<LoadAnswer<E::Node>>, Error>
         ensures acts { Acts A.known_state A.acting access.old access.new
-            (λ a s t. Tries (values_at E.Node.NodeSet E.Env E.Hash.KeyHash a.environment) a.me self.old s result
+            (λ a s t. TriesStep (values_at E.Node.NodeSet E.Env E.Hash.KeyHash a.environment) a.me self.old s result
             (frames_of self.new.top self.new.below.items) t) }
-        ensures leads { LeadsOn self.old.for_cell (frames_of self.old.top self.old.below.items)
+        ensures leads { EndsOrLeavesLess self.old.for_cell (frames_of self.old.top self.old.below.items)
             (frames_of self.new.top self.new.below.items) result }
         ensures same { IsSameLoad self.old self.new self.old.steps }
     {
-        match self.next::<E, A>(access, alloc) {
+        match self.next_need::<E, A>(access, alloc) {
             Need::End(value) => self.finish(access, alloc, value),
-            need => self.perform(access, alloc, need),
+            need => self.act_on_need(access, alloc, need),
         }
     }
 
@@ -223,9 +238,10 @@ impl Reading {
         alloc: Global,
     ) -> Option<LoadAnswer<E::Node>>
         ensures acts { Acts A.known_state A.acting access.old access.new
-            (λ a s t. Tries (values_at E.Node.NodeSet E.Env E.Hash.KeyHash a.environment) a.me self.old s (Ok result)
+            (λ a s t. TriesStep (values_at E.Node.NodeSet E.Env E.Hash.KeyHash a.environment) a.me
+            self.old s (Ok result)
             (frames_of self.new.top self.new.below.items) t) }
-        ensures leads { LeadsOn self.old.for_cell (frames_of self.old.top self.old.below.items)
+        ensures leads { EndsOrLeavesLess self.old.for_cell (frames_of self.old.top self.old.below.items)
             (frames_of self.new.top self.new.below.items) (Ok result) }
         ensures same { IsSameLoad self.old self.new (one_more self.old.steps) }
     {
@@ -243,15 +259,15 @@ impl Reading {
     }
 
     // Fetches the blob of the load's own key. The caller counts this step in `steps`.
-    fn get_root<E: Env<Node: NodeSet<E>>, A: Access<E>>(
+    fn fetch_root<E: Env<Node: NodeSet<E>>, A: Access<E>>(
         &mut self,
         access: &mut A,
         alloc: Global,
     ) -> Result<(), Error>
         requires none { frames_of self.old.top self.old.below.items ≡ [] }
         ensures acts { Acts A.known_state A.acting access.old access.new
-            (λ a s t. Tries (values_at E.Node.NodeSet E.Env E.Hash.KeyHash a.environment) a.me self.old s
-            (goes_on_with result) (frames_of self.new.top self.new.below.items) t) }
+            (λ a s t. TriesStep (values_at E.Node.NodeSet E.Env E.Hash.KeyHash a.environment) a.me self.old s
+            (without_answer result) (frames_of self.new.top self.new.below.items) t) }
         ensures same { IsSameLoad self.old self.new self.old.steps }
     {
         match access.load_root(alloc, self.load) {
@@ -272,12 +288,13 @@ impl Reading {
     ) -> Option<LoadAnswer<E::Node>>
         requires none { frames_of self.old.top self.old.below.items ≡ [] }
         ensures acts { Acts A.known_state A.acting access.old access.new
-            (λ a s t. Tries (values_at E.Node.NodeSet E.Env E.Hash.KeyHash a.environment) a.me self.old s (Ok result)
+            (λ a s t. TriesStep (values_at E.Node.NodeSet E.Env E.Hash.KeyHash a.environment) a.me
+            self.old s (Ok result)
             (frames_of self.new.top self.new.below.items) t) }
-        ensures ends { IfSome result (λ answer. LeadsOn self.old.for_cell [] [] (Ok (Some answer))) }
+        ensures ends { IfSome result (λ answer. EndsOrLeavesLess self.old.for_cell [] [] (Ok (Some answer))) }
         ensures same { IsSameLoad self.old self.new (one_more self.old.steps) }
     {
-        match self.get_root::<E, A>(access, alloc) {
+        match self.fetch_root::<E, A>(access, alloc) {
             Ok(()) => {
                 self.steps = self.steps.saturating_add(1);
                 None
@@ -301,16 +318,17 @@ impl Reading {
     // Makes the first steps of a load that has just begun: the one that fetches its root's blob
     // and, if that has no references, the one that ends the load. Returns how the load ended, or
     // None if it goes on.
-    fn run_first<E: Env<Node: NodeSet<E>>, A: Access<E>>(
+    fn run_first_steps<E: Env<Node: NodeSet<E>>, A: Access<E>>(
         &mut self,
         access: &mut A,
         alloc: Global,
     ) -> Option<LoadAnswer<E::Node>>
         ensures acts { Acts A.known_state A.acting access.old access.new
-            (λ a s t. RunsOrGoes (values_at E.Node.NodeSet E.Env E.Hash.KeyHash a.environment) a.me self.old self.new s
+            (λ a s t. RunsLoadOrPart (values_at E.Node.NodeSet E.Env E.Hash.KeyHash a.environment) a.me
+            self.old self.new s
             result t) }
-        ensures ends { IfSome result (λ answer. LeadsOn self.old.for_cell [] [] (Ok (Some answer))) }
-        ensures sort { self.new.for_cell ≡ self.old.for_cell }
+        ensures ends { IfSome result (λ answer. EndsOrLeavesLess self.old.for_cell [] [] (Ok (Some answer))) }
+        ensures for_cell { self.new.for_cell ≡ self.old.for_cell }
     {
         if self.top.is_some() {
             return None;
@@ -327,31 +345,32 @@ impl Reading {
     // Makes the load's next step, as `step` does, but reads the innermost blob only if `ahead`
     // doesn't say what is needed.
     #[tactic(auto, using(crate::proofs::LoadSteps::giving_up))]
-    fn step_on<E: Env<Node: NodeSet<E>>, A: Access<E>>(
+    fn step_with_lookahead<E: Env<Node: NodeSet<E>>, A: Access<E>>(
         &mut self,
         access: &mut A,
         alloc: Global,
-        ahead: &mut Ahead,
+        ahead: &mut Lookahead,
     ) -> Option<LoadAnswer<E::Node>>
-        requires ahead { AllAhead (values_at E.Node.NodeSet E.Env E.Hash.KeyHash
+        requires ahead { RowsFit (values_at E.Node.NodeSet E.Env E.Hash.KeyHash
             (A.acting access.old).environment).types (frames_of self.old.top self.old.below.items) (rows_of ahead.old) }
         ensures acts { Acts A.known_state A.acting access.old access.new
-            (λ a s t. Tries (values_at E.Node.NodeSet E.Env E.Hash.KeyHash a.environment) a.me self.old s (Ok result)
+            (λ a s t. TriesStep (values_at E.Node.NodeSet E.Env E.Hash.KeyHash a.environment) a.me
+            self.old s (Ok result)
             (frames_of self.new.top self.new.below.items) t) }
-        ensures leads { LeadsOn self.old.for_cell (frames_of self.old.top self.old.below.items)
+        ensures leads { EndsOrLeavesLess self.old.for_cell (frames_of self.old.top self.old.below.items)
             (frames_of self.new.top self.new.below.items) (Ok result) }
         ensures same { IsSameLoad self.old self.new (one_more self.old.steps) }
-        ensures ahead { IfNone result (AllAhead (values_at E.Node.NodeSet E.Env E.Hash.KeyHash
+        ensures ahead { IfNone result (RowsFit (values_at E.Node.NodeSet E.Env E.Hash.KeyHash
             (A.acting access.old).environment).types (frames_of self.new.top self.new.below.items)
             (rows_of ahead.new)) }
     {
         self.plan_batch_if_useful(access, alloc, &mut ahead.top);
-        let need = self.needed::<E, A>(access, alloc, ahead.top.as_slice());
+        let need = self.find_next_need::<E, A>(access, alloc, ahead.top.as_slice());
         let was_read = need.is_adoption();
-        match self.perform(access, alloc, need) {
+        match self.act_on_need(access, alloc, need) {
             Ok(answer) => {
                 self.steps = self.steps.saturating_add(1);
-                self.follow(alloc, ahead, was_read);
+                self.update_rows(alloc, ahead, was_read);
                 answer
             }
             Err(e) => {
@@ -365,22 +384,22 @@ impl Reading {
     /// Makes the load's steps up to its end, and returns how it ended: a load of a cell with a pin,
     /// a load of a key with its value, and either with an error. It gets several references of a
     /// blob without reading the blob in between, if the reader doesn't need their values to go on.
-    #[tactic(auto, using(crate::proofs::LoadSteps::driving))]
+    #[tactic(auto, using(crate::proofs::PinsAndReads::driving))]
     pub fn run<E: Env<Node: NodeSet<E>>, A: Access<E>>(
         &mut self,
         access: &mut A,
         alloc: Global,
     ) -> LoadAnswer<E::Node>
         ensures acts { Acts A.known_state A.acting access.old access.new
-            (λ a s t. Runs (values_at E.Node.NodeSet E.Env E.Hash.KeyHash a.environment) a.me self.old s result t) }
-        ensures ends { LeadsOn self.old.for_cell [] [] (Ok (Some result)) }
+            (λ a s t. RunsLoad (values_at E.Node.NodeSet E.Env E.Hash.KeyHash a.environment) a.me self.old s result t) }
+        ensures ends { EndsOrLeavesLess self.old.for_cell [] [] (Ok (Some result)) }
     {
-        if let Some(answer) = self.run_first(access, alloc) {
+        if let Some(answer) = self.run_first_steps(access, alloc) {
             return answer;
         }
-        let mut ahead = Ahead::new(alloc);
+        let mut ahead = Lookahead::new(alloc);
         loop {
-            if let Some(answer) = self.step_on(access, alloc, &mut ahead) {
+            if let Some(answer) = self.step_with_lookahead(access, alloc, &mut ahead) {
                 return answer;
             }
         }
@@ -391,15 +410,15 @@ impl Reading {
 
 // Pins a loose handle's cell, loading its value if it isn't in memory. Returns the new Pinned
 // handle, and whether the loose handle was unpinned before.
-#[tactic(auto, using(crate::proofs::LoadSteps::acts_map, crate::proofs::LoadSteps::start_refused))]
-fn pin_first<E: Env<Node: NodeSet<E>>, A: Access<E>>(
+#[tactic(auto, using(crate::proofs::LoadSteps::acts_map, crate::proofs::PinsAndReads::start_refused))]
+fn pin_with_load<E: Env<Node: NodeSet<E>>, A: Access<E>>(
     access: &mut A,
     alloc: Global,
     handle: HandleNumber,
 ) -> Result<(HandleNumber, bool), Error>
     requires caller { (A.acting access.old).me ≡ Owner.Caller }
     ensures { Acts A.known_state A.acting access.old access.new
-        (λ a s t. PinsFirst (values_at E.Node.NodeSet E.Env E.Hash.KeyHash a.environment) s handle result t) }
+        (λ a s t. PinsWithLoad (values_at E.Node.NodeSet E.Env E.Hash.KeyHash a.environment) s handle result t) }
 {
     match access.begin_pin(handle)? {
         PinStart::Pinned(pinned, was_unpinned) => Ok((pinned, was_unpinned)),
@@ -434,10 +453,10 @@ fn unpin_again<E: Env<Node: NodeSet<E>>, A: Access<E>>(
 ///
 /// # Errors
 ///
-/// - `NoSuchHandle` if the handle pins nothing; for a pin that can't be, if the access tells its
-///   state.
+/// - `NoSuchHandle` if the handle isn't live or pins nothing. If the access tells its state, a
+///   live handle that pins never meets this error.
 /// - `OutOfMemory` if the value can't be shared.
-#[tactic(auto, using(crate::proofs::LoadSteps::pinning))]
+#[tactic(auto, using(crate::proofs::Lending::pinning))]
 pub fn share_pinned<E: Env<Node: NodeSet<E>>, A: Access<E>>(
     access: &A,
     pinned: HandleNumber,
@@ -466,7 +485,7 @@ pub fn pin_with_state_over<E: Env<Node: NodeSet<E>>, A: Access<E>>(
         (λ a s t. PinsOver (values_at E.Node.NodeSet E.Env E.Hash.KeyHash a.environment) s handle
         (result_map (λ a. (a.0, arc_value a.1)) result) t) }
 {
-    let (pinned, was_unpinned) = pin_first(access, alloc, handle)?;
+    let (pinned, was_unpinned) = pin_with_load(access, alloc, handle)?;
     match share_pinned(access, pinned) {
         Ok(value) => Ok((pinned, value, was_unpinned)),
         Err(e) => {
@@ -507,7 +526,7 @@ pub fn pin_over<E: Env<Node: NodeSet<E>>, A: Access<E>>(
 /// # Errors
 ///
 /// - those of `Access::load_key` and of a load's steps: nothing is left of the load.
-#[tactic(auto, using(crate::proofs::LoadSteps::acts_map, crate::proofs::LoadSteps::key_refused))]
+#[tactic(auto, using(crate::proofs::LoadSteps::acts_map, crate::proofs::PinsAndReads::key_refused))]
 pub fn read_over<E: Env<Node: NodeSet<E>>, A: Access<E>>(
     access: &mut A,
     alloc: Global,

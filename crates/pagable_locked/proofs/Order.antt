@@ -1,9 +1,10 @@
 -- The items of each worker, and the results in the order of all items.
-use Rattle.std.proofs.Common.{◌≡◌, ◌==◌, ℕ, ◌+◌, ◌<◌, ◌%◌, List, [], ◌∷◌, ◌++◌, length, take, drop, get_or, zero, suc, refl, sym, ap, ◌∙◌, subst, arith, set, true, false, if◌then◌else◌, Bool}
-use Rattle.std.proofs.lemmas.Bool.Decides.{nat_tests}
-use Rattle.std.proofs.lemmas.List.{take_more, drop_more, length-take-le, get_or-set_same, get_or-set_other}
-use Rattle.std.proofs.lemmas.Nat.{mod_below}
-use Rattle.pagable_locked.specs.Answers.{items_of, AnswersEach}
+use Rattle.pagable_locked.specs.Answers.{AnswersEach, items_of}
+use Rattle.std.proofs.{
+  Common.{Bool, List, ap, arith, drop, false, get_or, if◌then◌else◌, length, refl, set, subst, suc, sym, take, true, zero, ℕ, [], ◌%◌, ◌++◌, ◌+◌, ◌<◌, ◌==◌},
+  Common.{◌∙◌, ◌∷◌, ◌≡◌},
+  lemmas.{Bool.Decides.nat_tests, List.{drop_more, get_or-set_other, get_or-set_same, length-take-le, take_more}, Nat.mod_below},
+}
 
 module _ {X K : Type 0} (P : X → K → Type 0) where
   module _ (n w : ℕ) where

@@ -1,7 +1,12 @@
 -- The results of several workers, each of which has paged out its own items.
-use Rattle.std.specs.Prelude.{IfOk, List, Result, [], if◌then◌else◌, ℕ, ◌%◌, ◌+◌, ◌==◌, ◌∷◌}
-use Rattle.{pagable_core.specs.declared.context.writing.SerializedData.SerializedData, pagable_pageout.specs.{Results.IsOver, Slots.written_of, declared.tasks.PageOutError.PageOutError}, pagable_pager_spec.specs.World.Values}
-use Rattle.std.specs.{Arc.arc_value, declared.{alloc.Global.Global, sync.Arc.Arc}}
+use Rattle.pagable_core.specs.declared.context.writing.SerializedData.{SerializedData}
+use Rattle.pagable_pageout.specs.{Results.IsKeyOverResults, Slots.written_of, declared.tasks.PageOutError.PageOutError}
+use Rattle.pagable_pager_spec.specs.World.{Values}
+use Rattle.std.specs.{
+  Arc.arc_value,
+  Prelude.{IfOk, List, Result, if◌then◌else◌, ℕ, [], ◌%◌, ◌+◌, ◌==◌, ◌∷◌},
+  declared.{alloc.Global.Global, sync.Arc.Arc},
+}
 
 -- the items of one of `workers` workers: of these items, of which the first has this number, each whose number mod
 -- `workers` is the worker's own
@@ -20,4 +25,4 @@ AnswersEach P (x ∷ xs) (r ∷ rs) = P x r × AnswersEach P xs rs
 -- a key is the hash of the item's bytes and of the keys of results, one for each of its references
 abbrev pub IsAnswerOf : {N E : Type 0} → (List ℕ → List ℕ) → (E → Values N) → Arc SerializedData Global
     → Result ℕ PageOutError → Type 0
-IsAnswerOf hash values item r = IfOk r (λ key. ∥ IsOver hash values (written_of (arc_value item)) key ∥₁)
+IsAnswerOf hash values item r = IfOk r (λ key. ∥ IsKeyOverResults hash values (written_of (arc_value item)) key ∥₁)

@@ -1,9 +1,14 @@
 -- The outcomes of slots and claims are those of their identities.
-use Rattle.std.specs.Prelude.{IfSome, ◌≡◌, ◌≢◌}
-use Rattle.{pagable_locked.specs.declared.table.ClaimFound.ClaimFound, pagable_value_spec.specs.declared.numbers.Identity.Identity}
-use Rattle.pagable_pageout.specs.declared.{lent_slot.Outcome.Outcome}
-use Rattle.pagable_codec.specs.declared.{env.Env.Ghosts as Environments, hash.KeyHash.Ghosts as Hashes, nodes.NodeSet.Ghosts as Nodes}
-use Rattle.std.specs.declared.cmp.{Ord.Ghosts as Orders, PartialEq.Ghosts as Equalities, PartialOrd.Ghosts as PartialOrders}
+use Rattle.pagable_codec.specs.{
+  declared.{env.Env.Ghosts as Environments, hash.KeyHash.Ghosts as Hashes, nodes.NodeSet.Ghosts as Nodes},
+}
+use Rattle.pagable_locked.specs.declared.table.ClaimFound.{ClaimFound}
+use Rattle.pagable_pageout.specs.declared.lent_slot.Outcome.{Outcome}
+use Rattle.pagable_value_spec.specs.declared.numbers.Identity.{Identity}
+use Rattle.std.specs.{
+  Prelude.{IfSome, ◌≡◌, ◌≢◌},
+  declared.cmp.{Ord.Ghosts as Orders, PartialEq.Ghosts as Equalities, PartialOrd.Ghosts as PartialOrders},
+}
 
 module _ {E EN EH EK EV : Type 0} {g : Environments E EN EH EK EV} {gh : Hashes EH} {go : Orders EK}
     {gq : Equalities EK} {gp : PartialOrders EK} {gn : Nodes EN E EN EH EK EV} where
@@ -14,13 +19,15 @@ module _ {E EN EH EK EV : Type 0} {g : Environments E EN EH EK EV} {gh : Hashes 
   first_outcome outcome later = outcome
 
   -- the outcome that is returned for an identity: the same result, or a failure if the result is another identity's
-  abbrev pub IsToldAs : Identity → Outcome E EN EH EK EV g gh go gq gp gn → Outcome E EN EH EK EV g gh go gq gp gn
+  abbrev pub ReturnsOutcomeFor : Identity → Outcome E EN EH EK EV g gh go gq gp gn
+      → Outcome E EN EH EK EV g gh go gq gp gn
       → Type 0
-  IsToldAs i Outcome.Open Outcome.Open = Unit {0}
-  IsToldAs i (Outcome.Published r) (Outcome.Published t) = (r.identity ≡ i) × (t.key ≡ r.key) × (t.height ≡ r.height)
-  IsToldAs i (Outcome.Published r) Outcome.Failed = r.identity ≢ i
-  IsToldAs i Outcome.Failed Outcome.Failed = Unit {0}
-  IsToldAs i outcome told = ⊥
+  ReturnsOutcomeFor i Outcome.Open Outcome.Open = Unit {0}
+  ReturnsOutcomeFor i (Outcome.Published r) (Outcome.Published t) =
+      (r.identity ≡ i) × (t.key ≡ r.key) × (t.height ≡ r.height)
+  ReturnsOutcomeFor i (Outcome.Published r) Outcome.Failed = r.identity ≢ i
+  ReturnsOutcomeFor i Outcome.Failed Outcome.Failed = Unit {0}
+  ReturnsOutcomeFor i outcome told = ⊥
 
   -- a result is of this identity
   abbrev pub IsOutcomeOf : Identity → Outcome E EN EH EK EV g gh go gq gp gn → Type 0
@@ -28,7 +35,7 @@ module _ {E EN EH EK EV : Type 0} {g : Environments E EN EH EK EV} {gh : Hashes 
   IsOutcomeOf i outcome = Unit {0}
 
   -- the slot, or the result, is of this identity
-  abbrev pub IsProbeOf : Identity → ClaimFound E EN EH EK EV g gh go gq gp gn → Type 0
-  IsProbeOf i (ClaimFound.Claimed slot) = slot.identity ≡ i
-  IsProbeOf i (ClaimFound.Waits slot) = slot.identity ≡ i
-  IsProbeOf i (ClaimFound.Ended outcome) = IfSome outcome (λ r. r.identity ≡ i)
+  abbrev pub IsClaimFoundOf : Identity → ClaimFound E EN EH EK EV g gh go gq gp gn → Type 0
+  IsClaimFoundOf i (ClaimFound.Claimed slot) = slot.identity ≡ i
+  IsClaimFoundOf i (ClaimFound.Waits slot) = slot.identity ≡ i
+  IsClaimFoundOf i (ClaimFound.Ended outcome) = IfSome outcome (λ r. r.identity ≡ i)

@@ -1,6 +1,6 @@
 //! A hook that the workers of a page-out call after each claim.
 
-use crate::share::WalkShare;
+use crate::share::WorkerShare;
 use crate::shared_claims::SharedClaims;
 use pagable_codec::{Env, NodeSet};
 use pagable_pageout::{ClaimResult, Claims, SlotResult};
@@ -8,14 +8,14 @@ use pagable_value_spec::{ArcRef, Error, Identity, WorkerNumber};
 use std::sync::Wait;
 use std::sync::ledger::Ledger;
 
-/// A hook that the workers of a page-out call.
+/// A hook of a page-out: each of its workers calls the hook after each claim that it makes.
 pub trait Gate {
     /// Is called by a worker after each identity that it claims, while it holds no lock: with the
     /// worker's number, from 0 on, and the number of its claim, from 1 on.
     fn at(&self, worker: usize, claim_number: u64);
 }
 
-/// Lets each claim pass.
+/// A hook that does nothing.
 #[derive(Drop)]
 pub struct NoGate;
 
@@ -33,7 +33,8 @@ pub struct GatedClaims<'a, R: Wait, E: Env<Node: NodeSet<E>>, L: Ledger, G: Gate
 }
 
 impl<'a, R: Wait, E: Env<Node: NodeSet<E>>, L: Ledger, G: Gate> GatedClaims<'a, R, E, L, G> {
-    /// Makes the claims of the worker of this number, which has made none yet. It takes no memory.
+    /// Wraps the claims of a worker, which has made none yet, so that each one calls the gate with
+    /// the worker's number. Allocates nothing.
     pub fn new(
         claims: SharedClaims<'a, R, E, L>,
         gate: &'a G,
@@ -48,9 +49,9 @@ impl<'a, R: Wait, E: Env<Node: NodeSet<E>>, L: Ledger, G: Gate> GatedClaims<'a, 
     }
 
     /// Returns the worker's share, which counts the claims that it made.
-    pub fn into_share(self) -> WalkShare<L> {
+    pub fn into_share(self) -> WorkerShare<L> {
         let share = self.claims.into_share();
-        WalkShare { share }
+        WorkerShare { share }
     }
 }
 

@@ -1,15 +1,16 @@
 //! A polled pin on a storage that threads share: the lock is free between two polls, and while the
 //! value is read.
 
-ghost use Rattle.std.specs.{Arc.arc_value, Prelude.{Err, IfOk, ◌≡◌}};
 ghost use Rattle.futures.specs.{Poll.{IfReady, OnPending}, Task.{IsArmed, Keeps}};
-ghost use Rattle.{pagable_core.specs.Data.blob_of, pagable_value_spec.specs.Blob.key_of};
+ghost use Rattle.pagable_core.specs.Data.{blob_of};
+ghost use Rattle.pagable_value_spec.specs.Blob.{key_of};
+ghost use Rattle.std.specs.{Arc.arc_value, Prelude.{Err, IfOk, ◌≡◌}};
 
 use crate::storage_handle::PagableStorageHandle;
 use futures::task::{Context, Poll};
 use pagable_codec::{Env, NodeSet};
 use pagable_core::{PagableData, PagableStorage};
-use pagable_load::{Access, BegunPin, CellReading, begin_reading};
+use pagable_load::{Access, BegunPin, CellReading, begin_polled_pin};
 use pagable_traits::{NewPin, PinStage, Polls};
 use pagable_value_spec::{DataKey, Error, HandleNumber};
 use std::alloc::Global;
@@ -49,7 +50,7 @@ impl<E: Env<Node: NodeSet<E>>, S: PagableStorage<E>> HandlePin<E, S> {
     // Begins the load of the cell, if it has to be loaded; else pins it.
     fn begin<R: Wait>(&self, rt: &R, alloc: Global) -> Result<BegunPin, Error> {
         let mut access = self.storage.access(rt);
-        begin_reading(&mut access, alloc, self.handle)
+        begin_polled_pin(&mut access, alloc, self.handle)
     }
 
     fn poll_blob<R: Wait>(
@@ -153,7 +154,7 @@ impl<E: Env<Node: NodeSet<E>>, S: PagableStorage<E>> Polls<E> for HandlePin<E, S
         }
     }
 
-    fn take_back<R: Wait>(&self, rt: &R, pinned: HandleNumber, was_unpinned: bool) {
+    fn undo_pin<R: Wait>(&self, rt: &R, pinned: HandleNumber, was_unpinned: bool) {
         self.undo(rt, pinned, was_unpinned);
     }
 

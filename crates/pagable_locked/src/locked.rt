@@ -19,7 +19,8 @@ use std::sync::{Arc, Mutex, Wait};
 /// thread. Each call takes the lock, makes one call of the pager for its owner, and releases the
 /// lock; environment and session are outside the lock. A call for a worker that isn't running fails
 /// with NotYours; `take_pending` and `release_if_keyed` return None then. `share`, `store`,
-/// `store_keyed`, `pending`, `entry_key` and the calls that name their worker ask for no owner.
+/// `store_keyed`, `pending`, `entry_key`, `worker_begin`, `worker_listed`, `worker_end` and
+/// `release_worker_node` don't check the owner.
 #[derive(Drop)]
 pub struct Locked<'a, R: Wait, E: Env<Node: NodeSet<E>>, S: PagableStorage<E>> {
     rt: &'a R,
@@ -186,9 +187,9 @@ impl<'a, R: Wait, E: Env<Node: NodeSet<E>>, S: PagableStorage<E>> WorkerAccess<E
         Lent::for_owner(&mut *pager, self.me)?.pin_or_load_reference(reference)
     }
 
-    fn take_value(&mut self, reference: ArcRef) -> Result<TakenValue<E::Node>, Error> {
+    fn pin_or_load_value(&mut self, reference: ArcRef) -> Result<TakenValue<E::Node>, Error> {
         let mut pager = lock_briefly(self.pager, self.rt);
-        Lent::for_owner(&mut *pager, self.me)?.take_value(reference)
+        Lent::for_owner(&mut *pager, self.me)?.pin_or_load_value(reference)
     }
 
     fn set_key_if_loose(&mut self, loose: Option<HandleNumber>, key: DataKey) -> Result<(), Error> {

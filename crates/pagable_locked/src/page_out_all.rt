@@ -1,10 +1,11 @@
 //! Page-out of many items by several workers, each on a thread of its own.
 
+ghost use Rattle.pagable_load.specs.AccessView.{values_at};
+ghost use Rattle.pagable_locked.specs.Answers.{AnswersEach, IsAnswerOf, items_of};
 ghost use Rattle.std.specs.Prelude.{IfOk, slice_index_or, vec_len, ℕ, ◌+◌, ◌<◌, ◌≡◌};
-ghost use Rattle.{pagable_load.specs.AccessView.values_at, pagable_locked.specs.Answers.{AnswersEach, IsAnswerOf, items_of}};
 
 use crate::gate::{Gate, GatedClaims};
-use crate::share::{ClaimShare, WalkShare};
+use crate::share::{ClaimShare, WorkerShare};
 use crate::shared_claims::SharedClaims;
 use crate::storage_handle::PagableStorageHandle;
 use crate::table::SlotTable;
@@ -32,19 +33,19 @@ pub struct PageOutReport {
 #[derive(Drop)]
 struct Job<L: Ledger> {
     worker: usize,
-    share: WalkShare<L>,
+    share: WorkerShare<L>,
 }
 
 // What a worker returns at its end: the results of its items, and its share with its claims.
 #[derive(Drop)]
 struct JobEnd<L: Ledger> {
     keys: VecDeque<Result<DataKey, PageOutError>>,
-    share: WalkShare<L>,
+    share: WorkerShare<L>,
 }
 
 // What the workers of a page-out share.
 #[derive(Drop)]
-struct Site<'a, E: Env<Node: NodeSet<E>>, S: PagableStorage<E>, L: Ledger, G: Gate> {
+struct PageOutContext<'a, E: Env<Node: NodeSet<E>>, S: PagableStorage<E>, L: Ledger, G: Gate> {
     storage: &'a PagableStorageHandle<E, S>,
     table: &'a SlotTable<E, L>,
     gate: &'a G,
@@ -93,10 +94,10 @@ fn page_out_each<'a, R: Wait, E: Env<Node: NodeSet<E>>, S: PagableStorage<E>, L:
 }
 
 // Pages out the items of a worker's job.
-fn work<'a, R: Wait, E: Env<Node: NodeSet<E>>, S: PagableStorage<E>, L: Ledger, G: Gate>(
+fn run_job<'a, R: Wait, E: Env<Node: NodeSet<E>>, S: PagableStorage<E>, L: Ledger, G: Gate>(
     rt: &R,
     alloc: Global,
-    site: &Site<'a, E, S, L, G>,
+    context: &PageOutContext<'a, E, S, L, G>,
     items: &[Arc<SerializedData>],
     workers: usize,
     job: Job<L>,
@@ -106,15 +107,23 @@ fn work<'a, R: Wait, E: Env<Node: NodeSet<E>>, S: PagableStorage<E>, L: Ledger, 
         (items_of workers job.worker 0 items.now) d.keys.items) }
 {
     let Job { worker, share } = job;
-    let claims = SharedClaims::new(rt, alloc, site.table, share);
-    let mut claims = GatedClaims::new(claims, site.gate, worker);
-    let keys = page_out_each(rt, alloc, site.storage, &mut claims, items, workers, worker)?;
+    let claims = SharedClaims::new(rt, alloc, context.table, share);
+    let mut claims = GatedClaims::new(claims, context.gate, worker);
+    let keys = page_out_each(
+        rt,
+        alloc,
+        context.storage,
+        &mut claims,
+        items,
+        workers,
+        worker,
+    )?;
     let share = claims.into_share();
     Ok(JobEnd { keys, share })
 }
 
 // Makes one job for each worker, with a part of the share.
-fn jobs<L: Ledger>(
+fn make_jobs<L: Ledger>(
     alloc: Global,
     workers: usize,
     all: &mut ClaimShare<L>,
@@ -126,7 +135,7 @@ fn jobs<L: Ledger>(
 {
     let mut jobs = Vec::new(alloc);
     for worker in 0..workers {
-        let share = WalkShare::split_off(all);
+        let share = WorkerShare::split_off(all);
         jobs.push(Job { worker, share })?;
     }
     Ok(jobs)
@@ -134,7 +143,7 @@ fn jobs<L: Ledger>(
 
 // Returns the workers' lists of results in the order of the workers, and merges their shares into
 // `all`. Fails if a worker failed, or with OutOfMemory.
-fn gather<E: Env<Node: NodeSet<E>>, L: Ledger>(
+fn gather_results<E: Env<Node: NodeSet<E>>, L: Ledger>(
     alloc: Global,
     items: &[Arc<SerializedData>],
     workers: usize,
@@ -154,7 +163,7 @@ fn gather<E: Env<Node: NodeSet<E>>, L: Ledger>(
     let mut lists = Vec::new(alloc);
     for end in ends {
         let JobEnd { keys, share } = end?;
-        let WalkShare { share } = share;
+        let WorkerShare { share } = share;
         all.merge(share);
         lists.push(keys)?;
     }
@@ -163,7 +172,7 @@ fn gather<E: Env<Node: NodeSet<E>>, L: Ledger>(
 
 // Returns the results from all workers' lists, in the order of the items. Fails with OutOfMemory
 // alone.
-fn in_order<E: Env<Node: NodeSet<E>>>(
+fn order_results<E: Env<Node: NodeSet<E>>>(
     alloc: Global,
     items: &[Arc<SerializedData>],
     workers: usize,
@@ -188,7 +197,7 @@ fn in_order<E: Env<Node: NodeSet<E>>>(
 }
 
 // Makes the report of these results, with the claims of the whole share.
-fn report<R: Wait, E: Env<Node: NodeSet<E>>, L: Ledger>(
+fn make_report<R: Wait, E: Env<Node: NodeSet<E>>, L: Ledger>(
     rt: &R,
     table: &SlotTable<E, L>,
     all: ClaimShare<L>,
@@ -199,7 +208,7 @@ fn report<R: Wait, E: Env<Node: NodeSet<E>>, L: Ledger>(
     ensures claims { result.claims ≡ all.share.amount }
 {
     let mut all = all;
-    let claims = table.claims(rt, &mut all);
+    let claims = table.count_claims(rt, &mut all);
     PageOutReport { keys, claims }
 }
 
@@ -231,13 +240,13 @@ impl<E: Env<Node: NodeSet<E>>, S: PagableStorage<E>> PagableStorageHandle<E, S> 
             (values_at E.Node.NodeSet E.Env E.Hash.KeyHash)) items.now r.keys.items) }
     {
         let (table, mut all) = SlotTable::<E, L>::new(alloc, parts);
-        let jobs = jobs(alloc, workers, &mut all)?;
-        let site = Site {
+        let jobs = make_jobs(alloc, workers, &mut all)?;
+        let context = PageOutContext {
             storage: self,
             table: &table,
             gate,
         };
-        let site = &site;
+        let context = &context;
         let ends = thread::map_vec(
             rt,
             jobs,
@@ -246,11 +255,11 @@ impl<E: Env<Node: NodeSet<E>>, S: PagableStorage<E>> PagableStorageHandle<E, S> 
                 ensures { IfOk result (λ d. AnswersEach
                     (IsAnswerOf E.Hash.digest (values_at E.Node.NodeSet E.Env E.Hash.KeyHash))
                     (items_of workers job.worker 0 items.entry.now) d.keys.items) }
-            { work(rt, alloc, site, items, workers, job) },
+            { run_job(rt, alloc, context, items, workers, job) },
         )?;
-        let lists = gather::<E, L>(alloc, items, workers, ends, &mut all)?;
-        let keys = in_order::<E>(alloc, items, workers, lists)?;
-        Ok(report(rt, &table, all, keys))
+        let lists = gather_results::<E, L>(alloc, items, workers, ends, &mut all)?;
+        let keys = order_results::<E>(alloc, items, workers, lists)?;
+        Ok(make_report(rt, &table, all, keys))
     }
 
     /// Pages out items, with all that they refer to, by this many workers, which claim on one table

@@ -14,7 +14,7 @@ pub struct ClaimShare<L: Ledger> {
 
 impl<L: Ledger> ClaimShare<L> {
     /// Makes a share of the claims from a share of the ledger.
-    pub(crate) fn of(share: Share<L>) -> ClaimShare<L>
+    pub(crate) fn from_ledger_share(share: Share<L>) -> ClaimShare<L>
         requires { 0 < share.parts }
         ensures { result.share ≡ share }
     {
@@ -27,7 +27,7 @@ impl<L: Ledger> ClaimShare<L> {
         ensures part { (result.share.parts ≡ 1) × (self.new.share.parts + 1 ≡ self.old.share.parts) }
         ensures amount { (result.share.amount ≡ 0) × (self.new.share.amount ≡ self.old.share.amount) }
     {
-        ClaimShare::of(self.share.split_off(1, 0))
+        ClaimShare::from_ledger_share(self.share.split_off(1, 0))
     }
 
     /// Merges another share's parts and claims into this one.
@@ -43,19 +43,19 @@ impl<L: Ledger> ClaimShare<L> {
 
 /// A share of one part, which a worker owns while it runs.
 #[derive(Drop)]
-pub struct WalkShare<L: Ledger> {
+pub struct WorkerShare<L: Ledger> {
     pub share: ClaimShare<L>,
     pub ghost one: { share.share.parts ≡ 1 },
 }
 
-impl<L: Ledger> WalkShare<L> {
+impl<L: Ledger> WorkerShare<L> {
     /// Splits one part off a share that has more.
-    pub fn split_off(all: &mut ClaimShare<L>) -> WalkShare<L>
+    pub fn split_off(all: &mut ClaimShare<L>) -> WorkerShare<L>
         requires { 1 < all.old.share.parts }
         ensures parts { all.new.share.parts + 1 ≡ all.old.share.parts }
         ensures amount { (result.share.share.amount ≡ 0) × (all.new.share.amount ≡ all.old.share.amount) }
     {
         let share = all.split_off();
-        WalkShare { share }
+        WorkerShare { share }
     }
 }

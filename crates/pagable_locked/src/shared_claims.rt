@@ -1,9 +1,9 @@
 //! The claims that a worker makes on a table that threads share.
 
+ghost use Rattle.pagable_pageout.specs.{Joint.FitsAtPlace, Table.IsResultOf};
 ghost use Rattle.std.specs.Prelude.{IfOk, IfSome, ◌≡◌, ◌≤◌};
-ghost use Rattle.pagable_pageout.specs.{Joint.IsNear, Table.IsFoundOf};
 
-use crate::share::{ClaimShare, WalkShare};
+use crate::share::{ClaimShare, WorkerShare};
 use crate::slot::ArcSerSlot;
 use crate::table::{ClaimFound, SlotTable};
 use pagable_codec::{Env, NodeSet};
@@ -14,15 +14,15 @@ use std::mem::replace;
 use std::sync::Wait;
 use std::sync::ledger::Ledger;
 
-/// A worker's claims on a table that threads share: its part of the total, and the slots that it
-/// has claimed and not published yet, the last one last. If another worker has claimed an identity,
-/// a claim of it waits for that worker's outcome.
+/// A worker's claims on a table that threads share: its share of the count of claims, and the slots
+/// that it has claimed and not published yet, in the order in which it claimed them. If another
+/// worker has claimed an identity, a claim of this identity waits for that worker's outcome.
 #[derive(Drop)]
 pub struct SharedClaims<'a, R: Wait, E: Env<Node: NodeSet<E>>, L: Ledger> {
     rt: &'a R,
     alloc: Global,
     table: &'a SlotTable<E, L>,
-    share: WalkShare<L>,
+    share: WorkerShare<L>,
     open: Vec<ArcSerSlot<E>>,
 }
 
@@ -32,7 +32,7 @@ impl<'a, R: Wait, E: Env<Node: NodeSet<E>>, L: Ledger> SharedClaims<'a, R, E, L>
         rt: &'a R,
         alloc: Global,
         table: &'a SlotTable<E, L>,
-        share: WalkShare<L>,
+        share: WorkerShare<L>,
     ) -> SharedClaims<'a, R, E, L> {
         SharedClaims {
             rt,
@@ -47,22 +47,22 @@ impl<'a, R: Wait, E: Env<Node: NodeSet<E>>, L: Ledger> SharedClaims<'a, R, E, L>
     pub fn into_share(self) -> ClaimShare<L>
         ensures { result.share.parts ≡ 1 }
     {
-        let WalkShare { share } = self.share;
+        let WorkerShare { share } = self.share;
         share
     }
 }
 
 // Returns what a claim at this place on a path finds of an identity that has an outcome. Fails with
 // TooDeep if the place and the result's height together are above 128.
-fn found<E: Env<Node: NodeSet<E>>>(
+fn result_of_ended_claim<E: Env<Node: NodeSet<E>>>(
     outcome: Option<SlotResult<E>>,
     identity: Identity,
     place: u64,
 ) -> Result<ClaimResult<E>, Error>
     requires near { place ≤ 128 }
     requires own { IfSome outcome (λ r. r.identity ≡ identity) }
-    ensures near { IfOk result (IsNear place) }
-    ensures own { IfOk result (IsFoundOf identity) }
+    ensures near { IfOk result (FitsAtPlace place) }
+    ensures own { IfOk result (IsResultOf identity) }
 {
     let Some(found) = outcome else {
         return Ok(ClaimResult::AlreadyFailed);
@@ -90,16 +90,16 @@ impl<'a, R: Wait, E: Env<Node: NodeSet<E>>, L: Ledger> Claims<E> for SharedClaim
         // The room is made before the claim, so each claim is kept here and will be published or
         // failed.
         self.open.reserve(1)?;
-        let probe = self
+        let found = self
             .share
-            .probe(self.rt, self.alloc, self.table, worker, identity)?;
-        match probe {
+            .claim_for_worker(self.rt, self.alloc, self.table, worker, identity)?;
+        match found {
             ClaimFound::Claimed(slot) => {
                 self.open.push_reserved(slot);
                 Ok(ClaimResult::Claimed)
             }
-            ClaimFound::Waits(slot) => found(slot.wait(self.rt), identity, place),
-            ClaimFound::Ended(outcome) => found(outcome, identity, place),
+            ClaimFound::Waits(slot) => result_of_ended_claim(slot.wait(self.rt), identity, place),
+            ClaimFound::Ended(outcome) => result_of_ended_claim(outcome, identity, place),
         }
     }
 
@@ -112,7 +112,7 @@ impl<'a, R: Wait, E: Env<Node: NodeSet<E>>, L: Ledger> Claims<E> for SharedClaim
     // Publishes the last open slot: a walk publishes first what it claimed last.
     fn publish(&mut self, found: &SlotResult<E>) {
         if let Some(slot) = self.open.pop() {
-            slot.set_success(self.rt, found.again());
+            slot.set_success(self.rt, found.copy());
         }
     }
 

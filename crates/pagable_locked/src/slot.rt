@@ -1,8 +1,8 @@
 //! The slot of an identity, behind a lock of its own: its first outcome stays, and threads that
 //! wait for it are woken.
 
+ghost use Rattle.pagable_locked.specs.Slots.{IsOutcomeOf, ReturnsOutcomeFor, first_outcome};
 ghost use Rattle.std.specs.Prelude.{IfOk, IfSome, ◌≡◌};
-ghost use Rattle.pagable_locked.specs.Slots.{IsOutcomeOf, IsToldAs, first_outcome};
 
 use pagable_codec::{Env, NodeSet};
 use pagable_pageout::{Outcome, SlotResult};
@@ -28,13 +28,13 @@ impl<E: Env<Node: NodeSet<E>>> SlotState<E> {
 
     /// Returns the outcome for this identity: a result of another identity counts as a failure.
     pub fn outcome_for(&self, identity: Identity) -> Outcome<E>
-        ensures told { IsToldAs identity self.now.outcome result }
+        ensures outcome { ReturnsOutcomeFor identity self.now.outcome result }
         ensures own { IsOutcomeOf identity result }
     {
         match &self.outcome {
             Outcome::Open => Outcome::Open,
             Outcome::Published(found) if found.identity == identity => {
-                Outcome::Published(found.again())
+                Outcome::Published(found.copy())
             }
             _ => Outcome::Failed,
         }
@@ -42,7 +42,7 @@ impl<E: Env<Node: NodeSet<E>>> SlotState<E> {
 }
 
 #[derive(Drop)]
-struct Shared<E: Env<Node: NodeSet<E>>> {
+struct SharedSlot<E: Env<Node: NodeSet<E>>> {
     state: Mutex<SlotState<E>>,
     ended: Condvar,
 }
@@ -51,7 +51,7 @@ struct Shared<E: Env<Node: NodeSet<E>>> {
 #[derive(Drop)]
 pub struct ArcSerSlot<E: Env<Node: NodeSet<E>>> {
     pub identity: Identity,
-    shared: Arc<Shared<E>>,
+    shared: Arc<SharedSlot<E>>,
 }
 
 impl<E: Env<Node: NodeSet<E>>> ArcSerSlot<E> {
@@ -66,7 +66,7 @@ impl<E: Env<Node: NodeSet<E>>> ArcSerSlot<E> {
         let state = SlotState {
             outcome: Outcome::Open,
         };
-        let shared = Shared {
+        let shared = SharedSlot {
             state: Mutex::new(state),
             ended: Condvar::new(),
         };

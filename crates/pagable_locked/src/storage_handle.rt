@@ -1,12 +1,15 @@
 //! A handle of a storage that threads share: a pager behind a lock, with environment and session
 //! outside of it.
 
+ghost use Rattle.pagable_core.specs.Data.{blob_of};
+ghost use Rattle.pagable_load.specs.AccessView.{values_at};
+ghost use Rattle.pagable_pageout.specs.{Results.IsKeyOverResults, Slots.written_of};
+ghost use Rattle.pagable_pager_spec.specs.declared.handle_row.Owner.{Owner};
+ghost use Rattle.pagable_value_spec.specs.Blob.{key_of};
 ghost use Rattle.std.specs.{Arc.arc_value, Prelude.{IfOk, ◌<◌, ◌≡◌}};
-ghost use Rattle.{pagable_core.specs.Data.blob_of, pagable_load.specs.AccessView.values_at, pagable_value_spec.specs.Blob.key_of};
-ghost use Rattle.{pagable_pageout.specs.{Results.IsOver, Slots.written_of}, pagable_pager_spec.specs.declared.handle_row.Owner.Owner};
 
 use crate::locked::Locked;
-use crate::share::{ClaimShare, WalkShare};
+use crate::share::{ClaimShare, WorkerShare};
 use crate::shared_claims::SharedClaims;
 use crate::table::SlotTable;
 use either::Either;
@@ -45,7 +48,7 @@ impl<E: Env<Node: NodeSet<E>>, S: PagableStorage<E>> PagableStorageHandle<E, S> 
         S: Drop,
     {
         let setting = Arc::new(alloc, Setting::new(alloc, env))?;
-        let pager = Pager::shared(alloc, storage, Arc::try_clone(&setting)?);
+        let pager = Pager::with_shared_setting(alloc, storage, Arc::try_clone(&setting)?);
         let pager = Mutex::new(pager);
         let inner = Arc::new(alloc, Inner { pager, setting })?;
         Ok(PagableStorageHandle { inner })
@@ -263,11 +266,12 @@ impl<E: Env<Node: NodeSet<E>>, S: PagableStorage<E>> PagableStorageHandle<E, S> 
         share: &mut ClaimShare<L>,
     ) -> Result<DataKey, PageOutError>
         requires spare { 1 < share.old.share.parts }
-        ensures over { IfOk result (λ key. ∥ IsOver E.Hash.digest (values_at E.Node.NodeSet E.Env E.Hash.KeyHash)
+        ensures over { IfOk result (λ key. ∥ IsKeyOverResults E.Hash.digest
+            (values_at E.Node.NodeSet E.Env E.Hash.KeyHash)
             (written_of (arc_value item)) key ∥₁) }
         ensures parts { share.new.share.parts ≡ share.old.share.parts }
     {
-        let walk = WalkShare::split_off(share);
+        let walk = WorkerShare::split_off(share);
         let mut claims = SharedClaims::new(rt, alloc, table, walk);
         let mut access = self.access(rt);
         let answer = page_out_item_over(&mut access, alloc, &mut claims, item);
@@ -283,8 +287,9 @@ impl<E: Env<Node: NodeSet<E>>, S: PagableStorage<E>> PagableStorageHandle<E, S> 
     /// # Errors
     ///
     /// - `Failed` with the error of the first entry that fails: it is listed again, at the end, or
-    ///   keeps its place if no worker could begin; those before it stay listed. If others have
-    ///   filled the list meanwhile and it can't grow, it is listed when its next pin goes.
+    ///   keeps its place if no worker could begin; those before it stay listed. If the list can't
+    ///   grow, since other threads have filled it meanwhile, the entry's cell is listed when it
+    ///   loses its last pin the next time.
     pub fn page_out_pending<R: Wait>(&self, rt: &R, alloc: Global) -> Result<(), PageOutError> {
         let mut access = self.access(rt);
         page_out_pending_over(&mut access, alloc)

@@ -1,11 +1,11 @@
 //! The table of slots that threads share. A call holds its lock only to look up, make or claim a
 //! slot; each slot has a lock of its own.
 
+ghost use Rattle.pagable_locked.specs.Slots.{IsClaimFoundOf};
 ghost use Rattle.std.specs.{BTreeSet.btree_set_len, Prelude.{IfOk, OnErr, if◌then◌else◌, ◌+◌, ◌<◌, ◌≡◌}};
-ghost use Rattle.pagable_locked.specs.Slots.{IsProbeOf};
 
 use crate::lock::lock_briefly;
-use crate::share::{ClaimShare, WalkShare};
+use crate::share::{ClaimShare, WorkerShare};
 use crate::slot::ArcSerSlot;
 use indexmap::IndexMap;
 use pagable_codec::{Env, NodeSet};
@@ -21,7 +21,8 @@ use std::sync::{Mutex, MutexGuard, Wait};
 pub enum ClaimFound<E: Env<Node: NodeSet<E>>> {
     /// The identity was free, and the worker has claimed it: its slot.
     Claimed(ArcSerSlot<E>),
-    /// Another worker has claimed it; this one is noted as waiting for the outcome of this slot.
+    /// Another worker has claimed the identity, whose slot this is; the worker that asks is noted
+    /// as waiting for the slot's outcome.
     Waits(ArcSerSlot<E>),
     /// The claim of the identity has ended: its result, or None if it failed.
     Ended(Option<SlotResult<E>>),
@@ -65,7 +66,7 @@ impl<E: Env<Node: NodeSet<E>>, L: Ledger> Slots<E, L> {
             waits: IndexMap::new(alloc),
             book,
         };
-        (slots, ClaimShare::of(share))
+        (slots, ClaimShare::from_ledger_share(share))
     }
 
     // Returns the slot of an identity, and makes one if there is none.
@@ -103,7 +104,7 @@ impl<E: Env<Node: NodeSet<E>>, L: Ledger> Slots<E, L> {
     }
 
     // Returns the number of claims, all of which the whole share counts.
-    fn claims(&mut self, all: &mut ClaimShare<L>) -> u64
+    fn count_claims(&mut self, all: &mut ClaimShare<L>) -> u64
         requires { all.old.share.parts ≡ L.parts }
         ensures claims { (result ≡ all.old.share.amount) × (all.new.share.amount ≡ all.old.share.amount) }
         ensures parts { all.new.share.parts ≡ all.old.share.parts }
@@ -146,7 +147,7 @@ impl<E: Env<Node: NodeSet<E>>, L: Ledger> Slots<E, L> {
     // Claims an identity for a worker's walk, or returns its outcome. If it is claimed and has no
     // outcome yet, notes that the worker waits for it. Fails with TooDeep if workers would wait in
     // a ring, and with OutOfMemory.
-    fn probe<R: Wait>(
+    fn claim_for_worker<R: Wait>(
         &mut self,
         rt: &R,
         alloc: Global,
@@ -154,7 +155,7 @@ impl<E: Env<Node: NodeSet<E>>, L: Ledger> Slots<E, L> {
         identity: Identity,
         share: &mut ClaimShare<L>,
     ) -> Result<ClaimFound<E>, Error>
-        ensures own { IfOk result (IsProbeOf identity) }
+        ensures own { IfOk result (IsClaimFoundOf identity) }
         ensures parts { share.new.share.parts ≡ share.old.share.parts }
     {
         let slot = self.slot(alloc, identity)?;
@@ -178,7 +179,8 @@ impl<E: Env<Node: NodeSet<E>>, L: Ledger> Slots<E, L> {
     }
 }
 
-/// The table of slots for any number of threads, each of which has a share of the count of claims.
+/// The table of slots for any number of threads. Each worker counts the claims that it makes in a
+/// `ClaimShare` of its own; merged into one, the shares count all claims.
 #[derive(Drop)]
 pub struct SlotTable<E: Env<Node: NodeSet<E>>, L: Ledger> {
     slots: Mutex<Slots<E, L>>,
@@ -219,7 +221,8 @@ impl<E: Env<Node: NodeSet<E>>, L: Ledger> SlotTable<E, L> {
         self.slots.lock(rt).slot(alloc, identity)
     }
 
-    /// Claims an identity if it is free, counts that to the share, and says whether it was free.
+    /// Claims an identity if it is free, counts the claim in `share`, and returns whether it was
+    /// free.
     ///
     /// # Errors
     ///
@@ -239,12 +242,12 @@ impl<E: Env<Node: NodeSet<E>>, L: Ledger> SlotTable<E, L> {
 
     /// Returns the number of claimed identities, which is the count of `all`. `all` has to be the
     /// whole share, into which all other shares were merged.
-    pub fn claims<R: Wait>(&self, rt: &R, all: &mut ClaimShare<L>) -> u64
+    pub fn count_claims<R: Wait>(&self, rt: &R, all: &mut ClaimShare<L>) -> u64
         requires { all.old.share.parts ≡ L.parts }
         ensures claims { (result ≡ all.old.share.amount) × (all.new.share.amount ≡ all.old.share.amount) }
         ensures parts { all.new.share.parts ≡ all.old.share.parts }
     {
-        self.slots.lock(rt).claims(all)
+        self.slots.lock(rt).count_claims(all)
     }
 
     /// Holds the table's lock as long as the guard lives. Slots that threads have got already stay
@@ -254,7 +257,7 @@ impl<E: Env<Node: NodeSet<E>>, L: Ledger> SlotTable<E, L> {
     }
 }
 
-impl<L: Ledger> WalkShare<L> {
+impl<L: Ledger> WorkerShare<L> {
     /// Claims an identity for a worker's walk, or returns its outcome; if it is claimed and has no
     /// outcome yet, notes that the worker waits for it.
     ///
@@ -262,7 +265,7 @@ impl<L: Ledger> WalkShare<L> {
     ///
     /// - `TooDeep` if workers would wait in a ring.
     /// - `OutOfMemory` if the table can't grow: the identity isn't claimed, and no wait is noted.
-    pub(crate) fn probe<R: Wait, E: Env<Node: NodeSet<E>>>(
+    pub(crate) fn claim_for_worker<R: Wait, E: Env<Node: NodeSet<E>>>(
         &mut self,
         rt: &R,
         alloc: Global,
@@ -270,9 +273,9 @@ impl<L: Ledger> WalkShare<L> {
         worker: WorkerNumber,
         identity: Identity,
     ) -> Result<ClaimFound<E>, Error>
-        ensures { IfOk result (IsProbeOf identity) }
+        ensures { IfOk result (IsClaimFoundOf identity) }
     {
-        let WalkShare { share } = self;
-        lock_briefly(&table.slots, rt).probe(rt, alloc, worker, identity, share)
+        let WorkerShare { share } = self;
+        lock_briefly(&table.slots, rt).claim_for_worker(rt, alloc, worker, identity, share)
     }
 }

@@ -16,7 +16,7 @@ impl<E: Env<Node: NodeSet<E>>, S: PagableStorage<E>> Storage<E> for PagableStora
 
     type Pin = HandlePin<E, S>;
 
-    ghost told = { λ s. None };
+    ghost nodes_by_handle = { λ s. None };
 
     fn insert<R: Wait>(
         &self,

@@ -13,7 +13,7 @@ use std::random::RandomSource;
 use std::sync::Wait;
 
 /// Waits for a pin on this thread, which sleeps while the pin is pending.
-pub fn awaited<E: Env, T: OfNode<E> + Drop, P: Polls<E> + Drop, R>(
+pub fn await_pin<E: Env, T: OfNode<E> + Drop, P: Polls<E> + Drop, R>(
     rt: &R,
     alloc: Global,
     mut pin: PinFuture<T, P>,
@@ -26,7 +26,7 @@ where
 
 /// Polls a pin at most `polls` times, and returns it once it is ready. If it never is, cancels it,
 /// and returns None.
-pub fn pinned_by_hand<E: Env, T: OfNode<E> + Drop, P: Polls<E> + Drop, R>(
+pub fn poll_pin<E: Env, T: OfNode<E> + Drop, P: Polls<E> + Drop, R>(
     rt: &R,
     alloc: Global,
     mut pin: PinFuture<T, P>,

@@ -39,7 +39,7 @@ pub fn is_key(key: OptionalDataKey, number: u128) -> bool {
     }
 }
 
-/// Joins a byte, if there is one, and references to an item.
+/// Makes an item of these references and of one byte, if a byte is given.
 pub fn item(
     alloc: Global,
     byte: Option<u8>,
@@ -79,13 +79,13 @@ fn page_out_on<L: Ledger, E: Env<Node: NodeSet<E>>, S: PagableStorage<E>, R: Wai
 {
     let (table, mut share) = SlotTable::<E, L>::new(alloc, parts);
     match storage.page_out_item(rt, alloc, item, &table, &mut share) {
-        Ok(key) => Ok((key, table.claims(rt, &mut share))),
+        Ok(key) => Ok((key, table.count_claims(rt, &mut share))),
         Err(e) => Err(e),
     }
 }
 
 /// Yields until a flag is 1, at most a million times. Returns whether it became 1.
-pub fn is_set(flag: &AtomicU64) -> bool {
+pub fn wait_until_set(flag: &AtomicU64) -> bool {
     for _ in 0..1_000_000u32 {
         if flag.load(Ordering::SeqCst) == 1 {
             return true;

@@ -9,22 +9,22 @@ use std::sync::Arc;
 
 /// A storage over another one, whose first polls of `fetch_data` are pending, and ask to be polled again.
 #[derive(Drop)]
-pub struct PendingStorage<S> {
+pub struct DelayingStorage<S> {
     inner: S,
     pending_polls: u64,
 }
 
-impl<S> PendingStorage<S> {
+impl<S> DelayingStorage<S> {
     /// Makes the storage, whose first `pending_polls` polls are pending.
-    pub fn new(inner: S, pending_polls: u64) -> PendingStorage<S> {
-        PendingStorage {
+    pub fn new(inner: S, pending_polls: u64) -> DelayingStorage<S> {
+        DelayingStorage {
             inner,
             pending_polls,
         }
     }
 }
 
-impl<E: Env, S: PagableStorage<E>> PagableStorage<E> for PendingStorage<S> {
+impl<E: Env, S: PagableStorage<E>> PagableStorage<E> for DelayingStorage<S> {
     ghost stored = { λ s. S.stored s.inner };
 
     ghost flushed = { λ s. S.flushed s.inner };

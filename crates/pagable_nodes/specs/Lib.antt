@@ -1,4 +1,4 @@
-pub mod Spelled
+pub mod Encoding
 pub mod Nodes
 pub mod Records
 pub mod Bytes

@@ -1,8 +1,19 @@
 -- The numbers, meanings, references and errors of nodes of one value type and of three.
-use Rattle.std.{proofs.Common.arith, specs.{Arc.arc_value, Prelude.{List, None, Option, Some, refl, suc, zero, ℕ, ◌<◌, ◌^◌, ◌≡◌}}}
 use Rattle.pagable_nodes.specs.declared.{either_node.EitherNode.EitherNode, one_node.OneNode.OneNode}
-use Rattle.pagable_value_spec.specs.{Meaning.Meaning, References.{SameReferences, references_in}, Shape.Shape, Cursor.SomeMeaning, declared.numbers.ArcRef.ArcRef}
-use Rattle.pagable_traits.specs.{InNodes.{Holds, holds-none, holds-value}, Meanings.{AreSingle, Meanings, some}, OwnCauses.{ReadCauses, WriteCauses, reads_memory_or}}
+use Rattle.pagable_traits.specs.{
+  InNodes.{Holds, holds-none, holds-value},
+  Meanings.{AreSingle, Meanings, some},
+  OwnCauses.{ReadCauses, WriteCauses, reads_memory_or},
+}
+use Rattle.pagable_value_spec.specs.{
+  Cursor.SomeMeaning,
+  Meaning.Meaning,
+  References.{SameReferences, references_in},
+  Shape.Shape,
+  declared.numbers.ArcRef.ArcRef,
+}
+use Rattle.std.proofs.Common.{arith}
+use Rattle.std.specs.{Arc.arc_value, Prelude.{List, None, Option, Some, refl, suc, zero, ℕ, ◌<◌, ◌^◌, ◌≡◌}}
 use Rattle.pagable_nodes.specs.declared.either_node.EitherNode.TheVariants as nodes
 
 -- a value refers to what its one meaning refers to

@@ -1,8 +1,9 @@
-//! Writers and readers of values without references, in one call each, to bytes and from bytes.
+//! A writer of values without references to bytes, and a reader of such values from bytes, each in
+//! one call.
 
+ghost use Rattle.pagable_nodes.specs.Bytes.{IsFormOf, ReadsAtStart};
 ghost use Rattle.pagable_value_spec.specs.{Writing.{Refused, nesting}, declared.error.Error.TheVariants.WrongKind};
 ghost use Rattle.std.specs.Prelude.{IfErr, IfOk, ◌≡◌, ◌⊎◌};
-ghost use Rattle.pagable_nodes.specs.Bytes.{IsFormOf, ReadsWhole};
 
 use pagable_core::{NoReferences, PagableDeserializerImpl, PagableSerializerImpl};
 use pagable_flavors::Error;
@@ -49,7 +50,7 @@ pub fn from_bytes<'de, E: Env, T: PagableDeserialize<'de, E>>(
     env: &E,
     bytes: &'de [u8],
 ) -> Result<T, Error>
-    ensures reads { ReadsWhole T.read_causes.are T.means.of (E.parts env.now) (T.shape env.now) bytes.now result }
+    ensures reads { ReadsAtStart T.read_causes.are T.means.of (E.parts env.now) (T.shape env.now) bytes.now result }
 {
     let session = SessionContext::new(alloc);
     let lent = NoReferences::new(env, &session);

@@ -1,8 +1,11 @@
 //! A node that holds a value of one of three types.
 
-ghost use Rattle.pagable_value_spec.specs.Outcomes.{memory};
+ghost use Rattle.pagable_nodes.specs.{
+  Nodes.{either_has_meaning, either_has_shape, either_means, either_number, either_reads, either_refers, either_refs},
+  Nodes.{either_shape, either_writes, first_held, second_held, shape_of_three, third_held},
+};
+ghost use Rattle.pagable_value_spec.specs.Outcomes.{IsOutOfMemory};
 ghost use Rattle.std.specs.{Arc.arc_value, Option.option_map, Prelude.{IfErr, IfOk, ◌≡◌}};
-ghost use Rattle.pagable_nodes.specs.Nodes.{either_has_meaning, either_has_shape, either_means, either_number, either_reads, either_refers, either_refs, either_shape, either_writes, first_held, second_held, shape_of_three, third_held};
 
 use crate::node_value::NodeValue;
 use crate::one_node::OneNode;
@@ -31,7 +34,7 @@ impl<A: Drop, B: Drop, C: Drop> EitherNode<A, B, C> {
     /// - `OutOfMemory` if the value can't be shared once more.
     pub fn first(&self) -> Result<Option<Arc<A>>, Error>
         ensures value { IfOk result (λ found. option_map arc_value found ≡ first_held self.now) }
-        ensures only { IfErr result memory }
+        ensures only { IfErr result IsOutOfMemory }
     {
         match self {
             EitherNode::First(node) => Ok(Some(node.value.clone()?)),
@@ -46,7 +49,7 @@ impl<A: Drop, B: Drop, C: Drop> EitherNode<A, B, C> {
     /// - `OutOfMemory` if the value can't be shared once more.
     pub fn second(&self) -> Result<Option<Arc<B>>, Error>
         ensures value { IfOk result (λ found. option_map arc_value found ≡ second_held self.now) }
-        ensures only { IfErr result memory }
+        ensures only { IfErr result IsOutOfMemory }
     {
         match self {
             EitherNode::Second(node) => Ok(Some(node.value.clone()?)),
@@ -61,7 +64,7 @@ impl<A: Drop, B: Drop, C: Drop> EitherNode<A, B, C> {
     /// - `OutOfMemory` if the value can't be shared once more.
     pub fn third(&self) -> Result<Option<Arc<C>>, Error>
         ensures value { IfOk result (λ found. option_map arc_value found ≡ third_held self.now) }
-        ensures only { IfErr result memory }
+        ensures only { IfErr result IsOutOfMemory }
     {
         match self {
             EitherNode::Third(node) => Ok(Some(node.value.clone()?)),
@@ -74,28 +77,29 @@ impl<E: Env, A: NodeValue<E> + Drop, B: NodeValue<E> + Drop, C: NodeValue<E> + D
     for EitherNode<A, B, C> {
     ghost type_of = { either_number };
 
-    ghost shape_of = { λ e. shape_of_three A.spelled.shape B.spelled.shape C.spelled.shape };
+    ghost shape_of = { λ e. shape_of_three A.encoding.shape B.encoding.shape C.encoding.shape };
 
-    ghost own_shape = { λ e n. either_shape A.spelled.shape B.spelled.shape C.spelled.shape n };
+    ghost own_shape = { λ e n. either_shape A.encoding.shape B.encoding.shape C.encoding.shape n };
 
-    ghost means = { either_means A.spelled.means B.spelled.means C.spelled.means };
+    ghost means = { either_means A.encoding.means B.encoding.means C.encoding.means };
 
-    ghost refs_of = { either_refs A.spelled.means B.spelled.means C.spelled.means };
+    ghost refs_of = { either_refs A.encoding.means B.encoding.means C.encoding.means };
 
-    ghost write_causes = { λ t. (either_writes A.spelled.writes B.spelled.writes C.spelled.writes t).are };
+    ghost write_causes = { λ t. (either_writes A.encoding.writes B.encoding.writes C.encoding.writes t).are };
 
-    ghost read_causes = { λ t. (either_reads A.spelled.reads B.spelled.reads C.spelled.reads t).are };
+    ghost read_causes = { λ t. (either_reads A.encoding.reads B.encoding.reads C.encoding.reads t).are };
 
-    ghost write_causes_may_refuse = { λ t. (either_writes A.spelled.writes B.spelled.writes C.spelled.writes t).may };
+    ghost write_causes_may_refuse = { λ t. (either_writes A.encoding.writes B.encoding.writes
+        C.encoding.writes t).may };
 
-    ghost read_causes_are_own = { λ t. (either_reads A.spelled.reads B.spelled.reads C.spelled.reads t).own };
+    ghost read_causes_are_own = { λ t. (either_reads A.encoding.reads B.encoding.reads C.encoding.reads t).own };
 
-    ghost has_meaning = { either_has_meaning A.spelled.means B.spelled.means C.spelled.means };
+    ghost has_meaning = { either_has_meaning A.encoding.means B.encoding.means C.encoding.means };
 
-    ghost refers = { either_refers A.spelled.means B.spelled.means C.spelled.means A.spelled.single B.spelled.single
-        C.spelled.single };
+    ghost refers = { either_refers A.encoding.means B.encoding.means C.encoding.means
+        A.encoding.single B.encoding.single C.encoding.single };
 
-    ghost has_shape = { λ e. either_has_shape A.spelled.shape B.spelled.shape C.spelled.shape };
+    ghost has_shape = { λ e. either_has_shape A.encoding.shape B.encoding.shape C.encoding.shape };
 
     fn node_type(&self) -> u32 {
         match self {
@@ -107,9 +111,9 @@ impl<E: Env, A: NodeValue<E> + Drop, B: NodeValue<E> + Drop, C: NodeValue<E> + D
 
     fn refs(&self, alloc: Global) -> Result<Vec<ArcRef>, Error> {
         match self {
-            EitherNode::First(node) => NodeValue::<E>::list(node.value.as_ref(), alloc),
-            EitherNode::Second(node) => NodeValue::<E>::list(node.value.as_ref(), alloc),
-            EitherNode::Third(node) => NodeValue::<E>::list(node.value.as_ref(), alloc),
+            EitherNode::First(node) => NodeValue::<E>::list_refs(node.value.as_ref(), alloc),
+            EitherNode::Second(node) => NodeValue::<E>::list_refs(node.value.as_ref(), alloc),
+            EitherNode::Third(node) => NodeValue::<E>::list_refs(node.value.as_ref(), alloc),
         }
     }
 

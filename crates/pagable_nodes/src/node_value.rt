@@ -1,8 +1,11 @@
 //! The types whose values nodes hold.
 
+ghost use Rattle.pagable_nodes.specs.Encoding.{Encoding, empty};
+ghost use Rattle.pagable_traits.specs.Clauses.{Reads, Wrote, value as form};
+ghost use Rattle.pagable_value_spec.{
+  specs.{Outcomes.IsOutOfMemory, Reading.read as read_shape, References.references_in},
+};
 ghost use Rattle.std.specs.Prelude.{IfErr, IfOk, OnOk, ◌++◌, ◌≡◌};
-ghost use Rattle.pagable_value_spec.specs.{Outcomes.memory, Reading.read as read_shape, References.references_in};
-ghost use Rattle.{pagable_nodes.specs.Spelled.{Spelled, empty}, pagable_traits.specs.Clauses.{Reads, Wrote, value as form}};
 
 use crate::one_node::write_with_refs;
 use pagable_flavors::Error;
@@ -11,24 +14,24 @@ use pagable_traits::{
 };
 use std::alloc::Global;
 
-/// A type whose values a node holds: `OneNode` and `EitherNode` require it. A type whose impls are
-/// made of one `Spelled` implements the three calls by `references_of`, `write_with_refs` and
-/// `pagable_deserialize`.
+/// A type whose values a node holds: `OneNode` and `EitherNode` require the trait. A type that
+/// describes its encoding by one `Encoding`, as `Record` does, implements the three calls by
+/// `references_of`, `write_with_refs` and `pagable_deserialize`.
 ///
 /// It is a trait of its own because the environment's node is a part of the pager's type: a bound
 /// there may name no lifetime, and no trait that has an impl for a type parameter.
 pub trait NodeValue<E: Env>: Sized {
-    // The shape of the values, the meaning of each, and all errors.
-    ghost spelled: { Spelled Self };
+    // The shape of the values, the one meaning of each, and all errors of writing and reading them.
+    ghost encoding: { Encoding Self };
 
     /// Returns the references in the value, in the order in which they are written.
     ///
     /// # Errors
     ///
     /// - `OutOfMemory` only.
-    fn list(&self, alloc: Global) -> Result<Vec<ArcRef>, Error>
-        ensures ok { IfOk result (λ v. v.items ≡ references_in (spelled.means.meaning self.now)) }
-        ensures only { IfErr result memory };
+    fn list_refs(&self, alloc: Global) -> Result<Vec<ArcRef>, Error>
+        ensures ok { IfOk result (λ v. v.items ≡ references_in (encoding.means.meaning self.now)) }
+        ensures only { IfErr result IsOutOfMemory };
 
     /// Appends a form of the value, and its references in their order.
     ///
@@ -36,10 +39,10 @@ pub trait NodeValue<E: Env>: Sized {
     ///
     /// - as the type's `pagable_serialize`: what was written before stays in place.
     fn write<S: PagableSerializer<E>>(&self, serializer: &mut S) -> Result<(), Error>
-        ensures wrote { Wrote E.Env S.PagableSerializer (form (spelled.means.of self.now) spelled.shape)
-            spelled.writes.are serializer.old serializer.new result }
+        ensures wrote { Wrote E.Env S.PagableSerializer (form (encoding.means.of self.now) encoding.shape)
+            encoding.writes.are serializer.old serializer.new result }
         ensures listed { OnOk result ((S.out serializer.new).refs ≡ (S.out serializer.old).refs
-            ++ references_in (spelled.means.meaning self.now)) };
+            ++ references_in (encoding.means.meaning self.now)) };
 
     /// Reads the value at the start of what is left, and leaves the rest.
     ///
@@ -48,15 +51,15 @@ pub trait NodeValue<E: Env>: Sized {
     /// - as the type's `pagable_deserialize`: the first fault from the start, or a cause of the
     ///   type's own.
     fn read<D: PagableDeserializer<E>>(alloc: Global, deserializer: &mut D) -> Result<Self, Error>
-        ensures reads { Reads E.Env D.PagableDeserializer spelled.reads.are spelled.means.of
-            (λ c. read_shape c spelled.shape) deserializer.old deserializer.new result };
+        ensures reads { Reads E.Env D.PagableDeserializer encoding.reads.are encoding.means.of
+            (λ c. read_shape c encoding.shape) deserializer.old deserializer.new result };
 }
 
 /// `()` is the third type of an environment with two.
 impl<E: Env> NodeValue<E> for () {
-    ghost spelled = { empty };
+    ghost encoding = { empty };
 
-    fn list(&self, alloc: Global) -> Result<Vec<ArcRef>, Error> {
+    fn list_refs(&self, alloc: Global) -> Result<Vec<ArcRef>, Error> {
         references_of::<E, ()>(alloc, self)
     }
 

@@ -1,8 +1,9 @@
 //! A node that holds a value of the environment's one value type.
 
-ghost use Rattle.std.specs.{Arc.arc_value, Prelude.{OnOk, refl, ◌++◌, ◌≡◌}};
 ghost use Rattle.pagable_nodes.specs.Nodes.{shape_of_one, value_refers};
-ghost use Rattle.{pagable_value_spec.specs.References.references_in, pagable_traits.specs.{Clauses.{Wrote, value as form}, Meanings.some, OwnCauses.{reads_memory_or}}};
+ghost use Rattle.pagable_traits.specs.{Clauses.{Wrote, value as form}, Meanings.some, OwnCauses.reads_memory_or};
+ghost use Rattle.pagable_value_spec.specs.References.{references_in};
+ghost use Rattle.std.specs.{Arc.arc_value, Prelude.{OnOk, refl, ◌++◌, ◌≡◌}};
 
 use crate::node_value::NodeValue;
 use pagable_flavors::Error;
@@ -29,8 +30,8 @@ impl<T> OneNode<T> {
     }
 }
 
-/// Writes a value, with the law that a node needs: the serializer lists exactly the references that
-/// the type's `Refers` lists.
+/// Writes a value, and promises what a node must: the references that it appends are exactly those
+/// that the type's `Refers` lists, in the same order.
 ///
 /// # Errors
 ///
@@ -50,25 +51,25 @@ pub fn write_with_refs<E: Env, T: Refers<E> + PagableSerialize<E>, S: PagableSer
 impl<E: Env, T: NodeValue<E> + Drop> NodeSet<E> for OneNode<T> {
     ghost type_of = { λ n. 0 };
 
-    ghost shape_of = { λ e t. shape_of_one T.spelled.shape t };
+    ghost shape_of = { λ e t. shape_of_one T.encoding.shape t };
 
-    ghost own_shape = { λ e n. T.spelled.shape };
+    ghost own_shape = { λ e n. T.encoding.shape };
 
-    ghost means = { λ n. T.spelled.means.of (arc_value n.value) };
+    ghost means = { λ n. T.encoding.means.of (arc_value n.value) };
 
-    ghost refs_of = { λ n. references_in (T.spelled.means.meaning (arc_value n.value)) };
+    ghost refs_of = { λ n. references_in (T.encoding.means.meaning (arc_value n.value)) };
 
-    ghost write_causes = { λ t. T.spelled.writes.are };
+    ghost write_causes = { λ t. T.encoding.writes.are };
 
-    ghost read_causes = { λ t. (reads_memory_or T.spelled.reads).are };
+    ghost read_causes = { λ t. (reads_memory_or T.encoding.reads).are };
 
-    ghost write_causes_may_refuse = { λ t. T.spelled.writes.may };
+    ghost write_causes_may_refuse = { λ t. T.encoding.writes.may };
 
-    ghost read_causes_are_own = { λ t. (reads_memory_or T.spelled.reads).own };
+    ghost read_causes_are_own = { λ t. (reads_memory_or T.encoding.reads).own };
 
-    ghost has_meaning = { λ n. some T.spelled.means (arc_value n.value) };
+    ghost has_meaning = { λ n. some T.encoding.means (arc_value n.value) };
 
-    ghost refers = { λ n m h. value_refers T.spelled.means T.spelled.single (arc_value n.value) m h };
+    ghost refers = { λ n m h. value_refers T.encoding.means T.encoding.single (arc_value n.value) m h };
 
     ghost has_shape = { λ e n. refl };
 
@@ -77,7 +78,7 @@ impl<E: Env, T: NodeValue<E> + Drop> NodeSet<E> for OneNode<T> {
     }
 
     fn refs(&self, alloc: Global) -> Result<Vec<ArcRef>, Error> {
-        NodeValue::<E>::list(self.value.as_ref(), alloc)
+        NodeValue::<E>::list_refs(self.value.as_ref(), alloc)
     }
 
     fn write<S: PagableSerializer<E>>(&self, serializer: &mut S) -> Result<(), Error> {

@@ -1,9 +1,9 @@
 //! An environment for programs that need no types of their own. A record has a tag, a text and
 //! references to other records.
 
+ghost use Rattle.pagable_nodes.specs.{Nodes.{holds_one, one_held, zero_is_small}, Records.{IsRecord, record_encoding}};
+ghost use Rattle.pagable_traits.specs.{ReadBack.IsReadableThroughout, References.{loose_reference, raw_reference}};
 ghost use Rattle.std.specs.{Arc.arc_value, Prelude.{IfOk, Some, refl, ◌≡◌}};
-ghost use Rattle.pagable_nodes.specs.{Nodes.{holds_one, one_held, zero_is_small}, Records.{IsRecord, record_spelled}};
-ghost use Rattle.pagable_traits.specs.{ReadBack.IsReadThroughout, References.{loose, plain}};
 
 use crate::node_value::NodeValue;
 use crate::one_node::{OneNode, write_with_refs};
@@ -88,9 +88,9 @@ impl Record {
         Ok(OneNode::new(Arc::new(alloc, made)?))
     }
 
-    /// Turns a loose reference to a record into one that a record can hold.
+    /// Turns a loose reference to a record into a `RecordRef`, which a record can hold.
     pub fn reference(of: PagableArc<Record>) -> RecordRef
-        ensures { plain 1 result ≡ loose 0 of }
+        ensures { raw_reference 1 result ≡ loose_reference 0 of }
     {
         match RawRef::from_reference(of.reference::<Records>()) {
             Some(reference) => reference,
@@ -100,18 +100,18 @@ impl Record {
 }
 
 impl<E: Env> Carried<E> for Record {
-    ghost shape = { λ e. record_spelled.shape };
+    ghost shape = { λ e. record_encoding.shape };
 
-    ghost means = { record_spelled.means };
+    ghost means = { record_encoding.means };
 }
 
 impl<E: Env> OneMeaning<E> for Record {
-    ghost single = { record_spelled.single };
+    ghost single = { record_encoding.single };
 }
 
-/// Equal records have one form, so equal keys.
+/// Equal records are written alike, so they have equal keys.
 impl<E: Env> Canonical<E> for Record {
-    ghost one_form = { λ e. record_spelled.one_form (E.parts e) };
+    ghost one_form = { λ e. record_encoding.one_form (E.parts e) };
 }
 
 impl<E: Env> Refers<E> for Record {
@@ -120,11 +120,11 @@ impl<E: Env> Refers<E> for Record {
         Refers::<E>::list_references(&fields, list)
     }
 
-    ghost in_order = { λ e. record_spelled.in_order (E.parts e) };
+    ghost in_order = { λ e. record_encoding.in_order (E.parts e) };
 }
 
 impl<E: Env> PagableSerialize<E> for Record {
-    ghost write_causes = { record_spelled.writes };
+    ghost write_causes = { record_encoding.writes };
 
     fn pagable_serialize<S: PagableSerializer<E>>(&self, serializer: &mut S) -> Result<(), Error> {
         let fields = (&self.tag, (&self.text, &self.refs));
@@ -133,7 +133,7 @@ impl<E: Env> PagableSerialize<E> for Record {
 }
 
 impl<'de, E: Env> PagableDeserialize<'de, E> for Record {
-    ghost read_causes = { record_spelled.reads };
+    ghost read_causes = { record_encoding.reads };
 
     fn pagable_deserialize<D: PagableDeserializer<E>>(
         alloc: Global,
@@ -146,9 +146,9 @@ impl<'de, E: Env> PagableDeserialize<'de, E> for Record {
 }
 
 impl<E: Env> NodeValue<E> for Record {
-    ghost spelled = { record_spelled };
+    ghost encoding = { record_encoding };
 
-    fn list(&self, alloc: Global) -> Result<Vec<ArcRef>, Error> {
+    fn list_refs(&self, alloc: Global) -> Result<Vec<ArcRef>, Error> {
         references_of::<E, Record>(alloc, self)
     }
 
@@ -185,7 +185,7 @@ impl OfNode<Records> for Record {
 }
 
 impl InNode<Records> for Record {
-    ghost holds = { holds_one record_spelled.means };
+    ghost holds = { holds_one record_encoding.means };
 
     ghost shape_is = { λ e. refl };
 
@@ -194,8 +194,8 @@ impl InNode<Records> for Record {
     ghost reads_as = { λ e h. h };
 }
 
-/// States that each form of a record is read back as it was written.
+/// Proves that a reader reads back each form of a record.
 #[tactic(auto, using(crate::specs::Records::record_is_read))]
 pub fn records_are_read<E: Env>()
-    ensures { (e : E) → IsReadThroughout (E.parts e) (⟦<Record as Carried<E>>⟧.shape e) }
+    ensures { (e : E) → IsReadableThroughout (E.parts e) (⟦<Record as Carried<E>>⟧.shape e) }
 {}

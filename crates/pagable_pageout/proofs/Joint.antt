@@ -1,8 +1,9 @@
 -- What an access and a table do together.
-use Rattle.{pagable_load.{proofs.LoadSteps.told_then, specs.AccessView.{Acting, ActsThen, IfKnown}}}
+use Rattle.pagable_load.proofs.LoadSteps.{told_then}
+use Rattle.pagable_load.specs.AccessView.{Acting, ActsThen, IfKnown}
 use Rattle.pagable_pageout.specs.Joint.{ActsBoth, both}
 use Rattle.pagable_pager_spec.specs.Access.{IfBothKnown, if_both_known}
-use Rattle.std.proofs.Common.{None, Option, Some, ap, refl, subst, ◌≡◌, ◌∙◌}
+use Rattle.std.proofs.Common.{None, Option, Some, ap, refl, subst, ◌∙◌, ◌≡◌}
 use Rattle.std.specs.Prelude.{IfSome}
 
 module _ {S : Type 0} where

@@ -1,6 +1,8 @@
 pub mod Waits
 pub mod Stacks
 pub mod WorkerTurns
+pub mod FinishTurns
+pub mod WorkerRuns
 pub mod Pages
 pub mod Joint
 pub mod Strides

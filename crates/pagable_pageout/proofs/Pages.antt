@@ -1,16 +1,39 @@
 -- Page-outs of an item and of the entries of the list, from the runs of their workers.
-use Rattle.pagable_theorems.proofs.{LoadResults.{entry-answered, item-answered}, StepBounds.{Spares, none-shorter, release-spares-list, spares-then, walk-spares-list}}
-use Rattle.pagable_load.{proofs.LoadSteps.{acts_all, acts_map, acts_same, acts_then, tells_map}, specs.{AccessView.{Acting, as_caller}, WorkerCalls.{RefusesEntry, ReleasesIfKeyed, StartsEntry}}}
-use Rattle.pagable_value_spec.specs.declared.{data_key.OptionalDataKey.OptionalDataKey, error.Error.Error, numbers.{ArcRef.ArcRef, HandleNumber.HandleNumber, WorkerNumber.WorkerNumber}}
-use Rattle.pagable_pageout.{proofs.WorkerTurns.{alike, plain-fits, same-shelf}, specs.{PageOuts.{HasPaged, PagesAt, PagesEntry, PagesEntryIfThere, PagesItem, PagesList, answer_of, there}, Tasks.{IsPlain, todo_of}}}
-use Rattle.{pagable_pageout.specs.{Turns.{Fits, IsAlone, RunsTo, Walked, plain}, declared.tasks.{PageOutError.PageOutError, Task.Task}}, pagable_pager_spec.specs.Access.AccessState}
-use Rattle.pagable_pager_spec.specs.Access.{MakesCall, EntryHas, ListRun, WorkerRun, WorkerStarts, entry-is-refused, entry-is-walked, fails, item-is-walked, no-entry-worker, no-more, no-worker, pages}
-use Rattle.pagable_pager_spec.specs.{Access.{skips, worker-ends, worker-goes-on}, Events.{entry_task, no_shelf}, Kinds.{identity_of, owner_worker}, Pager.PagerState}
-use Rattle.pagable_pager_spec.specs.{Pager.IsPagerWhole, Refusals.WorkerFault, Workers.first_todo, World.{Alike, SameShelf, Seen, Shelf, Todo, Values, Written, of_entry, of_item}, declared.events.Action.Action}
-use Rattle.{pagable_pager_spec.specs.declared.{events.WorkerAnswer.WorkerAnswer, handle_row.Owner.Owner}, std.proofs.Common.{Err, List, None, Ok, Option, Result, Some, ap, arith, inl, length, refl, subst, sym}}
-use Rattle.std.{proofs.{Common.{Bool, false, true, ℕ, ◌+◌, ◌<◌, ◌∙◌, ◌∷◌, ◌≡◌, ◌≢◌, ◌≤◌}, lemmas.{Bool.Decides.nat_tests, Grind.common_steps, List.Edits.length-remove}}, specs.List.remove}
 use Rattle.pagable_codec.specs.declared.{env.Env.Ghosts as Environments, hash.KeyHash.Ghosts as Hashes, nodes.NodeSet.Ghosts as Nodes}
-use Rattle.std.specs.declared.cmp.{Ord.Ghosts as Orders, PartialEq.Ghosts as Equalities, PartialOrd.Ghosts as PartialOrders}
+use Rattle.pagable_load.proofs.LoadSteps.{acts_all, acts_map, acts_same, acts_then, tells_map}
+use Rattle.pagable_load.specs.{AccessView.{Acting, as_caller}, WorkerCalls.{RefusesEntry, ReleasesIfKeyed, StartsEntry}}
+use Rattle.pagable_pageout.proofs.WorkerTurns.{alike, plain-fits, same-shelf}
+use Rattle.pagable_pageout.specs.{
+  PageOuts.{HasPaged, PagesAt, PagesEntry, PagesEntryIfThere, PagesItem, PagesList, answer_of, with_some_key},
+  Tasks.{NeedsNoPager, todo_of},
+  Turns.{Fits, IsAlone, RunsToAnswer, Walked, plain},
+  declared.tasks.{PageOutError.PageOutError, Task.Task},
+}
+use Rattle.pagable_pager_spec.specs.{
+  Access.{AccessState, EntryHas, ListRun, MakesCall, WorkerRun, WorkerStarts, entry-is-refused, entry-is-walked, fails, item-is-walked, no-entry-worker},
+  Access.{no-more, no-worker, pages, skips, worker-ends, worker-goes-on},
+  Events.{entry_task, no_shelf},
+  Kinds.{identity_of, owner_worker},
+  Pager.{IsPagerWhole, PagerState},
+  Refusals.WorkerFault,
+  Workers.first_todo,
+  World.{Alike, SameShelf, Seen, Shelf, Todo, Values, Written, of_entry, of_item},
+  declared.{events.{Action.Action, WorkerAnswer.WorkerAnswer}, handle_row.Owner.Owner},
+}
+use Rattle.pagable_theorems.proofs.{
+  LoadResults.{entry-answered, item-answered},
+  StepBounds.{Spares, none-shorter, release-spares-list, spares-then, walk-spares-list},
+}
+use Rattle.pagable_value_spec.specs.declared.{
+  data_key.OptionalDataKey.OptionalDataKey,
+  error.Error.Error,
+  numbers.{ArcRef.ArcRef, HandleNumber.HandleNumber, WorkerNumber.WorkerNumber},
+}
+use Rattle.std.proofs.{
+  Common.{Bool, Err, List, None, Ok, Option, Result, Some, ap, arith, false, inl, length, refl, subst, sym, true, ℕ, ◌+◌, ◌<◌, ◌∙◌, ◌∷◌, ◌≡◌, ◌≢◌, ◌≤◌},
+  lemmas.{Bool.Decides.nat_tests, Grind.common_steps, List.Edits.length-remove},
+}
+use Rattle.std.specs.{List.remove, declared.cmp.{Ord.Ghosts as Orders, PartialEq.Ghosts as Equalities, PartialOrd.Ghosts as PartialOrders}}
 
 -- whoever acts for the caller does so again after a worker
 pub is-caller : {E : Type 0} (acting : Acting E) → acting.me ≡ Owner.Caller → as_caller acting ≡ acting
@@ -30,9 +53,9 @@ module _ {N E : Type 0} (v : Values N) where
 
     pub item-walked : {X XN XH XK XV : Type 0} {g : Environments X XN XH XK XV} {gh : Hashes XH} {go : Orders XK} {gq : Equalities XK} {gp : PartialOrders XK}
         {gn : Nodes XN X XN XH XK XV} (me : Owner) (n : ℕ) (task : Task X XN XH XK XV g gh go gq gp gn) (below : List Todo) (shelf' : Shelf)
-        (answer : WorkerAnswer) → me ≡ owner_worker n → IsPlain task
+        (answer : WorkerAnswer) → me ≡ owner_worker n → NeedsNoPager task
         → todo_of task ∷ below ≡ first_todo (of_item item) → (s mid t : PagerState N E) → WorkerStarts v s.core s n mid
-        → RunsTo v me n shelf task below shelf' answer mid t
+        → RunsToAnswer v me n shelf task below shelf' answer mid t
         → PagesItem v shelf item shelf' answer s t
     item-walked me n task below shelf' answer mine is_plain first s mid t starts runs = record {
       over = λ whole all.
@@ -71,9 +94,9 @@ module _ {N E : Type 0} (v : Values N) where
   pub entry-walked : {X XN XH XK XV : Type 0} {g : Environments X XN XH XK XV} {gh : Hashes XH} {go : Orders XK} {gq : Equalities XK} {gp : PartialOrders XK}
       {gn : Nodes XN X XN XH XK XV} (place : ℕ) (me : Owner) (n : WorkerNumber) (r : ArcRef) (shelf : Shelf) (task : Task X XN XH XK XV g gh go gq gp gn)
       (below : List Todo) (shelf' : Shelf) (answer : WorkerAnswer) → me ≡ owner_worker n.0
-      → IsPlain task → todo_of task ∷ below ≡ first_todo (of_entry r.handle (identity_of r)) → SameShelf no_shelf shelf → (s mid t : PagerState N E)
+      → NeedsNoPager task → todo_of task ∷ below ≡ first_todo (of_entry r.handle (identity_of r)) → SameShelf no_shelf shelf → (s mid t : PagerState N E)
       → StartsEntry v s place n r mid
-      → RunsTo v me n.0 shelf task below shelf' answer mid t
+      → RunsToAnswer v me n.0 shelf task below shelf' answer mid t
       → PagesEntry v place answer s t
   entry-walked place me n r shelf task below shelf' answer mine is_plain first same s mid t starts runs = record {
     pages = λ whole listed.
@@ -94,7 +117,7 @@ module _ {N E : Type 0} (v : Values N) where
   }
 
   pub entry-there : (place : ℕ) (answer : Result ℕ PageOutError) (s t : PagerState N E) → PagesEntry v place (answer_of answer) s t
-      → PagesEntryIfThere v place (there answer) s t
+      → PagesEntryIfThere v place (with_some_key answer) s t
   entry-there place (Ok key) s t pages_it = pages_it
   entry-there place (Err why) s t pages_it = pages_it
 
@@ -110,7 +133,8 @@ module _ {N E : Type 0} (v : Values N) where
       record {
         done = λ whole within. record {
           whole = out.whole;
-          long = entries-stay place s r.mid t within r.takes.step.1.list (none-shorter r.takes.whole.whole out.whole.whole (release-spares-list r.refused out.step));
+          long = entries-stay place s r.mid t within r.takes.step.1.list
+              (none-shorter r.takes.whole.whole out.whole.whole (release-spares-list r.refused out.step));
           goes = λ i next answer s' more. skips i place r.key r.h r.refused answer s r.mid t s' next r.has (rw mine at r.takes) out more;
           stops = tt;
         };
@@ -126,7 +150,10 @@ module _ {N E : Type 0} (v : Values N) where
 
   pub at-done : (place : ℕ) (key : Option ℕ) (s mid t : PagerState N E) → ((h : HandleNumber) × EntryHas s.core place h OptionalDataKey.None) × (mid ≡ s)
       → PagesEntryIfThere v place (Ok key) mid t → PagesAt v place (Ok tt) s t
-  at-done place None s mid t (has, same) gone = record { done = λ whole within. absurd (omega (arith, subst (λ x. PagesEntryIfThere v place (Ok None) x t) same gone, within)) }
+  at-done place None s mid t (has, same) gone = record {
+    done = λ whole within. absurd
+        (omega (arith, subst (λ x. PagesEntryIfThere v place (Ok None) x t) same gone, within));
+  }
   at-done place (Some key) s mid t (has, same) pages_it =
       at-paged place key s t has (subst (λ x. PagesEntryIfThere v place (Ok (Some key)) x t) same pages_it)
 

@@ -1,13 +1,28 @@
 -- After each step the path still waits for what is done next, and less is left to do.
-use Rattle.{pagable_theorems.proofs.Trees.same_some, pagable_value_spec.specs.declared.numbers.{ArcRef.ArcRef, HandleNumber.HandleNumber}, pagable_pageout.specs.{Slots.ids_of, Tasks.{IfGoes, LeadsOn, due, far}}}
-use Rattle.pagable_pageout.specs.{Tasks.{Awaits, AwaitsLow, EntryGetsResult, EachIsAwaited, TakesNext, back_of, raise_height, todo_of, todos, waiting_todo, waits_as}, declared.results.SlotResult.SlotResult}
-use Rattle.{pagable_pageout.specs.declared.{tasks.{Node.Node, Task.Task, Turn.Turn, Waiting.Waiting}}, pagable_pager_spec.specs.{Kinds.identity_of, Basics.{above, if_there, is_eager}}}
-use Rattle.{pagable_pager_spec.specs.{Basics.longest_path, Workers.{give, give_known, next_start, place_below, advance}, World.{Open, Todo, Written, to_finish, to_item, to_start}}, std.proofs.Common.Bool}
-use Rattle.std.proofs.Common.{List, None, Option, Some, [], ap, arith, drop, get_or, if◌then◌else◌, length, map, refl, reverse, slice_get, subst, suc, sym, take, zero, ℕ, ◌*◌, ◌++◌, ◌+◌, ◌<◌, ◌^◌}
-use Rattle.std.proofs.{Common.{◌∙◌, ◌∷◌, ◌≡◌, ◌≤◌}, Math.Nat.mul-le-mul_right, lemmas.{Bool.Decides.nat_tests, Grind.common_steps, List.{at_drop_all, at_drop_more, length-append, length-map}}}
-use Rattle.std.{proofs.lemmas.{List.{length-reverse, map-append, nil_from_length, reverse-append, take_more}, Option.{get_or_from_slice_get, none-some, slice_get_within}}, specs.Prelude.max}
 use Rattle.pagable_codec.specs.declared.{env.Env.Ghosts as Environments, hash.KeyHash.Ghosts as Hashes, nodes.NodeSet.Ghosts as Nodes}
-use Rattle.std.specs.declared.cmp.{Ord.Ghosts as Orders, PartialEq.Ghosts as Equalities, PartialOrd.Ghosts as PartialOrders}
+use Rattle.pagable_pageout.specs.{
+  Slots.ids_of,
+  Tasks.{Awaits, AwaitsWithHeight, EachIsAwaited, EntryGetsResult, IfGoes, LowersWorkLeft, TakesNext, back_of, claim_weight, raise_height, todo_of, todos},
+  Tasks.{waiting_todo, waits_as, work_left},
+  declared.{results.SlotResult.SlotResult, tasks.{ClaimedNode.ClaimedNode, Task.Task, Turn.Turn, WaitingValue.WaitingValue}},
+}
+use Rattle.pagable_pager_spec.specs.{
+  Basics.{above, if_there, is_eager, longest_path},
+  Kinds.identity_of,
+  Workers.{advance, give, give_known, next_start, place_below},
+  World.{Open, Todo, Written, to_finish, to_item, to_start},
+}
+use Rattle.pagable_theorems.proofs.Trees.{same_some}
+use Rattle.pagable_value_spec.specs.declared.numbers.{ArcRef.ArcRef, HandleNumber.HandleNumber}
+use Rattle.std.proofs.{
+  Common.{Bool, List, None, Option, Some, ap, arith, drop, get_or, if◌then◌else◌, length, map, refl, reverse, slice_get, subst, suc, sym, take, zero, ℕ, []},
+  Common.{◌*◌, ◌++◌, ◌+◌, ◌<◌, ◌^◌, ◌∙◌, ◌∷◌, ◌≡◌, ◌≤◌},
+  Math.Nat.mul-le-mul_right,
+  lemmas.{Bool.Decides.nat_tests, Grind.common_steps},
+  lemmas.List.{at_drop_all, at_drop_more, length-append, length-map, length-reverse, map-append, nil_from_length, reverse-append, take_more},
+  lemmas.Option.{get_or_from_slice_get, none-some, slice_get_within},
+}
+use Rattle.std.specs.{Prelude.max, declared.cmp.{Ord.Ghosts as Orders, PartialEq.Ghosts as Equalities, PartialOrd.Ghosts as PartialOrders}}
 
 -- what is left of references after so many, in both cases
 left-by : (Q : List ArcRef → Type 0) (n : ℕ) (refs : List ArcRef) → n ≤ length refs → (n ≡ length refs → Q [])
@@ -37,7 +52,7 @@ near-by : (place height p h kind : ℕ) (b : Bool) → is_eager kind ≡ b → p
     → place + max height (above kind h) ≤ longest_path
 near-by place height p h kind b is at near low = grind (arith, nat_tests)
 
-node-awaits : (o : Open) (below : List Todo) (r : ArcRef) (h : ℕ) → AwaitsLow (to_finish o ∷ below) r h
+node-awaits : (o : Open) (below : List Todo) (r : ArcRef) (h : ℕ) → AwaitsWithHeight (to_finish o ∷ below) r h
     → (slice_get o.written.references (length o.keys) ≡ Some r) × (o.place + max o.height (above r.kind.0 h) ≤ longest_path) × Awaits below o.reference o.place
 unfolding Awaits
 node-awaits o below r h (p, (at, is, near, up), low) = (at, near-by o.place o.height p h r.kind.0 (is_eager r.kind.0) refl is near low, up)
@@ -46,13 +61,13 @@ one-more : {A : Type 0} (refs : List ArcRef) (xs : List A) (x : A) (r : ArcRef) 
 one-more refs xs x r at = let a = length-append xs (x ∷ []) in let b = slice_get_within refs (length xs) r at in omega (arith, a, b)
 
 -- what waits for a reference takes its result
-pub takes-next : (node : Option Node) (written : Written) (keys : List ℕ) (below : List Todo) (r : ArcRef) (h : ℕ)
-    → AwaitsLow (waits_as node written keys ∷ below) r h → TakesNext node written keys r h
+pub takes-next : (node : Option ClaimedNode) (written : Written) (keys : List ℕ) (below : List Todo) (r : ArcRef) (h : ℕ)
+    → AwaitsWithHeight (waits_as node written keys ∷ below) r h → TakesNext node written keys r h
 unfolding Awaits
 takes-next given written keys below r h up = grind (arith, nat_tests, node-awaits, none-some, same_some)
 
 -- a reference is done
-pub give-way : (below : List Todo) (r : ArcRef) (key h : ℕ) → AwaitsLow below r h → EachIsAwaited (give r key h below)
+pub give-way : (below : List Todo) (r : ArcRef) (key h : ℕ) → AwaitsWithHeight below r h → EachIsAwaited (give r key h below)
 unfolding Awaits
 give-way [] r key h up = tt
 give-way (to_finish o ∷ below) r key h up =
@@ -64,12 +79,12 @@ give-way (to_item written keys ∷ below) r key h up =
     (item-way written (keys ++ key ∷ []) (one-more written.references keys key r up.1.0))
 give-way (x ∷ below) r key h up = absurd up.1
 
-pub known-way : (below : List Todo) (r : ArcRef) (key h : ℕ) → AwaitsLow below r h → EachIsAwaited (give_known r key h below)
+pub known-way : (below : List Todo) (r : ArcRef) (key h : ℕ) → AwaitsWithHeight below r h → EachIsAwaited (give_known r key h below)
 known-way [] r key h up = up
 known-way (x ∷ below) r key h up = give-way (x ∷ below) r key h up
 
 -- a result that goes to what waits
-pub gives-way : (below todo : List Todo) (r : ArcRef) (key h : ℕ) → EntryGetsResult r key h below todo → AwaitsLow below r h → EachIsAwaited todo
+pub gives-way : (below todo : List Todo) (r : ArcRef) (key h : ℕ) → EntryGetsResult r key h below todo → AwaitsWithHeight below r h → EachIsAwaited todo
 gives-way below todo r key h gives up = subst EachIsAwaited (ap (give r key h) gives.was ∙ sym gives.is) (give-way below r key h up)
 
 pub ruleset ways = (known-way, gives-way)
@@ -78,20 +93,21 @@ pub ruleset ways = (known-way, gives-way)
 
 module _ {E EN EH EK EV : Type 0} {g : Environments E EN EH EK EV} {gh : Hashes EH} {go : Orders EK} {gq : Equalities EK} {gp : PartialOrders EK}
     {gn : Nodes EN E EN EH EK EV} where
-  pub todos-more : (ws : List (Waiting E EN EH EK EV g gh go gq gp gn)) (w : Waiting E EN EH EK EV g gh go gq gp gn) → todos (ws ++ w ∷ []) ≡ waiting_todo w
+  pub todos-more : (ws : List (WaitingValue E EN EH EK EV g gh go gq gp gn)) (w : WaitingValue E EN EH EK EV g gh go gq gp gn)
+      → todos (ws ++ w ∷ []) ≡ waiting_todo w
       ∷ todos ws
   unfolding todos
   todos-more ws w = ap (map waiting_todo) (reverse-append ws (w ∷ []))
 
-  pub todos-length : (ws : List (Waiting E EN EH EK EV g gh go gq gp gn)) → length (todos ws) ≡ length ws
+  pub todos-length : (ws : List (WaitingValue E EN EH EK EV g gh go gq gp gn)) → length (todos ws) ≡ length ws
   unfolding todos
   todos-length ws = length-map (reverse ws) waiting_todo ∙ length-reverse ws
 
-  pub todos-none : (ws : List (Waiting E EN EH EK EV g gh go gq gp gn)) → length ws ≡ 0 → todos ws ≡ []
+  pub todos-none : (ws : List (WaitingValue E EN EH EK EV g gh go gq gp gn)) → length ws ≡ 0 → todos ws ≡ []
   todos-none ws none = nil_from_length (todos ws) (todos-length ws ∙ none)
 
   -- where something waits no entry goes back
-  pub back-none : (ws : List (Waiting E EN EH EK EV g gh go gq gp gn)) (entry : Option HandleNumber) → 0 < length ws → back_of entry (todos ws) ≡ None
+  pub back-none : (ws : List (WaitingValue E EN EH EK EV g gh go gq gp gn)) (entry : Option HandleNumber) → 0 < length ws → back_of entry (todos ws) ≡ None
   back-none ws entry some = by (todos ws) (omega (arith, todos-length ws))
     where
       by : (xs : List Todo) → 0 < length xs → back_of entry xs ≡ None
@@ -115,23 +131,23 @@ module _ {E EN EH EK EV : Type 0} {g : Environments E EN EH EK EV} {gh : Hashes 
 
 -- ---- what waits, a node or the item
 
-pub give-is : (node : Option Node) (written : Written) (keys : List ℕ) (below : List Todo) (r : ArcRef) (key height : ℕ)
+pub give-is : (node : Option ClaimedNode) (written : Written) (keys : List ℕ) (below : List Todo) (r : ArcRef) (key height : ℕ)
     → give r key height (waits_as node written keys ∷ below) ≡ advance (waits_as (raise_height r.kind.0 height node) written (keys ++ key ∷ []) ∷ below)
 give-is given written keys below r key height = grind (arith, nat_tests)
 
 -- what holds of a node with the height by a reference too
-pub raise_height-has : (Q : Node → Type 0) (kind height : ℕ) (node : Option Node)
-    → ((m : Node) → node ≡ Some m → Q (record m { height = max m.height (above kind height) }))
-    → (n : Node) → raise_height kind height node ≡ Some n → Q n
+pub raise_height-has : (Q : ClaimedNode → Type 0) (kind height : ℕ) (node : Option ClaimedNode)
+    → ((m : ClaimedNode) → node ≡ Some m → Q (record m { height = max m.height (above kind height) }))
+    → (n : ClaimedNode) → raise_height kind height node ≡ Some n → Q n
 raise_height-has Q kind height given f n is = grind (arith, nat_tests, same_some)
 
 -- of so many references that are done, the next is started, or none is left
-module _ (node : Option Node) (written : Written) (keys : List ℕ) (below : List Todo) (n : ℕ) (many : length keys ≡ n) where
+module _ (node : Option ClaimedNode) (written : Written) (keys : List ℕ) (below : List Todo) (n : ℕ) (many : length keys ≡ n) where
   pub settled-all : length written.references ≤ n → waits_as node written keys ∷ below ≡ advance (waits_as node written keys ∷ below)
   settled-all all = grind (arith, nat_tests, common_steps, at_drop_all)
 
   pub settled-next : (r : ArcRef) (p : ℕ) → n < length written.references → r ≡ get_or written.references n r → p
-      ≡ place_below (if_there (λ (n : Node). n.place) 0 node) r.kind.0
+      ≡ place_below (if_there (λ (n : ClaimedNode). n.place) 0 node) r.kind.0
       → to_start r p ∷ waits_as node written keys ∷ below ≡ advance (waits_as node written keys ∷ below)
   settled-next r p more is at = grind (arith, nat_tests, common_steps, at_drop_more)
 
@@ -150,13 +166,13 @@ falls-by l l' d d' b less low = let a : (l' + 1) * b ≤ l * b = mul-le-mul_righ
 module _ {X XN XH XK XV : Type 0} {g : Environments X XN XH XK XV} {gh : Hashes XH} {go : Orders XK} {gq : Equalities XK} {gp : PartialOrders XK}
     {gn : Nodes XN X XN XH XK XV} where
   pub start-falls : (turn : Turn X XN XH XK XV g gh go gq gp gn) (l l' : ℕ) (r : ArcRef) (place : ℕ) (below after : List Todo) → l' + 1 ≤ l
-      → length below < 2 ^ 64 → LeadsOn (to_start r place ∷ below) turn after
-      → IfGoes turn (l' * far + due after < l * far + due (to_start r place ∷ below))
+      → length below < 2 ^ 64 → LowersWorkLeft (to_start r place ∷ below) turn after
+      → IfGoes turn (l' * claim_weight + work_left after < l * claim_weight + work_left (to_start r place ∷ below))
   start-falls turn l l' r place below after less few leads = grind (arith, nat_tests, falls-by)
 
   pub other-falls : (task : Task X XN XH XK XV g gh go gq gp gn) → ((r : ArcRef) (place : ℕ) → task ≡ Task.Start r place → ⊥)
-      → (turn : Turn X XN XH XK XV g gh go gq gp gn) (l : ℕ) (below after : List Todo) → LeadsOn (todo_of task ∷ below) turn after
-      → IfGoes turn (l * far + due after < l * far + due (todo_of task ∷ below))
+      → (turn : Turn X XN XH XK XV g gh go gq gp gn) (l : ℕ) (below after : List Todo) → LowersWorkLeft (todo_of task ∷ below) turn after
+      → IfGoes turn (l * claim_weight + work_left after < l * claim_weight + work_left (todo_of task ∷ below))
   other-falls task other turn l below after leads = grind (arith, nat_tests)
 
 pub ruleset dues = (nat_tests, start-falls, other-falls, todos-length)

@@ -1,11 +1,20 @@
 -- Steps that are made together, one after another, and the worker's end.
-use Rattle.{pagable_value_spec.specs.declared.{error.Error.Error, numbers.ArcRef.ArcRef}, pagable_pager_spec.specs.{Kinds.identity_of, declared.events.Action.Action}}
-use Rattle.pagable_pageout.proofs.WorkerTurns.{ends-walked, goes-walked, none-walked, steps-alone, steps-to, waits-alone}
-use Rattle.pagable_pageout.specs.{Strides.{ComesTo, Strides}, Tasks.{Ends, EndsWith, IfGoes, LeadsOn, due, todo_of, todos, waits_as}, Turns.{Closes, HasWalked, RunsTo, StepsAlone, StepsTo, TurnsTo, is_waiting, plan}}
-use Rattle.pagable_pageout.specs.declared.tasks.{StepResult.StepResult, Node.Node, Task.Task, Turn.Turn, Waiting.Waiting}
-use Rattle.pagable_pager_spec.specs.{Pager.PagerState, World.{Shelf, Todo, Values, Written}, declared.{events.WorkerAnswer.WorkerAnswer, handle_row.Owner.Owner}}
-use Rattle.std.proofs.Common.{Err, List, None, Option, Some, ap, arith, length, refl, subst, sym, true, ℕ, ◌*◌, ◌+◌, ◌<◌, ◌∙◌, ◌∷◌, ◌≡◌}
 use Rattle.pagable_codec.specs.declared.{env.Env.Ghosts as Environments, hash.KeyHash.Ghosts as Hashes, nodes.NodeSet.Ghosts as Nodes}
+use Rattle.pagable_pageout.proofs.WorkerRuns.{ends-walked, goes-walked, none-walked, steps-alone, steps-to, waits-alone}
+use Rattle.pagable_pageout.specs.{
+  Strides.{Strides, WalksTo},
+  Tasks.{EndsWithItem, IfGoes, LeadsToItemKey, LowersWorkLeft, todo_of, todos, waits_as, work_left},
+  Turns.{EndsIfAnswered, HasWalked, PerformsStep, PerformsTask, RunsToAnswer, StepsAlone, is_waiting, todos_after},
+  declared.tasks.{ClaimedNode.ClaimedNode, StepResult.StepResult, Task.Task, Turn.Turn, WaitingValue.WaitingValue},
+}
+use Rattle.pagable_pager_spec.specs.{
+  Kinds.identity_of,
+  Pager.PagerState,
+  World.{Shelf, Todo, Values, Written},
+  declared.{events.{Action.Action, WorkerAnswer.WorkerAnswer}, handle_row.Owner.Owner},
+}
+use Rattle.pagable_value_spec.specs.declared.{error.Error.Error, numbers.ArcRef.ArcRef}
+use Rattle.std.proofs.Common.{Err, List, None, Option, Some, ap, arith, length, refl, subst, sym, true, ℕ, ◌*◌, ◌+◌, ◌<◌, ◌∙◌, ◌∷◌, ◌≡◌}
 use Rattle.std.specs.declared.cmp.{Ord.Ghosts as Orders, PartialEq.Ghosts as Equalities, PartialOrd.Ghosts as PartialOrders}
 
 module _ {X XN XH XK XV : Type 0} {g : Environments X XN XH XK XV} {gh : Hashes XH} {go : Orders XK} {gq : Equalities XK} {gp : PartialOrders XK}
@@ -16,12 +25,13 @@ module _ {X XN XH XK XV : Type 0} {g : Environments X XN XH XK XV} {gh : Hashes 
   leads-on (Turn.Answers x) d e f less again = tt
 
   -- the item stays where another task was in front
-  pub ends-as : (todo other after : List Todo) (turn : Turn X XN XH XK XV g gh go gq gp gn) → ((w : Written) → EndsWith w other → EndsWith w todo)
-      → Ends todo turn after → Ends other turn after
+  pub ends-as : (todo other after : List Todo) (turn : Turn X XN XH XK XV g gh go gq gp gn) → ((w : Written) → EndsWithItem w other → EndsWithItem w todo)
+      → LeadsToItemKey todo turn after → LeadsToItemKey other turn after
   ends-as todo other after turn f e = record { stays = λ w h. e.stays w (f w h); over = λ w h. e.over w (f w h) }
 
-  pub leads-waiting : (turn : Turn X XN XH XK XV g gh go gq gp gn) (node : Option Node) (written : Written) (keys : List ℕ) (below after : List Todo) (e : ℕ)
-      → e < 6 + 6 * length below → IfGoes turn (due after < e) → LeadsOn (waits_as node written keys ∷ below) turn after
+  pub leads-waiting : (turn : Turn X XN XH XK XV g gh go gq gp gn) (node : Option ClaimedNode) (written : Written) (keys : List ℕ)
+      (below after : List Todo) (e : ℕ)
+      → e < 6 + 6 * length below → IfGoes turn (work_left after < e) → LowersWorkLeft (waits_as node written keys ∷ below) turn after
   leads-waiting (Turn.Goes t) None written keys below after e less again = omega (arith, less, again)
   leads-waiting (Turn.Goes t) (Some n) written keys below after e less again = omega (arith, less, again)
   leads-waiting (Turn.Answers x) given written keys below after e less again = tt
@@ -51,8 +61,8 @@ module _ {X XN XH XK XV : Type 0} {g : Environments X XN XH XK XV} {gh : Hashes 
   -- a run after a walk
   pub walked-runs : (mid_shelf shelf' : Shelf) (now : Task X XN XH XK XV g gh go gq gp gn) (now_below : List Todo) (answer : WorkerAnswer)
       (s mid t : PagerState N E) → HasWalked v me n shelf first below mid_shelf now now_below s mid
-      → RunsTo v me n mid_shelf now now_below shelf' answer mid t
-      → RunsTo v me n shelf first below shelf' answer s t
+      → RunsToAnswer v me n mid_shelf now now_below shelf' answer mid t
+      → RunsToAnswer v me n shelf first below shelf' answer s t
   walked-runs mid_shelf shelf' now now_below answer s mid t one two = record
       { runs = λ f alone. one.then f alone answer t shelf' (two.runs (one.fits f alone) (one.alone f alone)) }
 
@@ -67,19 +77,20 @@ module _ {X XN XH XK XV : Type 0} {g : Environments X XN XH XK XV} {gh : Hashes 
 
   -- a turn that goes on
   pub turn-walked : (shelf' : Shelf) (next : Task X XN XH XK XV g gh go gq gp gn) (next_below after : List Todo)
-      (moved : StepResult X XN XH XK XV g gh go gq gp gn) (s t : PagerState N E) → TurnsTo v me n shelf first below shelf' moved after s t → moved.turn
+      (moved : StepResult X XN XH XK XV g gh go gq gp gn) (s t : PagerState N E) → PerformsTask v me n shelf first below shelf' moved after s t → moved.turn
       ≡ Turn.Goes next
       → after ≡ todo_of next ∷ next_below
       → HasWalked v me n shelf first below shelf' next next_below s t
   turn-walked shelf' next next_below after moved s t turns goes is =
-      let still : Closes v n moved.turn t t = subst (λ (x : Turn X XN XH XK XV g gh go gq gp gn). Closes v n x t t) (sym goes) (record { closes = refl }) in
+      let still : EndsIfAnswered v n moved.turn t t = subst (λ (x : Turn X XN XH XK XV g gh go gq gp gn). EndsIfAnswered v n x t t) (sym goes)
+      (record { closes = refl }) in
       step-walked shelf' next next_below after moved s t (steps-alone v me n shelf first below after shelf' moved s t
       (steps-to v n me shelf shelf' first below after moved s t t turns still)) goes is
 
   -- a turn comes to what it comes to
   pub turn-comes : (shelf' : Shelf) (after : List Todo) (moved : StepResult X XN XH XK XV g gh go gq gp gn) (s t : PagerState N E)
-      → TurnsTo v me n shelf first below shelf' moved after s t
-      → ComesTo v me n shelf first below shelf' moved.turn after s t
+      → PerformsTask v me n shelf first below shelf' moved after s t
+      → WalksTo v me n shelf first below shelf' moved.turn after s t
   turn-comes shelf' after moved s t turns = record {
     now_shelf = shelf;
     now = first;
@@ -91,18 +102,19 @@ module _ {X XN XH XK XV : Type 0} {g : Environments X XN XH XK XV} {gh : Hashes 
     comes = refl;
   }
 
-  pub turn-comes-as : (shelf' : Shelf) (turn : Turn X XN XH XK XV g gh go gq gp gn) (path : List (Waiting X XN XH XK XV g gh go gq gp gn))
-      (moved : StepResult X XN XH XK XV g gh go gq gp gn) (s t : PagerState N E) → TurnsTo v me n shelf first below shelf' moved (plan moved.turn path) s t
+  pub turn-comes-as : (shelf' : Shelf) (turn : Turn X XN XH XK XV g gh go gq gp gn) (path : List (WaitingValue X XN XH XK XV g gh go gq gp gn))
+      (moved : StepResult X XN XH XK XV g gh go gq gp gn) (s t : PagerState N E)
+      → PerformsTask v me n shelf first below shelf' moved (todos_after moved.turn path) s t
       → moved.turn ≡ turn
-      → ComesTo v me n shelf first below shelf' turn (plan turn path) s t
-  turn-comes-as shelf' turn path moved s t turns is = subst (λ (x : Turn X XN XH XK XV g gh go gq gp gn). ComesTo v me n shelf first below shelf' x
-      (plan x path) s t) is (turn-comes shelf' (plan moved.turn path) moved s t turns)
+      → WalksTo v me n shelf first below shelf' turn (todos_after turn path) s t
+  turn-comes-as shelf' turn path moved s t turns is = subst (λ (x : Turn X XN XH XK XV g gh go gq gp gn). WalksTo v me n shelf first below shelf' x
+      (todos_after x path) s t) is (turn-comes shelf' (todos_after moved.turn path) moved s t turns)
 
   -- turns after a walk
   pub comes-on : (mid_shelf shelf' : Shelf) (next : Task X XN XH XK XV g gh go gq gp gn) (next_below after : List Todo)
       (turn : Turn X XN XH XK XV g gh go gq gp gn) (s mid t : PagerState N E) → HasWalked v me n shelf first below mid_shelf next next_below s mid
-      → ComesTo v me n mid_shelf next next_below shelf' turn after mid t
-      → ComesTo v me n shelf first below shelf' turn after s t
+      → WalksTo v me n mid_shelf next next_below shelf' turn after mid t
+      → WalksTo v me n shelf first below shelf' turn after s t
   comes-on mid_shelf shelf' next next_below after turn s mid t one c = record {
     now_shelf = c.now_shelf;
     now = c.now;
@@ -115,32 +127,33 @@ module _ {X XN XH XK XV : Type 0} {g : Environments X XN XH XK XV} {gh : Hashes 
   }
 
   -- turns with the worker's end
-  pub comes-strides : (shelf' : Shelf) (turn : Turn X XN XH XK XV g gh go gq gp gn) (path : List (Waiting X XN XH XK XV g gh go gq gp gn))
-      (s mid t : PagerState N E) → ComesTo v me n shelf first below shelf' turn (plan turn path) s mid → Closes v n turn mid t
+  pub comes-strides : (shelf' : Shelf) (turn : Turn X XN XH XK XV g gh go gq gp gn) (path : List (WaitingValue X XN XH XK XV g gh go gq gp gn))
+      (s mid t : PagerState N E) → WalksTo v me n shelf first below shelf' turn (todos_after turn path) s mid → EndsIfAnswered v n turn mid t
       → Strides v me n shelf first below shelf' turn (todos path) s t
   comes-strides shelf' turn path s mid t c close =
-      let ends : Closes v n c.moved.turn mid t = subst (λ (x : Turn X XN XH XK XV g gh go gq gp gn). Closes v n x mid t) (sym c.comes) close in
-      let step : StepsAlone v me n c.now_shelf c.now c.now_below shelf' c.moved (plan turn path) c.mid t =
-      steps-alone v me n c.now_shelf c.now c.now_below (plan turn path) shelf' c.moved c.mid t
-      (steps-to v n me c.now_shelf shelf' c.now c.now_below (plan turn path) c.moved c.mid mid t c.last ends) in
+      let ends : EndsIfAnswered v n c.moved.turn mid t = subst (λ (x : Turn X XN XH XK XV g gh go gq gp gn). EndsIfAnswered v n x mid t) (sym c.comes) close in
+      let step : StepsAlone v me n c.now_shelf c.now c.now_below shelf' c.moved (todos_after turn path) c.mid t =
+      steps-alone v me n c.now_shelf c.now c.now_below (todos_after turn path) shelf' c.moved c.mid t
+      (steps-to v n me c.now_shelf shelf' c.now c.now_below (todos_after turn path) c.moved c.mid mid t c.last ends) in
       record {
-        goes = λ next is. goes-walked v me n shelf first below c.now_shelf shelf' c.now c.now_below (plan turn path) c.moved next (todos path) (c.comes ∙ is)
-            (ap (λ (x : Turn X XN XH XK XV g gh go gq gp gn). plan x path) is) s c.mid t c.walked step;
-        answers = λ answer is. ends-walked v me n shelf first below c.now_shelf shelf' c.now c.now_below (plan turn path) c.moved answer
+        goes = λ next is. goes-walked v me n shelf first below c.now_shelf shelf' c.now c.now_below (todos_after turn path) c.moved next
+            (todos path) (c.comes ∙ is)
+            (ap (λ (x : Turn X XN XH XK XV g gh go gq gp gn). todos_after x path) is) s c.mid t c.walked step;
+        answers = λ answer is. ends-walked v me n shelf first below c.now_shelf shelf' c.now c.now_below (todos_after turn path) c.moved answer
             (c.comes ∙ is) s c.mid t c.walked step;
       }
 
   -- a step is a stride, and so is a walk
-  pub step-strides : (shelf' : Shelf) (moved : StepResult X XN XH XK XV g gh go gq gp gn) (path : List (Waiting X XN XH XK XV g gh go gq gp gn))
-      (s t : PagerState N E) → StepsTo v me n shelf first below shelf' moved (plan moved.turn path) s t
+  pub step-strides : (shelf' : Shelf) (moved : StepResult X XN XH XK XV g gh go gq gp gn) (path : List (WaitingValue X XN XH XK XV g gh go gq gp gn))
+      (s t : PagerState N E) → PerformsStep v me n shelf first below shelf' moved (todos_after moved.turn path) s t
       → Strides v me n shelf first below shelf' moved.turn (todos path) s t
   step-strides shelf' moved path s t to =
-      let step : StepsAlone v me n shelf first below shelf' moved (plan moved.turn path) s t =
-      steps-alone v me n shelf first below (plan moved.turn path) shelf' moved s t to in
+      let step : StepsAlone v me n shelf first below shelf' moved (todos_after moved.turn path) s t =
+      steps-alone v me n shelf first below (todos_after moved.turn path) shelf' moved s t to in
       record {
-        goes = λ next is. step-walked shelf' next (todos path) (plan moved.turn path) moved s t step is
-            (ap (λ (x : Turn X XN XH XK XV g gh go gq gp gn). plan x path) is);
-        answers = λ answer is. ends-walked v me n shelf first below shelf shelf' first below (plan moved.turn path) moved answer is s s t
+        goes = λ next is. step-walked shelf' next (todos path) (todos_after moved.turn path) moved s t step is
+            (ap (λ (x : Turn X XN XH XK XV g gh go gq gp gn). todos_after x path) is);
+        answers = λ answer is. ends-walked v me n shelf first below shelf shelf' first below (todos_after moved.turn path) moved answer is s s t
             (none-walked v me n shelf first below s) step;
       }
 
@@ -155,7 +168,7 @@ module _ {X XN XH XK XV : Type 0} {g : Environments X XN XH XK XV} {gh : Hashes 
     {gn : Nodes XN X XN XH XK XV} {N E : Type 0} (v : Values N) (me : Owner) (n : ℕ) (shelf : Shelf) (r : ArcRef) (place : ℕ) (below : List Todo) where
   -- a worker that is alone waits for nobody, whatever comes then
   pub waits-walked : (mid shelf' : Shelf) (after rest : List Todo) (moved : StepResult X XN XH XK XV g gh go gq gp gn) (e : Error)
-      (task : Task X XN XH XK XV g gh go gq gp gn) (s t u : PagerState N E) → StepsTo v me n shelf (Task.Start r place) below mid moved after s t
+      (task : Task X XN XH XK XV g gh go gq gp gn) (s t u : PagerState N E) → PerformsStep v me n shelf (Task.Start r place) below mid moved after s t
       → is_waiting moved.action ≡ true
       → HasWalked v me n shelf (Task.Start r place) below shelf' task rest s u
   waits-walked mid shelf' after rest moved e task s t u step waits = step-walked v me n shelf (Task.Start r place) below shelf' task rest (todo_of task ∷ rest)

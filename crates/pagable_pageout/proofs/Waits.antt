@@ -1,15 +1,30 @@
 -- For whom a worker waits, why chains of waits end, and the slots of a table after each change.
-use Rattle.pagable_pager_spec.specs.{Basics.{Identity, updated, SameAt, if_there}, World.{Shelf, no_result, is_identity, Slot, Outcome, SameShelf}, Workers.{works, is_open_slot, may-go-on, with_slot}}
-use Rattle.{pagable_pager_spec.specs.Workers.{IsOpenSlot, waits-back, is_open_outcome, with_outcome, ComesToEnd, with_wait, waits-on}, std.specs.{Option.option_map, Prelude.{OnErr, Err, Result, Ok, OnOk}}}
-use Rattle.std.{specs.Map.{values_of, lookup}, proofs.Common.{true, ℕ, inr, ◌&&◌, Some, ◌⊎◌, None, suc, if◌then◌else◌, ap, cond, sym, slice_get, ◌∷◌, List, ◌<◌, [], Option, ◌≤◌, length, Bool, false}}
-use Rattle.{std.proofs.{Common.{nat_eq, ◌∙◌, zero, ◌≡◌, inl, arith, subst, refl}, lemmas.{Grind.{common_steps, merely}, Bool.Decides.nat_tests, Option.none-some}}, pagable_theorems.proofs.Trees.same_some}
-use Rattle.{indexmap.specs.IndexMap.{set_value_at, get, IndexMap}, pagable_pageout.specs.Slots.{failed_by, ends-at, FailedTo, slots_in, AreNamed, Ends, Leads, open_worker, EachEnds, is_same, waits_for}}
-use Rattle.pagable_pageout.specs.Slots.{shelf_in, after_failure, SlotIs, Changes, slot_of, claimed_by, IsNamed}
-use Rattle.pagable_pageout.specs.declared.{lent_slot.LentSlot.LentSlot}
+use Rattle.indexmap.specs.IndexMap.{IndexMap, get, set_value_at}
+use Rattle.pagable_codec.specs.declared.{env.Env.Ghosts as Environments, hash.KeyHash.Ghosts as Hashes, nodes.NodeSet.Ghosts as Nodes}
+use Rattle.pagable_pageout.specs.{
+  Slots.{Changes, EachEnds, Ends, FailedTo, HoldOnlyOwnResults, HoldsOnlyResultOf, SlotIs, TellsDeadlock, after_failure, claimed_by, ends-at, failed_by},
+  Slots.{is_same, open_worker, shelf_in, slot_of, slots_in, waits_for},
+  declared.lent_slot.LentSlot.LentSlot,
+}
+use Rattle.pagable_pager_spec.specs.{
+  Basics.{Identity, SameAt, if_there, updated},
+  Workers.{ComesToEnd, IsOpenSlot, is_open_outcome, is_open_slot, may-go-on, waits-back, waits-on, with_outcome, with_slot, with_wait, works},
+  World.{Outcome, SameShelf, Shelf, Slot, is_identity, no_result},
+}
+use Rattle.pagable_theorems.proofs.Trees.{same_some}
+use Rattle.std.proofs.{
+  Common.{Bool, List, None, Option, Some, ap, arith, cond, false, if◌then◌else◌, inl, inr, length, nat_eq, refl, slice_get, subst, suc, sym, true, zero, ℕ, []},
+  Common.{◌&&◌, ◌<◌, ◌∙◌, ◌∷◌, ◌≡◌, ◌≤◌, ◌⊎◌},
+  lemmas.{Bool.Decides.nat_tests, Grind.{common_steps, merely}, Option.none-some},
+}
+use Rattle.std.specs.{
+  Map.{lookup, values_of},
+  Option.option_map,
+  Prelude.{Err, Ok, OnErr, OnOk, Result},
+  declared.cmp.{Ord.Ghosts as Orders, PartialEq.Ghosts as Equalities, PartialOrd.Ghosts as PartialOrders},
+}
 use mathlib.Core.{HLevel.Σ_prop_path, Logic.{∥∥₁_elim, ∥∥₁_map, ∥∥₁_prop}}
 use native.Mathlib.Nat.{ℕ_set}
-use Rattle.pagable_codec.specs.declared.{env.Env.Ghosts as Environments, hash.KeyHash.Ghosts as Hashes, nodes.NodeSet.Ghosts as Nodes}
-use Rattle.std.specs.declared.cmp.{Ord.Ghosts as Orders, PartialEq.Ghosts as Equalities, PartialOrd.Ghosts as PartialOrders}
 
 pub open-is : (x : Slot) → x.outcome ≡ no_result → open_worker (Some x) ≡ Some x.worker
 open-is x e = ap (λ q. if is_open_outcome q then Some x.worker else None) e
@@ -19,10 +34,10 @@ closed None h w e = none-some w e
 closed (Some x) h w e = none-some w (sym (ap (λ b. if b then Some x.worker else None) h) ∙ e)
 
 -- where the worker that it waits for leads, it does; and where it waits for none it goes no further
-pub leads-on : (s : Shelf) (v u w : ℕ) → waits_for s u ≡ Some w → nat_eq u v ≡ false → (b : Bool) → Leads s v w b → Leads s v u b
+pub leads-on : (s : Shelf) (v u w : ℕ) → waits_for s u ≡ Some w → nat_eq u v ≡ false → (b : Bool) → TellsDeadlock s v w b → TellsDeadlock s v u b
 leads-on s v u w is differs b h = grind (arith, nat_tests, same_some, waits-back, waits-on)
 
-pub leads-no-more : (s : Shelf) (v u : ℕ) → waits_for s u ≡ None → nat_eq u v ≡ false → Leads s v u false
+pub leads-no-more : (s : Shelf) (v u : ℕ) → waits_for s u ≡ None → nat_eq u v ≡ false → TellsDeadlock s v u false
 leads-no-more s v u none differs = by (s.waits u) refl none
   where
     not-open : (slot : Option Slot) → open_worker slot ≡ None → is_open_slot slot ≡ false
@@ -77,7 +92,8 @@ module _ {E EN EH EK EV : Type 0} {g : Environments E EN EH EK EV} {gh : Hashes 
     pub slot-is : (x : Slot) → slot_of s ≡ x → SlotIs (slots_in old) i (Some x) (slots_in new)
     slot-is x e j = grind (arith, nat_tests, common_steps, same-as)
 
-    pub own-is : AreNamed old → ((j : Identity) → is_same (i.kind.0, i.node.0) (j.kind.0, j.node.0) ≡ true → IsNamed j s) → AreNamed new
+    pub own-is : HoldOnlyOwnResults old → ((j : Identity) → is_same (i.kind.0, i.node.0) (j.kind.0, j.node.0) ≡ true → HoldsOnlyResultOf j s)
+        → HoldOnlyOwnResults new
     own-is own fresh j t there = grind (arith, nat_tests, common_steps, same_some)
 
     -- the slot that stood there has changed
@@ -143,12 +159,13 @@ module _ {E EN EH EK EV : Type 0} {g : Environments E EN EH EK EV} {gh : Hashes 
     (i : Identity) (s was : LentSlot E EN EH EK EV g gh go gq gp gn) (f : Slot → Slot) where
   pub changed-table : ((q : ℕ × ℕ) → get is_same new q ≡ cond (is_same (i.kind.0, i.node.0) q) (Some s) (get is_same old q))
       → Some was ≡ get is_same old (i.kind.0, i.node.0) → slot_of s ≡ f (slot_of was)
-      → ((x : Slot) (w : ℕ) → open_worker (Some (f x)) ≡ Some w → open_worker (Some x) ≡ Some w) → (IsNamed i was → IsNamed i s) → AreNamed old
+      → ((x : Slot) (w : ℕ) → open_worker (Some (f x)) ≡ Some w → open_worker (Some x) ≡ Some w) → (HoldsOnlyResultOf i was → HoldsOnlyResultOf i s)
+      → HoldOnlyOwnResults old
       → EachEnds (shelf_in old waits)
-      → AreNamed new × EachEnds (shelf_in new waits)
+      → HoldOnlyOwnResults new × EachEnds (shelf_in new waits)
   changed-table h at e less named own ends =
       let is = changed-is old new i s h was at f e in (
-        own-is old new i s h own (λ j same. subst (λ k. IsNamed k s) (same-identity i j same) (named (own i was (sym at)))),
+        own-is old new i s h own (λ j same. subst (λ k. HoldsOnlyResultOf k s) (same-identity i j same) (named (own i was (sym at)))),
         less-open (shelf_in old waits) (shelf_in new waits) (changed-less (slots_in old) (slots_in new) i f less is) (λ v. refl) ends,
       )
 
@@ -198,7 +215,7 @@ module _ {E EN EH EK EV : Type 0} {g : Environments E EN EH EK EV} {gh : Hashes 
     {gn : Nodes EN E EN EH EK EV} (v : ℕ) where
   -- the next row is failed; or there is none
   pub row-fails : (n : ℕ) (first rows : List ((ℕ × ℕ) × LentSlot E EN EH EK EV g gh go gq gp gn)) (s w : LentSlot E EN EH EK EV g gh go gq gp gn)
-      → slice_get (values_of rows) n ≡ Some s → slot_of w ≡ failed_by v (slot_of s) → ((i : Identity) → IsNamed i s → IsNamed i w)
+      → slice_get (values_of rows) n ≡ Some s → slot_of w ≡ failed_by v (slot_of s) → ((i : Identity) → HoldsOnlyResultOf i s → HoldsOnlyResultOf i w)
       → FailedTo v n first rows → FailedTo v (suc n) first (set_value_at rows n w)
   row-fails zero (e ∷ es) (m ∷ ms) s w at is own h =
       let same : m ≡ e = cc in
@@ -207,7 +224,7 @@ module _ {E EN EH EK EV : Type 0} {g : Environments E EN EH EK EV} {gh : Hashes 
         record {
           key = ap (λ (x : (ℕ × ℕ) × LentSlot E EN EH EK EV g gh go gq gp gn). x.0) same;
           slot = is ∙ ap (λ x. failed_by v (slot_of x)) here;
-          own = λ i named. own i (subst (IsNamed i) (sym here) named);
+          own = λ i named. own i (subst (HoldsOnlyResultOf i) (sym here) named);
         },
         rest,
       )
@@ -230,18 +247,19 @@ module _ {E EN EH EK EV : Type 0} {g : Environments E EN EH EK EV} {gh : Hashes 
       rw row.key (grind (arith, nat_tests, row.slot, more))
 
   pub still-named : (n : ℕ) (first rows : List ((ℕ × ℕ) × LentSlot E EN EH EK EV g gh go gq gp gn)) (i : Identity) (q : ℕ × ℕ) → FailedTo v n first rows
-      → ((s : LentSlot E EN EH EK EV g gh go gq gp gn) → lookup (is_same q) first ≡ Some s → IsNamed i s)
-      → (s : LentSlot E EN EH EK EV g gh go gq gp gn) → lookup (is_same q) rows ≡ Some s → IsNamed i s
+      → ((s : LentSlot E EN EH EK EV g gh go gq gp gn) → lookup (is_same q) first ≡ Some s → HoldsOnlyResultOf i s)
+      → (s : LentSlot E EN EH EK EV g gh go gq gp gn) → lookup (is_same q) rows ≡ Some s → HoldsOnlyResultOf i s
   still-named zero first rows i q h named s there = named s (sym (ap (lookup (is_same q)) h) ∙ there)
   still-named (suc n) [] rows i q h named s there = absurd (none-some s (sym (ap (lookup (is_same q)) h) ∙ there))
   still-named (suc n) (e ∷ es) [] i q h named s there = absurd h
   still-named (suc n) (e ∷ es) (f ∷ fs) i q (row, rest) named s there = by (still-named n es fs i q rest) (is_same q e.0) refl
       (sym (ap (λ k. cond (is_same q k) (Some f.1) (lookup (is_same q) fs)) row.key) ∙ there)
     where
-      by : (((x : LentSlot E EN EH EK EV g gh go gq gp gn) → lookup (is_same q) es ≡ Some x → IsNamed i x) → (x : LentSlot E EN EH EK EV g gh go gq gp gn)
-          → lookup (is_same q) fs ≡ Some x → IsNamed i x)
-          → (b : Bool) → is_same q e.0 ≡ b → cond b (Some f.1) (lookup (is_same q) fs) ≡ Some s → IsNamed i s
-      by more true at is = subst (IsNamed i) (same_some _ _ is) (row.own i (named e.1 (ap (λ b. cond b (Some e.1) (lookup (is_same q) es)) at)))
+      by : (((x : LentSlot E EN EH EK EV g gh go gq gp gn) → lookup (is_same q) es ≡ Some x → HoldsOnlyResultOf i x)
+          → (x : LentSlot E EN EH EK EV g gh go gq gp gn)
+          → lookup (is_same q) fs ≡ Some x → HoldsOnlyResultOf i x)
+          → (b : Bool) → is_same q e.0 ≡ b → cond b (Some f.1) (lookup (is_same q) fs) ≡ Some s → HoldsOnlyResultOf i s
+      by more true at is = subst (HoldsOnlyResultOf i) (same_some _ _ is) (row.own i (named e.1 (ap (λ b. cond b (Some e.1) (lookup (is_same q) es)) at)))
       by more false at is = more (λ x was. named x (ap (λ b. cond b (Some e.1) (lookup (is_same q) es)) at ∙ was)) s is
 
 pub failure-less : (v : ℕ) (o : Option Slot) (w : ℕ) → open_worker (after_failure v o) ≡ Some w → open_worker o ≡ Some w

@@ -1,10 +1,14 @@
 -- The states of an access and a table together, and what holds of each claim, on any table.
-use Rattle.std.specs.Prelude.{Option, Some, None, ◌≡◌, ◌+◌, ◌≤◌, ℕ}
-use Rattle.{pagable_load.specs.AccessView.Acting, pagable_pager_spec.specs.Access.IfBothKnown}
-use Rattle.pagable_pager_spec.specs.Basics.{longest_path}
-use Rattle.pagable_pageout.specs.declared.{claims.ClaimResult.ClaimResult}
-use Rattle.pagable_codec.specs.declared.{env.Env.Ghosts as Environments, hash.KeyHash.Ghosts as Hashes, nodes.NodeSet.Ghosts as Nodes}
-use Rattle.std.specs.declared.cmp.{Ord.Ghosts as Orders, PartialEq.Ghosts as Equalities, PartialOrd.Ghosts as PartialOrders}
+use Rattle.pagable_codec.specs.{
+  declared.{env.Env.Ghosts as Environments, hash.KeyHash.Ghosts as Hashes, nodes.NodeSet.Ghosts as Nodes},
+}
+use Rattle.pagable_load.specs.AccessView.{Acting}
+use Rattle.pagable_pageout.specs.declared.claims.ClaimResult.{ClaimResult}
+use Rattle.pagable_pager_spec.specs.{Access.IfBothKnown, Basics.longest_path}
+use Rattle.std.specs.{
+  Prelude.{None, Option, Some, ℕ, ◌+◌, ◌≡◌, ◌≤◌},
+  declared.cmp.{Ord.Ghosts as Orders, PartialEq.Ghosts as Equalities, PartialOrd.Ghosts as PartialOrders},
+}
 
 -- both states, if both are told
 abbrev pub both : {S Q : Type 0} → Option S → Option Q → Option (S × Q)
@@ -22,7 +26,7 @@ pub record ActsBoth {A T S Q E : Type 0} (told : A → Option S) (by : A → Act
 module _ {E EN EH EK EV : Type 0} {g : Environments E EN EH EK EV} {gh : Hashes EH} {go : Orders EK}
     {gq : Equalities EK} {gp : PartialOrders EK} {gn : Nodes EN E EN EH EK EV} where
   -- what was found fits at this place on a path
-  abbrev pub IsNear : ℕ → ClaimResult E EN EH EK EV g gh go gq gp gn → Type 0
-  IsNear place ClaimResult.Claimed = place ≤ longest_path
-  IsNear place (ClaimResult.Known r) = place + r.height ≤ longest_path
-  IsNear place found = Unit {0}
+  abbrev pub FitsAtPlace : ℕ → ClaimResult E EN EH EK EV g gh go gq gp gn → Type 0
+  FitsAtPlace place ClaimResult.Claimed = place ≤ longest_path
+  FitsAtPlace place (ClaimResult.Known r) = place + r.height ≤ longest_path
+  FitsAtPlace place found = Unit {0}

@@ -1,7 +1,12 @@
 -- Page-outs of an item and of the list, where the access tells its state.
-use Rattle.std.specs.Prelude.{ℕ, ◌≡◌, ◌≤◌, ◌<◌, ◌+◌, length, Option, Some, None, Result, Ok, Err, IfOk, IfErr}
-use Rattle.pagable_pager_spec.specs.{Access.{AllHaveResults, EntryRun, ListRun, PagesOutItemOver}, Pager.{PagerState, IsPagerWhole}, World.{Shelf, Values, Written, answer_of_fault}}
-use Rattle.{pagable_pager_spec.specs.declared.events.WorkerAnswer.WorkerAnswer, pagable_pageout.specs.{Tasks.fault_of, Turns.plain, declared.tasks.PageOutError.PageOutError}}
+use Rattle.pagable_pageout.specs.{Tasks.fault_of, Turns.plain, declared.tasks.PageOutError.PageOutError}
+use Rattle.pagable_pager_spec.specs.{
+  Access.{AllHaveResults, EntryRun, ListRun, PagesOutItemOver},
+  Pager.{IsPagerWhole, PagerState},
+  World.{Shelf, Values, Written, answer_of_fault},
+  declared.events.WorkerAnswer.WorkerAnswer,
+}
+use Rattle.std.specs.Prelude.{Err, IfErr, IfOk, None, Ok, Option, Result, Some, length, ℕ, ◌+◌, ◌<◌, ◌≡◌, ◌≤◌}
 
 -- a worker's answer, for the result of a page-out
 abbrev pub answer_of : Result ℕ PageOutError → WorkerAnswer
@@ -38,9 +43,9 @@ pub record PagesEntry {N E : Type 0} (v : Values N) (place : ℕ) (answer : Work
     pub pages : IsPagerWhole v s → place < length s.core.list → EntryPaged v s place answer t
 
 -- the answer for an entry that was there
-abbrev pub there : Result ℕ PageOutError → Result (Option ℕ) PageOutError
-there (Ok key) = Ok (Some key)
-there (Err why) = Err why
+abbrev pub with_some_key : Result ℕ PageOutError → Result (Option ℕ) PageOutError
+with_some_key (Ok key) = Ok (Some key)
+with_some_key (Err why) = Err why
 
 -- the entry at a place is paged out, or there is none
 abbrev pub PagesEntryIfThere : {N E : Type 0} → Values N → ℕ → Result (Option ℕ) PageOutError → PagerState N E

@@ -1,7 +1,12 @@
 -- Finite trees of results. Each value was written in some environment of the caller's type, since a table of claims
 -- names none.
-use Rattle.std.specs.Prelude.{List, [], ℕ, ◌∷◌, ◌≡◌}
-use Rattle.{pagable_value_spec.specs.{Blob.key_of, Merkle.blob_of}, pagable_pager_spec.specs.{Kinds.identity_of, Basics.{ArcRef, Identity, type_of}, World.{HasForm, Values, Written}}}
+use Rattle.pagable_pager_spec.specs.{
+  Basics.{ArcRef, Identity, type_of},
+  Kinds.identity_of,
+  World.{HasForm, Values, Written},
+}
+use Rattle.pagable_value_spec.specs.{Blob.key_of, Merkle.blob_of}
+use Rattle.std.specs.Prelude.{List, ℕ, [], ◌∷◌, ◌≡◌}
 
 -- some value of the identity's type has this form in some environment: these bytes and these references, in their order
 pub record HasFormOf {N E : Type 0} (values : E → Values N) (i : Identity) (written : Written) : Type 0 where
@@ -28,7 +33,7 @@ mutual
         → ResultsStand hash values (r ∷ references) (key ∷ keys)
 
 -- The key is that of this data over the keys of results, one for each of its references.
-pub record IsOver {N E : Type 0} (hash : List ℕ → List ℕ) (values : E → Values N) (item : Written)
+pub record IsKeyOverResults {N E : Type 0} (hash : List ℕ → List ℕ) (values : E → Values N) (item : Written)
     (key : ℕ) : Type 0 where
   pub keys : List ℕ
   pub below : ResultsStand hash values item.references keys

@@ -1,13 +1,27 @@
 -- The plain claims that a lent table stands for; for whom each waiting worker waits; and what a claim finds.
-use Rattle.std.specs.Prelude.{◌≤◌, ◌⊎◌}
-use Rattle.std.specs.{Option.option_map, Prelude.{Bool, IfErr, IfOk, List, None, Option, Result, Some, [], false, if◌then◌else◌, map, nat_eq, suc, true, zero, ℕ, ◌&&◌, ◌+◌, ◌∷◌, ◌≡◌}}
-use Rattle.pagable_pager_spec.specs.{Workers.{ComesBack, ComesToEnd, IsOpenSlot, IsPublished, IsTooDeep, is_open_outcome, with_outcome, with_slot, with_wait}, World.{SameShelf, Shelf, Slot, Written}}
-use Rattle.pagable_pager_spec.specs.{World.{failed, is_identity, no_result, published}, declared.events.Claim.Claim}
-use Rattle.{indexmap.specs.IndexMap.{IndexMap, get}, pagable_core.specs.declared.context.writing.SerializedData.SerializedData, pagable_pageout.specs.declared.results.SlotResult.SlotResult}
-use Rattle.{pagable_pageout.specs.declared.{lent_slot.{LentSlot.LentSlot, Outcome.Outcome}}, pagable_pager_spec.specs.Basics.{ArcRef, Error, Identity, if_there, longest_path}}
+use Rattle.indexmap.specs.IndexMap.{IndexMap, get}
+use Rattle.pagable_codec.specs.{
+  declared.{env.Env.Ghosts as Environments, hash.KeyHash.Ghosts as Hashes, nodes.NodeSet.Ghosts as Nodes},
+}
+use Rattle.pagable_core.specs.declared.context.writing.SerializedData.{SerializedData}
+use Rattle.pagable_pageout.specs.declared.{
+  lent_slot.{LentSlot.LentSlot, Outcome.Outcome},
+  results.SlotResult.SlotResult,
+}
+use Rattle.pagable_pager_spec.specs.{
+  Basics.{ArcRef, Error, Identity, if_there, longest_path},
+  Workers.{ComesBack, ComesToEnd, IsOpenSlot, IsPublished, IsTooDeep, is_open_outcome, with_outcome, with_slot},
+  Workers.with_wait,
+  World.{SameShelf, Shelf, Slot, Written, failed, is_identity, no_result, published},
+  declared.events.Claim.Claim,
+}
+use Rattle.std.specs.{
+  Option.option_map,
+  Prelude.{Bool, IfErr, IfOk, List, None, Option, Result, Some, false, if◌then◌else◌, map, nat_eq, suc, true, zero, ℕ},
+  Prelude.{[], ◌&&◌, ◌+◌, ◌∷◌, ◌≡◌, ◌≤◌, ◌⊎◌},
+  declared.cmp.{Ord.Ghosts as Orders, PartialEq.Ghosts as Equalities, PartialOrd.Ghosts as PartialOrders},
+}
 use Rattle.pagable_pager_spec.specs.World as world
-use Rattle.pagable_codec.specs.declared.{env.Env.Ghosts as Environments, hash.KeyHash.Ghosts as Hashes, nodes.NodeSet.Ghosts as Nodes}
-use Rattle.std.specs.declared.cmp.{Ord.Ghosts as Orders, PartialEq.Ghosts as Equalities, PartialOrd.Ghosts as PartialOrders}
 
 abbrev pub is_same : ℕ × ℕ → ℕ × ℕ → Bool
 is_same x y = nat_eq x.0 y.0 && nat_eq x.1 y.1
@@ -55,17 +69,17 @@ module _ {E EN EH EK EV : Type 0} {g : Environments E EN EH EK EV} {gh : Hashes 
   }
 
   -- if the slot has a result, it is that of this identity, by its numbers
-  abbrev pub IsNamed : Identity → LentSlot E EN EH EK EV g gh go gq gp gn → Type 0
-  IsNamed i s = (r : SlotResult E EN EH EK EV g gh go gq gp gn) → s.outcome ≡ Outcome.Published r
+  abbrev pub HoldsOnlyResultOf : Identity → LentSlot E EN EH EK EV g gh go gq gp gn → Type 0
+  HoldsOnlyResultOf i s = (r : SlotResult E EN EH EK EV g gh go gq gp gn) → s.outcome ≡ Outcome.Published r
       → (r.identity.kind.0 ≡ i.kind.0) × (r.identity.node.0 ≡ i.node.0)
 
   module _ {S : Type 0} where
     abbrev pub slots_in : IndexMap (ℕ × ℕ) (LentSlot E EN EH EK EV g gh go gq gp gn) S → Identity → Option Slot
     slots_in slots i = option_map slot_of (get is_same slots (i.kind.0, i.node.0))
 
-    abbrev pub AreNamed : IndexMap (ℕ × ℕ) (LentSlot E EN EH EK EV g gh go gq gp gn) S → Type 0
-    AreNamed slots = (i : Identity) (s : LentSlot E EN EH EK EV g gh go gq gp gn)
-        → get is_same slots (i.kind.0, i.node.0) ≡ Some s → IsNamed i s
+    abbrev pub HoldOnlyOwnResults : IndexMap (ℕ × ℕ) (LentSlot E EN EH EK EV g gh go gq gp gn) S → Type 0
+    HoldOnlyOwnResults slots = (i : Identity) (s : LentSlot E EN EH EK EV g gh go gq gp gn)
+        → get is_same slots (i.kind.0, i.node.0) ≡ Some s → HoldsOnlyResultOf i s
 
     abbrev pub shelf_in : {T : Type 0} → IndexMap (ℕ × ℕ) (LentSlot E EN EH EK EV g gh go gq gp gn) S
         → IndexMap ℕ Identity T → Shelf
@@ -75,7 +89,7 @@ module _ {E EN EH EK EV : Type 0} {g : Environments E EN EH EK EV} {gh : Hashes 
   pub record FailedRow (v : ℕ) (old new : (ℕ × ℕ) × LentSlot E EN EH EK EV g gh go gq gp gn) : Type 0 where
     pub key : new.0 ≡ old.0
     pub slot : slot_of new.1 ≡ failed_by v (slot_of old.1)
-    pub own : (i : Identity) → IsNamed i old.1 → IsNamed i new.1
+    pub own : (i : Identity) → HoldsOnlyResultOf i old.1 → HoldsOnlyResultOf i new.1
 
   -- the first n rows are those after the worker has failed
   abbrev pub FailedTo : ℕ → ℕ → List ((ℕ × ℕ) × LentSlot E EN EH EK EV g gh go gq gp gn)
@@ -110,17 +124,17 @@ abbrev pub EachEnds : Shelf → Type 0
 EachEnds s = (u : ℕ) → ∥ Ends s u ∥₁
 
 -- whether u is v or waits for v, directly or through others
-abbrev pub Leads : Shelf → ℕ → ℕ → Bool → Type 0
-Leads s v u true = ComesBack s v u
-Leads s v u false = ComesToEnd s v u
+abbrev pub TellsDeadlock : Shelf → ℕ → ℕ → Bool → Type 0
+TellsDeadlock s v u true = ComesBack s v u
+TellsDeadlock s v u false = ComesToEnd s v u
 
 -- what a claim of this identity at this place on a path would find
-abbrev pub Would : ℕ → Shelf → Identity → ℕ → Claim → Type 0
-Would v s i place Claim.Claimed = (place ≤ longest_path) × (s.slots i ≡ None)
-Would v s i place (Claim.Known key height) = (place + height ≤ longest_path) × IsPublished s i key height
-Would v s i place Claim.Waiting = (place ≤ longest_path)
+abbrev pub WouldFind : ℕ → Shelf → Identity → ℕ → Claim → Type 0
+WouldFind v s i place Claim.Claimed = (place ≤ longest_path) × (s.slots i ≡ None)
+WouldFind v s i place (Claim.Known key height) = (place + height ≤ longest_path) × IsPublished s i key height
+WouldFind v s i place Claim.Waiting = (place ≤ longest_path)
     × ((slot : Slot) × IsOpenSlot s i slot × ComesToEnd s v slot.worker)
-Would v s i place Claim.AlreadyFailed = (place ≤ longest_path)
+WouldFind v s i place Claim.AlreadyFailed = (place ≤ longest_path)
     × ((slot : Slot) × (s.slots i ≡ Some slot) × (slot.outcome ≡ failed))
 
 -- the table after a claim; the worker's wait is forgotten unless the claim has to wait
@@ -134,7 +148,7 @@ abbrev pub RefusesClaim : ℕ → Shelf → Identity → ℕ → Error → Type 
 RefusesClaim v s i place e = ((e ≡ Error.TooDeep) × IsTooDeep s v i place) ⊎ (e ≡ Error.OutOfMemory)
 
 -- a claim of a table: what it finds, and what it leaves
-pub record ClaimsThere (v : ℕ) (s : Shelf) (i : Identity) (place : ℕ) (result : Result Claim Error)
+pub record MakesClaim (v : ℕ) (s : Shelf) (i : Identity) (place : ℕ) (result : Result Claim Error)
     (s' : Shelf) : Type 0 where
-  pub finds : IfOk result (λ c. Would v s i place c × SameShelf (claimed_shelf v s i c) s')
+  pub finds : IfOk result (λ c. WouldFind v s i place c × SameShelf (claimed_shelf v s i c) s')
   pub refused : IfErr result (λ e. RefusesClaim v s i place e × SameShelf (with_wait s v None) s')

@@ -1,9 +1,16 @@
 -- The plain claims that a lent table stands for, and what a claim found in it.
-use Rattle.std.specs.Prelude.{◌≡◌, Result, Ok, Err}
-use Rattle.{pagable_pager_spec.specs.{Basics.{Error, Identity}, World.Shelf, declared.events.Claim.Claim}, pagable_pageout.specs.Slots.shelf_in}
-use Rattle.pagable_pageout.specs.declared.{claims.ClaimResult.ClaimResult, lent_table.LentTable.LentTable}
-use Rattle.pagable_codec.specs.declared.{env.Env.Ghosts as Environments, hash.KeyHash.Ghosts as Hashes, nodes.NodeSet.Ghosts as Nodes}
-use Rattle.std.specs.declared.cmp.{Ord.Ghosts as Orders, PartialEq.Ghosts as Equalities, PartialOrd.Ghosts as PartialOrders}
+use Rattle.pagable_codec.specs.{
+  declared.{env.Env.Ghosts as Environments, hash.KeyHash.Ghosts as Hashes, nodes.NodeSet.Ghosts as Nodes},
+}
+use Rattle.pagable_pageout.specs.{
+  Slots.shelf_in,
+  declared.{claims.ClaimResult.ClaimResult, lent_table.LentTable.LentTable},
+}
+use Rattle.pagable_pager_spec.specs.{Basics.{Error, Identity}, World.Shelf, declared.events.Claim.Claim}
+use Rattle.std.specs.{
+  Prelude.{Err, Ok, Result, ◌≡◌},
+  declared.cmp.{Ord.Ghosts as Orders, PartialEq.Ghosts as Equalities, PartialOrd.Ghosts as PartialOrders},
+}
 
 module _ {E EN EH EK EV : Type 0} {g : Environments E EN EH EK EV} {gh : Hashes EH} {go : Orders EK}
     {gq : Equalities EK} {gp : PartialOrders EK} {gn : Nodes EN E EN EH EK EV} where
@@ -21,6 +28,6 @@ module _ {E EN EH EK EV : Type 0} {g : Environments E EN EH EK EV} {gh : Hashes 
   claim_result (Err e) = Err e
 
   -- a known result is that of this identity
-  abbrev pub IsFoundOf : Identity → ClaimResult E EN EH EK EV g gh go gq gp gn → Type 0
-  IsFoundOf i (ClaimResult.Known r) = r.identity ≡ i
-  IsFoundOf i found = Unit {0}
+  abbrev pub IsResultOf : Identity → ClaimResult E EN EH EK EV g gh go gq gp gn → Type 0
+  IsResultOf i (ClaimResult.Known r) = r.identity ≡ i
+  IsResultOf i found = Unit {0}

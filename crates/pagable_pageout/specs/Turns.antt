@@ -1,16 +1,44 @@
 -- One task of a worker over the pager's core and its table: what the task needs, what it does, and which task
 -- follows.
-use Rattle.std.specs.{Prelude.{ℕ, ◌≡◌, ◌≤◌, ◌+◌, ◌⊎◌, Bool, false, true, List, [], ◌∷◌, MatchOption, Option, Some, None, Result, Ok, Err, IfOk, IfErr}, Arc.arc_value, declared.{alloc.Global.Global, sync.Arc.Arc}}
-use Rattle.{pagable_value_spec.specs.{Blob.key_of, Refusals.is_writing_fault, declared.{error.Error.Error, numbers.{ArcRef.ArcRef, HandleNumber.HandleNumber}}}, pagable_pager_spec.specs.Access.MakesCall}
-use Rattle.pagable_pager_spec.specs.World.{Core, Shelf, Slot, Todo, to_start, to_pin, to_set, was_failed, of_cell, Alike, HasForm, Open, Written, Values, Seen, result_map, row_at, type_at}
-use Rattle.pagable_pager_spec.specs.{Workers.{IsOpenSlot, KeySetFor, WorkerState, WalkDoes, WorkerEnds, give_known, failing, failing_by, answer_after, is_counted}, Access.{WalkStep, WorkerRun}, Calls.{ScheduleCall, StoreCall}}
-use Rattle.pagable_pager_spec.specs.{Kinds.{is_pinning, owner_worker, identity_of}, Pager.{HoldsItsNodes, PagerState, IsPagerWhole, Moves, TodoBrings, TookWrites, IsWrittenOf, IsFormless, RefusesWriting}}
-use Rattle.pagable_pager_spec.specs.{Basics.{Blob, Identity, longest_path, type_of}, declared.{events.{Claim.Claim, Action.Action, WorkerAnswer.WorkerAnswer}, handle_row.{HandleRow.HandleRow, Owner.Owner}}}
-use Rattle.{pagable_theorems.specs.TreeSteps.StandsAt, pagable_load.specs.{Frames.IsLoadOf, AccessView.{Acting, as_caller}, declared.reading.Reading.Reading as Own}}
-use Rattle.{pagable_core.specs.declared.context.writing.SerializedData.SerializedData, pagable_pageout.specs.{Slots.written_of, Tasks.{IsPlain, todo_of, todos}}}
-use Rattle.pagable_pageout.specs.declared.{claims.ClaimResult.ClaimResult, tasks.{StepResult.StepResult, Node.Node, Task.Task, Turn.Turn, Waiting.Waiting}}
-use Rattle.pagable_codec.specs.declared.{env.Env.Ghosts as Environments, hash.KeyHash.Ghosts as Hashes, nodes.NodeSet.Ghosts as Nodes}
-use Rattle.std.specs.declared.cmp.{Ord.Ghosts as Orders, PartialEq.Ghosts as Equalities, PartialOrd.Ghosts as PartialOrders}
+use Rattle.pagable_codec.specs.{
+  declared.{env.Env.Ghosts as Environments, hash.KeyHash.Ghosts as Hashes, nodes.NodeSet.Ghosts as Nodes},
+}
+use Rattle.pagable_core.specs.declared.context.writing.SerializedData.{SerializedData}
+use Rattle.pagable_load.specs.{AccessView.{Acting, as_caller}, Frames.IsLoadOf, declared.reading.Reading.Reading as Own}
+use Rattle.pagable_pageout.specs.{
+  Slots.written_of,
+  Tasks.{NeedsNoPager, todo_of, todos},
+  declared.claims.ClaimResult.ClaimResult,
+  declared.tasks.{ClaimedNode.ClaimedNode, StepResult.StepResult, Task.Task, Turn.Turn, WaitingValue.WaitingValue},
+}
+use Rattle.pagable_pager_spec.specs.{
+  Access.{MakesCall, WalkStep, WorkerRun},
+  Basics.{Blob, Identity, longest_path, type_of},
+  Calls.{ScheduleCall, StoreCall},
+  Kinds.{identity_of, is_pinning, owner_worker},
+  Pager.{HoldsItsNodes, IsFormless, IsPagerWhole, IsWrittenOf, Moves, PagerState, RefusesWriting, TodoBrings},
+  Pager.TookWrites,
+  Workers.{IsOpenSlot, KeySetFor, WalkDoes, WorkerEnds, WorkerState, answer_after, failing, failing_by, give_known},
+  Workers.is_counted,
+  World.{Alike, Core, HasForm, Open, Seen, Shelf, Slot, Todo, Values, Written, of_cell, result_map, row_at, to_pin},
+  World.{to_set, to_start, type_at, was_failed},
+  declared.events.{Action.Action, Claim.Claim, WorkerAnswer.WorkerAnswer},
+  declared.handle_row.{HandleRow.HandleRow, Owner.Owner},
+}
+use Rattle.pagable_theorems.specs.TreeSteps.{StandsAt}
+use Rattle.pagable_value_spec.specs.{
+  Blob.key_of,
+  Refusals.is_writing_fault,
+  declared.{error.Error.Error, numbers.{ArcRef.ArcRef, HandleNumber.HandleNumber}},
+}
+use Rattle.std.specs.{
+  Arc.arc_value,
+  Prelude.{Bool, Err, IfErr, IfOk, List, MatchOption, None, Ok, Option, Result, Some, false, true, ℕ, [], ◌+◌, ◌∷◌},
+  Prelude.{◌≡◌, ◌≤◌, ◌⊎◌},
+  declared.alloc.Global.Global,
+  declared.cmp.{Ord.Ghosts as Orders, PartialEq.Ghosts as Equalities, PartialOrd.Ghosts as PartialOrders},
+  declared.sync.Arc.Arc,
+}
 
 abbrev pub worker_state : Core → Shelf → List Todo → WorkerState
 worker_state core shelf todo = record { core = core; shelf = shelf; todo = todo }
@@ -87,7 +115,7 @@ module _ {X XN XH XK XV : Type 0} {g : Environments X XN XH XK XV} {gh : Hashes 
   abbrev pub IsTaskAfterClaim : ArcRef → ℕ → Result (ClaimResult X XN XH XK XV g gh go gq gp gn) Error
       → Task X XN XH XK XV g gh go gq gp gn → Type 0
   IsTaskAfterClaim r place (Ok ClaimResult.Claimed) task = task ≡ Task.Pin r place
-  IsTaskAfterClaim r place claim task = IsPlain task
+  IsTaskAfterClaim r place claim task = NeedsNoPager task
 
   -- the pager is whole, the calls are the worker's, and the task fits
   pub record Fits {N E : Type 0} (v : Values N) (me : Owner) (n : ℕ) (task : Task X XN XH XK XV g gh go gq gp gn)
@@ -97,9 +125,10 @@ module _ {X XN XH XK XV : Type 0} {g : Environments X XN XH XK XV} {gh : Hashes 
     pub task_fits : TaskFits n s.core task
 
   -- what is to be done after a task
-  abbrev pub plan : Turn X XN XH XK XV g gh go gq gp gn → List (Waiting X XN XH XK XV g gh go gq gp gn) → List Todo
-  plan (Turn.Goes t) path = todo_of t ∷ todos path
-  plan (Turn.Answers a) path = []
+  abbrev pub todos_after : Turn X XN XH XK XV g gh go gq gp gn
+      → List (WaitingValue X XN XH XK XV g gh go gq gp gn) → List Todo
+  todos_after (Turn.Goes t) path = todo_of t ∷ todos path
+  todos_after (Turn.Answers a) path = []
 
   abbrev pub answer_in : Turn X XN XH XK XV g gh go gq gp gn → Option WorkerAnswer
   answer_in (Turn.Goes t) = None
@@ -123,20 +152,20 @@ module _ {X XN XH XK XV : Type 0} {g : Environments X XN XH XK XV} {gh : Hashes 
     pub fits : LeavesFit n t.core moved.turn
 
   -- Performing a task is a step of the worker, if the task fits, and counts as one.
-  pub record TurnsTo {N E : Type 0} (v : Values N) (me : Owner) (n : ℕ) (shelf : Shelf)
+  pub record PerformsTask {N E : Type 0} (v : Values N) (me : Owner) (n : ℕ) (shelf : Shelf)
       (task : Task X XN XH XK XV g gh go gq gp gn) (below : List Todo) (shelf' : Shelf)
       (moved : StepResult X XN XH XK XV g gh go gq gp gn) (after : List Todo) (s t : PagerState N E) : Type 0 where
     pub turns : Fits v me n task s → Turned v n shelf (todo_of task ∷ below) s shelf' moved after t
     pub counts : moved.counted ≡ is_counted (todo_of task ∷ below) (plain_took moved.action)
 
   -- with an answer the worker ends
-  pub record Closes {N E : Type 0} (v : Values N) (n : ℕ) (turn : Turn X XN XH XK XV g gh go gq gp gn)
+  pub record EndsIfAnswered {N E : Type 0} (v : Values N) (n : ℕ) (turn : Turn X XN XH XK XV g gh go gq gp gn)
       (s s' : PagerState N E) : Type 0 where
     pub closes : MatchOption (answer_in turn) (s' ≡ s) (λ a. MakesCall v (λ w'. WorkerEnds s.core n w') s s')
 
-  abbrev pub acting_then : {E : Type 0} → Turn X XN XH XK XV g gh go gq gp gn → Acting E → Acting E
-  acting_then (Turn.Goes t) a = a
-  acting_then (Turn.Answers answer) a = as_caller a
+  abbrev pub acting_after : {E : Type 0} → Turn X XN XH XK XV g gh go gq gp gn → Acting E → Acting E
+  acting_after (Turn.Goes t) a = a
+  acting_after (Turn.Answers answer) a = as_caller a
 
   -- a step of the worker, with its end
   pub record Stepped {N E : Type 0} (v : Values N) (n : ℕ) (shelf : Shelf) (todo : List Todo) (s : PagerState N E)
@@ -148,7 +177,7 @@ module _ {X XN XH XK XV : Type 0} {g : Environments X XN XH XK XV} {gh : Hashes 
     pub fits : LeavesFit n t.core moved.turn
 
   -- It is a step of the worker with its end, if the task fits, and counts as one.
-  pub record StepsTo {N E : Type 0} (v : Values N) (me : Owner) (n : ℕ) (shelf : Shelf)
+  pub record PerformsStep {N E : Type 0} (v : Values N) (me : Owner) (n : ℕ) (shelf : Shelf)
       (task : Task X XN XH XK XV g gh go gq gp gn) (below : List Todo) (shelf' : Shelf)
       (moved : StepResult X XN XH XK XV g gh go gq gp gn) (after : List Todo) (s t : PagerState N E) : Type 0 where
     pub steps : Fits v me n task s → Stepped v n shelf (todo_of task ∷ below) s shelf' moved after t
@@ -173,10 +202,10 @@ module _ {X XN XH XK XV : Type 0} {g : Environments X XN XH XK XV} {gh : Hashes 
   pub record StepsAlone {N E : Type 0} (v : Values N) (me : Owner) (n : ℕ) (shelf : Shelf)
       (task : Task X XN XH XK XV g gh go gq gp gn) (below : List Todo) (shelf' : Shelf)
       (moved : StepResult X XN XH XK XV g gh go gq gp gn) (after : List Todo) (s t : PagerState N E) : Type 0 where
-    pub steps : IsAlone n shelf → StepsTo v me n shelf task below shelf' moved after s t
+    pub steps : IsAlone n shelf → PerformsStep v me n shelf task below shelf' moved after s t
 
   -- The answer is that of a run of the worker, where the task fits and it is alone.
-  pub record RunsTo {N E : Type 0} (v : Values N) (me : Owner) (n : ℕ) (shelf : Shelf)
+  pub record RunsToAnswer {N E : Type 0} (v : Values N) (me : Owner) (n : ℕ) (shelf : Shelf)
       (task : Task X XN XH XK XV g gh go gq gp gn) (below : List Todo) (shelf' : Shelf) (answer : WorkerAnswer)
       (s t : PagerState N E) : Type 0 where
     pub runs : Fits v me n task s → IsAlone n shelf → Walked v n (todo_of task ∷ below) s shelf answer t shelf'
@@ -210,7 +239,7 @@ pub record IsPinned {N E : Type 0} (v : Values N) (s : PagerState N E) (r : ArcR
   pub pins : PinsAt s.core r pin
 
 -- what was written is a form of the pinned value, or the value isn't written for this error
-pub record Forms {N E : Type 0} (v : Values N) (s : PagerState N E) (r : ArcRef) (pin : HandleNumber)
+pub record WritesForm {N E : Type 0} (v : Values N) (s : PagerState N E) (r : ArcRef) (pin : HandleNumber)
     (result : Result Written Error) : Type 0 where
   pub written : IsPinned v s r pin → IfOk result (λ w. IsWrittenOf v s r.node.0 w)
   pub refused : IsPinned v s r pin → IfErr result (λ e. (v.write_causes (type_of r.kind.0) e ⊎ (e ≡ Error.OutOfMemory))
@@ -237,20 +266,20 @@ pub record Stores {N E : Type 0} (v : Values N) (s : PagerState N E) (blob : Blo
   pub whole : IsPagerWhole v s → IsPagerWhole v t
 
 -- what a blob names, unless it is an item's
-abbrev pub named_by : Option Node → Option Identity
-named_by None = None
-named_by (Some n) = Some (identity_of n.reference)
+abbrev pub identity_of_node : Option ClaimedNode → Option Identity
+identity_of_node None = None
+identity_of_node (Some n) = Some (identity_of n.reference)
 
 -- the key of a stored node is set next; that of an item is answered
 module _ {X XN XH XK XV : Type 0} {g : Environments X XN XH XK XV} {gh : Hashes XH} {go : Orders XK}
     {gq : Equalities XK} {gp : PartialOrders XK} {gn : Nodes XN X XN XH XK XV} where
-  abbrev pub FollowsStore : Option Node → ℕ → Turn X XN XH XK XV g gh go gq gp gn → Type 0
+  abbrev pub FollowsStore : Option ClaimedNode → ℕ → Turn X XN XH XK XV g gh go gq gp gn → Type 0
   FollowsStore None key turn = turn ≡ Turn.Answers (WorkerAnswer.Key key)
   FollowsStore (Some n) key turn = (task : Task X XN XH XK XV g gh go gq gp gn) × (turn ≡ Turn.Goes task)
-      × (todo_of task ≡ to_set n.reference n.through key n.height) × IsPlain task
+      × (todo_of task ≡ to_set n.reference n.through key n.height) × NeedsNoPager task
 
 -- the key is set through the handle, where the reference's kind has one
-pub record SetsFor {N E : Type 0} (v : Values N) (me : Owner) (r : ArcRef) (through : HandleNumber) (key : ℕ)
+pub record SetsKeyThrough {N E : Type 0} (v : Values N) (me : Owner) (r : ArcRef) (through : HandleNumber) (key : ℕ)
     (result : Result (Unit {0}) Error) (s t : PagerState N E) : Type 0 where
   pub sets : KeySetFor s.core me r through key result t.core
   pub moves : Moves (λ n x. ⊥) s t

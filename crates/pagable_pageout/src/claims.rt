@@ -1,9 +1,17 @@
 //! The calls that a worker makes on a table of claims: on a lent table, of whose slots contracts
 //! say what each call does, or on one that threads share, of whose slots they say nothing.
 
+ghost use Rattle.pagable_pageout.specs.{
+  Joint.FitsAtPlace,
+  Slots.{MakesClaim, with_references},
+  Table.{IsResultOf, claim_result},
+};
+ghost use Rattle.pagable_pager_spec.specs.{
+  Access.IfBothKnown,
+  Workers.{with_changed_slot, with_failed, with_outcome, with_wait},
+  World.{SameShelf, Shelf, published},
+};
 ghost use Rattle.std.specs.Prelude.{IfOk, None, Option};
-ghost use Rattle.{pagable_pageout.specs.{Joint.IsNear, Slots.{ClaimsThere, with_references}, Table.{IsFoundOf, claim_result}}, pagable_pager_spec.specs.Access.IfBothKnown};
-ghost use Rattle.pagable_pager_spec.specs.{Workers.{with_changed_slot, with_failed, with_outcome, with_wait}, World.{SameShelf, Shelf, published}};
 
 use crate::SlotResult;
 use pagable_codec::{Env, NodeSet};
@@ -16,9 +24,9 @@ pub enum ClaimResult<E: Env<Node: NodeSet<E>>> {
     Claimed,
     /// The identity has this result.
     Known(SlotResult<E>),
-    /// Another worker has claimed it, and there is no result yet.
+    /// Another worker has claimed the identity, and there is no result yet.
     Waiting,
-    /// Another worker claimed it and failed.
+    /// Another worker claimed the identity and failed.
     AlreadyFailed,
 }
 
@@ -46,9 +54,9 @@ pub trait Claims<E: Env<Node: NodeSet<E>>> {
         place: u64,
     ) -> Result<ClaimResult<E>, Error>
         ensures claims { IfBothKnown (shelf self.old) (shelf self.new)
-            (λ s s'. ClaimsThere worker.0 s identity place (claim_result result) s') }
-        ensures own { IfOk result (IsFoundOf identity) }
-        ensures near { IfOk result (IsNear place) };
+            (λ s s'. MakesClaim worker.0 s identity place (claim_result result) s') }
+        ensures own { IfOk result (IsResultOf identity) }
+        ensures near { IfOk result (FitsAtPlace place) };
 
     /// Forgets for which identity a worker waits, if it waits for one. It can't fail.
     fn forget_wait(&mut self, worker: WorkerNumber)

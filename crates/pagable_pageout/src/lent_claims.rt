@@ -1,11 +1,17 @@
 //! The calls of a lent table of claims.
 
+ghost use Rattle.pagable_pageout.specs.{
+  Slots.{MakesClaim, RefusesClaim, TellsDeadlock, WouldFind, claimed_by, waits_for, with_references},
+  Table.{IsResultOf, claim_result, shelf_of},
+};
+ghost use Rattle.pagable_pager_spec.specs.{
+  Events.no_shelf,
+  Workers.{ComesToEnd, IsOpenSlot, with_changed_slot, with_failed, with_outcome, with_slot, with_wait},
+  World.{SameShelf, Slot, published},
+};
 ghost use Rattle.std.specs.Prelude.{IfErr, IfOk, None, OnErr, OnOk, Some, ◌≡◌};
-ghost use Rattle.pagable_pager_spec.specs.{Workers.{with_changed_slot, with_failed, with_slot, IsOpenSlot, with_wait, ComesToEnd, with_outcome}, World.{Slot, SameShelf, published}};
-ghost use Rattle.{pagable_pager_spec.specs.Events.no_shelf, pagable_pageout.specs.{Table.{IsFoundOf, shelf_of, claim_result}, Slots.with_references}};
-ghost use Rattle.pagable_pageout.specs.Slots.{ClaimsThere, Leads, RefusesClaim, Would, claimed_by, waits_for};
 
-use crate::lent_slot::fail_all;
+use crate::lent_slot::fail_open_claims;
 use crate::{ClaimResult, Claims, LentSlot, LentTable, Outcome, SlotResult};
 use indexmap::IndexMap;
 use pagable_codec::{Env, NodeSet};
@@ -33,7 +39,7 @@ impl<E: Env<Node: NodeSet<E>>> LentTable<E> {
     /// Says whether `start` is the worker `asker`, or waits for it, directly or through others that
     /// wait. The search ends, since workers don't wait in a ring.
     pub fn would_deadlock(&self, asker: u64, start: u64) -> bool
-        ensures { Leads (shelf_of self.now) asker start result }
+        ensures { TellsDeadlock (shelf_of self.now) asker start result }
     {
         let mut worker = start;
         loop {
@@ -55,9 +61,9 @@ impl<E: Env<Node: NodeSet<E>>> LentTable<E> {
         identity: Identity,
         place: u64,
     ) -> Result<ClaimResult<E>, Error>
-        ensures finds { IfOk (claim_result result) (λ c. Would worker.0 (shelf_of self.now) identity place c) }
+        ensures finds { IfOk (claim_result result) (λ c. WouldFind worker.0 (shelf_of self.now) identity place c) }
         ensures refused { IfErr (claim_result result) (RefusesClaim worker.0 (shelf_of self.now) identity place) }
-        ensures own { IfOk result (IsFoundOf identity) }
+        ensures own { IfOk result (IsResultOf identity) }
     {
         if place > 128 {
             return Err(Error::TooDeep);
@@ -71,7 +77,7 @@ impl<E: Env<Node: NodeSet<E>>> LentTable<E> {
                 if found.height > 128 - place {
                     return Err(Error::TooDeep);
                 }
-                Ok(ClaimResult::Known(found.again()))
+                Ok(ClaimResult::Known(found.copy()))
             }
             Outcome::Open => {
                 if self.would_deadlock(worker.0, slot.worker.0) {
@@ -94,7 +100,7 @@ impl<E: Env<Node: NodeSet<E>>> LentTable<E> {
 
     // Claims a free identity for a worker that doesn't wait. Fails with OutOfMemory if the table
     // can't grow.
-    fn take(&mut self, worker: WorkerNumber, identity: Identity) -> Result<(), Error>
+    fn claim_free_identity(&mut self, worker: WorkerNumber, identity: Identity) -> Result<(), Error>
         requires free { (shelf_of self.old).slots identity ≡ None }
         requires works { (shelf_of self.old).waits worker.0 ≡ None }
         ensures ok { OnOk result (SameShelf (with_slot (shelf_of self.old) identity (Some (claimed_by worker.0)))
@@ -113,7 +119,7 @@ impl<E: Env<Node: NodeSet<E>>> LentTable<E> {
 
     // Notes that a worker waits for the result of an identity. The worker that claimed the identity
     // doesn't wait for this one. Fails with OutOfMemory if the table can't grow.
-    fn wait_for(&mut self, worker: WorkerNumber, identity: Identity) -> Result<(), Error>
+    fn note_wait(&mut self, worker: WorkerNumber, identity: Identity) -> Result<(), Error>
         requires { (slot : Slot) × IsOpenSlot (shelf_of self.old) identity slot
             × ComesToEnd (shelf_of self.old) worker.0 slot.worker }
         ensures ok { OnOk result (SameShelf (with_wait (shelf_of self.old) worker.0 (Some identity))
@@ -135,7 +141,7 @@ impl<E: Env<Node: NodeSet<E>>> LentTable<E> {
     }
 
     /// Forgets all claims. A table of few claims keeps its memory for the next ones.
-    pub(crate) fn restart(&mut self, alloc: Global)
+    pub(crate) fn forget_claims(&mut self, alloc: Global)
         ensures { SameShelf no_shelf (shelf_of self.new) }
     {
         if self.slots.len() > FEW {
@@ -163,19 +169,19 @@ impl<E: Env<Node: NodeSet<E>>> LentTable<E> {
         identity: Identity,
         place: u64,
     ) -> Result<ClaimResult<E>, Error>
-        ensures claims { ClaimsThere worker.0 (shelf_of self.old) identity place (claim_result result)
+        ensures claims { MakesClaim worker.0 (shelf_of self.old) identity place (claim_result result)
             (shelf_of self.new) }
-        ensures own { IfOk result (IsFoundOf identity) }
+        ensures own { IfOk result (IsResultOf identity) }
     {
         let judged = self.probe(worker, identity, place);
         self.stop_waiting(worker);
         match judged {
             Ok(ClaimResult::Claimed) => {
-                self.take(worker, identity)?;
+                self.claim_free_identity(worker, identity)?;
                 Ok(ClaimResult::Claimed)
             }
             Ok(ClaimResult::Waiting) => {
-                self.wait_for(worker, identity)?;
+                self.note_wait(worker, identity)?;
                 Ok(ClaimResult::Waiting)
             }
             other => other,
@@ -209,7 +215,7 @@ impl<E: Env<Node: NodeSet<E>>> LentTable<E> {
     pub fn fail(&mut self, worker: WorkerNumber)
         ensures { SameShelf (with_failed (shelf_of self.old) worker.0) (shelf_of self.new) }
     {
-        fail_all(&mut self.slots, worker.0);
+        fail_open_claims(&mut self.slots, worker.0);
     }
 }
 
@@ -237,7 +243,7 @@ impl<E: Env<Node: NodeSet<E>>> Claims<E> for LentTable<E> {
     }
 
     fn publish(&mut self, found: &SlotResult<E>) {
-        self.set_success(found.again());
+        self.set_success(found.copy());
     }
 
     fn fail_claims(&mut self, worker: WorkerNumber) {

@@ -1,6 +1,6 @@
 //! The table of claims that a caller lends to its workers.
 
-ghost use Rattle.pagable_pageout.specs.Slots.{AreNamed, shelf_in, EachEnds};
+ghost use Rattle.pagable_pageout.specs.Slots.{EachEnds, HoldOnlyOwnResults, shelf_in};
 
 use crate::LentSlot;
 use indexmap::IndexMap;
@@ -13,6 +13,6 @@ use pagable_value_spec::Identity;
 pub struct LentTable<E: Env<Node: NodeSet<E>>> {
     pub(crate) slots: IndexMap<(u32, u64), LentSlot<E>>,
     pub(crate) waits: IndexMap<u64, Identity>,
-    pub ghost own: { AreNamed slots },
+    pub ghost own: { HoldOnlyOwnResults slots },
     pub ghost ends: { EachEnds (shelf_in slots waits) },
 }

@@ -19,4 +19,4 @@ pub use lent_slot::{LentSlot, Outcome};
 pub use lent_table::LentTable;
 pub use results::SlotResult;
 pub use step::{page_out_entry, page_out_item_over, page_out_pending_over};
-pub use tasks::{Done, Node, PageOutError, StepResult, Task, Turn, Waiting};
+pub use tasks::{ClaimedNode, DoneReference, PageOutError, StepResult, Task, Turn, WaitingValue};

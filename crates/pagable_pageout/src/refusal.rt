@@ -1,7 +1,7 @@
 //! The error for a failed page-out.
 
-ghost use Rattle.std.specs.Prelude.{◌≡◌};
 ghost use Rattle.pagable_pageout.specs.declared.tasks.PageOutError.{PageOutError};
+ghost use Rattle.std.specs.Prelude.{◌≡◌};
 
 use crate::tasks::PageOutError;
 use pagable_value_spec::{Error, Reason};

@@ -1,9 +1,10 @@
 //! The result of a node's page-out, with the proof that it stands for a finite tree of such
 //! results.
 
-ghost use Rattle.std.specs.Prelude.{◌≡◌, ◌≤◌};
+ghost use Rattle.pagable_load.specs.AccessView.{values_at};
+ghost use Rattle.pagable_pageout.specs.Results.{ResultStands};
 ghost use Rattle.pagable_pager_spec.specs.Basics.{longest_path};
-ghost use Rattle.{pagable_load.specs.AccessView.values_at, pagable_pageout.specs.Results.ResultStands};
+ghost use Rattle.std.specs.Prelude.{◌≡◌, ◌≤◌};
 
 use pagable_codec::{Env, NodeSet};
 use pagable_value_spec::{DataKey, Identity};
@@ -23,7 +24,7 @@ pub struct SlotResult<E: Env<Node: NodeSet<E>>> {
 
 impl<E: Env<Node: NodeSet<E>>> SlotResult<E> {
     /// Copies the result.
-    pub fn again(&self) -> SlotResult<E>
+    pub fn copy(&self) -> SlotResult<E>
         ensures identity { result.identity ≡ self.now.identity }
         ensures key { result.key ≡ self.now.key }
         ensures height { result.height ≡ self.now.height }

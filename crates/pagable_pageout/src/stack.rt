@@ -1,13 +1,24 @@
 //! A worker's path, the written nodes that wait for their next reference; and a worker's first
 //! task.
 
-ghost use Rattle.std.specs.{Arc.arc_value, Prelude.{IfErr, IfOk, OnErr, [], length, vec_capacity, vec_len, ◌*◌, ◌++◌, ◌+◌, ◌<◌, ◌∷◌, ◌≡◌, ◌≤◌}};
-ghost use Rattle.pagable_pageout.specs.{Slots.{keys_of, written_of}, Tasks.{AwaitsLow, EntryGetsResult, IsPlain, EachIsAwaited, TakesNext, back_of, due, fails, fault_of, raise_height, todo_of, todos, waits_as}};
-ghost use Rattle.{pagable_pageout.specs.Tasks.waiting_todo, pagable_pager_spec.specs.{Kinds.identity_of, Basics.longest_path, World.{of_entry, of_item, was_refused}}};
-ghost use Rattle.pagable_pager_spec.specs.Workers.{first_todo, place_below, advance};
+ghost use Rattle.pagable_pageout.specs.{
+  Slots.{keys_of, written_of},
+  Tasks.{AwaitsWithHeight, EachIsAwaited, EntryGetsResult, NeedsNoPager, TakesNext, back_of, fails, fault_of},
+  Tasks.{raise_height, todo_of, todos, waiting_todo, waits_as, work_left},
+};
+ghost use Rattle.pagable_pager_spec.specs.{
+  Basics.longest_path,
+  Kinds.identity_of,
+  Workers.{advance, first_todo, place_below},
+  World.{of_entry, of_item, was_refused},
+};
+ghost use Rattle.std.specs.{
+  Arc.arc_value,
+  Prelude.{IfErr, IfOk, OnErr, length, vec_capacity, vec_len, [], ◌*◌, ◌++◌, ◌+◌, ◌<◌, ◌∷◌, ◌≡◌, ◌≤◌},
+};
 
 use crate::PageOutError;
-use crate::tasks::{Done, Node, Task, Waiting};
+use crate::tasks::{ClaimedNode, DoneReference, Task, WaitingValue};
 use pagable_codec::{Env, NodeSet};
 use pagable_core::SerializedData;
 use pagable_value_spec::{ArcRef, Error, HandleNumber, Kind};
@@ -23,14 +34,18 @@ pub fn place_below(place: u64, kind: Kind) -> u64
     if kind.is_loose() { 0 } else { place + 1 }
 }
 
-/// Takes up a written node or item: pushes it on the path, which has room for it, and returns the
-/// task of its next reference; or the task of finishing it, if all its references are done.
+/// Returns the next task at a written node or item. If one of its references isn't done, pushes
+/// the node on the path, which has room for it, and returns the task that claims the reference; if
+/// all are done, returns the task that finishes the node, and leaves the path as it is.
 #[tactic(auto, using(crate::proofs::Stacks::settling))]
-pub fn advance<E: Env<Node: NodeSet<E>>>(path: &mut Vec<Waiting<E>>, waiting: Waiting<E>) -> Task<E>
+pub fn advance<E: Env<Node: NodeSet<E>>>(
+    path: &mut Vec<WaitingValue<E>>,
+    waiting: WaitingValue<E>,
+) -> Task<E>
     requires { vec_len path.old < vec_capacity path.old }
     ensures todo { todo_of result ∷ todos path.new.items ≡ advance (waiting_todo waiting ∷ todos path.old.items) }
-    ensures plain { IsPlain result }
-    ensures less { due (todo_of result ∷ todos path.new.items) ≤ 8 + 6 * length (todos path.old.items) }
+    ensures plain { NeedsNoPager result }
+    ensures less { work_left (todo_of result ∷ todos path.new.items) ≤ 8 + 6 * length (todos path.old.items) }
 {
     let done = waiting.children.len();
     if done >= waiting.written.arcs.len() {
@@ -44,12 +59,12 @@ pub fn advance<E: Env<Node: NodeSet<E>>>(path: &mut Vec<Waiting<E>>, waiting: Wa
 
 // Returns the node with its height raised, if need be, to that of the path through a reference of
 // this kind to a node of height `below`.
-fn raise_height(node: Option<Node>, kind: Kind, below: u64) -> Option<Node>
+fn raise_height(node: Option<ClaimedNode>, kind: Kind, below: u64) -> Option<ClaimedNode>
     requires { below ≤ longest_path }
     ensures { result ≡ raise_height kind.0 below node }
 {
     let node = node?;
-    Some(Node {
+    Some(ClaimedNode {
         height: node.height.max(place_below(below, kind)),
         ..node
     })
@@ -57,7 +72,10 @@ fn raise_height(node: Option<Node>, kind: Kind, below: u64) -> Option<Node>
 
 // Returns a waiting node or item with the result of its next reference.
 #[tactic(auto, using(crate::proofs::Stacks::giving))]
-fn with_result<E: Env<Node: NodeSet<E>>>(waiting: Waiting<E>, done: Done<E>) -> Waiting<E>
+fn with_result<E: Env<Node: NodeSet<E>>>(
+    waiting: WaitingValue<E>,
+    done: DoneReference<E>,
+) -> WaitingValue<E>
     requires { TakesNext waiting.node (written_of (arc_value waiting.written)) (keys_of waiting.children.items)
         done.reference done.found.height }
     ensures { waiting_todo result ≡ waits_as (raise_height done.reference.kind.0 done.found.height waiting.node)
@@ -66,7 +84,7 @@ fn with_result<E: Env<Node: NodeSet<E>>>(waiting: Waiting<E>, done: Done<E>) -> 
     let node = raise_height(waiting.node, done.reference.kind, done.found.height);
     let mut children = waiting.children;
     children.push_reserved(done.found);
-    Waiting {
+    WaitingValue {
         node,
         written: waiting.written,
         children,
@@ -76,16 +94,16 @@ fn with_result<E: Env<Node: NodeSet<E>>>(waiting: Waiting<E>, done: Done<E>) -> 
 /// Pops the last entry of the path, which waits for this result, adds the result to it, and returns
 /// the next task as `advance` does. Returns the result back as an error if the path is empty.
 #[tactic(auto, using(crate::proofs::Stacks::giving))]
-pub fn give<E: Env<Node: NodeSet<E>>>(
-    path: &mut Vec<Waiting<E>>,
-    done: Done<E>,
-) -> Result<Task<E>, Done<E>>
-    requires { AwaitsLow (todos path.old.items) done.reference done.found.height }
+pub fn give_result<E: Env<Node: NodeSet<E>>>(
+    path: &mut Vec<WaitingValue<E>>,
+    done: DoneReference<E>,
+) -> Result<Task<E>, DoneReference<E>>
+    requires { AwaitsWithHeight (todos path.old.items) done.reference done.found.height }
     ensures gives { IfOk result (λ task. EntryGetsResult done.reference done.found.key done.found.height
         (todos path.old.items)
         (todo_of task ∷ todos path.new.items)) }
-    ensures plain { IfOk result (λ task. IsPlain task) }
-    ensures less { IfOk result (λ task. due (todo_of task ∷ todos path.new.items) ≤ 2 + 6 * length
+    ensures plain { IfOk result (λ task. NeedsNoPager task) }
+    ensures less { IfOk result (λ task. work_left (todo_of task ∷ todos path.new.items) ≤ 2 + 6 * length
         (todos path.old.items)) }
     ensures back { IfErr result (λ back. back ≡ done) }
     ensures none { OnErr result ((todos path.old.items ≡ []) × (todos path.new.items ≡ [])) }
@@ -100,13 +118,13 @@ pub fn give<E: Env<Node: NodeSet<E>>>(
 /// also puts `entry` back on the list of cells that wait for page-out.
 #[tactic(auto, using(crate::proofs::Stacks::paths))]
 pub fn fail<E: Env<Node: NodeSet<E>>>(
-    path: &mut Vec<Waiting<E>>,
+    path: &mut Vec<WaitingValue<E>>,
     why: PageOutError,
     entry: Option<HandleNumber>,
 ) -> Task<E>
     ensures todo { todo_of result ∷ todos path.new.items ≡ fails (fault_of why) (back_of entry (todos path.old.items)) }
-    ensures plain { IsPlain result }
-    ensures less { due (todo_of result ∷ todos path.new.items) ≡ 1 }
+    ensures plain { NeedsNoPager result }
+    ensures less { work_left (todo_of result ∷ todos path.new.items) ≡ 1 }
     ensures none { todos path.new.items ≡ [] }
 {
     if path.is_empty() {
@@ -118,14 +136,14 @@ pub fn fail<E: Env<Node: NodeSet<E>>>(
 
 /// Does what `fail` does, with the error of one of the worker's own steps as the reason.
 pub fn fail_with<E: Env<Node: NodeSet<E>>>(
-    path: &mut Vec<Waiting<E>>,
+    path: &mut Vec<WaitingValue<E>>,
     e: &Error,
     entry: Option<HandleNumber>,
 ) -> Task<E>
     ensures todo { todo_of result ∷ todos path.new.items
         ≡ fails (was_refused e.now) (back_of entry (todos path.old.items)) }
-    ensures plain { IsPlain result }
-    ensures less { due (todo_of result ∷ todos path.new.items) ≡ 1 }
+    ensures plain { NeedsNoPager result }
+    ensures less { work_left (todo_of result ∷ todos path.new.items) ≡ 1 }
     ensures none { todos path.new.items ≡ [] }
 {
     fail(path, PageOutError::Failed(*e), entry)
@@ -140,16 +158,16 @@ pub fn fail_with<E: Env<Node: NodeSet<E>>>(
 pub fn start_item<E: Env<Node: NodeSet<E>>>(
     alloc: Global,
     written: Arc<SerializedData>,
-) -> Result<(Task<E>, Vec<Waiting<E>>), Error>
+) -> Result<(Task<E>, Vec<WaitingValue<E>>), Error>
     ensures todo { IfOk result (λ w. todo_of w.0 ∷ todos w.1.items
         ≡ first_todo (of_item (written_of (arc_value written)))) }
     ensures way { IfOk result (λ w. EachIsAwaited (todo_of w.0 ∷ todos w.1.items)) }
-    ensures plain { IfOk result (λ w. IsPlain w.0) }
+    ensures plain { IfOk result (λ w. NeedsNoPager w.0) }
     ensures only { IfErr result (λ e. e ≡ Error.OutOfMemory) }
 {
     let mut path = Vec::with_capacity(alloc, 1)?;
     let children = Vec::with_capacity(alloc, written.arcs.len())?;
-    let item = Waiting {
+    let item = WaitingValue {
         node: None,
         written,
         children,
@@ -163,11 +181,11 @@ pub fn start_item<E: Env<Node: NodeSet<E>>>(
 pub fn start_entry<E: Env<Node: NodeSet<E>>>(
     alloc: Global,
     reference: ArcRef,
-) -> (Task<E>, Vec<Waiting<E>>)
+) -> (Task<E>, Vec<WaitingValue<E>>)
     ensures todo { todo_of result.0 ∷ todos result.1.items
         ≡ first_todo (of_entry reference.handle (identity_of reference)) }
     ensures way { EachIsAwaited (todo_of result.0 ∷ todos result.1.items) }
-    ensures plain { IsPlain result.0 }
+    ensures plain { NeedsNoPager result.0 }
 {
     (Task::Start(reference, 0), Vec::new(alloc))
 }

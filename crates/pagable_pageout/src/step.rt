@@ -1,17 +1,24 @@
 //! A worker's step, which ends the worker when it answers; its walk, from the first task to the
 //! answer; and page-out of an item, and of the entries of the list, each by a worker of its own.
 
-ghost use Rattle.pagable_pager_spec.specs.World.{Written};
+ghost use Rattle.pagable_load.specs.AccessView.{Acts, ActsThen, as_caller, values_at};
+ghost use Rattle.pagable_pageout.specs.{
+  Joint.ActsBoth,
+  PageOuts.{PagesAt, PagesEntryIfThere, PagesItem, PagesList, answer_of, with_some_key},
+  Results.IsKeyOverResults,
+  Slots.written_of,
+  Tasks.{EachIsAwaited, EndsWithItem, IfKeyOf, LeadsToItemKey, LeavesLess, LowersWorkLeft, todo_of, todos},
+  Turns.{EndsIfAnswered, PerformsStep, PerformsTask, RunsToAnswer, acting_after, todos_after},
+};
+ghost use Rattle.pagable_pager_spec.specs.{World.Written, declared.handle_row.Owner.Owner};
 ghost use Rattle.std.specs.{Arc.arc_value, Prelude.{IfOk, ◌∷◌, ◌≡◌}};
-ghost use Rattle.{pagable_load.specs.AccessView.{Acts, ActsThen, as_caller, values_at}, pagable_pageout.specs.{PageOuts.{answer_of, PagesAt, PagesEntryIfThere, PagesItem, there}, Tasks.{Ends, EndsWith, GoesOn, IfKeyOf, LeadsOn}, Results.IsOver}};
-ghost use Rattle.pagable_pageout.specs.{PageOuts.PagesList, Joint.ActsBoth, Slots.written_of, Tasks.{EachIsAwaited, todo_of, todos}, Turns.{acting_then, Closes, plan, RunsTo, StepsTo, TurnsTo}};
-ghost use Rattle.pagable_pager_spec.specs.declared.handle_row.Owner.{Owner};
 
 use crate::stack::{start_entry, start_item};
-use crate::stride::stride;
-use crate::tasks::{StepResult, Task, Turn, Waiting, named};
+use crate::stride::make_next_steps;
+use crate::tasks::{StepResult, Task, Turn, WaitingValue, referenced_identity};
 use crate::turns::{
-    after_claim, answer, claim, finish, found, give_back, load, pin, release, set_key, write,
+    answer_of_failure, claim, claim_answer, finish, load, pin, put_back_on_list, release, set_key,
+    task_after_claim, write,
 };
 use crate::{Claims, LentTable, PageOutError};
 use pagable_codec::{Env, NodeSet};
@@ -23,30 +30,32 @@ use std::alloc::Global;
 use std::sync::Arc;
 
 // Performs one task, by at most one step of the access.
-#[tactic(auto, using(crate::proofs::WorkerTurns::turning))]
-fn turn<E: Env<Node: NodeSet<E>>, A: WorkerAccess<E>, T: Claims<E>>(
+#[tactic(auto, using(crate::proofs::FinishTurns::turning))]
+fn perform_task<E: Env<Node: NodeSet<E>>, A: WorkerAccess<E>, T: Claims<E>>(
     access: &mut A,
     alloc: Global,
     table: &mut T,
     worker: WorkerNumber,
-    path: &mut Vec<Waiting<E>>,
+    path: &mut Vec<WaitingValue<E>>,
     task: Task<E>,
 ) -> StepResult<E>
     requires { EachIsAwaited (todo_of task ∷ todos path.old.items) }
-    ensures goes { GoesOn (todo_of task ∷ todos path.old.items) result.turn (plan result.turn path.new.items) }
-    ensures ends { Ends (todo_of task ∷ todos path.old.items) result.turn (plan result.turn path.new.items) }
+    ensures goes { LeavesLess (todo_of task ∷ todos path.old.items) result.turn
+        (todos_after result.turn path.new.items) }
+    ensures ends { LeadsToItemKey (todo_of task ∷ todos path.old.items) result.turn
+        (todos_after result.turn path.new.items) }
     ensures acts { ActsBoth A.known_state A.acting T.shelf access.old table.old access.new table.new (λ a. a)
-        (λ a s q s' q'. TurnsTo (values_at E.Node.NodeSet E.Env E.Hash.KeyHash a.environment) a.me worker.0 q task
-        (todos path.old.items) q' result (plan result.turn path.new.items) s s') }
+        (λ a s q s' q'. PerformsTask (values_at E.Node.NodeSet E.Env E.Hash.KeyHash a.environment) a.me worker.0 q task
+        (todos path.old.items) q' result (todos_after result.turn path.new.items) s s') }
 {
     match task {
         Task::Start(reference, place) => {
             let checked = access.check_reference(reference);
             let claim = claim(table, worker, reference, place, checked);
-            let (told, counted) = found(&claim);
+            let (told, counted) = claim_answer(&claim);
             StepResult {
-                action: Action::Claim(named(reference), told),
-                turn: Turn::Goes(after_claim(path, reference, place, claim)),
+                action: Action::Claim(referenced_identity(reference), told),
+                turn: Turn::Goes(task_after_claim(path, reference, place, claim)),
                 counted,
             }
         }
@@ -62,18 +71,22 @@ fn turn<E: Env<Node: NodeSet<E>>, A: WorkerAccess<E>, T: Claims<E>>(
         Task::Publish(done) => {
             table.publish(&done.found);
             StepResult {
-                action: Action::Publish(named(done.reference), done.key(), done.found.height),
+                action: Action::Publish(
+                    referenced_identity(done.reference),
+                    done.key(),
+                    done.found.height,
+                ),
                 turn: Turn::Goes(Task::Release(done)),
                 counted: true,
             }
         }
         Task::Release(done) => release(access, worker, path, done),
         Task::Fail(why, back) => {
-            give_back(access, back);
+            put_back_on_list(access, back);
             table.fail_claims(worker);
             StepResult {
                 action: Action::Fail,
-                turn: Turn::Answers(answer(why)),
+                turn: Turn::Answers(answer_of_failure(why)),
                 counted: true,
             }
         }
@@ -81,13 +94,13 @@ fn turn<E: Env<Node: NodeSet<E>>, A: WorkerAccess<E>, T: Claims<E>>(
 }
 
 // Ends the worker if it has answered.
-pub(crate) fn end_answered<E: Env<Node: NodeSet<E>>, A: WorkerAccess<E>>(
+pub(crate) fn end_if_answered<E: Env<Node: NodeSet<E>>, A: WorkerAccess<E>>(
     access: &mut A,
     worker: WorkerNumber,
     turn: &Turn<E>,
 )
-    ensures { ActsThen A.known_state A.acting access.old access.new (acting_then turn.now)
-        (λ a. Closes (values_at E.Node.NodeSet E.Env E.Hash.KeyHash a.environment) worker.0 turn.now) }
+    ensures { ActsThen A.known_state A.acting access.old access.new (acting_after turn.now)
+        (λ a. EndsIfAnswered (values_at E.Node.NodeSet E.Env E.Hash.KeyHash a.environment) worker.0 turn.now) }
 {
     let Turn::Answers(_) = turn else {
         return;
@@ -103,47 +116,51 @@ pub fn step<E: Env<Node: NodeSet<E>>, A: WorkerAccess<E>, T: Claims<E>>(
     alloc: Global,
     table: &mut T,
     worker: WorkerNumber,
-    path: &mut Vec<Waiting<E>>,
+    path: &mut Vec<WaitingValue<E>>,
     task: Task<E>,
 ) -> StepResult<E>
     requires { EachIsAwaited (todo_of task ∷ todos path.old.items) }
-    ensures way { EachIsAwaited (plan result.turn path.new.items) }
-    ensures ends { Ends (todo_of task ∷ todos path.old.items) result.turn (plan result.turn path.new.items) }
-    ensures leads { LeadsOn (todo_of task ∷ todos path.old.items) result.turn (plan result.turn path.new.items) }
+    ensures way { EachIsAwaited (todos_after result.turn path.new.items) }
+    ensures ends { LeadsToItemKey (todo_of task ∷ todos path.old.items) result.turn
+        (todos_after result.turn path.new.items) }
+    ensures leads { LowersWorkLeft (todo_of task ∷ todos path.old.items) result.turn
+        (todos_after result.turn path.new.items) }
     ensures acts { ActsBoth A.known_state A.acting T.shelf access.old table.old access.new table.new
-        (acting_then result.turn)
-        (λ a s q s' q'. StepsTo (values_at E.Node.NodeSet E.Env E.Hash.KeyHash a.environment) a.me worker.0 q task
-        (todos path.old.items) q' result (plan result.turn path.new.items) s s') }
+        (acting_after result.turn)
+        (λ a s q s' q'. PerformsStep (values_at E.Node.NodeSet E.Env E.Hash.KeyHash a.environment) a.me worker.0 q task
+        (todos path.old.items) q' result (todos_after result.turn path.new.items) s s') }
 {
-    let moved = turn(access, alloc, table, worker, path, task);
-    end_answered(access, worker, &moved.turn);
+    let moved = perform_task(access, alloc, table, worker, path, task);
+    end_if_answered(access, worker, &moved.turn);
     moved
 }
 
-/// Makes a worker's steps from its task and path on, up to its answer. It never waits for another
-/// worker: it fails with `TooDeep` where it would have to, so its contract says nothing if other
-/// workers have claims without a result on the table. It makes at most 2^64 - 1 claims, and fails
-/// with `NumbersSpent` at one more.
-#[tactic(auto, using(crate::proofs::WorkerTurns::joining))]
+/// Makes a worker's steps from its task and path on, up to its answer. If a claim answers that the
+/// worker has to wait, the worker fails with `TooDeep`, since nobody else makes steps meanwhile (on
+/// a table that threads share, the claim itself waits). So the contract says nothing of a table on
+/// which other workers have claims without a result. The worker makes at most 2^64 - 1 claims, and
+/// fails with `NumbersSpent` at one more.
+#[tactic(auto, using(crate::proofs::WorkerRuns::joining))]
 pub fn run<E: Env<Node: NodeSet<E>>, A: WorkerAccess<E>, T: Claims<E>>(
     access: &mut A,
     alloc: Global,
     table: &mut T,
     worker: WorkerNumber,
-    path: &mut Vec<Waiting<E>>,
+    path: &mut Vec<WaitingValue<E>>,
     first: Task<E>,
 ) -> WorkerAnswer
     requires { EachIsAwaited (todo_of first ∷ todos path.old.items) }
-    ensures over { (w : Written) → EndsWith w (todo_of first ∷ todos path.old.items)
-        → IfKeyOf result (λ key. ∥ IsOver E.Hash.digest (values_at E.Node.NodeSet E.Env E.Hash.KeyHash) w key ∥₁) }
+    ensures over { (w : Written) → EndsWithItem w (todo_of first ∷ todos path.old.items)
+        → IfKeyOf result (λ key. ∥ IsKeyOverResults E.Hash.digest
+        (values_at E.Node.NodeSet E.Env E.Hash.KeyHash) w key ∥₁) }
     ensures acts { ActsBoth A.known_state A.acting T.shelf access.old table.old access.new table.new as_caller
-        (λ a s q s' q'. RunsTo (values_at E.Node.NodeSet E.Env E.Hash.KeyHash a.environment) a.me worker.0 q first
+        (λ a s q s' q'. RunsToAnswer (values_at E.Node.NodeSet E.Env E.Hash.KeyHash a.environment) a.me worker.0 q first
         (todos path.old.items) q' result s s') }
 {
     let mut task = first;
     let mut left = u64::MAX;
     loop {
-        let turn = stride(access, alloc, table, worker, path, &mut left, task);
+        let turn = make_next_steps(access, alloc, table, worker, path, &mut left, task);
         match turn {
             Turn::Goes(next) => task = next,
             Turn::Answers(answer) => return answer,
@@ -154,7 +171,7 @@ pub fn run<E: Env<Node: NodeSet<E>>, A: WorkerAccess<E>, T: Claims<E>>(
 // ---- page-outs
 
 /// Turns a worker's answer into the result of a page-out.
-fn told(answer: WorkerAnswer) -> Result<DataKey, PageOutError>
+fn result_of(answer: WorkerAnswer) -> Result<DataKey, PageOutError>
     ensures { answer_of result ≡ answer }
 {
     match answer {
@@ -181,7 +198,7 @@ pub fn page_out_item_over<E: Env<Node: NodeSet<E>>, A: WorkerAccess<E>, T: Claim
     item: Arc<SerializedData>,
 ) -> Result<DataKey, PageOutError>
     requires caller { (A.acting access.old).me ≡ Owner.Caller }
-    ensures over { IfOk result (λ key. ∥ IsOver E.Hash.digest (values_at E.Node.NodeSet E.Env E.Hash.KeyHash)
+    ensures over { IfOk result (λ key. ∥ IsKeyOverResults E.Hash.digest (values_at E.Node.NodeSet E.Env E.Hash.KeyHash)
         (written_of (arc_value item)) key ∥₁) }
     ensures acts { ActsBoth A.known_state A.acting T.shelf access.old table.old access.new table.new (λ a. a)
         (λ a s q s' q'. PagesItem (values_at E.Node.NodeSet E.Env E.Hash.KeyHash a.environment) q
@@ -192,14 +209,14 @@ pub fn page_out_item_over<E: Env<Node: NodeSet<E>>, A: WorkerAccess<E>, T: Claim
         Err(e) => return Err(PageOutError::Failed(e)),
     };
     match access.worker_begin() {
-        Ok(worker) => told(run(access, alloc, table, worker, &mut path, task)),
+        Ok(worker) => result_of(run(access, alloc, table, worker, &mut path, task)),
         Err(e) => Err(PageOutError::Failed(e)),
     }
 }
 
 // Turns the answer for an entry that was in the list into the result of `page_out_entry`.
-fn was_there(answer: Result<DataKey, PageOutError>) -> Result<Option<DataKey>, PageOutError>
-    ensures { result ≡ there answer }
+fn entry_result(answer: Result<DataKey, PageOutError>) -> Result<Option<DataKey>, PageOutError>
+    ensures { result ≡ with_some_key answer }
 {
     match answer {
         Ok(key) => Ok(Some(key)),
@@ -208,8 +225,8 @@ fn was_there(answer: Result<DataKey, PageOutError>) -> Result<Option<DataKey>, P
 }
 
 /// Pages out the entry at an index of the page-out list, by a worker of its own, and returns the
-/// cell's key. It empties the table first. Returns None if no entry is there any more: behind a
-/// lock another thread may have taken it.
+/// cell's key. Empties the table before the worker's first step. Returns None if the list has no
+/// entry there any more: behind a lock another thread may have taken it.
 ///
 /// # Errors
 ///
@@ -231,9 +248,9 @@ pub fn page_out_entry<E: Env<Node: NodeSet<E>>, A: WorkerAccess<E>>(
         Err(Error::NoSuchHandle) => return Ok(None),
         Err(e) => return Err(PageOutError::Failed(e)),
     };
-    table.restart(alloc);
+    table.forget_claims(alloc);
     let (task, mut path) = start_entry(alloc, reference);
-    was_there(told(run(access, alloc, table, worker, &mut path, task)))
+    entry_result(result_of(run(access, alloc, table, worker, &mut path, task)))
 }
 
 // Pages out the entry at an index of the list, or releases it if its cell has a key.

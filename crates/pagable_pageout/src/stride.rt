@@ -1,15 +1,29 @@
 //! Strides of a walk: a worker's steps from one claim to the next, or those at a node whose
 //! references are done, made together, so that no task is kept between them.
 
-ghost use Rattle.pagable_pager_spec.specs.World.{SameShelf, Shelf, published, was_refused, to_pin, to_publish, to_start, to_write};
-ghost use Rattle.pagable_pager_spec.specs.{Access.IfBothKnown, Workers.{with_changed_slot, with_outcome, with_wait}};
+ghost use Rattle.pagable_load.specs.{AccessView.{Acts, IfKnown, values_at}, PinStart.Shares};
+ghost use Rattle.pagable_pageout.specs.{
+  Joint.ActsBoth,
+  Strides.{HandsOnResult, Strides, WalksTo},
+  Tasks.{AwaitsWithHeight, EachIsAwaited, IfGoes, LeadsToItemKey, LeavesLess, NeedsNoPager, back_of, claim_weight},
+  Tasks.{fails, todo_of, todos, waiting_todo, work_left},
+  Turns.{HasWalked, acting_after, todos_after},
+};
+ghost use Rattle.pagable_pager_spec.specs.{
+  Access.IfBothKnown,
+  Workers.{with_changed_slot, with_outcome, with_wait},
+  World.{SameShelf, Shelf, published, to_pin, to_publish, to_start, to_write, was_refused},
+};
 ghost use Rattle.std.specs.{Arc.arc_value, Prelude.{None, Some, ℕ, ◌*◌, ◌+◌, ◌<◌, ◌∷◌, ◌≡◌}};
-ghost use Rattle.{pagable_load.specs.{PinStart.Shares, AccessView.{Acts, IfKnown, values_at}}, pagable_pageout.specs.{Joint.ActsBoth, Strides.{ComesTo, HandsOn, Strides}, Tasks.{AwaitsLow, IsPlain, back_of, due, Ends, fails, far, GoesOn, IfGoes, EachIsAwaited, todo_of, todos, waiting_todo}, Turns.{acting_then, HasWalked, plan}}};
 
-use crate::stack::{advance, fail_with, give};
-use crate::step::{end_answered, step};
-use crate::tasks::{Done, Node, StepResult, Task, Turn, Waiting, named};
-use crate::turns::{after_claim, claim, done_with, store, store_node, stored, write_claimed};
+use crate::stack::{advance, fail_with, give_result};
+use crate::step::{end_if_answered, step};
+use crate::tasks::{
+    ClaimedNode, DoneReference, StepResult, Task, Turn, WaitingValue, referenced_identity,
+};
+use crate::turns::{
+    claim, make_done, store, store_node, task_after_claim, turn_after_store, write_claimed,
+};
 use crate::{ClaimResult, Claims};
 use pagable_codec::{Env, NodeSet};
 use pagable_load::{Reading, TakenValue, WorkerAccess};
@@ -23,14 +37,14 @@ use std::sync::Arc;
 fn fail_unclaimed<E: Env<Node: NodeSet<E>>, T: Claims<E>>(
     table: &mut T,
     worker: WorkerNumber,
-    path: &mut Vec<Waiting<E>>,
+    path: &mut Vec<WaitingValue<E>>,
     reference: ArcRef,
     e: Error,
 ) -> Task<E>
     ensures todo { todo_of result ∷ todos path.new.items
         ≡ fails (was_refused e) (back_of (Some reference.handle) (todos path.old.items)) }
-    ensures plain { IsPlain result }
-    ensures less { due (todo_of result ∷ todos path.new.items) ≡ 1 }
+    ensures plain { NeedsNoPager result }
+    ensures less { work_left (todo_of result ∷ todos path.new.items) ≡ 1 }
     ensures table { IfBothKnown (T.shelf table.old) (T.shelf table.new)
         (λ q q'. SameShelf (with_wait q worker.0 None) q') }
 {
@@ -40,20 +54,20 @@ fn fail_unclaimed<E: Env<Node: NodeSet<E>>, T: Claims<E>>(
 
 // Writes the shared value of a claimed node. Returns the task of its first reference, with the node
 // on the path, or of finishing it if it has none; after an error, the task that fails the worker.
-fn enter<E: Env<Node: NodeSet<E>>, A: WorkerAccess<E>, T: Claims<E>>(
+fn write_and_advance<E: Env<Node: NodeSet<E>>, A: WorkerAccess<E>, T: Claims<E>>(
     access: &A,
     alloc: Global,
     table: &mut T,
-    path: &mut Vec<Waiting<E>>,
+    path: &mut Vec<WaitingValue<E>>,
     reference: ArcRef,
     place: u64,
     through: HandleNumber,
     shared: Result<Option<Arc<E::Node>>, Error>,
 ) -> Task<E>
     requires { EachIsAwaited (to_write reference place through ∷ todos path.old.items) }
-    ensures ends { Ends (to_write reference place through ∷ todos path.old.items) (Turn.Goes result)
+    ensures ends { LeadsToItemKey (to_write reference place through ∷ todos path.old.items) (Turn.Goes result)
         (todo_of result ∷ todos path.new.items) }
-    ensures goes { GoesOn (to_write reference place through ∷ todos path.old.items) (Turn.Goes result)
+    ensures goes { LeavesLess (to_write reference place through ∷ todos path.old.items) (Turn.Goes result)
         (todo_of result ∷ todos path.new.items) }
     ensures step { (n : ℕ) (pin : HandleNumber) → IfKnown (A.known_state access.now)
         (λ s. Shares arc_value s pin shared)
@@ -64,7 +78,7 @@ fn enter<E: Env<Node: NodeSet<E>>, A: WorkerAccess<E>, T: Claims<E>>(
     match write_claimed(access, alloc, path, reference, place, through, shared) {
         Ok((waiting, references, told)) => {
             let _written = told;
-            table.note_written(named(reference), references);
+            table.note_written(referenced_identity(reference), references);
             advance(path, waiting)
         }
         Err(e) => fail_with(path, &e, None),
@@ -78,23 +92,23 @@ fn pin_and_write<E: Env<Node: NodeSet<E>>, A: WorkerAccess<E>, T: Claims<E>>(
     access: &mut A,
     alloc: Global,
     table: &mut T,
-    path: &mut Vec<Waiting<E>>,
+    path: &mut Vec<WaitingValue<E>>,
     reference: ArcRef,
     place: u64,
 ) -> Task<E>
     requires { EachIsAwaited (to_pin reference place ∷ todos path.old.items) }
-    ensures ends { Ends (to_pin reference place ∷ todos path.old.items) (Turn.Goes result)
+    ensures ends { LeadsToItemKey (to_pin reference place ∷ todos path.old.items) (Turn.Goes result)
         (todo_of result ∷ todos path.new.items) }
-    ensures goes { GoesOn (to_pin reference place ∷ todos path.old.items) (Turn.Goes result)
+    ensures goes { LeavesLess (to_pin reference place ∷ todos path.old.items) (Turn.Goes result)
         (todo_of result ∷ todos path.new.items) }
     ensures acts { (n : ℕ) → ActsBoth A.known_state A.acting T.shelf access.old table.old access.new table.new (λ a. a)
         (λ a s q s' q'. HasWalked (values_at E.Node.NodeSet E.Env E.Hash.KeyHash a.environment) a.me n q
         (Task.Pin reference place) (todos path.old.items) q' result (todos path.new.items) s s') }
 {
-    match access.take_value(reference) {
+    match access.pin_or_load_value(reference) {
         Ok(taken) => match taken {
             TakenValue::Held(through, _pin, shared) => {
-                enter(
+                write_and_advance(
                     access, alloc, table, path, reference, place, through, shared,
                 )
             }
@@ -111,19 +125,19 @@ fn pin_and_write<E: Env<Node: NodeSet<E>>, A: WorkerAccess<E>, T: Claims<E>>(
 // Fails the worker with TooDeep if the claim would have to wait: no other worker makes steps
 // meanwhile.
 #[tactic(auto, using(std::proofs::lemmas::Bool::Decides::nat_tests))]
-fn start<E: Env<Node: NodeSet<E>>, A: WorkerAccess<E>, T: Claims<E>>(
+fn claim_and_write<E: Env<Node: NodeSet<E>>, A: WorkerAccess<E>, T: Claims<E>>(
     access: &mut A,
     alloc: Global,
     table: &mut T,
     worker: WorkerNumber,
-    path: &mut Vec<Waiting<E>>,
+    path: &mut Vec<WaitingValue<E>>,
     reference: ArcRef,
     place: u64,
 ) -> Task<E>
     requires { EachIsAwaited (to_start reference place ∷ todos path.old.items) }
-    ensures ends { Ends (to_start reference place ∷ todos path.old.items) (Turn.Goes result)
+    ensures ends { LeadsToItemKey (to_start reference place ∷ todos path.old.items) (Turn.Goes result)
         (todo_of result ∷ todos path.new.items) }
-    ensures goes { GoesOn (to_start reference place ∷ todos path.old.items) (Turn.Goes result)
+    ensures goes { LeavesLess (to_start reference place ∷ todos path.old.items) (Turn.Goes result)
         (todo_of result ∷ todos path.new.items) }
     ensures acts { ActsBoth A.known_state A.acting T.shelf access.old table.old access.new table.new (λ a. a)
         (λ a s q s' q'. HasWalked (values_at E.Node.NodeSet E.Env E.Hash.KeyHash a.environment) a.me worker.0 q
@@ -134,29 +148,31 @@ fn start<E: Env<Node: NodeSet<E>>, A: WorkerAccess<E>, T: Claims<E>>(
     match found {
         Ok(ClaimResult::Claimed) => pin_and_write(access, alloc, table, path, reference, place),
         Ok(ClaimResult::Waiting) => fail_unclaimed(table, worker, path, reference, Error::TooDeep),
-        other => after_claim(path, reference, place, other),
+        other => task_after_claim(path, reference, place, other),
     }
 }
 
-// Does what `start` does, and returns the next task as a `Turn`.
-fn begin<E: Env<Node: NodeSet<E>>, A: WorkerAccess<E>, T: Claims<E>>(
+// Does what `claim_and_write` does, and returns the next task as a `Turn`.
+fn claim_as_turn<E: Env<Node: NodeSet<E>>, A: WorkerAccess<E>, T: Claims<E>>(
     access: &mut A,
     alloc: Global,
     table: &mut T,
     worker: WorkerNumber,
-    path: &mut Vec<Waiting<E>>,
+    path: &mut Vec<WaitingValue<E>>,
     reference: ArcRef,
     place: u64,
 ) -> Turn<E>
     requires { EachIsAwaited (to_start reference place ∷ todos path.old.items) }
-    ensures ends { Ends (to_start reference place ∷ todos path.old.items) result (plan result path.new.items) }
-    ensures goes { GoesOn (to_start reference place ∷ todos path.old.items) result (plan result path.new.items) }
+    ensures ends { LeadsToItemKey (to_start reference place ∷ todos path.old.items) result
+        (todos_after result path.new.items) }
+    ensures goes { LeavesLess (to_start reference place ∷ todos path.old.items) result
+        (todos_after result path.new.items) }
     ensures acts { ActsBoth A.known_state A.acting T.shelf access.old table.old access.new table.new
-        (acting_then result)
+        (acting_after result)
         (λ a s q s' q'. Strides (values_at E.Node.NodeSet E.Env E.Hash.KeyHash a.environment) a.me worker.0 q
         (Task.Start reference place) (todos path.old.items) q' result (todos path.new.items) s s') }
 {
-    Turn::Goes(start(access, alloc, table, worker, path, reference, place))
+    Turn::Goes(claim_and_write(access, alloc, table, worker, path, reference, place))
 }
 
 // Publishes the result of a node whose key is set and whose handles are released, and gives it to
@@ -164,21 +180,22 @@ fn begin<E: Env<Node: NodeSet<E>>, A: WorkerAccess<E>, T: Claims<E>>(
 #[tactic(auto, using(std::proofs::lemmas::Bool::Decides::nat_tests, crate::proofs::Stacks::ways))]
 fn publish<E: Env<Node: NodeSet<E>>, T: Claims<E>>(
     table: &mut T,
-    path: &mut Vec<Waiting<E>>,
-    done: Done<E>,
+    path: &mut Vec<WaitingValue<E>>,
+    done: DoneReference<E>,
 ) -> Turn<E>
-    requires { AwaitsLow (todos path.old.items) done.reference done.found.height }
-    ensures ends { Ends (to_publish done.reference done.found.key done.found.height ∷ todos path.old.items) result
-        (plan result path.new.items) }
-    ensures goes { GoesOn (to_publish done.reference done.found.key done.found.height ∷ todos path.old.items) result
-        (plan result path.new.items) }
-    ensures hands { HandsOn done (todos path.old.items) result (plan result path.new.items) }
+    requires { AwaitsWithHeight (todos path.old.items) done.reference done.found.height }
+    ensures ends { LeadsToItemKey (to_publish done.reference done.found.key done.found.height
+        ∷ todos path.old.items) result
+        (todos_after result path.new.items) }
+    ensures goes { LeavesLess (to_publish done.reference done.found.key done.found.height ∷ todos path.old.items) result
+        (todos_after result path.new.items) }
+    ensures hands { HandsOnResult done (todos path.old.items) result (todos_after result path.new.items) }
     ensures table { IfBothKnown (T.shelf table.old) (T.shelf table.new)
         (λ q q'. SameShelf (with_changed_slot q done.found.identity
         (with_outcome (published done.found.key done.found.height))) q') }
 {
     table.publish(&done.found);
-    match give(path, done) {
+    match give_result(path, done) {
         Ok(task) => Turn::Goes(task),
         Err(done) => Turn::Answers(WorkerAnswer::Key(done.key())),
     }
@@ -187,95 +204,99 @@ fn publish<E: Env<Node: NodeSet<E>>, T: Claims<E>>(
 // Stores the blob of a node whose references are all done, sets its key, releases the worker's
 // handles of it, and publishes its result.
 #[tactic(auto, using(std::proofs::lemmas::Bool::Decides::nat_tests))]
-fn leave_node<E: Env<Node: NodeSet<E>>, A: WorkerAccess<E>, T: Claims<E>>(
+fn store_and_publish_node<E: Env<Node: NodeSet<E>>, A: WorkerAccess<E>, T: Claims<E>>(
     access: &mut A,
     alloc: Global,
     table: &mut T,
     worker: WorkerNumber,
-    path: &mut Vec<Waiting<E>>,
-    waiting: Waiting<E>,
-    node: Node,
+    path: &mut Vec<WaitingValue<E>>,
+    waiting: WaitingValue<E>,
+    node: ClaimedNode,
 ) -> Turn<E>
     requires way { EachIsAwaited (waiting_todo waiting ∷ todos path.old.items) }
     requires node { waiting.node ≡ Some node }
-    ensures ends { Ends (waiting_todo waiting ∷ todos path.old.items) result (plan result path.new.items) }
-    ensures goes { GoesOn (waiting_todo waiting ∷ todos path.old.items) result (plan result path.new.items) }
+    ensures ends { LeadsToItemKey (waiting_todo waiting ∷ todos path.old.items) result
+        (todos_after result path.new.items) }
+    ensures goes { LeavesLess (waiting_todo waiting ∷ todos path.old.items) result (todos_after result path.new.items) }
     ensures acts { ActsBoth A.known_state A.acting T.shelf access.old table.old access.new table.new (λ a. a)
-        (λ a s q s' q'. ComesTo (values_at E.Node.NodeSet E.Env E.Hash.KeyHash a.environment) a.me worker.0 q
-        (Task.Finish waiting) (todos path.old.items) q' result (plan result path.new.items) s s') }
+        (λ a s q s' q'. WalksTo (values_at E.Node.NodeSet E.Env E.Hash.KeyHash a.environment) a.me worker.0 q
+        (Task.Finish waiting) (todos path.old.items) q' result (todos_after result path.new.items) s s') }
 {
     match store_node(access, alloc, worker, &waiting, node) {
-        Ok(key) => publish(table, path, done_with(&waiting, node, key)),
+        Ok(key) => publish(table, path, make_done(&waiting, node, key)),
         Err(e) => Turn::Goes(fail_with(path, &e, None)),
     }
 }
 
 // Stores the blob of an item whose references are all done, and answers its key.
-#[tactic(auto, using(crate::proofs::WorkerTurns::finishing))]
-fn leave_item<E: Env<Node: NodeSet<E>>, A: WorkerAccess<E>>(
+#[tactic(auto, using(crate::proofs::FinishTurns::finishing))]
+fn store_and_answer_item<E: Env<Node: NodeSet<E>>, A: WorkerAccess<E>>(
     access: &mut A,
     alloc: Global,
-    path: &mut Vec<Waiting<E>>,
-    waiting: Waiting<E>,
+    path: &mut Vec<WaitingValue<E>>,
+    waiting: WaitingValue<E>,
 ) -> Turn<E>
     requires { EachIsAwaited (waiting_todo waiting ∷ todos path.old.items) }
-    ensures ends { Ends (waiting_todo waiting ∷ todos path.old.items) result (plan result path.new.items) }
-    ensures goes { GoesOn (waiting_todo waiting ∷ todos path.old.items) result (plan result path.new.items) }
+    ensures ends { LeadsToItemKey (waiting_todo waiting ∷ todos path.old.items) result
+        (todos_after result path.new.items) }
+    ensures goes { LeavesLess (waiting_todo waiting ∷ todos path.old.items) result (todos_after result path.new.items) }
     ensures acts { (n : ℕ) (shelf : Shelf) → Acts A.known_state A.acting access.old access.new
-        (λ a s t. ComesTo (values_at E.Node.NodeSet E.Env E.Hash.KeyHash a.environment) a.me n shelf
-        (Task.Finish waiting) (todos path.old.items) shelf result (plan result path.new.items) s t) }
+        (λ a s t. WalksTo (values_at E.Node.NodeSet E.Env E.Hash.KeyHash a.environment) a.me n shelf
+        (Task.Finish waiting) (todos path.old.items) shelf result (todos_after result path.new.items) s t) }
 {
     match store(access, alloc, &waiting) {
-        Ok(key) => stored(waiting, key),
+        Ok(key) => turn_after_store(waiting, key),
         Err(e) => Turn::Goes(fail_with(path, &e, None)),
     }
 }
 
 // Finishes a written node or item whose references are all done.
-fn leave<E: Env<Node: NodeSet<E>>, A: WorkerAccess<E>, T: Claims<E>>(
+fn finish_waiting<E: Env<Node: NodeSet<E>>, A: WorkerAccess<E>, T: Claims<E>>(
     access: &mut A,
     alloc: Global,
     table: &mut T,
     worker: WorkerNumber,
-    path: &mut Vec<Waiting<E>>,
-    waiting: Waiting<E>,
+    path: &mut Vec<WaitingValue<E>>,
+    waiting: WaitingValue<E>,
 ) -> Turn<E>
     requires { EachIsAwaited (waiting_todo waiting ∷ todos path.old.items) }
-    ensures ends { Ends (waiting_todo waiting ∷ todos path.old.items) result (plan result path.new.items) }
-    ensures goes { GoesOn (waiting_todo waiting ∷ todos path.old.items) result (plan result path.new.items) }
+    ensures ends { LeadsToItemKey (waiting_todo waiting ∷ todos path.old.items) result
+        (todos_after result path.new.items) }
+    ensures goes { LeavesLess (waiting_todo waiting ∷ todos path.old.items) result (todos_after result path.new.items) }
     ensures acts { ActsBoth A.known_state A.acting T.shelf access.old table.old access.new table.new (λ a. a)
-        (λ a s q s' q'. ComesTo (values_at E.Node.NodeSet E.Env E.Hash.KeyHash a.environment) a.me worker.0 q
-        (Task.Finish waiting) (todos path.old.items) q' result (plan result path.new.items) s s') }
+        (λ a s q s' q'. WalksTo (values_at E.Node.NodeSet E.Env E.Hash.KeyHash a.environment) a.me worker.0 q
+        (Task.Finish waiting) (todos path.old.items) q' result (todos_after result path.new.items) s s') }
 {
     match waiting.node {
-        Some(node) => leave_node(access, alloc, table, worker, path, waiting, node),
-        None => leave_item(access, alloc, path, waiting),
+        Some(node) => store_and_publish_node(access, alloc, table, worker, path, waiting, node),
+        None => store_and_answer_item(access, alloc, path, waiting),
     }
 }
 
 /// Makes a worker's next steps, on the pager and its table, and returns the next task or the
-/// worker's answer, with which it ends as by `step`. From the task of a claim on, it makes the
-/// steps up to the next claim or the next blob to store, as far as the value is in memory and
-/// nothing fails; from a node whose references are done on, those up to the next claim, blob or
+/// worker's answer; with its answer the worker ends, as in `step`. At the task of a claim, makes
+/// the steps up to the next claim or the next blob to store, as far as the value is in memory and
+/// nothing fails; at a node whose references are done, the steps up to the next claim, blob or
 /// answer; at any other task one step. `left` is the number of claims that the worker may still
 /// make: at 0 a claim fails with NumbersSpent.
 #[tactic(auto, using(crate::proofs::Stacks::dues))]
-pub fn stride<E: Env<Node: NodeSet<E>>, A: WorkerAccess<E>, T: Claims<E>>(
+pub fn make_next_steps<E: Env<Node: NodeSet<E>>, A: WorkerAccess<E>, T: Claims<E>>(
     access: &mut A,
     alloc: Global,
     table: &mut T,
     worker: WorkerNumber,
-    path: &mut Vec<Waiting<E>>,
+    path: &mut Vec<WaitingValue<E>>,
     left: &mut u64,
     task: Task<E>,
 ) -> Turn<E>
     requires { EachIsAwaited (todo_of task ∷ todos path.old.items) }
-    ensures way { EachIsAwaited (plan result path.new.items) }
-    ensures ends { Ends (todo_of task ∷ todos path.old.items) result (plan result path.new.items) }
-    ensures falls { IfGoes result (left.new * far + due (plan result path.new.items) < left.old * far + due
+    ensures way { EachIsAwaited (todos_after result path.new.items) }
+    ensures ends { LeadsToItemKey (todo_of task ∷ todos path.old.items) result (todos_after result path.new.items) }
+    ensures falls { IfGoes result (left.new * claim_weight + work_left (todos_after result path.new.items) < left.old *
+        claim_weight + work_left
         (todo_of task ∷ todos path.old.items)) }
     ensures acts { ActsBoth A.known_state A.acting T.shelf access.old table.old access.new table.new
-        (acting_then result)
+        (acting_after result)
         (λ a s q s' q'. Strides (values_at E.Node.NodeSet E.Env E.Hash.KeyHash a.environment) a.me worker.0 q task
         (todos path.old.items) q' result (todos path.new.items) s s') }
 {
@@ -293,11 +314,11 @@ pub fn stride<E: Env<Node: NodeSet<E>>, A: WorkerAccess<E>, T: Claims<E>>(
             // (the count shows that the path is no longer than a u64 tells)
             let _entries = path.len();
             *left -= 1;
-            begin(access, alloc, table, worker, path, reference, place)
+            claim_as_turn(access, alloc, table, worker, path, reference, place)
         }
         Task::Finish(waiting) => {
-            let last = leave(access, alloc, table, worker, path, waiting);
-            end_answered(access, worker, &last);
+            let last = finish_waiting(access, alloc, table, worker, path, waiting);
+            end_if_answered(access, worker, &last);
             last
         }
         other => {

@@ -1,8 +1,13 @@
 //! What a page-out worker has still to do: the task at hand, and the path of nodes that wait.
 
-ghost use Rattle.std.specs.{Arc.arc_value, Prelude.{Some, length, map, take, vec_capacity, ◌+◌, ◌≡◌, ◌≤◌}};
 ghost use Rattle.pagable_load.specs.AccessView.{values_at};
-ghost use Rattle.{pagable_pageout.specs.{Results.HasFormOf, Slots.{ids_of, written_of}, declared.tasks.Node.Node as OfNode}, pagable_pager_spec.specs.{Kinds.identity_of, Basics.longest_path}};
+ghost use Rattle.pagable_pageout.specs.{
+  Results.HasFormOf,
+  Slots.{ids_of, written_of},
+  declared.tasks.ClaimedNode.ClaimedNode as OfNode,
+};
+ghost use Rattle.pagable_pager_spec.specs.{Basics.longest_path, Kinds.identity_of};
+ghost use Rattle.std.specs.{Arc.arc_value, Prelude.{Some, length, map, take, vec_capacity, ◌+◌, ◌≡◌, ◌≤◌}};
 
 use crate::SlotResult;
 use pagable_codec::{Env, NodeSet};
@@ -28,7 +33,7 @@ pub enum PageOutError {
 /// - `through`: the worker's own handle of the reference's mode.
 /// - `height`: the longest path below it, by the references done so far.
 #[derive(Clone, Copy)]
-pub struct Node {
+pub struct ClaimedNode {
     pub reference: ArcRef,
     pub place: u64,
     pub through: HandleNumber,
@@ -38,8 +43,8 @@ pub struct Node {
 /// A written node (or the item, without `node`) that waits for its references. `children` has the
 /// results of the references done so far, and room for all others.
 #[derive(Drop)]
-pub struct Waiting<E: Env<Node: NodeSet<E>>> {
-    pub node: Option<Node>,
+pub struct WaitingValue<E: Env<Node: NodeSet<E>>> {
+    pub node: Option<ClaimedNode>,
     pub written: Arc<SerializedData>,
     pub children: Vec<SlotResult<E>>,
     pub ghost near: { (n : OfNode) → node ≡ Some n → n.place + n.height ≤ longest_path },
@@ -52,13 +57,13 @@ pub struct Waiting<E: Env<Node: NodeSet<E>>> {
 
 /// A reference with the result of what it names.
 #[derive(Drop)]
-pub struct Done<E: Env<Node: NodeSet<E>>> {
+pub struct DoneReference<E: Env<Node: NodeSet<E>>> {
     pub reference: ArcRef,
     pub found: SlotResult<E>,
     pub ghost own: { found.identity ≡ identity_of reference },
 }
 
-impl<E: Env<Node: NodeSet<E>>> Done<E> {
+impl<E: Env<Node: NodeSet<E>>> DoneReference<E> {
     /// Returns the key of what the reference names.
     pub fn key(&self) -> DataKey
         ensures { result ≡ self.now.found.key }
@@ -79,13 +84,13 @@ pub enum Task<E: Env<Node: NodeSet<E>>> {
     /// Writes the value. The first handle has the reference's mode, the second one pins the node.
     Write(ArcRef, u64, HandleNumber, HandleNumber),
     /// Stores the blob of a node or an item whose references are all done.
-    Finish(Waiting<E>),
+    Finish(WaitingValue<E>),
     /// Sets the node's key through this handle.
-    SetKey(Done<E>, HandleNumber),
+    SetKey(DoneReference<E>, HandleNumber),
     /// Publishes the node's result in the table.
-    Publish(Done<E>),
+    Publish(DoneReference<E>),
     /// Releases the worker's handles of the node.
-    Release(Done<E>),
+    Release(DoneReference<E>),
     /// Marks the worker's open claims as failed, and puts the entry, if there is one, back on the
     /// list of cells that wait for page-out.
     Fail(PageOutError, Option<HandleNumber>),
@@ -110,7 +115,7 @@ pub struct StepResult<E: Env<Node: NodeSet<E>>> {
 }
 
 /// Returns the identity of what a reference names.
-pub fn named(reference: ArcRef) -> Identity
+pub fn referenced_identity(reference: ArcRef) -> Identity
     ensures { result ≡ identity_of reference }
 {
     Identity {

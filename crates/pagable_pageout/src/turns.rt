@@ -2,15 +2,43 @@
 //! if it has to) and writes its value; at a written node whose references are done, it stores the
 //! blob, sets the key, publishes the result and releases the handles.
 
-ghost use Rattle.std.specs.{Arc.arc_value, Prelude.{IfErr, IfOk, length, List, OnOk, Some, vec_capacity, vec_len, ℕ, ◌*◌, ◌+◌, ◌<◌, ◌∷◌, ◌≡◌, ◌≤◌}};
-ghost use Rattle.{pagable_core.specs.Data.blob_of, pagable_load.specs.{Frames.reading_of, PinStart.Shares, AccessView.{Acts, values_at}, WorkerCalls.fault_in}, pagable_value_spec.specs.Blob.key_of};
-ghost use Rattle.{pagable_value_spec.specs.Merkle.blob_of as blob_over, pagable_pageout.specs.{Results.{HasFormOf, IsOver}, Joint.ActsBoth, Strides.{StoresAndReleasesNode, loose_handle_of}, Tasks.{due, Ends, GoesOn, IfKey, most}, Slots.{keys_of, written_of}, Table.claim_result}};
-ghost use Rattle.pagable_pageout.specs.{Tasks.{Awaits, AwaitsLow, fault_of, EachIsAwaited, todo_of, todos, waiting_todo}, Turns.{claim_todo, ClaimFits, IsTaskAfterClaim, Forms, plan, worker_state, TurnsTo}};
-ghost use Rattle.{pagable_pageout.specs.Turns.{GoesBackOnList, IsForm, FollowsStore, just_open, named_by, SetsFor, Stores, WriteRefused}, pagable_pager_spec.specs.{Access.IfBothKnown, Kinds.identity_of, Pager.PagerState, Basics.longest_path, Workers.claim_fault}};
-ghost use Rattle.pagable_pager_spec.specs.{Workers.{ClaimStep, is_counted_claim}, World.{answer_of_fault, Core, result_map, Shelf, to_finish, to_load, to_pin, to_release, to_set, to_start, to_write, Todo}};
+ghost use Rattle.pagable_core.specs.Data.{blob_of};
+ghost use Rattle.pagable_load.specs.{
+  AccessView.{Acts, values_at},
+  Frames.reading_of,
+  PinStart.Shares,
+  WorkerCalls.fault_in,
+};
+ghost use Rattle.pagable_pageout.specs.{
+  Joint.ActsBoth,
+  Results.{HasFormOf, IsKeyOverResults},
+  Slots.{keys_of, written_of},
+  Strides.{StoresAndReleasesNode, loose_handle_of},
+  Table.claim_result,
+  Tasks.{Awaits, AwaitsWithHeight, EachIsAwaited, IfKey, LeadsToItemKey, LeavesLess, fault_of, most_work_left, todo_of},
+  Tasks.{todos, waiting_todo, work_left},
+  Turns.{ClaimFits, FollowsStore, GoesBackOnList, IsForm, IsTaskAfterClaim, PerformsTask, SetsKeyThrough, Stores},
+  Turns.{WriteRefused, WritesForm, claim_todo, identity_of_node, just_open, todos_after, worker_state},
+};
+ghost use Rattle.pagable_pager_spec.specs.{
+  Access.IfBothKnown,
+  Basics.longest_path,
+  Kinds.identity_of,
+  Pager.PagerState,
+  Workers.{ClaimStep, claim_fault, is_counted_claim},
+  World.{Core, Shelf, Todo, answer_of_fault, result_map, to_finish, to_load, to_pin, to_release, to_set, to_start},
+  World.to_write,
+};
+ghost use Rattle.pagable_value_spec.specs.{Blob.key_of, Merkle.blob_of as blob_over};
+ghost use Rattle.std.specs.{
+  Arc.arc_value,
+  Prelude.{IfErr, IfOk, List, OnOk, Some, length, vec_capacity, vec_len, ℕ, ◌*◌, ◌+◌, ◌<◌, ◌∷◌, ◌≡◌, ◌≤◌},
+};
 
-use crate::stack::{advance, fail, fail_with, give};
-use crate::tasks::{Done, Node, StepResult, Task, Turn, Waiting, named};
+use crate::stack::{advance, fail, fail_with, give_result};
+use crate::tasks::{
+    ClaimedNode, DoneReference, StepResult, Task, Turn, WaitingValue, referenced_identity,
+};
 use crate::{ClaimResult, Claims, PageOutError, SlotResult};
 use pagable_codec::{Env, NodeSet};
 use pagable_core::{PagableData, SerializedData, SerializerForPaging, SessionOf};
@@ -46,7 +74,7 @@ pub fn claim<E: Env<Node: NodeSet<E>>, T: Claims<E>>(
     ensures fits { ClaimFits reference place result }
 {
     match checked {
-        Ok(()) => table.claim_for(worker, named(reference), place),
+        Ok(()) => table.claim_for(worker, referenced_identity(reference), place),
         Err(e) => {
             table.forget_wait(worker);
             Err(e)
@@ -56,7 +84,7 @@ pub fn claim<E: Env<Node: NodeSet<E>>, T: Claims<E>>(
 
 /// Returns what a claim found, with the key and height of a result that was known, and whether the
 /// claim counts as a step: it doesn't if the worker has to wait.
-pub fn found<E: Env<Node: NodeSet<E>>>(
+pub fn claim_answer<E: Env<Node: NodeSet<E>>>(
     claim: &Result<ClaimResult<E>, Error>,
 ) -> (Result<Claim, Error>, bool)
     ensures found { result.0 ≡ claim_result claim.now }
@@ -71,10 +99,13 @@ pub fn found<E: Env<Node: NodeSet<E>>>(
     }
 }
 
-/// Returns the task that follows a claim.
+/// Returns the task that follows a claim with this result: to pin what was claimed, to claim once
+/// more if the worker has to wait, or to fail the worker. Gives a result that is known already to
+/// the last entry of the path, and returns that entry's next task; if the path is empty, returns
+/// the task that releases the worker's handles.
 #[tactic(auto, using(crate::proofs::Stacks::ways))]
-pub fn after_claim<E: Env<Node: NodeSet<E>>>(
-    path: &mut Vec<Waiting<E>>,
+pub fn task_after_claim<E: Env<Node: NodeSet<E>>>(
+    path: &mut Vec<WaitingValue<E>>,
     reference: ArcRef,
     place: u64,
     claim: Result<ClaimResult<E>, Error>,
@@ -84,13 +115,17 @@ pub fn after_claim<E: Env<Node: NodeSet<E>>>(
     ensures todo { todo_of result ∷ todos path.new.items
         ≡ claim_todo reference place (todos path.old.items) (claim_result claim) }
     ensures way { EachIsAwaited (todo_of result ∷ todos path.new.items) }
-    ensures less { due (todo_of result ∷ todos path.new.items) ≤ most + 6 * length (todos path.old.items) }
+    ensures less { work_left (todo_of result ∷ todos path.new.items) ≤ most_work_left + 6 * length
+        (todos path.old.items) }
     ensures leaves { IsTaskAfterClaim reference place claim result }
 {
     match claim {
         Ok(ClaimResult::Claimed) => Task::Pin(reference, place),
         // If the path is empty, the handle of the listed cell is released.
-        Ok(ClaimResult::Known(found)) => match give(path, Done { reference, found }) {
+        Ok(ClaimResult::Known(found)) => match give_result(
+            path,
+            DoneReference { reference, found },
+        ) {
             Ok(task) => task,
             Err(done) => Task::Release(done),
         },
@@ -109,23 +144,24 @@ pub fn after_claim<E: Env<Node: NodeSet<E>>>(
 pub fn pin<E: Env<Node: NodeSet<E>>, A: WorkerAccess<E>>(
     access: &mut A,
     alloc: Global,
-    path: &mut Vec<Waiting<E>>,
+    path: &mut Vec<WaitingValue<E>>,
     reference: ArcRef,
     place: u64,
 ) -> StepResult<E>
     requires { EachIsAwaited (to_pin reference place ∷ todos path.old.items) }
-    ensures ends { Ends (to_pin reference place ∷ todos path.old.items) result.turn (plan result.turn path.new.items) }
-    ensures goes { GoesOn (to_pin reference place ∷ todos path.old.items) result.turn
-        (plan result.turn path.new.items) }
+    ensures ends { LeadsToItemKey (to_pin reference place ∷ todos path.old.items) result.turn
+        (todos_after result.turn path.new.items) }
+    ensures goes { LeavesLess (to_pin reference place ∷ todos path.old.items) result.turn
+        (todos_after result.turn path.new.items) }
     ensures acts { (n : ℕ) (shelf : Shelf) → Acts A.known_state A.acting access.old access.new
-        (λ a. TurnsTo (values_at E.Node.NodeSet E.Env E.Hash.KeyHash a.environment) a.me n shelf
-        (Task.Pin reference place) (todos path.old.items) shelf result (plan result.turn path.new.items)) }
+        (λ a. PerformsTask (values_at E.Node.NodeSet E.Env E.Hash.KeyHash a.environment) a.me n shelf
+        (Task.Pin reference place) (todos path.old.items) shelf result (todos_after result.turn path.new.items)) }
 {
-    let identity = named(reference);
+    let identity = referenced_identity(reference);
     match access.pin_or_load_reference(reference) {
         Ok(taken) => match taken {
             PinnedOrLoading::Held(through, pin) => StepResult {
-                action: Action::Pin(identity, Ok(PinStep::Held(pin))),
+                action: Action::Pin(identity, Ok(PinStep::Pinned(pin))),
                 turn: Turn::Goes(Task::Write(reference, place, through, pin)),
                 counted: true,
             },
@@ -151,31 +187,32 @@ pub fn pin<E: Env<Node: NodeSet<E>>, A: WorkerAccess<E>>(
 pub fn load<E: Env<Node: NodeSet<E>>, A: WorkerAccess<E>>(
     access: &mut A,
     alloc: Global,
-    path: &mut Vec<Waiting<E>>,
+    path: &mut Vec<WaitingValue<E>>,
     reference: ArcRef,
     place: u64,
     through: HandleNumber,
     mut reading: Reading,
 ) -> StepResult<E>
     requires { EachIsAwaited (to_load reference place through (reading_of reading) ∷ todos path.old.items) }
-    ensures ends { Ends (to_load reference place through (reading_of reading) ∷ todos path.old.items) result.turn
-        (plan result.turn path.new.items) }
-    ensures goes { GoesOn (to_load reference place through (reading_of reading) ∷ todos path.old.items) result.turn
-        (plan result.turn path.new.items) }
+    ensures ends { LeadsToItemKey (to_load reference place through (reading_of reading)
+        ∷ todos path.old.items) result.turn
+        (todos_after result.turn path.new.items) }
+    ensures goes { LeavesLess (to_load reference place through (reading_of reading) ∷ todos path.old.items) result.turn
+        (todos_after result.turn path.new.items) }
     ensures acts { (n : ℕ) (shelf : Shelf) → Acts A.known_state A.acting access.old access.new
-        (λ a. TurnsTo (values_at E.Node.NodeSet E.Env E.Hash.KeyHash a.environment) a.me n shelf
+        (λ a. PerformsTask (values_at E.Node.NodeSet E.Env E.Hash.KeyHash a.environment) a.me n shelf
         (Task.Load reference place through reading) (todos path.old.items) shelf result
-        (plan result.turn path.new.items)) }
+        (todos_after result.turn path.new.items)) }
 {
-    let identity = named(reference);
+    let identity = referenced_identity(reference);
     match reading.step(access, alloc) {
         None => StepResult {
-            action: Action::Pin(identity, Ok(PinStep::LoadWent)),
+            action: Action::Pin(identity, Ok(PinStep::LoadStepMade)),
             turn: Turn::Goes(Task::Load(reference, place, through, reading)),
             counted: false,
         },
         Some(LoadAnswer::Pinned(pin)) => StepResult {
-            action: Action::Pin(identity, Ok(PinStep::Held(pin))),
+            action: Action::Pin(identity, Ok(PinStep::Pinned(pin))),
             turn: Turn::Goes(Task::Write(reference, place, through, pin)),
             counted: false,
         },
@@ -193,7 +230,7 @@ pub fn load<E: Env<Node: NodeSet<E>>, A: WorkerAccess<E>>(
 }
 
 // Writes a value. Fails as the value's `write` does.
-fn written<E: Env<Node: NodeSet<E>>>(
+fn write_value<E: Env<Node: NodeSet<E>>>(
     env: &E,
     session: &SessionOf<E>,
     alloc: Global,
@@ -212,8 +249,8 @@ fn written<E: Env<Node: NodeSet<E>>>(
 
 // Writes the shared value of a claimed node. Fails with WrongKind if its type isn't that of the
 // reference's kind, with WrongMode if there is no value, with the error of sharing it, and as
-// `written` does.
-fn form<E: Env<Node: NodeSet<E>>>(
+// `write_value` does.
+fn write_shared<E: Env<Node: NodeSet<E>>>(
     env: &E,
     session: &SessionOf<E>,
     alloc: Global,
@@ -223,14 +260,15 @@ fn form<E: Env<Node: NodeSet<E>>>(
     ensures form { IfOk result (λ d. ∥ HasFormOf (values_at E.Node.NodeSet E.Env E.Hash.KeyHash) (identity_of reference)
         (written_of d) ∥₁) }
     ensures forms { (s : PagerState E.Node E) (pin : HandleNumber) → Shares arc_value s pin shared
-        → Forms (values_at E.Node.NodeSet E.Env E.Hash.KeyHash env.now) s reference pin (result_map written_of result) }
+        → WritesForm (values_at E.Node.NodeSet E.Env E.Hash.KeyHash env.now) s reference pin
+        (result_map written_of result) }
 {
     match shared {
         Ok(Some(node)) => {
             if node.node_type() != reference.kind.node_type() {
                 return Err(Error::WrongKind);
             }
-            written(env, session, alloc, node.as_ref())
+            write_value(env, session, alloc, node.as_ref())
         }
         Ok(None) => Err(Error::WrongMode),
         Err(e) => Err(e),
@@ -239,17 +277,17 @@ fn form<E: Env<Node: NodeSet<E>>>(
 
 // Reserves room on the path for a claimed node, and writes its shared value. Returns the node, with
 // room for the results of its references; a copy of these references; and one more `Arc` of what
-// was written. Fails as `form` does, or with OutOfMemory.
+// was written. Fails as `write_shared` does, or with OutOfMemory.
 #[tactic(auto, using(crate::proofs::WorkerTurns::forming))]
 pub(crate) fn write_claimed<E: Env<Node: NodeSet<E>>, A: WorkerAccess<E>>(
     access: &A,
     alloc: Global,
-    path: &mut Vec<Waiting<E>>,
+    path: &mut Vec<WaitingValue<E>>,
     reference: ArcRef,
     place: u64,
     through: HandleNumber,
     shared: Result<Option<Arc<E::Node>>, Error>,
-) -> Result<(Waiting<E>, Vec<ArcRef>, Arc<SerializedData>), Error>
+) -> Result<(WaitingValue<E>, Vec<ArcRef>, Arc<SerializedData>), Error>
     requires near { place ≤ longest_path }
     ensures path { path.new.items ≡ path.old.items }
     ensures room { OnOk result (vec_len path.new < vec_capacity path.new) }
@@ -257,11 +295,11 @@ pub(crate) fn write_claimed<E: Env<Node: NodeSet<E>>, A: WorkerAccess<E>>(
         (just_open reference place through (written_of (arc_value p.2)))) }
     ensures listed { IfOk result (λ p. p.1.items ≡ (written_of (arc_value p.2)).references) }
     ensures forms { (s : PagerState E.Node E) (pin : HandleNumber) → Shares arc_value s pin shared
-        → Forms (values_at E.Node.NodeSet E.Env E.Hash.KeyHash (A.acting access.now).environment) s reference pin
+        → WritesForm (values_at E.Node.NodeSet E.Env E.Hash.KeyHash (A.acting access.now).environment) s reference pin
         (result_map (λ p. written_of (arc_value p.2)) result) }
 {
     path.reserve(1)?;
-    let once = form(
+    let once = write_shared(
         access.env(),
         access.session_context(),
         alloc,
@@ -272,13 +310,13 @@ pub(crate) fn write_claimed<E: Env<Node: NodeSet<E>>, A: WorkerAccess<E>>(
     let references = Vec::from_slice(alloc, once.arcs.as_slice())?;
     let written = Arc::new(alloc, once)?;
     let told = Arc::try_clone(&written)?;
-    let node = Some(Node {
+    let node = Some(ClaimedNode {
         reference,
         place,
         through,
         height: 0,
     });
-    let waiting = Waiting {
+    let waiting = WaitingValue {
         node,
         written,
         children,
@@ -292,23 +330,24 @@ pub fn write<E: Env<Node: NodeSet<E>>, A: WorkerAccess<E>, T: Claims<E>>(
     access: &A,
     alloc: Global,
     table: &mut T,
-    path: &mut Vec<Waiting<E>>,
+    path: &mut Vec<WaitingValue<E>>,
     reference: ArcRef,
     place: u64,
     through: HandleNumber,
     pin: HandleNumber,
 ) -> StepResult<E>
     requires { EachIsAwaited (to_write reference place through ∷ todos path.old.items) }
-    ensures ends { Ends (to_write reference place through ∷ todos path.old.items) result.turn
-        (plan result.turn path.new.items) }
-    ensures goes { GoesOn (to_write reference place through ∷ todos path.old.items) result.turn
-        (plan result.turn path.new.items) }
+    ensures ends { LeadsToItemKey (to_write reference place through ∷ todos path.old.items) result.turn
+        (todos_after result.turn path.new.items) }
+    ensures goes { LeavesLess (to_write reference place through ∷ todos path.old.items) result.turn
+        (todos_after result.turn path.new.items) }
     ensures step { (n : ℕ) → ActsBoth A.known_state A.acting T.shelf access.now table.old access.now table.new (λ a. a)
-        (λ a s q s' q'. TurnsTo (values_at E.Node.NodeSet E.Env E.Hash.KeyHash a.environment) a.me n q
-        (Task.Write reference place through pin) (todos path.old.items) q' result (plan result.turn path.new.items) s
+        (λ a s q s' q'. PerformsTask (values_at E.Node.NodeSet E.Env E.Hash.KeyHash a.environment) a.me n q
+        (Task.Write reference place through pin) (todos path.old.items) q' result
+        (todos_after result.turn path.new.items) s
         s') }
 {
-    let identity = named(reference);
+    let identity = referenced_identity(reference);
     let shared = access.share(pin);
     match write_claimed(access, alloc, path, reference, place, through, shared) {
         Ok((waiting, references, told)) => {
@@ -331,7 +370,10 @@ pub fn write<E: Env<Node: NodeSet<E>>, A: WorkerAccess<E>, T: Claims<E>>(
 
 // Makes the blob of what was written, with the keys of its references' results. Fails with
 // OutOfMemory alone.
-fn blob<E: Env<Node: NodeSet<E>>>(alloc: Global, waiting: &Waiting<E>) -> Result<PagableData, Error>
+fn blob<E: Env<Node: NodeSet<E>>>(
+    alloc: Global,
+    waiting: &WaitingValue<E>,
+) -> Result<PagableData, Error>
     ensures blob { IfOk result (λ blob. blob_of blob ≡ blob_over (written_of (arc_value waiting.now.written)).bytes
         (keys_of waiting.now.children.items)) }
     ensures only { IfErr result (λ e. e ≡ Error.OutOfMemory) }
@@ -347,7 +389,7 @@ fn blob<E: Env<Node: NodeSet<E>>>(alloc: Global, waiting: &Waiting<E>) -> Result
 pub(crate) fn store<E: Env<Node: NodeSet<E>>, A: WorkerAccess<E>>(
     access: &mut A,
     alloc: Global,
-    waiting: &Waiting<E>,
+    waiting: &WaitingValue<E>,
 ) -> Result<DataKey, Error>
     ensures key { IfOk result (λ key. key ≡ key_of E.Hash.digest
         (blob_over (written_of (arc_value waiting.now.written)).bytes (keys_of waiting.now.children.items))) }
@@ -359,17 +401,17 @@ pub(crate) fn store<E: Env<Node: NodeSet<E>>, A: WorkerAccess<E>>(
     access.store(alloc, blob)
 }
 
-fn named_by(node: &Option<Node>) -> Option<Identity>
-    ensures { result ≡ named_by node.now }
+fn identity_of_node(node: &Option<ClaimedNode>) -> Option<Identity>
+    ensures { result ≡ identity_of_node node.now }
 {
     let node = (*node)?;
-    Some(named(node.reference))
+    Some(referenced_identity(node.reference))
 }
 
 // Returns the handle through which a written node's cell gets its key, if its reference is a loose
 // one.
 #[tactic(auto, using(std::proofs::lemmas::Bool::Decides::nat_tests))]
-fn loose_handle_of(node: Node) -> Option<HandleNumber>
+fn loose_handle_of(node: ClaimedNode) -> Option<HandleNumber>
     ensures { result ≡ loose_handle_of node }
 {
     if node.reference.kind.is_loose() {
@@ -384,13 +426,14 @@ pub(crate) fn store_node<E: Env<Node: NodeSet<E>>, A: WorkerAccess<E>>(
     access: &mut A,
     alloc: Global,
     worker: WorkerNumber,
-    waiting: &Waiting<E>,
-    node: Node,
+    waiting: &WaitingValue<E>,
+    node: ClaimedNode,
 ) -> Result<DataKey, Error>
     ensures key { IfOk result (λ key. key ≡ key_of E.Hash.digest
         (blob_over (written_of (arc_value waiting.now.written)).bytes (keys_of waiting.now.children.items))) }
     ensures acts { Acts A.known_state A.acting access.old access.new
-        (λ a s t. StoresAndReleasesNode (values_at E.Node.NodeSet E.Env E.Hash.KeyHash a.environment) a.me worker.0 node s
+        (λ a s t. StoresAndReleasesNode (values_at E.Node.NodeSet E.Env E.Hash.KeyHash a.environment)
+        a.me worker.0 node s
         (blob_over (written_of (arc_value waiting.now.written)).bytes (keys_of waiting.now.children.items)) result t) }
 {
     let blob = blob(alloc, waiting)?;
@@ -403,11 +446,11 @@ pub(crate) fn store_node<E: Env<Node: NodeSet<E>>, A: WorkerAccess<E>>(
 }
 
 // Returns a written node's reference with its result, given the key of the node's blob.
-pub(crate) fn done_with<E: Env<Node: NodeSet<E>>>(
-    waiting: &Waiting<E>,
-    node: Node,
+pub(crate) fn make_done<E: Env<Node: NodeSet<E>>>(
+    waiting: &WaitingValue<E>,
+    node: ClaimedNode,
     key: DataKey,
-) -> Done<E>
+) -> DoneReference<E>
     requires node { waiting.now.node ≡ Some node }
     requires all { length (keys_of waiting.now.children.items)
         ≡ length (written_of (arc_value waiting.now.written)).references }
@@ -419,50 +462,56 @@ pub(crate) fn done_with<E: Env<Node: NodeSet<E>>>(
 {
     let reference = node.reference;
     let found = SlotResult {
-        identity: named(reference),
+        identity: referenced_identity(reference),
         key,
         height: node.height,
         of: PhantomData,
     };
-    Done { reference, found }
+    DoneReference { reference, found }
 }
 
 // Returns what follows when a blob is stored: setting the node's key; or, for an item, the answer.
-pub(crate) fn stored<E: Env<Node: NodeSet<E>>>(waiting: Waiting<E>, key: DataKey) -> Turn<E>
+pub(crate) fn turn_after_store<E: Env<Node: NodeSet<E>>>(
+    waiting: WaitingValue<E>,
+    key: DataKey,
+) -> Turn<E>
     requires all { length (keys_of waiting.children.items)
         ≡ length (written_of (arc_value waiting.written)).references }
     requires key { key ≡ key_of E.Hash.digest (blob_over (written_of (arc_value waiting.written)).bytes
         (keys_of waiting.children.items)) }
-    ensures stored { FollowsStore waiting.node key result }
-    ensures over { IfKey result (λ key. ∥ IsOver E.Hash.digest (values_at E.Node.NodeSet E.Env E.Hash.KeyHash)
+    ensures follows { FollowsStore waiting.node key result }
+    ensures over { IfKey result (λ key. ∥ IsKeyOverResults E.Hash.digest (values_at E.Node.NodeSet E.Env E.Hash.KeyHash)
         (written_of (arc_value waiting.written)) key ∥₁) }
 {
     let Some(node) = waiting.node else {
         return Turn::Answers(WorkerAnswer::Key(key));
     };
-    Turn::Goes(Task::SetKey(done_with(&waiting, node, key), node.through))
+    Turn::Goes(Task::SetKey(make_done(&waiting, node, key), node.through))
 }
 
 /// Stores the blob of a node or an item whose references are all done.
-#[tactic(auto, using(crate::proofs::WorkerTurns::finishing))]
+#[tactic(auto, using(crate::proofs::FinishTurns::finishing))]
 pub fn finish<E: Env<Node: NodeSet<E>>, A: WorkerAccess<E>>(
     access: &mut A,
     alloc: Global,
-    path: &mut Vec<Waiting<E>>,
-    waiting: Waiting<E>,
+    path: &mut Vec<WaitingValue<E>>,
+    waiting: WaitingValue<E>,
 ) -> StepResult<E>
     requires { EachIsAwaited (waiting_todo waiting ∷ todos path.old.items) }
-    ensures ends { Ends (waiting_todo waiting ∷ todos path.old.items) result.turn (plan result.turn path.new.items) }
-    ensures goes { GoesOn (waiting_todo waiting ∷ todos path.old.items) result.turn (plan result.turn path.new.items) }
+    ensures ends { LeadsToItemKey (waiting_todo waiting ∷ todos path.old.items) result.turn
+        (todos_after result.turn path.new.items) }
+    ensures goes { LeavesLess (waiting_todo waiting ∷ todos path.old.items) result.turn
+        (todos_after result.turn path.new.items) }
     ensures acts { (n : ℕ) (shelf : Shelf) → Acts A.known_state A.acting access.old access.new
-        (λ a. TurnsTo (values_at E.Node.NodeSet E.Env E.Hash.KeyHash a.environment) a.me n shelf (Task.Finish waiting)
-        (todos path.old.items) shelf result (plan result.turn path.new.items)) }
+        (λ a. PerformsTask (values_at E.Node.NodeSet E.Env E.Hash.KeyHash a.environment) a.me n shelf
+        (Task.Finish waiting)
+        (todos path.old.items) shelf result (todos_after result.turn path.new.items)) }
 {
-    let identity = named_by(&waiting.node);
+    let identity = identity_of_node(&waiting.node);
     match store(access, alloc, &waiting) {
         Ok(key) => StepResult {
             action: Action::Store(identity, Ok(key)),
-            turn: stored(waiting, key),
+            turn: turn_after_store(waiting, key),
             counted: true,
         },
         Err(e) => StepResult {
@@ -475,7 +524,7 @@ pub fn finish<E: Env<Node: NodeSet<E>>, A: WorkerAccess<E>>(
 
 // Sets the key of what a loose reference names, through the worker's handle. Does nothing for a
 // reference of another kind, even if its handle has become loose meanwhile.
-#[tactic(auto, using(crate::proofs::WorkerTurns::keys))]
+#[tactic(auto, using(crate::proofs::FinishTurns::keys))]
 pub(crate) fn set_key_of<E: Env<Node: NodeSet<E>>, A: WorkerAccess<E>>(
     access: &mut A,
     reference: ArcRef,
@@ -483,7 +532,8 @@ pub(crate) fn set_key_of<E: Env<Node: NodeSet<E>>, A: WorkerAccess<E>>(
     key: DataKey,
 ) -> Result<(), Error>
     ensures { Acts A.known_state A.acting access.old access.new
-        (λ a. SetsFor (values_at E.Node.NodeSet E.Env E.Hash.KeyHash a.environment) a.me reference through key result) }
+        (λ a. SetsKeyThrough (values_at E.Node.NodeSet E.Env E.Hash.KeyHash a.environment) a.me reference
+        through key result) }
 {
     if !reference.kind.is_loose() {
         return Ok(());
@@ -495,20 +545,21 @@ pub(crate) fn set_key_of<E: Env<Node: NodeSet<E>>, A: WorkerAccess<E>>(
 #[tactic(auto, using(std::proofs::lemmas::Bool::Decides::nat_tests))]
 pub fn set_key<E: Env<Node: NodeSet<E>>, A: WorkerAccess<E>>(
     access: &mut A,
-    path: &mut Vec<Waiting<E>>,
-    done: Done<E>,
+    path: &mut Vec<WaitingValue<E>>,
+    done: DoneReference<E>,
     through: HandleNumber,
 ) -> StepResult<E>
-    requires { AwaitsLow (todos path.old.items) done.reference done.found.height }
-    ensures ends { Ends (to_set done.reference through done.found.key done.found.height ∷ todos path.old.items)
-        result.turn (plan result.turn path.new.items) }
-    ensures goes { GoesOn (to_set done.reference through done.found.key done.found.height ∷ todos path.old.items)
-        result.turn (plan result.turn path.new.items) }
+    requires { AwaitsWithHeight (todos path.old.items) done.reference done.found.height }
+    ensures ends { LeadsToItemKey (to_set done.reference through done.found.key done.found.height
+        ∷ todos path.old.items)
+        result.turn (todos_after result.turn path.new.items) }
+    ensures goes { LeavesLess (to_set done.reference through done.found.key done.found.height ∷ todos path.old.items)
+        result.turn (todos_after result.turn path.new.items) }
     ensures acts { (n : ℕ) (shelf : Shelf) → Acts A.known_state A.acting access.old access.new
-        (λ a. TurnsTo (values_at E.Node.NodeSet E.Env E.Hash.KeyHash a.environment) a.me n shelf
-        (Task.SetKey done through) (todos path.old.items) shelf result (plan result.turn path.new.items)) }
+        (λ a. PerformsTask (values_at E.Node.NodeSet E.Env E.Hash.KeyHash a.environment) a.me n shelf
+        (Task.SetKey done through) (todos path.old.items) shelf result (todos_after result.turn path.new.items)) }
 {
-    let identity = named(done.reference);
+    let identity = referenced_identity(done.reference);
     match set_key_of(access, done.reference, through, done.key()) {
         Ok(()) => StepResult {
             action: Action::SetKey(identity, Ok(())),
@@ -529,21 +580,22 @@ pub fn set_key<E: Env<Node: NodeSet<E>>, A: WorkerAccess<E>>(
 pub fn release<E: Env<Node: NodeSet<E>>, A: WorkerAccess<E>>(
     access: &mut A,
     worker: WorkerNumber,
-    path: &mut Vec<Waiting<E>>,
-    done: Done<E>,
+    path: &mut Vec<WaitingValue<E>>,
+    done: DoneReference<E>,
 ) -> StepResult<E>
-    requires { AwaitsLow (todos path.old.items) done.reference done.found.height }
-    ensures ends { Ends (to_release done.reference done.found.key done.found.height ∷ todos path.old.items) result.turn
-        (plan result.turn path.new.items) }
-    ensures goes { GoesOn (to_release done.reference done.found.key done.found.height ∷ todos path.old.items)
-        result.turn (plan result.turn path.new.items) }
+    requires { AwaitsWithHeight (todos path.old.items) done.reference done.found.height }
+    ensures ends { LeadsToItemKey (to_release done.reference done.found.key done.found.height
+        ∷ todos path.old.items) result.turn
+        (todos_after result.turn path.new.items) }
+    ensures goes { LeavesLess (to_release done.reference done.found.key done.found.height ∷ todos path.old.items)
+        result.turn (todos_after result.turn path.new.items) }
     ensures acts { (shelf : Shelf) → Acts A.known_state A.acting access.old access.new
-        (λ a. TurnsTo (values_at E.Node.NodeSet E.Env E.Hash.KeyHash a.environment) a.me worker.0 shelf
-        (Task.Release done) (todos path.old.items) shelf result (plan result.turn path.new.items)) }
+        (λ a. PerformsTask (values_at E.Node.NodeSet E.Env E.Hash.KeyHash a.environment) a.me worker.0 shelf
+        (Task.Release done) (todos path.old.items) shelf result (todos_after result.turn path.new.items)) }
 {
-    let identity = named(done.reference);
+    let identity = referenced_identity(done.reference);
     access.release_worker_node(worker, identity.node);
-    match give(path, done) {
+    match give_result(path, done) {
         Ok(task) => StepResult {
             action: Action::Release(identity),
             turn: Turn::Goes(task),
@@ -557,9 +609,10 @@ pub fn release<E: Env<Node: NodeSet<E>>, A: WorkerAccess<E>>(
     }
 }
 
-/// Puts an entry back on the list, if there is one and the list can take it.
-#[tactic(auto, using(crate::proofs::WorkerTurns::backs))]
-pub fn give_back<E: Env<Node: NodeSet<E>>, A: WorkerAccess<E>>(
+/// Puts the entry `back`, if there is one, at the end of the list of cells that wait for page-out.
+/// Ignores an error of the list.
+#[tactic(auto, using(crate::proofs::FinishTurns::backs))]
+pub fn put_back_on_list<E: Env<Node: NodeSet<E>>, A: WorkerAccess<E>>(
     access: &mut A,
     back: Option<HandleNumber>,
 )
@@ -572,8 +625,8 @@ pub fn give_back<E: Env<Node: NodeSet<E>>, A: WorkerAccess<E>>(
     let _told = access.schedule_for_paging(entry);
 }
 
-/// Returns the answer of a walk that failed.
-pub fn answer(why: PageOutError) -> WorkerAnswer
+/// Returns the answer of a worker that failed for this reason.
+pub fn answer_of_failure(why: PageOutError) -> WorkerAnswer
     ensures { result ≡ answer_of_fault (fault_of why) }
 {
     match why {

@@ -1,9 +1,26 @@
 -- Pins on a lent pager: a load's steps from its root's blob, the value that a new pin shares, and what an access tells as long as the storage is honest.
-use Rattle.pagable_pager.{proofs.Leaf.{dropped-run, loads-pinned, loads-refused, pinned-run}, specs.Leaf.{EndsCell, LeafBegun, LeafDropped, LeafFetched, LeafLoads, LeafPinned, PinsAway, SharesNew, rooted_reading}}
-use Rattle.{pagable_leaf.specs.declared.leaf.Leaf.Leaf, pagable_load.{proofs.LoadSteps.{taken_back, takes_back}, specs.{Decoding.IsReadAs, Frames.{IsLoadOf, reading_of}, PinStart.{SharesPinned, TakesBack, is_unpinned_at}, LoadSteps.Runs, AccessView.Acting}}}
-use Rattle.{pagable_load.specs.declared.reading.Reading.Reading as Own, pagable_value_spec.specs.{Blob.Blob, declared.{error.Error.Error, numbers.{HandleNumber.HandleNumber, LoadNumber.LoadNumber}}}}
-use Rattle.pagable_pager_spec.specs.{Access.{MakesCall, LoadRun, PinRun, IfBothKnown}, Calls.{ReleaseCall, UnpinCall}, Pager.PagerState, World.{Reading, Values, of_cell}, declared.{events.LoadAnswer.LoadAnswer, handle_row.Owner.Owner}}
-use Rattle.std.{proofs.Common.{Bool, Err, None, Ok, Result, Some, [], ap, false, if◌then◌else◌, inl, refl, subst, sym, true, ◌∙◌, ◌≡◌}, specs.Prelude.{IsTrue}}
+use Rattle.pagable_leaf.specs.declared.leaf.Leaf.{Leaf}
+use Rattle.pagable_load.proofs.PinsAndReads.{taken_back, takes_back}
+use Rattle.pagable_load.specs.{
+  AccessView.Acting,
+  Decoding.IsReadAs,
+  Frames.{IsLoadOf, reading_of},
+  LoadSteps.RunsLoad,
+  PinStart.{SharesPinned, TakesBack, is_unpinned_at},
+  declared.reading.Reading.Reading as Own,
+}
+use Rattle.pagable_pager.proofs.LeafPins.{dropped-run, loads-pinned, loads-refused, pinned-run}
+use Rattle.pagable_pager.specs.Leaf.{EndsCellLoad, LeafBegun, LeafDropped, LeafFetched, LeafLoads, LeafPinned, PinsPagedOut, SharesOrUndoes, rooted_reading}
+use Rattle.pagable_pager_spec.specs.{
+  Access.{IfBothKnown, LoadRun, MakesCall, PinRun},
+  Calls.{ReleaseCall, UnpinCall},
+  Pager.PagerState,
+  World.{Reading, Values, of_cell},
+  declared.{events.LoadAnswer.LoadAnswer, handle_row.Owner.Owner},
+}
+use Rattle.pagable_value_spec.specs.{Blob.Blob, declared.{error.Error.Error, numbers.{HandleNumber.HandleNumber, LoadNumber.LoadNumber}}}
+use Rattle.std.proofs.Common.{Bool, Err, None, Ok, Result, Some, ap, false, if◌then◌else◌, inl, refl, subst, sym, true, [], ◌∙◌, ◌≡◌}
+use Rattle.std.specs.Prelude.{IsTrue}
 
 -- an access lends what it lent before, for whom it did, and where
 pub lender-is : {E : Type 0} {a b : Acting E} → a ≡ b → a.lender ≡ b.lender
@@ -26,10 +43,10 @@ told-so false false s t told is = absurd (cc)
 -- ---- a load's steps up to its end
 
 module _ {N E : Type 0} (v : Values N) (me : Owner) (own : Own) where
-  pub ends-pinned : (k : HandleNumber) (s t : PagerState N E) → Runs v me own s (LoadAnswer.Pinned k) t → EndsCell v me own s (Ok k) t
+  pub ends-pinned : (k : HandleNumber) (s t : PagerState N E) → RunsLoad v me own s (LoadAnswer.Pinned k) t → EndsCellLoad v me own s (Ok k) t
   ends-pinned k s t runs = record { pinned = runs; refused = tt }
 
-  pub ends-refused : (e : Error) (s t : PagerState N E) → Runs v me own s (LoadAnswer.Refused e) t → EndsCell v me own s (Err e) t
+  pub ends-refused : (e : Error) (s t : PagerState N E) → RunsLoad v me own s (LoadAnswer.Refused e) t → EndsCellLoad v me own s (Err e) t
   ends-refused e s t runs = record { pinned = tt; refused = runs }
 
 pub ruleset ending = (ends-pinned, ends-refused)
@@ -46,46 +63,46 @@ module _ {N E : Type 0} (v : Values N) (s mid : PagerState N E) (leaf : Leaf) (l
 
   module _ (t : PagerState N E) (blob : Blob) (me : Owner) (mine : me ≡ Owner.Caller) (rooted : reading_of own ≡ rooted_reading l leaf.key leaf.node_type blob)
     where
-      runs-so : (answer : LoadAnswer N) → Runs v me own mid answer t → LoadRun v Owner.Caller (rooted_reading l leaf.key leaf.node_type blob) mid answer t
+      runs-so : (answer : LoadAnswer N) → RunsLoad v me own mid answer t → LoadRun v Owner.Caller (rooted_reading l leaf.key leaf.node_type blob) mid answer t
       runs-so answer runs =
-          let r : Runs v Owner.Caller own mid answer t = subst (λ m. Runs v m own mid answer t) mine runs in
+          let r : RunsLoad v Owner.Caller own mid answer t = subst (λ m. RunsLoad v m own mid answer t) mine runs in
           subst (λ (q : Reading). LoadRun v Owner.Caller q mid answer t) rooted (r.run open-load)
 
-      pub loads-ended : (r : Result HandleNumber Error) → EndsCell v me own mid r t → LeafLoads v s leaf blob r t
+      pub loads-ended : (r : Result HandleNumber Error) → EndsCellLoad v me own mid r t → LeafLoads v s leaf blob r t
       loads-ended (Ok k) ends = record { pinned = (l, mid, begun, runs-so (LoadAnswer.Pinned k) ends.pinned); refused = tt }
       loads-ended (Err e) ends = record { pinned = tt; refused = inl (l, mid, begun, runs-so (LoadAnswer.Refused e) ends.refused) }
 
       -- by what is told in the same environment
       pub loads-told : {F : Type 0} (says : F → Values N) {e1 e0 : F} → e1 ≡ e0 → says e0 ≡ v → (r : Result HandleNumber Error)
-          → EndsCell (says e1) me own mid r t → LeafLoads v s leaf blob r t
-      loads-told says same is r ends = loads-ended r (subst (λ w. EndsCell w me own mid r t) (ap says same ∙ is) ends)
+          → EndsCellLoad (says e1) me own mid r t → LeafLoads v s leaf blob r t
+      loads-told says same is r ends = loads-ended r (subst (λ w. EndsCellLoad w me own mid r t) (ap says same ∙ is) ends)
 
 -- ---- a pin of a cell whose value is away, once its blob has come
 
 module _ {N E : Type 0} (says : E → Values N) {e1 e0 : E} (same : e1 ≡ e0) {s s1 : PagerState N E} {leaf : Leaf} {blob : Blob}
     (f : LeafFetched (says e0) s leaf blob s1) {h : HandleNumber} (number : leaf.row.number ≡ h) where
-  is-refused : (e : Error) (u : PagerState N E) → PinRun (says e0) s leaf.row.number (Err e) u → PinsAway (says e0) s h (Err e) u
+  is-refused : (e : Error) (u : PagerState N E) → PinRun (says e0) s leaf.row.number (Err e) u → PinsPagedOut (says e0) s h (Err e) u
   is-refused e u run = record { goes = tt; refused = subst (λ q. PinRun (says e0) s q (Err e) u) number run }
 
-  is-pinned : (k : HandleNumber) (u : PagerState N E) → PinRun (says e0) s leaf.row.number (Ok k) u → PinsAway (says e0) s h (Ok (Some k)) u
+  is-pinned : (k : HandleNumber) (u : PagerState N E) → PinRun (says e0) s leaf.row.number (Ok k) u → PinsPagedOut (says e0) s h (Ok (Some k)) u
   is-pinned k u run = record {
     goes = (subst (λ q. PinRun (says e0) s q (Ok k) u) number run, subst (λ q. is_unpinned_at s.core q ≡ true) number f.unpinned);
     refused = tt;
   }
 
-  pub away-loads-refused : (e : Error) (u : PagerState N E) → LeafLoads (says e1) s1 leaf blob (Err e) u → PinsAway (says e0) s h (Err e) u
+  pub away-loads-refused : (e : Error) (u : PagerState N E) → LeafLoads (says e1) s1 leaf blob (Err e) u → PinsPagedOut (says e0) s h (Err e) u
   away-loads-refused e u loads = is-refused e u (loads-refused f (subst (λ q. LeafLoads (says q) s1 leaf blob (Err e) u) same loads))
 
-  pub away-loads-pinned : (k : HandleNumber) (u : PagerState N E) → LeafLoads (says e1) s1 leaf blob (Ok k) u → PinsAway (says e0) s h (Ok (Some k)) u
+  pub away-loads-pinned : (k : HandleNumber) (u : PagerState N E) → LeafLoads (says e1) s1 leaf blob (Ok k) u → PinsPagedOut (says e0) s h (Ok (Some k)) u
   away-loads-pinned k u loads = is-pinned k u (loads-pinned f (subst (λ q. LeafLoads (says q) s1 leaf blob (Ok k) u) same loads))
 
-  pub away-dropped : (e : Error) (u : PagerState N E) → (e ≡ Error.OutOfMemory) × LeafDropped (says e1) s1 leaf u → PinsAway (says e0) s h (Err e) u
+  pub away-dropped : (e : Error) (u : PagerState N E) → (e ≡ Error.OutOfMemory) × LeafDropped (says e1) s1 leaf u → PinsPagedOut (says e0) s h (Err e) u
   away-dropped e u (wanting, dropped) =
       is-refused e u (subst (λ q. PinRun (says e0) s leaf.row.number (Err q) u) (sym wanting)
       (dropped-run f (subst (λ q. LeafDropped (says q) s1 leaf u) same dropped)))
 
   pub away-pinned : (x : N) (k : HandleNumber) (u : PagerState N E) → IsReadAs (says e1) leaf.node_type blob [] x → (says e1).references x ≡ []
-      → LeafPinned (says e1) s1 leaf x k u → PinsAway (says e0) s h (Ok (Some k)) u
+      → LeafPinned (says e1) s1 leaf x k u → PinsPagedOut (says e0) s h (Ok (Some k)) u
   away-pinned x k u read bare pinned = is-pinned k u (pinned-run f (subst (λ q. IsReadAs (says q) leaf.node_type blob [] x) same read)
       (subst (λ q. (says q).references x ≡ []) same bare)
       (subst (λ q. LeafPinned (says q) s1 leaf x k u) same pinned))
@@ -94,7 +111,7 @@ module _ {N E : Type 0} (says : E → Values N) {e1 e0 : E} (same : e1 ≡ e0) {
 
 module _ {N E : Type 0} (v : Values N) (h k : HandleNumber) where
   pub shares-back : {X : Type 0} (see : X → N) (e : Error) (s t : PagerState N E) → SharesPinned see s k (Err e) → TakesBack v true h k s t
-      → SharesNew v h k s (Err e) t
+      → SharesOrUndoes v h k s (Err e) t
   shares-back see e s t d back = record { shares = λ was first. taken_back v h see k true e was s t first d back }
 
   pub back-so : {me : Owner} → me ≡ Owner.Caller → (told other : Result (Unit {0}) Error) (s low t : PagerState N E)

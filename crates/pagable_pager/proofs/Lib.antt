@@ -1,3 +1,7 @@
 pub mod Invariant
-pub mod Leaf
+pub mod NewValues
+pub mod LentCalls
+pub mod LeafCalls
+pub mod LeafRuns
+pub mod LeafPins
 pub mod LentPins

@@ -1,8 +1,25 @@
 -- Cells that are pinned without a load's row, and the loads that have the same effect.
-use Rattle.{pagable_leaf.specs.declared.leaf.Leaf.Leaf, pagable_load.specs.{PinStart.{PinsFirst, is_unpinned_at}, LoadSteps.Runs, AccessView.Brings, declared.reading.Reading.Reading as Own}, pagable_value_spec.specs.{Blob.Blob, declared.numbers.{HandleNumber.HandleNumber, LoadNumber.LoadNumber}}}
-use Rattle.pagable_pager_spec.specs.{Access.{MakesCall, LoadRun, PinRun, PinsOver}, Calls.FetchCall, LoadCalls.{BeginCall, EndCall, LoadCloses}, Loads.root_frame, Pager.{IsCellOf, PagerState}, World.{Alike, Reading, Values, of_cell}}
-use Rattle.{pagable_value_spec.specs.declared.error.Error.Error, pagable_pager_spec.specs.declared.{pinning.Beginning.Beginning, events.LoadAnswer.LoadAnswer, handle_row.Owner.Owner}}
-use Rattle.std.specs.Prelude.{Err, IfErr, IfOk, None, Ok, Option, Result, Some, [], true, ℕ, ◌∷◌, ◌≡◌, ◌⊎◌}
+use Rattle.pagable_leaf.specs.declared.leaf.Leaf.{Leaf}
+use Rattle.pagable_load.specs.{
+  AccessView.MakesCallBringing,
+  LoadSteps.RunsLoad,
+  PinStart.{PinsWithLoad, is_unpinned_at},
+  declared.reading.Reading.Reading as Own,
+}
+use Rattle.pagable_pager_spec.specs.{
+  Access.{LoadRun, MakesCall, PinRun, PinsOver},
+  Calls.FetchCall,
+  LoadCalls.{BeginCall, EndCall, LoadCloses},
+  Loads.root_frame,
+  Pager.{IsCellOf, PagerState},
+  World.{Alike, Reading, Values, of_cell},
+  declared.{events.LoadAnswer.LoadAnswer, handle_row.Owner.Owner, pinning.Beginning.Beginning},
+}
+use Rattle.pagable_value_spec.specs.{
+  Blob.Blob,
+  declared.{error.Error.Error, numbers.{HandleNumber.HandleNumber, LoadNumber.LoadNumber}},
+}
+use Rattle.std.specs.Prelude.{Err, IfErr, IfOk, None, Ok, Option, Result, Some, true, ℕ, [], ◌∷◌, ◌≡◌, ◌⊎◌}
 
 -- the cell's blob was fetched, and no value was brought into memory
 pub record LeafFetched {N E : Type 0} (v : Values N) (s : PagerState N E) (leaf : Leaf) (blob : Blob)
@@ -28,7 +45,7 @@ pub record LeafPinned {N E : Type 0} (v : Values N) (s : PagerState N E) (leaf :
   pub l : LoadNumber
   pub mid : PagerState N E
   pub begun : LeafBegun v s leaf l mid
-  pub ends : Brings v (λ w'. EndCall mid.core Owner.Caller l x (v.node_type x) (v.references x) (Ok k) w')
+  pub ends : MakesCallBringing v (λ w'. EndCall mid.core Owner.Caller l x (v.node_type x) (v.references x) (Ok k) w')
       (λ n y. (y ≡ x) × IsCellOf mid.core l n) mid s'
 
 -- a load began and was dropped
@@ -52,10 +69,10 @@ abbrev pub rooted_reading : LoadNumber → ℕ → ℕ → Blob → Reading
 rooted_reading l key t blob = record { load = l; node_type = t; frames = root_frame key t blob ∷ []; steps = 1 }
 
 -- how a cell's load ends, from there
-pub record EndsCell {N E : Type 0} (v : Values N) (me : Owner) (own : Own) (s : PagerState N E)
+pub record EndsCellLoad {N E : Type 0} (v : Values N) (me : Owner) (own : Own) (s : PagerState N E)
     (r : Result HandleNumber Error) (t : PagerState N E) : Type 0 where
-  pub pinned : IfOk r (λ k. Runs v me own s (LoadAnswer.Pinned k) t)
-  pub refused : IfErr r (λ e. Runs v me own s (LoadAnswer.Refused e) t)
+  pub pinned : IfOk r (λ k. RunsLoad v me own s (LoadAnswer.Pinned k) t)
+  pub refused : IfErr r (λ e. RunsLoad v me own s (LoadAnswer.Refused e) t)
 
 -- A load of the cell began, got its root's blob, and ended; or memory for it ran out.
 pub record LeafLoads {N E : Type 0} (v : Values N) (s : PagerState N E) (leaf : Leaf) (blob : Blob)
@@ -67,17 +84,18 @@ pub record LeafLoads {N E : Type 0} (v : Values N) (s : PagerState N E) (leaf : 
       ⊎ ((e ≡ Error.OutOfMemory) × LeafUnbegun v s leaf s'))
 
 -- the cell was pinned by a whole load, by a handle that was unpinned before; or nothing was done
-abbrev pub GoesAway : {N E : Type 0} → Values N → PagerState N E → HandleNumber → Option HandleNumber → PagerState N E
+abbrev pub PinsIfPagedOut : {N E : Type 0} → Values N → PagerState N E → HandleNumber
+    → Option HandleNumber → PagerState N E
     → Type 0
-GoesAway v s h None s' = s' ≡ s
-GoesAway v s h (Some k) s' = PinRun v s h (Ok k) s' × (is_unpinned_at s.core h ≡ true)
+PinsIfPagedOut v s h None s' = s' ≡ s
+PinsIfPagedOut v s h (Some k) s' = PinRun v s h (Ok k) s' × (is_unpinned_at s.core h ≡ true)
 
-pub record PinsAway {N E : Type 0} (v : Values N) (s : PagerState N E) (h : HandleNumber)
+pub record PinsPagedOut {N E : Type 0} (v : Values N) (s : PagerState N E) (h : HandleNumber)
     (r : Result (Option HandleNumber) Error) (s' : PagerState N E) : Type 0 where
-  pub goes : IfOk r (λ found. GoesAway v s h found s')
+  pub goes : IfOk r (λ found. PinsIfPagedOut v s h found s')
   pub refused : IfErr r (λ e. PinRun v s h (Err e) s')
 
 -- What follows a pin by a handle that was unpinned before: its value is shared, or the pin is undone.
-pub record SharesNew {N E : Type 0} (v : Values N) (h k : HandleNumber) (s : PagerState N E)
+pub record SharesOrUndoes {N E : Type 0} (v : Values N) (h k : HandleNumber) (s : PagerState N E)
     (r : Result (HandleNumber × N) Error) (t : PagerState N E) : Type 0 where
-  pub shares : (was : PagerState N E) → PinsFirst v was h (Ok (k, true)) s → PinsOver v was h r t
+  pub shares : (was : PagerState N E) → PinsWithLoad v was h (Ok (k, true)) s → PinsOver v was h r t

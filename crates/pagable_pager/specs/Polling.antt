@@ -1,6 +1,8 @@
 -- A fetch that is polled.
+use Rattle.futures.specs.{Poll.IfReady, declared.task.Poll.Poll}
+use Rattle.pagable_pager_spec.specs.{Calls.{Asked, FetchCall}, World.{Core, result_map}}
+use Rattle.pagable_value_spec.specs.{Blob.Blob, declared.error.Error.Error}
 use Rattle.std.specs.Prelude.{Result, ℕ}
-use Rattle.{futures.specs.{Poll.IfReady, declared.task.Poll.Poll}, pagable_value_spec.specs.{Blob.Blob, declared.error.Error.Error}, pagable_pager_spec.specs.{Calls.{Asked, FetchCall}, World.{Core, result_map}}}
 
 -- When it is ready, it is a fetch. While it is pending, only the count of failures may change.
 pub record PollCall {X : Type 0} (see : X → Blob) (w : Core) (key : ℕ) (polled : Poll (Result X Error))

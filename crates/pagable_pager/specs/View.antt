@@ -1,13 +1,33 @@
 -- What contracts see of a pager and its open loads, and the core that they derive from it.
-use Rattle.std.specs.declared.sync.Arc.{Arc}
-use Rattle.std.specs.{Arc.arc_value, Global.Global, Option.option_map, Prelude.{Bool, IsTrue, None, Option, Some, false, true, ℕ, ◌+◌, ◌≡◌}}
-use Rattle.{either.specs.declared.Either.Either, pagable_value_spec.specs.declared.numbers.{ArcRef.ArcRef, HandleNumber.HandleNumber, LoadNumber.LoadNumber, WorkerNumber.WorkerNumber}}
+use Rattle.either.specs.declared.Either.{Either}
 use Rattle.pagable_core.specs.declared.storage.traits.PagableStorage.{Ghosts as Storages}
-use Rattle.pagable_tables.specs.{Core.{OwnLaterHandles, StorageView, core_of}, Nodes.{counts_at, pins_in}, NumberTable.row_by}
-use Rattle.pagable_tables.specs.declared.{number_table.NumberTable.NumberTable, tables.Tables.Tables}
-use Rattle.pagable_pager_spec.specs.Kinds.{HasKinds, loose_kind}
-use Rattle.pagable_pager_spec.specs.{Events.{IsEntry, with_entry_taken, with_worker}, LoadCalls.{Given, from_cache, from_store}, Pager.{PagerState, IsPagerWhole}, Basics.{Blob, updated}, Refusals.OwnsLoad}
-use Rattle.pagable_pager_spec.specs.{Access.MakesCall, World.{Alike, Core, OpenLoad, Root, Values, of_cell, of_key}, declared.{calls.Want.Want, handle_row.{HandleRow.HandleRow, Owner.Owner}}}
+use Rattle.pagable_pager_spec.specs.{
+  Access.MakesCall,
+  Basics.{Blob, updated},
+  Events.{IsEntry, with_entry_taken, with_worker},
+  Kinds.{HasKinds, loose_kind},
+  LoadCalls.{Given, from_cache, from_store},
+  Pager.{IsPagerWhole, PagerState},
+  Refusals.OwnsLoad,
+  World.{Alike, Core, OpenLoad, Root, Values, of_cell, of_key},
+  declared.{calls.FetchTarget.FetchTarget, handle_row.{HandleRow.HandleRow, Owner.Owner}},
+}
+use Rattle.pagable_tables.specs.{
+  Core.{OwnLaterHandles, StorageView, core_of},
+  Nodes.{counts_at, pins_in},
+  NumberTable.row_by,
+  declared.{number_table.NumberTable.NumberTable, tables.Tables.Tables},
+}
+use Rattle.pagable_value_spec.specs.declared.{
+  numbers.{ArcRef.ArcRef, HandleNumber.HandleNumber, LoadNumber.LoadNumber, WorkerNumber.WorkerNumber},
+}
+use Rattle.std.specs.{
+  Arc.arc_value,
+  Global.Global,
+  Option.option_map,
+  Prelude.{Bool, IsTrue, None, Option, Some, false, true, ℕ, ◌+◌, ◌≡◌},
+  declared.sync.Arc.Arc,
+}
 use Rattle.pagable_tables.specs.Core as tables
 
 abbrev pub ValuesByNode : Type 0 → Type 0
@@ -56,19 +76,19 @@ pub record IsPager {N S E : Type 0} (tells : Telling S) (says : E → Values N) 
   pub state : IsPagerWhole (says p.environment) (pager_state tells p)
 
 -- values, storage and environment are the same
-pub record OnlyTables {N S E : Type 0} (old new : PagerView N S E) : Type 0 where
+pub record ChangesOnlyTables {N S E : Type 0} (old new : PagerView N S E) : Type 0 where
   pub values : new.values ≡ old.values
   pub storage : new.storage ≡ old.storage
   pub environment : new.environment ≡ old.environment
 
 -- tables, values and environment are the same
-pub record OnlyStorage {N S E : Type 0} (old new : PagerView N S E) : Type 0 where
+pub record ChangesOnlyStorage {N S E : Type 0} (old new : PagerView N S E) : Type 0 where
   pub tables : new.tables ≡ old.tables
   pub values : new.values ≡ old.values
   pub environment : new.environment ≡ old.environment
 
 -- storage and environment are the same, and each value that is in memory was there before
-pub record OnlyLess {N S E : Type 0} (old new : PagerView N S E) : Type 0 where
+pub record AddsNoValue {N S E : Type 0} (old new : PagerView N S E) : Type 0 where
   pub values : (n : ℕ) (x : N) → value_in new.values n ≡ Some x → value_in old.values n ≡ Some x
   pub storage : new.storage ≡ old.storage
   pub environment : new.environment ≡ old.environment
@@ -89,8 +109,8 @@ from_cache_or_store see (Either.Left k) = from_cache k
 from_cache_or_store see (Either.Right blob) = from_store (see blob)
 
 -- a fetch of the load's own blob never returns a handle of the cache's
-abbrev pub FitsWant : {B : Type 0} → Want → Either HandleNumber B → Type 0
-FitsWant Want.Root (Either.Left k) = ⊥
+abbrev pub FitsWant : {B : Type 0} → FetchTarget → Either HandleNumber B → Type 0
+FitsWant FetchTarget.Root (Either.Left k) = ⊥
 FitsWant want given = Unit {0}
 
 -- whether the owner is the caller, or a worker at work
@@ -117,10 +137,11 @@ pub record AsksStorage {N S E : Type 0} (is_honest : S → Bool) (tells : Tellin
   pub step : IsTrue (is_honest new.storage) → makes (pager_core tells old) (pager_core tells new)
   pub honest : IsTrue (is_honest new.storage) → IsTrue (is_honest old.storage)
   pub closed : (tells new.storage).closed ≡ (tells old.storage).closed
-  pub only : OnlyStorage old new
+  pub only : ChangesOnlyStorage old new
 
 -- a call that brings no value into memory, and keeps the pager's invariant
-pub record Settles {N S E : Type 0} (Only : PagerView N S E → PagerView N S E → Type 0) (tells : Telling S)
+pub record CallsKeepingInvariant {N S E : Type 0} (Only : PagerView N S E → PagerView N S E → Type 0)
+    (tells : Telling S)
     (says : E → Values N) (old : PagerView N S E) (makes : Core → Core → Type 0)
     (new : PagerView N S E) : Type 0 where
   pub called : MakesCall (says old.environment) (makes (pager_core tells old)) (pager_state tells old)

@@ -1,23 +1,32 @@
 //! `Lent`: a lent pager as an access, for the caller or for a page-out worker; and the cache of a
 //! pager.
-#![tactic(auto, using(crate::proofs::Invariant::lending))]
+#![tactic(auto, using(crate::proofs::LentCalls::lending))]
 
-ghost use Rattle.std.specs.{Arc.arc_value, Prelude.{IfErr, IfOk, IsTrue, true, ◌≡◌, ◌≤◌}};
-ghost use Rattle.{pagable_core.specs.Data.blob_of, pagable_leaf.specs.Leaf.IsLeaf, pagable_load.specs.AccessView.values_at};
-ghost use Rattle.pagable_pager.specs.{Leaf.{LeafLoads, PinsAway}, View.{Calls, OnlyLess, OnlyTables, pager_core, may_call, pager_state, storage_view}};
+ghost use Rattle.pagable_core.specs.Data.{blob_of};
+ghost use Rattle.pagable_leaf.specs.Leaf.{IsLeaf};
+ghost use Rattle.pagable_load.specs.AccessView.{values_at};
+ghost use Rattle.pagable_pager.specs.{
+  Leaf.{LeafLoads, PinsPagedOut},
+  View.{AddsNoValue, Calls, ChangesOnlyTables, may_call, pager_core, pager_state, storage_view},
+};
+ghost use Rattle.pagable_pager_spec.specs.{
+  Calls.{ClearCall, OfferCall, RecallCall},
+  Pager.IsPagerWhole,
+  World.result_map,
+};
 ghost use Rattle.pagable_tables.specs.{HandleTable.room, Soundness.is_sound};
-ghost use Rattle.pagable_pager_spec.specs.{Calls.{ClearCall, OfferCall, RecallCall}, Pager.IsPagerWhole, World.result_map};
+ghost use Rattle.std.specs.{Arc.arc_value, Prelude.{IfErr, IfOk, IsTrue, true, ◌≡◌, ◌≤◌}};
 
 use crate::pager::Pager;
 use crate::pager::leaf::read_leaf;
-use crate::pins::{read_rest, rooted};
+use crate::pins::{read_rest, reading_with_root};
 use either::Either;
 use pagable_codec::{Env, NodeSet};
 use pagable_core::{PagableData, PagableStorage, SessionOf};
 use pagable_leaf::Leaf;
 use pagable_load::{Access, PinStart, PinnedOrLoading, TakenValue, WorkerAccess, WorkerNode};
 use pagable_pager_spec::handle_row::Owner;
-use pagable_pager_spec::{Beginning, Want};
+use pagable_pager_spec::{Beginning, FetchTarget};
 use pagable_tables::checks;
 use pagable_value_spec::{
     ArcRef, DataKey, Error, HandleNumber, Kind, LoadNumber, NodeNumber, OptionalDataKey,
@@ -110,7 +119,7 @@ impl<'a, E: Env<Node: NodeSet<E>>, S: PagableStorage<E>> Lent<'a, E, S> {
     ) -> Result<Option<HandleNumber>, Error>
         requires caller { self.old.me ≡ Owner.Caller }
         ensures goes { IsTrue (S.is_honest self.new.pager.now.storage)
-            → PinsAway (values_at E.Node.NodeSet E.Env E.Hash.KeyHash self.old.pager.now.environment)
+            → PinsPagedOut (values_at E.Node.NodeSet E.Env E.Hash.KeyHash self.old.pager.now.environment)
             (pager_state (storage_view S.PagableStorage) self.old.pager.now) handle result
             (pager_state (storage_view S.PagableStorage) self.new.pager.now) }
         ensures honest { IsTrue (S.is_honest self.new.pager.now.storage)
@@ -155,7 +164,7 @@ impl<'a, E: Env<Node: NodeSet<E>>, S: PagableStorage<E>> Lent<'a, E, S> {
         let key = leaf.key;
         let node_type = leaf.node_type;
         let load = self.pager.begin_leaf_load(leaf)?;
-        let reading = rooted(alloc, load, key, node_type, blob);
+        let reading = reading_with_root(alloc, load, key, node_type, blob);
         read_rest(self, alloc, reading)
     }
 }
@@ -231,7 +240,9 @@ impl<'a, E: Env<Node: NodeSet<E>>, S: PagableStorage<E>> Access<E> for Lent<'a, 
     }
 
     fn load_root(&mut self, alloc: Global, load: LoadNumber) -> Result<Arc<PagableData>, Error> {
-        let found = self.pager.load_fetch_for(self.me, alloc, load, Want::Root);
+        let found = self
+            .pager
+            .load_fetch_for(self.me, alloc, load, FetchTarget::Root);
         match with_invariant(found, self.pager)? {
             Either::Right(blob) => Ok(blob),
             Either::Left(_) => unreachable!(),
@@ -245,7 +256,7 @@ impl<'a, E: Env<Node: NodeSet<E>>, S: PagableStorage<E>> Access<E> for Lent<'a, 
         kind: Kind,
         key: DataKey,
     ) -> Result<Either<ArcRef, Arc<PagableData>>, Error> {
-        let want = Want::Nested(kind, key);
+        let want = FetchTarget::Nested(kind, key);
         let found = self.pager.load_fetch_for(self.me, alloc, load, want);
         self.pager.assert_invariant();
         match found? {
@@ -317,7 +328,7 @@ impl<'a, E: Env<Node: NodeSet<E>>, S: PagableStorage<E>> WorkerAccess<E> for Len
         )
     }
 
-    fn take_value(&mut self, reference: ArcRef) -> Result<TakenValue<E::Node>, Error> {
+    fn pin_or_load_value(&mut self, reference: ArcRef) -> Result<TakenValue<E::Node>, Error> {
         match self.pin_or_load_reference(reference)? {
             PinnedOrLoading::Held(through, pin) => Ok(TakenValue::Held(
                 through,
@@ -329,7 +340,7 @@ impl<'a, E: Env<Node: NodeSet<E>>, S: PagableStorage<E>> WorkerAccess<E> for Len
     }
 
     fn release_worker_node(&mut self, worker: WorkerNumber, node: NodeNumber) {
-        self.pager.release_node(worker, node);
+        self.pager.release_worker_node(worker, node);
     }
 
     fn set_key_if_loose(&mut self, loose: Option<HandleNumber>, key: DataKey) -> Result<(), Error> {
@@ -394,7 +405,7 @@ impl<'a, E: Env<Node: NodeSet<E>>, S: PagableStorage<E>> WorkerAccess<E> for Len
     }
 
     fn entry_key(&self, place: usize) -> Option<OptionalDataKey> {
-        let (_, _, key) = self.pager.entry(place)?;
+        let (_, _, key) = self.pager.pending_entry(place)?;
         Some(key)
     }
 
@@ -444,7 +455,7 @@ impl<'a, E: Env<Node: NodeSet<E>>, S: PagableStorage<E>> DeserializedArcCache<'a
     /// - those of `Pager::cache_get`.
     pub fn get(&mut self, kind: Kind, key: DataKey) -> Result<Option<HandleNumber>, Error>
         ensures lent { self.new.pager.ghost_name ≡ self.old.pager.ghost_name }
-        ensures calls { Calls OnlyTables (storage_view S.PagableStorage) self.old.pager.now
+        ensures calls { Calls ChangesOnlyTables (storage_view S.PagableStorage) self.old.pager.now
             (λ w w'. RecallCall w Owner.Caller kind key result w') self.new.pager.now }
     {
         self.pager.cache_get(kind, key)
@@ -459,7 +470,7 @@ impl<'a, E: Env<Node: NodeSet<E>>, S: PagableStorage<E>> DeserializedArcCache<'a
     pub fn get_or_create_cell(&mut self, kind: Kind, key: DataKey) -> Result<ArcCell, Error>
         ensures lent { self.new.pager.ghost_name ≡ self.old.pager.ghost_name }
         ensures place { IfOk result (λ cell. (cell.kind ≡ kind) × (cell.key ≡ key)) }
-        ensures calls { Calls OnlyTables (storage_view S.PagableStorage) self.old.pager.now
+        ensures calls { Calls ChangesOnlyTables (storage_view S.PagableStorage) self.old.pager.now
             (λ w w'. RecallCall w Owner.Caller kind key (result_map (λ cell. cell.handle) result) w')
             self.new.pager.now }
     {
@@ -467,7 +478,9 @@ impl<'a, E: Env<Node: NodeSet<E>>, S: PagableStorage<E>> DeserializedArcCache<'a
         Ok(ArcCell { kind, key, handle })
     }
 
-    /// Caches a handle's node, or returns another handle, as `Pager::on_arc_deserialized` does.
+    /// Caches a handle's node under a kind and a key and returns None. If a usable node is cached
+    /// there already, releases `handle` and returns a new handle of that node. After `close`,
+    /// returns `handle`.
     ///
     /// # Errors
     ///
@@ -479,7 +492,7 @@ impl<'a, E: Env<Node: NodeSet<E>>, S: PagableStorage<E>> DeserializedArcCache<'a
         handle: HandleNumber,
     ) -> Result<Option<HandleNumber>, Error>
         ensures lent { self.new.pager.ghost_name ≡ self.old.pager.ghost_name }
-        ensures calls { Calls OnlyLess (storage_view S.PagableStorage) self.old.pager.now
+        ensures calls { Calls AddsNoValue (storage_view S.PagableStorage) self.old.pager.now
             (λ w w'. OfferCall w Owner.Caller kind key handle result w') self.new.pager.now }
     {
         self.pager.on_arc_deserialized(kind, key, handle)
@@ -488,7 +501,7 @@ impl<'a, E: Env<Node: NodeSet<E>>, S: PagableStorage<E>> DeserializedArcCache<'a
     /// Empties the cache. Never fails.
     pub fn clear(&mut self) -> Result<(), Error>
         ensures lent { self.new.pager.ghost_name ≡ self.old.pager.ghost_name }
-        ensures calls { Calls OnlyTables (storage_view S.PagableStorage) self.old.pager.now
+        ensures calls { Calls ChangesOnlyTables (storage_view S.PagableStorage) self.old.pager.now
             (λ w w'. ClearCall w result w') self.new.pager.now }
     {
         self.pager.cache_clear()

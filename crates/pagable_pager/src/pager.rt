@@ -1,15 +1,28 @@
 //! The pager: values in memory, in step with the tables of handles and nodes, over a storage of
 //! blobs; and loads, by steps.
 
-ghost use Rattle.std.specs.{Arc.arc_value, Option.option_map, Prelude.{IfErr, IfNone, IfOk, IsTrue, None, OnOk, Option, Some, false, nat_lt, true, ℕ, ◌≡◌}};
-ghost use Rattle.{futures.specs.{Poll.{IfReady, OnPending}, Task.{IsArmed, Keeps}}, pagable_pager.specs.Polling.PollCall};
+ghost use Rattle.futures.specs.{Poll.{IfReady, OnPending}, Task.{IsArmed, Keeps}};
 ghost use Rattle.pagable_core.specs.Data.{blob_of};
-ghost use Rattle.pagable_load.specs.{PinStart.Shares, AccessView.values_at};
-ghost use Rattle.pagable_value_spec.specs.{Blob.{Blob, key_of}, Stored.{RefusesFetch, IsMemoryOrFailure, RefusesStore}};
-ghost use Rattle.pagable_tables.specs.{Core.root_in, EndingLoads.AsksKnown, Soundness.is_sound};
-ghost use Rattle.pagable_pager.specs.View.{AsksStorage, Calls, FewerValues, FitsWant, KeepsWorkers, OnlyTables, ReadsAs, SameValues, pager_core, from_cache_or_store, may_call, pager_state, storage_view, type_of_root};
-ghost use Rattle.pagable_pager_spec.specs.{Calls.{CloseCall, FetchCall, FlushCall, StoreCall}, LoadCalls.{LoadFetchCall, BeginCall, BeginKeyCall, LazyCall}, Pager.{IsNew, ValueCall, IsPagerWhole}};
-ghost use Rattle.pagable_pager_spec.specs.{Refusals.load_fault, World.{greatest, result_map}};
+ghost use Rattle.pagable_load.specs.{AccessView.values_at, PinStart.Shares};
+ghost use Rattle.pagable_pager.specs.{
+  Polling.PollCall,
+  View.{AsksStorage, Calls, ChangesOnlyTables, FewerValues, FitsWant, KeepsWorkers, ReadsAs, SameValues},
+  View.{from_cache_or_store, may_call, pager_core, pager_state, storage_view, type_of_root},
+};
+ghost use Rattle.pagable_pager_spec.specs.{
+  Calls.{CloseCall, FetchCall, FlushCall, StoreCall},
+  LoadCalls.{BeginCall, BeginKeyCall, LazyCall, LoadFetchCall},
+  Pager.{IsNew, IsPagerWhole, ValueCall},
+  Refusals.load_fault,
+  World.{greatest, result_map},
+};
+ghost use Rattle.pagable_tables.specs.{Core.root_in, EndingLoads.AsksCache, Soundness.is_sound};
+ghost use Rattle.pagable_value_spec.specs.{Blob.{Blob, key_of}, Stored.{IsMemoryOrFailure, RefusesFetch, RefusesStore}};
+ghost use Rattle.std.specs.{
+  Arc.arc_value,
+  Option.option_map,
+  Prelude.{IfErr, IfNone, IfOk, IsTrue, None, OnOk, Option, Some, false, nat_lt, true, ℕ, ◌≡◌},
+};
 
 // A function whose name ends in `_for` does what the function without this ending does, for the
 // owner that it is given: the caller, or a worker at work.
@@ -24,7 +37,7 @@ use futures::task::{Context, Poll};
 use pagable_codec::{Env, NodeSet};
 use pagable_core::{PagableData, PagableStorage, SessionOf, Setting};
 use pagable_pager_spec::handle_row::Owner;
-use pagable_pager_spec::{Beginning, Want};
+use pagable_pager_spec::{Beginning, FetchTarget};
 use pagable_tables::load_table::LoadRoot;
 use pagable_tables::number_table::NumberTable;
 use pagable_tables::tables::Tables;
@@ -99,7 +112,7 @@ impl<E: Env<Node: NodeSet<E>>, S: PagableStorage<E>> Pager<E, S> {
     /// Creates an empty pager over a storage, which may hold blobs, with an environment and a
     /// session that are also used outside of it, as they are outside the lock of a pager that
     /// threads share. It allocates nothing.
-    pub fn shared(alloc: Global, storage: S, setting: Arc<Setting<E>>) -> Pager<E, S>
+    pub fn with_shared_setting(alloc: Global, storage: S, setting: Arc<Setting<E>>) -> Pager<E, S>
         ensures empty { IsNew (pager_state (storage_view S.PagableStorage) result) }
         ensures storage { result.storage ≡ storage }
         ensures environment { result.environment ≡ (arc_value setting).env }
@@ -113,7 +126,7 @@ impl<E: Env<Node: NodeSet<E>>, S: PagableStorage<E>> Pager<E, S> {
     }
 
     /// Lends the value of a handle's node, if the handle pins it. Fails with NoSuchHandle only.
-    fn held(&self, handle: HandleNumber) -> Result<Option<&Arc<E::Node>>, Error>
+    fn pinned_value(&self, handle: HandleNumber) -> Result<Option<&Arc<E::Node>>, Error>
         ensures { ValueCall (pager_state (storage_view S.PagableStorage) self.now) handle
             (result_map (option_map (λ x. arc_value x.now)) result) }
     {
@@ -133,7 +146,7 @@ impl<E: Env<Node: NodeSet<E>>, S: PagableStorage<E>> Pager<E, S> {
         ensures { ValueCall (pager_state (storage_view S.PagableStorage) self.now) handle
             (result_map (option_map (λ x. x.now)) result) }
     {
-        match self.held(handle) {
+        match self.pinned_value(handle) {
             Ok(Some(value)) => Ok(Some(value.as_ref())),
             Ok(None) => Ok(None),
             Err(e) => Err(e),
@@ -149,7 +162,7 @@ impl<E: Env<Node: NodeSet<E>>, S: PagableStorage<E>> Pager<E, S> {
     pub fn share(&self, handle: HandleNumber) -> Result<Option<Arc<E::Node>>, Error>
         ensures { Shares arc_value (pager_state (storage_view S.PagableStorage) self.now) handle result }
     {
-        match self.held(handle) {
+        match self.pinned_value(handle) {
             Ok(Some(value)) => Ok(Some(value.clone()?)),
             Ok(None) => Ok(None),
             Err(e) => Err(e),
@@ -169,8 +182,9 @@ impl<E: Env<Node: NodeSet<E>>, S: PagableStorage<E>> Pager<E, S> {
         &self.setting.get().session
     }
 
-    /// Returns whether no page-out worker is at work on this pager, as between any two calls: only a
-    /// machine has workers at work from one event to the next.
+    /// Returns whether no page-out worker is at work on this pager. A page-out ends its workers
+    /// before it returns; only a `Machine`, which makes one step for each event, has workers at
+    /// work from one event to the next.
     pub fn is_at_rest(&self) -> bool
         ensures { result ≡ true → (v : ℕ) → (pager_core (storage_view S.PagableStorage) self.now).workers v ≡ false }
     {
@@ -338,7 +352,7 @@ impl<E: Env<Node: NodeSet<E>>, S: PagableStorage<E>> Pager<E, S> {
     /// - `NumbersSpent` if no number is left for a load.
     /// - `OutOfMemory` if the load can't be allocated.
     pub fn load_key(&mut self, key: DataKey) -> Result<Beginning, Error>
-        ensures { Calls OnlyTables (storage_view S.PagableStorage) self.old
+        ensures { Calls ChangesOnlyTables (storage_view S.PagableStorage) self.old
             (λ w w'. BeginKeyCall w Owner.Caller key result w') self.new }
     {
         self.load_key_for(Owner::Caller, key)
@@ -346,7 +360,8 @@ impl<E: Env<Node: NodeSet<E>>, S: PagableStorage<E>> Pager<E, S> {
 
     pub(crate) fn load_key_for(&mut self, me: Owner, key: DataKey) -> Result<Beginning, Error>
         requires { may_call (pager_core (storage_view S.PagableStorage) self.old) me ≡ true }
-        ensures { Calls OnlyTables (storage_view S.PagableStorage) self.old (λ w w'. BeginKeyCall w me key result w')
+        ensures { Calls ChangesOnlyTables (storage_view S.PagableStorage) self.old
+            (λ w w'. BeginKeyCall w me key result w')
             self.new }
     {
         load::load_key(&mut self.tables, me, key)
@@ -363,7 +378,7 @@ impl<E: Env<Node: NodeSet<E>>, S: PagableStorage<E>> Pager<E, S> {
     /// - `NumbersSpent` if no number is left for the load or the clone.
     /// - `OutOfMemory` if the load or the clone can't be allocated.
     pub fn load_begin(&mut self, handle: HandleNumber) -> Result<Beginning, Error>
-        ensures { Calls OnlyTables (storage_view S.PagableStorage) self.old
+        ensures { Calls ChangesOnlyTables (storage_view S.PagableStorage) self.old
             (λ w w'. BeginCall w Owner.Caller handle result w') self.new }
     {
         self.load_begin_for(Owner::Caller, handle)
@@ -375,29 +390,30 @@ impl<E: Env<Node: NodeSet<E>>, S: PagableStorage<E>> Pager<E, S> {
         handle: HandleNumber,
     ) -> Result<Beginning, Error>
         requires { may_call (pager_core (storage_view S.PagableStorage) self.old) me ≡ true }
-        ensures { Calls OnlyTables (storage_view S.PagableStorage) self.old (λ w w'. BeginCall w me handle result w')
+        ensures { Calls ChangesOnlyTables (storage_view S.PagableStorage) self.old
+            (λ w w'. BeginCall w me handle result w')
             self.new }
     {
         load::load_begin(&mut self.tables, me, handle)
     }
 
     /// Makes a handle, which the load owns, of the node that the cache has under the kind and key;
-    /// returns None if the cache has none. Fails as `load_fetch` does, except for the blob.
-    fn load_known(
+    /// returns None if the cache has none. Fails as `load_fetch` does before it fetches a blob.
+    fn load_cached(
         &mut self,
         me: Owner,
         load: LoadNumber,
         kind: Kind,
         key: DataKey,
     ) -> Result<Option<HandleNumber>, Error>
-        ensures step { AsksKnown (pager_core (storage_view S.PagableStorage) self.old) me load kind key result
+        ensures step { AsksCache (pager_core (storage_view S.PagableStorage) self.old) me load kind key result
             (pager_core (storage_view S.PagableStorage) self.new) }
         ensures none { IfOk result (λ found. IfNone found
             (pager_core (storage_view S.PagableStorage) self.new
             ≡ pager_core (storage_view S.PagableStorage) self.old)) }
-        ensures only { OnlyTables self.old self.new }
+        ensures only { ChangesOnlyTables self.old self.new }
     {
-        load::load_known(&mut self.tables, me, load, kind, key)
+        load::load_cached(&mut self.tables, me, load, kind, key)
     }
 
     /// Fetches what a load needs next. `Root`: the blob of its key. `Nested`: a handle of the
@@ -413,7 +429,7 @@ impl<E: Env<Node: NodeSet<E>>, S: PagableStorage<E>> Pager<E, S> {
         &mut self,
         alloc: Global,
         load: LoadNumber,
-        want: Want,
+        want: FetchTarget,
     ) -> Result<Either<HandleNumber, Arc<PagableData>>, Error>
         ensures step { IsTrue (S.is_honest self.new.storage)
             → LoadFetchCall (pager_core (storage_view S.PagableStorage) self.old) Owner.Caller load want
@@ -434,7 +450,7 @@ impl<E: Env<Node: NodeSet<E>>, S: PagableStorage<E>> Pager<E, S> {
         me: Owner,
         alloc: Global,
         load: LoadNumber,
-        want: Want,
+        want: FetchTarget,
     ) -> Result<Either<HandleNumber, Arc<PagableData>>, Error>
         ensures step { IsTrue (S.is_honest self.new.storage)
             → LoadFetchCall (pager_core (storage_view S.PagableStorage) self.old) me load want
@@ -447,11 +463,11 @@ impl<E: Env<Node: NodeSet<E>>, S: PagableStorage<E>> Pager<E, S> {
         ensures only { SameValues self.old self.new }
     {
         match want {
-            Want::Root => {
+            FetchTarget::Root => {
                 let row = checks::load_row(&self.tables, me, load)?;
                 Ok(Either::Right(self.fetch(alloc, row.key)?))
             }
-            Want::Nested(kind, key) => match self.load_known(me, load, kind, key)? {
+            FetchTarget::Nested(kind, key) => match self.load_cached(me, load, kind, key)? {
                 Some(known) => Ok(Either::Left(known)),
                 None => Ok(Either::Right(self.fetch(alloc, key)?)),
             },
@@ -474,7 +490,7 @@ impl<E: Env<Node: NodeSet<E>>, S: PagableStorage<E>> Pager<E, S> {
         kind: Kind,
         key: DataKey,
     ) -> Result<HandleNumber, Error>
-        ensures { Calls OnlyTables (storage_view S.PagableStorage) self.old
+        ensures { Calls ChangesOnlyTables (storage_view S.PagableStorage) self.old
             (λ w w'. LazyCall w Owner.Caller load kind key result w') self.new }
     {
         self.load_lazy_for(Owner::Caller, alloc, load, kind, key)
@@ -488,7 +504,7 @@ impl<E: Env<Node: NodeSet<E>>, S: PagableStorage<E>> Pager<E, S> {
         kind: Kind,
         key: DataKey,
     ) -> Result<HandleNumber, Error>
-        ensures { Calls OnlyTables (storage_view S.PagableStorage) self.old
+        ensures { Calls ChangesOnlyTables (storage_view S.PagableStorage) self.old
             (λ w w'. LazyCall w me load kind key result w') self.new }
     {
         let lists = !self.storage.has_closed();
@@ -509,7 +525,7 @@ impl<E: Env<Node: NodeSet<E>>, S: PagableStorage<E>> Pager<E, S> {
     ///
     /// - `NoSuchHandle` if the load isn't open.
     /// - `NotYours` if another than the caller began it.
-    pub fn load_of(&self, load: LoadNumber) -> Result<(DataKey, Option<u32>), Error>
+    pub fn load_key_and_type(&self, load: LoadNumber) -> Result<(DataKey, Option<u32>), Error>
         ensures reads { IfOk result (λ r. ReadsAs (pager_core (storage_view S.PagableStorage) self.now) load r.0 r.1) }
         ensures fault { IfErr result (λ e. load_fault (pager_core (storage_view S.PagableStorage) self.now) Owner.Caller
             load ≡ Some e) }

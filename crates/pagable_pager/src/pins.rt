@@ -1,10 +1,14 @@
 //! Pins on a lent pager, which load the value if it isn't in memory. Their clauses hold as long as
 //! the storage is honest afterwards.
 
-ghost use Rattle.std.specs.{Arc.arc_value, Prelude.{IsTrue, true, ◌≡◌}};
-ghost use Rattle.{pagable_core.specs.Data.blob_of, pagable_load.specs.{Frames.reading_of, AccessView.{Acts, values_at}}};
-ghost use Rattle.pagable_pager.specs.{Leaf.{EndsCell, SharesNew, rooted_reading}, View.{pager_state, storage_view}};
+ghost use Rattle.pagable_core.specs.Data.{blob_of};
+ghost use Rattle.pagable_load.specs.{AccessView.{Acts, values_at}, Frames.reading_of};
+ghost use Rattle.pagable_pager.specs.{
+  Leaf.{EndsCellLoad, SharesOrUndoes, rooted_reading},
+  View.{pager_state, storage_view},
+};
 ghost use Rattle.pagable_pager_spec.specs.{Access.PinsOver, World.result_map};
+ghost use Rattle.std.specs.{Arc.arc_value, Prelude.{IsTrue, true, ◌≡◌}};
 
 use crate::lent::Lent;
 use crate::pager::Pager;
@@ -19,7 +23,7 @@ use std::sync::Arc;
 
 // Makes the reading of a cell's load that has got its root's blob, by its first step.
 #[tactic(auto, using(pagable_load::proofs::LoadSteps::stacking))]
-pub(crate) fn rooted(
+pub(crate) fn reading_with_root(
     alloc: Global,
     load: LoadNumber,
     key: DataKey,
@@ -52,7 +56,7 @@ pub(crate) fn read_rest<E: Env<Node: NodeSet<E>>, A: Access<E>>(
 ) -> Result<HandleNumber, Error>
     requires of_cell { reading.for_cell ≡ true }
     ensures { Acts A.known_state A.acting access.old access.new
-        (λ a s t. EndsCell (values_at E.Node.NodeSet E.Env E.Hash.KeyHash a.environment) a.me reading s result t) }
+        (λ a s t. EndsCellLoad (values_at E.Node.NodeSet E.Env E.Hash.KeyHash a.environment) a.me reading s result t) }
 {
     let mut reading = reading;
     match reading.run(access, alloc) {
@@ -65,14 +69,14 @@ pub(crate) fn read_rest<E: Env<Node: NodeSet<E>>, A: Access<E>>(
 // Shares the value of a new pin, made by a handle that was unpinned before. If the value can't be
 // shared, undoes the pin. So the pin and this together do all that a pin with its value does
 // (`PinsOver`), from the state before the pin.
-fn share_new<E: Env<Node: NodeSet<E>>, A: Access<E>>(
+fn share_or_undo<E: Env<Node: NodeSet<E>>, A: Access<E>>(
     access: &mut A,
     handle: HandleNumber,
     pinned: HandleNumber,
 ) -> Result<(HandleNumber, Arc<E::Node>), Error>
     requires caller { (A.acting access.old).me ≡ Owner.Caller }
     ensures { Acts A.known_state A.acting access.old access.new
-        (λ a s t. SharesNew (values_at E.Node.NodeSet E.Env E.Hash.KeyHash a.environment) handle pinned s
+        (λ a s t. SharesOrUndoes (values_at E.Node.NodeSet E.Env E.Hash.KeyHash a.environment) handle pinned s
         (result_map (λ a. (a.0, arc_value a.1)) result) t) }
 {
     match share_pinned(access, pinned) {
@@ -105,7 +109,7 @@ fn pin_lent<'a, E: Env<Node: NodeSet<E>>, S: PagableStorage<E>>(
     let Some(pinned) = found else {
         return pin_over(lent, alloc, handle);
     };
-    share_new(lent, handle, pinned)
+    share_or_undo(lent, handle, pinned)
 }
 
 /// Pins a loose handle's cell; if its value isn't in memory, loads it with all that is loaded with

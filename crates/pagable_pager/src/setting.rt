@@ -1,7 +1,7 @@
 //! The environment and session of a pager, owned or shared.
 
-ghost use Rattle.std.specs.Prelude.{◌≡◌};
 ghost use Rattle.pagable_pager.specs.Setting.{environment_of};
+ghost use Rattle.std.specs.Prelude.{◌≡◌};
 
 use pagable_codec::Env;
 use pagable_core::Setting;

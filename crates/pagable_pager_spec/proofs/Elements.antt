@@ -1,7 +1,11 @@
 -- Elements of lists, counted, and rows by their numbers.
-use Rattle.{pagable_pager_spec.specs.{Kinds.{find_row, is_handle}, Pager.IsHandleBefore, Basics.{Among, HandleRow}}, std.proofs.Common.{Bool, List, Some, [], arith, false, filter, if◌then◌else◌, inl, inr}}
-use Rattle.std.proofs.{Common.{map, refl, subst, suc, sum_by, true, zero, ℕ, ◌<◌, ◌∷◌, ◌≡◌, ◌≤◌}, lemmas.{Bool.{Decides.nat_tests, cases_eq}, List.Elements.{All-filter, filter_passes}}}
-use Rattle.std.{proofs.lemmas.{List.Sums.{get_or-le-sum_by, sum_by-cons}, Option.{get_or_from_slice_get, slice_get-get_or, slice_get_within}}, specs.List.AllPairs}
+use Rattle.pagable_pager_spec.specs.{Basics.{Among, HandleRow}, Kinds.{find_row, is_handle}, Pager.IsHandleBefore}
+use Rattle.std.proofs.{
+  Common.{Bool, List, Some, arith, false, filter, if◌then◌else◌, inl, inr, map, refl, subst, suc, sum_by, true, zero, ℕ, [], ◌<◌, ◌∷◌, ◌≡◌, ◌≤◌},
+  lemmas.{Bool.{Decides.nat_tests, cases_eq}, List.{Elements.{All-filter, filter_passes}, Sums.{get_or-le-sum_by, sum_by-cons}}},
+  lemmas.Option.{get_or_from_slice_get, slice_get-get_or, slice_get_within},
+}
+use Rattle.std.specs.List.{AllPairs}
 
 pub among-one : {X : Type 0} (x y : X) → Among (x ∷ []) y → y ≡ x
 among-one x y x2 = grind (arith, nat_tests)

@@ -1,11 +1,25 @@
 -- Whole operations on a pager and a table: a pin, a read, a page-out of an item and of the list. Each is a run of the
 -- steps of one load or of one worker, up to its end.
-use Rattle.std.specs.Prelude.{[], Err, false, IfErr, IfOk, List, None, Ok, Option, Result, slice_get, Some, ℕ, ◌+◌, ◌∷◌, ◌≡◌, ◌⊎◌}
-use Rattle.pagable_pager_spec.specs.{Calls.{PinCall, ReleaseCall, TakeCall, UnpinCall}, Events.{Ends, entry_task, IsEntry, no_shelf, reading_of_load, with_entry_taken, with_worker}, Rightness.ReadIsRight}
-use Rattle.pagable_pager_spec.specs.{Kinds.{HasKinds, HasNoKinds}, LoadCalls.{BeginCall, BeginKeyCall}, Loads.{gone_on, ReadingDoes}, Pager.{HoldsItsNodes, HoldsPinned, Moves, PagerState, ReadingBrings, PagerStandsFor, SameTrees}}
-use Rattle.pagable_pager_spec.specs.{Pager.{TodoBrings, TookWrites, ValueStands, IsPagerWhole}, Basics.{Beginning, Error, HandleNumber, HandleRow, Identity, LoadAnswer, LoadNumber, Mode, OptionalDataKey}}
-use Rattle.pagable_pager_spec.specs.{Basics.{Owner, Pinning, Action, Tree, WorkerAnswer}, Refusals.WorkerFault, Runs.{HoldsSettled, TakesWell}, Workers.{answer_after, first_todo, fresh, is_open_slot, WorkerState}}
-use Rattle.pagable_pager_spec.specs.{Workers.WalkDoes, World.{Alike, Core, Frame, IsLawful, IsSettled, key_at, of_item, Reading, row_at, SameShelf, Seen, Shelf, Slot, Todo, Values, Written}}
+use Rattle.pagable_pager_spec.specs.{
+  Basics.{Action, Beginning, Error, HandleNumber, HandleRow, Identity, LoadAnswer, LoadNumber, Mode, OptionalDataKey},
+  Basics.{Owner, Pinning, Tree, WorkerAnswer},
+  Calls.{PinCall, ReleaseCall, TakeCall, UnpinCall},
+  Events.{Ends, IsEntry, entry_task, no_shelf, reading_of_load, with_entry_taken, with_worker},
+  Kinds.{HasKinds, HasNoKinds},
+  LoadCalls.{BeginCall, BeginKeyCall},
+  Loads.{ReadingDoes, gone_on},
+  Pager.{HoldsItsNodes, HoldsPinned, IsPagerWhole, Moves, PagerStandsFor, PagerState, ReadingBrings, SameTrees},
+  Pager.{TodoBrings, TookWrites, ValueStands},
+  Refusals.WorkerFault,
+  Rightness.ReadIsRight,
+  Runs.{HoldsSettled, TakesWell},
+  Workers.{WalkDoes, WorkerState, answer_after, first_todo, fresh, is_open_slot},
+  World.{Alike, Core, Frame, IsLawful, IsSettled, Reading, SameShelf, Seen, Shelf, Slot, Todo, Values, Written, key_at},
+  World.{of_item, row_at},
+}
+use Rattle.std.specs.{
+  Prelude.{Err, IfErr, IfOk, List, None, Ok, Option, Result, Some, false, slice_get, ℕ, [], ◌+◌, ◌∷◌, ◌≡◌, ◌⊎◌},
+}
 
 pub record AccessState (N E : Type 0) : Type 0 where
   pub pager : PagerState N E

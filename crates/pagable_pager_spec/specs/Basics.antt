@@ -1,12 +1,27 @@
 -- The types that the specification of the pager uses, re-exported here; and functions on lists, and on functions of a
 -- number.
-use Rattle.std.specs.Prelude.{[], Bool, false, if◌then◌else◌, List, map, None, Option, slice_get, Some, sum_by, ℕ, ◌==◌, ◌||◌, ◌∷◌, ◌≡◌}
-pub use Rattle.pagable_value_spec.specs.{Blob.Blob, declared.{data_key.OptionalDataKey.OptionalDataKey, error.Error.Error, numbers.{ArcRef.ArcRef, HandleNumber.HandleNumber, Identity.Identity, Kind.Kind}}}
-pub use Rattle.pagable_value_spec.specs.{declared.numbers.{LoadNumber.LoadNumber, NodeNumber.NodeNumber, WorkerNumber.WorkerNumber}, Height.{above, deepest_path, height, is_eager, is_loose_kind}}
-pub use Rattle.pagable_value_spec.specs.{Height.{is_pinned_kind, is_shared_kind, Kid, kind_of_kid, longest_path}, Meaning.Meaning, Shape.Shape, Trees.{ReadsTree, Tree, tree, type_of, Types}}
-pub use Rattle.pagable_pager_spec.specs.declared.{pinning.{Beginning.Beginning, Pinning.Pinning}, calls.{Call.Call, Found.Found, Reply.Reply, Want.Want}, events.{Claim.Claim, Event.Event}}
-pub use Rattle.pagable_pager_spec.specs.declared.events.{EventReply.EventReply, LoadAnswer.LoadAnswer, LoadReply.LoadReply, PinStep.PinStep, TableNumber.TableNumber, Action.Action, WorkerAnswer.WorkerAnswer}
-pub use Rattle.pagable_pager_spec.specs.declared.{events.WorkerReply.WorkerReply, handle_row.{HandleRow.HandleRow, Owner.Owner}, mode.Mode.Mode}
+use Rattle.std.specs.{
+  Prelude.{Bool, List, None, Option, Some, false, if◌then◌else◌, map, slice_get, sum_by, ℕ, [], ◌==◌, ◌||◌, ◌∷◌, ◌≡◌},
+}
+pub use Rattle.pagable_pager_spec.specs.declared.{
+  calls.{Call.Call, FetchTarget.FetchTarget, Found.Found, Reply.Reply},
+  events.{Action.Action, Claim.Claim, Event.Event, EventReply.EventReply, LoadAnswer.LoadAnswer, LoadReply.LoadReply},
+  events.{PinStep.PinStep, TableNumber.TableNumber, WorkerAnswer.WorkerAnswer, WorkerReply.WorkerReply},
+  handle_row.{HandleRow.HandleRow, Owner.Owner},
+  mode.Mode.Mode,
+  pinning.{Beginning.Beginning, Pinning.Pinning},
+}
+pub use Rattle.pagable_value_spec.specs.{
+  Blob.Blob,
+  Height.{Kid, above, deepest_path, height, is_eager, is_loose_kind, is_pinned_kind, is_shared_kind, kind_of_kid},
+  Height.longest_path,
+  Meaning.Meaning,
+  Shape.Shape,
+  Trees.{ReadsTree, Tree, Types, tree, type_of},
+  declared.{data_key.OptionalDataKey.OptionalDataKey, error.Error.Error},
+  declared.numbers.{ArcRef.ArcRef, HandleNumber.HandleNumber, Identity.Identity, Kind.Kind, LoadNumber.LoadNumber},
+  declared.numbers.{NodeNumber.NodeNumber, WorkerNumber.WorkerNumber},
+}
 
 -- 1 for true and 0 for false, so that a sum counts rows
 abbrev pub one : Bool → ℕ

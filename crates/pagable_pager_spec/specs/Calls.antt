@@ -1,11 +1,20 @@
 -- The calls on handles, nodes, the cache and the storage: what each does to the pager's core, and why it fails.
 -- `me` is the caller's part: the one who makes the call and owns what it returns.
-use Rattle.std.specs.{List.remove, Prelude.{[], Bool, Err, false, IfErr, IfOk, if◌then◌else◌, is_some, length, List, min, nat_lt, None, not, Ok, Option, Result, slice_get, Some, true, ℕ, ◌&&◌, ◌++◌}}
-use Rattle.std.specs.Prelude.{◌+◌, ◌-◌, ◌<◌, ◌==◌, ◌||◌, ◌∷◌, ◌≡◌, ◌≤◌, ◌⊎◌}
-use Rattle.{pagable_value_spec.specs.Stored.{Adds, RefusesFetch, IsMemoryOrFailure, RefusesStore}, pagable_pager_spec.specs.{Cascade.{Falls, FallsAnyhow, nobody, only_handle}, Kinds.{any_mode, fits_mode}}}
-use Rattle.pagable_pager_spec.specs.{Kinds.{is_handle, is_loose, is_pinned, is_unpinned, mode_of, owner_value, pins}, Basics.{ArcRef, Blob, changed, Error, HandleNumber, HandleRow, if_there, Kind, Mode}}
-use Rattle.pagable_pager_spec.specs.{Basics.{NodeNumber, OptionalDataKey, Owner, Pinning, times, type_of, updated}, Refusals.{AreHandlesFull, earlier, handle_fault, is_type, live_fault, Owns}}
-use Rattle.pagable_pager_spec.specs.{Refusals.{references_fault, Refused, refused_if, spent, where_so}, World.{Alike, Cell, Core, greatest, is_here, key_at, row_at, type_at, usable}}
+use Rattle.pagable_pager_spec.specs.{
+  Basics.{ArcRef, Blob, Error, HandleNumber, HandleRow, Kind, Mode, NodeNumber, OptionalDataKey, Owner, Pinning},
+  Basics.{changed, if_there, times, type_of, updated},
+  Cascade.{Falls, FallsAnyhow, nobody, only_handle},
+  Kinds.{any_mode, fits_mode, is_handle, is_loose, is_pinned, is_unpinned, mode_of, owner_value, pins},
+  Refusals.{AreHandlesFull, Owns, Refused, earlier, handle_fault, is_type, live_fault, references_fault, refused_if},
+  Refusals.{spent, where_so},
+  World.{Alike, Cell, Core, greatest, is_here, key_at, row_at, type_at, usable},
+}
+use Rattle.pagable_value_spec.specs.Stored.{Adds, IsMemoryOrFailure, RefusesFetch, RefusesStore}
+use Rattle.std.specs.{
+  List.remove,
+  Prelude.{Bool, Err, IfErr, IfOk, List, None, Ok, Option, Result, Some, false, if◌then◌else◌, is_some, length, min},
+  Prelude.{nat_lt, not, slice_get, true, ℕ, [], ◌&&◌, ◌++◌, ◌+◌, ◌-◌, ◌<◌, ◌==◌, ◌||◌, ◌∷◌, ◌≡◌, ◌≤◌, ◌⊎◌},
+}
 
 abbrev pub row_of : ℕ → NodeNumber → Mode → Owner → HandleRow
 row_of q node mode owner = record { number = record { 0 = q }; node = node; mode = mode; owner = owner }

@@ -1,9 +1,15 @@
 -- The release of handles with all that follows from it: values that are dropped release the handles that they own, and
 -- cells that lose their last pin are listed. All calls and steps release in this one way: the least closed set that
 -- contains the given handles.
-use Rattle.std.specs.Prelude.{ℕ, ◌≡◌, ◌+◌, ◌<◌, ◌≤◌, ◌==◌, ◌&&◌, ◌⊎◌, ◌++◌, Bool, true, false, not, if◌then◌else◌, List, [], ◌∷◌, filter, map, length, Result, IfOk, IfErr, nat_lt, nat_eq, None}
-use Rattle.pagable_pager_spec.specs.{Basics.{Error, HandleNumber, HandleRow, times, Owner, Mode}, Kinds.{is_owned_by, owner_value, is_at, is_pin, held, pins, sharing, has_key}}
-use Rattle.pagable_pager_spec.specs.World.{Core, greatest, key_at, Alike}
+use Rattle.pagable_pager_spec.specs.{
+  Basics.{Error, HandleNumber, HandleRow, Mode, Owner, times},
+  Kinds.{has_key, held, is_at, is_owned_by, is_pin, owner_value, pins, sharing},
+  World.{Alike, Core, greatest, key_at},
+}
+use Rattle.std.specs.{
+  Prelude.{Bool, IfErr, IfOk, List, None, Result, false, filter, if◌then◌else◌, length, map, nat_eq, nat_lt, not, true},
+  Prelude.{ℕ, [], ◌&&◌, ◌++◌, ◌+◌, ◌<◌, ◌==◌, ◌∷◌, ◌≡◌, ◌≤◌, ◌⊎◌},
+}
 
 abbrev pub is_outside : (ℕ → Bool) → HandleRow → Bool
 is_outside s h = not (s h.number.0)

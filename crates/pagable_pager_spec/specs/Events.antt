@@ -1,13 +1,27 @@
 -- One call of the pager: its effect on the core, and a reply of the call's type. One event: a call, or one step
 -- of a load or of a worker.
-use Rattle.std.specs.{Prelude.{◌≡◌, length, ℕ, Bool, Option, Result, ◌+◌, ◌<◌, ◌≤◌, ◌⊎◌, if◌then◌else◌, true, List, Some, None, is_some, IfOk, IfErr, slice_get, is_none}, List.remove}
-use Rattle.pagable_pager_spec.specs.Basics.{Mode, Blob, Error, HandleNumber, WorkerNumber, Owner, Call, Found, Reply, Beginning, TableNumber, LoadReply, WorkerReply, EventReply, LoadNumber, HandleRow}
-use Rattle.pagable_pager_spec.specs.{Basics.{LoadAnswer, WorkerAnswer, Event, SameAt, updated, if_there, or_else}, Kinds.{loose_kind, HasKinds, HasNoKinds}, World.{Core, Alike, Seen, digest, result_map}}
-use Rattle.pagable_pager_spec.specs.World.{OpenLoad, of_cell, of_key, Root, Shelf, Frame, Reading, Task, of_item, of_entry, Walking, Work, World, row_at, type_at, one_more, SameShelf, Values}
-use Rattle.pagable_pager_spec.specs.{Cascade.only_handle, Refusals.{WorkerFault, earlier, load_fault, refused_if}, Calls.{InsertCall, InsertPagedOutCall, CloneCall, PinCall, UnpinCall, ReleaseCall, LoosenCall, SetKeyCall}}
-use Rattle.pagable_pager_spec.specs.Calls.{CountCall, KeyCall, IsPagedOutCall, NodeCall, TypeCall, ScheduleCall, TakeCall, room_of, ReserveCall, RecallCall, OfferCall, ClearCall, FetchCall, StoreCall}
-use Rattle.pagable_pager_spec.specs.{Calls.{FlushCall, CloseCall, moved}, LoadCalls.{BeginCall, BeginKeyCall, Given, from_cache, from_store, LoadFetchCall, AdoptCall, LazyCall, EndCall, HandOverCall, DropCall}}
-use Rattle.pagable_pager_spec.specs.{Loads.{ReadingDoes, gone_on}, Workers.{WorkerState, WalkDoes, WorkerEnds, first_todo, fresh, answer_after, is_counted}}
+use Rattle.pagable_pager_spec.specs.{
+  Basics.{Beginning, Blob, Call, Error, Event, EventReply, Found, HandleNumber, HandleRow, LoadAnswer, LoadNumber},
+  Basics.{LoadReply, Mode, Owner, Reply, SameAt, TableNumber, WorkerAnswer, WorkerNumber, WorkerReply, if_there},
+  Basics.{or_else, updated},
+  Calls.{ClearCall, CloneCall, CloseCall, CountCall, FetchCall, FlushCall, InsertCall, InsertPagedOutCall},
+  Calls.{IsPagedOutCall, KeyCall, LoosenCall, NodeCall, OfferCall, PinCall, RecallCall, ReleaseCall, ReserveCall},
+  Calls.{ScheduleCall, SetKeyCall, StoreCall, TakeCall, TypeCall, UnpinCall, moved, room_of},
+  Cascade.only_handle,
+  Kinds.{HasKinds, HasNoKinds, loose_kind},
+  LoadCalls.{AdoptCall, BeginCall, BeginKeyCall, DropCall, EndCall, Given, HandOverCall, LazyCall, LoadFetchCall},
+  LoadCalls.{from_cache, from_store},
+  Loads.{ReadingDoes, gone_on},
+  Refusals.{WorkerFault, earlier, load_fault, refused_if},
+  Workers.{WalkDoes, WorkerEnds, WorkerState, answer_after, first_todo, fresh, is_counted},
+  World.{Alike, Core, Frame, OpenLoad, Reading, Root, SameShelf, Seen, Shelf, Task, Values, Walking, Work, World},
+  World.{digest, of_cell, of_entry, of_item, of_key, one_more, result_map, row_at, type_at},
+}
+use Rattle.std.specs.{
+  List.remove,
+  Prelude.{Bool, IfErr, IfOk, List, None, Option, Result, Some, if◌then◌else◌, is_none, is_some, length, slice_get},
+  Prelude.{true, ℕ, ◌+◌, ◌<◌, ◌≡◌, ◌≤◌, ◌⊎◌},
+}
 
 -- what was found, with the blob as `Blob`
 abbrev pub given_of : {B : Type 0} → (B → Blob) → Found B → Given
@@ -30,7 +44,7 @@ CallDoes m w me (Call.IntoPagable h) (Reply.Handle r) w' = LoosenCall w me h r w
 CallDoes m w me (Call.SetDataKey h key) (Reply.Done r) w' = SetKeyCall w me h key r w'
 CallDoes m w me (Call.Count h) (Reply.Count r) w' = CountCall w h r × Alike w w'
 CallDoes m w me (Call.Key h) (Reply.KeyFound r) w' = KeyCall w h r × Alike w w'
-CallDoes m w me (Call.IsPagedOut h) (Reply.Away r) w' = IsPagedOutCall w h r × Alike w w'
+CallDoes m w me (Call.IsPagedOut h) (Reply.PagedOut r) w' = IsPagedOutCall w h r × Alike w w'
 CallDoes m w me (Call.NodeOf h) (Reply.Node r) w' = NodeCall w h r × Alike w w'
 CallDoes m w me (Call.NodeLive n) (Reply.NodeType t) w' = TypeCall w n t × Alike w w'
 CallDoes m w me (Call.ScheduleForPaging h) (Reply.Done r) w' = ScheduleCall w me h r w'

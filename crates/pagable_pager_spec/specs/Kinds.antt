@@ -1,6 +1,12 @@
 -- Handles: which kinds of references fit them, which of them pin their nodes, and who owns them.
-use Rattle.std.specs.Prelude.{ℕ, ◌+◌, ◌*◌, ◌<◌, ◌≤◌, ◌^◌, ◌==◌, Bool, not, true, if◌then◌else◌, ◌&&◌, ◌||◌, false, List, [], ◌∷◌, sum_by, Option, Some, None, nat_lt}
-use Rattle.pagable_pager_spec.specs.Basics.{ArcRef, Identity, Mode, OptionalDataKey, Owner, HandleRow, one, is_loose_kind, is_pinned_kind, is_shared_kind}
+use Rattle.pagable_pager_spec.specs.{
+  Basics.{ArcRef, HandleRow, Identity, Mode, OptionalDataKey, Owner, is_loose_kind, is_pinned_kind, is_shared_kind},
+  Basics.one,
+}
+use Rattle.std.specs.{
+  Prelude.{Bool, List, None, Option, Some, false, if◌then◌else◌, nat_lt, not, sum_by, true, ℕ, [], ◌&&◌, ◌*◌, ◌+◌, ◌<◌},
+  Prelude.{◌==◌, ◌^◌, ◌||◌, ◌∷◌, ◌≤◌},
+}
 
 -- the kind as which the list pages out a cell of this type
 abbrev pub loose_kind : ℕ → ℕ

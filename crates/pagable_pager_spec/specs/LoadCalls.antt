@@ -1,10 +1,19 @@
 -- The calls on loads: a load reads one value from the store. They begin it, fetch and make nodes for it, and end it.
-use Rattle.std.specs.Prelude.{ℕ, ◌≡◌, ◌+◌, ◌<◌, ◌⊎◌, ◌==◌, ◌&&◌, Bool, true, false, not, List, [], map, Option, Some, None, Result, Ok, Err, IfOk, IfErr, if◌then◌else◌}
-use Rattle.pagable_pager_spec.specs.Basics.{Mode, Error, OptionalDataKey, Kind, ArcRef, HandleNumber, LoadNumber, NodeNumber, Blob, type_of, Owner, HandleRow, Beginning, Want, is_in, updated, is_loose_kind}
-use Rattle.pagable_pager_spec.specs.{Basics.{is_pinned_kind, if_there}, Kinds.{mode_of, is_loose, any_mode, owner_value, find_row, is_owned_by}, World.{Core, Root, of_cell, of_key, OpenLoad, greatest}}
-use Rattle.pagable_pager_spec.specs.{World.{type_at, key_at, is_here, usable, Alike}, Cascade.{Falls, FallsAnyhow}, Refusals.{earlier, where_so, refused_if, spent, AreHandlesFull, Owns, handle_fault}}
-use Rattle.pagable_pager_spec.specs.{Refusals.{references_fault, named_fault, OwnsLoad, load_fault, closed_fault, Refused}, Calls.{with_handle, with_mode, with_node, next_node, moved, is_named_by}}
-use Rattle.pagable_pager_spec.specs.Calls.{is_handle_here, insert_fault, IsNext, IsRefused, is_usable, with_known, with_cached_if_open, FetchCall}
+use Rattle.pagable_pager_spec.specs.{
+  Basics.{ArcRef, Beginning, Blob, Error, FetchTarget, HandleNumber, HandleRow, Kind, LoadNumber, Mode, NodeNumber},
+  Basics.{OptionalDataKey, Owner, if_there, is_in, is_loose_kind, is_pinned_kind, type_of, updated},
+  Calls.{FetchCall, IsNext, IsRefused, insert_fault, is_handle_here, is_named_by, is_usable, moved, next_node},
+  Calls.{with_cached_if_open, with_handle, with_known, with_mode, with_node},
+  Cascade.{Falls, FallsAnyhow},
+  Kinds.{any_mode, find_row, is_loose, is_owned_by, mode_of, owner_value},
+  Refusals.{AreHandlesFull, Owns, OwnsLoad, Refused, closed_fault, earlier, handle_fault, load_fault, named_fault},
+  Refusals.{references_fault, refused_if, spent, where_so},
+  World.{Alike, Core, OpenLoad, Root, greatest, is_here, key_at, of_cell, of_key, type_at, usable},
+}
+use Rattle.std.specs.{
+  Prelude.{Bool, Err, IfErr, IfOk, List, None, Ok, Option, Result, Some, false, if◌then◌else◌, map, not, true, ℕ, []},
+  Prelude.{◌&&◌, ◌+◌, ◌<◌, ◌==◌, ◌≡◌, ◌⊎◌},
+}
 
 -- one more load, under the next number
 abbrev pub with_load : Core → ℕ → Root → Owner → Core
@@ -58,28 +67,29 @@ pub record GetsKnown (w : Core) (l : LoadNumber) (kind : Kind) (key : ℕ) (k : 
   pub next : IsNext k w
   pub leaves : Alike (with_known w kind n (Owner.Load l)) w'
 
-abbrev pub Asks : Core → LoadNumber → OpenLoad → Want → Given → Core → Type 0
-Asks w l load Want.Root (from_store blob) w' = FetchCall w load.key (Ok blob) w'
-Asks w l load Want.Root (from_cache k) w' = ⊥
-Asks w l load (Want.Nested kind key) (from_cache k) w' = GetsKnown w l kind key k w'
-Asks w l load (Want.Nested kind key) (from_store blob) w' = (usable w kind.0 key ≡ None) × FetchCall w key (Ok blob) w'
+abbrev pub Asks : Core → LoadNumber → OpenLoad → FetchTarget → Given → Core → Type 0
+Asks w l load FetchTarget.Root (from_store blob) w' = FetchCall w load.key (Ok blob) w'
+Asks w l load FetchTarget.Root (from_cache k) w' = ⊥
+Asks w l load (FetchTarget.Nested kind key) (from_cache k) w' = GetsKnown w l kind key k w'
+Asks w l load (FetchTarget.Nested kind key) (from_store blob) w' =
+    (usable w kind.0 key ≡ None) × FetchCall w key (Ok blob) w'
 
 -- the storage, which was asked, returns an error
-abbrev pub AsksInVain : Core → OpenLoad → Want → Error → Core → Type 0
-AsksInVain w load Want.Root e w' = FetchCall w load.key (Err e) w'
-AsksInVain w load (Want.Nested kind key) e w' = (usable w kind.0 key ≡ None) × FetchCall w key (Err e) w'
+abbrev pub AsksInVain : Core → OpenLoad → FetchTarget → Error → Core → Type 0
+AsksInVain w load FetchTarget.Root e w' = FetchCall w load.key (Err e) w'
+AsksInVain w load (FetchTarget.Nested kind key) e w' = (usable w kind.0 key ≡ None) × FetchCall w key (Err e) w'
 
 -- whether the cache has the node, so that a handle is to be made
-abbrev pub is_known : Core → Want → Bool
-is_known w Want.Root = false
-is_known w (Want.Nested kind key) = is_usable w kind key
+abbrev pub is_known : Core → FetchTarget → Bool
+is_known w FetchTarget.Root = false
+is_known w (FetchTarget.Nested kind key) = is_usable w kind key
 
-abbrev pub ask_fault : Core → Owner → LoadNumber → Want → Option Error
+abbrev pub ask_fault : Core → Owner → LoadNumber → FetchTarget → Option Error
 ask_fault w me l want = earlier (load_fault w me l) (where_so (is_known w want) (spent w.last.handle))
 
 -- A load fetches the blob of its own key; or, for a reference, a handle of the node that the cache has, or else the
 -- blob.
-pub record LoadFetchCall (w : Core) (me : Owner) (l : LoadNumber) (want : Want) (r : Result Given Error)
+pub record LoadFetchCall (w : Core) (me : Owner) (l : LoadNumber) (want : FetchTarget) (r : Result Given Error)
     (w' : Core) : Type 0 where
   pub gives : IfOk r (λ given. (load : OpenLoad) × OwnsLoad w me l load × Asks w l load want given w')
   pub refused : IfErr r (λ e. Refused (ask_fault w me l want) (ask_fault w me l want)

@@ -1,9 +1,16 @@
 -- A load's steps: each fetches a blob, takes a cell without reading it, or makes a node; the last one pins, returns a
 -- value, or fails. The innermost of the load's blobs decides what the next step is.
-use Rattle.std.specs.Prelude.{[], Err, if◌then◌else◌, length, List, map, None, Ok, Option, Result, slice_get, Some, ℕ, ◌++◌, ◌+◌, ◌<◌, ◌==◌, ◌∷◌, ◌≡◌, ◌≤◌, ◌⊎◌}
-use Rattle.{pagable_value_spec.specs.{Reading.{read_typed, Rest}, Cursor.{Answer, handles_at}}, pagable_pager_spec.specs.LoadCalls.{AdoptCall, LoadFetchCall, EndCall, from_cache, from_store, HandOverCall}}
-use Rattle.pagable_pager_spec.specs.{LoadCalls.{LazyCall, LoadCloses}, Basics.{ArcRef, Blob, Error, HandleNumber, HandleRow, is_eager, Kind, LoadAnswer, longest_path, Meaning, Owner, type_of, Types, Want}}
-use Rattle.pagable_pager_spec.specs.World.{Alike, Core, Frame, of_cell, of_key, one_more, OpenLoad, Reading, Root, row_at, Values}
+use Rattle.pagable_pager_spec.specs.{
+  Basics.{ArcRef, Blob, Error, FetchTarget, HandleNumber, HandleRow, Kind, LoadAnswer, Meaning, Owner, Types, is_eager},
+  Basics.{longest_path, type_of},
+  LoadCalls.{AdoptCall, EndCall, HandOverCall, LazyCall, LoadCloses, LoadFetchCall, from_cache, from_store},
+  World.{Alike, Core, Frame, OpenLoad, Reading, Root, Values, of_cell, of_key, one_more, row_at},
+}
+use Rattle.pagable_value_spec.specs.{Cursor.{Answer, handles_at}, Reading.{Rest, read_typed}}
+use Rattle.std.specs.{
+  Prelude.{Err, List, None, Ok, Option, Result, Some, if◌then◌else◌, length, map, slice_get, ℕ, [], ◌++◌, ◌+◌, ◌<◌},
+  Prelude.{◌==◌, ◌∷◌, ◌≡◌, ◌≤◌, ◌⊎◌},
+}
 
 -- The look-up of a reference while a blob is read: a reference that the load has got is returned, if it has the right
 -- kind. For one that it hasn't got yet the look-up fails with Storage(kind), an error that no reader may add of its
@@ -97,7 +104,7 @@ pub record GetsRoot (w : Core) (me : Owner) (reading : Reading) (frames : List F
   pub blob : Blob
   pub first : reading.frames ≡ []
   pub open_load : w.loads reading.load.0 ≡ Some load
-  pub asked : LoadFetchCall w me reading.load Want.Root (Ok (from_store blob)) w'
+  pub asked : LoadFetchCall w me reading.load FetchTarget.Root (Ok (from_store blob)) w'
   pub goes : frames ≡ root_frame load.key reading.node_type blob ∷ []
 
 -- the load has got a handle by this call, where this was needed
@@ -115,7 +122,7 @@ pub record GetsHandle (types : Types) (reading : Reading) (needed : Kind → ℕ
 -- the load has got a handle of a node that the cache has
 abbrev pub GetsCached : Types → Core → Owner → Reading → List Frame → Core → Type 0
 GetsCached types w me reading frames w' = GetsHandle types reading needs_nested
-    (λ kind key k. LoadFetchCall w me reading.load (Want.Nested kind key) (Ok (from_cache k)) w') frames w'
+    (λ kind key k. LoadFetchCall w me reading.load (FetchTarget.Nested kind key) (Ok (from_cache k)) w') frames w'
 
 -- the load has got a handle of a cell without reading it
 abbrev pub GetsLazy : Types → Core → Owner → Reading → List Frame → Core → Type 0
@@ -130,7 +137,7 @@ pub record GetsBlob (types : Types) (w : Core) (me : Owner) (reading : Reading) 
   pub blob : Blob
   pub needs : need_of types reading.frames ≡ needs_nested kind key
   pub short : length reading.frames ≤ longest_path
-  pub asked : LoadFetchCall w me reading.load (Want.Nested kind key) (Ok (from_store blob)) w'
+  pub asked : LoadFetchCall w me reading.load (FetchTarget.Nested kind key) (Ok (from_store blob)) w'
   pub goes : frames ≡ nested_frame kind key blob ∷ reading.frames
 
 -- the innermost blob reads as x, and it isn't the root's
@@ -208,9 +215,9 @@ abbrev pub RefusesNested : Types → Core → Owner → Reading → Error → Co
 RefusesNested types w me reading e w' = (kind : Kind)
     × (key : ℕ)
     × (need_of types reading.frames ≡ needs_nested kind key)
-    × (LoadFetchCall w me reading.load (Want.Nested kind key) (Err e) w'
+    × (LoadFetchCall w me reading.load (FetchTarget.Nested kind key) (Err e) w'
     ⊎ ((blob : Blob) × (e ≡ Error.TooDeep) × (longest_path < length reading.frames)
-    × LoadFetchCall w me reading.load (Want.Nested kind key) (Ok (from_store blob)) w'))
+    × LoadFetchCall w me reading.load (FetchTarget.Nested kind key) (Ok (from_store blob)) w'))
 
 pub record RefusesNode {N : Type 0} (v : Values N) (w : Core) (me : Owner) (reading : Reading) (e : Error)
     (w' : Core) : Type 0 where
@@ -231,7 +238,7 @@ pub record RefusesRoot {N : Type 0} (v : Values N) (w : Core) (me : Owner) (read
 -- a step fails with this error, and the load is still open
 abbrev pub Meets : {N : Type 0} → Values N → Core → Owner → Reading → Error → Core → Type 0
 Meets v w me reading e w' = (RefusesBlob v reading e × Alike w w')
-    ⊎ ((reading.frames ≡ []) × LoadFetchCall w me reading.load Want.Root (Err e) w')
+    ⊎ ((reading.frames ≡ []) × LoadFetchCall w me reading.load FetchTarget.Root (Err e) w')
     ⊎ RefusesNested v.types w me reading e w'
     ⊎ ((kind : Kind) × (key : ℕ) × (need_of v.types reading.frames ≡ needs_lazy kind key)
     × LazyCall w me reading.load kind key (Err e) w')

@@ -1,10 +1,18 @@
 -- The order of a worker's steps: an automaton over the worker's list of what it has to do, independent of pager and
 -- table. And how many steps workers and loads make at most.
-use Rattle.std.specs.Prelude.{ℕ, ◌≡◌, ◌≤◌, ◌==◌, ◌&&◌, if◌then◌else◌, Bool, false, List, [], ◌∷◌, ◌++◌, Some, None, Ok, Err, ◌+◌, ◌*◌, ◌<◌, ◌⊎◌, max, true, map, length, sum_by, Option, IsSome}
-use Rattle.pagable_pager_spec.specs.Basics.{PinStep, Claim, Error, HandleNumber, Identity, type_of, Types, ArcRef, Kind, Meaning, Blob, Action, Event, EventReply, LoadReply, times, is_eager, longest_path}
-use Rattle.pagable_pager_spec.specs.{Kinds.identity_of, World.{Written, Frame, was_failed, Todo, to_start, to_pin, to_load, to_write, to_finish, to_item, to_set, to_publish, to_release, to_fail, Task}}
-use Rattle.pagable_pager_spec.specs.{World.{is_identity, of_item, of_entry, Walking}, Loads.{gone_on, Next, reads, asks, is_faulty, next_of}, Workers.{give, give_known, open_node, first_todo}}
-use Rattle.pagable_pager_spec.specs.Workers.{failing, failing_by, fresh}
+use Rattle.pagable_pager_spec.specs.{
+  Basics.{Action, ArcRef, Blob, Claim, Error, Event, EventReply, HandleNumber, Identity, Kind, LoadReply, Meaning},
+  Basics.{PinStep, Types, is_eager, longest_path, times, type_of},
+  Kinds.identity_of,
+  Loads.{Next, asks, gone_on, is_faulty, next_of, reads},
+  Workers.{failing, failing_by, first_todo, fresh, give, give_known, open_node},
+  World.{Frame, Task, Todo, Walking, Written, is_identity, of_entry, of_item, to_fail, to_finish, to_item, to_load},
+  World.{to_pin, to_publish, to_release, to_set, to_start, to_write, was_failed},
+}
+use Rattle.std.specs.{
+  Prelude.{Bool, Err, IsSome, List, None, Ok, Option, Some, false, if◌then◌else◌, length, map, max, sum_by, true, ℕ},
+  Prelude.{[], ◌&&◌, ◌*◌, ◌++◌, ◌+◌, ◌<◌, ◌==◌, ◌∷◌, ◌≡◌, ◌≤◌, ◌⊎◌},
+}
 
 -- the action of the worker v that this reply reports
 abbrev pub step_of : {N B W : Type 0} → ℕ → Event N B W → EventReply N B W → List (Action W)
@@ -28,16 +36,16 @@ Follows f (to_start r place ∷ below) (Action.Claim i (Ok Claim.AlreadyFailed))
     (i ≡ identity_of r) × (next ≡ failing was_failed (to_start r place ∷ below))
 Follows f (to_start r place ∷ below) (Action.Claim i (Err e)) next =
     (i ≡ identity_of r) × (next ≡ failing_by e (to_start r place ∷ below))
-Follows f (to_pin r place ∷ below) (Action.Pin i (Ok (PinStep.Held k))) next =
+Follows f (to_pin r place ∷ below) (Action.Pin i (Ok (PinStep.Pinned k))) next =
     (i ≡ identity_of r) × ((through : HandleNumber) × (next ≡ to_write r place through ∷ below))
 Follows f (to_pin r place ∷ below) (Action.Pin i (Ok (PinStep.LoadBegun l))) next =
     (i ≡ identity_of r) × ((through : HandleNumber) × (next ≡ to_load r place through (fresh l (type_of r.kind.0))
     ∷ below))
 Follows f (to_pin r place ∷ below) (Action.Pin i (Err e)) next =
     (i ≡ identity_of r) × (next ≡ failing_by e (to_pin r place ∷ below))
-Follows f (to_load r place through reading ∷ below) (Action.Pin i (Ok PinStep.LoadWent)) next =
+Follows f (to_load r place through reading ∷ below) (Action.Pin i (Ok PinStep.LoadStepMade)) next =
     (i ≡ identity_of r) × ((frames : List Frame) × (next ≡ to_load r place through (gone_on reading frames) ∷ below))
-Follows f (to_load r place through reading ∷ below) (Action.Pin i (Ok (PinStep.Held k))) next =
+Follows f (to_load r place through reading ∷ below) (Action.Pin i (Ok (PinStep.Pinned k))) next =
     (i ≡ identity_of r) × (next ≡ to_write r place through ∷ below)
 Follows f (to_load r place through reading ∷ below) (Action.Pin i (Err e)) next =
     (i ≡ identity_of r) × (next ≡ failing_by e (to_load r place through reading ∷ below))
@@ -80,7 +88,7 @@ is_claim_of i step = false
 -- 3 stored, 4 its key is set, 5 published, 6 released.
 abbrev pub is_later_of : {W : Type 0} → ℕ → Identity → Action W → Bool
 is_later_of stage i (Action.Pin j (Ok (PinStep.LoadBegun l))) = stage == 0 && is_identity i j
-is_later_of stage i (Action.Pin j (Ok (PinStep.Held k))) = stage == 1 && is_identity i j
+is_later_of stage i (Action.Pin j (Ok (PinStep.Pinned k))) = stage == 1 && is_identity i j
 is_later_of stage i (Action.Write j r) = stage == 2 && is_identity i j
 is_later_of stage i (Action.Store (Some j) r) = stage == 3 && is_identity i j
 is_later_of stage i (Action.SetKey j r) = stage == 4 && is_identity i j

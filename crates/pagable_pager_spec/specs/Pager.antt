@@ -1,14 +1,30 @@
 -- The pager and the machine as contracts see them: the core, a count for each node, the values in memory and the
 -- environment; their invariants; and what a step does to values. What nodes stand for, by recursion on trees that never
 -- leave memory; and when a pager stands for its nodes' trees.
-use Rattle.std.specs.Prelude.{ℕ, ◌≡◌, ◌<◌, ◌≤◌, ◌==◌, ◌&&◌, ◌⊎◌, true, false, List, [], ◌∷◌, length, Option, Some, None, is_some, is_none, Result, Ok, Err, IfOk, nat_lt, ℤ, map, slice_get}
-use Rattle.std.specs.List.{AllPairs}
-use Rattle.pagable_value_spec.specs.{Refusals.is_writing_fault, Writing.{nesting, NoFormOfSome}, Meaning.{number, integer, text, pattern, none, pair, variant, reference, followed}, Height.{Kid, kid}}
-use Rattle.pagable_value_spec.specs.declared.data_key.OptionalDataKey.{OptionalDataKey}
-use Rattle.pagable_pager_spec.specs.Basics.{Mode, Error, ArcRef, Identity, HandleNumber, LoadNumber, NodeNumber, Shape, type_of, Owner, HandleRow, Call, Event, EventReply, Action, Among, times, Meaning, Blob}
-use Rattle.pagable_pager_spec.specs.World.{Core, OpenLoad, Root, of_cell, of_key, Reading, Todo, to_load, Walking, Work, World, Written, greatest, row_at, type_at, key_at, is_here, Values, Seen, HasForm}
-use Rattle.pagable_pager_spec.specs.{Basics.{Tree, Types, is_eager, tree, ReadsTree, is_shared_kind}, Kinds.{is_pinning, is_loose, is_shared, is_owned_by, owner_value, is_handle, held, pins, sharing, has_key}}
-use Rattle.pagable_pager_spec.specs.{World.Frame, Refusals.IsReference, Calls.Looks, Loads.{ReadsNode, ReadsRoot, asks, next_in}, Events.reading_at}
+use Rattle.pagable_pager_spec.specs.{
+  Basics.{Action, Among, ArcRef, Blob, Call, Error, Event, EventReply, HandleNumber, HandleRow, Identity, LoadNumber},
+  Basics.{Meaning, Mode, NodeNumber, Owner, ReadsTree, Shape, Tree, Types, is_eager, is_shared_kind, times, tree},
+  Basics.type_of,
+  Calls.Looks,
+  Events.reading_at,
+  Kinds.{has_key, held, is_handle, is_loose, is_owned_by, is_pinning, is_shared, owner_value, pins, sharing},
+  Loads.{ReadsNode, ReadsRoot, asks, next_in},
+  Refusals.IsReference,
+  World.{Core, Frame, HasForm, OpenLoad, Reading, Root, Seen, Todo, Values, Walking, Work, World, Written, greatest},
+  World.{is_here, key_at, of_cell, of_key, row_at, to_load, type_at},
+}
+use Rattle.pagable_value_spec.specs.{
+  Height.{Kid, kid},
+  Meaning.{followed, integer, none, number, pair, pattern, reference, text, variant},
+  Refusals.is_writing_fault,
+  Writing.{NoFormOfSome, nesting},
+  declared.data_key.OptionalDataKey.OptionalDataKey,
+}
+use Rattle.std.specs.{
+  List.AllPairs,
+  Prelude.{Err, IfOk, List, None, Ok, Option, Result, Some, false, is_none, is_some, length, map, nat_lt, slice_get},
+  Prelude.{true, ℕ, ℤ, [], ◌&&◌, ◌<◌, ◌==◌, ◌∷◌, ◌≡◌, ◌≤◌, ◌⊎◌},
+}
 
 -- the pager: its core, the kept counts and the values by the numbers of their nodes, and the environment
 pub record PagerState (N E : Type 0) : Type 0 where

@@ -1,9 +1,15 @@
 -- Why a call fails, as a function of the state. If several causes hold, the call returns the first in this order:
 -- nothing has the number; it belongs to another; its mode doesn't fit; its type doesn't fit; no number is left; memory
 -- runs out.
-use Rattle.std.specs.Prelude.{ℕ, ◌≡◌, ◌≤◌, ◌==◌, ◌||◌, ◌⊎◌, Bool, true, false, not, if◌then◌else◌, List, [], ◌∷◌, length, Option, Some, None, nat_lt, nat_le}
-use Rattle.pagable_pager_spec.specs.{Basics.{Error, ArcRef, HandleNumber, LoadNumber, type_of, Mode, Owner, HandleRow, is_in, or_else, if_there}, Kinds.{fits_mode, is_owner}, World.{Core, OpenLoad}}
-use Rattle.pagable_pager_spec.specs.World.{greatest, row_at, type_at, Alike}
+use Rattle.pagable_pager_spec.specs.{
+  Basics.{ArcRef, Error, HandleNumber, HandleRow, LoadNumber, Mode, Owner, if_there, is_in, or_else, type_of},
+  Kinds.{fits_mode, is_owner},
+  World.{Alike, Core, OpenLoad, greatest, row_at, type_at},
+}
+use Rattle.std.specs.{
+  Prelude.{Bool, List, None, Option, Some, false, if◌then◌else◌, length, nat_le, nat_lt, not, true, ℕ, [], ◌==◌, ◌||◌},
+  Prelude.{◌∷◌, ◌≡◌, ◌≤◌, ◌⊎◌},
+}
 
 -- the place of each error in this order
 abbrev pub rank : Error → ℕ

@@ -1,13 +1,26 @@
 -- What is right of one event in terms of trees: what pins, loads and page-outs return and leave. And what is right of workers,
 -- claims and steps, without trees.
-use Rattle.std.specs.Prelude.{[], Bool, false, is_some, List, Ok, Option, Some, true, ℕ, ◌&&◌, ◌*◌, ◌+◌, ◌==◌, ◌∷◌, ◌≡◌, ◌≢◌, ◌≤◌}
-use Rattle.pagable_value_spec.specs.{Canonical.IsCanonicalTree, declared.data_key.OptionalDataKey.OptionalDataKey, Merkle.{IsCanonicalItem, KeyOf, KeyOfItem, TreeForm}}
-use Rattle.pagable_pager_spec.specs.{Events.reading_at, Kinds.{identity_of, is_owned_by, owner_worker}, Order.{InOrder, is_claim_of, IsBounded, IsWithinBound, MetError, OnceEach, steps_of, Unfolds}}
-use Rattle.pagable_pager_spec.specs.{Pager.{IsReadingOf, kids_of, MachineState, PagerState, ValueStands, world_of}, Basics.{Among, ArcRef, Blob, Call, Claim, Event}}
-use Rattle.pagable_pager_spec.specs.Basics.{EventReply, HandleNumber, HandleRow, Identity, if_there, is_loose_kind, LoadAnswer, one, Owner, Pinning, PinStep, ReadsTree, Reply, Shape, times, Action, Tree}
-use Rattle.pagable_pager_spec.specs.{Basics.WorkerAnswer, Refusals.IsReference, Runs.{Fact, Moment}}
-use Rattle.pagable_pager_spec.specs.{Workers.{is_workers_load, IsPublished}, World.{failed, key_at, no_result, of_entry, of_item, OpenLoad, Reading, row_at, Seen, Shelf, Slot, Task, Values}}
-use Rattle.pagable_pager_spec.specs.World.{Walking, World, Written}
+use Rattle.pagable_pager_spec.specs.{
+  Basics.{Action, Among, ArcRef, Blob, Call, Claim, Event, EventReply, HandleNumber, HandleRow, Identity, LoadAnswer},
+  Basics.{Owner, PinStep, Pinning, ReadsTree, Reply, Shape, Tree, WorkerAnswer, if_there, is_loose_kind, one, times},
+  Events.reading_at,
+  Kinds.{identity_of, is_owned_by, owner_worker},
+  Order.{InOrder, IsBounded, IsWithinBound, MetError, OnceEach, Unfolds, is_claim_of, steps_of},
+  Pager.{IsReadingOf, MachineState, PagerState, ValueStands, kids_of, world_of},
+  Refusals.IsReference,
+  Runs.{Fact, Moment},
+  Workers.{IsPublished, is_workers_load},
+  World.{OpenLoad, Reading, Seen, Shelf, Slot, Task, Values, Walking, World, Written, failed, key_at, no_result},
+  World.{of_entry, of_item, row_at},
+}
+use Rattle.pagable_value_spec.specs.{
+  Canonical.IsCanonicalTree,
+  Merkle.{IsCanonicalItem, KeyOf, KeyOfItem, TreeForm},
+  declared.data_key.OptionalDataKey.OptionalDataKey,
+}
+use Rattle.std.specs.{
+  Prelude.{Bool, List, Ok, Option, Some, false, is_some, true, ℕ, [], ◌&&◌, ◌*◌, ◌+◌, ◌==◌, ◌∷◌, ◌≡◌, ◌≢◌, ◌≤◌},
+}
 
 -- the handle's node has a value in memory, and it stands for the tree that the node was made with
 pub record GivesTree {N E : Type 0} (v : Values N) (s : PagerState N E) (trees : ℕ → Tree)
@@ -28,7 +41,7 @@ PinGives v s trees (Event.LoadStep l) (EventReply.LoadMoved (Ok reply)) s' trees
 PinGives v s trees (Event.Call (Call.LoadEnd l x)) (EventReply.CallReply (Reply.LoadEnded (Ok k))) s' trees' =
     GivesTree v s'.pager trees' k
 PinGives v s trees (Event.WorkerStep n) (EventReply.WorkerMoved (Ok reply)) s' trees' =
-    (i : Identity) (k : HandleNumber) → reply.action ≡ Action.Pin i (Ok (PinStep.Held k))
+    (i : Identity) (k : HandleNumber) → reply.action ≡ Action.Pin i (Ok (PinStep.Pinned k))
     → GivesTree v s'.pager trees' k
 PinGives v s trees event reply s' trees' = Unit {0}
 

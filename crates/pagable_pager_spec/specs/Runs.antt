@@ -1,10 +1,18 @@
 -- Chains of moments: what events do to a machine, one after another; the trees along them; and what they ask of values
 -- and callers. Nothing here asks that the storage returns what was stored, loses nothing and keeps no two blobs under
 -- one key: these are laws of every storage, so the steps have them already.
-use Rattle.std.specs.Prelude.{[], List, map, None, Ok, Option, Some, ℕ, ◌∷◌, ◌≡◌}
-use Rattle.{pagable_value_spec.specs.Canonical.IsReadableType, pagable_pager_spec.specs.{Events.{reading_at, Step}, Kinds.{any_mode, is_loose}, Loads.{need_of, needs_lazy}, Pager.{EventBrings, EventHolds, IsCellOf}}}
-use Rattle.pagable_pager_spec.specs.{Pager.{IsMachineWhole, MachineState, Moves, PagerState, ReplyWrites, SameTrees, StandsFor, ValueStands, world_of}, Basics.{Among, Call, Event, EventReply, HandleRow}}
-use Rattle.pagable_pager_spec.specs.{Basics.{Kind, LoadAnswer, Owner, ReadsTree, Reply, Tree, type_of}, Refusals.Owns, World.{Frame, IsSettled, Reading, Seen, to_load, to_write, Todo, Values, Walking}}
+use Rattle.pagable_pager_spec.specs.{
+  Basics.{Among, Call, Event, EventReply, HandleRow, Kind, LoadAnswer, Owner, ReadsTree, Reply, Tree, type_of},
+  Events.{Step, reading_at},
+  Kinds.{any_mode, is_loose},
+  Loads.{need_of, needs_lazy},
+  Pager.{EventBrings, EventHolds, IsCellOf, IsMachineWhole, MachineState, Moves, PagerState, ReplyWrites, SameTrees},
+  Pager.{StandsFor, ValueStands, world_of},
+  Refusals.Owns,
+  World.{Frame, IsSettled, Reading, Seen, Todo, Values, Walking, to_load, to_write},
+}
+use Rattle.pagable_value_spec.specs.Canonical.{IsReadableType}
+use Rattle.std.specs.Prelude.{List, None, Ok, Option, Some, map, ℕ, [], ◌∷◌, ◌≡◌}
 
 -- no value in memory holds anything that can be written after the value was made
 abbrev pub HoldsSettled : {N E : Type 0} → Values N → PagerState N E → Type 0

@@ -7,9 +7,14 @@
 --
 -- It is proved as the law `headline` of `pagable_theorems`, and `Machine::run` of `pagable` has it as its contract.
 -- That its premises can be met is the law `two_levels_meet_the_headline`.
+use Rattle.pagable_pager_spec.specs.{
+  Basics.Tree,
+  Pager.{IsIdle, IsMachineWhole, MachineState, StandsFor},
+  Rightness.{IsRight, StepsAreWithin, WorkIsRight},
+  Runs.{AreMoments, HoldsSettled, Moment, TreesAlong, events_of, replies_of, state_after},
+  World.{IsLawful, Seen},
+}
 use Rattle.std.specs.Prelude.{List, ℕ}
-use Rattle.pagable_pager_spec.specs.{Basics.Tree, Pager.{IsIdle, IsMachineWhole, MachineState, StandsFor}, Rightness.{IsRight, StepsAreWithin, WorkIsRight}}
-use Rattle.pagable_pager_spec.specs.{Runs.{AreMoments, HoldsSettled, Moment, TreesAlong, events_of, replies_of, state_after}, World.{IsLawful, Seen}}
 
 -- What holds of a chain of moments, each an event, its reply and the machine after it.
 pub record Headline {N E B W : Type 0} (m : Seen N B W) (start : MachineState N E)

@@ -1,9 +1,17 @@
 -- What holds in addition if each load's and each worker's steps are uninterrupted; and what one cache ensures.
-use Rattle.std.specs.Prelude.{[], false, List, max, Ok, slice_get, Some, true, ℕ, ◌<◌, ◌∷◌, ◌≡◌, ◌≢◌, ◌⊎◌}
-use Rattle.{pagable_value_spec.specs.{Height.Kid, Meaning.{followed, pair, variant}, Merkle.TreeForm}, pagable_pager_spec.specs.{Kinds.fits_mode, LoadCalls.{Adopts, LoadFetchCall, from_cache, LazyCall}}}
-use Rattle.pagable_pager_spec.specs.{Pager.{IsMachineWhole, IsWhole, MachineState}, Basics.{above, Among, ArcRef, Beginning, Call, deepest_path, Error, Event, EventReply, HandleNumber, HandleRow, height}}
-use Rattle.pagable_pager_spec.specs.{Basics.{Identity, Kind, LoadAnswer, LoadNumber, longest_path, Meaning, NodeNumber, Owner, Reply, Shape, Tree, tree, type_of, Types, Want, WorkerAnswer}, Runs.AreMoments}
-use Rattle.pagable_pager_spec.specs.{Runs.{Fact, Moment, state_after}, Workers.IsPublished, World.{Core, of_cell, of_entry, of_item, OpenLoad, row_at, Seen, Task, Values, Walking}}
+use Rattle.pagable_pager_spec.specs.{
+  Basics.{Among, ArcRef, Beginning, Call, Error, Event, EventReply, FetchTarget, HandleNumber, HandleRow, Identity},
+  Basics.{Kind, LoadAnswer, LoadNumber, Meaning, NodeNumber, Owner, Reply, Shape, Tree, Types, WorkerAnswer, above},
+  Basics.{deepest_path, height, longest_path, tree, type_of},
+  Kinds.fits_mode,
+  LoadCalls.{Adopts, LazyCall, LoadFetchCall, from_cache},
+  Pager.{IsMachineWhole, IsWhole, MachineState},
+  Runs.{AreMoments, Fact, Moment, state_after},
+  Workers.IsPublished,
+  World.{Core, OpenLoad, Seen, Task, Values, Walking, of_cell, of_entry, of_item, row_at},
+}
+use Rattle.pagable_value_spec.specs.{Height.Kid, Meaning.{followed, pair, variant}, Merkle.TreeForm}
+use Rattle.std.specs.Prelude.{List, Ok, Some, false, max, slice_get, true, ℕ, [], ◌<◌, ◌∷◌, ◌≡◌, ◌≢◌, ◌⊎◌}
 
 -- whose step a moment is; the begin of a load or worker is its first
 pub data Turn : Type 0 where
@@ -101,7 +109,8 @@ pub record GetsReference (w : Core) (kind : Kind) (key n : ℕ) (w' : Core) : Ty
   pub row : HandleRow
   pub made : row_at w' k ≡ Some row
   pub at : row.node.0 ≡ n
-  pub gets : LoadFetchCall w me l (Want.Nested kind key) (Ok (from_cache k)) w' ⊎ LazyCall w me l kind key (Ok k) w'
+  pub gets : LoadFetchCall w me l (FetchTarget.Nested kind key) (Ok (from_cache k)) w'
+      ⊎ LazyCall w me l kind key (Ok k) w'
       ⊎ ((t : ℕ) × (references : List ArcRef) × Adopts w me l kind key t references k w')
 
 -- the cache has no node twice, as is the case if only loads have filled it

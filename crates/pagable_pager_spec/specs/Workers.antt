@@ -1,13 +1,24 @@
 -- A page-out worker's steps. A worker has a list of what it has to do. Each step does what is at the front of the list,
 -- and is specified by its effect on the pager, on the table and on the list.
-use Rattle.std.specs.Prelude.{ℕ, ◌≡◌, ◌+◌, ◌<◌, ◌≤◌, ◌&&◌, ◌||◌, ◌⊎◌, Bool, true, false, if◌then◌else◌, List, [], ◌∷◌, ◌++◌, length, drop, max, Option, Some, None, Result, Ok, Err, IfOk, IfErr}
-use Rattle.std.specs.Prelude.{nat_eq}
+use Rattle.pagable_pager_spec.specs.{
+  Basics.{Action, ArcRef, Beginning, Claim, Error, HandleNumber, HandleRow, Identity, LoadAnswer, LoadNumber, Owner},
+  Basics.{PinStep, Pinning, WorkerAnswer, above, if_there, is_eager, is_loose_kind, longest_path, type_of, updated},
+  Calls.{CloneCall, PinCall, ScheduleCall, SetKeyCall, StoreCall},
+  Cascade.FallsAnyhow,
+  Kinds.{find_row, identity_of, is_at, is_loose, is_owned_by, is_owner, owner_worker},
+  LoadCalls.BeginCall,
+  Loads.{ReadingDoes, gone_on},
+  Refusals.row_fault,
+  World.{Alike, Core, Fault, Frame, OpenLoad, Outcome, Reading, SameShelf, Seen, Shelf, Slot, Task, Todo, Values},
+  World.{Written, answer_of_fault, digest, failed, is_identity, no_result, of_entry, of_item, published, result_map},
+  World.{row_at, to_fail, to_finish, to_item, to_load, to_pin, to_publish, to_release, to_set, to_start, to_write},
+  World.{was_failed, was_refused},
+}
 use Rattle.pagable_value_spec.specs.Merkle.{blob_of}
-use Rattle.pagable_pager_spec.specs.Basics.{Pinning, Error, ArcRef, Identity, HandleNumber, LoadNumber, type_of, Owner, HandleRow, Claim, PinStep, Action, WorkerAnswer, updated, is_eager, longest_path, above}
-use Rattle.pagable_pager_spec.specs.World.{Core, OpenLoad, Shelf, Slot, Outcome, no_result, published, failed, Written, Frame, Reading, Fault, was_refused, was_failed, answer_of_fault, Todo, to_start}
-use Rattle.pagable_pager_spec.specs.World.{to_pin, to_load, to_write, to_finish, to_item, to_set, to_publish, to_release, to_fail, Task, of_item, of_entry, row_at, is_identity, Alike, SameShelf, Values}
-use Rattle.pagable_pager_spec.specs.{Basics.{if_there, is_loose_kind, Beginning, LoadAnswer}, Kinds.{identity_of, is_owner, is_loose, owner_worker, find_row, is_at, is_owned_by}, World.{Seen, digest, result_map}}
-use Rattle.pagable_pager_spec.specs.{Cascade.FallsAnyhow, Refusals.row_fault, Calls.{CloneCall, PinCall, SetKeyCall, ScheduleCall, StoreCall}, LoadCalls.BeginCall, Loads.{ReadingDoes, gone_on}}
+use Rattle.std.specs.{
+  Prelude.{Bool, Err, IfErr, IfOk, List, None, Ok, Option, Result, Some, drop, false, if◌then◌else◌, length, max},
+  Prelude.{nat_eq, true, ℕ, [], ◌&&◌, ◌++◌, ◌+◌, ◌<◌, ◌||◌, ◌∷◌, ◌≡◌, ◌≤◌, ◌⊎◌},
+}
 
 -- the depth of a child on the path: one more than its parent's, or 0 for a loose reference, which begins a new path
 abbrev pub place_below : ℕ → ℕ → ℕ
@@ -182,12 +193,12 @@ abbrev pub fresh : LoadNumber → ℕ → Reading
 fresh l t = record { load = l; node_type = t; frames = []; steps = 0 }
 
 abbrev pub PinsFirst : ℕ → WorkerState → ArcRef → ℕ → List Todo → PinStep → WorkerState → Type 0
-PinsFirst v s r place below (PinStep.Held k) s' = (through : HandleNumber)
+PinsFirst v s r place below (PinStep.Pinned k) s' = (through : HandleNumber)
     × PinsAtOnce s.core (owner_worker v) r through k s'.core × GoesTo s (to_write r place through ∷ below) s'
 PinsFirst v s r place below (PinStep.LoadBegun l) s' =
     (through : HandleNumber) × PinsByLoad s.core (owner_worker v) r through l s'.core
     × GoesTo s (to_load r place through (fresh l (type_of r.kind.0)) ∷ below) s'
-PinsFirst v s r place below PinStep.LoadWent s' = ⊥
+PinsFirst v s r place below PinStep.LoadStepMade s' = ⊥
 
 -- the claimed node is pinned, or a load of it begins
 pub record PinsClaimed (v : ℕ) (s : WorkerState) (r : ArcRef) (place : ℕ) (below : List Todo)
@@ -199,11 +210,11 @@ pub record PinsClaimed (v : ℕ) (s : WorkerState) (r : ArcRef) (place : ℕ) (b
 abbrev pub LoadsOn : {N : Type 0} → Values N → ℕ → WorkerState → ArcRef → ℕ → HandleNumber → Reading → List Todo
     → PinStep
     → WorkerState → Type 0
-LoadsOn m v s r place through reading below (PinStep.Held k) s' =
+LoadsOn m v s r place through reading below (PinStep.Pinned k) s' =
     ReadingDoes m s.core (owner_worker v) reading (Some (LoadAnswer.Pinned k)) [] s'.core
     × GoesTo s (to_write r place through ∷ below) s'
 LoadsOn m v s r place through reading below (PinStep.LoadBegun l) s' = ⊥
-LoadsOn m v s r place through reading below PinStep.LoadWent s' =
+LoadsOn m v s r place through reading below PinStep.LoadStepMade s' =
     (frames : List Frame) × ReadingDoes m s.core (owner_worker v) reading None frames s'.core
     × GoesTo s (to_load r place through (gone_on reading frames) ∷ below) s'
 

@@ -1,9 +1,22 @@
 -- The core: handles, cells, list, cache, store, loads, claims and workers, without values and counts. And the
 -- description of the caller's types: the members of their traits, and what is asked of them.
-use Rattle.std.specs.Prelude.{ℕ, ◌≡◌, ◌≤◌, ◌==◌, ◌&&◌, ◌^◌, ◌-◌, ◌+◌, min, Bool, not, if◌then◌else◌, List, Option, Some, None, true, Result, Ok, Err}
-use Rattle.pagable_value_spec.specs.{Blob.key_of, Reading.deepest, Refusals.{is_own_reading, may_refuse_writing}, Form.Form, Writing.kind_of_arc, References.{references_in, SameReferences}}
-use Rattle.pagable_pager_spec.specs.Basics.{Error, OptionalDataKey, Kind, ArcRef, Identity, HandleNumber, LoadNumber, NodeNumber, Blob, Owner, HandleRow, WorkerAnswer, SameAt, Meaning, Shape, Types}
-use Rattle.pagable_pager_spec.specs.{Basics.{is_pinned_kind, if_there}, Kinds.{find_row, pins, is_in_memory}}
+use Rattle.pagable_pager_spec.specs.{
+  Basics.{ArcRef, Blob, Error, HandleNumber, HandleRow, Identity, Kind, LoadNumber, Meaning, NodeNumber},
+  Basics.{OptionalDataKey, Owner, SameAt, Shape, Types, WorkerAnswer, if_there, is_pinned_kind},
+  Kinds.{find_row, is_in_memory, pins},
+}
+use Rattle.pagable_value_spec.specs.{
+  Blob.key_of,
+  Form.Form,
+  Reading.deepest,
+  References.{SameReferences, references_in},
+  Refusals.{is_own_reading, may_refuse_writing},
+  Writing.kind_of_arc,
+}
+use Rattle.std.specs.{
+  Prelude.{Bool, Err, List, None, Ok, Option, Result, Some, if◌then◌else◌, min, not, true, ℕ, ◌&&◌, ◌+◌, ◌-◌, ◌==◌},
+  Prelude.{◌^◌, ◌≡◌, ◌≤◌},
+}
 
 pub record Cell : Type 0 where
   pub node_type : ℕ

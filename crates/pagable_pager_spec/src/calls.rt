@@ -8,7 +8,7 @@ use pagable_value_spec::{
 
 /// What a load fetches next.
 #[derive(Clone, Copy, Debug, PartialEq)]
-pub enum Want {
+pub enum FetchTarget {
     /// The blob of the load's own key.
     Root,
     /// The node of a reference, by its kind and key, or its blob if the cache has no node.
@@ -30,7 +30,7 @@ pub enum Call<N: Drop, B: Drop> {
     Clone(HandleNumber),
     /// Makes a Pinned handle from a loose handle, which becomes pinned too.
     Pin(HandleNumber),
-    /// Unpins a loose handle.
+    /// Makes a loose pinned handle a loose unpinned one. One that is unpinned stays as it is.
     Unpin(HandleNumber),
     /// Releases a handle.
     Release(HandleNumber),
@@ -48,11 +48,12 @@ pub enum Call<N: Drop, B: Drop> {
     NodeOf(HandleNumber),
     /// Reads the type of the node with this number, if it is live.
     NodeLive(NodeNumber),
-    /// Puts a loose unpinned handle at the end of the list.
+    /// Puts a loose unpinned handle at the end of the pending list of page-out.
     ScheduleForPaging(HandleNumber),
-    /// Counts the list's entries.
+    /// Counts the entries of the pending list.
     Pending,
-    /// Hands the list entry at this place, counted from 0, to the caller.
+    /// Takes the entry at this place, counted from 0, off the pending list and hands it to the
+    /// caller.
     TakePending(u64),
     /// Makes a handle of the node that the cache has under a kind and a key.
     CacheGet(Kind, DataKey),
@@ -71,7 +72,7 @@ pub enum Call<N: Drop, B: Drop> {
     /// Begins a load of a key.
     LoadKey(DataKey),
     /// Fetches a blob for a load, or makes a handle of a node that the cache has.
-    LoadFetch(LoadNumber, Want),
+    LoadFetch(LoadNumber, FetchTarget),
     /// Makes a node of a value that the load has read, under this kind and key.
     LoadAdopt(LoadNumber, Kind, DataKey, N),
     /// Makes a handle of the cell that the cache has under this kind and key, or of a new cell
@@ -96,45 +97,46 @@ pub enum Call<N: Drop, B: Drop> {
 pub enum Found<B: Drop> {
     /// A handle of the node that the cache has. The load owns the handle.
     Cached(HandleNumber),
-    /// The blob.
+    /// The blob that the storage has under the key.
     Blob(B),
 }
 
 /// What a call returns. A case may serve several calls.
 #[derive(Drop)]
 pub enum Reply<N: Drop, B: Drop> {
-    /// From the calls that make a node of a value: the new handle, or the error and the value.
+    /// A call that makes a node of a value returns the new handle, or the error and the value.
     Made(Result<HandleNumber, (Error, N)>),
-    /// From the other calls that return a handle.
+    /// Any other call that returns a handle returns the handle, or the error.
     Handle(Result<HandleNumber, Error>),
-    /// From `pin`.
+    /// `pin` returns the new handle, or the key that has to be loaded first.
     Pin(Result<Pinning, Error>),
-    /// From the calls that return nothing.
+    /// A call that has nothing to return says whether it failed.
     Done(Result<(), Error>),
-    /// From `count`.
+    /// `count` returns how many handles pin the node.
     Count(Result<u64, Error>),
-    /// From `key`.
+    /// `key` returns the key of the handle's node, if it has one.
     KeyFound(Result<OptionalDataKey, Error>),
-    /// From `is_paged_out`.
-    Away(Result<bool, Error>),
-    /// From `node_of`.
+    /// `is_paged_out` says whether the value has to be loaded first.
+    PagedOut(Result<bool, Error>),
+    /// `node_of` returns the number of the handle's node.
     Node(Result<NodeNumber, Error>),
-    /// From `node_live`.
+    /// `node_live` returns the node's type, or None if no such node is live.
     NodeType(Option<u32>),
-    /// From `pending` and `room`.
+    /// `pending` returns how many entries the list has, `room` how many have room beside them.
     Length(u64),
-    /// From `take_pending`.
+    /// `take_pending` returns the entry's handle, or None if the list has no such entry.
     TakenPending(Option<HandleNumber>),
-    /// From `cache_get` and `on_arc_deserialized`.
+    /// `cache_get` and `on_arc_deserialized` return a handle of the node that was cached, or None.
     FromCache(Result<Option<HandleNumber>, Error>),
-    /// From `fetch`.
+    /// `fetch` returns the blob.
     Fetched(Result<B, Error>),
-    /// From `store`.
+    /// `store` returns the blob's key.
     Stored(Result<DataKey, Error>),
-    /// From `load_begin` and `load_key`.
+    /// `load_begin` and `load_key` return the new load, or that no load is needed.
     Begun(Result<Beginning, Error>),
-    /// From `load_fetch`.
+    /// `load_fetch` returns a handle of the cached node, or the blob.
     LoadFound(Result<Found<B>, Error>),
-    /// From `load_end`: the new Pinned handle; or the error, with the value if the load stays open.
+    /// `load_end` returns the new Pinned handle, or the error, with the value if the load stays
+    /// open.
     LoadEnded(Result<HandleNumber, (Error, Option<N>)>),
 }

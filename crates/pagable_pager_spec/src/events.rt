@@ -56,9 +56,9 @@ pub enum Claim {
     Claimed,
     /// The identity is paged out already: its key and height.
     Known(DataKey, u64),
-    /// Another worker has claimed it, and has no result yet.
+    /// Another worker has claimed the identity, and has no result yet.
     Waiting,
-    /// Another worker claimed it and failed.
+    /// Another worker claimed the identity and failed.
     AlreadyFailed,
 }
 
@@ -66,11 +66,11 @@ pub enum Claim {
 #[derive(Clone, Copy, Debug, PartialEq)]
 pub enum PinStep {
     /// The worker has pinned the node, by this handle.
-    Held(HandleNumber),
+    Pinned(HandleNumber),
     /// The worker has begun a load.
     LoadBegun(LoadNumber),
     /// The worker's load has made one step.
-    LoadWent,
+    LoadStepMade,
 }
 
 /// One action of a worker, with the result of the call that it made.
@@ -98,9 +98,9 @@ pub enum Action<W: Drop> {
 /// The result of a worker.
 #[derive(Clone, Copy, Debug, PartialEq)]
 pub enum WorkerAnswer {
-    /// The key of its item or listed cell.
+    /// The worker has paged out its item or listed cell, under this key.
     Key(DataKey),
-    /// A step of its own failed.
+    /// A step of this worker failed.
     Failed(Error),
     /// Another worker failed at an identity that this one needs.
     AlreadyFailed,

@@ -8,7 +8,7 @@ pub mod handle_row;
 pub mod mode;
 pub mod pinning;
 
-pub use calls::{Call, Found, Reply, Want};
+pub use calls::{Call, FetchTarget, Found, Reply};
 pub use events::{
     Action, Claim, Event, EventReply, LoadAnswer, LoadReply, PinStep, TableNumber, WorkerAnswer,
     WorkerReply,

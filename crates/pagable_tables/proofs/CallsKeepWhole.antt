@@ -1,22 +1,23 @@
 -- Calls that list handles, take them from the list or release them keep the world whole.
-use Rattle.pagable_tables.proofs.Counting.{of_list}
-use Rattle.pagable_tables.proofs.RowCounts.{IsIn, alike-rows, among-both, among-last, among-map, among-one, apart-sum, counted, found-among, found-so}
-use Rattle.pagable_tables.proofs.RowCounts.{holder-in, is-in, keeps-whole}
-use Rattle.pagable_tables.proofs.{OwnedByLoad.no-load, RowCounts.{loads-stay, may-own, once, same-rows, stays-old, sum-map, there-then}}
-use Rattle.pagable_tables.proofs.Views.{Goes, GoesOn, beside, born-whole, falls-lost, lone-falling}
-use Rattle.pagable_tables.proofs.Views.{loose-unshared, moved-free, moved-on, moved-so, moved-to-value, named-own, named-unlisted, newer-falls, newer-moved}
-use Rattle.pagable_tables.proofs.Views.{newer-then, not-list, opened, own-of}
-use Rattle.pagable_tables.proofs.Views.{pin-comes, roomy, roomy-whole, settled, settles, stays-on, then-on}
-use Rattle.pagable_tables.proofs.Words.{Alike, AllPairs, Among, ArcRef, ArePlaced, BeginCall, Beginning, Bool, CloseCall}
-use Rattle.pagable_tables.proofs.Words.{Core, Error, Falls, HandOverCall, HandleNumber, HandleRow, Installs, IsEntryWhole, IsHandleBefore, IsRootWhole, IsWhole, Kind, List, LoadNumber, MayEnd}
-use Rattle.pagable_tables.proofs.Words.{MayHold, MayOwnLoad, Mode, NodeNumber, None, Ok, OpenLoad, OptionalDataKey, Owner, Owns, Result, Root, ScheduleCall, Some, Suits, TakeCall, [], adopted, ap}
-use Rattle.pagable_tables.proofs.Words.{arith, cases_eq, cell_fault, earlier, false, fits_mode, get_or_from_slice_get, greatest, hand_over_fault, has_key, if_there, if◌then◌else◌, inl, inr}
-use Rattle.pagable_tables.proofs.Words.{is_handle, is_in, is_loose, is_named_by, is_owned_by, is_owned_in, is_owner, is_shared, is_shared_kind, is_workers, load_fault, mode_of, moved, named_fault}
-use Rattle.pagable_tables.proofs.Words.{nat_tests, next_node, not, numbers_of, of_cell, one, only_handle, owner_value, owner_worker, references_fault, refl, row_of, shut, slice_get_within, subst}
-use Rattle.pagable_tables.proofs.Words.{sum_by-remove, sum_by_push, sym, times, true, type_at, type_of, usable, with_cached, with_handle, with_key, with_load, with_mode, with_node, with_pin}
-use Rattle.pagable_tables.proofs.SameViews.{both-none, fault-by, found-map, one-fault, owner-self}
-use Rattle.pagable_tables.proofs.Words.{with_worker, without_load, without_worker, ℕ, ◌&&◌, ◌++◌, ◌+◌, ◌<◌, ◌==◌, ◌||◌, ◌∙◌, ◌∷◌, ◌≡◌}
-use Rattle.{pagable_pager_spec.specs.Workers.{WorkerEnds, is_load_of}, std.specs.List.remove}
+use Rattle.pagable_pager_spec.specs.Workers.{WorkerEnds, is_load_of}
+use Rattle.pagable_tables.proofs.{
+  Counting.of_list,
+  OwnedByLoad.no-load,
+  RowCounts.{IsIn, alike-rows, among-both, among-last, among-map, among-one, apart-sum, counted, found-among, found-so, holder-in, is-in, keeps-whole},
+  RowCounts.{loads-stay, may-own, once, same-rows, stays-old, sum-map, there-then},
+  SameViews.{both-none, fault-by, found-map, one-fault, owner-self},
+  Views.{Goes, GoesOn, beside, born-whole, falls-lost, lone-falling, loose-unshared, moved-free, moved-on, moved-so, moved-to-value, named-own, named-unlisted},
+  Views.{newer-falls, newer-moved, newer-then, not-list, opened, own-of, pin-comes, roomy, roomy-whole, settled, settles, stays-on, then-on},
+  Words.{Alike, AllPairs, Among, ArcRef, ArePlaced, BeginCall, Beginning, Bool, CloseCall, Core, Error, Falls, HandOverCall, HandleNumber, HandleRow, Installs},
+  Words.{IsEntryWhole, IsHandleBefore, IsRootWhole, IsWhole, Kind, List, LoadNumber, MayEnd, MayOwnHandle, MayOwnLoad, Mode, NodeNumber, None, Ok, OpenLoad},
+  Words.{OptionalDataKey, Owner, Owns, Result, Root, ScheduleCall, Some, Suits, TakeCall, adopted, ap, arith, cases_eq, cell_fault, earlier, false, fits_mode},
+  Words.{get_or_from_slice_get, greatest, hand_over_fault, has_key, if_there, if◌then◌else◌, inl, inr, is_handle, is_in, is_loose, is_named_by, is_owned_by},
+  Words.{is_owned_in, is_owner, is_shared, is_shared_kind, is_workers, load_fault, mode_of, moved, named_fault, nat_tests, next_node, not, numbers_of, of_cell},
+  Words.{one, only_handle, owner_value, owner_worker, references_fault, refl, row_of, shut, slice_get_within, subst, sum_by-remove, sum_by_push, sym, times},
+  Words.{true, type_at, type_of, usable, with_cached, with_handle, with_key, with_load, with_mode, with_node, with_pin, with_worker, without_load},
+  Words.{without_worker, ℕ, [], ◌&&◌, ◌++◌, ◌+◌, ◌<◌, ◌==◌, ◌||◌, ◌∙◌, ◌∷◌, ◌≡◌},
+}
+use Rattle.std.specs.List.{remove}
 
 -- The handle h of this row alone moves: what the list's handles of a number are then.
 lists-moved : {w : Core} → IsWhole w → (h : HandleNumber) (row : HandleRow) (owner : Owner) → Among w.rows row → row.number.0 ≡ h.0 → (q : ℕ)
@@ -27,7 +28,7 @@ lists-moved {w} whole h row owner among number q =
     let a = apart-sum (λ x. one (of_list q (to x))) (λ x. one (of_list q x)) w.rows row whole.handles.ordered among (λ x other. grind (arith, nat_tests)) in
     grind (arith, nat_tests, sum-map (λ x. one (of_list q x)) (λ x. one (of_list q (to x))) to w.rows (λ x there. refl))
 
-pub schedule-goes : {w w' : Core} (me : Owner) (h : HandleNumber) → IsWhole (opened w) → MayHold w me → ScheduleCall w me h (Ok tt) w' → Goes w w'
+pub schedule-goes : {w w' : Core} (me : Owner) (h : HandleNumber) → IsWhole (opened w) → MayOwnHandle w me → ScheduleCall w me h (Ok tt) w' → Goes w w'
 schedule-goes {w} me h whole holder call = let (row, owns, does) = call.moves in elim does [
   | inl (stands_open, alike) ↦
       let (among, number) = found-among h.0 w.rows row owns.live in
@@ -46,7 +47,8 @@ schedule-goes {w} me h whole holder call = let (row, owns, does) = call.moves in
   | inr (closed, falls) ↦ lone-falling whole falls.falls
 ]
 
-pub take-whole : {w : Core} (w' : Core) (me : Owner) (i : ℕ) (h : HandleNumber) → IsWhole w → MayHold w me → TakeCall w me i (Some h) w' → ArePlaced (opened w')
+pub take-whole : {w : Core} (w' : Core) (me : Owner) (i : ℕ) (h : HandleNumber) → IsWhole w → MayOwnHandle w me → TakeCall w me i (Some h) w'
+    → ArePlaced (opened w')
     → IsWhole (opened w')
 take-whole {w} w' me i h whole holder call placed = settles (moved-so whole (only_handle h) me (remove w.list i) still
     (λ x there e. holder-in w x.mode me holder)) call.1 placed
@@ -119,7 +121,7 @@ loaded-whole {w} key root me whole may left good =
     let owners : (h : HandleRow) → Among w.rows h → IsIn after h.mode h.owner = λ h among. let i = is-in whole h among in grind (arith, nat_tests) in
     keeps-whole whole (grind (arith, nat_tests, same-rows, loads-stay, may-own))
 
-pub may-hold : (w : Core) (o : Owner) → MayOwnLoad w o → MayHold w o
+pub may-hold : (w : Core) (o : Owner) → MayOwnLoad w o → MayOwnHandle w o
 may-hold w x1 may = grind (arith, nat_tests)
 
 pub begin-whole : {w w' : Core} {l : LoadNumber} {key : ℕ} (me : Owner) (h : HandleNumber) → IsWhole w → MayOwnLoad w me
@@ -279,7 +281,7 @@ close-whole {w} {w'} r whole call placed = falls-lost w (shut w w'.failures) (ro
 -- ---- a node that was read
 
 module _ (w : Core) (whole : IsWhole (opened w)) (l : LoadNumber) (kind : Kind) (key : ℕ) (own : OptionalDataKey) (refs : List ArcRef)
-    (holder : MayHold w (Owner.Load l))
+    (holder : MayOwnHandle w (Owner.Load l))
     (good : references_fault (opened w) (Owner.Load l) [] refs ≡ None) (node_left : w.last.node < greatest) (left : w.last.handle < greatest)
     (unkeyed : is_shared (mode_of kind.0) ≡ true → has_key own ≡ false) where
   abbrev made : Core

@@ -1,25 +1,30 @@
 -- When no node is dying any more, exactly the handles that had to be removed are, and the values of the finished nodes are dropped.
-use Rattle.pagable_tables.proofs.Counting.{and_one, entries-more, entries-none, gives-sums, kept-more, left-more, left-none, none-entered, none-listed}
-use Rattle.pagable_tables.proofs.{Counting.{of_list, one-le, ones, sum-most}, HandleTable.found-append}
-use Rattle.pagable_tables.proofs.Words.{Falls, ReleasesWithoutCascade, HandleNumber, HandleRow, HasFallen, HasPlaces, RefCounts, NumberTable, IsApart, IsClosed, IsFalling, IsLeast, IsListRefusal, IsUnlisted, IsWithin}
-use Rattle.pagable_tables.proofs.Words.{List, LoadNumber, MustList, NodeNumber, NodeRow, None, Option, Owner, Result, Sheds, SoFar, Some, Steps, TellsListing, ValueStays, [], and_parts, ap}
-use Rattle.pagable_tables.proofs.Words.{append-nil, append_assoc, arith, cases_Bool, cases_eq, cell_in, counts_at, entries_of, entry, fallen, falls_in, false, filter, filter-append, find_row}
-use Rattle.pagable_tables.proofs.Words.{has_value, held, if◌then◌else◌, inl, inr, is_at, is_handle, is_keyed, is_listing, is_owned_by, is_owned_in, is_owner, is_pin, is_plain_pin, is_share}
-use Rattle.pagable_tables.proofs.Words.{is_shared, is_some, is_valued, left_rows, length, length-append, live, map-append, nat_tests, not, one, or_else, owner_value, owns, owns_nothing, passes_in}
-use Rattle.pagable_tables.proofs.Words.{pins, pins_in, refl, subst, sum_by, sum_by-cons, sum_by-le-sum_by, sym, times, told_by, true, valued, with_tables, ℕ, ◌&&◌, ◌++◌, ◌+◌}
-use Rattle.pagable_tables.proofs.{CascadeStep.{closed-is, counted, forced, listing-is, no-more, which}, Counting.with-entry}
-use Rattle.pagable_tables.proofs.Words.{Alike, AreNewEntries, Begins, Bool, Cell, Core, Counts, Error}
-use Rattle.pagable_tables.proofs.{SameViews.same-cache, Words.{◌<◌, ◌==◌, ◌||◌, ◌∙◌, ◌∷◌, ◌≡◌, ◌≢◌, ◌≤◌, ◌⊎◌}}
 use Rattle.pagable_pager_spec.proofs.Elements.{at-most-sum, sum-none}
+use Rattle.pagable_tables.proofs.{
+  CascadeStep.{closed-is, counted, forced, listing-is, no-more, which},
+  Counting.{and_one, entries-more, entries-none, gives-sums, kept-more, left-more, left-none, none-entered, none-listed, of_list, one-le, ones, sum-most},
+  Counting.with-entry,
+  HandleTable.found-append,
+  SameViews.same-cache,
+  Words.{Alike, AreNewEntries, Begins, Bool, CantList, Cell, Core, Counts, DropsValues, Error, Falls, HandleNumber, HandleRow, HasFallen, HasPlaces, IsApart},
+  Words.{IsClosed, IsLeast, IsListRefusal, IsSoundInCascade, IsWithin, List, LoadNumber, MustList, NodeNumber, NodeRow, None, NumberTable, Option, Owner},
+  Words.{RefCounts, ReleasedSoFar, ReleasesWithoutCascade, Result, Some, Steps, TellsListing, ValueStays, and_parts, ap, append-nil, append_assoc, arith},
+  Words.{cases_Bool, cases_eq, cell_in, counts_at, entries_of, entry, fallen, falls_in, false, filter, filter-append, find_row, has_value, held, if◌then◌else◌},
+  Words.{inl, inr, is_at, is_handle, is_keyed, is_last_pin_without_key, is_owned_by, is_owned_in, is_owner, is_pin, is_plain_pin, is_share, is_shared, is_some},
+  Words.{is_value_owner, left_rows, length, length-append, live, map-append, nat_tests, not, one, or_else, owner_value, owns, owns_nothing, passes_in, pins},
+  Words.{pins_in, refl, result_of_listing, subst, sum_by, sum_by-cons, sum_by-le-sum_by, sym, times, true, valued, with_tables, ℕ, [], ◌&&◌, ◌++◌, ◌+◌, ◌<◌},
+  Words.{◌==◌, ◌||◌, ◌∙◌, ◌∷◌, ◌≡◌, ◌≢◌, ◌≤◌, ◌⊎◌},
+}
 
-pub none-falls-in : (t : RefCounts) → IsFalling t [] owns_nothing → (n : ℕ) → falls_in (counts_at t.nodes n) ≡ false
+pub none-falls-in : (t : RefCounts) → IsSoundInCascade t [] owns_nothing → (n : ℕ) → falls_in (counts_at t.nodes n) ≡ false
 none-falls-in t w n = let m = w.fits.marked n in grind (arith, nat_tests)
 
 none-owned : (n : ℕ) (rows : List HandleRow) → ((q : ℕ) → sum_by (λ h. owns h n q) rows ≡ 0) → times (is_owned_by (owner_value n)) rows ≡ 0
 none-owned n rows none = sum-none (λ h. one (is_owned_by (owner_value n) h)) rows
     (λ h among. grind (arith, nat_tests, none h.number.0, at-most-sum (λ x. owns x n h.number.0) rows h among))
 
-module _ (before w : Core) (given : ℕ → Bool) (lists : Bool) (t : RefCounts) (f : SoFar before w given lists t) (whole : IsFalling t [] owns_nothing) where
+module _ (before w : Core) (given : ℕ → Bool) (lists : Bool) (t : RefCounts) (f : ReleasedSoFar before w given lists t)
+    (whole : IsSoundInCascade t [] owns_nothing) where
   pub closed : IsClosed w.rows (is_keyed w) f.entries f.gone
   closed n lost =
       let fell : HasFallen (counts_at t.nodes) (live t.handles.places.items) n =
@@ -32,7 +37,7 @@ module _ (before w : Core) (given : ℕ → Bool) (lists : Bool) (t : RefCounts)
       )
 
   -- what the world says of a cascade
-  pub ended : Falls before w given (told_by t.listing_error) (with_tables w t)
+  pub ended : Falls before w given (result_of_listing t.listing_error) (with_tables w t)
   ended =
       let set : IsLeast w.rows (is_keyed w) f.entries given f.gone =
       record { holds = f.holds; closed = closed; least = λ s has is. f.least s f.entries (λ n none. let a = counted f (is_at n) in omega arith) has is } in
@@ -40,9 +45,10 @@ module _ (before w : Core) (given : ℕ → Bool) (lists : Bool) (t : RefCounts)
       grind (arith, nat_tests, leaves)
 
 pub valued-le : (rows : List HandleRow) → valued rows ≤ length rows
-valued-le rows = omega (arith, ones rows, sum_by-le-sum_by (λ (h : HandleRow). one (is_valued h.owner)) (λ h. 1) rows (λ h. one-le (is_valued h.owner)))
+valued-le rows = omega
+    (arith, ones rows, sum_by-le-sum_by (λ (h : HandleRow). one (is_value_owner h.owner)) (λ h. 1) rows (λ h. one-le (is_value_owner h.owner)))
 
-pub none-falls : (t : RefCounts) (stack : List ℕ) → IsFalling t stack owns_nothing → t.top ≡ 0 → IsFalling t [] owns_nothing
+pub none-falls : (t : RefCounts) (stack : List ℕ) → IsSoundInCascade t stack owns_nothing → t.top ≡ 0 → IsSoundInCascade t [] owns_nothing
 none-falls t [] w z = w
 none-falls t (n ∷ ns) w z = absurd (let m = w.fits.marked n in let top = w.fits.chain.0 in let none = w.fits.from_one in
     grind (arith, nat_tests, sum_by-cons (λ m. one (m == n)) n ns))
@@ -57,20 +63,22 @@ pub lasts-on : {X : Type 0} (done : Bool) (o o' : Option Counts) (old now now' :
 lasts-on done o o' old now now' is stays gone l = grind (arith, nat_tests)
 
 module _ {X : Type 0} where
-  pub sheds-still : (t : RefCounts) (values : ℕ → Option X) → IsFalling t [] owns_nothing → Sheds (counts_at t.nodes) values (counts_at t.nodes) values
-  sheds-still t values w = record { left = λ kept n. (inl refl, kept n (none-falls-in t w n)) }
+  pub drops-still : (t : RefCounts) (values : ℕ → Option X) → IsSoundInCascade t [] owns_nothing
+      → DropsValues (counts_at t.nodes) values (counts_at t.nodes) values
+  drops-still t values w = record { left = λ kept n. (inl refl, kept n (none-falls-in t w n)) }
 
-  pub sheds-then : {at at1 at2 : ℕ → Option Counts} {old mid new : ℕ → Option X} → Sheds at old at1 mid → Sheds at1 mid at2 new → Sheds at old at2 new
-  sheds-then {old = old} {mid} {new} a b = grind (arith, nat_tests)
+  pub drops-then : {at at1 at2 : ℕ → Option Counts} {old mid new : ℕ → Option X} → DropsValues at old at1 mid → DropsValues at1 mid at2 new
+      → DropsValues at old at2 new
+  drops-then {old = old} {mid} {new} a b = grind (arith, nat_tests)
 
   -- what takes no value comes first
-  pub stays-first : {at at1 at2 : ℕ → Option Counts} {old new : ℕ → Option X} → ((n : ℕ) → ValueStays (at n) (at1 n)) → Sheds at1 old at2 new
-      → Sheds at old at2 new
+  pub stays-first : {at at1 at2 : ℕ → Option Counts} {old new : ℕ → Option X} → ((n : ℕ) → ValueStays (at n) (at1 n)) → DropsValues at1 old at2 new
+      → DropsValues at old at2 new
   stays-first stays b = record { left = λ kept. b.left (λ k falls. let s = stays k falls in kept k s.0 ∙ sym s.1) }
 
 pub ruleset falls = (nat_tests, valued-le, none-falls-in, none-falls)
 
-pub ruleset shedding = (nat_tests, sheds-then)
+pub ruleset dropping = (nat_tests, drops-then)
 
 -- ---- what has gone so far, after one step of a cascade, and after a handle that is given; which cells must be listed then, and what is told of it
 
@@ -81,7 +89,7 @@ list-kept gone q rows list listed none = grind (arith, nat_tests, sum_by-le-sum_
 
 -- a handle that the list doesn't own may go apart from it
 unlisted-apart : {before w : Core} {given : ℕ → Bool} {lists : Bool} {t new : RefCounts} {nodes : NumberTable NodeRow} {stack : List ℕ} {x : HandleRow}
-    (f : SoFar before w given lists t)
+    (f : ReleasedSoFar before w given lists t)
     → ReleasesWithoutCascade (record t { nodes = nodes }) stack x false lists new → is_owned_by Owner.List x ≡ false
     → IsApart before w given lists t f x.number.0
 unlisted-apart {w = w} {t = t} {x = x} f g owner =
@@ -107,7 +115,7 @@ tells-as rows cells long x4 tells = grind (arith, nat_tests, must-as)
 
 -- A handle has gone, or it stays without its pin; then an entry may have come.
 module _ {before w : Core} {given : ℕ → Bool} {lists stays : Bool} {t new : RefCounts} {nodes : NumberTable NodeRow} {stack : List ℕ} {x : HandleRow}
-    (f : SoFar before w given lists t)
+    (f : ReleasedSoFar before w given lists t)
     (g : ReleasesWithoutCascade (record t { nodes = nodes }) stack x stays lists new) (counts : (n : ℕ) → counts_at nodes n ≡ counts_at t.nodes n)
     (pinned : (n : ℕ) → pins_in (counts_at t.nodes n) ≡ pins n (live t.handles.places.items)) (few : length (live t.handles.places.items) ≤ length w.rows) where
   abbrev entries : List HandleRow
@@ -129,10 +137,10 @@ module _ {before w : Core} {given : ℕ → Bool} {lists stays : Bool} {t new : 
   added = ap (λ (h : RefCounts). h.list.items) g.same ∙ g.comes.comes.list
 
   abbrev wanted : Bool
-  wanted = lists && is_listing g.counts x.mode
+  wanted = lists && is_last_pin_without_key g.counts x.mode
 
   one-pin : wanted ≡ true → pins x.node.0 (live t.handles.places.items) ≡ 1
-  one-pin want = sym (pinned x.node.0) ∙ ap pins_in is ∙ (listing-is g.counts x.mode (and_parts lists (is_listing g.counts x.mode) want).1).2
+  one-pin want = sym (pinned x.node.0) ∙ ap pins_in is ∙ (listing-is g.counts x.mode (and_parts lists (is_last_pin_without_key g.counts x.mode) want).1).2
 
   none-held : wanted ≡ true → held x.node.0 f.entries ≡ 0
   none-held want = grind (arith, nat_tests, one-pin)
@@ -140,7 +148,7 @@ module _ {before w : Core} {given : ℕ → Bool} {lists stays : Bool} {t new : 
   -- the last pin of a cell without a key has gone
   new-must : wanted ≡ true → MustList before w (with_tables w new) x.node.0
   new-must want =
-      let l = listing-is g.counts x.mode (and_parts lists (is_listing g.counts x.mode) want).1 in
+      let l = listing-is g.counts x.mode (and_parts lists (is_last_pin_without_key g.counts x.mode) want).1 in
       let n = x.node.0 in
       let pinned = no-more f (is_pin n) (λ h mode owner. grind (arith, nat_tests)) in
       let plain = no-more f (is_plain_pin n) (λ h mode owner. grind (arith, nat_tests)) in
@@ -171,14 +179,14 @@ module _ {before w : Core} {given : ℕ → Bool} {lists stays : Bool} {t new : 
   only-more : (n : ℕ) → 0 < held n entries → MustList before w (with_tables w new) n × (held n entries ≡ 1)
   only-more n some = grind (arith, nat_tests, held-more, new-must, must-kept, none-held)
 
-  told : TellsListing before w entries (told_by new.listing_error) (with_tables w new)
+  told : TellsListing before w entries (result_of_listing new.listing_error) (with_tables w new)
   told = by t.listing_error refl f.tells
     where
       kept : (u : Option Error) → t.listing_error ≡ u → (g.listed ≡ true) ⊎ (wanted ≡ false) → new.listing_error ≡ u
       kept u is s = ap (λ (h : RefCounts). h.listing_error) g.same ∙ g.comes.told s ∙ is
 
       late : (u : Option Error) → t.listing_error ≡ u → g.listed ≡ false → wanted ≡ true → (e : Error)
-          × IsUnlisted (record t { handles = g.left; nodes = nodes }) e
+          × CantList (record t { handles = g.left; nodes = nodes }) e
           × (new.listing_error ≡ or_else u (Some e))
       late u is none want = let y = g.comes.why none want in (
         y.0,
@@ -187,8 +195,8 @@ module _ {before w : Core} {given : ℕ → Bool} {lists stays : Bool} {t new : 
             ∙ ap (λ u. or_else u (Some y.0)) is,
       )
 
-      by : (u : Option Error) → t.listing_error ≡ u → TellsListing before w f.entries (told_by u) (with_tables w t)
-          → TellsListing before w entries (told_by new.listing_error) (with_tables w new)
+      by : (u : Option Error) → t.listing_error ≡ u → TellsListing before w f.entries (result_of_listing u) (with_tables w t)
+          → TellsListing before w entries (result_of_listing new.listing_error) (with_tables w new)
       by (Some e) is tells =
           let a = tells.not_all in
           let so : new.listing_error ≡ Some e = elim (which g.listed wanted) [ inl s ↦ kept (Some e) is s | inr n ↦ (late (Some e) is n.0 n.1).2 ] in
@@ -220,7 +228,7 @@ module _ {before w : Core} {given : ℕ → Bool} {lists stays : Bool} {t new : 
       → filter (λ (q : HandleNumber). not (gone q.0)) w.list ≡ filter (λ (q : HandleNumber). not (f.gone q.0)) w.list → IsWithin rows given' gone
       → ((s : ℕ → Bool) (final : List HandleRow) → ((n : ℕ) → held n (live new.handles.places.items) ≡ 0 → held n final ≡ 0) → IsWithin rows given' s
       → IsClosed rows (is_keyed w) final s → IsWithin rows gone s)
-      → (new.top ≢ 0 → length (live new.handles.places.items) ≤ length rows) → SoFar before (record w { rows = rows }) given' lists new
+      → (new.top ≢ 0 → length (live new.handles.places.items) ≤ length rows) → ReleasedSoFar before (record w { rows = rows }) given' lists new
   entered-on rows long given' gone begins rest kept holds least few' = record {
     begins = begins;
     gone = gone;
@@ -236,18 +244,18 @@ module _ {before w : Core} {given : ℕ → Bool} {lists stays : Bool} {t new : 
     least = least;
     new = let a = f.last in let n = f.new in grind (arith, nat_tests, entries-more, append-nil);
     only = λ n some. let o = only-more n some in (must-as rows (λ n. cell_in (counts_at new.nodes n)) o.0, o.1);
-    tells = tells-as rows (λ n. cell_in (counts_at new.nodes n)) long (told_by new.listing_error) told;
+    tells = tells-as rows (λ n. cell_in (counts_at new.nodes n)) long (result_of_listing new.listing_error) told;
     few = few';
   }
 
 module _ {before w : Core} {given : ℕ → Bool} {lists : Bool} {t new : RefCounts} {nodes : NumberTable NodeRow} {stack : List ℕ} {x : HandleRow}
-    (given' : ℕ → Bool) (f : SoFar before w given lists t)
+    (given' : ℕ → Bool) (f : ReleasedSoFar before w given lists t)
     (g : ReleasesWithoutCascade (record t { nodes = nodes }) stack x false lists new) (counts : (n : ℕ) → counts_at nodes n ≡ counts_at t.nodes n)
     (pinned : (n : ℕ) → pins_in (counts_at t.nodes n) ≡ pins n (live t.handles.places.items)) (few : length (live t.handles.places.items) ≤ length w.rows)
     (apart : IsApart before w given lists t f x.number.0) where
   one-goes : IsWithin w.rows given' (and_one f.gone x.number.0) → ((s : ℕ → Bool) (final : List HandleRow)
       → ((n : ℕ) → held n (live new.handles.places.items) ≡ 0 → held n final ≡ 0) → IsWithin w.rows given' s → IsClosed w.rows (is_keyed w) final s
-      → IsWithin w.rows (and_one f.gone x.number.0) s) → SoFar before w given' lists new
+      → IsWithin w.rows (and_one f.gone x.number.0) s) → ReleasedSoFar before w given' lists new
   one-goes holds least = entered-on f g counts pinned few w.rows refl given' (and_one f.gone x.number.0) f.begins
       (grind (
         arith,
@@ -271,7 +279,7 @@ with-one gone s q rows is within = grind (arith, nat_tests)
 
 -- the least set, over the whole step
 least-more : {before w : Core} {given : ℕ → Bool} {lists : Bool} {t new : RefCounts} {nodes : NumberTable NodeRow} {stack : List ℕ} {x : HandleRow} {n : ℕ}
-    (f : SoFar before w given lists t)
+    (f : ReleasedSoFar before w given lists t)
     → ReleasesWithoutCascade (record t { nodes = nodes }) stack x false lists new → x.owner ≡ owner_value n
     → HasFallen (counts_at t.nodes) (live t.handles.places.items) n
     → (s : ℕ → Bool) (final : List HandleRow) → ((m : ℕ) → held m (live new.handles.places.items) ≡ 0 → held m final ≡ 0) → IsWithin w.rows given s
@@ -288,10 +296,11 @@ pub within-less : (a b c d : ℕ → Bool) (rows : List HandleRow) → ((r : ℕ
     → IsWithin rows a b
 within-less a b c d rows less is = grind (arith, nat_tests, sum_by-le-sum_by)
 
-pub steps-on : (before w : Core) (given : ℕ → Bool) (lists : Bool) (t new : RefCounts) (stack : List ℕ) (r : Option NodeNumber) → SoFar before w given lists t
-    → IsFalling t stack owns_nothing → t.top ≢ 0 → Steps t stack lists r new → SoFar before w given lists new
+pub steps-on : (before w : Core) (given : ℕ → Bool) (lists : Bool) (t new : RefCounts) (stack : List ℕ) (r : Option NodeNumber)
+    → ReleasedSoFar before w given lists t
+    → IsSoundInCascade t stack owns_nothing → t.top ≢ 0 → Steps t stack lists r new → ReleasedSoFar before w given lists new
 steps-on before w given lists t new stack r f falling some s = elim s.what [
-  | inl done ↦ let stay = s.cells in subst (SoFar before w given lists) (sym done.1) (grind (arith, nat_tests, tells-as, must-as))
+  | inl done ↦ let stay = s.cells in subst (ReleasedSoFar before w given lists) (sym done.1) (grind (arith, nat_tests, tells-as, must-as))
   | inr (x, n, is, by) ↦
       let g : ReleasesWithoutCascade (record t { nodes = by.popped.nodes }) by.stack x false lists new =
       subst (λ p. ReleasesWithoutCascade p by.stack x false lists new) by.same by.gives in
@@ -300,11 +309,12 @@ steps-on before w given lists t new stack r f falling some s = elim s.what [
 ]
 
 -- a handle is given that the list doesn't own, or one apart from the list
-pub gives-on : (before w : Core) (given : ℕ → Bool) (lists : Bool) (t new : RefCounts) (stack : List ℕ) (x : HandleRow) → (f : SoFar before w given lists t)
+pub gives-on : (before w : Core) (given : ℕ → Bool) (lists : Bool) (t new : RefCounts) (stack : List ℕ) (x : HandleRow)
+    → (f : ReleasedSoFar before w given lists t)
     → ((n : ℕ) → pins_in (counts_at t.nodes n) ≡ pins n (live t.handles.places.items)) → (is_owned_by Owner.List x ≡ false)
     ⊎ IsApart before w given lists t f x.number.0
     → length (live t.handles.places.items) ≤ length w.rows → ReleasesWithoutCascade t stack x false lists new
-    → SoFar before w (and_one given x.number.0) lists new
+    → ReleasedSoFar before w (and_one given x.number.0) lists new
 gives-on before w given lists t new stack x f pinned free few g =
     one-goes {nodes = t.nodes} (and_one given x.number.0) f g (λ n. refl) pinned few
     (elim free [ inl other ↦ unlisted-apart {nodes = t.nodes} f g other | inr apart ↦ apart ])
@@ -322,8 +332,8 @@ gives-unlisted {t} {new} shut g = grind (arith, nat_tests, append-nil)
 -- ---- what was given is told by another set. Handles of a load that are left are those that it had and that haven't gone
 
 -- a set that has what was given, and no more but what has gone
-pub regiven : (before w : Core) (given given' : ℕ → Bool) (lists : Bool) (t : RefCounts) (f : SoFar before w given lists t)
-    → ((r : ℕ) → given' r ≡ true → (given r || f.gone r) ≡ true) → ((r : ℕ) → given r ≡ true → given' r ≡ true) → SoFar before w given' lists t
+pub regiven : (before w : Core) (given given' : ℕ → Bool) (lists : Bool) (t : RefCounts) (f : ReleasedSoFar before w given lists t)
+    → ((r : ℕ) → given' r ≡ true → (given r || f.gone r) ≡ true) → ((r : ℕ) → given r ≡ true → given' r ≡ true) → ReleasedSoFar before w given' lists t
 regiven before w given given' lists t f less more =
     let least : (s : ℕ → Bool) (final : List HandleRow) → ((n : ℕ) → held n (live t.handles.places.items) ≡ 0 → held n final ≡ 0) → IsWithin w.rows given' s
     → IsClosed w.rows (is_keyed w) final s → IsWithin w.rows f.gone s =
@@ -364,7 +374,7 @@ module _ (test : HandleRow → Bool) (q : ℕ) where
   passes-left gone entries rows none = found-first (left_rows gone rows) entries none ∙ found-left gone rows
 
 -- of what passes and isn't an entry, what hasn't gone is there
-pub passes-so-far : (before w : Core) (given : ℕ → Bool) (lists : Bool) (t : RefCounts) (f : SoFar before w given lists t) (test : HandleRow → Bool)
+pub passes-so-far : (before w : Core) (given : ℕ → Bool) (lists : Bool) (t : RefCounts) (f : ReleasedSoFar before w given lists t) (test : HandleRow → Bool)
     → ((h : HandleRow) → h.owner ≡ Owner.List → test h ≡ false) → (q : ℕ)
     → passes_in test (live t.handles.places.items) q ≡ (not (f.gone q) && passes_in test w.rows q)
 passes-so-far before w given lists t f test none q = ap (λ rows. passes_in test rows q) f.rows
@@ -374,15 +384,15 @@ passes-so-far before w given lists t f test none q = ap (λ rows. passes_in test
 abbrev pub and_owned : Core → LoadNumber → (ℕ → Bool) → ℕ → ℕ → Bool
 and_owned w l given n q = given q || (q == n && is_owned_in w (Owner.Load l) q)
 
-pub given-none : (before w : Core) (given : ℕ → Bool) (lists : Bool) (t : RefCounts) (l : LoadNumber) (n : ℕ) → SoFar before w given lists t
-    → owned (Owner.Load l) n (live t.handles.places.items) ≡ false → SoFar before w (and_owned w l given n) lists t
+pub given-none : (before w : Core) (given : ℕ → Bool) (lists : Bool) (t : RefCounts) (l : LoadNumber) (n : ℕ) → ReleasedSoFar before w given lists t
+    → owned (Owner.Load l) n (live t.handles.places.items) ≡ false → ReleasedSoFar before w (and_owned w l given n) lists t
 given-none before w given lists t l n f none =
     let left = passes-so-far before w given lists t f (is_owned_by (Owner.Load l)) (unlisting (Owner.Load l) refl) n in
     regiven before w given (and_owned w l given n) lists t f (λ r e. grind (arith, nat_tests, cases_eq r n)) (λ r e. grind (arith, nat_tests))
 
-pub given-one : (before w : Core) (given : ℕ → Bool) (lists : Bool) (t new : RefCounts) (l : LoadNumber) (n : ℕ) → SoFar before w given lists t
-    → owned (Owner.Load l) n (live t.handles.places.items) ≡ true → SoFar before w (and_one given n) lists new
-    → SoFar before w (and_owned w l given n) lists new
+pub given-one : (before w : Core) (given : ℕ → Bool) (lists : Bool) (t new : RefCounts) (l : LoadNumber) (n : ℕ) → ReleasedSoFar before w given lists t
+    → owned (Owner.Load l) n (live t.handles.places.items) ≡ true → ReleasedSoFar before w (and_one given n) lists new
+    → ReleasedSoFar before w (and_owned w l given n) lists new
 given-one before w given lists t new l n f some g =
     let mine : is_owned_in w (Owner.Load l) n ≡ true =
     (and_parts (not (f.gone n)) _ (sym (passes-so-far before w given lists t f (is_owned_by (Owner.Load l)) (unlisting (Owner.Load l) refl) n) ∙ some)).1 in

@@ -1,15 +1,19 @@
 -- After one handle is removed, handles and nodes agree again.
-use Rattle.pagable_tables.specs.Core.{StorageView}
-use Rattle.pagable_tables.proofs.Counting.{all-kept, and_one, entries-none, of_list, one-le, ones, sum-most, times-left}
-use Rattle.pagable_tables.proofs.{HandleTable.{length-live-le, none-found, only-row, row-le-live}, RowCounts.{found-among, only-at}}
-use Rattle.pagable_tables.proofs.Words.{AllPairs, Among, ArcRef, Bool, Chain, Core, Counts, Error, Fits, HandleNumber, HandleRow, HasFallen, HasRoom, RefCounts, IsApart, IsBefore, IsClosed}
-use Rattle.pagable_tables.proofs.Words.{IsFalling, IsSome, IsWithin, List, Mode, None, OpenLoad, Option, Owner, Place, Right, SoFar, Some, Tables, TellsListing, [], after, alive, ap, append-nil}
-use Rattle.pagable_tables.proofs.Words.{arith, cases_Bool, cases_eq, cell_in, core_of, counts_at, entry, falls_in, false, filter, find_row, get_or, get_or-le-sum_by, greatest, has_value, held}
-use Rattle.pagable_tables.proofs.Words.{holds_in, if◌then◌else◌, inl, inr, is_at, is_fallen_by, is_handle, is_keyed, is_listed, is_listing, is_outside, is_owned_by, is_owned_in, is_owner, is_pin}
-use Rattle.pagable_tables.proofs.Words.{is_pinning, is_plain_pin, is_share, is_shared, is_valued, keyed, landed, left_rows, length, live, map, named, nat_lt, nat_tests, next_in, nobody, not, often}
-use Rattle.pagable_tables.proofs.Words.{one, owner_value, owns, owns_nothing, pins, refl, sharing, slice_get, slice_get-get_or, subst, sum_by, sum_by-append, sum_by-cons, sum_by-le-sum_by}
-use Rattle.pagable_tables.proofs.Words.{sum_by_push, sym, times, told_by, true, unpinned, with_tables, ℕ, ◌&&◌, ◌++◌, ◌+◌, ◌-◌, ◌<◌, ◌==◌, ◌∙◌, GetsKey, NodeNumber, with_key}
-use Rattle.{pagable_tables.{proofs.Words.{◌∷◌, ◌≡◌, ◌≢◌, ◌≤◌, ◌⊎◌}, specs.Core.IsWhole}, pagable_pager_spec.proofs.Elements.sum-none}
+use Rattle.pagable_pager_spec.proofs.Elements.{sum-none}
+use Rattle.pagable_tables.proofs.{
+  Counting.{all-kept, and_one, entries-none, of_list, one-le, ones, sum-most, times-left},
+  HandleTable.{length-live-le, none-found, only-row, row-le-live},
+  RowCounts.{found-among, only-at},
+  Words.{AllPairs, Among, ArcRef, Bool, Chain, Core, Counts, Error, Fits, GetsKey, HandleNumber, HandleRow, HasFallen, HasRoom, IsApart, IsBefore, IsClosed},
+  Words.{IsSome, IsSoundInCascade, IsWithin, List, Mode, NodeNumber, None, OpenLoad, Option, Owner, Place, RefCounts, ReleasedSoFar, Right, Some, Tables},
+  Words.{TellsListing, alive, ap, append-nil, arith, cases_Bool, cases_eq, cell_in, core_of, counts_after_release, counts_at, entry, falls_in, false, filter},
+  Words.{find_row, finished_counts, get_or, get_or-le-sum_by, greatest, has_value, held, holds_in, if◌then◌else◌, inl, inr, is_at, is_fallen_by, is_handle},
+  Words.{is_keyed, is_last_pin_without_key, is_listed, is_outside, is_owned_by, is_owned_in, is_owner, is_pin, is_pinning, is_plain_pin, is_share, is_shared},
+  Words.{is_value_owner, keyed, left_rows, length, live, map, named, nat_lt, nat_tests, next_in, nobody, not, often, one, owner_value, owns, owns_nothing},
+  Words.{pins, refl, result_of_listing, sharing, slice_get, slice_get-get_or, subst, sum_by, sum_by-append, sum_by-cons, sum_by-le-sum_by, sum_by_push, sym},
+  Words.{times, true, unpinned, with_key, with_tables, ℕ, [], ◌&&◌, ◌++◌, ◌+◌, ◌-◌, ◌<◌, ◌==◌, ◌∙◌, ◌∷◌, ◌≡◌, ◌≢◌, ◌≤◌, ◌⊎◌},
+}
+use Rattle.pagable_tables.specs.Core.{IsWhole, StorageView}
 use Rattle.pagable_pager_spec.specs.Pager as pager
 
 -- 1 for the handle q that the node's value owns
@@ -40,7 +44,7 @@ module _ (at at' : ℕ → Option Counts) (refs refs' : ℕ → List ArcRef) (ro
     (stays listed : Bool) (k : ℕ)
     (fits : Fits at refs rows top stack (λ n q. is_owned n q x)) (is : at x.node.0 ≡ Some c) (plain : stays ≡ true → (n q : ℕ) → is_owned n q x ≡ 0)
     (leaves : (f : HandleRow → ℕ) → sum_by f rows' + f x ≡ sum_by f rows + (if stays then f (unpinned x) else 0) + (if listed then f (entry k x.node) else 0))
-    (here : at' x.node.0 ≡ Some (after c (is_pinning x.mode) stays listed top)) (others : (n : ℕ) → n ≢ x.node.0 → at' n ≡ at n)
+    (here : at' x.node.0 ≡ Some (counts_after_release c (is_pinning x.mode) stays listed top)) (others : (n : ℕ) → n ≢ x.node.0 → at' n ≡ at n)
     (same : (n : ℕ) → refs' n ≡ refs n)
     (some : one (is_pinning x.mode) ≤ c.pins) (live : 1 ≤ c.holds) where
   given-owned : (n q : ℕ) → named q (refs' n) + 0 ≡ sum_by (is_owned n q) rows'
@@ -70,12 +74,12 @@ pub first-waits : (at : ℕ → Option Counts) (refs : ℕ → List ArcRef) (row
     → Fits at refs rows n (n ∷ ns) extra → falls_in (at n) ≡ true
 first-waits at refs rows n ns extra fits = let a = sum_by-cons (λ y. one (y == n)) n ns in let b = fits.marked n in grind (arith, nat_tests)
 
-pub top-stands : (t : RefCounts) (stack : List ℕ) → t.top ≢ 0 → IsFalling t stack owns_nothing → (ns : List ℕ) × (stack ≡ t.top ∷ ns)
-    × IsFalling t (t.top ∷ ns) owns_nothing
+pub top-stands : (t : RefCounts) (stack : List ℕ) → t.top ≢ 0 → IsSoundInCascade t stack owns_nothing → (ns : List ℕ) × (stack ≡ t.top ∷ ns)
+    × IsSoundInCascade t (t.top ∷ ns) owns_nothing
 top-stands t [] some w = absurd (some w.fits.chain)
-top-stands t (n ∷ ns) some w = let top = sym w.fits.chain.0 in (ns, ap (λ m. m ∷ ns) top, subst (λ m. IsFalling t (m ∷ ns) owns_nothing) top w)
+top-stands t (n ∷ ns) some w = let top = sym w.fits.chain.0 in (ns, ap (λ m. m ∷ ns) top, subst (λ m. IsSoundInCascade t (m ∷ ns) owns_nothing) top w)
 
-pub top-there : (t : RefCounts) (stack : List ℕ) → t.top ≢ 0 → IsFalling t stack owns_nothing → counts_at t.nodes t.top ≡ None → ⊥
+pub top-there : (t : RefCounts) (stack : List ℕ) → t.top ≢ 0 → IsSoundInCascade t stack owns_nothing → counts_at t.nodes t.top ≡ None → ⊥
 top-there t stack some w none = let waits = first-waits _ _ _ _ _ _ (top-stands t stack some w).2.fits in let a = ap falls_in none in absurd (cc)
 
 pub pins-le-held : (n : ℕ) (rows : List HandleRow) → pins n rows ≤ held n rows
@@ -83,7 +87,7 @@ pins-le-held n rows = sum_by-le-sum_by (λ h. one (is_pin n h)) (λ h. one (is_a
 
 -- the first node that waits is done: it is gone, or waits no more
 module _ (at at' : ℕ → Option Counts) (refs refs' : ℕ → List ArcRef) (rows : List HandleRow) (n : ℕ) (ns : List ℕ) (c : Counts)
-    (fits : Fits at refs rows n (n ∷ ns) owns_nothing) (is : at n ≡ Some c) (here : at' n ≡ landed c) (bare : refs n ≡ [])
+    (fits : Fits at refs rows n (n ∷ ns) owns_nothing) (is : at n ≡ Some c) (here : at' n ≡ finished_counts c) (bare : refs n ≡ [])
     (others : (m : ℕ) → m ≢ n → at' m ≡ at m) (same : (m : ℕ) → refs' m ≡ refs m) (one' : n ≢ 0) where
   once : often n ns ≡ 0
   once = grind (arith, nat_tests, sum_by-cons (λ y. one (y == n)) n ns)
@@ -137,10 +141,10 @@ pub ruleset landing = (nat_tests, cases_eq)
 
 -- ---- a handle comes to a live node or to another owner, and nothing falls
 
-pub no-value : (n : ℕ) (o : Owner) → is_valued o ≡ false → is_owner (owner_value n) o ≡ false
+pub no-value : (n : ℕ) (o : Owner) → is_value_owner o ≡ false → is_owner (owner_value n) o ≡ false
 no-value n x1 e = grind (arith, nat_tests)
 
-pub owned-by-none : (n q : ℕ) (x : HandleRow) → is_valued x.owner ≡ false → is_owned n q x ≡ 0
+pub owned-by-none : (n q : ℕ) (x : HandleRow) → is_value_owner x.owner ≡ false → is_owned n q x ≡ 0
 owned-by-none n q x e = let a = no-value n x.owner e in grind (arith, nat_tests)
 
 pub not-zero : (at : ℕ → Option Counts) (n : ℕ) (c : Counts) → at 0 ≡ None → at n ≡ Some c → 0 ≢ n
@@ -149,7 +153,7 @@ not-zero at n c none is z = absurd (let a : at 0 ≡ Some c = ap at z ∙ is in 
 module _ (at at' : ℕ → Option Counts) (refs refs' : ℕ → List ArcRef) (rows : List HandleRow) (top : ℕ) (x : HandleRow) (c : Counts)
     (fits : Fits at refs rows top [] owns_nothing) (is : at x.node.0 ≡ Some c)
     (here : at' x.node.0 ≡ Some (record c { pins = c.pins + one (is_pinning x.mode); holds = c.holds + 1 }))
-    (others : (n : ℕ) → n ≢ x.node.0 → at' n ≡ at n) (same : (n : ℕ) → refs' n ≡ refs n) (owner : is_valued x.owner ≡ false) where
+    (others : (n : ℕ) → n ≢ x.node.0 → at' n ≡ at n) (same : (n : ℕ) → refs' n ≡ refs n) (owner : is_value_owner x.owner ≡ false) where
   pub come-fits : Fits at' refs' (rows ++ x ∷ []) top [] owns_nothing
   come-fits = record {
     pinned = λ n. grind (arith, nat_tests, cases_eq, sum_by_push, pin-here);
@@ -200,7 +204,7 @@ module _ (list : List HandleNumber) (ss : List Place) (i : ℕ) (h : HandleNumbe
     some-entry,
   ))
 
-  pub entry-unvalued : (place : ℕ) (row : HandleRow) → AllPairs IsBefore ss → slice_get ss place ≡ Some (alive row) → row.number ≡ h → is_valued row.owner
+  pub entry-unvalued : (place : ℕ) (row : HandleRow) → AllPairs IsBefore ss → slice_get ss place ≡ Some (alive row) → row.number ≡ h → is_value_owner row.owner
       ≡ false
   entry-unvalued place row ordered at number = grind (arith, nat_tests, only-row, some-entry)
 
@@ -210,12 +214,13 @@ pub ruleset counting = (nat_tests, row-le-live, held-here, pins-le-held, held-fe
 -- ---- where handles begin to be given up: nothing has gone so far
 
 -- why a cell isn't listed is told aside
-pub aside : (t : RefCounts) (u : Option Error) (stack : List ℕ) (extra : ℕ → ℕ → ℕ) → IsFalling t stack extra
-    → IsFalling (record t { listing_error = u }) stack extra
+pub aside : (t : RefCounts) (u : Option Error) (stack : List ℕ) (extra : ℕ → ℕ → ℕ) → IsSoundInCascade t stack extra
+    → IsSoundInCascade (record t { listing_error = u }) stack extra
 aside t u stack extra w = record { sound = w.sound; next = w.next; fits = w.fits; worked = w.worked }
 
 -- a handle that no value owns weighs nothing there
-pub unowned : (t : RefCounts) (x : HandleRow) (stack : List ℕ) → is_valued x.owner ≡ false → IsFalling t stack owns_nothing → IsFalling t stack (owns x)
+pub unowned : (t : RefCounts) (x : HandleRow) (stack : List ℕ) → is_value_owner x.owner ≡ false → IsSoundInCascade t stack owns_nothing
+    → IsSoundInCascade t stack (owns x)
 unowned t x stack plain w = record { sound = w.sound; next = w.next; fits = grind (arith, nat_tests, owned-by-none, w.fits); worked = w.worked }
 
 share-plain : (n : ℕ) (rows : List HandleRow) → sharing n rows + times (is_plain_pin n) rows ≤ held n rows
@@ -243,7 +248,7 @@ abbrev pub begun : (before w : Core) (lists : Bool) (t : RefCounts) → lists �
     → ((q : ℕ) → times (λ (h : HandleNumber). h.0 == q) w.list ≤ times (of_list q) w.rows)
     → live t.handles.places.items ≡ w.rows → t.list.items ≡ w.list → t.last_handle ≡ w.last.handle → t.last_handle ≤ greatest
     → HasRoom w.places (with_tables w t).places
-    → ((n : ℕ) → cell_in (counts_at t.nodes n) ≡ w.cells n) → t.listing_error ≡ None → SoFar before w nobody lists t
+    → ((n : ℕ) → cell_in (counts_at t.nodes n) ≡ w.cells n) → t.listing_error ≡ None → ReleasedSoFar before w nobody lists t
 begun before w lists t e many unmixed listed rows list last within places cells told = record {
   begins = record {
     open_storage = e;
@@ -264,7 +269,7 @@ begun before w lists t e many unmixed listed rows list last within places cells 
   least = λ s final bare has closed. none-within s w.rows;
   new = tt;
   only = λ n some. absurd (omega arith);
-  tells = subst (λ u. TellsListing before w [] (told_by u) (with_tables w t)) (sym told) (record {
+  tells = subst (λ u. TellsListing before w [] (result_of_listing u) (with_tables w t)) (sym told) (record {
     all = λ n must. let a = must.pinned in let b = must.unpinned in let c = many (is_pin n) (λ x o. refl) in let d = ap (pins n) rows in absurd (omega arith);
     not_all = tt;
   });
@@ -274,14 +279,15 @@ begun before w lists t e many unmixed listed rows list last within places cells 
 -- nothing has gone of a whole world, nor of the one with other loads and workers
 abbrev pub begun-less : (t : Tables) (loads : ℕ → Option OpenLoad) (workers : ℕ → Bool) (storage : StorageView) (lists : Bool) → IsWhole t → lists
     ≡ not storage.closed
-    → SoFar (core_of t storage) (record (core_of t storage) { loads = loads; workers = workers }) nobody lists (record t.ref_counts { listing_error = None })
+    → ReleasedSoFar (core_of t storage) (record (core_of t storage) { loads = loads; workers = workers }) nobody lists
+    (record t.ref_counts { listing_error = None })
 begun-less t loads workers storage lists w e =
     begun (core_of t storage) (record (core_of t storage) { loads = loads; workers = workers }) lists (record t.ref_counts { listing_error = None })
     e (λ p own. refl) (unmixed t w) (λ q. let a = w.core.owners_there.listed q in omega arith) refl refl refl w.core.handles.within.0
     (record { handles = omega arith; entries = omega arith }) (λ n. refl) refl
 
 abbrev pub begun-whole : (t : Tables) (storage : StorageView) (lists : Bool) → IsWhole t → lists ≡ not storage.closed
-    → SoFar (core_of t storage) (core_of t storage) nobody lists (record t.ref_counts { listing_error = None })
+    → ReleasedSoFar (core_of t storage) (core_of t storage) nobody lists (record t.ref_counts { listing_error = None })
 begun-whole t storage lists w e = let c = core_of t storage in begun-less t c.loads c.workers storage lists w e
 
 -- cells are listed exactly while the storage is open
@@ -298,7 +304,7 @@ cut : (f : HandleRow → Bool) (gone s : ℕ → Bool) (rows : List HandleRow) �
     ≤ times (λ h. f h && not (gone h.number.0)) rows + times (λ h. gone h.number.0 && not (s h.number.0)) rows
 cut f gone s rows = grind (arith, nat_tests, sum-most)
 
-module _ {before w : Core} {given : ℕ → Bool} {lists : Bool} {t : RefCounts} (f : SoFar before w given lists t) where
+module _ {before w : Core} {given : ℕ → Bool} {lists : Bool} {t : RefCounts} (f : ReleasedSoFar before w given lists t) where
   pub counted : (p : HandleRow → Bool) → times p (live t.handles.places.items) ≡ times (λ h. p h && not (f.gone h.number.0)) w.rows + times p f.entries
   counted p = ap (times p) f.rows ∙ sum_by-append (λ h. one (p h)) (left_rows f.gone w.rows) f.entries
       ∙ ap (λ k. k + times p f.entries) (times-left p f.gone w.rows)
@@ -308,7 +314,7 @@ module _ {before w : Core} {given : ℕ → Bool} {lists : Bool} {t : RefCounts}
       → times p (live t.handles.places.items) ≤ times p w.rows
   no-more p none = grind (arith, nat_tests, sum_by-append, entries-none, times-left, sum_by-le-sum_by)
 
-module _ {before w : Core} {given : ℕ → Bool} {lists : Bool} {t : RefCounts} (f : SoFar before w given lists t) (s : ℕ → Bool)
+module _ {before w : Core} {given : ℕ → Bool} {lists : Bool} {t : RefCounts} (f : ReleasedSoFar before w given lists t) (s : ℕ → Bool)
     (within : IsWithin w.rows f.gone s) where
   -- no handle outside the set is left that the value owned
   pub forced : (final : List HandleRow) (n : ℕ) → (held n (live t.handles.places.items) ≡ 0 → held n final ≡ 0)
@@ -336,7 +342,8 @@ module _ {before w : Core} {given : ℕ → Bool} {lists : Bool} {t : RefCounts}
       omega arith
 
 -- what a listing handle is: the last pin of a cell without a key
-pub listing-is : (c : Counts) (m : Mode) → is_listing c m ≡ true → (is_pinning m ≡ true) × (is_shared m ≡ false) × (c.pins ≡ 1) × (nat_lt 0 c.key ≡ false)
+pub listing-is : (c : Counts) (m : Mode) → is_last_pin_without_key c m ≡ true → (is_pinning m ≡ true) × (is_shared m ≡ false) × (c.pins ≡ 1)
+    × (nat_lt 0 c.key ≡ false)
 listing-is c m e = grind (arith, nat_tests)
 
 pub which : (listed wanted : Bool) → ((listed ≡ true) ⊎ (wanted ≡ false)) ⊎ ((listed ≡ false) × (wanted ≡ true))
@@ -352,7 +359,7 @@ none-kept : (gone : ℕ → Bool) (q : ℕ) (list : List HandleNumber) → filte
 none-kept gone q [] none = refl
 none-kept gone q (x ∷ xs) none = grind (arith, nat_tests, none-kept gone q xs)
 
-module _ {before w : Core} {given : ℕ → Bool} {lists : Bool} {t : RefCounts} (f : SoFar before w given lists t) (shut : lists ≡ false) where
+module _ {before w : Core} {given : ℕ → Bool} {lists : Bool} {t : RefCounts} (f : ReleasedSoFar before w given lists t) (shut : lists ≡ false) where
   pub none-came : f.entries ≡ []
   none-came = no-entries f.entries (λ n some. let a : w.closed ≡ true = closed-is lists w.closed f.begins.open_storage ∙ ap not shut in
       let b = (f.only n some).0.stands_open in absurd (cc))
@@ -386,8 +393,8 @@ module _ (T : Tables) (storage : StorageView) (lists : Bool) (whole : IsWhole T)
 
   pub keyed-on : new ≡ record T.ref_counts { listing_error = None; nodes = new.nodes; top = new.top }
       → GetsKey (counts_at T.ref_counts.nodes) (counts_at new.nodes) node.0 key
-      → SoFar old (with_key old node key) nobody lists new
-  keyed-on same cells = subst (SoFar old (with_key old node key) nobody lists) (sym same)
+      → ReleasedSoFar old (with_key old node key) nobody lists new
+  keyed-on same cells = subst (ReleasedSoFar old (with_key old node key) nobody lists) (sym same)
       (begun old (with_key old node key) lists (record T.ref_counts { listing_error = None; nodes = new.nodes; top = new.top }) opened (λ p own. refl)
       (unmixed T whole)
       (λ q. let a = whole.core.owners_there.listed q in omega arith) refl refl refl whole.core.handles.within.0

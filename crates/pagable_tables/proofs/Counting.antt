@@ -1,9 +1,11 @@
 -- How often a test holds, and the rows that are left after a set of handles is removed.
-use Rattle.pagable_tables.proofs.Words.{AreNewEntries, Bool, ReleasesWithoutCascade, HandleNumber, HandleRow, Handles, RefCounts, Leaves, List, Mode, NodeNumber, None}
-use Rattle.pagable_tables.proofs.Words.{Option, Owner, Some, [], ap, append-nil, arith, entries_of, entry, false, filter, if_there, if◌then◌else◌}
-use Rattle.pagable_tables.proofs.Words.{is_handle, is_owned_by, is_owner, left_rows, length, live, nat_tests, not, one, only_handle, refl, sum_by}
-use Rattle.pagable_tables.proofs.Words.{sum_by-append, sum_by-cons, sum_by_push, times, true, unpinned, ℕ, ◌&&◌, ◌++◌, ◌+◌, ◌==◌, ◌||◌, ◌∙◌, ◌∷◌, ◌≡◌, ◌≤◌}
 use Rattle.pagable_pager_spec.proofs.Elements.{sum-none}
+use Rattle.pagable_tables.proofs.{
+  Words.{AreNewEntries, Bool, HandleNumber, HandleRow, Handles, List, Mode, NodeNumber, None, Option, Owner, RefCounts, ReleasesWithoutCascade},
+  Words.{RemovesOrUnpins, Some, ap, append-nil, arith, entries_of, entry, false, filter, if_there, if◌then◌else◌, is_handle, is_owned_by, is_owner, left_rows},
+  Words.{length, live, nat_tests, not, one, only_handle, refl, sum_by, sum_by-append, sum_by-cons, sum_by_push, times, true, unpinned, ℕ, [], ◌&&◌, ◌++◌, ◌+◌},
+  Words.{◌==◌, ◌||◌, ◌∙◌, ◌∷◌, ◌≡◌, ◌≤◌},
+}
 
 pub and-left : (a b : Bool) → (a && b) ≡ true → a ≡ true
 and-left a b e = grind (arith, nat_tests)
@@ -85,7 +87,7 @@ gives-sums {old} {new} {x = x} g f = grind (arith, nat_tests, with-entry)
 abbrev pub of_list : ℕ → HandleRow → Bool
 of_list q h = is_handle q h && is_owned_by Owner.List h
 
-pub none-listed : {old new : Handles} {x : HandleRow} → Leaves old x false new → is_owned_by Owner.List x ≡ false
+pub none-listed : {old new : Handles} {x : HandleRow} → RemovesOrUnpins old x false new → is_owned_by Owner.List x ≡ false
     → times (of_list x.number.0) (live old.places.items) ≡ 0
 none-listed {old} {x = x} leaves owner =
     let left = ap (times (of_list x.number.0)) leaves.becomes.rows ∙ times-left (of_list x.number.0) (only_handle x.number) (live old.places.items) in

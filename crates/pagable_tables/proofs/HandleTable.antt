@@ -1,11 +1,11 @@
 -- The live rows after a place changes, and how a binary search finds one.
-use Rattle.pagable_tables.proofs.Counting.{left-none, ones}
-use Rattle.pagable_tables.proofs.Words.{All-push, All-set, AllPairs, AreSound, HandleRow, Handles, IsBefore, IsNext, List, None, Place, Some, [], alive}
-use Rattle.pagable_tables.proofs.Words.{all_pairs_push, ap, arith, cases_eq, changed, false, filter, find_row, get_or, get_or-set_at, get_or-set_other}
-use Rattle.pagable_tables.proofs.Words.{get_or_default, get_or_from_slice_get, if◌then◌else◌, is_handle, is_live_place, left_rows, length, length-append}
-use Rattle.pagable_tables.proofs.Words.{length-set, live, nat_tests, one, or_else, refl, set, slice_get, slice_get-get_or, slice_get_within, subst, suc}
-use Rattle.pagable_tables.proofs.Words.{sum_by, sum_by-cons, sum_by-le-sum_by, sum_by-set, sym, take, times, true, zero, ℕ, ◌++◌, ◌+◌, ◌<◌, ◌==◌, ◌∙◌, ◌∷◌}
-use Rattle.pagable_tables.proofs.Words.{◌≡◌, ◌≤◌, ◌⊎◌}
+use Rattle.pagable_tables.proofs.{
+  Counting.{left-none, ones},
+  Words.{All-push, All-set, AllPairs, AreSound, HandleRow, Handles, IsBefore, IsNext, List, None, Place, Some, alive, all_pairs_push, ap, arith, cases_eq},
+  Words.{changed, false, filter, find_row, get_or, get_or-set_at, get_or-set_other, get_or_default, get_or_from_slice_get, if◌then◌else◌, is_handle},
+  Words.{is_live_place, left_rows, length, length-append, length-set, live, nat_tests, one, or_else, refl, set, slice_get, slice_get-get_or, slice_get_within},
+  Words.{subst, suc, sum_by, sum_by-cons, sum_by-le-sum_by, sum_by-set, sym, take, times, true, zero, ℕ, [], ◌++◌, ◌+◌, ◌<◌, ◌==◌, ◌∙◌, ◌∷◌, ◌≡◌, ◌≤◌, ◌⊎◌},
+}
 use Rattle.pagable_tables.specs.HandleTable.{AreCounted}
 use Rattle.std.proofs.lemmas.List.{get_or-take, length-take-le}
 use Rattle.std.specs.Prelude.{Err, IsOk, Ok, Result, is_ok}

@@ -1,11 +1,13 @@
 -- When the rows of loads take note of more handles, nothing else changes, so the core is the same.
-use Rattle.pagable_tables.specs.Core.{StorageView}
-use Rattle.pagable_tables.proofs.{HandleTable.le_or_lt, OwnedByLoad.none-passes}
-use Rattle.pagable_tables.proofs.Words.{OwnLaterHandles, Bool, Core, HandleRow, IndexMap, List, LoadNumber, LoadRow, None, Option, Owner, Place, Some, Tables}
-use Rattle.pagable_tables.proofs.Words.{ap, arith, cases_Bool, cases_eq, core_of, false, get_or, inl, inr, is_owned_by, is_owned_in, is_owner, length, live, load_at, load_in, nat_tests, option_map, owner_worker, passes_in, core_alone}
-use Rattle.pagable_tables.proofs.{SameViews.owner-same, Words.{refl, subst, sym, true, ℕ, ◌+◌, ◌<◌, ◌∙◌, ◌≡◌, ◌≤◌}}
-use Rattle.pagable_tables.proofs.Words.{RefCounts, NumberTable, Sheds, counts_at, row_by}
-use Rattle.pagable_tables.specs.Core.{AreRaised, AreTold, Does, DoesShed, IsOwnedAbove, Notes, Raised}
+use Rattle.pagable_tables.proofs.{
+  HandleTable.le_or_lt,
+  OwnedByLoad.none-passes,
+  SameViews.owner-same,
+  Words.{Bool, Core, DropsValues, HandleRow, IndexMap, List, LoadNumber, LoadRow, None, NumberTable, Option, OwnLaterHandles, Owner, Place, RefCounts, Some},
+  Words.{Tables, ap, arith, cases_Bool, cases_eq, core_alone, core_of, counts_at, false, get_or, inl, inr, is_owned_by, is_owned_in, is_owner, length, live},
+  Words.{load_at, load_in, nat_tests, option_map, owner_worker, passes_in, refl, row_by, subst, sym, true, ℕ, ◌+◌, ◌<◌, ◌∙◌, ◌≡◌, ◌≤◌},
+}
+use Rattle.pagable_tables.specs.Core.{AreNoted, AreRaised, Does, DoesAndDropsValues, IsOwnedAbove, Notes, Raised, StorageView}
 
 pub raised-same : (o : Option LoadRow) → Raised o o
 raised-same None = tt
@@ -36,9 +38,9 @@ module _ (t t' : Tables) (same : t' ≡ record t { loads = t'.loads; noted = t'.
 
 -- what the rows tell of places, once more is told
 module _ {S : Type 0} (old new : IndexMap ℕ LoadRow S) (places : List Place) (number : ℕ) (raised : AreRaised old new) where
-  pub told-on : (i : ℕ) → AreTold old places number i → ((l : LoadNumber) (row : LoadRow) (d : Place) → load_at new l.0 ≡ Some row
+  pub told-on : (i : ℕ) → AreNoted old places number i → ((l : LoadNumber) (row : LoadRow) (d : Place) → load_at new l.0 ≡ Some row
       → (get_or places i d).row.owner ≡ Owner.Load l
-      → (get_or places i d).row.number.0 ≤ row.last) → AreTold new places number (i + 1)
+      → (get_or places i d).row.number.0 ≤ row.last) → AreNoted new places number (i + 1)
   told-on i told here l row k d at less above own =
       let (was, is, same, more) = raised-from (load_at old l.0) (load_at new l.0) row (raised l.0) at in
       let before = λ (lt : k < i). told l was k d is lt above own in
@@ -61,7 +63,7 @@ noted-last places l row q number told above own = elim (le_or_lt q row.last) [
 ]
 
 pub noted-later : (t t' : Tables) → t' ≡ record t { loads = t'.loads; noted = t'.noted } → AreRaised t.loads t'.loads → t'.noted ≡ t.ref_counts.last_handle
-    → AreTold t'.loads t.ref_counts.handles.places.items t.noted (length t.ref_counts.handles.places.items) → OwnLaterHandles t → OwnLaterHandles t'
+    → AreNoted t'.loads t.ref_counts.handles.places.items t.noted (length t.ref_counts.handles.places.items) → OwnLaterHandles t → OwnLaterHandles t'
 noted-later t t' same raised noted told later =
     let from = λ (l : ℕ) (load : LoadRow) (at : load_at t'.loads l ≡ Some load). raised-from (load_at t.loads l) (load_at t'.loads l) load (raised l) at in
     let after : OwnLaterHandles (record t { loads = t'.loads; noted = t'.noted }) = record {
@@ -99,11 +101,11 @@ noted-does {t} {t1} {t2} {step} n d = record {
 }
 
 pub noted-release_at : {X : Type 0} {lists : Bool} {t t1 t2 : Tables} {values values' : NumberTable X} {step : Core → Core → Type 0} → Notes t t1
-    → DoesShed lists t1 values step t2 values' → DoesShed lists t values step t2 values'
+    → DoesAndDropsValues lists t1 values step t2 values' → DoesAndDropsValues lists t values step t2 values'
 noted-release_at {lists = lists} {t} {t1} {t2} {values} {values'} {step} n d = record {
   does = λ storage open_still. subst (λ (w : Core). step w (core_of t2 storage)) (core-same t t1 n.same n.rows storage) (d.does storage open_still);
   whole = d.whole;
   later = λ later. d.later n.later;
-  sheds = subst (λ (h : RefCounts). Sheds (counts_at h.nodes) (row_by values) (counts_at t2.ref_counts.nodes) (row_by values'))
-      (ap (λ (u : Tables). u.ref_counts) n.same) d.sheds;
+  drops = subst (λ (h : RefCounts). DropsValues (counts_at h.nodes) (row_by values) (counts_at t2.ref_counts.nodes) (row_by values'))
+      (ap (λ (u : Tables). u.ref_counts) n.same) d.drops;
 }

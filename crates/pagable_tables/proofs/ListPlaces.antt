@@ -1,5 +1,5 @@
 -- What is at the places of a list after some are added or removed at its end.
-use Rattle.std.proofs.Common.{List, None, Option, [], arith, length, refl, suc, sym, zero, ℕ, ◌++◌, ◌∷◌, ◌≡◌, ◌≤◌}
+use Rattle.std.proofs.Common.{List, None, Option, arith, length, refl, suc, sym, zero, ℕ, [], ◌++◌, ◌∷◌, ◌≡◌, ◌≤◌}
 use Rattle.std.specs.{List.FoldsTo, Option.{IsSome, option_and_then}, Prelude.{slice_get, take}}
 
 -- nothing stands at the places that come

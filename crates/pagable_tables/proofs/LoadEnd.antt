@@ -1,20 +1,23 @@
 -- A node is inserted, and its value becomes the owner of its references' handles; and a pinned node without a value gets one, with its references.
-use Rattle.pagable_tables.specs.Core.{StorageView}
+use Rattle.pagable_tables.proofs.{
+  CallsKeepWhole.may-hold,
+  CascadeEnd.{found-first, passes-here, passes-none},
+  CascadeStep.{begun, held-here, is_owned, owned-by, owned-by-none, pin-here, turned, unmixed},
+  Counting.{and-left, there-is},
+  OwnedByLoad.{moved-times, no-load, not-named, owned-given, seen-before, stays-pinned, updated-by},
+  RowCounts.{among-map, at-most-sum, found-among, once, only-at, ordered-map, sum-map, sum-none},
+  SameViews.fault-by,
+  Views.{moved-to-value, named-mine, named-own, named-unlisted, not-a-value, or-none, owned-mode, owned-moved},
+  Words.{Alike, AllPairs, Among, ArcRef, Bool, Core, Counts, Ending, Error, Falls, Fits, HandleNumber, HandleRow, Installs, IsHandleBefore, IsReady, Last},
+  Words.{List, LoadNumber, LoadRow, MayEnd, MayOwnLoad, Mode, NodeNumber, None, OnlyRoom, Option, Owner, Places, RefCounts, ReleasedSoFar, Result, Right, Some},
+  Words.{Tables, ap, arith, cases_eq, cell_in, changed, core_alone, core_of, counts_at, false, find_row, has_value, has_value_once_loaded, if◌then◌else◌, inl},
+  Words.{inr, is_at, is_handle, is_in, is_named_by, is_owned_by, is_owned_in, is_pin, is_pinning, is_plain_pin, is_share, is_value_owner, length, live},
+  Words.{load_at, load_in, map, moved, named, nat_tests, nobody, not, one, option_map, owner_value, owns_nothing, pins, reference_fault, references_fault},
+  Words.{refl, row_of, sharing, subst, sum_by, sum_by-cons, sum_by_push, sym, times, true, vec_capacity, with_handle, with_mode, with_pin, with_tables},
+  Words.{without_load, ℕ, [], ◌&&◌, ◌++◌, ◌+◌, ◌<◌, ◌==◌, ◌∙◌, ◌∷◌, ◌≡◌, ◌≢◌, ◌≤◌, ◌⊎◌},
+}
+use Rattle.pagable_tables.specs.Core.{IsWhole, StorageView}
 use Rattle.std.specs.VecDeque.{deque_capacity}
-use Rattle.pagable_tables.proofs.Words.{Alike, AllPairs, Among, ArcRef, Bool, Core, Counts, Ending, Error, Falls, Fits, HandleNumber, HandleRow, RefCounts, Installs, IsHandleBefore, IsReady}
-use Rattle.pagable_tables.proofs.Words.{Last, List, LoadNumber, LoadRow, MayEnd, MayOwnLoad, Mode, NodeNumber, None, OnlyRoom, Option, Owner, Places, Result, Right, SoFar, Some, Tables, [], ap, arith}
-use Rattle.pagable_tables.proofs.Words.{cases_eq, cell_in, changed, core_of, counts_at, false, find_row, has_come, has_value, if◌then◌else◌, inl, inr, is_at, is_handle, is_in, is_named_by}
-use Rattle.pagable_tables.proofs.Words.{is_owned_by, is_owned_in, is_pin, is_pinning, is_plain_pin, is_share, is_valued, length, live, load_at, load_in, map, moved, named, nat_tests, nobody, not, one}
-use Rattle.pagable_tables.proofs.Words.{option_map, owner_value, owns_nothing, pins, core_alone, reference_fault, references_fault, refl, row_of, sharing, subst, sum_by, sum_by-cons, sum_by_push, sym}
-use Rattle.pagable_tables.proofs.Words.{times, true, vec_capacity, with_handle, with_mode, with_pin, with_tables, without_load, ℕ, ◌&&◌, ◌++◌, ◌+◌, ◌<◌, ◌==◌, ◌∙◌, ◌∷◌, ◌≡◌, ◌≢◌, ◌≤◌, ◌⊎◌}
-use Rattle.pagable_tables.proofs.{CallsKeepWhole.may-hold, CascadeStep.{begun, held-here, is_owned, owned-by, owned-by-none, pin-here, turned, unmixed}}
-use Rattle.pagable_tables.proofs.{Counting.{and-left, there-is}, RowCounts.{among-map, at-most-sum}}
-use Rattle.pagable_tables.proofs.OwnedByLoad.{moved-times, no-load, not-named, owned-given, seen-before, stays-pinned, updated-by}
-use Rattle.pagable_tables.proofs.RowCounts.{found-among, once, only-at, ordered-map, sum-map, sum-none}
-use Rattle.pagable_tables.proofs.CascadeEnd.{found-first, passes-here, passes-none}
-use Rattle.pagable_tables.proofs.Views.{moved-to-value, named-mine, named-own, named-unlisted, not-a-value, or-none, owned-mode, owned-moved}
-use Rattle.pagable_tables.proofs.SameViews.{fault-by}
-use Rattle.pagable_tables.specs.Core.{IsWhole}
 
 unseen : (w : Core) (me : Owner) (seen : List ℕ) (rs : List ArcRef) → references_fault w me seen rs ≡ None → (q : ℕ) → is_named_by rs q ≡ true → is_in seen q
     ≡ false
@@ -36,12 +39,12 @@ once-named w me seen (r ∷ rs) fit q =
     )
 
 module _ (w : Core) (me : Owner) (n : ℕ) (rs : List ArcRef) (ordered : AllPairs IsHandleBefore w.rows) (fit : references_fault w me [] rs ≡ None)
-    (unvalued : is_valued me ≡ false) where
+    (unvalued : is_value_owner me ≡ false) where
   abbrev to : HandleRow → HandleRow
   to h = if is_named_by rs h.number.0 then owned-by (owner_value n) h else h
 
-  named-free : (h : HandleRow) → Among w.rows h → is_named_by rs h.number.0 ≡ true → is_valued h.owner ≡ false
-  named-free h among is = ap is_valued (named-own w ordered me rs fit h among is) ∙ unvalued
+  named-free : (h : HandleRow) → Among w.rows h → is_named_by rs h.number.0 ≡ true → is_value_owner h.owner ≡ false
+  named-free h among is = ap is_value_owner (named-own w ordered me rs fit h among is) ∙ unvalued
 
   pub others-own : (m q : ℕ) → m ≢ n → sum_by (is_owned m q) (map to w.rows) ≡ sum_by (is_owned m q) w.rows
   others-own m q other = grind (arith, nat_tests, sum-map, owned-by, owned-by-none, named-free)
@@ -62,7 +65,7 @@ module _ (w : Core) (me : Owner) (n : ℕ) (rs : List ArcRef) (ordered : AllPair
       ∙ sum-both q (is_named_by rs q) refl ∙ sym (once-named w me [] rs fit q)
 
 module _ (w : Core) (me : Owner) (rs : List ArcRef) (ordered : AllPairs IsHandleBefore w.rows) (fit : references_fault w me [] rs ≡ None)
-    (unvalued : is_valued me ≡ false)
+    (unvalued : is_value_owner me ≡ false)
     (at at' : ℕ → Option Counts) (refs refs' : ℕ → List ArcRef) (top : ℕ) (x : HandleRow) (c : Counts) (fits : Fits at refs w.rows top [] owns_nothing)
     (owner : x.owner ≡ me)
     (new : c ≡ record c { pins = one (is_pinning x.mode); holds = 1; is_dying = false; next = 0 }) (bare : (c.key ≡ 0) ⊎ (rs ≡ []) ⊎ (is_pinning x.mode ≡ true))
@@ -102,7 +105,7 @@ module _ (w : Core) (me : Owner) (rs : List ArcRef) (ordered : AllPairs IsHandle
       sum_by_push (λ h. one (is_at m h)) given-rows x,
       moved-times (is_at m) (is_named_by rs) (owner_value n) w.rows (λ h. refl),
     );
-    owned = λ m q. let free = owned-by-none m q x (ap is_valued owner ∙ unvalued) in
+    owned = λ m q. let free = owned-by-none m q x (ap is_value_owner owner ∙ unvalued) in
         grind (arith, nat_tests, cases_eq, owned-here q, sum_by_push (is_owned m q) given-rows x, free, same m, others-own w me n rs ordered fit unvalued m q);
     chain = fits.chain;
     marked = λ m. let k : c.is_dying ≡ false = ap (λ (d : Counts). d.is_dying) new in grind (arith, nat_tests, cases_eq);
@@ -122,8 +125,9 @@ turned-sum f q rows same = grind (arith, nat_tests, sum-map)
 
 -- The world before the pins, and after them the tables; the handles are the value's then.
 module _ (w : Core) (me : Owner) (n : ℕ) (rs : List ArcRef) (ordered : AllPairs IsHandleBefore w.rows) (fit : references_fault w me [] rs ≡ None)
-    (unvalued : is_valued me ≡ false)
-    (none : (q : ℕ) → sum_by (is_owned n q) w.rows ≡ 0) (h : ℕ) (x : HandleRow) (free : is_valued x.owner ≡ false) (spared : is_named_by rs x.number.0 ≡ false)
+    (unvalued : is_value_owner me ≡ false)
+    (none : (q : ℕ) → sum_by (is_owned n q) w.rows ≡ 0) (h : ℕ) (x : HandleRow) (free : is_value_owner x.owner ≡ false)
+    (spared : is_named_by rs x.number.0 ≡ false)
     (at : ℕ → Option Counts) (refs refs' : ℕ → List ArcRef) (top : ℕ) (fits : Fits at refs (changed (is_handle h) turned w.rows ++ x ∷ []) top [] owns_nothing)
     (pinned : 0 < pins n (changed (is_handle h) turned w.rows ++ x ∷ [])) (refers : refs' n ≡ rs) (same : (q : ℕ) → q ≢ n → refs' q ≡ refs q) where
   abbrev before : List HandleRow
@@ -213,7 +217,7 @@ module _ (t t1 : Tables) (storage : StorageView) (lists : Bool) (was : IsWhole t
       (last : k.last_handle ≡ t1.ref_counts.last_handle)
       (capacity : vec_capacity k.handles.places ≡ vec_capacity t1.ref_counts.handles.places)
       (cells : (n : ℕ) → cell_in (counts_at k.nodes n) ≡ cell_in (counts_at t1.ref_counts.nodes n)) where
-    begun-pinned : SoFar u u nobody lists (record k { listing_error = None })
+    begun-pinned : ReleasedSoFar u u nobody lists (record k { listing_error = None })
     begun-pinned = begun u u lists (record k { listing_error = None }) e (λ p own. refl)
         (λ n. let b = unmixed t1 whole n in let p = as-moved (is_share n) (λ y. refl) in let q = as-moved (is_plain_pin n) (λ y. refl) in
         grind (arith, nat_tests))
@@ -246,7 +250,7 @@ module _ (t t1 : Tables) (storage : StorageView) (lists : Bool) (was : IsWhole t
 
     -- what gives up all that a load owns does it here
     pub ended : (since until : ℕ) (new : RefCounts) (loads : ℕ → Option LoadRow) (r : Result (Unit {0}) Error)
-        → ((before v : Core) → SoFar before v nobody lists (record k { listing_error = None }) → length (live k.handles.places.items) ≤ length v.rows
+        → ((before v : Core) → ReleasedSoFar before v nobody lists (record k { listing_error = None }) → length (live k.handles.places.items) ≤ length v.rows
         → ((q : ℕ) → is_owned_in v (Owner.Load l) q ≡ true → (since < q) × (q ≤ until)) → Falls before v (is_owned_in v (Owner.Load l)) r (with_tables v new))
         → ((q : ℕ) → is_owned_in w (Owner.Load l) q ≡ true → (since < q) × (q ≤ until)) → loads l.0 ≡ None → ((q : ℕ) → q ≢ l.0 → loads q ≡ load_at t1.loads q)
         → Falls w u given r (record (core_of (record t1 { ref_counts = new }) storage) { loads = λ q. option_map load_in (loads q) })
@@ -266,7 +270,7 @@ module _ (t t1 : Tables) (storage : StorageView) (row : HandleRow) (me : Owner)
 
   -- whose value is in memory then, where the pinned cell has got one
   pub has-come : IsWhole t → IsWhole t1 → find_row row.number.0 (live t.ref_counts.handles.places.items) ≡ Some row → (n : ℕ)
-      → has_value (counts_at t1.ref_counts.nodes n) ≡ has_come (counts_at t.ref_counts.nodes) row.node n
+      → has_value (counts_at t1.ref_counts.nodes n) ≡ has_value_once_loaded (counts_at t.ref_counts.nodes) row.node n
   has-come was whole found n =
       let rows = live t.ref_counts.handles.places.items in
       let same = λ (other : (row.node.0 == n) ≡ false). (other-same row.number row.node rows (row-of rows was.core.handles.ordered row found) n other).0 in

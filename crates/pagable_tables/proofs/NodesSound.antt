@@ -1,7 +1,11 @@
 -- A check of nodes one after another says the same as the check of them all.
 use Rattle.pagable_tables.proofs.Words.{Bool, ap, arith, false, is_some, suc, sym, true, zero, ℕ, ◌&&◌, ◌-◌, ◌<◌, ◌∙◌, ◌≡◌, ◌≤◌}
-use Rattle.pagable_tables.specs.{Nodes.counts_at, NumberTable.row_by, Soundness.{are_nodes_sound, is_node_sound}}
-use Rattle.pagable_tables.specs.declared.{number_table.NumberTable.NumberTable, tables.Tables.Tables}
+use Rattle.pagable_tables.specs.{
+  Nodes.counts_at,
+  NumberTable.row_by,
+  Soundness.{are_nodes_sound, is_node_sound},
+  declared.{number_table.NumberTable.NumberTable, tables.Tables.Tables},
+}
 
 module _ {X : Type 0} (t : Tables) (values : NumberTable X) where
   next-node : (n : ℕ) → 0 < n

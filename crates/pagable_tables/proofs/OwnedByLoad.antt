@@ -1,29 +1,34 @@
 -- A load is closed or hands handles over, or a worker ends, and what they still own is released.
-use Rattle.pagable_tables.specs.Core.{no_blobs_of}
-use Rattle.pagable_tables.specs.Core.{no_blobs}
-use Rattle.pagable_tables.specs.Core.{StorageView}
-use Rattle.pagable_value_spec.specs.declared.numbers.WorkerNumber.{WorkerNumber}
-use Rattle.pagable_tables.proofs.{Counting.{and-left, of_list, there-is, times-left}, HandleTable.{at-place, found-append, le_or_lt}, Wholeness.whole-so}
-use Rattle.pagable_tables.proofs.CascadeStep.{begun, closed-is, is_owned, no-value, none-came, owned-by-none, rows-told, unmixed}
-use Rattle.pagable_tables.proofs.RowCounts.{among-last, at-most-sum, found-among, once, sum-map, sum-none}
-use Rattle.pagable_tables.proofs.CascadeEnd.{and_owned, no-entry, owned, passes-here, passes-left, passes-none, regiven, sheds-still}
-use Rattle.pagable_tables.proofs.Views.{Goes, IsNewer, OnlyNewer, alike-goes, born-whole, named-mine}
-use Rattle.pagable_tables.proofs.Views.{newer-handle, newer-moved, newer-then, not-list, owned-moved, settled}
-use Rattle.pagable_tables.proofs.Words.{Alike, AllPairs, Among, ArcRef, OwnLaterHandles, ArePlaced, InsertPagedOutCall, Bears}
-use Rattle.pagable_tables.proofs.Words.{Bool, Core, Error, Falls, Fits, ReleaseSet, HandleNumber, HandleRow, Handles, HandlesAreWhole, HasRoom, RefCounts, InReach, IndexMap, IsBefore, IsClosed, IsFalling}
-use Rattle.pagable_tables.proofs.Words.{IsHandleBefore, IsLeast, IsNoLess, Last, List, LoadNumber, LoadRow, MayHold, MayOwnLoad, Mode, NodeNumber, NodeRow, NumberTable, None, Ok, OnlyRoom, OpenLoad, Option}
-use Rattle.pagable_tables.proofs.Words.{OptionalDataKey, Owner, Place, Places, HandleRange, Result, Sheds, SoFar, Some, Tables, TakeCall, [], alive, and_parts, ap, arith, cases_Bool, cases_eq, changed}
-use Rattle.pagable_tables.proofs.Words.{core_of, counts_at, false, find_row, row_by, get_or, get_or_default, gives_row, greatest, has_key, held, if_there, if◌then◌else◌, inl, inr, is_at, is_handle}
-use Rattle.pagable_tables.proofs.Words.{is_keyed, is_loose_kind, is_named_by, is_outside, is_owned_by, is_owned_in, is_owner, is_pin, is_pinning, is_plain_pin, is_shared, is_some, is_valued, key_in}
-use Rattle.pagable_tables.proofs.Words.{known_at, left_rows, length, live, load_at, load_in, loses_value, mode_of, moved, nat_lt, nat_tests, next_node, nobody, not, one, only_handle}
-use Rattle.pagable_tables.proofs.Words.{option_map, or_else, owner_value, owner_worker, owns_nothing, passes_in, pins, core_alone, reach_at, references_fault, refl, refs_at, row_of, sharing, slice_get}
-use Rattle.pagable_tables.proofs.Words.{slice_get-get_or, subst, suc, sum_by, sum_by-append, sum_by-le-sum_by, sum_by_push, sym, take, times, true, updated, with_handle, with_mode, with_node}
-use Rattle.pagable_tables.proofs.SameViews.{born-past, found-map, moved-twice, named-none}
-use Rattle.pagable_tables.proofs.Words.{with_tables, with_worker, ℕ, ◌&&◌, ◌++◌, ◌+◌, ◌-◌, ◌<◌, ◌==◌, ◌||◌, ◌∙◌, ◌∷◌, ◌≡◌, ◌≢◌, ◌≤◌, ◌⊎◌}
-use Rattle.pagable_tables.proofs.SameViews.{named-take, next-past, owner-same, owner-self, room-alike, same-cache}
-use Rattle.pagable_tables.specs.{CascadeInvariant.AreAtWork, Core.{Does, DoesShed, IsWhole, TakesWorker, gives}, HandleTable.{Becomes, Widens}, Nodes.most_worker_handles_at}
-use Rattle.pagable_tables.proofs.WorkCounts.{work-more, work-told}
 use Rattle.pagable_pager_spec.specs.Workers.{is_load_of}
+use Rattle.pagable_tables.proofs.{
+  CascadeEnd.{and_owned, drops-still, no-entry, owned, passes-here, passes-left, passes-none, regiven},
+  CascadeStep.{begun, closed-is, is_owned, no-value, none-came, owned-by-none, rows-told, unmixed},
+  Counting.{and-left, of_list, there-is, times-left},
+  HandleTable.{at-place, found-append, le_or_lt},
+  RowCounts.{among-last, at-most-sum, found-among, once, sum-map, sum-none},
+  SameViews.{born-past, found-map, moved-twice, named-none, named-take, next-past, owner-same, owner-self, room-alike, same-cache},
+  Views.{Goes, IsNewer, OnlyNewer, alike-goes, born-whole, named-mine, newer-handle, newer-moved, newer-then, not-list, owned-moved, settled},
+  Wholeness.whole-so,
+  Words.{Alike, AllPairs, Among, ArcRef, ArePlaced, AreRangesWider, Bool, Core, DropsValues, Error, Falls, Fits, HandleNumber, HandleRange, HandleRow, Handles},
+  Words.{HandlesAreWhole, HasRoom, InReach, IndexMap, InsertPagedOutCall, InsertsNode, IsBefore, IsClosed, IsHandleBefore, IsLeast, IsSoundInCascade, Last},
+  Words.{List, LoadNumber, LoadRow, MayOwnHandle, MayOwnLoad, Mode, NodeNumber, NodeRow, None, NumberTable, Ok, OnlyRoom, OpenLoad, Option, OptionalDataKey},
+  Words.{OwnLaterHandles, Owner, Place, Places, RefCounts, ReleaseSet, ReleasedSoFar, Result, Some, Tables, TakeCall, alive, and_parts, ap, arith, cached_at},
+  Words.{cases_Bool, cases_eq, changed, contains_row, core_alone, core_of, counts_at, false, find_row, get_or, get_or_default, greatest, has_key, held},
+  Words.{if_there, if◌then◌else◌, inl, inr, is_at, is_handle, is_keyed, is_loose_kind, is_named_by, is_outside, is_owned_by, is_owned_in, is_owner, is_pin},
+  Words.{is_pinning, is_plain_pin, is_shared, is_some, is_value_owner, key_in, left_rows, length, live, load_at, load_in, loses_value, mode_of, moved, nat_lt},
+  Words.{nat_tests, next_node, nobody, not, one, only_handle, option_map, or_else, owner_value, owner_worker, owns_nothing, passes_in, pins, reach_at},
+  Words.{references_fault, refl, refs_at, row_by, row_of, sharing, slice_get, slice_get-get_or, subst, suc, sum_by, sum_by-append, sum_by-le-sum_by},
+  Words.{sum_by_push, sym, take, times, true, updated, with_handle, with_mode, with_node, with_tables, with_worker, ℕ, [], ◌&&◌, ◌++◌, ◌+◌, ◌-◌, ◌<◌, ◌==◌},
+  Words.{◌||◌, ◌∙◌, ◌∷◌, ◌≡◌, ◌≢◌, ◌≤◌, ◌⊎◌},
+  WorkCounts.{work-more, work-told},
+}
+use Rattle.pagable_tables.specs.{
+  CascadeInvariant.BoundsWorkerHandles,
+  Core.{Does, DoesAndDropsValues, IsWhole, StorageView, TakesWorker, contains_owned, no_blobs, no_blobs_of},
+  HandleTable.{Becomes, Widens},
+  Nodes.most_worker_handles_at,
+}
+use Rattle.pagable_value_spec.specs.declared.numbers.WorkerNumber.{WorkerNumber}
 use Rattle.pagable_pager_spec.specs.Pager as pager
 
 pub moved-times : (f : HandleRow → Bool) (s : ℕ → Bool) (o : Owner) (rows : List HandleRow) → ((x : HandleRow) → f (record x { owner = o }) ≡ f x)
@@ -34,10 +39,10 @@ moved-times f s o rows same = sum-map (λ x. one (f x)) (λ x. one (f x)) (λ x.
 pub no-load : (w : Core) (o : Owner) (l : LoadNumber) → MayOwnLoad w o → is_owner (Owner.Load l) o ≡ false
 no-load w o l may = grind (arith, nat_tests)
 
-pub moved-stands : (t : RefCounts) (h : Handles) (s : ℕ → Bool) (o : Owner) → IsFalling t [] owns_nothing → is_valued o ≡ false
-    → ((x : HandleRow) → Among (live t.handles.places.items) x → s x.number.0 ≡ true → is_valued x.owner ≡ false)
-    → AreAtWork (moved s o (live t.handles.places.items)) t.nodes → Becomes t.handles (moved s o (live t.handles.places.items)) h
-    → IsFalling (record t { handles = h }) [] owns_nothing
+pub moved-stands : (t : RefCounts) (h : Handles) (s : ℕ → Bool) (o : Owner) → IsSoundInCascade t [] owns_nothing → is_value_owner o ≡ false
+    → ((x : HandleRow) → Among (live t.handles.places.items) x → s x.number.0 ≡ true → is_value_owner x.owner ≡ false)
+    → BoundsWorkerHandles (moved s o (live t.handles.places.items)) t.nodes → Becomes t.handles (moved s o (live t.handles.places.items)) h
+    → IsSoundInCascade (record t { handles = h }) [] owns_nothing
 moved-stands t h s o w plain free work is =
     let rows = live t.handles.places.items in
     let pinned : (n : ℕ) → pins n (moved s o rows) ≡ pins n rows = λ n. moved-times (is_pin n) s o rows (λ x. refl) in
@@ -69,9 +74,9 @@ owned-given w o q whole own = (passes-given (is_owned_by o) w q whole own).1
 
 -- all that a worker gives up when it ends is in its reach
 pub in-reach : (t : Tables) → IsWhole t → OwnLaterHandles t → (v : WorkerNumber) (q : ℕ)
-    → passes_in (gives_row (core_alone t) (ReleaseSet.Worker v)) (core_alone t).rows q
+    → passes_in (contains_row (core_alone t) (ReleaseSet.Worker v)) (core_alone t).rows q
     ≡ true → InReach (reach_at t.workers v.0) q
-in-reach t whole later v q is = let (row, e, passes) = there-is (gives_row w (ReleaseSet.Worker v)) (find_row q w.rows) is in
+in-reach t whole later v q is = let (row, e, passes) = there-is (contains_row w (ReleaseSet.Worker v)) (find_row q w.rows) is in
     elim (cases_Bool (is_owner (Owner.Worker v) row.owner)) [
       | inl own ↦ later.reach v.0 q (ap (if_there (is_owned_by (Owner.Worker v)) false) e ∙ own)
       | inr other ↦ of-load row.owner (ap (if_there (is_owned_by row.owner) false) e ∙ owner-self row.owner)
@@ -106,7 +111,7 @@ pub ruleset working = (nat_tests, one-more-works)
 
 -- the open loads are ones that were open, and what a worker got besides is in its reach
 pub later-by : {t t' : Tables} → OwnLaterHandles t → t.ref_counts.last_handle ≤ t'.ref_counts.last_handle → t'.noted ≡ t.noted
-    → ((l : ℕ) (load : LoadRow) → load_at t'.loads l ≡ Some load → load_at t.loads l ≡ Some load) → IsNoLess t.workers t'.workers
+    → ((l : ℕ) (load : LoadRow) → load_at t'.loads l ≡ Some load → load_at t.loads l ≡ Some load) → AreRangesWider t.workers t'.workers
     → ((l q : ℕ) → owned (Owner.Load (record { 0 = l })) q (core_alone t').rows ≡ true → (owned (Owner.Load (record { 0 = l })) q (core_alone t).rows ≡ true)
     ⊎ (t.ref_counts.last_handle < q))
     → ((v q : ℕ) → owned (owner_worker v) q (core_alone t').rows ≡ true → (owned (owner_worker v) q (core_alone t).rows ≡ true) ⊎ (t.ref_counts.last_handle < q)
@@ -116,12 +121,12 @@ later-by {t} {t'} later last noted loads less own work =
     λ v q had. less.wider v q (later.reach v q had) in
     grind (arith, nat_tests, later.given, later.since, later.begun, later.loads, later.noted, later.until, noted, less.before, wider, loads, own, work)
 
-pub still-reaches : {S : Type 0} {workers workers' : IndexMap ℕ HandleRange S} → workers' ≡ workers → IsNoLess workers workers'
-still-reaches {S} {workers} {workers'} same = subst (λ u. IsNoLess workers u) (sym same)
+pub still-reaches : {S : Type 0} {workers workers' : IndexMap ℕ HandleRange S} → workers' ≡ workers → AreRangesWider workers workers'
+still-reaches {S} {workers} {workers'} same = subst (λ u. AreRangesWider workers u) (sym same)
     (record { wider = λ v q in-reach. in-reach; before = λ v. omega arith })
 
 pub later-less : {t t' : Tables} → OwnLaterHandles t → OnlyNewer (core_alone t) (core_alone t') → t'.noted ≡ t.noted
-    → ((l : ℕ) (load : LoadRow) → load_at t'.loads l ≡ Some load → load_at t.loads l ≡ Some load) → IsNoLess t.workers t'.workers → OwnLaterHandles t'
+    → ((l : ℕ) (load : LoadRow) → load_at t'.loads l ≡ Some load → load_at t.loads l ≡ Some load) → AreRangesWider t.workers t'.workers → OwnLaterHandles t'
 later-less later newer noted loads less = grind (arith, nat_tests, later-by)
 
 pub later-on : {t t' : Tables} → OwnLaterHandles t → OnlyNewer (core_alone t) (core_alone t') → t'.loads ≡ t.loads → t'.workers ≡ t.workers → t'.noted ≡ t.noted
@@ -163,7 +168,8 @@ later-opened {t} {t'} whole later newer m row none here since others same noted 
       new-owns,
     )
 
-pub later-begun : {t t' : Tables} → pager.IsWhole (core_alone t) → OwnLaterHandles t → t' ≡ record t { workers = t'.workers; last_worker = t'.last_worker } → (v : ℕ)
+pub later-begun : {t t' : Tables} → pager.IsWhole (core_alone t) → OwnLaterHandles t → t' ≡ record t { workers = t'.workers; last_worker = t'.last_worker }
+    → (v : ℕ)
     → v
     ≡ t.last_worker + 1
     → reach_at t'.workers v ≡ record { since = t.ref_counts.last_handle; beside = 0 } → ((u : ℕ) → u ≢ v → reach_at t'.workers u ≡ reach_at t.workers u)
@@ -192,7 +198,8 @@ later-begun {t} {t'} whole later same v new here others =
 
 -- ---- handles that come to a worker
 
-module _ (t : Tables) (later : OwnLaterHandles t) (s : ℕ → Bool) (me : Owner) (other : (l : LoadNumber) → is_owner (Owner.Load l) me ≡ false) (rows : List HandleRow)
+module _ (t : Tables) (later : OwnLaterHandles t) (s : ℕ → Bool) (me : Owner) (other : (l : LoadNumber) → is_owner (Owner.Load l) me ≡ false)
+    (rows : List HandleRow)
     (are : rows ≡ moved s me (core_alone t).rows) where
   pub load-kept : (l q : ℕ) → owned (Owner.Load (record { 0 = l })) q rows ≡ true → owned (Owner.Load (record { 0 = l })) q (core_alone t).rows ≡ true
   load-kept l q own = let o : Owner = Owner.Load (record { 0 = l }) in and-left (owned o q (core_alone t).rows) (not (s q))
@@ -228,7 +235,7 @@ module _ (t : Tables) (later : OwnLaterHandles t) (s : ℕ → Bool) (me : Owner
 -- what isn't given and isn't a value's isn't in the least set
 module _ (rows : List HandleRow) (keyed : ℕ → Bool) (entries : List HandleRow) (given s : ℕ → Bool) (least : IsLeast rows keyed entries given s)
     (ordered : AllPairs IsHandleBefore rows)
-    (x : HandleRow) (there : Among rows x) (plain : is_valued x.owner ≡ false) (kept : given x.number.0 ≡ false) where
+    (x : HandleRow) (there : Among rows x) (plain : is_value_owner x.owner ≡ false) (kept : given x.number.0 ≡ false) where
   abbrev less : ℕ → Bool
   less q = s q && not (q == x.number.0)
 
@@ -259,7 +266,7 @@ module _ {b w u w' : Core} {given : ℕ → Bool} {r : Result (Unit {0}) Error} 
 
 -- where a handle of w has come and stays, pins go to 0 just where they would have
 pub stays-pinned : (w u w' : Core) (given : ℕ → Bool) (r : Result (Unit {0}) Error) (x : HandleRow) → u.rows ≡ w.rows ++ x ∷ [] → AllPairs IsHandleBefore u.rows
-    → is_valued x.owner ≡ false → given x.number.0 ≡ false → Falls u u given r w'
+    → is_value_owner x.owner ≡ false → given x.number.0 ≡ false → Falls u u given r w'
     → (n : ℕ) → pins n w'.rows ≡ 0 → (pins n u.rows ≡ pins n w.rows) × (sharing n u.rows ≡ sharing n w.rows)
 stays-pinned w u w' given r x rows ordered plain kept falls n none =
     let among : Among u.rows x = subst (λ l. Among l x) (sym rows) (among-last w.rows x) in
@@ -286,7 +293,7 @@ module _ (t t1 : Tables) (storage : StorageView) (node : NodeNumber) (mode : Mod
   abbrev made : Core
   made = with_handle before node mode me
 
-  pub begun-made : (lists : Bool) → lists ≡ not storage.closed → SoFar made made nobody lists (record t1.ref_counts { listing_error = None })
+  pub begun-made : (lists : Bool) → lists ≡ not storage.closed → ReleasedSoFar made made nobody lists (record t1.ref_counts { listing_error = None })
   begun-made lists e = begun made made lists (record t1.ref_counts { listing_error = None }) e (λ p own. refl)
       (λ n. subst (λ r. (sharing n r ≡ 0) ⊎ (times (is_plain_pin n) r ≡ 0)) a.rows (unmixed t1 after n))
       (λ q. let d = ap (times (λ (h : HandleNumber). h.0 == q)) a.list in let e = ap (times (of_list q)) a.rows in let f = after.core.owners_there.listed q in
@@ -295,7 +302,7 @@ module _ (t t1 : Tables) (storage : StorageView) (node : NodeNumber) (mode : Mod
       refl
 
   -- others fall then, as seen from before it came
-  pub falls-made : t1 ≡ record t { ref_counts = t1.ref_counts } → is_valued me ≡ false → (new : RefCounts) {given : ℕ → Bool} {r : Result (Unit {0}) Error}
+  pub falls-made : t1 ≡ record t { ref_counts = t1.ref_counts } → is_value_owner me ≡ false → (new : RefCounts) {given : ℕ → Bool} {r : Result (Unit {0}) Error}
       → Falls made made given r (with_tables made new) → given (t.ref_counts.last_handle + 1) ≡ false
       → Falls before made given r (core_of (record t1 { ref_counts = new }) storage)
   falls-made same plain new {given} {r} f spared =
@@ -327,12 +334,12 @@ key-is x0 some = grind (arith, nat_tests)
 -- of a cell that is away, where room was made before
 pub away-born : {w w1 w' : Core} (me : Owner) (node_type key n : ℕ) (rs : List ArcRef) (k : HandleNumber) → OnlyRoom w w1 → w1.last.node < greatest → n ≡ key
     → 0 < n → rs ≡ []
-    → Bears w1 me node_type n rs Mode.LooseUnpinned k w' → InsertPagedOutCall w me node_type key (Ok k) w'
+    → InsertsNode w1 me node_type n rs Mode.LooseUnpinned k w' → InsertPagedOutCall w me node_type key (Ok k) w'
 away-born me node_type key n rs k room left is some none b = grind (arith, nat_tests, key-is, next-past, born-past)
 
-pub bears-goes : {w w' : Core} (me : Owner) (node_type key : ℕ) (rs : List ArcRef) (mode : Mode) (k : HandleNumber) → pager.IsWhole w → MayHold w me
+pub bears-goes : {w w' : Core} (me : Owner) (node_type key : ℕ) (rs : List ArcRef) (mode : Mode) (k : HandleNumber) → pager.IsWhole w → MayOwnHandle w me
     → references_fault w me [] rs ≡ None
-    → w.last.node < greatest → (is_shared mode ≡ true → has_key (key_in key) ≡ false) → Bears w me node_type key rs mode k w' → Goes w w'
+    → w.last.node < greatest → (is_shared mode ≡ true → has_key (key_in key) ≡ false) → InsertsNode w me node_type key rs mode k w' → Goes w w'
 bears-goes {w} me node_type key rs mode k whole holder fit left unkeyed b =
     settled b.leaves (born-whole whole node_type (key_in key) rs mode me me (not-list w me holder) fit holder left b.next.is_left unkeyed)
     (newer-then (newer-moved w (is_named_by rs) (owner_value (w.last.node + 1)) refl)
@@ -341,48 +348,51 @@ bears-goes {w} me node_type key rs mode k whole holder fit left unkeyed b =
 -- ---- handles are given up together, those that pass a test or that references name
 
 -- the list's handle isn't given up where others are
-pub given-plain : (w : Core) (giving : ReleaseSet) (o : Owner) (node : NodeNumber) → gives w giving o node ≡ true → (is_owner Owner.List o ≡ false)
+pub given-plain : (w : Core) (giving : ReleaseSet) (o : Owner) (node : NodeNumber) → contains_owned w giving o node ≡ true → (is_owner Owner.List o ≡ false)
     ⊎ (giving ≡ ReleaseSet.Listed)
 given-plain w x2 o node is = grind (arith, nat_tests)
 
 -- what has been given, while those up to a number are left
 abbrev pub past_of : Core → Core → ReleaseSet → ℕ → ℕ → Bool
-past_of u w giving left q = nat_lt left q && passes_in (gives_row w giving) u.rows q
+past_of u w giving left q = nat_lt left q && passes_in (contains_row w giving) u.rows q
 
 module _ (before u w : Core) (lists : Bool) (giving : ReleaseSet) (shut : giving ≡ ReleaseSet.Listed → lists ≡ false) (reach : HandleRange)
-    (within : (q : ℕ) → passes_in (gives_row w giving) u.rows q ≡ true → InReach reach q) where
+    (within : (q : ℕ) → passes_in (contains_row w giving) u.rows q ≡ true → InReach reach q) where
   abbrev passes : ℕ → Bool
-  passes q = passes_in (gives_row w giving) u.rows q
+  passes q = passes_in (contains_row w giving) u.rows q
 
   abbrev past : ℕ → ℕ → Bool
   past = past_of u w giving
 
   -- of what passes, what hasn't gone is there
-  told : (t : RefCounts) (given : ℕ → Bool) (f : SoFar before u given lists t) (q : ℕ) → passes_in (gives_row w giving) (live t.handles.places.items) q
+  told : (t : RefCounts) (given : ℕ → Bool) (f : ReleasedSoFar before u given lists t) (q : ℕ)
+      → passes_in (contains_row w giving) (live t.handles.places.items) q
       ≡ (not (f.gone q) && passes q)
   told t given f q =
       let listed : (giving ≡ ReleaseSet.Listed) ⊎ (giving ≢ ReleaseSet.Listed) = grind (arith, nat_tests) in
-      ap (λ rows. passes_in (gives_row w giving) rows q) f.rows ∙ passes-left (gives_row w giving) q f.gone f.entries u.rows (elim listed [
-        | inl is ↦ ap (λ es. passes_in (gives_row w giving) es q) (none-came f (shut is)) ∙ passes-none (gives_row w giving) q
-        | inr other ↦ no-entry (gives_row w giving) q (λ h is. grind (arith, nat_tests)) u.last.handle f.entries f.new
+      ap (λ rows. passes_in (contains_row w giving) rows q) f.rows ∙ passes-left (contains_row w giving) q f.gone f.entries u.rows (elim listed [
+        | inl is ↦ ap (λ es. passes_in (contains_row w giving) es q) (none-came f (shut is)) ∙ passes-none (contains_row w giving) q
+        | inr other ↦ no-entry (contains_row w giving) q (λ h is. grind (arith, nat_tests)) u.last.handle f.entries f.new
       ])
 
   -- what is given of the numbers that are left and isn't there has gone
   pub onto : (t : RefCounts) (left : ℕ) (s : ℕ → Bool) → ((r : ℕ) → s r ≡ true → passes r ≡ true) → ((r : ℕ) → past left r ≡ true → s r ≡ true)
-      → ((r : ℕ) → s r ≡ true → r ≤ left → passes_in (gives_row w giving) (live t.handles.places.items) r ≡ false) → SoFar before u (past left) lists t
-      → SoFar before u s lists t
+      → ((r : ℕ) → s r ≡ true → r ≤ left → passes_in (contains_row w giving) (live t.handles.places.items) r ≡ false)
+      → ReleasedSoFar before u (past left) lists t
+      → ReleasedSoFar before u s lists t
   onto t left s up over none f = regiven before u (past left) s lists t f (λ r e. let p = up r e in let n = none r e in let g = told t (past left) f r in
       grind (arith, nat_tests)) over
 
   -- one more is given, the last of those that are left
   pub one-past : (t new : RefCounts) (left : ℕ) (x : HandleRow) → 0 < x.number.0 → x.number.0 ≤ left → find_row x.number.0 (live t.handles.places.items)
-      ≡ Some x → gives_row w giving x ≡ true
-      → ((q : ℕ) → InReach reach q → x.number.0 < q → q ≤ left → passes_in (gives_row w giving) (live t.handles.places.items) q ≡ false)
-      → ((given : ℕ → Bool) → SoFar before u given lists t → SoFar before u (λ q. given q || q == x.number.0) lists new) → SoFar before u (past left) lists t
-      → SoFar before u (past (x.number.0 - 1)) lists new
+      ≡ Some x → contains_row w giving x ≡ true
+      → ((q : ℕ) → InReach reach q → x.number.0 < q → q ≤ left → passes_in (contains_row w giving) (live t.handles.places.items) q ≡ false)
+      → ((given : ℕ → Bool) → ReleasedSoFar before u given lists t → ReleasedSoFar before u (λ q. given q || q == x.number.0) lists new)
+      → ReleasedSoFar before u (past left) lists t
+      → ReleasedSoFar before u (past (x.number.0 - 1)) lists new
   one-past t new left x above below found is none gives f =
       let n = x.number.0 in
-      let here : passes n ≡ true = (and_parts (not (f.gone n)) _ (sym (told t (past left) f n) ∙ ap (if_there (gives_row w giving) false) found ∙ is)).1 in
+      let here : passes n ≡ true = (and_parts (not (f.gone n)) _ (sym (told t (past left) f n) ∙ ap (if_there (contains_row w giving) false) found ∙ is)).1 in
       let narrowed = onto t left (past n) (λ r e. grind (arith, nat_tests)) (λ r e. grind (arith, nat_tests))
       (λ r e. none r (within r (let p : passes r ≡ true = grind (arith, nat_tests) in p)) (let l : n < r = grind (arith, nat_tests) in l)) f in
       regiven before u (λ q. past n q || q == n) (past (n - 1)) lists new (gives (past n) narrowed) (λ r e. grind (arith, nat_tests))
@@ -418,17 +428,17 @@ abbrev pub named_owned : Core → LoadNumber → List ArcRef → ℕ → ℕ →
 named_owned w l rs i q = is_named_by (take i rs) q && is_owned_in w (Owner.Load l) q
 
 module _ (before w : Core) (lists : Bool) (t : RefCounts) (l : LoadNumber) (rs : List ArcRef) where
-  pub none-given : SoFar before w nobody lists t → SoFar before w (named_owned w l rs 0) lists t
+  pub none-given : ReleasedSoFar before w nobody lists t → ReleasedSoFar before w (named_owned w l rs 0) lists t
   none-given f = regiven before w nobody (named_owned w l rs 0) lists t f
       (λ r e. absurd (let a = and-left (is_named_by (take 0 rs) r) _ e in let b = named-none r in cc)) (λ r e. absurd (cc))
 
-  pub one-given : (i : ℕ) (d : ArcRef) → i < length rs → SoFar before w (and_owned w l (named_owned w l rs i) (get_or rs i d).handle.0) lists t
-      → SoFar before w (named_owned w l rs (i + 1)) lists t
+  pub one-given : (i : ℕ) (d : ArcRef) → i < length rs → ReleasedSoFar before w (and_owned w l (named_owned w l rs i) (get_or rs i d).handle.0) lists t
+      → ReleasedSoFar before w (named_owned w l rs (i + 1)) lists t
   one-given i d lt f = regiven before w (and_owned w l (named_owned w l rs i) (get_or rs i d).handle.0) (named_owned w l rs (i + 1)) lists t f
       (λ r e. grind (arith, nat_tests, named-take rs i d r lt)) (λ r e. grind (arith, nat_tests, named-take rs i d r lt))
 
   pub all-given : (i : ℕ) → take i rs ≡ rs → ((q : ℕ) → is_named_by rs q ≡ true → is_owned_in w (Owner.Load l) q ≡ true)
-      → SoFar before w (named_owned w l rs i) lists t → SoFar before w (is_named_by rs) lists t
+      → ReleasedSoFar before w (named_owned w l rs i) lists t → ReleasedSoFar before w (is_named_by rs) lists t
   all-given i all owned f = grind (arith, nat_tests, and-left)
 
 pub ruleset places = (nat_tests, place-got, row-there)
@@ -449,13 +459,14 @@ abbrev pub Each : Tables → (Core → Core → Type 0) → Tables → Type 0
 Each old step new = (storage : StorageView) → step (core_of old storage) (core_of new storage)
 
 module _ {old new : Tables} {step : Core → Core → Type 0} where
-  pub does-by : Each old step new → IsFalling new.ref_counts [] owns_nothing
+  pub does-by : Each old step new → IsSoundInCascade new.ref_counts [] owns_nothing
       → (step (core_alone old) (core_alone new) → ArePlaced (core_alone new) → pager.IsWhole (core_alone new))
       → (step (core_alone old) (core_alone new) → OwnLaterHandles old → OwnLaterHandles new) → Does old step new
   does-by does steady whole later = let plain = does no_blobs in record { does = does; whole = whole-so steady (whole plain); later = later plain }
 
   -- loads and workers are those that were
-  pub does-so : Each old step new → IsFalling new.ref_counts [] owns_nothing → (step (core_alone old) (core_alone new) → Goes (core_alone old) (core_alone new))
+  pub does-so : Each old step new → IsSoundInCascade new.ref_counts [] owns_nothing
+      → (step (core_alone old) (core_alone new) → Goes (core_alone old) (core_alone new))
       → new.loads ≡ old.loads
       → new.workers ≡ old.workers → new.noted ≡ old.noted → Does old step new
   does-so does steady goes loads workers noted = does-by does steady (λ plain. (goes plain).whole)
@@ -479,7 +490,7 @@ listing lists t = core_of t (no_blobs_of lists)
 
 -- the same, of a step that is made as cells are listed
 module _ {lists : Bool} {old new : Tables} {step : Core → Core → Type 0} (does : Each old (λ w w'. lists ≡ not w.closed → step w w') new)
-    (steady : IsFalling new.ref_counts [] owns_nothing) where
+    (steady : IsSoundInCascade new.ref_counts [] owns_nothing) where
   pub lazily-by : (step (listing lists old) (listing lists new) → ArePlaced (core_alone new) → pager.IsWhole (core_alone new))
       → (step (listing lists old) (listing lists new) → OwnLaterHandles old → OwnLaterHandles new) → Does old (λ w w'. lists ≡ not w.closed → step w w') new
   lazily-by whole later = let plain = does (no_blobs_of lists) (closed-is (not lists) lists refl) in
@@ -491,21 +502,22 @@ module _ {lists : Bool} {old new : Tables} {step : Core → Core → Type 0} (do
   lazily-so goes loads workers noted = lazily-by (λ plain. (goes plain).whole) (λ plain later. later-on later (goes plain).newer loads workers noted)
 
 -- and values go
-pub sheds-with : {X : Type 0} {lists : Bool} {old new : Tables} {values values' : NumberTable X} {step : Core → Core → Type 0}
+pub drops-with : {X : Type 0} {lists : Bool} {old new : Tables} {values values' : NumberTable X} {step : Core → Core → Type 0}
     → Does old (λ w w'. lists ≡ not w.closed → step w w') new
-    → Sheds (counts_at old.ref_counts.nodes) (row_by values) (counts_at new.ref_counts.nodes) (row_by values') → DoesShed lists old values step new values'
-sheds-with does sheds = record { does = does.does; whole = does.whole; later = does.later; sheds = sheds }
+    → DropsValues (counts_at old.ref_counts.nodes) (row_by values) (counts_at new.ref_counts.nodes) (row_by values')
+    → DoesAndDropsValues lists old values step new values'
+drops-with does drops = record { does = does.does; whole = does.whole; later = does.later; drops = drops }
 
 pub nothing-release_at : {X : Type 0} {lists : Bool} {t : Tables} {values : NumberTable X} {step : Core → Core → Type 0} → IsWhole t
     → Each t (λ w w'. lists ≡ not w.closed → step w w') t
-    → DoesShed lists t values step t values
-nothing-release_at {t = t} whole does = record { does = does; whole = whole; later = λ later. later; sheds = sheds-still t.ref_counts _ whole.steady }
+    → DoesAndDropsValues lists t values step t values
+nothing-release_at {t = t} whole does = record { does = does; whole = whole; later = λ later. later; drops = drops-still t.ref_counts _ whole.steady }
 
 -- handles widen, and nodes and the cache are told as they were
 pub widens-does : (t : Tables) (h : Handles) (nodes : NumberTable NodeRow) (cache : IndexMap (ℕ × ℕ) NodeNumber _) → IsWhole t → Widens t.ref_counts.handles h
     → ((n : ℕ) → counts_at nodes n ≡ counts_at t.ref_counts.nodes n) → ((n : ℕ) → refs_at nodes n ≡ refs_at t.ref_counts.nodes n)
     → ((n : ℕ) → most_worker_handles_at nodes n ≡ most_worker_handles_at t.ref_counts.nodes n)
-    → ((kind key : ℕ) → known_at cache kind key ≡ known_at t.cache kind key)
+    → ((kind key : ℕ) → cached_at cache kind key ≡ cached_at t.cache kind key)
     → Does t OnlyRoom (record t { ref_counts = record t.ref_counts { handles = h; nodes = nodes }; cache = cache })
 widens-does t h nodes cache whole e counts refs work known = does-so (λ storage. grind (arith, nat_tests, e.rows, e.capacity, counts, known))
     (record {

@@ -1,12 +1,14 @@
 -- Rows, one by one and counted, as they are added and changed, and what is left as handles are removed.
-use Rattle.pagable_tables.proofs.Words.{IsWhole, IsWithin, List, LoadNumber, MayHold, MayOwnLoad, Mode, NodeNumber, None, OpenLoad, Option, OptionalDataKey, Owner, SameAt, Some, [], all_pairs_push}
-use Rattle.pagable_tables.proofs.Words.{and-true, ap, append-nil, append_assoc, arith, changed, false, filter, find_row, get_or, get_or-map, get_or_from_slice_get, greatest, has_key, held, if_there}
-use Rattle.pagable_tables.proofs.Words.{if◌then◌else◌, inl, inr, is_at, is_handle, is_loose, is_owned_by, is_share, is_shared, is_some, length, length-map, map, nat_lt, nat_tests, not, of_cell, one}
-use Rattle.pagable_tables.proofs.Words.{refl, sharing, slice_get-get_or, slice_get_within, subst, suc, sum_by, sum_by-cons, sum_by-le-sum_by, sym, times, true, zero, ℕ, ◌&&◌, ◌++◌, ◌+◌, ◌<◌, ◌==◌}
-use Rattle.pagable_tables.proofs.HandleTable.{none-found}
-use Rattle.pagable_tables.proofs.Words.{AllPairs, Among, AreNewEntries, Bool, Cell, Core, HandleNumber, HandleRow, HandlesAreWhole, IsEntryWhole}
-use Rattle.pagable_tables.proofs.Words.{IsHandleBefore, IsRootWhole}
-use Rattle.{pagable_tables.proofs.Words.{◌∙◌, ◌∷◌, ◌≡◌, ◌≤◌, ◌⊎◌}, std.proofs.lemmas.List.map-id}
+use Rattle.pagable_tables.proofs.{
+  HandleTable.none-found,
+  Words.{AllPairs, Among, AreNewEntries, Bool, Cell, Core, HandleNumber, HandleRow, HandlesAreWhole, IsEntryWhole, IsHandleBefore, IsRootWhole, IsWhole},
+  Words.{IsWithin, List, LoadNumber, MayOwnHandle, MayOwnLoad, Mode, NodeNumber, None, OpenLoad, Option, OptionalDataKey, Owner, SameAt, Some, all_pairs_push},
+  Words.{and-true, ap, append-nil, append_assoc, arith, changed, false, filter, find_row, get_or, get_or-map, get_or_from_slice_get, greatest, has_key, held},
+  Words.{if_there, if◌then◌else◌, inl, inr, is_at, is_handle, is_loose, is_owned_by, is_share, is_shared, is_some, length, length-map, map, nat_lt, nat_tests},
+  Words.{not, of_cell, one, refl, sharing, slice_get-get_or, slice_get_within, subst, suc, sum_by, sum_by-cons, sum_by-le-sum_by, sym, times, true, zero, ℕ},
+  Words.{[], ◌&&◌, ◌++◌, ◌+◌, ◌<◌, ◌==◌, ◌∙◌, ◌∷◌, ◌≡◌, ◌≤◌, ◌⊎◌},
+}
+use Rattle.std.proofs.lemmas.List.{map-id}
 pub use Rattle.pagable_pager_spec.proofs.Elements.{among-left, among-map, among-one, at-most-sum, counted, found-among, once, sum-none}
 
 -- ---- one by one
@@ -216,7 +218,7 @@ is-in {w} whole h among =
     let c = λ (v : ℕ). whole.owners_there.workers h v among in
     grind (arith, nat_tests, whole.owners_there.waiting h among)
 
-pub holder-in : (w : Core) (mode : Mode) (o : Owner) → MayHold w o → IsIn w mode o
+pub holder-in : (w : Core) (mode : Mode) (o : Owner) → MayOwnHandle w o → IsIn w mode o
 holder-in w mode o may = grind (arith, nat_tests)
 
 -- a load that opens, of a root that w tells

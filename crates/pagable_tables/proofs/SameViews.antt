@@ -1,12 +1,16 @@
 -- Two worlds that agree in all that the specification tells of them.
-use Rattle.pagable_tables.proofs.Words.{Adopts, Alike, ArcRef, AreHandlesFull, Bool, Core, Err, Error, FallsAnyhow, HandleNumber, HandleRow, HasRoom, Kind, LazyCall, List, LoadNumber, Makes, Mode}
-use Rattle.pagable_tables.proofs.Words.{NodeNumber, None, Ok, OnlyRoom, OpenLoad, Option, OptionalDataKey, Owner, OwnsLoad, RecallCall, Refused, Result, SameAt, SameCache, Some, [], add-one}
-use Rattle.pagable_tables.proofs.Words.{adopt_fault, adopted, ap, arith, at_drop_more, insert_fault, closed_fault, drop, drop-cons, drop_all, earlier, early_fault, false, find_row}
-use Rattle.pagable_tables.proofs.Words.{first_key, get_or, greatest, handle_fault, if_there, if◌then◌else◌, inl, inr, is_in, is_loose_kind, is_named_by, is_owner, is_some, length, load_fault, map, mode_of}
-use Rattle.pagable_tables.proofs.Words.{moved, named_at, named_fault, nat_lt, nat_tests, next_node, node_fault, not, numbers_of, only_handle, option_map, or_else, rank, reference_fault, references_fault}
-use Rattle.pagable_tables.proofs.Words.{refl, refused_if, seen, spent, subst, suc, sym, take, take-suc, take_all, true, type_of, usable, where_so, with_cached, with_handle, with_node, zero, ℕ, ◌&&◌}
-use Rattle.pagable_tables.proofs.Words.{◌++◌, ◌+◌, ◌<◌, ◌==◌, ◌||◌, ◌∙◌, ◌∷◌}
-use Rattle.{pagable_tables.proofs.Words.{◌≡◌, ◌≢◌, ◌≤◌, ◌⊎◌}, pagable_pager_spec.specs.Calls.IsNext, std.{proofs.lemmas.List.map-id, specs.Result.IsErrAnd}}
+use Rattle.pagable_pager_spec.specs.Calls.{IsNext}
+use Rattle.pagable_tables.proofs.{
+  Words.{Adopts, Alike, ArcRef, AreHandlesFull, Bool, Core, Err, Error, FallsAnyhow, HandleNumber, HandleRow, HasRoom, Kind, LazyCall, List, LoadNumber},
+  Words.{MakesHandle, Mode, NodeNumber, None, Ok, OnlyRoom, OpenLoad, Option, OptionalDataKey, Owner, OwnsLoad, RecallCall, Refused, Result, SameAt, SameCache},
+  Words.{Some, add-one, adopt_check_fault, adopt_fault, adopted, ap, arith, at_drop_more, closed_fault, drop, drop-cons, drop_all, earlier, false, find_row},
+  Words.{first_key, get_or, greatest, handle_fault, if_there, if◌then◌else◌, inl, inr, insert_fault, is_in, is_loose_kind, is_named_by, is_owner, is_some},
+  Words.{length, load_fault, map, mode_of, moved, named_at, named_fault, nat_lt, nat_tests, next_node, node_fault, not, numbers_of, only_handle, option_map},
+  Words.{or_else, rank, reference_fault, references_fault, refl, refused_if, seen, spent, subst, suc, sym, take, take-suc, take_all, true, type_of, usable},
+  Words.{where_so, with_cached, with_handle, with_node, zero, ℕ, [], ◌&&◌, ◌++◌, ◌+◌, ◌<◌, ◌==◌, ◌||◌, ◌∙◌, ◌∷◌, ◌≡◌, ◌≢◌, ◌≤◌, ◌⊎◌},
+}
+use Rattle.std.proofs.lemmas.List.{map-id}
+use Rattle.std.specs.Result.{IsErrAnd}
 
 pub same-cache : (w w' : Core) → w'.rows ≡ w.rows → SameAt w.cells w'.cells → ((kind key : ℕ) → w'.cache kind key ≡ w.cache kind key) → SameCache w w'
 same-cache w w' e same is = grind (arith, nat_tests)
@@ -160,10 +164,10 @@ told-later {cause} {full} {w} {w'} {e} me l r = grind (arith, nat_tests)
 
 module _ (w : Core) (me : Owner) (kind : Kind) (key : ℕ) (node : NodeNumber) (mode : Mode) (w' : Core)
     (is : usable w kind.0 key ≡ Some node.0) (fits : mode ≡ mode_of kind.0) where
-  pub recalls : (k : HandleNumber) → Makes w node mode me (Ok k) w' → RecallCall w me kind key (Ok (Some k)) w'
+  pub recalls : (k : HandleNumber) → MakesHandle w node mode me (Ok k) w' → RecallCall w me kind key (Ok (Some k)) w'
   recalls k m = record { answers = (node.0, is, m.made.0, subst (λ x. Alike (with_handle w node x me) w') fits m.made.1); refused = tt }
 
-  pub not-recalled : (e : Error) → Makes w node mode me (Err e) w' → RecallCall w me kind key (Err e) w'
+  pub not-recalled : (e : Error) → MakesHandle w node mode me (Err e) w' → RecallCall w me kind key (Err e) w'
   not-recalled e m = grind (arith, nat_tests, is)
 
 -- ---- a world with more room, and a node that is born in it
@@ -347,7 +351,7 @@ module _ (w : Core) (me : Owner) (l : LoadNumber) (load : OpenLoad) (kind : Kind
   module _ (loose : is_loose_kind kind.0 ≡ true) where
     -- a handle of the node that the cache gives
     pub lazy-known : (node : NodeNumber) (mode : Mode) (r : Result HandleNumber Error) (w' : Core) → usable w kind.0 key ≡ Some node.0 → mode ≡ mode_of kind.0
-        → Makes w node mode (Owner.Load l) r w' → LazyCall w me l kind key r w'
+        → MakesHandle w node mode (Owner.Load l) r w' → LazyCall w me l kind key r w'
     lazy-known node mode r w' is fits m = grind (arith, nat_tests)
 
     module _ (none : usable w kind.0 key ≡ None) where
@@ -376,7 +380,7 @@ last-of a b c d n ea eb ec ed late = grind (arith, nat_tests, earlier, first, ne
 
 module _ (w : Core) (me : Owner) (l : LoadNumber) (kind : Kind) (key node_type : ℕ) (refs : List ArcRef) where
   abbrev early : Option Error
-  early = early_fault w me l kind node_type refs
+  early = adopt_check_fault w me l kind node_type refs
 
   cause : adopt_fault w me l kind key node_type refs ≡ or_else early (node_fault w kind key)
   cause = grind (arith, nat_tests, last-of, load-low, references-low, node-late)
@@ -448,8 +452,8 @@ module _ (w : Core) (me : Owner) (l : LoadNumber) (kind : Kind) (key node_type :
 
 -- room is nothing to the causes that come first
 pub early-past : {w w' : Core} (me : Owner) (l : LoadNumber) (kind : Kind) (node_type : ℕ) (refs : List ArcRef) → OnlyRoom w w'
-    → early_fault w' me l kind node_type refs ≡ early_fault w me l kind node_type refs
-early-past {w} {w'} me l kind node_type refs o = ap (λ (u : Core). early_fault u me l kind node_type refs) o.same
+    → adopt_check_fault w' me l kind node_type refs ≡ adopt_check_fault w me l kind node_type refs
+early-past {w} {w'} me l kind node_type refs o = ap (λ (u : Core). adopt_check_fault u me l kind node_type refs) o.same
     ∙ ap (λ x. earlier (load_fault w me l) (earlier (refused_if (is_loose_kind kind.0) Error.WrongMode)
     (earlier (refused_if (not (node_type == type_of kind.0)) Error.WrongKind) x)))
     (fault-by w (record w { places = w'.places }) (Owner.Load l) [] refs)

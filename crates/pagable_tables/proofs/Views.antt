@@ -1,20 +1,20 @@
 -- A world that agrees with a whole one, or whose rows are changed one by one, stays whole while rows and list have their places.
-use Rattle.pagable_tables.proofs.RowCounts.{at-most-sum, at-then, counted, each-changed, entries-listed, entry-is, found-among, found-so, held-some}
-use Rattle.pagable_tables.proofs.RowCounts.{holder-in, is-in, keeps-whole, keyed_in, loads-stay}
-use Rattle.pagable_tables.proofs.Words.{IsEntryWhole, IsHandleBefore, IsWhole, Last, List, Makes, MayHold, MayOwnLoad, Mode, NodeNumber, None, Ok, OpenLoad, Option, OptionalDataKey, Owner, Owns}
-use Rattle.pagable_tables.proofs.Words.{Result, SameAt, Some, Suits, [], ap, arith, cases_eq, changed, fallen, false, filter, find_row, greatest, has_key, held, if_there, if◌then◌else◌, inl, inr}
-use Rattle.pagable_tables.proofs.Words.{is_at, is_handle, is_loose, is_named_by, is_owned_by, is_owned_in, is_owner, is_pin, is_share, is_shared, is_some, is_valued, left_rows, length, map, moved}
-use Rattle.pagable_tables.proofs.Words.{nat_lt, nat_tests, next_node, not, one, option_map, or_else, owner_value, reference_fault, references_fault, refl, row_at, row_of, subst, sum_by-append}
-use Rattle.pagable_tables.proofs.Words.{sum_by_push, sym, times, true, updated, with_handle, with_mode, with_node, with_pin, ℕ, ◌&&◌, ◌++◌, ◌+◌, ◌<◌, ◌==◌, ◌∙◌, ◌∷◌, ◌≡◌, ◌≢◌, ◌≤◌, ◌⊎◌}
-use Rattle.pagable_tables.proofs.{Counting.{and-left, of_list}, HandleTable.found-append}
-use Rattle.pagable_tables.proofs.RowCounts.{GoOn, HasLike, IsEntry, IsIn, IsNew, IsOld, among-both, among-changed, among-left, among-more, among-one}
-use Rattle.pagable_tables.proofs.CascadeEnd.{no-entry, owned}
-use Rattle.pagable_tables.proofs.RowCounts.{once, one-left, ordered-entries, ordered-map, ordered-push, same-rows, stays-old, sum-map, sum-none, there-then}
-use Rattle.pagable_tables.proofs.RowCounts.{type_in, within-goes}
-use Rattle.pagable_tables.proofs.CascadeEnd.{passes-left, unlisting}
-use Rattle.pagable_tables.proofs.Words.{Alike, AllPairs, AllPairs-filter, Among, ArcRef, ArePlaced, Bool, Cell, Core, Err, Error, Falls, HandleNumber}
-use Rattle.pagable_tables.proofs.Words.{HandleRow}
-use Rattle.pagable_tables.proofs.SameViews.{found-map, owner-same}
+use Rattle.pagable_tables.proofs.{
+  CascadeEnd.{no-entry, owned, passes-left, unlisting},
+  Counting.{and-left, of_list},
+  HandleTable.found-append,
+  RowCounts.{GoOn, HasLike, IsEntry, IsIn, IsNew, IsOld, among-both, among-changed, among-left, among-more, among-one, at-most-sum, at-then, counted},
+  RowCounts.{each-changed, entries-listed, entry-is, found-among, found-so, held-some, holder-in, is-in, keeps-whole, keyed_in, loads-stay, once, one-left},
+  RowCounts.{ordered-entries, ordered-map, ordered-push, same-rows, stays-old, sum-map, sum-none, there-then, type_in, within-goes},
+  SameViews.{found-map, owner-same},
+  Words.{Alike, AllPairs, AllPairs-filter, Among, ArcRef, ArePlaced, Bool, Cell, Core, Err, Error, Falls, HandleNumber, HandleRow, IsEntryWhole},
+  Words.{IsHandleBefore, IsWhole, Last, List, MakesHandle, MayOwnHandle, MayOwnLoad, Mode, NodeNumber, None, Ok, OpenLoad, Option, OptionalDataKey, Owner},
+  Words.{Owns, Result, SameAt, Some, Suits, ap, arith, cases_eq, changed, fallen, false, filter, find_row, greatest, has_key, held, if_there, if◌then◌else◌},
+  Words.{inl, inr, is_at, is_handle, is_loose, is_named_by, is_owned_by, is_owned_in, is_owner, is_pin, is_share, is_shared, is_some, is_value_owner},
+  Words.{left_rows, length, map, moved, nat_lt, nat_tests, next_node, not, one, option_map, or_else, owner_value, reference_fault, references_fault, refl},
+  Words.{row_at, row_of, subst, sum_by-append, sum_by_push, sym, times, true, updated, with_handle, with_mode, with_node, with_pin, ℕ, [], ◌&&◌, ◌++◌, ◌+◌},
+  Words.{◌<◌, ◌==◌, ◌∙◌, ◌∷◌, ◌≡◌, ◌≢◌, ◌≤◌, ◌⊎◌},
+}
 use Rattle.std.proofs.lemmas.{Bool.not-true, Option.slice_get-map}
 
 -- ---- what loads and workers own is what they owned, or has come since
@@ -206,10 +206,10 @@ moded {w} whole h row mode live shared loose waits =
 -- ---- a handle comes, under the next number
 
 -- who may hold is neither the list nor a value
-pub not-list : (w : Core) (o : Owner) → MayHold w o → is_owner Owner.List o ≡ false
+pub not-list : (w : Core) (o : Owner) → MayOwnHandle w o → is_owner Owner.List o ≡ false
 not-list w o may = grind (arith, nat_tests)
 
-pub not-a-value : (w : Core) (o : Owner) → MayHold w o → is_valued o ≡ false
+pub not-a-value : (w : Core) (o : Owner) → MayOwnHandle w o → is_value_owner o ≡ false
 not-a-value w o may = grind (arith, nat_tests)
 
 -- Of a node that is there, or of a new one.
@@ -219,7 +219,7 @@ module _ {w : Core} (whole : IsWhole w) (x : HandleRow) (cells : ℕ → Option 
     (same : (n : ℕ) → (n ≢ x.node.0) ⊎ (n ≤ w.last.node) → cells n ≡ w.cells n)
     (like : HasLike w.rows x.node.0 (is_shared x.mode) ⊎ ((w.last.node < x.node.0) × (x.node.0 ≤ last)
     × (is_shared x.mode ≡ true → keyed_in (cells x.node.0) ≡ false)))
-    (holder : MayHold w x.owner) where
+    (holder : MayOwnHandle w x.owner) where
   abbrev grown : Core
   grown = roomy (record w { rows = w.rows ++ x ∷ []; cells = cells; last = record w.last { node = last; handle = w.last.handle + 1 } })
 
@@ -249,7 +249,7 @@ module _ {w : Core} (whole : IsWhole w) (x : HandleRow) (cells : ℕ → Option 
       keeps-whole whole (grind (arith, nat_tests, loads-stay))
 
 -- beside the handles that its node has
-pub beside : {w : Core} → IsWhole w → (node : NodeNumber) (mode : Mode) (owner : Owner) → HasLike w.rows node.0 (is_shared mode) → MayHold w owner
+pub beside : {w : Core} → IsWhole w → (node : NodeNumber) (mode : Mode) (owner : Owner) → HasLike w.rows node.0 (is_shared mode) → MayOwnHandle w owner
     → w.last.handle < greatest
     → Turns w (with_handle w node mode owner)
 beside {w} whole node mode owner like holder left = (
@@ -389,8 +389,8 @@ module _ {w : Core} (whole : IsWhole w) (s : ℕ → Bool) (mine : (x : HandleRo
   moved-to-value n = moved-free (owner_value n) refl (λ mode. tt)
 
 pub makes-goes : {w w' : Core} (node : NodeNumber) (mode : Mode) (owner : Owner) (r : Result HandleNumber Error) → IsWhole (opened w) → Suits w node mode
-    → MayHold w owner
-    → Makes w node mode owner r w' → Goes w w'
+    → MayOwnHandle w owner
+    → MakesHandle w node mode owner r w' → Goes w w'
 makes-goes {w} node mode owner (Ok k) whole suits holder makes =
     let like : HasLike w.rows node.0 (is_shared mode) = record {
       row = suits.row;
@@ -405,7 +405,8 @@ pub loose-unshared : (mode : Mode) → is_loose mode ≡ true → is_shared mode
 loose-unshared mode is = grind (arith, nat_tests)
 
 -- a loose handle of one who may hold is pinned, and a Pinned one is made
-pub pin-comes : {w : Core} (h : HandleNumber) (row : HandleRow) (me : Owner) → IsWhole w → MayHold w me → Owns w me h is_loose row → w.last.handle < greatest
+pub pin-comes : {w : Core} (h : HandleNumber) (row : HandleRow) (me : Owner) → IsWhole w → MayOwnHandle w me → Owns w me h is_loose row
+    → w.last.handle < greatest
     → Turns w (with_pin w h row.node me)
 pin-comes {w} h row me whole holder owns left =
     let loosely : is_shared Mode.LoosePinned ≡ is_shared row.mode = sym (loose-unshared row.mode owns.as_asked) in
@@ -449,7 +450,8 @@ named-unlisted {w} whole owner refs other good x among named = ap (is_owner Owne
 module _ {w : Core} (whole : IsWhole w) (node_type : ℕ) (key : OptionalDataKey) (refs : List ArcRef) (mode : Mode) (from me : Owner)
     (other : is_owner Owner.List from ≡ false)
     (good : references_fault w from [] refs ≡ None)
-    (holder : MayHold w me) (node_left : w.last.node < greatest) (left : w.last.handle < greatest) (unkeyed : is_shared mode ≡ true → has_key key ≡ false) where
+    (holder : MayOwnHandle w me) (node_left : w.last.node < greatest) (left : w.last.handle < greatest)
+    (unkeyed : is_shared mode ≡ true → has_key key ≡ false) where
   pub born-whole : IsWhole (roomy (with_handle (with_node w node_type key refs) (next_node w) mode me))
   born-whole = grown-whole (moved-to-value whole (is_named_by refs) (named-unlisted whole from refs other good) (w.last.node + 1))
       (row_of (w.last.handle + 1) (next_node w) mode me)

@@ -1,18 +1,20 @@
 -- The handles of each node that workers own, counted, as handles are added, removed and changed.
+use Rattle.pagable_tables.proofs.{
+  Counting.{one-le, ones},
+  RowCounts.{at-most-sum, counted, found-among, found-so, sum-map},
+  Words.{AllPairs, Bool, Core, HandleNumber, HandleRow, IsHandleBefore, List, NodeNumber, NodeRow, None, NumberTable, Option, Owner, ReleaseSet, Some, ap},
+  Words.{arith, cases_eq, contains_row, false, find_row, held, if◌then◌else◌, inl, inr, is_at, is_in, length, moved, nat_tests, numbers_of, one, passes_in},
+  Words.{refl, subst, suc, sum_by-cons, sum_by-le-sum_by, sum_by_push, sym, take, times, true, zero, ℕ, [], ◌&&◌, ◌++◌, ◌+◌, ◌∷◌, ◌≡◌, ◌≤◌},
+}
+use Rattle.pagable_tables.specs.{CascadeInvariant.{BoundsWorkerHandles, is_work, is_worker}, Nodes.most_worker_handles_at}
 use Rattle.pagable_value_spec.specs.declared.numbers.WorkerNumber.{WorkerNumber}
-use Rattle.pagable_tables.specs.{CascadeInvariant.{AreAtWork, is_work, is_worker}, Nodes.most_worker_handles_at}
-use Rattle.pagable_tables.proofs.{Counting.{one-le, ones}, RowCounts.{at-most-sum, counted, found-among, found-so, sum-map}}
-use Rattle.pagable_tables.proofs.Words.{AllPairs, Bool, Core, ReleaseSet, HandleNumber, HandleRow}
-use Rattle.pagable_tables.proofs.Words.{IsHandleBefore, List, NodeNumber, NodeRow, None, NumberTable, Option, Owner, Some, [], ap, arith, cases_eq, false, find_row, gives_row, held}
-use Rattle.pagable_tables.proofs.Words.{if◌then◌else◌, inl, inr, is_at, is_in, length, moved, nat_tests, numbers_of, one, passes_in, refl, subst, suc, sum_by-cons, sum_by-le-sum_by}
-use Rattle.pagable_tables.proofs.Words.{sum_by_push, sym, take, times, true, zero, ℕ, ◌&&◌, ◌++◌, ◌+◌, ◌∷◌, ◌≡◌, ◌≤◌}
 
-pub work-told : (nodes : NumberTable NodeRow) (rows rows' : List HandleRow) → rows' ≡ rows → AreAtWork rows nodes → AreAtWork rows' nodes
-work-told nodes rows rows' e w = subst (λ r. AreAtWork r nodes) (sym e) w
+pub work-told : (nodes : NumberTable NodeRow) (rows rows' : List HandleRow) → rows' ≡ rows → BoundsWorkerHandles rows nodes → BoundsWorkerHandles rows' nodes
+work-told nodes rows rows' e w = subst (λ r. BoundsWorkerHandles r nodes) (sym e) w
 
 pub work-more : (rows : List HandleRow) (nodes nodes' : NumberTable NodeRow) → ((n : ℕ) → most_worker_handles_at nodes n ≤ most_worker_handles_at nodes' n)
-    → AreAtWork rows nodes
-    → AreAtWork rows nodes'
+    → BoundsWorkerHandles rows nodes
+    → BoundsWorkerHandles rows nodes'
 work-more rows nodes nodes' more w n = omega (arith, more n, w n)
 
 -- those that moved count where they are a worker's from now on
@@ -32,15 +34,16 @@ none-to : (n : ℕ) (s : ℕ → Bool) (o : Owner) (rows : List HandleRow) → i
 none-to n s o [] e = refl
 none-to n s o (x ∷ xs) e = grind (arith, nat_tests, sum_by-cons (λ h. one (s h.number.0 && (is_at n h && is_worker o))) x xs, none-to n s o xs e)
 
-pub work-moved : (nodes : NumberTable NodeRow) (s : ℕ → Bool) (o : Owner) (rows : List HandleRow) → is_worker o ≡ false → AreAtWork rows nodes
-    → AreAtWork (moved s o rows) nodes
+pub work-moved : (nodes : NumberTable NodeRow) (s : ℕ → Bool) (o : Owner) (rows : List HandleRow) → is_worker o ≡ false → BoundsWorkerHandles rows nodes
+    → BoundsWorkerHandles (moved s o rows) nodes
 work-moved nodes s o rows e w n = omega (arith, moves n s o rows, none-to n s o rows e, w n)
 
 -- where those that moved come to a worker, their nodes may have no other handles
-pub work-comes : (nodes nodes' : NumberTable NodeRow) (s : ℕ → Bool) (o : Owner) (rows : List HandleRow) → AllPairs IsHandleBefore rows → AreAtWork rows nodes
+pub work-comes : (nodes nodes' : NumberTable NodeRow) (s : ℕ → Bool) (o : Owner) (rows : List HandleRow) → AllPairs IsHandleBefore rows
+    → BoundsWorkerHandles rows nodes
     → ((n : ℕ) → most_worker_handles_at nodes n ≤ most_worker_handles_at nodes' n) → ((q : ℕ) (row : HandleRow) → s q ≡ true → find_row q rows ≡ Some row
     → held row.node.0 rows ≤ most_worker_handles_at nodes' row.node.0)
-    → AreAtWork (moved s o rows) nodes'
+    → BoundsWorkerHandles (moved s o rows) nodes'
 work-comes nodes nodes' s o rows ordered w more here n = at (times (λ h. s h.number.0 && is_at n h) rows) refl
   where
     at : (many : ℕ) → times (λ h. s h.number.0 && is_at n h) rows ≡ many → times (is_work n) (moved s o rows) ≤ most_worker_handles_at nodes' n
@@ -61,9 +64,9 @@ one-work : (x : HandleRow) → one (is_work x.node.0 x) ≡ one (is_worker x.own
 one-work x = grind (arith, nat_tests)
 
 -- a handle more
-pub work-push : (rows : List HandleRow) (x : HandleRow) (nodes nodes' : NumberTable NodeRow) → AreAtWork rows nodes
+pub work-push : (rows : List HandleRow) (x : HandleRow) (nodes nodes' : NumberTable NodeRow) → BoundsWorkerHandles rows nodes
     → ((n : ℕ) → most_worker_handles_at nodes n ≤ most_worker_handles_at nodes' n)
-    → (times (is_work x.node.0) rows + one (is_worker x.owner) ≤ most_worker_handles_at nodes' x.node.0) → AreAtWork (rows ++ x ∷ []) nodes'
+    → (times (is_work x.node.0) rows + one (is_worker x.owner) ≤ most_worker_handles_at nodes' x.node.0) → BoundsWorkerHandles (rows ++ x ∷ []) nodes'
 work-push rows x nodes nodes' w more here n =
     let push = sum_by_push (λ (h : HandleRow). one (is_work n h)) rows x in
     elim (cases_eq n x.node.0) [
@@ -83,12 +86,12 @@ pub work-few : (n : ℕ) (rows : List HandleRow) → times (is_work n) rows ≤ 
 work-few n rows = omega (arith, ones rows, sum_by-le-sum_by (λ h. one (is_work n h)) (λ h. 1) rows (λ h. one-le (is_work n h)))
 
 -- where no worker has a handle of the node none is given up there
-pub none-at-work : (v : WorkerNumber) (m : NodeNumber) (w : Core) (rows : List HandleRow) (nodes : NumberTable NodeRow) → AreAtWork rows nodes
+pub none-at-work : (v : WorkerNumber) (m : NodeNumber) (w : Core) (rows : List HandleRow) (nodes : NumberTable NodeRow) → BoundsWorkerHandles rows nodes
     → most_worker_handles_at nodes m.0 ≡ 0 → (q : ℕ)
-    → passes_in (gives_row w (ReleaseSet.AtNode v m)) rows q ≡ false
+    → passes_in (contains_row w (ReleaseSet.AtNode v m)) rows q ≡ false
 none-at-work v m w rows nodes worked none q = at (find_row q rows) refl
   where
-    at : (found : Option HandleRow) → find_row q rows ≡ found → passes_in (gives_row w (ReleaseSet.AtNode v m)) rows q ≡ false
+    at : (found : Option HandleRow) → find_row q rows ≡ found → passes_in (contains_row w (ReleaseSet.AtNode v m)) rows q ≡ false
     at (Some x) e =
         let a = found-among q rows x e in
         let less = at-most-sum (λ h. one (is_work m.0 h)) rows x a.0 in

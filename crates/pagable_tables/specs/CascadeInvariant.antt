@@ -1,10 +1,20 @@
 -- When handles, nodes and list agree, also in the midst of a cascade.
+use Rattle.pagable_pager_spec.specs.{
+  Basics.{one, times},
+  Calls.row_of,
+  Kinds.{held, is_at, is_handle, is_owned_by, owner_value, pins},
+  declared.{handle_row.{HandleRow.HandleRow, Owner.Owner}, mode.Mode.Mode},
+}
+use Rattle.pagable_tables.specs.{
+  HandleTable.{AreSound, IsNext, live},
+  Nodes.{counts_at, falls_in, holds_in, most_worker_handles_at, next_in, pins_in, refs_at},
+  declared.{cascade.RefCounts.RefCounts, nodes.{Counts.Counts, NodeRow.NodeRow}, number_table.NumberTable.NumberTable},
+}
 use Rattle.pagable_value_spec.specs.declared.numbers.{ArcRef.ArcRef, NodeNumber.NodeNumber}
-use Rattle.pagable_tables.specs.{HandleTable.{AreSound, IsNext, live}, Nodes.{counts_at, falls_in, holds_in, next_in, pins_in, refs_at, most_worker_handles_at}}
-use Rattle.pagable_tables.specs.declared.{cascade.RefCounts.RefCounts, nodes.{Counts.Counts, NodeRow.NodeRow}, number_table.NumberTable.NumberTable}
-use Rattle.pagable_pager_spec.specs.{Calls.row_of, Kinds.{held, is_at, is_handle, is_owned_by, owner_value, pins}, Basics.{one, times}}
-use Rattle.pagable_pager_spec.specs.declared.{handle_row.{HandleRow.HandleRow, Owner.Owner}, mode.Mode.Mode}
-use Rattle.std.specs.Prelude.{Bool, List, None, Option, Some, [], false, if◌then◌else◌, nat_lt, not, sum_by, true, ℕ, ◌&&◌, ◌+◌, ◌==◌, ◌||◌, ◌∷◌, ◌≡◌, ◌≤◌}
+use Rattle.std.specs.{
+  Prelude.{Bool, List, None, Option, Some, false, if◌then◌else◌, nat_lt, not, sum_by, true, ℕ, [], ◌&&◌, ◌+◌, ◌==◌},
+  Prelude.{◌||◌, ◌∷◌, ◌≡◌, ◌≤◌},
+}
 
 -- a new entry of the list
 abbrev pub entry : ℕ → NodeNumber → HandleRow
@@ -67,19 +77,19 @@ abbrev pub is_work : ℕ → HandleRow → Bool
 is_work n h = is_at n h && is_worker h.owner
 
 -- the bound in each node's row is at least the number of its handles that workers own
-abbrev pub AreAtWork : List HandleRow → NumberTable NodeRow → Type 0
-AreAtWork rows nodes = (n : ℕ) → times (is_work n) rows ≤ most_worker_handles_at nodes n
+abbrev pub BoundsWorkerHandles : List HandleRow → NumberTable NodeRow → Type 0
+BoundsWorkerHandles rows nodes = (n : ℕ) → times (is_work n) rows ≤ most_worker_handles_at nodes n
 
-pub record IsFalling (t : RefCounts) (stack : List ℕ) (extra : ℕ → ℕ → ℕ) : Type 0 where
+pub record IsSoundInCascade (t : RefCounts) (stack : List ℕ) (extra : ℕ → ℕ → ℕ) : Type 0 where
   pub sound : AreSound t.handles
   pub next : IsNext (t.last_handle + 1) t.handles.places.items
   pub fits : Fits (counts_at t.nodes) (refs_at t.nodes) (live t.handles.places.items) t.top stack extra
-  pub worked : AreAtWork (live t.handles.places.items) t.nodes
+  pub worked : BoundsWorkerHandles (live t.handles.places.items) t.nodes
 
 -- whether a value is the owner, and how many handles values own
-abbrev pub is_valued : Owner → Bool
-is_valued (Owner.Value n) = true
-is_valued o = false
+abbrev pub is_value_owner : Owner → Bool
+is_value_owner (Owner.Value n) = true
+is_value_owner o = false
 
 abbrev pub valued : List HandleRow → ℕ
-valued rows = times (λ h. is_valued h.owner) rows
+valued rows = times (λ h. is_value_owner h.owner) rows

@@ -1,12 +1,19 @@
 -- What a release has removed and listed so far: from the world before the call, over the world that the call made first
 -- (w), to the tables.
-use Rattle.pagable_value_spec.specs.declared.{error.Error.Error, numbers.HandleNumber.HandleNumber}
+use Rattle.pagable_pager_spec.specs.{
+  Basics.times,
+  Cascade.{AreNewEntries, IsClosed, IsWithin, MustList, TellsListing, is_keyed, left_rows},
+  Kinds.{held, is_handle, is_owned_by, is_pin, is_shared, pins, sharing},
+  World.{Core, HasRoom, greatest},
+  declared.handle_row.{HandleRow.HandleRow, Owner.Owner},
+}
 use Rattle.pagable_tables.specs.{HandleTable.live, Nodes.{cell_in, counts_at}, declared.cascade.RefCounts.RefCounts}
-use Rattle.pagable_pager_spec.specs.Cascade.{AreNewEntries, IsClosed, IsWithin, MustList, TellsListing, is_keyed, left_rows}
-use Rattle.pagable_pager_spec.specs.{Kinds.{held, is_handle, is_owned_by, is_pin, is_shared, pins, sharing}, Basics.times, World.{Core, HasRoom, greatest}}
-use Rattle.pagable_pager_spec.specs.declared.handle_row.{HandleRow.HandleRow, Owner.Owner}
-use Rattle.std.specs.Prelude.{Bool, Err, List, None, Ok, Option, Result, Some, filter, is_some, length, map, not, true, vec_capacity, ℕ, ◌&&◌, ◌++◌, ◌+◌}
-use Rattle.std.specs.{Prelude.{◌<◌, ◌==◌, ◌||◌, ◌≡◌, ◌≢◌, ◌≤◌, ◌⊎◌}, VecDeque.deque_capacity}
+use Rattle.pagable_value_spec.specs.declared.{error.Error.Error, numbers.HandleNumber.HandleNumber}
+use Rattle.std.specs.{
+  Prelude.{Bool, Err, List, None, Ok, Option, Result, Some, filter, is_some, length, map, not, true, vec_capacity, ℕ},
+  Prelude.{◌&&◌, ◌++◌, ◌+◌, ◌<◌, ◌==◌, ◌||◌, ◌≡◌, ◌≢◌, ◌≤◌, ◌⊎◌},
+  VecDeque.deque_capacity,
+}
 
 -- ---- what a release has removed and listed so far
 
@@ -21,9 +28,9 @@ with_tables w t = record w {
 }
 
 -- the call's result, by the first error of listing
-abbrev pub told_by : Option Error → Result (Unit {0}) Error
-told_by None = Ok tt
-told_by (Some e) = Err e
+abbrev pub result_of_listing : Option Error → Result (Unit {0}) Error
+result_of_listing None = Ok tt
+result_of_listing (Some e) = Err e
 
 -- whether the handle pins the node and isn't Shared
 abbrev pub is_plain_pin : ℕ → HandleRow → Bool
@@ -43,7 +50,7 @@ pub record Begins (before w : Core) (lists : Bool) : Type 0 where
 
 -- From the world w, the given handles are removed, and others that had to be; the tables hold what is left and what was
 -- listed.
-pub record SoFar (before w : Core) (given : ℕ → Bool) (lists : Bool) (t : RefCounts) : Type 0 where
+pub record ReleasedSoFar (before w : Core) (given : ℕ → Bool) (lists : Bool) (t : RefCounts) : Type 0 where
   pub begins : Begins before w lists
   pub gone : ℕ → Bool
   pub entries : List HandleRow
@@ -62,14 +69,14 @@ pub record SoFar (before w : Core) (given : ℕ → Bool) (lists : Bool) (t : Re
       → IsClosed w.rows (is_keyed w) final s → IsWithin w.rows gone s
   pub new : AreNewEntries w.last.handle entries
   pub only : (n : ℕ) → 0 < held n entries → MustList before w (with_tables w t) n × (held n entries ≡ 1)
-  pub tells : TellsListing before w entries (told_by t.listing_error) (with_tables w t)
+  pub tells : TellsListing before w entries (result_of_listing t.listing_error) (with_tables w t)
   -- while a node is dying, there are no more rows than at first
   pub few : t.top ≢ 0 → length (live t.handles.places.items) ≤ length w.rows
 
 -- A handle can be removed beside the list: no entry that was added has its number, and what is left of the list is the
 -- same without it.
 pub record IsApart (before w : Core) (given : ℕ → Bool) (lists : Bool) (t : RefCounts)
-    (f : SoFar before w given lists t) (q : ℕ) : Type 0 where
+    (f : ReleasedSoFar before w given lists t) (q : ℕ) : Type 0 where
   pub unentered : times (is_handle q) f.entries ≡ 0
   pub kept : filter (λ (h : HandleNumber). not (f.gone h.0 || h.0 == q)) w.list
       ≡ filter (λ (h : HandleNumber). not (f.gone h.0)) w.list

@@ -1,40 +1,52 @@
 -- One step of the cascade: a handle is removed, an entry may be listed, a node starts dying or is finished.
-use Rattle.pagable_value_spec.specs.declared.{data_key.OptionalDataKey.OptionalDataKey, error.Error.Error, numbers.NodeNumber.NodeNumber}
-use Rattle.pagable_tables.specs.{CascadeInvariant.{IsFalling, entries_of, owns_nothing}, HandleTable.{AreSound, Becomes, IsNext, live}}
-use Rattle.pagable_tables.specs.Nodes.{cell_in, counts_at, falls_in, has_value}
-use Rattle.pagable_tables.specs.{CascadeInvariant.valued, declared.{cascade.RefCounts.RefCounts, handle_table.Handles.Handles, nodes.Counts.Counts}}
-use Rattle.pagable_pager_spec.specs.{Cascade.{left_rows, only_handle}, Kinds.{held, is_handle, owner_value, pins}}
-use Rattle.pagable_pager_spec.specs.{Basics.{SameAt, changed, if_there, one, or_else, updated}, World.{Cell, greatest}}
-use Rattle.pagable_pager_spec.specs.declared.{handle_row.HandleRow.HandleRow, mode.Mode.Mode}
-use Rattle.std.specs.Prelude.{Bool, IfSome, List, None, Option, Some, [], false, if◌then◌else◌, is_some, length, nat_lt, not, sum_by, true, vec_capacity, ℕ}
-use Rattle.std.specs.{Prelude.{◌&&◌, ◌*◌, ◌++◌, ◌+◌, ◌-◌, ◌<◌, ◌==◌, ◌||◌, ◌∷◌, ◌≡◌, ◌≢◌, ◌≤◌, ◌⊎◌}, VecDeque.deque_capacity}
+use Rattle.pagable_pager_spec.specs.{
+  Basics.{SameAt, changed, if_there, one, or_else, updated},
+  Cascade.{left_rows, only_handle},
+  Kinds.{held, is_handle, owner_value, pins},
+  World.{Cell, greatest},
+  declared.{handle_row.HandleRow.HandleRow, mode.Mode.Mode},
+}
+use Rattle.pagable_tables.specs.{
+  CascadeInvariant.{IsSoundInCascade, entries_of, owns_nothing, valued},
+  HandleTable.{AreSound, Becomes, IsNext, live},
+  Nodes.{cell_in, counts_at, falls_in, has_value},
+  declared.{cascade.RefCounts.RefCounts, handle_table.Handles.Handles, nodes.Counts.Counts},
+}
+use Rattle.pagable_value_spec.specs.{
+  declared.{data_key.OptionalDataKey.OptionalDataKey, error.Error.Error, numbers.NodeNumber.NodeNumber},
+}
+use Rattle.std.specs.{
+  Prelude.{Bool, IfSome, List, None, Option, Some, false, if◌then◌else◌, is_some, length, nat_lt, not, sum_by, true},
+  Prelude.{vec_capacity, ℕ, [], ◌&&◌, ◌*◌, ◌++◌, ◌+◌, ◌-◌, ◌<◌, ◌==◌, ◌||◌, ◌∷◌, ◌≡◌, ◌≢◌, ◌≤◌, ◌⊎◌},
+  VecDeque.deque_capacity,
+}
 
 -- whether a handle of this mode is the last pin of a cell without a key
-abbrev pub is_listing : Counts → Mode → Bool
-is_listing c Mode.LoosePinned = c.pins == 1 && not (nat_lt 0 c.key)
-is_listing c Mode.LooseUnpinned = false
-is_listing c Mode.Pinned = c.pins == 1 && not (nat_lt 0 c.key)
-is_listing c Mode.Shared = false
+abbrev pub is_last_pin_without_key : Counts → Mode → Bool
+is_last_pin_without_key c Mode.LoosePinned = c.pins == 1 && not (nat_lt 0 c.key)
+is_last_pin_without_key c Mode.LooseUnpinned = false
+is_last_pin_without_key c Mode.Pinned = c.pins == 1 && not (nat_lt 0 c.key)
+is_last_pin_without_key c Mode.Shared = false
 
 -- The counts after a handle was removed, or unpinned if it `stays`, and an entry was perhaps listed. A node starts
 -- dying when it loses its last handle, or its last pin while it has a key.
 abbrev pub is_fallen_by : Counts → Bool → ℕ → ℕ → Bool
 is_fallen_by c pinning pins holds = not c.is_dying && (holds == 0 || (pinning && pins == 0 && nat_lt 0 c.key))
 
-abbrev pub after : Counts → Bool → Bool → Bool → ℕ → Counts
-after c pinning stays listed top =
+abbrev pub counts_after_release : Counts → Bool → Bool → Bool → ℕ → Counts
+counts_after_release c pinning stays listed top =
     let pins = c.pins - one pinning in
     let holds = (if stays then c.holds else c.holds - 1) + one listed in
     let falls = is_fallen_by c pinning pins holds in
     record c { pins = pins; holds = holds; is_dying = c.is_dying || falls; next = if falls then top else c.next }
 
 -- why no entry can be listed: no handle number is left, or no place
-abbrev pub IsUnlisted : RefCounts → Error → Type 0
-IsUnlisted t Error.NumbersSpent = greatest ≤ t.last_handle
-IsUnlisted t Error.OutOfMemory = (t.last_handle < greatest)
+abbrev pub CantList : RefCounts → Error → Type 0
+CantList t Error.NumbersSpent = greatest ≤ t.last_handle
+CantList t Error.OutOfMemory = (t.last_handle < greatest)
     × ((vec_capacity t.handles.places ≤ length (live t.handles.places.items))
     ⊎ (deque_capacity t.list ≤ length t.list.items))
-IsUnlisted t e = ⊥
+CantList t e = ⊥
 
 -- neither the handles nor the list have less capacity
 pub record HasPlaces (old new : RefCounts) : Type 0 where
@@ -56,11 +68,11 @@ pub record AddsEntryIf (old : RefCounts) (node : NodeNumber) (listed : Bool) (ne
 
 -- If an entry is wanted, it is added, or there is an error, of which the first is kept; if none is wanted nothing
 -- changes.
-pub record MayList (old : RefCounts) (node : NodeNumber) (wanted listed : Bool) (new : RefCounts) : Type 0 where
+pub record AddsWantedEntry (old : RefCounts) (node : NodeNumber) (wanted listed : Bool) (new : RefCounts) : Type 0 where
   pub comes : AddsEntryIf old node listed new
   pub only : listed ≡ true → wanted ≡ true
   pub told : (listed ≡ true) ⊎ (wanted ≡ false) → new.listing_error ≡ old.listing_error
-  pub why : listed ≡ false → wanted ≡ true → (e : Error) × IsUnlisted old e
+  pub why : listed ≡ false → wanted ≡ true → (e : Error) × CantList old e
       × (new.listing_error ≡ or_else old.listing_error (Some e))
 
 -- the row of a loose handle without its pin
@@ -68,7 +80,7 @@ abbrev pub unpinned : HandleRow → HandleRow
 unpinned x = record x { mode = Mode.LooseUnpinned }
 
 -- the handle of the row x is removed, or unpinned if it `stays`
-pub record Leaves (old : Handles) (x : HandleRow) (stays : Bool) (new : Handles) : Type 0 where
+pub record RemovesOrUnpins (old : Handles) (x : HandleRow) (stays : Bool) (new : Handles) : Type 0 where
   pub becomes : Becomes old (if stays then changed (is_handle x.number.0) unpinned
       (live old.places.items) else left_rows (only_handle x.number) (live old.places.items)) new
   pub sums : (f : HandleRow → ℕ) → sum_by f (live new.places.items) + f x
@@ -87,24 +99,25 @@ ValueStays old new = falls_in new ≡ false → (falls_in old ≡ false) × (has
 pub record ReleasesWithoutCascade (old : RefCounts) (stack : List ℕ) (x : HandleRow) (stays lists : Bool)
     (new : RefCounts) : Type 0 where
   pub left : Handles
-  pub leaves : Leaves old.handles x stays left
+  pub leaves : RemovesOrUnpins old.handles x stays left
   pub counts : Counts
   pub is : counts_at old.nodes x.node.0 ≡ Some counts
   pub listed : Bool
   pub between : RefCounts
-  pub comes : MayList (record old { handles = left }) x.node (lists && is_listing counts x.mode) listed between
+  pub comes : AddsWantedEntry (record old { handles = left }) x.node
+      (lists && is_last_pin_without_key counts x.mode) listed between
   pub same : new ≡ record between { nodes = new.nodes; top = new.top }
   pub cells : CellsStay (counts_at old.nodes) (counts_at new.nodes)
   pub values : (n : ℕ) → ValueStays (counts_at old.nodes n) (counts_at new.nodes n)
   pub more : List ℕ
-  pub falling : IsFalling new more owns_nothing
+  pub falling : IsSoundInCascade new more owns_nothing
   pub long : length more ≤ length stack + 1
   -- if its handle stays, the node dies only if it has a key
   pub keyed : stays ≡ true → old.top ≡ 0 → new.top ≢ 0 → nat_lt 0 counts.key ≡ true
 
 -- the counts of a node that the cascade has finished, None if it has no handle
-abbrev pub landed : Counts → Option Counts
-landed c = if c.holds == 0 then None else Some (record c { is_dying = false; next = 0 })
+abbrev pub finished_counts : Counts → Option Counts
+finished_counts c = if c.holds == 0 then None else Some (record c { is_dying = false; next = 0 })
 
 -- the value of the node is to be dropped: the node has no handle, or it has a key and no pin
 abbrev pub HasFallen : (ℕ → Option Counts) → List HandleRow → ℕ → Type 0
@@ -125,7 +138,7 @@ pub record FallsBy (old : RefCounts) (x : HandleRow) (n : ℕ) (lists : Bool) (n
 pub record Steps (old : RefCounts) (stack : List ℕ) (lists : Bool) (r : Option NodeNumber)
     (new : RefCounts) : Type 0 where
   pub rest : List ℕ
-  pub falling : IsFalling new rest owns_nothing
+  pub falling : IsSoundInCascade new rest owns_nothing
   pub less : 2 * valued (live new.handles.places.items) + length rest < 2 * valued (live old.handles.places.items) +
       length stack
   pub cells : CellsStay (counts_at old.nodes) (counts_at new.nodes)

@@ -1,16 +1,38 @@
 -- The core that whole tables stand for, what a call of the tables does and keeps, and the steps that calls make.
-use Rattle.std.specs.VecDeque.{deque_capacity}
-use Rattle.std.specs.{Option.option_map, Prelude.{Bool, IfErr, IfOk, IsSome, List, None, Option, Result, Some, [], false, get_or, if◌then◌else◌, is_some, length, not, slice_get, suc, true}}
-use Rattle.std.specs.Prelude.{vec_capacity, zero, ℕ, ◌&&◌, ◌+◌, ◌<◌, ◌==◌, ◌||◌, ◌∷◌, ◌≡◌, ◌≤◌, ◌⊎◌}
-use Rattle.{indexmap.specs.IndexMap.IndexMap, pagable_value_spec.specs.declared.{error.Error.Error, numbers.{ArcRef.ArcRef, HandleNumber.HandleNumber, LoadNumber.LoadNumber, NodeNumber.NodeNumber}}}
-use Rattle.{pagable_value_spec.specs.declared.numbers.WorkerNumber.WorkerNumber, pagable_pager_spec.specs.{Calls.{IsNext, next_node, with_handle, with_mode, with_node}, Events.{with_entry_taken, with_worker}}}
-use Rattle.pagable_pager_spec.specs.{Kinds.{find_row, is_owner, is_shared, owner_worker}, LoadCalls.is_owned_in, Basics.{Among, Blob, if_there}, Refusals.{AreHandlesFull, Refused, WorkerFault, spent}}
-use Rattle.pagable_pager_spec.specs.{Workers.is_load_of, World.{Alike, Core, HasRoom, OpenLoad, Root, greatest, of_cell, of_key}, declared.{handle_row.{HandleRow.HandleRow, Owner.Owner}, mode.Mode.Mode}}
-use Rattle.pagable_tables.specs.{CascadeInvariant.{IsFalling, is_valued, owns_nothing}, HandleTable.{alive, live, room}}
-use Rattle.pagable_tables.specs.{Indexes.{known_at, load_at, reach_at, worker_at}, Nodes.{cell_in, counts_at, key_in}, ValuesKept.Sheds}
-use Rattle.pagable_tables.specs.NumberTable.{place_at, row_by}
-use Rattle.pagable_tables.specs.declared.{handle_table.HandleAt.HandleAt, load_table.{LoadRoot.LoadRoot, LoadRow.LoadRow}, place.Place.Place}
-use Rattle.pagable_tables.specs.declared.{number_table.NumberTable.NumberTable, release.ReleaseSet.ReleaseSet, tables.{HandleRange.HandleRange, Tables.Tables}}
+use Rattle.indexmap.specs.IndexMap.{IndexMap}
+use Rattle.pagable_pager_spec.specs.{
+  Basics.{Among, Blob, if_there},
+  Calls.{IsNext, next_node, with_handle, with_mode, with_node},
+  Events.{with_entry_taken, with_worker},
+  Kinds.{find_row, is_owner, is_shared, owner_worker},
+  LoadCalls.is_owned_in,
+  Refusals.{AreHandlesFull, Refused, WorkerFault, spent},
+  Workers.is_load_of,
+  World.{Alike, Core, HasRoom, OpenLoad, Root, greatest, of_cell, of_key},
+  declared.{handle_row.{HandleRow.HandleRow, Owner.Owner}, mode.Mode.Mode},
+}
+use Rattle.pagable_tables.specs.{
+  CascadeInvariant.{IsSoundInCascade, is_value_owner, owns_nothing},
+  HandleTable.{alive, live, room},
+  Indexes.{cached_at, load_at, reach_at, worker_at},
+  Nodes.{cell_in, counts_at, key_in},
+  NumberTable.{place_at, row_by},
+  ValuesKept.DropsValues,
+  declared.{handle_table.HandleAt.HandleAt, load_table.{LoadRoot.LoadRoot, LoadRow.LoadRow}},
+  declared.{number_table.NumberTable.NumberTable, place.Place.Place, release.ReleaseSet.ReleaseSet},
+  declared.tables.{HandleRange.HandleRange, Tables.Tables},
+}
+use Rattle.pagable_value_spec.specs.declared.{
+  error.Error.Error,
+  numbers.{ArcRef.ArcRef, HandleNumber.HandleNumber, LoadNumber.LoadNumber, NodeNumber.NodeNumber},
+  numbers.WorkerNumber.WorkerNumber,
+}
+use Rattle.std.specs.{
+  Option.option_map,
+  Prelude.{Bool, IfErr, IfOk, IsSome, List, None, Option, Result, Some, false, get_or, if◌then◌else◌, is_some, length},
+  Prelude.{not, slice_get, suc, true, vec_capacity, zero, ℕ, [], ◌&&◌, ◌+◌, ◌<◌, ◌==◌, ◌||◌, ◌∷◌, ◌≡◌, ◌≤◌, ◌⊎◌},
+  VecDeque.deque_capacity,
+}
 use Rattle.pagable_pager_spec.specs.Pager as pager
 
 abbrev pub root_in : LoadRoot → Root
@@ -42,7 +64,7 @@ core_of t storage = record {
   rows = live t.ref_counts.handles.places.items;
   cells = λ n. cell_in (counts_at t.ref_counts.nodes n);
   list = t.ref_counts.list.items;
-  cache = λ kind key. option_map (λ (n : NodeNumber). n.0) (known_at t.cache kind key);
+  cache = λ kind key. option_map (λ (n : NodeNumber). n.0) (cached_at t.cache kind key);
   stored = storage.stored;
   closed = storage.closed;
   failures = storage.failures;
@@ -58,7 +80,7 @@ core_alone t = core_of t no_blobs
 
 -- The tables are whole: handles, nodes and list agree, no node is dying, and the core is whole.
 pub record IsWhole (t : Tables) : Type 0 where
-  pub steady : IsFalling t.ref_counts [] owns_nothing
+  pub steady : IsSoundInCascade t.ref_counts [] owns_nothing
   pub core : pager.IsWhole (core_alone t)
 
 -- rows and entries of the list are in their places
@@ -67,12 +89,12 @@ pub record ArePlaced (w : Core) : Type 0 where
   pub list : length w.list ≤ w.places.entries
 
 -- who may get a handle: the caller, a worker that is at work, or an open load
-abbrev pub MayHold : Core → Owner → Type 0
-MayHold w Owner.Caller = Unit {0}
-MayHold w (Owner.Worker v) = w.workers v.0 ≡ true
-MayHold w (Owner.Load l) = is_some (w.loads l.0) ≡ true
-MayHold w (Owner.Value n) = ⊥
-MayHold w Owner.List = ⊥
+abbrev pub MayOwnHandle : Core → Owner → Type 0
+MayOwnHandle w Owner.Caller = Unit {0}
+MayOwnHandle w (Owner.Worker v) = w.workers v.0 ≡ true
+MayOwnHandle w (Owner.Load l) = is_some (w.loads l.0) ≡ true
+MayOwnHandle w (Owner.Value n) = ⊥
+MayOwnHandle w Owner.List = ⊥
 
 -- A handle of this mode can be added to those of the node: all of them are Shared, or none is.
 pub record Suits (w : Core) (node : NodeNumber) (mode : Mode) : Type 0 where
@@ -82,7 +104,7 @@ pub record Suits (w : Core) (node : NodeNumber) (mode : Mode) : Type 0 where
   pub shared : is_shared row.mode ≡ is_shared mode
 
 -- A handle of a live node is made under the next number. It succeeds while numbers and places are left.
-pub record Makes (w : Core) (node : NodeNumber) (mode : Mode) (owner : Owner) (r : Result HandleNumber Error)
+pub record MakesHandle (w : Core) (node : NodeNumber) (mode : Mode) (owner : Owner) (r : Result HandleNumber Error)
     (w' : Core) : Type 0 where
   pub made : IfOk r (λ k. IsNext k w × Alike (with_handle w node mode owner) w')
   pub refused : IfErr r (λ e. Refused (spent w.last.handle) (spent w.last.handle) (AreHandlesFull w) w e w')
@@ -90,14 +112,14 @@ pub record Makes (w : Core) (node : NodeNumber) (mode : Mode) (owner : Owner) (r
 -- ---- handles that are given up together, and workers that begin
 
 -- whether the set contains a handle of this owner at this node
-abbrev pub gives : Core → ReleaseSet → Owner → NodeNumber → Bool
-gives w (ReleaseSet.Load l) owner node = is_owner (Owner.Load l) owner
-gives w (ReleaseSet.AtNode v n) owner node = is_owner (Owner.Worker v) owner && node.0 == n.0
-gives w (ReleaseSet.Worker v) owner node = is_owner (Owner.Worker v) owner || is_load_of w v.0 owner
-gives w ReleaseSet.Listed owner node = is_owner Owner.List owner
+abbrev pub contains_owned : Core → ReleaseSet → Owner → NodeNumber → Bool
+contains_owned w (ReleaseSet.Load l) owner node = is_owner (Owner.Load l) owner
+contains_owned w (ReleaseSet.AtNode v n) owner node = is_owner (Owner.Worker v) owner && node.0 == n.0
+contains_owned w (ReleaseSet.Worker v) owner node = is_owner (Owner.Worker v) owner || is_load_of w v.0 owner
+contains_owned w ReleaseSet.Listed owner node = is_owner Owner.List owner
 
-abbrev pub gives_row : Core → ReleaseSet → HandleRow → Bool
-gives_row w giving row = gives w giving row.owner row.node
+abbrev pub contains_row : Core → ReleaseSet → HandleRow → Bool
+contains_row w giving row = contains_owned w giving row.owner row.node
 
 -- whether the row of this number, if it is among these, passes the test
 abbrev pub passes_in : (HandleRow → Bool) → List HandleRow → ℕ → Bool
@@ -117,10 +139,10 @@ pub record IsLast {S : Type 0} (places : List Place) (loads : IndexMap ℕ LoadR
   pub place : slice_get places at.place ≡ Some (alive at.row)
   pub found : find_row at.row.number.0 (live places) ≡ Some at.row
   pub between : IsAsked at.row.number.0 × (at.row.number.0 ≤ left)
-  pub gives : (w : Core) → LoadsAre loads w → gives_row w giving at.row ≡ true
-  pub plain : is_valued at.row.owner ≡ false
+  pub contains : (w : Core) → LoadsAre loads w → contains_row w giving at.row ≡ true
+  pub not_a_value : is_value_owner at.row.owner ≡ false
   pub last : (w : Core) (q : ℕ) → LoadsAre loads w → IsAsked q → at.row.number.0 < q → q ≤ left
-      → passes_in (gives_row w giving) (live places) q ≡ false
+      → passes_in (contains_row w giving) (live places) q ≡ false
 
 -- the rows of loads without those of the worker
 abbrev pub left_load : ℕ → Option LoadRow → Option LoadRow
@@ -128,7 +150,7 @@ left_load v None = None
 left_load v (Some row) = if is_owner (owner_worker v) row.owner then None else Some row
 
 -- each worker's range contains what it contained before
-pub record IsNoLess {S : Type 0} (workers workers' : IndexMap ℕ HandleRange S) : Type 0 where
+pub record AreRangesWider {S : Type 0} (workers workers' : IndexMap ℕ HandleRange S) : Type 0 where
   pub wider : (v q : ℕ) → InReach (reach_at workers v) q → InReach (reach_at workers' v) q
   pub before : (v : ℕ) → (reach_at workers' v).since ≤ (reach_at workers v).since
 
@@ -168,8 +190,8 @@ abbrev pub IsOwnedAbove : Tables → LoadNumber → ℕ → Type 0
 IsOwnedAbove t l since = (q : ℕ) → is_owned_in (core_alone t) (Owner.Load l) q ≡ true → since < q
 
 -- each load's row tells the last handle that it owns among those above a number at the first `count` places
-abbrev pub AreTold : {S : Type 0} → IndexMap ℕ LoadRow S → List Place → (number count : ℕ) → Type 0
-AreTold loads places number count = (l : LoadNumber) (row : LoadRow) (k : ℕ) (d : Place) → load_at loads l.0 ≡ Some row
+abbrev pub AreNoted : {S : Type 0} → IndexMap ℕ LoadRow S → List Place → (number count : ℕ) → Type 0
+AreNoted loads places number count = (l : LoadNumber) (row : LoadRow) (k : ℕ) (d : Place) → load_at loads l.0 ≡ Some row
     → k < count → number < (get_or places k d).row.number.0
     → (get_or places k d).row.owner ≡ Owner.Load l → (get_or places k d).row.number.0 ≤ row.last
 
@@ -201,18 +223,21 @@ pub record Does (old : Tables) (step : Core → Core → Type 0) (new : Tables) 
 
 -- The same, where `lists` is set exactly while the storage is open; and the value of each node is dropped when it has
 -- to be.
-pub record DoesShed {X : Type 0} (lists : Bool) (old : Tables) (values : NumberTable X) (step : Core → Core → Type 0)
+pub record DoesAndDropsValues {X : Type 0} (lists : Bool) (old : Tables) (values : NumberTable X)
+    (step : Core → Core → Type 0)
     (new : Tables) (values' : NumberTable X) : Type 0 where
   pub does : (storage : StorageView) → lists ≡ not storage.closed → step (core_of old storage) (core_of new storage)
   pub whole : IsWhole new
   pub later : OwnLaterHandles old → OwnLaterHandles new
-  pub sheds : Sheds (counts_at old.ref_counts.nodes) (row_by values) (counts_at new.ref_counts.nodes) (row_by values')
+  pub drops : DropsValues (counts_at old.ref_counts.nodes) (row_by values)
+      (counts_at new.ref_counts.nodes) (row_by values')
 
 -- ---- handles that get another owner, one after the other as they are named, or are pinned
 
 -- A Pinned handle of the row's node is made, and the row's handle is pinned too. It succeeds while numbers and places
 -- are left.
-pub record PinsHere (w : Core) (me : Owner) (row : HandleRow) (r : Result HandleNumber Error) (w' : Core) : Type 0 where
+pub record PinsInMemory (w : Core) (me : Owner) (row : HandleRow) (r : Result HandleNumber Error)
+    (w' : Core) : Type 0 where
   pub pinned : IfOk r (λ k. IsNext k w × Alike (with_handle (with_mode w row.number Mode.LoosePinned) row.node
       Mode.Pinned me) w')
   pub refused : IfErr r (λ e. Refused (spent w.last.handle) (spent w.last.handle) (AreHandlesFull w) w e w')
@@ -241,7 +266,8 @@ pub record OnlyRoom (w w' : Core) : Type 0 where
   pub more : HasRoom w.places w'.places
 
 -- A node of this type is inserted with this key (0 for none), with references that were checked, and one handle of it.
-pub record Bears (w : Core) (me : Owner) (node_type key : ℕ) (references : List ArcRef) (mode : Mode) (k : HandleNumber)
+pub record InsertsNode (w : Core) (me : Owner) (node_type key : ℕ) (references : List ArcRef) (mode : Mode)
+    (k : HandleNumber)
     (w' : Core) : Type 0 where
   pub next : IsNext k w
   pub leaves : Alike (with_handle (with_node w node_type (key_in key) references) (next_node w) mode me) w'

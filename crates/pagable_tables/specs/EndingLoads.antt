@@ -1,23 +1,41 @@
 -- What a load asks of the tables, and loads of cells that can end.
-use Rattle.std.specs.Prelude.{Bool, IfErr, IfOk, List, Option, Result, Some, [], if◌then◌else◌, is_some, not, true, ℕ, ◌<◌, ◌==◌, ◌≡◌, ◌≤◌}
-use Rattle.pagable_value_spec.specs.declared.{error.Error.Error, numbers.{ArcRef.ArcRef, HandleNumber.HandleNumber, Kind.Kind, LoadNumber.LoadNumber, NodeNumber.NodeNumber}}
-use Rattle.pagable_tables.specs.{HandleTable.room, Indexes.load_at, Nodes.has_value, ValuesKept.AreLeft}
-use Rattle.pagable_tables.specs.declared.{load_end.{Ending.Ending, Unended.Unended}, nodes.Counts.Counts, tables.Tables.Tables}
-use Rattle.pagable_pager_spec.specs.{Calls.Recalls, Kinds.{any_mode, is_loose}, LoadCalls.{MayEnd, ask_fault, end_fault, is_known}, Basics.{is_loose_kind, type_of}, Refusals.{AreHandlesFull, Owns}}
-use Rattle.pagable_pager_spec.specs.{Refusals.{OwnsLoad, Refused, earlier, handle_fault, load_fault, references_fault, refused_if}, World.{Core, OpenLoad, greatest, is_here}, declared.calls.Want.Want}
-use Rattle.pagable_pager_spec.specs.declared.handle_row.Owner.{Owner}
+use Rattle.pagable_pager_spec.specs.{
+  Basics.{is_loose_kind, type_of},
+  Calls.Recalls,
+  Kinds.{any_mode, is_loose},
+  LoadCalls.{MayEnd, ask_fault, end_fault, is_known},
+  Refusals.{AreHandlesFull, Owns, OwnsLoad, Refused, earlier, handle_fault, load_fault, references_fault, refused_if},
+  World.{Core, OpenLoad, greatest, is_here},
+  declared.{calls.FetchTarget.FetchTarget, handle_row.Owner.Owner},
+}
+use Rattle.pagable_tables.specs.{
+  HandleTable.room,
+  Indexes.load_at,
+  Nodes.has_value,
+  ValuesKept.AreLeft,
+  declared.{load_end.{EndFailure.EndFailure, Ending.Ending}, nodes.Counts.Counts, tables.Tables.Tables},
+}
+use Rattle.pagable_value_spec.specs.declared.{
+  error.Error.Error,
+  numbers.{ArcRef.ArcRef, HandleNumber.HandleNumber, Kind.Kind, LoadNumber.LoadNumber, NodeNumber.NodeNumber},
+}
+use Rattle.std.specs.{
+  Prelude.{Bool, IfErr, IfOk, List, Option, Result, Some, if◌then◌else◌, is_some, not, true, ℕ, [], ◌<◌, ◌==◌, ◌≡◌},
+  Prelude.◌≤◌,
+}
 
 -- The load gets a handle of the node that is cached for a reference; or None if none is, and the storage has to be
 -- asked.
-pub record AsksKnown (w : Core) (me : Owner) (l : LoadNumber) (kind : Kind) (key : ℕ)
+pub record AsksCache (w : Core) (me : Owner) (l : LoadNumber) (kind : Kind) (key : ℕ)
     (r : Result (Option HandleNumber) Error) (w' : Core) : Type 0 where
   pub gives : IfOk r (λ found. (load : OpenLoad) × OwnsLoad w me l load × Recalls w (Owner.Load l) kind key found w')
-  pub refused : IfErr r (λ e. Refused (ask_fault w me l (Want.Nested kind key))
-      (ask_fault w me l (Want.Nested kind key)) ((is_known w (Want.Nested kind key) ≡ true) × AreHandlesFull w) w e w')
+  pub refused : IfErr r (λ e. Refused (ask_fault w me l (FetchTarget.Nested kind key))
+      (ask_fault w me l (FetchTarget.Nested kind key))
+      ((is_known w (FetchTarget.Nested kind key) ≡ true) × AreHandlesFull w) w e w')
 
 -- why what a load has read can't become a node, apart from numbers and memory
-abbrev pub early_fault : Core → Owner → LoadNumber → Kind → ℕ → List ArcRef → Option Error
-early_fault w me l kind node_type references =
+abbrev pub adopt_check_fault : Core → Owner → LoadNumber → Kind → ℕ → List ArcRef → Option Error
+adopt_check_fault w me l kind node_type references =
     earlier (load_fault w me l) (earlier (refused_if (is_loose_kind kind.0) Error.WrongMode)
     (earlier (refused_if (not (node_type == type_of kind.0)) Error.WrongKind)
     (references_fault w (Owner.Load l) [] references)))
@@ -29,7 +47,7 @@ pub record IsReady (w : Core) (me : Owner) (l : LoadNumber) (node_type : ℕ) (r
     (e : Ending) : Type 0 where
   pub may : MayEnd w me l e.row.node e.row.number node_type references
   pub owned : Owns w me e.row.number is_loose e.row
-  pub away : e.is_away ≡ not (is_here w e.row.node.0)
+  pub away : e.lacks_value ≡ not (is_here w e.row.node.0)
   pub left : w.last.handle < greatest
 
 -- The tables have the load, and room for the handle that is made.
@@ -38,7 +56,7 @@ pub record HasPlace (t : Tables) (l : LoadNumber) (e : Ending) : Type 0 where
   pub place : 1 ≤ room t.ref_counts.handles
 
 -- The load may end, but the handle by which it was begun is gone or another's.
-pub record IsVain (w : Core) (me : Owner) (l : LoadNumber) (node_type : ℕ) (references : List ArcRef)
+pub record HasLostHandle (w : Core) (me : Owner) (l : LoadNumber) (node_type : ℕ) (references : List ArcRef)
     (e : Error) : Type 0 where
   pub node : NodeNumber
   pub h : HandleNumber
@@ -46,16 +64,17 @@ pub record IsVain (w : Core) (me : Owner) (l : LoadNumber) (node_type : ℕ) (re
   pub why : handle_fault w me h any_mode ≡ Some e
 
 -- why a load doesn't end with a value
-abbrev pub Unends : Core → Owner → LoadNumber → ℕ → List ArcRef → Unended → Core → Type 0
-Unends w me l node_type references (Unended.Refused e) w' =
+abbrev pub FailsToEnd : Core → Owner → LoadNumber → ℕ → List ArcRef → EndFailure → Core → Type 0
+FailsToEnd w me l node_type references (EndFailure.Refused e) w' =
     Refused (end_fault w me l node_type references) (load_fault w me l) (Unit {0}) w e w'
-Unends w me l node_type references (Unended.InVain e) w' = IsVain w me l node_type references e × (w' ≡ w)
+FailsToEnd w me l node_type references (EndFailure.HandleLost e) w' =
+    HasLostHandle w me l node_type references e × (w' ≡ w)
 
 -- whether a node has its value, where this node has just got one
-abbrev pub has_come : (ℕ → Option Counts) → NodeNumber → ℕ → Bool
-has_come at node n = if n == node.0 then true else has_value (at n)
+abbrev pub has_value_once_loaded : (ℕ → Option Counts) → NodeNumber → ℕ → Bool
+has_value_once_loaded at node n = if n == node.0 then true else has_value (at n)
 
 -- the value of each node is dropped when it has to be, if each node had its value before, this one its new value
-pub record ShedsBeside {X : Type 0} (node : NodeNumber) (at : ℕ → Option Counts) (old : ℕ → Option X)
+pub record DropsOtherValues {X : Type 0} (node : NodeNumber) (at : ℕ → Option Counts) (old : ℕ → Option X)
     (at' : ℕ → Option Counts) (new : ℕ → Option X) : Type 0 where
-  pub left : ((n : ℕ) → is_some (old n) ≡ has_come at node n) → AreLeft at' old new
+  pub left : ((n : ℕ) → is_some (old n) ≡ has_value_once_loaded at node n) → AreLeft at' old new

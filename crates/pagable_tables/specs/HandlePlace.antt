@@ -1,7 +1,7 @@
 -- A place of the vector of handles as contracts see it, and an owner as a kind and a number.
-use Rattle.pagable_tables.specs.declared.place.OwnerKind.{OwnerKind}
 use Rattle.pagable_pager_spec.specs.declared.handle_row.{HandleRow.HandleRow, Owner.Owner}
-use Rattle.std.specs.Prelude.{Bool, ℕ, refl, ◌≡◌}
+use Rattle.pagable_tables.specs.declared.place.OwnerKind.{OwnerKind}
+use Rattle.std.specs.Prelude.{Bool, refl, ℕ, ◌≡◌}
 
 pub record HandlePlace : Type 0 where
   pub row : HandleRow

@@ -1,7 +1,10 @@
 -- Live handles in the order of their numbers, and what they become as a call changes them.
-use Rattle.pagable_tables.specs.declared.{handle_table.Handles.Handles, place.Place.Place}
 use Rattle.pagable_pager_spec.specs.declared.handle_row.HandleRow.{HandleRow}
-use Rattle.std.specs.{List.AllPairs, Prelude.{All, Bool, List, [], if◌then◌else◌, length, true, vec_capacity, vec_len, ℕ, ◌+◌, ◌-◌, ◌<◌, ◌∷◌, ◌≡◌, ◌≤◌}}
+use Rattle.pagable_tables.specs.declared.{handle_table.Handles.Handles, place.Place.Place}
+use Rattle.std.specs.{
+  List.AllPairs,
+  Prelude.{All, Bool, List, if◌then◌else◌, length, true, vec_capacity, vec_len, ℕ, [], ◌+◌, ◌-◌, ◌<◌, ◌∷◌, ◌≡◌, ◌≤◌},
+}
 
 -- the rows that are live, in their order
 abbrev pub live : List Place → List HandleRow

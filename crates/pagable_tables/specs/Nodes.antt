@@ -1,9 +1,17 @@
 -- Nodes by their numbers: the counts of each, the references of its value, and whether it has one.
-use Rattle.pagable_value_spec.specs.declared.{data_key.OptionalDataKey.OptionalDataKey, numbers.{ArcRef.ArcRef, NodeNumber.NodeNumber}}
-use Rattle.pagable_tables.specs.{NumberTable.row_by, declared.{nodes.{Counts.Counts, NodeRow.NodeRow}, number_table.NumberTable.NumberTable}}
 use Rattle.pagable_pager_spec.specs.World.{Cell}
-use Rattle.std.specs.Option.{option_map, option_map_or}
-use Rattle.std.specs.Prelude.{Bool, List, None, Option, Some, [], false, if◌then◌else◌, is_some, nat_lt, not, suc, zero, ℕ, ◌||◌}
+use Rattle.pagable_tables.specs.{
+  NumberTable.row_by,
+  declared.{nodes.{Counts.Counts, NodeRow.NodeRow}, number_table.NumberTable.NumberTable},
+}
+use Rattle.pagable_value_spec.specs.declared.{
+  data_key.OptionalDataKey.OptionalDataKey,
+  numbers.{ArcRef.ArcRef, NodeNumber.NodeNumber},
+}
+use Rattle.std.specs.{
+  Option.{option_map, option_map_or},
+  Prelude.{Bool, List, None, Option, Some, false, if◌then◌else◌, is_some, nat_lt, not, suc, zero, ℕ, [], ◌||◌},
+}
 
 abbrev pub counts_at : NumberTable NodeRow → ℕ → Option Counts
 counts_at nodes n = option_map (λ (r : NodeRow). r.counts) (row_by nodes n)
@@ -18,7 +26,7 @@ living at (Some n) = if is_some (at n.0) then Some n else None
 
 -- at least the number of the node's handles that workers own
 abbrev pub most_worker_handles_at : NumberTable NodeRow → ℕ → ℕ
-most_worker_handles_at nodes n = option_map_or (λ (r : NodeRow). r.at_work) (row_by nodes n) 0
+most_worker_handles_at nodes n = option_map_or (λ (r : NodeRow). r.worker_bound) (row_by nodes n) 0
 
 -- the references, if they are to be added
 abbrev pub coming : Bool → List ArcRef → List ArcRef

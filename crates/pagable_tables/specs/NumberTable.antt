@@ -1,6 +1,6 @@
 -- Rows by their numbers: the place of a number, in chunks for 256 numbers each, and its row.
-use Rattle.std.specs.{Option.option_and_then, Prelude.{List, Option, slice_get, ℕ, ◌%◌, ◌/◌}}
 use Rattle.pagable_tables.specs.declared.number_table.NumberTable.{NumberTable}
+use Rattle.std.specs.{Option.option_and_then, Prelude.{List, Option, slice_get, ℕ, ◌%◌, ◌/◌}}
 
 -- what is at a number's place, if the place exists
 unfoldable pub place_at : {T : Type 0} → NumberTable T → ℕ → Option (Option T)

@@ -1,8 +1,10 @@
 -- A place of the vector of handles as it is packed.
-use Rattle.pagable_tables.specs.HandlePlace.{HandlePlace, kind-again, kind_in, number_in, owner_in}
-use Rattle.pagable_tables.specs.declared.place.{OwnerKind.OwnerKind, Place.TheInside.Inside}
-use Rattle.std.specs.Prelude.{ℕ, ◌≡◌}
+use Rattle.pagable_tables.specs.{
+  HandlePlace.{HandlePlace, kind-again, kind_in, number_in, owner_in},
+  declared.place.{OwnerKind.OwnerKind, Place.TheInside.Inside},
+}
 use Rattle.std.proofs.Common.{ap, ◌∙◌}
+use Rattle.std.specs.Prelude.{ℕ, ◌≡◌}
 
 abbrev pub unpack : Inside → HandlePlace
 unpack a = record {

@@ -1,9 +1,20 @@
 -- Whether handles, nodes, list, cache, loads, workers and values agree, as `soundness.rt` computes it.
-use Rattle.std.specs.{List.list_all, Prelude.{Bool, List, None, Option, Some, count_by, false, is_some, nat_le, not, suc, true, zero, ℕ, ◌&&◌, ◌==◌, ◌||◌}}
+use Rattle.pagable_pager_spec.specs.{
+  Basics.{is_shared_kind, type_of},
+  Kinds.{is_at, is_handle, is_owned_by, is_pin, is_share, is_unpinned, owner_value},
+  declared.handle_row.{HandleRow.HandleRow, Owner.Owner},
+}
+use Rattle.pagable_tables.specs.{
+  Indexes.{load_at, worker_at},
+  Nodes.{counts_at, refs_at},
+  NumberTable.row_by,
+  declared.{nodes.Counts.Counts, number_table.NumberTable.NumberTable, place.Place.Place, tables.Tables.Tables},
+}
 use Rattle.pagable_value_spec.specs.declared.numbers.{ArcRef.ArcRef, HandleNumber.HandleNumber, NodeNumber.NodeNumber}
-use Rattle.pagable_tables.specs.{Indexes.{load_at, worker_at}, Nodes.{counts_at, refs_at}, NumberTable.row_by}
-use Rattle.pagable_tables.specs.declared.{nodes.Counts.Counts, number_table.NumberTable.NumberTable, place.Place.Place, tables.Tables.Tables}
-use Rattle.pagable_pager_spec.specs.{Kinds.{is_at, is_handle, is_owned_by, is_pin, is_share, is_unpinned, owner_value}, Basics.{is_shared_kind, type_of}, declared.{handle_row.{HandleRow.HandleRow, Owner.Owner}}}
+use Rattle.std.specs.{
+  List.list_all,
+  Prelude.{Bool, List, None, Option, Some, count_by, false, is_some, nat_le, not, suc, true, zero, ℕ, ◌&&◌, ◌==◌, ◌||◌},
+}
 
 -- whether a place is live and of a node; pins it; is a Shared one of it; and is of a handle that this owner has
 abbrev pub at_node : ℕ → Place → Bool
@@ -24,18 +35,19 @@ is_owned_once places owner q = count_by (owned_at q owner) places == 1
 
 -- the owner of the handle has it: a value names it once in its references, the list once in its entries; a load is
 -- open, a worker runs
-abbrev pub is_had : Tables → HandleRow → Owner → Bool
-is_had t h Owner.Caller = true
-is_had t h (Owner.Value n) = count_by (λ (r : ArcRef). r.handle.0 == h.number.0) (refs_at t.ref_counts.nodes n.0) == 1
-is_had t h Owner.List = is_unpinned h.mode && (count_by (λ (q : HandleNumber). q.0 == h.number.0)
+abbrev pub is_known_to_owner : Tables → HandleRow → Owner → Bool
+is_known_to_owner t h Owner.Caller = true
+is_known_to_owner t h (Owner.Value n) = count_by (λ (r : ArcRef). r.handle.0 == h.number.0)
+    (refs_at t.ref_counts.nodes n.0) == 1
+is_known_to_owner t h Owner.List = is_unpinned h.mode && (count_by (λ (q : HandleNumber). q.0 == h.number.0)
     t.ref_counts.list.items == 1)
-is_had t h (Owner.Load l) = is_some (load_at t.loads l.0)
-is_had t h (Owner.Worker v) = is_some (worker_at t.workers v.0)
+is_known_to_owner t h (Owner.Load l) = is_some (load_at t.loads l.0)
+is_known_to_owner t h (Owner.Worker v) = is_some (worker_at t.workers v.0)
 
 -- a live handle has a number that was given out and a node that exists, and its owner has it
 abbrev pub is_row_sound : Tables → HandleRow → Bool
 is_row_sound t h = (nat_le 1 h.number.0 && nat_le h.number.0 t.ref_counts.last_handle)
-    && (is_some (counts_at t.ref_counts.nodes h.node.0) && is_had t h h.owner)
+    && (is_some (counts_at t.ref_counts.nodes h.node.0) && is_known_to_owner t h h.owner)
 
 abbrev pub is_place_sound : Tables → Place → Bool
 is_place_sound t p = not p.is_live || is_row_sound t p.row
@@ -73,14 +85,14 @@ are_nodes_sound t values (suc n) = is_node_sound t (suc n) (is_some (row_by valu
 
 -- A node that is cached under a kind has a number that was given out; while it lives it has the kind's type, and Shared
 -- handles exactly if the kind is that of shared nodes.
-abbrev pub is_known_soundly : Tables → ℕ → ℕ → Option Counts → Bool
-is_known_soundly t kind n None = nat_le n t.last_node
-is_known_soundly t kind n (Some c) = nat_le n t.last_node
+abbrev pub is_cache_entry_sound : Tables → ℕ → ℕ → Option Counts → Bool
+is_cache_entry_sound t kind n None = nat_le n t.last_node
+is_cache_entry_sound t kind n (Some c) = nat_le n t.last_node
     && (c.node_type == type_of kind && agree (nat_le 1 (count_by (shares_node n) t.ref_counts.handles.places.items))
     (is_shared_kind kind))
 
 abbrev pub is_entry_sound : Tables → (ℕ × ℕ) × NodeNumber → Bool
-is_entry_sound t e = is_known_soundly t e.0.0 e.1.0 (counts_at t.ref_counts.nodes e.1.0)
+is_entry_sound t e = is_cache_entry_sound t e.0.0 e.1.0 (counts_at t.ref_counts.nodes e.1.0)
 
 -- handles, with the dead places counted; the list, and the cache
 unfoldable pub are_places_sound : Tables → Bool

@@ -11,6 +11,6 @@ abbrev pub AreLeft : {X : Type 0} → (ℕ → Option Counts) → (ℕ → Optio
 AreLeft at old new = (n : ℕ) → ((new n ≡ old n) ⊎ (new n ≡ None)) × (is_some (new n) ≡ has_value (at n))
 
 -- the value of each node is dropped when it has to be, if each node had its value before
-pub record Sheds {X : Type 0} (at : ℕ → Option Counts) (old : ℕ → Option X) (at' : ℕ → Option Counts)
+pub record DropsValues {X : Type 0} (at : ℕ → Option Counts) (old : ℕ → Option X) (at' : ℕ → Option Counts)
     (new : ℕ → Option X) : Type 0 where
   pub left : AreKept at old → AreLeft at' old new

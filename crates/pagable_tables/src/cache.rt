@@ -1,25 +1,34 @@
 //! The cache: the node that is known under a kind and a key.
 
-ghost use Rattle.pagable_tables.specs.Core.{StorageView};
 ghost use Rattle.indexmap.specs.IndexMap.{get, spare};
+ghost use Rattle.pagable_pager_spec.specs.{
+  Basics.type_of,
+  Calls.{OfferCall, RecallCall, offer_fault},
+  Kinds.{fits_mode, is_pinning, mode_of},
+  Refusals.Owns,
+  World.{Alike, type_at, usable},
+  declared.handle_row.{HandleRow.HandleRow, Owner.Owner},
+};
+ghost use Rattle.pagable_tables.specs.{
+  CascadeInvariant.owns,
+  Core.{Does, IsWhole, MayOwnHandle, OwnLaterHandles, StorageView, core_alone, core_of},
+  Indexes.cached_at,
+  Nodes.{counts_at, has_value, living},
+  NumberTable.row_by,
+  ValuesKept.DropsValues,
+};
 ghost use Rattle.pagable_value_spec.specs.declared.numbers.NodeNumber.{NodeNumber};
-ghost use Rattle.pagable_tables.specs.CascadeInvariant.{owns};
-ghost use Rattle.pagable_tables.specs.{Core.{OwnLaterHandles, Does, IsWhole, MayHold, core_of, core_alone}, Indexes.known_at};
-ghost use Rattle.pagable_tables.specs.{Nodes.{counts_at, has_value, living}, NumberTable.row_by, ValuesKept.Sheds};
-ghost use Rattle.pagable_pager_spec.specs.Calls.{OfferCall, RecallCall, offer_fault};
-ghost use Rattle.pagable_pager_spec.specs.{Kinds.{fits_mode, is_pinning, mode_of}, Basics.{type_of}};
-ghost use Rattle.pagable_pager_spec.specs.{Refusals.Owns, World.{Alike, type_at, usable}};
-ghost use Rattle.pagable_pager_spec.specs.declared.handle_row.{HandleRow.HandleRow, Owner.Owner};
-ghost use Rattle.std.specs.Option.{option_map};
-ghost use Rattle.std.specs.Prelude.{Bool, IfErr, IfNone, IfOk, IfSome, IsOk, None, Ok, OnErr, OnOk, Option, Some};
-ghost use Rattle.std.specs.Prelude.{false, if◌then◌else◌, is_some, length, not, true, ℕ, ◌&&◌, ◌*◌, ◌+◌, ◌<◌, ◌||◌};
-ghost use Rattle.std.specs.Prelude.{◌≡◌, ◌≢◌, ◌≤◌, ◌⊎◌};
+ghost use Rattle.std.specs.{
+  Option.option_map,
+  Prelude.{Bool, IfErr, IfNone, IfOk, IfSome, IsOk, None, Ok, OnErr, OnOk, Option, Some, false, if◌then◌else◌, is_some},
+  Prelude.{length, not, true, ℕ, ◌&&◌, ◌*◌, ◌+◌, ◌<◌, ◌||◌, ◌≡◌, ◌≢◌, ◌≤◌, ◌⊎◌},
+};
 
-use crate::checks::own;
-use crate::create::make;
+use crate::checks::find_owned;
+use crate::create::make_handle;
 use crate::kinds::{fits_mode, mode_of};
 use crate::nodes;
-use crate::nodes::{Arcs, Nodes, is_here, is_of};
+use crate::nodes::{NodeValues, Nodes, has_type_of, is_in_memory};
 use crate::release::try_release_at;
 use crate::tables::{Cache, Tables};
 use pagable_pager_spec::handle_row::{HandleRow, Owner};
@@ -30,39 +39,38 @@ use std::alloc::AllocError;
 ///
 /// # Errors
 ///
-/// - `AllocError` if the map can't grow: the cache is unchanged. With room to spare this doesn't
-///   happen.
+/// - `AllocError` if the map has no room for the entry and can't grow: the cache is unchanged.
 pub fn put(cache: &mut Cache, kind: Kind, key: DataKey, node: NodeNumber) -> Result<(), AllocError>
-    ensures here { OnOk result (known_at cache.new kind.0 key ≡ Some node) }
-    ensures others { OnOk result ((k q : ℕ) → (k ≢ kind.0) ⊎ (q ≢ key) → known_at cache.new k q
-        ≡ known_at cache.old k q) }
-    ensures err { OnErr result ((k q : ℕ) → known_at cache.new k q ≡ known_at cache.old k q) }
+    ensures here { OnOk result (cached_at cache.new kind.0 key ≡ Some node) }
+    ensures others { OnOk result ((k q : ℕ) → (k ≢ kind.0) ⊎ (q ≢ key) → cached_at cache.new k q
+        ≡ cached_at cache.old k q) }
+    ensures err { OnErr result ((k q : ℕ) → cached_at cache.new k q ≡ cached_at cache.old k q) }
     ensures succeeds { 0 < spare cache.old → IsOk result }
 {
     cache.insert((kind.0, key), node)?;
     Ok(())
 }
 
-/// Caches a node under a kind and a key if `learns`. The caller has made room for the entry.
-pub fn learn_if(cache: &mut Cache, learns: bool, kind: Kind, key: DataKey, node: NodeNumber)
+/// Caches a node under a kind and a key if `wanted`. The caller has made room for the entry.
+pub fn cache_if(cache: &mut Cache, wanted: bool, kind: Kind, key: DataKey, node: NodeNumber)
     requires { 0 < spare cache.old }
-    ensures here { learns ≡ true → known_at cache.new kind.0 key ≡ Some node }
-    ensures others { (k q : ℕ) → (k ≢ kind.0) ⊎ (q ≢ key) → known_at cache.new k q ≡ known_at cache.old k q }
-    ensures same { learns ≡ false → cache.new ≡ cache.old }
+    ensures here { wanted ≡ true → cached_at cache.new kind.0 key ≡ Some node }
+    ensures others { (k q : ℕ) → (k ≢ kind.0) ⊎ (q ≢ key) → cached_at cache.new k q ≡ cached_at cache.old k q }
+    ensures same { wanted ≡ false → cache.new ≡ cache.old }
 {
-    if learns {
+    if wanted {
         put(cache, kind, key, node).unwrap();
     }
 }
 
-/// How many entries the cache may have before `forget_gone` looks through it, beside twice those
-/// that were left the last time.
+/// The constant part of the cache's limit: `forget_gone` sets the limit to twice the entries that
+/// it leaves, and 64.
 const FEW_ENTRIES: usize = 64;
 
 /// Removes the cache entries of nodes that are gone.
 fn keep_living(cache: &mut Cache, nodes: &Nodes)
-    ensures { (kind key : ℕ) → known_at cache.new kind key
-        ≡ living (counts_at nodes.now) (known_at cache.old kind key) }
+    ensures { (kind key : ℕ) → cached_at cache.new kind key
+        ≡ living (counts_at nodes.now) (cached_at cache.old kind key) }
 {
     let _many = cache.len();
     cache.retain(
@@ -73,13 +81,14 @@ fn keep_living(cache: &mut Cache, nodes: &Nodes)
 }
 
 /// Removes the cache entries of nodes that are gone if the cache has more entries than its limit,
-/// and sets the limit to twice what is left and 64. So each insertion pays for a look at one or two
-/// entries, and the cache has at most twice the entries whose nodes lived at the last look, and 64.
+/// and sets the limit to 64 more than twice the number of entries left. So each insertion pays for
+/// a look at one or two entries, and the cache has at most 64 entries more than twice those whose
+/// nodes lived at the last look.
 pub fn forget_gone(t: &mut Tables)
     requires { IsWhole t.old }
     ensures does { Does t.old Alike t.new }
     ensures gone { t.old.cache_limit < length t.old.cache.entries → (kind key : ℕ)
-        → IfSome (known_at t.new.cache kind key) (λ n. is_some (counts_at t.old.ref_counts.nodes n.0) ≡ true) }
+        → IfSome (cached_at t.new.cache kind key) (λ n. is_some (counts_at t.old.ref_counts.nodes n.0) ≡ true) }
     ensures few { t.old.cache_limit < length t.old.cache.entries
         → t.new.cache_limit ≤ 2 * length t.new.cache.entries + 64 }
     ensures same { t.new ≡ record t.old { cache = t.new.cache; cache_limit = t.new.cache_limit } }
@@ -100,7 +109,7 @@ pub fn usable_of(t: &Tables, kind: Kind, key: DataKey) -> Option<NodeNumber>
 {
     let node = t.cache.get(&(kind.0, key)).copied()?;
     let counts = nodes::counts_of(&t.ref_counts.nodes, node.0);
-    let is_gone = counts.is_none() || kind.is_pinned() && !is_here(counts);
+    let is_gone = counts.is_none() || kind.is_pinned() && !is_in_memory(counts);
     (!is_gone).then_some(node)
 }
 
@@ -118,14 +127,14 @@ pub fn cache_get(
     key: DataKey,
 ) -> Result<Option<HandleNumber>, Error>
     requires whole { IsWhole t.old }
-    requires holder { MayHold (core_alone t.old) me }
+    requires holder { MayOwnHandle (core_alone t.old) me }
     ensures does { Does t.old (λ w w'. RecallCall w me kind key result w') t.new }
     ensures none { IfOk result (λ found. IfNone found (t.new ≡ t.old)) }
 {
     let Some(node) = usable_of(t, kind, key) else {
         return Ok(None);
     };
-    Ok(Some(make(t, node, mode_of(kind), me)?))
+    Ok(Some(make_handle(t, node, mode_of(kind), me)?))
 }
 
 /// Returns the row of a handle that `me` owns and that may be cached under this kind.
@@ -136,18 +145,23 @@ pub fn cache_get(
 /// - `NotYours` if another owns it.
 /// - `WrongMode` if its mode isn't the kind's.
 /// - `WrongKind` if its node's type isn't the kind's.
-pub fn offered(t: &Tables, me: Owner, kind: Kind, handle: HandleNumber) -> Result<HandleRow, Error>
+pub fn offered_row(
+    t: &Tables,
+    me: Owner,
+    kind: Kind,
+    handle: HandleNumber,
+) -> Result<HandleRow, Error>
     requires { IsWhole t.now }
     ensures owns { IfOk result (λ row. Owns (core_alone t.now) me handle (fits_mode kind.0) row) }
     ensures typed { IfOk result (λ row. type_at (core_alone t.now) row.node.0 ≡ Some (type_of kind.0)) }
     ensures fault { IfErr result (λ e. (storage : StorageView) (key : ℕ)
         → offer_fault (core_of t.now storage) me kind key handle ≡ Some e) }
 {
-    let at = own(t, me, handle)?;
+    let at = find_owned(t, me, handle)?;
     if !fits_mode(kind, at.row.mode) {
         return Err(Error::WrongMode);
     }
-    if !is_of(nodes::counts_of(&t.ref_counts.nodes, at.row.node.0), kind) {
+    if !has_type_of(nodes::counts_of(&t.ref_counts.nodes, at.row.node.0), kind) {
         return Err(Error::WrongKind);
     }
     Ok(at.row)
@@ -159,7 +173,7 @@ pub fn offered(t: &Tables, me: Owner, kind: Kind, handle: HandleNumber) -> Resul
 ///
 /// # Errors
 ///
-/// - `NoSuchHandle`, `NotYours`, `WrongMode`, `WrongKind` as in `offered`.
+/// - `NoSuchHandle`, `NotYours`, `WrongMode`, `WrongKind` as in `offered_row`.
 /// - `NumbersSpent` if no number is left for the new handle.
 /// - `OutOfMemory` if the cache or the handles can't grow. After each error the tables are
 ///   unchanged.
@@ -169,7 +183,7 @@ pub fn offered(t: &Tables, me: Owner, kind: Kind, handle: HandleNumber) -> Resul
 #[tactic(auto, using(std::proofs::lemmas::Bool::Decides::nat_tests))]
 pub fn offer<N: Drop>(
     t: &mut Tables,
-    values: &mut Arcs<N>,
+    values: &mut NodeValues<N>,
     me: Owner,
     kind: Kind,
     key: DataKey,
@@ -177,17 +191,17 @@ pub fn offer<N: Drop>(
     lists: bool,
 ) -> Result<Option<HandleNumber>, Error>
     requires whole { IsWhole t.old }
-    requires holder { MayHold (core_alone t.old) me }
+    requires holder { MayOwnHandle (core_alone t.old) me }
     ensures offered { (storage : StorageView) → lists ≡ not storage.closed
         → OfferCall (core_of t.old storage) me kind key handle result (core_of t.new storage) }
     ensures whole { IsWhole t.new }
-    ensures sheds { ((n : ℕ) → usable (core_alone t.old) kind.0 key ≡ Some n → is_pinning (mode_of kind.0) ≡ true
+    ensures drops { ((n : ℕ) → usable (core_alone t.old) kind.0 key ≡ Some n → is_pinning (mode_of kind.0) ≡ true
         → has_value (counts_at t.old.ref_counts.nodes n) ≡ true)
-        → Sheds (counts_at t.old.ref_counts.nodes) (row_by values.old) (counts_at t.new.ref_counts.nodes)
+        → DropsValues (counts_at t.old.ref_counts.nodes) (row_by values.old) (counts_at t.new.ref_counts.nodes)
         (row_by values.new) }
     ensures later { OwnLaterHandles t.old → OwnLaterHandles t.new }
 {
-    let row = offered(t, me, kind, handle)?;
+    let row = offered_row(t, me, kind, handle)?;
     if !lists {
         return Ok(Some(handle));
     }
@@ -196,8 +210,8 @@ pub fn offer<N: Drop>(
         forget_gone(t);
         return Ok(None);
     };
-    let known = make(t, node, mode_of(kind), me)?;
-    let Ok(at) = own(t, me, handle) else {
+    let known = make_handle(t, node, mode_of(kind), me)?;
+    let Ok(at) = find_owned(t, me, handle) else {
         unreachable!();
     };
     let _ = try_release_at(&mut t.ref_counts, values, at, true);

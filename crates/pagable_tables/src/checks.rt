@@ -1,25 +1,34 @@
 //! The checks of a call's handles, references and load. They change nothing.
 
-ghost use Rattle.pagable_tables.specs.Core.{StorageView};
+ghost use Rattle.pagable_pager_spec.specs.{
+  Basics.{if_there, is_in},
+  Calls.is_named_by,
+  Kinds.{find_row, fits_mode, is_owner},
+  LoadCalls.{cell_fault, hand_over_fault},
+  Refusals.{OwnsLoad, earlier, handle_fault, load_fault, named_fault, reference_fault, references_fault, refused_if},
+  Refusals.row_fault,
+  Workers.claim_fault,
+  World.{Cell, Core, OpenLoad},
+  declared.{handle_row.{HandleRow.HandleRow, Owner.Owner}, mode.Mode.Mode},
+};
+ghost use Rattle.pagable_tables.specs.{
+  Core.{IsWhole, StorageView, core_alone, core_of, load_in, seen},
+  HandleTable.{AreSound, alive, live},
+  Indexes.load_at,
+  declared.load_table.LoadRow.LoadRow,
+};
 ghost use Rattle.pagable_value_spec.specs.declared.numbers.LoadNumber.{LoadNumber};
-ghost use Rattle.pagable_tables.specs.Core.{IsWhole, core_of, load_in, core_alone, seen};
-ghost use Rattle.pagable_tables.specs.{HandleTable.{AreSound, alive, live}, Indexes.load_at};
-ghost use Rattle.pagable_tables.specs.declared.load_table.LoadRow.{LoadRow};
-ghost use Rattle.pagable_pager_spec.specs.{Calls.is_named_by, Kinds.{find_row, fits_mode, is_owner}};
-ghost use Rattle.pagable_pager_spec.specs.{LoadCalls.{cell_fault, hand_over_fault}, Basics.{if_there, is_in}};
-ghost use Rattle.pagable_pager_spec.specs.Refusals.{OwnsLoad, earlier, handle_fault, load_fault, named_fault};
-ghost use Rattle.pagable_pager_spec.specs.Refusals.{reference_fault, references_fault, refused_if, row_fault};
-ghost use Rattle.pagable_pager_spec.specs.{Workers.claim_fault, World.{Cell, Core, OpenLoad}};
-ghost use Rattle.pagable_pager_spec.specs.declared.{handle_row.{HandleRow.HandleRow, Owner.Owner}, mode.Mode.Mode};
-ghost use Rattle.std.specs.Option.{option_map};
-ghost use Rattle.std.specs.Prelude.{Bool, IfErr, IfOk, List, None, Ok, Option, Some, [], false, if◌then◌else◌};
-ghost use Rattle.std.specs.Prelude.{length, not, slice_get, true, ℕ, ◌<◌, ◌==◌, ◌||◌, ◌≡◌, ◌≤◌};
+ghost use Rattle.std.specs.{
+  Option.option_map,
+  Prelude.{Bool, IfErr, IfOk, List, None, Ok, Option, Some, false, if◌then◌else◌, length, not, slice_get, true, ℕ, []},
+  Prelude.{◌<◌, ◌==◌, ◌||◌, ◌≡◌, ◌≤◌},
+};
 ghost use Rattle.pagable_value_spec.specs.declared.error.Error.TheVariants as errors;
 
 use crate::handle_table::{HandleAt, Handles};
 use crate::kinds::{earlier, fits_mode, is_owner};
 use crate::load_table::{LoadRoot, LoadRow};
-use crate::nodes::is_of;
+use crate::nodes::has_type_of;
 use crate::tables::Tables;
 use crate::{handle_table, load_table, nodes};
 use pagable_pager_spec::handle_row::{HandleRow, Owner};
@@ -31,7 +40,7 @@ use pagable_value_spec::{ArcRef, Error, HandleNumber, LoadNumber};
 ///
 /// - `NoSuchHandle` if the handle isn't live.
 /// - `NotYours` if another owns it.
-pub fn own(t: &Tables, me: Owner, handle: HandleNumber) -> Result<HandleAt, Error>
+pub fn find_owned(t: &Tables, me: Owner, handle: HandleNumber) -> Result<HandleAt, Error>
     requires { IsWhole t.now }
     ensures place { IfOk result (λ at. slice_get t.now.ref_counts.handles.places.items at.place ≡ Some (alive at.row)) }
     ensures found { IfOk result (λ at. find_row handle.0 (live t.now.ref_counts.handles.places.items) ≡ Some at.row) }
@@ -40,16 +49,16 @@ pub fn own(t: &Tables, me: Owner, handle: HandleNumber) -> Result<HandleAt, Erro
     ensures fault { IfErr result (λ e. (storage : StorageView) (fits : Mode → Bool)
         → handle_fault (core_of t.now storage) me handle fits ≡ Some e) }
 {
-    let at = handle_table::look(&t.ref_counts.handles, handle).ok_or(Error::NoSuchHandle)?;
+    let at = handle_table::find_live(&t.ref_counts.handles, handle).ok_or(Error::NoSuchHandle)?;
     if !is_owner(me, at.row.owner) {
         return Err(Error::NotYours);
     }
     Ok(at)
 }
 
-/// Says whether one of these references names the handle. All numbers that they name are from
-/// `lowest` to `highest`, so a handle outside of these bounds takes no look at the references: this
-/// makes the check of references in the order of their handles, from either end, linear.
+/// Says whether one of these references names the handle. All handles that they name have numbers
+/// from `lowest` to `highest`, so a handle outside of these bounds is answered without a search:
+/// checking references whose handles ascend or descend takes linear time.
 #[tactic(auto, using(crate::proofs::SameViews::naming))]
 fn is_named(references: &[ArcRef], lowest: u64, highest: u64, handle: HandleNumber) -> bool
     requires below { (q : ℕ) → q < lowest → is_named_by references.now q ≡ false }
@@ -82,17 +91,17 @@ fn row_fault(t: &Tables, row: HandleRow, reference: ArcRef, is_anothers: bool) -
         return Some(Error::WrongMode);
     }
     let counts = nodes::counts_of(&t.ref_counts.nodes, reference.node.0);
-    (!is_of(counts, reference.kind)).then_some(Error::WrongKind)
+    (!has_type_of(counts, reference.kind)).then_some(Error::WrongKind)
 }
 
 /// Returns why a reference of a value is refused, if it is. `is_seen` says that an earlier
 /// reference named the same handle.
-fn fault_of(t: &Tables, me: Owner, reference: ArcRef, is_seen: bool) -> Option<Error>
+fn reference_fault(t: &Tables, me: Owner, reference: ArcRef, is_seen: bool) -> Option<Error>
     requires { IsWhole t.now }
     ensures { (storage : StorageView) (seen : List ℕ) → is_in seen reference.handle.0 ≡ is_seen → result
         ≡ reference_fault (core_of t.now storage) me seen reference }
 {
-    let Some(at) = handle_table::look(&t.ref_counts.handles, reference.handle) else {
+    let Some(at) = handle_table::find_live(&t.ref_counts.handles, reference.handle) else {
         return Some(Error::NoSuchHandle);
     };
     row_fault(t, at.row, reference, !is_owner(me, at.row.owner) | is_seen)
@@ -103,7 +112,7 @@ pub fn claim_fault(t: &Tables, reference: ArcRef) -> Option<Error>
     requires { IsWhole t.now }
     ensures { (storage : StorageView) → result ≡ claim_fault (core_of t.now storage) reference }
 {
-    match handle_table::look(&t.ref_counts.handles, reference.handle) {
+    match handle_table::find_live(&t.ref_counts.handles, reference.handle) {
         Some(at) => row_fault(t, at.row, reference, false),
         None => Some(Error::NoSuchHandle),
     }
@@ -123,7 +132,7 @@ pub fn references_fault(t: &Tables, me: Owner, references: &[ArcRef]) -> Option<
     for i in 0..references.len() {
         let reference = references[i];
         let is_seen = is_named(&references[..i], lowest, highest, reference.handle);
-        if let Some(e) = fault_of(t, me, reference, is_seen) {
+        if let Some(e) = reference_fault(t, me, reference, is_seen) {
             return Some(e);
         }
         lowest = lowest.min(reference.handle.0);
@@ -152,10 +161,16 @@ pub fn cell_fault(row: Option<LoadRow>) -> Option<Error>
     matches!(row?.root, LoadRoot::Cell(_, _, _)).then_some(Error::WrongMode)
 }
 
-/// Says whether the number is among the first `place` ones, which are all from `lowest` to
-/// `highest`.
+/// Says whether one of the first `place` handles of the list has this number. All of them have
+/// numbers from `lowest` to `highest`.
 #[tactic(auto, using(crate::proofs::SameViews::handing))]
-fn is_before(named: &[HandleNumber], place: usize, lowest: u64, highest: u64, number: u64) -> bool
+fn is_among_first(
+    named: &[HandleNumber],
+    place: usize,
+    lowest: u64,
+    highest: u64,
+    number: u64,
+) -> bool
     requires within { place ≤ length named.now }
     requires below { (q : ℕ) → q < lowest → is_in (seen named.now place) q ≡ false }
     requires above { (q : ℕ) → highest < q → is_in (seen named.now place) q ≡ false }
@@ -174,19 +189,24 @@ fn is_before(named: &[HandleNumber], place: usize, lowest: u64, highest: u64, nu
 
 /// Returns why this owner can't hand over one handle of a list, if it can't: `NoSuchHandle` if the
 /// handle isn't live, `NotYours` if it is another's, or if the list named it before (`is_seen`).
-fn hand_fault(handles: &Handles, owner: Owner, handle: HandleNumber, is_seen: bool) -> Option<Error>
+fn hand_over_one_fault(
+    handles: &Handles,
+    owner: Owner,
+    handle: HandleNumber,
+    is_seen: bool,
+) -> Option<Error>
     requires { AreSound handles.now }
     ensures { result ≡ if_there (λ (row : HandleRow). refused_if (not (is_owner owner row.owner) || is_seen)
         errors.NotYours) (Some errors.NoSuchHandle) (find_row handle.0 (live handles.now.places.items)) }
 {
-    let Some(at) = handle_table::look(handles, handle) else {
+    let Some(at) = handle_table::find_live(handles, handle) else {
         return Some(Error::NoSuchHandle);
     };
     (!is_owner(owner, at.row.owner) | is_seen).then_some(Error::NotYours)
 }
 
-/// Returns why this owner can't hand over all handles that are named, the first error in the order
-/// of reports: `NoSuchHandle` if one isn't live, `NotYours` if one is another's or is named twice.
+/// Returns why this owner can't hand over all handles that are named, if it can't: `NoSuchHandle`
+/// if one isn't live, else `NotYours` if one is another's or is named twice.
 #[tactic(auto, using(crate::proofs::SameViews::handing))]
 pub fn named_fault(handles: &Handles, owner: Owner, named: &[HandleNumber]) -> Option<Error>
     requires { AreSound handles.now }
@@ -197,8 +217,8 @@ pub fn named_fault(handles: &Handles, owner: Owner, named: &[HandleNumber]) -> O
     let mut highest = 0;
     for i in 0..named.len() {
         let handle = named[i];
-        let is_seen = is_before(named, i, lowest, highest, handle.0);
-        fault = earlier(fault, hand_fault(handles, owner, handle, is_seen));
+        let is_seen = is_among_first(named, i, lowest, highest, handle.0);
+        fault = earlier(fault, hand_over_one_fault(handles, owner, handle, is_seen));
         lowest = lowest.min(handle.0);
         highest = highest.max(handle.0);
     }

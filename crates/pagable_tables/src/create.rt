@@ -1,25 +1,35 @@
 //! Makes nodes, handles of live nodes, and pins.
 
-ghost use Rattle.pagable_tables.specs.Core.{StorageView};
 ghost use Rattle.indexmap.specs.IndexMap.{get, spare};
+ghost use Rattle.pagable_pager_spec.specs.{
+  Calls.{CloneCall, InsertPagedOutCall, LoosenCall, PinCall, insert_fault, with_mode},
+  Kinds.{is_loose, is_owned_by, is_pinning, is_shared},
+  Refusals.{Owns, Refused, earlier, references_fault},
+  World.{Alike, Core},
+  declared.{handle_row.{HandleRow.HandleRow, Owner.Owner}, mode.Mode.Mode},
+};
+ghost use Rattle.pagable_tables.specs.{
+  CascadeInvariant.{IsSoundInCascade, is_value_owner, is_worker, owns, owns_nothing},
+  CascadeProgress.with_tables,
+  CascadeSteps.ValueStays,
+  Core.{Does, InsertsNode, IsReady, IsWhole, MakesHandle, MayOwnHandle, OnlyRoom, PinsInMemory, StorageView, Suits},
+  Core.{core_alone, core_of},
+  HandleTable.{alive, live},
+  Nodes.{counts_at, has_value, key_in},
+  declared.cascade.RefCounts.RefCounts,
+};
 ghost use Rattle.pagable_value_spec.specs.declared.numbers.NodeNumber.{NodeNumber};
-ghost use Rattle.pagable_tables.specs.CascadeInvariant.{IsFalling, is_valued, is_worker, owns, owns_nothing};
-ghost use Rattle.pagable_tables.specs.{CascadeProgress.with_tables, CascadeSteps.ValueStays};
-ghost use Rattle.pagable_tables.specs.Core.{Bears, Does, IsReady, IsWhole, Makes, MayHold, OnlyRoom, PinsHere};
-ghost use Rattle.pagable_tables.specs.{Core.{Suits, core_of, core_alone}, HandleTable.{alive, live}};
-ghost use Rattle.pagable_tables.specs.{Nodes.{counts_at, has_value, key_in}, declared.cascade.RefCounts.RefCounts};
-ghost use Rattle.pagable_pager_spec.specs.Calls.{InsertPagedOutCall, CloneCall, LoosenCall, PinCall, insert_fault, with_mode};
-ghost use Rattle.pagable_pager_spec.specs.Kinds.{is_loose, is_owned_by, is_pinning, is_shared};
-ghost use Rattle.pagable_pager_spec.specs.{Refusals.{Owns, Refused, earlier, references_fault}, World.{Alike, Core}};
-ghost use Rattle.pagable_pager_spec.specs.declared.{handle_row.{HandleRow.HandleRow, Owner.Owner}, mode.Mode.Mode};
-ghost use Rattle.std.specs.Prelude.{IfErr, IsSome, List, None, Ok, OnOk, Some, [], false, slice_get};
-ghost use Rattle.std.specs.Prelude.{true, ℕ, ◌+◌, ◌<◌, ◌==◌, ◌||◌, ◌≡◌, ◌⊎◌};
+ghost use Rattle.std.specs.{
+  Prelude.{IfErr, IsSome, List, None, Ok, OnOk, Some, false, slice_get, true, ℕ, [], ◌+◌, ◌<◌, ◌==◌, ◌||◌, ◌≡◌, ◌⊎◌},
+};
 
 use crate::cascade::RefCounts;
-use crate::checks::{own, references_fault};
+use crate::checks::{find_owned, references_fault};
 use crate::handle_table::HandleAt;
 use crate::kinds::{is_loose_mode, is_worker, pins};
-use crate::nodes::{Counts, NodeRow, PackedCounts, add_work, counts_more, is_here, key_in};
+use crate::nodes::{
+    Counts, NodeRow, PackedCounts, counts_with_handle, is_in_memory, key_in, raise_bound_for,
+};
 use crate::tables::Tables;
 use crate::{handle_table, nodes};
 use pagable_pager_spec::handle_row::{HandleRow, Owner};
@@ -33,10 +43,10 @@ use std::alloc::Global;
 ///
 /// - `NumbersSpent` if no number of a node or a handle is left.
 /// - `OutOfMemory` if a table can't grow: at most some have more room.
-pub fn make_ready_to_learn(t: &mut Tables) -> Result<(), Error>
+pub fn make_room_for_node(t: &mut Tables) -> Result<(), Error>
     requires { IsWhole t.old }
     ensures ready { OnOk result (IsReady t.new) }
-    ensures learns { OnOk result (0 < spare t.new.cache) }
+    ensures cache_room { OnOk result (0 < spare t.new.cache) }
     ensures does { Does t.old OnlyRoom t.new }
     ensures refused { (storage : StorageView) → IfErr result
         (λ e. Refused (insert_fault (core_of t.old storage)) (insert_fault (core_of t.old storage)) (Unit {0})
@@ -61,19 +71,19 @@ pub fn make_ready_to_learn(t: &mut Tables) -> Result<(), Error>
 /// - `NumbersSpent` if no handle number is left: nothing changes.
 /// - `OutOfMemory` if the handles can't grow: nothing changes.
 #[tactic(auto, using(crate::proofs::CascadeStep::counting))]
-pub fn add(
+pub fn add_handle(
     t: &mut RefCounts,
     node: NodeNumber,
     mode: Mode,
     me: Owner,
 ) -> Result<HandleNumber, Error>
-    requires steady { IsFalling t.old [] owns_nothing }
+    requires steady { IsSoundInCascade t.old [] owns_nothing }
     requires live { IsSome (counts_at t.old.nodes node.0) }
-    requires owner { is_valued me ≡ false }
-    ensures made { (w : Core) → Makes (with_tables w t.old) node mode me result (with_tables w t.new) }
+    requires owner { is_value_owner me ≡ false }
+    ensures made { (w : Core) → MakesHandle (with_tables w t.old) node mode me result (with_tables w t.new) }
     ensures values { (n : ℕ) → (n ≡ node.0 → is_pinning mode ≡ true → has_value (counts_at t.old.nodes n) ≡ true)
         → ValueStays (counts_at t.old.nodes n) (counts_at t.new.nodes n) }
-    ensures steady { IsFalling t.new [] owns_nothing }
+    ensures steady { IsSoundInCascade t.new [] owns_nothing }
 {
     let counts = nodes::counts_of(&t.nodes, node.0).unwrap();
     if t.last_handle == u64::MAX {
@@ -89,23 +99,29 @@ pub fn add(
     };
     handle_table::push(&mut t.handles, row)?;
     t.last_handle = number.0;
-    let more = counts_more(counts, pins(mode));
+    let more = counts_with_handle(counts, pins(mode));
     nodes::set_counts(&mut t.nodes, node.0, more);
-    add_work(&mut t.nodes, node.0, me);
+    raise_bound_for(&mut t.nodes, node.0, me);
     Ok(number)
 }
 
-/// Makes a handle of a live node, as `add` does, in whole tables. It fails as `add` does.
-pub fn make(t: &mut Tables, node: NodeNumber, mode: Mode, me: Owner) -> Result<HandleNumber, Error>
+/// Makes a handle of a live node, as `add_handle` does, given all tables of a pager. It fails as
+/// `add_handle` does.
+pub fn make_handle(
+    t: &mut Tables,
+    node: NodeNumber,
+    mode: Mode,
+    me: Owner,
+) -> Result<HandleNumber, Error>
     requires whole { IsWhole t.old }
     requires suits { Suits (core_alone t.old) node mode }
-    requires holder { MayHold (core_alone t.old) me }
-    ensures does { Does t.old (λ w w'. Makes w node mode me result w') t.new }
+    requires holder { MayOwnHandle (core_alone t.old) me }
+    ensures does { Does t.old (λ w w'. MakesHandle w node mode me result w') t.new }
     ensures values { (n : ℕ) → (n ≡ node.0 → is_pinning mode ≡ true → has_value (counts_at t.old.ref_counts.nodes n)
         ≡ true) → ValueStays (counts_at t.old.ref_counts.nodes n) (counts_at t.new.ref_counts.nodes n) }
     ensures same { t.new ≡ record t.old { ref_counts = t.new.ref_counts } }
 {
-    add(&mut t.ref_counts, node, mode, me)
+    add_handle(&mut t.ref_counts, node, mode, me)
 }
 
 /// Makes a second handle of the same node and mode, whoever owns the first.
@@ -117,13 +133,13 @@ pub fn make(t: &mut Tables, node: NodeNumber, mode: Mode, me: Owner) -> Result<H
 /// - `OutOfMemory` if the handles can't grow. After each error the tables are unchanged.
 pub fn clone(t: &mut Tables, me: Owner, handle: HandleNumber) -> Result<HandleNumber, Error>
     requires whole { IsWhole t.old }
-    requires holder { MayHold (core_alone t.old) me }
+    requires holder { MayOwnHandle (core_alone t.old) me }
     ensures { Does t.old (λ w w'. CloneCall w me handle result w') t.new }
 {
-    let Some(at) = handle_table::look(&t.ref_counts.handles, handle) else {
+    let Some(at) = handle_table::find_live(&t.ref_counts.handles, handle) else {
         return Err(Error::NoSuchHandle);
     };
-    make(t, at.row.node, at.row.mode, me)
+    make_handle(t, at.row.node, at.row.mode, me)
 }
 
 /// Checks whether a value with these references can become a node, and makes room for it: first the
@@ -134,7 +150,7 @@ pub fn clone(t: &mut Tables, me: Owner, handle: HandleNumber) -> Result<HandleNu
 /// - `NoSuchHandle`, `NotYours`, `WrongMode`, `WrongKind` as `references_fault` finds it.
 /// - `NumbersSpent` if no number of a node or a handle is left.
 /// - `OutOfMemory` if a table can't grow: at most some have more room.
-pub fn prepare(t: &mut Tables, me: Owner, references: &[ArcRef]) -> Result<(), Error>
+pub fn prepare_insert(t: &mut Tables, me: Owner, references: &[ArcRef]) -> Result<(), Error>
     requires { IsWhole t.old }
     ensures ready { OnOk result (IsReady t.new) }
     ensures fit { OnOk result (references_fault (core_alone t.new) me [] references.now ≡ None) }
@@ -146,13 +162,13 @@ pub fn prepare(t: &mut Tables, me: Owner, references: &[ArcRef]) -> Result<(), E
     if let Some(e) = references_fault(t, me, references) {
         return Err(e);
     }
-    make_ready_to_learn(t)?;
+    make_room_for_node(t)?;
     Ok(())
 }
 
 /// Inserts a node with this key (0 for none), makes its value the owner of the handles that these
-/// references name, and returns one handle of it. It can't fail: `prepare` or `make_ready_to_learn`
-/// made all ready.
+/// references name, and returns one handle of it. It can't fail: `prepare_insert` or
+/// `make_room_for_node` made all ready.
 pub fn insert_node(
     t: &mut Tables,
     me: Owner,
@@ -163,10 +179,10 @@ pub fn insert_node(
 ) -> HandleNumber
     requires whole { IsWhole t.old }
     requires ready { IsReady t.old }
-    requires holder { MayHold (core_alone t.old) me }
+    requires holder { MayOwnHandle (core_alone t.old) me }
     requires fit { references_fault (core_alone t.old) me [] references.items ≡ None }
-    requires bare { (key ≡ 0) ⊎ ((is_shared mode ≡ false) × ((references.items ≡ []) ⊎ (is_pinning mode ≡ true))) }
-    ensures does { Does t.old (λ w w'. Bears w me node_type key references.items mode result w') t.new }
+    requires keyed { (key ≡ 0) ⊎ ((is_shared mode ≡ false) × ((references.items ≡ []) ⊎ (is_pinning mode ≡ true))) }
+    ensures does { Does t.old (λ w w'. InsertsNode w me node_type key references.items mode result w') t.new }
     ensures same { t.new ≡ record t.old { ref_counts = t.new.ref_counts; last_node = t.new.last_node } }
 {
     let counts = Counts {
@@ -192,7 +208,7 @@ pub fn insert_node(
     let value = NodeRow {
         counts: PackedCounts::new(counts),
         references,
-        at_work: is_worker(me) as u64,
+        worker_bound: is_worker(me) as u64,
     };
     t.ref_counts.nodes.put(node.0, value);
     t.ref_counts.last_handle = number.0;
@@ -214,10 +230,10 @@ pub fn insert_paged_out(
     key: DataKey,
 ) -> Result<HandleNumber, Error>
     requires whole { IsWhole t.old }
-    requires holder { MayHold (core_alone t.old) me }
+    requires holder { MayOwnHandle (core_alone t.old) me }
     ensures { Does t.old (λ w w'. InsertPagedOutCall w me node_type key result w') t.new }
 {
-    make_ready_to_learn(t)?;
+    make_room_for_node(t)?;
     let mode = Mode::LooseUnpinned;
     Ok(insert_node(t, me, node_type, key.get(), Vec::new(alloc), mode))
 }
@@ -236,8 +252,8 @@ pub fn set_loose_pinned(t: &mut Tables, at: HandleAt)
     let _taken = t.ref_counts.handles.places.len();
     let mut row = at.row;
     row.mode = Mode::LoosePinned;
-    handle_table::set(&mut t.ref_counts.handles, at, row);
-    let mut pinned = counts_more(counts, !pins(at.row.mode));
+    handle_table::replace_row(&mut t.ref_counts.handles, at, row);
+    let mut pinned = counts_with_handle(counts, !pins(at.row.mode));
     pinned.holds = counts.holds;
     nodes::set_counts(&mut t.ref_counts.nodes, at.row.node.0, pinned);
 }
@@ -253,7 +269,7 @@ pub fn into_pagable(t: &mut Tables, me: Owner, handle: HandleNumber) -> Result<H
     requires { IsWhole t.old }
     ensures { Does t.old (λ w w'. LoosenCall w me handle result w') t.new }
 {
-    let at = own(t, me, handle)?;
+    let at = find_owned(t, me, handle)?;
     let Mode::Pinned = at.row.mode else {
         return Err(Error::WrongMode);
     };
@@ -268,22 +284,22 @@ pub fn into_pagable(t: &mut Tables, me: Owner, handle: HandleNumber) -> Result<H
 ///
 /// - `NumbersSpent` if no handle number is left: nothing changes.
 /// - `OutOfMemory` if the handles can't grow: nothing changes.
-pub fn pin_here(t: &mut Tables, me: Owner, row: HandleRow) -> Result<HandleNumber, Error>
+pub fn pin_in_memory(t: &mut Tables, me: Owner, row: HandleRow) -> Result<HandleNumber, Error>
     requires whole { IsWhole t.old }
-    requires holder { MayHold (core_alone t.old) me }
+    requires holder { MayOwnHandle (core_alone t.old) me }
     requires owns { Owns (core_alone t.old) me row.number is_loose row }
-    ensures does { Does t.old (λ w w'. PinsHere w me row result w') t.new }
+    ensures does { Does t.old (λ w w'. PinsInMemory w me row result w') t.new }
     ensures same { t.new ≡ record t.old { ref_counts = t.new.ref_counts } }
 {
-    let handle = make(t, row.node, Mode::Pinned, me)?;
-    let Some(loose) = handle_table::look(&t.ref_counts.handles, row.number) else {
+    let handle = make_handle(t, row.node, Mode::Pinned, me)?;
+    let Some(loose) = handle_table::find_live(&t.ref_counts.handles, row.number) else {
         unreachable!();
     };
     set_loose_pinned(t, loose);
     Ok(handle)
 }
 
-/// Pins a loose handle if its value is in memory: makes a Pinned handle as `pin_here` does.
+/// Pins a loose handle if its value is in memory: makes a Pinned handle as `pin_in_memory` does.
 /// Otherwise returns the key of the value, which has to be loaded first.
 ///
 /// # Errors
@@ -295,16 +311,16 @@ pub fn pin_here(t: &mut Tables, me: Owner, row: HandleRow) -> Result<HandleNumbe
 /// - `OutOfMemory` if the handles can't grow. After each error the tables are unchanged.
 pub fn pin(t: &mut Tables, me: Owner, handle: HandleNumber) -> Result<Pinning, Error>
     requires whole { IsWhole t.old }
-    requires holder { MayHold (core_alone t.old) me }
+    requires holder { MayOwnHandle (core_alone t.old) me }
     ensures { Does t.old (λ w w'. PinCall w me handle result w') t.new }
 {
-    let at = own(t, me, handle)?;
+    let at = find_owned(t, me, handle)?;
     if !is_loose_mode(at.row.mode) {
         return Err(Error::WrongMode);
     }
     let counts = nodes::counts_of(&t.ref_counts.nodes, at.row.node.0);
-    if !is_here(counts) {
+    if !is_in_memory(counts) {
         return Ok(Pinning::NeedsLoad(key_in(counts).unwrap()));
     }
-    Ok(Pinning::Pinned(pin_here(t, me, at.row)?))
+    Ok(Pinning::Pinned(pin_in_memory(t, me, at.row)?))
 }

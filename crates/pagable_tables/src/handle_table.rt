@@ -2,17 +2,24 @@
 //! place until no live row is behind it, or more than half of the rows are dead.
 
 ghost use Rattle.indexmap.specs.IndexMap.{get};
-ghost use Rattle.pagable_tables.specs.CascadeInvariant.{AreAtWork, IsFalling, is_valued, owns_nothing};
-ghost use Rattle.pagable_tables.specs.HandleTable.{AreCounted, AreSound, Becomes, IsBefore, IsNext, Widens, alive};
-ghost use Rattle.pagable_tables.specs.HandleTable.{live, room};
-ghost use Rattle.pagable_tables.specs.declared.{cascade.RefCounts.RefCounts, place.Place.Place};
-ghost use Rattle.pagable_pager_spec.specs.{Calls.{is_named_by, moved, room_of}, Cascade.{left_rows, only_handle}};
-ghost use Rattle.pagable_pager_spec.specs.{Kinds.{find_row, is_handle}, LoadCalls.numbers_of, Basics.{changed, is_in}};
-ghost use Rattle.pagable_pager_spec.specs.declared.handle_row.{HandleRow.HandleRow, Owner.Owner};
-ghost use Rattle.std.specs.List.{AllPairs, Sorted.IsPartitionPoint};
-ghost use Rattle.std.specs.Prelude.{IfNone, IfSome, None, Ok, OnErr, OnOk, Option, Some, [], false, get_or};
-ghost use Rattle.std.specs.Prelude.{length, slice_get, sum_by, true, vec_capacity, vec_len, ℕ, ◌&&◌};
-ghost use Rattle.std.specs.Prelude.{◌*◌, ◌++◌, ◌+◌, ◌<◌, ◌==◌, ◌∷◌, ◌≡◌, ◌≤◌};
+ghost use Rattle.pagable_pager_spec.specs.{
+  Basics.{changed, is_in},
+  Calls.{is_named_by, moved, room_of},
+  Cascade.{left_rows, only_handle},
+  Kinds.{find_row, is_handle},
+  LoadCalls.numbers_of,
+  declared.handle_row.{HandleRow.HandleRow, Owner.Owner},
+};
+ghost use Rattle.pagable_tables.specs.{
+  CascadeInvariant.{BoundsWorkerHandles, IsSoundInCascade, is_value_owner, owns_nothing},
+  HandleTable.{AreCounted, AreSound, Becomes, IsBefore, IsNext, Widens, alive, live, room},
+  declared.{cascade.RefCounts.RefCounts, place.Place.Place},
+};
+ghost use Rattle.std.specs.{
+  List.{AllPairs, Sorted.IsPartitionPoint},
+  Prelude.{IfNone, IfSome, None, Ok, OnErr, OnOk, Option, Some, false, get_or, length, slice_get, sum_by, true},
+  Prelude.{vec_capacity, vec_len, ℕ, [], ◌&&◌, ◌*◌, ◌++◌, ◌+◌, ◌<◌, ◌==◌, ◌∷◌, ◌≡◌, ◌≤◌},
+};
 
 use crate::place::Place;
 use pagable_pager_spec::handle_row::{HandleRow, Owner};
@@ -34,7 +41,7 @@ pub struct Handles {
 }
 
 /// Returns how many rows have numbers up to this one, by binary search.
-pub fn up_to(places: &[Place], number: u64) -> usize
+pub fn count_up_to(places: &[Place], number: u64) -> usize
     requires { AllPairs IsBefore places.now }
     ensures within { result ≤ length places.now }
     ensures point { IsPartitionPoint (λ (p : Place). p.row.number.0 ≤ number) (λ (p : Place). number < p.row.number.0)
@@ -43,9 +50,9 @@ pub fn up_to(places: &[Place], number: u64) -> usize
     places.partition_point(|place| place.number() <= number)
 }
 
-/// Returns the index from which all rows have numbers above this one: `guess` if that row's number
-/// is above it, and else the index that a binary search finds.
-pub fn up_to_from(places: &[Place], number: u64, guess: usize) -> usize
+/// Returns an index from which all rows have numbers above this one: the end if `guess` is past it,
+/// `guess` if the number of the row there is above this one, and else what a binary search finds.
+pub fn index_above(places: &[Place], number: u64, guess: usize) -> usize
     requires { AllPairs IsBefore places.now }
     ensures within { result ≤ length places.now }
     ensures above { (k : ℕ) (d : Place) → result ≤ k → k < length places.now
@@ -55,7 +62,7 @@ pub fn up_to_from(places: &[Place], number: u64, guess: usize) -> usize
         return places.len();
     }
     if places[guess].number() <= number {
-        return up_to(places, number);
+        return count_up_to(places, number);
     }
     guess
 }
@@ -78,9 +85,9 @@ fn live_handle_at(places: &[Place], place: usize, number: u64) -> Option<HandleA
     Some(HandleAt { place, row })
 }
 
-/// Looks for the handle at two indexes: where its row is if no number before it is missing, and
-/// where it is if none behind it is.
-fn at_once(places: &[Place], number: u64) -> Option<HandleAt>
+/// Returns the live handle of this number if its row is at one of two indexes: where it is if no
+/// number before it is missing in the vector, or where it is if none behind it is.
+fn look_at_guesses(places: &[Place], number: u64) -> Option<HandleAt>
     requires { AllPairs IsBefore places.now }
     ensures place { IfSome result (λ at. slice_get places.now at.place ≡ Some (alive at.row)) }
     ensures found { IfSome result (λ at. find_row number (live places.now) ≡ Some at.row) }
@@ -98,17 +105,17 @@ fn at_once(places: &[Place], number: u64) -> Option<HandleAt>
 /// Returns the live handle of this number, with its index. It takes one or two looks if no number
 /// before it or none behind it is missing, and else the logarithm of the number of rows.
 #[tactic(auto, using(crate::proofs::HandleTable::looks))]
-pub fn look(handles: &Handles, number: HandleNumber) -> Option<HandleAt>
+pub fn find_live(handles: &Handles, number: HandleNumber) -> Option<HandleAt>
     requires { AreSound handles.now }
     ensures none { IfNone result (find_row number.0 (live handles.now.places.items) ≡ None) }
     ensures place { IfSome result (λ at. slice_get handles.now.places.items at.place ≡ Some (alive at.row)) }
     ensures found { IfSome result (λ at. find_row number.0 (live handles.now.places.items) ≡ Some at.row) }
     ensures number { IfSome result (λ at. at.row.number ≡ number) }
 {
-    if let Some(at) = at_once(&handles.places, number.0) {
+    if let Some(at) = look_at_guesses(&handles.places, number.0) {
         return Some(at);
     }
-    let last = up_to(&handles.places, number.0).checked_sub(1)?;
+    let last = count_up_to(&handles.places, number.0).checked_sub(1)?;
     live_handle_at(&handles.places, last, number.0)
 }
 
@@ -151,7 +158,7 @@ fn remove_dead_rows(handles: &mut Handles)
 /// Marks the handle as dead, and may remove dead rows. Indexes that were got before aren't valid
 /// afterwards.
 #[tactic(auto, using(crate::proofs::HandleTable::places))]
-pub fn kill(handles: &mut Handles, at: HandleAt)
+pub fn mark_dead(handles: &mut Handles, at: HandleAt)
     requires sound { AreSound handles.old }
     requires place { slice_get handles.old.places.items at.place ≡ Some (alive at.row) }
     ensures becomes { Becomes handles.old (left_rows (only_handle at.row.number) (live handles.old.places.items))
@@ -166,7 +173,7 @@ pub fn kill(handles: &mut Handles, at: HandleAt)
 
 /// Replaces the handle's row by another one of the same number.
 #[tactic(auto, using(crate::proofs::HandleTable::places))]
-pub fn set(handles: &mut Handles, at: HandleAt, row: HandleRow)
+pub fn replace_row(handles: &mut Handles, at: HandleAt, row: HandleRow)
     requires sound { AreSound handles.old }
     requires place { slice_get handles.old.places.items at.place ≡ Some (alive at.row) }
     requires number { row.number ≡ at.row.number }
@@ -178,8 +185,8 @@ pub fn set(handles: &mut Handles, at: HandleAt, row: HandleRow)
     handles.places[at.place] = Place::new(row, true);
 }
 
-/// Makes a place free for one more row: by growing, or else by removing the dead rows. Fails with
-/// AllocError if the vector is full and can't grow.
+/// Makes room for one more row: grows the vector, or, if it can't grow, removes the dead rows.
+/// Fails with AllocError if the vector can't grow and has no dead row.
 fn make_room(handles: &mut Handles) -> Result<(), AllocError>
     requires { AreSound handles.old }
     ensures widens { Widens handles.old handles.new }
@@ -243,15 +250,15 @@ pub fn hand_over(handles: &mut Handles, at: HandleAt, owner: Owner)
     requires place { slice_get handles.old.places.items at.place ≡ Some (alive at.row) }
     ensures becomes { Becomes handles.old (moved (only_handle at.row.number) owner (live handles.old.places.items))
         handles.new }
-    ensures stands { (t : RefCounts) → is_valued at.row.owner ≡ false → is_valued owner ≡ false
-        → AreAtWork (moved (only_handle at.row.number) owner (live handles.old.places.items)) t.nodes
-        → IsFalling (record t { handles = handles.old }) [] owns_nothing
-        → IsFalling (record t { handles = handles.new }) [] owns_nothing }
+    ensures keeps_sound { (t : RefCounts) → is_value_owner at.row.owner ≡ false → is_value_owner owner ≡ false
+        → BoundsWorkerHandles (moved (only_handle at.row.number) owner (live handles.old.places.items)) t.nodes
+        → IsSoundInCascade (record t { handles = handles.old }) [] owns_nothing
+        → IsSoundInCascade (record t { handles = handles.new }) [] owns_nothing }
     ensures sums { (f : HandleRow → ℕ) → sum_by f (live handles.new.places.items) + f at.row
         ≡ sum_by f (live handles.old.places.items) + f (record at.row { owner = owner }) }
 {
     let row = HandleRow { owner, ..at.row };
-    set(handles, at, row);
+    replace_row(handles, at, row);
 }
 
 /// Makes `owner` the owner of the handle of this number, if it is live.
@@ -259,7 +266,7 @@ fn hand_over_live(handles: &mut Handles, handle: HandleNumber, owner: Owner)
     requires { AreSound handles.old }
     ensures { Becomes handles.old (moved (only_handle handle) owner (live handles.old.places.items)) handles.new }
 {
-    if let Some(at) = look(handles, handle) {
+    if let Some(at) = find_live(handles, handle) {
         hand_over(handles, at, owner);
     }
 }
@@ -278,7 +285,7 @@ pub fn hand_over_all(handles: &mut Handles, references: &[ArcRef], owner: Owner)
 
 /// Makes `owner` the owner of each live handle of these numbers.
 #[tactic(auto, using(crate::proofs::SameViews::handing))]
-pub fn hand_each(handles: &mut Handles, named: &[HandleNumber], owner: Owner)
+pub fn hand_over_each(handles: &mut Handles, named: &[HandleNumber], owner: Owner)
     requires { AreSound handles.old }
     ensures { Becomes handles.old (moved (is_in (numbers_of named.now)) owner (live handles.old.places.items))
         handles.new }

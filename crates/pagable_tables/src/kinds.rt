@@ -1,9 +1,12 @@
-//! Tests of modes and owners, which mode a kind of reference has, and the order in which a call's errors are reported.
+//! Tests modes and owners, says which mode a kind of reference has, and orders the errors that a
+//! call reports.
 
+ghost use Rattle.pagable_pager_spec.specs.{
+  Kinds.{fits_mode, is_loose, is_owner, is_pinning, is_unpinned, mode_of},
+  Refusals.{earlier, rank},
+  declared.{handle_row.Owner.Owner, mode.Mode.Mode},
+};
 ghost use Rattle.pagable_tables.specs.CascadeInvariant.{is_worker};
-ghost use Rattle.pagable_pager_spec.specs.Kinds.{fits_mode, is_loose, is_owner, is_pinning, is_unpinned, mode_of};
-ghost use Rattle.pagable_pager_spec.specs.Refusals.{earlier, rank};
-ghost use Rattle.pagable_pager_spec.specs.declared.{handle_row.Owner.Owner, mode.Mode.Mode};
 ghost use Rattle.std.specs.Prelude.{List, None, Option, Some, false, true, ◌<◌, ◌==◌, ◌≡◌};
 
 use pagable_pager_spec::Mode;
@@ -76,8 +79,8 @@ pub fn fits_mode(kind: Kind, mode: Mode) -> bool
     }
 }
 
-/// Returns the error's place in the order of reports: no such handle, another's handle, wrong mode,
-/// wrong type, no number left, all others.
+/// Returns the error's place in the order in which a call that meets several errors chooses the one
+/// to return: no such handle, another's handle, wrong mode, wrong type, no number left, all others.
 fn rank(error: &Error) -> u32
     ensures { result ≡ rank error.now }
 {
@@ -91,7 +94,8 @@ fn rank(error: &Error) -> u32
     }
 }
 
-/// Returns whichever error is first in the order of reports, and `a` if both have the same place.
+/// Returns whichever error has the earlier place in the order of `rank`, and `a` if both have the
+/// same place.
 pub fn earlier(a: Option<Error>, b: Option<Error>) -> Option<Error>
     ensures { result ≡ earlier a b }
 {

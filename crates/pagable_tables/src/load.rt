@@ -1,33 +1,42 @@
 //! Loads: how they begin, and get handles of what they read.
 
-ghost use Rattle.pagable_tables.specs.Core.{StorageView};
 ghost use Rattle.indexmap.specs.IndexMap.{get, spare};
+ghost use Rattle.pagable_pager_spec.specs.{
+  Basics.is_loose_kind,
+  Calls.{IsNext, is_named_by},
+  Cascade.{FallsAnyhow, nobody},
+  Kinds.{is_pinning, is_shared, mode_of},
+  LoadCalls.{Adopts, BeginCall, BeginKeyCall, LazyCall, adopt_fault, adopted, first_key, is_owned_in},
+  Pager.MayOwnLoad,
+  Refusals.{Refused, earlier, load_fault, references_fault},
+  World.{Alike, Cell, Core, usable},
+  declared.{handle_row.Owner.Owner, mode.Mode.Mode},
+};
+ghost use Rattle.pagable_tables.specs.{
+  CascadeInvariant.{IsSoundInCascade, owns_nothing},
+  CascadeProgress.{ReleasedSoFar, with_tables},
+  Core.{Does, IsReady, IsWhole, MayOwnHandle, OwnLaterHandles, StorageView, core_alone, core_of},
+  EndingLoads.{AsksCache, adopt_check_fault},
+  HandleTable.live,
+  Nodes.{counts_at, has_value, key_in},
+  NumberTable.row_by,
+  ValuesKept.DropsValues,
+  declared.{cascade.RefCounts.RefCounts, load_table.LoadRow.LoadRow},
+};
 ghost use Rattle.pagable_value_spec.specs.declared.numbers.{LoadNumber.LoadNumber, NodeNumber.NodeNumber};
-ghost use Rattle.pagable_tables.specs.CascadeInvariant.{IsFalling, owns_nothing};
-ghost use Rattle.pagable_tables.specs.CascadeProgress.{SoFar, with_tables};
-ghost use Rattle.pagable_tables.specs.Core.{OwnLaterHandles, Does, IsReady, IsWhole, MayHold, core_of, core_alone};
-ghost use Rattle.pagable_tables.specs.{EndingLoads.{AsksKnown, early_fault}, HandleTable.live};
-ghost use Rattle.pagable_tables.specs.{Nodes.{counts_at, has_value, key_in}, NumberTable.row_by, ValuesKept.Sheds};
-ghost use Rattle.pagable_tables.specs.declared.{cascade.RefCounts.RefCounts, load_table.LoadRow.LoadRow};
-ghost use Rattle.pagable_pager_spec.specs.{Calls.{IsNext, is_named_by}, Cascade.{FallsAnyhow, nobody}};
-ghost use Rattle.pagable_pager_spec.specs.Kinds.{is_pinning, is_shared, mode_of};
-ghost use Rattle.pagable_pager_spec.specs.LoadCalls.{Adopts, BeginCall, BeginKeyCall, LazyCall, adopt_fault, adopted};
-ghost use Rattle.pagable_pager_spec.specs.{LoadCalls.{first_key, is_owned_in}, Pager.MayOwnLoad};
-ghost use Rattle.pagable_pager_spec.specs.Basics.{is_loose_kind};
-ghost use Rattle.pagable_pager_spec.specs.Refusals.{Refused, earlier, load_fault, references_fault};
-ghost use Rattle.pagable_pager_spec.specs.World.{Alike, Cell, Core, usable};
-ghost use Rattle.pagable_pager_spec.specs.declared.{handle_row.Owner.Owner, mode.Mode.Mode};
-ghost use Rattle.std.specs.Prelude.{IfErr, IfNone, IfOk, IfSome, None, Ok, Option, Some, [], false};
-ghost use Rattle.std.specs.Prelude.{if◌then◌else◌, length, not, true, ℕ, ◌+◌, ◌<◌, ◌==◌, ◌||◌, ◌≡◌, ◌≤◌, ◌⊎◌};
+ghost use Rattle.std.specs.{
+  Prelude.{IfErr, IfNone, IfOk, IfSome, None, Ok, Option, Some, false, if◌then◌else◌, length, not, true, ℕ, [], ◌+◌},
+  Prelude.{◌<◌, ◌==◌, ◌||◌, ◌≡◌, ◌≤◌, ◌⊎◌},
+};
 ghost use Rattle.pagable_pager_spec.specs.declared.handle_row.Owner.TheVariants as owners;
 
 use crate::cache::cache_get;
 use crate::cascade::{RefCounts, finish_cascade};
-use crate::checks::{load_fault, load_row, own, references_fault};
-use crate::create::{add, insert_node, make, make_ready_to_learn};
+use crate::checks::{find_owned, load_fault, load_row, references_fault};
+use crate::create::{add_handle, insert_node, make_handle, make_room_for_node};
 use crate::kinds::{earlier, is_loose_mode, mode_of};
 use crate::load_table::{LoadRoot, LoadRow};
-use crate::nodes::{Arcs, is_here};
+use crate::nodes::{NodeValues, is_in_memory};
 use crate::release::release_if_owned;
 use crate::tables::Tables;
 use crate::{cache, load_table, nodes};
@@ -37,7 +46,7 @@ use pagable_value_spec::{ArcRef, DataKey, Error, HandleNumber, Kind, LoadNumber,
 use std::alloc::Global;
 
 /// Begins a load of a loose handle's cell and returns its number and the key to read; or
-/// `InMemory`, if the value is in memory. The load owns an unpinned handle of the cell of its own.
+/// `InMemory`, if the value is in memory. The load gets a new handle of the cell, unpinned.
 ///
 /// # Errors
 ///
@@ -53,12 +62,12 @@ pub fn load_begin(t: &mut Tables, me: Owner, handle: HandleNumber) -> Result<Beg
     requires owner { MayOwnLoad (core_alone t.old) me }
     ensures { Does t.old (λ w w'. BeginCall w me handle result w') t.new }
 {
-    let at = own(t, me, handle)?;
+    let at = find_owned(t, me, handle)?;
     if !is_loose_mode(at.row.mode) {
         return Err(Error::WrongMode);
     }
     let counts = nodes::counts_of(&t.ref_counts.nodes, at.row.node.0);
-    if is_here(counts) {
+    if is_in_memory(counts) {
         return Ok(Beginning::InMemory);
     }
     let key = nodes::key_in(counts).unwrap();
@@ -73,10 +82,10 @@ pub fn load_begin(t: &mut Tables, me: Owner, handle: HandleNumber) -> Result<Beg
         since: t.ref_counts.last_handle,
         last: t.ref_counts.last_handle,
     };
-    load_table::open(&mut t.loads, load.0, row)?;
+    load_table::add_row(&mut t.loads, load.0, row)?;
     let mode = Mode::LooseUnpinned;
-    if let Err(e) = add(&mut t.ref_counts, at.row.node, mode, Owner::Load(load)) {
-        load_table::close(&mut t.loads, load.0);
+    if let Err(e) = add_handle(&mut t.ref_counts, at.row.node, mode, Owner::Load(load)) {
+        load_table::remove_row(&mut t.loads, load.0);
         return Err(e);
     }
     t.last_load = load.0;
@@ -93,7 +102,7 @@ pub fn load_begin(t: &mut Tables, me: Owner, handle: HandleNumber) -> Result<Beg
 /// - `NotYours` if another began it.
 /// - `NumbersSpent` if no handle number is left.
 /// - `OutOfMemory` if the handles can't grow. After each error the tables are unchanged.
-pub fn load_known(
+pub fn load_cached(
     t: &mut Tables,
     me: Owner,
     load: LoadNumber,
@@ -102,14 +111,14 @@ pub fn load_known(
 ) -> Result<Option<HandleNumber>, Error>
     requires whole { IsWhole t.old }
     requires later { OwnLaterHandles t.old }
-    ensures does { Does t.old (λ w w'. AsksKnown w me load kind key result w') t.new }
+    ensures does { Does t.old (λ w w'. AsksCache w me load kind key result w') t.new }
     ensures none { IfOk result (λ found. IfNone found (t.new ≡ t.old)) }
 {
     let _row = load_row(t, me, load)?;
     cache_get(t, Owner::Load(load), kind, key)
 }
 
-/// Begins a load of a key, of whose blob the caller makes what it needs.
+/// Begins a load of a key: the caller gets the key's blob and makes of it what the caller needs.
 ///
 /// # Errors
 ///
@@ -132,15 +141,15 @@ pub fn load_key(t: &mut Tables, me: Owner, key: DataKey) -> Result<Beginning, Er
         since: t.ref_counts.last_handle,
         last: t.ref_counts.last_handle,
     };
-    load_table::open(&mut t.loads, load, row)?;
+    load_table::add_row(&mut t.loads, load, row)?;
     t.last_load = load;
     Ok(Beginning::Load(LoadNumber(load), key))
 }
 
-/// Inserts a node, returns a handle of it that the load owns, and caches the node if `lists`. It
-/// can't fail: all was made ready. A node with a key of its own (`own_key` isn't 0) may not be a
-/// shared one, and may have references only if its handle pins it.
-fn insert_known(
+/// Inserts a node, returns a handle of it that the load owns, and caches the node if `lists`. The
+/// call can't fail: `make_room_for_node` has made room. A node with a key of its own (`own_key`
+/// isn't 0) may not be a shared one, and may have references only if its handle pins it.
+fn insert_and_cache(
     t: &mut Tables,
     load: LoadNumber,
     kind: Kind,
@@ -151,22 +160,23 @@ fn insert_known(
 ) -> HandleNumber
     requires whole { IsWhole t.old }
     requires ready { IsReady t.old }
-    requires learns { 0 < spare t.old.cache }
-    requires holder { MayHold (core_alone t.old) (owners.Load load) }
+    requires cache_room { 0 < spare t.old.cache }
+    requires holder { MayOwnHandle (core_alone t.old) (owners.Load load) }
     requires fit { references_fault (core_alone t.old) (owners.Load load) [] references.items ≡ None }
-    requires bare { (own_key ≡ 0) ⊎ ((is_shared (mode_of kind.0) ≡ false)
+    requires keyed { (own_key ≡ 0) ⊎ ((is_shared (mode_of kind.0) ≡ false)
         × ((references.items ≡ []) ⊎ (is_pinning (mode_of kind.0) ≡ true))) }
     ensures { Does t.old (λ w w'. IsNext result w × (lists ≡ not w.closed
         → Alike (adopted w load kind key (key_in own_key) references.items) w')) t.new }
 {
     let me = Owner::Load(load);
     let handle = insert_node(t, me, kind.node_type(), own_key, references, mode_of(kind));
-    cache::learn_if(&mut t.cache, lists, kind, key, NodeNumber(t.last_node));
+    cache::cache_if(&mut t.cache, lists, kind, key, NodeNumber(t.last_node));
     handle
 }
 
-/// Inserts a node as `insert_known` does, and lets the cache forget entries of nodes that are gone.
-fn learn_new(
+/// Inserts a node as `insert_and_cache` does, and lets the cache forget entries of nodes that are
+/// gone.
+fn insert_and_prune_cache(
     t: &mut Tables,
     load: LoadNumber,
     kind: Kind,
@@ -177,15 +187,15 @@ fn learn_new(
 ) -> HandleNumber
     requires whole { IsWhole t.old }
     requires ready { IsReady t.old }
-    requires learns { 0 < spare t.old.cache }
-    requires holder { MayHold (core_alone t.old) (owners.Load load) }
+    requires cache_room { 0 < spare t.old.cache }
+    requires holder { MayOwnHandle (core_alone t.old) (owners.Load load) }
     requires fit { references_fault (core_alone t.old) (owners.Load load) [] references.items ≡ None }
-    requires bare { (own_key ≡ 0) ⊎ ((is_shared (mode_of kind.0) ≡ false)
+    requires keyed { (own_key ≡ 0) ⊎ ((is_shared (mode_of kind.0) ≡ false)
         × ((references.items ≡ []) ⊎ (is_pinning (mode_of kind.0) ≡ true))) }
     ensures { Does t.old (λ w w'. IsNext result w × (lists ≡ not w.closed
         → Alike (adopted w load kind key (key_in own_key) references.items) w')) t.new }
 {
-    let handle = insert_known(t, load, kind, key, own_key, references, lists);
+    let handle = insert_and_cache(t, load, kind, key, own_key, references, lists);
     cache::forget_gone(t);
     handle
 }
@@ -218,10 +228,10 @@ pub fn load_lazy(
         return Err(Error::WrongKind);
     }
     if let Some(node) = cache::usable_of(t, kind, key) {
-        return make(t, node, mode_of(kind), Owner::Load(load));
+        return make_handle(t, node, mode_of(kind), Owner::Load(load));
     }
-    make_ready_to_learn(t)?;
-    Ok(learn_new(t, load, kind, key, key.get(), Vec::new(alloc), lists))
+    make_room_for_node(t)?;
+    Ok(insert_and_prune_cache(t, load, kind, key, key.get(), Vec::new(alloc), lists))
 }
 
 /// Returns why what a load has read can't become a node, apart from numbers and memory.
@@ -234,7 +244,7 @@ fn adopt_fault(
     references: &[ArcRef],
 ) -> Option<Error>
     requires { IsWhole t.now }
-    ensures { (storage : StorageView) → result ≡ early_fault (core_of t.now storage) me load kind node_type
+    ensures { (storage : StorageView) → result ≡ adopt_check_fault (core_of t.now storage) me load kind node_type
         references.now }
 {
     let own = load_fault(load_table::load_of(&t.loads, load.0), me);
@@ -245,18 +255,19 @@ fn adopt_fault(
 }
 
 /// Releases the handles that the references name, all of which the load owns, and runs the cascade.
-#[tactic(auto, using(crate::proofs::CascadeEnd::shedding))]
-fn hand_over_named<N: Drop>(
+#[tactic(auto, using(crate::proofs::CascadeEnd::dropping))]
+fn release_named<N: Drop>(
     t: &mut RefCounts,
-    values: &mut Arcs<N>,
+    values: &mut NodeValues<N>,
     load: LoadNumber,
     references: &[ArcRef],
     lists: bool,
 )
-    requires { IsFalling t.old [] owns_nothing }
-    ensures steady { IsFalling t.new [] owns_nothing }
-    ensures sheds { Sheds (counts_at t.old.nodes) (row_by values.old) (counts_at t.new.nodes) (row_by values.new) }
-    ensures falls { (before w : Core) → SoFar before w nobody lists (record t.old { listing_error = None })
+    requires { IsSoundInCascade t.old [] owns_nothing }
+    ensures steady { IsSoundInCascade t.new [] owns_nothing }
+    ensures drops { DropsValues (counts_at t.old.nodes) (row_by values.old) (counts_at t.new.nodes)
+        (row_by values.new) }
+    ensures falls { (before w : Core) → ReleasedSoFar before w nobody lists (record t.old { listing_error = None })
         → length (live t.old.handles.places.items) ≤ length w.rows
         → ((q : ℕ) → is_named_by references.now q ≡ true → is_owned_in w (owners.Load load) q ≡ true)
         → FallsAnyhow before w (is_named_by references.now) (with_tables w t.new) }
@@ -283,9 +294,9 @@ fn hand_over_named<N: Drop>(
 ///   reference's.
 /// - `NumbersSpent` if no handle number is left.
 /// - `OutOfMemory` if the handles can't grow. After each error the tables and values are unchanged.
-pub fn adopt_if_known<N: Drop>(
+pub fn adopt_if_cached<N: Drop>(
     t: &mut Tables,
-    values: &mut Arcs<N>,
+    values: &mut NodeValues<N>,
     me: Owner,
     load: LoadNumber,
     kind: Kind,
@@ -302,7 +313,8 @@ pub fn adopt_if_known<N: Drop>(
         → IfOk result (λ found. IfSome found (λ k. Adopts (core_of t.old storage) me load kind key node_type
         references.now k (core_of t.new storage))) }
     ensures fresh { (storage : StorageView) → IfOk result
-        (λ found. IfNone found (early_fault (core_of t.old storage) me load kind node_type references.now ≡ None)) }
+        (λ found. IfNone found
+        (adopt_check_fault (core_of t.old storage) me load kind node_type references.now ≡ None)) }
     ensures given { IfOk result (λ found. IfSome found
         (λ k. (n : ℕ) × (usable (core_alone t.old) kind.0 key ≡ Some n))) }
     ensures unknown { IfOk result (λ found. IfNone found (usable (core_alone t.old) kind.0 key ≡ None)) }
@@ -313,7 +325,8 @@ pub fn adopt_if_known<N: Drop>(
         (load_fault (core_of t.old storage) me load) (Unit {0}) (core_of t.old storage) e (core_of t.new storage)) }
     ensures whole { IsWhole t.new }
     ensures later { OwnLaterHandles t.new }
-    ensures sheds { Sheds (counts_at t.old.ref_counts.nodes) (row_by values.old) (counts_at t.new.ref_counts.nodes)
+    ensures drops { DropsValues (counts_at t.old.ref_counts.nodes) (row_by values.old)
+        (counts_at t.new.ref_counts.nodes)
         (row_by values.new) }
 {
     if let Some(e) = adopt_fault(t, me, load, kind, node_type, references) {
@@ -322,14 +335,14 @@ pub fn adopt_if_known<N: Drop>(
     let Some(node) = cache::usable_of(t, kind, key) else {
         return Ok(None);
     };
-    let handle = make(t, node, mode_of(kind), Owner::Load(load))?;
-    hand_over_named(&mut t.ref_counts, values, load, references, lists);
+    let handle = make_handle(t, node, mode_of(kind), Owner::Load(load))?;
+    release_named(&mut t.ref_counts, values, load, references, lists);
     Ok(Some(handle))
 }
 
 /// Makes a node of what a load has read, returns a handle of it that the load owns, and caches the
-/// node if `lists`. It can't fail: `adopt_if_known` has found no error and no cached node, and
-/// `make_ready_to_learn` has made room.
+/// node if `lists`. It can't fail: `adopt_if_cached` has found no error and no cached node, and
+/// `make_room_for_node` has made room.
 pub fn adopt(
     t: &mut Tables,
     load: LoadNumber,
@@ -341,13 +354,13 @@ pub fn adopt(
     requires whole { IsWhole t.old }
     requires later { OwnLaterHandles t.old }
     requires ready { IsReady t.old }
-    requires learns { 0 < spare t.old.cache }
-    requires asked { (me : Owner) × (node_type : ℕ) × (early_fault (core_alone t.old) me load kind node_type
+    requires cache_room { 0 < spare t.old.cache }
+    requires asked { (me : Owner) × (node_type : ℕ) × (adopt_check_fault (core_alone t.old) me load kind node_type
         references.items ≡ None) }
     requires unknown { usable (core_alone t.old) kind.0 key ≡ None }
     ensures { Does t.old (λ w w'. IsNext result w × (lists ≡ not w.closed
         → Alike (adopted w load kind key (first_key kind.0 key) references.items) w')) t.new }
 {
     let own_key = if kind.is_pinned() { key.get() } else { 0 };
-    learn_new(t, load, kind, key, own_key, references, lists)
+    insert_and_prune_cache(t, load, kind, key, own_key, references, lists)
 }

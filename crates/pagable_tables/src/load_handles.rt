@@ -1,10 +1,13 @@
-//! The last handle that a load owns, as its row notes it.
+//! Notes in each load's row the last handle that the load owns.
 
-ghost use Rattle.pagable_value_spec.specs.declared.numbers.LoadNumber.{LoadNumber};
-ghost use Rattle.pagable_tables.specs.Core.{OwnLaterHandles, AreRaised, AreTold, IsOwnedUpTo, IsWhole, Notes};
-ghost use Rattle.pagable_tables.specs.{HandleTable.AreSound, Indexes.load_at};
-ghost use Rattle.pagable_tables.specs.declared.{load_table.LoadRow.LoadRow, place.Place.Place};
 ghost use Rattle.pagable_pager_spec.specs.declared.handle_row.{HandleRow.HandleRow, Owner.Owner};
+ghost use Rattle.pagable_tables.specs.{
+  Core.{AreNoted, AreRaised, IsOwnedUpTo, IsWhole, Notes, OwnLaterHandles},
+  HandleTable.AreSound,
+  Indexes.load_at,
+  declared.{load_table.LoadRow.LoadRow, place.Place.Place},
+};
+ghost use Rattle.pagable_value_spec.specs.declared.numbers.LoadNumber.{LoadNumber};
 ghost use Rattle.std.specs.Prelude.{None, Some, get_or, length, ℕ, ◌<◌, ◌≡◌, ◌≤◌};
 
 use crate::handle_table::Handles;
@@ -14,7 +17,7 @@ use crate::{handle_table, load_table};
 use pagable_pager_spec::handle_row::{HandleRow, Owner};
 use pagable_value_spec::LoadNumber;
 
-/// Takes note of the handle in the row of the load that owns it, if a load does.
+/// Takes note of the handle in the row of the load that owns it, if a load owns it.
 fn note(loads: &mut Loads, handle: HandleRow)
     ensures rows { AreRaised loads.old loads.new }
     ensures last { (l : LoadNumber) (row : LoadRow) → handle.owner ≡ Owner.Load l
@@ -33,14 +36,14 @@ fn place_above(handles: &Handles, number: u64) -> usize
     requires { AreSound handles.now }
     ensures { (k : ℕ) (d : Place) → k < result → (get_or handles.now.places.items k d).row.number.0 ≤ number }
 {
-    handle_table::up_to(&handles.places, number)
+    handle_table::count_up_to(&handles.places, number)
 }
 
-/// Takes note of all handles of numbers above this one in the rows of the loads.
+/// Takes note of all handles of numbers above `number` in the rows of the loads that own them.
 fn note_above(loads: &mut Loads, handles: &Handles, number: u64)
     requires { AreSound handles.now }
     ensures rows { AreRaised loads.old loads.new }
-    ensures told { AreTold loads.new handles.now.places.items number (length handles.now.places.items) }
+    ensures noted { AreNoted loads.new handles.now.places.items number (length handles.now.places.items) }
 {
     let start = place_above(handles, number);
     for place in start..handles.places.len() {
@@ -49,8 +52,8 @@ fn note_above(loads: &mut Loads, handles: &Handles, number: u64)
     }
 }
 
-/// Takes note of all handles in the rows of the loads. It looks at each handle once, however often
-/// it is called.
+/// Takes note of all handles in the rows of the loads that own them. Each handle is looked at once,
+/// in the first call after the handle was made.
 fn note_all(t: &mut Tables)
     requires whole { IsWhole t.old }
     requires later { OwnLaterHandles t.old }
@@ -62,9 +65,9 @@ fn note_all(t: &mut Tables)
 }
 
 /// Returns a number that no handle of the load exceeds, for a load that began after the handle
-/// `since`. If 16 or more handles were made since then, the rows of the loads take note of them
-/// first; else it is the last handle number given out.
-pub fn last_of(t: &mut Tables, load: LoadNumber, since: u64) -> u64
+/// `since` was made. If 16 or more handles were made since then, the call first notes them in the
+/// rows of the loads that own them; else it returns the last handle number that was given out.
+pub fn handle_bound_of(t: &mut Tables, load: LoadNumber, since: u64) -> u64
     requires whole { IsWhole t.old }
     requires later { OwnLaterHandles t.old }
     ensures notes { Notes t.old t.new }

@@ -1,9 +1,9 @@
 //! Open loads by their numbers.
 
 ghost use Rattle.indexmap.specs.IndexMap.{get};
-ghost use Rattle.pagable_value_spec.specs.declared.numbers.NodeNumber.{NodeNumber};
-ghost use Rattle.pagable_tables.specs.{Indexes.load_at, declared.load_table.LoadRow.LoadRow};
 ghost use Rattle.pagable_pager_spec.specs.{World.Cell, declared.handle_row.Owner.Owner};
+ghost use Rattle.pagable_tables.specs.{Indexes.load_at, declared.load_table.LoadRow.LoadRow};
+ghost use Rattle.pagable_value_spec.specs.declared.numbers.NodeNumber.{NodeNumber};
 ghost use Rattle.std.specs.Prelude.{None, Ok, OnErr, OnOk, Option, Some, nat_eq, ℕ, ◌<◌, ◌≡◌, ◌≢◌};
 
 use indexmap::IndexMap;
@@ -19,7 +19,7 @@ pub type Loads = IndexMap<u64, LoadRow>;
 pub enum LoadRoot {
     /// The value of a cell: its node, its type, and the handle by which the load began.
     Cell(NodeNumber, u32, HandleNumber),
-    /// The caller, who makes of the blob what it needs (`load_key`).
+    /// No cell: the caller gets the blob and makes of it what the caller needs (`load_key`).
     Key,
 }
 
@@ -32,8 +32,8 @@ pub struct LoadRow {
     /// The last handle number that was given out before the load began: the load owns only handles
     /// of greater numbers.
     pub since: u64,
-    /// Of the handles of numbers up to `Tables::noted`, the load owns none of a greater number than
-    /// this.
+    /// Among the handles of numbers up to `Tables::noted`, the load owns none of a number above
+    /// `last`.
     pub last: u64,
 }
 
@@ -49,7 +49,7 @@ pub fn load_of(loads: &Loads, load: u64) -> Option<LoadRow>
 /// # Errors
 ///
 /// - `AllocError` if the map can't grow: it is unchanged.
-pub fn open<R: Copy>(rows: &mut IndexMap<u64, R>, number: u64, row: R) -> Result<(), AllocError>
+pub fn add_row<R: Copy>(rows: &mut IndexMap<u64, R>, number: u64, row: R) -> Result<(), AllocError>
     requires { get nat_eq rows.old number ≡ None }
     ensures here { OnOk result (get nat_eq rows.new number ≡ Some row) }
     ensures others { OnOk result ((q : ℕ) → q ≢ number → get nat_eq rows.new q ≡ get nat_eq rows.old q) }
@@ -60,7 +60,7 @@ pub fn open<R: Copy>(rows: &mut IndexMap<u64, R>, number: u64, row: R) -> Result
 }
 
 /// Removes the row of this number, if there is one.
-pub fn close<R: Copy>(rows: &mut IndexMap<u64, R>, number: u64)
+pub fn remove_row<R: Copy>(rows: &mut IndexMap<u64, R>, number: u64)
     ensures gone { get nat_eq rows.new number ≡ None }
     ensures others { (q : ℕ) → q ≢ number → get nat_eq rows.new q ≡ get nat_eq rows.old q }
 {

@@ -1,15 +1,23 @@
 //! Nodes by their numbers: the counts of each, and the references of its value.
 
 ghost use Rattle.indexmap.specs.IndexMap.{get};
+ghost use Rattle.pagable_pager_spec.specs.{
+  Basics.{if_there, one, type_of},
+  Kinds.is_in_memory,
+  Refusals.is_type,
+  World.Cell,
+  declared.handle_row.Owner.Owner,
+};
+ghost use Rattle.pagable_tables.specs.{
+  CascadeInvariant.is_worker,
+  Nodes.{cell_in, counts_at, key_in, most_worker_handles_at, pins_in, refs_at},
+  NumberTable.{place_at, row_by},
+};
 ghost use Rattle.pagable_value_spec.specs.declared.data_key.OptionalDataKey.{OptionalDataKey};
-ghost use Rattle.pagable_tables.specs.CascadeInvariant.{is_worker};
-ghost use Rattle.pagable_tables.specs.Nodes.{cell_in, counts_at, key_in, pins_in, refs_at, most_worker_handles_at};
-ghost use Rattle.pagable_tables.specs.NumberTable.{place_at, row_by};
-ghost use Rattle.pagable_pager_spec.specs.{Kinds.is_in_memory, Basics.{if_there, one, type_of}, Refusals.is_type};
-ghost use Rattle.pagable_pager_spec.specs.{World.Cell, declared.handle_row.Owner.Owner};
-ghost use Rattle.std.specs.Option.{option_to_list};
-ghost use Rattle.std.specs.Prelude.{IfNone, IsSome, None, Option, Some, [], false, true, ℕ, ◌++◌, ◌+◌, ◌/◌, ◌<◌};
-ghost use Rattle.std.specs.Prelude.{◌==◌, ◌^◌, ◌||◌, ◌≡◌, ◌≢◌, ◌≤◌};
+ghost use Rattle.std.specs.{
+  Option.option_to_list,
+  Prelude.{IfNone, IsSome, None, Option, Some, false, true, ℕ, [], ◌++◌, ◌+◌, ◌/◌, ◌<◌, ◌==◌, ◌^◌, ◌||◌, ◌≡◌, ◌≢◌, ◌≤◌},
+};
 
 use crate::kinds::is_worker;
 use crate::number_table::{NumberTable, chunk_of, place_of};
@@ -22,16 +30,16 @@ use std::sync::Arc;
 pub type Nodes = NumberTable<NodeRow>;
 
 /// The values in memory, by the numbers of their nodes. They are kept beside `Tables`, not in it.
-pub type Arcs<N> = NumberTable<Arc<N>>;
+pub type NodeValues<N> = NumberTable<Arc<N>>;
 
 /// A node's counts, with its key and its type.
 #[derive(Clone, Copy)]
 pub struct Counts {
-    /// Its key as a number, 0 for none.
+    /// The node's key as a number, 0 for none.
     pub key: u128,
-    /// How many of its handles pin it.
+    /// How many of the node's handles pin it.
     pub pins: u64,
-    /// How many handles it has.
+    /// How many handles the node has.
     pub holds: u64,
     /// The next dying node, 0 for none: the cascade finishes it after this one.
     pub next: u64,
@@ -70,6 +78,7 @@ impl Model for PackedCounts {
     } };
 }
 
+/// The weight of the upper half of a key: 2^64.
 const HALF: u128 = 1 << 64;
 
 impl PackedCounts {
@@ -107,10 +116,11 @@ impl PackedCounts {
 #[derive(Drop)]
 pub struct NodeRow {
     pub counts: PackedCounts,
-    /// The references of its value, while that is in memory. The value owns their handles.
+    /// The references of the node's value, while the value is in memory. The value owns their
+    /// handles.
     pub references: Vec<ArcRef>,
-    /// At least the number of its handles that workers own.
-    pub at_work: u64,
+    /// An upper bound of how many of the node's handles workers own.
+    pub worker_bound: u64,
 }
 
 /// Returns the counts of a node, None if there is no such node.
@@ -127,7 +137,7 @@ pub fn set_counts(nodes: &mut Nodes, node: u64, counts: Counts)
     ensures here { counts_at nodes.new node ≡ Some counts }
     ensures others { (q : ℕ) → q ≢ node → counts_at nodes.new q ≡ counts_at nodes.old q }
     ensures refs { (q : ℕ) → refs_at nodes.new q ≡ refs_at nodes.old q }
-    ensures work { (q : ℕ) → most_worker_handles_at nodes.new q ≡ most_worker_handles_at nodes.old q }
+    ensures worker_bound { (q : ℕ) → most_worker_handles_at nodes.new q ≡ most_worker_handles_at nodes.old q }
 {
     let rows = &mut nodes.chunks[chunk_of(node)];
     if let Some(row) = &mut rows[place_of(node)] {
@@ -136,24 +146,24 @@ pub fn set_counts(nodes: &mut Nodes, node: u64, counts: Counts)
 }
 
 /// Returns an upper bound of how many handles of the node workers own, 0 if there is no such node.
-pub fn work_of(nodes: &Nodes, node: u64) -> u64
+pub fn worker_bound_of(nodes: &Nodes, node: u64) -> u64
     ensures { result ≡ most_worker_handles_at nodes.now node }
 {
-    nodes.get(node).map_or(0, |row| row.at_work)
+    nodes.get(node).map_or(0, |row| row.worker_bound)
 }
 
 /// Sets the node's upper bound of how many of its handles workers own.
 #[tactic(auto, unfolding(crate::specs::NumberTable::place_at, crate::specs::NumberTable::row_by))]
-pub fn set_work(nodes: &mut Nodes, node: u64, work: u64)
+pub fn set_worker_bound(nodes: &mut Nodes, node: u64, bound: u64)
     requires { IsSome (counts_at nodes.old node) }
-    ensures here { most_worker_handles_at nodes.new node ≡ work }
+    ensures here { most_worker_handles_at nodes.new node ≡ bound }
     ensures others { (q : ℕ) → q ≢ node → most_worker_handles_at nodes.new q ≡ most_worker_handles_at nodes.old q }
     ensures counts { (q : ℕ) → counts_at nodes.new q ≡ counts_at nodes.old q }
     ensures refs { (q : ℕ) → refs_at nodes.new q ≡ refs_at nodes.old q }
 {
     let rows = &mut nodes.chunks[chunk_of(node)];
     if let Some(row) = &mut rows[place_of(node)] {
-        row.at_work = work;
+        row.worker_bound = bound;
     }
 }
 
@@ -164,7 +174,7 @@ pub fn pop_reference(nodes: &mut Nodes, node: u64) -> Option<ArcRef>
     ensures others { (q : ℕ) → q ≢ node → refs_at nodes.new q ≡ refs_at nodes.old q }
     ensures here { refs_at nodes.old node ≡ refs_at nodes.new node ++ option_to_list result }
     ensures none { IfNone result (refs_at nodes.new node ≡ []) }
-    ensures work { (q : ℕ) → most_worker_handles_at nodes.new q ≡ most_worker_handles_at nodes.old q }
+    ensures worker_bound { (q : ℕ) → most_worker_handles_at nodes.new q ≡ most_worker_handles_at nodes.old q }
 {
     let rows = nodes.chunks.get_mut(chunk_of(node))?;
     match rows.get_mut(place_of(node))? {
@@ -180,7 +190,7 @@ pub fn set_references(nodes: &mut Nodes, node: u64, references: Vec<ArcRef>)
     ensures counts { (q : ℕ) → counts_at nodes.new q ≡ counts_at nodes.old q }
     ensures here { refs_at nodes.new node ≡ references.items }
     ensures others { (q : ℕ) → q ≢ node → refs_at nodes.new q ≡ refs_at nodes.old q }
-    ensures work { (q : ℕ) → most_worker_handles_at nodes.new q ≡ most_worker_handles_at nodes.old q }
+    ensures worker_bound { (q : ℕ) → most_worker_handles_at nodes.new q ≡ most_worker_handles_at nodes.old q }
 {
     let rows = &mut nodes.chunks[chunk_of(node)];
     if let Some(row) = &mut rows[place_of(node)] {
@@ -200,7 +210,7 @@ pub fn key_in(counts: Option<Counts>) -> OptionalDataKey
 
 /// Says whether a node with these counts has its value in memory: a handle pins it, or it has no
 /// key.
-pub fn is_here(counts: Option<Counts>) -> bool
+pub fn is_in_memory(counts: Option<Counts>) -> bool
     ensures { result ≡ is_in_memory (pins_in counts) (if_there (λ (cell : Cell). cell.key) OptionalDataKey.None
         (cell_in counts)) }
 {
@@ -208,7 +218,7 @@ pub fn is_here(counts: Option<Counts>) -> bool
 }
 
 /// Says whether a node with these counts has the type of this kind.
-pub fn is_of(counts: Option<Counts>, kind: Kind) -> bool
+pub fn has_type_of(counts: Option<Counts>, kind: Kind) -> bool
     ensures { result ≡ is_type (type_of kind.0) (if_there (λ (cell : Cell). Some cell.node_type) None
         (cell_in counts)) }
 {
@@ -216,7 +226,7 @@ pub fn is_of(counts: Option<Counts>, kind: Kind) -> bool
 }
 
 /// Returns the counts with one more handle.
-pub fn counts_more(counts: Counts, pinning: bool) -> Counts
+pub fn counts_with_handle(counts: Counts, pinning: bool) -> Counts
     requires pins { counts.pins < 2 ^ 63 }
     requires holds { counts.holds < 2 ^ 63 }
     ensures { result ≡ record counts { pins = counts.pins + one pinning; holds = counts.holds + 1 } }
@@ -228,9 +238,11 @@ pub fn counts_more(counts: Counts, pinning: bool) -> Counts
     }
 }
 
-/// Adds one to the node's bound of handles that workers own, if `owner` is a worker.
-pub fn add_work(nodes: &mut Nodes, node: u64, owner: Owner)
+/// Adds one to the node's upper bound of how many of its handles workers own, if `owner` is a
+/// worker. The bound stops at 2^64 - 1.
+pub fn raise_bound_for(nodes: &mut Nodes, node: u64, owner: Owner)
     requires { IsSome (counts_at nodes.old node) }
+    // what 64 bits hold of the old bound, plus one for a worker, is within the new bound
     ensures here { (k : ℕ) → k < 2 ^ 64 → k ≤ most_worker_handles_at nodes.old node + one (is_worker owner)
         → k ≤ most_worker_handles_at nodes.new node }
     ensures others { (q : ℕ) → most_worker_handles_at nodes.old q ≤ most_worker_handles_at nodes.new q }
@@ -238,8 +250,8 @@ pub fn add_work(nodes: &mut Nodes, node: u64, owner: Owner)
     ensures refs { (q : ℕ) → refs_at nodes.new q ≡ refs_at nodes.old q }
 {
     if is_worker(owner) {
-        let work = work_of(nodes, node).saturating_add(1);
-        set_work(nodes, node, work);
+        let bound = worker_bound_of(nodes, node).saturating_add(1);
+        set_worker_bound(nodes, node, bound);
     }
 }
 

@@ -3,14 +3,17 @@
 
 ghost use Rattle.indexmap.specs.IndexMap.{get};
 ghost use Rattle.pagable_tables.specs.NumberTable.{place_at, row_by, row_in};
-ghost use Rattle.std.specs.Prelude.{IsSome, None, Ok, OnOk, Option, Some, [], option_copied, slice_get};
-ghost use Rattle.std.specs.Prelude.{vec_capacity, vec_len, ℕ, ◌%◌, ◌&&◌, ◌+◌, ◌/◌, ◌<◌, ◌==◌, ◌||◌, ◌≡◌, ◌≢◌, ◌≤◌};
+ghost use Rattle.std.specs.{
+  Prelude.{IsSome, None, Ok, OnOk, Option, Some, option_copied, slice_get, vec_capacity, vec_len, ℕ, [], ◌%◌, ◌&&◌},
+  Prelude.{◌+◌, ◌/◌, ◌<◌, ◌==◌, ◌||◌, ◌≡◌, ◌≢◌, ◌≤◌},
+};
 
 use std::alloc::{AllocError, Global};
 
-/// Rows by their numbers, in chunks of 256 places. A chunk grows when a place is reserved, loses
-/// the places behind its last row, and keeps no memory without a row. Besides, a vector holds 24
-/// bytes for each 256 numbers up to the greatest that was ever reserved.
+/// Rows by their numbers, in chunks of 256 places. A chunk grows when a place is reserved. When a
+/// row is removed, its chunk loses the places behind the last row that is left, and frees its
+/// memory if none is left. Besides, a vector holds 24 bytes for each 256 numbers up to the greatest
+/// that was ever reserved.
 #[derive(Drop)]
 pub struct NumberTable<T> {
     pub(crate) chunks: Vec<Vec<Option<T>>>,

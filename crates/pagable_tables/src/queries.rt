@@ -1,18 +1,21 @@
 //! Queries of handles, nodes and the list. They change nothing.
 
-ghost use Rattle.pagable_tables.specs.Core.{StorageView};
 ghost use Rattle.indexmap.specs.IndexMap.{get};
-ghost use Rattle.pagable_value_spec.specs.declared.{data_key.OptionalDataKey.OptionalDataKey};
-ghost use Rattle.pagable_value_spec.specs.declared.numbers.NodeNumber.{NodeNumber};
-ghost use Rattle.pagable_tables.specs.{Core.{IsWhole, core_of, core_alone}, Nodes.key_in};
-ghost use Rattle.pagable_pager_spec.specs.{Calls.{IsPagedOutCall, CountCall, KeyCall, Looks, NodeCall, TypeCall}, Events.IsEntry};
-ghost use Rattle.pagable_pager_spec.specs.{Kinds.{is_loose, is_pinning}, World.key_at};
-ghost use Rattle.pagable_pager_spec.specs.declared.handle_row.HandleRow.{HandleRow};
-ghost use Rattle.std.specs.Prelude.{IfNone, IfSome, None, Ok, Option, Some, if◌then◌else◌, length, ◌*◌};
-ghost use Rattle.std.specs.Prelude.{◌<◌, ◌≡◌, ◌≤◌};
+ghost use Rattle.pagable_pager_spec.specs.{
+  Calls.{CountCall, IsPagedOutCall, KeyCall, Looks, NodeCall, TypeCall},
+  Events.IsEntry,
+  Kinds.{is_loose, is_pinning},
+  World.key_at,
+  declared.handle_row.HandleRow.HandleRow,
+};
+ghost use Rattle.pagable_tables.specs.{Core.{IsWhole, StorageView, core_alone, core_of}, Nodes.key_in};
+ghost use Rattle.pagable_value_spec.specs.{
+  declared.{data_key.OptionalDataKey.OptionalDataKey, numbers.NodeNumber.NodeNumber},
+};
+ghost use Rattle.std.specs.Prelude.{IfNone, IfSome, None, Ok, Option, Some, if◌then◌else◌, length, ◌*◌, ◌<◌, ◌≡◌, ◌≤◌};
 
 use crate::kinds::{is_loose_mode, pins};
-use crate::nodes::{is_here, key_in};
+use crate::nodes::{is_in_memory, key_in};
 use crate::tables::Tables;
 use crate::{handle_table, nodes};
 use pagable_pager_spec::handle_row::HandleRow;
@@ -27,7 +30,7 @@ pub fn node_of(t: &Tables, handle: HandleNumber) -> Result<NodeNumber, Error>
     requires { IsWhole t.now }
     ensures { (storage : StorageView) → NodeCall (core_of t.now storage) handle result }
 {
-    let at = handle_table::look(&t.ref_counts.handles, handle).ok_or(Error::NoSuchHandle)?;
+    let at = handle_table::find_live(&t.ref_counts.handles, handle).ok_or(Error::NoSuchHandle)?;
     Ok(at.row.node)
 }
 
@@ -41,7 +44,7 @@ pub fn pinned_node(t: &Tables, handle: HandleNumber) -> Result<Option<NodeNumber
     ensures { (storage : StorageView) → Looks (core_of t.now storage) handle
         (λ node row. node ≡ (if is_pinning row.mode then Some row.node else None)) result }
 {
-    let at = handle_table::look(&t.ref_counts.handles, handle).ok_or(Error::NoSuchHandle)?;
+    let at = handle_table::find_live(&t.ref_counts.handles, handle).ok_or(Error::NoSuchHandle)?;
     Ok(pins(at.row.mode).then_some(at.row.node))
 }
 
@@ -50,11 +53,11 @@ pub fn pinned_node(t: &Tables, handle: HandleNumber) -> Result<Option<NodeNumber
 /// # Errors
 ///
 /// - `NoSuchHandle` if the handle isn't live.
-pub fn count(t: &Tables, handle: HandleNumber) -> Result<u64, Error>
+pub fn pin_count(t: &Tables, handle: HandleNumber) -> Result<u64, Error>
     requires { IsWhole t.now }
     ensures { (storage : StorageView) → CountCall (core_of t.now storage) handle result }
 {
-    let at = handle_table::look(&t.ref_counts.handles, handle).ok_or(Error::NoSuchHandle)?;
+    let at = handle_table::find_live(&t.ref_counts.handles, handle).ok_or(Error::NoSuchHandle)?;
     let counts = nodes::counts_of(&t.ref_counts.nodes, at.row.node.0);
     Ok(counts.map_or(0, |c| c.pins))
 }
@@ -68,7 +71,7 @@ pub fn key(t: &Tables, handle: HandleNumber) -> Result<OptionalDataKey, Error>
     requires { IsWhole t.now }
     ensures { (storage : StorageView) → KeyCall (core_of t.now storage) handle result }
 {
-    let at = handle_table::look(&t.ref_counts.handles, handle).ok_or(Error::NoSuchHandle)?;
+    let at = handle_table::find_live(&t.ref_counts.handles, handle).ok_or(Error::NoSuchHandle)?;
     Ok(key_in(nodes::counts_of(&t.ref_counts.nodes, at.row.node.0)))
 }
 
@@ -81,8 +84,8 @@ pub fn is_paged_out(t: &Tables, handle: HandleNumber) -> Result<bool, Error>
     requires { IsWhole t.now }
     ensures { (storage : StorageView) → IsPagedOutCall (core_of t.now storage) handle result }
 {
-    let at = handle_table::look(&t.ref_counts.handles, handle).ok_or(Error::NoSuchHandle)?;
-    Ok(!is_here(nodes::counts_of(&t.ref_counts.nodes, at.row.node.0)))
+    let at = handle_table::find_live(&t.ref_counts.handles, handle).ok_or(Error::NoSuchHandle)?;
+    Ok(!is_in_memory(nodes::counts_of(&t.ref_counts.nodes, at.row.node.0)))
 }
 
 /// Says whether a handle is loose.
@@ -95,7 +98,7 @@ pub fn is_loose(t: &Tables, handle: HandleNumber) -> Result<bool, Error>
     ensures { (storage : StorageView) → Looks (core_of t.now storage) handle (λ loose row. loose ≡ is_loose row.mode)
         result }
 {
-    let at = handle_table::look(&t.ref_counts.handles, handle).ok_or(Error::NoSuchHandle)?;
+    let at = handle_table::find_live(&t.ref_counts.handles, handle).ok_or(Error::NoSuchHandle)?;
     Ok(is_loose_mode(at.row.mode))
 }
 
@@ -106,10 +109,10 @@ pub fn node_live(t: &Tables, node: NodeNumber) -> Option<u32>
     Some(nodes::counts_of(&t.ref_counts.nodes, node.0)?.node_type)
 }
 
-/// Returns the handle's row at this index of the list, with the type and the key of its cell. None
-/// past the end.
+/// Returns the row of the handle at this index of the pending list, with the type and the key of
+/// the handle's cell; or None past the end of the list.
 #[tactic(auto, using(crate::proofs::CascadeStep::counting))]
-pub fn entry(t: &Tables, place: usize) -> Option<(HandleRow, u32, OptionalDataKey)>
+pub fn pending_entry(t: &Tables, place: usize) -> Option<(HandleRow, u32, OptionalDataKey)>
     requires { IsWhole t.now }
     ensures found { IfSome result (λ e. (storage : StorageView)
         → IsEntry (core_of t.now storage) place e.0.number e.0 e.1) }
@@ -117,7 +120,7 @@ pub fn entry(t: &Tables, place: usize) -> Option<(HandleRow, u32, OptionalDataKe
     ensures past { IfNone result (length t.now.ref_counts.list.items ≤ place) }
 {
     let handle = *t.ref_counts.list.get(place)?;
-    let Some(at) = handle_table::look(&t.ref_counts.handles, handle) else {
+    let Some(at) = handle_table::find_live(&t.ref_counts.handles, handle) else {
         unreachable!();
     };
     let counts = nodes::counts_of(&t.ref_counts.nodes, at.row.node.0);
@@ -125,7 +128,7 @@ pub fn entry(t: &Tables, place: usize) -> Option<(HandleRow, u32, OptionalDataKe
 }
 
 /// Returns how many entries the pending list has.
-pub fn pending(t: &Tables) -> usize
+pub fn pending_count(t: &Tables) -> usize
     ensures { result ≡ length t.now.ref_counts.list.items }
 {
     t.ref_counts.list.len()

@@ -1,21 +1,27 @@
 //! A check of whether all tables agree, for tests.
 
 ghost use Rattle.indexmap.specs.IndexMap.{get};
-ghost use Rattle.pagable_value_spec.specs.declared.numbers.{ArcRef.ArcRef as Reference};
-ghost use Rattle.pagable_value_spec.specs.declared.numbers.{HandleNumber.HandleNumber as Number, NodeNumber.NodeNumber};
-ghost use Rattle.pagable_tables.specs.{Nodes.{counts_at, has_value, refs_at}, NumberTable.row_by};
-ghost use Rattle.pagable_tables.specs.Soundness.{agree, are_counts_sound, are_handles_sound, are_nodes_sound};
-ghost use Rattle.pagable_tables.specs.Soundness.{are_places_sound, are_references_owned, at_node, is_cache_sound};
-ghost use Rattle.pagable_tables.specs.Soundness.{is_had, is_known_soundly, is_list_sound, is_node_sound};
-ghost use Rattle.pagable_tables.specs.Soundness.{is_owned_once, is_row_sound, is_sound, pins_node, shares_node};
-ghost use Rattle.pagable_tables.specs.declared.place.Place.{Place, Place as Row};
-ghost use Rattle.pagable_pager_spec.specs.Kinds.{is_owner, is_shared, is_unpinned};
-ghost use Rattle.pagable_pager_spec.specs.declared.{handle_row.{HandleRow.HandleRow, Owner.Owner}, mode.Mode.Mode};
-ghost use Rattle.std.specs.Prelude.{List, None, Some, [], count_by, false, is_some, not, true, ◌&&◌, ◌*◌};
-ghost use Rattle.std.specs.Prelude.{◌<◌, ◌==◌, ◌||◌, ◌≡◌};
+ghost use Rattle.pagable_pager_spec.specs.{
+  Kinds.{is_owner, is_shared, is_unpinned},
+  declared.{handle_row.{HandleRow.HandleRow, Owner.Owner}, mode.Mode.Mode},
+};
+ghost use Rattle.pagable_tables.specs.{
+  Nodes.{counts_at, has_value, refs_at},
+  NumberTable.row_by,
+  Soundness.{agree, are_counts_sound, are_handles_sound, are_nodes_sound, are_places_sound, are_references_owned},
+  Soundness.{at_node, is_cache_entry_sound, is_cache_sound, is_known_to_owner, is_list_sound, is_node_sound},
+  Soundness.{is_owned_once, is_row_sound, is_sound, pins_node, shares_node},
+  declared.place.Place.{Place, Place as Row},
+};
+ghost use Rattle.pagable_value_spec.specs.declared.{
+  numbers.{ArcRef.ArcRef as Reference, HandleNumber.HandleNumber as Number, NodeNumber.NodeNumber},
+};
+ghost use Rattle.std.specs.{
+  Prelude.{List, None, Some, count_by, false, is_some, not, true, [], ◌&&◌, ◌*◌, ◌<◌, ◌==◌, ◌||◌, ◌≡◌},
+};
 
 use crate::kinds::{is_owner, is_unpinned, pins};
-use crate::nodes::{Arcs, Counts, Nodes};
+use crate::nodes::{Counts, NodeValues, Nodes};
 use crate::place::Place;
 use crate::tables::Tables;
 use crate::{load_table, nodes};
@@ -29,7 +35,7 @@ fn is_shared(mode: Mode) -> bool
     matches!(mode, Mode::Shared)
 }
 
-// Counts the live handles of a node; those that pin it; and the Shared ones.
+// Counts the live handles of a node.
 fn count_handles(places: &[Place], node: u64) -> usize
     ensures { result ≡ count_by (at_node node) places.now }
 {
@@ -39,6 +45,7 @@ fn count_handles(places: &[Place], node: u64) -> usize
         .count()
 }
 
+// Counts the live handles that pin a node.
 fn count_pins(places: &[Place], node: u64) -> usize
     ensures { result ≡ count_by (pins_node node) places.now }
 {
@@ -48,7 +55,8 @@ fn count_pins(places: &[Place], node: u64) -> usize
         .count()
 }
 
-fn count_shares(places: &[Place], node: u64) -> usize
+// Counts the live Shared handles of a node.
+fn count_shared(places: &[Place], node: u64) -> usize
     ensures { result ≡ count_by (shares_node node) places.now }
 {
     places
@@ -59,7 +67,7 @@ fn count_shares(places: &[Place], node: u64) -> usize
         .count()
 }
 
-// Says whether the handle is live, once, and this owner has it.
+// Says whether exactly one live row has the handle's number and this owner.
 fn is_owned_once(places: &[Place], owner: Owner, handle: u64) -> bool
     ensures { result ≡ is_owned_once places.now owner handle }
 {
@@ -95,10 +103,10 @@ fn is_listed_once(t: &Tables, handle: u64) -> bool
     listed.count() == 1
 }
 
-// Says whether the handle's owner has it: a value among its references once, the list among its
-// entries once; a load that is open; a worker that is running.
-fn is_had(t: &Tables, row: HandleRow) -> bool
-    ensures { result ≡ is_had t.now row row.owner }
+// Says whether the owner in a handle's row knows the handle: a value names it in one reference, the
+// list in one entry; a load is open; a worker is running.
+fn is_known_to_owner(t: &Tables, row: HandleRow) -> bool
+    ensures { result ≡ is_known_to_owner t.now row row.owner }
 {
     match row.owner {
         Owner::Caller => true,
@@ -112,12 +120,14 @@ fn is_had(t: &Tables, row: HandleRow) -> bool
 }
 
 // Says whether a live handle has a number that was given out, a node that exists, and an owner that
-// has it.
+// knows the handle.
 fn is_row_sound(t: &Tables, row: HandleRow) -> bool
     ensures { result ≡ is_row_sound t.now row }
 {
     let is_given = 1 <= row.number.0 && row.number.0 <= t.ref_counts.last_handle;
-    is_given && nodes::counts_of(&t.ref_counts.nodes, row.node.0).is_some() && is_had(t, row)
+    is_given
+        && nodes::counts_of(&t.ref_counts.nodes, row.node.0).is_some()
+        && is_known_to_owner(t, row)
 }
 
 // Says whether both are true, or neither.
@@ -134,7 +144,7 @@ fn agree(left: bool, right: bool) -> bool
 fn are_counts_sound(places: &[Place], node: u64, is_here: bool, counts: Counts) -> bool
     ensures { result ≡ are_counts_sound places.now node is_here counts }
 {
-    let shares = count_shares(places, node) as u64;
+    let shares = count_shared(places, node) as u64;
     let are_counted = counts.pins == count_pins(places, node) as u64
         && counts.holds == count_handles(places, node) as u64;
     let is_held = 1 <= counts.holds && !counts.is_dying;
@@ -170,13 +180,14 @@ fn is_node_sound(t: &Tables, node: u64, is_here: bool) -> bool
 }
 
 // Says whether a node has its value in memory.
-fn has_value<N: Drop>(values: &Arcs<N>, node: u64) -> bool
+fn has_value<N: Drop>(values: &NodeValues<N>, node: u64) -> bool
     ensures { result ≡ is_some (row_by values.now node) }
 {
     values.get(node).is_some()
 }
 
-fn is_number_sound<N: Drop>(t: &Tables, values: &Arcs<N>, node: u64) -> bool
+// Says whether the node of this number is sound, with the value that `values` has for it.
+fn is_number_sound<N: Drop>(t: &Tables, values: &NodeValues<N>, node: u64) -> bool
     ensures { result ≡ is_node_sound t.now node (is_some (row_by values.now node))
         (counts_at t.now.ref_counts.nodes node) }
 {
@@ -185,7 +196,7 @@ fn is_number_sound<N: Drop>(t: &Tables, values: &Arcs<N>, node: u64) -> bool
 
 // Says whether the nodes of all numbers that were given out are sound.
 #[tactic(auto, using(crate::proofs::NodesSound::stepping))]
-fn are_nodes_sound<N: Drop>(t: &Tables, values: &Arcs<N>) -> bool
+fn are_nodes_sound<N: Drop>(t: &Tables, values: &NodeValues<N>) -> bool
     ensures { result ≡ are_nodes_sound t.now values.now t.now.last_node }
 {
     let mut left = t.last_node;
@@ -237,13 +248,13 @@ fn is_list_sound(t: &Tables) -> bool
 
 // Says whether a cached node has a number that was given out and, while it lives, the kind's type,
 // and is Shared exactly if the kind is.
-fn is_known_soundly(t: &Tables, kind: Kind, node: NodeNumber) -> bool
-    ensures { result ≡ is_known_soundly t.now kind.0 node.0 (counts_at t.now.ref_counts.nodes node.0) }
+fn is_cache_entry_sound(t: &Tables, kind: Kind, node: NodeNumber) -> bool
+    ensures { result ≡ is_cache_entry_sound t.now kind.0 node.0 (counts_at t.now.ref_counts.nodes node.0) }
 {
     let is_given = node.0 <= t.last_node;
     match nodes::counts_of(&t.ref_counts.nodes, node.0) {
         Some(counts) => {
-            let is_shared = 1 <= count_shares(t.ref_counts.handles.places.as_slice(), node.0);
+            let is_shared = 1 <= count_shared(t.ref_counts.handles.places.as_slice(), node.0);
             is_given && (counts.node_type == kind.node_type() && agree(is_shared, kind.is_shared()))
         }
         None => is_given,
@@ -254,18 +265,16 @@ fn is_known_soundly(t: &Tables, kind: Kind, node: NodeNumber) -> bool
 fn is_cache_sound(t: &Tables) -> bool
     ensures { result ≡ is_cache_sound t.now }
 {
-    t.cache
-        .iter()
-        .all(|(known, node)| is_known_soundly(t, Kind(known.0), *node))
+    t.cache.iter().all(|(known, node)| is_cache_entry_sound(t, Kind(known.0), *node))
 }
 
 /// Says whether handles, nodes and their counts, list, cache, loads, workers and values agree: each
-/// live handle has a node, and an owner that has it once; each node counts its handles, and has its
-/// value exactly while a handle pins it or it has no key; each value owns the handles of its
-/// references; and each cached node is of its kind. It takes time for each pair of a node and a
-/// handle.
+/// live handle has a node, and an owner that knows the handle; each node counts its handles, and
+/// has its value exactly while a handle pins it or it has no key; each value owns the handles of
+/// its references; and each cached node is of its kind. The check takes time proportional to the
+/// number of nodes times the number of handles.
 #[tactic(auto, unfolding(crate::specs::Soundness::is_sound))]
-pub fn is_sound<N: Drop>(t: &Tables, values: &Arcs<N>) -> bool
+pub fn is_sound<N: Drop>(t: &Tables, values: &NodeValues<N>) -> bool
     ensures { result ≡ is_sound t.now values.now }
 {
     are_handles_sound(t)

@@ -1,12 +1,18 @@
 //! All tables of a pager together, and the room that they have for handles and list entries.
 
-ghost use Rattle.pagable_value_spec.specs.declared.numbers.NodeNumber.{NodeNumber};
-ghost use Rattle.pagable_tables.specs.{Core.{OwnLaterHandles, Does, IsWhole, core_alone}, HandleTable.room};
-ghost use Rattle.pagable_tables.specs.{Indexes.{known_at, load_at, worker_at}, Nodes.counts_at};
-ghost use Rattle.pagable_tables.specs.declared.cascade.RefCounts.{RefCounts};
 ghost use Rattle.pagable_pager_spec.specs.Calls.{ClearCall, ReserveCall, room_of};
-ghost use Rattle.std.specs.Prelude.{None, Ok, OnErr, OnOk, [], length, ℕ, ◌+◌, ◌<◌, ◌≡◌, ◌≤◌};
-ghost use Rattle.std.specs.VecDeque.{deque_capacity};
+ghost use Rattle.pagable_tables.specs.{
+  Core.{Does, IsWhole, OwnLaterHandles, core_alone},
+  HandleTable.room,
+  Indexes.{cached_at, load_at, worker_at},
+  Nodes.counts_at,
+  declared.cascade.RefCounts.RefCounts,
+};
+ghost use Rattle.pagable_value_spec.specs.declared.numbers.NodeNumber.{NodeNumber};
+ghost use Rattle.std.specs.{
+  Prelude.{None, Ok, OnErr, OnOk, length, ℕ, [], ◌+◌, ◌<◌, ◌≡◌, ◌≤◌},
+  VecDeque.deque_capacity,
+};
 
 use crate::cascade::RefCounts;
 use crate::handle_table;
@@ -38,8 +44,8 @@ pub struct Tables {
     pub ref_counts: RefCounts,
     /// The node that is cached under a kind and a key.
     pub cache: Cache,
-    /// When the cache has more entries than this, `forget_gone` removes those that can't be used
-    /// any more.
+    /// When the cache has more entries than `cache_limit`, `forget_gone` removes those whose nodes
+    /// are gone.
     pub cache_limit: usize,
     pub loads: Loads,
     /// The running workers, with the handles that each may own.
@@ -56,7 +62,7 @@ pub fn new(alloc: Global) -> Tables
     ensures rows { result.ref_counts.handles.places.items ≡ [] }
     ensures nodes { (n : ℕ) → counts_at result.ref_counts.nodes n ≡ None }
     ensures list { result.ref_counts.list.items ≡ [] }
-    ensures cache { (kind key : ℕ) → known_at result.cache kind key ≡ None }
+    ensures cache { (kind key : ℕ) → cached_at result.cache kind key ≡ None }
     ensures loads { (l : ℕ) → load_at result.loads l ≡ None }
     ensures workers { (v : ℕ) → worker_at result.workers v ≡ None }
     ensures last { (result.last_node ≡ 0) × (result.ref_counts.last_handle ≡ 0) × (result.last_load ≡ 0)

@@ -1,18 +1,25 @@
 //! Page-out workers: how they begin, release their handles at a node, and end.
 
 ghost use Rattle.indexmap.specs.IndexMap.{get};
+ghost use Rattle.pagable_pager_spec.specs.{
+  Basics.updated,
+  Cascade.FallsAnyhow,
+  Kinds.{is_owner, owner_worker},
+  Workers.{WorkerEnds, is_workers_at},
+  declared.handle_row.Owner.Owner,
+};
+ghost use Rattle.pagable_tables.specs.{
+  Core.{BeginsWorker, Does, DoesAndDropsValues, IsWhole, OwnLaterHandles, TakesWorker, left_load},
+  Indexes.{load_at, reach_at, worker_at},
+  declared.{load_table.LoadRow.LoadRow, release.ReleaseSet.ReleaseSet},
+};
 ghost use Rattle.pagable_value_spec.specs.declared.numbers.{NodeNumber.NodeNumber, WorkerNumber.WorkerNumber};
-ghost use Rattle.pagable_tables.specs.Core.{OwnLaterHandles, BeginsWorker, Does, DoesShed, IsWhole, TakesWorker, left_load};
-ghost use Rattle.pagable_tables.specs.Indexes.{load_at, reach_at, worker_at};
-ghost use Rattle.pagable_tables.specs.declared.{load_table.LoadRow.LoadRow, release.ReleaseSet.ReleaseSet};
-ghost use Rattle.pagable_pager_spec.specs.{Cascade.FallsAnyhow, Kinds.{is_owner, owner_worker}, Basics.updated};
-ghost use Rattle.pagable_pager_spec.specs.{Workers.{WorkerEnds, is_workers_at}, declared.handle_row.Owner.Owner};
 ghost use Rattle.std.specs.Prelude.{IfOk, Ok, is_some, length, not, true, ℕ, ◌+◌, ◌<◌, ◌==◌, ◌≡◌};
 
 use crate::kinds::is_owner;
 use crate::load_table;
 use crate::load_table::{LoadRow, Loads};
-use crate::nodes::Arcs;
+use crate::nodes::NodeValues;
 use crate::pending::take_pending;
 use crate::release::{ReleaseSet, release_owned};
 use crate::tables::{HandleRange, Tables, Workers};
@@ -40,14 +47,14 @@ pub fn worker_begin(t: &mut Tables) -> Result<WorkerNumber, Error>
     let worker = t.last_worker + 1;
     let since = t.ref_counts.last_handle;
     let reach = HandleRange { since, beside: 0 };
-    load_table::open(&mut t.workers, worker, reach)?;
+    load_table::add_row(&mut t.workers, worker, reach)?;
     t.last_worker = worker;
     Ok(WorkerNumber(worker))
 }
 
-/// Begins a worker and makes it the owner of the handle at this index of the list, whose entry is
-/// removed. It fails as `worker_begin` does, and changes nothing then.
-pub fn worker_take(t: &mut Tables, place: usize) -> Result<WorkerNumber, Error>
+/// Begins a worker, removes the entry at this index of the pending list and makes the worker the
+/// owner of the entry's handle. It fails as `worker_begin` does, and changes nothing then.
+pub fn worker_begin_with_entry(t: &mut Tables, place: usize) -> Result<WorkerNumber, Error>
     requires whole { IsWhole t.old }
     requires within { place < length t.old.ref_counts.list.items }
     ensures { Does t.old (λ w w'. TakesWorker w place result w') t.new }
@@ -69,14 +76,15 @@ fn reach_of(workers: &Workers, worker: WorkerNumber) -> HandleRange
 /// Releases all handles that a worker owns at a node, and runs the cascade.
 pub fn release_node<N: Drop>(
     t: &mut Tables,
-    values: &mut Arcs<N>,
+    values: &mut NodeValues<N>,
     worker: WorkerNumber,
     node: NodeNumber,
     lists: bool,
 )
     requires whole { IsWhole t.old }
     requires later { OwnLaterHandles t.old }
-    ensures { DoesShed lists t.old values.old (λ w w'. FallsAnyhow w w (is_workers_at w worker.0 node.0) w') t.new
+    ensures { DoesAndDropsValues lists t.old values.old (λ w w'. FallsAnyhow w w (is_workers_at w worker.0 node.0) w')
+        t.new
         values.new }
 {
     let giving = ReleaseSet::AtNode(worker, node);
@@ -107,10 +115,15 @@ fn close_loads(loads: &mut Loads, worker: WorkerNumber)
 
 /// Ends a worker: releases all handles that it and its loads own, runs the cascade, and closes its
 /// loads.
-pub fn worker_end<N: Drop>(t: &mut Tables, values: &mut Arcs<N>, worker: WorkerNumber, lists: bool)
+pub fn worker_end<N: Drop>(
+    t: &mut Tables,
+    values: &mut NodeValues<N>,
+    worker: WorkerNumber,
+    lists: bool,
+)
     requires whole { IsWhole t.old }
     requires later { OwnLaterHandles t.old }
-    ensures { DoesShed lists t.old values.old (λ w w'. WorkerEnds w worker.0 w') t.new values.new }
+    ensures { DoesAndDropsValues lists t.old values.old (λ w w'. WorkerEnds w worker.0 w') t.new values.new }
 {
     let giving = ReleaseSet::Worker(worker);
     let reach = reach_of(&t.workers, worker);
@@ -125,5 +138,5 @@ pub fn worker_end<N: Drop>(t: &mut Tables, values: &mut Arcs<N>, worker: WorkerN
         lists,
     );
     close_loads(&mut t.loads, worker);
-    load_table::close(&mut t.workers, worker.0);
+    load_table::remove_row(&mut t.workers, worker.0);
 }

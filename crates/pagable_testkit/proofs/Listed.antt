@@ -1,10 +1,20 @@
 -- What writing a byte and lists lists.
-use Rattle.std.{proofs.Common.{Err, Ok, Result, ap, inl, inr, subst, sym, ℕ, ◌++◌, ◌∙◌, ◌≡◌, ◌⊎◌}, specs.{Global.Vec, Prelude.OnOk}}
-use Rattle.{pagable_testkit.specs.Cells.{byte_in_order, mixed}, pagable_value_spec.specs.{References.references_in, Shape.{Shape, list, nothing, reference}, Writing.{Out, WritesSome, nesting}}}
-use Rattle.{pagable_value_spec.specs.declared.error.Error.Error, pagable_traits.{proofs.Listed.written_listed, specs.Refers.{ListsInOrder, both_in_order, list_in_order, reference_in_order}}}
-use Rattle.pagable_traits.specs.declared.raw_ref.RawRef.{RawRef}
-use Rattle.{pagable_value_spec.specs.Cursor.{GivesSome, HoldsLentValues, InputState}, std.specs.{Arc.arc_value, Result.IsErrAnd, declared.{alloc.Global.Global, sync.Arc.Arc}}}
-use Rattle.{pagable_testkit.specs.{Linked.{bundle_beside, fields_beside, node_beside}, declared.linked.{LinkedNode.LinkedNode, bundle.Bundle.Bundle}}}
+use Rattle.pagable_testkit.specs.{
+  Cells.{byte_in_order, mixed},
+  Linked.{bundle_beside, fields_beside, node_beside},
+  declared.linked.{LinkedNode.LinkedNode, bundle.Bundle.Bundle},
+}
+use Rattle.pagable_traits.proofs.Listed.{written_listed}
+use Rattle.pagable_traits.specs.{Refers.{ListsInOrder, both_in_order, list_in_order, reference_in_order}, declared.raw_ref.RawRef.RawRef}
+use Rattle.pagable_value_spec.specs.{
+  Cursor.{GivesSome, HoldsLentValues, InputState},
+  References.references_in,
+  Shape.{Shape, list, nothing, reference},
+  Writing.{Out, WritesSome, nesting},
+  declared.error.Error.Error,
+}
+use Rattle.std.proofs.Common.{Err, Ok, Result, ap, inl, inr, subst, sym, ℕ, ◌++◌, ◌∙◌, ◌≡◌, ◌⊎◌}
+use Rattle.std.specs.{Arc.arc_value, Global.Vec, Prelude.OnOk, Result.IsErrAnd, declared.{alloc.Global.Global, sync.Arc.Arc}}
 use Rattle.pagable_testkit.specs.declared.linked.LinkedNode.TheVariants as nodes
 
 -- the environment has no part with a number

@@ -1,7 +1,9 @@
 -- The errors of a storage that fails once, and of one that passes on the errors of its memory.
-use Rattle.{pagable_testkit.specs.Failing.failures_of, pagable_value_spec.specs.{Blob.Blob, Stored.{HasFailed, RefusesFetch, RefusesStore, IsMemoryOrFailure}, declared.error.Error.Error}}
 use Rattle.futures.specs.{Poll.IfReady, declared.task.Poll.Poll}
-use Rattle.std.{proofs.{Common.{◌≡◌, ◌+◌, ◌-◌, ◌^◌, ◌<◌, ℕ, Bool, true, false, min, arith, Option, Result, Ok, Err, inl, inr}, lemmas.Bool.cases_lt}, specs.{Int.from_bool, Prelude.IfErr}}
+use Rattle.pagable_testkit.specs.Failing.{failures_of}
+use Rattle.pagable_value_spec.specs.{Blob.Blob, Stored.{HasFailed, IsMemoryOrFailure, RefusesFetch, RefusesStore}, declared.error.Error.Error}
+use Rattle.std.proofs.{Common.{Bool, Err, Ok, Option, Result, arith, false, inl, inr, min, true, ℕ, ◌+◌, ◌-◌, ◌<◌, ◌^◌, ◌≡◌}, lemmas.Bool.cases_lt}
+use Rattle.std.specs.{Int.from_bool, Prelude.IfErr}
 
 -- counts that are cut off at the greatest
 cut : (before after : ℕ) → before < after → HasFailed (min (2 ^ 64 - 1) before) (min (2 ^ 64 - 1) after)
@@ -34,7 +36,8 @@ module _ {X : Type 0} (failed : Bool) (before after : ℕ) where
   store_may_refuse (Ok x) blob closed h = tt
   store_may_refuse (Err e) blob closed h = (h.0, store_refused (Err e) blob h.0 closed h.1)
 
-  pub flush_refused : (r : Result X Error) → IfErr r (IsMemoryOrFailure before after) → IfErr r (IsMemoryOrFailure (failures_of failed before) (failures_of failed after))
+  pub flush_refused : (r : Result X Error) → IfErr r (IsMemoryOrFailure before after)
+      → IfErr r (IsMemoryOrFailure (failures_of failed before) (failures_of failed after))
   flush_refused x0 h = grind (arith, passed-on)
 
 pub ruleset refusing = (own_failure, fetch_refused, poll_refused, store_refused, store_may_refuse, flush_refused)

@@ -1,25 +1,44 @@
 -- What the values of the test cases mean, and how they are encoded.
-use Rattle.std.specs.{Global.Vec, Int.w8, Prelude.{None, Option, Some, String, refl, suc, true, zero, ℕ, ◌≡◌}, String.string_bytes, declared.alloc.Global.Global}
-use Rattle.pagable_testkit.specs.{Linked.{Case, chain_means, chain_single, one_writes, node_case}, declared.{cells.CellNode.CellNode, linked.chain.Chain.Chain}}
-use Rattle.pagable_value_spec.specs.{Form.unsigned-form, Meaning.{Meaning, number}, References.references_in, Refusals.may_refuse_writing, Shape.{Shape, both, list, nothing, optional, reference, text}}
-use Rattle.pagable_value_spec.specs.{Shape.unsigned, declared.numbers.ArcRef.ArcRef}
-use Rattle.pagable_traits.specs.Meanings.{AreSingle, Meanings, exactly, lists, lists_single, pairs, pairs_single, seen_by}
-use Rattle.pagable_traits.specs.{OwnCauses.{WriteCauses, writes_either, writes_long_or, writes_memory, writes_memory_or}, References.plain_means, Refers.ListsInOrder}
-use Rattle.pagable_traits.specs.declared.raw_ref.RawRef.{RawRef}
+use Rattle.pagable_testkit.specs.{
+  Linked.{Case, chain_means, chain_single, node_case, one_writes},
+  declared.{cells.CellNode.CellNode, linked.chain.Chain.Chain},
+}
+use Rattle.pagable_traits.specs.{
+  Meanings.{AreSingle, Meanings, exactly, lists, lists_single, pairs, pairs_single, seen_by},
+  OwnCauses.{WriteCauses, writes_either, writes_long_or, writes_memory, writes_memory_or},
+  References.plain_means,
+  Refers.ListsInOrder,
+  declared.raw_ref.RawRef.RawRef,
+}
+use Rattle.pagable_value_spec.specs.{
+  Form.unsigned-form,
+  Meaning.{Meaning, number},
+  References.references_in,
+  Refusals.may_refuse_writing,
+  Shape.{Shape, both, list, nothing, optional, reference, text, unsigned},
+  declared.numbers.ArcRef.ArcRef,
+}
+use Rattle.std.specs.{
+  Global.Vec,
+  Int.w8,
+  Prelude.{None, Option, Some, String, refl, suc, true, zero, ℕ, ◌≡◌},
+  String.string_bytes,
+  declared.alloc.Global.Global,
+}
 use Rattle.pagable_value_spec.specs.Meaning as meanings
 use Rattle.pagable_testkit.specs.declared.cells.CellNode.TheVariants as nodes
 
 -- the shape of a type's values, their one meaning each, and all errors of writing them
-pub record Spelled (T : Type 0) : Type 1 where
+pub record Encoding (T : Type 0) : Type 1 where
   pub shape : Shape
   pub means : Meanings T
   pub single : AreSingle means
   pub writes : WriteCauses
 
-abbrev pub plain : {T : Type 0} → Shape → (T → Meaning ArcRef) → WriteCauses → Spelled T
+abbrev pub plain : {T : Type 0} → Shape → (T → Meaning ArcRef) → WriteCauses → Encoding T
 plain s meaning causes = record { shape = s; means = exactly meaning; single = λ x m is. is; writes = causes }
 
-abbrev pub two : {A B : Type 0} → Spelled A → Spelled B → Spelled (A × B)
+abbrev pub two : {A B : Type 0} → Encoding A → Encoding B → Encoding (A × B)
 two a b = record {
   shape = both a.shape b.shape;
   means = pairs a.means b.means;
@@ -27,16 +46,16 @@ two a b = record {
   writes = writes_either a.writes b.writes;
 }
 
-abbrev string : Spelled (String Global)
+abbrev string : Encoding (String Global)
 string = plain text (λ t. meanings.text (string_bytes t)) (writes_long_or writes_memory)
 
-abbrev pub byte : Spelled ℕ
+abbrev pub byte : Encoding ℕ
 byte = plain (unsigned w8) number writes_memory
 
-abbrev pub one : (kind : ℕ) → Spelled (RawRef kind)
+abbrev pub one : (kind : ℕ) → Encoding (RawRef kind)
 one kind = plain (reference kind) (plain_means kind) writes_memory
 
-abbrev at_most_one : (kind : ℕ) → Spelled (Chain kind)
+abbrev at_most_one : (kind : ℕ) → Encoding (Chain kind)
 at_most_one kind = record {
   shape = optional (reference kind);
   means = chain_means kind;
@@ -44,7 +63,7 @@ at_most_one kind = record {
   writes = one_writes;
 }
 
-abbrev pub many : (kind : ℕ) → Spelled (Vec (RawRef kind))
+abbrev pub many : (kind : ℕ) → Encoding (Vec (RawRef kind))
 many kind = record {
   shape = list (reference kind);
   means = seen_by (λ v. v.items) (lists (one kind).means);
@@ -52,7 +71,7 @@ many kind = record {
   writes = writes_long_or (writes_memory_or writes_memory);
 }
 
-abbrev pub mixed : Spelled (ℕ × (Vec (RawRef 6) × (Vec (RawRef 7)
+abbrev pub mixed : Encoding (ℕ × (Vec (RawRef 6) × (Vec (RawRef 7)
     × (Vec (RawRef 8) × (Vec (RawRef 1) × Vec (RawRef 0))))))
 mixed = two byte (two (many 6) (two (many 7) (two (many 8) (two (many 1) (many 0)))))
 
@@ -85,15 +104,15 @@ writes (suc (suc (suc (suc (suc zero))))) = (many 0).writes
 writes (suc (suc (suc (suc (suc (suc zero)))))) = (one 0).writes
 writes (suc (suc (suc (suc (suc (suc (suc n))))))) = (two byte byte).writes
 
-abbrev case : {T : Type 0} (t : ℕ) (s : Spelled T) → shape_of t ≡ Some s.shape → T → Case shape_of
+abbrev case : {T : Type 0} (t : ℕ) (s : Encoding T) → shape_of t ≡ Some s.shape → T → Case shape_of
 case t s is x = node_case shape_of t s.shape is s.means s.single x
 
-abbrev pub told : CellNode → Case shape_of
-told (nodes.Name t) = case 0 string refl t
-told (nodes.Note t) = case 1 string refl t
-told (nodes.Mixed lists) = case 2 mixed refl lists
-told (nodes.Link next) = case 3 (at_most_one 10) refl next
-told (nodes.ArcLink next) = case 4 (at_most_one 12) refl next
-told (nodes.Names names) = case 5 (many 0) refl names
-told (nodes.Holder name) = case 6 (one 0) refl name
-told (nodes.Bytes bytes) = case 7 (two byte byte) refl bytes
+abbrev pub case_of : CellNode → Case shape_of
+case_of (nodes.Name t) = case 0 string refl t
+case_of (nodes.Note t) = case 1 string refl t
+case_of (nodes.Mixed lists) = case 2 mixed refl lists
+case_of (nodes.Link next) = case 3 (at_most_one 10) refl next
+case_of (nodes.ArcLink next) = case 4 (at_most_one 12) refl next
+case_of (nodes.Names names) = case 5 (many 0) refl names
+case_of (nodes.Holder name) = case 6 (one 0) refl name
+case_of (nodes.Bytes bytes) = case 7 (two byte byte) refl bytes

@@ -1,5 +1,5 @@
 -- The count of failures of a storage that fails once.
-use Rattle.std.specs.{Int.from_bool, Prelude.{ℕ, ◌+◌, ◌-◌, ◌^◌, Bool, min}}
+use Rattle.std.specs.{Int.from_bool, Prelude.{Bool, min, ℕ, ◌+◌, ◌-◌, ◌^◌}}
 
 -- its own failure and those of the storage that it calls, up to the greatest count
 abbrev pub failures_of : Bool → ℕ → ℕ

@@ -1,15 +1,31 @@
 -- What links and bundles mean and refer to, and the same for the nodes that hold them.
-use Rattle.std.{proofs.Common.arith, specs.{Arc.arc_value, Global.Vec, Prelude.{List, None, Option, Some, false, refl, suc, true, zero, ℕ, ◌<◌, ◌^◌, ◌≡◌}}}
-use Rattle.{pagable_testkit.specs.declared.linked.{LinkedNode.LinkedNode, bundle.Bundle.Bundle, chain.Chain.Chain}, pagable_value_spec.specs.Meaning.Meaning}
-use Rattle.pagable_value_spec.specs.{OneForm.{HasOneFormThroughout, over_has_one_form, two_has_one_form}, References.{SameReferences, references_in}}
-use Rattle.pagable_value_spec.specs.{Shape.{Shape, both, list, nothing, optional, reference}, Cursor.SomeMeaning, declared.numbers.ArcRef.ArcRef}
-use Rattle.pagable_traits.specs.{HeldValues.{Beside, holding_beside, lists_beside, pairs_beside}, InNodes.{Holds, holds-none, holds-value}}
-use Rattle.pagable_traits.specs.Meanings.{AreSingle, Meanings, exactly, lists, lists_single, options, options_single, pairs, pairs_single, seen_by, some}
-use Rattle.pagable_traits.specs.OwnCauses.{ReadCauses, WriteCauses, reads_either, reads_memory_or, reads_never, writes_either, writes_long_or, writes_memory, writes_memory_or}
-use Rattle.pagable_traits.specs.ReadBack.{IsReadThroughout, over_is_read, two_is_read}
-use Rattle.pagable_traits.specs.References.{holding_means, loose_means, plain_means, reads_unlent, reference_has_one_form, reference_is_read}
-use Rattle.pagable_traits.specs.Refers.{ListsInOrder, both_in_order, list_in_order, optional_in_order, reference_in_order}
-use Rattle.pagable_traits.specs.declared.{arc.HoldingArc.HoldingArc, pagable_arc.PagableArc.PagableArc}
+use Rattle.pagable_testkit.specs.declared.linked.{LinkedNode.LinkedNode, bundle.Bundle.Bundle, chain.Chain.Chain}
+use Rattle.pagable_traits.specs.{
+  HeldValues.{Beside, holding_beside, lists_beside, pairs_beside},
+  InNodes.{Holds, holds-none, holds-value},
+  Meanings.{AreSingle, Meanings, exactly, lists, lists_single, options, options_single, pairs, pairs_single, seen_by},
+  Meanings.some,
+  OwnCauses.{ReadCauses, WriteCauses, reads_either, reads_memory_or, reads_never, writes_either, writes_long_or},
+  OwnCauses.{writes_memory, writes_memory_or},
+  ReadBack.{IsReadableThroughout, over_is_read, two_is_read},
+  References.{holding_means, loose_means, plain_means, reads_lending, reference_has_one_form, reference_is_read},
+  Refers.{ListsInOrder, both_in_order, list_in_order, optional_in_order, reference_in_order},
+  declared.{arc.HoldingArc.HoldingArc, pagable_arc.PagableArc.PagableArc},
+}
+use Rattle.pagable_value_spec.specs.{
+  Cursor.SomeMeaning,
+  Meaning.Meaning,
+  OneForm.{HasOneFormThroughout, over_has_one_form, two_has_one_form},
+  References.{SameReferences, references_in},
+  Shape.{Shape, both, list, nothing, optional, reference},
+  declared.numbers.ArcRef.ArcRef,
+}
+use Rattle.std.proofs.Common.{arith}
+use Rattle.std.specs.{
+  Arc.arc_value,
+  Global.Vec,
+  Prelude.{List, None, Option, Some, false, refl, suc, true, zero, ℕ, ◌<◌, ◌^◌, ◌≡◌},
+}
 use Rattle.pagable_testkit.specs.declared.linked.LinkedNode.TheVariants as nodes
 
 -- the environment has no part with a number
@@ -61,8 +77,8 @@ pub bundle_has_one_form : HasOneFormThroughout no_parts bundle_shape
 bundle_has_one_form = in-bundle (HasOneFormThroughout no_parts) (λ s t. two_has_one_form (refl, refl))
     (λ kind. over_has_one_form refl (reference_has_one_form no_parts kind))
 
-pub bundle_is_read : IsReadThroughout no_parts bundle_shape
-bundle_is_read = in-bundle (IsReadThroughout no_parts) (λ s t. two_is_read (refl, refl))
+pub bundle_is_read : IsReadableThroughout no_parts bundle_shape
+bundle_is_read = in-bundle (IsReadableThroughout no_parts) (λ s t. two_is_read (refl, refl))
     (λ kind. over_is_read refl (reference_is_read no_parts kind))
 
 pub bundle_in_order : ListsInOrder no_parts bundle_shape
@@ -79,8 +95,8 @@ bundle_writes = writes_either (writes_long_or one_writes)
     (writes_either (writes_long_or one_writes) (writes_long_or one_writes))
 
 abbrev pub bundle_reads : ReadCauses
-bundle_reads = reads_either (reads_memory_or reads_unlent)
-    (reads_either (reads_memory_or reads_never) (reads_memory_or reads_unlent))
+bundle_reads = reads_either (reads_memory_or reads_lending)
+    (reads_either (reads_memory_or reads_never) (reads_memory_or reads_lending))
 
 -- ---- nodes
 
@@ -113,11 +129,12 @@ shape_of (suc zero) = Some (optional (reference 3))
 shape_of (suc (suc zero)) = Some bundle_shape
 shape_of (suc (suc (suc n))) = None
 
-abbrev pub told : LinkedNode → Case shape_of
-told (nodes.Link c) = node_case shape_of 0 (optional (reference 1)) refl (chain_means 1) (chain_single 1) (arc_value c)
-told (nodes.ArcLink c) = node_case shape_of 1 (optional (reference 3)) refl (chain_means 3) (chain_single 3)
+abbrev pub case_of : LinkedNode → Case shape_of
+case_of (nodes.Link c) = node_case shape_of 0 (optional (reference 1)) refl (chain_means 1)
+    (chain_single 1) (arc_value c)
+case_of (nodes.ArcLink c) = node_case shape_of 1 (optional (reference 3)) refl (chain_means 3) (chain_single 3)
     (arc_value c)
-told (nodes.Bundle b) = node_case shape_of 2 bundle_shape refl bundle_means bundle_single (arc_value b)
+case_of (nodes.Bundle b) = node_case shape_of 2 bundle_shape refl bundle_means bundle_single (arc_value b)
 
 -- all errors of writing a type's values, and the errors of reading them other than faults of the input and of
 -- references
@@ -132,7 +149,7 @@ reads _ = reads_memory_or reads_never
 -- ---- the value that a node holds
 
 abbrev pub HoldsIn : {T : Type 0} → Meanings T → ℕ → LinkedNode → Option T → Type 0
-HoldsIn M t n = Holds M.of t (told n).number (told n).means
+HoldsIn M t n = Holds M.of t (case_of n).number (case_of n).means
 
 abbrev pub link_in : LinkedNode → Option (Chain 1)
 link_in (nodes.Link x) = Some (arc_value x)

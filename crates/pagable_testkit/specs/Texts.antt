@@ -1,7 +1,18 @@
 -- What the nodes of texts mean, and how they are encoded.
-use Rattle.std.{proofs.Common.arith, specs.{Arc.arc_value, Prelude.{None, Option, Some, String, [], refl, suc, zero, ℕ, ◌<◌, ◌^◌, ◌≡◌}, String.string_bytes, declared.alloc.Global.Global}}
-use Rattle.pagable_value_spec.specs.{Meaning.Meaning, References.{SameReferences, references_in}, Shape.{Shape, text}, declared.numbers.ArcRef.ArcRef}
 use Rattle.pagable_testkit.specs.declared.text.TextNode.{TextNode}
+use Rattle.pagable_value_spec.specs.{
+  Meaning.Meaning,
+  References.{SameReferences, references_in},
+  Shape.{Shape, text},
+  declared.numbers.ArcRef.ArcRef,
+}
+use Rattle.std.proofs.Common.{arith}
+use Rattle.std.specs.{
+  Arc.arc_value,
+  Prelude.{None, Option, Some, String, refl, suc, zero, ℕ, [], ◌<◌, ◌^◌, ◌≡◌},
+  String.string_bytes,
+  declared.alloc.Global.Global,
+}
 use Rattle.pagable_value_spec.specs.Meaning as meanings
 
 -- the one type of texts has the number 0

@@ -41,8 +41,8 @@ pub fn blob(alloc: Global, text: &str) -> anyhow::Result<PagableData> {
     Ok(PagableData { bytes, arcs })
 }
 
-/// Returns the key of a blob by `WeighHash`, as a text.
-pub fn weighed(alloc: Global, text: &str) -> anyhow::Result<String> {
+/// Parses a blob, and prints the key that `WeighHash` computes of it.
+pub fn weigh_hash_key(alloc: Global, text: &str) -> anyhow::Result<String> {
     let key = blob(alloc, text)?.compute_key::<WeighHash>();
     Ok(format!(in alloc; "{}", key.get())?)
 }

@@ -1,4 +1,4 @@
-//! The values of the test cases, by the numbers of their types.
+//! The eight types of the values of test cases, and their nodes and environment.
 
 use crate::linked::chain::Chain;
 use pagable_flavors::{Error, Reason};
@@ -36,7 +36,7 @@ impl<H: KeyHash> Env for CellEnv<H> {
     ghost parts = { λ e number. nothing };
 }
 
-/// References of each sort to values of the same type, and loose and shared references to names.
+/// References of each sort to `Mixed` values, and loose and shared references to names.
 type Lists = (
     Vec<RawRef<6>>,
     (Vec<RawRef<7>>, (Vec<RawRef<8>>, (Vec<RawRef<1>>, Names))),
@@ -55,18 +55,18 @@ type ArcLink = Chain<12>;
 /// Shared references to names.
 type Names = Vec<RawRef<0>>;
 
-/// A node that holds a value of one of these types.
+/// A node that holds a value of one of the eight types of the test cases.
 #[derive(Drop)]
 pub enum CellNode {
     /// Type 0: a text.
     Name(String),
     /// Type 1: a text that can be read, and whose writer fails.
     Note(String),
-    /// Type 2: a byte and lists.
+    /// Type 2: a byte and lists of references.
     Mixed(Mixed),
-    /// Type 3: a link by a loose reference.
+    /// Type 3: a link, with a loose reference to the next link or none.
     Link(Link),
-    /// Type 4: a link by a shared reference.
+    /// Type 4: a link, with a shared reference to the next link or none.
     ArcLink(ArcLink),
     /// Type 5: shared references to names.
     Names(Names),
@@ -77,7 +77,7 @@ pub enum CellNode {
 }
 
 /// Returns those references that are of this kind.
-pub fn of_kinds<const KIND: u32>(
+pub fn references_of_kind<const KIND: u32>(
     alloc: Global,
     references: &[ArcRef],
 ) -> Result<Vec<RawRef<KIND>>, Error> {
@@ -91,34 +91,34 @@ pub fn of_kinds<const KIND: u32>(
 }
 
 /// Returns those references that are of the one kind, and those that are of the other.
-pub fn of_two_kinds<const KIND: u32, const OTHER: u32>(
+pub fn references_of_two_kinds<const KIND: u32, const OTHER: u32>(
     alloc: Global,
     references: &[ArcRef],
 ) -> Result<(Vec<RawRef<KIND>>, Vec<RawRef<OTHER>>), Error> {
-    let first = of_kinds(alloc, references)?;
-    Ok((first, of_kinds(alloc, references)?))
+    let first = references_of_kind(alloc, references)?;
+    Ok((first, references_of_kind(alloc, references)?))
 }
 
 /// Sorts these references into lists, one for each kind.
-pub fn lists(alloc: Global, spelled: &[ArcRef]) -> Result<Lists, Error> {
-    let (own, loose) = of_two_kinds(alloc, spelled)?;
-    let pinned = of_kinds(alloc, spelled)?;
-    let names = of_two_kinds(alloc, spelled)?;
+pub fn sort_into_lists(alloc: Global, spelled: &[ArcRef]) -> Result<Lists, Error> {
+    let (own, loose) = references_of_two_kinds(alloc, spelled)?;
+    let pinned = references_of_kind(alloc, spelled)?;
+    let names = references_of_two_kinds(alloc, spelled)?;
     Ok((own, (loose, (pinned, names))))
 }
 
 impl<H: KeyHash> NodeSet<CellEnv<H>> for CellNode {
-    ghost use Rattle.{pagable_testkit.specs.Cells.{shape_of, told, writes}, pagable_traits.specs.OwnCauses.reads_memory};
+    ghost use Rattle.{pagable_testkit.specs.Cells.{case_of, shape_of, writes}, pagable_traits.specs.OwnCauses.reads_memory};
 
-    ghost type_of = { λ n. (told n).number };
+    ghost type_of = { λ n. (case_of n).number };
 
     ghost shape_of = { λ e t. shape_of t };
 
-    ghost own_shape = { λ e n. (told n).shape };
+    ghost own_shape = { λ e n. (case_of n).shape };
 
-    ghost means = { λ n. (told n).means };
+    ghost means = { λ n. (case_of n).means };
 
-    ghost refs_of = { λ n. (told n).refs };
+    ghost refs_of = { λ n. (case_of n).refs };
 
     ghost write_causes = { λ t. (writes t).are };
 
@@ -128,11 +128,11 @@ impl<H: KeyHash> NodeSet<CellEnv<H>> for CellNode {
 
     ghost read_causes_are_own = { λ t. reads_memory.own };
 
-    ghost has_meaning = { λ n. (told n).has_meaning };
+    ghost has_meaning = { λ n. (case_of n).has_meaning };
 
-    ghost refers = { λ n. (told n).refers };
+    ghost refers = { λ n. (case_of n).refers };
 
-    ghost has_shape = { λ e n. (told n).has_shape };
+    ghost has_shape = { λ e n. (case_of n).has_shape };
 
     fn node_type(&self) -> u32 {
         match self {

@@ -37,9 +37,9 @@ fn next_line<R: BufRead>(reader: &mut R, line: &mut Vec<u8>) -> io::Result<Line>
 }
 
 /// A program that answers lines.
-pub trait Answering {
-    /// Writes the answer to a line, or to None for a line that isn't text or is too long. Fails if
-    /// writing fails.
+pub trait LineAnswerer {
+    /// Answers `line`, and writes the answer to `writer`. `line` is None if the line that was read
+    /// isn't text or is too long. Fails if writing fails.
     fn answer<W: Write>(
         &mut self,
         alloc: Global,
@@ -48,30 +48,30 @@ pub trait Answering {
     ) -> io::Result<()>;
 }
 
-/// Reads the lines of the input one after another, has `answering` write the answer to each, and
+/// Reads the lines of the input one after another, has `answerer` write the answer to each, and
 /// flushes it.
 ///
 /// # Errors
 ///
 /// - an error of reading or writing, or of creating a buffer: the call writes nothing more, not
 ///   even what a failed write left in the buffer.
-pub fn serve<A: Answering, R: BufRead, W: Write + Drop>(
+pub fn serve<A: LineAnswerer, R: BufRead, W: Write + Drop>(
     alloc: Global,
-    answering: &mut A,
+    answerer: &mut A,
     reader: &mut R,
     writer: W,
 ) -> io::Result<()> {
     let mut buffered = BufWriter::new(alloc, writer)?;
-    let outcome = answer_each(alloc, answering, reader, &mut buffered);
+    let outcome = answer_each(alloc, answerer, reader, &mut buffered);
     // A buffer writes what it holds when it is dropped, so this takes it apart first.
     let (_writer, _unwritten) = buffered.into_parts();
     outcome
 }
 
-/// Reads each line, has `answering` write its answer to a buffered writer, and flushes that.
-fn answer_each<A: Answering, R: BufRead, W: Write>(
+/// Reads each line, has `answerer` write its answer to a buffered writer, and flushes that.
+fn answer_each<A: LineAnswerer, R: BufRead, W: Write>(
     alloc: Global,
-    answering: &mut A,
+    answerer: &mut A,
     reader: &mut R,
     writer: &mut W,
 ) -> io::Result<()> {
@@ -83,7 +83,7 @@ fn answer_each<A: Answering, R: BufRead, W: Write>(
             Line::TooLong => None,
             Line::Whole => str::from_utf8(line.as_slice()).ok(),
         };
-        answering.answer(alloc, text, writer)?;
+        answerer.answer(alloc, text, writer)?;
         writer.flush()?;
     }
     Ok(())

@@ -1,9 +1,10 @@
 //! Types that refer to each other, and their environment: links refer to links, and a bundle to
 //! links of both sorts by each sort of references.
 
+ghost use Rattle.pagable_testkit.specs.{
+  Linked.{arc_link_in, bundle_in, holds_arc_link, holds_bundle, holds_link, link_in, no_parts, numbers_are_small},
+};
 ghost use Rattle.std.specs.{Arc.arc_value, Prelude.{Some, refl, ◌≡◌}};
-ghost use Rattle.pagable_testkit.specs.Linked.{arc_link_in, bundle_in, holds_arc_link, holds_bundle};
-ghost use Rattle.pagable_testkit.specs.Linked.{holds_link, link_in, no_parts, numbers_are_small};
 
 pub mod bundle;
 pub mod chain;
@@ -36,7 +37,7 @@ impl Env for Linked {
     ghost parts = { λ e. no_parts };
 }
 
-/// A node that holds a value of one of these types.
+/// A node that holds a link, a link by a shared reference, or a bundle.
 #[derive(Drop)]
 pub enum LinkedNode {
     Link(Arc<Link>),
@@ -45,17 +46,17 @@ pub enum LinkedNode {
 }
 
 impl NodeSet<Linked> for LinkedNode {
-    ghost use Rattle.pagable_testkit.specs.Linked.{node_beside, reads, shape_of, told, writes};
+    ghost use Rattle.pagable_testkit.specs.Linked.{case_of, node_beside, reads, shape_of, writes};
 
-    ghost type_of = { λ n. (told n).number };
+    ghost type_of = { λ n. (case_of n).number };
 
     ghost shape_of = { λ e t. shape_of t };
 
-    ghost own_shape = { λ e n. (told n).shape };
+    ghost own_shape = { λ e n. (case_of n).shape };
 
-    ghost means = { λ n. (told n).means };
+    ghost means = { λ n. (case_of n).means };
 
-    ghost refs_of = { λ n. (told n).refs };
+    ghost refs_of = { λ n. (case_of n).refs };
 
     ghost beside = { node_beside };
 
@@ -67,11 +68,11 @@ impl NodeSet<Linked> for LinkedNode {
 
     ghost read_causes_are_own = { λ t. (reads t).own };
 
-    ghost has_meaning = { λ n. (told n).has_meaning };
+    ghost has_meaning = { λ n. (case_of n).has_meaning };
 
-    ghost refers = { λ n. (told n).refers };
+    ghost refers = { λ n. (case_of n).refers };
 
-    ghost has_shape = { λ e n. (told n).has_shape };
+    ghost has_shape = { λ e n. (case_of n).has_shape };
 
     fn node_type(&self) -> u32 {
         match self {

@@ -2,11 +2,11 @@
 
 use crate::blobs::{blob, bytes_of};
 use crate::cells::CellNode;
-use crate::parse_values::{node, references};
+use crate::parse_values::{parse_node, parse_references};
 use anyhow::Context;
 use pagable_core::{PagableData, SerializedData};
 use pagable_flavors::DataKey;
-use pagable_pager_spec::{Call, Event, TableNumber, Want};
+use pagable_pager_spec::{Call, Event, FetchTarget, TableNumber};
 use pagable_value_spec::{HandleNumber, Kind, LoadNumber, NodeNumber, WorkerNumber};
 use std::alloc::Global;
 
@@ -15,12 +15,12 @@ pub type CellCall = Call<CellNode, PagableData>;
 pub type CellEvent = Event<CellNode, PagableData, SerializedData>;
 
 /// Splits a text into its first word and what follows it.
-pub fn split(text: &str) -> (&str, &str) {
+pub fn split_first_word(text: &str) -> (&str, &str) {
     text.split_once(' ').unwrap_or((text, ""))
 }
 
 /// Parses the events of a line.
-pub fn events(alloc: Global, line: &str) -> anyhow::Result<Vec<CellEvent>> {
+pub fn events_of_line(alloc: Global, line: &str) -> anyhow::Result<Vec<CellEvent>> {
     let mut events = Vec::new(alloc);
     for part in line.split(';') {
         push_events(alloc, &mut events, part.trim())?;
@@ -28,21 +28,22 @@ pub fn events(alloc: Global, line: &str) -> anyhow::Result<Vec<CellEvent>> {
     Ok(events)
 }
 
-/// Appends one event, a step as often as the line says, or a chain of inserts.
+/// Appends what a part of a line stands for: one event, a step as often as the part says, or a
+/// chain of inserts.
 fn push_events(alloc: Global, events: &mut Vec<CellEvent>, part: &str) -> anyhow::Result<()> {
     if let Some(chain) = part.strip_prefix("chain ") {
         return push_chain(alloc, events, chain);
     }
-    let (one, times) = times_of(part);
+    let (one, times) = split_count(part);
     for _ in 0..times {
         push_event(alloc, events, one)?;
     }
     Ok(())
 }
 
-/// Appends one event.
+/// Parses one event and appends it.
 fn push_event(alloc: Global, events: &mut Vec<CellEvent>, one: &str) -> anyhow::Result<()> {
-    Ok(events.push(event(alloc, one)?)?)
+    Ok(events.push(parse_event(alloc, one)?)?)
 }
 
 /// Appends inserts into a new pager, each of which refers to the node before. A chain such as
@@ -59,8 +60,9 @@ fn push_chain(alloc: Global, events: &mut Vec<CellEvent>, chain: &str) -> anyhow
     Ok(())
 }
 
-/// Splits a step of a load or a worker from its count; anything else has the count 1.
-fn times_of(part: &str) -> (&str, u64) {
+/// Splits a step of a load or a worker from the number of times that it is repeated, 1 if it names
+/// none; any other event has the number 1.
+fn split_count(part: &str) -> (&str, u64) {
     if !part.starts_with("step ") && !part.starts_with("work ") {
         return (part, 1);
     }
@@ -71,9 +73,9 @@ fn times_of(part: &str) -> (&str, u64) {
 }
 
 /// Parses one event: a step of a load or of a worker, or a call.
-fn event(alloc: Global, part: &str) -> anyhow::Result<CellEvent> {
-    let (name, rest) = split(part);
-    let (first, behind) = split(rest);
+fn parse_event(alloc: Global, part: &str) -> anyhow::Result<CellEvent> {
+    let (name, rest) = split_first_word(part);
+    let (first, behind) = split_first_word(rest);
     let number = number_of(first);
     match name {
         "start" => Ok(Event::LoadStart(HandleNumber(number))),
@@ -83,19 +85,19 @@ fn event(alloc: Global, part: &str) -> anyhow::Result<CellEvent> {
             Ok(Event::LoadKey(key, kind_of(behind)))
         }
         "table" => Ok(Event::TableNew),
-        "item" => Ok(Event::WorkerItem(TableNumber(number), item(alloc, behind)?)),
+        "item" => Ok(Event::WorkerItem(TableNumber(number), parse_item(alloc, behind)?)),
         "listed" => Ok(Event::WorkerListed(TableNumber(number), number_of(behind))),
         "work" => Ok(Event::WorkerStep(WorkerNumber(number))),
-        _ => Ok(Event::Call(call(alloc, name, rest)?)),
+        _ => Ok(Event::Call(parse_call(alloc, name, rest)?)),
     }
 }
 
 /// Parses an item: its bytes in hex, and after a colon its references, as in values.
-pub fn item(alloc: Global, spelled: &str) -> anyhow::Result<SerializedData> {
+pub fn parse_item(alloc: Global, spelled: &str) -> anyhow::Result<SerializedData> {
     let (data, behind) = spelled.split_once(':').unwrap_or((spelled, ""));
     Ok(SerializedData {
         bytes: bytes_of(alloc, data)?,
-        arcs: references(alloc, behind)?,
+        arcs: parse_references(alloc, behind)?,
     })
 }
 
@@ -115,23 +117,23 @@ fn key_of(word: &str) -> Option<DataKey> {
 }
 
 /// Parses one call: its name and its arguments. A number that is missing is 0, which names nothing.
-fn call(alloc: Global, name: &str, rest: &str) -> anyhow::Result<CellCall> {
-    let (first, behind) = split(rest);
+fn parse_call(alloc: Global, name: &str, rest: &str) -> anyhow::Result<CellCall> {
+    let (first, behind) = split_first_word(rest);
     let load = LoadNumber(number_of(first));
     match name {
-        "new_loose" => Ok(Call::NewLoose(node(alloc, rest)?)),
-        "new_pinned" => Ok(Call::NewPinned(node(alloc, rest)?)),
-        "new_shared" => Ok(Call::NewShared(node(alloc, rest)?)),
-        "load_end" => Ok(Call::LoadEnd(load, node(alloc, behind)?)),
-        "load_adopt" => adopted(alloc, load, behind),
-        "load_take" => taken(alloc, load, behind),
+        "new_loose" => Ok(Call::NewLoose(parse_node(alloc, rest)?)),
+        "new_pinned" => Ok(Call::NewPinned(parse_node(alloc, rest)?)),
+        "new_shared" => Ok(Call::NewShared(parse_node(alloc, rest)?)),
+        "load_end" => Ok(Call::LoadEnd(load, parse_node(alloc, behind)?)),
+        "load_adopt" => load_adopt_call(alloc, load, behind),
+        "load_take" => load_take_call(alloc, load, behind),
         "store" => Ok(Call::Store(blob(alloc, rest)?)),
-        _ => of_handle(name, first, behind).context("no such call"),
+        _ => call_of_handle(name, first, behind).context("no such call"),
     }
 }
 
-/// Parses a call whose one argument is a handle, and passes other names on.
-fn of_handle(name: &str, first: &str, behind: &str) -> Option<CellCall> {
+/// Parses a call whose one argument is a handle, and passes on the name of any other call.
+fn call_of_handle(name: &str, first: &str, behind: &str) -> Option<CellCall> {
     let handle = HandleNumber(number_of(first));
     Some(match name {
         "clone" => Call::Clone(handle),
@@ -145,12 +147,13 @@ fn of_handle(name: &str, first: &str, behind: &str) -> Option<CellCall> {
         "key" => Call::Key(handle),
         "is_paged_out" => Call::IsPagedOut(handle),
         "node_of" => Call::NodeOf(handle),
-        _ => return of_numbers(name, first, behind),
+        _ => return call_of_number(name, first, behind),
     })
 }
 
-/// Parses a call whose one argument is another number, or that has none, and passes other names on.
-fn of_numbers(name: &str, first: &str, behind: &str) -> Option<CellCall> {
+/// Parses a call that has no argument, or whose one argument is a number other than a handle's.
+/// Leaves any other call to `call_of_key`.
+fn call_of_number(name: &str, first: &str, behind: &str) -> Option<CellCall> {
     let number = number_of(first);
     Some(match name {
         "node_live" => Call::NodeLive(NodeNumber(number)),
@@ -161,14 +164,14 @@ fn of_numbers(name: &str, first: &str, behind: &str) -> Option<CellCall> {
         "flush" => Call::Flush,
         "close" => Call::Close,
         "load_drop" => Call::LoadDrop(LoadNumber(number)),
-        "load_fetch" if behind.is_empty() => Call::LoadFetch(LoadNumber(number), Want::Root),
-        _ => return of_key(name, first, behind),
+        "load_fetch" if behind.is_empty() => Call::LoadFetch(LoadNumber(number), FetchTarget::Root),
+        _ => return call_of_key(name, first, behind),
     })
 }
 
 /// Parses a call with a key as its first, second or third word.
-fn of_key(name: &str, first: &str, behind: &str) -> Option<CellCall> {
-    let (second, third) = split(behind);
+fn call_of_key(name: &str, first: &str, behind: &str) -> Option<CellCall> {
+    let (second, third) = split_first_word(behind);
     let key = key_of(match name {
         "fetch" | "load_key" => first,
         "load_fetch" | "load_lazy" => third,
@@ -185,14 +188,15 @@ fn of_key(name: &str, first: &str, behind: &str) -> Option<CellCall> {
         "on_arc_deserialized" => {
             Call::OnArcDeserialized(Kind(kind), key, HandleNumber(number_of(third)))
         }
-        "load_fetch" => Call::LoadFetch(load, Want::Nested(wanted, key)),
+        "load_fetch" => Call::LoadFetch(load, FetchTarget::Nested(wanted, key)),
         "load_lazy" => Call::LoadLazy(load, wanted, key),
         _ => return None,
     })
 }
 
-/// Parses a call that takes handles from a load of a key.
-fn taken(alloc: Global, load: LoadNumber, words: &str) -> anyhow::Result<CellCall> {
+/// Parses the call `load_take`, which ends a load of a key and hands these handles of the load to
+/// the caller.
+fn load_take_call(alloc: Global, load: LoadNumber, words: &str) -> anyhow::Result<CellCall> {
     let mut handles = Vec::new(alloc);
     for word in words.split(' ') {
         if !word.is_empty() {
@@ -202,10 +206,10 @@ fn taken(alloc: Global, load: LoadNumber, words: &str) -> anyhow::Result<CellCal
     Ok(Call::LoadTake(load, handles))
 }
 
-/// Parses a call that makes a node of what a load read under a kind and a key.
-fn adopted(alloc: Global, load: LoadNumber, behind: &str) -> anyhow::Result<CellCall> {
-    let (kind, rest) = split(behind);
-    let (key, spelled) = split(rest);
+/// Parses the call `load_adopt`, which makes a node of what a load read under a kind and a key.
+fn load_adopt_call(alloc: Global, load: LoadNumber, behind: &str) -> anyhow::Result<CellCall> {
+    let (kind, rest) = split_first_word(behind);
+    let (key, spelled) = split_first_word(rest);
     let key = key_of(key).context("no key")?;
-    Ok(Call::LoadAdopt(load, Kind(kind_of(kind)), key, node(alloc, spelled)?))
+    Ok(Call::LoadAdopt(load, Kind(kind_of(kind)), key, parse_node(alloc, spelled)?))
 }

@@ -1,7 +1,7 @@
 //! Test cases of `serve`, with a reader that may fail and a writer that fails once.
 
 use crate::blobs::bytes_of;
-use crate::lines::{Answering, serve};
+use crate::lines::{LineAnswerer, serve};
 use anyhow::Context;
 use std::alloc::Global;
 use std::io;
@@ -9,9 +9,9 @@ use std::io::{BufReader, Read, Write};
 
 /// Answers each line with the number of its bytes.
 #[derive(Clone, Copy)]
-struct Counting;
+struct ByteCounter;
 
-impl Answering for Counting {
+impl LineAnswerer for ByteCounter {
     fn answer<W: Write>(
         &mut self,
         _alloc: Global,
@@ -25,18 +25,18 @@ impl Answering for Counting {
     }
 }
 
-/// A reader that returns its bytes three at a time. After them it ends if `ends` is set, else it
-/// fails.
+/// A reader that returns its bytes three at a time. After them it ends if `ends_after_bytes` is
+/// set, else it fails.
 #[derive(Drop)]
 struct Source<'a> {
     bytes: &'a [u8],
-    ends: bool,
+    ends_after_bytes: bool,
 }
 
 impl<'a> Read for Source<'a> {
     fn read(&mut self, buf: &mut [u8]) -> io::Result<usize> {
         let count = self.bytes.len().min(buf.len()).min(3);
-        if count == 0 && !self.ends {
+        if count == 0 && !self.ends_after_bytes {
             return Err(io::Error::from(io::ErrorKind::BrokenPipe));
         }
         let (front, rest) = self.bytes.split_at(count);
@@ -46,25 +46,26 @@ impl<'a> Read for Source<'a> {
     }
 }
 
-/// A writer that accepts `left` bytes, fails once, and then accepts everything.
+/// A writer into the slice `free`: it accepts `bytes_before_failure` bytes, fails once, and then
+/// accepts bytes as long as `free` has room.
 #[derive(Drop)]
-struct Faltering<'a> {
+struct FailingWriter<'a> {
     free: &'a mut [u8],
-    left: usize,
+    bytes_before_failure: usize,
     has_failed: bool,
 }
 
-impl<'a> Write for Faltering<'a> {
+impl<'a> Write for FailingWriter<'a> {
     fn write(&mut self, buf: &[u8]) -> io::Result<usize> {
         if self.has_failed {
             return self.free.write(buf);
         }
-        if self.left == 0 && !buf.is_empty() {
+        if self.bytes_before_failure == 0 && !buf.is_empty() {
             self.has_failed = true;
             return Err(io::Error::from(io::ErrorKind::BrokenPipe));
         }
-        let count = self.left.min(buf.len());
-        self.left -= count;
+        let count = self.bytes_before_failure.min(buf.len());
+        self.bytes_before_failure -= count;
         self.free.write(&buf[..count])
     }
 
@@ -73,21 +74,21 @@ impl<'a> Write for Faltering<'a> {
     }
 }
 
-/// Runs `serve` with a writer into `free` that fails once, after `left` bytes. Returns whether
-/// `serve` answered all lines, and how many bytes of `free` it left unwritten.
+/// Runs `serve` with a writer into `free` that fails once, after `bytes_before_failure` bytes.
+/// Returns whether `serve` answered all lines, and how many bytes of `free` it left unwritten.
 fn serve_into(
     alloc: Global,
     source: Source<'_>,
-    left: usize,
+    bytes_before_failure: usize,
     free: &mut [u8],
 ) -> io::Result<(bool, usize)> {
     let mut reader = BufReader::new(alloc, source)?;
-    let mut writer = Faltering {
+    let mut writer = FailingWriter {
         free,
-        left,
+        bytes_before_failure,
         has_failed: false,
     };
-    let outcome = serve(alloc, &mut Counting, &mut reader, &mut writer);
+    let outcome = serve(alloc, &mut ByteCounter, &mut reader, &mut writer);
     Ok((outcome.is_ok(), writer.free.len()))
 }
 
@@ -99,7 +100,7 @@ pub fn answer(alloc: Global, behind: &str, input: &str) -> anyhow::Result<String
     let lines = bytes_of(alloc, lines)?;
     let source = Source {
         bytes: lines.as_slice(),
-        ends: behind == "ends",
+        ends_after_bytes: behind == "ends",
     };
     let room = room.parse::<usize>()?;
     let mut written = [0; 64];

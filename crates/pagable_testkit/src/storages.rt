@@ -1,8 +1,8 @@
 //! Storages for tests: one over another storage, which fails once; and one in memory, which answers
 //! wrongly once.
 
-ghost use Rattle.std.specs.Prelude.{◌≡◌, not, true, false};
 ghost use Rattle.pagable_testkit.specs.Failing.{failures_of};
+ghost use Rattle.std.specs.Prelude.{false, not, true, ◌≡◌};
 
 use futures::task::{Context, Poll};
 use pagable_core::{InMemoryBlobs, PagableData, PagableStorage};
@@ -33,8 +33,8 @@ impl<S> FailingStorage<S> {
     /// Counts this call, and returns whether it is the one that fails.
     fn fails_now(&mut self) -> bool
         ensures same_inner { self.new.inner ≡ self.old.inner }
-        ensures raised { result ≡ true → (self.old.has_failed ≡ false) × (self.new.has_failed ≡ true) }
-        ensures kept { result ≡ false → self.new.has_failed ≡ self.old.has_failed }
+        ensures sets_failed { result ≡ true → (self.old.has_failed ≡ false) × (self.new.has_failed ≡ true) }
+        ensures same_failed { result ≡ false → self.new.has_failed ≡ self.old.has_failed }
     {
         if self.has_failed {
             return false;
@@ -116,10 +116,11 @@ impl<E: Env, S: PagableStorage<E>> PagableStorage<E> for FailingStorage<S> {
 
 /// The wrong answer of a storage, whatever key it is asked for.
 #[derive(Clone, Copy)]
-pub enum Lie {
-    /// No blob is stored under the key: a wrong answer that no caller can notice.
+pub enum WrongAnswer {
+    /// The answer that no blob is stored under the key, which no caller can tell to be wrong.
     Nothing,
-    /// An empty blob, which has another key.
+    /// The answer with an empty blob: the storage notices that it is wrong if the blob's key isn't
+    /// the one that was asked for.
     Empty,
 }
 
@@ -129,9 +130,9 @@ pub enum Lie {
 #[derive(Drop)]
 pub struct DoubtfulBlobs<E: Env> {
     blobs: InMemoryBlobs<E>,
-    lie: Lie,
+    wrong_answer: WrongAnswer,
     fetches_before: u64,
-    has_lied: bool,
+    has_answered_wrongly: bool,
     failures: u64,
     is_honest: bool,
 }
@@ -139,38 +140,42 @@ pub struct DoubtfulBlobs<E: Env> {
 impl<E: Env> DoubtfulBlobs<E> {
     /// Makes the storage: it answers `fetches_before` fetches truly, and then one wrongly. It
     /// allocates nothing.
-    pub fn new(blobs: InMemoryBlobs<E>, lie: Lie, fetches_before: u64) -> DoubtfulBlobs<E> {
+    pub fn new(
+        blobs: InMemoryBlobs<E>,
+        wrong_answer: WrongAnswer,
+        fetches_before: u64,
+    ) -> DoubtfulBlobs<E> {
         DoubtfulBlobs {
             blobs,
-            lie,
+            wrong_answer,
             fetches_before,
-            has_lied: false,
+            has_answered_wrongly: false,
             failures: 0,
             is_honest: true,
         }
     }
 
-    /// Returns whether the wrong answer was taken for true.
-    pub fn was_believed(&self) -> bool
+    /// Returns whether the storage has given its wrong answer without noticing that it is wrong.
+    pub fn was_wrong_unnoticed(&self) -> bool
         ensures { result ≡ not self.now.is_honest }
     {
         !self.is_honest
     }
 
     /// Counts this fetch, and returns whether it is the one that is answered wrongly.
-    fn lies_now(&mut self) -> bool
-        ensures blobs { self.new.blobs ≡ self.old.blobs }
-        ensures failures { self.new.failures ≡ self.old.failures }
-        ensures honest { self.new.is_honest ≡ self.old.is_honest }
+    fn is_wrong_now(&mut self) -> bool
+        ensures same_blobs { self.new.blobs ≡ self.old.blobs }
+        ensures same_failures { self.new.failures ≡ self.old.failures }
+        ensures same_honest { self.new.is_honest ≡ self.old.is_honest }
     {
-        if self.has_lied {
+        if self.has_answered_wrongly {
             return false;
         }
         if self.fetches_before > 0 {
             self.fetches_before -= 1;
             return false;
         }
-        self.has_lied = true;
+        self.has_answered_wrongly = true;
         true
     }
 }
@@ -192,10 +197,10 @@ impl<E: Env> PagableStorage<E> for DoubtfulBlobs<E> {
         alloc: Global,
         key: DataKey,
     ) -> Result<Arc<PagableData>, Error> {
-        if !self.lies_now() {
+        if !self.is_wrong_now() {
             return self.blobs.fetch_data_blocking(alloc, key);
         }
-        let Lie::Empty = self.lie else {
+        let WrongAnswer::Empty = self.wrong_answer else {
             self.is_honest = false;
             return Err(Error::NoData(key));
         };

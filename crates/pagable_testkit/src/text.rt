@@ -61,7 +61,7 @@ impl TextNode {
 
 impl<H: KeyHash> NodeSet<TextEnv<H>> for TextNode {
     ghost use Rattle.std.specs.Prelude.{◌≡◌, [], refl};
-    ghost use Rattle.pagable_value_spec.specs.{Causes.{memory_is_own_reading, text_may_refuse_writing}, Outcomes.{long_or, memory}, Shape.text as text_shape};
+    ghost use Rattle.pagable_value_spec.specs.{Causes.{memory_is_own_reading, text_may_refuse_writing}, Outcomes.{long_or, IsOutOfMemory}, Shape.text as text_shape};
     ghost use Rattle.pagable_testkit.specs.Texts.{shape_of, text_of, texts_refer};
 
     ghost type_of = { λ n. 0 };
@@ -74,9 +74,9 @@ impl<H: KeyHash> NodeSet<TextEnv<H>> for TextNode {
 
     ghost refs_of = { λ n. [] };
 
-    ghost write_causes = { λ t. long_or memory };
+    ghost write_causes = { λ t. long_or IsOutOfMemory };
 
-    ghost read_causes = { λ t. memory };
+    ghost read_causes = { λ t. IsOutOfMemory };
 
     ghost write_causes_may_refuse = { λ t. text_may_refuse_writing };
 

@@ -1,14 +1,28 @@
 -- The effect of each call on trees, by the call and its reply.
-use Rattle.pagable_theorems.proofs.Effects.{Effect, IsMine, beside, both-none, but, cached, cached-if, entry, fell, forgets, handed, handle, like, load-named, load-owns, moves, no-one, node, none}
-use Rattle.pagable_theorems.proofs.{Effects.{none-named, opens, own-handle, own-mode, own-named, owned-mine, shuts, stays, turned, with-key}, HandlesKept.{Goes, KnowsNext, NotLoads, a-handle, alike-away, begun}}
-use Rattle.pagable_theorems.proofs.{HandlesKept.{fell-away, found-changed, goes-then, good, quiet-goes}, Trees.{same-number, same_some}, Words.{Alike, ArcRef, Beginning, Blob, Bool, Call, Change, CloneCall}}
-use Rattle.pagable_theorems.proofs.Words.{Core, Err, Error, Event, GetsKnown, HandleNumber, HandleRow, KeepsOpen, Kind, List, LoadNumber, Mode, NodeNumber, None, Ok, Option, OptionalDataKey, Owner}
-use Rattle.pagable_theorems.proofs.Words.{PinCall, Reply, Result, Seen, Some, Values, [], adopted, ap, arith, bears_known, false, find_row, first_key, inl, inr, is_in, is_named_by, moved, nat_tests}
-use Rattle.pagable_theorems.{proofs.Words.{next_node, nothing_felt, of_cell, owner_value, refl, rules, subst, sym, true, with_handle, ℕ, ◌∙◌, ◌≡◌, ◌⊎◌}, specs.TreeSteps.{AreGood, CallFeels, StaysAway}}
-use Rattle.pagable_theorems.specs.TreeSteps.{bears_node, feels-adopted, feels-away, feels-birth, feels-end, feels-key, feels-known, feels-lazy, feels-nothing, knows_node, sets_key}
-use Rattle.pagable_pager_spec.specs.{Calls.{Asked, InsertCall, RecallCall, ReleaseCall, ScheduleCall, StoreCall, with_known}, Cascade.{FallsAnyhow, only_handle}, Events.CallDoes, LoadCalls.{LoadFetchCall, BeginCall}}
-use Rattle.pagable_pager_spec.specs.{LoadCalls.{BeginKeyCall, EndCall, Given, HandOverCall, LoadCloses, is_owned_in, numbers_of, without_load}, WorkerClaims.LeavesCache, Pager.{CallBrings, IsNewNode}}
-use Rattle.pagable_pager_spec.specs.{World.{of_key, usable}, declared.{pinning.Pinning.Pinning, calls.Want.Want}}
+use Rattle.pagable_pager_spec.specs.{
+  Calls.{Asked, InsertCall, RecallCall, ReleaseCall, ScheduleCall, StoreCall, with_known},
+  Cascade.{FallsAnyhow, only_handle},
+  Events.CallDoes,
+  LoadCalls.{BeginCall, BeginKeyCall, EndCall, Given, HandOverCall, LoadCloses, LoadFetchCall, is_owned_in, numbers_of, without_load},
+  Pager.{CallBrings, IsNewNode},
+  WorkerClaims.LeavesCache,
+  World.{of_key, usable},
+  declared.{calls.FetchTarget.FetchTarget, pinning.Pinning.Pinning},
+}
+use Rattle.pagable_theorems.proofs.{
+  Effects.{Effect, IsMine, beside, both-none, but, cached, cached-if, entry, fell, forgets, handed, handle, like, load-named, load-owns, moves, no-one, node},
+  Effects.{none, none-named, opens, own-handle, own-mode, own-named, owned-mine, shuts, stays, turned, with-key},
+  HandlesKept.{Goes, KnowsNext, NotLoads, a-handle, alike-away, begun, fell-away, found-changed, goes-then, good, quiet-goes},
+  Trees.{same-number, same_some},
+  Words.{Alike, ArcRef, Beginning, Blob, Bool, Call, Change, CloneCall, Core, Err, Error, Event, GetsKnown, HandleNumber, HandleRow, KeepsOpen, Kind, List},
+  Words.{LoadNumber, Mode, NodeNumber, None, Ok, Option, OptionalDataKey, Owner, PinCall, Reply, Result, Seen, Some, Values, adopted, ap, arith, bears_known},
+  Words.{false, find_row, first_key, inl, inr, is_in, is_named_by, moved, nat_tests, next_node, nothing_felt, of_cell, owner_value, refl, rules, subst, sym},
+  Words.{true, with_handle, ℕ, [], ◌∙◌, ◌≡◌, ◌⊎◌},
+}
+use Rattle.pagable_theorems.specs.{
+  TreeSteps.{AreGood, CallFeels, StaysAway, bears_node, feels-adopted, feels-away, feels-birth, feels-end, feels-key, feels-known, feels-lazy, feels-nothing},
+  TreeSteps.{knows_node, sets_key},
+}
 
 -- ---- each call, and what loads do, by whoever asks
 
@@ -41,7 +55,8 @@ module _ {me : Owner} {lists : Bool} {Asks Leaves : Type 0} {c : Change} where
       → Effect me lists Asks Leaves false c w w'
   gets-known g = made-handle _ _ _ g.leaves
 
-  pub asks : {w w' : Core} {l : LoadNumber} {want : Want} (r : Result Given Error) → LoadFetchCall w me l want r w' → Effect me lists Asks Leaves false c w w'
+  pub asks : {w w' : Core} {l : LoadNumber} {want : FetchTarget} (r : Result Given Error) → LoadFetchCall w me l want r w'
+      → Effect me lists Asks Leaves false c w w'
   asks x0 x = grind (arith, nat_tests, was-asked, gets-known, same_some, stays {me = me} {lists = lists} {Asks = Asks} {Leaves = Leaves} {c = c})
 
   pub closes : {w w' : Core} (l : LoadNumber) {r : Result (Unit {0}) Error} → (Asks → IsMine w me l) → LoadCloses w l r w'

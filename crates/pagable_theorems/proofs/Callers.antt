@@ -1,13 +1,30 @@
 -- Each operation of a caller keeps trees: a call or a page-out since it is a chain of moments of a machine, a pin or a read since its load is.
-use Rattle.pagable_theorems.proofs.{LoadResults.{After, after-then, pin-after, read-after}, FormsOfTrees.cell-of, HandlesKept.{PinOf, among-found, end-call, found-number, low-whole, pin-call, updated-at}, ReadingSteps.{caller-free, reading-feels}}
-use Rattle.pagable_theorems.proofs.{LoadProgress.{pin_stands, row-held, was-open}, Trees.same_some}
-use Rattle.pagable_theorems.proofs.Moments.{Stands, Stays, call-nobody, call-stays, item-stays, list-stays, no-value, stays-same, still-settled}
-use Rattle.pagable_theorems.proofs.Words.{Beginning, Blob, Call, Err, Error, Frame, HandleNumber, HoldsSettled, IsLawful, List, LoadAnswer, LoadNumber, None, Ok, Option, Owner, PagerState}
-use Rattle.pagable_theorems.proofs.Words.{Core, HandleRow, Last, NodeNumber, OpenLoad, Reading, Reply, Result, Seen, Some, Tree, ValueStands, Values, IsPagerWhole, Written, [], ap, arith, of_cell, refl, row_at, subst, sym, updated, ℕ, ◌+◌, ◌∙◌, ◌≡◌, ◌≤◌}
-use Rattle.pagable_theorems.specs.CallerLaws.{AreRight, AskWell, CallerLaw, IsCall, Operation, OperationAsksWell, OperationIsRight, Operations, PinAsksWell, PinIsRight, PinnedAgainLaw, ReadAsksWell, ReadingIsRight, calls, goes-on, is-done}
-use Rattle.pagable_theorems.specs.{CallerLaws.{pages-item, pages-list, pins, reads-key}, PageOutLaws.NobodyWorks}
-use Rattle.pagable_pager_spec.specs.{Access.{MakesCall, IsValueOf, LoadAsksWell, LoadRun, PinRun, ReadRun, ReadingStep, load-ends, load-fails, load-goes-on, load-is-refused, load-pins, load-reads, pin-is-refused, pins-at-once, reading-fails}}
-use Rattle.pagable_pager_spec.specs.{Access.reading-is-refused, Events.CallStep, Rightness.GivesTree, LoadCalls.BeginCall, Loads.LoadDoes, declared.pinning.Pinning.Pinning}
+use Rattle.pagable_pager_spec.specs.{
+  Access.{IsValueOf, LoadAsksWell, LoadRun, MakesCall, PinRun, ReadRun, ReadingStep, load-ends, load-fails, load-goes-on, load-is-refused, load-pins},
+  Access.{load-reads, pin-is-refused, pins-at-once, reading-fails, reading-is-refused},
+  Events.CallStep,
+  LoadCalls.BeginCall,
+  Loads.LoadDoes,
+  Rightness.GivesTree,
+  declared.pinning.Pinning.Pinning,
+}
+use Rattle.pagable_theorems.proofs.{
+  FormsOfTrees.cell-of,
+  HandlesKept.{PinOf, among-found, end-call, found-number, low-whole, pin-call, updated-at},
+  LoadProgress.{pin_stands, row-held, was-open},
+  LoadResults.{After, after-then, pin-after, read-after},
+  Operations.{Stands, Stays, call-nobody, call-stays, item-stays, list-stays, no-value, stays-same, still-settled},
+  ReadingSteps.{caller-free, reading-feels},
+  Trees.same_some,
+  Words.{Beginning, Blob, Call, Core, Err, Error, Frame, HandleNumber, HandleRow, HoldsSettled, IsLawful, IsPagerWhole, Last, List, LoadAnswer, LoadNumber},
+  Words.{NodeNumber, None, Ok, OpenLoad, Option, Owner, PagerState, Reading, Reply, Result, Seen, Some, Tree, ValueStands, Values, Written, ap, arith, of_cell},
+  Words.{refl, row_at, subst, sym, updated, ℕ, [], ◌+◌, ◌∙◌, ◌≡◌, ◌≤◌},
+}
+use Rattle.pagable_theorems.specs.{
+  CallerLaws.{AreRight, AskWell, CallerLaw, IsCall, Operation, OperationAsksWell, OperationIsRight, Operations, PinAsksWell, PinIsRight, PinnedAgainLaw},
+  CallerLaws.{ReadAsksWell, ReadingIsRight, calls, goes-on, is-done, pages-item, pages-list, pins, reads-key},
+  PageOutLaws.NobodyWorks,
+}
 
 -- ---- what a load by one call leaves
 

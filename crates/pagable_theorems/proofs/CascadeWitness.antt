@@ -1,9 +1,18 @@
 -- The least closed set of handles exists; which handles are released with a value of two levels; and what unpinning a single cell does.
-use Rattle.pagable_theorems.proofs.{Trees.{at-most-sum, counted, one-small, one-true, same-number, sum-le, sum-plus, sum-zero}, Words.{Among, Blob, Bool, HandleRow, Last, List, Mode, Ok, Option, Owner}}
-use Rattle.pagable_theorems.proofs.Words.{[], and_parts, ap, arith, cases_lt, false, false_from_ne_true, find_row, held, inl, inr, is_owned_by, is_owner, is_pinning, length, nat_tests, not, one, pins, ℕ}
-use Rattle.pagable_theorems.{proofs.Words.{owner_value, refl, suc, sum_by-cons, sym, true, zero, ◌&&◌, ◌+◌, ◌<◌, ◌==◌, ◌||◌, ◌∙◌, ◌∷◌, ◌≡◌, ◌≤◌}, specs.SmallWorlds.{FallLaws, OwnsNothing, first, first_node}}
-use Rattle.{pagable_theorems.specs.SmallWorlds.{lone, lone_listed, lone_unlisted, two_rows}, pagable_pager_spec.specs.{Calls.{row_of, with_mode}, Cascade.{Falls, IsClosed, IsLeast, IsWithin, is_outside, nobody}}}
-use Rattle.{pagable_pager_spec.specs.{Cascade.{loses_value, owned_outside}, Kinds.{is_at, is_pin}}, std.{proofs.{Common.sum_by, lemmas.List.Sums.length-filter}, specs.Prelude.nat_lt}}
+use Rattle.pagable_pager_spec.specs.{
+  Calls.{row_of, with_mode},
+  Cascade.{Falls, IsClosed, IsLeast, IsWithin, is_outside, loses_value, nobody, owned_outside},
+  Kinds.{is_at, is_pin},
+}
+use Rattle.pagable_theorems.proofs.{
+  Trees.{at-most-sum, counted, one-small, one-true, same-number, sum-le, sum-plus, sum-zero},
+  Words.{Among, Blob, Bool, HandleRow, Last, List, Mode, Ok, Option, Owner, and_parts, ap, arith, cases_lt, false, false_from_ne_true, find_row, held, inl},
+  Words.{inr, is_owned_by, is_owner, is_pinning, length, nat_tests, not, one, owner_value, pins, refl, suc, sum_by-cons, sym, true, zero, ℕ, [], ◌&&◌, ◌+◌},
+  Words.{◌<◌, ◌==◌, ◌||◌, ◌∙◌, ◌∷◌, ◌≡◌, ◌≤◌},
+}
+use Rattle.pagable_theorems.specs.SmallWorlds.{OwnsNothing, ReleaseLaws, first, first_node, lone, lone_listed, lone_unlisted, two_rows}
+use Rattle.std.proofs.{Common.sum_by, lemmas.List.Sums.length-filter}
+use Rattle.std.specs.Prelude.{nat_lt}
 
 -- 1 for a handle outside the set; one that the node's value owns; and one of the one set and not of the other
 abbrev outside : (ℕ → Bool) → HandleRow → ℕ
@@ -143,7 +152,7 @@ fell stored = record {
   leaves = grind (arith, nat_tests);
 }
 
-pub fall_laws : FallLaws
+pub fall_laws : ReleaseLaws
 unfolding find_row
 fall_laws = record {
   least_set_is_there = λ rows keyed entries given. grows rows keyed entries given (sum_by (outside given) rows) given (omega arith)

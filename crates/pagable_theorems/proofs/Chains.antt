@@ -1,22 +1,48 @@
 -- A handle keeps serving for its reference, as does its clone; a key that was set stays set. And each event keeps trees: what it brings fits some trees
 -- afterwards, as do all readings.
-use Rattle.pagable_pager_spec.specs.{Rightness.{HasLetGo, IsRight, PinGives, StepsAreWithin, WorkerIsRight, claims_made, is_on_table}, Basics.is_loose_kind, Theorem.HeadlineLaw}
-use Rattle.pagable_pager_spec.specs.{Calls.{SetKeyCall, row_of, with_key}, Kinds.fits_mode, World.{SameShelf, published, to_publish, type_at}, declared.{pinning.Pinning.Pinning, events.PinStep.PinStep}}
-use Rattle.pagable_pager_spec.specs.{Kinds.is_loose, Pager.{EventBrings, IsReadingOf, StandsFor}, Runs.{EventDoes, Fact, IsPremised, TakesWell, TreesAfter, TreesAlong, events_of, replies_of}}
-use Rattle.pagable_pager_spec.specs.{Events.Ends, Order.{InOrder, OnceEach, is_claim_of, steps_of}, Refusals.Owns, Workers.{claim_fault, give_known, next_start, with_changed_slot, with_outcome}}
-use Rattle.{pagable_theorems.proofs.NewClaims.{EventTurns, HasGone, StandsIn, event-turns}, std.{proofs.{Common.append-nil, Math.Nat.zero-add, lemmas.List.Sums.sum_by-append}, specs.Prelude.is_none}}
-use Rattle.pagable_theorems.proofs.{NewClaims.{goes-on, idle-stands, turns-keep, turns-stand}, LoadProgress.{Going, call-fits, fits-key, fits-nothing, given-nodes, going-new, going-of, going-on, going-step}}
-use Rattle.pagable_theorems.proofs.{SlotsGrow.{KeepsTask, ShelfGrows, grows, is-same, keeps-task, put-cases, puts-slot, true-false}, LoadProgress.{none-comes, pin_stands, reading-fits, tree-stays, trees-go-on}}
-use Rattle.pagable_theorems.proofs.Words.{Among, ArcRef, AreMoments, Beginning, Bool, Change, Claim, CloneCall, Core, WorkDoes, Event, EventReply, HandleNumber, HandleRow, HandlesAreWhole, Happens, Identity}
-use Rattle.pagable_theorems.proofs.Words.{HoldsSettled, IsIdle, IsLawful, IsMachineWhole, IsPublished, IsWellAsked, List, MachineState, Moment, NodeNumber, None, Ok, Option, Owner, Reading, Seen, Shelf}
-use Rattle.pagable_theorems.proofs.Words.{WorkerState, Slot, Some, Todo, Action, Tree, Values, Walking, WorkFits, WorkerAnswer, WorkerNumber, WorkerReply, WorkerSteps, World, [], above, any_mode}
-use Rattle.pagable_theorems.proofs.Words.{ap, append_assoc, arith, false, false_from_ne_true, find_row, give, identity_of, inl, inr, is_owner, is_some, le_trans, nat_tests, nothing_felt, one, refl, sym}
-use Rattle.pagable_theorems.proofs.Words.{owner_worker, row_at, rules, state_after, step_of, subst, sum_by-cons, times, to_finish, to_item, to_load, to_pin, to_set, to_start, to_write, true, type_of, ℕ}
-use Rattle.pagable_theorems.proofs.{ReadingSteps.ends-quiet, StepBounds.{LoadsStand, Spares, event-on, reads-give, step-within, steps-left}, Words.{world_of, ◌&&◌, ◌++◌, ◌+◌, ◌∙◌, ◌∷◌, ◌≡◌, ◌≤◌, ◌⊎◌}}
-use Rattle.pagable_theorems.proofs.{LoadResults.{at-once, keys-right}, CallEffects.{begin-goes, pins}, Merkle.tree_readable, ReadingSteps.{event-goes, is-reading-of, readings-on, site_of, walk-goes, works-free}}
-use Rattle.pagable_theorems.proofs.{FormsOfTrees.given-of, HandlesKept.{Stands, among-found, fell, found-number, goes-quiet}, TablesKept.{fits-on, keys-same}, Trees.{one-small, same_some, sum-zero}}
-use Rattle.pagable_theorems.{proofs.HandlesKept.{pins-hold, quiet-goes, stands-alike, stands-fell, stands-new, stands-whole, updated-at}, specs.TreeSteps.{AllHold, ChangeFits, CoreGoes, EventFeels, HasHandle}}
-use Rattle.pagable_theorems.specs.TreeSteps.{HasPin, Holds, IsSteppedReading, KeyIsSet, KeysAreReady, KeysHeld, PinHolds, StandsAt, WaitsHeld, by-call, by-key, by-nothing, by-reading}
+use Rattle.pagable_pager_spec.specs.{
+  Basics.is_loose_kind,
+  Calls.{SetKeyCall, row_of, with_key},
+  Events.Ends,
+  Kinds.{fits_mode, is_loose},
+  Order.{InOrder, OnceEach, is_claim_of, steps_of},
+  Pager.{EventBrings, IsReadingOf, StandsFor},
+  Refusals.Owns,
+  Rightness.{HasLetGo, IsRight, PinGives, StepsAreWithin, WorkerIsRight, claims_made, is_on_table},
+  Runs.{EventDoes, Fact, IsPremised, TakesWell, TreesAfter, TreesAlong, events_of, replies_of},
+  Theorem.HeadlineLaw,
+  Workers.{claim_fault, give_known, next_start, with_changed_slot, with_outcome},
+  World.{SameShelf, published, to_publish, type_at},
+  declared.{events.PinStep.PinStep, pinning.Pinning.Pinning},
+}
+use Rattle.pagable_theorems.proofs.{
+  CallEffects.{begin-goes, pins},
+  EventEffects.{ends-quiet, event-goes, site_of, walk-goes, works-free},
+  FormsOfTrees.given-of,
+  HandlesKept.{Stands, among-found, fell, found-number, goes-quiet, pins-hold, quiet-goes, stands-alike, stands-fell, stands-new, stands-whole, updated-at},
+  LoadProgress.{Going, given-nodes, going-new, going-of, going-on, going-step, pin_stands, tree-stays},
+  LoadResults.{at-once, keys-right},
+  Merkle.tree_readable,
+  NewClaims.{EventTurns, HasGone, StandsIn, event-turns, goes-on, idle-stands, turns-keep, turns-stand},
+  ReadingSteps.{is-reading-of, readings-on},
+  SlotsGrow.{KeepsTask, ShelfGrows, grows, is-same, keeps-task, put-cases, puts-slot, true-false},
+  StepBounds.{LoadsStand, Spares, event-on, reads-give, step-within, steps-left},
+  TablesKept.{fits-on, keys-same},
+  TreeProgress.{call-fits, fits-key, fits-nothing, none-comes, reading-fits, trees-go-on},
+  Trees.{one-small, same_some, sum-zero},
+  Words.{Action, Among, ArcRef, AreMoments, Beginning, Bool, Change, Claim, CloneCall, Core, Event, EventReply, HandleNumber, HandleRow, HandlesAreWhole},
+  Words.{Happens, HoldsSettled, Identity, IsIdle, IsLawful, IsMachineWhole, IsPublished, IsWellAsked, List, MachineState, Moment, NodeNumber, None, Ok, Option},
+  Words.{Owner, Reading, Seen, Shelf, Slot, Some, Todo, Tree, Values, Walking, WorkDoes, WorkFits, WorkerAnswer, WorkerNumber, WorkerReply, WorkerState},
+  Words.{WorkerSteps, World, above, any_mode, ap, append_assoc, arith, false, false_from_ne_true, find_row, give, identity_of, inl, inr, is_owner, is_some},
+  Words.{le_trans, nat_tests, nothing_felt, one, owner_worker, refl, row_at, rules, state_after, step_of, subst, sum_by-cons, sym, times, to_finish, to_item},
+  Words.{to_load, to_pin, to_set, to_start, to_write, true, type_of, world_of, ℕ, [], ◌&&◌, ◌++◌, ◌+◌, ◌∙◌, ◌∷◌, ◌≡◌, ◌≤◌, ◌⊎◌},
+}
+use Rattle.pagable_theorems.specs.{
+  TreeSteps.{AllHold, ChangeFits, CoreGoes, EventFeels, HasHandle, HasPin, Holds, IsSteppedReading, KeyIsSet, KeysAreReady, KeysHeld, PinHolds, StandsAt},
+  TreeSteps.{WaitsHeld, by-call, by-key, by-nothing, by-reading},
+}
+use Rattle.std.proofs.{Common.append-nil, Math.Nat.zero-add, lemmas.List.Sums.sum_by-append}
+use Rattle.std.specs.Prelude.{is_none}
 
 module _ {c : Change} {w w' : Core} (goes : CoreGoes c w w') where
   pub stands-on : {r : ArcRef} {h : HandleNumber} → StandsAt w r h → StandsAt w' r h
@@ -128,7 +154,7 @@ module _ {N B W : Type 0} (m : Seen N B W) (v : ℕ) (s s' : WorkerState) (whole
   stepped (to_start r place ∷ below) (Action.Claim i (Ok Claim.Claimed)) e (is, c) f (h, waits) =
       let t = c.finds.1.2 in
       leaves t.list_is (stands-on f (claimed-stands whole r c.finds.0), waits-on f below waits) (grind (arith, put-cases, known))
-  stepped (to_pin r place ∷ below) (Action.Pin i (Ok (PinStep.Held k))) e (is, p) f (h, waits) = let t = p.pins.2 in
+  stepped (to_pin r place ∷ below) (Action.Pin i (Ok (PinStep.Pinned k))) e (is, p) f (h, waits) = let t = p.pins.2 in
       let stands : StandsAt s'.core r p.pins.0 = elim p.pins.1 [
         | inl (row, same, clone) ↦ subst (λ h. StandsAt s'.core r h) (sym same) (clone-stands whole r k h clone)
         | inr (row, (mid, clone, pin)) ↦ stands-on (pins {lists = false} {Asks = Unit {0}} {Leaves = Unit {0}} {c = nothing_felt} (works-free v)
@@ -141,9 +167,9 @@ module _ {N B W : Type 0} (m : Seen N B W) (v : ℕ) (s s' : WorkerState) (whole
             (clone-stands whole r p.pins.0 h p.pins.1.1.2),
         waits-on f below waits,
       )
-  stepped (to_load r place through reading ∷ below) (Action.Pin i (Ok (PinStep.Held k))) e (is, p) f (h, waits) = let t = p.goes.1 in
+  stepped (to_load r place through reading ∷ below) (Action.Pin i (Ok (PinStep.Pinned k))) e (is, p) f (h, waits) = let t = p.goes.1 in
       stays t.table_stays.slots t.list_is (stands-on f h, waits-on f below waits)
-  stepped (to_load r place through reading ∷ below) (Action.Pin i (Ok PinStep.LoadWent)) e (is, p) f (h, waits) = let t = p.goes.2 in
+  stepped (to_load r place through reading ∷ below) (Action.Pin i (Ok PinStep.LoadStepMade)) e (is, p) f (h, waits) = let t = p.goes.2 in
       stays t.table_stays.slots t.list_is (stands-on f h, waits-on f below waits)
   stepped (to_write r place through ∷ below) (Action.Write i (Ok out)) e (is, p) f (h, waits) =
       let t = p.writes in

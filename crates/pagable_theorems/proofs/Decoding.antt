@@ -1,20 +1,40 @@
 -- What a blob asks for next depends only on the kinds of the references that were got. A blob that asks for nothing more is a form of some value, which names
 -- no handle twice if the handles that were got are distinct. The value leads to what the blob's key reads as: reading the blob with the references that were
 -- got runs parallel to reading it with its bare keys, each of which reads as the tree of the node that was got for it.
-use Rattle.pagable_value_spec.specs.{ReadSteps.◌>>=◌, Trees.{IsFollowed, KeyRef, ReadsAs, integer-followed, key_ref, none-followed, number-followed, pair-followed, pattern-followed, reference-followed}}
-use Rattle.pagable_value_spec.specs.{Meaning.{integer, number, pattern, text}, Reading.{Rest, deepest}, References.SameReferences, Cursor.Answer, Trees.{rest_of, text-followed, variant-followed}}
-use Rattle.{pagable_value_spec.specs.{Cursor.{answer_at, handles_at}, Writing.kind_of_arc}, std.proofs.{Common.sum_by, lemmas.{List.{length-map, map-append}, Option.{slice_get-get_or, slice_get_past}}}}
-use Rattle.pagable_theorems.specs.{FormLaws.at, TreeSteps.{Decoded, LeadsTo, followed-leads, none-leads, number-leads, pair-leads, pattern-leads, reference-leads, text-leads, variant-leads}}
-use Rattle.pagable_theorems.proofs.Naturality.{Out, OutLook, any_cause, both-faulty, both-given, both-looked-up, both-not, both-refused, each, first-not, first-refused, keeps_forms, no_cause, one_cause}
-use Rattle.pagable_theorems.proofs.{RoundTrip.{Looked, form-again, looks-itself, not-looked, one-looked, read_again}, Naturality.{read_par, renamed, typed_par}, Trees.{AllTwo, Along, at-most-sum, counted}}
-use Rattle.pagable_theorems.proofs.Trees.{each-two, followed-along, integer-along, more-two, no-two, none-along, number-along, one-true, one_tree, pair-along, pattern-along, reference-along, refs-two}
-use Rattle.pagable_theorems.proofs.{Trees.{same-number, self-number, swap-two, text-along, tree_is, variant-along}, Words.{Among, ArcRef, Blob, Bool, Core, Err, Error, Form, Frame, IsLawful, IsReadable}}
-use Rattle.pagable_theorems.proofs.Words.{IsReference, Kind, List, Meaning, None, Ok, Option, Owner, PagerState, IsReadableType, ReadsTree, Result, Shape, Some, Throughout, Tree, Types, ValueStands, []}
-use Rattle.pagable_theorems.proofs.Words.{Values, and_parts, ap, append-nil, append_assoc, arith, cases_Bool, cases_lt, false, followed, if◌then◌else◌, inl, inr, integer-leads, is_eager, is_in, length}
-use Rattle.pagable_theorems.proofs.Words.{length-append, map, nat_tests, next_in, none, one, pair, read, reference, references_fault, references_in, refl, rest, slice_get, subst, suc, sum_by-cons, sym}
-use Rattle.{pagable_theorems.proofs.Words.{times, tree, true, type_of, variant, zero, ℕ, ◌&&◌, ◌++◌, ◌+◌, ◌==◌, ◌∙◌, ◌∷◌, ◌≡◌, ◌≤◌, ◌⊎◌}, pagable_pager_spec.specs.Loads.{IsDecoded, answer_of, answers_from}}
-use Rattle.pagable_pager_spec.specs.{Loads.{asks, is_faulty, next_by, next_of, read_with, reads}, Order.{after_kinds, some_of}, Pager.{FrameFits, MeaningStands, NodeStands}, Refusals.reference_fault}
-use Rattle.pagable_pager_spec.specs.Pager.{ReadsNodeTree, followed-stands, integer-stands, none-stands, number-stands, pair-stands, pattern-stands, reference-stands, text-stands, variant-stands}
+use Rattle.pagable_pager_spec.specs.{
+  Loads.{IsDecoded, answer_of, answers_from, asks, is_faulty, next_by, next_of, read_with, reads},
+  Order.{after_kinds, some_of},
+  Pager.{FrameFits, MeaningStands, NodeStands, ReadsNodeTree, followed-stands, integer-stands, none-stands, number-stands, pair-stands, pattern-stands},
+  Pager.{reference-stands, text-stands, variant-stands},
+  Refusals.reference_fault,
+}
+use Rattle.pagable_theorems.proofs.{
+  Naturality.{Out, OutLook, any_cause, both-faulty, both-given, both-looked-up, both-not, both-refused, each, first-not, first-refused, keeps_forms, no_cause},
+  Naturality.{one_cause, read_par, renamed, typed_par},
+  RoundTrip.{Looked, form-again, looks-itself, not-looked, one-looked, read_again},
+  Trees.{AllTwo, Along, at-most-sum, counted, each-two, followed-along, integer-along, more-two, no-two, none-along, number-along, one-true, one_tree},
+  Trees.{pair-along, pattern-along, reference-along, refs-two, same-number, self-number, swap-two, text-along, tree_is, variant-along},
+  Words.{Among, ArcRef, Blob, Bool, Core, Err, Error, Form, Frame, IsLawful, IsReadable, IsReadableType, IsReference, Kind, List, Meaning, None, Ok, Option},
+  Words.{Owner, PagerState, ReadsTree, Result, Shape, Some, Throughout, Tree, Types, ValueStands, Values, and_parts, ap, append-nil, append_assoc, arith},
+  Words.{cases_Bool, cases_lt, false, followed, if◌then◌else◌, inl, inr, integer-leads, is_eager, is_in, length, length-append, map, nat_tests, next_in, none},
+  Words.{one, pair, read, reference, references_fault, references_in, refl, rest, slice_get, subst, suc, sum_by-cons, sym, times, tree, true, type_of, variant},
+  Words.{zero, ℕ, [], ◌&&◌, ◌++◌, ◌+◌, ◌==◌, ◌∙◌, ◌∷◌, ◌≡◌, ◌≤◌, ◌⊎◌},
+}
+use Rattle.pagable_theorems.specs.{
+  FormLaws.at,
+  TreeSteps.{Decoded, LeadsTo, followed-leads, none-leads, number-leads, pair-leads, pattern-leads, reference-leads, text-leads, variant-leads},
+}
+use Rattle.pagable_value_spec.specs.{
+  Cursor.{Answer, answer_at, handles_at},
+  Meaning.{integer, number, pattern, text},
+  ReadSteps.◌>>=◌,
+  Reading.{Rest, deepest},
+  References.SameReferences,
+  Trees.{IsFollowed, KeyRef, ReadsAs, integer-followed, key_ref, none-followed, number-followed, pair-followed, pattern-followed, reference-followed, rest_of},
+  Trees.{text-followed, variant-followed},
+  Writing.kind_of_arc,
+}
+use Rattle.std.proofs.{Common.sum_by, lemmas.{List.{length-map, map-append}, Option.{slice_get-get_or, slice_get_past}}}
 
 abbrev pub kinds_of : List ArcRef → List ℕ
 kinds_of got = map (λ (r : ArcRef). r.kind.0) got

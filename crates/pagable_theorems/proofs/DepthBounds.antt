@@ -1,16 +1,38 @@
 -- Published heights are heights of trees: so no worker returns a key if too long a path, or a value without a form, is below its task; and why a claim is too
 -- deep.
-use Rattle.pagable_theorems.proofs.{LoadResults.answered, Chains.{IsGoingOn, along-with, headline_law, idle-goes}, NewClaims.StandsIn, FormsOfTrees.{known-of, tree-form}, HandlesKept.updated-at, ReadingSteps.site_of}
-use Rattle.pagable_theorems.proofs.{SlotsGrow.{AllStand, Covers, is-same, is_open_in}, TablesKept.next-among, Trees.{Along, each-two, form-along, integer-along, none-along, number-along, pair-along}}
-use Rattle.pagable_theorems.proofs.{Trees.{pattern-along, reference-along, same_some, text-along, tree_is, variant-along}, Words.{Among, ArcRef, AreMoments, Bool, Core, WorkDoes, Err, Error, Event, Happens}}
-use Rattle.pagable_theorems.proofs.Words.{EventReply, FollowsTo, HoldsSettled, Identity, IsIdle, IsLawful, IsMachineWhole, IsPublished, List, MachineState, Meaning, Moment, Ok, Seen, WorkerState}
-use Rattle.pagable_theorems.proofs.Words.{Shelf, Some, Task, Todo, Action, Tree, Types, Values, Walking, WorkFits, WorkerAnswer, Written, above, ap, arith, followed, identity_of, if◌then◌else◌, inl, inr}
-use Rattle.pagable_theorems.proofs.Words.{is_eager, max, nat_tests, of_entry, of_item, pair, refl, subst, suc, sym, to_finish, to_item, to_start, tree, true, type_of, variant, world_of, zero, ℕ, ◌+◌}
-use Rattle.pagable_theorems.{proofs.Words.{◌<◌, ◌∙◌, ◌∷◌, ◌≡◌, ◌≤◌, ◌⊎◌}, specs.{DepthLaws.{ClaimIsDeep, DepthIsTold, MetDepthAlone, WaitsForAsker}, TreeSteps.{AllLow, BlobStands, Expects, Ground}}}
-use Rattle.pagable_theorems.specs.TreeSteps.{IsAttained, IsDone, Waits, Walks, WroteTree, followed-leads, ground_of, pair-leads, place_over, reference-leads, variant-leads}
-use Rattle.{pagable_value_spec.specs.{Height.{deepest_path, height}, Merkle.TreeForm, Writing.kind_of_arc}, pagable_pager_spec.specs.{Rightness.IsMetFailure, WorkerClaims.{HasNoForm, IsFormlessTask, IsTooDeepTask}}}
-use Rattle.pagable_pager_spec.specs.{WorkerClaims.{KeyIsShallow, LeadsToNoForm, Reaches, in-first, in-part, in-rest, refers, refers-on}, Pager.{StandsFor, kids_of}, Basics.longest_path, Runs.Fact}
-use Rattle.{pagable_pager_spec.specs.{Runs.TreesAlong, Workers.ClaimStep, World.is_identity}, std.{proofs.lemmas.Bool.or_cases, specs.Prelude.◌≢◌}}
+use Rattle.pagable_pager_spec.specs.{
+  Basics.longest_path,
+  Pager.{StandsFor, kids_of},
+  Rightness.IsMetFailure,
+  Runs.{Fact, TreesAlong},
+  WorkerClaims.{HasNoForm, IsFormlessTask, IsTooDeepTask, KeyIsShallow, LeadsToNoForm, Reaches, in-first, in-part, in-rest, refers, refers-on},
+  Workers.ClaimStep,
+  World.is_identity,
+}
+use Rattle.pagable_theorems.proofs.{
+  Chains.{IsGoingOn, along-with, headline_law, idle-goes},
+  EventEffects.site_of,
+  FormsOfTrees.{known-of, tree-form},
+  HandlesKept.updated-at,
+  LoadResults.answered,
+  NewClaims.StandsIn,
+  SlotsGrow.{AllStand, Covers, is-same, is_open_in},
+  TablesKept.next-among,
+  Trees.{Along, each-two, form-along, integer-along, none-along, number-along, pair-along, pattern-along, reference-along, same_some, text-along, tree_is},
+  Trees.variant-along,
+  Words.{Action, Among, ArcRef, AreMoments, Bool, Core, Err, Error, Event, EventReply, FollowsTo, Happens, HoldsSettled, Identity, IsIdle, IsLawful},
+  Words.{IsMachineWhole, IsPublished, List, MachineState, Meaning, Moment, Ok, Seen, Shelf, Some, Task, Todo, Tree, Types, Values, Walking, WorkDoes, WorkFits},
+  Words.{WorkerAnswer, WorkerState, Written, above, ap, arith, followed, identity_of, if◌then◌else◌, inl, inr, is_eager, max, nat_tests, of_entry, of_item},
+  Words.{pair, refl, subst, suc, sym, to_finish, to_item, to_start, tree, true, type_of, variant, world_of, zero, ℕ, ◌+◌, ◌<◌, ◌∙◌, ◌∷◌, ◌≡◌, ◌≤◌, ◌⊎◌},
+}
+use Rattle.pagable_theorems.specs.{
+  DepthLaws.{ClaimIsDeep, MetDepthAlone, WaitsForAsker, WorkerReportsDepth},
+  TreeSteps.{AllLow, BlobStands, Expects, Ground, IsAttained, IsDone, Waits, Walks, WroteTree, followed-leads, ground_of, pair-leads, place_over},
+  TreeSteps.{reference-leads, variant-leads},
+}
+use Rattle.pagable_value_spec.specs.{Height.{deepest_path, height}, Merkle.TreeForm, Writing.kind_of_arc}
+use Rattle.std.proofs.lemmas.Bool.{or_cases}
+use Rattle.std.specs.Prelude.{◌≢◌}
 
 -- ---- what a tree's references lead to is part of it
 
@@ -222,7 +244,7 @@ module _ {N B W E : Type 0} (m : Seen N B W) (s s' : MachineState N E) (trees tr
   -- what a worker answers that leads down so, and met no other refusal
   pub depth-is-told : (event : Event N B W) (reply : EventReply N B W) → Happens m (world_of s) event reply (world_of s')
       → KeyIsShallow m.values s trees event reply s' trees'
-      → DepthIsTold m s trees event reply s' trees'
+      → WorkerReportsDepth m s trees event reply s' trees'
   depth-is-told (Event.WorkerStep n) (EventReply.WorkerMoved (Ok reply)) is shallow = λ start moments walking answer whole idle chain ends there e alone deep.
       let w = is.moves in
       let now : Walking = record w.walking { todo = w.after.todo; steps = reply.steps; answer = reply.answer } in

@@ -1,15 +1,30 @@
 -- What a step does: its effect on trees, and that it leaves the handles and loads of others alone. The cache keeps giving the same node for a kind and a key,
 -- as long as a handle that fits the kind holds the node. The parts of which each call is made.
-use Rattle.pagable_theorems.proofs.{Decoding.among-either, HandlesKept.{Goes, Has, IsShut, NotLoads, NotValues, Quiet, Stands, a-handle, alike, born, fell as quiet-fell, found-number, goes-known, goes-quiet}}
-use Rattle.pagable_theorems.proofs.HandlesKept.{goes-then, keyed, le-more, le-self, none-in-next, only-rows, parts, quiet-goes, quiet-self, rows-mode, rows-moved, rows-self, same-owner, stands-alike}
-use Rattle.pagable_theorems.proofs.{HandlesKept.{stands-changed, stands-fell, stands-more}, Trees.{at-most-sum, counted, one-true, same-number, same_some, self-number}, Words.{Alike, Among, ArcRef, Blob, Bool}}
-use Rattle.pagable_theorems.proofs.Words.{Change, Core, Error, HandleNumber, HandleRow, Kind, List, LoadNumber, Mode, NodeNumber, None, OpenLoad, Option, OptionalDataKey, Owner, Result, Some, []}
-use Rattle.pagable_theorems.proofs.Words.{and_parts, ap, arith, cases_Bool, false, false_from_ne_true, find_row, held, if_there, if◌then◌else◌, inl, inr, is_handle, is_in, is_named_by, is_owned_by}
-use Rattle.pagable_theorems.proofs.Words.{is_owner, is_pinning, is_some, moved, nat_tests, not, nothing_felt, one, owner_value, owner_worker, pins, refl, rules, slice_get, subst, suc, sym, true, updated}
-use Rattle.pagable_theorems.{proofs.Words.{with_handle, zero, ℕ, ◌&&◌, ◌++◌, ◌+◌, ◌<◌, ◌==◌, ◌∙◌, ◌∷◌, ◌≡◌, ◌≤◌}, specs.TreeSteps.{AreGood, Bears, Knows, sets_key}}
-use Rattle.pagable_pager_spec.{proofs.Elements.among-left, specs.{Calls.{row_of, with_cached, with_key, with_mode, with_node}, Cascade.{Falls, fallen, left_rows, nobody, only_handle}, Kinds.is_at}}
-use Rattle.pagable_pager_spec.specs.{Kinds.{is_in_memory, is_loose, is_pin}, LoadCalls.{is_owned_in, numbers_of, with_load, without_load}, Pager.OwnersAreThere, Basics.{changed, is_pinned_kind}}
-use Rattle.{pagable_pager_spec.specs.{Refusals.{Owns, OwnsLoad, earlier, named_fault}, Workers.{is_load_of, is_workers, is_workers_at}, World.{Cell, Root, usable}}, std.specs.Prelude.nat_lt}
+use Rattle.pagable_pager_spec.proofs.Elements.{among-left}
+use Rattle.pagable_pager_spec.specs.{
+  Basics.{changed, is_pinned_kind},
+  Calls.{row_of, with_cached, with_key, with_mode, with_node},
+  Cascade.{Falls, fallen, left_rows, nobody, only_handle},
+  Kinds.{is_at, is_in_memory, is_loose, is_pin},
+  LoadCalls.{is_owned_in, numbers_of, with_load, without_load},
+  Pager.OwnersAreThere,
+  Refusals.{Owns, OwnsLoad, earlier, named_fault},
+  Workers.{is_load_of, is_workers, is_workers_at},
+  World.{Cell, Root, usable},
+}
+use Rattle.pagable_theorems.proofs.{
+  Decoding.among-either,
+  HandlesKept.{Goes, Has, IsShut, NotLoads, NotValues, Quiet, Stands, a-handle, alike, born, fell as quiet-fell, found-number, goes-known, goes-quiet},
+  HandlesKept.{goes-then, keyed, le-more, le-self, none-in-next, only-rows, parts, quiet-goes, quiet-self, rows-mode, rows-moved, rows-self, same-owner},
+  HandlesKept.{stands-alike, stands-changed, stands-fell, stands-more},
+  Trees.{at-most-sum, counted, one-true, same-number, same_some, self-number},
+  Words.{Alike, Among, ArcRef, Blob, Bool, Change, Core, Error, HandleNumber, HandleRow, Kind, List, LoadNumber, Mode, NodeNumber, None, OpenLoad, Option},
+  Words.{OptionalDataKey, Owner, Result, Some, and_parts, ap, arith, cases_Bool, false, false_from_ne_true, find_row, held, if_there, if◌then◌else◌, inl, inr},
+  Words.{is_handle, is_in, is_named_by, is_owned_by, is_owner, is_pinning, is_some, moved, nat_tests, not, nothing_felt, one, owner_value, owner_worker, pins},
+  Words.{refl, rules, slice_get, subst, suc, sym, true, updated, with_handle, zero, ℕ, [], ◌&&◌, ◌++◌, ◌+◌, ◌<◌, ◌==◌, ◌∙◌, ◌∷◌, ◌≡◌, ◌≤◌},
+}
+use Rattle.pagable_theorems.specs.TreeSteps.{AreGood, Bears, Knows, sets_key}
+use Rattle.std.specs.Prelude.{nat_lt}
 
 module _ (kind key n : ℕ) where
   -- the cache has the node under kind and key, and it is there

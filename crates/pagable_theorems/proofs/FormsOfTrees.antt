@@ -1,16 +1,36 @@
 -- A form of a node's value is a form of the node's tree: its references are followed to their nodes' trees, and with their keys it is stored under the tree's
 -- own key.
-use Rattle.pagable_theorems.proofs.{Naturality.{both-looked-up, each, keeps_forms, one_cause, read_par}, Trees.{AllTwo, Along, followed-along, more-two, no-two, one_tree, pair-along, reference-along}}
-use Rattle.pagable_theorems.proofs.{Trees.{same-number, same_some, sum-le, sum-zero, variant-along}, Words.{Among, ArcRef, Bool, Core, FollowsTo, Form, HandleRow, HandlesAreWhole, HoldsSettled, List, ℕ}}
-use Rattle.pagable_theorems.proofs.Words.{Identity, IsLawful, IsPublished, IsReadable, Meaning, Ok, Option, Owner, PagerState, IsReadableType, PagerStandsFor, Shape, Shelf, Slot, Some, Throughout, Tree, []}
-use Rattle.pagable_theorems.proofs.Words.{Types, Values, IsPagerWhole, Written, ap, append-nil, arith, blob_of, held, identity_of, if_there, inr, integer-leads, is_handle, is_owned_by, is_some, le_trans}
-use Rattle.pagable_theorems.proofs.Words.{map, nat_tests, one, owner_value, reference, references_in, refl, rename, rest, slice_get, slice_get_within, subst, suc, sum_by-cons, sym, times, tree, true}
-use Rattle.pagable_theorems.proofs.{RoundTrip.{looks-itself, read_again}, Decoding.{among-left, among-right, given-too}, Words.{type_of, zero, ◌&&◌, ◌++◌, ◌<◌, ◌==◌, ◌∙◌, ◌∷◌, ◌≡◌, ◌≤◌}}
-use Rattle.pagable_theorems.specs.TreeSteps.{Ground, KeyStands, LeadsBy, WroteTree, followed-leads, none-leads, number-leads, pair-leads, pattern-leads, reference-leads, text-leads, variant-leads}
-use Rattle.pagable_value_spec.specs.{Canonical.{EachType, IsReadableTree}, Height.{Kid, kid, kind_of_kid}, Reading.deepest, Trees.{IsFollowed, KeyRef, integer-followed, key_ref, none-followed, number-followed, pair-followed, pattern-followed}}
-use Rattle.pagable_value_spec.specs.{Merkle.{KeyOf, KeysOf, StoredAs, TreeForm, key-of, key_of_ref, kind_of_ref, more-keys, no-keys, unfolded}, Trees.{reference-followed, text-followed, variant-followed}}
-use Rattle.{pagable_value_spec.specs.Writing.kind_of_arc, pagable_pager_spec.specs.World.{Outcome, digest, published, type_at}, std.{proofs.lemmas.Option.get_or_from_slice_get, specs.Prelude.nat_lt}}
-use Rattle.pagable_pager_spec.specs.{Rightness.AreKeysOf, Pager.{IsWrittenOf, MeaningStands, NodeStands, away, followed-stands, here, kids_of, number-stands, pair-stands, reference-stands, variant-stands}}
+use Rattle.pagable_pager_spec.specs.{
+  Pager.{IsWrittenOf, MeaningStands, NodeStands, away, followed-stands, here, kids_of, number-stands, pair-stands, reference-stands, variant-stands},
+  Rightness.AreKeysOf,
+  World.{Outcome, digest, published, type_at},
+}
+use Rattle.pagable_theorems.proofs.{
+  Decoding.{among-left, among-right, given-too},
+  Naturality.{both-looked-up, each, keeps_forms, one_cause, read_par},
+  RoundTrip.{looks-itself, read_again},
+  Trees.{AllTwo, Along, followed-along, more-two, no-two, one_tree, pair-along, reference-along, same-number, same_some, sum-le, sum-zero, variant-along},
+  Words.{Among, ArcRef, Bool, Core, FollowsTo, Form, HandleRow, HandlesAreWhole, HoldsSettled, Identity, IsLawful, IsPagerWhole, IsPublished, IsReadable},
+  Words.{IsReadableType, List, Meaning, Ok, Option, Owner, PagerStandsFor, PagerState, Shape, Shelf, Slot, Some, Throughout, Tree, Types, Values, Written, ap},
+  Words.{append-nil, arith, blob_of, held, identity_of, if_there, inr, integer-leads, is_handle, is_owned_by, is_some, le_trans, map, nat_tests, one},
+  Words.{owner_value, reference, references_in, refl, rename, rest, slice_get, slice_get_within, subst, suc, sum_by-cons, sym, times, tree, true, type_of},
+  Words.{zero, ℕ, [], ◌&&◌, ◌++◌, ◌<◌, ◌==◌, ◌∙◌, ◌∷◌, ◌≡◌, ◌≤◌},
+}
+use Rattle.pagable_theorems.specs.{
+  TreeSteps.{Ground, KeyStands, LeadsBy, WroteTree, followed-leads, none-leads, number-leads, pair-leads, pattern-leads, reference-leads, text-leads},
+  TreeSteps.variant-leads,
+}
+use Rattle.pagable_value_spec.specs.{
+  Canonical.{EachType, IsReadableTree},
+  Height.{Kid, kid, kind_of_kid},
+  Merkle.{KeyOf, KeysOf, StoredAs, TreeForm, key-of, key_of_ref, kind_of_ref, more-keys, no-keys, unfolded},
+  Reading.deepest,
+  Trees.{IsFollowed, KeyRef, integer-followed, key_ref, none-followed, number-followed, pair-followed, pattern-followed, reference-followed, text-followed},
+  Trees.variant-followed,
+  Writing.kind_of_arc,
+}
+use Rattle.std.proofs.lemmas.Option.{get_or_from_slice_get}
+use Rattle.std.specs.Prelude.{nat_lt}
 
 -- ---- the references in a form's meaning are those of the form, and none is followed
 

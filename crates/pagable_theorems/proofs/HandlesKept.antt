@@ -1,16 +1,31 @@
 -- What a step does to the core, as far as it matters for trees: the parts of each call's summary. And a live handle that no value owns and that isn't
 -- released keeps its row in a cascade.
-use Rattle.pagable_theorems.proofs.{Decoding.among-either, CascadeWitness.outlast, Trees.{same-number, same_some, self-number}, Words.{Alike, Among, ArcRef, Blob, Bool, Call, Change, CloneCall, Core, Event}}
-use Rattle.pagable_theorems.proofs.Words.{EventReply, HandleNumber, HandleRow, HandlesAreWhole, Happens, Identity, IsReference, Kind, Last, List, LoadNumber, Mode, NodeNumber, None, Ok, OpenLoad, Option}
-use Rattle.pagable_theorems.proofs.Words.{OptionalDataKey, Owner, PinCall, Reply, Seen, WorkerState, Some, Todo, Action, World, [], adopted, answer_after, ap, arith, bears_known, false, false_from_ne_true}
-use Rattle.pagable_theorems.proofs.Words.{find_row, if◌then◌else◌, inl, inr, is_handle, is_named_by, is_owner, is_pinning, le_trans, mode_of, moved, nat_tests, next_node, not, nothing_felt, one}
-use Rattle.pagable_theorems.proofs.Words.{owner_value, owner_worker, pins, references_fault, refl, row_at, rules, subst, suc, sum_by-cons, sym, to_load, to_pin, true, type_of, updated, with_handle, zero}
-use Rattle.pagable_theorems.{proofs.Words.{ℕ, ◌&&◌, ◌++◌, ◌+◌, ◌<◌, ◌==◌, ◌∙◌, ◌∷◌, ◌≡◌, ◌≤◌, ◌⊎◌}, specs.TreeSteps.{AreGood, Bears, BeginsWell, HasPin, Knows, PinHolds, StaysAway, sets_key}}
-use Rattle.pagable_pager_spec.{proofs.Elements.{among-left, found-among}, specs.{Calls.{row_of, with_cached, with_key, with_mode, with_node}, Cascade.{AreNewEntries, Falls, FallsAnyhow, fallen, is_keyed}}}
-use Rattle.pagable_pager_spec.specs.{Cascade.left_rows, Kinds.{is_loose, is_pin}, LoadCalls.{EndCall, is_owned_in, with_load, with_pin, without_load}, Basics.{changed, or_else}, Refusals.reference_fault}
-use Rattle.pagable_pager_spec.specs.{World.{Cell, Root}, declared.{pinning.Pinning.Pinning, events.PinStep.PinStep}}
+use Rattle.pagable_pager_spec.proofs.Elements.{among-left, found-among}
+use Rattle.pagable_pager_spec.specs.{
+  Basics.{changed, or_else},
+  Calls.{row_of, with_cached, with_key, with_mode, with_node},
+  Cascade.{AreNewEntries, Falls, FallsAnyhow, fallen, is_keyed, left_rows},
+  Kinds.{is_loose, is_pin},
+  LoadCalls.{EndCall, is_owned_in, with_load, with_pin, without_load},
+  Refusals.reference_fault,
+  World.{Cell, Root},
+  declared.{events.PinStep.PinStep, pinning.Pinning.Pinning},
+}
+use Rattle.pagable_theorems.proofs.{
+  CascadeWitness.outlast,
+  Decoding.among-either,
+  Trees.{same-number, same_some, self-number},
+  Words.{Action, Alike, Among, ArcRef, Blob, Bool, Call, Change, CloneCall, Core, Event, EventReply, HandleNumber, HandleRow, HandlesAreWhole, Happens},
+  Words.{Identity, IsReference, Kind, Last, List, LoadNumber, Mode, NodeNumber, None, Ok, OpenLoad, Option, OptionalDataKey, Owner, PinCall, Reply, Seen, Some},
+  Words.{Todo, WorkerState, World, adopted, answer_after, ap, arith, bears_known, false, false_from_ne_true, find_row, if◌then◌else◌, inl, inr, is_handle},
+  Words.{is_named_by, is_owner, is_pinning, le_trans, mode_of, moved, nat_tests, next_node, not, nothing_felt, one, owner_value, owner_worker, pins},
+  Words.{references_fault, refl, row_at, rules, subst, suc, sum_by-cons, sym, to_load, to_pin, true, type_of, updated, with_handle, zero, ℕ, [], ◌&&◌, ◌++◌},
+  Words.{◌+◌, ◌<◌, ◌==◌, ◌∙◌, ◌∷◌, ◌≡◌, ◌≤◌, ◌⊎◌},
+}
+use Rattle.pagable_theorems.specs.TreeSteps.{AreGood, Bears, BeginsWell, HasPin, Knows, PinHolds, StaysAway, sets_key}
 use Rattle.pagable_pager_spec.specs.Workers as workers
-pub use Rattle.{pagable_theorems.specs.TreeSteps.{CoreGoes as Goes, IsShut, Kept, RowsGo, Was}, pagable_pager_spec.proofs.Elements.{among-map as among-changed, among-one as only-one, once}}
+pub use Rattle.pagable_pager_spec.proofs.Elements.{among-map as among-changed, among-one as only-one, once}
+pub use Rattle.pagable_theorems.specs.TreeSteps.{CoreGoes as Goes, IsShut, Kept, RowsGo, Was}
 
 -- a step that sets no key, bears no node, begins no load and lets the cache know nothing
 pub record Quiet (w w' : Core) : Type 0 where
@@ -437,8 +452,8 @@ low-handle w m node mode owner low a h among =
     grind (arith, nat_tests, among-either w.rows (row_of (w.last.handle + 1) node mode owner ∷ []) there.0 h there.1, only-one, low h)
 
 module _ {N B W : Type 0} (m : Seen N B W) (v : ℕ) (s s' : WorkerState) (low : AreLow s.core) where
-  held : (todo : List Todo) (i : Identity) (k : HandleNumber) → workers.WorkDoes m v s todo (Action.Pin i (Ok (PinStep.Held k))) s'
-      → HasPin s'.core k × (answer_after {W = W} todo (Action.Pin i (Ok (PinStep.Held k))) ≡ None)
+  held : (todo : List Todo) (i : Identity) (k : HandleNumber) → workers.WorkDoes m v s todo (Action.Pin i (Ok (PinStep.Pinned k))) s'
+      → HasPin s'.core k × (answer_after {W = W} todo (Action.Pin i (Ok (PinStep.Pinned k))) ≡ None)
   held (to_pin r place ∷ below) i k (is, p) = (
     elim p.pins.1 [
       | inl (sort, same, clone) ↦

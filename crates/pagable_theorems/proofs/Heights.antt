@@ -1,15 +1,33 @@
 -- Reading a key under which a tree is stored, each value as a form, takes the tree's references and no others. So it goes too deep exactly if the tree is too
 -- high.
-use Rattle.pagable_theorems.proofs.{RoundTrip.{Looked, all-looked, form-again, not-looked, one-looked}, Decoding.kinds_of, FormsOfTrees.references-among, Merkle.longest_path, Naturality.{keeps_forms, renamed}}
-use Rattle.pagable_theorems.proofs.Trees.{Along, each-two, form-along, integer-along, none-along, number-along, pair-along, pattern-along, reference-along, same-number, same_some, self-number, text-along}
-use Rattle.pagable_theorems.proofs.{Trees.variant-along, Words.{Among, ArcRef, Blob, Err, Error, IsReadableType, List, Meaning, Ok, Option, Result, Some, Types, [], above, ap, append-nil, append_assoc}}
-use Rattle.pagable_theorems.proofs.Words.{arith, cases_Bool, false, inl, inr, is_eager, length, length-append, map, nat_tests, read, refl, rename, rest, slice_get, subst, suc, sym}
-use Rattle.pagable_theorems.proofs.Words.{tree, true, type_of, zero, ℕ, ◌++◌, ◌+◌, ◌==◌, ◌∙◌, ◌∷◌, ◌≡◌, ◌≤◌}
+use Rattle.pagable_pager_spec.specs.{
+  Basics.longest_path as limit,
+  Loads.{Next, answers_from, asks, is_faulty, next_by, next_of, read_with, reads},
+  Order.{LeadsDown, after_kinds, goes-down, is-there, some_of},
+}
+use Rattle.pagable_theorems.proofs.{
+  Decoding.kinds_of,
+  FormsOfTrees.references-among,
+  Merkle.longest_path,
+  Naturality.{keeps_forms, renamed},
+  RoundTrip.{Looked, all-looked, form-again, not-looked, one-looked},
+  Trees.{Along, each-two, form-along, integer-along, none-along, number-along, pair-along, pattern-along, reference-along, same-number, same_some, self-number},
+  Trees.{text-along, variant-along},
+  Words.{Among, ArcRef, Blob, Err, Error, IsReadableType, List, Meaning, Ok, Option, Result, Some, Types, above, ap, append-nil, append_assoc, arith},
+  Words.{cases_Bool, false, inl, inr, is_eager, length, length-append, map, nat_tests, read, refl, rename, rest, slice_get, subst, suc, sym, tree, true},
+  Words.{type_of, zero, ℕ, [], ◌++◌, ◌+◌, ◌==◌, ◌∙◌, ◌∷◌, ◌≡◌, ◌≤◌},
+}
 use Rattle.pagable_theorems.specs.{DepthLaws.DepthIsHeight, FormLaws.at}
-use Rattle.pagable_value_spec.specs.{Canonical.{EachType, IsReadableTree}, Height.{HasPath, Kid, height, tree_of_kid}, Merkle.{StoredAs, StoredTree, blob_of, key_of_ref, kind_of_ref, unfolded}}
-use Rattle.pagable_value_spec.specs.{Reading.{Rest, deepest}, Cursor.{Answer, answer_at, handles_at}, ReadSteps.◌>>=◌, Trees.{IsFollowed, KeyRef, pair-followed, reference-followed, variant-followed}, Writing.kind_of_arc}
-use Rattle.pagable_pager_spec.specs.{Loads.{Next, answers_from, asks, is_faulty, next_by, next_of, read_with, reads}, Order.{LeadsDown, after_kinds, goes-down, is-there, some_of}}
-use Rattle.pagable_pager_spec.specs.Basics.{longest_path as limit}
+use Rattle.pagable_value_spec.specs.{
+  Canonical.{EachType, IsReadableTree},
+  Cursor.{Answer, answer_at, handles_at},
+  Height.{HasPath, Kid, height, tree_of_kid},
+  Merkle.{StoredAs, StoredTree, blob_of, key_of_ref, kind_of_ref, unfolded},
+  ReadSteps.◌>>=◌,
+  Reading.{Rest, deepest},
+  Trees.{IsFollowed, KeyRef, pair-followed, reference-followed, variant-followed},
+  Writing.kind_of_arc,
+}
 use Rattle.std.proofs.lemmas.{List.length-map, Option.slice_get_past}
 
 -- ---- what a blob asks for that is a form of a stored value: its references one after another

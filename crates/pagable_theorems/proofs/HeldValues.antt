@@ -1,11 +1,25 @@
 -- What values hold beside their references doesn't change, since the references' nodes keep their values.
-use Rattle.pagable_theorems.{proofs.{HandlesKept.good, LoadProgress.row-pins}, specs.HeldLaws.{CallersBringHeld, HeldByCallersLaw, HeldByMomentsLaw, HeldLaw, MomentBringsHeld, MomentsBringHeld, OperationBringsHeld, PinnedLaw, ReadHoldsLaw}}
-use Rattle.pagable_theorems.proofs.Words.{Among, ArcRef, IsReference, Mode, None, Option, Owner, PagerState, Some, Values, IsPagerWhole, ap, arith, inl, inr, is_eager, is_pinning, is_some, nat_tests, pins, refl, sym, true, ℕ, ◌<◌, ◌∙◌, ◌≡◌}
-use Rattle.pagable_theorems.proofs.Words.{[], ◌∷◌, Core, Error, Event, EventReply, HandleNumber, List, LoadAnswer, Ok, Reading, Result, Seen, Todo, Action, WorkerAnswer, Written, subst}
-use Rattle.pagable_theorems.specs.CallerLaws.{Operation, Operations, calls, goes-on, is-done, pages-item, pages-list, pins as pins-by, reads-key}
-use Rattle.pagable_pager_spec.specs.Access.{AccessState, MakesCall, EntryRun, IfReads, ItemRun, ListRun, LoadRun, PinRun, ReadRun, WorkerRun, entry-is-refused, entry-is-walked, fails, item-is-walked, load-ends, load-fails, load-goes-on}
-use Rattle.pagable_pager_spec.specs.Access.{load-is-refused, load-pins, load-reads, no-entry-worker, no-more, no-worker, pages, pin-is-refused, pins-at-once, reading-fails, reading-is-refused, skips, worker-ends, worker-goes-on}
-use Rattle.pagable_pager_spec.specs.{Kinds.fits_mode, Pager.{HoldsItsNodes, HoldsItsValues, HoldsNode, HoldsPinned, MachineState, Moves}, Basics.NodeNumber, Runs.{AreMoments, EventDoes, Moment, state_after}}
+use Rattle.pagable_pager_spec.specs.{
+  Access.{AccessState, EntryRun, IfReads, ItemRun, ListRun, LoadRun, MakesCall, PinRun, ReadRun, WorkerRun, entry-is-refused, entry-is-walked, fails},
+  Access.{item-is-walked, load-ends, load-fails, load-goes-on, load-is-refused, load-pins, load-reads, no-entry-worker, no-more, no-worker, pages},
+  Access.{pin-is-refused, pins-at-once, reading-fails, reading-is-refused, skips, worker-ends, worker-goes-on},
+  Basics.NodeNumber,
+  Kinds.fits_mode,
+  Pager.{HoldsItsNodes, HoldsItsValues, HoldsNode, HoldsPinned, MachineState, Moves},
+  Runs.{AreMoments, EventDoes, Moment, state_after},
+}
+use Rattle.pagable_theorems.proofs.{
+  HandlesKept.good,
+  LoadProgress.row-pins,
+  Words.{Action, Among, ArcRef, Core, Error, Event, EventReply, HandleNumber, IsPagerWhole, IsReference, List, LoadAnswer, Mode, None, Ok, Option, Owner},
+  Words.{PagerState, Reading, Result, Seen, Some, Todo, Values, WorkerAnswer, Written, ap, arith, inl, inr, is_eager, is_pinning, is_some, nat_tests, pins},
+  Words.{refl, subst, sym, true, ℕ, [], ◌<◌, ◌∙◌, ◌∷◌, ◌≡◌},
+}
+use Rattle.pagable_theorems.specs.{
+  CallerLaws.{Operation, Operations, calls, goes-on, is-done, pages-item, pages-list, pins as pins-by, reads-key},
+  HeldLaws.{CallersBringHeld, HeldByCallersLaw, HeldByMomentsLaw, MomentBringsHeld, MomentsBringHeld, OperationBringsHeld, PinnedValuesAreHeld, ReadHoldsLaw},
+  HeldLaws.StepsKeepHeldValues,
+}
 
 -- a reference that is read together with its value stands for a handle that pins
 eager-pins : (kind : ℕ) (mode : Mode) → is_eager kind ≡ true → fits_mode kind mode ≡ true → is_pinning mode ≡ true
@@ -45,13 +59,13 @@ module _ {N E : Type 0} (v : Values N) {s s' : PagerState N E} (whole : IsPagerW
     beside = h.beside;
   }
 
-pub held_law : {N : Type 0} (E : Type 0) (v : Values N) → HeldLaw E v
+pub held_law : {N : Type 0} (E : Type 0) (v : Values N) → StepsKeepHeldValues E v
 held_law E v s s' whole moves held = record {
   each = λ n x is r among eager.
       kept v whole moves n x r is among eager (elim (moves.each n x is) [ inl was ↦ held.each n x was r among eager | inr (none, came) ↦ came r among eager ]);
 }
 
-pub pinned_law : {N : Type 0} (E : Type 0) (v : Values N) → PinnedLaw E v
+pub pinned_law : {N : Type 0} (E : Type 0) (v : Values N) → PinnedValuesAreHeld E v
 pinned_law E v s owner x whole none pinned = λ r among eager.
     let ref : IsReference s.core owner r = good s.core owner _ (v.references x) none r among in
     let p = some-of (s.values r.node.0) (there v whole r ref eager) in

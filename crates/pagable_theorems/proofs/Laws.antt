@@ -1,7 +1,25 @@
 -- The lemmas by which the laws of `src/` are proved, by file.
-use Rattle.pagable_theorems.proofs.{RoundTrip.{one-form, prefix_free, read_again}, LoadResults.read_law, HeldValues.{held_by_callers_law, held_by_moments_law, held_law, pinned_law, read_holds_law}, Callers.caller_law, Chains.headline_law, DepthBounds.{along-first, claim-is-deep, depth-is-told, key-is-shallow}, CascadeWitness.fall_laws}
-use Rattle.pagable_theorems.proofs.{WitnessRun.headline_met, StepBounds.reading_fills, Merkle.{one_item_key, tree_laws}, Moments.{item_law, list_law}, NewPager.new_whole, UninterruptedLoads.sound_law, Naturality.{keeps_forms, lasting, local, natural, read_over, read_through, renamed, used}}
-use Rattle.{pagable_theorems.proofs.{RefusalCauses.{begins-refused, pins-refused}, LoadFaults.{load-deep, load-faultless}, Trees.{any_order, chains_join}}, pagable_value_spec.specs.Codes.one-meaning, std.proofs.lemmas.Slice.Eq.bytes_eq-Decides}
+use Rattle.pagable_theorems.proofs.{
+  Callers.caller_law,
+  CascadeWitness.fall_laws,
+  Chains.headline_law,
+  DepthBounds.{along-first, claim-is-deep, depth-is-told, key-is-shallow},
+  HeldValues.{held_by_callers_law, held_by_moments_law, held_law, pinned_law, read_holds_law},
+  LoadFaults.{load-deep, load-faultless},
+  LoadResults.read_law,
+  Merkle.{one_item_key, tree_laws},
+  Naturality.{keeps_forms, lasting, local, natural, read_over, read_through, renamed, used},
+  NewPager.new_whole,
+  Operations.{item_law, list_law},
+  RefusalCauses.{begins-refused, pins-refused},
+  RoundTrip.{one-form, prefix_free, read_again},
+  StepBounds.loads_alone_fill_cache,
+  Trees.{any_order, chains_join},
+  UninterruptedLoads.sound_law,
+  WitnessRun.headline_met,
+}
+use Rattle.pagable_value_spec.specs.Codes.{one-meaning}
+use Rattle.std.proofs.lemmas.Slice.Eq.{bytes_eq-Decides}
 
 pub ruleset value_laws = (
   any_order,
@@ -44,7 +62,7 @@ pub ruleset world_laws = (
   held_by_callers_law,
   held_by_moments_law,
   read_holds_law,
-  reading_fills,
+  loads_alone_fill_cache,
   begins-refused,
   pins-refused,
 )

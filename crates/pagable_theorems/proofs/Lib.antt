@@ -8,6 +8,7 @@ pub mod HandlesKept
 pub mod Effects
 pub mod CallEffects
 pub mod ReadingSteps
+pub mod EventEffects
 mod SlotsGrow
 mod NewClaims
 pub mod LoadResults
@@ -15,12 +16,15 @@ pub mod Decoding
 pub mod FormsOfTrees
 mod TablesKept
 pub mod LoadProgress
+pub mod TreeProgress
 pub mod Chains
 pub mod NewPager
+mod SmallPagers
 mod WitnessRun
 mod DepthBounds
 pub mod StepBounds
 pub mod Moments
+pub mod Operations
 pub mod HeldValues
 pub mod Callers
 mod LoadFaults

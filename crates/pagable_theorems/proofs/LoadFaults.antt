@@ -1,16 +1,32 @@
 -- Why a load fails whose key a page-out has published: by chance, or by a handle. And a load fails as too deep only if reading its key reaches a blob that is
 -- too deep, or one that enters a level too many.
-use Rattle.pagable_theorems.proofs.{Chains.IsGoingOn, Decoding.{Ahead, FramesAsked, GotAsked, IsFormOf, all-done, asks-by-kinds, at-place, comes-to, faulty-by-kinds, kinds_of, one-left}}
-use Rattle.pagable_theorems.proofs.{FormsOfTrees.known-of, ReadingSteps.{reading-number, reading-open, reading-stands}, LoadProgress.{Going, adopted-over, asked, eager-nested, going-of}}
-use Rattle.pagable_theorems.proofs.{Trees.{same_some, self-number}, Words.{ArcRef, Blob, Bool, Core, Err, Error, Event, EventReply, Frame, FramesFit, HandleNumber, HandleRow, Happens, Identity, Kind, ℕ}}
-use Rattle.pagable_theorems.proofs.Words.{IsReadableType, IsLawful, IsPublished, List, LoadAnswer, LoadNumber, MachineState, Meaning, Mode, NodeNumber, None, Ok, OpenLoad, Option, Owner, Reading, Seen}
-use Rattle.pagable_theorems.proofs.Words.{Shelf, Some, Tree, Types, Values, WorkFits, Written, [], above, adopted, any_mode, ap, arith, blob_of, false, identity_of, inl, inr, is_eager, length, nat_tests}
-use Rattle.pagable_theorems.proofs.Words.{next_in, not, of_cell, owner_worker, references_fault, refl, rules, slice_get, subst, sym, true, type_of, world_of, ◌+◌, ◌<◌, ◌==◌, ◌∙◌, ◌∷◌, ◌≡◌, ◌≤◌, ◌⊎◌}
-use Rattle.{pagable_theorems.specs.{DepthLaws.{IsOfHandles, LoadIsDeep, LoadIsFaultless}, TreeSteps.{AllLow, IsFresh, Needs}}, pagable_pager_spec.specs.Events.{LoadSteps, reading_at}}
-use Rattle.pagable_pager_spec.specs.{Rightness.AreKeysOf, LoadCalls.{LoadFetchCall, LazyCall, ask_fault, is_known, node_fault}, Loads.{LoadDoes, Fails, IsDecoded, IsOfKey, RefusesNested, RefusesNode, RefusesRoot}}
-use Rattle.pagable_pager_spec.specs.{Loads.{asks, handles_of, is_broken, need_of, needs_lazy, needs_nested, reads}, WorkerClaims.{IsLoadOfPagedOut, IsOfChance, IsPagedOutAs}, Order.{LeadsDown, ReadsTooDeep}}
-use Rattle.pagable_pager_spec.specs.{Order.{after_kinds, goes-down, is-there}, Pager.{IsReadingOf, of_worker}, Basics.longest_path, Refusals.{AreHandlesFull, Refused, earlier, handle_fault, load_fault}}
-use Rattle.pagable_pager_spec.specs.{Refusals.{named_fault, reference_fault, refused_if, row_fault}, declared.{calls.Want.Want, events.LoadReply.LoadReply}}
+use Rattle.pagable_pager_spec.specs.{
+  Basics.longest_path,
+  Events.{LoadSteps, reading_at},
+  LoadCalls.{LazyCall, LoadFetchCall, ask_fault, is_known, node_fault},
+  Loads.{Fails, IsDecoded, IsOfKey, LoadDoes, RefusesNested, RefusesNode, RefusesRoot, asks, handles_of, is_broken, need_of, needs_lazy, needs_nested, reads},
+  Order.{LeadsDown, ReadsTooDeep, after_kinds, goes-down, is-there},
+  Pager.{IsReadingOf, of_worker},
+  Refusals.{AreHandlesFull, Refused, earlier, handle_fault, load_fault, named_fault, reference_fault, refused_if, row_fault},
+  Rightness.AreKeysOf,
+  WorkerClaims.{IsLoadOfPagedOut, IsOfChance, IsPagedOutAs},
+  declared.{calls.FetchTarget.FetchTarget, events.LoadReply.LoadReply},
+}
+use Rattle.pagable_theorems.proofs.{
+  Chains.IsGoingOn,
+  Decoding.{Ahead, FramesAsked, GotAsked, IsFormOf, all-done, asks-by-kinds, at-place, comes-to, faulty-by-kinds, kinds_of, one-left},
+  FormsOfTrees.known-of,
+  LoadProgress.{Going, asked, eager-nested, going-of},
+  ReadingSteps.{reading-number, reading-open, reading-stands},
+  TreeProgress.adopted-over,
+  Trees.{same_some, self-number},
+  Words.{ArcRef, Blob, Bool, Core, Err, Error, Event, EventReply, Frame, FramesFit, HandleNumber, HandleRow, Happens, Identity, IsLawful, IsPublished},
+  Words.{IsReadableType, Kind, List, LoadAnswer, LoadNumber, MachineState, Meaning, Mode, NodeNumber, None, Ok, OpenLoad, Option, Owner, Reading, Seen, Shelf},
+  Words.{Some, Tree, Types, Values, WorkFits, Written, above, adopted, any_mode, ap, arith, blob_of, false, identity_of, inl, inr, is_eager, length, nat_tests},
+  Words.{next_in, not, of_cell, owner_worker, references_fault, refl, rules, slice_get, subst, sym, true, type_of, world_of, ℕ, [], ◌+◌, ◌<◌, ◌==◌, ◌∙◌, ◌∷◌},
+  Words.{◌≡◌, ◌≤◌, ◌⊎◌},
+}
+use Rattle.pagable_theorems.specs.{DepthLaws.{IsOfHandles, LoadIsDeep, LoadOfPagedOutIsFaultless}, TreeSteps.{AllLow, IsFresh, Needs}}
 
 -- ---- what a load reads of a key that a page-out has published: each blob is a form of a tree, asks for references whose keys are known, and lies within the path's limit
 
@@ -233,15 +249,15 @@ module _ {N E : Type 0} (v : Values N) (s : MachineState N E) (trees : ℕ → T
         (subst (λ fs. FramesFit v.types w.stored trees load.key reading.node_type fs) is fits) (subst (λ fs. FramesAsked v.types fs) is going.asked) decoded.own
         decoded.read
 
-    ask-chance : (want : Want) (mid : Core) (e : Error)
+    ask-chance : (want : FetchTarget) (mid : Core) (e : Error)
         → Refused (ask_fault w Owner.Caller reading.load want) (ask_fault w Owner.Caller reading.load want) ((is_known w want ≡ true) × AreHandlesFull w) w e
         mid → IsOfChance e
     ask-chance want mid e r = only-refused {P = IsOfChance} e r (only-earlier _ _ (no-load-fault _) (λ e is. grind (arith, nat_tests, only-if IsOfChance))) tt
 
     nested-asked : (kind : Kind) (key : ℕ) (blob : Blob) (mid : Core) (e : Error) → w.stored key ≡ Some blob
-        → LoadFetchCall w Owner.Caller reading.load (Want.Nested kind key) (Err e) mid → IsOfChance e
+        → LoadFetchCall w Owner.Caller reading.load (FetchTarget.Nested kind key) (Err e) mid → IsOfChance e
     nested-asked kind key blob mid e is c = elim c.refused [
-      | inl r ↦ ask-chance (Want.Nested kind key) mid e r
+      | inl r ↦ ask-chance (FetchTarget.Nested kind key) mid e r
       | inr (other, owned, vain) ↦ (grind (arith, nat_tests))
     ]
 
@@ -366,7 +382,7 @@ module _ {N B W : Type 0} (m : Seen N B W) (lawful : IsLawful m.values) (w : Cor
   abbrev Deep : Type 0
   Deep = ReadsTooDeep m.values.types w.stored root_type root_key
 
-  not-asked : (want : Want) (u : Core) → LoadFetchCall w me reading.load want (Err Error.TooDeep) u → ⊥
+  not-asked : (want : FetchTarget) (u : Core) → LoadFetchCall w me reading.load want (Err Error.TooDeep) u → ⊥
   not-asked want u c = grind (arith, not-refused, only-earlier {P = NotDeep}, only-load, only-if NotDeep)
 
   nested-deep : (u : Core) → RefusesNested m.values.types w me reading Error.TooDeep u → Deep
@@ -379,7 +395,7 @@ module _ {N B W : Type 0} (m : Seen N B W) (lawful : IsLawful m.values) (w : Cor
   fails-deep w' (inr ended) = absurd (by-handle-row w me ended.ended.refused.h any_mode Error.TooDeep ended.ended.refused.why)
   fails-deep w' (inl gives) = elim gives.meets [
     | inl (refuses, a) ↦ (grind (arith, nat_tests, down-to, kinds_of, faulty-by-kinds, next_in))
-    | inr (inl (first, c)) ↦ absurd (not-asked Want.Root gives.mid c)
+    | inr (inl (first, c)) ↦ absurd (not-asked FetchTarget.Root gives.mid c)
     | inr (inr (inl nested)) ↦ nested-deep gives.mid nested
     | inr (inr (inr (inl (kind, key, needs, c)))) ↦ absurd (not-refused c.refused
         (search (rules, only-earlier {P = NotDeep}, only-load, only-if NotDeep, only-node NotDeep)))
@@ -403,7 +419,7 @@ module _ {N B W E : Type 0} (m : Seen N B W) (lawful : IsLawful m.values) (s s' 
       cause m.values s trees on lawful l x.reading load x.at x.may open_load paged s'.pager.core e fails.0
 
   pub load-faultless : (event : Event N B W) (reply : EventReply N B W) → Happens m (world_of s) event reply (world_of s')
-      → LoadIsFaultless s trees event reply s' trees'
+      → LoadOfPagedOutIsFaultless s trees event reply s' trees'
   load-faultless (Event.LoadStep l) (EventReply.LoadMoved (Ok reply)) is = λ load e open_load paged ended.
       let why = load-cause l reply is.moves load e open_load paged ended in grind (arith, nat_tests, by-all, by-handle-row)
   load-faultless event reply is = tt

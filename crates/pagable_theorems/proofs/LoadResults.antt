@@ -2,22 +2,48 @@
 -- what is still to be done and what was done are together at most what was claimed. So each published key is its tree's, each returned key is its task's, and
 -- what a worker met that returns a key is paged out. A worker's steps up to its result: none of its own claims waits any more, and the others' claims are
 -- unchanged.
-use Rattle.pagable_theorems.proofs.{CallEffects.{begin-goes, begins-key}, NewClaims.{FailsMet, answered as was-answered, failed-elsewhere, failed-stays, fails-stay, first-met, follows-met, goes-same, stands-on}}
-use Rattle.pagable_theorems.proofs.{Decoding.{among-left, among-right}, FormsOfTrees.{cell-of, keys-of, known-of, tree-form}, HandlesKept.{Goes, updated-at}, Merkle.{one_item_key, one_key}, ReadingSteps.site_of}
-use Rattle.pagable_theorems.proofs.{ReadingSteps.{caller-free, reading-feels}, StepBounds.{hands, read-right}, SlotsGrow.{AllStand, AllWait, Covers, Goes as ShelfGoes, HasNoFailed, first-stands, grows}}
-use Rattle.pagable_theorems.proofs.{SlotsGrow.{some-none, some-same}, TablesKept.{all-known, all-low, done-on, keys-same, stands-for}, LoadProgress.{Going, fits-nothing, given-nodes, going-new, going-step}}
-use Rattle.pagable_theorems.proofs.{LoadProgress.{reading-fits, row-held, stands-here, trees-go-on, was-open}, Trees.{same-number, same_some, steps_follow}, Words.{Alike, ArcRef, Blob, Bool, Claim, Core, Ok}}
-use Rattle.pagable_theorems.proofs.Words.{WorkDoes, HandleRow, Event, EventReply, Frame, FramesFit, HandleNumber, Happens, HoldsSettled, Identity, IsLawful, IsMachineWhole, IsPublished, Last, List, LoadAnswer, Mode, ℕ}
-use Rattle.pagable_theorems.proofs.Words.{LoadNumber, MachineState, None, OpenLoad, Option, OptionalDataKey, Owner, PagerState, Reading, ReadingFeels, PagerStandsFor, Seen, Shelf, WorkerState, Slot}
-use Rattle.pagable_theorems.proofs.Words.{Some, Task, Todo, Action, Tree, Values, Walking, IsPagerWhole, WorkFits, WorkerAnswer, WorkerNumber, WorkerReply, WorkerSteps, Written, [], answer_after, ap, arith}
-use Rattle.pagable_theorems.proofs.Words.{append_assoc, cases_Bool, false, give, held, identity_of, if_there, inl, inr, is_some, key_at, nat_eq, nat_tests, no_result, nothing_felt, of_cell, of_entry}
-use Rattle.pagable_theorems.proofs.Words.{of_item, one, refl, subst, sum_by-cons, sym, times, to_fail, to_finish, to_item, to_load, to_pin, to_release, to_set, to_start, to_write, true, with_handle, ◌+◌}
-use Rattle.pagable_theorems.{proofs.Words.{world_of, ◌&&◌, ◌++◌, ◌==◌, ◌∙◌, ◌∷◌, ◌≡◌, ◌≤◌}, specs.TreeSteps.{AllHold, Ground, RowsGo, HasHandle, IsDone, KeyIsSet, KeysHeld, Waits, Walks, ground_of}}
-use Rattle.{pagable_value_spec.specs.Merkle.KeyOfItem, pagable_pager_spec.specs.Access.{AccessState, AllHaveResults, KeyStarts, LoadAsksWell, LoadRun, LoadStarts, PinLaw, ReadLaw, ReadingStep, WalkStep, WorkerRun, load-ends}}
-use Rattle.pagable_pager_spec.specs.{Access.{load-goes-on, worker-ends, worker-goes-on}, Rightness.{AnswerIsKey, AnswerLeavesAll, AreKeysOf, FailedElsewhere, IsKeyOfTask, IsMetFailure}}
-use Rattle.pagable_pager_spec.specs.{Rightness.{LeavesAll, Meets, PublishIsKey, ReadIsRight, meets-below, meets-entry, meets-of-item}, Kinds.has_key, LoadCalls.with_load, Loads.{LoadDoes, gone_on}}
-use Rattle.pagable_pager_spec.specs.{Order.{Follows, Leads, is_claim_of, is_later_of}, Pager.{Moves, SameTrees, StandsFor, kids_of}, Basics.{is_loose_kind, longest_path}, Runs.TakesWell, Workers.fresh}
-use Rattle.{pagable_pager_spec.specs.{Workers.{first_todo, is_open_outcome, next_start}, World.{Fault, Root, is_identity, of_key, to_publish}}, std.{proofs.Math.Nat.zero-add, specs.Prelude.nat_le}}
+use Rattle.pagable_pager_spec.specs.{
+  Access.{AccessState, AllHaveResults, KeyStarts, LoadAsksWell, LoadRun, LoadStarts, PinLaw, ReadLaw, ReadingStep, WalkStep, WorkerRun, load-ends},
+  Access.{load-goes-on, worker-ends, worker-goes-on},
+  Basics.{is_loose_kind, longest_path},
+  Kinds.has_key,
+  LoadCalls.with_load,
+  Loads.{LoadDoes, gone_on},
+  Order.{Follows, Leads, is_claim_of, is_later_of},
+  Pager.{Moves, SameTrees, StandsFor, kids_of},
+  Rightness.{AnswerIsKey, AnswerLeavesAll, AreKeysOf, FailedElsewhere, IsKeyOfTask, IsMetFailure, LeavesAll, Meets, PublishIsKey, ReadIsRight, meets-below},
+  Rightness.{meets-entry, meets-of-item},
+  Runs.TakesWell,
+  Workers.{first_todo, fresh, is_open_outcome, next_start},
+  World.{Fault, Root, is_identity, of_key, to_publish},
+}
+use Rattle.pagable_theorems.proofs.{
+  CallEffects.{begin-goes, begins-key},
+  Decoding.{among-left, among-right},
+  EventEffects.site_of,
+  FormsOfTrees.{cell-of, keys-of, known-of, tree-form},
+  HandlesKept.{Goes, updated-at},
+  LoadProgress.{Going, given-nodes, going-new, going-step, row-held, stands-here, was-open},
+  Merkle.{one_item_key, one_key},
+  NewClaims.{FailsMet, answered as was-answered, failed-elsewhere, failed-stays, fails-stay, first-met, follows-met, goes-same, stands-on},
+  ReadingSteps.{caller-free, reading-feels},
+  SlotsGrow.{AllStand, AllWait, Covers, Goes as ShelfGoes, HasNoFailed, first-stands, grows, some-none, some-same},
+  StepBounds.{hands, read-right},
+  TablesKept.{all-known, all-low, done-on, keys-same, stands-for},
+  TreeProgress.{fits-nothing, reading-fits, trees-go-on},
+  Trees.{same-number, same_some, steps_follow},
+  Words.{Action, Alike, ArcRef, Blob, Bool, Claim, Core, Event, EventReply, Frame, FramesFit, HandleNumber, HandleRow, Happens, HoldsSettled, Identity},
+  Words.{IsLawful, IsMachineWhole, IsPagerWhole, IsPublished, Last, List, LoadAnswer, LoadNumber, MachineState, Mode, None, Ok, OpenLoad, Option},
+  Words.{OptionalDataKey, Owner, PagerStandsFor, PagerState, Reading, ReadingFeels, Seen, Shelf, Slot, Some, Task, Todo, Tree, Values, Walking, WorkDoes},
+  Words.{WorkFits, WorkerAnswer, WorkerNumber, WorkerReply, WorkerState, WorkerSteps, Written, answer_after, ap, append_assoc, arith, cases_Bool, false, give},
+  Words.{held, identity_of, if_there, inl, inr, is_some, key_at, nat_eq, nat_tests, no_result, nothing_felt, of_cell, of_entry, of_item, one, refl, subst},
+  Words.{sum_by-cons, sym, times, to_fail, to_finish, to_item, to_load, to_pin, to_release, to_set, to_start, to_write, true, with_handle, world_of, ℕ, []},
+  Words.{◌&&◌, ◌++◌, ◌+◌, ◌==◌, ◌∙◌, ◌∷◌, ◌≡◌, ◌≤◌},
+}
+use Rattle.pagable_theorems.specs.TreeSteps.{AllHold, Ground, HasHandle, IsDone, KeyIsSet, KeysHeld, RowsGo, Waits, Walks, ground_of}
+use Rattle.pagable_value_spec.specs.Merkle.{KeyOfItem}
+use Rattle.std.proofs.Math.Nat.{zero-add}
+use Rattle.std.specs.Prelude.{nat_le}
 
 -- the pager stands for trees, and what the load has read fits them
 record Under {N E : Type 0} (v : Values N) (s : PagerState N E) (trees : ℕ → Tree) (key : ℕ) (reading : Reading) : Type 0 where

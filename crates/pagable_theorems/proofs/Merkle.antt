@@ -1,16 +1,27 @@
 -- One key holds one tree, and one tree of canonical types has one key: a stored tree has the key under which it is stored, and different trees have different
 -- keys.
-use Rattle.pagable_theorems.proofs.{RoundTrip.{Looked, all-looked, alone, form-again, here, lower, one-form, one-looked, part_of}, Trees.{AllTwo, Along, EntryAlong, entries-two, flag-same, followed-on}}
-use Rattle.pagable_theorems.proofs.Trees.{form-along, integer-along, lifted-along, more-two, no-two, none-along, number-along, one-followed, one_tree, pair-along, pattern-along, reference-along, tree_is}
-use Rattle.pagable_theorems.proofs.{Trees.{same_some, sequence-two, sorted-two, text-along, variant-along}, Words.{Blob, Entries, Entry, Form, Forms, LiesIn, List, Meaning, Ok, Option, ReadsTree, Shape}}
-use Rattle.pagable_theorems.proofs.Words.{Throughout, Tree, Types, [], ap, append-nil, arith, blob_of, followed, inl, is_eager, length, length-append, map, nat_tests, one, pair, read, reference-form, suc}
-use Rattle.pagable_theorems.{proofs.Words.{refl, rest, rules, run-form, subst, sym, tree, true, type_of, variant, zero, ℕ, ◌*◌, ◌++◌, ◌<◌, ◌∙◌, ◌∷◌, ◌≡◌, ◌≤◌}, specs.FormLaws.{IsOneItemKey, TreeLaws}}
-use Rattle.pagable_value_spec.specs.{Blob.{IsBlob, preimage}, Canonical.{EachType, IsCanonicalTree, IsCanonicalType, IsClosed, IsReadableTree, IsReadableType}, Codes.{cut, one-meaning}, Height.HasPath}
-use Rattle.pagable_value_spec.specs.{Height.{Kid, height, kind_of_kid, tree_of_kid}, Form.{array-form, both-form, case-form, err-form, hash-map-form, json-array-form, json-object-form, list-form, no-forms}}
-use Rattle.pagable_value_spec.specs.Form.{more-entries, more-forms, nested-form, no-entries, ok-form, placed-map-form, placed-set-form, some-form, sorted-map-form, sorted-set-form, static-form}
-use Rattle.pagable_value_spec.specs.{Form.tagged-form, Keys.code_order, Merkle.{HasOwnKeys, KeyOf, KeysOf, SharesNoKey, StoredAs, StoredTree, TreeForm, key-of, key_of_ref, kind_of_ref, more-keys, no-keys}}
-use Rattle.{pagable_value_spec.specs.{Merkle.unfolded, Trees.{IsFollowed, KeyRef, ReadsAs, key_ref, pair-followed, reference-followed, variant-followed}}, std.proofs.Common.{◌%◌, ◌/◌, ◌^◌}}
-use Rattle.std.{proofs.Math.Nat.{div-div-eq-div-mul, pow-suc}, specs.{Int.{byte_at, bytes_low_first, to_le_bytes, w128, w64}, List.{AllByRecursion as Each, flat_map}, Prelude.◌↔◌}}
+use Rattle.pagable_theorems.proofs.{
+  RoundTrip.{Looked, all-looked, alone, form-again, here, lower, one-form, one-looked, part_of},
+  Trees.{AllTwo, Along, EntryAlong, entries-two, flag-same, followed-on, form-along, integer-along, lifted-along, more-two, no-two, none-along, number-along},
+  Trees.{one-followed, one_tree, pair-along, pattern-along, reference-along, same_some, sequence-two, sorted-two, text-along, tree_is, variant-along},
+  Words.{Blob, Entries, Entry, Form, Forms, LiesIn, List, Meaning, Ok, Option, ReadsTree, Shape, Throughout, Tree, Types, ap, append-nil, arith, blob_of},
+  Words.{followed, inl, is_eager, length, length-append, map, nat_tests, one, pair, read, reference-form, refl, rest, rules, run-form, subst, suc, sym, tree},
+  Words.{true, type_of, variant, zero, ℕ, [], ◌*◌, ◌++◌, ◌<◌, ◌∙◌, ◌∷◌, ◌≡◌, ◌≤◌},
+}
+use Rattle.pagable_theorems.specs.FormLaws.{IsOneItemKey, TreeLaws}
+use Rattle.pagable_value_spec.specs.{
+  Blob.{IsBlob, preimage},
+  Canonical.{EachType, IsCanonicalTree, IsCanonicalType, IsClosed, IsReadableTree, IsReadableType},
+  Codes.{cut, one-meaning},
+  Form.{array-form, both-form, case-form, err-form, hash-map-form, json-array-form, json-object-form, list-form, more-entries, more-forms, nested-form},
+  Form.{no-entries, no-forms, ok-form, placed-map-form, placed-set-form, some-form, sorted-map-form, sorted-set-form, static-form, tagged-form},
+  Height.{HasPath, Kid, height, kind_of_kid, tree_of_kid},
+  Keys.code_order,
+  Merkle.{HasOwnKeys, KeyOf, KeysOf, SharesNoKey, StoredAs, StoredTree, TreeForm, key-of, key_of_ref, kind_of_ref, more-keys, no-keys, unfolded},
+  Trees.{IsFollowed, KeyRef, ReadsAs, key_ref, pair-followed, reference-followed, variant-followed},
+}
+use Rattle.std.proofs.{Common.{◌%◌, ◌/◌, ◌^◌}, Math.Nat.{div-div-eq-div-mul, pow-suc}}
+use Rattle.std.specs.{Int.{byte_at, bytes_low_first, to_le_bytes, w128, w64}, List.{AllByRecursion as Each, flat_map}, Prelude.◌↔◌}
 
 -- ---- a tree of a closed set of types reaches types of the set alone
 

@@ -1,18 +1,35 @@
 -- Reading gives the same whatever stands for references: two readers with related inputs give related meanings. And for readers whose faults stay whatever
 -- follows: what is read from a front is read from the whole, and the part that was used reads alone.
-use Rattle.pagable_theorems.proofs.{RoundTrip.{Under, alone, here, narrowed, part_of}, Trees.{AllTwo, Along, EntryAlong, entries-two, flag-same, followed-along, form-along, integer-along, lifted-along}}
-use Rattle.pagable_theorems.proofs.Trees.{more-two, no-two, none-along, number-along, one-two, pair-along, pattern-along, plain-along, put_all-two, reference-along, sequence-two, sorted-two, text-along}
-use Rattle.pagable_theorems.proofs.{Trees.variant-along, Words.{Bool, Err, Error, Form, IsReadable, LiesIn, List, Meaning, None, Ok, Option, Result, Shape, Some, Throughout, [], ap, append-nil}}
-use Rattle.pagable_theorems.proofs.Words.{append_assoc, arith, cases_Bool, cases_lt, drop, followed, if◌then◌else◌, inl, inr, length, length-append, map, nat_tests, none, pair, put_all, read, refl}
-use Rattle.pagable_theorems.{proofs.Words.{rename, rest, rules, subst, suc, sym, true, variant, zero, ℕ, ◌*◌, ◌++◌, ◌+◌, ◌==◌, ◌∙◌, ◌∷◌, ◌≡◌, ◌≤◌, ◌⊎◌}, specs.FormLaws.{FaultStays, IsLocal, IsNatural}}
-use Rattle.{pagable_theorems.specs.FormLaws.{IsReadOver, IsReadThrough, RenamesLookUps, IsUsed, KeepsForms, at, with_more}, pagable_value_spec.specs.BasicValues.{bool_at, bytes_at, carried, char_at, duration_at}}
-use Rattle.pagable_value_spec.specs.{BasicValues.{length_at, longest, nanos_of_second, text_at}, Canonical.HasNoReference, CarriedTypes.{of_entries, of_hash_map, of_tagged}, Keys.{code_order, put_placed_item}}
-use Rattle.pagable_value_spec.specs.{Keys.{put_sorted, put_sorted_item, text_order}, Meaning.{absent, entry, failure, lifted, present, sequence, success}, Numbers.{Read, byte_at, last_of, more_of}}
-use Rattle.pagable_value_spec.specs.{Numbers.{signed_at, signed_from, unsigned_at, varint_at}, Reading.{Context, Deeper, Gets, JsonCase, Look, Rest, array_case, below, bytes_of, choose, counted, deepest}}
-use Rattle.pagable_value_spec.specs.Reading.{enter, flag_case, items, json_case, json_part, null_case, number_case, object_case, read_typed, read_with, reference_at, registered, seen, text_case, two}
-use Rattle.pagable_value_spec.specs.Shape.{array, both, cases, duration, flag, hash_map, json, letter, list, nested, nothing, optional, outcome, placed_map, placed_set, run, signed, sorted_map, sorted_set}
-use Rattle.{pagable_value_spec.specs.{Shape.{static_value, tagged, unsigned}, ReadSteps.◌>>=◌}, std.proofs.{Common.{get_or, take, ◌%◌, ◌-◌, ◌/◌, ◌^◌}, lemmas.{Bool.{le-ltb, lt-ltb}, List.drop_at}}}
-use Rattle.std.{proofs.lemmas.List.{length-take-le, map-id, take-append-drop, take_at}, specs.{Int.{Width, w32, w64, w8}, List.AllByRecursion, Prelude.{IfErr, nat_le, nat_lt}, Str.{chars, is_utf8}}}
+use Rattle.pagable_theorems.proofs.{
+  RoundTrip.{Under, alone, here, narrowed, part_of},
+  Trees.{AllTwo, Along, EntryAlong, entries-two, flag-same, followed-along, form-along, integer-along, lifted-along, more-two, no-two, none-along},
+  Trees.{number-along, one-two, pair-along, pattern-along, plain-along, put_all-two, reference-along, sequence-two, sorted-two, text-along, variant-along},
+  Words.{Bool, Err, Error, Form, IsReadable, LiesIn, List, Meaning, None, Ok, Option, Result, Shape, Some, Throughout, ap, append-nil, append_assoc, arith},
+  Words.{cases_Bool, cases_lt, drop, followed, if◌then◌else◌, inl, inr, length, length-append, map, nat_tests, none, pair, put_all, read, refl, rename, rest},
+  Words.{rules, subst, suc, sym, true, variant, zero, ℕ, [], ◌*◌, ◌++◌, ◌+◌, ◌==◌, ◌∙◌, ◌∷◌, ◌≡◌, ◌≤◌, ◌⊎◌},
+}
+use Rattle.pagable_theorems.specs.{
+  FormLaws.{FaultStays, FrontReadsAlike, KeepsForms, ReadsAlikeForAnyReferences, ReadsWhatOtherReads, RenamesLookUps, ReplacesBeforeLookUp, UsedPartReadsAlone},
+  FormLaws.{at, with_more},
+}
+use Rattle.pagable_value_spec.specs.{
+  BasicValues.{bool_at, bytes_at, carried, char_at, duration_at, length_at, longest, nanos_of_second, text_at},
+  Canonical.HasNoReference,
+  CarriedTypes.{of_entries, of_hash_map, of_tagged},
+  Keys.{code_order, put_placed_item, put_sorted, put_sorted_item, text_order},
+  Meaning.{absent, entry, failure, lifted, present, sequence, success},
+  Numbers.{Read, byte_at, last_of, more_of, signed_at, signed_from, unsigned_at, varint_at},
+  ReadSteps.◌>>=◌,
+  Reading.{Context, Deeper, Gets, JsonCase, Look, Rest, array_case, below, bytes_of, choose, counted, deepest, enter, flag_case, items, json_case, json_part},
+  Reading.{null_case, number_case, object_case, read_typed, read_with, reference_at, registered, seen, text_case, two},
+  Shape.{array, both, cases, duration, flag, hash_map, json, letter, list, nested, nothing, optional, outcome, placed_map, placed_set, run, signed, sorted_map},
+  Shape.{sorted_set, static_value, tagged, unsigned},
+}
+use Rattle.std.proofs.{
+  Common.{get_or, take, ◌%◌, ◌-◌, ◌/◌, ◌^◌},
+  lemmas.{Bool.{le-ltb, lt-ltb}, List.{drop_at, length-take-le, map-id, take-append-drop, take_at}},
+}
+use Rattle.std.specs.{Int.{Width, w32, w64, w8}, List.AllByRecursion, Prelude.{IfErr, nat_le, nat_lt}, Str.{chars, is_utf8}}
 use Rattle.pagable_value_spec.specs.Meaning as meanings
 use Rattle.pagable_value_spec.specs.Shape as shapes
 
@@ -439,10 +456,10 @@ comes-of {A} {B} context s input e =
     (each _ _ alike) context.levels s (inl tt) in
     subst (Comes more Any (read context s) input) e (par.tame.comes input)
 
-pub local : {A B : Type 0} → IsLocal A B
+pub local : {A B : Type 0} → FrontReadsAlike A B
 local context s front after x y m e = let f = comes-of context s front e in rw (f.whole, joins.assoc f.used after (rest x y)) (f.reads (more after (rest x y)))
 
-pub used : {A B : Type 0} → IsUsed A B
+pub used : {A B : Type 0} → UsedPartReadsAlone A B
 used context s input after m e =
     let f = comes-of context s input e in
     let alone : more f.used (rest [] []) ≡ f.used = rw (append-nil f.used.bytes, append-nil f.used.refs) refl in
@@ -489,7 +506,7 @@ natural-out f g (both-faulty e sober) = refl
 natural-out f g (both-refused e d c) = ap Err (sym c)
 natural-out f g (first-refused e r h) = absurd (no_cause h)
 
-pub natural : {A B C D : Type 0} → IsNatural A B C D
+pub natural : {A B C D : Type 0} → ReadsAlikeForAnyReferences A B C D
 natural {A} {B} {C} {D} f g look other levels parts s input h =
     let alike : (kind : ℕ) (a : A) (c : C) → f a ≡ c → OutLook one_cause (Leads g) (look kind a) (other kind c) =
     λ kind a c e. (grind (arith, nat_tests, both-looked-up, both-not)) in
@@ -503,7 +520,7 @@ rename_same (variant n a) = rw (rename_same a) refl
 rename_same (followed kind a) = rw (rename_same a) refl
 rename_same _ = refl
 
-pub read_over : {A B C : Type 0} → IsReadOver A B C
+pub read_over : {A B C : Type 0} → ReplacesBeforeLookUp A B C
 read_over f look levels parts s input = natural f (λ b. b) (λ kind a. look kind (f a)) look levels parts s input (λ kind a. grind (arith, nat_tests))
     ∙ (grind (arith, nat_tests, rename_same))
 
@@ -524,7 +541,7 @@ through-out : {A B C D : Type 0} (f : A → C) (g : B → D) (m : Meaning B) (af
     ≡ Ok (rename g m, rest after.bytes (map f after.refs))
 through-out f g m after x4 e = grind (arith, nat_tests, rename-along, map-all)
 
-pub read_through : {A B C D : Type 0} → IsReadThrough A B C D
+pub read_through : {A B C D : Type 0} → ReadsWhatOtherReads A B C D
 read_through {A} {B} {C} {D} f g look other levels parts s input after m h e =
     let alike : (kind : ℕ) (a : A) (c : C) → f a ≡ c → OutLook any_cause (Leads g) (look kind a) (other kind c) = λ kind a c i.
     elim (look kind a) as (λ r. look kind a ≡ r → OutLook any_cause (Leads g) r (other kind c)) [

@@ -1,16 +1,29 @@
 -- What each event does to workers and tables: it changes at most one worker, and claims of that worker.
-use Rattle.pagable_theorems.proofs.{Decoding.{among-left, among-right}, HandlesKept.{le-of, updated-at}, ReadingSteps.{event-goes, site_of}, SlotsGrow.{AllStand, Covers, CoversBy, Goes, HasNoFailed, SameSlots}}
-use Rattle.pagable_theorems.proofs.SlotsGrow.{ShelfGrows, SlotChanges, Turned, WorkStands, all-stay, changes-slot, failed-goes, fails, follows-waits, given-open, gives, grows, is-changed, is-new, is-same}
-use Rattle.pagable_theorems.proofs.SlotsGrow.{is-quiet, is-self, is-started, is-stepped, is_failed, is_open_in, meets-grow, open-slot, own-goes, plain, put-cases, puts-slot, same-slots, settles, swaps}
-use Rattle.pagable_theorems.proofs.{SlotsGrow.{some-none, some-same, started-open, true-false, work-stands}, Trees.{same-number, steps_follow}, Words.{Among, ArcRef, Call, Claim, Core, WorkDoes, Err, Error}}
-use Rattle.pagable_theorems.proofs.Words.{Event, EventReply, Happens, Identity, IsIdle, KeepsOpen, List, MachineState, None, Ok, Option, Seen, Shelf, WorkerState, Slot, Some, Task, Todo, Action, Walking, World}
-use Rattle.pagable_theorems.proofs.Words.{WorkerAnswer, WorkerNumber, WorkerReply, WorkerSteps, Written, [], answer_after, ap, arith, cases_Bool, drop, false, false_from_ne_true, give, identity_of, inl}
-use Rattle.pagable_theorems.proofs.Words.{if◌then◌else◌, inr, length, nat_eq, nat_tests, no_result, one, refl, rules, step_of, subst, sum_by-cons, sym, times, to_fail, to_finish, to_item, to_load, true}
-use Rattle.{pagable_theorems.proofs.Words.{to_pin, to_release, to_set, to_start, to_write, updated, world_of, ℕ, ◌*◌, ◌++◌, ◌+◌, ◌<◌, ◌==◌, ◌∙◌, ◌∷◌, ◌≡◌, ◌≤◌, ◌⊎◌}, pagable_pager_spec.specs.Events.Starts}
-use Rattle.pagable_pager_spec.specs.{Events.{WorkStays, new_walking}, Rightness.{FailedElsewhere, IsMetFailure}, Order.{Follows, Leads, MetError, is_claim, own_references, references_written}}
-use Rattle.pagable_pager_spec.specs.{Workers.{first_todo, is_counted, next_start, advance, with_outcome, with_wait}, World.{Open, answer_of_fault, is_identity, published, to_publish}}
-use Rattle.{pagable_pager_spec.specs.declared.events.TableNumber.TableNumber, std.proofs.{Common.{append-nil, length-append, ◌-◌}, lemmas.{Bool.{or_cases, or_left, or_right}, List.length-drop}}}
-use Rattle.std.{proofs.lemmas.List.Sums.sum_by-append, specs.List.sum_by}
+use Rattle.pagable_pager_spec.specs.{
+  Events.{Starts, WorkStays, new_walking},
+  Order.{Follows, Leads, MetError, is_claim, own_references, references_written},
+  Rightness.{FailedElsewhere, IsMetFailure},
+  Workers.{advance, first_todo, is_counted, next_start, with_outcome, with_wait},
+  World.{Open, answer_of_fault, is_identity, published, to_publish},
+  declared.events.TableNumber.TableNumber,
+}
+use Rattle.pagable_theorems.proofs.{
+  Decoding.{among-left, among-right},
+  EventEffects.{event-goes, site_of},
+  HandlesKept.{le-of, updated-at},
+  SlotsGrow.{AllStand, Covers, CoversBy, Goes, HasNoFailed, SameSlots, ShelfGrows, SlotChanges, Turned, WorkStands, all-stay, changes-slot, failed-goes, fails},
+  SlotsGrow.{follows-waits, given-open, gives, grows, is-changed, is-new, is-quiet, is-same, is-self, is-started, is-stepped, is_failed, is_open_in},
+  SlotsGrow.{meets-grow, open-slot, own-goes, plain, put-cases, puts-slot, same-slots, settles, some-none, some-same, started-open, swaps, true-false},
+  SlotsGrow.work-stands,
+  Trees.{same-number, steps_follow},
+  Words.{Action, Among, ArcRef, Call, Claim, Core, Err, Error, Event, EventReply, Happens, Identity, IsIdle, KeepsOpen, List, MachineState, None, Ok, Option},
+  Words.{Seen, Shelf, Slot, Some, Task, Todo, Walking, WorkDoes, WorkerAnswer, WorkerNumber, WorkerReply, WorkerState, WorkerSteps, World, Written},
+  Words.{answer_after, ap, arith, cases_Bool, drop, false, false_from_ne_true, give, identity_of, if◌then◌else◌, inl, inr, length, nat_eq, nat_tests},
+  Words.{no_result, one, refl, rules, step_of, subst, sum_by-cons, sym, times, to_fail, to_finish, to_item, to_load, to_pin, to_release, to_set, to_start},
+  Words.{to_write, true, updated, world_of, ℕ, [], ◌*◌, ◌++◌, ◌+◌, ◌<◌, ◌==◌, ◌∙◌, ◌∷◌, ◌≡◌, ◌≤◌, ◌⊎◌},
+}
+use Rattle.std.proofs.{Common.{append-nil, length-append, ◌-◌}, lemmas.{Bool.{or_cases, or_left, or_right}, List.{Sums.sum_by-append, length-drop}}}
+use Rattle.std.specs.List.{sum_by}
 
 -- ---- whatever a worker does, what stands of its list and of its table stands afterwards
 

@@ -1,7 +1,10 @@
 -- A new pager over any storage satisfies the invariant and stands for any trees, since nothing is in it.
-use Rattle.pagable_theorems.proofs.Words.{Among, Bool, HandleNumber, HandleRow, HandlesAreWhole, IsIdle, IsLawful, MachineState, Owner, PagerState, Reading, PagerStandsFor, Tree, Values, IsPagerWhole}
-use Rattle.pagable_theorems.proofs.Words.{ap, arith, false, held, inl, is_handle, is_owned_by, is_some, nat_tests, owner_value, pins, refl, sym, times, ℕ, ◌&&◌, ◌==◌, ◌∙◌, ◌≡◌}
-use Rattle.{pagable_theorems.specs.SmallWorlds.{NewIsWhole, StartsWell}, pagable_pager_spec.specs.{Kinds.sharing, Pager.{IsNew, IsReadingOf, OwnersAreThere, of_caller, of_worker}}}
+use Rattle.pagable_pager_spec.specs.{Kinds.sharing, Pager.{IsNew, IsReadingOf, OwnersAreThere, of_caller, of_worker}}
+use Rattle.pagable_theorems.proofs.{
+  Words.{Among, Bool, HandleNumber, HandleRow, HandlesAreWhole, IsIdle, IsLawful, IsPagerWhole, MachineState, Owner, PagerStandsFor, PagerState, Reading, Tree},
+  Words.{Values, ap, arith, false, held, inl, is_handle, is_owned_by, is_some, nat_tests, owner_value, pins, refl, sym, times, ℕ, ◌&&◌, ◌==◌, ◌∙◌, ◌≡◌},
+}
+use Rattle.pagable_theorems.specs.SmallWorlds.{NewMachineIsWhole, StartsWell}
 
 module _ {N E : Type 0} (v : Values N) (s : PagerState N E) (new : IsNew s) where
   nobody-has : (h : HandleRow) → Among s.core.rows h → ⊥
@@ -93,5 +96,5 @@ new-starts v s new idle lawful = record {
     unread reading (of_caller l is) = let e = idle.readings l in cc
     unread reading (of_worker n place walking r through below is front) = let e = idle.walkings n in cc
 
-pub new_whole : {N : Type 0} (E : Type 0) (v : Values N) → NewIsWhole E v
+pub new_whole : {N : Type 0} (E : Type 0) (v : Values N) → NewMachineIsWhole E v
 new_whole E v = record { new = grind arith; idle = grind arith; starts = new-starts v }

@@ -1,13 +1,23 @@
 -- Why pins and loads fail: the errors of each step.
-use Rattle.pagable_theorems.proofs.{Naturality.{Out, OutLook, Sober, both-faulty, both-given, both-looked-up, both-not, both-refused, each, first-refused, typed_par}, LoadFaults.{by-all, by-handle-row, only-earlier, only-if, only-node, only-refused}}
-use Rattle.pagable_theorems.proofs.{Trees.{AllTwo, Along, more-two, no-two, same_some}, Words.{ArcRef, Blob, Bool, Core, Err, Error, Frame, HandleNumber, IsLawful, Kind, List, LoadNumber, Meaning, None, Ok, OpenLoad, Option, Owner}}
-use Rattle.pagable_theorems.proofs.Words.{HandleRow, Mode, Reading, Result, Some, Types, Values, [], any_mode, arith, false, if◌then◌else◌, if_there, inl, inr, nat_tests, not, refl, rest, slice_get, subst, sym, true}
-use Rattle.pagable_theorems.proofs.Words.{ℕ, ◌+◌, ◌==◌, ◌∙◌, ◌∷◌, ◌≡◌, references_fault}
+use Rattle.pagable_pager_spec.specs.{
+  Kinds.{is_loose, is_owner},
+  LoadCalls.{AsksInVain, LazyCall, LoadCloses, LoadFetchCall, cell_fault, is_known, root_fault},
+  Loads.{Fails, Meets, RefusesBlob, RefusesNested, RefusesNode, RefusesRoot, answer_of, answers_from, handles_of, is_faulty, next_by, next_of, read_with},
+  Refusals.{earlier, load_fault, named_fault, refused_if, spent, where_so},
+  World.{Root, of_cell, of_key, row_at},
+  declared.calls.FetchTarget.FetchTarget,
+}
+use Rattle.pagable_theorems.proofs.{
+  LoadFaults.{by-all, by-handle-row, only-earlier, only-if, only-node, only-refused},
+  Naturality.{Out, OutLook, Sober, both-faulty, both-given, both-looked-up, both-not, both-refused, each, first-refused, typed_par},
+  Trees.{AllTwo, Along, more-two, no-two, same_some},
+  Words.{ArcRef, Blob, Bool, Core, Err, Error, Frame, HandleNumber, HandleRow, IsLawful, Kind, List, LoadNumber, Meaning, Mode, None, Ok, OpenLoad, Option},
+  Words.{Owner, Reading, Result, Some, Types, Values, any_mode, arith, false, if_there, if◌then◌else◌, inl, inr, nat_tests, not, references_fault, refl, rest},
+  Words.{slice_get, subst, sym, true, ℕ, [], ◌+◌, ◌==◌, ◌∙◌, ◌∷◌, ◌≡◌},
+}
 use Rattle.pagable_theorems.specs.{DepthLaws.IsOfHandles, RefusalLaws.{BeginsRefusedLaw, IsOfLoad, IsOfPin, LoadsRefusedLaw, PinsRefusedLaw, TellsOfStorage}}
-use Rattle.{pagable_value_spec.specs.{Reading.Rest, Refusals.is_own_reading, Cursor.{Answer, answer_at}, Stored.{HasFailed, RefusesFetch}}, std.specs.Prelude.IfErr}
-use Rattle.pagable_pager_spec.specs.{LoadCalls.{LoadFetchCall, AsksInVain, LazyCall, LoadCloses}, Loads.{Fails, Meets, RefusesBlob, RefusesNested, RefusesNode, RefusesRoot}}
-use Rattle.pagable_pager_spec.specs.{Loads.{answer_of, answers_from, handles_of, is_faulty, next_by, next_of, read_with}, Refusals.{earlier, load_fault, named_fault, refused_if, spent, where_so}, declared.calls.Want.Want}
-use Rattle.pagable_pager_spec.specs.{Kinds.{is_loose, is_owner}, LoadCalls.{cell_fault, is_known, root_fault}, World.{Root, of_cell, of_key, row_at}}
+use Rattle.pagable_value_spec.specs.{Cursor.{Answer, answer_at}, Reading.Rest, Refusals.is_own_reading, Stored.{HasFailed, RefusesFetch}}
+use Rattle.std.specs.Prelude.{IfErr}
 
 -- ---- a blob is refused by its reading alone
 
@@ -165,11 +175,11 @@ cell-quiet (of_cell node u h) e is = subst Quiet (same_some _ _ is) tt
 cell-quiet of_key e is = absurd (cc)
 
 module _ {N : Type 0} (v : Values N) (lawful : IsLawful v) (w : Core) (me : Owner) (reading : Reading) where
-  in-vain : (want : Want) (load : OpenLoad) (e : Error) (mid : Core) → AsksInVain w load want e mid → LoadRefused w mid e
-  in-vain Want.Root load e mid vain = fetched w mid load.key e vain.refused
-  in-vain (Want.Nested kind key) load e mid vain = fetched w mid key e vain.1.refused
+  in-vain : (want : FetchTarget) (load : OpenLoad) (e : Error) (mid : Core) → AsksInVain w load want e mid → LoadRefused w mid e
+  in-vain FetchTarget.Root load e mid vain = fetched w mid load.key e vain.refused
+  in-vain (FetchTarget.Nested kind key) load e mid vain = fetched w mid key e vain.1.refused
 
-  pub asked : (want : Want) (e : Error) (mid : Core) → LoadFetchCall w me reading.load want (Err e) mid → LoadRefused w mid e
+  pub asked : (want : FetchTarget) (e : Error) (mid : Core) → LoadFetchCall w me reading.load want (Err e) mid → LoadRefused w mid e
   asked want e mid c = elim c.refused [
     | inl r ↦ sober-refused w mid e
         (quiet-sober e (only-refused {P = Quiet} e r (only-earlier _ _ (only-load w me reading.load) (number-quiet (is_known w want) w)) tt))
@@ -181,7 +191,7 @@ module _ {N : Type 0} (v : Values N) (lawful : IsLawful v) (w : Core) (me : Owne
   of-blob e (top ∷ below) is refuses = let at = broken v.types top.node_type top.blob top.got e in grind (arith, nat_tests, own-sober, lawful)
 
   of-nested : (e : Error) (mid : Core) → RefusesNested v.types w me reading e mid → LoadRefused w mid e
-  of-nested e mid (kind, key, needs, inl c) = asked (Want.Nested kind key) e mid c
+  of-nested e mid (kind, key, needs, inl c) = asked (FetchTarget.Nested kind key) e mid c
   of-nested e mid (kind, key, needs, inr (blob, is, deep, c)) = sober-refused w mid e (subst Sober (sym is) tt)
 
   of-lazy : (e : Error) (kind : Kind) (key : ℕ) (mid : Core) → LazyCall w me reading.load kind key (Err e) mid → Quiet e
@@ -215,7 +225,7 @@ module _ {N : Type 0} (v : Values N) (lawful : IsLawful v) (w : Core) (me : Owne
 
   met : (e : Error) (mid : Core) → Meets v w me reading e mid → LoadRefused w mid e
   met e mid (inl (refuses, a)) = sober-refused w mid e (of-blob e reading.frames refl refuses)
-  met e mid (inr (inl (first, c))) = asked Want.Root e mid c
+  met e mid (inr (inl (first, c))) = asked FetchTarget.Root e mid c
   met e mid (inr (inr (inl nested))) = of-nested e mid nested
   met e mid (inr (inr (inr (inl (kind, key, needs, c))))) = sober-refused w mid e (quiet-sober e (of-lazy e kind key mid c))
   met e mid (inr (inr (inr (inr (inl node))))) = sober-refused w mid e (quiet-sober e (of-node e mid node))

@@ -1,15 +1,26 @@
 -- What an error says about the storage, for each call and each step of a load or of a worker.
-use Rattle.pagable_theorems.proofs.{RefusalCauses.{Quiet, asked, cell-quiet, fails, fetched, handles-quiet, only-all, only-load, only-named, root-quiet, there-quiet}}
-use Rattle.pagable_theorems.proofs.{LoadFaults.{Only, by-handle-row, only-earlier, only-if, only-node, only-refused}, Trees.same_some, Words.{Alike, ArcRef, Blob, Bool, Call, CloneCall, Core, Err, Error, Event}}
-use Rattle.pagable_theorems.proofs.Words.{EventReply, Frame, HandleNumber, HandleRow, Happens, IsLawful, Kind, List, LoadAnswer, LoadNumber, Mode, None, Ok, OpenLoad, Option, Owner, PinCall, Reading, Reply, Seen, WorkerState}
-use Rattle.pagable_theorems.proofs.Words.{Some, Task, Todo, Action, World, WorkerNumber, WorkerReply, WorkerSteps, [], answer_after, any_mode, arith, false, inl, inr, nat_tests, owner_worker, refl, row_at, subst, sym, to_finish, true}
-use Rattle.pagable_theorems.proofs.Words.{to_item, to_load, to_pin, to_set, to_start, to_write, ℕ, ◌∙◌, ◌∷◌, ◌≡◌, ◌⊎◌}
-use Rattle.pagable_theorems.specs.RefusalLaws.{StorageIsTold, TellsOfStorage, refusal_of, refusal_of_end, refusal_of_reply, refusal_of_step}
-use Rattle.{pagable_value_spec.specs.Stored.{HasFailed, IsMemoryOrFailure, RefusesStore}, pagable_pager_spec.specs.Calls.{InsertPagedOutCall, InsertCall, IsRefused, Looks, OfferCall, RecallCall, ReleaseCall, ScheduleCall}}
-use Rattle.pagable_pager_spec.specs.{Calls.{SetKeyCall, UnpinCall, insert_fault}, Cascade.Falls, Events.{Ends, StartedItem, StartedListed}, Kinds.{fits_mode, is_loose, is_pinned, is_unpinned}}
-use Rattle.pagable_pager_spec.specs.{LoadCalls.{AdoptCall, BeginCall, BeginKeyCall, DropCall, EndCall, HandOverCall, LazyCall, cell_fault, root_fault}, declared.events.TableNumber.TableNumber, Refusals.{handle_fault, live_fault, spent, where_so}}
-use Rattle.pagable_pager_spec.specs.Workers.{ClaimStep, KeySetFor, PinRefused, claim_fault}
-use Rattle.pagable_pager_spec.specs.{Events.CallDoes, Loads.LoadDoes, Workers.WorkDoes}
+use Rattle.pagable_pager_spec.specs.{
+  Calls.{InsertCall, InsertPagedOutCall, IsRefused, Looks, OfferCall, RecallCall, ReleaseCall, ScheduleCall, SetKeyCall, UnpinCall, insert_fault},
+  Cascade.Falls,
+  Events.{CallDoes, Ends, StartedItem, StartedListed},
+  Kinds.{fits_mode, is_loose, is_pinned, is_unpinned},
+  LoadCalls.{AdoptCall, BeginCall, BeginKeyCall, DropCall, EndCall, HandOverCall, LazyCall, cell_fault, root_fault},
+  Loads.LoadDoes,
+  Refusals.{handle_fault, live_fault, spent, where_so},
+  Workers.{ClaimStep, KeySetFor, PinRefused, WorkDoes, claim_fault},
+  declared.events.TableNumber.TableNumber,
+}
+use Rattle.pagable_theorems.proofs.{
+  LoadFaults.{Only, by-handle-row, only-earlier, only-if, only-node, only-refused},
+  RefusalCauses.{Quiet, asked, cell-quiet, fails, fetched, handles-quiet, only-all, only-load, only-named, root-quiet, there-quiet},
+  Trees.same_some,
+  Words.{Action, Alike, ArcRef, Blob, Bool, Call, CloneCall, Core, Err, Error, Event, EventReply, Frame, HandleNumber, HandleRow, Happens, IsLawful, Kind},
+  Words.{List, LoadAnswer, LoadNumber, Mode, None, Ok, OpenLoad, Option, Owner, PinCall, Reading, Reply, Seen, Some, Task, Todo, WorkerNumber, WorkerReply},
+  Words.{WorkerState, WorkerSteps, World, answer_after, any_mode, arith, false, inl, inr, nat_tests, owner_worker, refl, row_at, subst, sym, to_finish},
+  Words.{to_item, to_load, to_pin, to_set, to_start, to_write, true, ℕ, [], ◌∙◌, ◌∷◌, ◌≡◌, ◌⊎◌},
+}
+use Rattle.pagable_theorems.specs.RefusalLaws.{StorageErrorsAreTrue, TellsOfStorage, refusal_of, refusal_of_end, refusal_of_reply, refusal_of_step}
+use Rattle.pagable_value_spec.specs.Stored.{HasFailed, IsMemoryOrFailure, RefusesStore}
 
 -- neither that the storage failed, nor that nothing stands there
 abbrev Silent : Error → Type 0
@@ -172,7 +183,7 @@ module _ {N B W : Type 0} (m : Seen N B W) (lawful : IsLawful m.values) (w : Cor
   calls (Call.SetDataKey h key) (Reply.Done (Err f)) e is c = quiet-so f e is (of-key w me w' h key f c)
   calls (Call.Count h) (Reply.Count (Err f)) e is c = quiet-so f e is (of-look w me w' h _ f c.0)
   calls (Call.Key h) (Reply.KeyFound (Err f)) e is c = quiet-so f e is (of-look w me w' h _ f c.0)
-  calls (Call.IsPagedOut h) (Reply.Away (Err f)) e is c = quiet-so f e is (of-look w me w' h _ f c.0)
+  calls (Call.IsPagedOut h) (Reply.PagedOut (Err f)) e is c = quiet-so f e is (of-look w me w' h _ f c.0)
   calls (Call.NodeOf h) (Reply.Node (Err f)) e is c = quiet-so f e is (of-look w me w' h _ f c.0)
   calls (Call.ScheduleForPaging h) (Reply.Done (Err f)) e is c = quiet-so f e is (of-schedule w me w' h f c)
   calls (Call.CacheGet kind key) (Reply.FromCache (Err f)) e is c = quiet-so f e is (of-recall w me w' kind key f c)
@@ -286,5 +297,5 @@ module _ {N B W : Type 0} (m : Seen N B W) (lawful : IsLawful m.values) (u u' : 
   of-event (Event.WorkerStep v) (EventReply.WorkerMoved (Err f)) e is x = event-so f e is (subst Quiet (sym x.refused.0) tt)
   of-event event reply e is x = grind (arith, nat_tests)
 
-pub storage-told : {N B W : Type 0} (m : Seen N B W) → StorageIsTold m
+pub storage-told : {N B W : Type 0} (m : Seen N B W) → StorageErrorsAreTrue m
 storage-told m lawful u event reply u' e step is = of-event m lawful u u' event reply e is step.happens

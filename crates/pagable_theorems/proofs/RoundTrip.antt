@@ -1,17 +1,33 @@
 -- A form is read back, whatever follows it; and reading it fails if the look-up of one of its references fails.
-use Rattle.pagable_theorems.proofs.Words.{Bool, Entries, Entry, Err, Error, Form, Forms, IsReadable, LiesIn, List, Meaning, Ok, Result, Shape, Throughout, [], ap, append-nil, append_assoc, arith, false}
-use Rattle.pagable_theorems.proofs.Words.{inl, inr, length, length-append, nat_tests, one, put_all, read, reference-form, refl, rest, run-form, subst, suc, sym, zero, ℕ, ℤ, ◌++◌, ◌+◌, ◌<◌, ◌∙◌, ◌∷◌, ◌≡◌}
-use Rattle.{pagable_theorems.{proofs.Words.{◌≤◌, ◌⊎◌}, specs.FormLaws.{IsPrefixFree, IsReadAgain, LooksUp, more-references, no-references}}, pagable_value_spec.specs.BasicValues.{bool_at, bool_form, char_at}}
-use Rattle.pagable_value_spec.specs.{BasicValues.{char_form, duration_at, duration_form, length_at, length_form, longest, nanos_of_second, text_at, text_form}, Canonical.{HasNoCase, IsCanonical, Within}}
-use Rattle.pagable_value_spec.specs.{CarriedTypes.of_entries, Form.{array-form, both-form, case-form, duration-form, err-form, flag-form, hash-map-form, json-array-form, json-flag-form, json-number-form}}
-use Rattle.pagable_value_spec.specs.Form.{json-object-form, json-text-form, letter-form, list-form, more-entries, more-forms, nested-form, no-entries, no-forms, nothing-form, ok-form, pattern-form}
-use Rattle.pagable_value_spec.specs.Form.{placed-map-form, placed-set-form, signed-form, some-form, sorted-map-form, sorted-set-form, static-form, tagged-form, text-form, unsigned-form}
-use Rattle.pagable_value_spec.specs.{Keyed.{throughout-alone, throughout-over}, Keys.{AllAfter, Apart, Ascends, KeyOrder, ordered, put_placed, put_placed_item, put_sorted, put_sorted_item, same_key}}
-use Rattle.pagable_value_spec.specs.{Keys.text_order, Meaning.sequence, Numbers.{IsSigned, bound, signed_at, signed_form, signed_from, unsigned_at, unsigned_form, unsigned_of, varint, varint_at}}
-use Rattle.{pagable_value_spec.specs.{Numbers.varint_limit, Reading.{Gets, Look, Rest, below, items, read_with, two}, Shape.nested, ReadSteps.◌>>=◌}, std.proofs.Common.{ltb, ◌%◌, ◌/◌, ◌^◌, ◌⊎◌}}
-use Rattle.std.proofs.lemmas.{Bool.{le-leb, le-ltb, lt-ltb}, List.{append_cancel_right, drop_at, take_at}, Str.{IsUtf8-encode, chars-encodes, is_utf8-from_IsUtf8, length-encode}}
+use Rattle.pagable_theorems.proofs.{
+  Words.{Bool, Entries, Entry, Err, Error, Form, Forms, IsReadable, LiesIn, List, Meaning, Ok, Result, Shape, Throughout, ap, append-nil, append_assoc, arith},
+  Words.{false, inl, inr, length, length-append, nat_tests, one, put_all, read, reference-form, refl, rest, run-form, subst, suc, sym, zero, ℕ, ℤ, [], ◌++◌},
+  Words.{◌+◌, ◌<◌, ◌∙◌, ◌∷◌, ◌≡◌, ◌≤◌, ◌⊎◌},
+}
+use Rattle.pagable_theorems.specs.FormLaws.{FormIsReadBack, IsPrefixFree, LooksUp, more-references, no-references}
+use Rattle.pagable_value_spec.specs.{
+  BasicValues.{bool_at, bool_form, char_at, char_form, duration_at, duration_form, length_at, length_form, longest, nanos_of_second, text_at, text_form},
+  Canonical.{HasNoCase, IsCanonical, Within},
+  CarriedTypes.of_entries,
+  Form.{array-form, both-form, case-form, duration-form, err-form, flag-form, hash-map-form, json-array-form, json-flag-form, json-number-form},
+  Form.{json-object-form, json-text-form, letter-form, list-form, more-entries, more-forms, nested-form, no-entries, no-forms, nothing-form, ok-form},
+  Form.{pattern-form, placed-map-form, placed-set-form, signed-form, some-form, sorted-map-form, sorted-set-form, static-form, tagged-form, text-form},
+  Form.unsigned-form,
+  Keyed.{throughout-alone, throughout-over},
+  Keys.{AllAfter, Apart, Ascends, KeyOrder, ordered, put_placed, put_placed_item, put_sorted, put_sorted_item, same_key, text_order},
+  Meaning.sequence,
+  Numbers.{IsSigned, bound, signed_at, signed_form, signed_from, unsigned_at, unsigned_form, unsigned_of, varint, varint_at, varint_limit},
+  ReadSteps.◌>>=◌,
+  Reading.{Gets, Look, Rest, below, items, read_with, two},
+  Shape.nested,
+}
+use Rattle.std.proofs.{
+  Common.{ltb, ◌%◌, ◌/◌, ◌^◌, ◌⊎◌},
+  lemmas.{Bool.{le-leb, le-ltb, lt-ltb}, List.{append_cancel_right, drop_at, take_at}, Str.{IsUtf8-encode, chars-encodes, is_utf8-from_IsUtf8, length-encode}},
+}
 use Rattle.std.specs.{Char.{IsScalar, encode_utf8, len_utf8}, FinMap.Entries.put, Int.{Width, w32, w64}, Str.{IsUtf8, chars}, declared.cmp.Ordering.Ordering}
-pub use Rattle.{pagable_pager_spec.proofs.Elements.{at-most-sum, counted, sum-none as sum-zero}, std.proofs.lemmas.{Bool.eqb-true as same-number, Option.same_Some as same_some}}
+pub use Rattle.pagable_pager_spec.proofs.Elements.{at-most-sum, counted, sum-none as sum-zero}
+pub use Rattle.std.proofs.lemmas.{Bool.eqb-true as same-number, Option.same_Some as same_some}
 
 -- ---- from what holds throughout a shape to what holds throughout the shapes in it
 
@@ -282,7 +298,7 @@ module _ {A B : Type 0} {look : Look A B} {kind_of : B → ℕ} {parts : ℕ →
       ]
     ]
 
-pub read_again : {A B : Type 0} (parts : ℕ → Shape) (s : Shape) → Throughout IsReadable parts s → IsReadAgain A B parts s
+pub read_again : {A B : Type 0} (parts : ℕ → Shape) (s : Shape) → Throughout IsReadable parts s → FormIsReadBack A B parts s
 unfolding read
 read_again parts s t levels look kind_of m b x k r y u f = form-again x f (looked-by y u) t
 

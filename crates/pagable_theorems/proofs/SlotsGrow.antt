@@ -1,10 +1,18 @@
 -- What a worker's step does to the slots of its table: each grows, and only those of the worker change.
-use Rattle.pagable_theorems.proofs.{Trees.same-number, Words.{Among, ArcRef, Bool, HandleNumber, Identity, IsPublished, List, None, Option, Shelf, Slot, Some, Task, Todo, Action, Walking, WorkerAnswer, ℕ}}
-use Rattle.pagable_theorems.proofs.Words.{Written, [], above, and_parts, arith, cases_Bool, drop, false, give, identity_of, if_there, if◌then◌else◌, inl, inr, is_some, max, nat_eq, nat_tests, no_result}
-use Rattle.pagable_theorems.proofs.Words.{of_entry, of_item, refl, rules, subst, suc, sym, to_fail, to_finish, to_item, to_load, to_pin, to_release, to_set, to_start, to_write, true, ◌++◌, ◌<◌, ◌==◌}
-use Rattle.{pagable_theorems.proofs.Words.{◌||◌, ◌∙◌, ◌∷◌, ◌≡◌, ◌≤◌, ◌⊎◌}, pagable_pager_spec.specs.{Rightness.{Meets, meets-below, meets-entry, meets-of-item}, Order.Follows, Workers.{first_todo, advance}}}
-use Rattle.pagable_pager_spec.specs.{Workers.{is_open_outcome, next_start, with_changed_slot, with_failed, with_outcome, with_slot}, World.{Fault, Open, Outcome, SameShelf, failed, is_identity}}
-use Rattle.{pagable_pager_spec.specs.World.to_publish, std.proofs.lemmas.Bool.{or_cases, or_right}}
+use Rattle.pagable_pager_spec.specs.{
+  Order.Follows,
+  Rightness.{Meets, meets-below, meets-entry, meets-of-item},
+  Workers.{advance, first_todo, is_open_outcome, next_start, with_changed_slot, with_failed, with_outcome, with_slot},
+  World.{Fault, Open, Outcome, SameShelf, failed, is_identity, to_publish},
+}
+use Rattle.pagable_theorems.proofs.{
+  Trees.same-number,
+  Words.{Action, Among, ArcRef, Bool, HandleNumber, Identity, IsPublished, List, None, Option, Shelf, Slot, Some, Task, Todo, Walking, WorkerAnswer, Written},
+  Words.{above, and_parts, arith, cases_Bool, drop, false, give, identity_of, if_there, if◌then◌else◌, inl, inr, is_some, max, nat_eq, nat_tests, no_result},
+  Words.{of_entry, of_item, refl, rules, subst, suc, sym, to_fail, to_finish, to_item, to_load, to_pin, to_release, to_set, to_start, to_write, true, ℕ, []},
+  Words.{◌++◌, ◌<◌, ◌==◌, ◌||◌, ◌∙◌, ◌∷◌, ◌≡◌, ◌≤◌, ◌⊎◌},
+}
+use Rattle.std.proofs.lemmas.Bool.{or_cases, or_right}
 
 -- the slot has the same worker, and the references that were written and the result stay
 pub record SlotGrows (slot slot' : Slot) : Type 0 where

@@ -1,24 +1,45 @@
 -- What a load of a key hands over is right, and how many steps an open load still needs. An event leaves the handles of other workers as they are, and what the
 -- cache gives for a kind and a key, if the node is held before and after. A worker's step leaves the handles of the list too, so the list gets no shorter. Two
 -- kinds or keys never get one identity through one cache, and one kind and key gets the same identity as long as its node is held.
-use Rattle.pagable_theorems.specs.TreeSteps.{EventFeels, GetsRow, HandsOver, IsFresh, KeepsStored, Needs, gets-known, gets-lazy, makes-known, makes-node, reading-ends, reads-blob, reads-root}
-use Rattle.pagable_theorems.proofs.ReadingSteps.{AllWaitWell, cached-rows, caller-free, ends-spare, event-goes, got-born, got-fallen, got-known, is-cached, reading-feels, reading-open, reading-stands}
-use Rattle.pagable_theorems.proofs.{ReadingSteps.{readings-on, walk-goes}, Words.{Alike, Among, ArcRef, AreMoments, Blob, Bool, Call, Change, Core, Error, Event, EventReply, Frame, FramesFit, GetsKnown}}
-use Rattle.pagable_theorems.proofs.Words.{HandleNumber, HandleRow, HandlesAreWhole, Happens, IsLawful, IsMachineWhole, IsReference, KeepsOpen, Kind, Last, List, LoadAnswer, LoadNumber, MachineState, None}
-use Rattle.pagable_theorems.proofs.Words.{Moment, NodeNumber, Ok, OpenLoad, Option, OptionalDataKey, Owner, PagerState, Reading, ReadingFeels, IsReadableType, IsWellAsked, ReadsRoot, ReadsTree, PagerStandsFor, Result, []}
-use Rattle.pagable_theorems.proofs.Words.{Seen, WorkerState, Some, Action, Tree, Types, Values, IsPagerWhole, WorkerAnswer, World, adopted, and_parts, ap, arith, false, find_row, first_key, held, inl, inr, is_eager}
-use Rattle.pagable_theorems.proofs.Words.{is_handle, is_in, is_owned_by, length, mode_of, moved, nat_tests, next_in, next_node, not, nothing_felt, one, owner_worker, refl, root_frame, rules, state_after}
-use Rattle.pagable_theorems.proofs.Words.{slice_get_within, step_of, subst, suc, sum_by-cons, sym, times, true, type_of, with_handle, world_of, zero, ℕ, ◌&&◌, ◌*◌, ◌++◌, ◌+◌, ◌<◌, ◌==◌, ◌∙◌, ◌∷◌, ◌≡◌}
-use Rattle.pagable_theorems.proofs.{Decoding.{asks-by-kinds, decodes, kinds-pushed, kinds_of, read_stands}, Trees.{at-most-sum, counted, one-true, same-number, same_some, self-number}, Words.{◌≤◌, ◌⊎◌}}
-use Rattle.pagable_theorems.proofs.{Effects.{Effect, IsHeldFor, IsOther}, LoadProgress.{Going, adopted-over, asked, eager-nested, first-fits, frames-stay, given-nodes, going-of, root-key, row-held, was-open}}
-use Rattle.pagable_theorems.proofs.{Effects.{can-use, list-apart, named, stays-alike, stays-fell}, FormsOfTrees.{given-of, owned-once}, HandlesKept.{Goes, IsShut, KnowsNext, Stands, a-handle, adopts, alike, once}}
-use Rattle.pagable_theorems.proofs.{CallEffects.releases, HandlesKept.{among-found, fell-anyhow, found-number, goes-quiet, none-found, quiet-goes, quiet-then, same-owner, stands-changed, stands-fell, stands-whole}}
-use Rattle.{pagable_theorems.proofs.CallEffects.gets-known as was-known, std.proofs.{Common.get_or, lemmas.{List.{Edits.length-remove, Sums.sum_by-remove}, Option.{get_or_from_slice_get, slice_get-get_or}}}}
-use Rattle.{pagable_pager_spec.specs.{Loads.{LoadDoes, asks, gone_on, handles_of, need_of, needs_nested, nested_frame, to_adopt, with_got}, Pager.FrameFits, Runs.EventDoes}, std.specs.List.remove}
-use Rattle.pagable_pager_spec.specs.{Events.Ends, WorkerClaims.GetsReference, Pager.{IsReadingOf, IsWhole, NodeStands, OwnersAreThere, SameTrees, StandsFor}}
-use Rattle.pagable_theorems.specs.{SmallWorlds.ReadingFills, TreeSteps.Knows}
-use Rattle.pagable_pager_spec.specs.{Rightness.{LoadsHaveStepsLeft, ReadGives, ReadIsRight, StepIsWithin}, WorkerClaims.{IsFilledByReading, LeavesCache, OneIdentityLaw, StaysAlive}, World.{type_at, usable}}
-use Rattle.pagable_pager_spec.specs.{Calls.{ReleaseCall, with_node}, LoadCalls.{HandOverCall, is_owned_in, numbers_of}, Order.{IsWithinBound, Unfolds, UnfoldsFrom, after_kinds, unfolds}}
+use Rattle.pagable_pager_spec.specs.{
+  Calls.{ReleaseCall, with_node},
+  Events.Ends,
+  LoadCalls.{HandOverCall, is_owned_in, numbers_of},
+  Loads.{LoadDoes, asks, gone_on, handles_of, need_of, needs_nested, nested_frame, to_adopt, with_got},
+  Order.{IsWithinBound, Unfolds, UnfoldsFrom, after_kinds, unfolds},
+  Pager.{FrameFits, IsReadingOf, IsWhole, NodeStands, OwnersAreThere, SameTrees, StandsFor},
+  Rightness.{LoadsHaveStepsLeft, ReadGives, ReadIsRight, StepIsWithin},
+  Runs.EventDoes,
+  WorkerClaims.{GetsReference, IsFilledByReading, LeavesCache, OneIdentityLaw, StaysAlive},
+  World.{type_at, usable},
+}
+use Rattle.pagable_theorems.proofs.{
+  CallEffects.{gets-known as was-known, releases},
+  Decoding.{asks-by-kinds, decodes, kinds-pushed, kinds_of, read_stands},
+  Effects.{Effect, IsHeldFor, IsOther, can-use, list-apart, named, stays-alike, stays-fell},
+  EventEffects.{AllWaitWell, ends-spare, event-goes, walk-goes},
+  FormsOfTrees.{given-of, owned-once},
+  HandlesKept.{Goes, IsShut, KnowsNext, Stands, a-handle, adopts, alike, among-found, fell-anyhow, found-number, goes-quiet, none-found, once, quiet-goes},
+  HandlesKept.{quiet-then, same-owner, stands-changed, stands-fell, stands-whole},
+  LoadProgress.{Going, asked, eager-nested, first-fits, frames-stay, given-nodes, going-of, row-held, was-open},
+  ReadingSteps.{cached-rows, caller-free, got-born, got-fallen, got-known, is-cached, reading-feels, reading-open, reading-stands, readings-on},
+  TreeProgress.{adopted-over, root-key},
+  Trees.{at-most-sum, counted, one-true, same-number, same_some, self-number},
+  Words.{Action, Alike, Among, ArcRef, AreMoments, Blob, Bool, Call, Change, Core, Error, Event, EventReply, Frame, FramesFit, GetsKnown, HandleNumber},
+  Words.{HandleRow, HandlesAreWhole, Happens, IsLawful, IsMachineWhole, IsPagerWhole, IsReadableType, IsReference, IsWellAsked, KeepsOpen, Kind, Last, List},
+  Words.{LoadAnswer, LoadNumber, MachineState, Moment, NodeNumber, None, Ok, OpenLoad, Option, OptionalDataKey, Owner, PagerStandsFor, PagerState, Reading},
+  Words.{ReadingFeels, ReadsRoot, ReadsTree, Result, Seen, Some, Tree, Types, Values, WorkerAnswer, WorkerState, World, adopted, and_parts, ap, arith, false},
+  Words.{find_row, first_key, held, inl, inr, is_eager, is_handle, is_in, is_owned_by, length, mode_of, moved, nat_tests, next_in, next_node, not},
+  Words.{nothing_felt, one, owner_worker, refl, root_frame, rules, slice_get_within, state_after, step_of, subst, suc, sum_by-cons, sym, times, true, type_of},
+  Words.{with_handle, world_of, zero, ℕ, [], ◌&&◌, ◌*◌, ◌++◌, ◌+◌, ◌<◌, ◌==◌, ◌∙◌, ◌∷◌, ◌≡◌, ◌≤◌, ◌⊎◌},
+}
+use Rattle.pagable_theorems.specs.{
+  SmallWorlds.LoadsAloneFillCache,
+  TreeSteps.{EventFeels, GetsRow, HandsOver, IsFresh, KeepsStored, Knows, Needs, gets-known, gets-lazy, makes-known, makes-node, reading-ends, reads-blob},
+  TreeSteps.reads-root,
+}
+use Rattle.std.proofs.{Common.get_or, lemmas.{List.{Edits.length-remove, Sums.sum_by-remove}, Option.{get_or_from_slice_get, slice_get-get_or}}}
+use Rattle.std.specs.List.{remove}
 use Rattle.pagable_pager_spec.specs.Workers as workers
 pub use Rattle.pagable_theorems.proofs.Effects.{IsEntered, Spares, both-none as neither, entered-of, named-among, spares-then}
 
@@ -474,8 +495,8 @@ filled-along m s (x ∷ xs) whole (does, more) leaves filled =
     let g = event-goes m (world_of s) (world_of x.after) x.event x.reply (keeps-open x.event kept) does.step.happens in
     filled-along m x.after xs does.whole more (λ y (i, is). leaves y (suc i, is)) (filled-goes whole.pager.whole g.goes (g.knows whole.pager.whole kept) filled)
 
-pub reading_fills : {N B W : Type 0} (E : Type 0) (m : Seen N B W) → ReadingFills E m
-reading_fills E m = record { new = λ s new kind key k q n a b. absurd (let e = new.cache kind key in cc); stays = filled-along m }
+pub loads_alone_fill_cache : {N B W : Type 0} (E : Type 0) (m : Seen N B W) → LoadsAloneFillCache E m
+loads_alone_fill_cache E m = record { new = λ s new kind key k q n a b. absurd (let e = new.cache kind key in cc); stays = filled-along m }
 
 same : {u last : Core} (kind other_kind : Kind) (key other_key n other_n : ℕ) → Got u other_kind other_key other_n last
     → (IsKnownOnce kind.0 key n u → other_n ≡ n → other_key ≡ key) × (usable u kind.0 key ≡ Some n → other_kind ≡ kind → other_key ≡ key → other_n ≡ n)

@@ -1,15 +1,30 @@
 -- What tables and lists of things to do know of trees stays right as long as stored blobs and nodes' trees stay; and the effect of a change of a table.
-use Rattle.pagable_theorems.proofs.{NewClaims.{EventTurns, StandsIn, same-grow, turns-grow, turns-keep}, FormsOfTrees.{IdentityStands, key-stands, leads-on, wrote}, ReadingSteps.site_of, SlotsGrow.AllStand}
-use Rattle.pagable_theorems.proofs.{SlotsGrow.{HasClaim, KeepsKeys, PutsSlot, ShelfGrows, among-drop, changes-slot, keys-grow, put-cases, puts-slot, some-same}, Trees.followed-all, Words.{Among, ArcRef}}
-use Rattle.pagable_theorems.proofs.Words.{Walking, WorkerReply, cases_Bool, step_of, Blob, Bool, Claim, WorkDoes, Event, EventReply, FollowsTo, HandleNumber, HoldsSettled, Identity, IsLawful, IsMachineWhole, IsPublished, List, MachineState, None, Ok}
-use Rattle.pagable_theorems.proofs.Words.{IsReadableType, IsWellAsked, Option, PagerStandsFor, Seen, Shelf, WorkerState, Slot, Some, Task, Todo, Action, Tree, Types, Values, WorkFits, Written, [], above, answer_after, ap, arith, blob_of}
-use Rattle.pagable_theorems.proofs.Words.{drop, give, identity_of, if◌then◌else◌, inl, inr, is_eager, length, max, nat_eq, nat_tests, no_result, of_entry, of_item, refl, rules, subst, suc, sym, to_fail}
-use Rattle.pagable_theorems.{proofs.Words.{to_finish, to_item, to_release, to_set, to_start, to_write, true, type_of, world_of, zero, ℕ, ◌++◌, ◌+◌, ◌==◌, ◌∙◌, ◌∷◌, ◌≡◌, ◌≤◌}, specs.TreeSteps.Above}
-use Rattle.pagable_theorems.specs.TreeSteps.{AllLow, AllWrote, BlobStands, Expects, Ground, HasBlob, HasRoom, IsAttained, IsDone, IsLow, KeyStands, KeysSoFar, Placed, SlotFits, SlotsFit, Waits, Walks, Wrote, WroteOver, WroteTree}
-use Rattle.{pagable_theorems.specs.TreeSteps.ground_of, pagable_pager_spec.specs.{Calls.Stores, Events.Ends, Rightness.AreKeysOf, Pager.{ReplyWrites, TookWrites}, Basics.longest_path, Workers.claim_fault}}
-use Rattle.pagable_pager_spec.specs.{Workers.{first_todo, give_known, next_start, open_node, with_failed, with_outcome, with_wait}, World.{Fault, Open, digest, failed, published, to_load, to_pin, to_publish}}
-use Rattle.pagable_pager_spec.specs.Runs.{TodoAsksWell}
-use Rattle.pagable_theorems.proofs.Trees.{same-number}
+use Rattle.pagable_pager_spec.specs.{
+  Basics.longest_path,
+  Calls.Stores,
+  Events.Ends,
+  Pager.{ReplyWrites, TookWrites},
+  Rightness.AreKeysOf,
+  Runs.TodoAsksWell,
+  Workers.{claim_fault, first_todo, give_known, next_start, open_node, with_failed, with_outcome, with_wait},
+  World.{Fault, Open, digest, failed, published, to_load, to_pin, to_publish},
+}
+use Rattle.pagable_theorems.proofs.{
+  EventEffects.site_of,
+  FormsOfTrees.{IdentityStands, key-stands, leads-on, wrote},
+  NewClaims.{EventTurns, StandsIn, same-grow, turns-grow, turns-keep},
+  SlotsGrow.{AllStand, HasClaim, KeepsKeys, PutsSlot, ShelfGrows, among-drop, changes-slot, keys-grow, put-cases, puts-slot, some-same},
+  Trees.{followed-all, same-number},
+  Words.{Action, Among, ArcRef, Blob, Bool, Claim, Event, EventReply, FollowsTo, HandleNumber, HoldsSettled, Identity, IsLawful, IsMachineWhole, IsPublished},
+  Words.{IsReadableType, IsWellAsked, List, MachineState, None, Ok, Option, PagerStandsFor, Seen, Shelf, Slot, Some, Task, Todo, Tree, Types, Values, Walking},
+  Words.{WorkDoes, WorkFits, WorkerReply, WorkerState, Written, above, answer_after, ap, arith, blob_of, cases_Bool, drop, give, identity_of, if◌then◌else◌},
+  Words.{inl, inr, is_eager, length, max, nat_eq, nat_tests, no_result, of_entry, of_item, refl, rules, step_of, subst, suc, sym, to_fail, to_finish, to_item},
+  Words.{to_release, to_set, to_start, to_write, true, type_of, world_of, zero, ℕ, [], ◌++◌, ◌+◌, ◌==◌, ◌∙◌, ◌∷◌, ◌≡◌, ◌≤◌},
+}
+use Rattle.pagable_theorems.specs.{
+  TreeSteps.{Above, AllLow, AllWrote, BlobStands, Expects, Ground, HasBlob, HasRoom, IsAttained, IsDone, IsLow, KeyStands, KeysSoFar, Placed, SlotFits},
+  TreeSteps.{SlotsFit, Waits, Walks, Wrote, WroteOver, WroteTree, ground_of},
+}
 
 -- ---- what is stored stays, and each node keeps its tree
 

@@ -1,18 +1,38 @@
 -- Sums over the elements of a list, and what they count. And meanings that differ only in what stands for their references: they have the same forms.
-use Rattle.pagable_theorems.proofs.Words.{Among, AreMoments, Blob, Bool, Entries, Entry, Form, Forms, List, MachineState, Meaning, Moment, None, Option, ReadsTree, Seen, Shape, WorkerState, Action, Tree, Types}
-use Rattle.pagable_theorems.proofs.Words.{WalkDoes, [], ap, arith, code, cond, false, followed, inl, inr, length, map, nat_tests, none, one, pair, put_all, reference, reference-form, refl, rest}
-use Rattle.pagable_theorems.proofs.Words.{references_in, rename, rules, run-form, state_after, subst, suc, sum_by-cons, sym, tree, true, type_of, variant, zero, ℕ, ℤ, ◌++◌, ◌+◌, ◌<◌, ◌==◌, ◌∙◌, ◌∷◌, ◌≡◌}
-use Rattle.{pagable_theorems.{proofs.Words.{◌≤◌, ◌⊎◌}, specs.{SmallWorlds.ChainsJoin, FormLaws.IsAnyOrder}}, pagable_value_spec.specs.{BasicValues.{length_form, longest}, Canonical.EachType}}
-use Rattle.pagable_value_spec.specs.{Canonical.HasNoReference, CarriedTypes.{of_entries, of_hash_map}, Codes.one-meaning, Form.{array-form, both-form, case-form, duration-form, err-form, flag-form, list-form}}
-use Rattle.pagable_value_spec.specs.Form.{hash-map-form, json-array-form, json-flag-form, json-null-form, json-number-form, json-object-form, json-text-form, letter-form, more-entries, more-forms}
-use Rattle.pagable_value_spec.specs.Form.{nested-form, no-entries, no-forms, none-form, nothing-form, ok-form, pattern-form, placed-map-form, placed-set-form, signed-form, some-form, sorted-map-form}
-use Rattle.pagable_value_spec.specs.{Form.{sorted-set-form, static-form, tagged-form, text-form, unsigned-form}, Keys.{AllAfter, Apart, Ascends, Differ, KeyOrder, code_order, last_value, ordered}}
-use Rattle.pagable_value_spec.specs.{Keys.{put_sorted, same_key, text_order}, Meaning.{integer, lifted, number, pattern, plain, sequence, text}, Trees.{IsFollowed, KeyRef, ReadsAs, integer-followed}}
-use Rattle.{pagable_value_spec.specs.Trees.{none-followed, number-followed, pair-followed, pattern-followed, reference-followed, text-followed, variant-followed}, pagable_pager_spec.specs.Order.Follows}
-use Rattle.std.{proofs.{Common.sum_by, Math.Dec.T, lemmas.Map.{Lookups.exact_bytes, Text.is_eq-slice_cmp}}, specs.{Cmp.Lexicographic.on_texts, FinMap.Entries.{find, find-put, is_sorted, put}}}
-use Rattle.std.specs.{FinMap.Entries.{is_sorted-put, same_entries}, List.AllByRecursion as Each, Option.option_or, Ordering.{eq_by_cmp, match_ordering}, declared.cmp.Ordering.Ordering}
+use Rattle.pagable_pager_spec.specs.Order.{Follows}
+use Rattle.pagable_theorems.proofs.{
+  Words.{Action, Among, AreMoments, Blob, Bool, Entries, Entry, Form, Forms, List, MachineState, Meaning, Moment, None, Option, ReadsTree, Seen, Shape, Tree},
+  Words.{Types, WalkDoes, WorkerState, ap, arith, code, cond, false, followed, inl, inr, length, map, nat_tests, none, one, pair, put_all, reference},
+  Words.{reference-form, references_in, refl, rename, rest, rules, run-form, state_after, subst, suc, sum_by-cons, sym, tree, true, type_of, variant, zero, ℕ},
+  Words.{ℤ, [], ◌++◌, ◌+◌, ◌<◌, ◌==◌, ◌∙◌, ◌∷◌, ◌≡◌, ◌≤◌, ◌⊎◌},
+}
+use Rattle.pagable_theorems.specs.{FormLaws.HashMapHasAnyOrder, SmallWorlds.ChainsJoin}
+use Rattle.pagable_value_spec.specs.{
+  BasicValues.{length_form, longest},
+  Canonical.{EachType, HasNoReference},
+  CarriedTypes.{of_entries, of_hash_map},
+  Codes.one-meaning,
+  Form.{array-form, both-form, case-form, duration-form, err-form, flag-form, hash-map-form, json-array-form, json-flag-form, json-null-form, json-number-form},
+  Form.{json-object-form, json-text-form, letter-form, list-form, more-entries, more-forms, nested-form, no-entries, no-forms, none-form, nothing-form},
+  Form.{ok-form, pattern-form, placed-map-form, placed-set-form, signed-form, some-form, sorted-map-form, sorted-set-form, static-form, tagged-form, text-form},
+  Form.unsigned-form,
+  Keys.{AllAfter, Apart, Ascends, Differ, KeyOrder, code_order, last_value, ordered, put_sorted, same_key, text_order},
+  Meaning.{integer, lifted, number, pattern, plain, sequence, text},
+  Trees.{IsFollowed, KeyRef, ReadsAs, integer-followed, none-followed, number-followed, pair-followed, pattern-followed, reference-followed, text-followed},
+  Trees.variant-followed,
+}
+use Rattle.std.proofs.{Common.sum_by, Math.Dec.T, lemmas.Map.{Lookups.exact_bytes, Text.is_eq-slice_cmp}}
+use Rattle.std.specs.{
+  Cmp.Lexicographic.on_texts,
+  FinMap.Entries.{find, find-put, is_sorted, is_sorted-put, put, same_entries},
+  List.AllByRecursion as Each,
+  Option.option_or,
+  Ordering.{eq_by_cmp, match_ordering},
+  declared.cmp.Ordering.Ordering,
+}
 use Rattle.pagable_value_spec.specs.Meaning as meanings
-pub use Rattle.{pagable_pager_spec.proofs.Elements.{at-most-sum, counted, sum-none as sum-zero}, std.proofs.lemmas.{Bool.eqb-true as same-number, Option.same_Some as same_some}}
+pub use Rattle.pagable_pager_spec.proofs.Elements.{at-most-sum, counted, sum-none as sum-zero}
+pub use Rattle.std.proofs.lemmas.{Bool.eqb-true as same-number, Option.same_Some as same_some}
 
 -- A form goes along: where each reference is replaced by one of the same kind, the bytes are a form of what results.
 -- JSON numbers that have no form, and the entries of a hash map in whatever order they come.
@@ -477,7 +497,7 @@ module _ {A : Type 0} where
   put_along [] e = refl
   put_along (x ∷ acc) e = rw (plain_lifted A e.0, plain_lifted A x.0, put_along acc e) (grind (arith, nat_tests))
 
-pub any_order : {A : Type 0} → IsAnyOrder A
+pub any_order : {A : Type 0} → HashMapHasAnyOrder A
 any_order {A} es fs h =
     let puts = all_along lift_key put_in (put_sorted code_order) put_along [] in
     let same = same_entries code_order (on_texts code) (λ a b e. one-meaning a b (exact_bytes (code a) (code b) e)) _ _ (all_sorted [] es tt)

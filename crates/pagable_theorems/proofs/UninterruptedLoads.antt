@@ -1,17 +1,33 @@
 -- If no load is interrupted, a load whose key a page-out has published fails only by chance: while the load makes its steps, what it has got stays live and its
 -- own, each handle once, and so does the handle that began it.
-use Rattle.pagable_theorems.proofs.{Chains.{IsGoingOn, along-with, idle-goes}, Decoding.{AreApart, decodes, fine, reads-once}, Effects.{moved-free, named-among, with-one}, HandlesKept.{Has, NotValues, Stands}}
-use Rattle.pagable_theorems.proofs.{HandlesKept.{found-number, good, has-alike, low-changed, low-whole, new-handle, stands-alike, stands-fell, stands-whole, updated-at}, ReadingSteps.cached-rows}
-use Rattle.pagable_theorems.proofs.{ReadingSteps.{reading-number, reading-open, reading-stands}, LoadFaults.{IsForm, by-chance, by-handle, by-references, load-cause}, StepBounds.got-typed, LoadProgress.AllGot}
-use Rattle.pagable_theorems.proofs.{LoadProgress.{all-more, all-new, asked, first-fits, going-of, pushed, row-held}, Trees.same_some, Words.{Alike, Among, ArcRef, Beginning, Bool, Call, Core, Err, Error, Ok}}
-use Rattle.pagable_theorems.proofs.Words.{IsReadableType, IsWellAsked, Event, EventReply, Frame, FramesFit, GetsKnown, HandleNumber, HandleRow, HandlesAreWhole, Happens, IsLawful, IsMachineWhole, IsReference, Kind, List, LoadAnswer}
-use Rattle.pagable_theorems.proofs.Words.{LoadNumber, MachineState, Mode, Moment, NodeNumber, None, OpenLoad, Option, OptionalDataKey, Owner, Reading, Reply, Seen, Some, Tree, Values, []}
-use Rattle.pagable_theorems.proofs.Words.{above, adopted, ap, arith, false, false_from_ne_true, find_row, held, if_there, inl, inr, is_in, is_named_by, is_some, mode_of, nat_tests, next_node, of_cell, ℕ}
-use Rattle.pagable_theorems.proofs.Words.{owner_value, references_fault, refl, root_frame, row_at, rules, slice_get, subst, suc, sym, type_of, with_handle, world_of, zero, ◌+◌, ◌<◌, ◌==◌, ◌∙◌, ◌∷◌, ◌≡◌}
-use Rattle.{pagable_theorems.{proofs.Words.◌⊎◌, specs.{DepthLaws.{HasBegun, IsBeginOf, SoundLaw}, TreeSteps.FramesHeld}}, pagable_pager_spec.specs.{Calls.{Asked, row_of, with_node}, Events.LoadSteps}}
-use Rattle.pagable_pager_spec.specs.{Events.{ReadingsAre, reading_at}, LoadCalls.BeginCall, Loads.{LoadDoes, GoesOn, IsDecoded, MakesNode, gone_on, with_got}, WorkerClaims.{IsLoadOfPagedOut, of_load}}
-use Rattle.pagable_pager_spec.specs.{WorkerClaims.{IsOfChance, LoadIsSound, StandTogether, of_nobody, turn_of}, Refusals.Refused, declared.events.LoadReply.LoadReply}
-use Rattle.pagable_pager_spec.specs.Runs.{TakesWell}
+use Rattle.pagable_pager_spec.specs.{
+  Calls.{Asked, row_of, with_node},
+  Events.{LoadSteps, ReadingsAre, reading_at},
+  LoadCalls.BeginCall,
+  Loads.{GoesOn, IsDecoded, LoadDoes, MakesNode, gone_on, with_got},
+  Refusals.Refused,
+  Runs.TakesWell,
+  WorkerClaims.{IsLoadOfPagedOut, IsOfChance, LoadIsSound, StandTogether, of_load, of_nobody, turn_of},
+  declared.events.LoadReply.LoadReply,
+}
+use Rattle.pagable_theorems.proofs.{
+  Chains.{IsGoingOn, along-with, idle-goes},
+  Decoding.{AreApart, decodes, fine, reads-once},
+  Effects.{moved-free, named-among, with-one},
+  HandlesKept.{Has, NotValues, Stands, found-number, good, has-alike, low-changed, low-whole, new-handle, stands-alike, stands-fell, stands-whole, updated-at},
+  LoadFaults.{IsForm, by-chance, by-handle, by-references, load-cause},
+  LoadProgress.{AllGot, all-more, all-new, asked, first-fits, going-of, pushed, row-held},
+  ReadingSteps.{cached-rows, reading-number, reading-open, reading-stands},
+  StepBounds.got-typed,
+  Trees.same_some,
+  Words.{Alike, Among, ArcRef, Beginning, Bool, Call, Core, Err, Error, Event, EventReply, Frame, FramesFit, GetsKnown, HandleNumber, HandleRow},
+  Words.{HandlesAreWhole, Happens, IsLawful, IsMachineWhole, IsReadableType, IsReference, IsWellAsked, Kind, List, LoadAnswer, LoadNumber, MachineState, Mode},
+  Words.{Moment, NodeNumber, None, Ok, OpenLoad, Option, OptionalDataKey, Owner, Reading, Reply, Seen, Some, Tree, Values, above, adopted, ap, arith, false},
+  Words.{false_from_ne_true, find_row, held, if_there, inl, inr, is_in, is_named_by, is_some, mode_of, nat_tests, next_node, of_cell, owner_value},
+  Words.{references_fault, refl, root_frame, row_at, rules, slice_get, subst, suc, sym, type_of, with_handle, world_of, zero, ℕ, [], ◌+◌, ◌<◌, ◌==◌, ◌∙◌, ◌∷◌},
+  Words.{◌≡◌, ◌⊎◌},
+}
+use Rattle.pagable_theorems.specs.{DepthLaws.{HasBegun, IsBeginOf, UninterruptedLoadsAreSound}, TreeSteps.FramesHeld}
 
 -- each handle was got in one place
 abbrev GotOnce : List Frame → Type 0
@@ -352,7 +368,7 @@ module _ {N B W E : Type 0} (m : Seen N B W) where
     ]
     load-sound stages trees' event reply same h asked = tt
 
-pub sound_law : {N B W : Type 0} (E : Type 0) (m : Seen N B W) → SoundLaw E m
+pub sound_law : {N B W : Type 0} (E : Type 0) (m : Seen N B W) → UninterruptedLoadsAreSound E m
 sound_law E m start moments together begun trees whole idle chain stands lawful settled =
     along-with m lawful LoadIsSound (λ s xs. StandTogether xs × Stages m s xs) (λ s trees trees' x xs on so whole' is asks right. (
       load-sound m lawful s trees on x xs whole' is asks so.0 so.1 trees' x.event x.reply refl is asks,

@@ -1,15 +1,31 @@
 -- A pager's invariant about values, row by row: a value owns the row of each handle that it refers to, and no other; a node without a value owns nothing. And
 -- the calls that neither bring nor drop a value.
-use Rattle.pagable_theorems.proofs.{Decoding.among-either, FormsOfTrees.{held-of, owned-once}, HandlesKept.{NotValues, Stands, among-changed, among-found, found-after, found-number, only-one, same-owner}}
-use Rattle.pagable_theorems.proofs.{HandlesKept.stands-whole, StepBounds.{entered-of, found}, LoadProgress.row-pins, Trees.{at-most-sum, counted, one-true, same-number, self-number, sum-zero}}
-use Rattle.pagable_pager_spec.specs.{Calls.{Asked, CloneCall, LoosenCall, PinCall, RecallCall, TakeCall, is_named_by, moved, row_of, with_cached, with_handle, with_known, with_mode}, Cascade.only_handle}
-use Rattle.pagable_pager_spec.specs.{Events.{with_entry_taken, with_worker}, Kinds.{find_row, held, is_at, is_handle, is_in_memory, is_owned_by, is_owner, is_pin, is_pinning, is_share, is_shared, pins}}
-use Rattle.pagable_pager_spec.specs.{Kinds.{mode_of, owner_value}, LoadCalls.{BeginCall, BeginKeyCall, is_owned_in}, Pager.{IsWhole, PagerState, IsPagerWhole}, Basics.{Among, ArcRef, Error, HandleNumber}}
-use Rattle.pagable_pager_spec.specs.{Basics.{Kind, LoadNumber, NodeNumber, SameAt, WorkerNumber, changed, if_there, is_shared_kind, one, times}, Refusals.{IsReference, Owns}, World.{Alike, Core, Last}}
-use Rattle.pagable_pager_spec.specs.{World.{Values, is_here, key_at, row_at, type_at, usable}, declared.{pinning.{Beginning.Beginning, Pinning.Pinning}, handle_row.{HandleRow.HandleRow, Owner.Owner}}}
-use Rattle.{pagable_pager_spec.specs.declared.mode.Mode.Mode, std.proofs.Common.{Bool, Err, List, None, Ok, Option, Some, [], ap, arith, false, if◌then◌else◌, length, map, refl, subst, suc, sum_by, sym}}
-use Rattle.std.proofs.{Common.{true, ℕ, ◌&&◌, ◌+◌, ◌<◌, ◌==◌, ◌∙◌, ◌∷◌, ◌≡◌, ◌≤◌}, lemmas.{Bool.{Decides.nat_tests, and_parts, false_from_ne_true}, List.Sums.{sum_by-cons, sum_by_push}}}
-use Rattle.std.{proofs.lemmas.Option.slice_get_within, specs.Prelude.{Result, is_some, nat_lt, not, slice_get}}
+use Rattle.pagable_pager_spec.specs.{
+  Basics.{Among, ArcRef, Error, HandleNumber, Kind, LoadNumber, NodeNumber, SameAt, WorkerNumber, changed, if_there, is_shared_kind, one, times},
+  Calls.{Asked, CloneCall, LoosenCall, PinCall, RecallCall, TakeCall, is_named_by, moved, row_of, with_cached, with_handle, with_known, with_mode},
+  Cascade.only_handle,
+  Events.{with_entry_taken, with_worker},
+  Kinds.{find_row, held, is_at, is_handle, is_in_memory, is_owned_by, is_owner, is_pin, is_pinning, is_share, is_shared, mode_of, owner_value, pins},
+  LoadCalls.{BeginCall, BeginKeyCall, is_owned_in},
+  Pager.{IsPagerWhole, IsWhole, PagerState},
+  Refusals.{IsReference, Owns},
+  World.{Alike, Core, Last, Values, is_here, key_at, row_at, type_at, usable},
+  declared.{handle_row.{HandleRow.HandleRow, Owner.Owner}, mode.Mode.Mode, pinning.{Beginning.Beginning, Pinning.Pinning}},
+}
+use Rattle.pagable_theorems.proofs.{
+  Decoding.among-either,
+  FormsOfTrees.{held-of, owned-once},
+  HandlesKept.{NotValues, Stands, among-changed, among-found, found-after, found-number, only-one, same-owner, stands-whole},
+  LoadProgress.row-pins,
+  StepBounds.{entered-of, found},
+  Trees.{at-most-sum, counted, one-true, same-number, self-number, sum-zero},
+}
+use Rattle.std.proofs.{
+  Common.{Bool, Err, List, None, Ok, Option, Some, ap, arith, false, if◌then◌else◌, length, map, refl, subst, suc, sum_by, sym, true, ℕ, [], ◌&&◌, ◌+◌, ◌<◌},
+  Common.{◌==◌, ◌∙◌, ◌∷◌, ◌≡◌, ◌≤◌},
+  lemmas.{Bool.{Decides.nat_tests, and_parts, false_from_ne_true}, List.Sums.{sum_by-cons, sum_by_push}, Option.slice_get_within},
+}
+use Rattle.std.specs.Prelude.{Result, is_some, nat_lt, not, slice_get}
 use Rattle.pagable_theorems.proofs.Effects as effects
 
 -- the reference names the one row of a handle that the node's value owns

@@ -1,22 +1,43 @@
 -- What a step does before it releases handles, part by part: it leaves what values own as it is, and brings a value only to a node that had none. And what a
 -- call is that neither brings nor drops a value.
-use Rattle.pagable_theorems.proofs.{Decoding.among-either, CascadeWitness.outlast, FormsOfTrees.one-less, HandlesKept.{NotLoads, NotValues, Stands, among-changed, among-found, fell-away, found-number, good, no-pins}}
-use Rattle.pagable_theorems.proofs.{HandlesKept.{or-none, same-owner, stands-changed, stands-left, stands-whole}, StepBounds.{found, named-among, neither}, LoadProgress.row-held, Trees.{at-most-sum, counted}}
-use Rattle.{pagable_theorems.proofs.Trees.{same-number, self-number, sum-le}, pagable_theorems.proofs.ValueRows.{AreFree, At, Has, Keeps, OwnsAlike, among-named, by-row, holds_value, listed-free, load-free}}
-use Rattle.pagable_theorems.proofs.ValueRows.{mode-here, mode-others, mode-owns, moved-pins, own-free, owned-test, owns-changed, owns-handle, owns-same, owns-then, rests-cached, row-here, rowed, sits}
-use Rattle.pagable_theorems.proofs.ValueRows.{same-value, settled, shut-alike, sits-on, spares-handle, spares-keeps, spares-known, spares-moved, spares-then, turned}
-use Rattle.pagable_pager_spec.{proofs.Elements.among-left, specs.Calls.{InsertPagedOutCall, InsertCall, CloseCall, OfferCall, ReleaseCall, ScheduleCall, SetKeyCall, UnpinCall, is_named_by, moved, next_node}}
-use Rattle.pagable_pager_spec.specs.{Calls.{row_of, with_handle, with_key, with_mode, with_node}, Cascade.{AreNewEntries, Falls, FallsAnyhow, fallen, is_keyed, is_outside, left_rows, loses_value}}
-use Rattle.pagable_pager_spec.specs.{Cascade.{only_handle, owned_outside}, Kinds.{held, is_at, is_loose, is_owned_by, is_owner, is_pin, is_pinning, mode_of, owner_value, owner_worker, pins}}
-use Rattle.pagable_pager_spec.specs.{LoadCalls.{Adopts, DropCall, HandOverCall, Installs, LazyCall, LoadCloses, MayEnd, is_owned_in, numbers_of, with_pin, without_load}, Pager.PagerState}
-use Rattle.pagable_pager_spec.specs.{Pager.IsPagerWhole, Basics.{Among, ArcRef, Error, HandleNumber, Kind, LoadNumber, NodeNumber, OptionalDataKey, if_there, is_in, one, times, type_of, updated}}
-use Rattle.pagable_pager_spec.specs.{Refusals.{Owns, references_fault}, Workers.{WorkerEnds, is_load_of, is_workers_at}, World.{Alike, Cell, Core, OpenLoad, Values, is_here, type_at, usable}}
-use Rattle.{pagable_pager_spec.specs.declared.{handle_row.{HandleRow.HandleRow, Owner.Owner}, mode.Mode.Mode}, std.proofs.Common.{Bool, Err, List, None, Ok, Option, Some, [], ap, arith, false, if◌then◌else◌}}
-use Rattle.std.proofs.{Common.{inl, inr, map, refl, subst, suc, sym, true, ℕ, ◌&&◌, ◌++◌, ◌+◌, ◌<◌, ◌==◌, ◌||◌, ◌∙◌, ◌∷◌, ◌≡◌, ◌≤◌}, lemmas.Bool.{and_parts, cases_Bool, false_from_ne_true}}
-use Rattle.std.{proofs.lemmas.{Bool.Decides.nat_tests, List.Sums.{sum_by-append, sum_by-cons, sum_by_push}}, specs.Prelude.{Result, filter, is_some, nat_lt, not, slice_get}}
+use Rattle.pagable_pager_spec.proofs.Elements.{among-left}
+use Rattle.pagable_pager_spec.specs.{
+  Basics.{Among, ArcRef, Error, HandleNumber, Kind, LoadNumber, NodeNumber, OptionalDataKey, if_there, is_in, one, times, type_of, updated},
+  Calls.{CloseCall, InsertCall, InsertPagedOutCall, OfferCall, ReleaseCall, ScheduleCall, SetKeyCall, UnpinCall, is_named_by, moved, next_node, row_of},
+  Calls.{with_handle, with_key, with_mode, with_node},
+  Cascade.{AreNewEntries, Falls, FallsAnyhow, fallen, is_keyed, is_outside, left_rows, loses_value, only_handle, owned_outside},
+  Kinds.{held, is_at, is_loose, is_owned_by, is_owner, is_pin, is_pinning, mode_of, owner_value, owner_worker, pins},
+  LoadCalls.{Adopts, DropCall, HandOverCall, Installs, LazyCall, LoadCloses, MayEnd, is_owned_in, numbers_of, with_pin, without_load},
+  Pager.{IsPagerWhole, PagerState},
+  Refusals.{Owns, references_fault},
+  Workers.{WorkerEnds, is_load_of, is_workers_at},
+  World.{Alike, Cell, Core, OpenLoad, Values, is_here, type_at, usable},
+  declared.{handle_row.{HandleRow.HandleRow, Owner.Owner}, mode.Mode.Mode},
+}
+use Rattle.pagable_theorems.proofs.{
+  CascadeWitness.outlast,
+  Decoding.among-either,
+  FormsOfTrees.one-less,
+  HandlesKept.{NotLoads, NotValues, Stands, among-changed, among-found, fell-away, found-number, good, no-pins, or-none, same-owner, stands-changed},
+  HandlesKept.{stands-left, stands-whole},
+  LoadProgress.row-held,
+  StepBounds.{found, named-among, neither},
+  Trees.{at-most-sum, counted, same-number, self-number, sum-le},
+  ValueRows.{AreFree, At, Has, Keeps, OwnsAlike, among-named, by-row, holds_value, listed-free, load-free, mode-here, mode-others, mode-owns, moved-pins},
+  ValueRows.{own-free, owned-test, owns-changed, owns-handle, owns-same, owns-then, rests-cached, row-here, rowed, same-value, settled, shut-alike, sits},
+  ValueRows.{sits-on, spares-handle, spares-keeps, spares-known, spares-moved, spares-then, turned},
+}
+use Rattle.std.proofs.{
+  Common.{Bool, Err, List, None, Ok, Option, Some, ap, arith, false, if◌then◌else◌, inl, inr, map, refl, subst, suc, sym, true, ℕ, [], ◌&&◌, ◌++◌, ◌+◌, ◌<◌},
+  Common.{◌==◌, ◌||◌, ◌∙◌, ◌∷◌, ◌≡◌, ◌≤◌},
+  lemmas.{Bool.{Decides.nat_tests, and_parts, cases_Bool, false_from_ne_true}, List.Sums.{sum_by-append, sum_by-cons, sum_by_push}},
+}
+use Rattle.std.specs.Prelude.{Result, filter, is_some, nat_lt, not, slice_get}
 use Rattle.pagable_theorems.proofs.Effects as effects
-pub use Rattle.pagable_theorems.proofs.ValueRows.{IsRight, IsShut, Leaves, Rests, Spares, asked, begins, begins-key, clones, known-here, loosens, not-load, pinned-here, pins-it, recalls, rests-then, spared}
-pub use Rattle.pagable_theorems.proofs.ValueRows.{spares-same, starts-listed, stayed, takes, unmoved}
+pub use Rattle.pagable_theorems.proofs.{
+  ValueRows.{IsRight, IsShut, Leaves, Rests, Spares, asked, begins, begins-key, clones, known-here, loosens, not-load, pinned-here, pins-it, recalls},
+  ValueRows.{rests-then, spared, spares-same, starts-listed, stayed, takes, unmoved},
+}
 
 -- ---- calls by which values go: they go with a cascade. Where a call has done what it does directly, a value stays exactly where its node is in memory afterwards, and owns what it did
 

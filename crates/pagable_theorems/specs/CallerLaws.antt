@@ -1,11 +1,19 @@
 -- The law of callers: along any calls of a pager and whole operations on it each node keeps a tree, and each pin, read
 -- and page-out gives what the headline says.
-use Rattle.std.specs.Prelude.{Err, Ok, Result, ℕ, ◌≡◌}
+use Rattle.pagable_pager_spec.specs.{
+  Access.{AccessState, IsValueOf, ItemRun, ListRun, LoadAsksWell, PinRun, ReadRun, load-fails, load-pins, load-reads},
+  Access.reading-fails,
+  Basics.{Error, HandleNumber, Tree},
+  Events.{CallStep, no_shelf},
+  Pager.{CallBrings, IsPagerWhole, Moves, PagerStandsFor, PagerState, SameTrees, ValueStands},
+  Rightness.{GivesTree, ReadIsRight},
+  Runs.{AsksWell, HoldsSettled, KeepsOpen},
+  World.{IsLawful, SameShelf, Seen, Values, of_item},
+  declared.{calls.{Call.Call, Reply.Reply}, events.{Event.Event, WorkerAnswer.WorkerAnswer}, handle_row.Owner.Owner},
+  declared.pinning.Pinning.Pinning,
+}
 use Rattle.pagable_theorems.specs.PageOutLaws.{EachIsPagedOut, ItemAsksWell, LeavesPagedOut, ListAsksWell, NobodyWorks}
-use Rattle.pagable_pager_spec.specs.{Access.{AccessState, IsValueOf, ItemRun, ListRun, LoadAsksWell, PinRun, ReadRun, load-pins, load-fails, load-reads, reading-fails}, Events.{CallStep, no_shelf}, Rightness.{GivesTree, ReadIsRight}}
-use Rattle.pagable_pager_spec.specs.{Pager.{CallBrings, Moves, PagerState, PagerStandsFor, SameTrees, ValueStands, IsPagerWhole}, Basics.{Error, HandleNumber, Tree}, Runs.{AsksWell, HoldsSettled, KeepsOpen}}
-use Rattle.pagable_pager_spec.specs.{World.{IsLawful, SameShelf, Seen, Values, of_item}, declared.{pinning.Pinning.Pinning, calls.{Call.Call, Reply.Reply}, events.{Event.Event, WorkerAnswer.WorkerAnswer}}}
-use Rattle.pagable_pager_spec.specs.declared.handle_row.Owner.{Owner}
+use Rattle.std.specs.Prelude.{Err, Ok, Result, ℕ, ◌≡◌}
 
 -- a call of the pager: its step, and the value that it brings into memory
 pub record IsCall {N E B W : Type 0} (m : Seen N B W) (s : PagerState N E) (call : Call N B) (reply : Reply N B)

@@ -1,11 +1,19 @@
 -- The laws of paths that are too long, of values without a form, and of loads that aren't interrupted.
-use Rattle.std.specs.Prelude.{Err, List, Ok, Option, Some, slice_get, ℕ, ◌<◌, ◌∷◌, ◌≡◌, ◌≢◌, ◌↔◌, ◌⊎◌}
+use Rattle.pagable_pager_spec.specs.{
+  Basics.{Among, ArcRef, Blob, Error, HandleNumber, Identity, LoadNumber, Tree, Types, height, longest_path},
+  Events.reading_at,
+  Order.{MetError, ReadsTooDeep, steps_of},
+  Pager.{IsIdle, IsMachineWhole, MachineState, StandsFor, world_of},
+  Runs.{AreMoments, Fact, HoldsSettled, Moment, TreesAlong, events_of, replies_of, state_after},
+  WorkerClaims.{IsFormlessTask, IsLoadOfPagedOut, IsOfChance, IsTooDeepTask, LoadIsSound, StandTogether},
+  Workers.{ComesBack, IsOpenSlot},
+  World.{IsLawful, OpenLoad, Reading, Seen, Shelf, Slot, Todo, Values, Walking, to_load},
+  declared.calls.{Call.Call, Reply.Reply},
+  declared.events.{Action.Action, Claim.Claim, Event.Event, EventReply.EventReply, LoadAnswer.LoadAnswer},
+  declared.{events.WorkerAnswer.WorkerAnswer, pinning.Beginning.Beginning},
+}
 use Rattle.pagable_value_spec.specs.{Canonical.IsReadableTree, Merkle.StoredTree}
-use Rattle.pagable_pager_spec.specs.declared.events.{EventReply.EventReply, LoadAnswer.LoadAnswer, Action.Action, WorkerAnswer.WorkerAnswer}
-use Rattle.pagable_pager_spec.specs.{Events.reading_at, WorkerClaims.{IsFormlessTask, IsLoadOfPagedOut, IsOfChance, IsTooDeepTask, LoadIsSound, StandTogether}, Order.{MetError, ReadsTooDeep, steps_of}}
-use Rattle.pagable_pager_spec.specs.{Pager.{IsIdle, IsMachineWhole, MachineState, StandsFor, world_of}, Basics.{Among, ArcRef, Blob, Error, HandleNumber, Identity, LoadNumber, Tree, Types, height, longest_path}, Runs.{AreMoments, Fact}}
-use Rattle.pagable_pager_spec.specs.{Runs.{HoldsSettled, Moment, TreesAlong, events_of, replies_of, state_after}, Workers.{ComesBack, IsOpenSlot}, World.{IsLawful, OpenLoad, Reading, Seen}}
-use Rattle.pagable_pager_spec.specs.{World.{Shelf, Slot, Todo, Values, Walking, to_load}, declared.{pinning.Beginning.Beginning, calls.{Call.Call, Reply.Reply}, events.{Claim.Claim, Event.Event}}}
+use Rattle.std.specs.Prelude.{Err, List, Ok, Option, Some, slice_get, ℕ, ◌<◌, ◌↔◌, ◌∷◌, ◌≡◌, ◌≢◌, ◌⊎◌}
 
 -- P holds of each event along the chain, if the chain begins at a machine that satisfies its invariant and on which
 -- nobody works yet.
@@ -46,11 +54,11 @@ IsOfHandles e = ⊥
 
 -- A load of a cell whose key a page-out has set fails only by chance (IsOfChance), or if a handle of the load or of the
 -- caller has changed: never by a blob, a key or a path.
-abbrev pub LoadIsFaultless : {N E B W : Type 0} → Fact N E B W
-LoadIsFaultless s trees (Event.LoadStep l) (EventReply.LoadMoved (Ok reply)) s' trees' =
+abbrev pub LoadOfPagedOutIsFaultless : {N E B W : Type 0} → Fact N E B W
+LoadOfPagedOutIsFaultless s trees (Event.LoadStep l) (EventReply.LoadMoved (Ok reply)) s' trees' =
     (load : OpenLoad) (e : Error) → s.pager.core.loads l.0 ≡ Some load → IsLoadOfPagedOut s load → reply.ended
     ≡ Some (LoadAnswer.Refused e) → IsOfChance e ⊎ IsOfHandles e
-LoadIsFaultless s trees event reply s' trees' = Unit {0}
+LoadOfPagedOutIsFaultless s trees event reply s' trees' = Unit {0}
 
 -- A load of the caller or of a worker fails as too deep only if reading its key reaches a blob that is too deep, or one
 -- that enters a level too many.
@@ -81,15 +89,15 @@ MetDepthAlone {W} steps = ((step : Action W) (e : Error) → Among steps step �
 
 -- A worker whose item or cell leads down too long a path, or to a value without a form, fails with TooDeep, if none of
 -- its steps failed otherwise; whatever chain led there.
-abbrev pub DepthIsTold : {N E B W : Type 0} → Seen N B W → Fact N E B W
-DepthIsTold {N} {E} {B} {W} m s trees (Event.WorkerStep n) (EventReply.WorkerMoved (Ok reply)) s' trees' =
+abbrev pub WorkerReportsDepth : {N E B W : Type 0} → Seen N B W → Fact N E B W
+WorkerReportsDepth {N} {E} {B} {W} m s trees (Event.WorkerStep n) (EventReply.WorkerMoved (Ok reply)) s' trees' =
     (start : MachineState N E) (moments : List (Moment N E B W)) (walking : Walking) (answer : WorkerAnswer)
     → IsMachineWhole m.values start → IsIdle start → AreMoments m start moments
     → state_after start moments ≡ s' → s.work.walkings n.0 ≡ Some walking → reply.answer ≡ Some answer
     → MetDepthAlone (steps_of n.0 (events_of moments) (replies_of moments))
     → IsTooDeepTask trees walking.task ⊎ IsFormlessTask m.values.types trees walking.task → answer
     ≡ WorkerAnswer.Failed Error.TooDeep
-DepthIsTold m s trees event reply s' trees' = Unit {0}
+WorkerReportsDepth m s trees event reply s' trees' = Unit {0}
 
 -- the load with this number begins
 abbrev pub IsBeginOf : {N B W : Type 0} → ℕ → Event N B W → EventReply N B W → Type 0
@@ -108,7 +116,8 @@ pub record HasBegun {N E B W : Type 0} (moments : List (Moment N E B W)) (n k : 
 
 -- A load of a cell whose key a page-out has set fails only by chance (IsOfChance), if each load that makes a step has
 -- begun earlier in the chain and no load is interrupted.
-abbrev pub SoundLaw : {N B W : Type 0} → (E : Type 0) → Seen N B W → Type 0
-SoundLaw {N} {B} {W} E m = (start : MachineState N E) (moments : List (Moment N E B W)) → StandTogether moments
+abbrev pub UninterruptedLoadsAreSound : {N B W : Type 0} → (E : Type 0) → Seen N B W → Type 0
+UninterruptedLoadsAreSound {N} {B} {W} E m = (start : MachineState N E) (moments : List (Moment N E B W))
+    → StandTogether moments
     → ((k : ℕ) (c : Moment N E B W) (l : LoadNumber) → slice_get moments k ≡ Some c → c.event ≡ Event.LoadStep l
     → HasBegun moments l.0 k) → HoldsOf m LoadIsSound start moments

@@ -1,10 +1,26 @@
 -- The laws of forms and of reading, whatever stands for references; of trees, their keys and the store; of the keys of
 -- maps and sets; and of JSON values.
-use Rattle.std.specs.{Float.Ieee.Float, Int.w64, Prelude.{Bool, Err, List, Ok, Option, [], map, true, ℕ, ℤ, ◌++◌, ◌-◌, ◌↔◌, ◌∷◌, ◌≡◌, ◌≤◌}}
-use Rattle.pagable_value_spec.specs.{Blob.{IsBlob, preimage}, Canonical.{EachType, HasOneForm, IsCanonical, IsCanonicalTree, IsCanonicalType, IsClosed, IsReadableTree, Throughout}, CarriedTypes.of_hash_map}
-use Rattle.pagable_value_spec.specs.{Height.{HasPath, Kid, height}, Form.Form, Json.{float, of_json, whole}, Keys.{Entry, code, last_value, same_key}, Meaning.{lifted, plain, rename}, Merkle.HasOwnKeys}
-use Rattle.pagable_value_spec.specs.{Merkle.{IsCanonicalItem, KeyOf, KeyOfItem, SharesNoKey, StoredTree}, Numbers.IsSigned, Reading.{Context, Look, Rest, deepest, read}, Shape.{Shape, json}, ReadSteps.◌>>=◌}
 use Rattle.pagable_pager_spec.specs.Basics.{Blob, Error, Meaning, ReadsTree, Tree, Types}
+use Rattle.pagable_value_spec.specs.{
+  Blob.{IsBlob, preimage},
+  Canonical.{EachType, HasOneForm, IsCanonical, IsCanonicalTree, IsCanonicalType, IsClosed, IsReadableTree, Throughout},
+  CarriedTypes.of_hash_map,
+  Form.Form,
+  Height.{HasPath, Kid, height},
+  Json.{float, of_json, whole},
+  Keys.{Entry, code, last_value, same_key},
+  Meaning.{lifted, plain, rename},
+  Merkle.{HasOwnKeys, IsCanonicalItem, KeyOf, KeyOfItem, SharesNoKey, StoredTree},
+  Numbers.IsSigned,
+  ReadSteps.◌>>=◌,
+  Reading.{Context, Look, Rest, deepest, read},
+  Shape.{Shape, json},
+}
+use Rattle.std.specs.{
+  Float.Ieee.Float,
+  Int.w64,
+  Prelude.{Bool, Err, List, Ok, Option, map, true, ℕ, ℤ, [], ◌++◌, ◌-◌, ◌↔◌, ◌∷◌, ◌≡◌, ◌≤◌},
+}
 
 -- what is left to be read: these bytes, and these references
 abbrev pub rest : {A : Type 0} → List ℕ → List A → Rest A
@@ -21,8 +37,9 @@ pub data LooksUp {A B : Type 0} (look : Look A B) (kind_of : B → ℕ) : List A
       → LooksUp look kind_of (a ∷ r) (b ∷ k)
 
 -- A form of the shape is read back, whatever follows it.
-abbrev pub IsReadAgain : Type 0 → Type 0 → (ℕ → Shape) → Shape → Type 0
-IsReadAgain A B parts s = (levels : ℕ) (look : Look A B) (kind_of : B → ℕ) (m : Meaning B) (b x : List ℕ) (k : List B)
+abbrev pub FormIsReadBack : Type 0 → Type 0 → (ℕ → Shape) → Shape → Type 0
+FormIsReadBack A B parts s = (levels : ℕ) (look : Look A B) (kind_of : B → ℕ) (m : Meaning B)
+    (b x : List ℕ) (k : List B)
     (r y : List A)
     → LooksUp look kind_of r k → Form B kind_of parts (deepest - levels) s m b k
     → read (at levels look parts) s (rest (b ++ x) (r ++ y)) ≡ Ok (m, rest x y)
@@ -44,8 +61,9 @@ with_more r bytes refs = rest (r.bytes ++ bytes) (r.refs ++ refs)
 
 -- What is read from a front of the input is read from the whole, whatever follows. So if reading the whole fails, no
 -- front of it can be read.
-abbrev pub IsLocal : Type 0 → Type 0 → Type 0
-IsLocal A B = (context : Context A B) (s : Shape) (front after : Rest A) (x : List ℕ) (y : List A) (m : Meaning B)
+abbrev pub FrontReadsAlike : Type 0 → Type 0 → Type 0
+FrontReadsAlike A B = (context : Context A B) (s : Shape) (front after : Rest A) (x : List ℕ)
+    (y : List A) (m : Meaning B)
     → read context s front ≡ Ok (m, after) → read context s (with_more front x y) ≡ Ok (m, with_more after x y)
 
 -- the part of the input that was used, before what is left; alone it reads as the same value, and leaves nothing
@@ -56,8 +74,9 @@ pub record Used {A B : Type 0} (context : Context A B) (s : Shape) (input after 
   pub alone : read context s (rest bytes refs) ≡ Ok (m, rest [] [])
 
 -- The part that was used reads alone.
-abbrev pub IsUsed : Type 0 → Type 0 → Type 0
-IsUsed A B = (context : Context A B) (s : Shape) (input after : Rest A) (m : Meaning B) → read context s input
+abbrev pub UsedPartReadsAlone : Type 0 → Type 0 → Type 0
+UsedPartReadsAlone A B = (context : Context A B) (s : Shape) (input after : Rest A) (m : Meaning B)
+    → read context s input
     ≡ Ok (m, after) → Used context s input after m
 
 -- A fault stays the first fault whatever follows, unless the fault is that the bytes or the references end.
@@ -68,16 +87,17 @@ FaultStays A B = (context : Context A B) (s : Shape) (front : Rest A) (x : List 
 
 -- Reading gives the same whatever stands for references: if others stand for them and the look-ups give others, the
 -- same is read, with the others in it.
-abbrev pub IsNatural : Type 0 → Type 0 → Type 0 → Type 0 → Type 0
-IsNatural A B C D = (f : A → C) (g : B → D) (look : Look A B) (other : Look C D) (levels : ℕ) (parts : ℕ → Shape)
+abbrev pub ReadsAlikeForAnyReferences : Type 0 → Type 0 → Type 0 → Type 0 → Type 0
+ReadsAlikeForAnyReferences A B C D = (f : A → C) (g : B → D) (look : Look A B) (other : Look C D) (levels : ℕ)
+    (parts : ℕ → Shape)
     (s : Shape) (input : Rest A)
     → ((kind : ℕ) (a : A) → other kind (f a) ≡ (look kind a >>= λ b. Ok (g b)))
     → read (at levels other parts) s (rest input.bytes (map f input.refs))
     ≡ (read (at levels look parts) s input >>= λ x. Ok (rename g x.0, rest x.1.bytes (map f x.1.refs)))
 
 -- Replacing what stands for references before reading is the same as replacing it in the look-up.
-abbrev pub IsReadOver : Type 0 → Type 0 → Type 0 → Type 0
-IsReadOver A B C = (f : A → C) (look : Look C B) (levels : ℕ) (parts : ℕ → Shape) (s : Shape) (input : Rest A)
+abbrev pub ReplacesBeforeLookUp : Type 0 → Type 0 → Type 0 → Type 0
+ReplacesBeforeLookUp A B C = (f : A → C) (look : Look C B) (levels : ℕ) (parts : ℕ → Shape) (s : Shape) (input : Rest A)
     → read (at levels look parts) s (rest input.bytes (map f input.refs))
     ≡ (read (at levels (λ kind a. look kind (f a)) parts) s input >>= λ x. Ok
     (x.0, rest x.1.bytes (map f x.1.refs)))
@@ -95,8 +115,9 @@ KeepsForms A B = (f : A → B) (kind_of : A → ℕ) (kind_of2 : B → ℕ) (par
     → Form A kind_of parts left s m b k → Form B kind_of2 parts left s (rename f m) b (map f k)
 
 -- What one reader reads, another reads too, if its look-ups find all that the first's found: with g of each reference.
-abbrev pub IsReadThrough : Type 0 → Type 0 → Type 0 → Type 0 → Type 0
-IsReadThrough A B C D = (f : A → C) (g : B → D) (look : Look A B) (other : Look C D) (levels : ℕ) (parts : ℕ → Shape)
+abbrev pub ReadsWhatOtherReads : Type 0 → Type 0 → Type 0 → Type 0 → Type 0
+ReadsWhatOtherReads A B C D = (f : A → C) (g : B → D) (look : Look A B) (other : Look C D) (levels : ℕ)
+    (parts : ℕ → Shape)
     (s : Shape) (input after : Rest A) (m : Meaning B)
     → ((kind : ℕ) (a : A) (b : B) → look kind a ≡ Ok b → other kind (f a) ≡ Ok (g b))
     → read (at levels look parts) s input ≡ Ok (m, after)
@@ -146,16 +167,16 @@ pub record IsOneItemKey : Type 0 where
       → KeyOfItem hash types bytes kids l → k ≡ l
 
 -- Keys are the same exactly if they mean the same; references are no part of a key.
-abbrev pub IsOneKeyMeaning : Type 0 → Type 0
-IsOneKeyMeaning A = (a b : Meaning A) → (same_key a b ≡ true) ↔ (plain a ≡ plain b)
+abbrev pub SameKeysMeanSame : Type 0 → Type 0
+SameKeysMeanSame A = (a b : Meaning A) → (same_key a b ≡ true) ↔ (plain a ≡ plain b)
 
 -- entries whose keys hold no reference
 abbrev pub keyed : {A : Type 0} → List (Meaning ⊥ × Meaning A) → List (Entry A)
 keyed es = map (λ e. (lifted e.0, e.1)) es
 
 -- Lists of entries that give the same value for each key (the last one counts) have the same meaning as hash maps.
-abbrev pub IsAnyOrder : Type 0 → Type 0
-IsAnyOrder A = (es fs : List (Meaning ⊥ × Meaning A)) → ((q : Meaning ⊥) → last_value q es ≡ last_value q fs)
+abbrev pub HashMapHasAnyOrder : Type 0 → Type 0
+HashMapHasAnyOrder A = (es fs : List (Meaning ⊥ × Meaning A)) → ((q : Meaning ⊥) → last_value q es ≡ last_value q fs)
     → of_hash_map (keyed es) ≡ of_hash_map (keyed fs)
 
 -- A float has no form; below: a whole number has a form only if it fits 64 bits with a sign.

@@ -1,18 +1,25 @@
 -- What values in memory hold beside their references: the values of the references' nodes, after any step.
-use Rattle.std.specs.Prelude.{[], List, None, Ok, Some, ℕ, ◌∷◌, ◌≡◌}
+use Rattle.pagable_pager_spec.specs.{
+  Access.ReadRun,
+  Pager.{CallBrings, HoldsItsNodes, HoldsItsValues, HoldsPinned, IsMachineWhole, IsPagerWhole, MachineState, Moves},
+  Pager.PagerState,
+  Refusals.references_fault,
+  Runs.{AreMoments, Moment, state_after},
+  World.{Seen, Values},
+  declared.{calls.Call.Call, events.Event.Event, handle_row.Owner.Owner},
+}
 use Rattle.pagable_theorems.specs.CallerLaws.{Operation, Operations, calls, goes-on, is-done}
-use Rattle.pagable_pager_spec.specs.{Access.ReadRun, Pager.{CallBrings, HoldsItsNodes, HoldsItsValues, HoldsPinned, IsMachineWhole, MachineState, Moves, PagerState, IsPagerWhole}, Refusals.references_fault}
-use Rattle.pagable_pager_spec.specs.{Runs.{AreMoments, Moment, state_after}, World.{Seen, Values}, declared.{calls.Call.Call, events.Event.Event, handle_row.Owner.Owner}}
+use Rattle.std.specs.Prelude.{List, None, Ok, Some, ℕ, [], ◌∷◌, ◌≡◌}
 
 -- The law, for any step: if the step brings only values into memory that hold their nodes' values, and each value in
 -- memory did before, each does afterwards.
-abbrev pub HeldLaw : {N : Type 0} → (E : Type 0) → Values N → Type 0
-HeldLaw {N} E v = (s s' : PagerState N E) → IsPagerWhole v s' → Moves (λ n x. HoldsItsNodes v s x) s s'
+abbrev pub StepsKeepHeldValues : {N : Type 0} → (E : Type 0) → Values N → Type 0
+StepsKeepHeldValues {N} E v = (s s' : PagerState N E) → IsPagerWhole v s' → Moves (λ n x. HoldsItsNodes v s x) s s'
     → HoldsItsValues v s → HoldsItsValues v s'
 
 -- A value that holds what the handles of its references pin holds its nodes' values, if its references have no fault.
-abbrev pub PinnedLaw : {N : Type 0} → (E : Type 0) → Values N → Type 0
-PinnedLaw {N} E v = (s : PagerState N E) (owner : Owner) (x : N) → IsPagerWhole v s
+abbrev pub PinnedValuesAreHeld : {N : Type 0} → (E : Type 0) → Values N → Type 0
+PinnedValuesAreHeld {N} E v = (s : PagerState N E) (owner : Owner) (x : N) → IsPagerWhole v s
     → references_fault s.core owner [] (v.references x) ≡ None → HoldsPinned v s x → HoldsItsNodes v s x
 
 -- a value that the call brings into memory holds its nodes' values, as they were before the call

@@ -1,10 +1,17 @@
 -- The laws of page-out as one operation on a pager, in terms of trees: what a page-out of an item leaves, and what one
 -- of the list leaves.
+use Rattle.pagable_pager_spec.specs.{
+  Access.{AccessState, EntryRun, ItemRun, LeadsToTrees, ListRun, WorkerRun, entry-is-walked, fails, item-is-walked},
+  Access.{no-more, pages, skips, worker-ends, worker-goes-on},
+  Basics.{HandleNumber, Tree},
+  Events.{IsEntry, entry_task, no_shelf},
+  Pager.{IsPagerWhole, PagerStandsFor, PagerState, SameTrees},
+  Rightness.{IsKeyOfTask, LeavesAll},
+  Runs.{HoldsSettled, TodoAsksWell},
+  World.{Core, SameShelf, Seen, Shelf, Task, Todo, Values, Written, of_item},
+  declared.{events.{Action.Action, WorkerAnswer.WorkerAnswer}, handle_row.HandleRow.HandleRow},
+}
 use Rattle.std.specs.Prelude.{List, Result, false, ℕ, ◌≡◌}
-use Rattle.pagable_pager_spec.specs.{Access.{AccessState, EntryRun, ItemRun, LeadsToTrees, ListRun, WorkerRun, entry-is-walked, fails, item-is-walked, no-more, pages, skips, worker-ends, worker-goes-on}}
-use Rattle.pagable_pager_spec.specs.{Events.{IsEntry, entry_task, no_shelf}, declared.handle_row.HandleRow.HandleRow}
-use Rattle.pagable_pager_spec.specs.{Rightness.{IsKeyOfTask, LeavesAll}, Pager.{PagerState, PagerStandsFor, SameTrees, IsPagerWhole}, Basics.{HandleNumber, Tree}, declared.events.{Action.Action, WorkerAnswer.WorkerAnswer}, Runs.{HoldsSettled, TodoAsksWell}}
-use Rattle.pagable_pager_spec.specs.World.{Core, SameShelf, Seen, Shelf, Task, Todo, Values, Written, of_item}
 
 -- no worker is at work on this pager
 abbrev pub NobodyWorks : Core → Type 0

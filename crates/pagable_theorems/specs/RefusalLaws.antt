@@ -1,8 +1,16 @@
 -- Why pins and loads fail, by the errors' numbers; and what an error that concerns the storage says about it.
-use Rattle.std.specs.Prelude.{[], Err, None, Ok, Option, Result, Some, ℕ, ◌≡◌, ◌≢◌, ◌≤◌}
-use Rattle.{pagable_value_spec.specs.{Refusals.number_of, Stored.HasFailed}, pagable_pager_spec.specs.{Calls.PinCall, Events.Step, LoadCalls.BeginCall, Loads.ReadingDoes}}
-use Rattle.pagable_pager_spec.specs.{Basics.{Error, HandleNumber}, World.{Core, IsLawful, Reading, Seen, Values, World}, declared.{calls.Reply.Reply, handle_row.Owner.Owner}}
-use Rattle.pagable_pager_spec.specs.declared.events.{Event.Event, EventReply.EventReply, LoadAnswer.LoadAnswer, Action.Action}
+use Rattle.pagable_pager_spec.specs.{
+  Basics.{Error, HandleNumber},
+  Calls.PinCall,
+  Events.Step,
+  LoadCalls.BeginCall,
+  Loads.ReadingDoes,
+  World.{Core, IsLawful, Reading, Seen, Values, World},
+  declared.{calls.Reply.Reply, events.{Action.Action, Event.Event, EventReply.EventReply, LoadAnswer.LoadAnswer}},
+  declared.handle_row.Owner.Owner,
+}
+use Rattle.pagable_value_spec.specs.{Refusals.number_of, Stored.HasFailed}
+use Rattle.std.specs.Prelude.{Err, None, Ok, Option, Result, Some, ℕ, [], ◌≡◌, ◌≢◌, ◌≤◌}
 
 -- the handle isn't live, is another's or has another mode; or numbers or memory have run out: 18 to 22
 abbrev pub IsOfPin : Error → Type 0
@@ -49,7 +57,7 @@ refusal_of_reply (Reply.Pin r) = refusal_in r
 refusal_of_reply (Reply.Done r) = refusal_in r
 refusal_of_reply (Reply.Count r) = refusal_in r
 refusal_of_reply (Reply.KeyFound r) = refusal_in r
-refusal_of_reply (Reply.Away r) = refusal_in r
+refusal_of_reply (Reply.PagedOut r) = refusal_in r
 refusal_of_reply (Reply.Node r) = refusal_in r
 refusal_of_reply (Reply.NodeType t) = None
 refusal_of_reply (Reply.Length n) = None
@@ -84,8 +92,8 @@ refusal_of (EventReply.WorkerMoved (Ok reply)) = refusal_of_step reply.action
 refusal_of (EventReply.WorkerMoved (Err e)) = Some e
 
 -- so it is for every event, in any state
-abbrev pub StorageIsTold : {N B W : Type 0} → Seen N B W → Type 0
-StorageIsTold {N} {B} {W} m = IsLawful m.values → (u : World) (event : Event N B W) (reply : EventReply N B W)
+abbrev pub StorageErrorsAreTrue : {N B W : Type 0} → Seen N B W → Type 0
+StorageErrorsAreTrue {N} {B} {W} m = IsLawful m.values → (u : World) (event : Event N B W) (reply : EventReply N B W)
     (u' : World) (e : Error)
     → Step m u event reply u' → refusal_of reply ≡ Some e
     → TellsOfStorage u.core u'.core e

@@ -1,10 +1,22 @@
 -- Small states over any storage, which show that the definitions can be satisfied and what they exclude; and the laws
 -- of releasing handles, of new pagers, of what blobs ask for, and of chains.
-use Rattle.std.specs.Prelude.{Bool, List, None, Ok, Option, Some, [], false, filter, length, ℕ, ◌&&◌, ◌++◌, ◌==◌, ◌||◌, ◌∷◌, ◌≡◌}
-use Rattle.pagable_pager_spec.specs.declared.mode.Mode.{Mode}
-use Rattle.pagable_pager_spec.specs.{Calls.{UnpinCall, row_of}, Cascade.IsLeast, Events.no_shelf, Kinds.{is_owned_by, is_pinning, owner_value, pins}, Loads.{asks, is_faulty, next_in, reads}, Pager.IsIdle}
-use Rattle.pagable_pager_spec.specs.{WorkerClaims.{IsFilledByReading, LeavesCache}, Pager.{IsMachineWhole, IsNew, MachineState, PagerState, StandsFor}, Basics.{Among, ArcRef, Blob, Error, HandleNumber, Kind, Meaning, NodeNumber, OptionalDataKey, Tree, Types}}
-use Rattle.pagable_pager_spec.specs.{Basics.{times, updated}, Runs.{AreMoments, HoldsSettled, Moment, state_after}, World.{Core, Frame, IsLawful, Places, Seen, Values, Work}, declared.handle_row.{HandleRow.HandleRow, Owner.Owner}}
+use Rattle.pagable_pager_spec.specs.{
+  Basics.{Among, ArcRef, Blob, Error, HandleNumber, Kind, Meaning, NodeNumber, OptionalDataKey, Tree, Types, times},
+  Basics.updated,
+  Calls.{UnpinCall, row_of},
+  Cascade.IsLeast,
+  Events.no_shelf,
+  Kinds.{is_owned_by, is_pinning, owner_value, pins},
+  Loads.{asks, is_faulty, next_in, reads},
+  Pager.{IsIdle, IsMachineWhole, IsNew, MachineState, PagerState, StandsFor},
+  Runs.{AreMoments, HoldsSettled, Moment, state_after},
+  WorkerClaims.{IsFilledByReading, LeavesCache},
+  World.{Core, Frame, IsLawful, Places, Seen, Values, Work},
+  declared.{handle_row.{HandleRow.HandleRow, Owner.Owner}, mode.Mode.Mode},
+}
+use Rattle.std.specs.{
+  Prelude.{Bool, List, None, Ok, Option, Some, false, filter, length, ℕ, [], ◌&&◌, ◌++◌, ◌==◌, ◌||◌, ◌∷◌, ◌≡◌},
+}
 
 -- the state with nothing but a storage's contents, and this room
 abbrev pub empty : (ℕ → Option Blob) → Places → Core
@@ -81,7 +93,7 @@ abbrev pub OwnsNothing : List HandleRow → Type 0
 OwnsNothing rows = (n : ℕ) → times (is_owned_by (owner_value n)) rows ≡ 0
 
 -- The laws of releasing handles.
-pub record FallLaws : Type 0 where
+pub record ReleaseLaws : Type 0 where
   -- Whatever is released, and whatever entries are added to the list, there is a least set.
   pub least_set_is_there : (rows : List HandleRow) (keyed : ℕ → Bool) (entries : List HandleRow) (given : ℕ → Bool)
       → (s : ℕ → Bool) × IsLeast rows keyed entries given s
@@ -124,7 +136,7 @@ pub record StartsWell {N E : Type 0} (v : Values N) (s : MachineState N E) : Typ
 
 -- A new machine over any storage, on which nobody works, starts well if its values are lawful: it stands for any trees,
 -- having no nodes. And such a machine exists.
-pub record NewIsWhole {N : Type 0} (E : Type 0) (v : Values N) : Type 0 where
+pub record NewMachineIsWhole {N : Type 0} (E : Type 0) (v : Values N) : Type 0 where
   pub new : (stored : ℕ → Option Blob) (places : Places) (env : E)
       → IsNew (let s : MachineState N E = new_machine stored places env in s.pager)
   pub idle : (stored : ℕ → Option Blob) (places : Places) (env : E)
@@ -133,14 +145,14 @@ pub record NewIsWhole {N : Type 0} (E : Type 0) (v : Values N) : Type 0 where
 
 -- The cache of a new pager has no node twice, since it is empty. It stays so along chains in which no event clears it,
 -- puts a caller's reference into it or closes the storage.
-pub record ReadingFills {N B W : Type 0} (E : Type 0) (m : Seen N B W) : Type 0 where
+pub record LoadsAloneFillCache {N B W : Type 0} (E : Type 0) (m : Seen N B W) : Type 0 where
   pub new : (s : PagerState N E) → IsNew s → IsFilledByReading s.core
   pub stays : (s : MachineState N E) (moments : List (Moment N E B W)) → IsMachineWhole m.values s
       → AreMoments m s moments → ((x : Moment N E B W) → Among moments x → LeavesCache x.event)
       → IsFilledByReading s.pager.core → IsFilledByReading (state_after s moments).pager.core
 
 -- A blob either reads to its end, or asks for one reference, or is faulty: no two of these.
-pub record NextIsOne (types : Types) (frame : Frame) : Type 0 where
+pub record ReadStepIsUnique (types : Types) (frame : Frame) : Type 0 where
   pub read_or_asks : (own : Meaning ArcRef) (kind : Kind) (key : ℕ) → next_in types frame ≡ reads own
       → next_in types frame ≡ asks kind key → ⊥
   pub read_or_faulty : (own : Meaning ArcRef) (e : Error) → next_in types frame ≡ reads own → next_in types frame

@@ -1,16 +1,39 @@
 -- What a value leads to by its references; what loads need and have got; the effect of a step on trees. And invariants
 -- of runs: what workers hold of the references that they have claimed; which cells have a key, if the storage is open;
 -- and what tables and workers know of a page-out, in terms of trees.
-use Rattle.std.specs.Prelude.{List, None, Ok, Option, Some, [], drop, false, is_some, length, true, ℕ, ℤ, ◌+◌, ◌<◌, ◌==◌, ◌∷◌, ◌≡◌, ◌≤◌, ◌⊎◌}
-use Rattle.pagable_value_spec.specs.{Canonical.{IsReadableTree, IsReadableType}, Form.Form, Meaning.{followed, integer, none, number, pair, pattern, reference, text, variant}, Merkle.{KeyOf, StoredTree, blob_of}, Reading.deepest}
-use Rattle.pagable_pager_spec.specs.World.{OpenLoad, Reading, Shelf, Slot, Task, Todo, Values, Walking, World, Written, digest, is_here, key_at, of_cell, of_entry, of_item, published, row_at, to_fail}
-use Rattle.pagable_pager_spec.specs.declared.{calls.Reply.Reply, events.{Event.Event, EventReply.EventReply, LoadAnswer.LoadAnswer, PinStep.PinStep, Action.Action}, handle_row.{HandleRow.HandleRow, Owner.Owner}}
-use Rattle.pagable_pager_spec.specs.{Kinds.{any_mode, find_row, fits_mode, has_key, identity_of, is_loose, is_pinning, owner_worker}, LoadCalls.first_key, Loads.{ReadsNode, gone_on, need_of, needs_lazy}}
-use Rattle.pagable_pager_spec.specs.{Loads.{needs_nested, nested_frame, root_frame, with_got}, Pager.{CallBrings, EventBrings, IsNewNode, IsReadingOf, KeyFits, MachineState, PagerState, ReadsNodeTree}}
-use Rattle.pagable_pager_spec.specs.{Pager.{SameTrees, world_of}, Basics.{Among, ArcRef, Blob, HandleNumber, Identity, Kind, LoadNumber, Meaning, NodeNumber, OptionalDataKey, ReadsTree, Tree, Types}}
-use Rattle.pagable_pager_spec.specs.{Basics.{WorkerNumber, above, is_loose_kind, longest_path, times, type_of}, Refusals.{IsReference, Owns}, Workers.{IsPublished, place_below}, World.{Cell, Core, Frame}}
-use Rattle.pagable_pager_spec.specs.{World.{to_finish, to_item, to_load, to_pin, to_publish, to_release, to_set, to_start, to_write, type_at}, declared.{pinning.Pinning.Pinning, calls.Call.Call}}
-use Rattle.{pagable_value_spec.specs.{References.references_in, Shape.Shape, Writing.kind_of_arc}, pagable_pager_spec.specs.{Events.reading_at, Rightness.AreKeysOf}}
+use Rattle.pagable_pager_spec.specs.{
+  Basics.{Among, ArcRef, Blob, HandleNumber, Identity, Kind, LoadNumber, Meaning, NodeNumber, OptionalDataKey},
+  Basics.{ReadsTree, Tree, Types, WorkerNumber, above, is_loose_kind, longest_path, times, type_of},
+  Events.reading_at,
+  Kinds.{any_mode, find_row, fits_mode, has_key, identity_of, is_loose, is_pinning, owner_worker},
+  LoadCalls.first_key,
+  Loads.{ReadsNode, gone_on, need_of, needs_lazy, needs_nested, nested_frame, root_frame, with_got},
+  Pager.{CallBrings, EventBrings, IsNewNode, IsReadingOf, KeyFits, MachineState, PagerState, ReadsNodeTree, SameTrees},
+  Pager.world_of,
+  Refusals.{IsReference, Owns},
+  Rightness.AreKeysOf,
+  Workers.{IsPublished, place_below},
+  World.{Cell, Core, Frame, OpenLoad, Reading, Shelf, Slot, Task, Todo, Values, Walking, World, Written, digest},
+  World.{is_here, key_at, of_cell, of_entry, of_item, published, row_at, to_fail, to_finish, to_item, to_load, to_pin},
+  World.{to_publish, to_release, to_set, to_start, to_write, type_at},
+  declared.calls.{Call.Call, Reply.Reply},
+  declared.events.{Action.Action, Event.Event, EventReply.EventReply, LoadAnswer.LoadAnswer, PinStep.PinStep},
+  declared.{handle_row.{HandleRow.HandleRow, Owner.Owner}, pinning.Pinning.Pinning},
+}
+use Rattle.pagable_value_spec.specs.{
+  Canonical.{IsReadableTree, IsReadableType},
+  Form.Form,
+  Meaning.{followed, integer, none, number, pair, pattern, reference, text, variant},
+  Merkle.{KeyOf, StoredTree, blob_of},
+  Reading.deepest,
+  References.references_in,
+  Shape.Shape,
+  Writing.kind_of_arc,
+}
+use Rattle.std.specs.{
+  Prelude.{List, None, Ok, Option, Some, drop, false, is_some, length, true, ℕ, ℤ, [], ◌+◌, ◌<◌, ◌==◌, ◌∷◌, ◌≡◌, ◌≤◌},
+  Prelude.◌⊎◌,
+}
 
 -- The first meaning leads to the second: each of its references satisfies P and is followed to its node's tree. It may
 -- contain references that are followed already only if F.
@@ -303,7 +326,7 @@ PinHolds (Event.LoadStep l) (EventReply.LoadMoved (Ok reply)) w' =
     (k : HandleNumber) → reply.ended ≡ Some (LoadAnswer.Pinned k) → HasPin w' k
 PinHolds (Event.Call (Call.LoadEnd l x)) (EventReply.CallReply (Reply.LoadEnded (Ok k))) w' = HasPin w' k
 PinHolds (Event.WorkerStep n) (EventReply.WorkerMoved (Ok reply)) w' =
-    (i : Identity) (k : HandleNumber) → reply.action ≡ Action.Pin i (Ok (PinStep.Held k)) → HasPin w' k
+    (i : Identity) (k : HandleNumber) → reply.action ≡ Action.Pin i (Ok (PinStep.Pinned k)) → HasPin w' k
 PinHolds event reply w' = Unit {0}
 
 -- the key that a worker is about to set reads as the tree of its handle's node

@@ -1,16 +1,32 @@
 -- A chain of moments with two levels. A value is a leaf (type 1, no bytes) or a parent (type 0), which is a loose
 -- reference to a leaf. Both are inserted, an item that refers to the parent is paged out, the parent is evicted with
 -- its child and loaded again, and the child's key is read.
-use Rattle.std.specs.Prelude.{Bool, List, None, Ok, Option, Some, [], if◌then◌else◌, length, not, suc, zero, ℕ, ◌&&◌, ◌++◌, ◌+◌, ◌==◌, ◌∷◌, ◌≡◌}
-use Rattle.pagable_pager_spec.specs.declared.{calls.{Call.Call, Reply.Reply}, events.{Claim.Claim, Event.Event, EventReply.EventReply, LoadAnswer.LoadAnswer, PinStep.PinStep, Action.Action}}
-use Rattle.pagable_pager_spec.specs.declared.{events.WorkerAnswer.WorkerAnswer, handle_row.Owner.Owner, mode.Mode.Mode}
-use Rattle.pagable_pager_spec.specs.{Calls.{with_handle, with_key, with_mode, with_node}, Cascade.{fallen, nobody}, Events.{no_shelf, with_worker}, Theorem.Headline, Kinds.{identity_of, owner_value}}
-use Rattle.pagable_pager_spec.specs.{Kinds.{owner_worker, pins}, LoadCalls.{adopted, is_owned_in, with_load, with_pin, without_load}, Loads.{gone_on, root_frame}, Pager.{IsIdle, IsMachineWhole}}
-use Rattle.pagable_pager_spec.specs.{Pager.{MachineState, StandsFor}, Basics.{ArcRef, Blob, HandleNumber, LoadNumber, NodeNumber, OptionalDataKey, Tree, Types, if_there, is_in, updated}, Runs.AreMoments}
-use Rattle.pagable_pager_spec.specs.{Runs.{HoldsSettled, IsPremised, Moment}, Workers.{answer_after, first_todo, fresh, give, is_workers, is_workers_at, open_node, with_changed_slot}}
-use Rattle.pagable_pager_spec.specs.{Workers.{with_outcome, with_slot, with_wait, without_worker}, World.{Core, IsLawful, Reading, Seen, Shelf, Todo, Values, Walking, Work, Written, digest, no_result}}
-use Rattle.pagable_pager_spec.specs.{World.{of_cell, of_item, of_key, published, to_finish, to_item, to_pin, to_publish, to_release, to_set, to_start, to_write}, declared.pinning.Beginning.Beginning}
-use Rattle.{pagable_theorems.specs.SmallWorlds.{empty, no_work, outer}, pagable_value_spec.specs.{Meaning.{none, reference}, Merkle.blob_of}, pagable_pager_spec.specs.Calls.{is_named_by, moved, next_node}}
+use Rattle.pagable_pager_spec.specs.{
+  Basics.{ArcRef, Blob, HandleNumber, LoadNumber, NodeNumber, OptionalDataKey, Tree, Types, if_there, is_in, updated},
+  Calls.{is_named_by, moved, next_node, with_handle, with_key, with_mode, with_node},
+  Cascade.{fallen, nobody},
+  Events.{no_shelf, with_worker},
+  Kinds.{identity_of, owner_value, owner_worker, pins},
+  LoadCalls.{adopted, is_owned_in, with_load, with_pin, without_load},
+  Loads.{gone_on, root_frame},
+  Pager.{IsIdle, IsMachineWhole, MachineState, StandsFor},
+  Runs.{AreMoments, HoldsSettled, IsPremised, Moment},
+  Theorem.Headline,
+  Workers.{answer_after, first_todo, fresh, give, is_workers, is_workers_at, open_node, with_changed_slot},
+  Workers.{with_outcome, with_slot, with_wait, without_worker},
+  World.{Core, IsLawful, Reading, Seen, Shelf, Todo, Values, Walking, Work, Written, digest, no_result, of_cell},
+  World.{of_item, of_key, published, to_finish, to_item, to_pin, to_publish, to_release, to_set, to_start, to_write},
+  declared.calls.{Call.Call, Reply.Reply},
+  declared.events.{Action.Action, Claim.Claim, Event.Event, EventReply.EventReply, LoadAnswer.LoadAnswer},
+  declared.{events.{PinStep.PinStep, WorkerAnswer.WorkerAnswer}, handle_row.Owner.Owner, mode.Mode.Mode},
+  declared.pinning.Beginning.Beginning,
+}
+use Rattle.pagable_theorems.specs.SmallWorlds.{empty, no_work, outer}
+use Rattle.pagable_value_spec.specs.{Meaning.{none, reference}, Merkle.blob_of}
+use Rattle.std.specs.{
+  Prelude.{Bool, List, None, Ok, Option, Some, if◌then◌else◌, length, not, suc, zero, ℕ, [], ◌&&◌, ◌++◌, ◌+◌, ◌==◌},
+  Prelude.{◌∷◌, ◌≡◌},
+}
 use Rattle.pagable_value_spec.specs.Shape as shapes
 
 -- None is a leaf, and Some a parent with its reference
@@ -124,7 +140,7 @@ next_step w s (to_start r place ∷ below) =
 next_step w s (to_pin r place ∷ below) =
     let through = handle (w.last.handle + 1) in let pinned =
     with_handle (with_mode (cloned w r.node) through Mode.LoosePinned) r.node Mode.Pinned (owner_worker 1) in (
-      Action.Pin (identity_of r) (Ok (PinStep.Held (handle (w.last.handle + 1 + 1)))),
+      Action.Pin (identity_of r) (Ok (PinStep.Pinned (handle (w.last.handle + 1 + 1)))),
       pinned,
       s,
       to_write r place through ∷ below,

@@ -3,33 +3,47 @@
 //! nothing.
 #![tactic(auto, using(crate::proofs::Laws::world_laws))]
 
-ghost use Rattle.pagable_pager_spec.specs.{Access.{PinLaw, ReadLaw}, Theorem.HeadlineLaw, WorkerClaims.{KeyIsShallow, OneIdentityLaw}, Basics.Types, World.{Frame, Seen}};
-ghost use Rattle.pagable_theorems.specs.DepthLaws.{ClaimIsDeep, DepthIsHeight, DepthIsTold, HoldsAlong, LoadIsDeep, LoadIsFaultless, SoundLaw};
-ghost use Rattle.pagable_theorems.specs.RefusalLaws.{BeginsRefusedLaw, LoadsRefusedLaw, PinsRefusedLaw, StorageIsTold};
-ghost use Rattle.pagable_theorems.specs.{SmallWorlds.{FallLaws, ChainsJoin, NewIsWhole, NextIsOne, ReadingFills}, HeldLaws.{HeldByCallersLaw, HeldByMomentsLaw, HeldLaw, PinnedLaw, ReadHoldsLaw}, CallerLaws.{CallerLaw, PinnedAgainLaw}, PageOutLaws.{ItemLaw, ListLaw}, Witness.TwoLevelsMeetTheHeadline};
+ghost use Rattle.pagable_pager_spec.specs.{
+  Access.{PinLaw, ReadLaw},
+  Basics.Types,
+  Theorem.HeadlineLaw,
+  WorkerClaims.{KeyIsShallow, OneIdentityLaw},
+  World.{Frame, Seen},
+};
+ghost use Rattle.pagable_theorems.specs.{
+  CallerLaws.{CallerLaw, PinnedAgainLaw},
+  DepthLaws.{ClaimIsDeep, DepthIsHeight, HoldsAlong, LoadIsDeep, LoadOfPagedOutIsFaultless, UninterruptedLoadsAreSound},
+  DepthLaws.WorkerReportsDepth,
+  HeldLaws.{HeldByCallersLaw, HeldByMomentsLaw, PinnedValuesAreHeld, ReadHoldsLaw, StepsKeepHeldValues},
+  PageOutLaws.{ItemLaw, ListLaw},
+  RefusalLaws.{BeginsRefusedLaw, LoadsRefusedLaw, PinsRefusedLaw, StorageErrorsAreTrue},
+  SmallWorlds.{ChainsJoin, LoadsAloneFillCache, NewMachineIsWhole, ReadStepIsUnique, ReleaseLaws},
+  Witness.TwoLevelsMeetTheHeadline,
+};
 
-/// Any values with the views of their blobs B and of what is written W, so that a law holds for all
-/// of them.
+/// Stands for any type of values, with views of its blobs B and of what is written of a value W. A
+/// law that is stated for `SeenAs` holds for every such type.
 pub trait SeenAs<B, W>: Sized {
-    // The values with these views.
+    // The values, and their blobs and writings as contracts see them.
     ghost seen: { Seen Self B W };
 }
 
-/// States what handles take with them when they are released: each field is a law. Also: a blob
-/// either reads to its end, or asks for one reference, or is faulty.
-pub fn falling()
-    ensures all { FallLaws }
-    ensures next_is_one { (types : Types) (frame : Frame) → NextIsOne types frame }
+/// States the laws of releasing handles, that is, which other handles the cascade releases with
+/// them: each field of `ReleaseLaws` is a law. Also: a blob either reads to its end, or asks for one
+/// reference, or is faulty.
+pub fn release_laws()
+    ensures all { ReleaseLaws }
+    ensures read_step_is_unique { (types : Types) (frame : Frame) → ReadStepIsUnique types frame }
 {}
 
-/// States two laws of chains and of new machines.
+/// States two laws, of chains of events and of new machines.
 ///
 /// - A chain can be continued by another.
-/// - A new machine on which nobody works has, if its values are lawful, all that the headline asks
-///   of its start: it satisfies the invariant, stands for any trees, and has no value in memory.
-pub fn chains<N: SeenAs<B, W>, B, W, E>()
+/// - A new machine on which nobody works satisfies, if its values are lawful, the premises of the
+///   headline: it satisfies the invariant, stands for any trees, and has no value in memory.
+pub fn chain_laws<N: SeenAs<B, W>, B, W, E>()
     ensures chains_join { ChainsJoin E N.seen }
-    ensures new_is_whole { NewIsWhole E N.seen.values }
+    ensures new_machine_is_whole { NewMachineIsWhole E N.seen.values }
 {}
 
 /// States that a chain of two levels satisfies the headline and all that it asks: two inserts, a
@@ -38,26 +52,27 @@ pub fn two_levels_meet_the_headline()
     ensures { TwoLevelsMeetTheHeadline }
 {}
 
-/// States the headline, for every chain from a machine that satisfies its invariant and on which
-/// nobody works yet.
+/// States the headline, the main theorem, of every chain of events that begins at a machine that
+/// satisfies its invariant and on which nobody works yet: each pin gives the tree that its handle
+/// was made with, and each page-out stores what it met and returns its key (`Headline`).
 pub fn headline<N: SeenAs<B, W>, B, W, E>()
     ensures { HeadlineLaw E N.seen }
 {}
 
 /// States the laws of paths that are too long and of values without a form.
 ///
-/// - No worker returns a key if a path that is too long, or a value without a form, is below its
-///   task.
+/// - No worker returns a key if a path that is too long, or a value without a form (one that can't
+///   be encoded), is below its task.
 /// - Such a worker fails with TooDeep, if none of its steps fails otherwise.
 /// - A claim fails as too deep only if the worker's task leads down a path that is too long, or if
 ///   another worker has the identity and waits for this one.
 /// - A load fails as too deep only if reading its key reaches a blob that is too deep, or one that
 ///   enters a level too many.
-/// - For a key under which a tree is stored that is so exactly if the tree's longest path is too
-///   long.
-pub fn depth<N: SeenAs<B, W>, B, W, E>()
+/// - For a key under which a tree is stored, reading the key reaches such a blob exactly if the
+///   tree's longest path is too long.
+pub fn depth_laws<N: SeenAs<B, W>, B, W, E>()
     ensures keys_are_shallow { HoldsAlong E N.seen (KeyIsShallow N.seen.values) }
-    ensures depth_is_told { HoldsAlong E N.seen (DepthIsTold N.seen) }
+    ensures workers_report_depth { HoldsAlong E N.seen (WorkerReportsDepth N.seen) }
     ensures deep_claims_have_a_cause { HoldsAlong E N.seen ClaimIsDeep }
     ensures deep_loads_have_a_cause { HoldsAlong E N.seen (LoadIsDeep N.seen.values) }
     ensures depth_is_height { DepthIsHeight }
@@ -78,11 +93,11 @@ pub fn depth<N: SeenAs<B, W>, B, W, E>()
 /// - The value that a load of a cell pins stands for the tree of the cell's node.
 /// - The value that a load of a key returns stands for the tree that the key reads as, and the
 ///   caller owns its references.
-pub fn loads<N: SeenAs<B, W>, B, W, E>()
-    ensures loads_are_faultless { HoldsAlong E N.seen LoadIsFaultless }
-    ensures loads_are_sound { SoundLaw E N.seen }
+pub fn load_laws<N: SeenAs<B, W>, B, W, E>()
+    ensures loads_of_paged_out_are_faultless { HoldsAlong E N.seen LoadOfPagedOutIsFaultless }
+    ensures loads_are_sound { UninterruptedLoadsAreSound E N.seen }
     ensures one_identity { OneIdentityLaw E N.seen }
-    ensures reading_fills { ReadingFills E N.seen }
+    ensures loads_alone_fill_cache { LoadsAloneFillCache E N.seen }
     ensures pins_stand { PinLaw E N.seen.values }
     ensures readings_stand { ReadLaw E N.seen.values }
 {}
@@ -92,14 +107,14 @@ pub fn loads<N: SeenAs<B, W>, B, W, E>()
 /// - A pin, or the begin of a load, fails only with 18 to 22: the handle isn't live, is another's
 ///   or has another mode, or numbers or memory have run out.
 /// - A load, the caller's or a worker's, fails only with 1 to 13, 15 to 23 or 26.
-/// - Whatever fails (a call, a step of a load or of a worker): it is with 23 only if the storage's
-///   count of failures rose meanwhile or was at its greatest, and with 16 only if the storage had
-///   no blob under the key.
-pub fn refusals<N: SeenAs<B, W>, B, W>()
+/// - A call, or a step of a load or a worker, fails with 23 only if the storage's count of failures
+///   rose meanwhile or was at its greatest, and with 16 only if the storage had no blob under the
+///   key.
+pub fn refusal_laws<N: SeenAs<B, W>, B, W>()
     ensures pins { PinsRefusedLaw }
     ensures begins { BeginsRefusedLaw }
     ensures loads { LoadsRefusedLaw N.seen.values }
-    ensures storage { StorageIsTold N.seen }
+    ensures storage_errors_are_true { StorageErrorsAreTrue N.seen }
 {}
 
 /// States the laws of what values hold beside the references that are loaded with them.
@@ -108,14 +123,14 @@ pub fn refusals<N: SeenAs<B, W>, B, W>()
 ///   before and holds for each value that the step brings into memory.
 /// - A value that holds what the handles of its references pin, as a decoded one does, holds the
 ///   values of their nodes, if its references have no fault.
-/// - So it is after any calls, pins, reads and page-outs, if it holds for each value that a call of
-///   the caller brings; values that loads bring satisfy it.
-/// - So it is along any chain of a machine's events, however the steps are interleaved.
+/// - After any calls, pins, reads and page-outs each value in memory still holds them, if each
+///   value that a call of the caller brings does. Values that loads bring do.
+/// - The same holds along any chain of a machine's events, however the steps are interleaved.
 /// - The value that a read of a key returns holds what the handles of its references pin. The
 ///   caller owns these handles.
-pub fn held_values<N: SeenAs<B, W>, B, W, E>()
-    ensures stays { HeldLaw E N.seen.values }
-    ensures decoded { PinnedLaw E N.seen.values }
+pub fn held_value_laws<N: SeenAs<B, W>, B, W, E>()
+    ensures steps_keep_held_values { StepsKeepHeldValues E N.seen.values }
+    ensures pinned_values_are_held { PinnedValuesAreHeld E N.seen.values }
     ensures along_calls { HeldByCallersLaw E N.seen }
     ensures along_events { HeldByMomentsLaw E N.seen }
     ensures read { ReadHoldsLaw E N.seen.values }
@@ -127,9 +142,9 @@ pub fn held_values<N: SeenAs<B, W>, B, W, E>()
 /// - An item that is paged out on a new table leaves all that it met stored under published keys,
 ///   with the keys of its cells set, and the call returns the item's key.
 /// - So does each list entry that a page-out of the list pages out, even if a later one fails.
-pub fn page_outs<N: SeenAs<B, W>, B, W, E>()
-    ensures items_are_out { ItemLaw E N.seen }
-    ensures entries_are_out { ListLaw E N.seen }
+pub fn page_out_laws<N: SeenAs<B, W>, B, W, E>()
+    ensures items_are_paged_out { ItemLaw E N.seen }
+    ensures entries_are_paged_out { ListLaw E N.seen }
 {}
 
 /// States the laws of a caller who makes calls of a pager, and pins, reads and page-outs by one
@@ -140,7 +155,7 @@ pub fn page_outs<N: SeenAs<B, W>, B, W, E>()
 ///   of its own. The law asks that each item is paged out on a new table.
 /// - So a value that is pinned again by the same handle, after any of these, stands for the same
 ///   tree.
-pub fn callers<N: SeenAs<B, W>, B, W, E>()
+pub fn caller_laws<N: SeenAs<B, W>, B, W, E>()
     ensures trees_stay { CallerLaw E N.seen }
     ensures pinned_again { PinnedAgainLaw E N.seen }
 {}

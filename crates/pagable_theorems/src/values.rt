@@ -1,11 +1,15 @@
 //! The laws of the definitions of values: each law is a clause of a function that does nothing.
 #![tactic(auto, using(crate::proofs::Laws::value_laws))]
 
-ghost use Rattle.{std.specs.Prelude.ℕ, pagable_value_spec.specs.{Canonical.{IsReadable, Throughout}, Shape.Shape}};
-ghost use Rattle.pagable_theorems.specs.FormLaws.{IsReadAgain, IsPrefixFree, CanonicalHasOneForm, IsLocal, IsUsed, FaultStays, IsNatural, IsReadOver, RenamesLookUps, IsReadThrough, KeepsForms};
-ghost use Rattle.pagable_theorems.specs.FormLaws.{IsOneKeyMeaning, IsAnyOrder, FloatHasNoForm, WholeIsBounded, TreeLaws, IsOneItemKey};
+ghost use Rattle.pagable_theorems.specs.{
+  FormLaws.{CanonicalHasOneForm, FaultStays, FloatHasNoForm, FormIsReadBack, FrontReadsAlike, HashMapHasAnyOrder},
+  FormLaws.{IsOneItemKey, IsPrefixFree, KeepsForms, ReadsAlikeForAnyReferences, ReadsWhatOtherReads, RenamesLookUps},
+  FormLaws.{ReplacesBeforeLookUp, SameKeysMeanSame, TreeLaws, UsedPartReadsAlone, WholeIsBounded},
+};
+ghost use Rattle.pagable_value_spec.specs.{Canonical.{IsReadable, Throughout}, Shape.Shape};
+ghost use Rattle.std.specs.Prelude.{ℕ};
 
-/// States the laws of forms and of the keys of maps.
+/// States the laws of forms (the encodings of meanings) and of the keys of maps.
 ///
 /// - A form of a shape that is readable throughout is read back, whatever follows it.
 /// - No form of one meaning is a prefix of another's.
@@ -16,13 +20,14 @@ ghost use Rattle.pagable_theorems.specs.FormLaws.{IsOneKeyMeaning, IsAnyOrder, F
 /// - The entries of a hash map have the same meaning in any order.
 /// - A JSON float has no form, whatever its value.
 /// - A whole JSON number that has a form fits 64 bits with a sign.
-pub fn forms<A, B>()
-    ensures is_read_again { (parts : ℕ → Shape) (s : Shape) → Throughout IsReadable parts s → IsReadAgain A B parts s }
+pub fn form_laws<A, B>()
+    ensures form_is_read_back { (parts : ℕ → Shape) (s : Shape) → Throughout IsReadable parts s
+        → FormIsReadBack A B parts s }
     ensures is_prefix_free { (parts : ℕ → Shape) (s : Shape) → Throughout IsReadable parts s → IsPrefixFree A parts s }
     ensures canonical_has_one_form { CanonicalHasOneForm A }
     ensures keeps_forms { KeepsForms A B }
-    ensures is_one_key_meaning { IsOneKeyMeaning A }
-    ensures is_any_order { IsAnyOrder A }
+    ensures same_keys_mean_same { SameKeysMeanSame A }
+    ensures hash_map_has_any_order { HashMapHasAnyOrder A }
     ensures float_has_no_form { FloatHasNoForm A }
     ensures whole_is_bounded { WholeIsBounded A }
 {}
@@ -37,19 +42,19 @@ pub fn forms<A, B>()
 ///   look-up.
 /// - Renaming the results of look-ups is the same as renaming what was read.
 /// - What one reader reads, another reads too, if its look-ups find all that the first's found.
-pub fn reading<A, B, C, D>()
-    ensures is_local { IsLocal A B }
-    ensures is_used { IsUsed A B }
+pub fn reading_laws<A, B, C, D>()
+    ensures front_reads_alike { FrontReadsAlike A B }
+    ensures used_part_reads_alone { UsedPartReadsAlone A B }
     ensures fault_stays { FaultStays A B }
-    ensures is_natural { IsNatural A B C D }
-    ensures is_read_over { IsReadOver A B C }
+    ensures reads_alike_for_any_references { ReadsAlikeForAnyReferences A B C D }
+    ensures replaces_before_look_up { ReplacesBeforeLookUp A B C }
     ensures renames_look_ups { RenamesLookUps A B D }
-    ensures is_read_through { IsReadThrough A B C D }
+    ensures reads_what_other_reads { ReadsWhatOtherReads A B C D }
 {}
 
-/// States the laws of trees, their keys and the store: each field is a law. Also: a canonical item
-/// has at most one key.
-pub fn trees()
+/// States the laws of trees, their keys and the store: each field of `TreeLaws` is a law. Also: a
+/// canonical item has at most one key.
+pub fn tree_laws()
     ensures all { TreeLaws }
     ensures is_one_item_key { IsOneItemKey }
 {}

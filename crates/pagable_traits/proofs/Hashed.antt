@@ -1,14 +1,26 @@
 -- Lists that hold the same items in another order.
 -- Entries that are put in order of their keys: those with different keys may come in any order.
 -- Maps in no order: what putting in, writing and reading their entries gives, in whatever order they stand.
-use Rattle.pagable_value_spec.specs.{CarriedTypes.of_hash_map, Form.hash-map-form, Hashed.{MeansHashMap, PutsAnywhere}}
-use Rattle.{pagable_value_spec.specs.{Keys.{code, code_order}, Meaning.plain, Shape.hash_map}, pagable_traits.proofs.{Items.{Wraps, sequence-same}, Maps.{Alike, EntriesMean, EntryMeans}}}
-use Rattle.pagable_traits.proofs.Maps.{IsSameOf, alike-more, alike-none, differ, entries-mean, entries-of-pairs, entries-written, entry-more, forms-of-entries, pairs-of-entries, reads-entries}
-use Rattle.pagable_traits.proofs.{Maps.same-entries, Words.{AllAfter, Apart, ArcRef, Bool, Collected, Context, Differ, Entries, Entry, Error, FormAt, FormsAt, GivesSome, IsDistinct, IsPermutation}}
-use Rattle.pagable_traits.proofs.Words.{IsTotalOrder, List, Meaning, MeansPair, Nesting, None, Option, Ordering, PutInTurn, Rest, Result, Shape, Some, [], ap, arith, both, counted, entry, false}
-use Rattle.pagable_traits.proofs.Words.{get_or, insert_entry, is_eq, is_some, keys_of, kind_of_arc, length, length-map, length_form, longest, lookup, map, match_ordering, more-entries, of_entries}
-use Rattle.pagable_traits.proofs.Words.{ordered, ordering_reverse, put_all, put_sorted, read, read_with, refl, same_key, set_value, subst, suc, sym, true, zero, ℕ, ◌++◌, ◌<◌, ◌∙◌, ◌∷◌, ◌≡◌, ◌≤◌}
-use Rattle.std.{proofs.{Common.{MatchOption, set, swap}, lemmas.{List.{Edits.swap_is, Sorted.IsPermutation-keeps}, Map.Text.is_eq-slice_cmp}}, specs.Cmp.{Lexicographic.on_texts, alike_right}}
+use Rattle.pagable_traits.proofs.{
+  Items.{Wraps, sequence-same},
+  Maps.{Alike, EntriesMean, EntryMeans, IsSameOf, alike-more, alike-none, differ, entries-mean, entries-of-pairs, entries-written, entry-more},
+  Maps.{forms-of-entries, pairs-of-entries, reads-entries, same-entries},
+  Words.{AllAfter, Apart, ArcRef, Bool, Collected, Context, Differ, Entries, Entry, Error, FormAt, FormsAt, GivesSome, IsDistinct, IsPermutation, IsTotalOrder},
+  Words.{List, Meaning, MeansPair, Nesting, None, Option, Ordering, PutInTurn, Rest, Result, Shape, Some, ap, arith, both, counted, entry, false, get_or},
+  Words.{insert_entry, is_eq, is_some, keys_of, kind_of_arc, length, length-map, length_form, longest, lookup, map, match_ordering, more-entries, of_entries},
+  Words.{ordered, ordering_reverse, put_all, put_sorted, read, read_with, refl, same_key, set_value, subst, suc, sym, true, zero, ℕ, [], ◌++◌, ◌<◌, ◌∙◌, ◌∷◌},
+  Words.{◌≡◌, ◌≤◌},
+}
+use Rattle.pagable_value_spec.specs.{
+  CarriedTypes.of_hash_map,
+  Form.hash-map-form,
+  Hashed.{MeansHashMap, PutsAnywhere},
+  Keys.{code, code_order},
+  Meaning.plain,
+  Shape.hash_map,
+}
+use Rattle.std.proofs.{Common.{MatchOption, set, swap}, lemmas.{List.{Edits.swap_is, Sorted.IsPermutation-keeps}, Map.Text.is_eq-slice_cmp}}
+use Rattle.std.specs.Cmp.{Lexicographic.on_texts, alike_right}
 
 -- one order is reached from the other by turning neighbours
 pub data Reordered {X : Type 0} : List X → List X → Type 0 where

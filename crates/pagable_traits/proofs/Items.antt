@@ -1,15 +1,30 @@
 -- Items one after another, as the loops write and read them, and without their count.
 -- Items that are put in one after another as they are read.
 -- Items that a walk yields: what writing each, after their count, makes of the whole that holds them.
-use Rattle.{pagable_codec.proofs.Writing.out_is, pagable_value_spec.specs.{Form.{Form, array-form, run-form}, Shape.{array, run}}, pagable_traits.proofs.Parts.{err_along, ok_along, only-count, only-part}}
-use Rattle.pagable_traits.proofs.Words.{ArcRef, Bor, Collected, Context, Err, Error, FormAt, Forms, FormsAt, Gave, Gets, GivesSome, IfErr, List, MeanAll, Meaning, Meanings, MeansList, MeansPair}
-use Rattle.pagable_traits.proofs.Words.{Nesting, NoForm, NoFormOfSome, NoForms, NoFormsOfSome, Ok, Option, Out, PutInTurn, Refused, RefusedAll, RefusedAmong, RefusedCounted, Rest, Result, Shape, Some}
-use Rattle.pagable_traits.proofs.Words.{SomeMeaning, WritesEach, WritesSome, WritesSomeAll, [], added, ap, append-nil, append_assoc, arith, counted, get_or, grows_trans, inl, items}
-use Rattle.pagable_traits.proofs.Words.{items_have_meanings, kind_of_arc, length, length_form, list, list-form, long_or, longest, map, mean-more, mean-none, memory_or, memory_refuses, more-forms}
-use Rattle.pagable_traits.proofs.Words.{moves_trans, no-forms, put_all, read, read_with, refl, sequence, some, subst, suc, sym, take, then, zero, ℕ, ◌++◌, ◌+◌, ◌-◌, ◌<◌, ◌>>=◌, ◌∙◌, ◌∷◌, ◌≡◌, ◌≤◌}
-use Rattle.{pagable_traits.proofs.Words.◌⊎◌, std.proofs.{Common.drop, Math.Seq.split_at, lemmas.Iterator.{Consumers.YieldsList-from_rest, YieldsList, YieldsList-from_slice, items_from_drains}}}
-use Rattle.std.{proofs.lemmas.List.take_more, specs.{Iterator.{AlwaysYields, Yields}, Map.Iter.{TakesFirst, deref, deref_pair}, Prelude.{vec_len, ◌≢◌}, Result.{IsOk, MatchResult}}}
-use Rattle.std.specs.{Slice.Iter.{iter_rest, iter_steps}, declared.vec.Vec.Vec}
+use Rattle.pagable_codec.proofs.Writing.{out_is}
+use Rattle.pagable_traits.proofs.{
+  Parts.{err_along, ok_along, only-count, only-part},
+  Words.{ArcRef, Bor, Collected, Context, Err, Error, FormAt, Forms, FormsAt, Gave, Gets, GivesSome, IfErr, List, MeanAll, Meaning, Meanings, MeansList},
+  Words.{MeansPair, Nesting, NoForm, NoFormOfSome, NoForms, NoFormsOfSome, Ok, Option, Out, PutInTurn, Refused, RefusedAll, RefusedAmong, RefusedCounted, Rest},
+  Words.{Result, Shape, Some, SomeMeaning, WritesEach, WritesSome, WritesSomeAll, added, ap, append-nil, append_assoc, arith, counted, get_or, grows_trans},
+  Words.{inl, items, items_have_meanings, kind_of_arc, length, length_form, list, list-form, long_or, longest, map, mean-more, mean-none, memory_or},
+  Words.{memory_refuses, more-forms, moves_trans, no-forms, put_all, read, read_with, refl, sequence, some, subst, suc, sym, take, then, zero, ℕ, [], ◌++◌},
+  Words.{◌+◌, ◌-◌, ◌<◌, ◌>>=◌, ◌∙◌, ◌∷◌, ◌≡◌, ◌≤◌, ◌⊎◌},
+}
+use Rattle.pagable_value_spec.specs.{Form.{Form, array-form, run-form}, Shape.{array, run}}
+use Rattle.std.proofs.{
+  Common.drop,
+  Math.Seq.split_at,
+  lemmas.{Iterator.{Consumers.YieldsList-from_rest, YieldsList, YieldsList-from_slice, items_from_drains}, List.take_more},
+}
+use Rattle.std.specs.{
+  Iterator.{AlwaysYields, Yields},
+  Map.Iter.{TakesFirst, deref, deref_pair},
+  Prelude.{vec_len, ◌≢◌},
+  Result.{IsOk, MatchResult},
+  Slice.Iter.{iter_rest, iter_steps},
+  declared.vec.Vec.Vec,
+}
 
 -- ---- what items mean
 

@@ -1,22 +1,43 @@
 -- What writing a JSON value adds: its case, and a form of its part; and which values have no form.
 -- What reading a JSON value gives: its case, and then its part.
-use Rattle.{pagable_codec.specs.declared.{env.Env.Ghosts as Environments, serializer.PagableSerializer.Ghosts as Serializers}, pagable_value_spec.specs.Form.{json-array-form, json-flag-form}}
-use Rattle.pagable_value_spec.specs.{Form.{json-null-form, json-number-form, json-object-form, json-text-form}, Keyed.text_is_ordered, Composite.{list_single, pair_single}, Numbers.{IsSigned, unsigned_form}}
-use Rattle.{pagable_value_spec.specs.{Numbers.varint, Reading.{JsonCase, below, json_case}}, pagable_traits.proofs.Items.{Wraps, gives-seen, refuses-items, refuses-long, wraps_list, writes-counted}}
-use Rattle.pagable_traits.proofs.{JsonSteps.{below as one_down, deeper, wrote-err}, Maps.{IsOrderOf, Written, key_like, reads-entries, sorted-map-put, viewed, wraps_sorted_map}, Parts.refuses_whole}
-use Rattle.pagable_traits.proofs.{Parts.writes_whole, Words.{Answer, ArcRef, Bool, Entry, Err, Error, FormAt, Gave, GivesSome, Global, Grows, IfErr, Is}}
-use Rattle.pagable_traits.proofs.Words.{IsStrictlySortedBy, List, MeanAll, Meaning, MeansList, MeansPair, Nesting, NoForm, None, Ok, OnOk, Option, Out, Piece, Refused, Rest, Result, Shape, Some}
-use Rattle.pagable_traits.proofs.Words.{SomeMeaning, String, Value, Vec, WritesSome, Wrote, [], added, all, ap, arith, array_case, as_i64, bool_form, both, bytes, bytes_of, deepest, entry, false}
-use Rattle.pagable_traits.proofs.Words.{flag, flag-form, grows_trans, handles_at, inl, inr, integer, items, items_have_meanings, json, json_causes, keys_of, length, length_at, length_form}
-use Rattle.pagable_traits.proofs.Words.{list, list-form, long_or, long_or_memory, longest, map, memory, memory_refuses, moves_trans, none, number_view, object_case, of_data, of_entries, of_key}
-use Rattle.pagable_traits.proofs.Words.{of_value, ordered, ordering_reverse, pair, pair_has_meaning, pos, put_all, put_sorted, read, read_with, refl, rules, seen, sequence, signed}
-use Rattle.pagable_traits.proofs.Words.{signed-form, sorted-map-form, sorted_map, string_bytes, string_cmp, subst, suc, sym, text, text-form, text_order, then, to_z-of_z, true, unsigned_at, variant}
-use Rattle.pagable_traits.{proofs.Words.{view, w64, ℕ, ℤ, ◌+◌, ◌-◌, ◌<◌, ◌^◌, ◌∙◌, ◌∷◌, ◌≡◌, ◌≤◌}, specs.{JsonData.long_or_no_memory, Clauses.{ObjectOf, front, part_of}}}
-use Rattle.{pagable_value_spec.specs.{Refusals.is_writing_fault, Writing.{NoFormOfSome, WritesSomeAll}}, pagable_traits.{proofs.Words.{get_or, take, ◌++◌}, specs.JsonFaults.{EntryFault, Fault, ItemFault, MemberFault, item-fault, json_of_value, member-fault}}}
-use Rattle.std.{proofs.{Common.drop, Math.Seq.split_at}, specs.Prelude.IsTrue}
-use Rattle.serde_json.{proofs.Views.{view-Array, view-Object}, specs.{Data.{Data, Num, array, boolean, null, number, object, string}, Find.of_integer, View.{items_view, members_view}}}
-use Rattle.{serde_json.specs.declared.{number.Number.Number, value.Value.the_lemmas}, std.{proofs.{Common.BTreeMap, lemmas.Bool.{lt-ltb, ne_eqb}}, specs.Prelude.{nat_lt, negsuc}}}
-use Rattle.{pagable_traits.proofs.Words.{IsErrAnd, Read, bool_at, text_at}, std.specs.String.{string_cmp_total}}
+use Rattle.pagable_codec.specs.declared.{env.Env.Ghosts as Environments, serializer.PagableSerializer.Ghosts as Serializers}
+use Rattle.pagable_traits.proofs.{
+  Items.{Wraps, gives-seen, refuses-items, refuses-long, wraps_list, writes-counted},
+  JsonSteps.{below as one_down, deeper, wrote-err},
+  Maps.{IsOrderOf, Written, key_like, reads-entries, sorted-map-put, viewed, wraps_sorted_map},
+  Parts.{refuses_whole, writes_whole},
+  Words.{Answer, ArcRef, Bool, Entry, Err, Error, FormAt, Gave, GivesSome, Global, Grows, IfErr, Is, IsErrAnd, IsOutOfMemory, IsStrictlySortedBy, List},
+  Words.{MeanAll, Meaning, MeansList, MeansPair, Nesting, NoForm, None, Ok, OnOk, Option, Out, Piece, Read, Refused, Rest, Result, Shape, Some, SomeMeaning},
+  Words.{String, Value, Vec, WritesSome, Wrote, added, ap, arith, array_case, as_i64, bool_at, bool_form, both, bytes, bytes_of, deepest, entry, false, flag},
+  Words.{flag-form, get_or, grows_trans, handles_at, inl, inr, integer, item_forms, items, items_have_meanings, json, json_causes, keys_of, length, length_at},
+  Words.{length_form, list, list-form, long_or, long_or_memory, longest, map, memory_refuses, moves_trans, none, number_view, object_case, of_data, of_entries},
+  Words.{of_key, of_value, ordered, ordering_reverse, pair, pair_has_meaning, pos, put_all, put_sorted, read, read_with, refl, rules, seen, sequence, signed},
+  Words.{signed-form, sorted-map-form, sorted_map, string_bytes, string_cmp, subst, suc, sym, take, text, text-form, text_at, text_order, then, to_z-of_z},
+  Words.{true, unsigned_at, variant, view, w64, ℕ, ℤ, [], ◌++◌, ◌+◌, ◌-◌, ◌<◌, ◌^◌, ◌∙◌, ◌∷◌, ◌≡◌, ◌≤◌},
+}
+use Rattle.pagable_traits.specs.{
+  Clauses.{ObjectOf, case_and_length, value_after_case},
+  JsonData.long_or_no_memory,
+  JsonFaults.{EntryFault, Fault, ItemFault, MemberFault, item-fault, json_of_value, member-fault},
+}
+use Rattle.pagable_value_spec.specs.{
+  Composite.{list_single, pair_single},
+  Form.{json-array-form, json-flag-form, json-null-form, json-number-form, json-object-form, json-text-form},
+  Keyed.text_is_ordered,
+  Numbers.{IsSigned, unsigned_form, varint},
+  Reading.{JsonCase, below, json_case},
+  Refusals.is_writing_fault,
+  Writing.{NoFormOfSome, WritesSomeAll},
+}
+use Rattle.serde_json.proofs.Views.{view-Array, view-Object}
+use Rattle.serde_json.specs.{
+  Data.{Data, Num, array, boolean, null, number, object, string},
+  Find.of_integer,
+  View.{items_view, members_view},
+  declared.{number.Number.Number, value.Value.the_lemmas},
+}
+use Rattle.std.proofs.{Common.{BTreeMap, drop}, Math.Seq.split_at, lemmas.Bool.{lt-ltb, ne_eqb}}
+use Rattle.std.specs.{Prelude.{IsTrue, nat_lt, negsuc}, String.string_cmp_total}
 use Rattle.serde_json.specs.Data as kit
 use Rattle.serde_json.specs.declared.value.Value as values
 use Rattle.pagable_value_spec.specs.Meaning as meanings
@@ -81,10 +102,10 @@ refuses-number n x e h = λ fault. record { m = of_data (number x); is = refl; n
 
 -- ---- causes
 
-pub json-memory : (e : Error) → memory e → json_causes e
+pub json-memory : (e : Error) → IsOutOfMemory e → json_causes e
 json-memory e h = inr (inr (inr h))
 
-pub json-text : (e : Error) → long_or memory e → json_causes e
+pub json-text : (e : Error) → long_or IsOutOfMemory e → json_causes e
 json-text e h = grind arith
 
 pub json-long : (len : ℕ) (e : Error) → long_or_no_memory len e → json_causes e
@@ -95,16 +116,16 @@ json-deep e h = inr (inl h)
 
 -- ---- faults
 
--- want of memory is none
-pub no_fault : {F : Type 0} (e : Error) → memory e → IsTrue (is_writing_fault e) → F
+-- OutOfMemory is none
+pub no_fault : {F : Type 0} (e : Error) → IsOutOfMemory e → IsTrue (is_writing_fault e) → F
 no_fault e h = λ fault. let none : is_writing_fault e ≡ false = rw h refl in absurd cc
 
-pub no_json_fault : {X : Type 0} (r : Result X Error) (v : Value) (d : Data) (n : Nesting) → IfErr r memory → IfErr r ((json_of_value v d).lacks n)
+pub no_json_fault : {X : Type 0} (r : Result X Error) (v : Value) (d : Data) (n : Nesting) → IfErr r IsOutOfMemory → IfErr r ((json_of_value v d).lacks n)
 no_json_fault (Ok x) v d n h = tt
 no_json_fault (Err e) v d n h = (memory_refuses e _ n json h, no_fault e h)
 
 pub text_faults : (F : Error → Type 0) (t : String Global) (n : Nesting) (e : Error) → (NoFormOfSome (Is of_key t) n text → F Error.TooLong)
-    → Refused (Is of_key t) n text e → long_or memory e → IsTrue (is_writing_fault e) → F e
+    → Refused (Is of_key t) n text e → long_or IsOutOfMemory e → IsTrue (is_writing_fault e) → F e
 text_faults F t n e is l (inl h) = λ fault. subst F (sym h) (is (l fault))
 text_faults F t n e is l (inr h) = no_fault e h
 
@@ -130,7 +151,7 @@ member_faults all left rest k x n old mid e v f fault =
     let same : all ≡ v.front ++ (k, x) ∷ rest = v.is ∙ ap (λ (ys : List (String Global × Value)). v.front ++ ys) f in
     subst P (sym same) (member-fault n v.front k x rest e (old, mid, v.wrote) fault)
 
--- a count is refused as its length is, or by want of memory
+-- a count is refused as its length is, or by OutOfMemory
 pub counts : (len : ℕ) (e : Error) → long_or_memory len e → long_or_no_memory len e
 counts len e h = grind arith
 
@@ -192,7 +213,8 @@ members-so-far es left = record { wrote = λ n. Written (MeansPair (Is of_key) (
 
 -- what a case, a count and a part one level further down make of this data
 pub record HoldsBelow (case count : ℕ) (P : Piece) (d : Data) : Type 0 where
-  pub joins : (n : Nesting) (old mid new : Out) → (front case count).wrote n old mid → (one_down P).wrote n mid new → WritesSome (Is of_data d) n json old new
+  pub joins : (n : Nesting) (old mid new : Out) → (case_and_length case count).wrote n old mid → (one_down P).wrote n mid new
+      → WritesSome (Is of_data d) n json old new
   pub lacks : (n : Nesting) (e : Error) → (one_down P).lacks n e → Refused (Is of_data d) n json e
   pub long : (n : Nesting) (e : Error) → long_or_no_memory count e → Refused (Is of_data d) n json e
   pub deep : (n : Nesting) (e : Error) → deepest ≤ n.levels → Refused (Is of_data d) n json e
@@ -203,7 +225,7 @@ module _ {X : Type 0} (M : X → Meaning ArcRef → Type 0) (has : (x : X) → S
       → ((n : Nesting) → n.levels < deepest → (m : Meaning ArcRef) (b : List ℕ) (k : List ArcRef) → FormAt (deeper n) whole m b k
       → FormAt n json (variant case m) (case ∷ b) k)
       → ((n : Nesting) (m : Meaning ArcRef) → NoForm (deeper n) whole m → NoForm n json (variant case m))
-      → ((n : Nesting) (m : Meaning ArcRef) → deepest ≤ n.levels → NoForm n json (variant case m)) → HoldsBelow case count (all (MeanAll M ys) item) d
+      → ((n : Nesting) (m : Meaning ArcRef) → deepest ≤ n.levels → NoForm n json (variant case m)) → HoldsBelow case count (item_forms (MeanAll M ys) item) d
   holds-below small counted wraps up lack deep = record {
     joins = λ n old mid new f w.
         let first = added old (case ∷ []) [] in
@@ -217,13 +239,13 @@ module _ {X : Type 0} (M : X → Meaning ArcRef → Type 0) (has : (x : X) → S
         record { m = variant case (sequence each.0); is = is _ (record { ms = each.0; each = each.1; is = refl }); no_form = deep n _ le };
   }
 
-pub arrays : (vs : List Value) (count : ℕ) → count ≡ length vs → HoldsBelow 4 count (all (MeanAll (Is of_value) vs) json) (array (items_view vs))
+pub arrays : (vs : List Value) (count : ℕ) → count ≡ length vs → HoldsBelow 4 count (item_forms (MeanAll (Is of_value) vs) json) (array (items_view vs))
 arrays vs count counted = holds-below (Is of_value) value-has vs 4 count (list json) json (array (items_view vs)) (items-are vs) refl counted
     (λ n. wraps_list (Is of_value) vs n json)
     (λ n lt m b k f. array-up n lt f) no-array (λ n m le b k f. grind arith)
 
 pub objects : (es : List (String Global × Value)) (count : ℕ) → count ≡ length es → IsStrictlySortedBy string_cmp (keys_of es)
-    → HoldsBelow 5 count (all (MeanAll (MeansPair (Is of_key) (Is of_value)) es) (both text json)) (object (members_view es))
+    → HoldsBelow 5 count (item_forms (MeanAll (MeansPair (Is of_key) (Is of_value)) es) (both text json)) (object (members_view es))
 objects es count counted sorted =
     holds-below (MeansPair (Is of_key) (Is of_value)) member-has es 5 count (sorted_map text_order text json) (both text json) (object (members_view es))
     (members-are es) refl counted
@@ -258,9 +280,9 @@ refuses-string t n e l = refuses_whole n n (λ m. variant 3 m) text json (Is of_
 -- ---- steps of the code
 
 module _ {S E N H K V : Type 0} (env : Environments E N H K V) (s : Serializers S E N H K V) where
-  -- a case is refused for want of memory
+  -- a case is refused with OutOfMemory
   pub case-err : {X Y : Type 0} {x y : S} {front : List ℕ} {e : Error} (v : Value) (d : Data) (r : Result Y Error) → IsErrAnd r (λ f. f ≡ e)
-      → Wrote env s (bytes front) memory x y (let p : Result X Error = Err e in p)
+      → Wrote env s (bytes front) IsOutOfMemory x y (let p : Result X Error = Err e in p)
       → Wrote env s (json_of_value v d) json_causes x y r
   case-err v d r is p = wrote-err env s r is p (λ n l h. (memory_refuses _ _ n json h, no_fault _ h)) (λ h. json-memory _ h)
 
@@ -270,7 +292,7 @@ module _ {S E N H K V : Type 0} (env : Environments E N H K V) (s : Serializers 
   as-value {x = x} {y = y} v w d r is e h = let P : Value → Data → Type 0 =
       λ u z. Wrote env s (json_of_value u z) json_causes x y r in subst (λ u. P u (view v)) (sym is) (subst (λ z. P w z) (sym e) h)
 
-  pub null-value : {Y : Type 0} {x y : S} (v : Value) (r : Result Y Error) → v ≡ values.Null → Wrote env s (bytes (unsigned_form w64 0)) memory x y r
+  pub null-value : {Y : Type 0} {x y : S} (v : Value) (r : Result Y Error) → v ≡ values.Null → Wrote env s (bytes (unsigned_form w64 0)) IsOutOfMemory x y r
       → Wrote env s (json_of_value v (view v)) json_causes x y r
   null-value v (Ok u) is p =
       record {
@@ -281,7 +303,7 @@ module _ {S E N H K V : Type 0} (env : Environments E N H K V) (s : Serializers 
         };
         refused = tt;
         only = tt;
-        err = p.err;
+        grows = p.grows;
         same_env = p.same_env;
         same_levels = p.same_levels;
       }
@@ -290,14 +312,15 @@ module _ {S E N H K V : Type 0} (env : Environments E N H K V) (s : Serializers 
         ok = tt;
         refused = (memory_refuses e _ _ json p.only, no_fault e p.only);
         only = json-memory e p.only;
-        err = p.err;
+        grows = p.grows;
         same_env = p.same_env;
         same_levels = p.same_levels;
       }
 
-  pub count-wrote : {X Y : Type 0} {x y z : S} {u : X} (case count : ℕ) (r : Result Y Error) → Wrote env s (bytes (unsigned_form w64 case)) memory x y (Ok u)
+  pub count-wrote : {X Y : Type 0} {x y z : S} {u : X} (case count : ℕ) (r : Result Y Error)
+      → Wrote env s (bytes (unsigned_form w64 case)) IsOutOfMemory x y (Ok u)
       → OnOk r (s.out z ≡ added (s.out y) (length_form count) []) → OnOk r (count ≤ longest) → IfErr r (long_or_memory count) → Grows (s.out y) (s.out z)
-      → s.environment z ≡ s.environment y → s.levels z ≡ s.levels y → Wrote env s (front case count) (long_or_no_memory count) x z r
+      → s.environment z ≡ s.environment y → s.levels z ≡ s.levels y → Wrote env s (case_and_length case count) (long_or_no_memory count) x z r
   count-wrote case count r p ok within only err same_env same_levels = grind (arith, grows_trans, counts)
 
 pub no-case : (n : ℕ) → 5 < n → json_case n ≡ Err Error.JsonCase
@@ -345,40 +368,41 @@ module _ (levels : ℕ) (parts : ℕ → Shape) (rest mid : Rest Answer) (n : �
   unfolding read read_with
   text-part three = rw (told, three) (bytes-viewed text_at meanings.text (λ m. variant 3 m) mid)
 
-  pub other-part : (case : JsonCase) → json_case n ≡ Ok case → read (handles_at levels parts) json rest ≡ part_of case (handles_at levels parts) mid
+  pub other-part : (case : JsonCase) → json_case n ≡ Ok case → read (handles_at levels parts) json rest ≡ value_after_case case (handles_at levels parts) mid
   unfolding read read_with
   other-part case is = rw (told, is) refl
 
 module _ (levels : ℕ) (parts : ℕ → Shape) (rest : Rest Answer) where
   module _ (count : ℕ) (mid : Rest Answer) (counted : bytes_of length_at (λ n. n) rest ≡ Ok (count, mid)) where
-    pub array-deep : deepest ≤ levels → part_of array_case (handles_at levels parts) rest ≡ Err Error.TooDeep
+    pub array-deep : deepest ≤ levels → value_after_case array_case (handles_at levels parts) rest ≡ Err Error.TooDeep
     unfolding below
     array-deep le = let left : deepest - levels ≡ 0 = omega arith in rw (left, counted) refl
 
-    pub object-deep : deepest ≤ levels → part_of object_case (handles_at levels parts) rest ≡ Err Error.TooDeep
+    pub object-deep : deepest ≤ levels → value_after_case object_case (handles_at levels parts) rest ≡ Err Error.TooDeep
     unfolding below
     object-deep le = let left : deepest - levels ≡ 0 = omega arith in rw (left, counted) refl
 
-    pub array-seen : levels < deepest → part_of array_case (handles_at levels parts) rest
+    pub array-seen : levels < deepest → value_after_case array_case (handles_at levels parts) rest
         ≡ seen (λ ms. variant 4 (sequence ms)) (items (read (handles_at (levels + 1) parts) json) count) mid
     unfolding read below
     array-seen lt = let left : deepest - levels ≡ suc (deepest - (levels + 1)) = omega arith in rw (left, counted) refl
 
     -- an object is a map one level further down
-    object-seen : levels < deepest → part_of object_case (handles_at levels parts) rest
+    object-seen : levels < deepest → value_after_case object_case (handles_at levels parts) rest
         ≡ viewed (λ m. variant 5 m) (read (handles_at (levels + 1) parts) (sorted_map text_order text json) rest)
     unfolding read read_with below
     object-seen lt = let left : deepest - levels ≡ suc (deepest - (levels + 1)) = omega arith in rw (left, counted) (grind arith)
 
     pub object-gives : (r : Result Value Error) (after : Rest Answer) → levels < deepest
-        → GivesSome memory ObjectOf after r (items (read (handles_at (levels + 1) parts) (both text json)) count mid)
-        → GivesSome memory (Is of_value) after r (part_of object_case (handles_at levels parts) rest)
+        → GivesSome IsOutOfMemory ObjectOf after r (items (read (handles_at (levels + 1) parts) (both text json)) count mid)
+        → GivesSome IsOutOfMemory (Is of_value) after r (value_after_case object_case (handles_at levels parts) rest)
     unfolding read read_with
     object-gives r after lt g =
-        let P : Result (Meaning ArcRef × Rest Answer) Error → Type 0 = λ o. GivesSome memory (Is of_value) after r o in
-        let map = reads-entries memory ObjectOf (λ v m. Is of_value v (variant 5 m)) (λ es. of_entries (put_all (put_sorted text_order) [] es)) means r
+        let P : Result (Meaning ArcRef × Rest Answer) Error → Type 0 = λ o. GivesSome IsOutOfMemory (Is of_value) after r o in
+        let map = reads-entries IsOutOfMemory ObjectOf (λ v m. Is of_value v (variant 5 m)) (λ es. of_entries (put_all (put_sorted text_order) [] es)) means r
         (handles_at (levels + 1) parts) text json rest after (rw counted g) in
-        subst P (sym (object-seen lt)) (gives-seen memory (λ v m. Is of_value v (variant 5 m)) (Is of_value) (λ m. variant 5 m) after r _ (λ v m is. is) map)
+        subst P (sym (object-seen lt)) (gives-seen IsOutOfMemory (λ v m. Is of_value v (variant 5 m)) (Is of_value) (λ m. variant 5 m) after r _
+        (λ v m is. is) map)
       where
         means : (v : Value) (es : List (Entry ArcRef)) → ObjectOf v (map entry es)
             → Is of_value v (variant 5 (of_entries (put_all (put_sorted text_order) [] es)))

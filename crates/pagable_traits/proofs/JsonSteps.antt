@@ -1,11 +1,17 @@
 -- One step after another: what each of two functions that write or read owes, both owe.
-use Rattle.pagable_codec.specs.declared.{deserializer.PagableDeserializer.Ghosts as Deserializers, env.Env.Ghosts as Environments, serializer.PagableSerializer.Ghosts as Serializers}
-use Rattle.pagable_traits.proofs.{Items.{Shows, Wraps, each-written, ends, goes_on, is_done, refused_counted, starts, with_front, writes-counted}, Maps.viewed, Parts.{err_along, no-failure}}
-use Rattle.pagable_traits.proofs.{Parts.{no-success, ok_along, refused_second, refuses_first, refuses_whole, writes_pair, writes_whole}, Words.{Answer, ArcRef, Context, Err, Error, FormAt, Gets}}
-use Rattle.pagable_traits.proofs.Words.{GivesSome, IsErrAnd, List, Meaning, Meanings, MeansPair, MeansResult, MovesOn, Nesting, NoForm, Ok, Option, Out, Piece, Reads, Rest, Result, Shape, SomeMeaning}
-use Rattle.pagable_traits.proofs.Words.{Wrote, [], added, arith, bool_form, both, bytes, context_in, deepest, err-form, err_from_is_err_and, failure, false, grows_refl, grows_trans, inl, inr, items}
-use Rattle.pagable_traits.proofs.Words.{length, length_form, means-err, means-ok, memory, memory_or, moves_trans, nested_in, nesting, ok-form, outcome, read, refl, some, subst, success, true, ℕ, ◌++◌}
-use Rattle.pagable_traits.{proofs.Words.{◌+◌, ◌-◌, ◌<◌, ◌∙◌, ◌∷◌, ◌≡◌, ◌≤◌, ◌⊎◌}, specs.{Clauses.value, Walks.counted as walked}}
+use Rattle.pagable_codec.specs.{
+  declared.{deserializer.PagableDeserializer.Ghosts as Deserializers, env.Env.Ghosts as Environments, serializer.PagableSerializer.Ghosts as Serializers},
+}
+use Rattle.pagable_traits.proofs.{
+  Items.{Shows, Wraps, each-written, ends, goes_on, is_done, refused_counted, starts, with_front, writes-counted},
+  Maps.viewed,
+  Parts.{err_along, no-failure, no-success, ok_along, refused_second, refuses_first, refuses_whole, writes_pair, writes_whole},
+  Words.{Answer, ArcRef, Context, Err, Error, FormAt, Gets, GivesSome, IsErrAnd, IsOutOfMemory, List, Meaning, Meanings, MeansPair, MeansResult, MovesOn},
+  Words.{Nesting, NoForm, Ok, Option, Out, Piece, Reads, Rest, Result, Shape, SomeMeaning, Wrote, added, arith, bool_form, both, bytes, context_in, deepest},
+  Words.{err-form, err_from_is_err_and, failure, false, grows_refl, grows_trans, inl, inr, items, length, length_form, means-err, means-ok, memory_or},
+  Words.{moves_trans, nested_in, nesting, ok-form, outcome, read, refl, some, subst, success, true, ℕ, [], ◌++◌, ◌+◌, ◌-◌, ◌<◌, ◌∙◌, ◌∷◌, ◌≡◌, ◌≤◌, ◌⊎◌},
+}
+use Rattle.pagable_traits.specs.{Clauses.value, Walks.counted_forms}
 
 -- one level further down, where a level is left
 abbrev pub deeper : Nesting → Nesting
@@ -31,7 +37,7 @@ module _ {S E N H K V : Type 0} (env : Environments E N H K V) (s : Serializers 
   -- where nothing was refused
   pub wrote-nothing : {P : Piece} {causes : Error → Type 0} {a : S} → P.wrote (nested_in env s a) (s.out a) (s.out a)
       → Wrote env s P causes a a (let r : Result (Unit {0}) Error = Ok tt in r)
-  wrote-nothing h = record { ok = h; refused = tt; only = tt; err = grows_refl _; same_env = refl; same_levels = refl }
+  wrote-nothing h = record { ok = h; refused = tt; only = tt; grows = grows_refl _; same_env = refl; same_levels = refl }
 
   pub wrote-more : {X Y Z : Type 0} {P Q W : Piece} {first second causes : Error → Type 0} {a b c : S} {x : X} {y : Y} {z : Z} → Wrote env s P first a b (Ok x)
       → Wrote env s Q second b c (Ok y) → ((n : Nesting) (old mid new : Out) → P.wrote n old mid → Q.wrote n mid new → W.wrote n old new)
@@ -40,14 +46,14 @@ module _ {S E N H K V : Type 0} (env : Environments E N H K V) (s : Serializers 
     ok = joins _ _ _ _ p.ok (rw (p.same_levels, p.same_env) at q.ok);
     refused = tt;
     only = tt;
-    err = grows_trans _ _ _ p.err q.err;
+    grows = grows_trans _ _ _ p.grows q.grows;
     same_env = q.same_env ∙ p.same_env;
     same_levels = q.same_levels ∙ p.same_levels;
   }
 
   pub wrote-is : {X Z : Type 0} {P W : Piece} {first causes : Error → Type 0} {a b : S} {x : X} {z : Z} → Wrote env s P first a b (Ok x)
       → ((n : Nesting) (old new : Out) → P.wrote n old new → W.wrote n old new) → Wrote env s W causes a b (Ok z)
-  wrote-is p same = record { ok = same _ _ _ p.ok; refused = tt; only = tt; err = p.err; same_env = p.same_env; same_levels = p.same_levels }
+  wrote-is p same = record { ok = same _ _ _ p.ok; refused = tt; only = tt; grows = p.grows; same_env = p.same_env; same_levels = p.same_levels }
 
   -- another piece that is written, and refused, where this one is
   pub wrote-as : {Y : Type 0} {P Q : Piece} {causes : Error → Type 0} {a b : S} (r : Result Y Error) → Wrote env s P causes a b r
@@ -57,7 +63,7 @@ module _ {S E N H K V : Type 0} (env : Environments E N H K V) (s : Serializers 
     ok = ok_along r p.ok (same _ _ _);
     refused = err_along r p.refused (lacks _);
     only = p.only;
-    err = p.err;
+    grows = p.grows;
     same_env = p.same_env;
     same_levels = p.same_levels;
   }
@@ -66,7 +72,7 @@ module _ {S E N H K V : Type 0} (env : Environments E N H K V) (s : Serializers 
   pub wrote-counted : {W T X Y : Type 0} {next : W → Option T → W → Type 0} {M : T → Meaning ArcRef → Type 0} {walk : W} {N : X → Meaning ArcRef → Type 0}
       {ys : List X}
       {Whole : Meaning ArcRef → Type 0} {whole item : Shape} {causes : Error → Type 0} {a b : S} (r : Result Y Error) (count : ℕ)
-      → ((y : X) → SomeMeaning (N y)) → count ≡ length ys → Wrote env s (walked next M walk count item) causes a b r → Shows next M walk N ys
+      → ((y : X) → SomeMeaning (N y)) → count ≡ length ys → Wrote env s (counted_forms next M walk count item) causes a b r → Shows next M walk N ys
       → ((n : Nesting) → Wraps N ys Whole n whole item) → Wrote env s (value Whole whole) causes a b r
   wrote-counted {item = item} r count has all told shows wraps =
       wrote-as r told (λ n old new w. writes-counted (wraps n) old (added old (length_form count) []) new count all refl w.within
@@ -84,7 +90,7 @@ module _ {S E N H K V : Type 0} (env : Environments E N H K V) (s : Serializers 
       → Wrote env s P first a b (let p : Result X Error = Err e in p) → ((n : Nesting) → P.lacks n e → first e → W.lacks n e)
       → (first e → causes e) → Wrote env s W causes a b r
   wrote-err r is p lacks only = let q = err_from_is_err_and r is in rw (q.1, q.2)
-      (record { ok = tt; refused = lacks _ p.refused p.only; only = only p.only; err = p.err; same_env = p.same_env; same_levels = p.same_levels })
+      (record { ok = tt; refused = lacks _ p.refused p.only; only = only p.only; grows = p.grows; same_env = p.same_env; same_levels = p.same_levels })
 
   -- bytes, and then a value of which the whole is made
   pub whole-wrote : {X Y : Type 0} {p q causes : Error → Type 0} {a b c : S} {u : X} (r : Result Y Error) (whole : Meaning ArcRef → Meaning ArcRef)
@@ -186,15 +192,17 @@ module _ {D E R N H K V : Type 0} (env : Environments E N H K V) (d : Deserializ
         same_levels = q.same_levels ∙ same_levels;
       }
 
-  -- want of memory, wherever the deserializer stands
-  pub read-no-memory : {Z W : Type 0} {a b : D} (r : Result Z Error) {L : Z → W → Type 0} {whole : Context Answer ArcRef → Gets Answer W} → IsErrAnd r memory
-      → MovesOn (d.input_state a) (d.input_state b) → d.environment b ≡ d.environment a → d.levels b ≡ d.levels a → Reads env d memory L whole a b r
+  -- OutOfMemory, wherever the deserializer stands
+  pub read-no-memory : {Z W : Type 0} {a b : D} (r : Result Z Error) {L : Z → W → Type 0} {whole : Context Answer ArcRef → Gets Answer W}
+      → IsErrAnd r IsOutOfMemory
+      → MovesOn (d.input_state a) (d.input_state b) → d.environment b ≡ d.environment a → d.levels b ≡ d.levels a → Reads env d IsOutOfMemory L whole a b r
   read-no-memory r is moves same_env same_levels = let q = err_from_is_err_and r is in
       rw q.1 (record { gives = inr q.2; moves = moves; same_env = same_env; same_levels = same_levels })
 
   -- the same beside the causes of the items
   pub read-no-room : {Z W : Type 0} {own : Error → Type 0} {a b : D} {e : Error} (r : Result Z Error) {L : Z → W → Type 0}
-      {whole : Context Answer ArcRef → Gets Answer W} → IsErrAnd r (λ f. f ≡ e) → memory e → MovesOn (d.input_state a) (d.input_state b) → d.environment b
+      {whole : Context Answer ArcRef → Gets Answer W} → IsErrAnd r (λ f. f ≡ e) → IsOutOfMemory e
+      → MovesOn (d.input_state a) (d.input_state b) → d.environment b
       ≡ d.environment a → d.levels b ≡ d.levels a
       → Reads env d (memory_or own) L whole a b r
   read-no-room r is lack moves same_env same_levels = let q = err_from_is_err_and r is in
@@ -273,8 +281,8 @@ module _ {D E R N H K V : Type 0} (env : Environments E N H K V) (d : Deserializ
         → Reads env d causes L whole a b (let r : Result Z Error = Ok z in r)
     all-read z view le so means same = grind (arith, is_done)
 
--- causes of items and want of memory, where want of memory is the items' own cause
-pub either-memory : (e : Error) → memory_or memory e → memory e
+-- causes of items and OutOfMemory, where OutOfMemory is the items' own cause
+pub either-memory : (e : Error) → memory_or IsOutOfMemory e → IsOutOfMemory e
 either-memory e (inl h) = h
 either-memory e (inr h) = h
 

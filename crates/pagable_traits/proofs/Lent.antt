@@ -1,14 +1,27 @@
 -- What was read holds what was lent: a value by itself, one that is made of others, and items that are put in one after another.
-use Rattle.pagable_value_spec.specs.{Cursor.{HoldsLentValues, IsLent, MovesOn, InputState}, declared.{error.Error.Error, numbers.ArcRef.ArcRef}}
-use Rattle.pagable_traits.{proofs.{Items.puts-last, Words.{Bool, Err, IsPermutation, List, None, Ok, Option, Ordering, PutInTurn, Result, Some, [], ap, false, insert_entry, lookup, match_ordering, refl, set_value, subst, sym, true, ℕ, ◌++◌, ◌∙◌, ◌∷◌, ◌≡◌}}, specs.{HeldValues.{Beside, CollectsHeld, holding_beside, lists_beside, options_beside, pairs_beside, results_beside}, References.holding, declared.arc.HoldingArc.HoldingArc}}
-use Rattle.pagable_value_spec.specs.Hashed.{PutsAnywhere}
+use Rattle.pagable_traits.proofs.{
+  Items.puts-last,
+  Words.{Bool, Err, IsPermutation, List, None, Ok, Option, Ordering, PutInTurn, Result, Some, ap, false, insert_entry, lookup, match_ordering, refl, set_value},
+  Words.{subst, sym, true, ℕ, [], ◌++◌, ◌∙◌, ◌∷◌, ◌≡◌},
+}
+use Rattle.pagable_traits.specs.{
+  HeldValues.{Beside, CollectsHeld, holding_beside, lists_beside, options_beside, pairs_beside, results_beside},
+  References.holding_reference,
+  declared.arc.HoldingArc.HoldingArc,
+}
+use Rattle.pagable_value_spec.specs.{
+  Cursor.{HoldsLentValues, InputState, IsLent, MovesOn},
+  Hashed.PutsAnywhere,
+  declared.{error.Error.Error, numbers.ArcRef.ArcRef},
+}
+use Rattle.std.proofs.lemmas.List.{Elements.{All-cons, All-head, All-nil, All-push, All-tail, All-weaker}, Sorted.All-permutation}
+use Rattle.std.specs.{Arc.arc_value, List.All, Prelude.{IfOk, MatchOption, cond, if◌then◌else◌, option_and_then}}
 use Rattle.indexmap.specs.IndexMap as placed_maps
-use Rattle.std.{proofs.lemmas.List.{Elements.{All-cons, All-head, All-nil, All-push, All-tail, All-weaker}, Sorted.All-permutation}, specs.{Arc.arc_value, List.All, Prelude.{IfOk, MatchOption, cond, if◌then◌else◌, option_and_then}}}
 
 -- a reference that took what was lent by it holds that
 pub taken_holds : {N T : Type 0} {sort : ℕ} (t : ℕ) (pins : Bool) (held : N → Option T) {s : InputState N} (lends : Option N) (a : HoldingArc T sort)
     (r : ArcRef)
-    → holding t pins a ≡ r → ((y : N) → lends ≡ Some y → IsLent s r y)
+    → holding_reference t pins a ≡ r → ((y : N) → lends ≡ Some y → IsLent s r y)
     → option_and_then held lends ≡ Some (arc_value a.value) → HoldsLentValues s (holding_beside t pins held) a
 taken_holds t pins held None a r same lent value = absurd cc
 taken_holds t pins held {s} (Some z) a r same lent value = record {

@@ -1,7 +1,18 @@
 -- The references of values that hold others, one after the other; and that a value that was made of a reference means what the reference means.
-use Rattle.pagable_value_spec.specs.{Meaning.{Meaning, lifted, pair, reference, sequence}, References.references_in, Shape.Shape, Cursor.{Gave, Is}, Writing.{Nesting, Out}}
-use Rattle.{pagable_value_spec.specs.{Writing.WritesSome, declared.{error.Error.Error, numbers.ArcRef.ArcRef}}, pagable_traits.specs.Refers.{ListsInOrder, lifted_refers_to_nothing}, std.proofs.Common.{Err, List, Ok, Result}}
-use Rattle.std.{proofs.{Common.{ap, append_assoc, length, slice_index_or, sym, ℕ, ◌++◌, ◌+◌, ◌<◌, ◌∙◌, ◌∷◌, ◌≡◌, ◌≤◌}, lemmas.List.{append-nil, drop_all, drop_more}}, specs.Prelude.{Bool, OnOk, drop, false, map, true}}
+use Rattle.pagable_traits.specs.Refers.{ListsInOrder, lifted_refers_to_nothing}
+use Rattle.pagable_value_spec.specs.{
+  Cursor.{Gave, Is},
+  Meaning.{Meaning, lifted, pair, reference, sequence},
+  References.references_in,
+  Shape.Shape,
+  Writing.{Nesting, Out, WritesSome},
+  declared.{error.Error.Error, numbers.ArcRef.ArcRef},
+}
+use Rattle.std.proofs.{
+  Common.{Err, List, Ok, Result, ap, append_assoc, length, slice_index_or, sym, ℕ, ◌++◌, ◌+◌, ◌<◌, ◌∙◌, ◌∷◌, ◌≡◌, ◌≤◌},
+  lemmas.List.{append-nil, drop_all, drop_more},
+}
+use Rattle.std.specs.Prelude.{Bool, OnOk, drop, false, map, true}
 use Rattle.pagable_value_spec.specs.Meaning as meanings
 
 pub pair_listed : (m n : Meaning ArcRef) (old mid new : List ArcRef) → mid ≡ old ++ references_in m → new ≡ mid ++ references_in n → new ≡ old

@@ -1,12 +1,20 @@
 -- Entries of maps, sorted or in order of arrival: what they mean as pairs, and what putting in, writing and reading them gives.
 -- Sets: what putting in, writing and reading their items gives.
-use Rattle.pagable_value_spec.specs.{Form.{no-entries, placed-map-form, placed-set-form, sorted-set-form}, Keys.{put_placed, put_placed_item, put_sorted_item}, Reading.two, Shape.{placed_map, placed_set}}
-use Rattle.{pagable_value_spec.specs.Shape.sorted_set, pagable_traits.proofs.Items.{Wraps, gives-seen, put-in-turn, refuses-among, split-same, wraps-sequence, writes-next, writes_no_items}}
-use Rattle.pagable_traits.proofs.Words.{AllAfter, AllByRecursion, Apart, ArcRef, Bool, Collected, Context, Differ, Entries, Entry, Error, FormAt, Forms, FormsAt, Gets, GivesSome, IsDistinct}
-use Rattle.pagable_traits.proofs.Words.{IsStrictlySortedBy, KeyOrder, List, MeanAll, Meaning, MeansList, MeansPair, Nesting, Ok, Ordering, Out, Refused, RefusedAll, Rest, Result, Shape, SomeMeaning}
-use Rattle.pagable_traits.proofs.Words.{WritesSome, WritesSomeAll, [], ap, append-nil, append_assoc, arith, both, both-form, counted, deepest, entry, false, insert_entry, items, keys_of, kind_of_arc}
-use Rattle.pagable_traits.proofs.Words.{length, length-map, longest, map, mean-more, mean-none, more-entries, more-forms, no-forms, of_entries, ordered, ordering_reverse, pair, put_all, put_sorted}
-use Rattle.pagable_traits.proofs.Words.{read, read_with, refl, same_key, seen, sequence, sorted-map-form, sorted_map, subst, suc, sym, zero, ℕ, ◌++◌, ◌-◌, ◌<◌, ◌>>=◌, ◌∙◌, ◌∷◌, ◌≡◌, ◌≤◌}
+use Rattle.pagable_traits.proofs.{
+  Items.{Wraps, gives-seen, put-in-turn, refuses-among, split-same, wraps-sequence, writes-next, writes_no_items},
+  Words.{AllAfter, AllByRecursion, Apart, ArcRef, Bool, Collected, Context, Differ, Entries, Entry, Error, FormAt, Forms, FormsAt, Gets, GivesSome, IsDistinct},
+  Words.{IsStrictlySortedBy, KeyOrder, List, MeanAll, Meaning, MeansList, MeansPair, Nesting, Ok, Ordering, Out, Refused, RefusedAll, Rest, Result, Shape},
+  Words.{SomeMeaning, WritesSome, WritesSomeAll, ap, append-nil, append_assoc, arith, both, both-form, counted, deepest, entry, false, insert_entry, items},
+  Words.{keys_of, kind_of_arc, length, length-map, longest, map, mean-more, mean-none, more-entries, more-forms, no-forms, of_entries, ordered},
+  Words.{ordering_reverse, pair, put_all, put_sorted, read, read_with, refl, same_key, seen, sequence, sorted-map-form, sorted_map, subst, suc, sym, zero, ℕ},
+  Words.{[], ◌++◌, ◌-◌, ◌<◌, ◌>>=◌, ◌∙◌, ◌∷◌, ◌≡◌, ◌≤◌},
+}
+use Rattle.pagable_value_spec.specs.{
+  Form.{no-entries, placed-map-form, placed-set-form, sorted-set-form},
+  Keys.{put_placed, put_placed_item, put_sorted_item},
+  Reading.two,
+  Shape.{placed_map, placed_set, sorted_set},
+}
 use Rattle.std.specs.BTreeSet.{insert_key}
 use Rattle.indexmap.specs.IndexMap as placed_maps
 use Rattle.indexmap.specs.IndexSet as placed

@@ -1,18 +1,32 @@
 -- What values, and their parts one after another, are written and read as: basic values, texts and patterns, what may be absent, successes and failures, tuples and
 -- cells. All that a reader and a writer owe, from what those of the bytes or of the parts tell.
-use Rattle.pagable_codec.{proofs.Writing.{writes_flag, writes_letter, writes_signed, writes_unsigned}, specs.declared.{deserializer.PagableDeserializer.Ghosts as Deserializers, env.Env.Ghosts as Environments}}
-use Rattle.{pagable_codec.specs.declared.serializer.PagableSerializer.Ghosts as Serializers, pagable_flavors.specs.Calls.Appends, pagable_value_spec.specs.BasicValues.{char_form, duration_at, duration_form}}
-use Rattle.pagable_value_spec.specs.{BasicValues.{length_at, nanos_of_second, text_at}, CarriedTypes.{nanos_of, of_duration, of_span, seconds_of}, Form.{duration-form, none-form, pattern-form}, Composite.{MayHold, MeansOnce}}
-use Rattle.pagable_value_spec.specs.{Meaning.pattern, Numbers.{IsSigned, bound, signed_form, unsigned_form, varint_at}, Refusals.is_reading_fault, Shape.{duration, flag as flag_shape, letter, unsigned}}
-use Rattle.{pagable_value_spec.specs.Progress.{GoesOn, Track, left}, pagable_traits.proofs.Words.{Answer, ArcRef, Bool, Context, Err, Error, FormAt, MatchesReading, GivesSome, IfErr, Is, List, Meaning, MeansOption}}
-use Rattle.pagable_traits.proofs.Words.{MeansPair, Nesting, NoForm, None, Ok, OnOk, Option, Out, Read, Refused, Rest, Result, Shape, SomeMeaning, String, WritesSome, Wrote, [], absent, added}
-use Rattle.pagable_traits.proofs.Words.{ap, arith, bool_at, bool_form, both, both-form, bytes_of, char_at, err-form, failure, false, grows_bytes, inr, integer, length, long_or}
-use Rattle.pagable_traits.proofs.Words.{long_or_memory, longest, means-none, means-some, memory, memory_or, memory_refuses, moves_trans, nested_in, no_own_causes, number, ok-form}
-use Rattle.pagable_traits.proofs.Words.{optional, outcome, pair, present, read, read_with, refl, refused_memory, signed, signed_at, some-form, string_bytes, success, text-form, text_form, then}
-use Rattle.pagable_traits.{proofs.Words.{to_z-of_z, true, unsigned_at, w32, w64, writes_bytes, writes_is, ℕ, ℤ, ◌*◌, ◌++◌, ◌+◌, ◌^◌, ◌∙◌, ◌∷◌, ◌≡◌, ◌≤◌}, specs.Clauses.value}
-use Rattle.std.{proofs.{Common.{FitsSigned, of_z, rules, suc, to_z, zero, ◌/◌, ◌<◌}, lemmas.{Bool.{Decides.nat_tests, le-ltb}, Nat.mod_below}}, specs.{Borrow.Bor, Char.IsScalar, Duration.as_nanos, Prelude.option_copied}}
-use Rattle.pagable_traits.proofs.Words.{Gets, MovesOn, Reads, context_in}
-use Rattle.std.specs.{Int.{Width, w8}, Prelude.◌≢◌, Str.IsUtf8, declared.time.Duration.Duration}
+use Rattle.pagable_codec.proofs.Writing.{writes_flag, writes_letter, writes_signed, writes_unsigned}
+use Rattle.pagable_codec.specs.{
+  declared.{deserializer.PagableDeserializer.Ghosts as Deserializers, env.Env.Ghosts as Environments, serializer.PagableSerializer.Ghosts as Serializers},
+}
+use Rattle.pagable_flavors.specs.Calls.{Appends}
+use Rattle.pagable_traits.proofs.{
+  Words.{Answer, ArcRef, Bool, Context, Err, Error, FormAt, Gets, GivesSome, IfErr, Is, IsOutOfMemory, List, MatchesReading, Meaning, MeansOption, MeansPair},
+  Words.{MovesOn, Nesting, NoForm, None, Ok, OnOk, Option, Out, Read, Reads, Refused, Rest, Result, Shape, SomeMeaning, String, WritesSome, Wrote, absent},
+  Words.{added, ap, arith, bool_at, bool_form, both, both-form, bytes_of, char_at, context_in, err-form, failure, false, grows_bytes, inr, integer, length},
+  Words.{long_or, long_or_memory, longest, means-none, means-some, memory_or, memory_refuses, moves_trans, nested_in, no_own_causes, number, ok-form, optional},
+  Words.{outcome, pair, present, read, read_with, refl, refused_memory, signed, signed_at, some-form, string_bytes, success, text-form, text_form, then},
+  Words.{to_z-of_z, true, unsigned_at, w32, w64, writes_bytes, writes_is, ℕ, ℤ, [], ◌*◌, ◌++◌, ◌+◌, ◌^◌, ◌∙◌, ◌∷◌, ◌≡◌, ◌≤◌},
+}
+use Rattle.pagable_traits.specs.Clauses.{value}
+use Rattle.pagable_value_spec.specs.{
+  BasicValues.{char_form, duration_at, duration_form, length_at, nanos_of_second, text_at},
+  CarriedTypes.{nanos_of, of_duration, of_span, seconds_of},
+  Composite.{MayHold, MeansOnce},
+  Form.{duration-form, none-form, pattern-form},
+  Meaning.pattern,
+  Numbers.{IsSigned, bound, signed_form, unsigned_form, varint_at},
+  Progress.{MovesForward, ReaderState, left},
+  Refusals.is_reading_fault,
+  Shape.{duration, flag as flag_shape, letter, unsigned},
+}
+use Rattle.std.proofs.{Common.{FitsSigned, of_z, rules, suc, to_z, zero, ◌/◌, ◌<◌}, lemmas.{Bool.{Decides.nat_tests, le-ltb}, Nat.mod_below}}
+use Rattle.std.specs.{Borrow.Bor, Char.IsScalar, Duration.as_nanos, Int.{Width, w8}, Prelude.{option_copied, ◌≢◌}, Str.IsUtf8, declared.time.Duration.Duration}
 use Rattle.pagable_value_spec.specs.Meaning as meanings
 use Rattle.pagable_value_spec.specs.Shape as shapes
 
@@ -167,7 +181,7 @@ pub gives_bytes : {X Y : Type 0} (own : Error → Type 0) (view : X → Y) (mean
 gives_bytes own view meaning at r rest after h = grind arith
 
 -- by what a deserializer says of itself with another reader
-module _ (context : Context Answer ArcRef) (rest last : Rest Answer) (given used : Track) (same : rest.bytes ≡ left given)
+module _ (context : Context Answer ArcRef) (rest last : Rest Answer) (given used : ReaderState) (same : rest.bytes ≡ left given)
     (moved : last ≡ record rest { bytes = left used }) where
   read_as : {X Y : Type 0} (own : Error → Type 0) (view : X → Y) (meaning : Y → Meaning ArcRef) (at : List ℕ → Read Y) (r : Result X Error)
       → MatchesReading own (λ x. (view x, left used)) r (at (left given))
@@ -211,12 +225,12 @@ pub basic_written : {S E N H K V X Y : Type 0} (env : Environments E N H K V) (s
     (meaning : X → Meaning ArcRef) (x : X) (form : List ℕ)
     {old new : S} {given bytes : List ℕ} → FormAt (nested_in env s old) shape (meaning x) form []
     → given ≡ (s.out old).bytes → s.out new ≡ record (s.out old) { bytes = bytes } → s.environment new ≡ s.environment old → s.levels new ≡ s.levels old
-    → Appends form r given bytes → Wrote env s (value (Is meaning x) shape) memory old new r
+    → Appends form r given bytes → Wrote env s (value (Is meaning x) shape) IsOutOfMemory old new r
 basic_written env s r shape meaning x form {old} {new} {given} {bytes} is e f same_env same_levels told = record {
   ok = wrote_form r (nested_in env s old) shape meaning x form (s.out old) (s.out new) given bytes is e f told.ok;
   refused = refused_memory r (Is meaning x) (nested_in env s old) shape told.only;
   only = told.only;
-  err = rw f (grows_bytes (s.out old) bytes (rw e at told.err));
+  grows = rw f (grows_bytes (s.out old) bytes (rw e at told.grows));
   same_env = same_env;
   same_levels = same_levels;
 }
@@ -295,14 +309,14 @@ refused_pattern r t n h = grind (arith, no-pattern n t, memory_refuses)
 -- ---- reading
 
 pub text-read : {D E R N H K V Z : Type 0} (env : Environments E N H K V) (d : Deserializers D E R N H K V) (meaning : List ℕ → Meaning ArcRef)
-    (r : Result (String Z) Error) (whole : Context Answer ArcRef → Gets Answer (Meaning ArcRef)) {a b : D} {given used : Track}
+    (r : Result (String Z) Error) (whole : Context Answer ArcRef → Gets Answer (Meaning ArcRef)) {a b : D} {given used : ReaderState}
     → ((c : Context Answer ArcRef) (rest : Rest Answer) → whole c rest ≡ bytes_of text_at meaning rest) → (d.rest a).bytes ≡ left given → d.rest b
-    ≡ record (d.rest a) { bytes = left used } → (GoesOn given used → MovesOn (d.input_state a) (d.input_state b))
-    → d.environment b ≡ d.environment a → d.levels b ≡ d.levels a → MatchesReading memory (λ t. (string_bytes t, left used)) r (text_at (left given))
-    → GoesOn given used
-    → Reads env d memory (Is (λ t. meaning (string_bytes t))) whole a b r
+    ≡ record (d.rest a) { bytes = left used } → (MovesForward given used → MovesOn (d.input_state a) (d.input_state b))
+    → d.environment b ≡ d.environment a → d.levels b ≡ d.levels a → MatchesReading IsOutOfMemory (λ t. (string_bytes t, left used)) r (text_at (left given))
+    → MovesForward given used
+    → Reads env d IsOutOfMemory (Is (λ t. meaning (string_bytes t))) whole a b r
 text-read env d meaning r whole {a = a} {used = used} same e f moves same_env same_levels told goes = record {
-  gives = rw (same (context_in env d a) (d.rest a), f) (gives_bytes memory string_bytes meaning text_at r (d.rest a) (left used) (rw e told));
+  gives = rw (same (context_in env d a) (d.rest a), f) (gives_bytes IsOutOfMemory string_bytes meaning text_at r (d.rest a) (left used) (rw e told));
   moves = moves goes;
   same_env = same_env;
   same_levels = same_levels;
@@ -321,8 +335,8 @@ faults-text : (bytes : List ℕ) (e : Error) → text_at bytes ≡ Err e → is_
 unfolding text_at length_at
 faults-text bytes e h = grind (arith, faults-varint)
 
--- want of memory, or a fault of the input: a text is never refused as a pattern is
-pub text_not_refused : {X : Type 0} (view : X → List ℕ × List ℕ) (r : Result X Error) (bytes : List ℕ) → MatchesReading memory view r (text_at bytes)
+-- OutOfMemory, or a fault of the input: a text is never refused as a pattern is
+pub text_not_refused : {X : Type 0} (view : X → List ℕ × List ℕ) (r : Result X Error) (bytes : List ℕ) → MatchesReading IsOutOfMemory view r (text_at bytes)
     → IfErr r (λ e. e ≢ Error.RegexRefused)
 text_not_refused view (Ok x) bytes h = tt
 text_not_refused view (Err e) bytes h = λ is. let fault = faults-text bytes e in grind (arith, nat_tests, h, fault, is)

@@ -1,14 +1,31 @@
 -- Values in a registry, by their index.
 -- Tagged values: what writing a tag and a body adds, and what reading by the registered reader gives.
-use Rattle.{pagable_codec.specs.declared.{deserializer.PagableDeserializer.Ghosts as Deserializers, env.Env.Ghosts as Environments}, pagable_value_spec.specs.Canonical.{HasNoCase, IsReadable, LiesIn}}
-use Rattle.pagable_value_spec.specs.{Canonical.{Throughout, Within}, CarriedTypes.{body_of, is_registered, of_tagged, tagged_by}, Form.{static-form, tagged-form}, Meaning.lifted, Numbers.{bound, unsigned_form}}
-use Rattle.pagable_value_spec.specs.{Reading.registered, Shape.{cases, static_value, tagged}, Statics.{HasEqual, NoEqualBelow}, Tagged.{HasDistinctTags, IsLastFor, MeansTagged, NoneFor}}
-use Rattle.{pagable_value_spec.specs.Tagged.{ReadsWhatIsWritten, grammars}, pagable_traits.proofs.{Parts.{err_along, ok_along}, Words.{Answer, ArcRef, Bool, Context, Err, Error, Gets, MatchesReading, GivesSome}}}
-use Rattle.pagable_traits.proofs.Words.{IfErr, Is, List, Meaning, Meanings, MovesOn, Nesting, NoForm, Ok, Out, Reads, Refused, Rest, Result, Shape, Some, SomeMeaning, WritesSome, [], added, ap, arith}
-use Rattle.pagable_traits.proofs.Words.{bytes_of, context_in, false, get_or, inl, inr, length, length-map, long_or_memory, longest, map, memory, memory_or, memory_refuses, moves_trans, read}
-use Rattle.pagable_traits.proofs.Words.{read_with, refl, subst, suc, sym, text_at, text_form, then, true, w32, writes_bytes, zero, ℕ, ◌++◌, ◌+◌, ◌<◌, ◌>>=◌, ◌∙◌, ◌∷◌, ◌≡◌, ◌≤◌}
-use Rattle.std.{proofs.lemmas.{Bool.Decides.nat_tests, List.map-id, Option.{get_or_from_slice_get, slice_get-map, slice_get_read, slice_get_within}, Slice.Eq.bytes_eq-Decides}, specs.List.slice_get}
-use Rattle.std.specs.{Prelude.{IfOk, IsTrue}, Str.{IsUtf8, bytes_eq}}
+use Rattle.pagable_codec.specs.declared.{deserializer.PagableDeserializer.Ghosts as Deserializers, env.Env.Ghosts as Environments}
+use Rattle.pagable_traits.proofs.{
+  Parts.{err_along, ok_along},
+  Words.{Answer, ArcRef, Bool, Context, Err, Error, Gets, GivesSome, IfErr, Is, IsOutOfMemory, List, MatchesReading, Meaning, Meanings, MovesOn, Nesting},
+  Words.{NoForm, Ok, Out, Reads, Refused, Rest, Result, Shape, Some, SomeMeaning, WritesSome, added, ap, arith, bytes_of, context_in, false, get_or, inl, inr},
+  Words.{length, length-map, long_or_memory, longest, map, memory_or, memory_refuses, moves_trans, read, read_with, refl, subst, suc, sym, text_at, text_form},
+  Words.{then, true, w32, writes_bytes, zero, ℕ, [], ◌++◌, ◌+◌, ◌<◌, ◌>>=◌, ◌∙◌, ◌∷◌, ◌≡◌, ◌≤◌},
+}
+use Rattle.pagable_value_spec.specs.{
+  Canonical.{HasNoCase, IsReadable, LiesIn, Throughout, Within},
+  CarriedTypes.{body_of, is_registered, of_tagged, tagged_by},
+  Form.{static-form, tagged-form},
+  Meaning.lifted,
+  Numbers.{bound, unsigned_form},
+  Reading.registered,
+  Shape.{cases, static_value, tagged},
+  Statics.{HasEqual, NoEqualBelow},
+  Tagged.{HasDistinctTags, IsLastFor, MeansTagged, NoneFor, ReadsWhatIsWritten, grammars},
+}
+use Rattle.std.proofs.lemmas.{
+  Bool.Decides.nat_tests,
+  List.map-id,
+  Option.{get_or_from_slice_get, slice_get-map, slice_get_read, slice_get_within},
+  Slice.Eq.bytes_eq-Decides,
+}
+use Rattle.std.specs.{List.slice_get, Prelude.{IfOk, IsTrue}, Str.{IsUtf8, bytes_eq}}
 
 pub ruleset lengths = (length-map)
 
@@ -161,8 +178,8 @@ read-unknown context written grammar env readers tag rest mid e none = rw (e, no
 
 -- a tag as bytes give it
 pub text_is_read : {X : Type 0} (bytes_in : X → List ℕ) (r : Result X Error) (rest last : Rest Answer) (bytes after : List ℕ) → rest.bytes ≡ bytes → last
-    ≡ record rest { bytes = after } → MatchesReading memory (λ t. (bytes_in t, after)) r (text_at bytes)
-    → MatchesReading memory (λ t. (bytes_in t, last)) r (bytes_of text_at (λ t. t) rest)
+    ≡ record rest { bytes = after } → MatchesReading IsOutOfMemory (λ t. (bytes_in t, after)) r (text_at bytes)
+    → MatchesReading IsOutOfMemory (λ t. (bytes_in t, last)) r (bytes_of text_at (λ t. t) rest)
 text_is_read bytes_in r rest last bytes after e f h = grind (arith, nat_tests, e, f, h)
 
 module _ {D E R N H K V : Type 0} (d : Deserializers D E R N H K V) where

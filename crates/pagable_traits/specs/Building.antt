@@ -1,8 +1,19 @@
 -- What `regex` builds from a text, and why it builds nothing.
-use Rattle.std.{proofs.Common.{inl, inr}, specs.Prelude.{List, Ok, Result, refl, true, ℕ, ◌≡◌, ◌≢◌, ◌⊎◌}}
-use Rattle.pagable_value_spec.specs.Meaning.{Meaning, pattern}
-use Rattle.{pagable_value_spec.specs.{Refusals.is_own_reading, declared.{error.Error.Error, numbers.ArcRef.ArcRef}}, pagable_traits.specs.OwnCauses.ReadCauses, regex.specs.Failures.IsRightKind}
-use Rattle.regex.specs.{Patterns.default_config, Sources.IsRefusal, Strings.{IsReadFromSource, regex_config, regex_source}, declared.{error.Error.Error as Cause, string.regex.Regex.Regex}}
+use Rattle.pagable_traits.specs.OwnCauses.{ReadCauses}
+use Rattle.pagable_value_spec.specs.{
+  Meaning.{Meaning, pattern},
+  Refusals.is_own_reading,
+  declared.{error.Error.Error, numbers.ArcRef.ArcRef},
+}
+use Rattle.regex.specs.{
+  Failures.IsRightKind,
+  Patterns.default_config,
+  Sources.IsRefusal,
+  Strings.{IsReadFromSource, regex_config, regex_source},
+  declared.{error.Error.Error as Cause, string.regex.Regex.Regex},
+}
+use Rattle.std.proofs.Common.{inl, inr}
+use Rattle.std.specs.Prelude.{List, Ok, Result, refl, true, ℕ, ◌≡◌, ◌≢◌, ◌⊎◌}
 use Rattle.regex.specs.declared.error.Error.TheVariants as causes
 use Rattle.pagable_value_spec.specs.declared.error.Error.TheVariants as errors
 
@@ -22,8 +33,8 @@ pub record IsNoPattern (text : List ℕ) : Type 0 where
   pub kind : IsRightKind default_config text cause
 
 -- out of memory, or `regex` refuses the text
-abbrev pub IsRefusedPattern : List ℕ → Error → Type 0
-IsRefusedPattern text e = (e ≡ errors.OutOfMemory) ⊎ ((e ≡ errors.RegexRefused) × IsNoPattern text)
+abbrev pub IsBuildError : List ℕ → Error → Type 0
+IsBuildError text e = (e ≡ errors.OutOfMemory) ⊎ ((e ≡ errors.RegexRefused) × IsNoPattern text)
 
 -- the error for an error of `regex`
 abbrev pub refusal_of : Cause → Error
@@ -31,7 +42,7 @@ refusal_of causes.OutOfMemory = errors.OutOfMemory
 refusal_of _ = errors.RegexRefused
 
 -- reading returned a pattern whose text `regex` may refuse
-pub record ReadsNoPattern {R : Type 0} (read : Result (Meaning ArcRef × R) Error) : Type 0 where
+pub record ReadsRefusedPattern {R : Type 0} (read : Result (Meaning ArcRef × R) Error) : Type 0 where
   pub text : List ℕ
   pub after : R
   pub gave : read ≡ Ok (pattern text, after)

@@ -1,11 +1,16 @@
 -- What references of all sorts return of the values that they refer to, and of the keys of their cells.
-use Rattle.std.specs.Prelude.{Bool, Err, IfSome, Ok, Option, Result, Some, false, option_and_then, true, ℕ, ◌≡◌}
-use Rattle.pagable_value_spec.specs.{Meaning.Meaning, Shape.Shape, Writing.{Refused, WritesSome}, declared.{data_key.OptionalDataKey.OptionalDataKey, error.Error.Error, numbers.ArcRef.ArcRef}}
 use Rattle.pagable_traits.specs.Clauses.{Piece}
+use Rattle.pagable_value_spec.specs.{
+  Meaning.Meaning,
+  Shape.Shape,
+  Writing.{Refused, WritesSome},
+  declared.{data_key.OptionalDataKey.OptionalDataKey, error.Error.Error, numbers.ArcRef.ArcRef},
+}
+use Rattle.std.specs.Prelude.{Bool, Err, IfSome, Ok, Option, Result, Some, false, option_and_then, true, ℕ, ◌≡◌}
 
 -- the value is the one of the handle's node, if the storage tells the values of its handles
-abbrev pub IsToldAt : {N T : Type 0} → (N → Option T) → Option (ℕ → Option N) → ℕ → T → Type 0
-IsToldAt held told handle x = IfSome told (λ at. option_and_then held (at handle) ≡ Some x)
+abbrev pub IsValueOfHandle : {N T : Type 0} → (N → Option T) → Option (ℕ → Option N) → ℕ → T → Type 0
+IsValueOfHandle held nodes handle x = IfSome nodes (λ at. option_and_then held (at handle) ≡ Some x)
 
 -- whether a cell has to be paged out, by the storage's answer for its key: it has to if it has no key
 abbrev pub needs_by : Result OptionalDataKey Error → Result Bool Error
@@ -30,21 +35,21 @@ SetsKey true sets result = sets result
 SetsKey false sets result = result ≡ Ok tt
 
 -- an error of the value that a reference holds, or of one that had to be pinned first
-abbrev pub LacksInner : {X : Type 0} → Bool → (X → Type 0) → (X → Error → Type 0) → Error → Type 0
-LacksInner true IsInner lacks e = Unit {0}
-LacksInner {X} false IsInner lacks e = (x : X) × IsInner x × lacks x e
+abbrev pub LacksForm : {X : Type 0} → Bool → (X → Type 0) → (X → Error → Type 0) → Error → Type 0
+LacksForm true IsReferred lacks e = Unit {0}
+LacksForm {X} false IsReferred lacks e = (x : X) × IsReferred x × lacks x e
 
-abbrev pub inner_causes : Bool → (Error → Type 0) → Error → Type 0
-inner_causes true causes e = Unit {0}
-inner_causes false causes e = causes e
+abbrev pub any_cause_if : Bool → (Error → Type 0) → Error → Type 0
+any_cause_if true causes e = Unit {0}
+any_cause_if false causes e = causes e
 
 -- a form of the value that a reference refers to
-abbrev pub inner : {X : Type 0} → Bool → (X → Type 0) → (X → Meaning ArcRef → Type 0) → Shape → Piece
-inner {X} pages IsInner means shape = record {
-  wrote = λ n old new. (x : X) × IsInner x × WritesSome (means x) n shape old new;
-  lacks = λ n e. LacksInner pages IsInner (λ x. Refused (means x) n shape) e;
+abbrev pub form_of_referred : {X : Type 0} → Bool → (X → Type 0) → (X → Meaning ArcRef → Type 0) → Shape → Piece
+form_of_referred {X} pages IsReferred means shape = record {
+  wrote = λ n old new. (x : X) × IsReferred x × WritesSome (means x) n shape old new;
+  lacks = λ n e. LacksForm pages IsReferred (λ x. Refused (means x) n shape) e;
 }
 
 -- any cause
-abbrev pub any_cause : Error → Type 0
-any_cause e = Unit {0}
+abbrev pub any_error_allowed : Error → Type 0
+any_error_allowed e = Unit {0}

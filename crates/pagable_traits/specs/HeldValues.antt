@@ -1,6 +1,15 @@
 -- What values that hold others hold beside references, made of what their parts hold.
-use Rattle.std.specs.{Arc.arc_value, List.All, Prelude.{Bool, IfSome, List, MatchResult, Option, Result, Some, [], ℕ, ◌≡◌}}
-use Rattle.{pagable_value_spec.specs.{Collected.PutInTurn, Cursor.{HoldsLentValues, InputState}, declared.numbers.ArcRef.ArcRef}, pagable_traits.specs.{References.holding, declared.arc.HoldingArc.HoldingArc}}
+use Rattle.pagable_traits.specs.{References.holding_reference, declared.arc.HoldingArc.HoldingArc}
+use Rattle.pagable_value_spec.specs.{
+  Collected.PutInTurn,
+  Cursor.{HoldsLentValues, InputState},
+  declared.numbers.ArcRef.ArcRef,
+}
+use Rattle.std.specs.{
+  Arc.arc_value,
+  List.All,
+  Prelude.{Bool, IfSome, List, MatchResult, Option, Result, Some, ℕ, [], ◌≡◌},
+}
 
 -- what a value of the type X holds beside a reference is the value of this node
 abbrev pub Beside : Type 0 → Type 0 → Type 1
@@ -8,7 +17,7 @@ Beside N X = X → ArcRef → N → Type 0
 
 -- wherever the reference is the value's own, it holds the node's value
 abbrev pub holding_beside : {N T : Type 0} {sort : ℕ} → ℕ → Bool → (N → Option T) → Beside N (HoldingArc T sort)
-holding_beside t pins held a r y = holding t pins a ≡ r → held y ≡ Some (arc_value a.value)
+holding_beside t pins held a r y = holding_reference t pins a ≡ r → held y ≡ Some (arc_value a.value)
 
 abbrev pub options_beside : {N T : Type 0} → Beside N T → Beside N (Option T)
 options_beside B o r y = IfSome o (λ x. B x r y)

@@ -1,6 +1,6 @@
 -- What a node is, by whether it holds a value of a type.
-use Rattle.std.specs.Prelude.{◌≡◌, ◌≢◌, ℕ, Option, Some, None}
 use Rattle.pagable_value_spec.specs.{Meaning.Meaning, declared.numbers.ArcRef.ArcRef}
+use Rattle.std.specs.Prelude.{None, Option, Some, ℕ, ◌≡◌, ◌≢◌}
 
 -- a node that holds a value is of the value's type and means what the value means; one that holds none is of another
 -- type

@@ -1,7 +1,13 @@
 -- The JSON values of `serde_json` in the words of the definitions.
-use Rattle.std.specs.{Prelude.{String, pos, ℕ, ◌<◌, ◌≡◌, ◌⊎◌}, String.string_bytes, declared.alloc.Global.Global}
-use Rattle.pagable_value_spec.specs.{BasicValues.longest, Outcomes.memory, Json.{Json, of_json}, Meaning.Meaning, declared.{error.Error.Error, numbers.ArcRef.ArcRef}}
+use Rattle.pagable_value_spec.specs.{
+  BasicValues.longest,
+  Json.{Json, of_json},
+  Meaning.Meaning,
+  Outcomes.IsOutOfMemory,
+  declared.{error.Error.Error, numbers.ArcRef.ArcRef},
+}
 use Rattle.serde_json.specs.{Data.{Data, Num}, View.view, declared.value.Value.Value}
+use Rattle.std.specs.{Prelude.{String, pos, ℕ, ◌<◌, ◌≡◌, ◌⊎◌}, String.string_bytes, declared.alloc.Global.Global}
 use Rattle.serde_json.specs.Data as kit
 use Rattle.pagable_value_spec.specs.declared.error.Error.TheVariants as errors
 use Rattle.pagable_value_spec.specs.Json as own
@@ -44,4 +50,4 @@ of_key k = meanings.text (string_bytes k)
 -- `TooLong` only if the length is above the greatest, and else `OutOfMemory`, by which the case may fail before the
 -- length
 abbrev pub long_or_no_memory : ℕ → Error → Type 0
-long_or_no_memory len e = ((longest < len) × (e ≡ errors.TooLong)) ⊎ memory e
+long_or_no_memory len e = ((longest < len) × (e ≡ errors.TooLong)) ⊎ IsOutOfMemory e

@@ -1,9 +1,27 @@
 -- Why a JSON value isn't written: its first fault.
-use Rattle.pagable_value_spec.specs.{BasicValues.longest, Composite.{MeanAll, MeansPair}, Meaning.Meaning, Reading.deepest, Refusals.is_writing_fault, Shape.{Shape, both, json, text}, Cursor.Is}
-use Rattle.pagable_value_spec.specs.{Writing.{Nesting, NoFormOfSome, Out, WritesSomeAll, nesting}, declared.{error.Error.Error, numbers.ArcRef.ArcRef}}
-use Rattle.{pagable_traits.specs.{Clauses.{Piece, value as form}, JsonData.{of_data, of_key, of_value}}, serde_json.specs.{Data.Data, Find.as_i64, View.number_view}}
-use Rattle.serde_json.specs.declared.{number.Number.Number, value.Value.Value}
-use Rattle.std.specs.{BTreeMap.BTreeMap, Prelude.{IsTrue, List, None, Option, String, Vec, length, ℤ, ◌++◌, ◌+◌, ◌<◌, ◌≡◌, ◌≤◌, ◌∷◌}, declared.alloc.Global.Global}
+use Rattle.pagable_traits.specs.{Clauses.{Piece, value as form}, JsonData.{of_data, of_key, of_value}}
+use Rattle.pagable_value_spec.specs.{
+  BasicValues.longest,
+  Composite.{MeanAll, MeansPair},
+  Cursor.Is,
+  Meaning.Meaning,
+  Reading.deepest,
+  Refusals.is_writing_fault,
+  Shape.{Shape, both, json, text},
+  Writing.{Nesting, NoFormOfSome, Out, WritesSomeAll, nesting},
+  declared.{error.Error.Error, numbers.ArcRef.ArcRef},
+}
+use Rattle.serde_json.specs.{
+  Data.Data,
+  Find.as_i64,
+  View.number_view,
+  declared.{number.Number.Number, value.Value.Value},
+}
+use Rattle.std.specs.{
+  BTreeMap.BTreeMap,
+  Prelude.{IsTrue, List, None, Option, String, Vec, length, ℤ, ◌++◌, ◌+◌, ◌<◌, ◌∷◌, ◌≡◌, ◌≤◌},
+  declared.alloc.Global.Global,
+}
 use Rattle.pagable_value_spec.specs.declared.error.Error.TheVariants as errors
 use Rattle.serde_json.specs.declared.value.Value as values
 

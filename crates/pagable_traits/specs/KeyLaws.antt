@@ -1,9 +1,22 @@
 -- The law of keys of maps and items of sets, made of the laws of their parts.
-use Rattle.std.{proofs.Common.◌∙◌, specs.Prelude.{◌≡◌, ◌&&◌, Bool, refl, ℕ, nat_eq}, specs.Cmp.Lexicographic.pointwise, specs.Int.Width, specs.Option.option_eq, specs.Result.result_eq, specs.Str.bytes_eq}
-use Rattle.pagable_value_spec.specs.{Keyed.{RefersToNothing, number_is_same, text_is_same, list_is_same, option_is_same, pair_is_same, result_is_same}, Keys.same_key, Meaning.{number, text}}
-use Rattle.pagable_value_spec.specs.{OneForm.{IsOfTwo, IsOver, basic_refers_to_nothing, over_refers_to_nothing, two_refers_to_nothing}, Shape.{Shape, both, optional, outcome, unsigned}}
-use Rattle.pagable_value_spec.specs.Shape as shapes
 use Rattle.pagable_traits.specs.Meanings.{Meanings, exactly, lists, options, pairs, results, seen_by}
+use Rattle.pagable_value_spec.specs.{
+  Keyed.{RefersToNothing, list_is_same, number_is_same, option_is_same, pair_is_same, result_is_same, text_is_same},
+  Keys.same_key,
+  Meaning.{number, text},
+  OneForm.{IsOfTwo, IsOver, basic_refers_to_nothing, over_refers_to_nothing, two_refers_to_nothing},
+  Shape.{Shape, both, optional, outcome, unsigned},
+}
+use Rattle.std.proofs.Common.{◌∙◌}
+use Rattle.std.specs.{
+  Cmp.Lexicographic.pointwise,
+  Int.Width,
+  Option.option_eq,
+  Prelude.{Bool, nat_eq, refl, ℕ, ◌&&◌, ◌≡◌},
+  Result.result_eq,
+  Str.bytes_eq,
+}
+use Rattle.pagable_value_spec.specs.Shape as shapes
 
 -- two values are equal exactly if they mean the same, and in no environment does a value refer to anything
 pub record IsKey {X E : Type 0} (M : Meanings X) (eq : X → X → Bool) (parts : E → ℕ → Shape)

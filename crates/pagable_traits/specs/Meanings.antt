@@ -1,8 +1,14 @@
 -- What the values of a type may mean, made of what their parts may mean.
-use Rattle.std.specs.Prelude.{◌≡◌, refl, List, Option, Result, map}
-use Rattle.pagable_value_spec.specs.{declared.numbers.ArcRef.ArcRef, Meaning.{Meaning, pair, sequence}, CarriedTypes.{of_hash_map, of_option, of_result}, Cursor.{Is, SomeMeaning}}
-use Rattle.pagable_value_spec.specs.Composite.{MeansList, MeansOption, MeansPair, MeansResult, list_is_meaning, list_single, option_is_meaning, option_single, pair_is_meaning, pair_single}
-use Rattle.pagable_value_spec.specs.{Composite.result_is_meaning, Hashed.{MeansHashMap, hash_map_is_meaning}}
+use Rattle.pagable_value_spec.specs.{
+  CarriedTypes.{of_hash_map, of_option, of_result},
+  Composite.{MeansList, MeansOption, MeansPair, MeansResult, list_is_meaning, list_single, option_is_meaning},
+  Composite.{option_single, pair_is_meaning, pair_single, result_is_meaning},
+  Cursor.{Is, SomeMeaning},
+  Hashed.{MeansHashMap, hash_map_is_meaning},
+  Meaning.{Meaning, pair, sequence},
+  declared.numbers.ArcRef.ArcRef,
+}
+use Rattle.std.specs.Prelude.{List, Option, Result, map, refl, ◌≡◌}
 
 -- the meanings that a value may have, and one of them: the only one, or any if no contract knows its content
 pub record Meanings (X : Type 0) : Type 1 where

@@ -1,8 +1,13 @@
 -- The errors that a type's readers and writers have of their own, each list with the law that it obeys.
+use Rattle.pagable_value_spec.specs.{
+  Causes.{deep_or_may_refuse_writing, either_is_own_reading, either_may_refuse_writing, json_may_refuse_writing},
+  Causes.{long_or_may_refuse_writing, memory_is_own_reading, memory_may_refuse_writing, memory_or_is_own_reading},
+  Causes.{memory_or_may_refuse_writing, never_is_own_reading, never_may_refuse_writing},
+  Outcomes.{IsOutOfMemory, deep_or, either, json_causes, long_or, memory_or, no_own_causes},
+  Refusals.{is_own_reading, may_refuse_writing},
+  declared.error.Error.Error,
+}
 use Rattle.std.specs.Prelude.{true, ◌≡◌}
-use Rattle.pagable_value_spec.specs.Causes.{deep_or_may_refuse_writing, either_is_own_reading, either_may_refuse_writing, json_may_refuse_writing, long_or_may_refuse_writing}
-use Rattle.pagable_value_spec.specs.Causes.{memory_is_own_reading, memory_may_refuse_writing, memory_or_is_own_reading, memory_or_may_refuse_writing, never_is_own_reading, never_may_refuse_writing}
-use Rattle.pagable_value_spec.specs.{Outcomes.{deep_or, either, json_causes, long_or, memory, memory_or, no_own_causes}, Refusals.{is_own_reading, may_refuse_writing}, declared.error.Error.Error}
 
 -- no cause is a fault of the input
 pub record ReadCauses : Type 1 where
@@ -13,7 +18,7 @@ abbrev pub reads_never : ReadCauses
 reads_never = record { are = no_own_causes; own = never_is_own_reading }
 
 abbrev pub reads_memory : ReadCauses
-reads_memory = record { are = memory; own = memory_is_own_reading }
+reads_memory = record { are = IsOutOfMemory; own = memory_is_own_reading }
 
 abbrev pub reads_memory_or : ReadCauses → ReadCauses
 reads_memory_or part = record { are = memory_or part.are; own = memory_or_is_own_reading part.are part.own }
@@ -33,7 +38,7 @@ abbrev pub writes_never : WriteCauses
 writes_never = record { are = no_own_causes; may = never_may_refuse_writing }
 
 abbrev pub writes_memory : WriteCauses
-writes_memory = record { are = memory; may = memory_may_refuse_writing }
+writes_memory = record { are = IsOutOfMemory; may = memory_may_refuse_writing }
 
 abbrev pub writes_memory_or : WriteCauses → WriteCauses
 writes_memory_or part = record { are = memory_or part.are; may = memory_or_may_refuse_writing part.are part.may }

@@ -1,7 +1,16 @@
 -- References in the order in which they are written.
-use Rattle.std.specs.{Int.Width, Prelude.{◌≡◌, ℕ, refl, false, true, List, []}}
-use Rattle.pagable_value_spec.specs.{Form.{Form, Forms, both-form, duration-form, err-form, flag-form, letter-form, list-form, more-forms, no-forms, none-form, nothing-form, ok-form, pattern-form, reference-form, signed-form, some-form, static-form, text-form, unsigned-form}, Meaning.{Meaning, followed, lifted, pair, reference, rename, sequence, variant}, References.references_in}
-use Rattle.pagable_value_spec.specs.{Shape.{Shape, both, duration, flag, letter, list, nothing, optional, outcome, pattern, signed, static_value, text, unsigned}, Writing.kind_of_arc, declared.numbers.ArcRef.ArcRef}
+use Rattle.pagable_value_spec.specs.{
+  Form.{Form, Forms, both-form, duration-form, err-form, flag-form, letter-form, list-form, more-forms, no-forms},
+  Form.{none-form, nothing-form, ok-form, pattern-form, reference-form, signed-form, some-form, static-form, text-form},
+  Form.unsigned-form,
+  Meaning.{Meaning, followed, lifted, pair, reference, rename, sequence, variant},
+  References.references_in,
+  Shape.{Shape, both, duration, flag, letter, list, nothing, optional, outcome, pattern, signed, static_value, text},
+  Shape.unsigned,
+  Writing.kind_of_arc,
+  declared.numbers.ArcRef.ArcRef,
+}
+use Rattle.std.specs.{Int.Width, Prelude.{List, false, refl, true, ℕ, [], ◌≡◌}}
 use Rattle.pagable_value_spec.specs.Shape as shapes
 
 -- each form of the shape lists the references of what it is a form of, in their order

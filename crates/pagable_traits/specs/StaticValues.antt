@@ -1,9 +1,17 @@
 -- Why static values may be keys, and why their forms are read back: each index of a registered value is read as that
 -- value, which refers to nothing.
-use Rattle.std.specs.{List.AllByRecursion, Prelude.{Bool, IsTrue, List, [], refl, ℕ, ◌∷◌, ◌≡◌}}
-use Rattle.pagable_value_spec.specs.{Canonical.{HasNoReference, IsReadable, LiesIn}, Codes.one-meaning, Keyed.{RefersToNothing, same-by, throughout-alone}, Keys.same_key}
-use Rattle.pagable_value_spec.specs.{Meaning.{Meaning, followed, lifted, pair, plain, reference, rename, variant}, Shape.{Shape, static_value}, Statics.meanings_of}
-use Rattle.{pagable_value_spec.specs.{Statics.{unregistered, unregistered_may_refuse_writing}, declared.numbers.ArcRef.ArcRef}, pagable_traits.specs.{OwnCauses.WriteCauses, ReadBack.IsReadThroughout}}
+use Rattle.pagable_traits.specs.{OwnCauses.WriteCauses, ReadBack.IsReadableThroughout}
+use Rattle.pagable_value_spec.specs.{
+  Canonical.{HasNoReference, IsReadable, LiesIn},
+  Codes.one-meaning,
+  Keyed.{RefersToNothing, same-by, throughout-alone},
+  Keys.same_key,
+  Meaning.{Meaning, followed, lifted, pair, plain, reference, rename, variant},
+  Shape.{Shape, static_value},
+  Statics.{meanings_of, unregistered, unregistered_may_refuse_writing},
+  declared.numbers.ArcRef.ArcRef,
+}
+use Rattle.std.specs.{List.AllByRecursion, Prelude.{Bool, IsTrue, List, refl, ℕ, [], ◌∷◌, ◌≡◌}}
 
 -- writing a value that isn't registered fails
 abbrev pub writes_unregistered : WriteCauses
@@ -15,7 +23,7 @@ all-plain meaning holds_none [] = tt
 all-plain meaning holds_none (v ∷ vs) = (holds_none v, all-plain meaning holds_none vs)
 
 pub static_is_read : {T : Type 0} (parts : ℕ → Shape) (meaning : T → Meaning ⊥) → ((x : T) → HasNoReference (meaning x))
-    → (registry : List T) → IsReadThroughout parts (static_value (meanings_of meaning registry))
+    → (registry : List T) → IsReadableThroughout parts (static_value (meanings_of meaning registry))
 unfolding IsReadable LiesIn
 static_is_read parts meaning holds_none registry = throughout-alone IsReadable parts
     (static_value (meanings_of meaning registry)) (all-plain meaning holds_none registry) (λ those. tt)

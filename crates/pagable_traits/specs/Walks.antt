@@ -1,7 +1,15 @@
 -- The contract of writing each item that an iterator yields; `next` says what the iterator yields between two states.
-use Rattle.std.specs.{Iterator.{Drains, YieldsThen}, Prelude.{List, Option, Some, [], ℕ, ◌≤◌, ◌⊎◌}}
-use Rattle.pagable_value_spec.specs.{BasicValues.{length_form, longest}, Lengths.long_or_memory, Composite.MeanAll, Meaning.Meaning, Shape.Shape, Writing.{Nesting, Out, Refused, WritesSomeAll, added}}
-use Rattle.{pagable_value_spec.specs.declared.{error.Error.Error, numbers.ArcRef.ArcRef}, pagable_traits.specs.Clauses.Piece}
+use Rattle.pagable_traits.specs.Clauses.{Piece}
+use Rattle.pagable_value_spec.specs.{
+  BasicValues.{length_form, longest},
+  Composite.MeanAll,
+  Lengths.long_or_memory,
+  Meaning.Meaning,
+  Shape.Shape,
+  Writing.{Nesting, Out, Refused, WritesSomeAll, added},
+  declared.{error.Error.Error, numbers.ArcRef.ArcRef},
+}
+use Rattle.std.specs.{Iterator.{Drains, YieldsThen}, Prelude.{List, Option, Some, ℕ, [], ◌≤◌, ◌⊎◌}}
 
 -- the iterator yielded these items and then no more, and each was written
 pub record WritesEach {W T : Type 0} (next : W → Option T → W → Type 0) (M : T → Meaning ArcRef → Type 0) (walk : W)
@@ -31,12 +39,16 @@ abbrev pub RefusedCounted : {W T : Type 0} → (W → Option T → W → Type 0)
 RefusedCounted next M walk count n s e = long_or_memory count e ⊎ RefusedAmong next M walk n s e
 
 -- the forms of the items that an iterator yields; and those behind their count
-abbrev pub each : {W T : Type 0} → (W → Option T → W → Type 0) → (T → Meaning ArcRef → Type 0) → W → Shape → Piece
-each next M walk s = record { wrote = λ n. WritesEach next M walk n s; lacks = λ n. RefusedAmong next M walk n s }
+abbrev pub yielded_forms : {W T : Type 0} → (W → Option T → W → Type 0) → (T → Meaning ArcRef → Type 0)
+    → W → Shape → Piece
+yielded_forms next M walk s = record {
+  wrote = λ n. WritesEach next M walk n s;
+  lacks = λ n. RefusedAmong next M walk n s;
+}
 
-abbrev pub counted : {W T : Type 0} → (W → Option T → W → Type 0) → (T → Meaning ArcRef → Type 0) → W → ℕ → Shape
+abbrev pub counted_forms : {W T : Type 0} → (W → Option T → W → Type 0) → (T → Meaning ArcRef → Type 0) → W → ℕ → Shape
     → Piece
-counted next M walk count s = record {
+counted_forms next M walk count s = record {
   wrote = λ n. WritesCounted next M walk count n s;
   lacks = λ n. RefusedCounted next M walk count n s;
 }

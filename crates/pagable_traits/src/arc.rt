@@ -1,11 +1,16 @@
 //! References that hold their shared value.
 
-ghost use Rattle.std.specs.{Arc.arc_value, Prelude.{IfErr, IfOk, IfSome, nat_eq, ◌≡◌, ◌≢◌}};
+ghost use Rattle.pagable_traits.specs.{
+  Erased.IsValueOfHandle,
+  HeldValues.holding_beside,
+  Meanings.exactly,
+  References.{holding_kind, holding_means, holding_reference, lending_causes, reads_lending, reference_has_one_form},
+};
 ghost use Rattle.pagable_value_spec.specs.Shape.{reference as reference_shape};
-ghost use Rattle.pagable_traits.specs.{HeldValues.holding_beside, Erased.IsToldAt, Meanings.exactly, References.{holding, holding_kind, holding_means, reads_unlent, reference_has_one_form, unlent}};
+ghost use Rattle.std.specs.{Arc.arc_value, Prelude.{IfErr, IfOk, IfSome, nat_eq, ◌≡◌, ◌≢◌}};
 
 use crate::raw_ref::{read_reference, write_reference};
-use crate::storage::{FirstHandle, has_gone};
+use crate::storage::{FirstHandle, was_released_despite};
 use crate::{
     Canonical, Carried, OneMeaning, PagableArc, PagableDeserialize, PagableSerialize, Storage,
 };
@@ -55,7 +60,7 @@ impl<T, const PINS: bool> HoldingArc<T, PINS> {
     pub fn reference<E: Env>(&self) -> ArcRef
     where
         T: OfNode<E>,
-        ensures { result ≡ holding T.TYPE PINS self.now }
+        ensures { result ≡ holding_reference T.TYPE PINS self.now }
     {
         ArcRef {
             kind: holding_kind_of::<E, T>(PINS),
@@ -72,7 +77,8 @@ impl<T, const PINS: bool> HoldingArc<T, PINS> {
     ) -> Result<HoldingArc<T, PINS>, Shared<T>>
     where
         T: OfNode<E>,
-        ensures ok { IfOk result (λ a. (holding T.TYPE PINS a ≡ reference) × (arc_value a.value ≡ arc_value value)) }
+        ensures ok { IfOk result (λ a. (holding_reference T.TYPE PINS a ≡ reference)
+            × (arc_value a.value ≡ arc_value value)) }
         ensures back { IfErr result (λ v. (reference.kind.0 ≢ holding_kind T.TYPE PINS)
             × (arc_value v ≡ arc_value value)) }
     {
@@ -93,7 +99,7 @@ impl<T, const PINS: bool> HoldingArc<T, PINS> {
         self.value.as_ref()
     }
 
-    /// Returns whether both refer to the same node. It compares no values.
+    /// Returns whether both references refer to the same node. The call compares no values.
     pub fn ptr_eq(left: &HoldingArc<T, PINS>, right: &HoldingArc<T, PINS>) -> bool
         ensures { result ≡ nat_eq left.now.node.0 right.now.node.0 }
     {
@@ -118,7 +124,8 @@ impl<T, const PINS: bool> HoldingArc<T, PINS> {
     where
         T: OfNode<E> + Drop,
         ensures holds { IfOk result (λ a. arc_value a.value ≡ arc_value value) }
-        ensures told { IfOk result (λ a. IsToldAt T.held (S.told storage.now) a.handle.0 (arc_value value)) }
+        ensures handle_value { IfOk result (λ a. IsValueOfHandle T.held (S.nodes_by_handle storage.now) a.handle.0
+            (arc_value value)) }
         ensures back { IfErr result (λ r. arc_value r.1 ≡ arc_value value) }
     {
         let inserted = match Shared::try_clone(&value) {
@@ -149,7 +156,8 @@ impl<T, const PINS: bool> HoldingArc<T, PINS> {
     where
         T: Drop,
         ensures value { IfOk result (λ a. arc_value a.value ≡ arc_value self.now.value) }
-        ensures told { IfOk result (λ a. IfSome (S.told storage.now) (λ at. at a.handle.0 ≡ at self.now.handle.0)) }
+        ensures handle_value { IfOk result (λ a. IfSome (S.nodes_by_handle storage.now)
+            (λ at. at a.handle.0 ≡ at self.now.handle.0)) }
         ensures node { IfOk result (λ a. a.node ≡ self.now.node) }
     {
         let value = Shared::try_clone(&self.value)?;
@@ -178,7 +186,7 @@ impl<T, const PINS: bool> HoldingArc<T, PINS> {
     {
         match storage.release(rt, self.handle) {
             Ok(()) => Ok(()),
-            Err(e) if has_gone(&e) => Err((e, None)),
+            Err(e) if was_released_despite(&e) => Err((e, None)),
             Err(e) => Err((e, Some(self))),
         }
     }
@@ -230,7 +238,7 @@ fn first_handle(is_pin: bool) -> FirstHandle {
 
 impl<T> HoldingArc<T, true> {
     /// Makes a pin of its node, its handle and the value that it holds.
-    pub(crate) fn of(
+    pub(crate) fn from_handle(
         node: NodeNumber,
         handle: HandleNumber,
         value: Shared<T>,
@@ -245,7 +253,7 @@ impl<T> HoldingArc<T, true> {
         }
     }
 
-    /// Makes the pin a loose reference with the same handle, which pins.
+    /// Turns the pin into a loose reference with the same handle, which pins.
     ///
     /// # Errors
     ///
@@ -261,7 +269,7 @@ impl<T> HoldingArc<T, true> {
         ensures back { IfErr result (λ r. r.1 ≡ self) }
     {
         match storage.into_pagable(rt, self.handle) {
-            Ok(()) => Ok(PagableArc::of(self.node, self.handle)),
+            Ok(()) => Ok(PagableArc::from_handle(self.node, self.handle)),
             Err(e) => Err((e, self)),
         }
     }
@@ -352,15 +360,16 @@ impl<E: Env, T: OfNode<E>, const PINS: bool> PagableSerialize<E> for HoldingArc<
     }
 }
 
-fn unlent_refusal() -> Error
-    ensures { unlent result }
+// Returns the error of reading a reference by which the deserializer lends no value of its type.
+fn not_lent_error() -> Error
+    ensures { lending_causes result }
 {
     Error::Custom(Reason::new("no value of the reference's type is lent"))
 }
 
 impl<'de, E: Env, T: OfNode<E> + Drop, const PINS: bool> PagableDeserialize<'de, E>
     for HoldingArc<T, PINS> {
-    ghost read_causes = { reads_unlent };
+    ghost read_causes = { reads_lending };
 
     /// Reads the next reference, of this sort, and takes the value that the deserializer lends by
     /// it.
@@ -377,7 +386,7 @@ impl<'de, E: Env, T: OfNode<E> + Drop, const PINS: bool> PagableDeserialize<'de,
     ) -> Result<Self, Error> {
         let reference = read_reference(holding_kind_of::<E, T>(PINS), deserializer)?;
         match deserializer.shared::<T>(alloc, reference)? {
-            None => Err(unlent_refusal()),
+            None => Err(not_lent_error()),
             Some(value) => Ok(HoldingArc {
                 node: reference.node,
                 handle: reference.handle,

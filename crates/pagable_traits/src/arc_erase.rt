@@ -1,9 +1,22 @@
-//! What the three sorts of references have in common, whatever type their values have.
+//! The trait of the three sorts of references, `Arc`, `PagableArc` and `PinnedPagableArc`: what can
+//! be done with a reference of any sort to a value of any type.
 
-ghost use Rattle.std.specs.{Arc.arc_value, Prelude.{Bool, IfErr, IfOk, List, Option, Some, codes, false, option_map, refl, true, ℕ, ◌≡◌}};
-ghost use Rattle.pagable_value_spec.specs.{Outcomes.memory, Reading.{read, read_typed}, References.references_in, Cursor.HoldsLentValues};
-ghost use Rattle.{pagable_value_spec.specs.declared.numbers.ArcRef.ArcRef as Reference, pagable_traits.specs.{Clauses.{Reads, Wrote}, References.{holding, holding_kind, holding_name, loose, loose_kind}}};
-ghost use Rattle.pagable_traits.specs.Erased.{IsToldAt, NeedsPagingOut, SetsKey, any_cause, inner, inner_causes};
+ghost use Rattle.pagable_traits.specs.{
+  Clauses.{Reads, Wrote},
+  Erased.{IsValueOfHandle, NeedsPagingOut, SetsKey, any_cause_if, any_error_allowed, form_of_referred},
+  References.{holding_kind, holding_name, holding_reference, loose_kind, loose_reference},
+};
+ghost use Rattle.pagable_value_spec.specs.{
+  Cursor.HoldsLentValues,
+  Outcomes.IsOutOfMemory,
+  Reading.{read, read_typed},
+  References.references_in,
+  declared.numbers.ArcRef.ArcRef as Reference,
+};
+ghost use Rattle.std.specs.{
+  Arc.arc_value,
+  Prelude.{Bool, IfErr, IfOk, List, Option, Some, codes, false, option_map, refl, true, ℕ, ◌≡◌},
+};
 
 use crate::arc::{HoldingArc, holding_kind_of};
 use crate::pagable_arc::{PagableArc, loose_kind_of};
@@ -24,12 +37,13 @@ pub trait ArcErase<E: Env>: Sized {
 
     ghost KIND: { ℕ };
 
-    ghost referred: { Self → Reference };
+    ghost own_reference: { Self → Reference };
 
-    // whether these references refer to cells, which have keys of their own
+    // Says whether these references are loose: they refer to cells, which have keys of their own.
     ghost is_paged: { Bool };
 
-    // the reference refers to this value, as far as its storage tells the values of handles
+    // Says that the reference refers to this value, if it is known to which node each handle
+    // refers.
     ghost refers_to: { Self → Option (ℕ → Option E.Node) → Self.Value → Type 0 };
 
     /// Returns the kind of these references.
@@ -38,13 +52,14 @@ pub trait ArcErase<E: Env>: Sized {
 
     /// Returns the reference with its kind.
     fn as_reference(&self) -> ArcRef
-        ensures { result ≡ referred self.now };
+        ensures { result ≡ own_reference self.now };
 
-    ghost of_kind: { (a : Self) → (referred a).kind.0 ≡ KIND };
+    ghost of_kind: { (a : Self) → (own_reference a).kind.0 ≡ KIND };
 
-    /// Returns the identity by which page-out counts the reference: its node, by this kind.
+    /// Returns the identity by which page-out knows what the reference refers to: the kind and the
+    /// node.
     fn identity(&self) -> Identity
-        ensures { result ≡ record { kind = record { 0 = KIND }; node = (referred self.now).node } }
+        ensures { result ≡ record { kind = record { 0 = KIND }; node = (own_reference self.now).node } }
     {
         Identity {
             kind: Self::kind(),
@@ -68,7 +83,7 @@ pub trait ArcErase<E: Env>: Sized {
     /// - `OutOfMemory` only, if the value can't be shared once more.
     fn from_node(alloc: Global, node: &E::Node) -> Result<Option<Shared<Self::Value>>, Error>
         ensures value { IfOk result (λ found. option_map arc_value found ≡ Self.Value.held node.now) }
-        ensures only { IfErr result memory };
+        ensures only { IfErr result IsOutOfMemory };
 
     /// Returns the references in the value that this one refers to, in the order in which each form
     /// lists them. A loose reference is followed to get the value; handles and counts are then as
@@ -86,12 +101,12 @@ pub trait ArcErase<E: Env>: Sized {
     ) -> Result<Vec<ArcRef>, Error>
     where
         Self::Value: Refers<E> + Drop,
-        ensures ok { IfOk result (λ list. (x : Self.Value) × refers_to self.now (S.told storage.now) x
+        ensures ok { IfOk result (λ list. (x : Self.Value) × refers_to self.now (S.nodes_by_handle storage.now) x
             × (list.items ≡ references_in (Self.Value.Carried.means.meaning x))) }
-        ensures only { IfErr result (inner_causes is_paged memory) };
+        ensures only { IfErr result (any_cause_if is_paged IsOutOfMemory) };
 
-    /// Sets the key of the reference's cell, as `Storage::set_data_key` does. A reference that
-    /// isn't loose has no key, and the call does nothing.
+    /// Sets the key of a loose reference's cell, as `Storage::set_data_key` does. For a reference
+    /// that isn't loose the call does nothing.
     ///
     /// # Errors
     ///
@@ -102,7 +117,7 @@ pub trait ArcErase<E: Env>: Sized {
         key: DataKey,
         storage: &S,
     ) -> Result<(), Error>
-        ensures { SetsKey is_paged (S.sets storage.now (referred self.now).handle key) result };
+        ensures { SetsKey is_paged (S.set_key_answers storage.now (own_reference self.now).handle key) result };
 
     /// Returns whether the value has still to be written to the storage: true only for a loose
     /// reference whose cell has no key.
@@ -111,7 +126,7 @@ pub trait ArcErase<E: Env>: Sized {
     ///
     /// - as `Storage::key`, for a loose reference.
     fn needs_paging_out<R: Wait, S: Storage<E>>(&self, rt: &R, storage: &S) -> Result<bool, Error>
-        ensures { NeedsPagingOut is_paged (S.keys storage.now (referred self.now).handle) result };
+        ensures { NeedsPagingOut is_paged (S.key_answers storage.now (own_reference self.now).handle) result };
 
     /// Writes the value that this reference refers to, as the value's type does. A loose reference
     /// is followed to get the value; handles and counts are then as before.
@@ -130,9 +145,9 @@ pub trait ArcErase<E: Env>: Sized {
     where
         Self::Value: PagableSerialize<E> + Drop,
         ensures { Wrote E.Env W.PagableSerializer
-            (inner is_paged (refers_to self.now (S.told storage.now)) Self.Value.Carried.means.of
+            (form_of_referred is_paged (refers_to self.now (S.nodes_by_handle storage.now)) Self.Value.Carried.means.of
             (Self.Value.Carried.shape (W.environment serializer.old)))
-            (inner_causes is_paged Self.Value.PagableSerialize.write_causes.are) serializer.old serializer.new result };
+            (any_cause_if is_paged Self.Value.PagableSerialize.write_causes.are) serializer.old serializer.new result };
 }
 
 /// A sort of references, without the type of their values.
@@ -183,11 +198,11 @@ impl<E: Env, T: OfNode<E>> ArcErase<E> for PagableArc<T> {
 
     ghost KIND = { loose_kind T.TYPE };
 
-    ghost referred = { loose T.TYPE };
+    ghost own_reference = { loose_reference T.TYPE };
 
     ghost is_paged = { true };
 
-    ghost refers_to = { λ a told x. IsToldAt T.held told a.handle.0 x };
+    ghost refers_to = { λ a nodes x. IsValueOfHandle T.held nodes a.handle.0 x };
 
     ghost of_kind = { λ a. refl };
 
@@ -207,7 +222,7 @@ impl<E: Env, T: OfNode<E>> ArcErase<E> for PagableArc<T> {
 
     fn from_node(alloc: Global, node: &E::Node) -> Result<Option<Shared<T>>, Error>
         ensures value { IfOk result (λ found. option_map arc_value found ≡ T.held node.now) }
-        ensures only { IfErr result memory }
+        ensures only { IfErr result IsOutOfMemory }
     {
         T::from_node(alloc, node)
     }
@@ -220,9 +235,9 @@ impl<E: Env, T: OfNode<E>> ArcErase<E> for PagableArc<T> {
     ) -> Result<Vec<ArcRef>, Error>
     where
         T: Refers<E> + Drop,
-        ensures ok { IfOk result (λ list. (x : T) × IsToldAt T.held (S.told storage.now) self.now.handle.0 x
-            × (list.items ≡ references_in (T.Carried.means.meaning x))) }
-        ensures only { IfErr result (inner_causes true memory) }
+        ensures ok { IfOk result (λ list. (x : T) × IsValueOfHandle T.held (S.nodes_by_handle storage.now)
+            self.now.handle.0 x × (list.items ≡ references_in (T.Carried.means.meaning x))) }
+        ensures only { IfErr result (any_cause_if true IsOutOfMemory) }
     {
         match self.follow(rt, alloc, storage) {
             Ok(pin) => {
@@ -261,9 +276,9 @@ impl<E: Env, T: OfNode<E>> ArcErase<E> for PagableArc<T> {
     where
         T: PagableSerialize<E> + Drop,
         ensures { Wrote E.Env W.PagableSerializer
-            (inner true (λ x. IsToldAt T.held (S.told storage.now) self.now.handle.0 x) T.Carried.means.of
-            (T.Carried.shape (W.environment serializer.old)))
-            (inner_causes true T.PagableSerialize.write_causes.are) serializer.old serializer.new result }
+            (form_of_referred true (λ x. IsValueOfHandle T.held (S.nodes_by_handle storage.now) self.now.handle.0 x)
+            T.Carried.means.of (T.Carried.shape (W.environment serializer.old)))
+            (any_cause_if true T.PagableSerialize.write_causes.are) serializer.old serializer.new result }
     {
         match self.follow(rt, alloc, storage) {
             Ok(pin) => {
@@ -281,11 +296,11 @@ impl<E: Env, T: OfNode<E>, const PINS: bool> ArcErase<E> for HoldingArc<T, PINS>
 
     ghost KIND = { holding_kind T.TYPE PINS };
 
-    ghost referred = { holding T.TYPE PINS };
+    ghost own_reference = { holding_reference T.TYPE PINS };
 
     ghost is_paged = { false };
 
-    ghost refers_to = { λ a told x. x ≡ arc_value a.value };
+    ghost refers_to = { λ a nodes x. x ≡ arc_value a.value };
 
     ghost of_kind = { λ a. refl };
 
@@ -305,7 +320,7 @@ impl<E: Env, T: OfNode<E>, const PINS: bool> ArcErase<E> for HoldingArc<T, PINS>
 
     fn from_node(alloc: Global, node: &E::Node) -> Result<Option<Shared<T>>, Error>
         ensures value { IfOk result (λ found. option_map arc_value found ≡ T.held node.now) }
-        ensures only { IfErr result memory }
+        ensures only { IfErr result IsOutOfMemory }
     {
         T::from_node(alloc, node)
     }
@@ -320,7 +335,7 @@ impl<E: Env, T: OfNode<E>, const PINS: bool> ArcErase<E> for HoldingArc<T, PINS>
         T: Refers<E> + Drop,
         ensures ok { IfOk result (λ list. (x : T) × (x ≡ arc_value self.now.value)
             × (list.items ≡ references_in (T.Carried.means.meaning x))) }
-        ensures only { IfErr result (inner_causes false memory) }
+        ensures only { IfErr result (any_cause_if false IsOutOfMemory) }
     {
         references_of(alloc, self.get())
     }
@@ -352,20 +367,20 @@ impl<E: Env, T: OfNode<E>, const PINS: bool> ArcErase<E> for HoldingArc<T, PINS>
     where
         T: PagableSerialize<E> + Drop,
         ensures { Wrote E.Env W.PagableSerializer
-            (inner false (λ x. x ≡ arc_value self.now.value) T.Carried.means.of
+            (form_of_referred false (λ x. x ≡ arc_value self.now.value) T.Carried.means.of
             (T.Carried.shape (W.environment serializer.old)))
-            (inner_causes false T.PagableSerialize.write_causes.are) serializer.old serializer.new result }
+            (any_cause_if false T.PagableSerialize.write_causes.are) serializer.old serializer.new result }
     {
         self.get().pagable_serialize(serializer)
     }
 }
 
 // Reads a node of the type, and takes its value.
-fn read_held<E: Env<Node: NodeSet<E>>, T: OfNode<E> + Drop, D: PagableDeserializer<E>>(
+fn read_node_value<E: Env<Node: NodeSet<E>>, T: OfNode<E> + Drop, D: PagableDeserializer<E>>(
     alloc: Global,
     deserializer: &mut D,
 ) -> Result<Shared<T>, Error>
-    ensures { Reads E.Env D.PagableDeserializer any_cause
+    ensures { Reads E.Env D.PagableDeserializer any_error_allowed
         (λ v m. (n : E.Node) × (T.held n ≡ Some (arc_value v)) × E.Node.means n m)
         (λ c. read_typed c (E.Node.shape_of (D.environment deserializer.old) T.TYPE))
         deserializer.old deserializer.new result }
@@ -381,8 +396,8 @@ fn read_held<E: Env<Node: NodeSet<E>>, T: OfNode<E> + Drop, D: PagableDeserializ
     }
 }
 
-// A trait's method can't have a bound on the environment's nodes, so each sort has this call
-// outside the trait.
+// A method of a trait can't have a bound on the environment's nodes, so each sort of references has
+// `deserialize_inner` outside the trait `ArcErase`.
 
 impl<T> PagableArc<T> {
     /// Reads a value as a node of its type is read, inserts it into the storage as a new node, and
@@ -401,13 +416,13 @@ impl<T> PagableArc<T> {
     >(rt: &R, alloc: Global, storage: &S, deserializer: &mut D) -> Result<PagableArc<T>, Error>
     where
         T: OfNode<E> + Drop,
-        ensures { Reads E.Env D.PagableDeserializer any_cause
-            (λ a m. (x : T) × IsToldAt T.held (S.told storage.now) a.handle.0 x
+        ensures { Reads E.Env D.PagableDeserializer any_error_allowed
+            (λ a m. (x : T) × IsValueOfHandle T.held (S.nodes_by_handle storage.now) a.handle.0 x
             × ((n : E.Node) × (T.held n ≡ Some x) × E.Node.means n m))
             (λ c. read_typed c (E.Node.shape_of (D.environment deserializer.old) T.TYPE))
             deserializer.old deserializer.new result }
     {
-        let value = match read_held::<E, T, D>(alloc, deserializer) {
+        let value = match read_node_value::<E, T, D>(alloc, deserializer) {
             Ok(value) => value,
             Err(e) => return Err(e),
         };
@@ -440,12 +455,12 @@ impl<T, const PINS: bool> HoldingArc<T, PINS> {
     ) -> Result<HoldingArc<T, PINS>, Error>
     where
         T: OfNode<E> + Drop,
-        ensures { Reads E.Env D.PagableDeserializer any_cause
+        ensures { Reads E.Env D.PagableDeserializer any_error_allowed
             (λ a m. (x : T) × (x ≡ arc_value a.value) × ((n : E.Node) × (T.held n ≡ Some x) × E.Node.means n m))
             (λ c. read_typed c (E.Node.shape_of (D.environment deserializer.old) T.TYPE))
             deserializer.old deserializer.new result }
     {
-        let value = match read_held::<E, T, D>(alloc, deserializer) {
+        let value = match read_node_value::<E, T, D>(alloc, deserializer) {
             Ok(value) => value,
             Err(e) => return Err(e),
         };

@@ -1,8 +1,8 @@
 //! Types that are encoded as another type: borrowed and boxed values as the value itself, longer
 //! tuples as pairs.
 
-ghost use Rattle.std.specs.Prelude.{◌≡◌};
 ghost use Rattle.pagable_traits.specs.Meanings.{seen_by};
+ghost use Rattle.std.specs.Prelude.{◌≡◌};
 
 use crate::one_form::Canonical;
 use crate::traits::{Carried, OneMeaning, PagableDeserialize};
@@ -14,27 +14,28 @@ use std::alloc::Global;
 pub trait EncodedAs {
     type Other;
 
-    // The value of the other type as which a value is encoded.
-    ghost other: { Self → Self.Other };
+    // Sees a value as the value of the other type that is written in its place.
+    ghost as_other: { Self → Self.Other };
 }
 
-/// A type whose values are also decoded as values of the other type.
+/// A type that is also read as the other type: a reader reads a value of the other type, and makes
+/// the value of this type from it.
 pub trait DecodedAs: EncodedAs + Sized {
-    /// Makes the value that is encoded as this one.
+    /// Makes the value that is written as this value of the other type.
     fn from_encoded(value: Self::Other) -> Self
-        ensures { Self.other result ≡ value };
+        ensures { Self.as_other result ≡ value };
 }
 
 impl<E: Env, O: Carried<E>, X: EncodedAs<Other = O>> Carried<E> for X {
     ghost shape = { λ e. O.shape e };
 
-    ghost means = { seen_by X.other O.means };
+    ghost means = { seen_by X.as_other O.means };
 
-    ghost beside = { λ x. O.beside (X.other x) };
+    ghost beside = { λ x. O.beside (X.as_other x) };
 }
 
 impl<E: Env, O: OneMeaning<E>, X: EncodedAs<Other = O>> OneMeaning<E> for X {
-    ghost single = { λ x. O.single (X.other x) };
+    ghost single = { λ x. O.single (X.as_other x) };
 }
 
 impl<E: Env, O: Canonical<E>, X: EncodedAs<Other = O>> Canonical<E> for X {

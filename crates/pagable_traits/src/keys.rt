@@ -4,13 +4,26 @@
 //! continuations. Maps and sets in order of insertion are no keys, since they are equal in any
 //! order.
 
-ghost use Rattle.std.{proofs.Common.◌∙◌, proofs.Math.Bool.and_assoc, specs.Prelude.{◌≡◌, ◌&&◌, map, refl}};
-ghost use Rattle.std.specs.{Cmp.Lexicographic.slice_cmp, Ordering.ordering_then, Box.{boxed_slice_items, boxed_str_bytes}, String.string_bytes};
-ghost use Rattle.pagable_value_spec.specs.{Keys.{KeyOrder, ordered, number_order, integer_order, flag_order, nothing_order, text_order, optional_order, outcome_order, pair_order, list_order}, Meaning.{pair, sequence}};
-ghost use Rattle.pagable_value_spec.specs.Keyed.{number_is_same, integer_is_same, flag_is_same, nothing_is_same, number_is_ordered, integer_is_ordered, flag_is_ordered, text_is_ordered};
-ghost use Rattle.pagable_value_spec.specs.Keyed.{option_is_ordered, result_is_ordered, pair_is_ordered, triple_is_ordered, quadruple_is_ordered, quintuple_is_ordered, list_is_ordered};
-ghost use Rattle.pagable_value_spec.specs.OneForm.{basic_refers_to_nothing};
-ghost use Rattle.pagable_traits.specs.KeyLaws.{IsKey, number_key, text_key, key_alike, key_seen, option_key, pair_key, result_key, list_key, entries_key};
+ghost use Rattle.pagable_traits.specs.{
+  KeyLaws.{IsKey, entries_key, key_alike, key_seen, list_key, number_key, option_key, pair_key, result_key, text_key},
+};
+ghost use Rattle.pagable_value_spec.specs.{
+  Keyed.{flag_is_ordered, flag_is_same, integer_is_ordered, integer_is_same, list_is_ordered, nothing_is_same},
+  Keyed.{number_is_ordered, number_is_same, option_is_ordered, pair_is_ordered, quadruple_is_ordered},
+  Keyed.{quintuple_is_ordered, result_is_ordered, text_is_ordered, triple_is_ordered},
+  Keys.{KeyOrder, flag_order, integer_order, list_order, nothing_order, number_order, optional_order, ordered},
+  Keys.{outcome_order, pair_order, text_order},
+  Meaning.{pair, sequence},
+  OneForm.basic_refers_to_nothing,
+};
+ghost use Rattle.std.proofs.{Common.◌∙◌, Math.Bool.and_assoc};
+ghost use Rattle.std.specs.{
+  Box.{boxed_slice_items, boxed_str_bytes},
+  Cmp.Lexicographic.slice_cmp,
+  Ordering.ordering_then,
+  Prelude.{map, refl, ◌&&◌, ◌≡◌},
+  String.string_bytes,
+};
 
 use crate::impls::holders::Thin;
 use crate::impls::texts::PathText;

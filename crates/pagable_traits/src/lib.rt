@@ -49,6 +49,6 @@ pub use traits::{
     PagableSerialize,
 };
 pub use typetag::{
-    ForTag, HasTypetagRegistry, PagableRegisteredFor, PagableTagged, TagReader,
+    HasOwnTag, HasTypetagRegistry, PagableRegisteredFor, PagableTagged, TagReader,
     TypetagRegistration, TypetagRegistry, deserialize_tagged,
 };

@@ -1,8 +1,10 @@
 //! Canonical types: a value has one meaning, and a meaning one form, so equal values have equal
 //! keys.
 
+ghost use Rattle.pagable_value_spec.specs.{
+  OneForm.{HasOneFormThroughout, basic_has_one_form, over_has_one_form, run_has_one_form, two_has_one_form},
+};
 ghost use Rattle.std.specs.Prelude.{refl};
-ghost use Rattle.pagable_value_spec.specs.OneForm.{HasOneFormThroughout, basic_has_one_form, over_has_one_form, run_has_one_form, two_has_one_form};
 
 use crate::impls::holders::Thin;
 use crate::impls::texts::PathText;

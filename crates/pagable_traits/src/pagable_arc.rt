@@ -1,12 +1,17 @@
-//! Loose references.
+//! Loose references: they hold no value, and are pinned to get it.
 
+ghost use Rattle.pagable_traits.specs.{
+  Erased.IsValueOfHandle,
+  Meanings.exactly,
+  References.{loose_kind, loose_means, loose_reference, reference_has_one_form},
+  declared.pin_future.PinStage.PinStage,
+};
+ghost use Rattle.pagable_value_spec.specs.Shape.{reference as reference_shape};
 ghost use Rattle.std.specs.{Arc.arc_value, Prelude.{IfErr, IfNone, IfOk, IfSome, nat_eq, ◌≡◌, ◌≢◌}};
-ghost use Rattle.pagable_traits.specs.declared.pin_future.PinStage.{PinStage};
-ghost use Rattle.{pagable_value_spec.specs.Shape.reference as reference_shape, pagable_traits.specs.{Erased.IsToldAt, Meanings.exactly, References.{loose, loose_kind, loose_means, reference_has_one_form}}};
 
 use crate::pin_future::PinFuture;
 use crate::raw_ref::write_reference;
-use crate::storage::{FirstHandle, NewPin, has_gone};
+use crate::storage::{FirstHandle, NewPin, was_released_despite};
 use crate::{
     Canonical, Carried, OneMeaning, PagableDeserialize, PagableSerialize, PinnedPagableArc, Storage,
 };
@@ -40,7 +45,7 @@ impl<T> PagableArc<T> {
     pub fn from_reference<E: Env>(reference: ArcRef) -> Option<PagableArc<T>>
     where
         T: OfNode<E>,
-        ensures some { IfSome result (λ a. loose T.TYPE a ≡ reference) }
+        ensures some { IfSome result (λ a. loose_reference T.TYPE a ≡ reference) }
         ensures none { IfNone result (reference.kind.0 ≢ loose_kind T.TYPE) }
     {
         if reference.kind != loose_kind_of::<E, T>() {
@@ -57,7 +62,7 @@ impl<T> PagableArc<T> {
     pub fn reference<E: Env>(&self) -> ArcRef
     where
         T: OfNode<E>,
-        ensures { result ≡ loose T.TYPE self.now }
+        ensures { result ≡ loose_reference T.TYPE self.now }
     {
         ArcRef {
             kind: loose_kind_of::<E, T>(),
@@ -67,7 +72,7 @@ impl<T> PagableArc<T> {
     }
 
     /// Makes a loose reference of its node and its handle.
-    pub(crate) fn of(node: NodeNumber, handle: HandleNumber) -> PagableArc<T>
+    pub(crate) fn from_handle(node: NodeNumber, handle: HandleNumber) -> PagableArc<T>
         ensures { (result.node ≡ node) × (result.handle ≡ handle) }
     {
         PagableArc {
@@ -94,7 +99,8 @@ impl<T> PagableArc<T> {
     ) -> Result<PagableArc<T>, (Error, Arc<T>)>
     where
         T: OfNode<E> + Drop,
-        ensures told { IfOk result (λ a. IsToldAt T.held (S.told storage.now) a.handle.0 (arc_value value)) }
+        ensures handle_value { IfOk result (λ a. IsValueOfHandle T.held (S.nodes_by_handle storage.now) a.handle.0
+            (arc_value value)) }
         ensures back { IfErr result (λ r. arc_value r.1 ≡ arc_value value) }
     {
         let inserted = match Arc::try_clone(&value) {
@@ -102,7 +108,7 @@ impl<T> PagableArc<T> {
             Err(e) => Err(e.into()),
         };
         match inserted {
-            Ok((node, handle)) => Ok(PagableArc::of(node, handle)),
+            Ok((node, handle)) => Ok(PagableArc::from_handle(node, handle)),
             Err(e) => Err((e, value)),
         }
     }
@@ -122,13 +128,13 @@ impl<T> PagableArc<T> {
     ) -> Result<PagableArc<T>, Error>
     where
         T: OfNode<E>,
-        ensures opens { IfOk result (λ a. S.opens storage.now T.TYPE key (a.node, a.handle)) }
+        ensures made { IfOk result (λ a. S.new_cells storage.now T.TYPE key (a.node, a.handle)) }
     {
         let (node, handle) = storage.new_paged_out(rt, alloc, T::TYPE, key)?;
-        Ok(PagableArc::of(node, handle))
+        Ok(PagableArc::from_handle(node, handle))
     }
 
-    /// Makes another reference in the same mode: it pins if this one does.
+    /// Makes another reference to the same cell, in the same mode: it pins if this one does.
     ///
     /// # Errors
     ///
@@ -139,10 +145,11 @@ impl<T> PagableArc<T> {
         storage: &S,
     ) -> Result<PagableArc<T>, Error>
         ensures node { IfOk result (λ a. a.node ≡ self.now.node) }
-        ensures told { IfOk result (λ a. IfSome (S.told storage.now) (λ at. at a.handle.0 ≡ at self.now.handle.0)) }
+        ensures handle_value { IfOk result (λ a. IfSome (S.nodes_by_handle storage.now)
+            (λ at. at a.handle.0 ≡ at self.now.handle.0)) }
     {
         let handle = storage.clone_handle(rt, self.handle)?;
-        Ok(PagableArc::of(self.node, handle))
+        Ok(PagableArc::from_handle(self.node, handle))
     }
 
     /// Pins the reference's cell, loading the value if it isn't in memory. From then on this
@@ -164,7 +171,8 @@ impl<T> PagableArc<T> {
     ) -> Result<PinnedPagableArc<T>, Error>
     where
         T: OfNode<E> + Drop,
-        ensures value { IfOk result (λ p. IsToldAt T.held (S.told storage.now) self.now.handle.0 (arc_value p.value)) }
+        ensures value { IfOk result (λ p. IsValueOfHandle T.held (S.nodes_by_handle storage.now) self.now.handle.0
+            (arc_value p.value)) }
         ensures node { IfOk result (λ p. p.node ≡ self.now.node) }
     {
         let pin = storage.pin(rt, alloc, self.handle)?;
@@ -174,7 +182,7 @@ impl<T> PagableArc<T> {
             was_unpinned,
         } = pin;
         let refused = match T::from_node(alloc, node.as_ref()) {
-            Ok(Some(value)) => return Ok(PinnedPagableArc::of(self.node, handle, value)),
+            Ok(Some(value)) => return Ok(PinnedPagableArc::from_handle(self.node, handle, value)),
             Ok(None) => Error::WrongKind,
             Err(e) => e,
         };
@@ -213,7 +221,8 @@ impl<T> PagableArc<T> {
     ) -> Result<PinnedPagableArc<T>, Error>
     where
         T: OfNode<E> + Drop,
-        ensures value { IfOk result (λ p. IsToldAt T.held (S.told storage.now) self.now.handle.0 (arc_value p.value)) }
+        ensures value { IfOk result (λ p. IsValueOfHandle T.held (S.nodes_by_handle storage.now) self.now.handle.0
+            (arc_value p.value)) }
         ensures node { IfOk result (λ p. p.node ≡ self.now.node) }
     {
         let clone = self.clone(rt, storage)?;
@@ -239,7 +248,7 @@ impl<T> PagableArc<T> {
         key: DataKey,
         storage: &S,
     ) -> Result<(), Error>
-        ensures sets { S.sets storage.now self.now.handle key result }
+        ensures answers { S.set_key_answers storage.now self.now.handle key result }
     {
         storage.set_data_key(rt, self.handle, key)
     }
@@ -259,7 +268,7 @@ impl<T> PagableArc<T> {
     {
         match storage.release(rt, self.handle) {
             Ok(()) => Ok(()),
-            Err(e) if has_gone(&e) => Err((e, None)),
+            Err(e) if was_released_despite(&e) => Err((e, None)),
             Err(e) => Err((e, Some(self))),
         }
     }
@@ -283,7 +292,7 @@ impl<T> PagableArc<T> {
         rt: &R,
         storage: &S,
     ) -> Result<OptionalDataKey, Error>
-        ensures answers { S.keys storage.now self.now.handle result }
+        ensures answers { S.key_answers storage.now self.now.handle result }
     {
         storage.key(rt, self.handle)
     }
@@ -301,7 +310,7 @@ impl<T> PagableArc<T> {
         storage.is_paged_out(rt, self.handle)
     }
 
-    /// Returns whether both refer to the same node.
+    /// Returns whether both references refer to the same node.
     pub fn ptr_eq(left: &PagableArc<T>, right: &PagableArc<T>) -> bool
         ensures { result ≡ nat_eq left.now.node.0 right.now.node.0 }
     {

@@ -1,7 +1,7 @@
 //! Pins that wait without a thread: a task polls them, as it polls its other futures.
 
-ghost use Rattle.std.specs.Prelude.{Err, IfOk, ◌≡◌};
 ghost use Rattle.futures.specs.{Poll.{IfReady, OnPending}, Task.{IsArmed, Keeps}};
+ghost use Rattle.std.specs.Prelude.{Err, IfOk, ◌≡◌};
 
 use crate::arc::PinnedPagableArc;
 use crate::storage::NewPin;
@@ -15,11 +15,11 @@ use std::sync::Wait;
 /// The stage of a polled pin between two polls.
 #[derive(Clone, Copy, Debug, PartialEq)]
 pub enum PinStage {
-    /// No poll has begun it.
+    /// No poll has begun the pin.
     Begin,
-    /// Its load is open; the next poll polls the fetch of its root's blob.
+    /// The pin's load is open; the next poll polls the fetch of the root's blob.
     Fetch,
-    /// It has returned a result, or was cancelled.
+    /// The pin has returned a result, or was cancelled.
     Ended,
 }
 
@@ -46,11 +46,12 @@ pub trait Polls<E: Env>: Sized {
     ) -> Poll<Result<NewPin<E::Node>, Error>>
         ensures pending { OnPending result ((stage self.new ≡ PinStage.Fetch) × IsArmed cx.new) }
         ensures answered { IfReady result (λ r. stage self.new ≡ PinStage.Ended) }
-        ensures again { stage self.old ≡ PinStage.Ended → result ≡ Poll.Ready (Err Error.NoSuchHandle) }
+        ensures ended { stage self.old ≡ PinStage.Ended → result ≡ Poll.Ready (Err Error.NoSuchHandle) }
         ensures kept { Keeps cx.old cx.new };
 
-    /// Takes a returned pin back: handles and counts are then as before the pin.
-    fn take_back<R: Wait>(&self, rt: &R, pinned: HandleNumber, was_unpinned: bool);
+    /// Undoes the pin that `poll` has returned with the handle `pinned`: releases that handle, and
+    /// unpins the loose handle again if it was unpinned before the pin.
+    fn undo_pin<R: Wait>(&self, rt: &R, pinned: HandleNumber, was_unpinned: bool);
 
     /// Cancels the pin: ends its load and releases all that the load owns. A pin that has ended is
     /// unchanged.
@@ -68,7 +69,7 @@ pub struct PinFuture<T, P> {
 }
 
 impl<T, P> PinFuture<T, P> {
-    /// Makes the future of this pin of the node's cell.
+    /// Makes the future that polls this pin of the cell with this node number.
     pub(crate) fn new(node: NodeNumber, pin: P) -> PinFuture<T, P>
         ensures { (result.node ≡ node) × (result.pin ≡ pin) }
     {
@@ -98,7 +99,7 @@ impl<T, P> PinFuture<T, P> {
         T: OfNode<E> + Drop,
         ensures pending { OnPending result ((P.stage self.new.pin ≡ PinStage.Fetch) × IsArmed cx.new) }
         ensures answered { IfReady result (λ r. P.stage self.new.pin ≡ PinStage.Ended) }
-        ensures again { P.stage self.old.pin ≡ PinStage.Ended → result ≡ Poll.Ready (Err Error.NoSuchHandle) }
+        ensures ended { P.stage self.old.pin ≡ PinStage.Ended → result ≡ Poll.Ready (Err Error.NoSuchHandle) }
         ensures node { IfReady result (λ r. IfOk r (λ pin. pin.node ≡ self.old.node)) }
         ensures kept { Keeps cx.old cx.new }
     {
@@ -113,12 +114,12 @@ impl<T, P> PinFuture<T, P> {
         };
         let refused = match T::from_node(alloc, node.as_ref()) {
             Ok(Some(value)) => {
-                return Poll::Ready(Ok(PinnedPagableArc::of(self.node, handle, value)));
+                return Poll::Ready(Ok(PinnedPagableArc::from_handle(self.node, handle, value)));
             }
             Ok(None) => Error::WrongKind,
             Err(e) => e,
         };
-        self.pin.take_back(rt, handle, was_unpinned);
+        self.pin.undo_pin(rt, handle, was_unpinned);
         Poll::Ready(Err(refused))
     }
 

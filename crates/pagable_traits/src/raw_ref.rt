@@ -1,8 +1,18 @@
 //! Raw references: a reference by the number of its kind, without the type of its value.
 
+ghost use Rattle.pagable_traits.specs.{
+  Clauses.{Reads, Wrote, value as form},
+  Meanings.exactly,
+  References.{plain_means, raw_reference, reference_has_one_form},
+};
+ghost use Rattle.pagable_value_spec.specs.{
+  Cursor.{Is, IsLent},
+  Meaning.reference as meaning_of,
+  Outcomes.{IsOutOfMemory, no_own_causes},
+  Reading.read,
+  Shape.reference as reference_shape,
+};
 ghost use Rattle.std.specs.Prelude.{IfNone, IfOk, IfSome, Some, ◌≡◌, ◌≢◌};
-ghost use Rattle.pagable_value_spec.specs.{Outcomes.{memory, no_own_causes}, Meaning.reference as meaning_of, Reading.read, Shape.reference as reference_shape, Cursor.{Is, IsLent}};
-ghost use Rattle.pagable_traits.specs.{Clauses.{Reads, Wrote, value as form}, Meanings.exactly, References.{plain, plain_means, reference_has_one_form}};
 
 use crate::{Canonical, Carried, OneMeaning, PagableDeserialize, PagableSerialize};
 use pagable_codec::{
@@ -21,7 +31,8 @@ pub fn write_reference<E: Env, S: PagableSerializer<E>>(
     reference: ArcRef,
     serializer: &mut S,
 ) -> Result<(), Error>
-    ensures { Wrote E.Env S.PagableSerializer (form (Is meaning_of reference) (reference_shape reference.kind.0)) memory
+    ensures { Wrote E.Env S.PagableSerializer (form (Is meaning_of reference)
+        (reference_shape reference.kind.0)) IsOutOfMemory
         serializer.old serializer.new result }
 {
     serializer.serialize_arc(reference)
@@ -60,7 +71,7 @@ pub struct RawRef<const KIND: u32> {
 impl<const KIND: u32> RawRef<KIND> {
     /// Returns the raw reference, or None if the reference is of another kind.
     pub fn from_reference(reference: ArcRef) -> Option<RawRef<KIND>>
-        ensures some { IfSome result (λ a. plain KIND a ≡ reference) }
+        ensures some { IfSome result (λ a. raw_reference KIND a ≡ reference) }
         ensures none { IfNone result (reference.kind.0 ≢ KIND) }
     {
         if reference.kind.0 != KIND {
@@ -74,7 +85,7 @@ impl<const KIND: u32> RawRef<KIND> {
 
     /// Returns the reference with its kind.
     pub fn reference(&self) -> ArcRef
-        ensures { result ≡ plain KIND self.now }
+        ensures { result ≡ raw_reference KIND self.now }
     {
         ArcRef {
             kind: Kind(KIND),

@@ -1,9 +1,15 @@
 //! The references in a value, as a list.
 #![tactic(auto, using(crate::proofs::Listed::parts), unfolding(pagable_value_spec::specs::References::references_in))]
 
-ghost use Rattle.std.specs.Prelude.{IfErr, IfOk, OnOk, [], map, ◌++◌, ◌∷◌, ◌≡◌};
-ghost use Rattle.{pagable_value_spec.specs.{Outcomes.memory, Meaning.sequence, References.references_in, Shape.both}, pagable_traits.specs.ReadBack.AreRead};
-ghost use Rattle.pagable_traits.specs.{References.{holding_kind, loose_kind}, Refers.{ListsInOrder, both_in_order, list_in_order, optional_in_order, outcome_in_order, reference_in_order}};
+ghost use Rattle.pagable_traits.specs.{
+  ReadBack.AreRead,
+  References.{holding_kind, loose_kind},
+  Refers.{ListsInOrder, both_in_order, list_in_order, optional_in_order, outcome_in_order, reference_in_order},
+};
+ghost use Rattle.pagable_value_spec.{
+  specs.{Meaning.sequence, Outcomes.IsOutOfMemory, References.references_in, Shape.both},
+};
+ghost use Rattle.std.specs.Prelude.{IfErr, IfOk, OnOk, map, [], ◌++◌, ◌∷◌, ◌≡◌};
 
 use crate::arc::HoldingArc;
 use crate::pagable_arc::PagableArc;
@@ -13,8 +19,8 @@ use pagable_codec::{ArcRef, Env, OfNode};
 use pagable_flavors::Error;
 use std::alloc::Global;
 
-/// A type whose values list their references. A type with a hash map in it has no impl, since the
-/// map's entries may be written in any order.
+/// A type whose values list the references in them, in the order of writing. A type with a hash map
+/// in it doesn't implement the trait, since the map's entries may be written in any order.
 pub trait Refers<E: Env>: OneMeaning<E> {
     /// Appends the references in the value, in the order in which they are written.
     ///
@@ -24,7 +30,7 @@ pub trait Refers<E: Env>: OneMeaning<E> {
     fn list_references(&self, list: &mut Vec<ArcRef>) -> Result<(), Error>
         ensures ok { OnOk result (list.new.items ≡ list.old.items
             ++ references_in (Self.Carried.means.meaning self.now)) }
-        ensures only { IfErr result memory };
+        ensures only { IfErr result IsOutOfMemory };
 
     // Each form lists the references in this order.
     ghost in_order: { (e : E) → ListsInOrder (E.parts e) (Self.Carried.shape e) };
@@ -139,7 +145,7 @@ impl<E: Env, A: Refers<E>, B: Refers<E>, C: Refers<E>, D: Refers<E>> Refers<E> f
 /// - `OutOfMemory` only.
 pub fn references_of<E: Env, T: Refers<E>>(alloc: Global, value: &T) -> Result<Vec<ArcRef>, Error>
     ensures ok { IfOk result (λ list. list.items ≡ references_in (T.Carried.means.meaning value.now)) }
-    ensures only { IfErr result memory }
+    ensures only { IfErr result IsOutOfMemory }
 {
     let mut list = Vec::new(alloc);
     value.list_references(&mut list)?;
@@ -147,10 +153,13 @@ pub fn references_of<E: Env, T: Refers<E>>(alloc: Global, value: &T) -> Result<V
 }
 
 /// Appends the references of the items, one item after another. Fails with `OutOfMemory` only.
-fn list_each<E: Env, T: Refers<E>>(items: &[T], list: &mut Vec<ArcRef>) -> Result<(), Error>
+fn list_item_references<E: Env, T: Refers<E>>(
+    items: &[T],
+    list: &mut Vec<ArcRef>,
+) -> Result<(), Error>
     ensures ok { OnOk result (list.new.items ≡ list.old.items
         ++ references_in (sequence (map T.Carried.means.meaning items.now))) }
-    ensures only { IfErr result memory }
+    ensures only { IfErr result IsOutOfMemory }
 {
     for item in items {
         item.list_references(list)?;
@@ -160,13 +169,14 @@ fn list_each<E: Env, T: Refers<E>>(items: &[T], list: &mut Vec<ArcRef>) -> Resul
 
 impl<E: Env, T: Refers<E>> Refers<E> for Vec<T> {
     fn list_references(&self, list: &mut Vec<ArcRef>) -> Result<(), Error> {
-        list_each(self.as_slice(), list)
+        list_item_references(self.as_slice(), list)
     }
 
     ghost in_order = { λ e. list_in_order (E.parts e) (T.Carried.shape e) (T.in_order e) };
 }
 
-/// References are read throughout, as `carried_types_are_read` states for other types.
+/// Proves that a reader reads back each form of a reference, as `carried_types_are_read` does for
+/// other types.
 #[tactic(auto, using(crate::specs::References::reference_is_read))]
 pub fn references_are_read<E: Env, T: OfNode<E>, const PINS: bool, const KIND: u32>()
     ensures { (e : E) → AreRead (E.parts e) (⟦<HoldingArc<T, PINS> as Carried<E>>⟧.shape e

@@ -2,8 +2,12 @@
 //! values.
 #![tactic(auto, using(crate::proofs::Listed::parts), unfolding(pagable_value_spec::specs::References::references_in))]
 
-ghost use Rattle.{pagable_value_spec.specs.Statics.meanings_of, std.specs.Int.{w8, w16, w32, w64, w128}};
-ghost use Rattle.pagable_traits.specs.Refers.{duration_in_order, flag_in_order, letter_in_order, nothing_in_order, pattern_in_order, signed_in_order, static_in_order, text_in_order, unsigned_in_order};
+ghost use Rattle.pagable_traits.specs.{
+  Refers.{duration_in_order, flag_in_order, letter_in_order, nothing_in_order, pattern_in_order, signed_in_order},
+  Refers.{static_in_order, text_in_order, unsigned_in_order},
+};
+ghost use Rattle.pagable_value_spec.specs.Statics.{meanings_of};
+ghost use Rattle.std.specs.Int.{w128, w16, w32, w64, w8};
 
 use crate::impls::texts::PathText;
 use crate::references::Refers;
@@ -173,5 +177,5 @@ impl<E: Env, T: HasStaticValueRegistry<E>> Refers<E> for StaticValue<T> {
         Ok(())
     }
 
-    ghost in_order = { λ e. static_in_order (E.parts e) (meanings_of T.plain (T.known e)) };
+    ghost in_order = { λ e. static_in_order (E.parts e) (meanings_of T.plain_meaning (T.registered_values e)) };
 }

@@ -1,9 +1,27 @@
 //! Regular expressions, kept with their texts.
 
-ghost use Rattle.std.{proofs.Common.rules, specs.{Cmp.Rules.{comparing, hashing}, Prelude.{IfErr, IfOk, List, ℕ, ◌≡◌, ◌≢◌}, Str.bytes_eq, String.string_bytes}};
-ghost use Rattle.pagable_value_spec.specs.{Outcomes.{long_or, memory}, Keyed.pattern_is_same, Meaning.pattern, OneForm.{basic_has_one_form, basic_refers_to_nothing}, Reading.read, Cursor.{HoldsLentValues, Is}};
-ghost use Rattle.{pagable_value_spec.specs.{Cursor.handles_at, declared.error.Error.TheVariants.RegexRefused}, pagable_traits.specs.Building.{IsBuiltFrom, IsRefusedPattern, ReadsNoPattern}};
-ghost use Rattle.pagable_traits.specs.{Building.{pattern_causes, reads_pattern, refusal_of}, Clauses.{Reads, Wrote, value as form}, Meanings.exactly, OwnCauses.{writes_long_or, writes_memory}};
+ghost use Rattle.pagable_traits.specs.{
+  Building.{IsBuildError, IsBuiltFrom, ReadsRefusedPattern, pattern_causes, reads_pattern, refusal_of},
+  Clauses.{Reads, Wrote, value as form},
+  Meanings.exactly,
+  OwnCauses.{writes_long_or, writes_memory},
+};
+ghost use Rattle.pagable_value_spec.specs.{
+  Cursor.{HoldsLentValues, Is, handles_at},
+  Keyed.pattern_is_same,
+  Meaning.pattern,
+  OneForm.{basic_has_one_form, basic_refers_to_nothing},
+  Outcomes.{IsOutOfMemory, long_or},
+  Reading.read,
+  declared.error.Error.TheVariants.RegexRefused,
+};
+ghost use Rattle.std.proofs.Common.{rules};
+ghost use Rattle.std.specs.{
+  Cmp.Rules.{comparing, hashing},
+  Prelude.{IfErr, IfOk, List, ℕ, ◌≡◌, ◌≢◌},
+  Str.bytes_eq,
+  String.string_bytes,
+};
 ghost use Rattle.std.specs.Hash as fed;
 ghost use Rattle.pagable_value_spec.specs.Shape as shapes;
 
@@ -25,7 +43,7 @@ pub struct SavedRegex {
     built: Regex,
 }
 
-// Contracts see it as its text.
+// Contracts see a saved regular expression as its text.
 impl Model for SavedRegex {
     ghost Value = { List ℕ };
 
@@ -34,7 +52,8 @@ impl Model for SavedRegex {
     ghost invariant = { λ r. IsBuiltFrom (string_bytes r.text) r.built };
 }
 
-/// Returns the error for an error of `regex`: `RegexRefused`, except for `OutOfMemory`.
+/// Turns an error of the crate `regex` into one of ours: `OutOfMemory` stays `OutOfMemory`, and any
+/// other becomes `RegexRefused`.
 fn refusal(cause: regex::Error) -> Error
     ensures { result ≡ refusal_of cause }
 {
@@ -46,7 +65,7 @@ fn refusal(cause: regex::Error) -> Error
 /// `RegexRefused` if `regex` refuses the text, else only with `OutOfMemory`.
 fn build(alloc: Global, text: &str) -> Result<Regex, Error>
     ensures built { IfOk result (IsBuiltFrom text.now) }
-    ensures refused { IfErr result (IsRefusedPattern text.now) }
+    ensures refused { IfErr result (IsBuildError text.now) }
 {
     Regex::new(alloc, text).map_err(refusal)
 }
@@ -60,7 +79,7 @@ impl SavedRegex {
     /// - `OutOfMemory`.
     pub fn new(alloc: Global, text: &str) -> Result<SavedRegex, Error>
         ensures pattern { IfOk result (λ r. r ≡ text.now) }
-        ensures refused { IfErr result (IsRefusedPattern text.now) }
+        ensures refused { IfErr result (IsBuildError text.now) }
     {
         let built = build(alloc, text)?;
         let text = String::from_str(alloc, text)?;
@@ -135,7 +154,7 @@ impl<E: Env> PagableKey<E> for SavedRegex {
 #[tactic(auto, using(pagable_codec::proofs::Writing::parts, crate::proofs::Parts::writes_pattern, crate::proofs::Parts::refused_pattern))]
 fn write_text<E: Env, S: PagableSerializer<E>>(text: &str, serializer: &mut S) -> Result<(), Error>
     ensures { Wrote E.Env S.PagableSerializer (form (Is pattern text.now) shapes.pattern)
-        (long_or memory) serializer.old serializer.new result }
+        (long_or IsOutOfMemory) serializer.old serializer.new result }
 {
     serializer.serde().write_str(text)
 }
@@ -154,9 +173,9 @@ fn read_text<E: Env, D: PagableDeserializer<E>>(
     alloc: Global,
     deserializer: &mut D,
 ) -> Result<String, Error>
-    ensures reads { Reads E.Env D.PagableDeserializer memory (Is (λ t. pattern (string_bytes t)))
+    ensures reads { Reads E.Env D.PagableDeserializer IsOutOfMemory (Is (λ t. pattern (string_bytes t)))
         (λ c. read c shapes.pattern) deserializer.old deserializer.new result }
-    ensures unbuilt { IfErr result (λ e. e ≢ RegexRefused) }
+    ensures never_refused { IfErr result (λ e. e ≢ RegexRefused) }
 {
     deserializer.serde().read_string(alloc)
 }
@@ -178,7 +197,7 @@ impl<'de, E: Env> PagableDeserialize<'de, E> for SavedRegex {
         ensures reads { Reads E.Env D.PagableDeserializer pattern_causes (Is pattern)
             (λ c. read c shapes.pattern) deserializer.old deserializer.new result }
         ensures holds { IfOk result (HoldsLentValues (D.input_state deserializer.old) (λ x r y. Unit {0})) }
-        ensures refused { IfErr result (λ e. e ≡ RegexRefused → ReadsNoPattern
+        ensures refused { IfErr result (λ e. e ≡ RegexRefused → ReadsRefusedPattern
             (read (handles_at (D.levels deserializer.old) (E.parts (D.environment deserializer.old))) shapes.pattern
             (D.rest deserializer.old))) }
     {

@@ -2,11 +2,27 @@
 //! `T` is the reference to what is static, such as `&'static str`: nothing is proved yet for a
 //! `&'static T` with a type parameter `T`.
 
-ghost use Rattle.std.specs.{List.{Sorted.{IsPermutation, IsSorted, IsStable}, slice_get}, Prelude.{Err, IfErr, IfNone, IfOk, IfSome, IsTrue, List, Option, Some, length, map, vec_len, ◌<◌, ◌↔◌, ◌≡◌}};
-ghost use Rattle.std.specs.Prelude.{◌≤◌};
-ghost use Rattle.pagable_value_spec.specs.{BasicValues.longest, Canonical.HasNoReference, Outcomes.{MatchesReading, memory_or, no_own_causes}, Lengths.long_or_memory, Meaning.{Meaning, lifted}, Reading.{read, registered}};
-ghost use Rattle.{pagable_value_spec.specs.{Shape.static_value, Cursor.{HoldsLentValues, Is}, Statics.{HasEqual, NoEqualBelow, StandsAt, meanings_of, unregistered}}, pagable_traits.specs.Clauses.{Reads, Wrote}};
-ghost use Rattle.pagable_traits.specs.{Clauses.value as form, Meanings.exactly, OwnCauses.writes_memory_or, StaticValues.{static_is_same, static_refers_to_nothing, writes_unregistered}};
+ghost use Rattle.pagable_traits.specs.{
+  Clauses.{Reads, Wrote, value as form},
+  Meanings.exactly,
+  OwnCauses.writes_memory_or,
+  StaticValues.{static_is_same, static_refers_to_nothing, writes_unregistered},
+};
+ghost use Rattle.pagable_value_spec.specs.{
+  BasicValues.longest,
+  Canonical.HasNoReference,
+  Cursor.{HoldsLentValues, Is},
+  Lengths.long_or_memory,
+  Meaning.{Meaning, lifted},
+  Outcomes.{MatchesReading, memory_or, no_own_causes},
+  Reading.{read, registered},
+  Shape.static_value,
+  Statics.{HasEqual, NoEqualBelow, StandsAt, meanings_of, unregistered},
+};
+ghost use Rattle.std.specs.{
+  List.{Sorted.{IsPermutation, IsSorted, IsStable}, slice_get},
+  Prelude.{Err, IfErr, IfNone, IfOk, IfSome, IsTrue, List, Option, Some, length, map, vec_len, ◌<◌, ◌↔◌, ◌≡◌, ◌≤◌},
+};
 
 use crate::keys::PagableKey;
 use crate::traits::{Carried, OneMeaning, PagableDeserialize, PagableSerialize};
@@ -110,6 +126,7 @@ impl<T> Model for StaticValueRegistry<T> {
     ghost invariant = { λ r. vec_len r.values ≤ longest };
 }
 
+// Returns the values of these entries, without their indices.
 fn values_of<T: Copy>(alloc: Global, entries: &[StaticValueEntry<T>]) -> Result<Vec<T>, AllocError>
     ensures { IfOk result (λ v. v.items ≡ map (λ e. e.value) entries.now) }
 {
@@ -155,7 +172,8 @@ impl<T: Copy> StaticValueRegistry<T> {
         Some(StaticValue(StaticValueEntry { value, index }))
     }
 
-    /// Returns the least index of an equal value, or None if there is none.
+    /// Returns the least index under which the registry has a value equal to this one, or None if
+    /// it has none.
     pub fn index_of(&self, value: &T) -> Option<u32>
     where
         T: PartialEq,
@@ -168,7 +186,7 @@ impl<T: Copy> StaticValueRegistry<T> {
     }
 }
 
-/// Returns the first place of an equal value, or None if there is none.
+/// Returns the first place in `values` of a value equal to `value`, or None if there is none.
 #[tactic(auto, using(crate::proofs::Registered::finding))]
 fn first_equal<T: PartialEq>(values: &[T], value: &T) -> Option<usize>
     ensures within { IfSome result (λ i. i < length values.now) }
@@ -186,22 +204,22 @@ fn first_equal<T: PartialEq>(values: &[T], value: &T) -> Option<usize>
 
 /// A type whose values are in a registry of the environment.
 pub trait HasStaticValueRegistry<E: Env>: Ord + Copy + Sized {
-    // What a value means: it holds no references.
-    ghost plain: { Self → Meaning ⊥ };
+    // What a value means: a meaning without references.
+    ghost plain_meaning: { Self → Meaning ⊥ };
 
     // The registered values, by their index.
-    ghost known: { E → List Self };
+    ghost registered_values: { E → List Self };
 
     /// Returns the registry of this type in the environment.
     fn registry(env: &E) -> &StaticValueRegistry<Self>
-        ensures { result.now ≡ known env.now };
+        ensures { result.now ≡ registered_values env.now };
 
     // Values are equal exactly if they mean the same.
-    ghost same_meaning: { (x y : Self) → IsTrue (Self.eq x y) → plain x ≡ plain y };
+    ghost same_meaning: { (x y : Self) → IsTrue (Self.eq x y) → plain_meaning x ≡ plain_meaning y };
 
-    ghost same_value: { (x y : Self) → plain x ≡ plain y → IsTrue (Self.eq x y) };
+    ghost same_value: { (x y : Self) → plain_meaning x ≡ plain_meaning y → IsTrue (Self.eq x y) };
 
-    ghost holds_no_reference: { (x : Self) → HasNoReference (plain x) };
+    ghost holds_no_reference: { (x : Self) → HasNoReference (plain_meaning x) };
 }
 
 /// Returns the value that the environment's registry has under this index.
@@ -214,18 +232,19 @@ pub fn registered_value<E: Env, T: HasStaticValueRegistry<E>>(
     index: u32,
     env: &E,
 ) -> Result<StaticValue<T>, Error>
-    ensures gives { MatchesReading no_own_causes (λ v. T.plain v.0.value) result
-        (registered (meanings_of T.plain (T.known env.now)) index) }
+    ensures gives { MatchesReading no_own_causes (λ v. T.plain_meaning v.0.value) result
+        (registered (meanings_of T.plain_meaning (T.registered_values env.now)) index) }
     ensures same_index { IfOk result (λ v. v.0.index ≡ index) }
 {
     T::registry(env).get(index).ok_or(Error::BadStaticIndex)
 }
 
-/// Returns whether the environment's registry has an equal value under the value's own index. An
-/// equal value under another index doesn't count.
+/// Returns whether the environment's registry has, under the index of this static value, a value
+/// equal to it. An equal value under another index doesn't count.
 #[tactic(auto, using(crate::proofs::Registered::steps))]
 pub fn is_registered<E: Env, T: HasStaticValueRegistry<E>>(value: &StaticValue<T>, env: &E) -> bool
-    ensures { IsTrue result ↔ StandsAt T.plain (T.known env.now) value.now.0.value value.now.0.index }
+    ensures { IsTrue result ↔ StandsAt T.plain_meaning (T.registered_values env.now) value.now.0.value
+        value.now.0.index }
 {
     match T::registry(env).get(value.0.index) {
         None => false,
@@ -234,9 +253,9 @@ pub fn is_registered<E: Env, T: HasStaticValueRegistry<E>>(value: &StaticValue<T
 }
 
 impl<E: Env, T: HasStaticValueRegistry<E>> Carried<E> for StaticValue<T> {
-    ghost shape = { λ e. static_value (meanings_of T.plain (T.known e)) };
+    ghost shape = { λ e. static_value (meanings_of T.plain_meaning (T.registered_values e)) };
 
-    ghost means = { exactly (λ v. lifted (T.plain v.0.value)) };
+    ghost means = { exactly (λ v. lifted (T.plain_meaning v.0.value)) };
 }
 
 impl<E: Env, T: HasStaticValueRegistry<E>> OneMeaning<E> for StaticValue<T> {
@@ -247,8 +266,9 @@ impl<E: Env, T: HasStaticValueRegistry<E>> OneMeaning<E> for StaticValue<T> {
 /// equality and hash.
 impl<E: Env, T: HasStaticValueRegistry<E>> PagableKey<E> for StaticValue<T> {
     ghost key = { record {
-      same = λ x y. static_is_same T.eq T.plain T.same_meaning T.same_value x.0.value y.0.value;
-      refers_to_nothing = λ e. static_refers_to_nothing (E.parts e) (meanings_of T.plain (T.known e));
+      same = λ x y. static_is_same T.eq T.plain_meaning T.same_meaning T.same_value x.0.value y.0.value;
+      refers_to_nothing = λ e. static_refers_to_nothing (E.parts e)
+          (meanings_of T.plain_meaning (T.registered_values e));
     } };
 }
 
@@ -264,13 +284,14 @@ impl<E: Env, T: HasStaticValueRegistry<E>> PagableSerialize<E> for StaticValue<T
     #[tactic(auto, using(pagable_codec::proofs::Writing::parts, crate::proofs::Registered::writes_static))]
     fn pagable_serialize<S: PagableSerializer<E>>(&self, serializer: &mut S) -> Result<(), Error>
         ensures wrote { Wrote E.Env S.PagableSerializer
-            (form (Is (λ v. lifted (T.plain v.0.value)) self.now)
-            (static_value (meanings_of T.plain (T.known (S.environment serializer.old)))))
+            (form (Is (λ v. lifted (T.plain_meaning v.0.value)) self.now)
+            (static_value (meanings_of T.plain_meaning (T.registered_values (S.environment serializer.old)))))
             (memory_or unregistered) serializer.old serializer.new result }
         ensures unregistered { IfErr result (λ e. e ≡ Error.Unregistered
-            → ¬ StandsAt T.plain (T.known (S.environment serializer.old)) self.now.0.value self.now.0.index) }
-        ensures missing { ¬ StandsAt T.plain (T.known (S.environment serializer.old)) self.now.0.value self.now.0.index
-            → result ≡ Err Error.Unregistered }
+            → ¬ StandsAt T.plain_meaning (T.registered_values (S.environment serializer.old)) self.now.0.value
+            self.now.0.index) }
+        ensures missing { ¬ StandsAt T.plain_meaning (T.registered_values (S.environment serializer.old))
+            self.now.0.value self.now.0.index → result ≡ Err Error.Unregistered }
     {
         if !is_registered(self, serializer.env()) {
             return Err(Error::Unregistered);
@@ -292,12 +313,12 @@ impl<'de, E: Env, T: HasStaticValueRegistry<E>> PagableDeserialize<'de, E> for S
         alloc: Global,
         deserializer: &mut D,
     ) -> Result<Self, Error>
-        ensures reads { Reads E.Env D.PagableDeserializer no_own_causes (Is (λ v. lifted (T.plain v.0.value)))
-            (λ c. read c (static_value (meanings_of T.plain (T.known (D.environment deserializer.old)))))
-            deserializer.old deserializer.new result }
+        ensures reads { Reads E.Env D.PagableDeserializer no_own_causes (Is (λ v. lifted (T.plain_meaning v.0.value)))
+            (λ c. read c (static_value (meanings_of T.plain_meaning
+            (T.registered_values (D.environment deserializer.old))))) deserializer.old deserializer.new result }
         ensures holds { IfOk result (HoldsLentValues (D.input_state deserializer.old) (λ v r y. Unit {0})) }
-        ensures stands { IfOk result (λ v. StandsAt T.plain (T.known (D.environment deserializer.old)) v.0.value
-            v.0.index) }
+        ensures registered { IfOk result (λ v. StandsAt T.plain_meaning
+            (T.registered_values (D.environment deserializer.old)) v.0.value v.0.index) }
     {
         let index = <u32 as PagableDeserialize<E>>::pagable_deserialize(alloc, deserializer)?;
         let value = registered_value::<E, T>(index, deserializer.env())?;

@@ -2,8 +2,12 @@
 //! lock, or of a borrowed one.
 
 ghost use Rattle.pagable_traits.specs.declared.pin_future.PinStage.{PinStage};
+ghost use Rattle.pagable_value_spec.specs.declared.{
+  data_key.OptionalDataKey.OptionalDataKey as Key,
+  error.Error.Error as Refusal,
+  numbers.{HandleNumber.HandleNumber as Handle, NodeNumber.NodeNumber as Node},
+};
 ghost use Rattle.std.specs.{Arc.arc_value, Prelude.{IfOk, IfSome, Option, Result, Some, ℕ, ◌≡◌}};
-ghost use Rattle.pagable_value_spec.specs.declared.{data_key.OptionalDataKey.OptionalDataKey as Key, error.Error.Error as Refusal, numbers.{HandleNumber.HandleNumber as Handle, NodeNumber.NodeNumber as Node}};
 
 use crate::pin_future::Polls;
 use pagable_codec::{Env, HandleNumber, NodeNumber};
@@ -23,8 +27,8 @@ pub enum FirstHandle {
     Pinned,
 }
 
-/// A new pin, the value that it holds, and whether the handle by which it was made didn't pin
-/// before.
+/// A new pin: its handle, the value that it holds, and whether the loose handle from which it was
+/// made was unpinned before.
 #[derive(Drop)]
 pub struct NewPin<N> {
     pub handle: HandleNumber,
@@ -32,23 +36,23 @@ pub struct NewPin<N> {
     pub was_unpinned: bool,
 }
 
-/// A store of nodes by handles: each call of a `PagableArc`, a `PinnedPagableArc` or an `Arc` on
-/// its storage makes one of these calls. If the storage tells the values of its handles, a pin
-/// returns that value.
+/// A store of nodes, to which handles refer. `PagableArc`, `PinnedPagableArc` and `Arc` insert, pin
+/// and release by these calls. A storage may state in its contract which node each handle refers
+/// to; then a pin returns the value of the handle's node.
 pub trait Storage<E: Env> {
     /// The storage's polled pin.
     type Pin: Polls<E>;
 
-    // the value of each handle's node, if the storage tells it
-    ghost told: { Self → Option (ℕ → Option E.Node) };
+    // The node to which each handle refers, or None for a storage whose contract doesn't state it.
+    ghost nodes_by_handle: { Self → Option (ℕ → Option E.Node) };
 
-    // the results of asking for the key of a handle's cell, and of setting it to a key; and the
-    // cells made for a type and a key
-    ghost keys: { Self → Handle → Result Key Refusal → Type 0 } = { λ s h r. Unit {0} };
+    // Relations that a storage may choose: which results `key` and `set_data_key` may return for a
+    // handle, and which cells `new_paged_out` may return for a type and a key. By default all may.
+    ghost key_answers: { Self → Handle → Result Key Refusal → Type 0 } = { λ s h r. Unit {0} };
 
-    ghost sets: { Self → Handle → ℕ → Result (Unit {0}) Refusal → Type 0 } = { λ s h k r. Unit {0} };
+    ghost set_key_answers: { Self → Handle → ℕ → Result (Unit {0}) Refusal → Type 0 } = { λ s h k r. Unit {0} };
 
-    ghost opens: { Self → ℕ → ℕ → Node × Handle → Type 0 } = { λ s t k r. Unit {0} };
+    ghost new_cells: { Self → ℕ → ℕ → Node × Handle → Type 0 } = { λ s t k r. Unit {0} };
 
     /// Inserts a node with its first handle. The caller owns that handle; it must own the handles
     /// in the value.
@@ -67,7 +71,7 @@ pub trait Storage<E: Env> {
         node: E::Node,
         first: FirstHandle,
     ) -> Result<(NodeNumber, HandleNumber), Error>
-        ensures value { IfOk result (λ r. IfSome (told self.now) (λ at. at r.1.0 ≡ Some node)) };
+        ensures value { IfOk result (λ r. IfSome (nodes_by_handle self.now) (λ at. at r.1.0 ≡ Some node)) };
 
     /// Makes a cell that has a key and no value, with an unpinned loose handle that the caller
     /// owns. It reads nothing: the caller must know that the blob of the key is read as a value of
@@ -83,7 +87,7 @@ pub trait Storage<E: Env> {
         node_type: u32,
         key: DataKey,
     ) -> Result<(NodeNumber, HandleNumber), Error>
-        ensures opens { IfOk result (opens self.now node_type key) };
+        ensures made { IfOk result (new_cells self.now node_type key) };
 
     /// Makes another handle of a handle's node, in the same mode.
     ///
@@ -91,7 +95,7 @@ pub trait Storage<E: Env> {
     ///
     /// - `NoSuchHandle`, `NumbersSpent`, `OutOfMemory`: nothing changes.
     fn clone_handle<R: Wait>(&self, rt: &R, handle: HandleNumber) -> Result<HandleNumber, Error>
-        ensures value { IfOk result (λ r. IfSome (told self.now) (λ at. at r.0 ≡ at handle.0)) };
+        ensures value { IfOk result (λ r. IfSome (nodes_by_handle self.now) (λ at. at r.0 ≡ at handle.0)) };
 
     /// Pins the cell of a loose handle that the caller owns, loading its value if it isn't in
     /// memory.
@@ -109,7 +113,8 @@ pub trait Storage<E: Env> {
         alloc: Global,
         handle: HandleNumber,
     ) -> Result<NewPin<E::Node>, Error>
-        ensures value { IfOk result (λ p. IfSome (told self.now) (λ at. at handle.0 ≡ Some (arc_value p.value))) };
+        ensures value { IfOk result (λ p. IfSome (nodes_by_handle self.now)
+            (λ at. at handle.0 ≡ Some (arc_value p.value))) };
 
     /// Returns a polled pin of the cell of a loose handle that the caller owns. Its first poll
     /// begins the pin.
@@ -129,7 +134,8 @@ pub trait Storage<E: Env> {
     ///   unpinned all the same.
     fn unpin<R: Wait>(&self, rt: &R, handle: HandleNumber) -> Result<(), Error>;
 
-    /// Makes a Pinned handle that the caller owns a loose one with the same number, which pins.
+    /// Turns a Pinned handle that the caller owns into a loose one with the same number, which
+    /// pins.
     ///
     /// # Errors
     ///
@@ -158,7 +164,7 @@ pub trait Storage<E: Env> {
     ///
     /// - `NoSuchHandle`.
     fn key<R: Wait>(&self, rt: &R, handle: HandleNumber) -> Result<OptionalDataKey, Error>
-        ensures answers { keys self.now handle result };
+        ensures answers { key_answers self.now handle result };
 
     /// Sets the key of a handle's cell; if nothing pins the cell, its value is dropped. For a
     /// Pinned or a Shared handle it changes nothing. The caller must know that the blob of the key
@@ -170,7 +176,7 @@ pub trait Storage<E: Env> {
     /// - `NumbersSpent`, `OutOfMemory` if a cell can't be listed for page-out: the key is set all
     ///   the same.
     fn set_data_key<R: Wait>(&self, rt: &R, handle: HandleNumber, key: DataKey) -> Result<(), Error>
-        ensures answers { sets self.now handle key result };
+        ensures answers { set_key_answers self.now handle key result };
 
     /// Returns whether the value of a handle's cell is only in the storage.
     ///
@@ -180,7 +186,7 @@ pub trait Storage<E: Env> {
     fn is_paged_out<R: Wait>(&self, rt: &R, handle: HandleNumber) -> Result<bool, Error>;
 }
 
-/// Returns whether a release that fails so has released the handle all the same.
-pub(crate) fn has_gone(why: &Error) -> bool {
+/// Returns whether a release that fails with the error `why` has released the handle all the same.
+pub(crate) fn was_released_despite(why: &Error) -> bool {
     matches!(why, Error::NumbersSpent | Error::OutOfMemory)
 }

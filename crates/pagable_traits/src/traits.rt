@@ -1,9 +1,20 @@
 //! The traits of types whose values can be written and read: plainly, into a box, eagerly, and as
 //! the values of nodes.
 
+ghost use Rattle.pagable_traits.specs.{
+  Clauses.{Reads, Wrote, value as form},
+  InNodes.Holds,
+  Meanings.{AreSingle, Meanings},
+  OwnCauses.{ReadCauses, WriteCauses, reads_memory_or, reads_never, writes_memory},
+};
+ghost use Rattle.pagable_value_spec.specs.{
+  Cursor.HoldsLentValues,
+  Outcomes.memory_or,
+  Reading.read,
+  Shape.Shape,
+  declared.{error.Error.Error as Refusal, numbers.ArcRef.ArcRef as Reference},
+};
 ghost use Rattle.std.specs.Prelude.{IfOk, Some, ◌≡◌};
-ghost use Rattle.{pagable_value_spec.specs.{Outcomes.memory_or, Reading.read, Shape.Shape, Cursor.HoldsLentValues, declared.{error.Error.Error as Refusal, numbers.ArcRef.ArcRef as Reference}}, pagable_traits.specs.{InNodes.Holds, Clauses.{Reads, Wrote}}};
-ghost use Rattle.pagable_traits.specs.{Clauses.value as form, Meanings.{AreSingle, Meanings}, OwnCauses.{ReadCauses, WriteCauses, reads_memory_or, reads_never, writes_memory}};
 
 use pagable_codec::{Env, NodeSet, OfNode, PagableDeserializer, PagableSerializer};
 use pagable_flavors::Error;
@@ -32,7 +43,7 @@ pub trait PagableSerialize<E: Env>: Carried<E> {
     ///
     /// # Errors
     ///
-    /// Each leaves in place what was written before, and as many levels entered as before.
+    /// Each error leaves in place what was written before, and as many levels entered as before.
     ///
     /// - `TooLong`, `TooDeep`, `JsonNumber` only if the value has no form.
     /// - the type's other causes (`write_causes`).
@@ -52,8 +63,8 @@ pub trait PagableDeserialize<'de, E: Env>: Carried<E> + Sized {
     ///
     /// # Errors
     ///
-    /// The position is then between the old one and the ends, and as many levels are entered as
-    /// before.
+    /// The position is then at or behind the old one, within the bytes and the keys, and as many
+    /// levels are entered as before.
     ///
     /// - the first fault from the start, an error of a reference included.
     /// - a cause of the type's own (`read_causes`).
@@ -100,8 +111,8 @@ pub trait PagableBoxDeserialize<'de, E: Env>: Carried<E> + Sized {
     ///
     /// # Errors
     ///
-    /// The position is then between the old one and the ends, and as many levels are entered as
-    /// before.
+    /// The position is then at or behind the old one, within the bytes and the keys, and as many
+    /// levels are entered as before.
     ///
     /// - the first fault from the start, an error of a reference included.
     /// - a cause of the type's own (`box_causes`).
@@ -178,8 +189,8 @@ pub trait PagableEagerDeserialize<'de, E: Env>: EagerlyCarried<E> + Sized {
         ensures no_references { (D.rest deserializer.new).refs ≡ (D.rest deserializer.old).refs };
 }
 
-/// A value type of an environment: a node that holds a value has the value's shape and meaning. It
-/// is read without borrowing from the input, so at `'static`.
+/// A value type of an environment: a node that holds a value has the value's shape and meaning.
+/// Values of the type are read without borrowing from the input, so at `'static`.
 pub trait InNode<E: Env<Node: NodeSet<E>>>: OfNode<E>
     + Carried<E>
     + PagableSerialize<E>

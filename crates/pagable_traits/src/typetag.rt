@@ -2,10 +2,29 @@
 //! read by the reader that is registered for the tag. Callers pass registries in; there are no
 //! globals.
 
-ghost use Rattle.std.specs.{Prelude.{Bool, IfErr, IfNone, IfOk, IfSome, List, None, OnOk, Option, Some, [], length, map, ℕ, ◌≡◌, ◌≤◌}, Str.IsUtf8, String.string_bytes};
-ghost use Rattle.pagable_value_spec.specs.{BasicValues.{longest, text_at, text_form}, CarriedTypes.tagged_by, Outcomes.{MatchesReading, long_or, memory, memory_or}, Lengths.long_or_memory, Reading.{bytes_of, read}};
-ghost use Rattle.pagable_value_spec.specs.{Shape.{Shape, tagged}, Cursor.{HoldsLentValues, MovesOn}, Tagged.{HasDistinctTags, IsLastFor, MeansTagged, NoneFor, ReadsWhatIsWritten, grammars}, Writing.{Grows, added}, declared.numbers.ArcRef.ArcRef as Reference};
-ghost use Rattle.pagable_traits.specs.{Clauses.{Reads, Wrote, value as form}, Meanings.Meanings, OwnCauses.{ReadCauses, WriteCauses}, ReadBack.IsReadThroughout};
+ghost use Rattle.pagable_traits.specs.{
+  Clauses.{Reads, Wrote, value as form},
+  Meanings.Meanings,
+  OwnCauses.{ReadCauses, WriteCauses},
+  ReadBack.IsReadableThroughout,
+};
+ghost use Rattle.pagable_value_spec.specs.{
+  BasicValues.{longest, text_at, text_form},
+  CarriedTypes.tagged_by,
+  Cursor.{HoldsLentValues, MovesOn},
+  Lengths.long_or_memory,
+  Outcomes.{IsOutOfMemory, MatchesReading, long_or, memory_or},
+  Reading.{bytes_of, read},
+  Shape.{Shape, tagged},
+  Tagged.{HasDistinctTags, IsLastFor, MeansTagged, NoneFor, ReadsWhatIsWritten, grammars},
+  Writing.{Grows, added},
+  declared.numbers.ArcRef.ArcRef as Reference,
+};
+ghost use Rattle.std.specs.{
+  Prelude.{Bool, IfErr, IfNone, IfOk, IfSome, List, None, OnOk, Option, Some, length, map, ℕ, [], ◌≡◌, ◌≤◌},
+  Str.IsUtf8,
+  String.string_bytes,
+};
 
 use pagable_codec::{Env, PagableDeserializer, PagableSerializer, Reader};
 use pagable_flavors::Error;
@@ -73,7 +92,7 @@ fn write_tag<E: Env, S: PagableSerializer<E>>(tag: &str, serializer: &mut S) -> 
     ensures within { OnOk result (length tag.now ≤ longest) }
     ensures text { IsUtf8 tag.now }
     ensures only { IfErr result (long_or_memory (length tag.now)) }
-    ensures err { Grows (S.out serializer.old) (S.out serializer.new) }
+    ensures grows { Grows (S.out serializer.old) (S.out serializer.new) }
     ensures same_env { S.environment serializer.new ≡ S.environment serializer.old }
     ensures same_levels { S.levels serializer.new ≡ S.levels serializer.old }
 {
@@ -84,14 +103,14 @@ fn write_tag<E: Env, S: PagableSerializer<E>>(tag: &str, serializer: &mut S) -> 
 pub trait PagableRegisteredFor<T> {}
 
 /// A reader that knows the tag of the values that it returns.
-pub trait ForTag {
+pub trait HasOwnTag {
     ghost own_tag: { Self → List ℕ };
 }
 
 /// The readers of the bodies of `T`: one type for all tags, such as an enum with one case for each
 /// tag.
-pub trait TagReader<E: Env, T: PagableTagged<E>>: ForTag {
-    // The shape that the reader reads.
+pub trait TagReader<E: Env, T: PagableTagged<E>>: HasOwnTag {
+    // The shape of the bodies that the reader reads, in an environment.
     ghost grammar: { Self → E → Shape };
 
     // The errors of reading other than faults of the input and errors of references.
@@ -113,15 +132,16 @@ pub trait TagReader<E: Env, T: PagableTagged<E>>: ForTag {
 
 /// A tag, and the reader of the bodies under it, which returns values with this tag.
 #[derive(Drop)]
-pub struct TypetagRegistration<T, F: ForTag> {
+pub struct TypetagRegistration<T, F: HasOwnTag> {
     pub tag: String,
     pub deserialize: F,
-    pub of: PhantomData<T>,
+    pub value_type: PhantomData<T>,
     ghost own: { F.own_tag deserialize ≡ string_bytes tag },
 }
 
-impl<T, F: ForTag> TypetagRegistration<T, F> {
-    /// Registers the reader under its own tag.
+impl<T, F: HasOwnTag> TypetagRegistration<T, F> {
+    /// Makes the registration of a reader under this tag, which must be the reader's own. It isn't
+    /// in a registry yet.
     pub fn new(tag: String, deserialize: F) -> Self
         requires { F.own_tag deserialize ≡ string_bytes tag }
         ensures tag { result.tag ≡ tag }
@@ -130,24 +150,24 @@ impl<T, F: ForTag> TypetagRegistration<T, F> {
         TypetagRegistration {
             tag,
             deserialize,
-            of: PhantomData,
+            value_type: PhantomData,
         }
     }
 }
 
 /// The registrations for `T`, in the order in which they were made.
 #[derive(Drop)]
-pub struct TypetagRegistry<T, F: ForTag> {
+pub struct TypetagRegistry<T, F: HasOwnTag> {
     registrations: Vec<TypetagRegistration<T, F>>,
 }
 
-impl<T, F: ForTag> Model for TypetagRegistry<T, F> {
+impl<T, F: HasOwnTag> Model for TypetagRegistry<T, F> {
     ghost Value = { List (List ℕ × F) };
 
     ghost view = { λ r. map (λ x. (string_bytes x.tag, x.deserialize)) r.registrations.items };
 }
 
-impl<T, F: ForTag> TypetagRegistry<T, F> {
+impl<T, F: HasOwnTag> TypetagRegistry<T, F> {
     /// Makes the registry of these registrations. If a tag is registered twice, the last
     /// registration counts.
     pub fn from_registrations(registrations: Vec<TypetagRegistration<T, F>>) -> Self
@@ -200,7 +220,7 @@ impl<T, F: ForTag> TypetagRegistry<T, F> {
 
 /// Returns the reader of the last registration for this tag, or None if there is none.
 #[tactic(auto, using(crate::proofs::Registered::none_past))]
-fn last_reader<'r, T, F: ForTag>(
+fn last_reader<'r, T, F: HasOwnTag>(
     registrations: &'r [TypetagRegistration<T, F>],
     tag: &str,
 ) -> Option<&'r F>
@@ -220,11 +240,12 @@ fn last_reader<'r, T, F: ForTag>(
     None
 }
 
+// Reads a tag, which is written as a text.
 fn read_tag<E: Env, D: PagableDeserializer<E>>(
     alloc: Global,
     deserializer: &mut D,
 ) -> Result<String, Error>
-    ensures gives { MatchesReading memory (λ t. (string_bytes t, D.rest deserializer.new)) result
+    ensures gives { MatchesReading IsOutOfMemory (λ t. (string_bytes t, D.rest deserializer.new)) result
         (bytes_of text_at (λ t. t) (D.rest deserializer.old)) }
     ensures moves { MovesOn (D.input_state deserializer.old) (D.input_state deserializer.new) }
     ensures same_env { D.environment deserializer.new ≡ D.environment deserializer.old }
@@ -282,12 +303,12 @@ pub fn deserialize_tagged<E: Env, T: HasTypetagRegistry<E>, D: PagableDeserializ
     reader.read(alloc, deserializer)
 }
 
-/// If tags are distinct, and each tag under which a body has a form is registered with a reader of
-/// the shape that is written under it, the forms of tagged values are read back, as
-/// `forms_are_read_again` of `pagable` requires.
+/// Proves that a reader reads back each form of a tagged value, as `forms_are_read_again` of
+/// `pagable` requires, if no tag is registered twice and each tag under which a body has a form is
+/// registered with a reader of the shape that is written under this tag.
 #[tactic(auto, using(crate::proofs::Registered::distinct_is_read))]
 pub fn distinct_tags_are_read_again()
     ensures { (parts : ℕ → Shape) (written : List ℕ → Shape) (registrations : List (List ℕ × Shape))
         → HasDistinctTags registrations → ReadsWhatIsWritten parts written registrations
-        → IsReadThroughout parts (tagged_by written registrations) }
+        → IsReadableThroughout parts (tagged_by written registrations) }
 {}

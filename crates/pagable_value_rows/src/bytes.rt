@@ -23,9 +23,9 @@ impl Env for AnyEnv {
     ghost parts = { λ e number. nothing };
 }
 
-/// Returns the bytes that the serializer has written, or the number of the first error: that of
-/// `done`, else that of `finish`.
-pub fn finished<E: Env>(
+/// Finishes a serializer and returns the bytes that it has written. If `done`, the result of
+/// writing a value with it, or `finish` is an error, returns the error's number.
+pub fn finished_bytes<E: Env>(
     done: Result<(), Error>,
     out: PagableSerializerImpl<'_, E>,
 ) -> Result<Vec<u8>, u32> {
@@ -34,18 +34,18 @@ pub fn finished<E: Env>(
     Ok(data.bytes)
 }
 
-/// Returns the encoding of a value, or the number of the error.
-pub fn written<E: Env, T: PagableSerialize<E>>(
+/// Returns the bytes of a value's encoding, or the number of the error of writing it.
+pub fn encoding_of<E: Env, T: PagableSerialize<E>>(
     alloc: Global,
     env: &E,
     value: &T,
 ) -> Result<Vec<u8>, u32> {
     let mut out = PagableSerializerImpl::testing_new(alloc, env);
     let done = value.pagable_serialize(&mut out);
-    finished(done, out)
+    finished_bytes(done, out)
 }
 
-/// Reads the value at the front of an input.
+/// Reads a value from the start of an input, and ignores the bytes behind it.
 pub fn read<'de, E: Env, T: PagableDeserialize<'de, E>>(
     alloc: Global,
     env: &E,

@@ -1,20 +1,21 @@
 //! Answers for the types of `pagable_examples`, and for static and tagged values, which an
 //! environment registers. `types` answers for all other names.
 
-use crate::bytes::{AnyEnv, read, written};
-use crate::round_trip::{Outcome, Taken, replay, replay_eagerly, replay_in, with_shown};
+use crate::bytes::{AnyEnv, encoding_of, read};
+use crate::round_trip::{Outcome, ReplayedValue, replay, replay_eagerly, replay_in, with_text};
 use crate::types;
 use pagable_examples::animal::{Animal, AnimalReader};
 use pagable_examples::dish::Dish;
-use pagable_examples::expression::{Expression, Sheet};
+use pagable_examples::expression::{Expression, ExpressionEnv};
 use pagable_examples::size::Size;
 use pagable_examples::ticket::Ticket;
 use pagable_examples::zoo::Zoo;
 use pagable_traits::{StaticBytes, StaticStr};
 use std::alloc::Global;
 
-/// Reads a static text and writes it again; shows it with the least index of an equal one.
-fn static_text(alloc: Global, zoo: &Zoo, input: &[u8]) -> Option<Outcome> {
+/// Reads a static text and writes it again. The outcome shows the text, and the least index of an
+/// equal text in the registry.
+fn replay_static_text(alloc: Global, zoo: &Zoo, input: &[u8]) -> Option<Outcome> {
     let outcome = replay_in::<Zoo, StaticStr>(alloc, zoo, input);
     let text = match read::<Zoo, StaticStr>(alloc, zoo, input) {
         Ok(value) => {
@@ -23,17 +24,17 @@ fn static_text(alloc: Global, zoo: &Zoo, input: &[u8]) -> Option<Outcome> {
         }
         Err(_) => None,
     };
-    Some(with_shown(outcome, text))
+    Some(with_text(outcome, text))
 }
 
-/// Reads static bytes and writes them again; shows them as a text.
-fn static_bytes(alloc: Global, zoo: &Zoo, input: &[u8]) -> Option<Outcome> {
+/// Reads static bytes and writes them again. The outcome shows them as a text.
+fn replay_static_bytes(alloc: Global, zoo: &Zoo, input: &[u8]) -> Option<Outcome> {
     let outcome = replay_in::<Zoo, StaticBytes>(alloc, zoo, input);
     let text = match read::<Zoo, StaticBytes>(alloc, zoo, input) {
         Ok(value) => String::from_utf8(value.as_bytes().to_vec(alloc).ok()?).ok(),
         Err(_) => None,
     };
-    Some(with_shown(outcome, text))
+    Some(with_text(outcome, text))
 }
 
 /// Makes an environment that registers static texts, three static byte arrays, and the animal readers
@@ -53,7 +54,7 @@ fn write_animal(alloc: Global, zoo: &Zoo, input: &[u8]) -> Outcome {
         [age] => Animal::Dog(*age),
         _ => Animal::Cat,
     };
-    Ok(Taken::new(input.len(), written(alloc, zoo, &animal)))
+    Ok(ReplayedValue::new(input.len(), encoding_of(alloc, zoo, &animal)))
 }
 
 /// Returns the readers of these names, in their order: of two for one tag the later one counts.
@@ -67,11 +68,12 @@ fn readers(names: &str) -> &'static [AnimalReader] {
     }
 }
 
-/// Answers for a static value, which is shown, or for a tagged one.
-fn registered(alloc: Global, zoo: &Zoo, name: &str, input: &[u8]) -> Option<Outcome> {
+/// Reads and writes again a static text, static bytes or an animal, or writes a new animal, as the
+/// name says.
+fn answer_registered(alloc: Global, zoo: &Zoo, name: &str, input: &[u8]) -> Option<Outcome> {
     match name {
-        "StaticStr" => static_text(alloc, zoo, input),
-        "StaticBytes" => static_bytes(alloc, zoo, input),
+        "StaticStr" => replay_static_text(alloc, zoo, input),
+        "StaticBytes" => replay_static_bytes(alloc, zoo, input),
         "NewAnimal" => Some(write_animal(alloc, zoo, input)),
         _ => Some(replay_in::<Zoo, Animal>(alloc, zoo, input)),
     }
@@ -83,11 +85,11 @@ pub fn answer(alloc: Global, name: &str, input: &[u8]) -> Option<Outcome> {
     match word {
         "StaticStr" | "StaticBytes" | "Animal" | "NewAnimal" => {
             let zoo = zoo(alloc, names)?;
-            registered(alloc, &zoo, word, input)
+            answer_registered(alloc, &zoo, word, input)
         }
         "Dish" => replay::<Dish>(alloc, input),
         "Size" => replay::<Size>(alloc, input),
-        "Expression" => Some(replay_in::<Sheet, Expression>(alloc, &Sheet, input)),
+        "Expression" => Some(replay_in::<ExpressionEnv, Expression>(alloc, &ExpressionEnv, input)),
         "Ticket" => Some(replay_eagerly::<AnyEnv, Ticket>(alloc, &AnyEnv, input)),
         _ => types::answer(alloc, name, input),
     }

@@ -12,4 +12,4 @@ pub mod sessions;
 pub mod types;
 pub mod values;
 
-pub use random::{Draws, input_of};
+pub use random::{RandomGenerator, input_of};

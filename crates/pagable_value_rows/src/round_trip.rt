@@ -1,6 +1,6 @@
 //! Reads values from inputs and writes them again.
 
-use crate::bytes::{AnyEnv, finished, read, written};
+use crate::bytes::{AnyEnv, encoding_of, finished_bytes, read};
 use pagable_core::{NoReferences, PagableDeserializerImpl, PagableSerializerImpl};
 use pagable_flavors::Error;
 use pagable_traits::{
@@ -10,26 +10,26 @@ use pagable_traits::{
 use std::alloc::{AllocError, Global};
 use std::fmt::Display;
 
-/// The value that was read and written; or the number of the error that reading met; or `None` if
-/// two readings, or two ways of writing, that must agree don't.
-pub type Outcome = Result<Taken, Option<u32>>;
+/// The record of a value that was read and written again; or the number of the error that reading
+/// met; or `Err(None)` if two readings, or two ways of writing, that must agree differ.
+pub type Outcome = Result<ReplayedValue, Option<u32>>;
 
-/// A value that was read.
+/// The record of a value that was read from an input and written again.
 #[derive(Drop)]
-pub struct Taken {
-    /// How many bytes of the input it took.
-    pub used: usize,
-    /// Its encoding, or the number of the error.
+pub struct ReplayedValue {
+    /// How many bytes of the input the reader took for the value.
+    pub bytes_read: usize,
+    /// The bytes that were written for the value, or the number of the error of writing it.
     pub written: Result<Vec<u8>, u32>,
     /// The value as a text, if it is shown.
     pub shown: Option<String>,
 }
 
-impl Taken {
+impl ReplayedValue {
     /// Makes the record of a value that isn't shown.
-    pub fn new(used: usize, written: Result<Vec<u8>, u32>) -> Taken {
-        Taken {
-            used,
+    pub fn new(bytes_read: usize, written: Result<Vec<u8>, u32>) -> ReplayedValue {
+        ReplayedValue {
+            bytes_read,
             written,
             shown: None,
         }
@@ -37,9 +37,9 @@ impl Taken {
 }
 
 /// Adds the value's text to an outcome.
-pub fn with_shown(outcome: Outcome, shown: Option<String>) -> Outcome {
-    let taken = outcome?;
-    Ok(Taken { shown, ..taken })
+pub fn with_text(outcome: Outcome, shown: Option<String>) -> Outcome {
+    let replayed = outcome?;
+    Ok(ReplayedValue { shown, ..replayed })
 }
 
 /// Returns the encoding, if a value was read and written.
@@ -47,22 +47,24 @@ pub fn written_bytes(outcome: &Outcome) -> Option<&[u8]> {
     Some(outcome.as_ref().ok()?.written.as_ref().ok()?.as_slice())
 }
 
-/// Prints an outcome: `ok USED WRITTEN = SHOWN`, `refused N`, or `unlike` for `Err(None)`. WRITTEN
-/// is left out if it is what was read, and `= SHOWN` if the value isn't shown.
-pub fn text(alloc: Global, outcome: &Outcome, input: &[u8]) -> Result<String, AllocError> {
-    let taken = match outcome {
-        Ok(taken) => taken,
+/// Prints an outcome: `ok COUNT WRITTEN = SHOWN`, `refused N`, or `unlike` for `Err(None)`. COUNT
+/// is how many bytes were read. WRITTEN is left out if it is what was read, and `= SHOWN` if the
+/// value isn't shown.
+pub fn outcome_text(alloc: Global, outcome: &Outcome, input: &[u8]) -> Result<String, AllocError> {
+    let replayed = match outcome {
+        Ok(replayed) => replayed,
         Err(Some(number)) => return format!(in alloc; "refused {number}"),
         Err(None) => return String::from_str(alloc, "unlike"),
     };
-    let written = written_text(alloc, &taken.written, input.get(..taken.used))?;
-    match &taken.shown {
-        Some(shown) => format!(in alloc; "ok {}{written} = {shown}", taken.used),
-        None => format!(in alloc; "ok {}{written}", taken.used),
+    let written = written_text(alloc, &replayed.written, input.get(..replayed.bytes_read))?;
+    match &replayed.shown {
+        Some(shown) => format!(in alloc; "ok {}{written} = {shown}", replayed.bytes_read),
+        None => format!(in alloc; "ok {}{written}", replayed.bytes_read),
     }
 }
 
-/// Prints ` WRITTEN`, or nothing if the bytes written are those that were read.
+/// Prints a space and what was written: the bytes in hex, `-` for no bytes, or `refused` with the
+/// error's number. Prints nothing if the bytes written are those that were read.
 fn written_text(
     alloc: Global,
     written: &Result<Vec<u8>, u32>,
@@ -79,8 +81,9 @@ fn written_text(
     }
 }
 
-/// Reads the value at the front twice, from the same place. If the first reading fails, the second
-/// one must fail alike: then it returns the error's number, and `None` if they differ.
+/// Reads the value at the position of `source` twice, each time from there, and returns the second.
+/// Fails with the error's number if both readings fail alike, and with `None` if only one fails or
+/// they fail with different errors.
 fn read_twice<'de, E: Env, T: PagableDeserialize<'de, E> + Drop, D: PagableDeserializer<E>>(
     alloc: Global,
     source: &mut D,
@@ -104,8 +107,8 @@ where
     let session = SessionContext::new(alloc);
     let mut source = PagableDeserializerImpl::new(input, &[], NoReferences::new(env, &session));
     let value = read_twice::<E, T, _>(alloc, &mut source)?;
-    let used = PagableDeserializer::<E>::position(&source).byte_pos;
-    Ok(Taken::new(used, written(alloc, env, &value)))
+    let bytes_read = PagableDeserializer::<E>::position(&source).byte_pos;
+    Ok(ReplayedValue::new(bytes_read, encoding_of(alloc, env, &value)))
 }
 
 /// Reads an input as the type `T`, which needs no environment, and writes the value again.
@@ -116,7 +119,8 @@ where
     Some(replay_in::<AnyEnv, T>(alloc, &AnyEnv, input))
 }
 
-/// Does what `replay` does, and shows the value.
+/// Reads an input as the type `T` and writes the value again, as `replay` does, and adds the
+/// value's text to the outcome.
 pub fn shown<'de, T>(alloc: Global, input: &'de [u8]) -> Option<Outcome>
 where
     T: PagableSerialize<AnyEnv> + PagableDeserialize<'de, AnyEnv> + Display + Drop,
@@ -126,7 +130,7 @@ where
         Ok(value) => value.to_string(alloc).ok(),
         Err(_) => None,
     };
-    Some(with_shown(outcome, text))
+    Some(with_text(outcome, text))
 }
 
 /// Reads an input eagerly as the type `T` of an environment, and writes the value eagerly.
@@ -139,10 +143,10 @@ where
     match T::eager_pagable_deserialize(alloc, &mut source) {
         Err(refusal) => Err(Some(refusal.number())),
         Ok(value) => {
-            let used = PagableDeserializer::<E>::position(&source).byte_pos;
+            let bytes_read = PagableDeserializer::<E>::position(&source).byte_pos;
             let mut out = PagableSerializerImpl::testing_new(alloc, env);
             let done = value.eager_pagable_serialize(&mut out);
-            Ok(Taken::new(used, finished(done, out)))
+            Ok(ReplayedValue::new(bytes_read, finished_bytes(done, out)))
         }
     }
 }

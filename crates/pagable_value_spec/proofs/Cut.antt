@@ -1,7 +1,11 @@
 -- Where a text is cut that is made of two, and what stays cut.
-use Rattle.std.proofs.{Common.{List, [], arith, false, inl, inr, length, refl, subst, suc, sym, take, true, ℕ, ◌++◌, ◌<◌, ◌-◌, ◌+◌, ◌∷◌, ◌∙◌, ◌≡◌, ◌≤◌, ◌⊎◌, ap}, lemmas.{List.{get_or_append_left, append-nil, get_or-append-add, get_or-append_right, length-append, take-append-le, take_all}, Str.{IsCharBoundary-end, IsUtf8-append, IsUtf8-from_is_utf8, is_utf8-from_IsUtf8}}}
-use Rattle.std.specs.Str.{IsCharBoundary, IsUtf8, is_utf8}
 use Rattle.pagable_value_spec.specs.{Reasons.{IsCut, IsKept, kept_of}, declared.reason.Reason.Reason}
+use Rattle.std.proofs.{
+  Common.{List, ap, arith, false, inl, inr, length, refl, subst, suc, sym, take, true, ℕ, [], ◌++◌, ◌+◌, ◌-◌, ◌<◌, ◌∙◌, ◌∷◌, ◌≡◌, ◌≤◌, ◌⊎◌},
+  lemmas.List.{append-nil, get_or-append-add, get_or-append_right, get_or_append_left, length-append, take-append-le, take_all},
+  lemmas.Str.{IsCharBoundary-end, IsUtf8-append, IsUtf8-from_is_utf8, is_utf8-from_IsUtf8},
+}
+use Rattle.std.specs.Str.{IsCharBoundary, IsUtf8, is_utf8}
 
 true-not-false : true ≡ false → ⊥
 true-not-false e = cc

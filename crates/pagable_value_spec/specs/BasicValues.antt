@@ -1,8 +1,17 @@
 -- Flags, lengths, texts, byte arrays, characters and durations as bytes: postcard's bool, seq, string, byte array and
 -- char, and serde's Duration.
-use Rattle.std.specs.{Prelude.{ℕ, zero, suc, ◌+◌, ◌/◌, ◌%◌, ◌^◌, List, [], ◌∷◌, ◌++◌, length, take, drop, Bool, true, false, Ok, Err, nat_lt, nat_le, if◌then◌else◌}, Int.{w32, w64}, Char.encode_utf8}
-use Rattle.std.specs.Str.{is_utf8, chars}
-use Rattle.pagable_value_spec.specs.{declared.error.Error.Error, ReadSteps.◌>>=◌, Numbers.{Read, unsigned_form, unsigned_at}}
+use Rattle.pagable_value_spec.specs.{
+  Numbers.{Read, unsigned_at, unsigned_form},
+  ReadSteps.◌>>=◌,
+  declared.error.Error.Error,
+}
+use Rattle.std.specs.{
+  Char.encode_utf8,
+  Int.{w32, w64},
+  Prelude.{Bool, Err, List, Ok, drop, false, if◌then◌else◌, length, nat_le, nat_lt, suc, take, true, zero, ℕ, [], ◌%◌},
+  Prelude.{◌++◌, ◌+◌, ◌/◌, ◌^◌, ◌∷◌},
+  Str.{chars, is_utf8},
+}
 
 -- postcard, bool
 abbrev pub bool_form : Bool → List ℕ

@@ -1,8 +1,13 @@
 -- Canonical shapes (no meaning has two forms), readable shapes (each form can be read), and what a shape is made of.
+use Rattle.pagable_value_spec.specs.{
+  Form.Form,
+  Meaning.{Meaning, followed, pair, variant},
+  Shape.{Shape, array, both, cases, hash_map, list, nested, nothing, optional, outcome, placed_map, placed_set},
+  Shape.{reference, run, sorted_map, sorted_set, static_value, tagged},
+  Trees.{Tree, Types, type_of},
+}
+use Rattle.std.specs.{Int.w8, List.AllByRecursion, Prelude.{List, Some, false, suc, true, zero, ℕ, ◌≡◌, ◌⊎◌}}
 use Rattle.pagable_value_spec.specs.Meaning as meanings
-use Rattle.std.specs.{Prelude.{◌≡◌, ℕ, zero, suc, List, true, false, Some, ◌⊎◌}, Int.w8, List.AllByRecursion}
-use Rattle.pagable_value_spec.specs.Shape.{Shape, nothing, optional, outcome, list, run, array, both, sorted_map, placed_map, hash_map, sorted_set, placed_set, static_value, tagged, cases, reference}
-use Rattle.pagable_value_spec.specs.{Meaning.{Meaning, pair, variant, followed}, Shape.nested, Form.Form, Trees.{Tree, Types, type_of}}
 
 -- no meaning of the shape has two forms, provided that this holds of its numbered parts
 unfoldable pub IsCanonical : Shape → Type 0

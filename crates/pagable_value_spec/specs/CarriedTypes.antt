@@ -1,9 +1,20 @@
 -- The types that values are made of, by their names: how each is encoded, and what its values mean. `()` and
 -- `PhantomData` take no bytes, `usize` is encoded as `u64`, `&T` and `Box<T>` as T, and `Arc<[T]>` is a reference to a
 -- list.
-use Rattle.std.specs.{Prelude.{ℕ, ◌/◌, ◌%◌, List, [], ◌∷◌, Bool, false, cond, Option, Some, None, Result, Ok, Err, map}, Int.w64, Str.bytes_eq, Duration.as_nanos, declared.time.Duration.Duration}
-use Rattle.pagable_value_spec.specs.{Meaning.{Meaning, number, pair, sequence, absent, present, success, failure}, Keys.{Entry, code_order, put_all, put_sorted}, Shape.{Shape, nothing, signed}}
-use Rattle.pagable_value_spec.specs.{Shape.{text, optional, list, both, tagged}, BasicValues.nanos_of_second, declared.numbers.ArcRef.ArcRef}
+use Rattle.pagable_value_spec.specs.{
+  BasicValues.nanos_of_second,
+  Keys.{Entry, code_order, put_all, put_sorted},
+  Meaning.{Meaning, absent, failure, number, pair, present, sequence, success},
+  Shape.{Shape, both, list, nothing, optional, signed, tagged, text},
+  declared.numbers.ArcRef.ArcRef,
+}
+use Rattle.std.specs.{
+  Duration.as_nanos,
+  Int.w64,
+  Prelude.{Bool, Err, List, None, Ok, Option, Result, Some, cond, false, map, ℕ, [], ◌%◌, ◌/◌, ◌∷◌},
+  Str.bytes_eq,
+  declared.time.Duration.Duration,
+}
 use Rattle.pagable_value_spec.specs.Meaning as meanings
 
 -- `String`, `str`, `Box<str>` and `PathText` are texts

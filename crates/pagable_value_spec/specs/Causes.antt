@@ -1,7 +1,12 @@
 -- An error that a reader may add of its own is no fault of the input; an error of a writer is one that writers may
 -- return.
-use Rattle.std.{specs.Prelude.{◌≡◌, true, refl}, proofs.Common.{arith, subst, sym}}
-use Rattle.pagable_value_spec.specs.{declared.error.Error.Error, Refusals.{is_own_reading, may_refuse_writing}, Outcomes.{no_own_causes, memory, memory_or, either, long_or, deep_or, json_causes}}
+use Rattle.pagable_value_spec.specs.{
+  Outcomes.{IsOutOfMemory, deep_or, either, json_causes, long_or, memory_or, no_own_causes},
+  Refusals.{is_own_reading, may_refuse_writing},
+  declared.error.Error.Error,
+}
+use Rattle.std.proofs.Common.{arith, subst, sym}
+use Rattle.std.specs.Prelude.{refl, true, ◌≡◌}
 
 pub never_is_own_reading : (e : Error) → no_own_causes e → is_own_reading e ≡ true
 never_is_own_reading e h = absurd h
@@ -9,10 +14,10 @@ never_is_own_reading e h = absurd h
 pub never_may_refuse_writing : (e : Error) → no_own_causes e → may_refuse_writing e ≡ true
 never_may_refuse_writing e h = absurd h
 
-pub memory_is_own_reading : (e : Error) → memory e → is_own_reading e ≡ true
+pub memory_is_own_reading : (e : Error) → IsOutOfMemory e → is_own_reading e ≡ true
 memory_is_own_reading e h = let P : Error → Type 0 = λ x. is_own_reading x ≡ true in subst P (sym h) refl
 
-pub memory_may_refuse_writing : (e : Error) → memory e → may_refuse_writing e ≡ true
+pub memory_may_refuse_writing : (e : Error) → IsOutOfMemory e → may_refuse_writing e ≡ true
 memory_may_refuse_writing e h = let P : Error → Type 0 = λ x. may_refuse_writing x ≡ true in subst P (sym h) refl
 
 pub memory_or_is_own_reading : (own : Error → Type 0) → ((e : Error) → own e → is_own_reading e ≡ true) → (e : Error)
@@ -41,8 +46,8 @@ pub deep_or_may_refuse_writing : (part : Error → Type 0) → ((e : Error) → 
 deep_or_may_refuse_writing part may e h = grind (arith, may)
 
 -- for a text
-pub text_may_refuse_writing : (e : Error) → long_or memory e → may_refuse_writing e ≡ true
-text_may_refuse_writing = long_or_may_refuse_writing memory memory_may_refuse_writing
+pub text_may_refuse_writing : (e : Error) → long_or IsOutOfMemory e → may_refuse_writing e ≡ true
+text_may_refuse_writing = long_or_may_refuse_writing IsOutOfMemory memory_may_refuse_writing
 
 pub json_may_refuse_writing : (e : Error) → json_causes e → may_refuse_writing e ≡ true
 json_may_refuse_writing e h = grind (arith, memory_may_refuse_writing)

@@ -1,6 +1,13 @@
 -- The codes of Keys tell meanings apart: no two have the same code, and no code is a prefix of another's.
-use Rattle.std.proofs.{lemmas.Bool.Decides.nat_tests, Common.{◌≡◌, ℕ, ◌+◌, ℤ, List, [], ◌∷◌, ◌++◌, length, refl, sym, ap, ◌∙◌, append_assoc, arith}}
-use Rattle.pagable_value_spec.specs.{Numbers.zigzag, Meaning.{Meaning, integer, text, pattern, pair, variant, reference, followed}, Keys.code}
+use Rattle.pagable_value_spec.specs.{
+  Keys.code,
+  Meaning.{Meaning, followed, integer, pair, pattern, reference, text, variant},
+  Numbers.zigzag,
+}
+use Rattle.std.proofs.{
+  Common.{List, ap, append_assoc, arith, length, refl, sym, ℕ, ℤ, [], ◌++◌, ◌+◌, ◌∙◌, ◌∷◌, ◌≡◌},
+  lemmas.Bool.Decides.nat_tests,
+}
 
 pub same-integer : (y z : ℤ) → zigzag y ≡ zigzag z → y ≡ z
 same-integer x0 x1 e = grind (arith, nat_tests)

@@ -1,6 +1,6 @@
 -- What a collection holds after items were put in one after another.
-use Rattle.std.specs.Prelude.{◌≡◌, List, [], ◌∷◌}
-use Rattle.pagable_value_spec.specs.{declared.numbers.ArcRef.ArcRef, Meaning.Meaning, Composite.MeanAll}
+use Rattle.pagable_value_spec.specs.{Composite.MeanAll, Meaning.Meaning, declared.numbers.ArcRef.ArcRef}
+use Rattle.std.specs.Prelude.{List, [], ◌∷◌, ◌≡◌}
 
 -- The items xs were put in one after another: `acc` was there before, and `now` after. `puts` may allow several results
 -- of one item, as a hash map may put an entry anywhere.

@@ -1,7 +1,13 @@
 -- What a value means that holds other values: the meanings of its parts, put together.
-use Rattle.std.{proofs.Common.arith, specs.{Int.w64, Prelude.{◌≡◌, refl, Option, Some, None, Result, Ok, Err, List, [], ◌∷◌, map, ℤ, pos}}}
-use Rattle.pagable_value_spec.specs.{Meaning.{Meaning, integer, pair, sequence, absent, present, success, failure}, CarriedTypes.{of_option, of_result}, Numbers.IsSigned, Cursor.SomeMeaning}
-use Rattle.pagable_value_spec.specs.declared.numbers.ArcRef.{ArcRef}
+use Rattle.pagable_value_spec.specs.{
+  CarriedTypes.{of_option, of_result},
+  Cursor.SomeMeaning,
+  Meaning.{Meaning, absent, failure, integer, pair, present, sequence, success},
+  Numbers.IsSigned,
+  declared.numbers.ArcRef.ArcRef,
+}
+use Rattle.std.proofs.Common.{arith}
+use Rattle.std.specs.{Int.w64, Prelude.{Err, List, None, Ok, Option, Result, Some, map, pos, refl, ℤ, [], ◌∷◌, ◌≡◌}}
 
 -- None means absent, and Some what its value means
 pub data MeansOption {T : Type 0} (M : T → Meaning ArcRef → Type 0) : Option T → Meaning ArcRef → Type 0 where

@@ -1,6 +1,11 @@
 -- The position of a deserializer in its input, and what a reader of values owes.
-use Rattle.std.specs.Prelude.{◌≡◌, ◌≤◌, ℕ, drop, length, Option, Some, Result, Ok, Err, ◌⊎◌}
-use Rattle.pagable_value_spec.specs.{declared.error.Error.Error, declared.numbers.ArcRef.ArcRef, declared.numbers.PagableCursor.PagableCursor, Meaning.Meaning, Shape.Shape, Reading.{Rest, Context, Look}}
+use Rattle.pagable_value_spec.specs.{
+  Meaning.Meaning,
+  Reading.{Context, Look, Rest},
+  Shape.Shape,
+  declared.{error.Error.Error, numbers.{ArcRef.ArcRef, PagableCursor.PagableCursor}},
+}
+use Rattle.std.specs.Prelude.{Err, Ok, Option, Result, Some, drop, length, ℕ, ◌≡◌, ◌≤◌, ◌⊎◌}
 
 -- what a look-up returns for one place of the list of references, by the kind as which the reference is read
 abbrev pub Answer : Type 0

@@ -1,10 +1,21 @@
 -- Which bytes, with which references in their order, are a form (an encoding) of a meaning.
-use Rattle.std.specs.{Prelude.{◌≡◌, ℕ, suc, ◌<◌, ◌≤◌, ◌^◌, List, [], ◌∷◌, ◌++◌, length, Bool, true, Ok, ℤ}, Int.{Width, w32, w64}, Char.IsScalar, Str.IsUtf8}
-use Rattle.pagable_value_spec.specs.{Numbers.{bound, IsSigned, unsigned_form, signed_form}, BasicValues.{longest, bool_form, length_form, text_form, char_form, duration_form, nanos_of_second}, Meaning.Meaning}
-use Rattle.pagable_value_spec.specs.{Meaning.{number, integer, none, pair, variant, sequence, absent, present, success, failure, lifted}, Keys.{Entry, KeyOrder, text_order, Ascends, ItemsAscend, Differ}}
-use Rattle.pagable_value_spec.specs.{Keys.ItemsDiffer, CarriedTypes.{of_entries, of_duration, of_tagged, of_hash_map}, Shape.{Shape, nothing, unsigned, signed, flag, text, letter, duration, pattern, json}}
-use Rattle.pagable_value_spec.specs.Shape.{optional, outcome, list, run, array, both, sorted_map, placed_map, hash_map, sorted_set, placed_set, static_value, tagged, cases, reference, nested}
-use Rattle.pagable_value_spec.specs.Reading.{registered}
+use Rattle.pagable_value_spec.specs.{
+  BasicValues.{bool_form, char_form, duration_form, length_form, longest, nanos_of_second, text_form},
+  CarriedTypes.{of_duration, of_entries, of_hash_map, of_tagged},
+  Keys.{Ascends, Differ, Entry, ItemsAscend, ItemsDiffer, KeyOrder, text_order},
+  Meaning.{Meaning, absent, failure, integer, lifted, none, number, pair, present, sequence, success, variant},
+  Numbers.{IsSigned, bound, signed_form, unsigned_form},
+  Reading.registered,
+  Shape.{Shape, array, both, cases, duration, flag, hash_map, json, letter, list, nested, nothing, optional, outcome},
+  Shape.{pattern, placed_map, placed_set, reference, run, signed, sorted_map, sorted_set, static_value, tagged, text},
+  Shape.unsigned,
+}
+use Rattle.std.specs.{
+  Char.IsScalar,
+  Int.{Width, w32, w64},
+  Prelude.{Bool, List, Ok, length, suc, true, ℕ, ℤ, [], ◌++◌, ◌<◌, ◌^◌, ◌∷◌, ◌≡◌, ◌≤◌},
+  Str.IsUtf8,
+}
 use Rattle.pagable_value_spec.specs.Meaning as meanings
 
 -- A stands for a reference, and kind_of gives its kind; parts says how the environment encodes the numbered parts; the

@@ -1,7 +1,17 @@
 -- Hash maps: what they mean, and what a map holds after one more entry. The order of their entries is open.
-use Rattle.std.{proofs.{Common.{◌∙◌, sym}, lemmas.Simd.map-map}, specs.{Prelude.{◌≡◌, refl, Bool, List, [], ◌∷◌, map, MatchOption, IsPermutation}, List.IsDistinct, Map.{keys_of, lookup, set_value}}}
-use Rattle.pagable_value_spec.specs.{declared.numbers.ArcRef.ArcRef, Meaning.{Meaning, pair, entry}, Keys.Entry, CarriedTypes.of_hash_map}
-use Rattle.pagable_value_spec.specs.Composite.{MeanAll, MeansPair, items_are_meanings, items_single, pair_is_meaning, pair_single}
+use Rattle.pagable_value_spec.specs.{
+  CarriedTypes.of_hash_map,
+  Composite.{MeanAll, MeansPair, items_are_meanings, items_single, pair_is_meaning, pair_single},
+  Keys.Entry,
+  Meaning.{Meaning, entry, pair},
+  declared.numbers.ArcRef.ArcRef,
+}
+use Rattle.std.proofs.{Common.{sym, ◌∙◌}, lemmas.Simd.map-map}
+use Rattle.std.specs.{
+  List.IsDistinct,
+  Map.{keys_of, lookup, set_value},
+  Prelude.{Bool, IsPermutation, List, MatchOption, map, refl, [], ◌∷◌, ◌≡◌},
+}
 
 -- The map after an entry was put in, no key twice: the value of a key that was there is replaced, and a new key may be
 -- anywhere.

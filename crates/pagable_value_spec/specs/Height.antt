@@ -1,7 +1,7 @@
 -- Kinds of references, the children of a value, and how deep references lead. The value type t has the kinds 3t
 -- (shared: an `Arc`), 3t + 1 (loose: a `PagableArc`) and 3t + 2 (pinned: a `PinnedPagableArc`).
-use Rattle.std.specs.Prelude.{ℕ, zero, suc, ◌%◌, ◌+◌, ◌==◌, Bool, not, true, ◌≡◌, ◌⊎◌, max, if◌then◌else◌}
-use Rattle.pagable_value_spec.specs.{Meaning.{Meaning, pair, variant, followed}, Trees.{Tree, tree, type_of}}
+use Rattle.pagable_value_spec.specs.{Meaning.{Meaning, followed, pair, variant}, Trees.{Tree, tree, type_of}}
+use Rattle.std.specs.Prelude.{Bool, if◌then◌else◌, max, not, suc, true, zero, ℕ, ◌%◌, ◌+◌, ◌==◌, ◌≡◌, ◌⊎◌}
 
 abbrev pub is_shared_kind : ℕ → Bool
 is_shared_kind kind = kind % 3 == 0

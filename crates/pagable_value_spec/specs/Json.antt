@@ -1,6 +1,6 @@
 -- JSON values, and what they mean.
-use Rattle.std.specs.{Prelude.{ℕ, ℤ, List, Bool}, Float.Ieee.{Float, to_bits, binary64}}
-use Rattle.pagable_value_spec.specs.Meaning.{Meaning, number, integer, text, none, pair, variant}
+use Rattle.pagable_value_spec.specs.Meaning.{Meaning, integer, none, number, pair, text, variant}
+use Rattle.std.specs.{Float.Ieee.{Float, binary64, to_bits}, Prelude.{Bool, List, ℕ, ℤ}}
 use Rattle.pagable_value_spec.specs.Meaning as meanings
 
 mutual

@@ -1,11 +1,29 @@
 -- What the key law asks of a type, and why it holds of the types that may be keys, composite ones too: when two keys
 -- are the same, and how they are ordered.
-use Rattle.std.{proofs.{Common.{ap, arith, ◌∙◌}, lemmas.{Bool.{and_parts, eqb-true, eq-eqb, Decides.Decides-int_eq}, Slice.Eq.bytes_eq-Decides}}, specs.Cmp.{both_ways, Lexicographic.slice_cmp}}
-use Rattle.std.specs.{Cmp.Lexicographic.pointwise, Option.{option_eq, option_cmp}, Ordering.{nat_cmp, int_cmp, int_eq, bool_cmp, ordering_then}, Prelude.{◌≡◌, ◌&&◌, ◌∷◌, ℕ, ℤ, zero, suc, Bool, true}}
-use Rattle.std.specs.{Prelude.{List, nat_eq, refl, Option, Result}, Result.{result_eq, result_cmp}, Str.bytes_eq, declared.cmp.Ordering.Ordering}
-use Rattle.pagable_value_spec.specs.{Canonical.{LiesIn, Within, Throughout, throughout-in}, CarriedTypes.{of_option, of_result, of_list}, Codes.{one-meaning, same-integer}, Keys.{KeyOrder, code, same_key}}
-use Rattle.pagable_value_spec.specs.{Keys.{ordered, number_order, integer_order, text_order, flag_order, optional_order, outcome_order, pair_order, list_order}, Meaning.{Meaning, number, integer, text}}
-use Rattle.pagable_value_spec.specs.{Meaning.{pattern, pair, none, flag, plain}, Numbers.zigzag, Shape.Shape, declared.numbers.ArcRef.ArcRef}
+use Rattle.pagable_value_spec.specs.{
+  Canonical.{LiesIn, Throughout, Within, throughout-in},
+  CarriedTypes.{of_list, of_option, of_result},
+  Codes.{one-meaning, same-integer},
+  Keys.{KeyOrder, code, flag_order, integer_order, list_order, number_order, optional_order, ordered, outcome_order},
+  Keys.{pair_order, same_key, text_order},
+  Meaning.{Meaning, flag, integer, none, number, pair, pattern, plain, text},
+  Numbers.zigzag,
+  Shape.Shape,
+  declared.numbers.ArcRef.ArcRef,
+}
+use Rattle.std.proofs.{
+  Common.{ap, arith, ◌∙◌},
+  lemmas.{Bool.{Decides.Decides-int_eq, and_parts, eq-eqb, eqb-true}, Slice.Eq.bytes_eq-Decides},
+}
+use Rattle.std.specs.{
+  Cmp.{Lexicographic.{pointwise, slice_cmp}, both_ways},
+  Option.{option_cmp, option_eq},
+  Ordering.{bool_cmp, int_cmp, int_eq, nat_cmp, ordering_then},
+  Prelude.{Bool, List, Option, Result, nat_eq, refl, suc, true, zero, ℕ, ℤ, ◌&&◌, ◌∷◌, ◌≡◌},
+  Result.{result_cmp, result_eq},
+  Str.bytes_eq,
+  declared.cmp.Ordering.Ordering,
+}
 use mathlib.Core.Bool.{beq}
 
 -- no value of the shape holds a reference in any part

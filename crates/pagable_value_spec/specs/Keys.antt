@@ -1,7 +1,18 @@
 -- When keys of maps and items of sets are the same, and how they are ordered.
-use Rattle.std.specs.{Prelude.{◌≡◌, ℕ, zero, suc, List, [], ◌∷◌, ◌++◌, length, Bool, false, Option, Some, None, if◌then◌else◌}, declared.cmp.Ordering.Ordering, Ordering.{nat_cmp, int_cmp}}
-use Rattle.std.specs.{Ordering.ordering_then, Cmp.Lexicographic.slice_cmp, Str.bytes_eq, Option.option_or, BTreeMap.insert_entry, BTreeSet.insert_key}
-use Rattle.pagable_value_spec.specs.{Numbers.zigzag, Meaning.{Meaning, number, integer, text, pattern, none, pair, variant, reference, followed, plain}}
+use Rattle.pagable_value_spec.specs.{
+  Meaning.{Meaning, followed, integer, none, number, pair, pattern, plain, reference, text, variant},
+  Numbers.zigzag,
+}
+use Rattle.std.specs.{
+  BTreeMap.insert_entry,
+  BTreeSet.insert_key,
+  Cmp.Lexicographic.slice_cmp,
+  Option.option_or,
+  Ordering.{int_cmp, nat_cmp, ordering_then},
+  Prelude.{Bool, List, None, Option, Some, false, if◌then◌else◌, length, suc, zero, ℕ, [], ◌++◌, ◌∷◌, ◌≡◌},
+  Str.bytes_eq,
+  declared.cmp.Ordering.Ordering,
+}
 
 -- the order of a type's values, by their meanings; keys and items of sets hold no reference
 abbrev pub KeyOrder : Type 0

@@ -1,5 +1,5 @@
 -- What a value means, apart from how it is kept or written.
-use Rattle.std.specs.Prelude.{ℕ, ℤ, List, [], ◌∷◌, Bool, true, false}
+use Rattle.std.specs.Prelude.{Bool, List, false, true, ℕ, ℤ, [], ◌∷◌}
 
 -- A stands for a reference: the handle that a value holds, a key, or nothing (⊥) if each reference is followed.
 pub data Meaning (A : Type 0) : Type 0 where

@@ -1,7 +1,15 @@
 -- The key of a tree, by recursion on the tree, without a store and without a pager's table.
-use Rattle.std.specs.Prelude.{◌≡◌, ℕ, List, [], ◌∷◌, map, Option, Some}
-use Rattle.pagable_value_spec.specs.{Meaning.{Meaning, number, integer, text, pattern, none, pair, variant, reference, followed}, Shape.Shape, Reading.deepest, Form.Form, Blob.{Blob, key_of}, Trees.Tree}
-use Rattle.pagable_value_spec.specs.{Trees.{KeyRef, Types, IsFollowed}, Height.{Kid, kid, kind_of_kid, tree_of_kid}, Canonical.{IsCanonical, Throughout, IsCanonicalType, EachType}}
+use Rattle.pagable_value_spec.specs.{
+  Blob.{Blob, key_of},
+  Canonical.{EachType, IsCanonical, IsCanonicalType, Throughout},
+  Form.Form,
+  Height.{Kid, kid, kind_of_kid, tree_of_kid},
+  Meaning.{Meaning, followed, integer, none, number, pair, pattern, reference, text, variant},
+  Reading.deepest,
+  Shape.Shape,
+  Trees.{IsFollowed, KeyRef, Tree, Types},
+}
+use Rattle.std.specs.Prelude.{List, Option, Some, map, ℕ, [], ◌∷◌, ◌≡◌}
 
 -- the meaning of a tree's own value, with each child in the place of the reference to it
 unfoldable pub unfolded : Meaning ⊥ → Meaning Kid

@@ -1,7 +1,10 @@
 -- Whole numbers as bytes: the parts of the postcard wire format on varints and on integers with a sign.
-use Rattle.std.specs.{Prelude.{ℕ, zero, suc, ◌+◌, ◌-◌, ◌*◌, ◌/◌, ◌%◌, ◌^◌, List, [], ◌∷◌, Result, Ok, Err, ℤ, pos, negsuc, nat_lt, nat_le, ◌==◌, ◌<◌, if◌then◌else◌}, Int.{Width, w8, w16, w32, w64}}
-use Rattle.std.specs.{Int.w128, Prelude.◌≡◌, Prelude.◌++◌}
-use Rattle.pagable_value_spec.specs.{declared.error.Error.Error, ReadSteps.◌>>=◌}
+use Rattle.pagable_value_spec.specs.{ReadSteps.◌>>=◌, declared.error.Error.Error}
+use Rattle.std.specs.{
+  Int.{Width, w128, w16, w32, w64, w8},
+  Prelude.{Err, List, Ok, Result, if◌then◌else◌, nat_le, nat_lt, negsuc, pos, suc, zero, ℕ, ℤ, [], ◌%◌, ◌*◌, ◌++◌, ◌+◌},
+  Prelude.{◌-◌, ◌/◌, ◌<◌, ◌==◌, ◌^◌, ◌∷◌, ◌≡◌},
+}
 use mir.Val.{bits, hbits}
 
 -- what a reader of bytes returns: a value and the bytes after it

@@ -1,8 +1,13 @@
 -- What holds throughout a composite shape if it holds throughout its parts: no meaning has two forms, and keys hold no
 -- reference.
-use Rattle.std.{specs.Prelude.{◌≡◌, ℕ}, proofs.Common.arith}
-use Rattle.pagable_value_spec.specs.Shape.{Shape, nothing, unsigned, signed, flag, text, letter, duration, pattern, json, optional, outcome, list, run, array, both, sorted_map, placed_map, sorted_set, placed_set}
-use Rattle.pagable_value_spec.specs.{Canonical.{IsCanonical, IsReadable, LiesIn, Throughout}, Keyed.{RefersToNothing, throughout-alone, throughout-over, throughout-two}}
+use Rattle.pagable_value_spec.specs.{
+  Canonical.{IsCanonical, IsReadable, LiesIn, Throughout},
+  Keyed.{RefersToNothing, throughout-alone, throughout-over, throughout-two},
+  Shape.{Shape, array, both, duration, flag, json, letter, list, nothing, optional, outcome, pattern, placed_map},
+  Shape.{placed_set, run, signed, sorted_map, sorted_set, text, unsigned},
+}
+use Rattle.std.proofs.Common.{arith}
+use Rattle.std.specs.Prelude.{ℕ, ◌≡◌}
 
 -- made of no other shape, and no reference
 abbrev pub IsBasic : Shape → Type 0

@@ -1,6 +1,6 @@
 -- What a reader or writer in code may return, compared with what the definitions say of the value.
-use Rattle.std.specs.Prelude.{◌≡◌, List, ◌++◌, Result, Ok, Err, ◌⊎◌}
 use Rattle.pagable_value_spec.specs.declared.error.Error.{Error}
+use Rattle.std.specs.Prelude.{Err, List, Ok, Result, ◌++◌, ◌≡◌, ◌⊎◌}
 
 -- A function's result, seen by view, is what reading gives. If it fails, the error is the first fault that reading
 -- meets, or one of the function's own causes.
@@ -12,8 +12,8 @@ MatchesReading own view (Err e) read = (read ≡ Err e) ⊎ own e
 abbrev pub no_own_causes : Error → Type 0
 no_own_causes e = ⊥
 
-abbrev pub memory : Error → Type 0
-memory e = e ≡ Error.OutOfMemory
+abbrev pub IsOutOfMemory : Error → Type 0
+IsOutOfMemory e = e ≡ Error.OutOfMemory
 
 -- OutOfMemory, or a cause of the parts
 abbrev pub memory_or : (Error → Type 0) → Error → Type 0
@@ -32,7 +32,7 @@ deep_or part e = (e ≡ Error.TooDeep) ⊎ part e
 
 -- a JSON value may fail with TooLong, TooDeep, JsonNumber or OutOfMemory
 abbrev pub json_causes : Error → Type 0
-json_causes e = long_or (deep_or (λ f. (f ≡ Error.JsonNumber) ⊎ memory f)) e
+json_causes e = long_or (deep_or (λ f. (f ≡ Error.JsonNumber) ⊎ IsOutOfMemory f)) e
 
 -- new is old with more at its end
 abbrev pub Extends : {X : Type 0} → List X → List X → Type 0

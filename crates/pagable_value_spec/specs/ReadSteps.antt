@@ -1,6 +1,6 @@
 -- Steps that may fail, one after another.
-use Rattle.std.specs.Prelude.{Result, Ok, Err}
 use Rattle.pagable_value_spec.specs.declared.error.Error.{Error}
+use Rattle.std.specs.Prelude.{Err, Ok, Result}
 
 -- The second step takes what the first returned; if the first fails, so does the whole, with the same error.
 infixl 10 ◌>>=◌

@@ -1,9 +1,21 @@
 -- The reading grammar: what the front of the input means and what is left after it, or the first fault from the front.
-use Rattle.std.specs.{Prelude.{ℕ, ◌-◌, zero, suc, List, [], ◌∷◌, Option, Some, None, Result, Ok, Err, Bool, true, false, ◌==◌, if◌then◌else◌}, Int.{w32, w64}}
-use Rattle.pagable_value_spec.specs.{declared.error.Error.Error, ReadSteps.◌>>=◌, Numbers.{Read, unsigned_at, signed_at}, BasicValues.{length_at, text_at, bool_at, char_at, duration_at}, Meaning.{Meaning, number}}
-use Rattle.pagable_value_spec.specs.{Meaning.{integer, none, variant, sequence, entry, absent, present, success, failure, lifted}, Keys.{text_order, put_all, put_sorted, put_placed, put_sorted_item}}
-use Rattle.pagable_value_spec.specs.{Keys.put_placed_item, CarriedTypes.{of_entries, of_duration, of_tagged, of_hash_map}, Shape.{Shape, nothing, unsigned, signed, flag, text, letter, duration, pattern, json}}
-use Rattle.pagable_value_spec.specs.Shape.{optional, outcome, list, run, array, both, sorted_map, placed_map, hash_map, sorted_set, placed_set, static_value, tagged, cases, reference, nested}
+use Rattle.pagable_value_spec.specs.{
+  BasicValues.{bool_at, char_at, duration_at, length_at, text_at},
+  CarriedTypes.{of_duration, of_entries, of_hash_map, of_tagged},
+  Keys.{put_all, put_placed, put_placed_item, put_sorted, put_sorted_item, text_order},
+  Meaning.{Meaning, absent, entry, failure, integer, lifted, none, number, present, sequence, success, variant},
+  Numbers.{Read, signed_at, unsigned_at},
+  ReadSteps.◌>>=◌,
+  Shape.{Shape, array, both, cases, duration, flag, hash_map, json, letter, list, nested, nothing, optional, outcome},
+  Shape.{pattern, placed_map, placed_set, reference, run, signed, sorted_map, sorted_set, static_value, tagged, text},
+  Shape.unsigned,
+  declared.error.Error.Error,
+}
+use Rattle.std.specs.{
+  Int.{w32, w64},
+  Prelude.{Bool, Err, List, None, Ok, Option, Result, Some, false, if◌then◌else◌, suc, true, zero, ℕ, [], ◌-◌, ◌==◌},
+  Prelude.◌∷◌,
+}
 use Rattle.pagable_value_spec.specs.Meaning as meanings
 
 -- what is left to be read: bytes, and what stands for references, in order

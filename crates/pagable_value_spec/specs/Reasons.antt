@@ -1,6 +1,6 @@
 -- How much a reason keeps of a text that says why a call fails.
-use Rattle.std.specs.{Prelude.{List, [], false, length, take, true, ℕ, ◌++◌, ◌<◌, ◌∷◌, ◌≡◌, ◌≤◌}, Str.IsCharBoundary}
 use Rattle.pagable_value_spec.specs.declared.reason.Reason.{Reason}
+use Rattle.std.specs.{Prelude.{List, false, length, take, true, ℕ, [], ◌++◌, ◌<◌, ◌∷◌, ◌≡◌, ◌≤◌}, Str.IsCharBoundary}
 
 -- the bytes of the text that a reason holds
 abbrev pub kept_of : Reason → List ℕ

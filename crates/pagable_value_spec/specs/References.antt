@@ -1,6 +1,9 @@
 -- The references in a value.
-use Rattle.std.specs.Prelude.{◌≡◌, ◌++◌, if◌then◌else◌, Bool, List, [], ◌∷◌, sum_by}
-use Rattle.pagable_value_spec.specs.{declared.numbers.ArcRef.ArcRef, Meaning.{Meaning, pair, variant, reference, followed}}
+use Rattle.pagable_value_spec.specs.{
+  Meaning.{Meaning, followed, pair, reference, variant},
+  declared.numbers.ArcRef.ArcRef,
+}
+use Rattle.std.specs.Prelude.{Bool, List, if◌then◌else◌, sum_by, [], ◌++◌, ◌∷◌, ◌≡◌}
 
 -- the references in a meaning, from the front
 unfoldable pub references_in : {A : Type 0} → Meaning A → List A

@@ -1,7 +1,7 @@
 -- The numbers of the errors; which of them say that an input or a value is outside the wire format; and which others
 -- readers and writers may return.
-use Rattle.std.specs.Prelude.{ℕ, Bool, true, false}
 use Rattle.pagable_value_spec.specs.declared.error.Error.{Error}
+use Rattle.std.specs.Prelude.{Bool, false, true, ℕ}
 
 -- from 1 on, in the order of the type
 abbrev pub number_of : Error → ℕ

@@ -1,6 +1,6 @@
 -- How the values of a type are encoded.
-use Rattle.std.specs.{Prelude.{ℕ, List, Bool}, Int.Width}
-use Rattle.pagable_value_spec.specs.{Meaning.Meaning, Keys.KeyOrder}
+use Rattle.pagable_value_spec.specs.{Keys.KeyOrder, Meaning.Meaning}
+use Rattle.std.specs.{Int.Width, Prelude.{Bool, List, ℕ}}
 
 pub data Shape : Type 0 where
   -- no byte

@@ -1,6 +1,9 @@
 -- Values that are written as an index into a registry, which is the list of its values by their index.
-use Rattle.std.{specs.Prelude.{◌≡◌, refl, ℕ, ◌<◌, List, map, Bool, true, false, Some, Ok, IsTrue}, proofs.Common.{subst, sym}, specs.List.slice_get}
-use Rattle.pagable_value_spec.specs.{declared.error.Error.Error, Refusals.may_refuse_writing, Meaning.Meaning, Reading.registered}
+use Rattle.pagable_value_spec.{
+  specs.{Meaning.Meaning, Reading.registered, Refusals.may_refuse_writing, declared.error.Error.Error},
+}
+use Rattle.std.proofs.Common.{subst, sym}
+use Rattle.std.specs.{List.slice_get, Prelude.{Bool, IsTrue, List, Ok, Some, false, map, refl, true, ℕ, ◌<◌, ◌≡◌}}
 
 -- what the registry's values mean, by their index
 abbrev pub meanings_of : {T : Type 0} → (T → Meaning ⊥) → List T → List (Meaning ⊥)

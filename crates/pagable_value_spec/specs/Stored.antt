@@ -1,6 +1,10 @@
 -- What a storage may do and return.
-use Rattle.std.specs.{Prelude.{◌≡◌, ◌≢◌, ◌-◌, ◌^◌, ◌<◌, ◌==◌, ◌⊎◌, ◌↔◌, ℕ, Bool, true, List, length, Option, Some, None, IsSome, if◌then◌else◌}, List.{AllPairs, Contains}}
-use Rattle.pagable_value_spec.specs.{declared.error.Error.Error, Blob.Blob}
+use Rattle.pagable_value_spec.specs.{Blob.Blob, declared.error.Error.Error}
+use Rattle.std.specs.{
+  List.{AllPairs, Contains},
+  Prelude.{Bool, IsSome, List, None, Option, Some, if◌then◌else◌, length, true, ℕ, ◌-◌, ◌<◌, ◌==◌, ◌^◌, ◌↔◌, ◌≡◌, ◌≢◌},
+  Prelude.◌⊎◌,
+}
 
 -- The blob is now stored under the key, where there was none or the same one, and nothing else changed.
 pub record Adds (key : ℕ) (blob : Blob) (old new : ℕ → Option Blob) : Type 0 where

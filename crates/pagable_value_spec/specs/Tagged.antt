@@ -1,6 +1,12 @@
 -- Values that are written as a tag and a body: what they mean, and which registration of a tag counts.
-use Rattle.std.specs.{Prelude.{◌≡◌, ℕ, ◌<◌, List, map, true, false, Some, ◌⊎◌}, List.slice_get, Str.bytes_eq}
-use Rattle.pagable_value_spec.specs.{declared.numbers.ArcRef.ArcRef, Meaning.Meaning, CarriedTypes.of_tagged, Canonical.{HasNoCase, IsReadable, Throughout}, Shape.Shape}
+use Rattle.pagable_value_spec.specs.{
+  Canonical.{HasNoCase, IsReadable, Throughout},
+  CarriedTypes.of_tagged,
+  Meaning.Meaning,
+  Shape.Shape,
+  declared.numbers.ArcRef.ArcRef,
+}
+use Rattle.std.specs.{List.slice_get, Prelude.{List, Some, false, map, true, ℕ, ◌<◌, ◌≡◌, ◌⊎◌}, Str.bytes_eq}
 
 -- a tagged value means its tag with what the body means
 pub record MeansTagged (tag : List ℕ) (M : Meaning ArcRef → Type 0) (m : Meaning ArcRef) : Type 0 where

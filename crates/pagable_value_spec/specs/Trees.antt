@@ -1,6 +1,11 @@
 -- Trees that never leave memory, and which trees a store holds under a key.
-use Rattle.std.specs.Prelude.{◌≡◌, ℕ, ◌/◌, List, Option, Some, Ok, ℤ}
-use Rattle.pagable_value_spec.specs.{Meaning.{Meaning, number, integer, text, pattern, none, pair, variant, reference, followed}, Shape.Shape, Reading.{Rest, Context, read_typed}, Blob.Blob}
+use Rattle.pagable_value_spec.specs.{
+  Blob.Blob,
+  Meaning.{Meaning, followed, integer, none, number, pair, pattern, reference, text, variant},
+  Reading.{Context, Rest, read_typed},
+  Shape.Shape,
+}
+use Rattle.std.specs.Prelude.{List, Ok, Option, Some, ℕ, ℤ, ◌/◌, ◌≡◌}
 
 -- the number of a value's type, and what the value means, with every reference followed
 pub record Tree : Type 0 where

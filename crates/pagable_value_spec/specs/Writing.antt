@@ -1,7 +1,13 @@
 -- What has been written so far, and what writing a value adds.
-use Rattle.std.specs.Prelude.{◌≡◌, ℕ, ◌+◌, ◌-◌, List, ◌++◌, length, take, drop, IsTrue}
-use Rattle.pagable_value_spec.specs.{declared.error.Error.Error, declared.numbers.ArcRef.ArcRef, declared.numbers.PagableCursor.PagableCursor, Refusals.is_writing_fault, Meaning.Meaning, Shape.Shape}
-use Rattle.pagable_value_spec.specs.{Reading.deepest, Form.{Form, Forms}}
+use Rattle.pagable_value_spec.specs.{
+  Form.{Form, Forms},
+  Meaning.Meaning,
+  Reading.deepest,
+  Refusals.is_writing_fault,
+  Shape.Shape,
+  declared.{error.Error.Error, numbers.{ArcRef.ArcRef, PagableCursor.PagableCursor}},
+}
+use Rattle.std.specs.Prelude.{IsTrue, List, drop, length, take, ℕ, ◌++◌, ◌+◌, ◌-◌, ◌≡◌}
 
 -- the bytes, and the references in order
 pub record Out : Type 0 where

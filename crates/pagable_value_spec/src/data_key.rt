@@ -1,6 +1,6 @@
 //! The keys of blobs.
 
-ghost use Rattle.std.specs.Prelude.{◌≡◌, ◌≢◌, ◌<◌, ◌↔◌, IsTrue, IsSome, IfSome, Some, decimal};
+ghost use Rattle.std.specs.Prelude.{IfSome, IsSome, IsTrue, Some, decimal, ◌<◌, ◌↔◌, ◌≡◌, ◌≢◌};
 ghost use Rattle.pagable_value_spec.specs.declared.data_key.OptionalDataKey.TheVariants as optional;
 
 use std::fmt;

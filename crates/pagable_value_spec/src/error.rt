@@ -32,7 +32,7 @@ pub enum Error {
     /// ring of references has no end and fails so too.
     #[error("more than 128 levels or references on one path: refer by PagableArc, and in no ring")]
     TooDeep,
-    /// The case of a JSON value is above 5.
+    /// A JSON value is read, and the number of its case is above 5, the last one that exists.
     #[error("the case of a JSON value is above 5: read the type that was written")]
     JsonCase,
     /// A JSON number isn't a whole number of 64 bits with a sign.
@@ -59,14 +59,15 @@ pub enum Error {
     /// The store has no blob under this key.
     #[error("the store has no blob under the key {0}: store it again")]
     NoData(DataKey),
-    /// The type of a kind or of a cell differs from its node's type, or no node has such a type.
+    /// A kind or a cell has another type than its node or value; or the environment has no such
+    /// type; or the call takes only kinds of another sort.
     #[error("the type of a kind or cell isn't that of its node: ask for the type that was inserted")]
     WrongKind,
     /// Nothing live has this number, or the handle isn't one of the node that its reference names.
     #[error("nothing live has this number: it was released, or never given out")]
     NoSuchHandle,
-    /// The handle's mode doesn't fit the call or the kind, or another call than this one's
-    /// counterpart began the load.
+    /// The handle's mode or the kind doesn't fit the call; or the load is of a cell and the call
+    /// ends loads of keys, or the other way round.
     #[error("the handle's mode doesn't fit: pin and unpin a loose one, refer by its own mode, end a load as it began")]
     WrongMode,
     /// Another owner than the caller has the handle, the call names the handle twice, or a worker
@@ -129,7 +130,7 @@ impl Error {
     }
 
     /// Splits a failed allocation into `OutOfMemory` and the value that found no room.
-    pub fn parted<T>(refused: AllocFailed<T>) -> (Error, T)
+    pub fn split_failed_allocation<T>(refused: AllocFailed<T>) -> (Error, T)
         ensures refusal { result.0 ≡ OutOfMemory }
         ensures value { result.1 ≡ refused.value }
     {

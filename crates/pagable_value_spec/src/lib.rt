@@ -1,5 +1,5 @@
-//! What all other crates name: errors, keys, kinds and numbers; in `specs/` the meaning of values,
-//! their encoding (writing and reading), and the key of a blob.
+//! Defines what all other crates use: errors, keys, kinds and numbers; in `specs/` the meaning of
+//! values, their encoding (writing and reading), and the key of a blob.
 #![tactic(auto)]
 
 pub mod data_key;

@@ -1,7 +1,7 @@
 //! The numbers by which nodes, handles, loads and workers are named, and what a reference is.
 
-ghost use Rattle.pagable_value_spec.specs.{Height.{is_loose_kind, is_pinned_kind, is_shared_kind}, Trees.{type_of}};
-ghost use Rattle.std.specs.Prelude.{IfNone, IfSome, ◌*◌, ◌+◌, ◌^◌, ◌<◌, ◌≡◌, ◌≤◌};
+ghost use Rattle.pagable_value_spec.specs.{Height.{is_loose_kind, is_pinned_kind, is_shared_kind}, Trees.type_of};
+ghost use Rattle.std.specs.Prelude.{IfNone, IfSome, ◌*◌, ◌+◌, ◌<◌, ◌^◌, ◌≡◌, ◌≤◌};
 
 /// The kind of a reference. The value type with the number t has three kinds: 3t for an `Arc`, 3t +
 /// 1 for a `PagableArc`, and 3t + 2 for a `PinnedPagableArc`.
@@ -28,21 +28,21 @@ impl Kind {
         self.0 / 3
     }
 
-    /// Says whether it is the kind of an `Arc`.
+    /// Says whether references of this kind are `Arc`s.
     pub fn is_shared(self) -> bool
         ensures { result ≡ is_shared_kind self.0 }
     {
         self.0 % 3 == 0
     }
 
-    /// Says whether it is the kind of a `PagableArc`.
+    /// Says whether references of this kind are `PagableArc`s.
     pub fn is_loose(self) -> bool
         ensures { result ≡ is_loose_kind self.0 }
     {
         self.0 % 3 == 1
     }
 
-    /// Says whether it is the kind of a `PinnedPagableArc`.
+    /// Says whether references of this kind are `PinnedPagableArc`s.
     pub fn is_pinned(self) -> bool
         ensures { result ≡ is_pinned_kind self.0 }
     {

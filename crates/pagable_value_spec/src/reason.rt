@@ -1,6 +1,6 @@
 //! Why a caller's own implementation fails.
 
-ghost use Rattle.std.specs.{Prelude.{length, take, true, ◌+◌, ◌++◌, ◌≡◌, ◌≤◌}, Str.is_utf8};
+ghost use Rattle.std.specs.{Prelude.{length, take, true, ◌++◌, ◌+◌, ◌≡◌, ◌≤◌}, Str.is_utf8};
 
 use std::fmt;
 
@@ -24,11 +24,11 @@ pub struct Reason {
     length: u8,
     is_cut: bool,
     ghost within: { length ≤ 61 },
-    ghost whole: { is_utf8 (take length bytes) ≡ true },
+    ghost utf8: { is_utf8 (take length bytes) ≡ true },
 }
 
 /// Copies `text` into `bytes` at `place`. The caller makes sure that there is room.
-fn put(bytes: &mut [u8], place: usize, text: &[u8])
+fn copy_text_at(bytes: &mut [u8], place: usize, text: &[u8])
     requires { place + length text.now ≤ length bytes.old }
     ensures written { take (place + length text.now) bytes.new ≡ take place bytes.old ++ text.now }
     ensures len { length bytes.new ≡ length bytes.old }
@@ -44,7 +44,7 @@ impl Reason {
     pub fn new(text: &str) -> Reason
         ensures { IsKept text.now result }
     {
-        Reason::empty().with(text)
+        Reason::empty().append_text(text)
     }
 
     /// Returns the text, which ends with `..` if it was cut.
@@ -72,18 +72,18 @@ impl Reason {
 
     /// Adds `text` to a reason that isn't cut, and cuts both together if they are too long.
     #[tactic(auto, using(crate::proofs::Cut::kept_no_room, crate::proofs::Cut::kept_room))]
-    fn with(self, text: &str) -> Reason
+    fn append_text(self, text: &str) -> Reason
         requires { self.is_cut ≡ false }
         ensures { IsKept (kept_of self ++ text.now) result }
     {
         if text.len() <= REASON_BYTES - self.length as usize {
-            return self.extended(text, false);
+            return self.append_whole(text, false);
         }
-        self.cut_with(text)
+        self.append_and_cut(text)
     }
 
     /// Adds a text for which there is no room, and cuts.
-    fn cut_with(&self, text: &str) -> Reason
+    fn append_and_cut(&self, text: &str) -> Reason
         requires { 61 < self.now.length + length text.now }
         ensures kept { IsCut (kept_of self.now ++ text.now) (kept_of result) }
         ensures cut { result.is_cut ≡ true }
@@ -91,19 +91,19 @@ impl Reason {
         let front = self.as_str();
         let kept = &front[..front.floor_char_boundary(CUT_BYTES)];
         let more = &text[..text.floor_char_boundary(CUT_BYTES.saturating_sub(front.len()))];
-        let whole = Reason::empty().extended(kept, false);
-        whole.extended(more, false).extended(CUT_MARK, true)
+        let whole = Reason::empty().append_whole(kept, false);
+        whole.append_whole(more, false).append_whole(CUT_MARK, true)
     }
 
     /// Adds a text for which there is room.
-    fn extended(self, text: &str, is_cut: bool) -> Reason
+    fn append_whole(self, text: &str, is_cut: bool) -> Reason
         requires { self.length + length text.now ≤ 61 }
         ensures value { kept_of result ≡ kept_of self ++ text.now }
         ensures cut { result.is_cut ≡ is_cut }
         ensures len { result.length ≡ self.length + length text.now }
     {
         let mut bytes = self.bytes;
-        put(&mut bytes, self.length as usize, text.as_bytes());
+        copy_text_at(&mut bytes, self.length as usize, text.as_bytes());
         let length = self.length + text.len() as u8;
         Reason {
             bytes,
@@ -123,7 +123,7 @@ impl fmt::Write for Reason {
     #[tactic(auto, using(crate::proofs::Cut::kept_cut, crate::proofs::Cut::kept_whole))]
     fn write_str(&mut self, text: &str) -> fmt::Result {
         if !self.is_cut {
-            *self = self.with(text);
+            *self = self.append_text(text);
         }
         Ok(())
     }

@@ -11,7 +11,7 @@ use std::{env, io};
 
 /// Returns the one word after the program's name. Returns None for no word, for more, and for one that
 /// isn't text.
-fn wanted<R: Runtime + AllocGlobal>(rt: &R) -> io::Result<Option<String>> {
+fn read_argument<R: Runtime + AllocGlobal>(rt: &R) -> io::Result<Option<String>> {
     let mut words = match env::args(rt) {
         Ok(words) => words,
         Err(e) if e.kind() == io::ErrorKind::InvalidData => return Ok(None),
@@ -32,9 +32,9 @@ fn answer<H: KeyHash, R: Runtime + AllocGlobal + Wait>(rt: &R) -> io::Result<()>
 }
 
 /// Answers the lines of the input, with keys by the hash that the program's one argument names, and
-/// returns the status. If the arguments are anything else, it says how to call it, and returns 2.
+/// returns the exit status. For any other arguments it prints the usage, and returns 2.
 fn run<R: Runtime + AllocGlobal + Wait>(rt: &R) -> io::Result<ExitCode> {
-    let word = wanted(rt)?;
+    let word = read_argument(rt)?;
     match word.as_ref().map(String::as_str) {
         Some("weigh") => answer::<WeighHash, R>(rt)?,
         Some("sha256") => answer::<Sha256Key, R>(rt)?,

@@ -29,7 +29,7 @@ impl RecordView {
     }
 
     /// Returns the handle of its first reference, if it has one.
-    pub fn first(&self) -> Option<HandleNumber>
+    pub fn first_reference(&self) -> Option<HandleNumber>
         ensures { result ≡ slice_get self.now.refs.items 0 }
     {
         self.refs.first().copied()

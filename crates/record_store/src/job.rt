@@ -38,8 +38,8 @@ pub fn run_over<J: Job, S: Roots<Records> + Drop>(
     job.run(&mut store, last)
 }
 
-// Runs a job over the records of a storage that was to be opened at a path. It takes a storage of any
-// type, so that no way out needs a proof about the parts of a file of blobs.
+// Runs a job over the records of a storage that was opened at a path, or fails as the opening did. It
+// takes a storage of any type, so that the checker needn't follow how a file of blobs is dropped.
 fn run_over_opened<J: Job, S: Roots<Records> + Drop>(
     alloc: Global,
     path: &str,

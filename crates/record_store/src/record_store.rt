@@ -152,12 +152,12 @@ impl<S: Roots<Records> + Drop> RecordStore<S> {
             pager,
             budget,
         };
-        let last = store.last(name)?;
+        let last = store.open_saved_root(name)?;
         Ok((store, last))
     }
 
     /// Returns a handle of the record whose key a root's name stands for, if it stands for one.
-    fn last(&mut self, name: &str) -> Result<Option<HandleNumber>, Error> {
+    fn open_saved_root(&mut self, name: &str) -> Result<Option<HandleNumber>, Error> {
         match self.pager.root(name)? {
             None => Ok(None),
             Some(key) => Ok(Some(cell_of::<Record, _, _>(self.alloc, &mut self.pager, key)?)),

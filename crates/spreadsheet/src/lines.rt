@@ -10,8 +10,8 @@ use std::io::ErrorKind;
 /// before it, if there is one.
 const VERSION: u32 = 1;
 
-/// The tag of a sheet's record, whose text has a line for each sum that was added up. It refers to
-/// the sheet's version.
+/// The tag of a sheet's record. The record's text has a line for each sum that any run has added up
+/// so far, and the record refers to that of the sheet's version.
 const SHEET: u32 = 2;
 
 /// The job of answering the lines of standard input about the last run's sheet. It takes a line that
@@ -33,9 +33,9 @@ impl<'a> Job for Lines<'a> {
             None => insert_first(store)?,
         };
         let view = store.read(root)?;
-        let version = view.first().context("no sheet is stored here")?;
+        let version = view.first_reference().context("no sheet is stored here")?;
         let mut sheet = Sheet::read_sums(store.alloc(), version, view.text())?;
-        go_to(store, &mut sheet, version)?;
+        switch_version(store, &mut sheet, version)?;
         for line in self.rt.lines(store.alloc()) {
             let line = match line {
                 Err(error) if error.kind() == ErrorKind::InvalidData => String::new(store.alloc()),
@@ -71,20 +71,27 @@ fn answer<R: RecordCalls>(
             store.insert(VERSION, cells.as_str(), &[sheet.version])?
         }
         ["undo"] => {
-            let before = store.read(sheet.version)?.first();
+            let before = store.read(sheet.version)?.first_reference();
             before.context("there is no version before this one")?
         }
         ["get", name] => return Ok(rt.println(sheet.evaluate(name, MOST_LEVELS)?)?),
-        ["stats"] => return Ok(println!(rt; "{} added, {} known", sheet.added, sheet.known)?),
+        ["stats"] => return Ok(println!(rt;
+            "{} added, {} known",
+            sheet.sums_added, sheet.sums_known
+        )?),
         _ => bail!("a line is set NAME 5, set NAME =A+B, get NAME, undo or stats"),
     };
-    go_to(store, sheet, version)?;
+    switch_version(store, sheet, version)?;
     Ok(rt.println("ok")?)
 }
 
-/// Goes to a version, whose cells it reads from its record.
-fn go_to<R: RecordCalls>(store: &mut R, sheet: &mut Sheet, version: HandleNumber) -> Result<()> {
+/// Switches to a version, whose cells it reads from its record.
+fn switch_version<R: RecordCalls>(
+    store: &mut R,
+    sheet: &mut Sheet,
+    version: HandleNumber,
+) -> Result<()> {
     let cells = store.read(version)?;
-    sheet.go_to(version, String::from_str(store.alloc(), cells.text())?);
+    sheet.switch_version(version, String::from_str(store.alloc(), cells.text())?);
     Ok(())
 }

@@ -21,9 +21,9 @@ pub struct Sheet {
     /// The sums of all versions and runs, by the numbers that were added up, as `[5, 7]`.
     sums: BTreeMap<String, i64>,
     /// How many sums this run added up.
-    pub added: u64,
+    pub sums_added: u64,
     /// How many sums this run knew already.
-    pub known: u64,
+    pub sums_known: u64,
 }
 
 impl Sheet {
@@ -46,8 +46,8 @@ impl Sheet {
             cells: String::new(alloc),
             values: BTreeMap::new(alloc),
             sums,
-            added: 0,
-            known: 0,
+            sums_added: 0,
+            sums_known: 0,
         })
     }
 
@@ -64,8 +64,8 @@ impl Sheet {
         Ok(text)
     }
 
-    /// Goes to a version, which has these cells.
-    pub fn go_to(&mut self, version: HandleNumber, cells: String) {
+    /// Switches to a version, which has these cells.
+    pub fn switch_version(&mut self, version: HandleNumber, cells: String) {
         self.version = version;
         self.cells = cells;
         self.values.clear();
@@ -152,7 +152,7 @@ impl Sheet {
     fn add_up(&mut self, numbers: &[i64]) -> Result<i64> {
         let spelled = format!(in self.alloc; "{numbers:?}")?;
         if let Some(sum) = self.sums.get(spelled.as_str()) {
-            self.known = self.known.saturating_add(1);
+            self.sums_known = self.sums_known.saturating_add(1);
             return Ok(*sum);
         }
         let sum = numbers
@@ -160,7 +160,7 @@ impl Sheet {
             .try_fold(0i64, |sum, number| sum.checked_add(*number));
         let sum = sum.context("a sum overflows")?;
         self.sums.insert(spelled, sum)?;
-        self.added = self.added.saturating_add(1);
+        self.sums_added = self.sums_added.saturating_add(1);
         Ok(sum)
     }
 }

@@ -1,8 +1,14 @@
 -- No operation changes the environment.
+use Rattle.pagable_pager_spec.specs.{
+  Access.{AccessState, EntryRun, ItemRun, ListRun, LoadRun, PinRun, ReadRun, WorkerRun, entry-is-refused, entry-is-walked, fails, item-is-walked, load-ends},
+  Access.{load-fails, load-goes-on, load-is-refused, load-pins, load-reads, no-entry-worker, no-more, no-worker, pages, pin-is-refused, pins-at-once},
+  Access.{reading-fails, reading-is-refused, skips, worker-ends, worker-goes-on},
+  Basics.{Error, HandleNumber},
+  Pager.PagerState,
+  World.{Reading, Seen, Todo, Values, Written},
+  declared.{events.{Action.Action, LoadAnswer.LoadAnswer, WorkerAnswer.WorkerAnswer}, handle_row.Owner.Owner},
+}
 use Rattle.pagable_theorems.specs.CallerLaws.{Operation, Operations, calls, goes-on, is-done, pages-item, pages-list, pins, reads-key}
-use Rattle.pagable_pager_spec.specs.Access.{AccessState, EntryRun, ItemRun, ListRun, LoadRun, PinRun, ReadRun, WorkerRun, entry-is-refused, entry-is-walked, fails, item-is-walked, load-ends, load-fails, load-goes-on, load-is-refused, load-pins}
-use Rattle.pagable_pager_spec.specs.{Access.{load-reads, no-entry-worker, no-more, no-worker, pages, pin-is-refused, pins-at-once, reading-fails, reading-is-refused, skips, worker-ends, worker-goes-on}, Pager.PagerState}
-use Rattle.pagable_pager_spec.specs.{Basics.{Error, HandleNumber}, World.{Reading, Seen, Todo, Values, Written}, declared.{events.{LoadAnswer.LoadAnswer, Action.Action, WorkerAnswer.WorkerAnswer}, handle_row.Owner.Owner}}
 use Rattle.std.proofs.Common.{List, Result, refl, ℕ, ◌∙◌, ◌≡◌}
 
 load-keeps : {N E : Type 0} {v : Values N} {me : Owner} {reading : Reading} {s s' : PagerState N E} {answer : LoadAnswer N} → LoadRun v me reading s answer s'

@@ -1,16 +1,26 @@
 -- A pin, the release of what it gave, other work, and a pin again: what both pins give.
-use Rattle.pagable_theorems.{proofs.Callers.pinned_again_law, specs.CallerLaws.{Operations, calls, goes-on, is-done, pages-list}}
-use Rattle.pagable_pager.{proofs.Invariant.less-moves, specs.View.{Calls, OnlyLess, PagerView, Telling, pager_state}}
-use Rattle.pagable_pager_spec.specs.{Access.{PinsOver}, Calls.ReleaseCall, Pager.{PagerState, IsPagerWhole}, Basics.{Error, HandleNumber}}
-use Rattle.pagable_pager_spec.specs.World.{IsLawful, Values}
-use Rattle.pagable_pager_spec.specs.declared.{calls.{Call.Call, Reply.Reply}, handle_row.Owner.Owner}
+use Rattle.pagable.specs.Paged.{PagesOutList}
+use Rattle.pagable_pageout.specs.{Turns.plain, declared.tasks.PageOutError.PageOutError}
+use Rattle.pagable_pager.proofs.Invariant.{less-moves}
+use Rattle.pagable_pager.specs.View.{AddsNoValue, Calls, PagerView, Telling, pager_state}
+use Rattle.pagable_pager_spec.specs.{
+  Access.PinsOver,
+  Basics.{Error, HandleNumber},
+  Calls.ReleaseCall,
+  Pager.{IsPagerWhole, PagerState},
+  World.{IsLawful, Values},
+  declared.{calls.{Call.Call, Reply.Reply}, handle_row.Owner.Owner},
+}
+use Rattle.pagable_theorems.proofs.Callers.{pinned_again_law}
+use Rattle.pagable_theorems.specs.CallerLaws.{Operations, calls, goes-on, is-done, pages-list}
 use Rattle.std.proofs.Common.{Ok, Result, subst, ◌∙◌, ◌≡◌}
-use Rattle.{pagable.specs.Paged.PagesOutList, pagable_pageout.specs.{Turns.plain, declared.tasks.PageOutError.PageOutError}, uses.{proofs.Environment.{all-keep, pin-keeps}, specs.Again.ShowsSame}}
+use Rattle.uses.proofs.Environment.{all-keep, pin-keeps}
+use Rattle.uses.specs.Again.{ShowsSame}
 
 module _ {N S E : Type 0} {tells : Telling S} where
   -- the release of a handle is a call of the pager's
   releases : (v : Values N) (old new : PagerView N S E) (k : HandleNumber) (told : Result (Unit {0}) Error)
-      → Calls OnlyLess tells old (λ w w'. ReleaseCall w Owner.Caller k told w') new → IsPagerWhole v (pager_state tells new)
+      → Calls AddsNoValue tells old (λ w w'. ReleaseCall w Owner.Caller k told w') new → IsPagerWhole v (pager_state tells new)
       → (later : PagerState N E) → Operations (plain v) (pager_state tells new) later → Operations (plain v) (pager_state tells old) later
   releases v old new k told c well later more = goes-on (pager_state tells old) (pager_state tells new) later
       (calls (Call.Release k) (Reply.Done told) (pager_state tells old) (pager_state tells new)
@@ -20,7 +30,7 @@ module _ {N S E : Type 0} {tells : Telling S} where
       → IsPagerWhole (says p.environment) (pager_state tells p)
       → IsLawful (says p.environment)
       → PinsOver (says p.environment) (pager_state tells p) h (Ok (k, x)) (pager_state tells mid)
-      → Calls OnlyLess tells mid (λ w w'. ReleaseCall w Owner.Caller k told w') freed → IsPagerWhole (says freed.environment) (pager_state tells freed)
+      → Calls AddsNoValue tells mid (λ w w'. ReleaseCall w Owner.Caller k told w') freed → IsPagerWhole (says freed.environment) (pager_state tells freed)
       → Operations (plain (says freed.environment)) (pager_state tells freed) (pager_state tells later)
       → PinsOver (says later.environment) (pager_state tells later) h (Ok (l, y)) (pager_state tells q)
       → ShowsSame (says p.environment) (pager_state tells p) h x l y (pager_state tells q)

@@ -1,7 +1,14 @@
 -- A handle that is pinned, and pinned again after other work with its pager.
+use Rattle.pagable_pageout.specs.Turns.{plain}
+use Rattle.pagable_pager_spec.specs.{
+  Access.{IsValueOf, PinRun},
+  Basics.{HandleNumber, Tree},
+  Pager.{PagerStandsFor, PagerState, ValueStands},
+  Runs.HoldsSettled,
+  World.Values,
+}
+use Rattle.pagable_theorems.specs.{CallerLaws.{AskWell, Operations, PinAsksWell}, PageOutLaws.NobodyWorks}
 use Rattle.std.specs.Prelude.{Ok, ℕ}
-use Rattle.{pagable_theorems.specs.{CallerLaws.{AskWell, Operations, PinAsksWell}, PageOutLaws.NobodyWorks}, pagable_pageout.specs.Turns.plain}
-use Rattle.pagable_pager_spec.specs.{Access.{IsValueOf, PinRun}, Pager.{PagerState, PagerStandsFor, ValueStands}, Basics.{HandleNumber, Tree}, Runs.HoldsSettled, World.Values}
 
 -- What the two pins gave, with what was done between them. Where nobody was at work at first, and all that is done asks what is so, both values stand for one tree.
 pub record ShowsSame {N E : Type 0} (v : Values N) (s : PagerState N E) (h : HandleNumber) (x : N) (l : HandleNumber)

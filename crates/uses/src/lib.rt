@@ -2,9 +2,14 @@
 //! from the contracts of the calls.
 #![tactic(auto)]
 
+ghost use Rattle.pagable_core.specs.Data.{blob_of};
+ghost use Rattle.pagable_load.specs.AccessView.{values_at};
+ghost use Rattle.pagable_pageout.specs.Turns.{plain};
+ghost use Rattle.pagable_pager.specs.View.{pager_state, storage_view};
+ghost use Rattle.pagable_theorems.specs.CallerLaws.{Operations};
+ghost use Rattle.pagable_value_spec.specs.Blob.{key_of};
 ghost use Rattle.std.specs.{Arc.arc_value, Prelude.{IfOk, IfSome, IsTrue, ◌≡◌}};
-ghost use Rattle.{pagable_core.specs.Data.blob_of, pagable_load.specs.AccessView.values_at, pagable_value_spec.specs.Blob.key_of, pagable_pager.specs.View.{pager_state, storage_view}};
-ghost use Rattle.{pagable_theorems.specs.CallerLaws.Operations, pagable_pageout.specs.Turns.plain, uses.specs.Again.ShowsSame};
+ghost use Rattle.uses.specs.Again.{ShowsSame};
 
 use pagable::paging::{page_out_pending, pin};
 use pagable::{
@@ -72,8 +77,9 @@ impl<E: Env<Node: NodeSet<E>>, S: PagableStorage<E>> Work<E, S> for PageOut {
 }
 
 /// Pins a loose handle, lets other work be done, and pins the handle again. Both values stand for
-/// one tree, whatever the work was, given what the headline asks: at first nobody is at work and no
-/// value can be written to later, and the pins and the work ask well (`PinAsksWell`, `AskWell`).
+/// one tree, whatever the work was, under the conditions of the main theorem: at first no worker
+/// runs and no value in memory can be written to later, and each call of the pins and of the work
+/// meets what the pager asks of its caller (`PinAsksWell`, `AskWell`).
 /// Returns the first value, and the second one with its Pinned handle.
 ///
 /// # Errors

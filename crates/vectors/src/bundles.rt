@@ -1,7 +1,7 @@
 //! Tests that a bundle is read together with the links to which it refers by shared references and
 //! pins, and that these are the links of the pager.
 
-use crate::calls::let_go;
+use crate::calls::drop_value;
 use pagable::paging::{deserialize_pagable_data, page_out_pending};
 use pagable::{
     ArcRef, DataKey, HandleNumber, InMemoryBlobs, OfNode, OptionalDataKey, PagableStorage, Pager,
@@ -40,9 +40,10 @@ fn next<const KIND: u32>(link: &Chain<KIND>) -> Option<ArcRef> {
     link.next.as_ref().map(|next| next.reference())
 }
 
-/// Says whether a link is the very one that stands in the pager under this handle: each time that a
-/// link's blob is decoded, its reference gets a handle of its own.
-fn stands<const KIND: u32, S: PagableStorage<Linked>>(
+/// Says whether a link is the very one that the pager has under this handle, and no copy. It
+/// compares the handles of their references to the next link: each decoding of a link's blob makes
+/// a new one.
+fn is_pagers_own_link<const KIND: u32, S: PagableStorage<Linked>>(
     pager: &Pager<Linked, S>,
     link: &Chain<KIND>,
     handle: HandleNumber,
@@ -56,16 +57,19 @@ fn stands<const KIND: u32, S: PagableStorage<Linked>>(
 }
 
 /// Says whether a bundle's shared links and its first pinned link are the pager's own.
-fn holds<S: PagableStorage<Linked>>(pager: &Pager<Linked, S>, bundle: &Bundle) -> bool {
+fn has_pagers_own_links<S: PagableStorage<Linked>>(
+    pager: &Pager<Linked, S>,
+    bundle: &Bundle,
+) -> bool {
     let Some(pinned) = bundle.pinned.first() else {
         return false;
     };
     for shared in bundle.shared.as_slice() {
-        if !stands(pager, shared.get(), shared.reference::<Linked>().handle) {
+        if !is_pagers_own_link(pager, shared.get(), shared.reference::<Linked>().handle) {
             return false;
         }
     }
-    stands(pager, pinned.get(), pinned.reference::<Linked>().handle)
+    is_pagers_own_link(pager, pinned.get(), pinned.reference::<Linked>().handle)
 }
 
 /// Reads the bundle under a key. Returns None unless it has `count` shared links, and the links
@@ -78,11 +82,11 @@ fn read<S: PagableStorage<Linked>>(
 ) -> Option<Arc<Bundle>> {
     let bundle: Arc<Bundle> = deserialize_pagable_data(alloc, pager, key).ok()?;
     let links = bundle.as_ref();
-    (links.shared.len() == count && holds(pager, links)).then_some(bundle)
+    (links.shared.len() == count && has_pagers_own_links(pager, links)).then_some(bundle)
 }
 
 /// Inserts a value, which then has no key, pages it out, and returns the key that it got.
-fn paged_out<T: OfNode<Linked> + Drop, S: PagableStorage<Linked>>(
+fn insert_and_page_out<T: OfNode<Linked> + Drop, S: PagableStorage<Linked>>(
     alloc: Global,
     pager: &mut Pager<Linked, S>,
     value: Arc<T>,
@@ -96,19 +100,22 @@ fn paged_out<T: OfNode<Linked> + Drop, S: PagableStorage<Linked>>(
 /// Reads bundles in three cases: no link of it is in memory yet, all are, and one of two is. Says
 /// whether in each the links that the bundle holds are the very ones that stand in the pager; and
 /// whether a page-out of the last bundle returns the key that it was read from.
-fn hold_in<S: PagableStorage<Linked>>(alloc: Global, pager: &mut Pager<Linked, S>) -> Option<bool> {
+fn cases_succeed_in<S: PagableStorage<Linked>>(
+    alloc: Global,
+    pager: &mut Pager<Linked, S>,
+) -> Option<bool> {
     let one = store(alloc, pager, ONE)?;
-    let_go(read(alloc, pager, one, 1)?);
-    let_go(read(alloc, pager, one, 1)?);
+    drop_value(read(alloc, pager, one, 1)?);
+    drop_value(read(alloc, pager, one, 1)?);
     let two = store(alloc, pager, TWO)?;
     let both = read(alloc, pager, two, 2)?;
-    Some(paged_out(alloc, pager, both)? == OptionalDataKey::Some(two))
+    Some(insert_and_page_out(alloc, pager, both)? == OptionalDataKey::Some(two))
 }
 
-/// Returns whether `hold_in` holds in a new pager.
-pub fn hold(alloc: Global) -> bool {
+/// Runs the three cases of `cases_succeed_in` in a new pager, and returns whether all succeed.
+pub fn all_pass(alloc: Global) -> bool {
     let mut pager = Pager::new(alloc, InMemoryBlobs::new(alloc), Linked);
-    let answer = hold_in(alloc, &mut pager);
-    let_go(pager);
+    let answer = cases_succeed_in(alloc, &mut pager);
+    drop_value(pager);
     answer == Some(true)
 }

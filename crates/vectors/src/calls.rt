@@ -6,7 +6,7 @@ use pagable::{
     Sha256Key, WeighHash,
 };
 use pagable_testkit::cells::{CellEnv, CellNode};
-use pagable_testkit::parse_events::{events, split};
+use pagable_testkit::parse_events::{events_of_line, split_first_word};
 use pagable_testkit::parse_values::push_node;
 use pagable_testkit::{FailingStorage, print};
 use std::alloc::Global;
@@ -18,7 +18,7 @@ type CellMachine<H> = Machine<CellEnv<H>, CellStorage<H>>;
 /// The machine that answers rows of events, with keys by weight or by SHA-256. A row that begins
 /// with `machine` replaces it by a new one.
 #[derive(Drop)]
-pub enum Calls {
+pub enum RowMachine {
     Weigh(CellMachine<WeighHash>),
     Sha256(CellMachine<Sha256Key>),
 }
@@ -45,28 +45,32 @@ fn assign<T: Drop>(place: &mut T, value: T) {
 }
 
 /// Drops a value. It is generic, so that the checker needn't follow how its parts are dropped.
-pub fn let_go<T: Drop>(_value: T) {}
+pub fn drop_value<T: Drop>(_value: T) {}
 
-impl Calls {
+impl RowMachine {
     /// Makes a machine without cells: with keys by SHA-256 if the word is `sha256`, else by weight,
     /// over the storage that `storage_of` makes.
-    pub fn new(alloc: Global, word: &str) -> Calls {
+    pub fn new(alloc: Global, word: &str) -> RowMachine {
         match word {
-            "sha256" => Calls::Sha256(Machine::over(alloc, storage_of(alloc, ""), CellEnv::new())),
-            _ => Calls::Weigh(Machine::over(alloc, storage_of(alloc, word), CellEnv::new())),
+            "sha256" => RowMachine::Sha256(Machine::over(
+                alloc,
+                storage_of(alloc, ""),
+                CellEnv::new(),
+            )),
+            _ => RowMachine::Weigh(Machine::over(alloc, storage_of(alloc, word), CellEnv::new())),
         }
     }
 
     /// Answers a row in one line, or makes the machine that it asks for.
     pub fn answer(&mut self, alloc: Global, line: &str) -> anyhow::Result<String> {
-        let (word, rest) = split(line);
+        let (word, rest) = split_first_word(line);
         if word == "machine" {
-            assign(self, Calls::new(alloc, rest));
+            assign(self, RowMachine::new(alloc, rest));
             return Ok(String::new(alloc));
         }
         match self {
-            Calls::Weigh(machine) => answer(alloc, machine, line),
-            Calls::Sha256(machine) => answer(alloc, machine, line),
+            RowMachine::Weigh(machine) => answer(alloc, machine, line),
+            RowMachine::Sha256(machine) => answer(alloc, machine, line),
         }
     }
 }
@@ -81,7 +85,7 @@ fn answer<E: Env<Node = CellNode>, S: PagableStorage<E>>(
 where
     E::Node: NodeSet<E>,
 {
-    let (word, rest) = split(line);
+    let (word, rest) = split_first_word(line);
     match word {
         "look" => look(alloc, machine.pager(), rest.parse::<u64>()?),
         "last" => run(alloc, machine, rest, 1),
@@ -100,7 +104,7 @@ fn run<E: Env<Node = CellNode>, S: PagableStorage<E>>(
 where
     E::Node: NodeSet<E>,
 {
-    let Ok(replies) = machine.run(alloc, events(alloc, asked)?) else {
+    let Ok(replies) = machine.run(alloc, events_of_line(alloc, asked)?) else {
         bail!("no memory for the replies");
     };
     let before = replies.len().saturating_sub(most);
@@ -108,10 +112,10 @@ where
 }
 
 /// Returns the state of the node of a live handle.
-fn standing<E: Env<Node = CellNode>, S: PagableStorage<E>>(
+fn state_of<E: Env<Node = CellNode>, S: PagableStorage<E>>(
     pager: &Pager<E, S>,
     handle: HandleNumber,
-) -> Result<print::Standing, Error>
+) -> Result<print::NodeState, Error>
 where
     E::Node: NodeSet<E>,
 {
@@ -132,8 +136,8 @@ where
     let mut text = format!(in alloc; "pending {}", pager.pending())?;
     for number in 1..=last {
         let handle = HandleNumber(number);
-        if let Ok(standing) = standing(pager, handle) {
-            print::push_handle(alloc, &mut text, number, standing)?;
+        if let Ok(state) = state_of(pager, handle) {
+            print::push_handle(alloc, &mut text, number, state)?;
         }
         if let Ok(Some(value)) = pager.value(handle) {
             text.push_str(" = ")?;

@@ -1,7 +1,7 @@
 //! Cells by one call each: inserted, looked at, referred to by each sort of references, found by their key, followed,
 //! and refused.
 
-use crate::calls::let_go;
+use crate::calls::drop_value;
 use pagable::cell_page_out::page_out;
 use pagable::cells::{cell_of, contains, follow, insert, look};
 use pagable::paging::page_out_pending;
@@ -101,20 +101,23 @@ fn page_out_shared<S: PagableStorage<Linked>>(
     Ok(page_out(alloc, pager, shared)?)
 }
 
-/// Says whether `?` makes an `Error` of an insert's error, which brings a value back, and of a
-/// page-out's.
+/// Says whether `?` turns the error of an insert, which has the refused value in it, and the error
+/// of a page-out into the pager's `Error`.
 fn are_refused<S: PagableStorage<Linked>>(alloc: Global, pager: &mut Pager<Linked, S>) -> bool {
     let is_unknown = insert_unknown(alloc, pager) == Err(Error::NoSuchHandle);
     is_unknown && page_out_shared(alloc, pager) == Err(Error::WrongMode)
 }
 
-/// Whether a bundle that was paged out is found by its key, and its loose link by the reference in it; and whether each
-/// look leaves its cell away and unpinned.
-fn hold_in<S: PagableStorage<Linked>>(alloc: Global, pager: &mut Pager<Linked, S>) -> Option<bool> {
+/// Says whether a bundle that was paged out is found by its key, and its loose link by the
+/// reference in it; and whether a look leaves the bundle's cell paged out and unpinned.
+fn tests_succeed_in<S: PagableStorage<Linked>>(
+    alloc: Global,
+    pager: &mut Pager<Linked, S>,
+) -> Option<bool> {
     let is_kept = is_kept(alloc, pager)? && are_refused(alloc, pager);
     let value = bundle(alloc, pager)?;
     let value = node(alloc, value)?;
-    let_go(insert(alloc, pager, value).ok()?);
+    drop_value(insert(alloc, pager, value).ok()?);
     page_out_pending(alloc, pager).ok()?;
     let key = DataKey::new(KEY)?;
     let is_stored = contains(alloc, pager, key).ok()?;
@@ -129,10 +132,10 @@ fn hold_in<S: PagableStorage<Linked>>(alloc: Global, pager: &mut Pager<Linked, S
     Some(is_kept && is_stored && !is_other_stored && is_found && is_away && is_link)
 }
 
-/// Returns whether `hold_in` holds in a new pager.
-pub fn hold(alloc: Global) -> bool {
+/// Runs the tests of `tests_succeed_in` in a new pager, and returns whether all succeed.
+pub fn all_pass(alloc: Global) -> bool {
     let mut pager = Pager::new(alloc, InMemoryBlobs::new(alloc), Linked);
-    let answer = hold_in(alloc, &mut pager);
-    let_go(pager);
+    let answer = tests_succeed_in(alloc, &mut pager);
+    drop_value(pager);
     answer == Some(true)
 }

@@ -1,25 +1,25 @@
 //! Lines, and their answers.
 
-use crate::calls::Calls;
+use crate::calls::RowMachine;
 use pagable::Reason;
-use pagable_testkit::blobs::{bytes_of, weighed};
+use pagable_testkit::blobs::{bytes_of, weigh_hash_key};
 use pagable_testkit::serve;
-use pagable_value_rows::round_trip::text;
+use pagable_value_rows::round_trip::outcome_text;
 use pagable_value_rows::{dispatch, values};
 use std::alloc::{AllocError, Global};
 use std::fmt::Write;
 
-/// Prints what comes of reading bytes as a type.
+/// Reads bytes as the type of this name, and returns the value or the error as a text.
 fn read_bytes(alloc: Global, name: &str, bytes: &[u8]) -> Result<String, AllocError> {
     match dispatch::answer(alloc, name, bytes) {
-        Some(outcome) => text(alloc, &outcome, bytes),
+        Some(outcome) => outcome_text(alloc, &outcome, bytes),
         None => String::from_str(alloc, "no such type"),
     }
 }
 
 /// Reads each proper prefix of an input as a type. Returns the one answer to all, or `unlike` if
 /// they differ.
-fn cut(alloc: Global, name: &str, input: &str) -> anyhow::Result<String> {
+fn read_prefixes(alloc: Global, name: &str, input: &str) -> anyhow::Result<String> {
     let bytes = bytes_of(alloc, input)?;
     let mut common = String::new(alloc);
     for end in 0..bytes.len() {
@@ -49,8 +49,8 @@ fn answer_all(alloc: Global, name: &str, verb: &str, inputs: &str) -> anyhow::Re
         }
         let answer = match verb {
             "read" => read_bytes(alloc, name, bytes_of(alloc, input)?.as_slice())?,
-            "cut" => cut(alloc, name, input)?,
-            "weigh" => weighed(alloc, input)?,
+            "cut" => read_prefixes(alloc, name, input)?,
+            "weigh" => weigh_hash_key(alloc, input)?,
             "serve" => serve::answer(alloc, name, input)?,
             "reason" if !is_reason_in_parts(input) => String::from_str(alloc, "unlike in parts")?,
             _ => values::answer(alloc, name, verb, input)?,
@@ -62,7 +62,7 @@ fn answer_all(alloc: Global, name: &str, verb: &str, inputs: &str) -> anyhow::Re
 
 /// Answers a line: of values, which is a name, a verb and inputs; or of events. If the first word
 /// ends with `;`, it is an event without arguments, and a `read` after it is an event too.
-pub fn answer(alloc: Global, calls: &mut Calls, line: &str) -> anyhow::Result<String> {
+pub fn answer(alloc: Global, calls: &mut RowMachine, line: &str) -> anyhow::Result<String> {
     let (name, rest) = line.split_once(' ').unwrap_or((line, ""));
     let (verb, inputs) = rest.split_once(' ').unwrap_or((rest, ""));
     match verb {

@@ -1,6 +1,6 @@
-//! `vectors FILE..` answers each row of each file, compares it with the answer that stands behind the row, and prints
-//! one line of counts for each file. Before, it says whether sessions, bundles and cells hold. What rows expect comes
-//! from outside the program. A row that expects nothing is answered by a line.
+//! `vectors FILE..` answers each row of each file, compares the answer with the one that the row expects, and prints
+//! one line of counts for each file. Before, it prints whether its tests of sessions, bundles and cells succeed. The
+//! expected answers come from outside the program. For a row that expects none, the program prints its answer.
 #![tactic(auto)]
 
 mod bundles;
@@ -10,13 +10,13 @@ mod lines;
 mod rows;
 mod worked;
 
-use crate::calls::{Calls, let_go};
+use crate::calls::{RowMachine, drop_value};
 use anyhow::ensure;
 use pagable_value_rows::sessions;
 use std::{env, fs};
 
-/// Compares the rows of a file with what they expect, and tells whether all are answered so.
-fn compare(rt: &HostRuntime, calls: &mut Calls, file: &str) -> anyhow::Result<bool> {
+/// Answers the rows of a file, and tells whether each answer is the one that its row expects.
+fn compare(rt: &HostRuntime, calls: &mut RowMachine, file: &str) -> anyhow::Result<bool> {
     let text = fs::read_to_string(rt, file)?;
     if file.ends_with("worked.txt") {
         return worked::run(rt, calls, file, text.as_str());
@@ -24,9 +24,9 @@ fn compare(rt: &HostRuntime, calls: &mut Calls, file: &str) -> anyhow::Result<bo
     rows::compare(rt, calls, file, text.as_str())
 }
 
-/// Compares files one after the other. Rows of events go on with the machine that the file before
-/// has left. Fails if a row is answered otherwise than it expects.
-fn compare_each(rt: &HostRuntime, calls: &mut Calls, files: &[String]) -> anyhow::Result<()> {
+/// Answers the rows of files one after the other. A file's events run on the machine as the file
+/// before left it. Fails if an answer isn't the one that its row expects.
+fn compare_each(rt: &HostRuntime, calls: &mut RowMachine, files: &[String]) -> anyhow::Result<()> {
     let mut all_hold = true;
     for file in files {
         let hold = compare(rt, calls, file.as_str())?;
@@ -36,20 +36,21 @@ fn compare_each(rt: &HostRuntime, calls: &mut Calls, files: &[String]) -> anyhow
     Ok(())
 }
 
-/// Says whether sessions, bundles and cells hold, and compares the files of these names, from a new machine on.
+/// Prints whether the tests of sessions, bundles and cells succeed, and then answers the rows of
+/// these files, the first on a new machine.
 fn run(rt: &HostRuntime, files: &[String], sessions_hold: bool) -> anyhow::Result<()> {
     println!(rt; "sessions hold: {sessions_hold}")?;
-    println!(rt; "bundles hold: {}", bundles::hold(rt.alloc()))?;
-    println!(rt; "cells hold: {}", cells::hold(rt.alloc()))?;
-    let mut calls = Calls::new(rt.alloc(), "");
+    println!(rt; "bundles hold: {}", bundles::all_pass(rt.alloc()))?;
+    println!(rt; "cells hold: {}", cells::all_pass(rt.alloc()))?;
+    let mut calls = RowMachine::new(rt.alloc(), "");
     let done = compare_each(rt, &mut calls, files);
-    let_go(calls);
+    drop_value(calls);
     done
 }
 
 fn main(rt: HostRuntime) -> anyhow::Result<()> {
     let files: Vec<String> = env::args(&rt)?.skip(1).collect(rt.alloc())?;
     // Only `main` has threads.
-    let sessions_hold = sessions::hold(&rt, rt.alloc());
+    let sessions_hold = sessions::all_pass(&rt, rt.alloc());
     run(&rt, files.as_slice(), sessions_hold)
 }

@@ -1,17 +1,17 @@
 //! Rows of a file, each compared with the answer that it expects.
 
-use crate::calls::Calls;
+use crate::calls::RowMachine;
 use crate::lines;
 use anyhow::Context;
 
-/// What came of a row.
+/// How a row's answer compares with the answer that the row expects.
 enum Outcome {
-    /// It is answered as it expects.
+    /// The answers are the same.
     AsExpected,
-    /// It is answered otherwise.
-    Otherwise,
-    /// It expects nothing.
-    Asked,
+    /// The answers differ.
+    Unexpected,
+    /// The row expects no answer.
+    NothingExpected,
 }
 
 /// Parts a row into what it asks and the answer that it expects, if it says one.
@@ -23,14 +23,14 @@ fn split(line: &str) -> (&str, Option<&str>) {
 }
 
 /// Answers a row. Prints the answer where the row expects none, and both where they differ.
-fn answer(rt: &HostRuntime, calls: &mut Calls, line: &str) -> anyhow::Result<Outcome> {
+fn answer(rt: &HostRuntime, calls: &mut RowMachine, line: &str) -> anyhow::Result<Outcome> {
     let (asked, expected) = split(line);
     let answer = lines::answer(rt.alloc(), calls, asked)?;
     let Some(expected) = expected else {
         if !answer.is_empty() {
             println!(rt; "{}", answer.as_str())?;
         }
-        return Ok(Outcome::Asked);
+        return Ok(Outcome::NothingExpected);
     };
     if answer.as_str() == expected {
         return Ok(Outcome::AsExpected);
@@ -39,7 +39,7 @@ fn answer(rt: &HostRuntime, calls: &mut Calls, line: &str) -> anyhow::Result<Out
         "{asked}\n  answers {}\n  expects {expected}",
         answer.as_str()
     )?;
-    Ok(Outcome::Otherwise)
+    Ok(Outcome::Unexpected)
 }
 
 /// Prints how many rows of a file were answered as they expect, and how many weren't.
@@ -55,7 +55,7 @@ pub fn print_counts(
 /// Compares the rows of a file, prints one line of their counts, and tells whether all are answered as they expect.
 pub fn compare(
     rt: &HostRuntime,
-    calls: &mut Calls,
+    calls: &mut RowMachine,
     file: &str,
     text: &str,
 ) -> anyhow::Result<bool> {
@@ -66,8 +66,8 @@ pub fn compare(
         }
         match answer(rt, calls, line).context(format_args!("{file}: {line}"))? {
             Outcome::AsExpected => as_expected = as_expected.saturating_add(1),
-            Outcome::Otherwise => otherwise = otherwise.saturating_add(1),
-            Outcome::Asked => {}
+            Outcome::Unexpected => otherwise = otherwise.saturating_add(1),
+            Outcome::NothingExpected => {}
         }
     }
     print_counts(rt, file, as_expected, otherwise)?;

@@ -1,7 +1,7 @@
 //! The worked rows, whose lines stand in a file. What they expect was worked out from the rules of the wire format, of
 //! keys and of cells: by hand, but for keys by SHA-256, which Python's hashlib made of the preimages.
 
-use crate::calls::{Calls, let_go, pager_over};
+use crate::calls::{RowMachine, drop_value, pager_over};
 use crate::lines;
 use crate::rows::print_counts;
 use anyhow::Context;
@@ -11,9 +11,9 @@ use pagable::{
     Records, WeighHash, from_bytes, to_bytes,
 };
 use pagable_testkit::cells::CellNode;
-use pagable_testkit::parse_events::item;
-use pagable_testkit::parse_values::node;
-use pagable_value_rows::bytes::{AnyEnv, written};
+use pagable_testkit::parse_events::parse_item;
+use pagable_testkit::parse_values::parse_node;
+use pagable_value_rows::bytes::{AnyEnv, encoding_of};
 use serde_json::Value;
 use std::alloc::Global;
 use std::sync::Arc;
@@ -21,9 +21,9 @@ use std::sync::Arc;
 /// The number of the last row.
 const LAST: u32 = 24;
 
-/// Whether a row's lines are answered as they have to be, one after the other. Each has the row's
-/// number, what is asked of it, and what has to be answered.
-fn lines_hold(alloc: Global, calls: &mut Calls, text: &str, row: u32) -> anyhow::Result<bool> {
+/// Says whether each line of a row, one after the other, gets the answer that it expects. A line
+/// has the row's number, a question, and the expected answer.
+fn lines_hold(alloc: Global, calls: &mut RowMachine, text: &str, row: u32) -> anyhow::Result<bool> {
     for line in text.lines() {
         let (number, rest) = line.split_once(": ").context("no line of a row")?;
         if number.parse::<u32>().ok() == Some(row) {
@@ -42,7 +42,7 @@ fn are_too_deep(alloc: Global) -> anyhow::Result<bool> {
     for _ in 0..128 {
         value = Value::Array(vec![in alloc; value]?);
     }
-    Ok(written(alloc, &AnyEnv, &value) == Err(Error::TooDeep.number()))
+    Ok(encoding_of(alloc, &AnyEnv, &value) == Err(Error::TooDeep.number()))
 }
 
 /// Says whether `write_at` replaces the first of two bytes that were written, and not the second.
@@ -55,7 +55,7 @@ fn can_write_over(alloc: Global) -> Result<bool, Error> {
 }
 
 /// Says whether `to_bytes` writes a number and a text, and `from_bytes` reads both again.
-fn are_bytes(alloc: Global) -> Result<bool, Error> {
+fn are_bytes_read_again(alloc: Global) -> Result<bool, Error> {
     let value = (300u16, String::from_str(alloc, "hi")?);
     let bytes = to_bytes(alloc, &Records, &value)?;
     let found: (u16, String) = from_bytes(alloc, &Records, bytes.as_slice())?;
@@ -71,14 +71,15 @@ fn item_gets_its_key<E: Env<Node = CellNode>, S: PagableStorage<E>>(
 where
     E::Node: NodeSet<E>,
 {
-    let shared = pager.new_shared(alloc, node(alloc, "0 hello world")?);
+    let shared = pager.new_shared(alloc, parse_node(alloc, "0 hello world")?);
     shared.ok().context("a node is refused")?;
-    let item = Arc::new(alloc, item(alloc, "2a:0:1:1")?)?;
+    let item = Arc::new(alloc, parse_item(alloc, "2a:0:1:1")?)?;
     let mut table = LentTable::new(alloc);
     Ok(page_out_item(alloc, pager, &mut table, item).ok() == DataKey::new(3484))
 }
 
-/// Makes a cell that is listed twice.
+/// Makes a cell that stands twice in the pager's list of cells that wait for page-out: twice its
+/// last pin ends while it has no key.
 fn list_twice<E: Env<Node = CellNode>, S: PagableStorage<E>>(
     alloc: Global,
     pager: &mut Pager<E, S>,
@@ -86,7 +87,7 @@ fn list_twice<E: Env<Node = CellNode>, S: PagableStorage<E>>(
 where
     E::Node: NodeSet<E>,
 {
-    let cell = pager.new_loose(alloc, node(alloc, "0 x")?);
+    let cell = pager.new_loose(alloc, parse_node(alloc, "0 x")?);
     let cell = cell.ok().context("a cell is refused")?;
     pager.unpin(cell)?;
     let (pinned, _) = pin(alloc, pager, cell)?;
@@ -94,8 +95,8 @@ where
     Ok(pager.unpin(cell)?)
 }
 
-/// Whether the page-out of a cell that is listed twice stores it once: the storage's second call
-/// fails, and is this fetch.
+/// Says whether the page-out of a cell that is listed twice stores it once. The storage fails its
+/// second call: if the page-out stores once, the fetch after it is that call, and fails.
 fn is_stored_once<E: Env<Node = CellNode>, S: PagableStorage<E>>(
     alloc: Global,
     pager: &mut Pager<E, S>,
@@ -115,7 +116,7 @@ where
 
 /// Says whether the test that a row has beside its lines succeeds in a pager without cells. Most
 /// rows have none, and succeed.
-fn others_hold_in<E: Env<Node = CellNode>, S: PagableStorage<E>>(
+fn row_test_succeeds_in<E: Env<Node = CellNode>, S: PagableStorage<E>>(
     alloc: Global,
     pager: &mut Pager<E, S>,
     number: u32,
@@ -124,7 +125,7 @@ where
     E::Node: NodeSet<E>,
 {
     match number {
-        1 => Ok(are_bytes(alloc)?),
+        1 => Ok(are_bytes_read_again(alloc)?),
         6 => are_too_deep(alloc),
         10 => item_gets_its_key(alloc, pager),
         14 => is_stored_once(alloc, pager),
@@ -133,28 +134,34 @@ where
     }
 }
 
-/// Says whether `others_hold_in` holds in a new pager, whose storage fails its second call for the
-/// row 14.
-fn others_hold(alloc: Global, number: u32) -> anyhow::Result<bool> {
+/// Runs the test that a row has beside its lines in a new pager, and says whether it succeeds. For
+/// the row 14 the pager's storage fails its second call.
+fn row_test_succeeds(alloc: Global, number: u32) -> anyhow::Result<bool> {
     let mut pager = pager_over::<WeighHash>(alloc, if number == 14 { "1" } else { "" });
-    let answer = others_hold_in(alloc, &mut pager, number);
-    let_go(pager);
+    let answer = row_test_succeeds_in(alloc, &mut pager, number);
+    drop_value(pager);
     answer
 }
 
-/// Whether the row comes out as it has to, on a new machine. A refusal that no row wants is a failure too.
-fn is_ok(alloc: Global, calls: &mut Calls, text: &str, number: u32) -> bool {
+/// Says whether a row's lines get the expected answers on a new machine, and the test that the row
+/// has beside them succeeds. An error that the row doesn't expect counts as a failure.
+fn row_succeeds(alloc: Global, calls: &mut RowMachine, text: &str, number: u32) -> bool {
     calls.answer(alloc, "machine").is_ok()
         && lines_hold(alloc, calls, text, number).unwrap_or(false)
-        && others_hold(alloc, number).unwrap_or(false)
+        && row_test_succeeds(alloc, number).unwrap_or(false)
 }
 
-/// Runs the rows whose lines stand in this text, and prints one line of their counts and one for
-/// each that failed. Tells whether all came out as they have to.
-pub fn run(rt: &HostRuntime, calls: &mut Calls, file: &str, text: &str) -> anyhow::Result<bool> {
+/// Runs the rows whose lines stand in this text, and prints one line for each row that fails, and
+/// one line of counts. Tells whether all rows succeed.
+pub fn run(
+    rt: &HostRuntime,
+    calls: &mut RowMachine,
+    file: &str,
+    text: &str,
+) -> anyhow::Result<bool> {
     let mut failed = 0u32;
     for number in 1..=LAST {
-        if !is_ok(rt.alloc(), calls, text, number) {
+        if !row_succeeds(rt.alloc(), calls, text, number) {
             println!(rt; "row {number} failed")?;
             failed = failed.saturating_add(1);
         }

@@ -1,6 +1,6 @@
 //! A reader of a blob's keys.
 
-ghost use Rattle.pagable_value_spec.specs.Progress.{Track};
+ghost use Rattle.pagable_value_spec.specs.Progress.{ReaderState};
 ghost use Rattle.std.specs.Prelude.{IfNone, IfSome, OnSome, Some, length, slice_get, ◌+◌, ◌<◌, ◌≡◌, ◌≤◌};
 
 use pagable_flavors::DataKey;
@@ -14,10 +14,10 @@ pub struct PagableKeys<'de> {
 }
 
 impl<'de> Model for PagableKeys<'de> {
-    ghost use Rattle.pagable_value_spec.specs.Progress.{Track};
+    ghost use Rattle.pagable_value_spec.specs.Progress.{ReaderState};
     ghost use Rattle.std.specs.Prelude.{length, ◌≤◌};
 
-    ghost Value = { Track };
+    ghost Value = { ReaderState };
 
     ghost view = { λ r. record { all = r.keys.now; position = r.position } };
 

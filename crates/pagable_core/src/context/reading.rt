@@ -13,8 +13,8 @@ use std::alloc::Global;
 use std::sync::Arc;
 
 /// A deserializer of one blob's bytes and keys. `B` reads the bytes; `R` returns the references,
-/// and lends the environment and the session's context. It accepts bytes and keys that are left
-/// after a value.
+/// and lends the environment and the session's context. Bytes and keys may be left over after a
+/// value: the deserializer doesn't fail by that.
 #[derive(Drop)]
 pub struct PagableDeserializerImpl<'de, B, R> {
     reader: B,
@@ -49,7 +49,7 @@ impl<'de, R> PagableDeserializerImpl<'de, PagableSlice<'de>, R> {
         }
     }
 
-    /// Returns what answered for the references.
+    /// Ends the deserializer and returns the `References` that it was made with.
     pub fn finish(self) -> R
         ensures { result ≡ self.entry.references }
     {
@@ -61,13 +61,13 @@ impl<'de, E: Env, B: Reader, R: References<E>> PagableDeserializer<E>
     for PagableDeserializerImpl<'de, B, R> {
     type Reader = B;
 
-    ghost use Rattle.{pagable_core.specs.Context.{moves_of, standing_of}, pagable_value_spec.specs.Cursor.rest_at, std.specs.Prelude.refl};
+    ghost use Rattle.{pagable_core.specs.Context.{moves_of, input_state_at}, pagable_value_spec.specs.Cursor.rest_at, std.specs.Prelude.refl};
 
-    ghost input_state = { λ s. standing_of (R.answer s.references) (R.lends_at s.references) s.keys
-        (B.track s.reader) };
+    ghost input_state = { λ s. input_state_at (R.answer s.references) (R.lends_at s.references) s.keys
+        (B.reader_state s.reader) };
 
-    ghost rest = { λ s. rest_at (standing_of (R.answer s.references) (R.lends_at s.references) s.keys
-        (B.track s.reader)) };
+    ghost rest = { λ s. rest_at (input_state_at (R.answer s.references) (R.lends_at s.references) s.keys
+        (B.reader_state s.reader)) };
 
     ghost levels = { λ s. s.levels };
 
@@ -86,7 +86,7 @@ impl<'de, E: Env, B: Reader, R: References<E>> PagableDeserializer<E>
     ghost rest_of_with = { λ s r. refl };
 
     ghost moves_of_with = { λ s r goes. moves_of (R.answer s.references) (R.lends_at s.references) s.keys
-        (B.track s.reader) (B.track r) goes };
+        (B.reader_state s.reader) (B.reader_state r) goes };
 
     ghost levels_of_with = { λ s r. refl };
 

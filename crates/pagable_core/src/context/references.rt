@@ -1,7 +1,10 @@
 //! The trait by which a deserializer gets a blob's references.
 
-ghost use Rattle.std.specs.Prelude.{◌≡◌, ℕ, Option, None, Some, Result, Err, IfOk, option_map, true};
-ghost use Rattle.pagable_value_spec.specs.{Refusals.may_refuse_reference, declared.{error.Error.{Error as Refusal, TheVariants.WrongKind}, numbers.ArcRef.ArcRef as Reference}};
+ghost use Rattle.pagable_value_spec.specs.{
+  Refusals.may_refuse_reference,
+  declared.{error.Error.{Error as Refusal, TheVariants.WrongKind}, numbers.ArcRef.ArcRef as Reference},
+};
+ghost use Rattle.std.specs.Prelude.{Err, IfOk, None, Option, Result, Some, option_map, true, ℕ, ◌≡◌};
 
 use pagable_codec::{ArcRef, Env, Kind, SessionContext};
 use pagable_flavors::{DataKey, Error};
@@ -15,14 +18,14 @@ pub type SessionOf<E> = SessionContext<<E as Env>::CtxKey, <E as Env>::CtxValue>
 pub trait References<E: Env> {
     ghost environment: { Self → E };
 
-    // What it returns for the key at a place (counted from 0), read as a kind.
+    // What `reference` returns for the key at a place (counted from 0), read as a kind.
     ghost answer: { Self → ℕ → ℕ → ℕ → Result Reference Refusal };
 
-    // The nodes that it lends by references that it has returned.
+    // The node that `shared` lends by each reference that `reference` has returned.
     ghost lends: { Self → Reference → Option E.Node };
 
-    // The reference that it returns at a place with the node that it lends by it there, or None if
-    // it lends none.
+    // The reference that `reference` returns at a place, with the node that is lent by it there; or
+    // None if no node is lent there.
     ghost lends_at: { Self → ℕ → Option (Reference × E.Node) };
 
     fn env(&self) -> &E
@@ -40,17 +43,18 @@ pub trait References<E: Env> {
         ensures same_answers { answer self.new ≡ answer self.old }
         ensures same_lent { lends_at self.new ≡ lends_at self.old };
 
-    /// Returns the node of a reference that was read together with its value, or None if it lends
-    /// none.
+    /// Returns the node of a reference, if the node's value was read together with the reference.
+    /// Returns None if no node is lent by this reference.
     fn shared(&self, reference: ArcRef) -> Option<&E::Node>
         ensures { option_map (λ x. x.now) result ≡ lends self.now reference };
 
-    // An error is one that a reference may have.
+    // Each error that `reference` returns is one with which a reference may be refused.
     ghost refusals: { (s : Self) (place key kind : ℕ) (e : Refusal) → answer s place key kind ≡ Err e
         → may_refuse_reference e ≡ true };
 }
 
-/// An environment whose values hold no references: `reference` fails with `WrongKind` for each.
+/// The `References` of an environment whose values hold no references: `reference` always fails
+/// with `WrongKind`.
 #[derive(Drop)]
 pub struct NoReferences<'e, E: Env> {
     env: &'e E,
@@ -58,7 +62,7 @@ pub struct NoReferences<'e, E: Env> {
 }
 
 impl<'e, E: Env> NoReferences<'e, E> {
-    /// Borrows this environment, and this context of the session.
+    /// Makes `References` that borrow this environment and this context of the session.
     pub fn new(env: &'e E, session: &'e SessionOf<E>) -> NoReferences<'e, E>
         ensures { ⟦<NoReferences<'e, E> as References<E>>⟧.environment result ≡ env.now }
     {

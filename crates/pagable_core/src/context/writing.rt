@@ -28,7 +28,7 @@ pub struct SerializerOver<'e, E, S> {
 
 impl<'e, E, S> SerializerOver<'e, E, S> {
     /// Creates an empty serializer with this session. It allocates nothing.
-    fn over(alloc: Global, env: &'e E, session: S) -> SerializerOver<'e, E, S>
+    fn with_session(alloc: Global, env: &'e E, session: S) -> SerializerOver<'e, E, S>
         ensures out { written result ≡ nothing }
         ensures levels { result.levels ≡ 0 }
         ensures env { result.env.now ≡ env.now }
@@ -56,7 +56,7 @@ impl<'e, E: Env> SerializerForPaging<'e, E> {
         ensures levels { ⟦<SerializerForPaging<'e, E> as PagableSerializer<E>>⟧.levels result ≡ 0 }
         ensures env { ⟦<SerializerForPaging<'e, E> as PagableSerializer<E>>⟧.environment result ≡ env.now }
     {
-        SerializerOver::over(alloc, env, session)
+        SerializerOver::with_session(alloc, env, session)
     }
 
     /// Returns the bytes, and the references in the order in which they were written.
@@ -74,7 +74,7 @@ impl<'e, E: Env> PagableSerializerImpl<'e, E> {
         ensures levels { ⟦<PagableSerializerImpl<'e, E> as PagableSerializer<E>>⟧.levels result ≡ 0 }
         ensures env { ⟦<PagableSerializerImpl<'e, E> as PagableSerializer<E>>⟧.environment result ≡ env.now }
     {
-        SerializerOver::over(alloc, env, SessionContext::new(alloc))
+        SerializerOver::with_session(alloc, env, SessionContext::new(alloc))
     }
 
     /// Returns what was written. It never fails.

@@ -1,6 +1,7 @@
 //! Blobs and their keys.
 
-ghost use Rattle.{pagable_core.specs.Data.blob_of, pagable_value_spec.specs.Blob.key_of};
+ghost use Rattle.pagable_core.specs.Data.{blob_of};
+ghost use Rattle.pagable_value_spec.specs.Blob.{key_of};
 ghost use Rattle.std.specs.Prelude.{◌≡◌};
 
 use pagable_codec::KeyHash;

@@ -1,8 +1,11 @@
 //! A storage in memory, for tests and for stores that live as long as one run.
 
-ghost use Rattle.std.specs.Prelude.{◌≡◌, ◌↔◌, ◌==◌, if◌then◌else◌, ℕ, IsTrue, OnOk, OnErr, IfErr, None, Some, false, true, option_map};
-ghost use Rattle.std.specs.HashMap.{get_by_text};
-ghost use Rattle.{pagable_core.specs.Data.{blob_of, stored_in}, pagable_value_spec.specs.{Blob.key_of, Outcomes.memory, Stored.{AreNamed, IsCount}}};
+ghost use Rattle.pagable_core.specs.Data.{blob_of, stored_in};
+ghost use Rattle.pagable_value_spec.specs.{Blob.key_of, Outcomes.IsOutOfMemory, Stored.{AreNamed, IsCount}};
+ghost use Rattle.std.specs.{
+  HashMap.get_by_text,
+  Prelude.{IfErr, IsTrue, None, OnErr, OnOk, Some, false, if◌then◌else◌, option_map, true, ℕ, ◌==◌, ◌↔◌, ◌≡◌},
+};
 
 use crate::storage::data::PagableData;
 use crate::storage::roots::Roots;
@@ -16,8 +19,8 @@ use std::marker::PhantomData;
 use std::sync::Arc;
 
 /// A storage in memory: a map of blobs by key, and one of keys by name. It refuses another blob
-/// under a taken key and keeps the first. What it stores counts as flushed at once. It is honest
-/// whatever is called: no layer below it can answer wrongly.
+/// under a taken key and keeps the first. What it stores counts as flushed at once. It stays honest
+/// (it takes no wrong answer for true), since it asks no layer below.
 #[derive(Drop)]
 pub struct InMemoryBlobs<E: Env> {
     blobs: HashMap<DataKey, Arc<PagableData>>,
@@ -76,7 +79,7 @@ fn put(
 ) -> Result<(), Error>
     ensures ok { OnOk result ((q : ℕ) → stored_in blobs.new q
         ≡ (if q == key then Some (blob_of blob) else stored_in blobs.old q)) }
-    ensures only { IfErr result memory }
+    ensures only { IfErr result IsOutOfMemory }
     ensures err { OnErr result (stored_in blobs.new ≡ stored_in blobs.old) }
 {
     let kept = Arc::new(alloc, blob)?;

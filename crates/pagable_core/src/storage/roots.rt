@@ -1,7 +1,8 @@
 //! Names that stand for keys.
 
-ghost use Rattle.std.specs.Prelude.{◌≡◌, ◌≤◌, ℕ, List, Option, false, IfErr, IfOk, IsTrue, OnErr, OnOk};
-ghost use Rattle.{pagable_core.specs.Roots.{ListsAll, RefusesRoot, Sets, Stands}, pagable_value_spec.specs.Stored.IsMemoryOrFailure};
+ghost use Rattle.pagable_core.specs.Roots.{HasBlobIfKey, ListsAll, RefusesRoot, Sets};
+ghost use Rattle.pagable_value_spec.specs.Stored.{IsMemoryOrFailure};
+ghost use Rattle.std.specs.Prelude.{IfErr, IfOk, IsTrue, List, OnErr, OnOk, Option, false, ℕ, ◌≡◌, ◌≤◌};
 
 use crate::storage::traits::PagableStorage;
 use pagable_codec::Env;
@@ -11,7 +12,8 @@ use std::alloc::Global;
 /// Names in a storage of blobs, each of which stands for a key. A flush makes them durable together
 /// with the blobs that were stored before it.
 ///
-/// What a call returns is right as long as the storage is honest after it.
+/// What a call returns is right as long as the storage is honest after the call, that is, hasn't
+/// taken a wrong answer of a layer below for true.
 pub trait Roots<E: Env>: PagableStorage<E> {
     // The key that each name stands for, or None.
     ghost roots: { Self → List ℕ → Option ℕ };
@@ -21,7 +23,7 @@ pub trait Roots<E: Env>: PagableStorage<E> {
     /// # Errors
     ///
     /// - `OutOfMemory`.
-    /// - `Storage` only if the call raised the storage's count of failures.
+    /// - `Storage` only if the call raised the storage's count of failures, or it was 2^64 - 1.
     fn root(&mut self, name: &str) -> Result<Option<DataKey>, Error>
         ensures ok { IsTrue (Self.PagableStorage.is_honest self.new)
             → IfOk result (λ key. key ≡ roots self.old name.now) }
@@ -45,12 +47,12 @@ pub trait Roots<E: Env>: PagableStorage<E> {
     /// - `NoData` if no blob is stored under the key.
     /// - `Closed` after `close`.
     /// - `OutOfMemory`.
-    /// - `Storage` only if the call raised the storage's count of failures.
+    /// - `Storage` only if the call raised the storage's count of failures, or it was 2^64 - 1.
     fn set_root(&mut self, alloc: Global, name: &str, key: Option<DataKey>) -> Result<(), Error>
         ensures sets { IsTrue (Self.PagableStorage.is_honest self.new)
             → OnOk result (Sets name.now key (roots self.old) (roots self.new)) }
         ensures stands { IsTrue (Self.PagableStorage.is_honest self.new)
-            → OnOk result (Stands (Self.PagableStorage.stored self.old) key) }
+            → OnOk result (HasBlobIfKey (Self.PagableStorage.stored self.old) key) }
         ensures was_open { OnOk result (Self.PagableStorage.is_closed self.old ≡ false) }
         ensures only { IsTrue (Self.PagableStorage.is_honest self.new)
             → IfErr result (RefusesRoot key (Self.PagableStorage.stored self.old)
@@ -71,7 +73,7 @@ pub trait Roots<E: Env>: PagableStorage<E> {
     /// # Errors
     ///
     /// - `OutOfMemory`.
-    /// - `Storage` only if the call raised the storage's count of failures.
+    /// - `Storage` only if the call raised the storage's count of failures, or it was 2^64 - 1.
     fn root_names(&mut self, alloc: Global) -> Result<Vec<String>, Error>
         ensures all { IsTrue (Self.PagableStorage.is_honest self.new)
             → IfOk result (λ names. ListsAll (roots self.old) names.items) }

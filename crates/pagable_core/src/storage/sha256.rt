@@ -1,6 +1,7 @@
 //! The hash by which keys are computed.
 
-ghost use Rattle.{sha2.specs.{Hashers.Holds256, Sha256.sha256}, std.specs.Prelude.take};
+ghost use Rattle.sha2.specs.{Hashers.Holds256, Sha256.sha256};
+ghost use Rattle.std.specs.Prelude.{take};
 
 use pagable_codec::KeyHash;
 use sha2::{Digest, Sha256};
@@ -13,7 +14,7 @@ pub struct Sha256Key {
 }
 
 impl KeyHash for Sha256Key {
-    ghost holds = { λ h came. Holds256 h.hasher came };
+    ghost has_input = { λ h came. Holds256 h.hasher came };
 
     ghost digest = { λ bytes. take 16 (sha256 bytes) };
 

@@ -1,7 +1,15 @@
 //! The trait of a storage of blobs.
 
-ghost use Rattle.std.specs.{Arc.arc_value, Prelude.{◌≡◌, ◌≤◌, ℕ, Bool, true, false, IsTrue, Option, Some, None, OnOk, OnErr, IfOk, IfErr}};
-ghost use Rattle.{futures.specs.{Poll.{IfReady, OnPending}, Task.{IsArmed, Keeps as KeepsPoll}}, pagable_core.specs.Data.blob_of, pagable_value_spec.specs.{Blob.{Blob, key_of}, Stored.{Adds, Keeps, RefusesFetch, RefusesStore, IsMemoryOrFailure}}};
+ghost use Rattle.futures.specs.{Poll.{IfReady, OnPending}, Task.{IsArmed, Keeps as KeepsPoll}};
+ghost use Rattle.pagable_core.specs.Data.{blob_of};
+ghost use Rattle.pagable_value_spec.specs.{
+  Blob.{Blob, key_of},
+  Stored.{Adds, IsMemoryOrFailure, Keeps, RefusesFetch, RefusesStore},
+};
+ghost use Rattle.std.specs.{
+  Arc.arc_value,
+  Prelude.{Bool, IfErr, IfOk, IsTrue, None, OnErr, OnOk, Option, Some, false, true, ℕ, ◌≡◌, ◌≤◌},
+};
 
 use crate::storage::data::PagableData;
 use futures::task::{Context, Poll};
@@ -10,10 +18,12 @@ use pagable_flavors::{DataKey, Error};
 use std::alloc::Global;
 use std::sync::Arc;
 
-/// A storage of blobs: a map from keys to blobs that only grows until it is closed. It counts its
-/// failures: a call may fail with `Storage` only if that count went up.
+/// A storage of blobs: a map from keys to blobs that only grows until the storage is closed. It
+/// counts its failures: a call may fail with `Storage` only if the count went up, or had reached
+/// 2^64 - 1 before.
 ///
-/// What a call promises of the stored blobs holds as long as the storage is honest after it.
+/// What a call promises of the stored blobs holds as long as the storage is honest after the call,
+/// that is, hasn't taken a wrong answer of a layer below for true.
 /// Whatever the storage does, a call fails only with an error that it names, a fetched blob has the
 /// key that was asked for, and storing returns the key of the blob's content.
 pub trait PagableStorage<E: Env>: Sized {
@@ -25,8 +35,8 @@ pub trait PagableStorage<E: Env>: Sized {
 
     ghost is_closed: { Self → Bool };
 
-    // The storage hasn't taken a wrong answer of a layer below for true. No call tells, and a
-    // storage that isn't honest never becomes so again.
+    // Whether the storage has never taken a wrong answer of a layer below for true. No call returns
+    // it, and a storage that isn't honest never becomes honest again.
     ghost is_honest: { Self → Bool } = { λ _. true };
 
     // How often the storage has failed, up to 2^64 - 1.
@@ -40,7 +50,7 @@ pub trait PagableStorage<E: Env>: Sized {
     ///
     /// - `NoData` only if the storage has no blob under the key.
     /// - `OutOfMemory`.
-    /// - `Storage` only if the call raised the count of failures.
+    /// - `Storage` only if the call raised the count of failures, or it was 2^64 - 1 before.
     fn fetch_data_blocking(
         &mut self,
         alloc: Global,
@@ -49,6 +59,7 @@ pub trait PagableStorage<E: Env>: Sized {
         ensures ok { IsTrue (is_honest self.new) → IfOk result
             (λ found. stored self.old key ≡ Some (blob_of (arc_value found))) }
         ensures named { IfOk result (λ found. key_of E.Hash.digest (blob_of (arc_value found)) ≡ key) }
+        // honest or not, the storage fails only with one of these errors
         ensures refused { IfErr result (RefusesFetch key None (failed self.old) (failed self.new)) }
         ensures only { IsTrue (is_honest self.new) → IfErr result
             (RefusesFetch key (stored self.old key) (failed self.old) (failed self.new)) }
@@ -75,6 +86,7 @@ pub trait PagableStorage<E: Env>: Sized {
         ensures ok { IsTrue (is_honest self.new) → IfReady result
             (λ r. IfOk r (λ found. stored self.old key ≡ Some (blob_of (arc_value found)))) }
         ensures named { IfReady result (λ r. IfOk r (λ found. key_of E.Hash.digest (blob_of (arc_value found)) ≡ key)) }
+        // honest or not, the storage fails only with one of these errors
         ensures refused { IfReady result (λ r. IfErr r (RefusesFetch key None (failed self.old) (failed self.new))) }
         ensures only { IsTrue (is_honest self.new) → IfReady result
             (λ r. IfErr r (RefusesFetch key (stored self.old key) (failed self.old) (failed self.new))) }
@@ -96,12 +108,13 @@ pub trait PagableStorage<E: Env>: Sized {
     /// - `KeyTaken` only if another blob is stored under the key.
     /// - `Closed` only after `close`.
     /// - `OutOfMemory`.
-    /// - `Storage` only if the call raised the count of failures.
+    /// - `Storage` only if the call raised the count of failures, or it was 2^64 - 1 before.
     fn store_data(&mut self, alloc: Global, blob: PagableData) -> Result<DataKey, Error>
         ensures key { IfOk result (λ key. key ≡ key_of E.Hash.digest (blob_of blob)) }
         ensures adds { IsTrue (is_honest self.new) → OnOk result
             (Adds (key_of E.Hash.digest (blob_of blob)) (blob_of blob) (stored self.old) (stored self.new)) }
         ensures was_open { OnOk result (is_closed self.old ≡ false) }
+        // honest or not, the storage fails only with one of these errors; `found` is some blob, or none
         ensures refused { IfErr result (λ e. (found : Option Blob)
             × RefusesStore (blob_of blob) found (is_closed self.old) (failed self.old) (failed self.new) e) }
         ensures only { IsTrue (is_honest self.new) → IfErr result
@@ -131,6 +144,7 @@ pub trait PagableStorage<E: Env>: Sized {
         ensures adds { IsTrue (is_honest self.new) → OnOk result
             (Adds (key_of E.Hash.digest (blob_of blob)) (blob_of blob) (stored self.old) (stored self.new)) }
         ensures was_open { OnOk result (is_closed self.old ≡ false) }
+        // honest or not, the storage fails only with one of these errors; `found` is some blob, or none
         ensures refused { IfErr result (λ e. (found : Option Blob)
             × RefusesStore (blob_of blob) found (is_closed self.old) (failed self.old) (failed self.new) e) }
         ensures only { IsTrue (is_honest self.new) → IfErr result
@@ -145,13 +159,13 @@ pub trait PagableStorage<E: Env>: Sized {
         self.store_data(alloc, blob)
     }
 
-    /// Writes what the storage has held back: after it, all that is stored is durable. What is
-    /// stored stays as it is.
+    /// Writes what the storage has held back: after the call, all that is stored is durable. The
+    /// call changes nothing that is stored.
     ///
     /// # Errors
     ///
     /// - `OutOfMemory`.
-    /// - `Storage` only if the call raised the count of failures.
+    /// - `Storage` only if the call raised the count of failures, or it was 2^64 - 1 before.
     fn flush(&mut self) -> Result<(), Error>
         ensures sure { IsTrue (is_honest self.new) → OnOk result (flushed self.new ≡ stored self.new) }
         ensures only { IfErr result (IsMemoryOrFailure (failed self.old) (failed self.new)) }

@@ -1,6 +1,7 @@
 //! A hash for tests.
 
-ghost use Rattle.{pagable_core.specs.Data.IsWeighed, pagable_value_spec.specs.Blob.weigh_hash};
+ghost use Rattle.pagable_core.specs.Data.{IsWeighed};
+ghost use Rattle.pagable_value_spec.specs.Blob.{weigh_hash};
 
 use pagable_codec::KeyHash;
 
@@ -13,7 +14,7 @@ pub struct WeighHash {
 }
 
 impl KeyHash for WeighHash {
-    ghost holds = { IsWeighed };
+    ghost has_input = { IsWeighed };
 
     ghost digest = { weigh_hash };
 

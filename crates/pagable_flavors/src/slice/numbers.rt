@@ -1,7 +1,12 @@
-//! Varints are read byte by byte.
+//! Reads varints byte by byte.
 
-ghost use Rattle.std.specs.Prelude.{◌≡◌, ◌≤◌, ◌<◌, ◌^◌, IfOk, MatchOption, drop, length};
-ghost use Rattle.{pagable_flavors.specs.Calls.Reads, pagable_value_spec.specs.{Outcomes.{MatchesReading, no_own_causes}, Numbers.{byte_at, varint_at, varint_limit}, Progress.{left, GoesOn}}};
+ghost use Rattle.pagable_flavors.specs.Calls.{Reads};
+ghost use Rattle.pagable_value_spec.specs.{
+  Numbers.{byte_at, varint_at, varint_limit},
+  Outcomes.{MatchesReading, no_own_causes},
+  Progress.{MovesForward, left},
+};
+ghost use Rattle.std.specs.Prelude.{IfOk, MatchOption, drop, length, ◌<◌, ◌^◌, ◌≡◌, ◌≤◌};
 
 use super::PagableSlice;
 use pagable_value_spec::Error;
@@ -58,10 +63,10 @@ pub(super) fn wide_varint_of(bytes: &[u8], more: usize, last: u8) -> Result<(u12
 
 impl<'de> PagableSlice<'de> {
     // Reads the next byte if its top bit isn't set; otherwise leaves the position.
-    pub(super) fn short(&mut self) -> Option<u8>
+    pub(super) fn read_one_byte_varint(&mut self) -> Option<u8>
         ensures reads { MatchOption result (self.new ≡ self.old)
             (λ b. (b < 128) × (byte_at (left self.old) ≡ Ok (b, left self.new))) }
-        ensures goes { GoesOn self.old self.new }
+        ensures moves { MovesForward self.old self.new }
     {
         if self.position == self.bytes.len() || self.bytes[self.position] >= 128 {
             return None;
@@ -75,7 +80,7 @@ impl<'de> PagableSlice<'de> {
     // most `last`. It isn't inlined, so that the path for a number of one byte stays short in its
     // callers.
     #[inline(never)]
-    pub(super) fn varint(&mut self, more: usize, last: u8) -> Result<u64, Error>
+    pub(super) fn read_varint(&mut self, more: usize, last: u8) -> Result<u64, Error>
         requires ends { (0 < last) × (last < 128) }
         requires fits { varint_limit more last ≤ 2 ^ 64 }
         ensures reads { Reads (varint_at more last) result self.old self.new }

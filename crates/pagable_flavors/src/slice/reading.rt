@@ -1,6 +1,10 @@
 //! Reads basic values, and texts and byte arrays without copying them.
 
-ghost use Rattle.pagable_value_spec.specs.{BasicValues.{byte_array_at, text_at}, Outcomes.{MatchesReading, no_own_causes}, Progress.{GoesOn, left}};
+ghost use Rattle.pagable_value_spec.specs.{
+  BasicValues.{byte_array_at, text_at},
+  Outcomes.{MatchesReading, no_own_causes},
+  Progress.{MovesForward, left},
+};
 
 use super::PagableSlice;
 use super::numbers::wide_varint_of;
@@ -11,7 +15,7 @@ use pagable_value_spec::Error;
 use std::alloc::Global;
 
 impl Reader for PagableSlice<'_> {
-    ghost track = { λ s. s };
+    ghost reader_state = { λ s. s };
 
     fn position(&self) -> usize {
         PagableSlice::position(self)
@@ -40,31 +44,31 @@ impl Reader for PagableSlice<'_> {
 
     #[tactic(auto, using(crate::proofs::Varint::varint_at_first), unfolding(pagable_value_spec::specs::Numbers::varint_limit))]
     fn read_u16(&mut self) -> Result<u16, Error> {
-        if let Some(byte) = self.short() {
+        if let Some(byte) = self.read_one_byte_varint() {
             return Ok(u16::from(byte));
         }
-        Ok(self.varint(2, 3)? as u16)
+        Ok(self.read_varint(2, 3)? as u16)
     }
 
     #[tactic(auto, using(crate::proofs::Varint::varint_at_first), unfolding(pagable_value_spec::specs::Numbers::varint_limit))]
     fn read_u32(&mut self) -> Result<u32, Error> {
-        if let Some(byte) = self.short() {
+        if let Some(byte) = self.read_one_byte_varint() {
             return Ok(u32::from(byte));
         }
-        Ok(self.varint(4, 15)? as u32)
+        Ok(self.read_varint(4, 15)? as u32)
     }
 
     #[tactic(auto, using(crate::proofs::Varint::varint_at_first), unfolding(pagable_value_spec::specs::Numbers::varint_limit))]
     fn read_u64(&mut self) -> Result<u64, Error> {
-        if let Some(byte) = self.short() {
+        if let Some(byte) = self.read_one_byte_varint() {
             return Ok(u64::from(byte));
         }
-        Ok(self.varint(9, 1)?)
+        Ok(self.read_varint(9, 1)?)
     }
 
     #[tactic(auto, using(crate::proofs::Varint::varint_at_first), unfolding(pagable_value_spec::specs::Numbers::varint_limit))]
     fn read_u128(&mut self) -> Result<u128, Error> {
-        if let Some(byte) = self.short() {
+        if let Some(byte) = self.read_one_byte_varint() {
             return Ok(u128::from(byte));
         }
         let (number, count) = wide_varint_of(&self.bytes[self.position..], 18, 3)?;
@@ -131,7 +135,7 @@ impl<'de> PagableSlice<'de> {
     #[tactic(auto, using(crate::proofs::Basic::utf8_tests), unfolding(pagable_value_spec::specs::BasicValues::text_at))]
     pub fn read_str(&mut self) -> Result<&'de str, Error>
         ensures gives { MatchesReading no_own_causes (λ t. (t.now, left self.new)) result (text_at (left self.old)) }
-        ensures goes { GoesOn self.old self.new }
+        ensures moves { MovesForward self.old self.new }
     {
         let count = self.read_len()?;
         let bytes = self.try_take_n(count)?;
@@ -148,7 +152,7 @@ impl<'de> PagableSlice<'de> {
     pub fn read_bytes(&mut self) -> Result<&'de [u8], Error>
         ensures gives { MatchesReading no_own_causes (λ b. (b.now, left self.new)) result
             (byte_array_at (left self.old)) }
-        ensures goes { GoesOn self.old self.new }
+        ensures moves { MovesForward self.old self.new }
     {
         let count = self.read_len()?;
         Ok(self.try_take_n(count)?)

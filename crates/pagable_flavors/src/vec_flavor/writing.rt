@@ -1,7 +1,11 @@
 //! Writes basic values: whole numbers, flags, lengths, texts and byte arrays.
 
-ghost use Rattle.{pagable_flavors.specs.Calls.{Appends, AppendsCounted}, pagable_value_spec.specs.{BasicValues.{bool_form, byte_array_form, char_form, length_form, text_form}, Outcomes.{Extends, memory}}};
-ghost use Rattle.pagable_value_spec.specs.Numbers.{AppendsVarint, signed_form, unsigned_form};
+ghost use Rattle.pagable_flavors.specs.Calls.{Appends, AppendsCounted};
+ghost use Rattle.pagable_value_spec.specs.{
+  BasicValues.{bool_form, byte_array_form, char_form, length_form, text_form},
+  Numbers.{AppendsVarint, signed_form, unsigned_form},
+  Outcomes.{Extends, IsOutOfMemory},
+};
 ghost use Rattle.std.specs.{Int.{w128, w16, w32, w64, w8}, Prelude.{IfErr, OnOk, length, ◌++◌, ◌≡◌}};
 
 use super::{LONGEST, PagableVecFlavor};
@@ -12,10 +16,10 @@ impl PagableVecFlavor {
     // Appends the shortest varint of the number, which is the same for every width that the number
     // fits.
     #[tactic(auto, using(crate::proofs::Varint::writing))]
-    fn varint(&mut self, number: u64) -> Result<(), Error>
+    fn write_varint(&mut self, number: u64) -> Result<(), Error>
         ensures ok { OnOk result (AppendsVarint self.old self.new number) }
-        ensures only { IfErr result memory }
-        ensures err { Extends self.old self.new }
+        ensures only { IfErr result IsOutOfMemory }
+        ensures grows { Extends self.old self.new }
     {
         let mut rest = number;
         while rest >= 128 {
@@ -46,7 +50,7 @@ impl PagableVecFlavor {
     pub fn write_u16(&mut self, number: u16) -> Result<(), Error>
         ensures { Appends (unsigned_form w16 number) result self.old self.new }
     {
-        self.varint(u64::from(number))
+        self.write_varint(u64::from(number))
     }
 
     /// Appends a number of 32 bits, in 1 to 5 bytes.
@@ -58,7 +62,7 @@ impl PagableVecFlavor {
     pub fn write_u32(&mut self, number: u32) -> Result<(), Error>
         ensures { Appends (unsigned_form w32 number) result self.old self.new }
     {
-        self.varint(u64::from(number))
+        self.write_varint(u64::from(number))
     }
 
     /// Appends a number of 64 bits, in 1 to 10 bytes.
@@ -70,7 +74,7 @@ impl PagableVecFlavor {
     pub fn write_u64(&mut self, number: u64) -> Result<(), Error>
         ensures { Appends (unsigned_form w64 number) result self.old self.new }
     {
-        self.varint(number)
+        self.write_varint(number)
     }
 
     /// Appends a number of 64 bits, as `write_u64` does and with its errors.
@@ -88,8 +92,8 @@ impl PagableVecFlavor {
     #[tactic(auto, using(crate::proofs::Varint::writing))]
     pub fn write_u128(&mut self, number: u128) -> Result<(), Error>
         ensures ok { OnOk result (self.new ≡ self.old ++ unsigned_form w128 number) }
-        ensures only { IfErr result memory }
-        ensures err { Extends self.old self.new }
+        ensures only { IfErr result IsOutOfMemory }
+        ensures grows { Extends self.old self.new }
     {
         let mut rest = number;
         while rest >= 128 {

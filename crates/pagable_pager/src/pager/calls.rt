@@ -1,13 +1,30 @@
 //! Calls on live handles: cloning, pinning, releasing and queries; the list of cells that wait for
 //! page-out; the cache and room; and the calls of page-out workers.
-#![tactic(auto, using(crate::proofs::Invariant::handling))]
+#![tactic(auto, using(crate::proofs::LentCalls::handling))]
 
-ghost use Rattle.std.specs.{Option.option_map, Prelude.{IfErr, IfNone, IfOk, IfSome, IsSome, length, true, ◌<◌, ◌≡◌, ◌≤◌}};
-ghost use Rattle.{pagable_load.specs.{PinStart.{StartsPin, is_unpinned_at}, AccessView.{IsMade, values_at}, WorkerCalls.{EntryFault, TakesReference}}, pagable_tables.specs.Core.{BeginsWorker, TakesWorker}};
-ghost use Rattle.pagable_pager.specs.View.{Calls, OnlyLess, OnlyTables, Settles, TakesEntry, pager_core, may_call, storage_view};
-ghost use Rattle.pagable_pager_spec.specs.Calls.{IsPagedOutCall, ClearCall, CloneCall, CountCall, KeyCall, Looks, LoosenCall, NodeCall, OfferCall, PinCall, RecallCall, ReleaseCall, ReserveCall};
-ghost use Rattle.pagable_pager_spec.specs.{Calls.{ScheduleCall, SetKeyCall, TakeCall, TypeCall, UnpinCall, room_of}, Cascade.FallsAnyhow, Events.{IsEntry, reading_of_load}};
-ghost use Rattle.pagable_pager_spec.specs.{Kinds.is_loose, LoadCalls.{DropCall, HandOverCall}, Workers.{WorkerEnds, is_workers_at}, World.{Alike, Reading, key_at, row_at}};
+ghost use Rattle.pagable_load.specs.{
+  AccessView.{IsMade, values_at},
+  PinStart.{StartsPin, is_unpinned_at},
+  WorkerCalls.{EntryFault, TakesReference},
+};
+ghost use Rattle.pagable_pager.specs.{
+  View.{AddsNoValue, Calls, CallsKeepingInvariant, ChangesOnlyTables, TakesEntry, may_call, pager_core, storage_view},
+};
+ghost use Rattle.pagable_pager_spec.specs.{
+  Calls.{ClearCall, CloneCall, CountCall, IsPagedOutCall, KeyCall, Looks, LoosenCall, NodeCall, OfferCall, PinCall},
+  Calls.{RecallCall, ReleaseCall, ReserveCall, ScheduleCall, SetKeyCall, TakeCall, TypeCall, UnpinCall, room_of},
+  Cascade.FallsAnyhow,
+  Events.{IsEntry, reading_of_load},
+  Kinds.is_loose,
+  LoadCalls.{DropCall, HandOverCall},
+  Workers.{WorkerEnds, is_workers_at},
+  World.{Alike, Reading, key_at, row_at},
+};
+ghost use Rattle.pagable_tables.specs.Core.{BeginsWorker, TakesWorker};
+ghost use Rattle.std.specs.{
+  Option.option_map,
+  Prelude.{IfErr, IfNone, IfOk, IfSome, IsSome, length, true, ◌<◌, ◌≡◌, ◌≤◌},
+};
 
 use crate::pager::{Pager, cell_type};
 use pagable_codec::{Env, NodeSet};
@@ -34,7 +51,7 @@ impl<E: Env<Node: NodeSet<E>>, S: PagableStorage<E>> Pager<E, S> {
     /// - `NumbersSpent` if no number is left for a handle.
     /// - `OutOfMemory` if the handle can't be allocated.
     pub fn clone(&mut self, handle: HandleNumber) -> Result<HandleNumber, Error>
-        ensures { Calls OnlyTables (storage_view S.PagableStorage) self.old
+        ensures { Calls ChangesOnlyTables (storage_view S.PagableStorage) self.old
             (λ w w'. CloneCall w Owner.Caller handle result w') self.new }
     {
         self.clone_for(Owner::Caller, handle)
@@ -46,7 +63,8 @@ impl<E: Env<Node: NodeSet<E>>, S: PagableStorage<E>> Pager<E, S> {
         handle: HandleNumber,
     ) -> Result<HandleNumber, Error>
         requires { may_call (pager_core (storage_view S.PagableStorage) self.old) me ≡ true }
-        ensures { Calls OnlyTables (storage_view S.PagableStorage) self.old (λ w w'. CloneCall w me handle result w')
+        ensures { Calls ChangesOnlyTables (storage_view S.PagableStorage) self.old
+            (λ w w'. CloneCall w me handle result w')
             self.new }
     {
         create::clone(&mut self.tables, me, handle)
@@ -60,7 +78,7 @@ impl<E: Env<Node: NodeSet<E>>, S: PagableStorage<E>> Pager<E, S> {
     /// - `NotYours` if another than the caller has it.
     /// - `WrongMode` if it isn't Pinned.
     pub fn into_pagable(&mut self, handle: HandleNumber) -> Result<HandleNumber, Error>
-        ensures { Calls OnlyTables (storage_view S.PagableStorage) self.old
+        ensures { Calls ChangesOnlyTables (storage_view S.PagableStorage) self.old
             (λ w w'. LoosenCall w Owner.Caller handle result w') self.new }
     {
         create::into_pagable(&mut self.tables, Owner::Caller, handle)
@@ -78,7 +96,7 @@ impl<E: Env<Node: NodeSet<E>>, S: PagableStorage<E>> Pager<E, S> {
     /// - `NumbersSpent` if no number is left for a handle.
     /// - `OutOfMemory` if the handle can't be allocated.
     pub fn pin(&mut self, handle: HandleNumber) -> Result<Pinning, Error>
-        ensures { Calls OnlyTables (storage_view S.PagableStorage) self.old
+        ensures { Calls ChangesOnlyTables (storage_view S.PagableStorage) self.old
             (λ w w'. PinCall w Owner.Caller handle result w') self.new }
     {
         self.pin_for(Owner::Caller, handle)
@@ -86,7 +104,8 @@ impl<E: Env<Node: NodeSet<E>>, S: PagableStorage<E>> Pager<E, S> {
 
     pub(crate) fn pin_for(&mut self, me: Owner, handle: HandleNumber) -> Result<Pinning, Error>
         requires { may_call (pager_core (storage_view S.PagableStorage) self.old) me ≡ true }
-        ensures { Calls OnlyTables (storage_view S.PagableStorage) self.old (λ w w'. PinCall w me handle result w')
+        ensures { Calls ChangesOnlyTables (storage_view S.PagableStorage) self.old
+            (λ w w'. PinCall w me handle result w')
             self.new }
     {
         create::pin(&mut self.tables, me, handle)
@@ -100,7 +119,7 @@ impl<E: Env<Node: NodeSet<E>>, S: PagableStorage<E>> Pager<E, S> {
     pub fn count(&self, handle: HandleNumber) -> Result<u64, Error>
         ensures { CountCall (pager_core (storage_view S.PagableStorage) self.now) handle result }
     {
-        queries::count(&self.tables, handle)
+        queries::pin_count(&self.tables, handle)
     }
 
     /// Returns the key of the handle's node, if it has one.
@@ -161,7 +180,7 @@ impl<E: Env<Node: NodeSet<E>>, S: PagableStorage<E>> Pager<E, S> {
     fn is_unpinned(&self, handle: HandleNumber) -> bool
         ensures { result ≡ is_unpinned_at (pager_core (storage_view S.PagableStorage) self.now) handle }
     {
-        match handle_table::look(&self.tables.ref_counts.handles, handle) {
+        match handle_table::find_live(&self.tables.ref_counts.handles, handle) {
             Some(at) => kinds::is_unpinned(at.row.mode),
             None => false,
         }
@@ -184,7 +203,7 @@ impl<E: Env<Node: NodeSet<E>>, S: PagableStorage<E>> Pager<E, S> {
     ///
     /// - those of `pin` and `load_begin`.
     pub fn begin_pin(&mut self, handle: HandleNumber) -> Result<PinStart, Error>
-        ensures { Calls OnlyTables (storage_view S.PagableStorage) self.old
+        ensures { Calls ChangesOnlyTables (storage_view S.PagableStorage) self.old
             (λ w w'. StartsPin w Owner.Caller handle result w') self.new }
     {
         self.begin_pin_for(Owner::Caller, handle)
@@ -196,7 +215,8 @@ impl<E: Env<Node: NodeSet<E>>, S: PagableStorage<E>> Pager<E, S> {
         handle: HandleNumber,
     ) -> Result<PinStart, Error>
         requires { may_call (pager_core (storage_view S.PagableStorage) self.old) me ≡ true }
-        ensures { Calls OnlyTables (storage_view S.PagableStorage) self.old (λ w w'. StartsPin w me handle result w')
+        ensures { Calls ChangesOnlyTables (storage_view S.PagableStorage) self.old
+            (λ w w'. StartsPin w me handle result w')
             self.new }
     {
         let was_unpinned = self.is_unpinned(handle);
@@ -218,7 +238,7 @@ impl<E: Env<Node: NodeSet<E>>, S: PagableStorage<E>> Pager<E, S> {
     /// Removes the entry at this place from the page-out list, and returns its handle, a loose
     /// unpinned one, which the caller owns from then on. Returns None past the list's end.
     pub fn take_pending(&mut self, place: usize) -> Option<HandleNumber>
-        ensures { Calls OnlyTables (storage_view S.PagableStorage) self.old
+        ensures { Calls ChangesOnlyTables (storage_view S.PagableStorage) self.old
             (λ w w'. TakeCall w Owner.Caller place result w') self.new }
     {
         self.take_pending_for(Owner::Caller, place)
@@ -226,7 +246,8 @@ impl<E: Env<Node: NodeSet<E>>, S: PagableStorage<E>> Pager<E, S> {
 
     pub(crate) fn take_pending_for(&mut self, me: Owner, place: usize) -> Option<HandleNumber>
         requires { may_call (pager_core (storage_view S.PagableStorage) self.old) me ≡ true }
-        ensures { Calls OnlyTables (storage_view S.PagableStorage) self.old (λ w w'. TakeCall w me place result w')
+        ensures { Calls ChangesOnlyTables (storage_view S.PagableStorage) self.old
+            (λ w w'. TakeCall w me place result w')
             self.new }
     {
         pending::take_pending(&mut self.tables, me, place)
@@ -242,7 +263,7 @@ impl<E: Env<Node: NodeSet<E>>, S: PagableStorage<E>> Pager<E, S> {
     /// - `WrongMode` if it isn't loose and unpinned.
     /// - `OutOfMemory` if the list can't grow.
     pub fn schedule_for_paging(&mut self, handle: HandleNumber) -> Result<(), Error>
-        ensures { Calls OnlyLess (storage_view S.PagableStorage) self.old
+        ensures { Calls AddsNoValue (storage_view S.PagableStorage) self.old
             (λ w w'. ScheduleCall w Owner.Caller handle result w') self.new }
     {
         self.schedule_for_paging_for(Owner::Caller, handle)
@@ -254,7 +275,8 @@ impl<E: Env<Node: NodeSet<E>>, S: PagableStorage<E>> Pager<E, S> {
         handle: HandleNumber,
     ) -> Result<(), Error>
         requires { may_call (pager_core (storage_view S.PagableStorage) self.old) me ≡ true }
-        ensures { Settles OnlyLess (storage_view S.PagableStorage) (values_at E.Node.NodeSet E.Env E.Hash.KeyHash)
+        ensures { CallsKeepingInvariant AddsNoValue (storage_view S.PagableStorage)
+            (values_at E.Node.NodeSet E.Env E.Hash.KeyHash)
             self.old (λ w w'. ScheduleCall w me handle result w') self.new }
     {
         let lists = !self.storage.has_closed();
@@ -269,7 +291,7 @@ impl<E: Env<Node: NodeSet<E>>, S: PagableStorage<E>> Pager<E, S> {
     /// - `NumbersSpent` if no number is left for a handle.
     /// - `OutOfMemory` if the handle can't be allocated.
     pub fn cache_get(&mut self, kind: Kind, key: DataKey) -> Result<Option<HandleNumber>, Error>
-        ensures { Calls OnlyTables (storage_view S.PagableStorage) self.old
+        ensures { Calls ChangesOnlyTables (storage_view S.PagableStorage) self.old
             (λ w w'. RecallCall w Owner.Caller kind key result w') self.new }
     {
         cache::cache_get(&mut self.tables, Owner::Caller, kind, key)
@@ -293,7 +315,7 @@ impl<E: Env<Node: NodeSet<E>>, S: PagableStorage<E>> Pager<E, S> {
         key: DataKey,
         handle: HandleNumber,
     ) -> Result<Option<HandleNumber>, Error>
-        ensures { Calls OnlyLess (storage_view S.PagableStorage) self.old
+        ensures { Calls AddsNoValue (storage_view S.PagableStorage) self.old
             (λ w w'. OfferCall w Owner.Caller kind key handle result w') self.new }
     {
         let lists = !self.storage.has_closed();
@@ -305,7 +327,7 @@ impl<E: Env<Node: NodeSet<E>>, S: PagableStorage<E>> Pager<E, S> {
     pub fn pending(&self) -> usize
         ensures { result ≡ length (pager_core (storage_view S.PagableStorage) self.now).list }
     {
-        queries::pending(&self.tables)
+        queries::pending_count(&self.tables)
     }
 
     /// Returns how many handles and as many entries of the page-out list can be added without an
@@ -322,7 +344,8 @@ impl<E: Env<Node: NodeSet<E>>, S: PagableStorage<E>> Pager<E, S> {
     ///
     /// - `OutOfMemory` if the allocation fails.
     pub fn reserve(&mut self, more: usize) -> Result<(), Error>
-        ensures { Calls OnlyTables (storage_view S.PagableStorage) self.old (λ w w'. ReserveCall w more result w')
+        ensures { Calls ChangesOnlyTables (storage_view S.PagableStorage) self.old
+            (λ w w'. ReserveCall w more result w')
             self.new }
     {
         tables::reserve(&mut self.tables, more)
@@ -330,24 +353,25 @@ impl<E: Env<Node: NodeSet<E>>, S: PagableStorage<E>> Pager<E, S> {
 
     /// Empties the cache. Never fails.
     pub fn cache_clear(&mut self) -> Result<(), Error>
-        ensures { Calls OnlyTables (storage_view S.PagableStorage) self.old (λ w w'. ClearCall w result w') self.new }
+        ensures { Calls ChangesOnlyTables (storage_view S.PagableStorage) self.old
+            (λ w w'. ClearCall w result w') self.new }
     {
         tables::cache_clear(&mut self.tables)
     }
 
-    /// Unpins a loose handle, which stays live. Does nothing if the handle is unpinned. A cell that
-    /// loses its last pin so loses its value if it has a key, and is listed for page-out if it has
-    /// none.
+    /// Unpins a loose handle, which stays live. Does nothing if the handle is unpinned. If the cell
+    /// loses its last pin by this call, it loses its value if it has a key, and is listed for
+    /// page-out if it has none.
     ///
     /// # Errors
     ///
     /// - `NoSuchHandle` if the handle isn't live: nothing changes.
     /// - `NotYours` if another than the caller has it: nothing changes.
     /// - `WrongMode` if it isn't loose: nothing changes.
-    /// - `NumbersSpent` or `OutOfMemory` if a cell that has to be listed isn't: the handle is
+    /// - `NumbersSpent` or `OutOfMemory` if a cell can't be listed for page-out: the handle is
     ///   unpinned all the same.
     pub fn unpin(&mut self, handle: HandleNumber) -> Result<(), Error>
-        ensures { Calls OnlyLess (storage_view S.PagableStorage) self.old
+        ensures { Calls AddsNoValue (storage_view S.PagableStorage) self.old
             (λ w w'. UnpinCall w Owner.Caller handle result w') self.new }
     {
         self.unpin_for(Owner::Caller, handle)
@@ -355,7 +379,8 @@ impl<E: Env<Node: NodeSet<E>>, S: PagableStorage<E>> Pager<E, S> {
 
     pub(crate) fn unpin_for(&mut self, me: Owner, handle: HandleNumber) -> Result<(), Error>
         requires { may_call (pager_core (storage_view S.PagableStorage) self.old) me ≡ true }
-        ensures { Settles OnlyLess (storage_view S.PagableStorage) (values_at E.Node.NodeSet E.Env E.Hash.KeyHash)
+        ensures { CallsKeepingInvariant AddsNoValue (storage_view S.PagableStorage)
+            (values_at E.Node.NodeSet E.Env E.Hash.KeyHash)
             self.old (λ w w'. UnpinCall w me handle result w') self.new }
     {
         let lists = !self.storage.has_closed();
@@ -369,10 +394,10 @@ impl<E: Env<Node: NodeSet<E>>, S: PagableStorage<E>> Pager<E, S> {
     ///
     /// - `NoSuchHandle` if the handle isn't live: nothing changes.
     /// - `NotYours` if another than the caller has it: nothing changes.
-    /// - `NumbersSpent` or `OutOfMemory` if a cell that has to be listed isn't: the handle is
+    /// - `NumbersSpent` or `OutOfMemory` if a cell can't be listed for page-out: the handle is
     ///   released all the same.
     pub fn release(&mut self, handle: HandleNumber) -> Result<(), Error>
-        ensures { Calls OnlyLess (storage_view S.PagableStorage) self.old
+        ensures { Calls AddsNoValue (storage_view S.PagableStorage) self.old
             (λ w w'. ReleaseCall w Owner.Caller handle result w') self.new }
     {
         self.release_for(Owner::Caller, handle)
@@ -380,7 +405,8 @@ impl<E: Env<Node: NodeSet<E>>, S: PagableStorage<E>> Pager<E, S> {
 
     pub(crate) fn release_for(&mut self, me: Owner, handle: HandleNumber) -> Result<(), Error>
         requires { may_call (pager_core (storage_view S.PagableStorage) self.old) me ≡ true }
-        ensures { Settles OnlyLess (storage_view S.PagableStorage) (values_at E.Node.NodeSet E.Env E.Hash.KeyHash)
+        ensures { CallsKeepingInvariant AddsNoValue (storage_view S.PagableStorage)
+            (values_at E.Node.NodeSet E.Env E.Hash.KeyHash)
             self.old (λ w w'. ReleaseCall w me handle result w') self.new }
     {
         let lists = !self.storage.has_closed();
@@ -394,10 +420,10 @@ impl<E: Env<Node: NodeSet<E>>, S: PagableStorage<E>> Pager<E, S> {
     ///
     /// - `NoSuchHandle` if the handle isn't live: nothing changes.
     /// - `NotYours` if another than the caller has it: nothing changes.
-    /// - `NumbersSpent` or `OutOfMemory` if a cell that has to be listed isn't: the key is set all
+    /// - `NumbersSpent` or `OutOfMemory` if a cell can't be listed for page-out: the key is set all
     ///   the same.
     pub fn set_data_key(&mut self, handle: HandleNumber, key: DataKey) -> Result<(), Error>
-        ensures { Calls OnlyLess (storage_view S.PagableStorage) self.old
+        ensures { Calls AddsNoValue (storage_view S.PagableStorage) self.old
             (λ w w'. SetKeyCall w Owner.Caller handle key result w') self.new }
     {
         self.set_data_key_for(Owner::Caller, handle, key)
@@ -410,7 +436,8 @@ impl<E: Env<Node: NodeSet<E>>, S: PagableStorage<E>> Pager<E, S> {
         key: DataKey,
     ) -> Result<(), Error>
         requires { may_call (pager_core (storage_view S.PagableStorage) self.old) me ≡ true }
-        ensures { Settles OnlyLess (storage_view S.PagableStorage) (values_at E.Node.NodeSet E.Env E.Hash.KeyHash)
+        ensures { CallsKeepingInvariant AddsNoValue (storage_view S.PagableStorage)
+            (values_at E.Node.NodeSet E.Env E.Hash.KeyHash)
             self.old (λ w w'. SetKeyCall w me handle key result w') self.new }
     {
         let lists = !self.storage.has_closed();
@@ -423,17 +450,18 @@ impl<E: Env<Node: NodeSet<E>>, S: PagableStorage<E>> Pager<E, S> {
     ///
     /// - `NoSuchHandle` if the load isn't open: nothing changes.
     /// - `NotYours` if another than the caller began it: nothing changes.
-    /// - `NumbersSpent` or `OutOfMemory` if a cell that has to be listed isn't: the load is dropped
-    ///   all the same.
+    /// - `NumbersSpent` or `OutOfMemory` if a cell can't be listed for page-out: the load is
+    ///   dropped all the same.
     pub fn load_drop(&mut self, load: LoadNumber) -> Result<(), Error>
-        ensures { Calls OnlyLess (storage_view S.PagableStorage) self.old
+        ensures { Calls AddsNoValue (storage_view S.PagableStorage) self.old
             (λ w w'. DropCall w Owner.Caller load result w') self.new }
     {
         self.load_drop_for(Owner::Caller, load)
     }
 
     pub(crate) fn load_drop_for(&mut self, me: Owner, load: LoadNumber) -> Result<(), Error>
-        ensures { Settles OnlyLess (storage_view S.PagableStorage) (values_at E.Node.NodeSet E.Env E.Hash.KeyHash)
+        ensures { CallsKeepingInvariant AddsNoValue (storage_view S.PagableStorage)
+            (values_at E.Node.NodeSet E.Env E.Hash.KeyHash)
             self.old (λ w w'. DropCall w me load result w') self.new }
     {
         let lists = !self.storage.has_closed();
@@ -450,7 +478,7 @@ impl<E: Env<Node: NodeSet<E>>, S: PagableStorage<E>> Pager<E, S> {
     ///   handle, or a handle is named twice.
     /// - `WrongMode` if it is a load of a cell.
     pub fn load_take(&mut self, load: LoadNumber, named: &[HandleNumber]) -> Result<(), Error>
-        ensures { Calls OnlyLess (storage_view S.PagableStorage) self.old
+        ensures { Calls AddsNoValue (storage_view S.PagableStorage) self.old
             (λ w w'. HandOverCall w Owner.Caller load named.now result w') self.new }
     {
         self.load_take_for(Owner::Caller, load, named)
@@ -463,7 +491,8 @@ impl<E: Env<Node: NodeSet<E>>, S: PagableStorage<E>> Pager<E, S> {
         named: &[HandleNumber],
     ) -> Result<(), Error>
         requires { may_call (pager_core (storage_view S.PagableStorage) self.old) me ≡ true }
-        ensures { Settles OnlyLess (storage_view S.PagableStorage) (values_at E.Node.NodeSet E.Env E.Hash.KeyHash)
+        ensures { CallsKeepingInvariant AddsNoValue (storage_view S.PagableStorage)
+            (values_at E.Node.NodeSet E.Env E.Hash.KeyHash)
             self.old (λ w w'. HandOverCall w me load named.now result w') self.new }
     {
         let lists = !self.storage.has_closed();
@@ -480,7 +509,7 @@ impl<E: Env<Node: NodeSet<E>>, S: PagableStorage<E>> Pager<E, S> {
 
     /// Returns the handle at this place of the page-out list, with type and key of its cell; None
     /// past the list's end.
-    pub(crate) fn entry(&self, place: usize) -> Option<(HandleRow, u32, OptionalDataKey)>
+    pub(crate) fn pending_entry(&self, place: usize) -> Option<(HandleRow, u32, OptionalDataKey)>
         ensures found { IfSome result (λ e. IsEntry (pager_core (storage_view S.PagableStorage) self.now) place
             e.0.number
             e.0 e.1) }
@@ -488,12 +517,12 @@ impl<E: Env<Node: NodeSet<E>>, S: PagableStorage<E>> Pager<E, S> {
             ≡ e.2) }
         ensures past { IfNone result (length (pager_core (storage_view S.PagableStorage) self.now).list ≤ place) }
     {
-        queries::entry(&self.tables, place)
+        queries::pending_entry(&self.tables, place)
     }
 
     /// Begins a worker. Fails with NumbersSpent or OutOfMemory.
     pub(crate) fn worker_begin(&mut self) -> Result<WorkerNumber, Error>
-        ensures { Calls OnlyTables (storage_view S.PagableStorage) self.old
+        ensures { Calls ChangesOnlyTables (storage_view S.PagableStorage) self.old
             (λ w w'. BeginsWorker w result w') self.new }
     {
         workers::worker_begin(&mut self.tables)
@@ -501,18 +530,19 @@ impl<E: Env<Node: NodeSet<E>>, S: PagableStorage<E>> Pager<E, S> {
 
     /// Begins a worker, and removes the entry at this place from the page-out list: the worker owns
     /// its handle then. Fails with NumbersSpent or OutOfMemory.
-    pub(crate) fn worker_take(&mut self, place: usize) -> Result<WorkerNumber, Error>
+    pub(crate) fn worker_begin_with_entry(&mut self, place: usize) -> Result<WorkerNumber, Error>
         requires { place < length (pager_core (storage_view S.PagableStorage) self.old).list }
-        ensures { Calls OnlyTables (storage_view S.PagableStorage) self.old (λ w w'. TakesWorker w place result w')
+        ensures { Calls ChangesOnlyTables (storage_view S.PagableStorage) self.old
+            (λ w w'. TakesWorker w place result w')
             self.new }
     {
-        workers::worker_take(&mut self.tables, place)
+        workers::worker_begin_with_entry(&mut self.tables, place)
     }
 
-    /// Begins a worker as `worker_take` does, and returns also the reference that it pages out: the
-    /// entry's handle, as a loose one of its cell. Fails with NoSuchHandle past the list's end,
-    /// with WrongKind if the kinds of the cell's type don't fit 32 bits, and with NumbersSpent or
-    /// OutOfMemory.
+    /// Begins a worker as `worker_begin_with_entry` does, and returns also the reference that it
+    /// pages out: the entry's handle, as a loose one of its cell. Fails with NoSuchHandle past the
+    /// list's end, with WrongKind if the kinds of the cell's type don't fit 32 bits, and with
+    /// NumbersSpent or OutOfMemory.
     pub(crate) fn worker_listed(&mut self, place: usize) -> Result<(WorkerNumber, ArcRef), Error>
         ensures begins { IfOk result (λ b. TakesEntry (pager_core (storage_view S.PagableStorage) self.old) place b.0
             b.1
@@ -520,22 +550,23 @@ impl<E: Env<Node: NodeSet<E>>, S: PagableStorage<E>> Pager<E, S> {
         ensures refused { IfErr result (λ e. EntryFault (pager_core (storage_view S.PagableStorage) self.old) place e
             × Alike (pager_core (storage_view S.PagableStorage) self.old)
             (pager_core (storage_view S.PagableStorage) self.new)) }
-        ensures only { OnlyTables self.old self.new }
+        ensures only { ChangesOnlyTables self.old self.new }
     {
-        let Some((row, node_type, _)) = self.entry(place) else {
+        let Some((row, node_type, _)) = self.pending_entry(place) else {
             return Err(Error::NoSuchHandle);
         };
         let Some(kind) = Kind::loose_of(node_type) else {
             return Err(Error::WrongKind);
         };
-        let worker = self.worker_take(place)?;
+        let worker = self.worker_begin_with_entry(place)?;
         let (node, handle) = (row.node, row.number);
         Ok((worker, ArcRef { kind, node, handle }))
     }
 
     /// Releases all handles that a worker has of a node, with all that follows.
-    pub(crate) fn release_node(&mut self, worker: WorkerNumber, node: NodeNumber)
-        ensures { Settles OnlyLess (storage_view S.PagableStorage) (values_at E.Node.NodeSet E.Env E.Hash.KeyHash)
+    pub(crate) fn release_worker_node(&mut self, worker: WorkerNumber, node: NodeNumber)
+        ensures { CallsKeepingInvariant AddsNoValue (storage_view S.PagableStorage)
+            (values_at E.Node.NodeSet E.Env E.Hash.KeyHash)
             self.old
             (λ w w'. FallsAnyhow w w (is_workers_at w worker.0 node.0) w') self.new }
     {
@@ -546,7 +577,8 @@ impl<E: Env<Node: NodeSet<E>>, S: PagableStorage<E>> Pager<E, S> {
     /// Ends a worker: closes its loads and releases what it and they still own, with all that
     /// follows.
     pub(crate) fn worker_end(&mut self, worker: WorkerNumber)
-        ensures { Settles OnlyLess (storage_view S.PagableStorage) (values_at E.Node.NodeSet E.Env E.Hash.KeyHash)
+        ensures { CallsKeepingInvariant AddsNoValue (storage_view S.PagableStorage)
+            (values_at E.Node.NodeSet E.Env E.Hash.KeyHash)
             self.old (λ w w'. WorkerEnds w worker.0 w') self.new }
     {
         let lists = !self.storage.has_closed();
@@ -563,7 +595,7 @@ impl<E: Env<Node: NodeSet<E>>, S: PagableStorage<E>> Pager<E, S> {
         requires { may_call (pager_core (storage_view S.PagableStorage) self.old) me ≡ true }
         ensures step { TakesReference (pager_core (storage_view S.PagableStorage) self.old) me reference result
             (pager_core (storage_view S.PagableStorage) self.new) }
-        ensures only { OnlyTables self.old self.new }
+        ensures only { ChangesOnlyTables self.old self.new }
     {
         let loose = self.is_loose(reference.handle);
         let through = self.clone_for(me, reference.handle)?;

@@ -1,27 +1,35 @@
 //! Inserts values, makes nodes of what loads have read, and ends loads of cells with a value.
 
-ghost use Rattle.pagable_tables.specs.Core.{StorageView};
+ghost use Rattle.pagable_pager.specs.{
+  View.{Calls, ChangesOnlyTables, pager_core, pager_state, storage_view, value_in, with_value},
+};
+ghost use Rattle.pagable_pager_spec.specs.{
+  Basics.Error,
+  Calls.{InsertCall, InsertPagedOutCall},
+  Kinds.is_pinning,
+  LoadCalls.{AdoptCall, EndCall},
+  Pager.{IsCellOf, IsNewNode, Moves},
+  Refusals.{Refused, closed_fault, earlier, load_fault},
+  World.usable,
+};
+ghost use Rattle.pagable_tables.specs.{Core.{StorageView, core_alone, core_of}, EndingLoads.adopt_check_fault};
 ghost use Rattle.std.specs.Prelude.{IfErr, None, OnErr, OnOk, Option, true, ℕ, ◌≡◌};
-ghost use Rattle.pagable_pager.specs.View.{Calls, OnlyTables, pager_core, pager_state, storage_view, value_in, with_value};
-ghost use Rattle.pagable_tables.specs.{Core.{core_of, core_alone}, EndingLoads.early_fault};
-ghost use Rattle.pagable_pager_spec.specs.{Calls.{InsertPagedOutCall, InsertCall}, Kinds.is_pinning, LoadCalls.{AdoptCall, EndCall}, Pager.{IsCellOf, IsNewNode, Moves}};
-ghost use Rattle.pagable_pager_spec.specs.{Basics.{Error}, Refusals.{Refused, closed_fault, earlier, load_fault}, World.usable};
 
 use crate::pager::Pager;
 use pagable_codec::{Env, NodeSet};
 use pagable_core::PagableStorage;
 use pagable_pager_spec::Mode;
 use pagable_pager_spec::handle_row::Owner;
-use pagable_tables::load_end::Unended;
+use pagable_tables::load_end::EndFailure;
 use pagable_tables::number_table::NumberTable;
 use pagable_tables::{create, load, load_end, load_table};
 use pagable_value_spec::{ArcRef, DataKey, Error, HandleNumber, Kind, LoadNumber};
 use std::alloc::Global;
 use std::sync::Arc;
 
-/// Puts a value into memory at this node if it `comes`, and drops it if not. Fails with OutOfMemory
-/// only, and hands the value back.
-pub(crate) fn place<N: Drop>(
+/// Puts a value into memory at this node if `comes` is true, and drops the value otherwise. Fails
+/// with OutOfMemory only, and hands the value back.
+pub(crate) fn put_value<N: Drop>(
     values: &mut NumberTable<Arc<N>>,
     alloc: Global,
     node: u64,
@@ -42,7 +50,7 @@ pub(crate) fn place<N: Drop>(
     }
     let shared = match Arc::new(alloc, value) {
         Ok(shared) => shared,
-        Err(refused) => return Err(Error::parted(refused)),
+        Err(refused) => return Err(Error::split_failed_allocation(refused)),
     };
     values.put(node, shared);
     Ok(())
@@ -69,12 +77,12 @@ impl<E: Env<Node: NodeSet<E>>, S: PagableStorage<E>> Pager<E, S> {
             Ok(references) => references,
             Err(e) => return Err((e, node)),
         };
-        if let Err(e) = create::prepare(&mut self.tables, Owner::Caller, &references) {
+        if let Err(e) = create::prepare_insert(&mut self.tables, Owner::Caller, &references) {
             return Err((e, node));
         }
         let node_type = node.node_type();
         let number = self.tables.last_node + 1;
-        if let Err((e, node)) = place(&mut self.values, alloc, number, true, node) {
+        if let Err((e, node)) = put_value(&mut self.values, alloc, number, true, node) {
             return Err((e, node));
         }
         let tables = &mut self.tables;
@@ -165,7 +173,7 @@ impl<E: Env<Node: NodeSet<E>>, S: PagableStorage<E>> Pager<E, S> {
         node_type: u32,
         key: DataKey,
     ) -> Result<HandleNumber, Error>
-        ensures { Calls OnlyTables (storage_view S.PagableStorage) self.old
+        ensures { Calls ChangesOnlyTables (storage_view S.PagableStorage) self.old
             (λ w w'. InsertPagedOutCall w Owner.Caller node_type key result w') self.new }
     {
         create::insert_paged_out(&mut self.tables, alloc, Owner::Caller, node_type, key)
@@ -185,7 +193,7 @@ impl<E: Env<Node: NodeSet<E>>, S: PagableStorage<E>> Pager<E, S> {
         node: E::Node,
     ) -> Result<HandleNumber, (Error, E::Node)>
         requires listed { references.items ≡ E.Node.refs_of node }
-        requires fresh { (storage : StorageView) → early_fault (core_of self.old.tables storage) me load kind
+        requires fresh { (storage : StorageView) → adopt_check_fault (core_of self.old.tables storage) me load kind
             (E.Node.type_of node) references.items ≡ None }
         requires unknown { usable (core_alone self.old.tables) kind.0 key ≡ None }
         ensures step { AdoptCall (pager_core (storage_view S.PagableStorage) self.old) me load kind key node
@@ -195,11 +203,11 @@ impl<E: Env<Node: NodeSet<E>>, S: PagableStorage<E>> Pager<E, S> {
             (pager_state (storage_view S.PagableStorage) self.new) }
         ensures storage { self.new.storage ≡ self.old.storage }
     {
-        if let Err(e) = create::make_ready_to_learn(&mut self.tables) {
+        if let Err(e) = create::make_room_for_node(&mut self.tables) {
             return Err((e, node));
         }
         let number = self.tables.last_node + 1;
-        if let Err((e, node)) = place(&mut self.values, alloc, number, true, node) {
+        if let Err((e, node)) = put_value(&mut self.values, alloc, number, true, node) {
             return Err((e, node));
         }
         let lists = !self.storage.has_closed();
@@ -209,7 +217,7 @@ impl<E: Env<Node: NodeSet<E>>, S: PagableStorage<E>> Pager<E, S> {
 
     /// Returns the error of a load that couldn't list the references of a value that it has read,
     /// since memory ran out: NoSuchHandle if the load isn't open, and otherwise `e`.
-    fn listing_error(&self, me: Owner, load: LoadNumber, e: Error) -> Error
+    fn references_error(&self, me: Owner, load: LoadNumber, e: Error) -> Error
         ensures { e ≡ Error.OutOfMemory → (later : Option Error)
             → Refused (earlier (load_fault (pager_core (storage_view S.PagableStorage) self.now) me load) later)
             (closed_fault (pager_core (storage_view S.PagableStorage) self.now) load) (Unit {0})
@@ -273,13 +281,13 @@ impl<E: Env<Node: NodeSet<E>>, S: PagableStorage<E>> Pager<E, S> {
     {
         let references = match node.refs(alloc) {
             Ok(references) => references,
-            Err(e) => return Err((self.listing_error(me, load, e), node)),
+            Err(e) => return Err((self.references_error(me, load, e), node)),
         };
         let node_type = node.node_type();
         let lists = !self.storage.has_closed();
         let (t, values) = (&mut self.tables, &mut self.values);
         let read = &references;
-        match load::adopt_if_known(t, values, me, load, kind, key, node_type, read, lists) {
+        match load::adopt_if_cached(t, values, me, load, kind, key, node_type, read, lists) {
             Ok(Some(known)) => Ok(known),
             Ok(None) => self.adopt_as_new(me, alloc, load, kind, key, references, node),
             Err(e) => Err((e, node)),
@@ -345,20 +353,26 @@ impl<E: Env<Node: NodeSet<E>>, S: PagableStorage<E>> Pager<E, S> {
     {
         let references = match value.refs(alloc) {
             Ok(references) => references,
-            Err(e) => return Err((self.listing_error(me, load, e), Some(value))),
+            Err(e) => return Err((self.references_error(me, load, e), Some(value))),
         };
         let node_type = value.node_type();
         let tables = &mut self.tables;
         let ready = match load_end::prepare_end(tables, me, load, node_type, &references) {
             Ok(ready) => ready,
-            Err(Unended::Refused(e)) => return Err((e, Some(value))),
-            Err(Unended::InVain(e)) => {
+            Err(EndFailure::Refused(e)) => return Err((e, Some(value))),
+            Err(EndFailure::HandleLost(e)) => {
                 let _ = self.load_drop_for(me, load);
                 return Err((e, None));
             }
         };
         let node = ready.row.node.0;
-        if let Err((e, value)) = place(&mut self.values, alloc, node, ready.is_away, value) {
+        if let Err((e, value)) = put_value(
+            &mut self.values,
+            alloc,
+            node,
+            ready.lacks_value,
+            value,
+        ) {
             return Err((e, Some(value)));
         }
         let lists = !self.storage.has_closed();

@@ -1,16 +1,19 @@
 //! Cells whose blobs have no references: they are pinned without a load's row, with the result of a
 //! load that begins, fetches the blob, reads it and ends.
 
-ghost use Rattle.std.specs.{Arc.arc_value, Prelude.{Err, IfErr, IfNone, IfOk, IfSome, IsTrue, [], ◌≡◌, ◌≤◌}};
 ghost use Rattle.pagable_core.specs.Data.{blob_of};
 ghost use Rattle.pagable_leaf.specs.Leaf.{IsLeaf};
-ghost use Rattle.pagable_load.specs.{Decoding.IsReadAs, AccessView.values_at};
-ghost use Rattle.pagable_tables.specs.HandleTable.{room};
-ghost use Rattle.pagable_pager.specs.{Leaf.{LeafBegun, LeafDropped, LeafFetched, LeafPinned, LeafUnbegun}, View.{pager_core, pager_state, storage_view}};
+ghost use Rattle.pagable_load.specs.{AccessView.values_at, Decoding.IsReadAs};
+ghost use Rattle.pagable_pager.specs.{
+  Leaf.{LeafBegun, LeafDropped, LeafFetched, LeafPinned, LeafUnbegun},
+  View.{pager_core, pager_state, storage_view},
+};
 ghost use Rattle.pagable_pager_spec.specs.Access.{PinRun};
+ghost use Rattle.pagable_tables.specs.HandleTable.{room};
+ghost use Rattle.std.specs.{Arc.arc_value, Prelude.{Err, IfErr, IfNone, IfOk, IfSome, IsTrue, [], ◌≡◌, ◌≤◌}};
 
 use crate::pager::Pager;
-use crate::pager::insert::place;
+use crate::pager::insert::put_value;
 use pagable_codec::{Env, NodeSet};
 use pagable_core::{PagableData, PagableStorage};
 use pagable_leaf::leaf::{self, Leaf};
@@ -85,7 +88,7 @@ impl<E: Env<Node: NodeSet<E>>, S: PagableStorage<E>> Pager<E, S> {
         ensures honest { IsTrue (S.is_honest self.new.storage) → IsTrue (S.is_honest self.old.storage) }
         ensures environment { self.new.environment ≡ self.old.environment }
     {
-        let leaf = match leaf::prepare(&mut self.tables, Owner::Caller, handle) {
+        let leaf = match leaf::prepare_pin(&mut self.tables, Owner::Caller, handle) {
             Ok(Some(leaf)) => leaf,
             Ok(None) => return Ok(None),
             Err(e) => return Err(e),
@@ -152,8 +155,8 @@ impl<E: Env<Node: NodeSet<E>>, S: PagableStorage<E>> Pager<E, S> {
         ensures storage { self.new.storage ≡ self.old.storage }
         ensures environment { self.new.environment ≡ self.old.environment }
     {
-        match place(&mut self.values, alloc, leaf.row.node.0, true, value) {
-            Ok(()) => Ok(leaf::install(&mut self.tables, Owner::Caller, leaf)),
+        match put_value(&mut self.values, alloc, leaf.row.node.0, true, value) {
+            Ok(()) => Ok(leaf::pin_loaded_leaf(&mut self.tables, Owner::Caller, leaf)),
             Err((e, _value)) => {
                 leaf::leave_unloaded(&mut self.tables, Owner::Caller, leaf);
                 Err(e)

@@ -1,8 +1,10 @@
 //! Names of root keys in a pager's storage.
 
-ghost use Rattle.std.specs.Prelude.{◌≡◌, IfErr, IfOk, IsTrue, OnErr, OnOk};
-ghost use Rattle.{pagable_core.specs.Roots.{RefusesRoot, Sets, Stands}, pagable_value_spec.specs.Stored.IsMemoryOrFailure};
-ghost use Rattle.{pagable_pager.specs.View.{AsksStorage, storage_view}, pagable_pager_spec.specs.Calls.Asked};
+ghost use Rattle.pagable_core.specs.Roots.{HasBlobIfKey, RefusesRoot, Sets};
+ghost use Rattle.pagable_pager.specs.View.{AsksStorage, storage_view};
+ghost use Rattle.pagable_pager_spec.specs.Calls.{Asked};
+ghost use Rattle.pagable_value_spec.specs.Stored.{IsMemoryOrFailure};
+ghost use Rattle.std.specs.Prelude.{IfErr, IfOk, IsTrue, OnErr, OnOk, ◌≡◌};
 
 use crate::pager::Pager;
 use pagable_codec::{Env, NodeSet};
@@ -45,7 +47,7 @@ impl<E: Env<Node: NodeSet<E>>, S: Roots<E>> Pager<E, S> {
         ensures sets { IsTrue (S.PagableStorage.is_honest self.new.storage)
             → OnOk result (Sets name.now key (S.Roots.roots self.old.storage) (S.Roots.roots self.new.storage)) }
         ensures stands { IsTrue (S.PagableStorage.is_honest self.new.storage)
-            → OnOk result (Stands (S.PagableStorage.stored self.old.storage) key) }
+            → OnOk result (HasBlobIfKey (S.PagableStorage.stored self.old.storage) key) }
         ensures refused { IsTrue (S.PagableStorage.is_honest self.new.storage)
             → IfErr result (RefusesRoot key (S.PagableStorage.stored self.old.storage)
             (S.PagableStorage.is_closed self.old.storage) (S.PagableStorage.failed self.old.storage)

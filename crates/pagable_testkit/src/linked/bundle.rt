@@ -1,7 +1,10 @@
-//! Bundles: values with references of each sort to values of other types.
+//! Bundles: values that hold references of each sort to links.
 
-ghost use Rattle.pagable_testkit.specs.Linked.{bundle_beside, bundle_has_one_form, bundle_in_order, bundle_means, bundle_reads, bundle_shape, bundle_single, bundle_writes, no_parts};
-ghost use Rattle.pagable_traits.specs.ReadBack.{IsReadThroughout};
+ghost use Rattle.pagable_testkit.specs.{
+  Linked.{bundle_beside, bundle_has_one_form, bundle_in_order, bundle_means, bundle_reads, bundle_shape, bundle_single},
+  Linked.{bundle_writes, no_parts},
+};
+ghost use Rattle.pagable_traits.specs.ReadBack.{IsReadableThroughout};
 
 use crate::linked::Linked;
 use crate::linked::chain::{ArcLink, Link};
@@ -75,8 +78,8 @@ impl<'de> PagableDeserialize<'de, Linked> for Bundle {
     }
 }
 
-/// Proves that each encoding of a bundle is read back, since those of references are.
+/// Proves that a reader reads back each encoding of a bundle.
 #[tactic(auto, using(crate::specs::Linked::bundle_is_read))]
 pub fn bundles_are_read()
-    ensures { (e : Linked) → IsReadThroughout no_parts (⟦<Bundle as Carried<Linked>>⟧.shape e) }
+    ensures { (e : Linked) → IsReadableThroughout no_parts (⟦<Bundle as Carried<Linked>>⟧.shape e) }
 {}

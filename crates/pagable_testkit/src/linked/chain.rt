@@ -6,25 +6,25 @@ use pagable_flavors::Error;
 use pagable_traits::encoded_as::{DecodedAs, EncodedAs};
 use pagable_traits::{ArcRef, Env, PagableSerialize, PagableSerializer, RawRef, Refers};
 
-/// A link: it may refer to the next link by a reference of the kind `KIND`. The kind names no type,
-/// so it may be a kind of the link's own type.
+/// A link, which may refer to the next link by a reference of the kind `KIND`. `KIND` is a number,
+/// so the type can refer to itself: it may be the kind of references to such links.
 #[derive(Drop)]
 pub struct Chain<const KIND: u32> {
     pub next: Option<RawRef<KIND>>,
 }
 
-/// A link by a loose reference, which is read without the links that follow. Its type number is 0,
-/// so its kind is 1.
+/// A link that may refer to the next one by a loose reference, so it is read without the links that
+/// follow. Its type number is 0, so the kind of the reference is 1.
 pub type Link = Chain<1>;
 
-/// A link by a shared reference, which is read with all links that follow. Its type number is 1, so
-/// its kind is 3.
+/// A link that may refer to the next one by a shared reference, so it is read with all links that
+/// follow. Its type number is 1, so the kind of the reference is 3.
 pub type ArcLink = Chain<3>;
 
 impl<const KIND: u32> EncodedAs for Chain<KIND> {
     type Other = Option<RawRef<KIND>>;
 
-    ghost other = { λ c. c.next };
+    ghost as_other = { λ c. c.next };
 }
 
 impl<const KIND: u32> DecodedAs for Chain<KIND> {

@@ -1,25 +1,35 @@
-//! Collections of items, read and written one after another: the trait of what reading fills, and
-//! the writers of what an iterator yields.
+//! Collections, whose items are read and written one after another: the trait of the collections
+//! that a reader fills, and writers of the items that an iterator yields.
 
-ghost use Rattle.std.specs.{Iterator.IsFinite, Prelude.{◌≡◌, ℕ, List, [], length, min, ◌≤◌, OnOk, IfOk, IfErr}};
-ghost use Rattle.pagable_value_spec.specs.{Collected.Collected, Outcomes.{memory, memory_or, long_or}, Reading.{items, counted, read}, Cursor.MovesOn};
-ghost use Rattle.pagable_traits.specs.{HeldValues.CollectsHeld, Clauses.{Reads, Wrote}, Walks.{counted as walked, each}};
+ghost use Rattle.pagable_traits.specs.{
+  Clauses.{Reads, Wrote},
+  HeldValues.CollectsHeld,
+  Walks.{counted_forms, yielded_forms},
+};
+ghost use Rattle.pagable_value_spec.specs.{
+  Collected.Collected,
+  Cursor.MovesOn,
+  Outcomes.{IsOutOfMemory, long_or, memory_or},
+  Reading.{counted, items, read},
+};
+ghost use Rattle.std.specs.{Iterator.IsFinite, Prelude.{IfErr, IfOk, List, OnOk, length, min, ℕ, [], ◌≡◌, ◌≤◌}};
 
 use crate::traits::{PagableDeserialize, PagableSerialize};
-use pagable_codec::parts::{places_for, read_count, write_count};
+use pagable_codec::parts::{items_to_reserve, read_count, write_count};
 use pagable_codec::{Env, PagableDeserializer, PagableSerializer};
 use pagable_flavors::Error;
 use std::alloc::Global;
 
 /// A collection that a reader fills item by item.
 pub trait Collects<T>: Sized {
-    // The items that it holds, in their order.
+    // The items that a collection holds, in their order.
     ghost held: { Self → List T };
 
-    // The items before, the added item, and the items after.
+    // Relates the items before `put_in`, the item that it adds, and the items after it.
     ghost puts: { List T → T → List T → Type 0 };
 
-    // It has room for this many more items. A collection that reserves no room says nothing.
+    // Says that a collection has room reserved for this many more items. By default it says
+    // nothing, which fits a collection that reserves no room.
     ghost has_room: { Self → ℕ → Type 0 } = { λ c n. Unit {0} };
 
     /// Creates an empty collection with room for `places` items, if it reserves room. `places` is
@@ -36,7 +46,7 @@ pub trait Collects<T>: Sized {
         requires { places ≤ length (D.rest deserializer.now).bytes }
         ensures empty { IfOk result (λ c. held c ≡ []) }
         ensures room { IfOk result (λ c. has_room c places) }
-        ensures only { IfErr result memory };
+        ensures only { IfErr result IsOutOfMemory };
 
     /// Adds one item.
     ///
@@ -45,7 +55,7 @@ pub trait Collects<T>: Sized {
     /// - `OutOfMemory` only.
     fn put_in(&mut self, item: T) -> Result<(), Error>
         ensures ok { OnOk result (puts (held self.old) item (held self.new)) }
-        ensures only { IfErr result memory };
+        ensures only { IfErr result IsOutOfMemory };
 }
 
 /// Creates an empty collection with room for `count` items, but at most for as many as bytes are
@@ -61,18 +71,19 @@ pub fn with_room<E: Env, T, C: Collects<T>, D: PagableDeserializer<E>>(
 ) -> Result<C, Error>
     ensures empty { IfOk result (λ c. C.held c ≡ []) }
     ensures room { IfOk result (λ c. C.has_room c (min count (length (D.rest deserializer.old).bytes))) }
-    ensures only { IfErr result memory }
+    ensures only { IfErr result IsOutOfMemory }
     ensures same_rest { D.rest deserializer.new ≡ D.rest deserializer.old }
     ensures moves { MovesOn (D.input_state deserializer.old) (D.input_state deserializer.new) }
     ensures same_env { D.environment deserializer.new ≡ D.environment deserializer.old }
     ensures same_levels { D.levels deserializer.new ≡ D.levels deserializer.old }
 {
-    let places = places_for(count, deserializer);
+    let places = items_to_reserve(count, deserializer);
     C::with_places(alloc, places, deserializer)
 }
 
-/// Reads `count` items and adds each to a collection made by `with_room`. Items that take no byte
-/// have no room reserved, and are given room one by one.
+/// Reads `count` items and adds each to a collection made by `with_room`. So room is reserved for
+/// at most as many items as bytes are left; for further items, which take no byte, the collection
+/// grows.
 ///
 /// # Errors
 ///
@@ -133,9 +144,9 @@ pub fn write_each<
     W: Iterator<Item = T>,
     S: PagableSerializer<E>,
 >(walk: W, serializer: &mut S) -> Result<(), Error>
-    requires can { W.can_next walk }
+    requires can_next { W.can_next walk }
     requires ends { IsFinite (W.remaining walk) }
-    ensures { Wrote E.Env S.PagableSerializer (each W.next_gives T.means.of walk
+    ensures { Wrote E.Env S.PagableSerializer (yielded_forms W.next_gives T.means.of walk
         (T.shape (S.environment serializer.old))) T.write_causes.are serializer.old serializer.new result }
 {
     for item in walk {
@@ -158,9 +169,9 @@ pub fn write_counted<
     W: Iterator<Item = T>,
     S: PagableSerializer<E>,
 >(count: usize, walk: W, serializer: &mut S) -> Result<(), Error>
-    requires can { W.can_next walk }
+    requires can_next { W.can_next walk }
     requires ends { IsFinite (W.remaining walk) }
-    ensures { Wrote E.Env S.PagableSerializer (walked W.next_gives T.means.of walk count
+    ensures { Wrote E.Env S.PagableSerializer (counted_forms W.next_gives T.means.of walk count
         (T.shape (S.environment serializer.old))) (long_or (memory_or T.write_causes.are))
         serializer.old serializer.new result }
 {

@@ -2,11 +2,17 @@
 //! encoded as their first value and the tuple of the others), borrowed values, a header with a
 //! list, type markers (which write nothing), and cells.
 
-ghost use Rattle.pagable_value_spec.specs.{CarriedTypes.{atomic_i64, once_lock, thin}, Composite.{MayHold, MeansAtomic, MeansOnce, atomic_has_meaning, once_has_meaning, result_single}, Shape.{optional, outcome, both}};
+ghost use Rattle.pagable_traits.specs.{
+  HeldValues.{lists_beside, options_beside, pairs_beside, results_beside},
+  Meanings.{lists, lists_single, options, options_single, pairs, pairs_single, results, seen_by},
+  OwnCauses.{reads_either, reads_memory_or, writes_either, writes_long_or, writes_memory_or, writes_never},
+};
+ghost use Rattle.pagable_value_spec.specs.{
+  CarriedTypes.{atomic_i64, once_lock, thin},
+  Composite.{MayHold, MeansAtomic, MeansOnce, atomic_has_meaning, once_has_meaning, result_single},
+  Shape.{both, optional, outcome},
+};
 ghost use Rattle.std.specs.Prelude.{option_copied};
-ghost use Rattle.pagable_traits.specs.HeldValues.{lists_beside, options_beside, pairs_beside, results_beside};
-ghost use Rattle.pagable_traits.specs.Meanings.{lists, options, results, pairs, seen_by, lists_single, options_single, pairs_single};
-ghost use Rattle.pagable_traits.specs.OwnCauses.{reads_memory_or, reads_either, writes_memory_or, writes_either, writes_long_or, writes_never};
 
 use crate::encoded_as::{DecodedAs, EncodedAs};
 use crate::impls::maps::write_entry;
@@ -64,7 +70,7 @@ impl<'de, E: Env, T: PagableDeserialize<'de, E>> PagableDeserialize<'de, E> for 
 impl<T> EncodedAs for Box<T> {
     type Other = T;
 
-    ghost other = { λ b. b.value };
+    ghost as_other = { λ b. b.value };
 }
 
 impl<E: Env, T: PagableSerialize<E>> PagableSerialize<E> for Box<T> {
@@ -179,7 +185,7 @@ impl<'de, E: Env, T: PagableDeserialize<'de, E>, X: PagableDeserialize<'de, E>> 
 impl<'a, T> EncodedAs for &'a T {
     type Other = T;
 
-    ghost other = { λ r. r.now };
+    ghost as_other = { λ r. r.now };
 }
 
 impl<'a, E: Env, T: PagableSerialize<E>> PagableSerialize<E> for &'a T {
@@ -193,7 +199,7 @@ impl<'a, E: Env, T: PagableSerialize<E>> PagableSerialize<E> for &'a T {
 impl<T> EncodedAs for PhantomData<T> {
     type Other = ();
 
-    ghost other = { λ x. tt };
+    ghost as_other = { λ x. tt };
 }
 
 impl<T> DecodedAs for PhantomData<T> {
@@ -210,7 +216,8 @@ impl<E: Env, T> PagableSerialize<E> for PhantomData<T> {
     }
 }
 
-/// A header and a list: what a thin pointer leads to. It is written as the pair of both.
+/// A header and a list, to which a thin pointer refers in the Rust crate. It is written as the pair
+/// of both.
 #[derive(Debug, PartialEq, Eq, PartialOrd, Ord, Hash, Drop)]
 pub struct Thin<H, T> {
     pub header: H,
@@ -259,7 +266,7 @@ impl<
 impl<A, B, C> EncodedAs for (A, B, C) {
     type Other = (A, (B, C));
 
-    ghost other = { λ p. (p.0, (p.1, p.2)) };
+    ghost as_other = { λ p. (p.0, (p.1, p.2)) };
 }
 
 impl<A, B, C> DecodedAs for (A, B, C) {
@@ -272,7 +279,7 @@ impl<A, B, C> DecodedAs for (A, B, C) {
 impl<A, B, C, D> EncodedAs for (A, B, C, D) {
     type Other = (A, (B, (C, D)));
 
-    ghost other = { λ p. (p.0, (p.1, (p.2, p.3))) };
+    ghost as_other = { λ p. (p.0, (p.1, (p.2, p.3))) };
 }
 
 impl<A, B, C, D> DecodedAs for (A, B, C, D) {
@@ -285,7 +292,7 @@ impl<A, B, C, D> DecodedAs for (A, B, C, D) {
 impl<A, B, C, D, F> EncodedAs for (A, B, C, D, F) {
     type Other = (A, (B, (C, (D, F))));
 
-    ghost other = { λ p. (p.0, (p.1, (p.2, (p.3, p.4)))) };
+    ghost as_other = { λ p. (p.0, (p.1, (p.2, (p.3, p.4)))) };
 }
 
 impl<A, B, C, D, F> DecodedAs for (A, B, C, D, F) {
@@ -362,8 +369,8 @@ fn atomic_of(number: i64) -> AtomicI64
     AtomicI64::new(number)
 }
 
-/// Returns the value that the cell holds now. It doesn't wait for a thread that is writing: until
-/// that is done, the cell holds none.
+/// Returns the value that the cell holds now, or None. The call doesn't wait for a thread that sets
+/// the cell: until this thread is done, the cell holds none.
 #[tactic(auto, unfolding(pagable_value_spec::specs::Composite::MayHold))]
 fn value_in<T>(cell: &OnceLock<T>) -> Option<&T>
     ensures { MayHold cell.now (option_copied result) }
@@ -371,9 +378,9 @@ fn value_in<T>(cell: &OnceLock<T>) -> Option<&T>
     cell.get()
 }
 
-/// Makes a cell that holds this value, or none. No other thread has seen it yet.
+/// Makes a cell that holds this value, or none if the value is None.
 #[tactic(auto, unfolding(pagable_value_spec::specs::Composite::MayHold))]
-fn once_of<T: Drop>(value: Option<T>) -> OnceLock<T>
+fn once_lock_of<T: Drop>(value: Option<T>) -> OnceLock<T>
     ensures { MayHold result value }
 {
     match value {
@@ -441,6 +448,6 @@ impl<'de, E: Env, T: PagableDeserialize<'de, E> + Drop> PagableDeserialize<'de, 
         deserializer: &mut D,
     ) -> Result<Self, Error> {
         let held = <Option<T>>::pagable_deserialize(alloc, deserializer)?;
-        Ok(once_of(held))
+        Ok(once_lock_of(held))
     }
 }

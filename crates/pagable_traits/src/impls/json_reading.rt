@@ -1,10 +1,23 @@
-//! Readers of JSON values: the case, and then the part that it announces. Arrays and objects are
-//! one level deeper; a reader enters that level after it has read their length.
+//! Readers of JSON values: they read the case (null, flag, number, text, array or object) and then
+//! the content. What an array or an object holds is one level deeper; a reader enters the level
+//! after it has read the length.
 
-ghost use Rattle.std.specs.{Prelude.{[], length, ◌≡◌, ◌≤◌}, Int.w64, Vec.vec_capacity};
-ghost use Rattle.pagable_value_spec.specs.{Reading.{bytes_of, items as items_at, read, seen, array_case, object_case}, Outcomes.{MatchesReading, memory, no_own_causes}, Composite.MeansPair, Meaning.{sequence, variant}};
-ghost use Rattle.pagable_value_spec.specs.{Numbers.unsigned_at, Shape.{both, json, text}, Cursor.{Is, MovesOn}};
-ghost use Rattle.pagable_traits.specs.{JsonData.{of_key, of_value}, Clauses.{Reads, part_of, ObjectOf}, Meanings.exactly, OwnCauses.reads_memory};
+ghost use Rattle.pagable_traits.specs.{
+  Clauses.{ObjectOf, Reads, value_after_case},
+  JsonData.{of_key, of_value},
+  Meanings.exactly,
+  OwnCauses.reads_memory,
+};
+ghost use Rattle.pagable_value_spec.specs.{
+  Composite.MeansPair,
+  Cursor.{Is, MovesOn},
+  Meaning.{sequence, variant},
+  Numbers.unsigned_at,
+  Outcomes.{IsOutOfMemory, MatchesReading, no_own_causes},
+  Reading.{array_case, bytes_of, items as items_at, object_case, read, seen},
+  Shape.{both, json, text},
+};
+ghost use Rattle.std.specs.{Int.w64, Prelude.{length, [], ◌≡◌, ◌≤◌}, Vec.vec_capacity};
 
 use crate::impls::collecting::with_room;
 use crate::traits::{Carried, OneMeaning, PagableDeserialize};
@@ -36,6 +49,7 @@ impl<'de, E: Env> PagableDeserialize<'de, E> for Value {
     }
 }
 
+// Reads the number of a JSON value's case: 0 for null, up to 5 for an object; it isn't checked.
 fn read_case<E: Env, D: PagableDeserializer<E>>(deserializer: &mut D) -> Result<usize, Error>
     ensures gives { MatchesReading no_own_causes (λ n. (n, D.rest deserializer.new)) result
         (bytes_of (unsigned_at w64) (λ n. n) (D.rest deserializer.old)) }
@@ -60,7 +74,7 @@ pub fn read_value<E: Env, D: PagableDeserializer<E>>(
     alloc: Global,
     deserializer: &mut D,
 ) -> Result<Value, Error>
-    ensures { Reads E.Env D.PagableDeserializer memory (Is of_value) (λ c. read c json) deserializer.old
+    ensures { Reads E.Env D.PagableDeserializer IsOutOfMemory (Is of_value) (λ c. read c json) deserializer.old
         deserializer.new result }
 {
     let case = read_case(deserializer)?;
@@ -81,21 +95,21 @@ pub fn read_value<E: Env, D: PagableDeserializer<E>>(
             let text = String::pagable_deserialize(alloc, deserializer)?;
             Ok(Value::String(text))
         }
-        4 => array_part(alloc, deserializer),
-        5 => object_part(alloc, deserializer),
+        4 => read_array(alloc, deserializer),
+        5 => read_object(alloc, deserializer),
         _ => Err(Error::JsonCase),
     }
 }
 
-// Reads an array whose case was read.
+// Reads a JSON array, after its case: its length, and then its items.
 #[cycle(reading_json)]
 #[tactic(auto, using(crate::proofs::Json::read_parts))]
-fn array_part<E: Env, D: PagableDeserializer<E>>(
+fn read_array<E: Env, D: PagableDeserializer<E>>(
     alloc: Global,
     deserializer: &mut D,
 ) -> Result<Value, Error>
-    ensures { Reads E.Env D.PagableDeserializer memory (Is of_value) (part_of array_case) deserializer.old
-        deserializer.new result }
+    ensures { Reads E.Env D.PagableDeserializer IsOutOfMemory (Is of_value)
+        (value_after_case array_case) deserializer.old deserializer.new result }
 {
     let count = read_count(deserializer)?;
     deserializer.enter()?;
@@ -112,7 +126,7 @@ fn read_items<E: Env, D: PagableDeserializer<E>>(
     count: usize,
     deserializer: &mut D,
 ) -> Result<Value, Error>
-    ensures { Reads E.Env D.PagableDeserializer memory (Is of_value)
+    ensures { Reads E.Env D.PagableDeserializer IsOutOfMemory (Is of_value)
         (λ c. seen (λ ms. variant 4 (sequence ms)) (items_at (read c json) count)) deserializer.old deserializer.new
         result }
 {
@@ -120,7 +134,7 @@ fn read_items<E: Env, D: PagableDeserializer<E>>(
     fill_array(values, alloc, count, deserializer)
 }
 
-// Reads this many items into an empty list, whose capacity is at most the number of bytes left.
+// Reads `count` items into an empty list, whose capacity is at most the number of bytes left.
 #[cycle(reading_json)]
 #[tactic(auto, using(crate::proofs::JsonSteps::no_memory))]
 fn fill_array<E: Env, D: PagableDeserializer<E>>(
@@ -131,7 +145,7 @@ fn fill_array<E: Env, D: PagableDeserializer<E>>(
 ) -> Result<Value, Error>
     requires empty { values.items ≡ [] }
     requires few { vec_capacity values ≤ length (D.rest deserializer.old).bytes }
-    ensures { Reads E.Env D.PagableDeserializer memory (Is of_value)
+    ensures { Reads E.Env D.PagableDeserializer IsOutOfMemory (Is of_value)
         (λ c. seen (λ ms. variant 4 (sequence ms)) (items_at (read c json) count)) deserializer.old deserializer.new
         result }
 {
@@ -142,15 +156,15 @@ fn fill_array<E: Env, D: PagableDeserializer<E>>(
     Ok(Value::Array(values))
 }
 
-// Reads an object whose case was read.
+// Reads a JSON object, after its case: its length, and then its members.
 #[cycle(reading_json)]
 #[tactic(auto, using(crate::proofs::Json::read_parts))]
-fn object_part<E: Env, D: PagableDeserializer<E>>(
+fn read_object<E: Env, D: PagableDeserializer<E>>(
     alloc: Global,
     deserializer: &mut D,
 ) -> Result<Value, Error>
-    ensures { Reads E.Env D.PagableDeserializer memory (Is of_value) (part_of object_case) deserializer.old
-        deserializer.new result }
+    ensures { Reads E.Env D.PagableDeserializer IsOutOfMemory (Is of_value)
+        (value_after_case object_case) deserializer.old deserializer.new result }
 {
     let count = read_count(deserializer)?;
     deserializer.enter()?;
@@ -159,7 +173,8 @@ fn object_part<E: Env, D: PagableDeserializer<E>>(
     read
 }
 
-// Reads an object of this many members and adds each: of a repeated key the later value counts.
+// Reads `count` members of an object, and returns the object: of a repeated key the later value
+// counts.
 #[cycle(reading_json)]
 #[tactic(auto, using(crate::proofs::JsonSteps::no_memory))]
 fn read_members<E: Env, D: PagableDeserializer<E>>(
@@ -167,7 +182,7 @@ fn read_members<E: Env, D: PagableDeserializer<E>>(
     count: usize,
     deserializer: &mut D,
 ) -> Result<Value, Error>
-    ensures { Reads E.Env D.PagableDeserializer memory ObjectOf (λ c. items_at (read c (both text json)) count)
+    ensures { Reads E.Env D.PagableDeserializer IsOutOfMemory ObjectOf (λ c. items_at (read c (both text json)) count)
         deserializer.old deserializer.new result }
 {
     let mut members = BTreeMap::new(alloc);
@@ -185,7 +200,7 @@ fn read_member<E: Env, D: PagableDeserializer<E>>(
     alloc: Global,
     deserializer: &mut D,
 ) -> Result<(String, Value), Error>
-    ensures { Reads E.Env D.PagableDeserializer memory (MeansPair (Is of_key) (Is of_value))
+    ensures { Reads E.Env D.PagableDeserializer IsOutOfMemory (MeansPair (Is of_key) (Is of_value))
         (λ c. read c (both text json)) deserializer.old deserializer.new result }
 {
     let key = String::pagable_deserialize(alloc, deserializer)?;

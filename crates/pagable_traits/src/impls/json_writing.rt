@@ -1,11 +1,26 @@
-//! Writers of JSON values: the case, and then its part. Arrays and objects are one level deeper; a
-//! writer enters that level after it has written their length.
+//! Writers of JSON values: they write the case (null, flag, number, text, array or object) and then
+//! the content. What an array or an object holds is one level deeper; a writer enters the level
+//! after it has written the length.
 
-ghost use Rattle.{pagable_value_spec.specs.Refusals.is_writing_fault, std.specs.{Int.w64, Prelude.{IfErr, IsTrue}, String.string_bytes}};
-ghost use Rattle.pagable_value_spec.specs.{Outcomes.{memory, json_causes}, Composite.{MeanAll, MeansPair}, Numbers.unsigned_form, Shape.{both, json, text}, Cursor.Is};
-ghost use Rattle.serde_json.specs.{Data.{boolean, number, string, array, object}, View.{number_view, items_view, members_view, view}};
-ghost use Rattle.pagable_traits.specs.{JsonData.{of_value, of_key, long_or_no_memory}, Clauses.{Wrote, all, bytes, front, nested_in, value as form}, JsonFaults.{EntryFault, Fault, ItemFault, MemberFault}};
-ghost use Rattle.pagable_traits.specs.{JsonFaults.{json_of_value, refused_as}, OwnCauses.writes_json};
+ghost use Rattle.pagable_traits.specs.{
+  Clauses.{Wrote, bytes, case_and_length, item_forms, nested_in, value as form},
+  JsonData.{long_or_no_memory, of_key, of_value},
+  JsonFaults.{EntryFault, Fault, ItemFault, MemberFault, json_of_value, refused_as},
+  OwnCauses.writes_json,
+};
+ghost use Rattle.pagable_value_spec.specs.{
+  Composite.{MeanAll, MeansPair},
+  Cursor.Is,
+  Numbers.unsigned_form,
+  Outcomes.{IsOutOfMemory, json_causes},
+  Refusals.is_writing_fault,
+  Shape.{both, json, text},
+};
+ghost use Rattle.serde_json.specs.{
+  Data.{array, boolean, number, object, string},
+  View.{items_view, members_view, number_view, view},
+};
+ghost use Rattle.std.specs.{Int.w64, Prelude.{IfErr, IsTrue}, String.string_bytes};
 ghost use Rattle.serde_json.specs.declared.value.Value as values;
 
 use crate::traits::PagableSerialize;
@@ -21,16 +36,18 @@ impl<E: Env> PagableSerialize<E> for Value {
     fn pagable_serialize<S: PagableSerializer<E>>(&self, serializer: &mut S) -> Result<(), Error>
         ensures wrote { Wrote E.Env S.PagableSerializer (form (Is of_value self.now) json) json_causes serializer.old
             serializer.new result }
-        ensures first { IfErr result (λ e. IsTrue (is_writing_fault e)
+        ensures first_fault { IfErr result (λ e. IsTrue (is_writing_fault e)
             → Fault (nested_in E.Env S.PagableSerializer serializer.old) self.now e) }
     {
         write_value(self, serializer)
     }
 }
 
+// Writes the number of a JSON value's case: 0 for null, up to 5 for an object.
 #[tactic(auto, using(pagable_codec::proofs::Writing::parts, pagable_codec::proofs::Writing::steps, crate::proofs::Parts::err_along))]
 fn write_case<E: Env, S: PagableSerializer<E>>(case: usize, serializer: &mut S) -> Result<(), Error>
-    ensures { Wrote E.Env S.PagableSerializer (bytes (unsigned_form w64 case)) memory serializer.old serializer.new
+    ensures { Wrote E.Env S.PagableSerializer (bytes (unsigned_form w64 case)) IsOutOfMemory
+        serializer.old serializer.new
         result }
 {
     serializer.serde().write_usize(case)
@@ -38,13 +55,13 @@ fn write_case<E: Env, S: PagableSerializer<E>>(case: usize, serializer: &mut S) 
 
 // Writes the case of an array or an object, and its length. Fails with `TooLong` above
 // 4,294,967,295 items or members.
-fn write_front<E: Env, S: PagableSerializer<E>>(
+fn write_case_and_length<E: Env, S: PagableSerializer<E>>(
     case: usize,
     count: usize,
     serializer: &mut S,
 ) -> Result<(), Error>
-    ensures { Wrote E.Env S.PagableSerializer (front case count) (long_or_no_memory count) serializer.old serializer.new
-        result }
+    ensures { Wrote E.Env S.PagableSerializer (case_and_length case count)
+        (long_or_no_memory count) serializer.old serializer.new result }
 {
     write_case(case, serializer)?;
     parts::write_count(count, serializer)
@@ -91,8 +108,8 @@ fn write_text<E: Env, S: PagableSerializer<E>>(
 ///
 /// # Errors
 ///
-/// The first of these from the front, where a length is before its level, and a level before what
-/// is in it:
+/// The writer returns the first of these that it meets from the front. It checks an array or an
+/// object in this order: its length, its level, its items or members.
 ///
 /// - `TooLong` above 4,294,967,295 bytes, items or members.
 /// - `JsonNumber` for a float, or a whole number that isn't in the range of an `i64`.
@@ -125,7 +142,7 @@ fn write_array<E: Env, S: PagableSerializer<E>>(
     ensures { Wrote E.Env S.PagableSerializer (json_of_value (values.Array items.now)
         (array (items_view items.now.items))) json_causes serializer.old serializer.new result }
 {
-    write_front(4, items.len(), serializer)?;
+    write_case_and_length(4, items.len(), serializer)?;
     serializer.enter()?;
     let done = write_items(items, serializer);
     serializer.leave();
@@ -138,7 +155,7 @@ fn write_items<E: Env, S: PagableSerializer<E>>(
     serializer: &mut S,
 ) -> Result<(), Error>
     ensures { Wrote E.Env S.PagableSerializer (refused_as (λ n. ItemFault n items.now.items)
-        (all (MeanAll (Is of_value) items.now.items) json)) json_causes serializer.old serializer.new result }
+        (item_forms (MeanAll (Is of_value) items.now.items) json)) json_causes serializer.old serializer.new result }
 {
     for item in items {
         write_value(item, serializer)?;
@@ -154,7 +171,7 @@ fn write_object<E: Env, S: PagableSerializer<E>>(
     ensures { Wrote E.Env S.PagableSerializer (json_of_value (values.Object members.now)
         (object (members_view members.now.entries))) json_causes serializer.old serializer.new result }
 {
-    write_front(5, members.len(), serializer)?;
+    write_case_and_length(5, members.len(), serializer)?;
     serializer.enter()?;
     let done = write_members(members, serializer);
     serializer.leave();
@@ -168,7 +185,7 @@ fn write_members<E: Env, S: PagableSerializer<E>>(
     serializer: &mut S,
 ) -> Result<(), Error>
     ensures { Wrote E.Env S.PagableSerializer (refused_as (λ n. MemberFault n members.now.entries)
-        (all (MeanAll (MeansPair (Is of_key) (Is of_value)) members.now.entries) (both text json))) json_causes
+        (item_forms (MeanAll (MeansPair (Is of_key) (Is of_value)) members.now.entries) (both text json))) json_causes
         serializer.old serializer.new result }
 {
     for (key, value) in members.iter() {

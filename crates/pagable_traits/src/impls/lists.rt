@@ -1,8 +1,17 @@
 //! Lists of each kind, slices and arrays, and the writer of a list's items.
 
-ghost use Rattle.std.specs.{Box.boxed_slice_items, Prelude.{[], max, ◌++◌, ◌∷◌, ◌≡◌}, Vec.vec_capacity};
-ghost use Rattle.pagable_value_spec.specs.{Outcomes.{long_or, memory_or}, Composite.{MeanAll, MeansList}, Shape.{array, list, run}};
-ghost use Rattle.pagable_traits.specs.{HeldValues.lists_beside, Clauses.{Wrote, all, value as form}, Meanings.{lists, lists_single, seen_by}, OwnCauses.{reads_memory_or, writes_long_or, writes_memory_or}};
+ghost use Rattle.pagable_traits.specs.{
+  Clauses.{Wrote, item_forms, value as form},
+  HeldValues.lists_beside,
+  Meanings.{lists, lists_single, seen_by},
+  OwnCauses.{reads_memory_or, writes_long_or, writes_memory_or},
+};
+ghost use Rattle.pagable_value_spec.specs.{
+  Composite.{MeanAll, MeansList},
+  Outcomes.{long_or, memory_or},
+  Shape.{array, list, run},
+};
+ghost use Rattle.std.specs.{Box.boxed_slice_items, Prelude.{max, [], ◌++◌, ◌∷◌, ◌≡◌}, Vec.vec_capacity};
 
 use crate::impls::collecting::{
     Collects, collect_items, read_collected, write_counted, write_each,
@@ -24,7 +33,7 @@ pub fn write_items<E: Env, T: PagableSerialize<E>, S: PagableSerializer<E>>(
     values: &[T],
     serializer: &mut S,
 ) -> Result<(), Error>
-    ensures { Wrote E.Env S.PagableSerializer (all (MeanAll T.means.of values.now)
+    ensures { Wrote E.Env S.PagableSerializer (item_forms (MeanAll T.means.of values.now)
         (T.shape (S.environment serializer.old))) T.write_causes.are serializer.old serializer.new result }
 {
     write_each(values.iter(), serializer)
@@ -156,7 +165,7 @@ impl<
 }
 
 // The most items that may be written one after another without their count.
-const LONGEST: usize = 4_294_967_295;
+const MOST_SLICE_ITEMS: usize = 4_294_967_295;
 
 /// A borrowed slice is written as its items without their count, as in the Rust crate, so no reader
 /// can read it alone.
@@ -175,7 +184,7 @@ impl<'a, E: Env, T: PagableSerialize<E>> PagableSerialize<E> for &'a [T] {
 
     #[tactic(auto, using(pagable_codec::proofs::Writing::parts, crate::proofs::Items::runs))]
     fn pagable_serialize<S: PagableSerializer<E>>(&self, serializer: &mut S) -> Result<(), Error> {
-        if self.len() > LONGEST {
+        if self.len() > MOST_SLICE_ITEMS {
             return Err(Error::TooLong);
         }
         write_items(*self, serializer)
@@ -237,7 +246,7 @@ impl<E: Env, T: PagableSerialize<E>, const N: usize> PagableSerialize<E> for [T;
     }
 }
 
-/// A reader collects the items in a `Vec` first, so reading an array allocates.
+/// Reading an array allocates: the reader collects the items in a `Vec` first.
 impl<'de, E: Env, T: PagableDeserialize<'de, E> + Drop, const N: usize> PagableDeserialize<'de, E>
     for [T; N] {
     ghost read_causes = { reads_memory_or T.read_causes };

@@ -1,9 +1,18 @@
 //! Maps and sets: sorted by key, in order of insertion, and unordered.
 
+ghost use Rattle.pagable_traits.specs.{
+  Clauses.{Wrote, value as form},
+  HeldValues.{lists_beside, pairs_beside},
+  Meanings.{hash_maps, lists, lists_single, pairs, pairs_single, seen_by},
+  OwnCauses.{reads_either, reads_memory_or, writes_either, writes_long_or, writes_memory_or},
+};
+ghost use Rattle.pagable_value_spec.specs.{
+  Composite.MeansPair,
+  Hashed.{PutsAnywhere, hash_map_single},
+  Outcomes.either,
+  Shape.{both, hash_map, placed_map, placed_set, sorted_map, sorted_set},
+};
 ghost use Rattle.std.specs.{BTreeMap.insert_entry, BTreeSet.insert_key, HashMap.spare, Prelude.{◌≡◌, ◌≤◌}};
-ghost use Rattle.pagable_value_spec.specs.{Outcomes.either, Hashed.{PutsAnywhere, hash_map_single}, Composite.MeansPair, Shape.{both, hash_map, placed_map, placed_set, sorted_map, sorted_set}};
-ghost use Rattle.pagable_traits.specs.{HeldValues.{lists_beside, pairs_beside}, Clauses.{Wrote, value as form}, Meanings.{hash_maps, lists, lists_single, pairs, pairs_single, seen_by}, OwnCauses.{reads_either, reads_memory_or}};
-ghost use Rattle.pagable_traits.specs.OwnCauses.{writes_either, writes_long_or, writes_memory_or};
 ghost use Rattle.indexmap.specs.IndexMap as placed_maps;
 ghost use Rattle.indexmap.specs.IndexSet as placed_sets;
 
@@ -148,7 +157,8 @@ impl<'de, E: Env, T: PagableOrdKey<E> + PagableDeserialize<'de, E> + Drop> Pagab
     }
 }
 
-/// An entry with a key that the map has replaces the value, and keeps the old key in its place.
+/// Adding an entry with a key that the map has already replaces the value, and keeps the old key in
+/// its place.
 impl<K: Eq + Hash + Drop, V: Drop> Collects<(K, V)> for IndexMap<K, V> {
     ghost held = { λ m. m.entries };
 
@@ -211,7 +221,7 @@ impl<
     }
 }
 
-/// An item that the set has changes nothing, and keeps its place.
+/// Adding an item that the set has already changes nothing: the item keeps its place.
 impl<T: Eq + Hash + Drop> Collects<T> for IndexSet<T> {
     ghost held = { λ s. s.keys };
 

@@ -1,10 +1,16 @@
 //! Whole numbers, flags, characters, the unit and durations.
 #![tactic(auto, using(crate::proofs::Parts::basic))]
 
-ghost use Rattle.std.specs.{Int.{w8, w16, w32, w64, w128}, Prelude.{◌≡◌, ◌++◌, ◌<◌, ◌^◌, OnOk, IfErr}};
-ghost use Rattle.pagable_value_spec.specs.{Meaning.{number, integer, none, flag as flag_meaning}, Shape.{unsigned, signed, flag, letter, nothing, duration}};
-ghost use Rattle.pagable_value_spec.specs.{BasicValues.{duration_at, duration_form}, Outcomes.{MatchesReading, no_own_causes, memory, Extends}, Progress.{left, GoesOn}, CarriedTypes.{of_span, seconds_of, nanos_of}};
-ghost use Rattle.pagable_traits.specs.{Meanings.{exactly}, OwnCauses.{writes_never}};
+ghost use Rattle.pagable_traits.specs.{Meanings.exactly, OwnCauses.writes_never};
+ghost use Rattle.pagable_value_spec.specs.{
+  BasicValues.{duration_at, duration_form},
+  CarriedTypes.{nanos_of, of_span, seconds_of},
+  Meaning.{flag as flag_meaning, integer, none, number},
+  Outcomes.{Extends, IsOutOfMemory, MatchesReading, no_own_causes},
+  Progress.{MovesForward, left},
+  Shape.{duration, flag, letter, nothing, signed, unsigned},
+};
+ghost use Rattle.std.specs.{Int.{w128, w16, w32, w64, w8}, Prelude.{IfErr, OnOk, ◌++◌, ◌<◌, ◌^◌, ◌≡◌}};
 
 use crate::encoded_as::{DecodedAs, EncodedAs};
 use crate::traits::{Carried, OneMeaning, PagableDeserialize, PagableSerialize};
@@ -141,7 +147,7 @@ impl<'de, E: Env> PagableDeserialize<'de, E> for u128 {
 impl EncodedAs for usize {
     type Other = u64;
 
-    ghost other = { λ x. x };
+    ghost as_other = { λ x. x };
 }
 
 impl<E: Env> PagableSerialize<E> for usize {
@@ -363,11 +369,11 @@ impl<'de, E: Env> PagableDeserialize<'de, E> for () {
 const NANOS_OF_SECOND: u32 = 1_000_000_000;
 
 // Appends the duration's whole seconds, and the nanoseconds beside them.
-fn write_span(span: Duration, writer: &mut PagableVecFlavor) -> Result<(), Error>
+fn write_duration(span: Duration, writer: &mut PagableVecFlavor) -> Result<(), Error>
     ensures ok { OnOk result (writer.new ≡ writer.old ++ duration_form (seconds_of span) (nanos_of span)) }
     ensures fits { seconds_of span < 2 ^ 64 }
-    ensures only { IfErr result memory }
-    ensures err { Extends writer.old writer.new }
+    ensures only { IfErr result IsOutOfMemory }
+    ensures grows { Extends writer.old writer.new }
 {
     writer.write_u64(span.as_secs())?;
     writer.write_u32(span.subsec_nanos())
@@ -376,10 +382,11 @@ fn write_span(span: Duration, writer: &mut PagableVecFlavor) -> Result<(), Error
 // Reads seconds and nanoseconds, and carries whole seconds over. Fails with `BadDuration` if the
 // seconds overflow.
 #[tactic(auto, unfolding(pagable_value_spec::specs::BasicValues::duration_at), using(crate::proofs::Parts::span_overflows, crate::proofs::Parts::span_read))]
-fn read_span<R: Reader>(reader: &mut R) -> Result<Duration, Error>
-    ensures gives { MatchesReading no_own_causes (λ d. ((seconds_of d, nanos_of d), left (R.track reader.new))) result
-        (duration_at (left (R.track reader.old))) }
-    ensures goes { GoesOn (R.track reader.old) (R.track reader.new) }
+fn read_duration<R: Reader>(reader: &mut R) -> Result<Duration, Error>
+    ensures gives { MatchesReading no_own_causes (λ d.
+        ((seconds_of d, nanos_of d), left (R.reader_state reader.new))) result
+        (duration_at (left (R.reader_state reader.old))) }
+    ensures moves { MovesForward (R.reader_state reader.old) (R.reader_state reader.new) }
 {
     let seconds = reader.read_u64()?;
     let nanos = reader.read_u32()?;
@@ -402,7 +409,7 @@ impl<E: Env> OneMeaning<E> for Duration {
 impl<E: Env> PagableSerialize<E> for Duration {
     #[tactic(auto, using(pagable_codec::proofs::Writing::parts, crate::proofs::Parts::writes_span))]
     fn pagable_serialize<S: PagableSerializer<E>>(&self, serializer: &mut S) -> Result<(), Error> {
-        write_span(*self, serializer.serde())
+        write_duration(*self, serializer.serde())
     }
 }
 
@@ -411,6 +418,6 @@ impl<'de, E: Env> PagableDeserialize<'de, E> for Duration {
         _alloc: Global,
         deserializer: &mut D,
     ) -> Result<Self, Error> {
-        read_span(deserializer.serde())
+        read_duration(deserializer.serde())
     }
 }

@@ -1,8 +1,18 @@
 //! Texts, borrowed and boxed ones too, and paths, which are texts here.
 
+ghost use Rattle.pagable_traits.specs.{
+  Clauses.{Wrote, value as form},
+  Meanings.exactly,
+  OwnCauses.{reads_memory, writes_long_or, writes_memory},
+};
+ghost use Rattle.pagable_value_spec.specs.{
+  CarriedTypes.path_text,
+  Cursor.Is,
+  Meaning.text as text_meaning,
+  Outcomes.{IsOutOfMemory, long_or},
+  Shape.text as text_shape,
+};
 ghost use Rattle.std.specs.{Box.boxed_str_bytes, String.string_bytes};
-ghost use Rattle.pagable_value_spec.specs.{CarriedTypes.path_text, Outcomes.{memory, long_or}, Shape.{text as text_shape}, Meaning.{text as text_meaning}, Cursor.Is};
-ghost use Rattle.pagable_traits.specs.{Clauses.{Wrote, value as form}, Meanings.{exactly}, OwnCauses.{reads_memory, writes_memory, writes_long_or}};
 
 use crate::traits::{Carried, OneMeaning, PagableDeserialize, PagableSerialize};
 use pagable_codec::{Env, PagableDeserializer, PagableSerializer, Reader};
@@ -22,7 +32,7 @@ pub fn serialize_str<E: Env, S: PagableSerializer<E>>(
     serializer: &mut S,
 ) -> Result<(), Error>
     ensures { Wrote E.Env S.PagableSerializer (form (Is text_meaning text.now) text_shape)
-        (long_or memory) serializer.old serializer.new result }
+        (long_or IsOutOfMemory) serializer.old serializer.new result }
 {
     serializer.serde().write_str(text)
 }

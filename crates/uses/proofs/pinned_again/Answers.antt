@@ -1,4 +1,7 @@
-use Rattle.{pagable_load.specs.AccessView.values_at, std.{proofs.Common.{IsTrue, subst}, specs.Arc.arc_value}, uses.proofs.Working.shows-same}
+use Rattle.pagable_load.specs.AccessView.{values_at}
+use Rattle.std.proofs.Common.{IsTrue, subst}
+use Rattle.std.specs.Arc.{arc_value}
+use Rattle.uses.proofs.Working.{shows-same}
 
 pub returns : Rattle.uses.proofs.pinned_again.Goals.returns
 returns g c = record {

@@ -1,6 +1,6 @@
-use Rattle.pagable.proofs.cell_page_out.list_clone.Goals as goal
 use Rattle.pagable.specs.PageOuts.{clone-is-refused, clone-is-unlisted, clone-stays-pinned, clone-waits}
 use Rattle.pagable_tables.proofs.SameViews.{failed}
+use Rattle.pagable.proofs.cell_page_out.list_clone.Goals as goal
 
 pub returns-in_err-clone : goal.returns-in_err-clone
 returns-in_err-clone g c = rw (failed c.from_residual.result c.from_residual.ensures.1) (clone-is-refused _ _ c.in_err-clone.ensures)

@@ -1,5 +1,5 @@
-use Rattle.pagable.proofs.cell_page_out.page_out.Goals as goal
 use Rattle.pagable.specs.PageOuts.{has-key, has-no-key, no-handle}
+use Rattle.pagable.proofs.cell_page_out.page_out.Goals as goal
 
 pub returns-in-Err-clause-pages : goal.returns-in-Err-clause-pages
 returns-in-Err-clause-pages g c = λ honest. no-handle _ c.in-Err.ensures

@@ -1,6 +1,6 @@
-use Rattle.pagable.proofs.cells.cell_of.Goals as goal
 use Rattle.pagable.specs.Cells.{cache-gives, cache-refuses, cell-is-new}
 use Rattle.pagable_tables.proofs.SameViews.{failed}
+use Rattle.pagable.proofs.cells.cell_of.Goals as goal
 
 pub returns-in_err-handle : goal.returns-in_err-handle
 returns-in_err-handle g c = rw (failed c.from_residual.result c.from_residual.ensures.1)

@@ -1,7 +1,7 @@
-use Rattle.pagable.proofs.cells.follow.Goals as goal
 use Rattle.pagable.specs.Cells.{clone-is-pinned, clone-is-refused}
 use Rattle.pagable_tables.proofs.SameViews.{failed}
 use Rattle.std.proofs.Common.{IsTrue, subst}
+use Rattle.pagable.proofs.cells.follow.Goals as goal
 
 pub returns-in_err-clone-clause-follows : goal.returns-in_err-clone-clause-follows
 returns-in_err-clone-clause-follows g c = λ honest. rw (failed c.from_residual.result c.from_residual.ensures.1) (clone-is-refused _ _ c.in_err-clone.ensures)

@@ -1,5 +1,5 @@
-use Rattle.pagable.proofs.cells.insert.Goals as goal
 use Rattle.pagable.specs.Cells.{birth-is-refused, cell-is-unlisted, cell-waits}
+use Rattle.pagable.proofs.cells.insert.Goals as goal
 
 pub returns-in-Err : goal.returns-in-Err
 returns-in-Err g c = birth-is-refused _ _ (record { step = c.in-Err.ensures.step; moves = c.in-Err.ensures.moves; storage = c.in-Err.ensures.storage })

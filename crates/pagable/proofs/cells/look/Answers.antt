@@ -1,7 +1,7 @@
-use Rattle.pagable.proofs.cells.look.Goals as goal
 use Rattle.pagable.specs.Cells.{by-pin, lends, no-handle}
 use Rattle.pagable_tables.proofs.SameViews.{failed}
 use Rattle.std.proofs.Common.{rules}
+use Rattle.pagable.proofs.cells.look.Goals as goal
 
 pub returns-in_err-value-clause-looks : goal.returns-in_err-value-clause-looks
 returns-in_err-value-clause-looks g c = λ honest. rw (failed c.from_residual.result c.from_residual.ensures.1) (no-handle _ c.in_err-value.ensures)

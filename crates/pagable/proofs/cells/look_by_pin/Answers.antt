@@ -1,7 +1,7 @@
-use Rattle.pagable.proofs.cells.look_by_pin.Goals as goal
 use Rattle.pagable.specs.Cells.{cell-stays-unlisted, pin-is-refused, shows}
 use Rattle.pagable_tables.proofs.SameViews.{failed}
 use Rattle.std.proofs.Common.{IsTrue, subst, ◌∙◌}
+use Rattle.pagable.proofs.cells.look_by_pin.Goals as goal
 
 pub returns-in_err-pinned-clause-looks : goal.returns-in_err-pinned-clause-looks
 returns-in_err-pinned-clause-looks g c = λ honest. rw (failed c.from_residual.result c.from_residual.ensures.1)

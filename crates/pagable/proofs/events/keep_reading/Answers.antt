@@ -1,15 +1,16 @@
 use Rattle.pagable.proofs.Driven.{keeps-after, unprepared}
 use Rattle.pagable.specs.Driving.{IsTaken, kept_at}
-use Rattle.pagable_theorems.proofs.Trees.{same_some}
 use Rattle.pagable_tables.proofs.SameViews.{failed}
-use Rattle.std.{proofs.{Common.{None, Some, ap, arith, inr, refl, subst, sym, ◌∙◌, ◌≡◌}, lemmas.Bool.Decides.nat_tests}, specs.{Map.lookup, Prelude.{is_none, nat_eq}}}
+use Rattle.pagable_theorems.proofs.Trees.{same_some}
+use Rattle.std.proofs.{Common.{None, Some, ap, arith, inr, refl, subst, sym, ◌∙◌, ◌≡◌}, lemmas.Bool.Decides.nat_tests}
+use Rattle.std.specs.{Map.lookup, Prelude.{is_none, nat_eq}}
 use Rattle.pagable.proofs.events.keep_reading.Goals as goal
 
 pub returns-in_err-reserve-clause-kept : goal.returns-in_err-reserve-clause-kept
 returns-in_err-reserve-clause-kept c = unprepared _ _ _ (λ q. ap (lookup (nat_eq q)) c.reserve.ensures.entries)
 
-pub returns-in_err-reserve-clause-short : goal.returns-in_err-reserve-clause-short
-returns-in_err-reserve-clause-short c =
+pub returns-in_err-reserve-clause-refused : goal.returns-in_err-reserve-clause-refused
+returns-in_err-reserve-clause-refused c =
     let unkept : kept_at c.args.readings.now c.args.load.0 ≡ None = grind (arith, nat_tests) in
     rw (failed c.from_residual.result c.from_residual.ensures.1) (
       refl,

@@ -1,6 +1,8 @@
-use Rattle.{std.{proofs.{Common.{ap, arith, inl, inr, refl}, lemmas.Bool.Decides.nat_tests}, specs.{Map.lookup, Prelude.nat_eq}}, pagable_load.specs.AccessView.values_at}
 use Rattle.pagable.proofs.{Driven.{keeps-after, key-made, key-none-made, serves-same}, Keeping.{drives-beside, nothing-done, refused, refuses}}
+use Rattle.pagable_load.specs.AccessView.{values_at}
 use Rattle.pagable_tables.proofs.SameViews.{failed}
+use Rattle.std.proofs.{Common.{ap, arith, inl, inr, refl}, lemmas.Bool.Decides.nat_tests}
+use Rattle.std.specs.{Map.lookup, Prelude.nat_eq}
 use Rattle.pagable.proofs.events.load_key.Goals as goal
 
 pub returns-then-not-has_load_number : goal.returns-then-not-has_load_number

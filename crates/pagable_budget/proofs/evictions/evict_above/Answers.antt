@@ -1,4 +1,5 @@
-use Rattle.{pagable_budget.proofs.Evicting.{none-needed, one-less, one-needed, one-shorter}, std.proofs.Common.{arith, refl, subst, ◌<◌, ◌∙◌}}
+use Rattle.pagable_budget.proofs.Evicting.{none-needed, one-less, one-needed, one-shorter}
+use Rattle.std.proofs.Common.{arith, refl, subst, ◌<◌, ◌∙◌}
 use Rattle.pagable_budget.proofs.evictions.evict_above.Goals as goal
 
 pub loop-left-init : goal.loop-left-init

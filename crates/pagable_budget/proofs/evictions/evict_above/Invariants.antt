@@ -1,4 +1,7 @@
-use Rattle.{pagable_budget.{proofs.Evicting.Needed, specs.Budgets.cost_of}, pagable_pager.specs.View.storage_view, std.proofs.Common.{length, ◌≡◌, ◌≤◌}}
+use Rattle.pagable_budget.proofs.Evicting.{Needed}
+use Rattle.pagable_budget.specs.Budgets.{cost_of}
+use Rattle.pagable_pager.specs.View.{storage_view}
+use Rattle.std.proofs.Common.{length, ◌≡◌, ◌≤◌}
 use Rattle.pagable_budget.proofs.evictions.evict_above.Given as goal
 
 -- the pins evicted so far, no more than needed, and the total cost of those that are left

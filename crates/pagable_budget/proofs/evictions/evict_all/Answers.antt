@@ -1,4 +1,5 @@
-use Rattle.{pagable_budget.proofs.Evicting.{at-first, one-more, one-shorter}, std.proofs.Common.{refl, ◌∙◌}}
+use Rattle.pagable_budget.proofs.Evicting.{at-first, one-more, one-shorter}
+use Rattle.std.proofs.Common.{refl, ◌∙◌}
 use Rattle.pagable_budget.proofs.evictions.evict_all.Goals as goal
 
 pub loop-cost-init : goal.loop-cost-init

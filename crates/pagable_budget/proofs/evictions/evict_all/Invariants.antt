@@ -1,4 +1,6 @@
-use Rattle.{pagable_budget.proofs.Evicting.SoFar, pagable_pager.specs.View.storage_view, std.proofs.Common.{length, ◌≡◌}}
+use Rattle.pagable_budget.proofs.Evicting.{SoFar}
+use Rattle.pagable_pager.specs.View.{storage_view}
+use Rattle.std.proofs.Common.{length, ◌≡◌}
 use Rattle.pagable_budget.proofs.evictions.evict_all.Given as goal
 
 abbrev pub invariant-loop-cost : goal.invariant-loop-cost

@@ -1,4 +1,5 @@
-use Rattle.{pagable_budget.proofs.Evicting.{evict-one}, std.proofs.Common.{refl}}
+use Rattle.pagable_budget.proofs.Evicting.{evict-one}
+use Rattle.std.proofs.Common.{refl}
 use Rattle.pagable_budget.proofs.evictions.evict_last.Goals as goal
 
 pub returns-clause-evicts : goal.returns-clause-evicts

@@ -1,4 +1,5 @@
-use Rattle.{pagable_budget.specs.Budgets.{few-wait, many-wait}, std.proofs.Common.{subst, ◌<◌, ◌≤◌}}
+use Rattle.pagable_budget.specs.Budgets.{few-wait, many-wait}
+use Rattle.std.proofs.Common.{subst, ◌<◌, ◌≤◌}
 use Rattle.pagable_budget.proofs.waiting.page_out_above.Goals as goal
 
 pub returns-then-pending-most-clause-pages : goal.returns-then-pending-most-clause-pages

@@ -1,8 +1,9 @@
-use Rattle.{pagable_changes.proofs.Kept.changed_law, pagable_load.specs.AccessView.values_at}
+use Rattle.pagable_changes.proofs.Kept.{changed_law}
+use Rattle.pagable_load.specs.AccessView.{values_at}
 use Rattle.pagable_changes.proofs.changed.page_out_changed.Goals as goal
 
-pub returns-clause-reads : goal.returns-clause-reads
-returns-clause-reads g c = λ honest.
+pub returns-clause-keeps_trees : goal.returns-clause-keeps_trees
+returns-clause-keeps_trees g c = λ honest.
     changed_law g.row.E.Denot (values_at g.E.Node.NodeSet g.E.Env g.E.Hash.KeyHash c.args.pager.now.environment) _ _ _ _
     (c.page_out_root.ensures.pages honest) c.assert_invariant.ensures
     (record {

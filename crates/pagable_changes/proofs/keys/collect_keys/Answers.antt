@@ -1,4 +1,5 @@
-use Rattle.{pagable_changes.proofs.Changing.{all-taken, no-keys-yet, one-taken}, std.proofs.Common.{arith}}
+use Rattle.pagable_changes.proofs.Changing.{all-taken, no-keys-yet, one-taken}
+use Rattle.std.proofs.Common.{arith}
 use Rattle.pagable_changes.proofs.keys.collect_keys.Goals as goal
 
 pub loop-at-init : goal.loop-at-init

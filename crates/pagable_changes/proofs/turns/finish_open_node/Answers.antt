@@ -1,5 +1,7 @@
-use Rattle.pagable_changes.{proofs.Changing.{blob-fails-by, err-any, key-fails-by, leaves-by, lets-same, sets-same, unset-same}, specs.Changes.nothing-is-stored}
-use Rattle.{pagable_load.specs.AccessView.values_at, std.proofs.Common.{IsTrue, subst, ◌∙◌}}
+use Rattle.pagable_changes.proofs.Changing.{blob-fails-by, err-any, key-fails-by, leaves-by, lets-same, sets-same, unset-same}
+use Rattle.pagable_changes.specs.Changes.{nothing-is-stored}
+use Rattle.pagable_load.specs.AccessView.{values_at}
+use Rattle.std.proofs.Common.{IsTrue, subst, ◌∙◌}
 use Rattle.pagable_changes.proofs.turns.finish_open_node.Goals as goal
 
 pub returns-in-Err-clause-fails : goal.returns-in-Err-clause-fails
@@ -12,17 +14,18 @@ pub returns-in-Err-store-clause-fails : goal.returns-in-Err-store-clause-fails
 returns-in-Err-store-clause-fails g c = λ honest. blob-fails-by (values_at g.E.Node.NodeSet g.E.Env g.E.Hash.KeyHash c.args.pager.now.environment)
     c.in-Ok.ensures (c.in-Err-store.ensures.called honest)
 
-pub returns-in-Err-keep_key-clause-fails : goal.returns-in-Err-keep_key-clause-fails
-returns-in-Err-keep_key-clause-fails g c = λ honest.
-    let stored = subst (λ s. IsTrue (g.S.PagableStorage.is_honest s)) c.in-Err-keep_key.ensures.keeps.storage honest in
+pub returns-in-Err-record_key-clause-fails : goal.returns-in-Err-record_key-clause-fails
+returns-in-Err-record_key-clause-fails g c = λ honest.
+    let stored = subst (λ s. IsTrue (g.S.PagableStorage.is_honest s)) c.in-Err-record_key.ensures.keeps.storage honest in
     key-fails-by (values_at g.E.Node.NodeSet g.E.Env g.E.Hash.KeyHash c.args.pager.now.environment) c.in-Ok.ensures (c.in-Ok-store.ensures.called stored)
-    (unset-same (values_at g.E.Node.NodeSet g.E.Env g.E.Hash.KeyHash) c.in-Ok-store.ensures.environment c.in-Err-keep_key.ensures.refused)
+    (unset-same (values_at g.E.Node.NodeSet g.E.Env g.E.Hash.KeyHash) c.in-Ok-store.ensures.environment c.in-Err-record_key.ensures.refused)
 
-pub returns-clause-leaves : goal.returns-clause-leaves
-returns-clause-leaves g c = λ honest.
-    let set = c.in-Ok-keep_key.ensures in
+pub returns-clause-finishes : goal.returns-clause-finishes
+returns-clause-finishes g c = λ honest.
+    let set = c.in-Ok-record_key.ensures in
     let stored = subst (λ s. IsTrue (g.S.PagableStorage.is_honest s)) (c.release_both.ensures.keeps.storage ∙ set.keeps.storage) honest in
     leaves-by (values_at g.E.Node.NodeSet g.E.Env g.E.Hash.KeyHash c.args.pager.now.environment) c.in-Ok.ensures
     (c.in-Ok-store.ensures.called stored) c.reserve.ensures.rows (sets-same (values_at g.E.Node.NodeSet g.E.Env g.E.Hash.KeyHash)
     c.in-Ok-store.ensures.environment set.sets)
-    (lets-same (values_at g.E.Node.NodeSet g.E.Env g.E.Hash.KeyHash) (set.keeps.environment ∙ c.in-Ok-store.ensures.environment) c.release_both.ensures.lets)
+    (lets-same (values_at g.E.Node.NodeSet g.E.Env g.E.Hash.KeyHash) (set.keeps.environment ∙ c.in-Ok-store.ensures.environment)
+    c.release_both.ensures.releases)

@@ -1,5 +1,7 @@
-use Rattle.pagable_changes.{proofs.Changing.{fails-same, next-stage, turned-same}, specs.Changes.{no-turn, nothing-is-done}}
-use Rattle.{pagable_load.specs.AccessView.values_at, std.proofs.Common.{refl, ◌∙◌}}
+use Rattle.pagable_changes.proofs.Changing.{fails-same, next-stage, turned-same}
+use Rattle.pagable_changes.specs.Changes.{no-turn, nothing-is-done}
+use Rattle.pagable_load.specs.AccessView.{values_at}
+use Rattle.std.proofs.Common.{refl, ◌∙◌}
 use Rattle.pagable_changes.proofs.turns.make_turns.Goals as goal
 
 pub loop-left-init : goal.loop-left-init

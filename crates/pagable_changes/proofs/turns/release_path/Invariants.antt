@@ -1,5 +1,8 @@
-use Rattle.{pagable_changes.specs.{Changes.ReleasesPath, Keeping.KeepsStorage}, pagable_load.specs.AccessView.values_at, pagable_pager.specs.View.{pager_state, storage_view}}
-use Rattle.{pagable_pager_spec.specs.Pager.PagerState, std.proofs.Common.length}
+use Rattle.pagable_changes.specs.{Changes.ReleasesPath, Keeping.KeepsStorage}
+use Rattle.pagable_load.specs.AccessView.{values_at}
+use Rattle.pagable_pager.specs.View.{pager_state, storage_view}
+use Rattle.pagable_pager_spec.specs.Pager.{PagerState}
+use Rattle.std.proofs.Common.{length}
 use Rattle.pagable_changes.proofs.turns.release_path.Given as goal
 
 -- what gives up those that are left has given up all

@@ -1,5 +1,6 @@
 use Rattle.pagable_changes.proofs.Changing.{gives-same, lets-same, refused-by, walks-by}
-use Rattle.{pagable_load.specs.AccessView.values_at, std.proofs.Common.{IsTrue, subst, ◌∙◌}}
+use Rattle.pagable_load.specs.AccessView.{values_at}
+use Rattle.std.proofs.Common.{IsTrue, subst, ◌∙◌}
 use Rattle.pagable_changes.proofs.turns.walk.Goals as goal
 
 pub returns-in-Ok-clause-walks : goal.returns-in-Ok-clause-walks
@@ -11,5 +12,5 @@ returns-clause-walks g c = λ honest.
     let turned = subst (λ s. IsTrue (g.S.PagableStorage.is_honest s)) (c.release_path.ensures.keeps.storage ∙ c.release_both.ensures.keeps.storage) honest in
     let same = c.in-Err.ensures.environment in
     refused-by (values_at g.E.Node.NodeSet g.E.Env g.E.Hash.KeyHash c.args.pager.now.environment) c.new-path.ensures.items c.new-found.ensures
-    (c.in-Err.ensures.fails turned) (lets-same (values_at g.E.Node.NodeSet g.E.Env g.E.Hash.KeyHash) same c.release_both.ensures.lets)
-    (gives-same (values_at g.E.Node.NodeSet g.E.Env g.E.Hash.KeyHash) (c.release_both.ensures.keeps.environment ∙ same) c.release_path.ensures.gives)
+    (c.in-Err.ensures.fails turned) (lets-same (values_at g.E.Node.NodeSet g.E.Env g.E.Hash.KeyHash) same c.release_both.ensures.releases)
+    (gives-same (values_at g.E.Node.NodeSet g.E.Env g.E.Hash.KeyHash) (c.release_both.ensures.keeps.environment ∙ same) c.release_path.ensures.releases)

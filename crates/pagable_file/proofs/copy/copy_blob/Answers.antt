@@ -1,9 +1,9 @@
-use Rattle.std.proofs.Common.{Some, ap, subst, ℕ, ◌≡◌, ◌∙◌}
-use Rattle.std.specs.{Arc.arc_value, List.AllByRecursion}
 use Rattle.pagable_core.specs.{Data.blob_of, declared.storage.data.PagableData.PagableData}
-use Rattle.pagable_value_spec.specs.Blob.{Blob, key_of}
-use Rattle.pagable_file.specs.Copies.{HasCopied}
 use Rattle.pagable_file.proofs.Copying.{copied_more}
+use Rattle.pagable_file.specs.Copies.{HasCopied}
+use Rattle.pagable_value_spec.specs.Blob.{Blob, key_of}
+use Rattle.std.proofs.Common.{Some, ap, subst, ℕ, ◌∙◌, ◌≡◌}
+use Rattle.std.specs.{Arc.arc_value, List.AllByRecursion}
 use Rattle.pagable_file.proofs.copy.copy_blob.Goals as goal
 
 pub returns-clause-copied : goal.returns-clause-copied

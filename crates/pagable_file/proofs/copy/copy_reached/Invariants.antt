@@ -1,6 +1,6 @@
-use Rattle.std.proofs.Common.{IsTrue, ◌≡◌}
-use Rattle.pagable_value_spec.specs.Stored.{Keeps}
 use Rattle.pagable_file.specs.Copies.{AreCopied}
+use Rattle.pagable_value_spec.specs.Stored.{Keeps}
+use Rattle.std.proofs.Common.{IsTrue, ◌≡◌}
 use Rattle.pagable_file.proofs.copy.copy_reached.Given as goal
 
 -- each key that was copied so far has its children copied

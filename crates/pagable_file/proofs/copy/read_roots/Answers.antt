@@ -1,6 +1,6 @@
+use Rattle.pagable_file.proofs.Copying.{named_more}
 use Rattle.std.proofs.Common.{List, Option, String, ap, map, take_all, ℕ, ◌∙◌}
 use Rattle.std.specs.{String.string_bytes, declared.alloc.Global.Global}
-use Rattle.pagable_file.proofs.Copying.{named_more}
 use Rattle.pagable_file.proofs.copy.read_roots.Goals as goal
 
 pub loop-name-preserved : goal.loop-name-preserved

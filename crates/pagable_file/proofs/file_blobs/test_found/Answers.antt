@@ -1,6 +1,6 @@
-use Rattle.std.proofs.Common.{Some, ◌∙◌, refl, subst, sym, true≢false}
 use Rattle.pagable_core.specs.Data.{blob_of}
 use Rattle.pagable_file.specs.{Blobs.HasBlob, declared.rows.Reading.Reading}
+use Rattle.std.proofs.Common.{Some, refl, subst, sym, true≢false, ◌∙◌}
 use Rattle.pagable_file.proofs.file_blobs.test_found.Goals as goal
 
 pub returns-then-not-is_same-clause-only : goal.returns-then-not-is_same-clause-only

@@ -1,8 +1,8 @@
+use Rattle.pagable_file.proofs.Flawed.{exactly, whole_found}
+use Rattle.pagable_file.specs.{Flaws.{AddsFlawsUnless, IsFlaw, IsSoundPlace, IsSoundRoot}, Rows.{blob_tree, root_tree}}
+use Rattle.pagable_value_spec.specs.Blob.{key_of}
 use Rattle.std.proofs.Common.{List, subst, ℤ}
 use Rattle.std.specs.List.{AllByRecursion}
-use Rattle.pagable_value_spec.specs.Blob.{key_of}
-use Rattle.pagable_file.specs.{Flaws.{IsFlaw, IsSoundPlace, IsSoundRoot, FindsFlaws}, Rows.{blob_tree, root_tree}}
-use Rattle.pagable_file.proofs.Flawed.{exactly, whole_found}
 use Rattle.pagable_file.proofs.fsck.find_flaws.Goals as goal
 
 pub returns-clause-exact : goal.returns-clause-exact
@@ -19,10 +19,10 @@ returns-clause-exact g c sure =
     (whole_found of first listed tested named last c.in_ok-places.places.items c.in_ok-places-2.places.items c.new-flaws.result.items mid end
     c.new-flaws.ensures.items c.all_places.ensures.stays c.test_rows.ensures.stays
     c.all_places-2.ensures.stays c.test_roots.ensures.stays sure c.in_ok-places.ensures.found
-    (λ s. subst (λ (places : List ℤ). FindsFlaws (IsFlaw of (listed.committed blob_tree) (listed.committed root_tree)) c.new-flaws.result.items mid
+    (λ s. subst (λ (places : List ℤ). AddsFlawsUnless (IsFlaw of (listed.committed blob_tree) (listed.committed root_tree)) c.new-flaws.result.items mid
     (AllByRecursion (IsSoundPlace of (listed.committed blob_tree)) places)) c.as_slice.ensures.value
     (c.in_ok-test_rows.ensures.tested s)) c.in_ok-places-2.ensures.found
-    (λ s. subst (λ (places : List ℤ). FindsFlaws (IsFlaw of (named.committed blob_tree) (named.committed root_tree)) mid end
+    (λ s. subst (λ (places : List ℤ). AddsFlawsUnless (IsFlaw of (named.committed blob_tree) (named.committed root_tree)) mid end
     (AllByRecursion (IsSoundRoot (named.committed blob_tree) (named.committed root_tree)) places)) c.as_slice-2.ensures.value
     (c.in_ok-test_roots.ensures.tested of s)))
 
@@ -39,10 +39,10 @@ returns-clause-real g c sure =
     let found = whole_found of first listed tested named last c.in_ok-places.places.items c.in_ok-places-2.places.items c.new-flaws.result.items mid end
     c.new-flaws.ensures.items c.all_places.ensures.stays c.test_rows.ensures.stays
     c.all_places-2.ensures.stays c.test_roots.ensures.stays sure c.in_ok-places.ensures.found
-    (λ s. subst (λ (places : List ℤ). FindsFlaws (IsFlaw of (listed.committed blob_tree) (listed.committed root_tree)) c.new-flaws.result.items mid
+    (λ s. subst (λ (places : List ℤ). AddsFlawsUnless (IsFlaw of (listed.committed blob_tree) (listed.committed root_tree)) c.new-flaws.result.items mid
     (AllByRecursion (IsSoundPlace of (listed.committed blob_tree)) places)) c.as_slice.ensures.value
     (c.in_ok-test_rows.ensures.tested s)) c.in_ok-places-2.ensures.found
-    (λ s. subst (λ (places : List ℤ). FindsFlaws (IsFlaw of (named.committed blob_tree) (named.committed root_tree)) mid end
+    (λ s. subst (λ (places : List ℤ). AddsFlawsUnless (IsFlaw of (named.committed blob_tree) (named.committed root_tree)) mid end
     (AllByRecursion (IsSoundRoot (named.committed blob_tree) (named.committed root_tree)) places)) c.as_slice-2.ensures.value
     (c.in_ok-test_roots.ensures.tested of s)) in
     found.real tt

@@ -1,7 +1,7 @@
+use Rattle.pagable_file.proofs.{Flawed.{child_found, each_tested}, Named.stays_then}
+use Rattle.pagable_file.specs.{Flaws.{IsChild, IsFlaw, IsThere}, Rows.{blob_tree, root_tree}}
 use Rattle.std.proofs.Common.{subst, sym, take_all}
 use Rattle.std.specs.List.{AllByRecursion}
-use Rattle.pagable_file.specs.{Flaws.{IsChild, IsFlaw, IsThere}, Rows.{blob_tree, root_tree}}
-use Rattle.pagable_file.proofs.{Flawed.{child_found, each_tested}, Named.stays_then}
 use Rattle.pagable_file.proofs.fsck.test_children.Goals as goal
 
 pub loop-child-preserved : goal.loop-child-preserved

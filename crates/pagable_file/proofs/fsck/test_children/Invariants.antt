@@ -1,7 +1,7 @@
-use Rattle.std.proofs.Common.{IsTrue, ℕ, take}
-use Rattle.std.specs.List.{AllByRecursion}
+use Rattle.pagable_file.specs.{Blobs.{LeavesCommitted, is_honest_view}, Flaws.{AddsFlawsUnless, IsChild, IsFlaw, IsThere}, Rows.{blob_tree, root_tree}}
 use Rattle.pagable_value_spec.specs.Blob.{Blob}
-use Rattle.pagable_file.specs.{Blobs.{StaysPut, is_sure}, Flaws.{IsChild, IsFlaw, IsThere, FindsFlaws}, Rows.{blob_tree, root_tree}}
+use Rattle.std.proofs.Common.{IsTrue, take, ℕ}
+use Rattle.std.specs.List.{AllByRecursion}
 use Rattle.pagable_file.proofs.fsck.test_children.Given as goal
 
 -- the children so far were tested
@@ -11,5 +11,5 @@ invariant-loop-child g l =
     let now = g.S.Store.view l.store in
     let rows = first.committed blob_tree in
     let so_far = take l.child-index l.children in
-    StaysPut first now × ((of : Blob → ℕ) → IsTrue (is_sure now) → AllByRecursion (IsChild rows l.key) so_far
-    → FindsFlaws (IsFlaw of rows (first.committed root_tree)) l.fn.flaws.items l.flaws.items (AllByRecursion (IsThere rows) so_far))
+    LeavesCommitted first now × ((of : Blob → ℕ) → IsTrue (is_honest_view now) → AllByRecursion (IsChild rows l.key) so_far
+    → AddsFlawsUnless (IsFlaw of rows (first.committed root_tree)) l.fn.flaws.items l.flaws.items (AllByRecursion (IsThere rows) so_far))

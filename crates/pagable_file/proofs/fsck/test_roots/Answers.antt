@@ -1,7 +1,7 @@
-use Rattle.std.proofs.Common.{List, SFits, get_or, pos, rules, subst, to_z-of_z, w64, ℤ}
-use Rattle.sqlite_value.specs.Order.{Row}
-use Rattle.pagable_file.specs.{Flaws.{IsFlaw, IsSoundRoot, FindsFlaws}, Rows.{blob_tree, root_tree}}
 use Rattle.pagable_file.proofs.{Flawed.{each_tested, next_found, read_once}, Named.stays_then}
+use Rattle.pagable_file.specs.{Flaws.{AddsFlawsUnless, IsFlaw, IsSoundRoot}, Rows.{blob_tree, root_tree}}
+use Rattle.sqlite_value.specs.Order.{Row}
+use Rattle.std.proofs.Common.{List, SFits, get_or, pos, rules, subst, to_z-of_z, w64, ℤ}
 use Rattle.pagable_file.proofs.fsck.test_roots.Goals as goal
 
 pub loop-place-preserved : goal.loop-place-preserved
@@ -20,7 +20,7 @@ loop-place-preserved g c =
       λ of sure. next_found of (λ (rows roots : List Row). IsSoundRoot rows roots) first now next c.args.flaws.now.items l.flaws.items new places l.place-index
           place c.loop-place-test.true (read_once places l.place-index (pos 0) place c.loop-place-test.true)
           l.invariant.0 c.test_root.ensures.stays sure (l.invariant.1 of)
-          (λ s. subst (λ (p : ℤ). FindsFlaws (IsFlaw of rows roots) l.flaws.items new (IsSoundRoot rows roots p)) (to_z-of_z fits)
+          (λ s. subst (λ (p : ℤ). AddsFlawsUnless (IsFlaw of rows roots) l.flaws.items new (IsSoundRoot rows roots p)) (to_z-of_z fits)
           (c.in_ok-test_root.ensures.tested of s)),
     )
 

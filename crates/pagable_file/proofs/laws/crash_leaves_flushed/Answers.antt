@@ -1,7 +1,7 @@
-use Rattle.std.proofs.Common.{ap}
-use Rattle.sqlite_trees.specs.Tree.{Trees}
-use Rattle.pagable_file.specs.Rows.{blob_tree, blobs_in, root_tree, roots_in}
 use Rattle.pagable_file.proofs.Settling.{sure_open}
+use Rattle.pagable_file.specs.Rows.{blob_tree, blobs_in, root_tree, roots_in}
+use Rattle.sqlite_trees.specs.Tree.{Trees}
+use Rattle.std.proofs.Common.{ap}
 use Rattle.pagable_file.proofs.laws.crash_leaves_flushed.Goals as goal
 
 pub returns-clause-blobs : goal.returns-clause-blobs

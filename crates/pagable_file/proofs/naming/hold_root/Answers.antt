@@ -1,7 +1,7 @@
-use Rattle.std.proofs.Common.{◌≡◌, ◌∙◌, SFits, Some, ℤ, rules, subst, to_z-of_z}
-use Rattle.std.specs.{HashMap.get, Int.w64, Ordering.int_eq, Prelude.if◌then◌else◌}
-use Rattle.pagable_file.specs.declared.pending.PendingRoot.{PendingRoot}
 use Rattle.pagable_file.proofs.Named.{holds_root}
+use Rattle.pagable_file.specs.declared.pending.PendingRoot.{PendingRoot}
+use Rattle.std.proofs.Common.{SFits, Some, rules, subst, to_z-of_z, ℤ, ◌∙◌, ◌≡◌}
+use Rattle.std.specs.{HashMap.get, Int.w64, Ordering.int_eq, Prelude.if◌then◌else◌}
 use Rattle.pagable_file.proofs.naming.hold_root.Goals as goal
 
 pub returns-clause-ok : goal.returns-clause-ok

@@ -1,4 +1,5 @@
-use Rattle.{std.proofs.{Common.{ap, sym, ◌∙◌, refl}, lemmas.{Bool.{and_parts, Decides.Decides-eqb}, Slice.Eq.slice_eq-Decides}}, pagable_value_spec.specs.Blob.Blob}
+use Rattle.pagable_value_spec.specs.Blob.{Blob}
+use Rattle.std.proofs.{Common.{ap, refl, sym, ◌∙◌}, lemmas.{Bool.{Decides.Decides-eqb, and_parts}, Slice.Eq.slice_eq-Decides}}
 
 pub returns : Rattle.pagable_file.proofs.pending.is_same.Goals.returns
 returns c =

@@ -1,6 +1,6 @@
-use Rattle.std.proofs.Common.{sym, true≢false, ◌∙◌}
-use Rattle.pagable_file.specs.Names.{IsWaitingListed, KeepsNames}
 use Rattle.pagable_file.proofs.Names.{passed_more, pushed_keeps, pushed_lists}
+use Rattle.pagable_file.specs.Names.{IsWaitingListed, KeepsNames}
+use Rattle.std.proofs.Common.{sym, true≢false, ◌∙◌}
 use Rattle.pagable_file.proofs.pending.push_waiting.Goals as goal
 
 pub loop-root-preserved-in_ok-push : goal.loop-root-preserved-in_ok-push

@@ -1,5 +1,5 @@
-use Rattle.pagable_file.specs.{Names.{IsWaitingListed, KeepsNames}}
 use Rattle.pagable_file.proofs.Names.{Passed}
+use Rattle.pagable_file.specs.Names.{IsWaitingListed, KeepsNames}
 use Rattle.pagable_file.proofs.pending.push_waiting.Given as goal
 
 -- no name is lost, and those of the entries that were passed are listed

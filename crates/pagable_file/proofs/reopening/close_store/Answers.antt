@@ -1,8 +1,8 @@
-use Rattle.std.proofs.Common.{◌≡◌, ◌∙◌, ap, arith, subst, sym}
-use Rattle.sqlite_trees.specs.{Tree.Trees, View.IsClean}
-use Rattle.sqlite_store.specs.{FileStore.view, Laws.shut_is_broken}
-use Rattle.sqlite.specs.{Effect.Database, Files.{HoldsDatabase, file_state, image_of}}
 use Rattle.pagable_file.proofs.{Opening.fresh_store, Settling.{in_use, shown_is_committed}}
+use Rattle.sqlite.specs.{Effect.Database, Files.{HoldsDatabase, file_state, image_of}}
+use Rattle.sqlite_store.specs.{FileStore.view, Laws.shut_is_broken}
+use Rattle.sqlite_trees.specs.{Tree.Trees, View.IsClean}
+use Rattle.std.proofs.Common.{ap, arith, subst, sym, ◌∙◌, ◌≡◌}
 use Rattle.pagable_file.proofs.reopening.close_store.Goals as goal
 
 pub over-requires : goal.over-requires

@@ -1,5 +1,5 @@
-use Rattle.std.proofs.Common.{◌∙◌}
 use Rattle.pagable_file.proofs.Committing.{flushed_has}
+use Rattle.std.proofs.Common.{◌∙◌}
 use Rattle.pagable_file.proofs.reopening.store_flushed.Goals as goal
 
 pub returns-in-Ok-flush : goal.returns-in-Ok-flush

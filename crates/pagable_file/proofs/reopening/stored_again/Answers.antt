@@ -1,8 +1,8 @@
-use Rattle.std.specs.Arc.{arc_value}
-use Rattle.sqlite_store.specs.FileStore.{view}
 use Rattle.pagable_core.specs.Data.{blob_of}
-use Rattle.pagable_file.specs.Rows.{blob_tree}
 use Rattle.pagable_file.proofs.Committing.{found_last}
+use Rattle.pagable_file.specs.Rows.{blob_tree}
+use Rattle.sqlite_store.specs.FileStore.{view}
+use Rattle.std.specs.Arc.{arc_value}
 use Rattle.pagable_file.proofs.reopening.stored_again.Goals as goal
 
 pub returns-in_ok-found-in-Ok : goal.returns-in_ok-found-in-Ok

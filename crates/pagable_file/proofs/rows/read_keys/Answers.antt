@@ -1,6 +1,6 @@
-use Rattle.std.proofs.Common.{◌≡◌, ◌∙◌, ◌-◌, ◌+◌, ◌/◌, ◌∷◌, [], ◌++◌, None, Some, ℕ, List, length, suc, ap, arith, rules, sym, take}
-use Rattle.pagable_file.specs.Rows.{key_in, keys_from}
 use Rattle.pagable_file.proofs.Keys.{at_end, is_zero, joined, more_behind, no_key, not_zero, one_more}
+use Rattle.pagable_file.specs.Rows.{key_in, keys_from}
+use Rattle.std.proofs.Common.{List, None, Some, ap, arith, length, rules, suc, sym, take, ℕ, [], ◌++◌, ◌+◌, ◌-◌, ◌/◌, ◌∙◌, ◌∷◌, ◌≡◌}
 use Rattle.pagable_file.proofs.rows.read_keys.Goals as goal
 
 pub returns-in_default : goal.returns-in_default

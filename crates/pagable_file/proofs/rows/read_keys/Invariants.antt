@@ -1,6 +1,6 @@
-use Rattle.std.proofs.Common.{◌≡◌, ◌*◌, ◌-◌, length}
-use Rattle.pagable_file.specs.Rows.{keys_from, keys_in}
 use Rattle.pagable_file.proofs.Keys.{joined}
+use Rattle.pagable_file.specs.Rows.{keys_from, keys_in}
+use Rattle.std.proofs.Common.{length, ◌*◌, ◌-◌, ◌≡◌}
 use Rattle.pagable_file.proofs.rows.read_keys.Given as goal
 
 -- the keys so far, and behind them those that are left

@@ -1,6 +1,6 @@
-use Rattle.std.proofs.Common.{◌≡◌, ◌++◌, take}
-use Rattle.std.specs.{Int.{to_le_bytes, w128}, List.{AllByRecursion, flat_map}}
 use Rattle.pagable_file.specs.Rows.{CanBeKey}
+use Rattle.std.proofs.Common.{take, ◌++◌, ◌≡◌}
+use Rattle.std.specs.{Int.{to_le_bytes, w128}, List.{AllByRecursion, flat_map}}
 use Rattle.pagable_file.proofs.rows.write_keys.Given as goal
 
 -- the keys so far were appended

@@ -1,15 +1,15 @@
-use Rattle.std.proofs.Common.{◌≡◌, arith, rules, subst}
-use Rattle.sqlite_value.specs.Order.{Row}
-use Rattle.sqlite_trees.specs.{Tree.put_row, View.SetsTree}
-use Rattle.pagable_file.specs.{Rows.blob_tree, Blobs.{Fits, pending_row}, declared.pending.Pending.Pending}
 use Rattle.pagable_file.proofs.Putting.{all_fit, put_blob}
+use Rattle.pagable_file.specs.{Blobs.{Fits, pending_row}, Rows.blob_tree, declared.pending.PendingBlob.PendingBlob}
+use Rattle.sqlite_trees.specs.{Tree.put_row, View.SetsTree}
+use Rattle.sqlite_value.specs.Order.{Row}
+use Rattle.std.proofs.Common.{arith, rules, subst, ◌≡◌}
 use Rattle.pagable_file.proofs.saving.put_blobs.Goals as goal
 
 pub loop-place-preserved : goal.loop-place-preserved
 loop-place-preserved g c =
     let l = c.loop-place in
     let p = c.in-Some.place.now in
-    let it : Pending = c.in-Some.pending.now in
+    let it : PendingBlob = c.in-Some.pending.now in
     let left = c.next.new.self in
     let all = c.args.waiting.now.entries in
     let first = g.S.Store.view c.args.store.now in

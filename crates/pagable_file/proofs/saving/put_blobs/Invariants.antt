@@ -1,8 +1,8 @@
+use Rattle.pagable_file.proofs.Putting.{Putting}
+use Rattle.pagable_file.specs.{Blobs.{Fits, pending_row}, Rows.{blob_tree, root_tree}}
+use Rattle.sqlite_trees.specs.{Tree.Trees, View.{IsClean, doubt}}
 use Rattle.std.proofs.Common.{◌≤◌}
 use Rattle.std.specs.List.{AllByRecursion}
-use Rattle.sqlite_trees.specs.{Tree.Trees, View.{IsClean, doubt}}
-use Rattle.pagable_file.specs.{Rows.{blob_tree, root_tree}, Blobs.{Fits, pending_row}}
-use Rattle.pagable_file.proofs.Putting.{Putting}
 use Rattle.pagable_file.proofs.saving.put_blobs.Given as goal
 
 -- the entries that are left make the rest

@@ -1,8 +1,8 @@
-use Rattle.std.proofs.Common.{◌≡◌, arith, rules, subst}
-use Rattle.sqlite_value.specs.Order.{Row}
-use Rattle.sqlite_trees.specs.{Tree.put_row, View.SetsTree}
-use Rattle.pagable_file.specs.{Rows.root_tree, Blobs.{CanBeKeyIf, pending_root_row}, declared.pending.PendingRoot.PendingRoot}
 use Rattle.pagable_file.proofs.Putting.{all_fit, put_root}
+use Rattle.pagable_file.specs.{Blobs.{CanBeKeyIfSome, pending_root_row}, Rows.root_tree, declared.pending.PendingRoot.PendingRoot}
+use Rattle.sqlite_trees.specs.{Tree.put_row, View.SetsTree}
+use Rattle.sqlite_value.specs.Order.{Row}
+use Rattle.std.proofs.Common.{arith, rules, subst, ◌≡◌}
 use Rattle.pagable_file.proofs.saving.put_roots.Goals as goal
 
 pub loop-place-preserved : goal.loop-place-preserved
@@ -19,7 +19,8 @@ loop-place-preserved g c =
     let row : c.write_root.new.row ≡ pending_root_row p it = search rules in (
       λ clean. put_root pending_root_row l.place-iterator left all p it first now next (l.invariant.0 (omega (arith, c.put.ensures.quiet.clean, clean))) steps
           (subst (λ (r : Row). SetsTree now next root_tree (put_row r)) row (c.in_ok-put.ensures.ok clean)) (c.in_ok-put.ensures.frame clean),
-      all_fit pending_root_row root_tree root_tree (λ (r : PendingRoot). CanBeKeyIf r.key) l.place-iterator left all p it steps c.in_ok-write_root.ensures.key
+      all_fit pending_root_row root_tree root_tree (λ (r : PendingRoot). CanBeKeyIfSome r.key) l.place-iterator left all p it steps
+          c.in_ok-write_root.ensures.key
           l.invariant.1,
       omega (arith, l.invariant.2, c.put.ensures.quiet.clean),
       λ db h. l.invariant.3 db (c.put.ensures.quiet.outcomes db h),

@@ -4,16 +4,16 @@ use Rattle.pagable_file.proofs.saving.save.Goals as goal
 pub returns-in-Ok-clause-ok : goal.returns-in-Ok-clause-ok
 returns-in-Ok-clause-ok g c =
     on_saved c.commit.result (g.S.Store.view c.args.store.now) (g.S.Store.view c.put_waiting.new.store)
-    (g.S.Store.view c.commit.new.self) _ _ c.in-Ok.ensures.ok c.commit.ensures.ok c.put_waiting.ensures.clean c.commit.ensures.clean
+    (g.S.Store.view c.commit.new.self) _ _ c.in-Ok.ensures.ok c.commit.ensures.ok c.put_waiting.ensures.doubt_never_falls c.commit.ensures.clean
 
 pub returns-in-Ok-clause-err : goal.returns-in-Ok-clause-err
 returns-in-Ok-clause-err g c =
     let old = g.S.Store.view c.args.store.now in
     let mid = g.S.Store.view c.put_waiting.new.store in
     on_rolled_back c.commit.result old mid (g.S.Store.view c.commit.new.self) (λ h. only_keeps old mid (c.in-Ok.ensures.ok h).only) c.commit.ensures.err
-    c.put_waiting.ensures.clean c.commit.ensures.clean
+    c.put_waiting.ensures.doubt_never_falls c.commit.ensures.clean
 
 pub returns-in-Err-clause-err : goal.returns-in-Err-clause-err
 returns-in-Err-clause-err g c =
     rolled_back (g.S.Store.view c.args.store.now) (g.S.Store.view c.put_waiting.new.store) (g.S.Store.view c.rollback.new.self) c.in-Err.ensures.err
-    c.rollback.ensures.undone c.put_waiting.ensures.clean c.rollback.ensures.quiet.clean
+    c.rollback.ensures.undone c.put_waiting.ensures.doubt_never_falls c.rollback.ensures.quiet.clean

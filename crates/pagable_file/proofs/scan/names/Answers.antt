@@ -1,7 +1,7 @@
-use Rattle.std.proofs.Common.{arith, true}
-use Rattle.sqlite_trees.specs.{Tree.order_of, View.Advances}
-use Rattle.pagable_file.specs.Rows.{root_tree}
 use Rattle.pagable_file.proofs.Scanning.{naming_goes_on, naming_starts}
+use Rattle.pagable_file.specs.Rows.{root_tree}
+use Rattle.sqlite_trees.specs.{Tree.order_of, View.Advances}
+use Rattle.std.proofs.Common.{arith, true}
 use Rattle.pagable_file.proofs.scan.names.Goals as goal
 
 pub rows-init : goal.rows-init

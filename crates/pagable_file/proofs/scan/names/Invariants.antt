@@ -1,7 +1,7 @@
-use Rattle.std.proofs.Common.{IsSome, ◌≤◌}
-use Rattle.sqlite_trees.specs.{Tree.Trees, View.{IsClean, doubt}}
-use Rattle.pagable_file.specs.Rows.{root_tree}
 use Rattle.pagable_file.proofs.Scanning.{Naming}
+use Rattle.pagable_file.specs.Rows.{root_tree}
+use Rattle.sqlite_trees.specs.{Tree.Trees, View.{IsClean, doubt}}
+use Rattle.std.proofs.Common.{IsSome, ◌≤◌}
 use Rattle.pagable_file.proofs.scan.names.Given as goal
 
 -- the cursor goes on, nothing else changes, and the names of the rows that it has passed are listed

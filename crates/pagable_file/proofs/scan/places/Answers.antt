@@ -1,8 +1,8 @@
-use Rattle.std.proofs.Common.{◌≡◌, ◌∙◌, ◌++◌, ◌∷◌, [], ℤ, SFits, ap, arith, rules, sym, to_z-of_z, true}
-use Rattle.std.specs.Int.{w64}
-use Rattle.sqlite_value.specs.declared.value.Value.TheVariants.{Int}
-use Rattle.sqlite_trees.specs.{Tree.{order_of, rowid}, View.Advances}
 use Rattle.pagable_file.proofs.Scanning.{listing_goes_on, listing_starts}
+use Rattle.sqlite_trees.specs.{Tree.{order_of, rowid}, View.Advances}
+use Rattle.sqlite_value.specs.declared.value.Value.TheVariants.{Int}
+use Rattle.std.proofs.Common.{SFits, ap, arith, rules, sym, to_z-of_z, true, ℤ, [], ◌++◌, ◌∙◌, ◌∷◌, ◌≡◌}
+use Rattle.std.specs.Int.{w64}
 use Rattle.pagable_file.proofs.scan.places.Goals as goal
 
 pub rows-init : goal.rows-init

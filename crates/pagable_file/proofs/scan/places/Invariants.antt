@@ -1,6 +1,6 @@
-use Rattle.std.proofs.Common.{IsSome, ◌≤◌}
-use Rattle.sqlite_trees.specs.{Tree.Trees, View.{IsClean, doubt}}
 use Rattle.pagable_file.proofs.Scanning.{Listing}
+use Rattle.sqlite_trees.specs.{Tree.Trees, View.{IsClean, doubt}}
+use Rattle.std.proofs.Common.{IsSome, ◌≤◌}
 use Rattle.pagable_file.proofs.scan.places.Given as goal
 
 -- the cursor goes on, nothing else changes, and the places of what it has left make the rest

@@ -1,6 +1,6 @@
+use Rattle.pagable_file.proofs.Names.{waits_there}
 use Rattle.std.proofs.Common.{SFits, ap, rules, sym, to_z-of_z, ℤ, ◌∙◌}
 use Rattle.std.specs.{HashMap.get, Int.w64, Ordering.int_eq, Prelude.is_some}
-use Rattle.pagable_file.proofs.Names.{waits_there}
 use Rattle.pagable_file.proofs.scan.push_name.Goals as goal
 
 pub returns-then-contains_key-clause-listed : goal.returns-then-contains_key-clause-listed

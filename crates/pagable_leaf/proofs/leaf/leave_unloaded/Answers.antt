@@ -1,7 +1,7 @@
-use Rattle.pagable_leaf.proofs.GivenUp.{drops-leaf}
-use Rattle.pagable_leaf.proofs.Words.{Tables, core_of, not, refl, subst, sym}
+use Rattle.pagable_leaf.proofs.{GivenUp.drops-leaf, Words.{Tables, core_of, not, refl, subst, sym}}
+use Rattle.pagable_leaf.specs.Leaf.{DropsLeaf}
+use Rattle.pagable_tables.specs.Core.{IsWhole}
 use Rattle.pagable_leaf.proofs.leaf.leave_unloaded.Goals as goal
-use Rattle.{pagable_leaf.specs.Leaf.DropsLeaf, pagable_tables.specs.Core.IsWhole}
 
 pub returns-clause-does : goal.returns-clause-does
 returns-clause-does c =

@@ -1,8 +1,11 @@
-use Rattle.{pagable_load.{proofs.LoadSteps.{acts_from, acts_then, taken_back, takes_back}, specs.{PinStart.{SharesPinned, TakesBack}, AccessView.{Acts, values_at}}}, std.{proofs.Common.{Err, ap, ◌∙◌}, specs.{Arc.arc_value, declared.alloc.Global.Global}}}
+use Rattle.pagable_load.proofs.{LoadSteps.{acts_from, acts_then}, PinsAndReads.{taken_back, takes_back}}
+use Rattle.pagable_load.specs.{AccessView.{Acts, values_at}, PinStart.{SharesPinned, TakesBack}}
+use Rattle.std.proofs.Common.{Err, ap, ◌∙◌}
+use Rattle.std.specs.{Arc.arc_value, declared.alloc.Global.Global}
 
 pub returns-in-Err : Rattle.pagable_load.proofs.step.pin_with_state_over.Goals.returns-in-Err
 returns-in-Err g c =
-    let mine = ap (λ a. a.me) c.pin_first.ensures.acting ∙ c.requires.caller in
+    let mine = ap (λ a. a.me) c.pin_with_load.ensures.acting ∙ c.requires.caller in
     let h = c.args.handle in
     let k = c.in_ok-pinned.pinned in
     let e = c.in-Err.e in

@@ -1,4 +1,4 @@
-use Rattle.pagable_load.proofs.LoadSteps.{acts_then, key_failed, key_read}
+use Rattle.pagable_load.proofs.{LoadSteps.acts_then, PinsAndReads.{key_failed, key_read}}
 
 pub returns-in-Read : Rattle.pagable_load.proofs.step.read_over.Goals.returns-in-Read
 returns-in-Read g c =

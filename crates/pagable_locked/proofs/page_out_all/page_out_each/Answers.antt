@@ -1,10 +1,8 @@
 use Rattle.pagable_load.specs.AccessView.{values_at}
-use Rattle.std.proofs.Common.{rules, subst, arith, take, ◌+◌}
-use Rattle.std.proofs.lemmas.Bool.Decides.{nat_tests}
+use Rattle.pagable_locked.proofs.{Order.{step-hit, step-miss}, page_out_all.page_out_each.Goals.{else-i-workers, then-i-workers+in_ok-push_back}}
 use Rattle.pagable_locked.specs.Answers.{AnswersEach, IsAnswerOf, items_of}
-use Rattle.pagable_locked.proofs.Order.{step-hit, step-miss}
+use Rattle.std.proofs.{Common.{arith, rules, subst, take, ◌+◌}, lemmas.Bool.Decides.nat_tests}
 use Rattle.pagable_locked.proofs.page_out_all.page_out_each.Goals as goal
-use Rattle.pagable_locked.proofs.page_out_all.page_out_each.Goals.{then-i-workers+in_ok-push_back, else-i-workers}
 
 pub loop-i-preserved : goal.loop-i-preserved
 loop-i-preserved g c =

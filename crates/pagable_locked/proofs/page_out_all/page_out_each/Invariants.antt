@@ -1,6 +1,6 @@
 use Rattle.pagable_load.specs.AccessView.{values_at}
-use Rattle.std.proofs.Common.{take}
 use Rattle.pagable_locked.specs.Answers.{AnswersEach, IsAnswerOf, items_of}
+use Rattle.std.proofs.Common.{take}
 use Rattle.pagable_locked.proofs.page_out_all.page_out_each.Given as goal
 
 abbrev pub invariant-loop-i : goal.invariant-loop-i

@@ -1,4 +1,5 @@
-use Rattle.{pagable_load.specs.AccessView.{Acts, values_at}, pagable_pageout.specs.PageOuts.HasPaged}
+use Rattle.pagable_load.specs.AccessView.{Acts, values_at}
+use Rattle.pagable_pageout.specs.PageOuts.{HasPaged}
 use Rattle.pagable_pageout.proofs.step.page_out_pending_over.Given as goal
 
 -- the entries above this place are paged out

@@ -1,4 +1,6 @@
-use Rattle.{pagable_pageout.{proofs.{Joint.{both-all, both-on}, Strides.{walked-on, walked-runs}, WorkerTurns.none-walked}, specs.{Tasks.todos, Turns.acting_then}}, std.proofs.Common.{ap}}
+use Rattle.pagable_pageout.proofs.{Joint.{both-all, both-on}, Strides.{walked-on, walked-runs}, WorkerRuns.none-walked}
+use Rattle.pagable_pageout.specs.{Tasks.todos, Turns.acting_after}
+use Rattle.std.proofs.Common.{ap}
 use Rattle.pagable_pageout.proofs.step.run.Goals as goal
 
 pub loop-next-init : goal.loop-next-init
@@ -11,23 +13,23 @@ loop-next-init g c = record {
 
 pub loop-next-preserved : goal.loop-next-preserved
 loop-next-preserved g c =
-    let says = c.stride-turn.ensures in
+    let says = c.make_next_steps-turn.ensures in
     record {
       way = rw c.in-Goes.is at says.way;
       ends = λ w h. (rw c.in-Goes.is at says.ends).stays w (c.loop-next.invariant.ends w h);
       walked = both-on c.loop-next.invariant.walked says.acts
           (λ s mid s' x y z walked strides. walked-on _ _ c.args.worker.0 x c.args.first (todos c.args.path.now.items) y z c.loop-next.task c.in-Goes.next
-          (todos c.loop-next.path.items) (todos c.stride-turn.new.path.items) s mid s' walked (strides.goes c.in-Goes.next c.in-Goes.is))
-          (ap (λ t. acting_then t (g.A.Access.acting c.args.access.now)) c.in-Goes.is);
+          (todos c.loop-next.path.items) (todos c.make_next_steps-turn.new.path.items) s mid s' walked (strides.goes c.in-Goes.next c.in-Goes.is))
+          (ap (λ t. acting_after t (g.A.Access.acting c.args.access.now)) c.in-Goes.is);
     }
 
 pub returns-in-Answers-clause-over : goal.returns-in-Answers-clause-over
-returns-in-Answers-clause-over g c = λ w h. (rw c.in-Answers.is at c.stride-turn.ensures.ends).over w (c.loop-next.invariant.ends w h)
+returns-in-Answers-clause-over g c = λ w h. (rw c.in-Answers.is at c.make_next_steps-turn.ensures.ends).over w (c.loop-next.invariant.ends w h)
 
 pub returns-in-Answers-clause-acts : goal.returns-in-Answers-clause-acts
 returns-in-Answers-clause-acts g c =
-    let says = c.stride-turn.ensures in
+    let says = c.make_next_steps-turn.ensures in
     both-on c.loop-next.invariant.walked says.acts
     (λ s mid s' x y z walked strides. walked-runs _ _ c.args.worker.0 x c.args.first (todos c.args.path.now.items) y z c.loop-next.task
     (todos c.loop-next.path.items) c.in-Answers.answer s mid s' walked (strides.answers c.in-Answers.answer c.in-Answers.is))
-    (ap (λ t. acting_then t (g.A.Access.acting c.args.access.now)) c.in-Answers.is)
+    (ap (λ t. acting_after t (g.A.Access.acting c.args.access.now)) c.in-Answers.is)

@@ -1,16 +1,18 @@
-use Rattle.{std.proofs.Common.{◌∷◌, ◌+◌, ◌*◌}, pagable_load.specs.AccessView.values_at, pagable_pageout.specs.{Joint.ActsBoth, Tasks.{EndsWith, EachIsAwaited, due, far, todo_of, todos}, Turns.HasWalked}}
+use Rattle.pagable_load.specs.AccessView.{values_at}
+use Rattle.pagable_pageout.specs.{Joint.ActsBoth, Tasks.{EachIsAwaited, EndsWithItem, claim_weight, todo_of, todos, work_left}, Turns.HasWalked}
 use Rattle.pagable_pager_spec.specs.World.{Written}
+use Rattle.std.proofs.Common.{◌*◌, ◌+◌, ◌∷◌}
 use Rattle.pagable_pageout.proofs.step.run.Given as goal
 
 -- the path leads to the task, and a run from here is one from the beginning
 abbrev pub invariant-loop-next : goal.invariant-loop-next
 invariant-loop-next g l = record {
   way : EachIsAwaited (todo_of l.task ∷ todos l.path.items);
-  ends : (w : Written) → EndsWith w (todo_of l.fn.first ∷ todos l.fn.path.items) → EndsWith w (todo_of l.task ∷ todos l.path.items);
+  ends : (w : Written) → EndsWithItem w (todo_of l.fn.first ∷ todos l.fn.path.items) → EndsWithItem w (todo_of l.task ∷ todos l.path.items);
   walked : ActsBoth g.A.Access.known_state g.A.Access.acting g.T.Claims.shelf l.fn.access l.fn.table l.access l.table (λ a. a)
       (λ a s q s' q'. HasWalked (values_at g.E.Node.NodeSet g.E.Env g.E.Hash.KeyHash a.environment) a.me l.worker.0 q l.fn.first
       (todos l.fn.path.items) q' l.task (todos l.path.items) s s');
 }
 
 abbrev pub decreases-loop-next : goal.decreases-loop-next
-decreases-loop-next g l = l.left * far + due (todo_of l.task ∷ todos l.path.items)
+decreases-loop-next g l = l.left * claim_weight + work_left (todo_of l.task ∷ todos l.path.items)

@@ -1,17 +1,25 @@
-use Rattle.{pagable_load.{proofs.LoadSteps.acts_map, specs.AccessView.values_at}, pagable_pageout.proofs.{Joint.{both-first, both-on}, ItemLast.{goes-ends, refused-ends}, Strides.{ends-as, leads-on, turn-walked, walked-on}, WorkerTurns.{pin-begins, pin-fails, pin-holds}}}
-use Rattle.{pagable_pageout.specs.{Tasks.{due, todo_of, todos}, Turns.HasWalked, declared.tasks.{Task.Task, Turn.Turn}}, pagable_pager_spec.specs.{Events.no_shelf, World.{to_pin, to_write}}}
+use Rattle.pagable_load.proofs.LoadSteps.{acts_map}
+use Rattle.pagable_load.specs.AccessView.{values_at}
+use Rattle.pagable_pageout.proofs.{
+  ItemLast.{goes-ends, refused-ends},
+  Joint.{both-first, both-on},
+  Strides.{ends-as, leads-on, turn-walked, walked-on},
+  WorkerTurns.{pin-begins, pin-fails, pin-holds},
+}
+use Rattle.pagable_pageout.specs.{Tasks.{todo_of, todos, work_left}, Turns.HasWalked, declared.tasks.{Task.Task, Turn.Turn}}
+use Rattle.pagable_pager_spec.specs.{Events.no_shelf, World.{to_pin, to_write}}
 use Rattle.std.proofs.Common.{arith, refl, ◌∷◌}
 use Rattle.pagable_pageout.proofs.stride.pin_and_write.Goals as goal
 
 pub returns-in-Held-clause-ends : goal.returns-in-Held-clause-ends
-returns-in-Held-clause-ends g c = ends-as _ _ _ _ (λ w h. h) c.enter.ensures.ends
+returns-in-Held-clause-ends g c = ends-as _ _ _ _ (λ w h. h) c.write_and_advance.ensures.ends
 
 pub returns-in-Held-clause-goes : goal.returns-in-Held-clause-goes
 returns-in-Held-clause-goes g c = record {
-  way = c.enter.ensures.goes.way;
-  leads = leads-on (Turn.Goes c.enter.result) (due (to_pin c.args.reference c.args.place ∷ todos c.args.path.now.items))
-      (due (to_write c.args.reference c.args.place c.in-Held.through ∷ todos c.args.path.now.items))
-      (due (todo_of c.enter.result ∷ todos c.enter.new.path.items)) (omega arith) c.enter.ensures.goes.leads;
+  way = c.write_and_advance.ensures.goes.way;
+  leads = leads-on (Turn.Goes c.write_and_advance.result) (work_left (to_pin c.args.reference c.args.place ∷ todos c.args.path.now.items))
+      (work_left (to_write c.args.reference c.args.place c.in-Held.through ∷ todos c.args.path.now.items))
+      (work_left (todo_of c.write_and_advance.result ∷ todos c.write_and_advance.new.path.items)) (omega arith) c.write_and_advance.ensures.goes.leads;
 }
 
 pub returns-in-Held-clause-acts : goal.returns-in-Held-clause-acts
@@ -25,8 +33,9 @@ returns-in-Held-clause-acts g c n =
     (todos c.args.path.now.items) s s'}
     (λ q. acts_map (rw c.in-Held.is at c.in-Ok.ensures.takes) (λ s t call. turn-walked _ _ n q pin below q next below _ _ s t
     (pin-holds _ _ n q c.args.reference c.args.place below c.in-Held.through c.in-Held._pin s t call) refl refl)) no_shelf)
-    (c.enter.ensures.step n c.in-Held._pin (rw c.in-Held.is at c.in-Ok.ensures.shares))
-    (λ s mid s' x y z one two. walked-on _ _ n x pin below y z next c.enter.result below (todos c.enter.new.path.items) s mid s' one two) refl
+    (c.write_and_advance.ensures.step n c.in-Held._pin (rw c.in-Held.is at c.in-Ok.ensures.shares))
+    (λ s mid s' x y z one two. walked-on _ _ n x pin below y z next c.write_and_advance.result below (todos c.write_and_advance.new.path.items) s
+    mid s' one two) refl
 
 pub returns-in-Begun-clause-acts : goal.returns-in-Begun-clause-acts
 returns-in-Begun-clause-acts g c n =

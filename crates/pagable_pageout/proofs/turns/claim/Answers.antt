@@ -1,10 +1,11 @@
-use Rattle.{pagable_pageout.proofs.{Joint.told-as, WorkerTurns.{claims-there, refuses}}, std.proofs.Common.sym}
+use Rattle.pagable_pageout.proofs.{Joint.told-as, WorkerTurns.{claims-there, refuses}}
+use Rattle.std.proofs.Common.{sym}
 use Rattle.pagable_pageout.proofs.turns.claim.Goals as goal
 
 pub returns-in-Ok-clause-step : goal.returns-in-Ok-clause-step
 returns-in-Ok-clause-step g c =
     told-as (λ s s' there core below fault. claims-there core c.args.worker.0 s s' c.args.reference c.args.place below _ (sym (rw c.in-Ok.is at fault))
-    (rw c.named.ensures at there)) c.claim_for.ensures.claims
+    (rw c.referenced_identity.ensures at there)) c.claim_for.ensures.claims
 
 pub returns-in-Err-clause-step : goal.returns-in-Err-clause-step
 returns-in-Err-clause-step g c =

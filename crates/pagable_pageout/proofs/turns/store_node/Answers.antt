@@ -1,4 +1,5 @@
-use Rattle.{pagable_load.proofs.LoadSteps.acts_map, pagable_pageout.proofs.Nodes.node-leaves}
+use Rattle.pagable_load.proofs.LoadSteps.{acts_map}
+use Rattle.pagable_pageout.proofs.Nodes.{node-leaves}
 use Rattle.pagable_pageout.proofs.turns.store_node.Goals as goal
 
 pub returns-clause-acts : goal.returns-clause-acts

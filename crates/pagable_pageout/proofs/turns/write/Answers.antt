@@ -1,8 +1,14 @@
-use Rattle.pagable_pageout.proofs.ItemLast.{refused-ends, written-ends}
-use Rattle.{std.{proofs.Common.{◌∷◌, None, length, ap, ◌∙◌, subst, sym, arith}, specs.Arc.arc_value}, pagable_pageout.specs.Turns.just_open, pagable_pager_spec.specs.Workers.advance}
-use Rattle.pagable_pager_spec.specs.World.{to_finish, was_refused}
-use Rattle.{pagable_load.proofs.LoadSteps.tells_map, pagable_pageout.proofs.Joint.{both-second, both-stays}}
-use Rattle.pagable_pageout.{proofs.{Stacks.advance-way, WorkerTurns.{same-shelf, write-fails, write-turns}}, specs.{Slots.written_of, Tasks.{EachIsAwaited, back_of, fails, todos}}}
+use Rattle.pagable_load.proofs.LoadSteps.{tells_map}
+use Rattle.pagable_pageout.proofs.{
+  ItemLast.{refused-ends, written-ends},
+  Joint.{both-second, both-stays},
+  Stacks.advance-way,
+  WorkerTurns.{same-shelf, write-fails, write-turns},
+}
+use Rattle.pagable_pageout.specs.{Slots.written_of, Tasks.{EachIsAwaited, back_of, fails, todos}, Turns.just_open}
+use Rattle.pagable_pager_spec.specs.{Workers.advance, World.{to_finish, was_refused}}
+use Rattle.std.proofs.Common.{None, ap, arith, length, subst, sym, ◌∙◌, ◌∷◌}
+use Rattle.std.specs.Arc.{arc_value}
 use Rattle.pagable_pageout.proofs.turns.write.Goals as goal
 
 pub returns-in-Ok-clause-goes : goal.returns-in-Ok-clause-goes
@@ -21,15 +27,15 @@ returns-in-Ok-clause-step g c n =
     let e = c.advance.ensures.todo ∙ ap (λ t. advance (t ∷ todos c.write_claimed.new.path.items)) c.in-Ok.ensures.open
     ∙ ap (λ ps. advance (to_finish (just_open c.args.reference c.args.place c.args.through w) ∷ todos ps)) c.in-Ok.ensures.path in
     let noted = rw c.in-Ok.ensures.listed at c.note_written.ensures in
-    rw c.named-identity.ensures (both-second (tells_map (λ s h. c.in-Ok.ensures.forms s c.args.pin h) c.share-shared.ensures)
-    (rw c.named-identity.ensures at noted)
+    rw c.referenced_identity-identity.ensures (both-second (tells_map (λ s h. c.in-Ok.ensures.forms s c.args.pin h) c.share-shared.ensures)
+    (rw c.referenced_identity-identity.ensures at noted)
     (λ s x y forms same. write-turns _ _ n x y c.args.reference c.args.place c.args.through c.args.pin (todos c.args.path.now.items) _ c.advance.result
     c.advance.ensures.plain s c.in-Ok.told forms same e))
 
 pub returns-in-Err-clause-step : goal.returns-in-Err-clause-step
 returns-in-Err-clause-step g c n =
     let e = c.fail_with.ensures.todo ∙ ap (λ ps. fails (was_refused c.in-Err.e) (back_of None (todos ps))) c.in-Err.ensures.path in
-    rw c.named-identity.ensures (both-stays (tells_map (λ s h. c.in-Err.ensures.forms s c.args.pin h) c.share-shared.ensures)
+    rw c.referenced_identity-identity.ensures (both-stays (tells_map (λ s h. c.in-Err.ensures.forms s c.args.pin h) c.share-shared.ensures)
     (λ s x forms. write-fails _ _ n x x c.args.reference c.args.place c.args.through c.args.pin (todos c.args.path.now.items) _ c.fail_with.result
     c.fail_with.ensures.plain s c.in-Err.e forms (same-shelf x) e))
 

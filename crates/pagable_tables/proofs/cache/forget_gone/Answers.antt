@@ -1,8 +1,11 @@
-use Rattle.pagable_tables.specs.Core.{no_blobs}
-use Rattle.pagable_tables.specs.Core.{StorageView}
-use Rattle.pagable_tables.proofs.{SameViews.forgets-gone, Views.told-whole, Wholeness.whole-so}
-use Rattle.pagable_tables.proofs.Words.{Counts, NodeNumber, None, Option, Some, ap, arith, core_of, counts_at, if_there, if◌then◌else◌, is_some, known_at, nat_tests, option_map, core_alone, refl, ℕ, ◌≡◌, ◌∙◌}
-use Rattle.pagable_tables.specs.Nodes.{cell_in, living}
+use Rattle.pagable_tables.proofs.{
+  SameViews.forgets-gone,
+  Views.told-whole,
+  Wholeness.whole-so,
+  Words.{Counts, NodeNumber, None, Option, Some, ap, arith, cached_at, core_alone, core_of, counts_at, if_there, if◌then◌else◌, is_some, nat_tests, option_map},
+  Words.{refl, ℕ, ◌∙◌, ◌≡◌},
+}
+use Rattle.pagable_tables.specs.{Core.{StorageView, no_blobs}, Nodes.{cell_in, living}}
 use Rattle.pagable_tables.proofs.cache.forget_gone.Goals as goal
 
 abbrev number : Option NodeNumber → Option ℕ
@@ -16,8 +19,8 @@ pub returns-clause-does : goal.returns-clause-does
 returns-clause-does c =
     let t = c.args.t.now in
     let t1 = record t { cache = c.keep_living.new.cache; cache_limit = c.saturating_add-t.result } in
-    let known = λ (kind key : ℕ). number (known_at c.keep_living.new.cache kind key) in
-    let is = λ (kind key : ℕ). ap number (c.keep_living.ensures kind key) ∙ left (counts_at t.ref_counts.nodes) (known_at t.cache kind key) in
+    let known = λ (kind key : ℕ). number (cached_at c.keep_living.new.cache kind key) in
+    let is = λ (kind key : ℕ). ap number (c.keep_living.ensures kind key) ∙ left (counts_at t.ref_counts.nodes) (cached_at t.cache kind key) in
     let forgets = λ (storage : StorageView). forgets-gone (core_of t storage) known is in
     let plain = forgets no_blobs in
     record {

@@ -1,6 +1,8 @@
-use Rattle.pagable_tables.proofs.Words.{Counts, NodeNumber, Option, ap, arith, counts_at, filter, is_same, is_some, nat_tests, rules, ℕ, ◌≡◌, ◌∙◌}
+use Rattle.indexmap.proofs.CallerLemmas.{filter-RetainsPairs}
+use Rattle.pagable_tables.proofs.Words.{Counts, NodeNumber, Option, ap, arith, counts_at, filter, is_same, is_some, nat_tests, rules, ℕ, ◌∙◌, ◌≡◌}
 use Rattle.pagable_tables.specs.Nodes.{living}
-use Rattle.{std.{proofs.lemmas.Map.Entries.{option_filter, lookup-filter-values}, specs.{Cmp.IsEquivalence, Map.lookup}}, indexmap.proofs.CallerLemmas.filter-RetainsPairs}
+use Rattle.std.proofs.lemmas.Map.Entries.{lookup-filter-values, option_filter}
+use Rattle.std.specs.{Cmp.IsEquivalence, Map.lookup}
 
 same-equiv : IsEquivalence is_same
 same-equiv = record {

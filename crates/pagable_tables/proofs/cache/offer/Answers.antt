@@ -1,37 +1,41 @@
-use Rattle.pagable_tables.specs.Core.{StorageView}
-use Rattle.pagable_tables.proofs.CascadeStep.{opened-view}
-use Rattle.pagable_tables.specs.Core.{no_blobs}
-use Rattle.pagable_tables.proofs.{CallsKeepWhole.{known-suits, learns-whole}, CascadeStep.{begun-whole, closed-is}}
-use Rattle.pagable_tables.proofs.{OwnedByLoad.{begun-made, falls-made, found-again, later-on}, RowCounts.found-among, Wholeness.whole-so}
-use Rattle.pagable_tables.proofs.{CascadeEnd.{sheds-still, stays-first}, Views.{lone-falling, not-a-value, not-list, told-whole}}
-use Rattle.pagable_tables.proofs.Words.{Alike, NodeNumber, Owner, Owns, any_mode, ap, arith, core_of}
-use Rattle.pagable_tables.proofs.Words.{counts_at, false, fits_mode, has_value, inl, inr, is_owner, is_pinning, is_valued, length, mode_of, nat_tests, not, offer_fault, only_handle, option_map}
-use Rattle.pagable_tables.proofs.SameViews.{alike-on, failed, not-recalled, owner-same, owner-self, same-cache}
-use Rattle.pagable_tables.proofs.Words.{core_alone, recall_fault, refl, sym, true, with_cached, with_known, ℕ, ◌+◌, ◌∙◌, ◌≡◌}
+use Rattle.pagable_tables.proofs.{
+  CallsKeepWhole.{known-suits, learns-whole},
+  CascadeEnd.{drops-still, stays-first},
+  CascadeStep.{begun-whole, closed-is, opened-view},
+  OwnedByLoad.{begun-made, falls-made, found-again, later-on},
+  RowCounts.found-among,
+  SameViews.{alike-on, failed, not-recalled, owner-same, owner-self, same-cache},
+  Views.{lone-falling, not-a-value, not-list, told-whole},
+  Wholeness.whole-so,
+  Words.{Alike, NodeNumber, Owner, Owns, any_mode, ap, arith, core_alone, core_of, counts_at, false, fits_mode, has_value, inl, inr, is_owner, is_pinning},
+  Words.{is_value_owner, length, mode_of, nat_tests, not, offer_fault, only_handle, option_map, recall_fault, refl, sym, true, with_cached, with_known, ℕ, ◌+◌},
+  Words.{◌∙◌, ◌≡◌},
+}
+use Rattle.pagable_tables.specs.Core.{StorageView, no_blobs}
 use Rattle.pagable_tables.proofs.cache.offer.Goals as goal
 
-pub make-requires-clause-suits : goal.make-requires-clause-suits
-make-requires-clause-suits g c = rw c.mode_of.ensures (known-suits c.requires.whole.core c.args.kind.0 c.args.key c.in-Some.node.0
+pub make_handle-requires-clause-suits : goal.make_handle-requires-clause-suits
+make_handle-requires-clause-suits g c = rw c.mode_of.ensures (known-suits c.requires.whole.core c.args.kind.0 c.args.key c.in-Some.node.0
     (sym (c.in-Some.ensures no_blobs)))
 
 pub unreachable-requires : goal.unreachable-requires
 unreachable-requires g c =
     let came = (c.in_ok-known.ensures.does.does no_blobs).made.1.rows in
     let again = found-again c.args.handle.0 _ _ _ c.in_ok-row.row _ c.in_ok-row.ensures.owns.live came refl in
-    grind (arith, nat_tests, again, owner-self, c.in_ok-row.ensures.owns.own, c.in_default-own.ensures.fault no_blobs any_mode)
+    grind (arith, nat_tests, again, owner-self, c.in_ok-row.ensures.owns.own, c.in_default-find_owned.ensures.fault no_blobs any_mode)
 
-pub try_release_at-requires-clause-plain : goal.try_release_at-requires-clause-plain
-try_release_at-requires-clause-plain g c = ap is_valued (owner-same c.args.me c.in-Ok.at.row.owner c.in-Ok.ensures.owner)
+pub try_release_at-requires-clause-not_a_value : goal.try_release_at-requires-clause-not_a_value
+try_release_at-requires-clause-not_a_value g c = ap is_value_owner (owner-same c.args.me c.in-Ok.at.row.owner c.in-Ok.ensures.owner)
     ∙ not-a-value (core_alone c.args.t.now) c.args.me c.requires.holder
 
-pub try_release_at-requires-clause-free : goal.try_release_at-requires-clause-free
-try_release_at-requires-clause-free g c = ap (is_owner Owner.List) (owner-same c.args.me c.in-Ok.at.row.owner c.in-Ok.ensures.owner)
+pub try_release_at-requires-clause-not_the_list : goal.try_release_at-requires-clause-not_the_list
+try_release_at-requires-clause-not_the_list g c = ap (is_owner Owner.List) (owner-same c.args.me c.in-Ok.at.row.owner c.in-Ok.ensures.owner)
     ∙ not-list (core_alone c.args.t.now) c.args.me c.requires.holder
 
 pub returns : goal.returns
 returns g c =
     let t = c.args.t.now in
-    let t1 = c.make.new.t in
+    let t1 = c.make_handle.new.t in
     let node = c.in-Some.node in
     let made = c.in_ok-known.ensures.does in
     let went = lone-falling {w = core_alone t1} made.whole.core (c.try_release_at.ensures.falls (core_alone t1) (core_alone t1)
@@ -64,9 +68,9 @@ returns g c =
             refused = tt;
           }));
       whole = whole-so c.try_release_at.ensures.steady went.whole;
-      sheds = λ there.
+      drops = λ there.
           stays-first (λ n. c.in_ok-known.ensures.values n (λ eq pins. ap (λ k. has_value (counts_at t.ref_counts.nodes k)) eq
-          ∙ there node.0 (sym (c.in-Some.ensures no_blobs)) (ap is_pinning (sym c.mode_of.ensures) ∙ pins))) c.try_release_at.ensures.sheds;
+          ∙ there node.0 (sym (c.in-Some.ensures no_blobs)) (ap is_pinning (sym c.mode_of.ensures) ∙ pins))) c.try_release_at.ensures.drops;
       later = λ later. later-on (made.later later) went.newer refl refl refl;
     }
 
@@ -126,8 +130,8 @@ returns-in_err-known-clause-offered g c storage e =
       };
     })
 
-pub returns-in_err-known-clause-sheds : goal.returns-in_err-known-clause-sheds
-returns-in_err-known-clause-sheds g c there = stays-first (λ n. c.in_err-known.ensures.values n
+pub returns-in_err-known-clause-drops : goal.returns-in_err-known-clause-drops
+returns-in_err-known-clause-drops g c there = stays-first (λ n. c.in_err-known.ensures.values n
     (λ eq pins. ap (λ k. has_value (counts_at c.args.t.now.ref_counts.nodes k)) eq
     ∙ there c.in-Some.node.0 (sym (c.in-Some.ensures no_blobs)) (ap is_pinning (sym c.mode_of.ensures) ∙ pins)))
-    (sheds-still c.make.new.t.ref_counts _ c.in_err-known.ensures.does.whole.steady)
+    (drops-still c.make_handle.new.t.ref_counts _ c.in_err-known.ensures.does.whole.steady)

@@ -1,11 +1,13 @@
-use Rattle.pagable_tables.proofs.CascadeEnd.{Lasting}
-use Rattle.pagable_tables.proofs.Words.{AreKept, Bool, Core, IsFalling, List, SoFar, counts_at, false, length, live, owns_nothing, row_by, valued, ℕ, ◌*◌}
-use Rattle.pagable_tables.proofs.Words.{◌+◌, ◌≡◌, ◌≤◌}
+use Rattle.pagable_tables.proofs.{
+  CascadeEnd.Lasting,
+  Words.{AreKept, Bool, Core, IsSoundInCascade, List, ReleasedSoFar, counts_at, false, length, live, owns_nothing, row_by, valued, ℕ, ◌*◌, ◌+◌, ◌≡◌, ◌≤◌},
+}
 use Rattle.pagable_tables.proofs.cascade.cascade.Given as goal
 
 abbrev pub invariant-finish_cascade : goal.invariant-finish_cascade
-invariant-finish_cascade g l = ((stack : List ℕ) × IsFalling l.t stack owns_nothing × (2 * valued (live l.t.handles.places.items) + length stack ≤ l.left))
-    × ((before w : Core) (given : ℕ → Bool) → SoFar before w given l.lists l.initial.t → SoFar before w given l.lists l.t)
+invariant-finish_cascade g l =
+    ((stack : List ℕ) × IsSoundInCascade l.t stack owns_nothing × (2 * valued (live l.t.handles.places.items) + length stack ≤ l.left))
+    × ((before w : Core) (given : ℕ → Bool) → ReleasedSoFar before w given l.lists l.initial.t → ReleasedSoFar before w given l.lists l.t)
     × (AreKept (counts_at l.initial.t.nodes) (row_by l.initial.values) → (n : ℕ)
     → Lasting (counts_at l.t.nodes n) (row_by l.initial.values n) (row_by l.values n))
     × (length (live l.t.handles.places.items) ≤ length (live l.initial.t.handles.places.items))

@@ -6,7 +6,7 @@ returns-then-stays c =
     let at = c.args.at in
     let changes = changed-known old.places.items at.place at.row c.requires.sound.ordered c.requires.place unpinned in
     rw c.if-stays.true (record {
-      becomes = subst (λ rows. Becomes old rows c.set.new.handles) changes c.set.ensures.becomes;
-      sums = c.set.ensures.sums;
+      becomes = subst (λ rows. Becomes old rows c.replace_row.new.handles) changes c.replace_row.ensures.becomes;
+      sums = c.replace_row.ensures.sums;
       there = λ f. row-le-live f old.places.items at.place at.row c.requires.place;
     })

@@ -1,4 +1,4 @@
-use Rattle.pagable_tables.proofs.Words.{◌≡◌, false, take, is_named_by}
+use Rattle.pagable_tables.proofs.Words.{false, is_named_by, take, ◌≡◌}
 use Rattle.pagable_tables.proofs.checks.is_named.Given as goal
 
 abbrev pub invariant-loop-reference : goal.invariant-loop-reference

@@ -8,7 +8,7 @@ loop-i-preserved c =
       lowest = λ q below. in-other hs l.i q (omega (arith, c.min-lowest.ensures)) (l.invariant.lowest q (omega (arith, c.min-lowest.ensures)));
       highest = λ q above. in-other hs l.i q (omega (arith, c.max-highest.ensures)) (l.invariant.highest q (omega (arith, c.max-highest.ensures)));
       rest = λ w is. ap (λ x. earlier x (named_fault w c.args.owner (seen hs (l.i + 1)) (drop (l.i + 1) hs))) c.earlier-fault.ensures
-          ∙ earlier-each l.fault c.hand_fault.result _
-          ∙ ap (earlier l.fault) (one-named w c.args.owner hs l.i c.hand_fault.result _ (omega arith)
-          (rw (is, sym c.is_before-is_seen.ensures) c.hand_fault.ensures) refl) ∙ l.invariant.rest w is;
+          ∙ earlier-each l.fault c.hand_over_one_fault.result _
+          ∙ ap (earlier l.fault) (one-named w c.args.owner hs l.i c.hand_over_one_fault.result _ (omega arith)
+          (rw (is, sym c.is_among_first-is_seen.ensures) c.hand_over_one_fault.ensures) refl) ∙ l.invariant.rest w is;
     }

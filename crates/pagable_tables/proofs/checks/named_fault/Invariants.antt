@@ -1,4 +1,4 @@
-use Rattle.pagable_tables.proofs.Words.{◌≡◌, ◌<◌, ℕ, [], drop, Core, earlier, false, is_in, named_fault, live, seen}
+use Rattle.pagable_tables.proofs.Words.{Core, drop, earlier, false, is_in, live, named_fault, seen, ℕ, [], ◌<◌, ◌≡◌}
 use Rattle.pagable_tables.proofs.checks.named_fault.Given as goal
 
 abbrev pub invariant-loop-i : goal.invariant-loop-i

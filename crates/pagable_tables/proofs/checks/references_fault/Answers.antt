@@ -1,6 +1,5 @@
+use Rattle.pagable_tables.proofs.{SameViews.{fault-at, named-other, seen-more}, Words.{ArcRef, None, Some, arith, core_of, get_or, sym, ◌∙◌, ◌∷◌}}
 use Rattle.pagable_tables.specs.Core.{StorageView}
-use Rattle.pagable_tables.proofs.SameViews.{fault-at, named-other, seen-more}
-use Rattle.pagable_tables.proofs.Words.{ArcRef, None, Some, arith, core_of, get_or, sym, ◌∙◌, ◌∷◌}
 
 abbrev blank : ArcRef
 blank = record { kind = record { 0 = 0 }; node = record { 0 = 0 }; handle = record { 0 = 0 } }
@@ -10,7 +9,7 @@ loop-i-preserved c =
     let l = c.loop-i in
     let rs = c.args.references.now in
     let named = l.invariant.same _ ∙ sym c.is_named-is_seen.ensures in
-    let none = λ (storage : StorageView). sym (c.fault_of.ensures storage l.invariant.seen named) ∙ c.in_default.is in
+    let none = λ (storage : StorageView). sym (c.reference_fault.ensures storage l.invariant.seen named) ∙ c.in_default.is in
     record {
       seen = (get_or rs l.i blank).handle.0 ∷ l.invariant.seen;
       same = seen-more l.invariant.seen rs l.i blank (omega arith) l.invariant.same;
@@ -25,6 +24,6 @@ loop-i-preserved c =
 pub returns-in-Some : Rattle.pagable_tables.proofs.checks.references_fault.Goals.returns-in-Some
 returns-in-Some c storage =
     let l = c.loop-i in
-    let fault = sym (c.fault_of.ensures storage l.invariant.seen (l.invariant.same _ ∙ sym c.is_named-is_seen.ensures)) ∙ c.in-Some.is in
+    let fault = sym (c.reference_fault.ensures storage l.invariant.seen (l.invariant.same _ ∙ sym c.is_named-is_seen.ensures)) ∙ c.in-Some.is in
     sym (l.invariant.rest storage ∙ fault-at (core_of c.args.t.now storage) c.args.me l.invariant.seen c.args.references.now l.i _ (Some c.in-Some.e)
     (omega arith) fault)

@@ -1,5 +1,5 @@
+use Rattle.pagable_tables.proofs.Words.{List, core_of, drop, false, is_in, is_named_by, references_fault, take, ℕ, [], ◌<◌, ◌≡◌}
 use Rattle.pagable_tables.specs.Core.{StorageView}
-use Rattle.pagable_tables.proofs.Words.{◌≡◌, ◌<◌, ℕ, false, List, [], take, drop, is_in, references_fault, is_named_by, core_of}
 use Rattle.pagable_tables.proofs.checks.references_fault.Given as goal
 
 abbrev pub invariant-loop-i : goal.invariant-loop-i

@@ -1,9 +1,14 @@
-use Rattle.pagable_tables.proofs.{CascadeStep.rows-told, LoadEnd.born-fits, OwnedByLoad.{bears-goes, does-so}, Views.not-a-value}
-use Rattle.pagable_tables.proofs.Words.{Counts, HandleRow, NodeRow, None, Option, Some, [], ap, arith}
-use Rattle.pagable_tables.proofs.Words.{counts_at, false, has_key, inl, inr, is_named_by, is_pinning, key_in, live, moved, nat_tests, one, option_map, owner_value, core_alone, refl, refs_at, ℕ}
-use Rattle.pagable_tables.proofs.{Words.{cases_eq, ◌≤◌}, WorkCounts.{work-moved, work-push, work-told}}
+use Rattle.pagable_tables.proofs.{
+  CascadeStep.rows-told,
+  LoadEnd.born-fits,
+  OwnedByLoad.{bears-goes, does-so},
+  SameViews.same-cache,
+  Views.not-a-value,
+  Words.{Counts, HandleRow, NodeRow, None, Option, Some, ap, arith, cases_eq, core_alone, counts_at, false, has_key, inl, inr, is_named_by, is_pinning, key_in},
+  Words.{live, moved, nat_tests, one, option_map, owner_value, refl, refs_at, ℕ, [], ◌++◌, ◌+◌, ◌∙◌, ◌∷◌, ◌≡◌, ◌≢◌, ◌≤◌},
+  WorkCounts.{work-moved, work-push, work-told},
+}
 use Rattle.pagable_tables.specs.{CascadeInvariant.is_worker, Nodes.most_worker_handles_at}
-use Rattle.pagable_tables.proofs.{SameViews.same-cache, Words.{◌++◌, ◌+◌, ◌∙◌, ◌∷◌, ◌≡◌, ◌≢◌}}
 use Rattle.std.specs.Option.{option_map_or}
 
 pub returns-clause-does : Rattle.pagable_tables.proofs.create.insert_node.Goals.returns-clause-does
@@ -25,7 +30,7 @@ returns-clause-does c =
     let rows = c.in-Ok.ensures.rows ∙ ap (λ l. l ++ x ∷ []) (c.hand_over_all.ensures.rows
     ∙ ap (λ l. moved (is_named_by l) (owner_value n) (live t.handles.places.items)) c.deref.ensures.value) in
     let given = moved (is_named_by rs) (owner_value n) (live t.handles.places.items) in
-    let works = λ (o : Option NodeRow). option_map_or (λ (r : NodeRow). r.at_work) o 0 in
+    let works = λ (o : Option NodeRow). option_map_or (λ (r : NodeRow). r.worker_bound) o 0 in
     let before = work-moved t.nodes (is_named_by rs) (owner_value n) (live t.handles.places.items) refl w.steady.worked in
     let none : most_worker_handles_at t.nodes n ≡ 0 = grind (arith, nat_tests, free) in
     let worker : most_worker_handles_at c.put.new.self n ≡ one (is_worker me) = grind (arith, nat_tests, ap works c.put.ensures.here, c.is_worker.ensures) in
@@ -35,7 +40,7 @@ returns-clause-does c =
     let unvalued = not-a-value (core_alone u) me c.requires.holder in
     let fits = born-fits (core_alone u) me rs w.core.handles.ordered c.requires.fit unvalued at (counts_at c.put.new.self) (refs_at t.nodes)
     (refs_at c.put.new.self) t.top x _ w.steady.fits refl
-    refl (elim c.requires.bare [ inl none ↦ inl none | inr so ↦ inr so.1 ]) (omega arith) free here others (ap refers c.put.ensures.here)
+    refl (elim c.requires.keyed [ inl none ↦ inl none | inr so ↦ inr so.1 ]) (omega arith) free here others (ap refers c.put.ensures.here)
     (λ q ne. ap refers (c.put.ensures.others q ne)) in
     does-so (λ storage. grind (arith, nat_tests, same-cache))
     (record {
@@ -45,4 +50,4 @@ returns-clause-does c =
       worked = work-told c.put.new.self (given ++ x ∷ []) (live c.push.new.handles.places.items) rows worked;
     })
     (bears-goes me c.args.node_type c.args.key rs c.args.mode _ w.core c.requires.holder c.requires.fit c.requires.ready.node_left
-    (elim c.requires.bare [ inl none ↦ λ is. ap (λ k. has_key (key_in k)) none | inr so ↦ λ is. absurd (let a = so.0 in cc) ])) refl refl refl
+    (elim c.requires.keyed [ inl none ↦ λ is. ap (λ k. has_key (key_in k)) none | inr so ↦ λ is. absurd (let a = so.0 in cc) ])) refl refl refl

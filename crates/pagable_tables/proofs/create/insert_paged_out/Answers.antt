@@ -5,14 +5,14 @@ pub insert_node-requires-clause-fit : goal.insert_node-requires-clause-fit
 insert_node-requires-clause-fit c = none-named _ c.args.me _ c.new.ensures.items
 
 pub returns : goal.returns
-returns c = does-then c.make_ready_to_learn.ensures.does c.insert_node.ensures.does
+returns c = does-then c.make_room_for_node.ensures.does c.insert_node.ensures.does
     (λ storage room born. away-born c.args.me c.args.node_type c.args.key c.get.result _ c.insert_node.result room
-    c.in_ok-make_ready_to_learn.ensures.ready.node_left c.get.ensures.value (omega arith) c.new.ensures.items born)
+    c.in_ok-make_room_for_node.ensures.ready.node_left c.get.ensures.value (omega arith) c.new.ensures.items born)
 
-pub returns-in_err-make_ready_to_learn : goal.returns-in_err-make_ready_to_learn
-returns-in_err-make_ready_to_learn c = rw (failed c.from_residual.result c.from_residual.ensures.1) (let ready = c.make_ready_to_learn.ensures.does in
+pub returns-in_err-make_room_for_node : goal.returns-in_err-make_room_for_node
+returns-in_err-make_room_for_node c = rw (failed c.from_residual.result c.from_residual.ensures.1) (let ready = c.make_room_for_node.ensures.does in
     record {
-      does = λ storage. record { made = tt; refused = weaker (c.in_err-make_ready_to_learn.ensures.refused storage) };
+      does = λ storage. record { made = tt; refused = weaker (c.in_err-make_room_for_node.ensures.refused storage) };
       whole = ready.whole;
       later = ready.later;
     })

@@ -1,5 +1,9 @@
-use Rattle.pagable_tables.proofs.{OwnedByLoad.{does-as, nothing-does}, RowCounts.found-among, SameViews.{failed, owner-same, still}}
-use Rattle.pagable_tables.proofs.Words.{arith, is_pinned, nat_tests, rules, true, ◌≡◌}
+use Rattle.pagable_tables.proofs.{
+  OwnedByLoad.{does-as, nothing-does},
+  RowCounts.found-among,
+  SameViews.{failed, owner-same, still},
+  Words.{arith, is_pinned, nat_tests, rules, true, ◌≡◌},
+}
 use Rattle.pagable_tables.proofs.create.into_pagable.Goals as goal
 
 pub returns-in_err-at : goal.returns-in_err-at

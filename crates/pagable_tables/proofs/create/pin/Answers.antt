@@ -1,7 +1,8 @@
-use Rattle.pagable_tables.proofs.OwnedByLoad.{does-as, nothing-does}
-use Rattle.pagable_tables.proofs.Words.{HandleRow, Owns, ap, arith, core_of, false, if_there, inl, inr, is_handle_here, is_here, is_loose, nat_tests}
-use Rattle.pagable_tables.proofs.Words.{pin_fault}
-use Rattle.pagable_tables.proofs.{SameViews.{failed, handle-first, owner-same, spent-late, still}, Words.{rules, spent, true, ◌∙◌, ◌≡◌}}
+use Rattle.pagable_tables.proofs.{
+  OwnedByLoad.{does-as, nothing-does},
+  SameViews.{failed, handle-first, owner-same, spent-late, still},
+  Words.{HandleRow, Owns, ap, arith, core_of, false, if_there, inl, inr, is_handle_here, is_here, is_loose, nat_tests, pin_fault, rules, spent, true, ◌∙◌, ◌≡◌},
+}
 use Rattle.pagable_tables.proofs.create.pin.Goals as goal
 
 pub returns-in_err-at : goal.returns-in_err-at
@@ -15,7 +16,7 @@ returns-in_err-at c = rw (failed c.from_residual.result c.from_residual.ensures.
 pub returns : goal.returns
 returns c =
     let row = c.in_ok-at.at.row in
-    does-as c.in_ok-pin_here.ensures.does
+    does-as c.in_ok-pin_in_memory.ensures.does
     (λ storage m.
     let w = core_of c.args.t.now storage in
     let here : is_here w row.node.0 ≡ true = search rules in
@@ -26,10 +27,10 @@ returns c =
     } in
     record { pins = (row, owns, (here, m.pinned.0, rw c.in_ok-at.ensures.number at m.pinned.1)); refused = tt })
 
-pub returns-in_err-pin_here : goal.returns-in_err-pin_here
-returns-in_err-pin_here c =
+pub returns-in_err-pin_in_memory : goal.returns-in_err-pin_in_memory
+returns-in_err-pin_in_memory c =
     let row = c.in_ok-at.at.row in
-    rw (failed c.from_residual-in_err-pin_here.result c.from_residual-in_err-pin_here.ensures.1) (does-as c.in_err-pin_here.ensures.does
+    rw (failed c.from_residual-in_err-pin_in_memory.result c.from_residual-in_err-pin_in_memory.ensures.1) (does-as c.in_err-pin_in_memory.ensures.does
     (λ storage m.
     let w = core_of c.args.t.now storage in
     let here : is_here w row.node.0 ≡ true = search rules in

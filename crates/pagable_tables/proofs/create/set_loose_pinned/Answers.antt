@@ -1,6 +1,11 @@
-use Rattle.pagable_tables.proofs.{CascadeStep.{set_loose_pinned-fits, turned}, HandleTable.{at-place, changed-known}, OwnedByLoad.does-so, Views.{moded, settled}}
-use Rattle.pagable_tables.proofs.Words.{Counts, Mode, Some, ap, arith, cases_eq, counts_at}
-use Rattle.pagable_tables.proofs.{SameViews.alike, Words.{nat_tests, not, one, refl, sym, ◌+◌, ◌∙◌, ◌≡◌}}
+use Rattle.pagable_tables.proofs.{
+  CascadeStep.{set_loose_pinned-fits, turned},
+  HandleTable.{at-place, changed-known},
+  OwnedByLoad.does-so,
+  SameViews.alike,
+  Views.{moded, settled},
+  Words.{Counts, Mode, Some, ap, arith, cases_eq, counts_at, nat_tests, not, one, refl, sym, ◌+◌, ◌∙◌, ◌≡◌},
+}
 use Rattle.pagable_tables.specs.CascadeInvariant.{is_work}
 
 pub returns-clause-does : Rattle.pagable_tables.proofs.create.set_loose_pinned.Goals.returns-clause-does
@@ -11,16 +16,18 @@ returns-clause-does c =
     let w = c.requires.whole in
     let is : counts_at t.nodes x.node.0 ≡ Some y = sym c.counts_of.ensures ∙ c.unwrap-counts.ensures in
     let e = c.set_counts.ensures in
-    let here = e.here ∙ ap (λ (k : Counts). Some (record k { holds = y.holds })) (c.counts_more-pinned.ensures
+    let here = e.here ∙ ap (λ (k : Counts). Some (record k { holds = y.holds })) (c.counts_with_handle-pinned.ensures
     ∙ ap (λ p. record y { pins = y.pins + one (not p); holds = y.holds + 1 }) c.pins.ensures) in
     does-so
-    (λ storage. alike _ _ (c.set.ensures.becomes.rows ∙ changed-known t.handles.places.items c.args.at.place x w.steady.sound.ordered c.requires.place turned)
+    (λ storage. alike _ _
+    (c.replace_row.ensures.becomes.rows ∙ changed-known t.handles.places.items c.args.at.place x w.steady.sound.ordered c.requires.place turned)
     (λ q. grind (arith, nat_tests, cases_eq q x.node.0, is, here, e.others q)) refl (record { handles = omega arith; entries = omega arith }) refl)
     (record {
-      sound = c.set.ensures.becomes.sound;
-      next = c.set.ensures.becomes.next (t.last_handle + 1) w.steady.next;
-      fits = set_loose_pinned-fits _ _ _ _ _ _ _ x y w.steady.fits is c.set.ensures.sums here e.others e.refs;
-      worked = λ n. let sum = c.set.ensures.sums (λ h. one (is_work n h)) in let a = w.steady.worked n in let b = e.work n in grind (arith, nat_tests);
+      sound = c.replace_row.ensures.becomes.sound;
+      next = c.replace_row.ensures.becomes.next (t.last_handle + 1) w.steady.next;
+      fits = set_loose_pinned-fits _ _ _ _ _ _ _ x y w.steady.fits is c.replace_row.ensures.sums here e.others e.refs;
+      worked = λ n. let sum = c.replace_row.ensures.sums (λ h. one (is_work n h)) in let a = w.steady.worked n in let b = e.worker_bound n in
+          grind (arith, nat_tests);
     })
     (λ pins.
     let found = (at-place t.handles.places.items c.args.at.place x w.steady.sound.ordered c.requires.place).2 in

@@ -1,5 +1,8 @@
-use Rattle.pagable_tables.proofs.Words.{◌<◌, arith, sym, ap, ◌∙◌, ◌≡◌, filter, length, subst, rules, filter_from_retain, All-filter, AllPairs-filter, live, is_live_place, IsBefore, IsNext, Place}
-use Rattle.pagable_tables.proofs.{HandleTable.{length-live-filter, live-filter}, Words.AllPairs}
+use Rattle.pagable_tables.proofs.{
+  HandleTable.{length-live-filter, live-filter},
+  Words.{All-filter, AllPairs, AllPairs-filter, IsBefore, IsNext, Place, ap, arith, filter, filter_from_retain, is_live_place, length, live, rules, subst, sym},
+  Words.{◌<◌, ◌∙◌, ◌≡◌},
+}
 
 pub returns-clause-becomes : Rattle.pagable_tables.proofs.handle_table.compact.Goals.returns-clause-becomes
 returns-clause-becomes c =

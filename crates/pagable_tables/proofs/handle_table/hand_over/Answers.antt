@@ -1,17 +1,22 @@
-use Rattle.pagable_tables.proofs.{CascadeStep.owned-by, HandleTable.{changed-known, only-row}, OwnedByLoad.moved-stands, RowCounts.at-most-sum}
-use Rattle.pagable_tables.proofs.Words.{arith, is_handle, is_valued, nat_tests, one, only_handle, ◌&&◌}
+use Rattle.pagable_tables.proofs.{
+  CascadeStep.owned-by,
+  HandleTable.{changed-known, only-row},
+  OwnedByLoad.moved-stands,
+  RowCounts.at-most-sum,
+  Words.{arith, is_handle, is_value_owner, nat_tests, one, only_handle, ◌&&◌},
+}
 use Rattle.pagable_tables.proofs.handle_table.hand_over.Goals as goal
 
 pub returns-clause-becomes : goal.returns-clause-becomes
 returns-clause-becomes c = rw (← changed-known c.args.handles.now.places.items c.args.at.place c.args.at.row c.requires.sound.ordered c.requires.place
-    (owned-by c.args.owner)) c.set.ensures.becomes
+    (owned-by c.args.owner)) c.replace_row.ensures.becomes
 
-pub returns-clause-stands : goal.returns-clause-stands
-returns-clause-stands c t plain owner work w =
+pub returns-clause-keeps_sound : goal.returns-clause-keeps_sound
+returns-clause-keeps_sound c t plain owner work w =
     let x = c.args.at.row in
     let ss = c.args.handles.now.places.items in
-    let valued = only-row (λ h. one (is_handle x.number.0 h && is_valued h.owner)) ss c.args.at.place x c.requires.sound.ordered c.requires.place
+    let valued = only-row (λ h. one (is_handle x.number.0 h && is_value_owner h.owner)) ss c.args.at.place x c.requires.sound.ordered c.requires.place
     (λ h. grind (arith, nat_tests)) in
-    moved-stands (record t { handles = c.args.handles.now }) c.set.new.handles (only_handle x.number) c.args.owner w owner
-    (λ y among is. let less = at-most-sum (λ h. one (is_handle x.number.0 h && is_valued h.owner)) _ y among in grind (arith, nat_tests)) work
+    moved-stands (record t { handles = c.args.handles.now }) c.replace_row.new.handles (only_handle x.number) c.args.owner w owner
+    (λ y among is. let less = at-most-sum (λ h. one (is_handle x.number.0 h && is_value_owner h.owner)) _ y among in grind (arith, nat_tests)) work
     (returns-clause-becomes c)

@@ -1,4 +1,4 @@
-use Rattle.pagable_tables.proofs.Words.{◌≡◌, ◌≤◌, length, live, take}
+use Rattle.pagable_tables.proofs.Words.{length, live, take, ◌≡◌, ◌≤◌}
 use Rattle.pagable_tables.proofs.handle_table.remove_dead_rows.Given as goal
 
 abbrev pub invariant-loop-end : goal.invariant-loop-end

@@ -1,8 +1,8 @@
-use Rattle.pagable_tables.proofs.{SameViews.fitting, Words.{arith, first_key, key_in, nat_tests, core_alone, ◌≡◌}}
+use Rattle.pagable_tables.proofs.{SameViews.fitting, Words.{arith, core_alone, first_key, key_in, nat_tests, ◌≡◌}}
 
-pub learn_new-requires-clause-fit : Rattle.pagable_tables.proofs.load.adopt.Goals.learn_new-requires-clause-fit
-learn_new-requires-clause-fit c = fitting (core_alone c.args.t.now) c.requires.asked.0 c.args.load c.args.kind c.args.key c.requires.asked.1
+pub insert_and_prune_cache-requires-clause-fit : Rattle.pagable_tables.proofs.load.adopt.Goals.insert_and_prune_cache-requires-clause-fit
+insert_and_prune_cache-requires-clause-fit c = fitting (core_alone c.args.t.now) c.requires.asked.0 c.args.load c.args.kind c.args.key c.requires.asked.1
     c.args.references.items c.requires.asked.2
 
 pub returns : Rattle.pagable_tables.proofs.load.adopt.Goals.returns
-returns c = let is : key_in c.if-is_pinned.own_key ≡ first_key c.args.kind.0 c.args.key = grind (arith, nat_tests) in rw is at c.learn_new.ensures
+returns c = let is : key_in c.if-is_pinned.own_key ≡ first_key c.args.kind.0 c.args.key = grind (arith, nat_tests) in rw is at c.insert_and_prune_cache.ensures

@@ -1,12 +1,13 @@
-use Rattle.pagable_tables.proofs.{CallsKeepWhole.begin-whole, OwnedByLoad.{closed-still, does-by, later-less, later-opened, nothing-does, still-reaches}}
-use Rattle.pagable_tables.proofs.Views.{newer-alike, newer-handle, newer-then, roomy-whole}
-use Rattle.pagable_tables.proofs.Views.{settles}
-use Rattle.pagable_tables.proofs.Words.{Alike, BeginCall, Core, Err, Error, HandleNumber, HandleRow, Mode, None, OptionalDataKey, Owner, Owns, Some, ap}
-use Rattle.pagable_tables.proofs.Words.{arith, core_of, false}
-use Rattle.pagable_tables.proofs.Words.{find_row, greatest, if_there, inl, inr, is_here, is_loose, is_owner, load_at, nat_tests, of_cell, core_alone, refl, rules, sym, true, type_at, with_handle}
-use Rattle.pagable_tables.proofs.{SameViews.{failed, handle-first, owner-same, same-cache, still}, Words.{with_load, ◌+◌, ◌<◌, ◌∙◌, ◌≡◌}}
-use Rattle.pagable_pager_spec.specs.LoadCalls.{begin_fault}
-use Rattle.pagable_pager_spec.specs.World.{key_at}
+use Rattle.pagable_pager_spec.specs.{LoadCalls.begin_fault, World.key_at}
+use Rattle.pagable_tables.proofs.{
+  CallsKeepWhole.begin-whole,
+  OwnedByLoad.{closed-still, does-by, later-less, later-opened, nothing-does, still-reaches},
+  SameViews.{failed, handle-first, owner-same, same-cache, still},
+  Views.{newer-alike, newer-handle, newer-then, roomy-whole, settles},
+  Words.{Alike, BeginCall, Core, Err, Error, HandleNumber, HandleRow, Mode, None, OptionalDataKey, Owner, Owns, Some, ap, arith, core_alone, core_of, false},
+  Words.{find_row, greatest, if_there, inl, inr, is_here, is_loose, is_owner, load_at, nat_tests, of_cell, refl, rules, sym, true, type_at, with_handle},
+  Words.{with_load, ◌+◌, ◌<◌, ◌∙◌, ◌≡◌},
+}
 use Rattle.pagable_tables.proofs.load.load_begin.Goals as goal
 
 pub returns-in_err-at : goal.returns-in_err-at
@@ -32,13 +33,13 @@ unbegun {w} me h row found own loose here loads handles stays =
       refused = record { why = inr (refl, before, ap (if_there (λ (r : HandleRow). is_here w r.node.0) false) found ∙ here); stays = stays };
     }
 
-pub returns-in_err-open : goal.returns-in_err-open
-returns-in_err-open c = rw (failed c.from_residual-in_err-open.result c.from_residual-in_err-open.ensures.1) (does-by
+pub returns-in_err-add_row : goal.returns-in_err-add_row
+returns-in_err-add_row c = rw (failed c.from_residual-in_err-add_row.result c.from_residual-in_err-add_row.ensures.1) (does-by
     (λ storage. unbegun c.args.me c.args.handle c.in_ok-at.at.row c.in_ok-at.ensures.found c.in_ok-at.ensures.owner (search rules) (search rules) (omega arith)
     (omega arith)
-    (grind (arith, nat_tests, same-cache, c.in_err-open.ensures.err)))
+    (grind (arith, nat_tests, same-cache, c.in_err-add_row.ensures.err)))
     c.requires.whole.steady (λ begins. settles (roomy-whole c.requires.whole.core) begins.refused.stays)
-    (λ begins later. later-less later (newer-alike begins.refused.stays) refl (λ l load is. sym (c.in_err-open.ensures.err l) ∙ is) (still-reaches refl)))
+    (λ begins later. later-less later (newer-alike begins.refused.stays) refl (λ l load is. sym (c.in_err-add_row.ensures.err l) ∙ is) (still-reaches refl)))
 
 pub returns-in-Err : goal.returns-in-Err
 returns-in-Err c =
@@ -47,13 +48,13 @@ returns-in-Err c =
     let memory : c.in-Err.e ≡ Error.OutOfMemory = (let why = (c.in-Err.ensures.made (core_alone t)).refused.why in grind (arith, nat_tests, left)) in
     rw memory (does-by
     (λ storage.
-    let a = (c.in-Err.ensures.made (core_of (record t { ref_counts = c.add.new.t; loads = c.close.new.rows }) storage)).refused.stays in
+    let a = (c.in-Err.ensures.made (core_of (record t { ref_counts = c.add_handle.new.t; loads = c.remove_row.new.rows }) storage)).refused.stays in
     unbegun c.args.me c.args.handle c.in_ok-at.at.row c.in_ok-at.ensures.found c.in_ok-at.ensures.owner (search rules) (search rules) (omega arith) left
-    (grind (arith, nat_tests, c.requires.whole.core.loads.numbered, c.in_ok-open.ensures.others, c.close.ensures.gone, c.close.ensures.others)))
-    c.add.ensures.steady (λ begins. settles (roomy-whole c.requires.whole.core) begins.refused.stays)
+    (grind (arith, nat_tests, c.requires.whole.core.loads.numbered, c.in_ok-add_row.ensures.others, c.remove_row.ensures.gone, c.remove_row.ensures.others)))
+    c.add_handle.ensures.steady (λ begins. settles (roomy-whole c.requires.whole.core) begins.refused.stays)
     (λ begins later. later-less later (newer-alike begins.refused.stays) refl
-    (closed-still (load_at t.loads) (load_at c.close.new.rows) (t.last_load + 1) c.close.ensures.gone
-    (λ q other. c.close.ensures.others q other ∙ c.in_ok-open.ensures.others q other)) (still-reaches refl)))
+    (closed-still (load_at t.loads) (load_at c.remove_row.new.rows) (t.last_load + 1) c.remove_row.ensures.gone
+    (λ q other. c.remove_row.ensures.others q other ∙ c.in_ok-add_row.ensures.others q other)) (still-reaches refl)))
 
 pub returns : goal.returns
 returns c =
@@ -63,7 +64,7 @@ returns c =
     does-by
     (λ storage.
     let w = core_of t storage in
-    let w' = core_of (record t { ref_counts = c.add.new.t; loads = c.open.new.rows; last_load = l }) storage in
+    let w' = core_of (record t { ref_counts = c.add_handle.new.t; loads = c.add_row.new.rows; last_load = l }) storage in
     let own : Owns w c.args.me c.args.handle is_loose row = record {
       live = c.in_ok-at.ensures.found;
       own = owner-same c.args.me row.owner c.in_ok-at.ensures.owner;
@@ -74,7 +75,8 @@ returns c =
     let typed : type_at w row.node.0 ≡ Some c.unwrap.result.node_type = grind (arith, nat_tests) in
     let a = (c.in_default.ensures.made w').made.1 in
     let opened : Alike (with_load (with_handle w row.node Mode.LooseUnpinned (Owner.Load (record { 0 = l }))) c.unwrap-key.result
-    (of_cell row.node c.unwrap.result.node_type row.number) c.args.me) w' = grind (arith, nat_tests, c.in_ok-open.ensures.here, c.in_ok-open.ensures.others) in
+    (of_cell row.node c.unwrap.result.node_type row.number) c.args.me) w' =
+    grind (arith, nat_tests, c.in_ok-add_row.ensures.here, c.in_ok-add_row.ensures.others) in
     record {
       begins = (
         row,
@@ -89,8 +91,8 @@ returns c =
       );
       refused = tt;
     })
-    c.add.ensures.steady (begin-whole c.args.me c.args.handle c.requires.whole.core c.requires.owner)
+    c.add_handle.ensures.steady (begin-whole c.args.me c.args.handle c.requires.whole.core c.requires.owner)
     (λ begins later. let n = newer-then (newer-handle (core_alone t) begins.begins.0.node Mode.LooseUnpinned (Owner.Load (record { 0 = l })))
     (newer-alike begins.begins.2.4.2) in
     later-opened c.requires.whole.core later n l _ (grind (arith, nat_tests))
-    c.in_ok-open.ensures.here refl c.in_ok-open.ensures.others refl refl)
+    c.in_ok-add_row.ensures.here refl c.in_ok-add_row.ensures.others refl refl)

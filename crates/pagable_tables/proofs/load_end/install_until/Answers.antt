@@ -1,17 +1,19 @@
-use Rattle.pagable_tables.specs.Core.{no_blobs_of}
-use Rattle.pagable_tables.specs.Core.{no_blobs}
-use Rattle.pagable_tables.proofs.{CallsKeepWhole.{installs-goes, may-hold}, CascadeStep.{fits-same, pins-le-held, rows-told, some-held, turned}}
-use Rattle.pagable_tables.proofs.LoadEnd.{ended, has-come, joined-fits, pins-here}
-use Rattle.pagable_tables.proofs.{LoadEnd.ready-owner, OwnedByLoad.{closed-still, later-less, lazily-by, not-named, still-reaches}}
-use Rattle.pagable_tables.proofs.{Views.{none-named, not-a-value}, Words.{ArcRef, Bool}}
-use Rattle.pagable_tables.proofs.Words.{Core, Error, Falls, FallsAnyhow, HandleRow, RefCounts, IsFalling, List, LoadNumber, Mode, None, Owner, Result, Tables, [], and-true, ap, arith, cases_Bool}
-use Rattle.pagable_tables.proofs.Words.{cell_in, changed, core_of, counts_at, false, has_value, inl, inr, is_handle, is_here, is_named_by, is_owned_in, is_pin, live, load_at, load_in, moved}
-use Rattle.pagable_tables.proofs.Words.{nat_tests, not, one, option_map, owner_value, owns, owns_nothing, core_alone, references_fault, refl, refs_at, row_of, subst, sum_by, sym, true, with_pin}
-use Rattle.pagable_tables.proofs.{SameViews.named-none, Words.{without_load, ℕ, ◌&&◌, ◌++◌, ◌+◌, ◌<◌, ◌∙◌, ◌∷◌, ◌≡◌, ◌⊎◌}}
-use Rattle.pagable_tables.specs.Nodes.{coming}
+use Rattle.pagable_tables.proofs.{
+  CallsKeepWhole.{installs-goes, may-hold},
+  CascadeStep.{fits-same, pins-le-held, rows-told, some-held, turned},
+  LoadEnd.{ended, has-come, joined-fits, pins-here, ready-owner},
+  OwnedByLoad.{closed-still, later-less, lazily-by, not-named, still-reaches},
+  SameViews.named-none,
+  Views.{none-named, not-a-value},
+  Words.{ArcRef, Bool, Cell, Core, Counts, Error, Falls, FallsAnyhow, HandleRow, IsSoundInCascade, List, LoadNumber, Mode, None, Option, OptionalDataKey},
+  Words.{Owner, RefCounts, Result, Right, Some, Tables, and-true, ap, arith, cases_Bool, cell_in, changed, core_alone, core_of, counts_at, falls_in, false},
+  Words.{has_key, has_value, if_there, inl, inr, is_handle, is_here, is_in_memory, is_named_by, is_owned_in, is_pin, key_in, live, load_at, load_in, moved},
+  Words.{named, nat_lt, nat_tests, not, one, option_map, owner_value, owns, owns_nothing, pins_in, references_fault, refl, refs_at, row_of, subst, sum_by, sym},
+  Words.{true, with_pin, without_load, ℕ, [], ◌&&◌, ◌++◌, ◌+◌, ◌<◌, ◌∙◌, ◌∷◌, ◌≡◌, ◌⊎◌},
+  WorkCounts.{work-more, work-moved, work-told},
+}
+use Rattle.pagable_tables.specs.{Core.{no_blobs, no_blobs_of}, Nodes.coming}
 use Rattle.std.proofs.lemmas.{Bool.{not-false, not-true}, List.map-id}
-use Rattle.pagable_tables.proofs.Words.{Cell, Counts, Option, OptionalDataKey, Right, Some, falls_in, has_key, if_there, is_in_memory, key_in, named, nat_lt, pins_in}
-use Rattle.pagable_tables.proofs.WorkCounts.{work-more, work-moved, work-told}
 use Rattle.pagable_tables.proofs.load_end.install_until.Goals as goal
 
 -- the load gives up what it owns, and what comes doesn't fall
@@ -40,8 +42,8 @@ bare-away o [] pinned right still same away = refl
 bare-away None (r ∷ rs) pinned right still same away = right
 bare-away (Some c) (r ∷ rs) pinned right still same away = absurd (grind (arith, nat_tests, stored-key))
 
-pub pin_here-requires : goal.pin_here-requires
-pin_here-requires g c =
+pub pin_in_memory-requires : goal.pin_in_memory-requires
+pin_in_memory-requires g c =
     let r = c.requires.ready no_blobs in
     let holder = may-hold (core_alone c.args.t.now) c.args.me (ready-owner c.args.t.now c.args.me c.args.load c.args.node_type c.args.references.items
     c.args.ending c.requires.whole r) in
@@ -58,9 +60,9 @@ unreachable-requires g c =
       (c.in_default.ensures.does.does no_blobs).refused.why,
     )
 
-pub join-requires-clause-live : goal.join-requires-clause-live
-join-requires-clause-live g c =
-    let t1 = c.pin_here.new.t in
+pub set_references_if-requires-clause-live : goal.set_references_if-requires-clause-live
+set_references_if-requires-clause-live g c =
+    let t1 = c.pin_in_memory.new.t in
     let n = c.args.ending.row.node.0 in
     let d = c.in-Ok.ensures.does.whole.steady.fits.holding n in
     let p = pins-here c.args.t.now t1 no_blobs c.args.ending.row c.args.me (c.in-Ok.ensures.does.does no_blobs).pinned.1 in
@@ -70,7 +72,7 @@ join-requires-clause-live g c =
 pub release_owned-requires-clause-steady : goal.release_owned-requires-clause-steady
 release_owned-requires-clause-steady g c =
     let t = c.args.t.now in
-    let t1 = c.pin_here.new.t in
+    let t1 = c.pin_in_memory.new.t in
     let me = c.args.me in
     let l = c.args.load in
     let row = c.args.ending.row in
@@ -79,13 +81,13 @@ release_owned-requires-clause-steady g c =
     let p = core_alone t in
     let was = c.requires.whole in
     let whole = c.in-Ok.ensures.does.whole in
-    let j = c.join.ensures in
-    let k = c.join.new.t in
+    let j = c.set_references_if.ensures in
+    let k = c.set_references_if.new.t in
     let r = c.requires.ready no_blobs in
     let a = (c.in-Ok.ensures.does.does no_blobs).pinned.1 in
     let x = row_of (t.ref_counts.last_handle + 1) row.node Mode.Pinned me in
-    elim (cases_Bool c.args.ending.is_away) [
-      | inr here ↦ subst (λ (h : RefCounts). IsFalling h [] owns_nothing) (sym (j.none here)) whole.steady
+    elim (cases_Bool c.args.ending.lacks_value) [
+      | inr here ↦ subst (λ (h : RefCounts). IsSoundInCascade h [] owns_nothing) (sym (j.none here)) whole.steady
       | inl comes ↦
           (let away : is_here p n ≡ false = not-true (is_here p n) (sym r.away ∙ comes) in
           let at : Option Counts = counts_at t.ref_counts.nodes n in
@@ -110,25 +112,26 @@ release_owned-requires-clause-steady g c =
             next = j.handles.next (k.last_handle + 1) (grind (arith, whole.steady.next, ap (λ (h : RefCounts). h.last_handle) j.same));
             fits = rows-told (counts_at k.nodes) (refs_at k.nodes) (moved (is_named_by rs) (owner_value n) before) (live k.handles.places.items) k.top rows
                 (grind (arith, told, ap (λ (h : RefCounts). h.top) j.same));
-            worked = work-told k.nodes (moved (is_named_by (coming c.args.ending.is_away rs)) (owner_value n) (live t1.ref_counts.handles.places.items))
+            worked = work-told k.nodes (moved (is_named_by (coming c.args.ending.lacks_value rs)) (owner_value n) (live t1.ref_counts.handles.places.items))
                 (live k.handles.places.items) j.handles.rows
-                (work-moved k.nodes (is_named_by (coming c.args.ending.is_away rs)) (owner_value n) (live t1.ref_counts.handles.places.items) refl
-                (work-more (live t1.ref_counts.handles.places.items) t1.ref_counts.nodes k.nodes (λ m. rw (j.work m) (omega arith)) whole.steady.worked));
+                (work-moved k.nodes (is_named_by (coming c.args.ending.lacks_value rs)) (owner_value n) (live t1.ref_counts.handles.places.items) refl
+                (work-more (live t1.ref_counts.handles.places.items) t1.ref_counts.nodes k.nodes (λ m. rw (j.worker_bound m) (omega arith))
+                whole.steady.worked));
           })
     ]
 
 pub returns-clause-does : goal.returns-clause-does
 returns-clause-does g c =
     let t = c.args.t.now in
-    let t1 = c.pin_here.new.t in
+    let t1 = c.pin_in_memory.new.t in
     let me = c.args.me in
     let l = c.args.load in
     let row = c.args.ending.row in
     let rs = c.args.references.items in
-    let b = c.args.ending.is_away in
+    let b = c.args.ending.lacks_value in
     let p = c.requires.ready no_blobs in
     let same = c.in-Ok.ensures.same in
-    let j = c.join.ensures in
+    let j = c.set_references_if.ensures in
     let good : references_fault (core_alone t) (Owner.Load l) [] (coming b rs) ≡ None = grind (arith, nat_tests, none-named) in
     let may = (c.requires.ready (no_blobs_of c.args.lists)).may in
     lazily-by
@@ -143,26 +146,27 @@ returns-clause-does g c =
       falls = falls-so b (core_of t storage) me l row rs c.release_owned.result _ r.away
           (ended t t1 storage c.args.lists c.requires.whole c.in-Ok.ensures.does.whole e row p.owned.live me
           (ready-owner t me l c.args.node_type rs c.args.ending c.requires.whole p) l (coming b rs)
-          good (c.in-Ok.ensures.does.does storage).pinned.1 same c.join.new.t j.handles.rows (ap (λ (h : RefCounts). h.list) j.same)
+          good (c.in-Ok.ensures.does.does storage).pinned.1 same c.set_references_if.new.t j.handles.rows (ap (λ (h : RefCounts). h.list) j.same)
           (ap (λ (h : RefCounts). h.last_handle) j.same)
-          j.handles.capacity (λ m. ap cell_in (j.counts m)) c.args.ending.load.since c.args.until c.release_owned.new.t (load_at c.close.new.rows)
+          j.handles.capacity (λ m. ap cell_in (j.counts m)) c.args.ending.load.since c.args.until c.release_owned.new.t (load_at c.remove_row.new.rows)
           c.release_owned.result (λ before v f few between. c.release_owned.ensures.falls before v
-          (record v { loads = λ m. option_map load_in (load_at c.close.new.rows m) }) (λ m. refl) f few
+          (record v { loads = λ m. option_map load_in (load_at c.remove_row.new.rows m) }) (λ m. refl) f few
           (λ q own. let b = between q own in let after = b.0 in ((omega arith, inl after), b.1)))
-          (λ q own. (c.requires.above q own, c.requires.up_to q own)) c.close.ensures.gone c.close.ensures.others);
+          (λ q own. (c.requires.above q own, c.requires.up_to q own)) c.remove_row.ensures.gone c.remove_row.ensures.others);
     })
     c.release_owned.ensures.steady
     (λ i. (installs-goes me l row.node row.number c.in-Ok.handle c.args.node_type rs c.requires.whole.core may i).whole)
     (λ i later. later-less later (installs-goes me l row.node row.number c.in-Ok.handle c.args.node_type rs c.requires.whole.core may i).newer
     (ap (λ (u : Tables). u.noted) same)
-    (λ m load is. closed-still (load_at t.loads) (load_at c.close.new.rows) l.0 c.close.ensures.gone
-    (λ q other. c.close.ensures.others q other ∙ ap (λ (u : Tables). load_at u.loads q) same) m load is) (still-reaches (ap (λ (u : Tables). u.workers) same)))
+    (λ m load is. closed-still (load_at t.loads) (load_at c.remove_row.new.rows) l.0 c.remove_row.ensures.gone
+    (λ q other. c.remove_row.ensures.others q other ∙ ap (λ (u : Tables). load_at u.loads q) same) m load is)
+    (still-reaches (ap (λ (u : Tables). u.workers) same)))
 
-pub returns-clause-sheds : goal.returns-clause-sheds
-returns-clause-sheds g c = record {
-  left = λ kept. c.release_owned.ensures.sheds.left (λ n falls. kept n
-      ∙ sym (ap has_value (c.join.ensures.counts n)
-      ∙ has-come c.args.t.now c.pin_here.new.t (no_blobs_of c.args.lists) c.args.ending.row c.args.me
+pub returns-clause-drops : goal.returns-clause-drops
+returns-clause-drops g c = record {
+  left = λ kept. c.release_owned.ensures.drops.left (λ n falls. kept n
+      ∙ sym (ap has_value (c.set_references_if.ensures.counts n)
+      ∙ has-come c.args.t.now c.pin_in_memory.new.t (no_blobs_of c.args.lists) c.args.ending.row c.args.me
       (c.in-Ok.ensures.does.does (no_blobs_of c.args.lists)).pinned.1 c.requires.whole c.in-Ok.ensures.does.whole
       (c.requires.ready (no_blobs_of c.args.lists)).owned.live n));
 }

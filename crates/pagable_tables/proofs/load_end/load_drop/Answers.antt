@@ -1,6 +1,10 @@
-use Rattle.pagable_tables.proofs.{LastHandles.{above-noted, core-same, noted-release_at}, OwnedByLoad.nothing-release_at, SameViews.{failed, still}}
-use Rattle.pagable_tables.proofs.Words.{Core, inl, load_in, refl, subst, sym}
 use Rattle.pagable_pager_spec.specs.Refusals.{OwnsLoad}
+use Rattle.pagable_tables.proofs.{
+  LastHandles.{above-noted, core-same, noted-release_at},
+  OwnedByLoad.nothing-release_at,
+  SameViews.{failed, still},
+  Words.{Core, inl, load_in, refl, subst, sym},
+}
 
 pub returns-in_err-row : Rattle.pagable_tables.proofs.load_end.load_drop.Goals.returns-in_err-row
 returns-in_err-row g c = rw (failed c.from_residual.result c.from_residual.ensures.1)
@@ -11,14 +15,15 @@ returns-in_err-row g c = rw (failed c.from_residual.result c.from_residual.ensur
 
 pub drop_until-requires-clause-own : Rattle.pagable_tables.proofs.load_end.load_drop.Goals.drop_until-requires-clause-own
 drop_until-requires-clause-own g c storage =
-    let n = c.last_of-until.ensures.notes in
-    subst (λ (w : Core). OwnsLoad w c.args.me c.args.load (load_in c.in_ok-row.row)) (sym (core-same c.args.t.now c.last_of-until.new.t n.same n.rows storage))
+    let n = c.handle_bound_of-until.ensures.notes in
+    subst (λ (w : Core). OwnsLoad w c.args.me c.args.load (load_in c.in_ok-row.row))
+    (sym (core-same c.args.t.now c.handle_bound_of-until.new.t n.same n.rows storage))
     (c.in_ok-row.ensures.own storage)
 
 pub drop_until-requires-clause-above : Rattle.pagable_tables.proofs.load_end.load_drop.Goals.drop_until-requires-clause-above
 drop_until-requires-clause-above g c =
-    above-noted c.args.load c.in_ok-row.row.since c.last_of-until.ensures.notes
+    above-noted c.args.load c.in_ok-row.row.since c.handle_bound_of-until.ensures.notes
     (λ q own. c.requires.later.since c.args.load.0 c.in_ok-row.row q c.in_ok-row.ensures.row own)
 
 pub returns : Rattle.pagable_tables.proofs.load_end.load_drop.Goals.returns
-returns g c = noted-release_at c.last_of-until.ensures.notes c.drop_until.ensures
+returns g c = noted-release_at c.handle_bound_of-until.ensures.notes c.drop_until.ensures

@@ -1,7 +1,10 @@
-use Rattle.pagable_tables.specs.Core.{no_blobs}
-use Rattle.pagable_tables.proofs.{CallsKeepWhole.{MayHand, may-hand}, LastHandles.{core-same, noted-release_at}}
-use Rattle.pagable_tables.proofs.Words.{Core, ap, arith, nat_tests, core_alone, sym, ◌∙◌}
 use Rattle.pagable_pager_spec.specs.LoadCalls.{hand_over_fault}
+use Rattle.pagable_tables.proofs.{
+  CallsKeepWhole.{MayHand, may-hand},
+  LastHandles.{core-same, noted-release_at},
+  Words.{Core, ap, arith, core_alone, nat_tests, sym, ◌∙◌},
+}
+use Rattle.pagable_tables.specs.Core.{no_blobs}
 use Rattle.pagable_tables.proofs.load_end.load_take.Goals as goal
 
 pub unwrap-row-requires : goal.unwrap-row-requires
@@ -10,11 +13,11 @@ unwrap-row-requires g c =
     (sym (c.hand_over_fault.ensures no_blobs) ∙ c.in_default.is) in
     let own = can.own in grind (arith, nat_tests, c.load_of.ensures)
 
-pub take_until-requires-clause-free : goal.take_until-requires-clause-free
-take_until-requires-clause-free g c storage =
-    let n = c.last_of-until.ensures.notes in
-    ap (λ (w : Core). hand_over_fault w c.args.me c.args.load c.args.named.now) (core-same c.args.t.now c.last_of-until.new.t n.same n.rows storage)
+pub take_until-requires-clause-no_fault : goal.take_until-requires-clause-no_fault
+take_until-requires-clause-no_fault g c storage =
+    let n = c.handle_bound_of-until.ensures.notes in
+    ap (λ (w : Core). hand_over_fault w c.args.me c.args.load c.args.named.now) (core-same c.args.t.now c.handle_bound_of-until.new.t n.same n.rows storage)
     ∙ sym (c.hand_over_fault.ensures storage) ∙ c.in_default.is
 
 pub returns : goal.returns
-returns g c = noted-release_at c.last_of-until.ensures.notes c.take_until.ensures
+returns g c = noted-release_at c.handle_bound_of-until.ensures.notes c.take_until.ensures

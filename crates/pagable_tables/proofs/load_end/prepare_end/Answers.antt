@@ -1,10 +1,11 @@
-use Rattle.pagable_tables.specs.Core.{no_blobs}
-use Rattle.pagable_tables.specs.Core.{StorageView}
-use Rattle.pagable_tables.proofs.{LoadEnd.references-placed, OwnedByLoad.widens-does}
-use Rattle.pagable_tables.proofs.Words.{ArcRef, Core, Ending, HandleNumber, HandleRow, IsReady, List, LoadNumber, LoadRow, MayEnd}
-use Rattle.pagable_tables.proofs.Words.{NodeNumber, None, Owner, Places, Some, Tables, any_mode, ap, arith, core_of, end_fault, load_at, load_in, nat_tests, not, of_cell, option_map}
-use Rattle.pagable_tables.proofs.{SameViews.{alike, both-none, no-load-fault, owner-same}, Words.{refl, root_in, sym, ℕ, ◌∙◌, ◌≡◌}}
-use Rattle.pagable_tables.specs.declared.load_table.LoadRoot.{LoadRoot}
+use Rattle.pagable_tables.proofs.{
+  LoadEnd.references-placed,
+  OwnedByLoad.widens-does,
+  SameViews.{alike, both-none, no-load-fault, owner-same},
+  Words.{ArcRef, Core, Ending, HandleNumber, HandleRow, IsReady, List, LoadNumber, LoadRow, MayEnd, NodeNumber, None, Owner, Places, Some, Tables, any_mode},
+  Words.{ap, arith, core_of, end_fault, load_at, load_in, nat_tests, not, of_cell, option_map, refl, root_in, sym, ℕ, ◌∙◌, ◌≡◌},
+}
+use Rattle.pagable_tables.specs.{Core.{StorageView, no_blobs}, declared.load_table.LoadRoot.LoadRoot}
 use Rattle.pagable_tables.proofs.load_end.prepare_end.Goals as goal
 
 ready-placed : (w : Core) (places : Places) (rows : List HandleRow) (me : Owner) (l : LoadNumber) (node_type : ℕ) (refs : List ArcRef) (e : Ending) → rows
@@ -40,7 +41,7 @@ returns-in-Ok-reserve-clause-ready c storage =
     let begun = (c.requires.core.loads.roots l.0 load node c.in-Cell.field-1 h is cell).begun c.in-Ok.at.row c.in-Ok.ensures.found in
     let may = ends-at t storage me l c.args.node_type c.args.references.now c.unwrap-row.result node c.in-Cell.field-1 h
     (sym c.in_default.is ∙ c.end_fault.ensures storage) (sym c.unwrap-row.ensures ∙ c.load_of.ensures) c.in-Cell.is in
-    let e : Ending = record { load = c.unwrap-row.result; row = c.in-Ok.at.row; is_away = not c.is_here-is_away.result } in
+    let e : Ending = record { load = c.unwrap-row.result; row = c.in-Ok.at.row; lacks_value = not c.is_in_memory-lacks_value.result } in
     let ready : IsReady w me l c.args.node_type c.args.references.now e =
     grind (
       arith,
@@ -49,7 +50,7 @@ returns-in-Ok-reserve-clause-ready c storage =
       c.in-Ok.ensures.number,
       c.in-Ok.ensures.found,
       c.in-Ok.ensures.owner,
-      c.is_here-is_away.ensures,
+      c.is_in_memory-lacks_value.ensures,
       c.counts_of.ensures,
       c.requires.steady.fits.pinned,
     ) in

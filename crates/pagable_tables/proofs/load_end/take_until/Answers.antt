@@ -1,39 +1,44 @@
+use Rattle.pagable_tables.proofs.{
+  CallsKeepWhole.{MayHand, hand-over-whole, handed-mine, handed-own, handed-whole, may-hand, may-hold},
+  CascadeEnd.stays-first,
+  CascadeStep.{begun, fits-same, unmixed},
+  Counting.and-left,
+  OwnedByLoad.{closed-still, drops-with, later-handed, lazily-by, loads-anew, moved-stands, moved-times, no-load, updated-by},
+  Views.{newer-falls, not-a-value, owned-moved},
+  Words.{Core, Falls, IsSoundInCascade, None, Owner, Some, ap, arith, core_alone, core_of, counts_at, inl, is_in, is_owned_in, is_value_owner, length, live},
+  Words.{load_at, load_in, moved, nat_tests, not, numbers_of, option_map, owns_nothing, refl, refs_at, subst, sym, with_tables, without_load, ℕ, [], ◌&&◌, ◌∙◌},
+  Words.◌≡◌,
+  WorkCounts.work-more,
+}
 use Rattle.pagable_tables.specs.Core.{no_blobs}
-use Rattle.pagable_tables.proofs.CallsKeepWhole.{MayHand, hand-over-whole, handed-mine, handed-own, handed-whole, may-hand, may-hold}
-use Rattle.pagable_tables.proofs.{CascadeStep.{begun, unmixed}, Counting.and-left, OwnedByLoad.closed-still}
-use Rattle.pagable_tables.proofs.OwnedByLoad.{later-handed, lazily-by, loads-anew, moved-stands, moved-times, no-load, sheds-with, updated-by}
-use Rattle.pagable_tables.proofs.Views.{newer-falls, not-a-value, owned-moved}
-use Rattle.pagable_tables.proofs.Words.{Core, Falls, None, Owner, Some, [], ap, arith, core_of, inl, is_in, is_owned_in, is_valued, length, load_at, load_in, moved, nat_tests, not, numbers_of}
-use Rattle.pagable_tables.proofs.Words.{option_map, core_alone, refl, subst, sym, with_tables, without_load, ℕ, ◌&&◌, ◌∙◌, ◌≡◌}
-use Rattle.pagable_tables.proofs.{CascadeEnd.stays-first, CascadeStep.fits-same, Words.{IsFalling, counts_at, live, owns_nothing, refs_at}}
-use Rattle.pagable_tables.proofs.WorkCounts.{work-more}
 use Rattle.pagable_tables.proofs.load_end.take_until.Goals as goal
 
 pub unwrap-row-requires : goal.unwrap-row-requires
 unwrap-row-requires g c =
     let can : MayHand (core_alone c.args.t.now) c.args.me c.args.load c.args.named.now = may-hand c.requires.whole.core c.args.me c.args.load c.args.named.now
-    (c.requires.free no_blobs) in
+    (c.requires.no_fault no_blobs) in
     let own = can.own in grind (arith, nat_tests, c.load_of.ensures)
 
 pub release_owned-requires-clause-steady : goal.release_owned-requires-clause-steady
 release_owned-requires-clause-steady g c =
     let w = core_alone c.args.t.now in
     let hs = c.args.named.now in
-    let can : MayHand w c.args.me c.args.load hs = may-hand c.requires.whole.core c.args.me c.args.load hs (c.requires.free no_blobs) in
+    let can : MayHand w c.args.me c.args.load hs = may-hand c.requires.whole.core c.args.me c.args.load hs (c.requires.no_fault no_blobs) in
     let t = c.args.t.now.ref_counts in
     let rows = live t.handles.places.items in
     let s = c.requires.whole.steady in
-    let k = c.all_may_work.ensures in
-    let nodes = c.all_may_work.new.nodes in
-    let steady : IsFalling (record t { nodes = nodes }) [] owns_nothing = record {
+    let k = c.raise_worker_bounds.ensures in
+    let nodes = c.raise_worker_bounds.new.nodes in
+    let steady : IsSoundInCascade (record t { nodes = nodes }) [] owns_nothing = record {
       sound = s.sound;
       next = s.next;
       fits = fits-same (counts_at t.nodes) (counts_at nodes) (refs_at t.nodes) (refs_at nodes) rows t.top [] s.fits k.counts k.refs;
-      worked = work-more rows t.nodes nodes k.work s.worked;
+      worked = work-more rows t.nodes nodes k.worker_bound s.worked;
     } in
-    moved-stands (record t { nodes = nodes }) c.hand_each.new.handles (is_in (numbers_of hs)) c.args.me steady
+    moved-stands (record t { nodes = nodes }) c.hand_over_each.new.handles (is_in (numbers_of hs)) c.args.me steady
     (not-a-value w c.args.me (may-hold w c.args.me can.may))
-    (λ x among named. ap is_valued (handed-own w c.requires.whole.core.handles.ordered c.args.load hs can.named x among named)) k.worked c.hand_each.ensures
+    (λ x among named. ap is_value_owner (handed-own w c.requires.whole.core.handles.ordered c.args.load hs can.named x among named)) k.worked
+    c.hand_over_each.ensures
 
 pub returns : goal.returns
 returns g c =
@@ -43,31 +48,33 @@ returns g c =
     let hs = c.args.named.now in
     let s = is_in (numbers_of hs) in
     let p = core_alone t in
-    let can : MayHand p me l hs = may-hand c.requires.whole.core me l hs (c.requires.free no_blobs) in
+    let can : MayHand p me l hs = may-hand c.requires.whole.core me l hs (c.requires.no_fault no_blobs) in
     let row : load_at t.loads l.0 ≡ Some c.unwrap-row.result = sym c.load_of.ensures ∙ c.unwrap-row.ensures in
-    sheds-with (lazily-by
+    drops-with (lazily-by
     (λ storage e.
     let w = core_of t storage in
-    let w' = core_of (record t { ref_counts = c.release_owned.new.t; loads = c.close.new.rows }) storage in
+    let w' = core_of (record t { ref_counts = c.release_owned.new.t; loads = c.remove_row.new.rows }) storage in
     let u : Core = record (without_load w l) { rows = moved s me w.rows } in
     let left : (q : ℕ) → is_owned_in u (Owner.Load l) q ≡ (is_owned_in w (Owner.Load l) q && not (s q)) =
     λ q. owned-moved s me (Owner.Load l) q w.rows (no-load p me l can.may) in
-    let so-far = begun w u c.args.lists (record t.ref_counts { handles = c.hand_each.new.handles; nodes = c.all_may_work.new.nodes; listing_error = None }) e
+    let so-far = begun w u c.args.lists
+    (record t.ref_counts { handles = c.hand_over_each.new.handles; nodes = c.raise_worker_bounds.new.nodes; listing_error = None }) e
     (λ p own. moved-times p s me w.rows (λ x. own x me)) (unmixed t c.requires.whole)
-    (λ q. let a = (handed-whole c.requires.whole.core me l hs can).owners_there.listed q in omega arith) c.hand_each.ensures.rows refl refl
+    (λ q. let a = (handed-whole c.requires.whole.core me l hs can).owners_there.listed q in omega arith) c.hand_over_each.ensures.rows refl refl
     c.requires.whole.core.handles.within.0
-    (record { handles = let a = c.hand_each.ensures.capacity in omega arith; entries = omega arith }) (λ n. rw (c.all_may_work.ensures.counts n) refl) refl in
-    let falls = c.release_owned.ensures.falls w u (record u { loads = λ m. option_map load_in (load_at c.close.new.rows m) }) (λ m. refl) so-far
-    (let a = ap length c.hand_each.ensures.rows in omega arith)
+    (record { handles = let a = c.hand_over_each.ensures.capacity in omega arith; entries = omega arith })
+    (λ n. rw (c.raise_worker_bounds.ensures.counts n) refl) refl in
+    let falls = c.release_owned.ensures.falls w u (record u { loads = λ m. option_map load_in (load_at c.remove_row.new.rows m) }) (λ m. refl) so-far
+    (let a = ap length c.hand_over_each.ensures.rows in omega arith)
     (λ q own. let mine = and-left (is_owned_in w (Owner.Load l) q) (not (s q)) (sym (left q) ∙ own) in
     let after = c.requires.later.since l.0 c.unwrap-row.result q row mine in ((omega arith, inl after), c.requires.up_to q mine)) in
     record {
       hands = (
-        c.requires.free storage,
+        c.requires.no_fault storage,
         record {
           told = c.release_owned.result;
           falls = loads-anew w u (with_tables u c.release_owned.new.t) (λ q. is_owned_in w (Owner.Load l) q && not (s q)) c.release_owned.result w'.loads
-              (updated-by (option_map load_in) (load_at t.loads) (load_at c.close.new.rows) l.0 None c.close.ensures.gone c.close.ensures.others)
+              (updated-by (option_map load_in) (load_at t.loads) (load_at c.remove_row.new.rows) l.0 None c.remove_row.ensures.gone c.remove_row.ensures.others)
               (subst (λ given. Falls w u given c.release_owned.result (with_tables u c.release_owned.new.t)) (λ i q. left q i) falls);
         },
       );
@@ -77,5 +84,5 @@ returns g c =
     (λ hands later. later-handed t later s me (λ m. no-load p me m can.may) _ refl l c.unwrap-row.result row
     (let own = can.own in grind (arith, nat_tests, row))
     (handed-mine p (Owner.Load l) [] hs can.named) (newer-falls hands.hands.1.falls)
-    (closed-still (load_at t.loads) (load_at c.close.new.rows) l.0 c.close.ensures.gone c.close.ensures.others) refl refl))
-    (stays-first (λ m. rw (c.all_may_work.ensures.counts m) (λ falls. (falls, refl))) c.release_owned.ensures.sheds)
+    (closed-still (load_at t.loads) (load_at c.remove_row.new.rows) l.0 c.remove_row.ensures.gone c.remove_row.ensures.others) refl refl))
+    (stays-first (λ m. rw (c.raise_worker_bounds.ensures.counts m) (λ falls. (falls, refl))) c.release_owned.ensures.drops)

@@ -4,7 +4,7 @@ use Rattle.pagable_tables.proofs.load_handles.note_above.Goals as goal
 pub loop-place-init : goal.loop-place-init
 loop-place-init c = record {
   rows = λ l. raised-same _;
-  told = λ l row k d at within above own. absurd (let low = c.place_above-start.ensures k d within in
+  noted = λ l row k d at within above own. absurd (let low = c.place_above-start.ensures k d within in
       omega arith);
 }
 
@@ -16,7 +16,7 @@ loop-place-preserved c =
     let p = c.index-found.result.now in
     record {
       rows = λ l. raised-then _ _ _ (i.rows l) (c.note.ensures.rows l);
-      told = told-on c.loop-place.loads c.note.new.loads places c.args.number c.note.ensures.rows n i.told (λ l row d at own.
+      noted = told-on c.loop-place.loads c.note.new.loads places c.args.number c.note.ensures.rows n i.noted (λ l row d at own.
           let e : p ≡ get_or places n d = c.index-found.ensures ∙ get_or_default places n p d (omega arith) in
           let number = ap (λ (x : Place). x.row.number.0) e in
           let same = ap (λ (x : HandleRow). x.number.0) c.row.ensures in

@@ -1,5 +1,5 @@
-use Rattle.pagable_tables.specs.Core.{no_blobs}
 use Rattle.pagable_tables.proofs.{LastHandles.{core-same, noted-later}, Words.{refl, subst, sym}}
+use Rattle.pagable_tables.specs.Core.{no_blobs}
 use Rattle.pagable_pager_spec.specs.Pager as pager
 use Rattle.pagable_tables.proofs.load_handles.note_all.Goals as goal
 
@@ -15,5 +15,5 @@ returns-clause-notes c =
         core = subst pager.IsWhole (sym (core-same t t1 refl c.note_above.ensures.rows no_blobs))
             c.requires.whole.core;
       };
-      later = noted-later t t1 refl c.note_above.ensures.rows refl c.note_above.ensures.told c.requires.later;
+      later = noted-later t t1 refl c.note_above.ensures.rows refl c.note_above.ensures.noted c.requires.later;
     }

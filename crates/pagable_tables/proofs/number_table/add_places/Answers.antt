@@ -1,6 +1,6 @@
-use Rattle.std.proofs.{Common.{ap, arith, rules, ◌∙◌}, lemmas.List.take_all}
 use Rattle.pagable_tables.proofs.ListPlaces.{more, within}
 use Rattle.pagable_tables.specs.NumberTable.{row_in}
+use Rattle.std.proofs.{Common.{ap, arith, rules, ◌∙◌}, lemmas.List.take_all}
 use Rattle.pagable_tables.proofs.number_table.add_places.Goals as goal
 
 pub returns-in_ok-resize_with-clause-rows : goal.returns-in_ok-resize_with-clause-rows

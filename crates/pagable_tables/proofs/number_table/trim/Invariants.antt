@@ -1,5 +1,5 @@
-use Rattle.std.proofs.Common.{None, length, ℕ, ◌≡◌, ◌≤◌}
 use Rattle.pagable_tables.specs.NumberTable.{row_in}
+use Rattle.std.proofs.Common.{None, length, ℕ, ◌≡◌, ◌≤◌}
 use Rattle.pagable_tables.proofs.number_table.trim.Given as goal
 
 abbrev pub invariant-loop-end : goal.invariant-loop-end

@@ -1,8 +1,14 @@
-use Rattle.pagable_tables.proofs.{CallsKeepWhole.schedule-goes, CascadeEnd.sheds-still, CascadeStep.{begun-whole, closed-is}}
-use Rattle.pagable_tables.proofs.{OwnedByLoad.{lazily-so, nothing-release_at, sheds-with}, Views.{alike-goes, not-a-value}, Words.{Err, Error, Ok, Owns}}
-use Rattle.pagable_tables.proofs.SameViews.{alike, failed, owner-same, still}
-use Rattle.pagable_tables.proofs.Words.{ScheduleCall, ap, arith, core_of, inl, inr, is_unpinned, is_valued, nat_tests, not, core_alone, refl, rules, ◌∙◌}
-use Rattle.pagable_tables.proofs.{Words.{Owner, live, only_handle}, WorkCounts.work-moved}
+use Rattle.pagable_tables.proofs.{
+  CallsKeepWhole.schedule-goes,
+  CascadeEnd.drops-still,
+  CascadeStep.{begun-whole, closed-is},
+  OwnedByLoad.{drops-with, lazily-so, nothing-release_at},
+  SameViews.{alike, failed, owner-same, still},
+  Views.{alike-goes, not-a-value},
+  Words.{Err, Error, Ok, Owner, Owns, ScheduleCall, ap, arith, core_alone, core_of, inl, inr, is_unpinned, is_value_owner, live, nat_tests, not, only_handle},
+  Words.{refl, rules, ◌∙◌},
+  WorkCounts.work-moved,
+}
 use Rattle.pagable_tables.proofs.pending.schedule_for_paging.Goals as goal
 
 pub returns-in_err-at : goal.returns-in_err-at
@@ -14,7 +20,7 @@ pub returns-then-not-lists : goal.returns-then-not-lists
 returns-then-not-lists g c =
     let t = c.args.t.now in
     let row = c.in_ok-at.at.row in
-    sheds-with (lazily-so {lists = c.args.lists} {old = t} {new = record t { ref_counts = c.try_release_at.new.t }}
+    drops-with (lazily-so {lists = c.args.lists} {old = t} {new = record t { ref_counts = c.try_release_at.new.t }}
     {step = λ w w'. ScheduleCall w c.args.me c.args.handle (Ok tt) w'}
     (λ storage e.
     let w = core_of t storage in
@@ -33,20 +39,20 @@ returns-then-not-lists g c =
       refused = tt;
     })
     c.try_release_at.ensures.steady (schedule-goes c.args.me c.args.handle c.requires.whole.core c.requires.holder) refl refl refl)
-    c.try_release_at.ensures.sheds
+    c.try_release_at.ensures.drops
 
 pub returns : goal.returns
 returns g c =
     let w = c.requires.whole.steady in
-    let unvalued = ap is_valued (owner-same c.args.me c.in_ok-at.at.row.owner c.in_ok-at.ensures.owner)
+    let unvalued = ap is_value_owner (owner-same c.args.me c.in_ok-at.at.row.owner c.in_ok-at.ensures.owner)
     ∙ not-a-value (core_alone c.args.t.now) c.args.me c.requires.holder in
-    let steady = c.hand_over.ensures.stands (record c.args.t.now.ref_counts { list = c.push_back.new.self }) unvalued refl
+    let steady = c.hand_over.ensures.keeps_sound (record c.args.t.now.ref_counts { list = c.push_back.new.self }) unvalued refl
     (work-moved c.args.t.now.ref_counts.nodes (only_handle c.in_ok-at.at.row.number) Owner.List (live c.args.t.now.ref_counts.handles.places.items) refl
     w.worked)
     (record { sound = w.sound; next = w.next; fits = w.fits; worked = w.worked }) in
     let t = c.args.t.now in
     let new = record t { ref_counts = record t.ref_counts { list = c.push_back.new.self; handles = c.hand_over.new.handles } } in
-    sheds-with (lazily-so {lists = c.args.lists} {old = t} {new = new} {step = λ w w'. ScheduleCall w c.args.me c.args.handle (Ok tt) w'}
+    drops-with (lazily-so {lists = c.args.lists} {old = t} {new = new} {step = λ w w'. ScheduleCall w c.args.me c.args.handle (Ok tt) w'}
     (λ storage e.
     grind (
       arith,
@@ -61,7 +67,7 @@ returns g c =
       c.in_ok-at.ensures.number,
     ))
     steady (schedule-goes c.args.me c.args.handle c.requires.whole.core c.requires.holder) refl refl refl)
-    (sheds-still c.args.t.now.ref_counts _ c.requires.whole.steady)
+    (drops-still c.args.t.now.ref_counts _ c.requires.whole.steady)
 
 pub returns-in_err-reserve : goal.returns-in_err-reserve
 returns-in_err-reserve g c =
@@ -69,7 +75,7 @@ returns-in_err-reserve g c =
     let w = c.requires.whole.steady in
     let e = c.reserve.ensures in
     let new = record t { ref_counts = record t.ref_counts { list = c.reserve.new.self } } in
-    rw (failed c.from_residual-in_err-reserve.result c.from_residual-in_err-reserve.ensures.1) (sheds-with
+    rw (failed c.from_residual-in_err-reserve.result c.from_residual-in_err-reserve.ensures.1) (drops-with
     (lazily-so {lists = c.args.lists} {old = t} {new = new} {step = λ w w'. ScheduleCall w c.args.me c.args.handle (Err Error.OutOfMemory) w'}
     (λ storage e1. grind (
       arith,
@@ -84,4 +90,4 @@ returns-in_err-reserve g c =
       e.capacity,
     ))
     (record { sound = w.sound; next = w.next; fits = w.fits; worked = w.worked }) (λ call. alike-goes c.requires.whole.core call.refused.stays) refl refl refl)
-    (sheds-still t.ref_counts _ w))
+    (drops-still t.ref_counts _ w))

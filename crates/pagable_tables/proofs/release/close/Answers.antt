@@ -1,8 +1,13 @@
+use Rattle.pagable_tables.proofs.{
+  CallsKeepWhole.close-whole,
+  CascadeStep.{begun, owned-listed, unmixed},
+  OwnedByLoad.{later-on, passes-given},
+  Views.newer-falls,
+  Wholeness.whole-so,
+  Words.{Falls, FallsAnyhow, NodeNumber, None, Ok, Owner, RefCounts, ap, arith, cached_at, core_alone, core_of, false, inl, is_listed, is_owned_by, option_map},
+  Words.{refl, shut, subst, sym, with_tables, ℕ, ◌≡◌},
+}
 use Rattle.pagable_tables.specs.Core.{no_blobs}
-use Rattle.pagable_tables.proofs.{CallsKeepWhole.close-whole, Views.newer-falls, Wholeness.whole-so}
-use Rattle.pagable_tables.proofs.Words.{inl, is_listed, is_owned_by, known_at, option_map, core_alone, refl, shut, subst, sym, with_tables, ℕ, ◌≡◌}
-use Rattle.pagable_tables.proofs.{CascadeStep.{begun, owned-listed, unmixed}, OwnedByLoad.{later-on, passes-given}}
-use Rattle.pagable_tables.proofs.Words.{Falls, FallsAnyhow, RefCounts, NodeNumber, None, Ok, Owner, ap, arith, core_of, false}
 use Rattle.pagable_tables.proofs.release.close.Goals as goal
 
 pub returns-clause-closed : goal.returns-clause-closed
@@ -10,7 +15,7 @@ returns-clause-closed g c storage failures' le =
     let t = c.args.t.now in
     let w = core_of t storage in
     let u = shut w failures' in
-    let none : (kind key : ℕ) → known_at c.clear.new.self kind key ≡ None = λ kind key. rw c.clear.ensures.empty refl in
+    let none : (kind key : ℕ) → cached_at c.clear.new.self kind key ≡ None = λ kind key. rw c.clear.ensures.empty refl in
     let whole = c.requires.whole in
     let left : RefCounts = record t.ref_counts { list = c.clear-2.new.self; listing_error = None } in
     let so-far = begun w u false left refl (λ p own. refl) (unmixed t whole) (λ q. omega arith) refl c.clear-2.ensures.items refl whole.core.handles.within.0

@@ -1,6 +1,10 @@
-use Rattle.pagable_tables.proofs.{CascadeStep.begun-whole, OwnedByLoad.{does-as, lazily-so, nothing-release_at, sheds-with}, Views.lone-falling}
-use Rattle.pagable_tables.proofs.Words.{Falls, any_mode, arith, inl, inr, only_handle, refl}
-use Rattle.pagable_tables.proofs.SameViews.{failed, owner-same, still}
+use Rattle.pagable_tables.proofs.{
+  CascadeStep.begun-whole,
+  OwnedByLoad.{does-as, drops-with, lazily-so, nothing-release_at},
+  SameViews.{failed, owner-same, still},
+  Views.lone-falling,
+  Words.{Falls, any_mode, arith, inl, inr, only_handle, refl},
+}
 
 pub returns-in_err-at : Rattle.pagable_tables.proofs.release.release.Goals.returns-in_err-at
 returns-in_err-at g c =
@@ -12,7 +16,7 @@ returns-in_err-at g c =
 pub returns : Rattle.pagable_tables.proofs.release.release.Goals.returns
 returns g c =
     let row = c.in_ok-at.at.row in
-    sheds-with (does-as (lazily-so {lists = c.args.lists} {step = λ w w'. Falls w w (only_handle c.args.handle) c.try_release_at.result w'}
+    drops-with (does-as (lazily-so {lists = c.args.lists} {step = λ w w'. Falls w w (only_handle c.args.handle) c.try_release_at.result w'}
     (λ storage e. rw c.in_ok-at.ensures.number at (c.try_release_at.ensures.falls _ _ (begun-whole c.args.t.now storage c.args.lists c.requires.whole e)
     (omega arith)))
     c.try_release_at.ensures.steady (lone-falling c.requires.whole.core) refl refl refl)
@@ -26,4 +30,4 @@ returns g c =
         },
         fell e,
       );
-    })) c.try_release_at.ensures.sheds
+    })) c.try_release_at.ensures.drops

@@ -1,6 +1,9 @@
-use Rattle.pagable_tables.proofs.{CascadeEnd.{given-none, given-one}, Counting.and_one}
-use Rattle.pagable_tables.proofs.Words.{HandleNumber, Owner, SoFar, ap, false, if_there, inl, is_owned_by, is_owner, subst, sym, ◌∙◌, ◌≡◌}
-use Rattle.pagable_tables.proofs.SameViews.{owner-same}
+use Rattle.pagable_tables.proofs.{
+  CascadeEnd.{given-none, given-one},
+  Counting.and_one,
+  SameViews.owner-same,
+  Words.{HandleNumber, Owner, ReleasedSoFar, ap, false, if_there, inl, is_owned_by, is_owner, subst, sym, ◌∙◌, ◌≡◌},
+}
 use Rattle.pagable_tables.proofs.release.release_if_owned.Goals as goal
 
 pub returns-in_default-clause-so_far : goal.returns-in_default-clause-so_far
@@ -19,5 +22,5 @@ returns-then-is_owner-clause-so_far g c before w given f few =
     let own : c.in-Some.at.row.owner ≡ Owner.Load load = owner-same (Owner.Load load) c.in-Some.at.row.owner (sym c.if-is_owner.ensures) in
     let some = ap (if_there (is_owned_by (Owner.Load load)) false) c.in-Some.ensures.found ∙ sym c.if-is_owner.ensures in
     let on = c.release_at.ensures.so_far before w given f few (inl (ap (is_owner Owner.List) own)) in
-    let here = subst (λ (q : HandleNumber). SoFar before w (and_one given q.0) c.args.lists c.release_at.new.t) c.in-Some.ensures.number on in
+    let here = subst (λ (q : HandleNumber). ReleasedSoFar before w (and_one given q.0) c.args.lists c.release_at.new.t) c.in-Some.ensures.number on in
     given-one before w given c.args.lists c.args.t.now c.release_at.new.t load c.args.handle.0 f some here

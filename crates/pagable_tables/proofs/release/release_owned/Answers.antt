@@ -1,6 +1,9 @@
-use Rattle.pagable_tables.proofs.{CascadeEnd.{regiven, sheds-still, sheds-then}, CascadeStep.{aside, entry-apart}}
-use Rattle.pagable_tables.proofs.{OwnedByLoad.{given-plain, one-past, onto, past_of}, Words.{None, [], arith, gives_row, inl, inr}}
-use Rattle.pagable_tables.proofs.Words.{nat_tests, nobody, owns_nothing, passes_in, refl, ◌∙◌}
+use Rattle.pagable_tables.proofs.{
+  CascadeEnd.{drops-still, drops-then, regiven},
+  CascadeStep.{aside, entry-apart},
+  OwnedByLoad.{given-plain, one-past, onto, past_of},
+  Words.{None, arith, contains_row, inl, inr, nat_tests, nobody, owns_nothing, passes_in, refl, [], ◌∙◌},
+}
 use Rattle.pagable_tables.proofs.release.release_owned.Goals as goal
 
 pub loop-at-init : goal.loop-at-init
@@ -10,7 +13,7 @@ loop-at-init g c = (
   λ before u w loads f few between.
       regiven before u nobody (past_of u w c.args.giving c.args.until) c.args.lists _ f (λ r e. let up = between r in grind (arith, nat_tests))
       (λ r e. absurd (cc)),
-  sheds-still c.args.t.now _ c.requires.steady,
+  drops-still c.args.t.now _ c.requires.steady,
   λ none. refl,
 )
 
@@ -23,14 +26,14 @@ loop-at-preserved g c =
       omega arith,
       λ before u w loads f few between.
           one-past before u w c.args.lists c.args.giving (λ is. (c.requires.listed is).0) c.args.reach (λ q e. (between q e).0) c.loop-at.t c.release_at.new.t
-          c.loop-at.left x b.0.0 b.1 c.in-Some.ensures.last.found (c.in-Some.ensures.last.gives w loads)
+          c.loop-at.left x b.0.0 b.1 c.in-Some.ensures.last.found (c.in-Some.ensures.last.contains w loads)
           (λ q in-reach above below. c.in-Some.ensures.last.last w q loads in-reach above below)
           (λ given s. c.release_at.ensures.so_far before u given s (omega arith)
-          (elim (given-plain w c.args.giving x.owner x.node (c.in-Some.ensures.last.gives w loads)) [
+          (elim (given-plain w c.args.giving x.owner x.node (c.in-Some.ensures.last.contains w loads)) [
             | inl free ↦ inl free
             | inr is ↦ let l = c.requires.listed is in inr (entry-apart s l.0 x.number.0 (i.4 l.0 ∙ l.1))
           ])) (i.2 before u w loads f few between),
-      sheds-then i.3 c.release_at.ensures.sheds,
+      drops-then i.3 c.release_at.ensures.drops,
       λ none. c.release_at.ensures.unlisting none ∙ i.4 none,
     )
 
@@ -38,6 +41,6 @@ pub returns-clause-falls : goal.returns-clause-falls
 returns-clause-falls g c before u w loads f few between =
     c.finish_cascade.ensures.falls before u _ (onto before u w c.args.lists c.args.giving (λ is. (c.requires.listed is).0) c.args.reach
     (λ q e. (between q e).0) c.loop-at.t c.loop-at.left
-    (passes_in (gives_row w c.args.giving) u.rows) (λ r e. e) (λ r e. grind (arith, nat_tests))
+    (passes_in (contains_row w c.args.giving) u.rows) (λ r e. e) (λ r e. grind (arith, nat_tests))
     (λ r e below. c.in_default.ensures.none w r loads (between r e).0 below)
     (c.loop-at.invariant.2 before u w loads f few between))

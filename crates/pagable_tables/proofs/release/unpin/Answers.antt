@@ -1,24 +1,25 @@
-use Rattle.pagable_tables.specs.Core.{StorageView}
-use Rattle.pagable_tables.proofs.Words.{Tables, [], ap, append-nil, arith, core_of, false, if◌then◌else◌, inl, inr, is_handle, is_loose, is_owner, is_pin, is_plain_pin, is_share, is_shared, is_valued}
-use Rattle.pagable_tables.proofs.{CascadeStep.{aside, begun-whole, listing-is, none-within, unowned}, Counting.{all-kept, gives-sums, of_list, ones}}
-use Rattle.pagable_tables.proofs.OwnedByLoad.{does-as, lazily-so, nothing-release_at, sheds-with}
-use Rattle.pagable_tables.proofs.{CascadeEnd.{entered-on, stays-first}, Views.{falling, moded}}
-use Rattle.pagable_tables.proofs.Words.{Begins, Bool, Falls, ReleasesWithoutCascade, HandleRow, RefCounts, IsFalling, Mode, None, Owner, SoFar}
-use Rattle.pagable_tables.proofs.SameViews.{failed}
-use Rattle.pagable_tables.proofs.Words.{length, length-map, live, nat_tests, nobody, not, one, owns, owns_nothing, refl, sym, times, true, unpinned}
-use Rattle.pagable_tables.proofs.Words.{with_mode, ◌∙◌, ◌≡◌, ◌≢◌, ◌≤◌}
-use Rattle.pagable_tables.proofs.SameViews.{owner-same, still}
-use Rattle.pagable_tables.specs.Core.{IsWhole}
+use Rattle.pagable_tables.proofs.{
+  CascadeEnd.{entered-on, stays-first},
+  CascadeStep.{aside, begun-whole, listing-is, none-within, unowned},
+  Counting.{all-kept, gives-sums, of_list, ones},
+  OwnedByLoad.{does-as, drops-with, lazily-so, nothing-release_at},
+  SameViews.{failed, owner-same, still},
+  Views.{falling, moded},
+  Words.{Begins, Bool, Falls, HandleRow, IsSoundInCascade, Mode, None, Owner, RefCounts, ReleasedSoFar, ReleasesWithoutCascade, Tables, ap, append-nil, arith},
+  Words.{core_of, false, if◌then◌else◌, inl, inr, is_handle, is_loose, is_owner, is_pin, is_plain_pin, is_share, is_shared, is_value_owner, length, length-map},
+  Words.{live, nat_tests, nobody, not, one, owns, owns_nothing, refl, sym, times, true, unpinned, with_mode, [], ◌∙◌, ◌≡◌, ◌≢◌, ◌≤◌},
+}
+use Rattle.pagable_tables.specs.Core.{IsWhole, StorageView}
 use Rattle.pagable_tables.proofs.release.unpin.Goals as goal
 
 -- what has gone and come so far where a handle lets its pin go and stays
 lowered-on : (T : Tables) (storage : StorageView) (lists : Bool) → IsWhole T → lists ≡ not storage.closed → (x : HandleRow) (new : RefCounts)
     → ReleasesWithoutCascade (record T.ref_counts { listing_error = None }) [] x true lists new
-    → SoFar (core_of T storage) (with_mode (core_of T storage) x.number Mode.LooseUnpinned) nobody lists new
+    → ReleasedSoFar (core_of T storage) (with_mode (core_of T storage) x.number Mode.LooseUnpinned) nobody lists new
 lowered-on T storage lists whole opened x new g =
     let old = core_of T storage in
     let now = with_mode old x.number Mode.LooseUnpinned in
-    let f : SoFar old old nobody lists (record T.ref_counts { listing_error = None }) = begun-whole T storage lists whole opened in
+    let f : ReleasedSoFar old old nobody lists (record T.ref_counts { listing_error = None }) = begun-whole T storage lists whole opened in
     let less : (p : HandleRow → Bool) → one (p (unpinned x)) ≤ one (p x) → times p now.rows ≤ times p old.rows =
     λ p le. omega (arith, g.leaves.sums (λ h. one (p h)), ap (times p) g.leaves.becomes.rows) in
     let begins : Begins old now lists =
@@ -45,9 +46,10 @@ lowered-on T storage lists whole opened x new g =
     (g.leaves.becomes.rows ∙ sym (append-nil _ ∙ all-kept now.rows)) refl
     (none-within nobody now.rows) (λ s final bare has closed. none-within s now.rows) (λ falls. let a = few falls in omega (arith, long))
 
-mine : (t : RefCounts) (me : Owner) (x : HandleRow) → IsFalling t [] owns_nothing → is_valued me ≡ false → is_owner me x.owner ≡ true
-    → IsFalling (record t { listing_error = None }) [] (owns x)
-mine t me x w plain own = unowned (record t { listing_error = None }) x [] (ap is_valued (owner-same me x.owner own) ∙ plain) (aside t None [] owns_nothing w)
+mine : (t : RefCounts) (me : Owner) (x : HandleRow) → IsSoundInCascade t [] owns_nothing → is_value_owner me ≡ false → is_owner me x.owner ≡ true
+    → IsSoundInCascade (record t { listing_error = None }) [] (owns x)
+mine t me x w plain own =
+    unowned (record t { listing_error = None }) x [] (ap is_value_owner (owner-same me x.owner own) ∙ plain) (aside t None [] owns_nothing w)
 
 pub returns-in_err-at : goal.returns-in_err-at
 returns-in_err-at g c =
@@ -59,13 +61,13 @@ returns-in_err-at g c =
 pub release_without_cascade-requires-clause-falling : goal.release_without_cascade-requires-clause-falling
 release_without_cascade-requires-clause-falling g c = (
   [],
-  mine c.args.t.now.ref_counts c.args.me c.in_ok-at.at.row c.requires.whole.steady c.requires.plain
+  mine c.args.t.now.ref_counts c.args.me c.in_ok-at.at.row c.requires.whole.steady c.requires.not_a_value
       c.in_ok-at.ensures.owner,
 )
 
 pub finish_cascade-requires : goal.finish_cascade-requires
 finish_cascade-requires g c =
-    let e = c.release_without_cascade.ensures [] (mine c.args.t.now.ref_counts c.args.me c.in_ok-at.at.row c.requires.whole.steady c.requires.plain
+    let e = c.release_without_cascade.ensures [] (mine c.args.t.now.ref_counts c.args.me c.in_ok-at.at.row c.requires.whole.steady c.requires.not_a_value
     c.in_ok-at.ensures.owner) in
     record { falling = (e.more, e.falling, omega (arith, e.long)) }
 
@@ -73,11 +75,11 @@ pub returns-in-LoosePinned : goal.returns-in-LoosePinned
 returns-in-LoosePinned g c =
     let t = c.args.t.now in
     let row = c.in_ok-at.at.row in
-    let up = c.release_without_cascade.ensures [] (mine t.ref_counts c.args.me row c.requires.whole.steady c.requires.plain c.in_ok-at.ensures.owner) in
+    let up = c.release_without_cascade.ensures [] (mine t.ref_counts c.args.me row c.requires.whole.steady c.requires.not_a_value c.in_ok-at.ensures.owner) in
     let turns = moded c.requires.whole.core c.args.handle row Mode.LooseUnpinned c.in_ok-at.ensures.found (ap is_shared (sym c.in-LoosePinned.is))
     (λ loose. refl) (λ is. refl) in
     let own = owner-same c.args.me row.owner c.in_ok-at.ensures.owner in
-    sheds-with (does-as (lazily-so {lists = c.args.lists} {step = λ w w'. Falls w (with_mode w c.args.handle Mode.LooseUnpinned) nobody c.finish_cascade.result
+    drops-with (does-as (lazily-so {lists = c.args.lists} {step = λ w w'. Falls w (with_mode w c.args.handle Mode.LooseUnpinned) nobody c.finish_cascade.result
     w'}
     (λ storage e.
     rw c.in_ok-at.ensures.number at (c.finish_cascade.ensures.falls _ _ nobody
@@ -89,4 +91,4 @@ returns-in-LoosePinned g c =
         record { live = c.in_ok-at.ensures.found; own = own; as_asked = ap is_loose c.in-LoosePinned.is },
         inr (c.in-LoosePinned.is, fell e),
       );
-    })) (stays-first up.values c.finish_cascade.ensures.sheds)
+    })) (stays-first up.values c.finish_cascade.ensures.drops)

@@ -1,9 +1,12 @@
-use Rattle.pagable_tables.proofs.{CascadeEnd.passes-none, Words.{OwnLaterHandles, None, Tables, [], ap, arith, known_at, live, load_at, nat_tests, row_by}}
-use Rattle.pagable_tables.{proofs.Words.{refl, worker_at, ℕ, ◌≡◌}, specs.Core.IsWhole}
+use Rattle.pagable_tables.proofs.{
+  CascadeEnd.passes-none,
+  Words.{None, OwnLaterHandles, Tables, ap, arith, cached_at, live, load_at, nat_tests, refl, row_by, worker_at, ℕ, [], ◌≡◌},
+}
+use Rattle.pagable_tables.specs.Core.{IsWhole}
 
 nothing-whole : (t : Tables) → t.ref_counts.handles.dead ≡ 0 → t.ref_counts.handles.places.items ≡ [] → ((n : ℕ) → row_by t.ref_counts.nodes n ≡ None)
     → t.ref_counts.list.items ≡ []
-    → ((kind key : ℕ) → known_at t.cache kind key ≡ None) → ((l : ℕ) → load_at t.loads l ≡ None) → ((v : ℕ) → worker_at t.workers v ≡ None)
+    → ((kind key : ℕ) → cached_at t.cache kind key ≡ None) → ((l : ℕ) → load_at t.loads l ≡ None) → ((v : ℕ) → worker_at t.workers v ≡ None)
     → (t.ref_counts.top ≡ 0) × (t.ref_counts.last_handle ≡ 0) × (t.last_node ≡ 0) × (t.last_load ≡ 0) → IsWhole t
 nothing-whole t dead rows found list cache loads workers last = grind (arith, nat_tests)
 

@@ -1,8 +1,13 @@
-use Rattle.std.specs.VecDeque.{deque_capacity}
-use Rattle.pagable_tables.proofs.{CascadeStep.rows-told, OwnedByLoad.{does-as, does-so}, Views.alike-goes}
-use Rattle.pagable_tables.proofs.{Words.{Alike, RefCounts, Tables, arith, live, nat_tests, refl, ◌+◌, ◌≡◌}, WorkCounts.work-told}
-use Rattle.pagable_tables.proofs.{SameViews.{failed, same-cache}, Words.◌≤◌}
+use Rattle.pagable_tables.proofs.{
+  CascadeStep.rows-told,
+  OwnedByLoad.{does-as, does-so},
+  SameViews.{failed, same-cache},
+  Views.alike-goes,
+  Words.{Alike, RefCounts, Tables, arith, live, nat_tests, refl, ◌+◌, ◌≡◌, ◌≤◌},
+  WorkCounts.work-told,
+}
 use Rattle.pagable_tables.specs.{Core.{Does, IsWhole}, HandleTable.Widens}
+use Rattle.std.specs.VecDeque.{deque_capacity}
 use Rattle.pagable_tables.proofs.tables.reserve.Goals as goal
 
 -- there is room, and all else is as it was

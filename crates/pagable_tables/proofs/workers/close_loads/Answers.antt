@@ -1,5 +1,7 @@
-use Rattle.pagable_tables.proofs.Words.{◌≡◌, ◌∙◌, ap, arith, nat_tests, filter, not, rules, nat_eq, Option, is_owner, owner_worker, LoadRow, left_load}
-use Rattle.{std.{proofs.lemmas.{Cmp.nat_eq_equiv, Map.Entries.{option_filter, lookup-filter-values}}, specs.Map.lookup}, indexmap.proofs.CallerLemmas.filter-RetainsPairs}
+use Rattle.indexmap.proofs.CallerLemmas.{filter-RetainsPairs}
+use Rattle.pagable_tables.proofs.Words.{LoadRow, Option, ap, arith, filter, is_owner, left_load, nat_eq, nat_tests, not, owner_worker, rules, ◌∙◌, ◌≡◌}
+use Rattle.std.proofs.lemmas.{Cmp.nat_eq_equiv, Map.Entries.{lookup-filter-values, option_filter}}
+use Rattle.std.specs.Map.{lookup}
 
 filtered : (v : _) (row : Option LoadRow) → option_filter (λ (row : LoadRow). not (is_owner (owner_worker v) row.owner)) row ≡ left_load v row
 filtered v row = grind (arith, nat_tests)

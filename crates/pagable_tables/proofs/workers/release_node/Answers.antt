@@ -1,11 +1,15 @@
-use Rattle.pagable_tables.proofs.{CascadeStep.begun-whole, Counting.and-left, OwnedByLoad.{lazily-so, passes-given, sheds-with}, Views.lone-falling}
-use Rattle.pagable_tables.proofs.Words.{ReleaseSet, InReach, arith, core_of, gives_row, nat_tests}
-use Rattle.pagable_tables.proofs.Words.{core_alone, refl, subst, sym}
+use Rattle.pagable_tables.proofs.{
+  CascadeStep.begun-whole,
+  Counting.and-left,
+  OwnedByLoad.{drops-with, lazily-so, passes-given},
+  Views.lone-falling,
+  Words.{InReach, ReleaseSet, arith, contains_row, core_alone, core_of, nat_tests, refl, subst, sym},
+}
 
 pub returns : Rattle.pagable_tables.proofs.workers.release_node.Goals.returns
 returns g c =
     let t = c.args.t.now in
-    sheds-with (lazily-so
+    drops-with (lazily-so
     (λ storage e.
     let w = core_of t storage in
     record {
@@ -13,8 +17,8 @@ returns g c =
       falls = c.release_owned.ensures.falls w w w (λ l. refl) (begun-whole t storage c.args.lists c.requires.whole e) (omega arith)
           (λ q gives. (
             subst (λ r. InReach r q) (sym c.reach_of-reach.ensures) (c.requires.later.reach c.args.worker.0 q (grind (arith, nat_tests, and-left))),
-            (passes-given (gives_row w (ReleaseSet.AtNode c.args.worker c.args.node)) (core_alone t) q c.requires.whole.core.handles gives).1,
+            (passes-given (contains_row w (ReleaseSet.AtNode c.args.worker c.args.node)) (core_alone t) q c.requires.whole.core.handles gives).1,
           ));
     })
     c.release_owned.ensures.steady
-    (λ falls. lone-falling c.requires.whole.core falls.falls) refl refl refl) c.release_owned.ensures.sheds
+    (λ falls. lone-falling c.requires.whole.core falls.falls) refl refl refl) c.release_owned.ensures.drops

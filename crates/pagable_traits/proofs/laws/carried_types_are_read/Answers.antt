@@ -1,4 +1,5 @@
-use Rattle.{pagable_traits.specs.ReadBack.{basic_is_read, hash_map_is_read, over_is_read, two_is_read}, std.specs.Prelude.refl}
+use Rattle.pagable_traits.specs.ReadBack.{basic_is_read, hash_map_is_read, over_is_read, two_is_read}
+use Rattle.std.specs.Prelude.{refl}
 use Rattle.pagable_traits.proofs.laws.carried_types_are_read.Goals as goal
 
 pub returns-clause-numbers : goal.returns-clause-numbers
@@ -28,8 +29,8 @@ returns-clause-basic g c e = (
   ),
 )
 
-pub returns-clause-over : goal.returns-clause-over
-returns-clause-over g c e t = (
+pub returns-clause-one_part : goal.returns-clause-one_part
+returns-clause-one_part g c e t = (
   over_is_read refl t,
   (
     over_is_read refl t,
@@ -40,8 +41,8 @@ returns-clause-over g c e t = (
 pub returns-clause-sets : goal.returns-clause-sets
 returns-clause-sets g c e = (λ k. over_is_read refl k, λ h. over_is_read refl h)
 
-pub returns-clause-two : goal.returns-clause-two
-returns-clause-two g c e t x = (two_is_read (refl, refl) t x, (two_is_read (refl, refl) t x, (two_is_read (refl, refl) t (over_is_read refl x), tt)))
+pub returns-clause-two_parts : goal.returns-clause-two_parts
+returns-clause-two_parts g c e t x = (two_is_read (refl, refl) t x, (two_is_read (refl, refl) t x, (two_is_read (refl, refl) t (over_is_read refl x), tt)))
 
 pub returns-clause-maps : goal.returns-clause-maps
 returns-clause-maps g c e t = (λ k. two_is_read (refl, refl) k t, λ h. (two_is_read (refl, refl) h t, (hash_map_is_read h t, tt)))

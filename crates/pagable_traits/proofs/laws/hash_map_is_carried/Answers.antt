@@ -1,4 +1,4 @@
-use Rattle.pagable_traits.proofs.{Words.same_key, Maps.key_like, Hashed.hash_maps_mean_alike}
+use Rattle.pagable_traits.proofs.{Hashed.hash_maps_mean_alike, Maps.key_like, Words.same_key}
 
 pub returns-clause-any_order : Rattle.pagable_traits.proofs.laws.hash_map_is_carried.Goals.returns-clause-any_order
 returns-clause-any_order g c x y m distinct moved means =

@@ -1,4 +1,5 @@
-use Rattle.{pagable_value_spec.specs.Meaning.pattern, pagable_traits.proofs.{Parts.{text-read, text_not_refused}, Words.{read, read_with, refl}}}
+use Rattle.pagable_traits.proofs.{Parts.{text-read, text_not_refused}, Words.{read, read_with, refl}}
+use Rattle.pagable_value_spec.specs.Meaning.{pattern}
 
 pub returns : Rattle.pagable_traits.proofs.saved_regex.read_text.Goals.returns
 unfolding read read_with
@@ -9,6 +10,6 @@ returns g c =
     record {
       reads = text-read g.E.Env g.D.PagableDeserializer pattern c.read_string.result _ (λ c rest. refl) (law.bytes_are old) (law.rest_of_with old _)
           (law.moves_of_with old _)
-          (law.environment_of_with old _) (law.levels_of_with old _) told.gives told.goes;
-      unbuilt = text_not_refused _ _ _ told.gives;
+          (law.environment_of_with old _) (law.levels_of_with old _) told.gives told.moves;
+      never_refused = text_not_refused _ _ _ told.gives;
     }

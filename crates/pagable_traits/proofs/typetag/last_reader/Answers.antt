@@ -1,4 +1,6 @@
-use Rattle.{pagable_traits.proofs.Registered.{is_last, none_from_less}, std.{proofs.Common.{arith, false, length, rules, true, ◌+◌, ◌-◌, ◌≡◌}, specs.{Str.bytes_eq, String.string_bytes}}}
+use Rattle.pagable_traits.proofs.Registered.{is_last, none_from_less}
+use Rattle.std.proofs.Common.{arith, false, length, rules, true, ◌+◌, ◌-◌, ◌≡◌}
+use Rattle.std.specs.{Str.bytes_eq, String.string_bytes}
 
 pub returns-then-eq-clause-found : Rattle.pagable_traits.proofs.typetag.last_reader.Goals.returns-then-eq-clause-found
 returns-then-eq-clause-found g c =

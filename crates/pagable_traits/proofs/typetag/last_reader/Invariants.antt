@@ -1,4 +1,6 @@
-use Rattle.{pagable_traits.proofs.Registered.NoneFrom, std.{proofs.Common.{map, ◌-◌}, specs.String.string_bytes}}
+use Rattle.pagable_traits.proofs.Registered.{NoneFrom}
+use Rattle.std.proofs.Common.{map, ◌-◌}
+use Rattle.std.specs.String.{string_bytes}
 use Rattle.pagable_traits.proofs.typetag.last_reader.Given as goal
 
 abbrev pub invariant-loop-passed : goal.invariant-loop-passed

@@ -1,5 +1,5 @@
-use Rattle.uses.proofs.PageOutWork.run.Goals as goal
 use Rattle.uses.proofs.Working.{paged-out}
+use Rattle.uses.proofs.PageOutWork.run.Goals as goal
 
 pub returns-in-Err-Failed-clause-operates : goal.returns-in-Err-Failed-clause-operates
 returns-in-Err-Failed-clause-operates g c = λ honest. paged-out (c.page_out_pending.ensures.pages honest)

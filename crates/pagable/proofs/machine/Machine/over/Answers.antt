@@ -1,4 +1,6 @@
-use Rattle.{pagable_theorems.proofs.NewPager.new_whole, pagable_load.specs.AccessView.values_at, std.proofs.Common.rules}
+use Rattle.pagable_load.specs.AccessView.{values_at}
+use Rattle.pagable_theorems.proofs.NewPager.{new_whole}
+use Rattle.std.proofs.Common.{rules}
 use Rattle.pagable.proofs.machine.Machine.over.Goals as goal
 
 -- the values are lawful by the laws of their nodes

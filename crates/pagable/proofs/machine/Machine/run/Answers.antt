@@ -1,4 +1,5 @@
-use Rattle.{pagable.proofs.Running.{all-ran, at-first, one-more}, std.proofs.Common.{arith, length, rules, sym, ◌≡◌}}
+use Rattle.pagable.proofs.Running.{all-ran, at-first, one-more}
+use Rattle.std.proofs.Common.{arith, length, rules, sym, ◌≡◌}
 use Rattle.pagable.proofs.machine.Machine.run.Goals as goal
 
 pub loop-event-init : goal.loop-event-init
@@ -15,7 +16,7 @@ pub loop-event-preserved : goal.loop-event-preserved
 loop-event-preserved g c = record {
   room = grind arith;
   run = rw c.push_reserved.ensures.items (one-more _ _ _ _ _ _ c.in-Some.event _ _ _ _ _ _ (rw c.in-Some.ensures.items at c.loop-event.invariant.run)
-      c.serve-reply.ensures);
+      c.run_event-reply.ensures);
 }
 
 pub returns-clause-run : goal.returns-clause-run

@@ -1,4 +1,8 @@
-use Rattle.{pagable.proofs.Running.SoFar, pagable_load.specs.AccessView.values_at, pagable_pager.specs.View.storage_view, std.{proofs.Common.{length, vec_len, ◌+◌, ◌≤◌}, specs.Vec.vec_capacity}}
+use Rattle.pagable.proofs.Running.{SoFar}
+use Rattle.pagable_load.specs.AccessView.{values_at}
+use Rattle.pagable_pager.specs.View.{storage_view}
+use Rattle.std.proofs.Common.{length, vec_len, ◌+◌, ◌≤◌}
+use Rattle.std.specs.Vec.{vec_capacity}
 use Rattle.pagable.proofs.machine.Machine.run.Given as goal
 
 -- the events so far have happened, and there is room for the replies to the rest

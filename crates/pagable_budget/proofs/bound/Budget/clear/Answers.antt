@@ -1,4 +1,6 @@
-use Rattle.{pagable_budget.{proofs.Evicting.{cleared}, specs.Budgets.cost_of}, std.proofs.Common.{ap, arith, sym, ◌∙◌}}
+use Rattle.pagable_budget.proofs.Evicting.{cleared}
+use Rattle.pagable_budget.specs.Budgets.{cost_of}
+use Rattle.std.proofs.Common.{ap, arith, sym, ◌∙◌}
 use Rattle.pagable_budget.proofs.bound.Budget.clear.Goals as goal
 
 pub invariant_of-self : goal.invariant_of-self

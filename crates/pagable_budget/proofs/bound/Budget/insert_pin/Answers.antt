@@ -1,4 +1,7 @@
-use Rattle.{pagable_budget.{proofs.Evicting.{none-before, stored, unstored}, specs.Budgets.{BudgetView, Kept}}, std.{proofs.Common.{List, None, ap, nat_eq, subst, ◌-◌, ◌∙◌, ◌≡◌}, specs.Map.{lookup}}}
+use Rattle.pagable_budget.proofs.Evicting.{none-before, stored, unstored}
+use Rattle.pagable_budget.specs.Budgets.{BudgetView, Kept}
+use Rattle.std.proofs.Common.{List, None, ap, nat_eq, subst, ◌-◌, ◌∙◌, ◌≡◌}
+use Rattle.std.specs.Map.{lookup}
 use Rattle.pagable_budget.proofs.bound.Budget.insert_pin.Goals as goal
 
 pub insert-requires-clause-new : goal.insert-requires-clause-new

@@ -1,4 +1,5 @@
-use Rattle.pagable_budget.{proofs.Evicting.{came-new, kept-already, still-none}, specs.Budgets.{no-cell}}
+use Rattle.pagable_budget.proofs.Evicting.{came-new, kept-already, still-none}
+use Rattle.pagable_budget.specs.Budgets.{no-cell}
 use Rattle.pagable_budget.proofs.bound.Budget.keep.Goals as goal
 
 pub returns-in_default : goal.returns-in_default

@@ -1,4 +1,6 @@
-use Rattle.{pagable_budget.{proofs.Evicting.{failed, keeps-alone}, specs.Budgets.{pin-is-answered, pin-is-refused}}, std.proofs.Common.{IsTrue, subst}}
+use Rattle.pagable_budget.proofs.Evicting.{failed, keeps-alone}
+use Rattle.pagable_budget.specs.Budgets.{pin-is-answered, pin-is-refused}
+use Rattle.std.proofs.Common.{IsTrue, subst}
 use Rattle.pagable_budget.proofs.bound.Budget.pin.Goals as goal
 
 pub returns-in_err-pinned-clause-pins : goal.returns-in_err-pinned-clause-pins

@@ -1,4 +1,5 @@
-use Rattle.{pagable_budget.proofs.Evicting.{trimmed}, std.proofs.Common.{ap, arith, length, length-append}}
+use Rattle.pagable_budget.proofs.Evicting.{trimmed}
+use Rattle.std.proofs.Common.{ap, arith, length, length-append}
 use Rattle.pagable_budget.proofs.bound.Budget.trim.Goals as goal
 
 pub overflow_sub-evicted : goal.overflow_sub-evicted

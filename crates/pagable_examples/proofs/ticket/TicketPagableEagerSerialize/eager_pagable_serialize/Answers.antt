@@ -1,5 +1,7 @@
-use Rattle.std.{proofs.Common.rules, specs.Int.w16}
-use Rattle.{pagable_value_spec.specs.{Form.unsigned-form, Meaning.number, Shape.unsigned}, pagable_traits.proofs.Parts.basic_written}
+use Rattle.pagable_traits.proofs.Parts.{basic_written}
+use Rattle.pagable_value_spec.specs.{Form.unsigned-form, Meaning.number, Shape.unsigned}
+use Rattle.std.proofs.Common.{rules}
+use Rattle.std.specs.Int.{w16}
 
 pub returns-clause-wrote : Rattle.pagable_examples.proofs.ticket.TicketPagableEagerSerialize.eager_pagable_serialize.Goals.returns-clause-wrote
 returns-clause-wrote g c =

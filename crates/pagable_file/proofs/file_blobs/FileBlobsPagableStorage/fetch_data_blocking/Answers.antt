@@ -1,6 +1,6 @@
-use Rattle.std.proofs.Common.{◌∙◌, ap}
-use Rattle.pagable_value_spec.specs.Blob.{key_of}
 use Rattle.pagable_file.proofs.Fetching.{held_named}
+use Rattle.pagable_value_spec.specs.Blob.{key_of}
+use Rattle.std.proofs.Common.{ap, ◌∙◌}
 use Rattle.pagable_file.proofs.file_blobs.FileBlobsPagableStorage.fetch_data_blocking.Goals as goal
 
 pub returns-in-Some-clause-named : goal.returns-in-Some-clause-named

@@ -1,11 +1,10 @@
-use Rattle.std.proofs.Common.{◌≡◌, ◌∙◌, None, ap, rules, sym, subst, ℕ}
-use Rattle.std.proofs.lemmas.Result.{err_from_is_err_and}
-use Rattle.std.specs.{Arc.arc_value, HashMap.get, Ordering.int_eq}
-use Rattle.sqlite_trees.specs.Tree.{Trees}
 use Rattle.pagable_core.specs.{Data.blob_of, declared.storage.data.PagableData.PagableData}
-use Rattle.pagable_value_spec.specs.{Blob.{Blob, key_of}, Stored.Adds}
-use Rattle.pagable_file.specs.{Rows.{blob_tree, rowid_of}, Blobs.{stored_with, unless}}
 use Rattle.pagable_file.proofs.Fetching.{adds_found, adds_held, adds_holding, all_keyed, any_err, found_refuses, held_refuses, same_entries}
+use Rattle.pagable_file.specs.{Blobs.{stored_with, unless}, Rows.{blob_tree, rowid_of}}
+use Rattle.pagable_value_spec.specs.{Blob.{Blob, key_of}, Stored.Adds}
+use Rattle.sqlite_trees.specs.Tree.{Trees}
+use Rattle.std.proofs.{Common.{None, ap, rules, subst, sym, ℕ, ◌∙◌, ◌≡◌}, lemmas.Result.err_from_is_err_and}
+use Rattle.std.specs.{Arc.arc_value, HashMap.get, Ordering.int_eq}
 use Rattle.pagable_file.proofs.file_blobs.FileBlobsPagableStorage.store_data.Goals as goal
 
 pub returns-in-Some-clause-adds : goal.returns-in-Some-clause-adds

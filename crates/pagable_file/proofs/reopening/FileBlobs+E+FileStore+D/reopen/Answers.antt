@@ -1,8 +1,8 @@
-use Rattle.std.proofs.Common.{◌∙◌, ap}
-use Rattle.sqlite_trees.specs.Tree.{Trees}
-use Rattle.sqlite_store.specs.FileStore.{view}
-use Rattle.pagable_file.specs.Rows.{blob_tree, root_tree}
 use Rattle.pagable_file.proofs.Opening.{found_again}
+use Rattle.pagable_file.specs.Rows.{blob_tree, root_tree}
+use Rattle.sqlite_store.specs.FileStore.{view}
+use Rattle.sqlite_trees.specs.Tree.{Trees}
+use Rattle.std.proofs.Common.{ap, ◌∙◌}
 use Rattle.pagable_file.proofs.reopening.FileBlobs+E+FileStore+D.reopen.Goals as goal
 
 pub returns-in_ok-again-in-Ok-clause-sure : goal.returns-in_ok-again-in-Ok-clause-sure

@@ -1,5 +1,5 @@
-use Rattle.pagable_file.specs.Rows.{root_tree}
 use Rattle.pagable_file.proofs.Names.{lists_all_if}
+use Rattle.pagable_file.specs.Rows.{root_tree}
 use Rattle.pagable_file.proofs.roots.FileBlobsRoots.root_names.Goals as goal
 
 pub returns-in-Ok-clause-all : goal.returns-in-Ok-clause-all

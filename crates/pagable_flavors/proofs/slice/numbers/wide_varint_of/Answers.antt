@@ -1,4 +1,5 @@
-use Rattle.{std.proofs.Common.arith, pagable_flavors.proofs.Varint.ReadsOn_more}
+use Rattle.pagable_flavors.proofs.Varint.{ReadsOn_more}
+use Rattle.std.proofs.Common.{arith}
 
 pub loop-place-preserved : Rattle.pagable_flavors.proofs.slice.numbers.wide_varint_of.Goals.loop-place-preserved
 loop-place-preserved c =

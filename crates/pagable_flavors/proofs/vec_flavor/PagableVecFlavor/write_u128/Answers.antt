@@ -1,4 +1,6 @@
-use Rattle.{std.proofs.Common.{◌+◌, ◌%◌, refl, arith}, pagable_flavors.proofs.Varint.{WritesOn_more, WritesOn_last}, pagable_value_spec.specs.Numbers.varint_limit}
+use Rattle.pagable_flavors.proofs.Varint.{WritesOn_last, WritesOn_more}
+use Rattle.pagable_value_spec.specs.Numbers.{varint_limit}
+use Rattle.std.proofs.Common.{arith, refl, ◌%◌, ◌+◌}
 
 pub loop-rest-preserved : Rattle.pagable_flavors.proofs.vec_flavor.PagableVecFlavor.write_u128.Goals.loop-rest-preserved
 loop-rest-preserved c = WritesOn_more (128 + c.loop-rest.rest % 128) c.loop-rest.invariant c.loop-rest-test.true refl c.in_ok-try_push.ensures.ok

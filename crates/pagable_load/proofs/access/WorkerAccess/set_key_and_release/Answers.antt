@@ -1,4 +1,5 @@
-use Rattle.{pagable_load.proofs.LoadSteps.{acts_map, acts_then}, std.proofs.lemmas.Result.err_from_is_err_and}
+use Rattle.pagable_load.proofs.LoadSteps.{acts_map, acts_then}
+use Rattle.std.proofs.lemmas.Result.{err_from_is_err_and}
 use Rattle.pagable_load.proofs.access.WorkerAccess.set_key_and_release.Goals as goal
 
 pub returns-in_err-set_key_if_loose : goal.returns-in_err-set_key_if_loose

@@ -1,4 +1,5 @@
-use Rattle.{pagable_load.proofs.LoadSteps.{acts_map, acts_then}, std.proofs.{Common.{inl, inr}, lemmas.Result.err_from_is_err_and}}
+use Rattle.pagable_load.proofs.LoadSteps.{acts_map, acts_then}
+use Rattle.std.proofs.{Common.{inl, inr}, lemmas.Result.err_from_is_err_and}
 use Rattle.pagable_load.proofs.access.WorkerAccess.store_node.Goals as goal
 
 pub returns-in_err-key-clause-acts : goal.returns-in_err-key-clause-acts

@@ -1,5 +1,6 @@
-use Rattle.{pagable_load.proofs.LoadSteps.{acts_from, acts_map, end_closed, end_pins, end_refused, hand_over_refused}, pagable_pager_spec.specs.Loads.handles_of, std.proofs.Common.{ap, refl, rules, ◌∙◌}}
-use Rattle.std.proofs.lemmas.Result.{err_from_is_err_and}
+use Rattle.pagable_load.proofs.LoadSteps.{acts_from, acts_map, end_closed, end_pins, end_refused, hand_over_refused}
+use Rattle.pagable_pager_spec.specs.Loads.{handles_of}
+use Rattle.std.proofs.{Common.{ap, refl, rules, ◌∙◌}, lemmas.Result.err_from_is_err_and}
 use Rattle.pagable_load.proofs.reading.Reading.finish.Goals as goal
 
 pub returns-in-Ok-clause-acts : goal.returns-in-Ok-clause-acts

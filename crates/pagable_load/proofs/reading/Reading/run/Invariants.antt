@@ -1,4 +1,5 @@
-use Rattle.{std.proofs.Common.◌≡◌, pagable_load.specs.{Decoding.{AllAhead, rows_of}, LoadEnd.to_do, Frames.frames_of, LoadSteps.HasGone, AccessView.{Acts, values_at}}}
+use Rattle.pagable_load.specs.{AccessView.{Acts, values_at}, Decoding.{RowsFit, rows_of}, Frames.frames_of, LoadEnd.to_do, LoadSteps.HasGone}
+use Rattle.std.proofs.Common.{◌≡◌}
 use Rattle.pagable_load.proofs.reading.Reading.run.Given as goal
 
 abbrev pub invariant-loop-answer : goal.invariant-loop-answer
@@ -6,9 +7,9 @@ invariant-loop-answer g l = record {
   so_far : Acts g.A.Access.known_state g.A.Access.acting l.fn.access l.access
       (λ a s t. HasGone (values_at g.E.Node.NodeSet g.E.Env g.E.Hash.KeyHash a.environment)
       a.me l.fn.self l.self s t);
-  ahead : AllAhead (values_at g.E.Node.NodeSet g.E.Env g.E.Hash.KeyHash (g.A.Access.acting l.access).environment).types
+  ahead : RowsFit (values_at g.E.Node.NodeSet g.E.Env g.E.Hash.KeyHash (g.A.Access.acting l.access).environment).types
       (frames_of l.self.top l.self.below.items) (rows_of l.ahead);
-  sort : l.self.for_cell ≡ l.fn.self.for_cell;
+  for_cell : l.self.for_cell ≡ l.fn.self.for_cell;
 }
 
 abbrev pub decreases-loop-answer : goal.decreases-loop-answer

@@ -1,7 +1,9 @@
-use Rattle.{pagable_pageout.{proofs.Waits.{failure-less, less-open}, specs.{Slots.{open_worker, shelf_in, slots_in}, Table.shelf_of}}, std.proofs.Common.{ap, refl, sym, ◌∙◌}}
+use Rattle.pagable_pageout.proofs.Waits.{failure-less, less-open}
+use Rattle.pagable_pageout.specs.{Slots.{open_worker, shelf_in, slots_in}, Table.shelf_of}
+use Rattle.std.proofs.Common.{ap, refl, sym, ◌∙◌}
 
 pub invariant_of-self-clause-ends : Rattle.pagable_pageout.proofs.lent_table.LentTable.fail.Goals.invariant_of-self-clause-ends
 invariant_of-self-clause-ends g c =
     let old = c.args.self.now in
-    less-open (shelf_of old) (shelf_in c.fail_all.new.slots old.waits)
-    (λ j w e. failure-less c.args.worker.0 (slots_in old.slots j) w (sym (ap open_worker (c.fail_all.ensures.slots j)) ∙ e)) (λ v. refl) old.ends
+    less-open (shelf_of old) (shelf_in c.fail_open_claims.new.slots old.waits)
+    (λ j w e. failure-less c.args.worker.0 (slots_in old.slots j) w (sym (ap open_worker (c.fail_open_claims.ensures.slots j)) ∙ e)) (λ v. refl) old.ends

@@ -1,4 +1,7 @@
-use Rattle.{pagable_pageout.{proofs.Waits.same-numbers, specs.Slots.{outcome_of, slot_of}}, std.{proofs.Common.{ap, arith, inl, inr, refl, sym, ◌∙◌}, specs.Option.option_map}}
+use Rattle.pagable_pageout.proofs.Waits.{same-numbers}
+use Rattle.pagable_pageout.specs.Slots.{outcome_of, slot_of}
+use Rattle.std.proofs.Common.{ap, arith, inl, inr, refl, sym, ◌∙◌}
+use Rattle.std.specs.Option.{option_map}
 use Rattle.pagable_pageout.proofs.lent_table.LentTable.probe.Goals as goal
 
 pub returns-in-Failed-clause-finds : goal.returns-in-Failed-clause-finds
@@ -30,18 +33,18 @@ returns-then-found-place-clause-refused g c =
 
 pub returns-else-found-place-clause-finds : goal.returns-else-found-place-clause-finds
 returns-else-found-place-clause-finds g c = (
-  omega (arith, c.again.ensures.height),
+  omega (arith, c.copy.ensures.height),
   record {
     slot = slot_of c.in-Some.slot.now;
     claimed = ap (option_map slot_of) (sym c.in-Some.ensures.value);
-    known = rw (c.again.ensures.key, c.again.ensures.height) (ap outcome_of c.in-Published.is);
+    known = rw (c.copy.ensures.key, c.copy.ensures.height) (ap outcome_of c.in-Published.is);
   },
 )
 
 pub returns-else-found-place-clause-own : goal.returns-else-found-place-clause-own
 returns-else-found-place-clause-own g c =
     let own = c.args.self.now.own c.args.identity c.in-Some.slot.now (sym c.in-Some.ensures.value) c.in-Published.found c.in-Published.is in
-    c.again.ensures.identity ∙ same-numbers c.in-Published.found.identity c.args.identity own.0 own.1
+    c.copy.ensures.identity ∙ same-numbers c.in-Published.found.identity c.args.identity own.0 own.1
 
 pub returns-then-would_deadlock-clause-refused : goal.returns-then-would_deadlock-clause-refused
 returns-then-would_deadlock-clause-refused g c =

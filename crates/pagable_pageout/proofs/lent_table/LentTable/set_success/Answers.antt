@@ -1,4 +1,6 @@
-use Rattle.{std.proofs.Common.{refl, rules}, pagable_pager_spec.specs.{Workers.with_outcome, World.published}, pagable_pageout.proofs.Waits.{changed-is, changed-table, outcome-less}}
+use Rattle.pagable_pageout.proofs.Waits.{changed-is, changed-table, outcome-less}
+use Rattle.pagable_pager_spec.specs.{Workers.with_outcome, World.published}
+use Rattle.std.proofs.Common.{refl, rules}
 
 pub returns-in-Some : Rattle.pagable_pageout.proofs.lent_table.LentTable.set_success.Goals.returns-in-Some
 returns-in-Some g c =

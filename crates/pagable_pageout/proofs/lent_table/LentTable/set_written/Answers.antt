@@ -1,4 +1,6 @@
-use Rattle.{pagable_pageout.{proofs.Waits.{changed-is, changed-table}, specs.Slots.with_references}, std.proofs.Common.{Some, refl, rules}}
+use Rattle.pagable_pageout.proofs.Waits.{changed-is, changed-table}
+use Rattle.pagable_pageout.specs.Slots.{with_references}
+use Rattle.std.proofs.Common.{Some, refl, rules}
 
 pub returns-in-Some : Rattle.pagable_pageout.proofs.lent_table.LentTable.set_written.Goals.returns-in-Some
 returns-in-Some g c =

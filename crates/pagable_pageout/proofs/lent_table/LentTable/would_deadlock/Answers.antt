@@ -1,5 +1,7 @@
-use Rattle.{pagable_pageout.{proofs.Waits.{leads-no-more, leads-on, nearer}, specs.Table.shelf_of}, std.proofs.{Common.{arith, false, sym, true, ◌∙◌}, lemmas.Bool.Decides.nat_tests}}
+use Rattle.pagable_pageout.proofs.Waits.{leads-no-more, leads-on, nearer}
+use Rattle.pagable_pageout.specs.Table.{shelf_of}
 use Rattle.pagable_pager_spec.specs.Workers.{is-asker}
+use Rattle.std.proofs.{Common.{arith, false, sym, true, ◌∙◌}, lemmas.Bool.Decides.nat_tests}
 use Rattle.pagable_pageout.proofs.lent_table.LentTable.would_deadlock.Goals as goal
 
 pub returns-then-worker-asker : goal.returns-then-worker-asker

@@ -1,12 +1,15 @@
-use Rattle.{pagable_load.specs.AccessView.values_at, pagable_pager.proofs.LentPins.{environment-is, lender-is, loads-told, me-is, told-so}, std.{proofs.{Common.{refl, subst, ◌∙◌}}, specs.Prelude.IsTrue}}
+use Rattle.pagable_load.specs.AccessView.{values_at}
+use Rattle.pagable_pager.proofs.LentPins.{environment-is, lender-is, loads-told, me-is, told-so}
+use Rattle.std.proofs.Common.{refl, subst, ◌∙◌}
+use Rattle.std.specs.Prelude.{IsTrue}
 use Rattle.pagable_pager.proofs.lent.Lent.pin_by_load.Goals as goal
 
 pub returns : goal.returns
 returns g c =
     let told = told-so _ _ _ _ c.read_rest.ensures.step in
-    let r = c.rooted-reading.ensures in
+    let r = c.reading_with_root-reading.ensures in
     record {
-      loads = λ h. loads-told _ _ _ _ _ c.in_ok-load.ensures.begun c.rooted-reading.result r.load r.key r.of_cell _ _ _ c.requires.caller r.reading
+      loads = λ h. loads-told _ _ _ _ _ c.in_ok-load.ensures.begun c.reading_with_root-reading.result r.load r.key r.of_cell _ _ _ c.requires.caller r.reading
           (λ e. values_at g.E.Node.NodeSet g.E.Env g.E.Hash.KeyHash e) c.in_ok-load.ensures.environment refl c.read_rest.result (told h).1;
       honest = λ h. subst (λ s. IsTrue (g.S.PagableStorage.is_honest s)) c.in_ok-load.ensures.storage (told h).0;
       lender = lender-is c.read_rest.ensures.acting;

@@ -1,8 +1,9 @@
 use Rattle.pagable_load.specs.AccessView.{AdoptsValue, values_at}
-use Rattle.pagable_pager.proofs.Invariant.{adopted_live, brings-so, told-if}
+use Rattle.pagable_pager.proofs.LentCalls.{adopted_live, brings-so, told-if}
 use Rattle.pagable_pager.specs.View.{pager_core, storage_view}
 use Rattle.pagable_tables.proofs.SameViews.{failed}
-use Rattle.std.{proofs.Common.{Ok, rules, subst}, specs.Prelude.IsTrue}
+use Rattle.std.proofs.Common.{Ok, rules, subst}
+use Rattle.std.specs.Prelude.{IsTrue}
 use Rattle.pagable_pager.proofs.lent.LentAccess.load_adopt.Goals as goal
 
 pub returns-in_err-adopted : goal.returns-in_err-adopted

@@ -1,4 +1,9 @@
-use Rattle.{pagable_load.specs.AccessView.values_at, pagable_pager.{proofs.Invariant.{brings-so, told-if}, specs.View.{pager_core, storage_view}}, pagable_pager_spec.specs.LoadCalls.EndCall, std.{proofs.Common.{rules, subst}, specs.Prelude.IsTrue}}
+use Rattle.pagable_load.specs.AccessView.{values_at}
+use Rattle.pagable_pager.proofs.LentCalls.{brings-so, told-if}
+use Rattle.pagable_pager.specs.View.{pager_core, storage_view}
+use Rattle.pagable_pager_spec.specs.LoadCalls.{EndCall}
+use Rattle.std.proofs.Common.{rules, subst}
+use Rattle.std.specs.Prelude.{IsTrue}
 
 pub returns : Rattle.pagable_pager.proofs.lent.LentAccess.load_end.Goals.returns
 returns g c =

@@ -1,4 +1,8 @@
-use Rattle.{pagable_load.specs.AccessView.{TakesLazily, values_at}, pagable_pager.{proofs.Invariant.{fewer_of_same, called_fewer, lazy_live, told-if}, specs.View.{pager_core, storage_view}}, std.{proofs.Common.{Ok, rules, subst}, specs.Prelude.IsTrue}}
+use Rattle.pagable_load.specs.AccessView.{TakesLazily, values_at}
+use Rattle.pagable_pager.proofs.LentCalls.{called_fewer, fewer_of_same, lazy_live, told-if}
+use Rattle.pagable_pager.specs.View.{pager_core, storage_view}
+use Rattle.std.proofs.Common.{Ok, rules, subst}
+use Rattle.std.specs.Prelude.{IsTrue}
 
 pub returns : Rattle.pagable_pager.proofs.lent.LentAccess.load_lazy.Goals.returns
 returns g c =

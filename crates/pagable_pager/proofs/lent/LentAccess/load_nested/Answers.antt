@@ -1,5 +1,10 @@
-use Rattle.{pagable_core.specs.Data.blob_of, pagable_load.specs.AccessView.{AsksFor, values_at}, pagable_pager.{proofs.Invariant.{fewer_of_same, called_fewer, found-made, still-at-work, told-if}, specs.View.{pager_core, storage_view}}}
-use Rattle.{either.specs.declared.Either.Either, std.{proofs.Common.{Ok, rules}, specs.Arc.arc_value}}
+use Rattle.either.specs.declared.Either.{Either}
+use Rattle.pagable_core.specs.Data.{blob_of}
+use Rattle.pagable_load.specs.AccessView.{AsksFor, values_at}
+use Rattle.pagable_pager.proofs.LentCalls.{called_fewer, fewer_of_same, found-made, still-at-work, told-if}
+use Rattle.pagable_pager.specs.View.{pager_core, storage_view}
+use Rattle.std.proofs.Common.{Ok, rules}
+use Rattle.std.specs.Arc.{arc_value}
 use Rattle.pagable_pager.proofs.lent.LentAccess.load_nested.Goals as goal
 
 pub invariant_of-self : goal.invariant_of-self

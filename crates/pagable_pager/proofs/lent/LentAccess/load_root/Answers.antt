@@ -1,4 +1,4 @@
-use Rattle.pagable_pager.proofs.Invariant.{still-at-work}
+use Rattle.pagable_pager.proofs.LentCalls.{still-at-work}
 use Rattle.pagable_pager.proofs.lent.LentAccess.load_root.Goals as goal
 
 pub invariant_of-self : goal.invariant_of-self

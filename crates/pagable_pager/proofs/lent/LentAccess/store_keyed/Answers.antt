@@ -1,5 +1,10 @@
-use Rattle.{pagable_core.specs.Data.blob_of, pagable_load.specs.AccessView.values_at, pagable_value_spec.specs.Blob.key_of, pagable_pager.{proofs.Invariant.{fewer_of_same, called_fewer, told-if}, specs.View.{pager_core, storage_view}}}
-use Rattle.{pagable_pager_spec.specs.Calls.StoreCall, std.proofs.Common.rules}
+use Rattle.pagable_core.specs.Data.{blob_of}
+use Rattle.pagable_load.specs.AccessView.{values_at}
+use Rattle.pagable_pager.proofs.LentCalls.{called_fewer, fewer_of_same, told-if}
+use Rattle.pagable_pager.specs.View.{pager_core, storage_view}
+use Rattle.pagable_pager_spec.specs.Calls.{StoreCall}
+use Rattle.pagable_value_spec.specs.Blob.{key_of}
+use Rattle.std.proofs.Common.{rules}
 
 pub returns-clause-acts : Rattle.pagable_pager.proofs.lent.LentAccess.store_keyed.Goals.returns-clause-acts
 returns-clause-acts g c =

@@ -1,4 +1,5 @@
-use Rattle.pagable_pager.{proofs.Invariant.known-if, specs.View.storage_view}
+use Rattle.pagable_pager.proofs.LentCalls.{known-if}
+use Rattle.pagable_pager.specs.View.{storage_view}
 use Rattle.pagable_pager.proofs.lent.LentWorkerAccess.check_reference.Goals as goal
 
 pub returns-in-Some : goal.returns-in-Some

@@ -1,4 +1,5 @@
-use Rattle.{pagable_load.proofs.LoadSteps.{acts_all, acts_map}, std.proofs.Common.refl}
+use Rattle.pagable_load.proofs.LoadSteps.{acts_all, acts_map}
+use Rattle.std.proofs.Common.{refl}
 use Rattle.pagable_pager.proofs.lent.LentWorkerAccess.set_key_if_loose.Goals as goal
 
 pub returns-in-Some : goal.returns-in-Some

@@ -1,5 +1,12 @@
-use Rattle.{pagable_leaf.proofs.Prepared.begin-wants, pagable_pager.{proofs.{Invariant.called, Leaf.{begin-told, given-so, given-told, in-memory-never, leaf-in, unbegun-leaf, unbegun-place, unbegun-told}}, specs.View.storage_view}}
-use Rattle.{pagable_theorems.proofs.ValuesOwned.begins, std.proofs.Common.{refl}}
+use Rattle.pagable_leaf.proofs.Prepared.{begin-wants}
+use Rattle.pagable_pager.proofs.{
+  Invariant.called,
+  LeafCalls.{given-so, given-told},
+  LeafPins.{begin-told, in-memory-never, leaf-in, unbegun-leaf, unbegun-place, unbegun-told},
+}
+use Rattle.pagable_pager.specs.View.{storage_view}
+use Rattle.pagable_theorems.proofs.ValuesOwned.{begins}
+use Rattle.std.proofs.Common.{refl}
 use Rattle.pagable_pager.proofs.pager.Pager.begin_leaf_load.Goals as goal
 
 pub invariant_of-self : goal.invariant_of-self

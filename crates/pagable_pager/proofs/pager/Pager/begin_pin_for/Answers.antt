@@ -1,4 +1,4 @@
-use Rattle.pagable_pager.proofs.Invariant.{load_starts}
+use Rattle.pagable_pager.proofs.LentCalls.{load_starts}
 
 pub returns-in-Ok-true : Rattle.pagable_pager.proofs.pager.Pager.begin_pin_for.Goals.returns-in-Ok-true
 returns-in-Ok-true g c = let step = rw c.in-Load.is at c.in_ok-load.ensures.step in

@@ -1,6 +1,7 @@
-use Rattle.pagable_pager.specs.View.{storage_view}
-use Rattle.pagable_pager.specs.Setting.{environment_of}
-use Rattle.{pagable_pager.proofs.Invariant.called, pagable_theorems.proofs.ValuesOwned.{rests-then, spares-same}, std.proofs.Common.refl}
+use Rattle.pagable_pager.proofs.Invariant.{called}
+use Rattle.pagable_pager.specs.{Setting.environment_of, View.storage_view}
+use Rattle.pagable_theorems.proofs.ValuesOwned.{rests-then, spares-same}
+use Rattle.std.proofs.Common.{refl}
 
 pub invariant_of-self : Rattle.pagable_pager.proofs.pager.Pager.cache_clear.Goals.invariant_of-self
 invariant_of-self g c = called c.self.invariant c.cache_clear.new.t c.cache_clear.ensures

@@ -1,4 +1,5 @@
-use Rattle.{pagable_pager.proofs.Invariant.{called, calls-tables, owner-free}, pagable_theorems.proofs.ValuesOwned.clones}
+use Rattle.pagable_pager.proofs.Invariant.{called, calls-tables, owner-free}
+use Rattle.pagable_theorems.proofs.ValuesOwned.{clones}
 
 pub invariant_of-self : Rattle.pagable_pager.proofs.pager.Pager.clone_for.Goals.invariant_of-self
 invariant_of-self g c = called c.self.invariant c.clone.new.t c.clone.ensures

@@ -1,4 +1,6 @@
-use Rattle.{pagable_core.specs.Data.blob_of, pagable_pager.proofs.Invariant.{asked, asks-it, fetch-call, kept-so}, std.specs.Arc.arc_value}
+use Rattle.pagable_core.specs.Data.{blob_of}
+use Rattle.pagable_pager.proofs.Invariant.{asked, asks-it, fetch-call, kept-so}
+use Rattle.std.specs.Arc.{arc_value}
 
 pub invariant_of-self : Rattle.pagable_pager.proofs.pager.Pager.fetch.Goals.invariant_of-self
 invariant_of-self g c = let e = c.fetch_data_blocking.ensures in kept-so c.self.invariant c.fetch_data_blocking.new.self e.open e.later

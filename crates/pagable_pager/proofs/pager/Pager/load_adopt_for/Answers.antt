@@ -1,16 +1,17 @@
+use Rattle.pagable_pager.proofs.{Invariant.{known-valued, none-so, only-less, release_at, same-so}, NewValues.not-adopted}
 use Rattle.pagable_pager.specs.View.{storage_view}
-use Rattle.{pagable_pager.proofs.Invariant.{known-valued, none-so, not-adopted, only-less, same-so, release_at}, pagable_theorems.proofs.ValuesOwned.adopted_known}
 use Rattle.pagable_tables.proofs.OwnedByLoad.{eager-pins}
+use Rattle.pagable_theorems.proofs.ValuesOwned.{adopted_known}
 use Rattle.std.proofs.Common.{ap, inl, not, refl, ◌∙◌}
 use Rattle.pagable_pager.proofs.pager.Pager.load_adopt_for.Goals as goal
 
-pub adopt_if_known-requires-clause-valued : goal.adopt_if_known-requires-clause-valued
-adopt_if_known-requires-clause-valued g c n known eager = known-valued c.self.invariant c.args.kind.0 c.args.key n known (eager-pins c.args.kind.0 eager)
+pub adopt_if_cached-requires-clause-valued : goal.adopt_if_cached-requires-clause-valued
+adopt_if_cached-requires-clause-valued g c n known eager = known-valued c.self.invariant c.args.kind.0 c.args.key n known (eager-pins c.args.kind.0 eager)
 
 pub invariant_of-self : goal.invariant_of-self
 invariant_of-self g c =
     let e = c.in-Ok-Some.ensures in
-    release_at c.self.invariant _ _ e.whole e.later e.sheds
+    release_at c.self.invariant _ _ e.whole e.later e.drops
     (λ left. adopted_known c.self.invariant.state left ((rw c.in-Ok-Some.field-0-is at e.known) (storage_view g.S.PagableStorage c.self.inside.storage)
     (ap not c.has_closed-lists.ensures))
     (rw c.in-Ok-Some.field-0-is at e.given).1)
@@ -18,7 +19,7 @@ invariant_of-self g c =
 pub returns-in-Ok-Some : goal.returns-in-Ok-Some
 returns-in-Ok-Some g c =
     let e = c.in-Ok-Some.ensures in
-    let less = only-less c.self.invariant c.adopt_if_known.new.t c.adopt_if_known.new.values e.sheds in
+    let less = only-less c.self.invariant c.adopt_if_cached.new.t c.adopt_if_cached.new.values e.drops in
     rw (← c.self.view_is, ← c.node_type-node_type.ensures.value, ← (c.deref.ensures.value ∙ c.in-Ok.ensures.ok)) (record {
       step = record {
         adopts = (rw c.in-Ok-Some.field-0-is at e.known) (storage_view g.S.PagableStorage c.self.inside.storage)
@@ -30,7 +31,7 @@ returns-in-Ok-Some g c =
     })
 
 pub invariant_of-self-in-Ok-None : goal.invariant_of-self-in-Ok-None
-invariant_of-self-in-Ok-None g c = let e = c.in-Ok-None.ensures in none-so c.self.invariant _ _ e.whole e.later e.sheds (rw c.in-Ok-None.field-0-is at e.same)
+invariant_of-self-in-Ok-None g c = let e = c.in-Ok-None.ensures in none-so c.self.invariant _ _ e.whole e.later e.drops (rw c.in-Ok-None.field-0-is at e.same)
 
 pub adopt_as_new-requires-clause-fresh : goal.adopt_as_new-requires-clause-fresh
 adopt_as_new-requires-clause-fresh g c storage =
@@ -47,14 +48,14 @@ returns-in-Ok-None g c =
     rw (← c.self.view_is, ← (rw c.in-Ok-None.field-0-is at e.same), ← (rw c.in-Ok-None.field-0-is at e.kept))
     (record { step = c.adopt_as_new.ensures.step; moves = c.adopt_as_new.ensures.moves; storage = c.adopt_as_new.ensures.storage })
 
-pub invariant_of-self-in-Err-adopt_if_known : goal.invariant_of-self-in-Err-adopt_if_known
-invariant_of-self-in-Err-adopt_if_known g c = let e = c.in-Err-adopt_if_known.ensures in
-    same-so c.self.invariant _ _ e.whole e.later e.sheds (e.refused (storage_view g.S.PagableStorage c.self.inside.storage)).stays
+pub invariant_of-self-in-Err-adopt_if_cached : goal.invariant_of-self-in-Err-adopt_if_cached
+invariant_of-self-in-Err-adopt_if_cached g c = let e = c.in-Err-adopt_if_cached.ensures in
+    same-so c.self.invariant _ _ e.whole e.later e.drops (e.refused (storage_view g.S.PagableStorage c.self.inside.storage)).stays
 
-pub returns-in-Err-adopt_if_known : goal.returns-in-Err-adopt_if_known
-returns-in-Err-adopt_if_known g c =
-    let e = c.in-Err-adopt_if_known.ensures in
-    let less = only-less c.self.invariant c.adopt_if_known.new.t c.adopt_if_known.new.values e.sheds in
+pub returns-in-Err-adopt_if_cached : goal.returns-in-Err-adopt_if_cached
+returns-in-Err-adopt_if_cached g c =
+    let e = c.in-Err-adopt_if_cached.ensures in
+    let less = only-less c.self.invariant c.adopt_if_cached.new.t c.adopt_if_cached.new.values e.drops in
     rw (← c.self.view_is) (record {
       step = not-adopted c.node_type-node_type.ensures.value (c.deref.ensures.value ∙ c.in-Ok.ensures.ok) refl
           (e.refused (storage_view g.S.PagableStorage c.self.inside.storage));

@@ -1,4 +1,5 @@
-use Rattle.{pagable_pager.proofs.Invariant.{called, calls-tables}, pagable_theorems.proofs.ValuesOwned.begins}
+use Rattle.pagable_pager.proofs.Invariant.{called, calls-tables}
+use Rattle.pagable_theorems.proofs.ValuesOwned.{begins}
 
 pub invariant_of-self : Rattle.pagable_pager.proofs.pager.Pager.load_begin_for.Goals.invariant_of-self
 invariant_of-self g c = called c.self.invariant c.load_begin.new.t c.load_begin.ensures (begins c.self.invariant.state.whole c.load_begin.result)

@@ -1,9 +1,8 @@
-use Rattle.pagable_pager.specs.View.{storage_view}
-use Rattle.pagable_tables.specs.Core.{no_blobs}
 use Rattle.pagable_pager.proofs.Invariant.{asks-kept}
-use Rattle.pagable_tables.proofs.SameViews.{failed, still}
-use Rattle.pagable_tables.specs.Core.{load_in}
+use Rattle.pagable_pager.specs.View.{storage_view}
 use Rattle.pagable_pager_spec.specs.Refusals.{earlier}
+use Rattle.pagable_tables.proofs.SameViews.{failed, still}
+use Rattle.pagable_tables.specs.Core.{load_in, no_blobs}
 use Rattle.std.proofs.Common.{None, ap, inl, inr}
 use Rattle.pagable_pager.proofs.pager.Pager.load_fetch_for.Goals as goal
 
@@ -40,4 +39,4 @@ returns-in_ok-fetch-in-Root-clause-step g c =
     })
 
 pub returns-in_err-known-in-Nested-clause-kept : goal.returns-in_err-known-in-Nested-clause-kept
-returns-in_err-known-in-Nested-clause-kept g c = asks-kept c.load_known.result c.load_known.ensures.step
+returns-in_err-known-in-Nested-clause-kept g c = asks-kept c.load_cached.result c.load_cached.ensures.step

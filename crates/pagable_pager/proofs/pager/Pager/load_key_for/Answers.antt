@@ -1,4 +1,5 @@
-use Rattle.{pagable_pager.proofs.Invariant.{called, calls-tables}, pagable_theorems.proofs.ValuesOwned.begins-key}
+use Rattle.pagable_pager.proofs.Invariant.{called, calls-tables}
+use Rattle.pagable_theorems.proofs.ValuesOwned.{begins-key}
 
 pub invariant_of-self : Rattle.pagable_pager.proofs.pager.Pager.load_key_for.Goals.invariant_of-self
 invariant_of-self g c = called c.self.invariant c.load_key.new.t c.load_key.ensures (begins-key c.self.invariant.state.whole c.load_key.result)

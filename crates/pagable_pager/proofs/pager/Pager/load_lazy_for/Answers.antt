@@ -1,6 +1,7 @@
-use Rattle.pagable_pager.specs.View.{storage_view}
-use Rattle.pagable_pager.specs.Setting.{environment_of}
-use Rattle.{pagable_pager.proofs.Invariant.made-by, pagable_theorems.proofs.ValuesOwned.lazily, std.proofs.Common.{ap, not, refl}}
+use Rattle.pagable_pager.proofs.Invariant.{made-by}
+use Rattle.pagable_pager.specs.{Setting.environment_of, View.storage_view}
+use Rattle.pagable_theorems.proofs.ValuesOwned.{lazily}
+use Rattle.std.proofs.Common.{ap, not, refl}
 
 pub invariant_of-self : Rattle.pagable_pager.proofs.pager.Pager.load_lazy_for.Goals.invariant_of-self
 invariant_of-self g c = made-by c.self.invariant _ c.load_lazy.ensures (λ step. lazily c.self.invariant.state c.load_lazy.result

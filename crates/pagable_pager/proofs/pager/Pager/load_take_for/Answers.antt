@@ -1,4 +1,5 @@
-use Rattle.{pagable_pager.proofs.Invariant.{owner-free, release_at-by}, pagable_theorems.proofs.ValuesOwned.handed_over}
+use Rattle.pagable_pager.proofs.Invariant.{owner-free, release_at-by}
+use Rattle.pagable_theorems.proofs.ValuesOwned.{handed_over}
 
 pub invariant_of-self : Rattle.pagable_pager.proofs.pager.Pager.load_take_for.Goals.invariant_of-self
 invariant_of-self g c = (release_at-by c.self.invariant _ _ c.load_take.ensures c.has_closed-lists.ensures

@@ -1,4 +1,5 @@
-use Rattle.pagable_pager.{proofs.Invariant.is-new, specs.View.storage_view}
+use Rattle.pagable_pager.proofs.LentCalls.{is-new}
+use Rattle.pagable_pager.specs.View.{storage_view}
 
 pub returns-clause-empty : Rattle.pagable_pager.proofs.pager.Pager.new.Goals.returns-clause-empty
 returns-clause-empty g c =

@@ -1,4 +1,6 @@
-use Rattle.{pagable_pager.proofs.Invariant.{caller-free, calls-tables, made-by}, pagable_theorems.proofs.ValuesOwned.born-away, std.proofs.Common.refl}
+use Rattle.pagable_pager.proofs.Invariant.{caller-free, calls-tables, made-by}
+use Rattle.pagable_theorems.proofs.ValuesOwned.{born-away}
+use Rattle.std.proofs.Common.{refl}
 
 pub invariant_of-self : Rattle.pagable_pager.proofs.pager.Pager.new_paged_out.Goals.invariant_of-self
 invariant_of-self g c = made-by c.self.invariant _ c.insert_paged_out.ensures

@@ -1,4 +1,5 @@
-use Rattle.{pagable_pager.proofs.Invariant.{called, calls-tables, owner-free}, pagable_theorems.proofs.ValuesOwned.pins-it}
+use Rattle.pagable_pager.proofs.Invariant.{called, calls-tables, owner-free}
+use Rattle.pagable_theorems.proofs.ValuesOwned.{pins-it}
 
 pub invariant_of-self : Rattle.pagable_pager.proofs.pager.Pager.pin_for.Goals.invariant_of-self
 invariant_of-self g c = called c.self.invariant c.pin.new.t c.pin.ensures

@@ -1,4 +1,4 @@
-use Rattle.pagable_pager.proofs.Invariant.{row_sorted}
+use Rattle.pagable_pager.proofs.LentCalls.{row_sorted}
 use Rattle.pagable_tables.proofs.SameViews.{failed}
 use Rattle.std.proofs.Common.{inr}
 

@@ -1,4 +1,5 @@
-use Rattle.{pagable_pager.proofs.Invariant.{owner-free, release_at-by}, pagable_theorems.proofs.ValuesOwned.released}
+use Rattle.pagable_pager.proofs.Invariant.{owner-free, release_at-by}
+use Rattle.pagable_theorems.proofs.ValuesOwned.{released}
 
 pub invariant_of-self : Rattle.pagable_pager.proofs.pager.Pager.release_for.Goals.invariant_of-self
 invariant_of-self g c =

@@ -1,6 +1,7 @@
-use Rattle.pagable_pager.specs.View.{storage_view}
-use Rattle.pagable_pager.specs.Setting.{environment_of}
-use Rattle.{pagable_pager.proofs.Invariant.called, pagable_theorems.proofs.ValuesOwned.unmoved, std.proofs.Common.refl}
+use Rattle.pagable_pager.proofs.Invariant.{called}
+use Rattle.pagable_pager.specs.{Setting.environment_of, View.storage_view}
+use Rattle.pagable_theorems.proofs.ValuesOwned.{unmoved}
+use Rattle.std.proofs.Common.{refl}
 
 pub invariant_of-self : Rattle.pagable_pager.proofs.pager.Pager.reserve.Goals.invariant_of-self
 invariant_of-self g c = called c.self.invariant c.reserve.new.t c.reserve.ensures (λ r. unmoved r.stays c.self.invariant.state.whole.shut)

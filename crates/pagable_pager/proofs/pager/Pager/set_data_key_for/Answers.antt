@@ -1,4 +1,5 @@
-use Rattle.{pagable_pager.proofs.Invariant.{owner-free, release_at-by}, pagable_theorems.proofs.ValuesOwned.key_set}
+use Rattle.pagable_pager.proofs.Invariant.{owner-free, release_at-by}
+use Rattle.pagable_theorems.proofs.ValuesOwned.{key_set}
 
 pub invariant_of-self : Rattle.pagable_pager.proofs.pager.Pager.set_data_key_for.Goals.invariant_of-self
 invariant_of-self g c =

@@ -1,4 +1,6 @@
-use Rattle.{pagable_core.specs.Data.blob_of, pagable_value_spec.specs.Blob.key_of, pagable_pager.proofs.Invariant.{asks-it, kept-so, store-call}}
+use Rattle.pagable_core.specs.Data.{blob_of}
+use Rattle.pagable_pager.proofs.Invariant.{asks-it, kept-so, store-call}
+use Rattle.pagable_value_spec.specs.Blob.{key_of}
 
 pub invariant_of-self : Rattle.pagable_pager.proofs.pager.Pager.store.Goals.invariant_of-self
 invariant_of-self g c = let e = c.store_data.ensures in kept-so c.self.invariant c.store_data.new.self e.open e.later

@@ -1,5 +1,7 @@
+use Rattle.pagable_pager.proofs.Invariant.{in-step, owner-free, owner-loads}
 use Rattle.pagable_pager.specs.{Setting.environment_of, View.storage_view}
-use Rattle.{pagable_pager.proofs.Invariant.{in-step, owner-free, owner-loads}, pagable_theorems.proofs.ValuesOwned.{spared, takes}, std.proofs.Common.refl}
+use Rattle.pagable_theorems.proofs.ValuesOwned.{spared, takes}
+use Rattle.std.proofs.Common.{refl}
 
 pub invariant_of-self : Rattle.pagable_pager.proofs.pager.Pager.take_pending_for.Goals.invariant_of-self
 invariant_of-self g c =

@@ -1,4 +1,4 @@
-use Rattle.pagable_pager.proofs.Invariant.{begins, called, calls-tables}
+use Rattle.pagable_pager.proofs.{Invariant.{called, calls-tables}, LentCalls.begins}
 
 pub invariant_of-self : Rattle.pagable_pager.proofs.pager.Pager.worker_begin.Goals.invariant_of-self
 invariant_of-self g c = called c.self.invariant c.worker_begin.new.t c.worker_begin.ensures.does (begins c.self.invariant.state.whole c.worker_begin.result)

@@ -1,4 +1,5 @@
-use Rattle.{pagable_pager.proofs.Invariant.{release_at-by}, pagable_theorems.proofs.ValuesOwned.worker_ended}
+use Rattle.pagable_pager.proofs.Invariant.{release_at-by}
+use Rattle.pagable_theorems.proofs.ValuesOwned.{worker_ended}
 
 pub invariant_of-self : Rattle.pagable_pager.proofs.pager.Pager.worker_end.Goals.invariant_of-self
 invariant_of-self g c =

@@ -1,8 +1,8 @@
-use Rattle.std.proofs.{Common.{List, Option, [], ap, arith, rules, ◌%◌, ◌/◌, ◌∙◌, ◌≡◌}, lemmas.List.take_all}
-use Rattle.std.specs.{Global.Vec, Option.option_and_then, Prelude.slice_get}
 use Rattle.pagable_tables.proofs.ListPlaces.{more}
-use Rattle.pagable_tables.proofs.number_table.NumberTable.add_chunks.Goals as goal
 use Rattle.pagable_tables.specs.NumberTable.{place_at, row_by}
+use Rattle.std.proofs.{Common.{List, Option, ap, arith, rules, [], ◌%◌, ◌/◌, ◌∙◌, ◌≡◌}, lemmas.List.take_all}
+use Rattle.std.specs.{Global.Vec, Option.option_and_then, Prelude.slice_get}
+use Rattle.pagable_tables.proofs.number_table.NumberTable.add_chunks.Goals as goal
 
 pub returns-in_ok-resize_with-clause-rows : goal.returns-in_ok-resize_with-clause-rows
 unfolding place_at row_by

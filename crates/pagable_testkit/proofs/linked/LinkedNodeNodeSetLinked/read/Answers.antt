@@ -1,4 +1,5 @@
-use Rattle.{pagable_testkit.proofs.Listed.refused_so, std.proofs.Common.inr}
+use Rattle.pagable_testkit.proofs.Listed.{refused_so}
+use Rattle.std.proofs.Common.{inr}
 use Rattle.pagable_testkit.proofs.linked.LinkedNodeNodeSetLinked.read.Goals as goal
 
 pub returns-in_err-bundle-in-2-clause-gives : goal.returns-in_err-bundle-in-2-clause-gives

@@ -1,4 +1,9 @@
-use Rattle.pagable_traits.proofs.{Items.{collected_more, collected_none}, Lent.{more_held, none_held}, JsonSteps.{all-read, as-read, none-so-far, one-more, refused-so-far, seen-same}, Words.{Err, Ok}}
+use Rattle.pagable_traits.proofs.{
+  Items.{collected_more, collected_none},
+  JsonSteps.{all-read, as-read, none-so-far, one-more, refused-so-far, seen-same},
+  Lent.{more_held, none_held},
+  Words.{Err, Ok},
+}
 use Rattle.pagable_traits.proofs.impls.collecting.collect_items.Goals as goal
 
 pub loop-index-init : goal.loop-index-init

@@ -1,4 +1,5 @@
-use Rattle.pagable_traits.{proofs.{JsonSteps.SoFar, Words.{Collected, read}}, specs.HeldValues.CollectsHeld}
+use Rattle.pagable_traits.proofs.{JsonSteps.SoFar, Words.{Collected, read}}
+use Rattle.pagable_traits.specs.HeldValues.{CollectsHeld}
 use Rattle.pagable_traits.proofs.impls.collecting.collect_items.Given as goal
 
 abbrev pub invariant-loop-index : goal.invariant-loop-index

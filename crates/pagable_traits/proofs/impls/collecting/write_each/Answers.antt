@@ -1,4 +1,8 @@
-use Rattle.pagable_traits.proofs.{Items.{writes-next, writes_no_items}, JsonSteps.{as-form, wrote-is, wrote-more, wrote-nothing, wrote-then-err}, Words.{Err, Error, Ok, Result}}
+use Rattle.pagable_traits.proofs.{
+  Items.{writes-next, writes_no_items},
+  JsonSteps.{as-form, wrote-is, wrote-more, wrote-nothing, wrote-then-err},
+  Words.{Err, Error, Ok, Result},
+}
 use Rattle.pagable_traits.proofs.impls.collecting.write_each.Goals as goal
 
 pub loop-item-init : goal.loop-item-init

@@ -1,7 +1,10 @@
-use Rattle.{pagable_codec.proofs.Reading.moves_refl, pagable_traits.proofs.Items.{collected_more, collected_none, mean_last}}
-use Rattle.pagable_traits.proofs.Json.{array-deep, flag-part, is-array, is-flag, is-text, null-part, object-deep, other-part, text-part}
-use Rattle.pagable_traits.proofs.JsonSteps.{all-read, either-memory, none-so-far, one-more, read-deep, read-err, refused-so-far, seen-same, then-err, then-is, then-ok}
-use Rattle.pagable_traits.proofs.Words.{Is, MeansPair, array_case, insert_entry, mean-none, object_case, of_key, of_value, read, read_with, refl, rules, sequence, string_cmp, variant, ◌≡◌}
+use Rattle.pagable_codec.proofs.Reading.{moves_refl}
+use Rattle.pagable_traits.proofs.{
+  Items.{collected_more, collected_none, mean_last},
+  Json.{array-deep, flag-part, is-array, is-flag, is-text, null-part, object-deep, other-part, text-part},
+  JsonSteps.{all-read, either-memory, none-so-far, one-more, read-deep, read-err, refused-so-far, seen-same, then-err, then-is, then-ok},
+  Words.{Is, MeansPair, array_case, insert_entry, mean-none, object_case, of_key, of_value, read, read_with, refl, rules, sequence, string_cmp, variant, ◌≡◌},
+}
 use Rattle.serde_json.specs.declared.value.Value as values
 use Rattle.pagable_traits.proofs.impls.json_reading.+reading_json.Goals as goal
 
@@ -46,36 +49,36 @@ read_value-returns-in_ok-text-in-3 g t c =
 pub read_value-returns-in-4 : goal.read_value-returns-in-4
 read_value-returns-in-4 g t c =
     let told = c.in_ok-case.ensures in
-    then-is g.E.Env g.D.PagableDeserializer c.array_part.result told.moves told.same_env told.same_levels c.array_part.ensures
+    then-is g.E.Env g.D.PagableDeserializer c.read_array.result told.moves told.same_env told.same_levels c.read_array.ensures
     (other-part _ _ _ _ _ told.gives array_case (rw c.in-4.is refl))
 
 pub read_value-returns-in-5 : goal.read_value-returns-in-5
 read_value-returns-in-5 g t c =
     let told = c.in_ok-case.ensures in
-    then-is g.E.Env g.D.PagableDeserializer c.object_part.result told.moves told.same_env told.same_levels c.object_part.ensures
+    then-is g.E.Env g.D.PagableDeserializer c.read_object.result told.moves told.same_env told.same_levels c.read_object.ensures
     (other-part _ _ _ _ _ told.gives object_case (rw c.in-5.is refl))
 
-pub array_part-returns-in_err-count : goal.array_part-returns-in_err-count
-array_part-returns-in_err-count g t c =
+pub read_array-returns-in_err-count : goal.read_array-returns-in_err-count
+read_array-returns-in_err-count g t c =
     let told = c.in_err-count.ensures in
     read-err g.E.Env g.D.PagableDeserializer c.from_residual.result c.from_residual.ensures.1 told.gives told.moves told.same_env told.same_levels
     (λ no. absurd no) (λ h. rw h refl)
 
-pub array_part-returns-in_err-enter : goal.array_part-returns-in_err-enter
-array_part-returns-in_err-enter g t c =
+pub read_array-returns-in_err-enter : goal.read_array-returns-in_err-enter
+read_array-returns-in_err-enter g t c =
     let told = c.in_ok-count.ensures in
     let down = c.in_err-enter.ensures in
     read-deep g.E.Env g.D.PagableDeserializer c.from_residual-in_err-enter.result c.from_residual-in_err-enter.ensures.1 told.moves told.same_env
     told.same_levels down.err down.same_input down.same_env (array-deep _ _ _ _ _ told.gives)
 
-pub object_part-returns-in_err-count : goal.object_part-returns-in_err-count
-object_part-returns-in_err-count g t c =
+pub read_object-returns-in_err-count : goal.read_object-returns-in_err-count
+read_object-returns-in_err-count g t c =
     let told = c.in_err-count.ensures in
     read-err g.E.Env g.D.PagableDeserializer c.from_residual.result c.from_residual.ensures.1 told.gives told.moves told.same_env told.same_levels
     (λ no. absurd no) (λ h. rw h refl)
 
-pub object_part-returns-in_err-enter : goal.object_part-returns-in_err-enter
-object_part-returns-in_err-enter g t c =
+pub read_object-returns-in_err-enter : goal.read_object-returns-in_err-enter
+read_object-returns-in_err-enter g t c =
     let told = c.in_ok-count.ensures in
     let down = c.in_err-enter.ensures in
     read-deep g.E.Env g.D.PagableDeserializer c.from_residual-in_err-enter.result c.from_residual-in_err-enter.ensures.1 told.moves told.same_env

@@ -1,14 +1,17 @@
-use Rattle.pagable_traits.proofs.{Words.{◌≡◌, ◌+◌, ◌-◌, ◌*◌, insert_entry, string_cmp, Collected, MeanAll, MeansPair, deepest, read, both, json, text, Is, of_key, of_value}, JsonSteps.SoFar}
+use Rattle.pagable_traits.proofs.{
+  JsonSteps.SoFar,
+  Words.{Collected, Is, MeanAll, MeansPair, both, deepest, insert_entry, json, of_key, of_value, read, string_cmp, text, ◌*◌, ◌+◌, ◌-◌, ◌≡◌},
+}
 use Rattle.pagable_traits.proofs.impls.json_reading.+reading_json.Given as goal
 
 abbrev pub decreases-read_value : goal.decreases-read_value
 decreases-read_value g l = 4 * (deepest - g.D.PagableDeserializer.levels l.deserializer.now) + 1
 
-abbrev pub decreases-array_part : goal.decreases-array_part
-decreases-array_part g l = 4 * (deepest - g.D.PagableDeserializer.levels l.deserializer.now)
+abbrev pub decreases-read_array : goal.decreases-read_array
+decreases-read_array g l = 4 * (deepest - g.D.PagableDeserializer.levels l.deserializer.now)
 
-abbrev pub decreases-object_part : goal.decreases-object_part
-decreases-object_part g l = 4 * (deepest - g.D.PagableDeserializer.levels l.deserializer.now)
+abbrev pub decreases-read_object : goal.decreases-read_object
+decreases-read_object g l = 4 * (deepest - g.D.PagableDeserializer.levels l.deserializer.now)
 
 abbrev pub decreases-read_items : goal.decreases-read_items
 decreases-read_items g l = 4 * (deepest - g.D.PagableDeserializer.levels l.deserializer.now) + 3

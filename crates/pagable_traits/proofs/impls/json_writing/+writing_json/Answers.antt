@@ -1,9 +1,15 @@
-use Rattle.pagable_traits.proofs.{Items.{refuses_item, writes_item, writes_no_items}, Json.{arrays, as-value, json-deep, json-long, json-text, member-has, null-value, objects, seen-array}}
-use Rattle.pagable_traits.proofs.{Json.{seen-flag, seen-number, seen-object, seen-text, value-has}, JsonSteps.{wrote-below, wrote-deep, wrote-err, wrote-is}}
-use Rattle.pagable_traits.proofs.{JsonSteps.{wrote-more, wrote-nothing, wrote-then, wrote-then-err}, Maps.written-all}
-use Rattle.pagable_traits.proofs.{Maps.{written-fewer, written-more, written-none, written-refused}, Words.{Is, MeansPair, both, json, of_key, of_value, refl, rules, sym, text, ◌∙◌}}
-use Rattle.pagable_traits.proofs.{Json.{deep_faults, item_faults, long_faults, member_faults, text_faults}, Parts.{refused_second, refuses_first, writes_pair}, Words.{Err, length}}
-use Rattle.pagable_traits.specs.JsonFaults.{EntryFault, Fault, array-deep, array-long, array-part, key-fault, object-deep, object-long, object-part, value-fault}
+use Rattle.pagable_traits.proofs.{
+  Items.{refuses_item, writes_item, writes_no_items},
+  Json.{arrays, as-value, deep_faults, item_faults, json-deep, json-long, json-text, long_faults, member-has, member_faults, null-value, objects, seen-array},
+  Json.{seen-flag, seen-number, seen-object, seen-text, text_faults, value-has},
+  JsonSteps.{wrote-below, wrote-deep, wrote-err, wrote-is, wrote-more, wrote-nothing, wrote-then, wrote-then-err},
+  Maps.{written-all, written-fewer, written-more, written-none, written-refused},
+  Parts.{refused_second, refuses_first, writes_pair},
+  Words.{Err, Is, MeansPair, both, json, length, of_key, of_value, refl, rules, sym, text, ◌∙◌},
+}
+use Rattle.pagable_traits.specs.{
+  JsonFaults.{EntryFault, Fault, array-deep, array-long, array-part, key-fault, object-deep, object-long, object-part, value-fault},
+}
 use Rattle.serde_json.specs.declared.value.Value as values
 use Rattle.pagable_traits.proofs.impls.json_writing.+writing_json.Goals as goal
 
@@ -30,9 +36,9 @@ pub write_value-returns-in-Object : goal.write_value-returns-in-Object
 write_value-returns-in-Object g t c = as-value g.E.Env g.S.PagableSerializer c.args.value.now (values.Object c.in-Object.members) _ c.write_object.result
     c.in-Object.is (seen-object c.args.value.now c.in-Object.members c.in-Object.is) c.write_object.ensures
 
-pub write_array-returns-in_err-write_front : goal.write_array-returns-in_err-write_front
-write_array-returns-in_err-write_front g t c =
-    wrote-err g.E.Env g.S.PagableSerializer c.from_residual.result c.from_residual.ensures.1 c.in_err-write_front.ensures
+pub write_array-returns-in_err-write_case_and_length : goal.write_array-returns-in_err-write_case_and_length
+write_array-returns-in_err-write_case_and_length g t c =
+    wrote-err g.E.Env g.S.PagableSerializer c.from_residual.result c.from_residual.ensures.1 c.in_err-write_case_and_length.ensures
     (λ n l h. (
       (arrays c.args.items.now.items c.len.result (search rules)).long n _ h,
       long_faults (Fault n (values.Array c.args.items.now)) c.len.result (length c.args.items.now.items) _ (search rules) (array-long n c.args.items.now) h,
@@ -42,11 +48,12 @@ write_array-returns-in_err-write_front g t c =
 pub write_array-returns-in_err-enter : goal.write_array-returns-in_err-enter
 write_array-returns-in_err-enter g t c =
     let down = c.in_err-enter.ensures in
-    wrote-deep g.E.Env g.S.PagableSerializer c.from_residual-in_err-enter.result c.from_residual-in_err-enter.ensures.1 c.in_ok-write_front.ensures down.err
+    wrote-deep g.E.Env g.S.PagableSerializer c.from_residual-in_err-enter.result c.from_residual-in_err-enter.ensures.1
+    c.in_ok-write_case_and_length.ensures down.err
     down.same_out down.same_env (λ n le. (
       (arrays c.args.items.now.items _ refl).deep n _ le,
       λ fault. deep_faults (Fault n (values.Array c.args.items.now)) c.len.result (length c.args.items.now.items) _
-          (search rules) c.in_ok-write_front.ensures.ok.0 (λ few. array-deep n c.args.items.now few le) down.err.0,
+          (search rules) c.in_ok-write_case_and_length.ensures.ok.0 (λ few. array-deep n c.args.items.now few le) down.err.0,
     )) (λ h. json-deep _ h)
 
 pub write_array-returns : goal.write_array-returns
@@ -54,7 +61,7 @@ write_array-returns g t c =
     let down = c.in_ok-enter.ensures in
     let up = c.leave.ensures in
     let made = arrays c.args.items.now.items c.len.result (search rules) in
-    wrote-then g.E.Env g.S.PagableSerializer c.write_items-done.result c.in_ok-write_front.ensures
+    wrote-then g.E.Env g.S.PagableSerializer c.write_items-done.result c.in_ok-write_case_and_length.ensures
     (wrote-below g.E.Env g.S.PagableSerializer c.write_items-done.result down.ok down.same_out down.same_env c.write_items-done.ensures up.up up.same_out
     up.same_env)
     made.joins (λ n e l h. (made.lacks n e (l.0, l.1.0), λ fault. array-part n c.args.items.now e l.0 (l.1.1 fault))) (λ e h. h)
@@ -77,9 +84,9 @@ write_items-returns-in_err-write_value g t c = wrote-then-err g.E.Env g.S.Pagabl
           c.item-item.is (l.1 fault)),
     )) (λ h. h)
 
-pub write_object-returns-in_err-write_front : goal.write_object-returns-in_err-write_front
-write_object-returns-in_err-write_front g t c =
-    wrote-err g.E.Env g.S.PagableSerializer c.from_residual.result c.from_residual.ensures.1 c.in_err-write_front.ensures
+pub write_object-returns-in_err-write_case_and_length : goal.write_object-returns-in_err-write_case_and_length
+write_object-returns-in_err-write_case_and_length g t c =
+    wrote-err g.E.Env g.S.PagableSerializer c.from_residual.result c.from_residual.ensures.1 c.in_err-write_case_and_length.ensures
     (λ n l h. (
       (objects c.args.members.now.entries c.len.result c.len.ensures.len c.len.ensures.ordered).long n _ h,
       long_faults (Fault n (values.Object c.args.members.now)) _ _ _ c.len.ensures.len (object-long n c.args.members.now) h,
@@ -88,10 +95,11 @@ write_object-returns-in_err-write_front g t c =
 pub write_object-returns-in_err-enter : goal.write_object-returns-in_err-enter
 write_object-returns-in_err-enter g t c =
     let down = c.in_err-enter.ensures in
-    wrote-deep g.E.Env g.S.PagableSerializer c.from_residual-in_err-enter.result c.from_residual-in_err-enter.ensures.1 c.in_ok-write_front.ensures down.err
+    wrote-deep g.E.Env g.S.PagableSerializer c.from_residual-in_err-enter.result c.from_residual-in_err-enter.ensures.1
+    c.in_ok-write_case_and_length.ensures down.err
     down.same_out down.same_env (λ n le. (
       (objects c.args.members.now.entries c.len.result c.len.ensures.len c.len.ensures.ordered).deep n _ le,
-      λ fault. deep_faults (Fault n (values.Object c.args.members.now)) c.len.result _ _ c.len.ensures.len c.in_ok-write_front.ensures.ok.0
+      λ fault. deep_faults (Fault n (values.Object c.args.members.now)) c.len.result _ _ c.len.ensures.len c.in_ok-write_case_and_length.ensures.ok.0
           (λ few. object-deep n c.args.members.now few le) down.err.0,
     )) (λ h. json-deep _ h)
 
@@ -100,7 +108,7 @@ write_object-returns g t c =
     let made = objects c.args.members.now.entries c.len.result c.len.ensures.len c.len.ensures.ordered in
     let down = c.in_ok-enter.ensures in
     let up = c.leave.ensures in
-    wrote-then g.E.Env g.S.PagableSerializer c.write_members-done.result c.in_ok-write_front.ensures
+    wrote-then g.E.Env g.S.PagableSerializer c.write_members-done.result c.in_ok-write_case_and_length.ensures
     (wrote-below g.E.Env g.S.PagableSerializer c.write_members-done.result down.ok down.same_out down.same_env c.write_members-done.ensures up.up up.same_out
     up.same_env)
     made.joins (λ n e l h. (made.lacks n e (l.0, l.1.0), λ fault. object-part n c.args.members.now e l.0 (l.1.1 fault))) (λ e h. h)

@@ -1,5 +1,5 @@
-use Rattle.serde_json.specs.Data.{boolean}
 use Rattle.pagable_traits.proofs.{Json.{case-err, flag_written, json-memory, no_fault}, JsonSteps.wrote-then, Words.{json, memory_refuses}}
+use Rattle.serde_json.specs.Data.{boolean}
 use Rattle.serde_json.specs.declared.value.Value as values
 use Rattle.pagable_traits.proofs.impls.json_writing.write_flag.Goals as goal
 

@@ -1,7 +1,12 @@
-use Rattle.pagable_traits.proofs.{Json.{case-err, json-memory, no_fault, no_json_fault, number_written, refuses-number}, JsonSteps.wrote-then-err, Parts.{err_along, ok_along}}
-use Rattle.{pagable_traits.proofs.Words.{Error, None, Option, Some, [], as_i64, bytes, grows_refl, grows_trans, inl, inr, json, memory, memory_refuses, nested_in, number_view, refl}}
-use Rattle.{pagable_traits.proofs.Words.{rules, to_z-of_z, w64, ℤ, ◌∙◌, ◌≡◌}, serde_json.specs.Data.number}
+use Rattle.pagable_traits.proofs.{
+  Json.{case-err, json-memory, no_fault, no_json_fault, number_written, refuses-number},
+  JsonSteps.wrote-then-err,
+  Parts.{err_along, ok_along},
+  Words.{Error, IsOutOfMemory, None, Option, Some, as_i64, bytes, grows_refl, grows_trans, inl, inr, json, memory_refuses, nested_in, number_view, refl, rules},
+  Words.{to_z-of_z, w64, ℤ, [], ◌∙◌, ◌≡◌},
+}
 use Rattle.pagable_traits.specs.JsonFaults.{number-fault}
+use Rattle.serde_json.specs.Data.{number}
 use Rattle.serde_json.specs.declared.value.Value as values
 use Rattle.pagable_traits.proofs.impls.json_writing.write_number.Goals as goal
 
@@ -12,7 +17,7 @@ returns-in_default g c =
       ok = tt;
       refused = (refuses-number _ _ Error.JsonNumber none, λ fault. number-fault _ c.args.value.now none);
       only = inr (inr (inl refl));
-      err = grows_refl _;
+      grows = grows_refl _;
       same_env = refl;
       same_levels = refl;
     }
@@ -25,8 +30,8 @@ pub returns-in_err-write_flag : goal.returns-in_err-write_flag
 returns-in_err-write_flag g c =
     let flag = c.in_err-write_flag.ensures in
     let left = c.from_residual-in_err-write_flag in
-    wrote-then-err g.E.Env g.S.PagableSerializer {Z = Unit {0}} {Q = bytes []} {second = memory} left.result left.ensures.1 c.in_ok-write_case.ensures
-    (record { ok = tt; refused = tt; only = flag.only; err = flag.err; same_env = flag.same_env; same_levels = flag.same_levels })
+    wrote-then-err g.E.Env g.S.PagableSerializer {Z = Unit {0}} {Q = bytes []} {second = IsOutOfMemory} left.result left.ensures.1 c.in_ok-write_case.ensures
+    (record { ok = tt; refused = tt; only = flag.only; grows = flag.grows; same_env = flag.same_env; same_levels = flag.same_levels })
     (λ n old mid e l h. (memory_refuses _ _ n json h, no_fault _ h)) (λ h. json-memory _ h)
 
 pub returns : goal.returns
@@ -41,7 +46,7 @@ returns g c =
       refused = no_json_fault c.pagable_serialize.result (values.Number c.args.value.now) (number (number_view c.args.value.now))
           (nested_in g.E.Env g.S.PagableSerializer c.args.serializer.now) w.only;
       only = err_along _ w.only json-memory;
-      err = grows_trans _ _ _ (grows_trans _ _ _ first.err flag.err) w.err;
+      grows = grows_trans _ _ _ (grows_trans _ _ _ first.grows flag.grows) w.grows;
       same_env = w.same_env ∙ flag.same_env ∙ first.same_env;
       same_levels = w.same_levels ∙ flag.same_levels ∙ first.same_levels;
     }

@@ -1,6 +1,6 @@
-use Rattle.serde_json.specs.Data.{string}
 use Rattle.pagable_traits.proofs.{Json.{case-err, json-text, refuses-string, text_faults, text_written}, JsonSteps.wrote-then, Words.string_bytes}
 use Rattle.pagable_traits.specs.JsonFaults.{Fault, text-fault}
+use Rattle.serde_json.specs.Data.{string}
 use Rattle.serde_json.specs.declared.value.Value as values
 use Rattle.pagable_traits.proofs.impls.json_writing.write_text.Goals as goal
 

@@ -1,4 +1,5 @@
-use Rattle.{pagable_traits.proofs.JsonSteps.{as-form, pair-refused, pair-wrote}, std.proofs.Common.{inl, inr}}
+use Rattle.pagable_traits.proofs.JsonSteps.{as-form, pair-refused, pair-wrote}
+use Rattle.std.proofs.Common.{inl, inr}
 
 pub returns-in_err-pagable_serialize : Rattle.pagable_traits.proofs.impls.maps.write_entry.Goals.returns-in_err-pagable_serialize
 returns-in_err-pagable_serialize g c = pair-refused g.E.Env g.S.PagableSerializer g.K.Carried.means g.V.Carried.means c.args.key.now c.args.value.now _ _

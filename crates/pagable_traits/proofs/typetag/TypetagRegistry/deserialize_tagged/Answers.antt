@@ -1,4 +1,5 @@
-use Rattle.{pagable_traits.proofs.{Lent.held_so, Registered.{body_read, unknown_read}}, std.proofs.Common.refl}
+use Rattle.pagable_traits.proofs.{Lent.held_so, Registered.{body_read, unknown_read}}
+use Rattle.std.proofs.Common.{refl}
 
 pub returns-in_default-clause-reads : Rattle.pagable_traits.proofs.typetag.TypetagRegistry.deserialize_tagged.Goals.returns-in_default-clause-reads
 returns-in_default-clause-reads g c = unknown_read g.E.Env g.D.PagableDeserializer g.F.TagReader.read_causes.are g.T.PagableTagged.tag

@@ -1,4 +1,5 @@
-use Rattle.{std.proofs.{Common.{arith, rules}, lemmas.List.{append-nil, take_all}}, pagable_core.proofs.Weighing.{continues, preimage_is}}
+use Rattle.pagable_core.proofs.Weighing.{continues, preimage_is}
+use Rattle.std.proofs.{Common.{arith, rules}, lemmas.List.{append-nil, take_all}}
 
 pub loop-key-init : Rattle.pagable_core.proofs.storage.data.PagableData.compute_key.Goals.loop-key-init
 loop-key-init g c = simp append-nil (search rules)

@@ -1,4 +1,5 @@
-use Rattle.pagable_core.{proofs.Adding.{all_named, keeps_same, taken}, specs.Data.{blob_of, stored_in}}
+use Rattle.pagable_core.proofs.Adding.{all_named, keeps_same, taken}
+use Rattle.pagable_core.specs.Data.{blob_of, stored_in}
 use Rattle.pagable_core.proofs.storage.in_memory.InMemoryBlobsPagableStorage.store_keyed.Goals as goal
 
 pub returns-in-Some-clause-refused : goal.returns-in-Some-clause-refused

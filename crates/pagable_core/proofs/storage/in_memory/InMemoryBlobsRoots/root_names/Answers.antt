@@ -1,7 +1,7 @@
-use Rattle.std.proofs.Common.{IsTrue, List, ◌∙◌, subst}
-use Rattle.std.specs.Prelude.{String, ◌||◌}
-use Rattle.std.specs.Global.{Global}
-use Rattle.pagable_core.{proofs.Names.{all_are_listed, key_is_listed, keys_are_named}, specs.Roots.is_among}
+use Rattle.pagable_core.proofs.Names.{all_are_listed, key_is_listed, keys_are_named}
+use Rattle.pagable_core.specs.Roots.{is_among}
+use Rattle.std.proofs.Common.{IsTrue, List, subst, ◌∙◌}
+use Rattle.std.specs.{Global.Global, Prelude.{String, ◌||◌}}
 use Rattle.pagable_core.proofs.storage.in_memory.InMemoryBlobsRoots.root_names.Goals as goal
 
 pub loop-name-init : goal.loop-name-init

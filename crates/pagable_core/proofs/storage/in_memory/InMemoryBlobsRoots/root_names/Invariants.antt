@@ -1,6 +1,5 @@
-use Rattle.std.specs.Prelude.{IsSome, IsTrue, List, ℕ, ◌||◌}
-use Rattle.std.specs.HashMap.{get_by_text}
 use Rattle.pagable_core.specs.Roots.{is_among}
+use Rattle.std.specs.{HashMap.get_by_text, Prelude.{IsSome, IsTrue, List, ℕ, ◌||◌}}
 use Rattle.pagable_core.proofs.storage.in_memory.InMemoryBlobsRoots.root_names.Given as goal
 
 -- a name that stands for a key is listed, or among those to come

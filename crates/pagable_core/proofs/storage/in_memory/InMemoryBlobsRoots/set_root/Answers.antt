@@ -1,6 +1,5 @@
 -- A name is set at its bytes, and no other one changes.
-use Rattle.std.proofs.Common.{arith}
-use Rattle.std.proofs.lemmas.Map.Text.{text_keys}
+use Rattle.std.proofs.{Common.arith, lemmas.Map.Text.text_keys}
 use Rattle.pagable_core.proofs.storage.in_memory.InMemoryBlobsRoots.set_root.Goals as goal
 
 pub returns-clause-sets : goal.returns-clause-sets

@@ -1,4 +1,5 @@
-use Rattle.{std.proofs.Common.{refl, ◌++◌, take}, pagable_core.proofs.Weighing.{is_weighed_more, take_next}}
+use Rattle.pagable_core.proofs.Weighing.{is_weighed_more, take_next}
+use Rattle.std.proofs.Common.{refl, take, ◌++◌}
 
 pub loop-byte-preserved : Rattle.pagable_core.proofs.storage.weigh.WeighHashKeyHash.update.Goals.loop-byte-preserved
 loop-byte-preserved c = λ front h.

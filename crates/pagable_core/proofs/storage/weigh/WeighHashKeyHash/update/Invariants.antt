@@ -1,4 +1,5 @@
-use Rattle.{std.proofs.Common.{List, ℕ, ◌++◌, take}, pagable_core.specs.Data.IsWeighed}
+use Rattle.pagable_core.specs.Data.{IsWeighed}
+use Rattle.std.proofs.Common.{List, take, ℕ, ◌++◌}
 use Rattle.pagable_core.proofs.storage.weigh.WeighHashKeyHash.update.Given as goal
 
 abbrev pub invariant-loop-byte : goal.invariant-loop-byte

@@ -1,5 +1,8 @@
-use Rattle.pagable_traits.proofs.{JsonSteps.{as-form, whole-wrote, wrote-err}, Parts.{err_along, no-some, ok_along, writes_absent}}
-use Rattle.pagable_traits.proofs.Words.{MeansOption, [], bool_form, bytes, inl, inr, means-some, memory, memory_refuses, present, refused_memory, some-form, true}
+use Rattle.pagable_traits.proofs.{
+  JsonSteps.{as-form, whole-wrote, wrote-err},
+  Parts.{err_along, no-some, ok_along, writes_absent},
+  Words.{IsOutOfMemory, MeansOption, bool_form, bytes, inl, inr, means-some, memory_refuses, present, refused_memory, some-form, true, []},
+}
 use Rattle.pagable_traits.proofs.impls.holders.OptionPagableSerialize.pagable_serialize.Goals as goal
 
 pub returns-in-None : goal.returns-in-None
@@ -9,7 +12,7 @@ returns-in-None g c =
       ok = rw c.in-None.is (ok_along c.write_flag.result f.ok (λ e. writes_absent _ _ _ _ _ e));
       refused = refused_memory c.write_flag.result _ _ _ f.only;
       only = err_along c.write_flag.result f.only (λ e h. inl h);
-      err = f.err;
+      grows = f.grows;
       same_env = f.same_env;
       same_levels = f.same_levels;
     }
@@ -17,8 +20,8 @@ returns-in-None g c =
 pub returns-in_err-write_flag-in-Some : goal.returns-in_err-write_flag-in-Some
 returns-in_err-write_flag-in-Some g c =
     let f = c.in_err-write_flag-in-Some.ensures in
-    wrote-err g.E.Env g.S.PagableSerializer {X = Unit {0}} {P = bytes []} {first = memory} c.from_residual.result c.from_residual.ensures.1
-    (record { ok = tt; refused = tt; only = f.only; err = f.err; same_env = f.same_env; same_levels = f.same_levels }) (λ n l h. memory_refuses _ _ n _ h)
+    wrote-err g.E.Env g.S.PagableSerializer {X = Unit {0}} {P = bytes []} {first = IsOutOfMemory} c.from_residual.result c.from_residual.ensures.1
+    (record { ok = tt; refused = tt; only = f.only; grows = f.grows; same_env = f.same_env; same_levels = f.same_levels }) (λ n l h. memory_refuses _ _ n _ h)
     (λ h. inl h)
 
 pub returns-in_ok-write_flag-in-Some : goal.returns-in_ok-write_flag-in-Some
@@ -26,7 +29,7 @@ returns-in_ok-write_flag-in-Some g c =
     let f = c.in_ok-write_flag-in-Some.ensures in
     let v = as-form g.E.Env g.S.PagableSerializer _ g.T.Carried.shape g.T.PagableSerialize.write_causes.are c.pagable_serialize.result f.same_env
     c.pagable_serialize.ensures in
-    whole-wrote g.E.Env g.S.PagableSerializer {X = Unit {0}} {p = memory} {u = tt} c.pagable_serialize.result present (bool_form true) _ _ _
+    whole-wrote g.E.Env g.S.PagableSerializer {X = Unit {0}} {p = IsOutOfMemory} {u = tt} c.pagable_serialize.result present (bool_form true) _ _ _
     (MeansOption g.T.Carried.means.of c.args.self.now)
     (λ m is. rw c.in-Some.is (means-some _ m is)) (λ n m b k f. some-form _ _ m b k f) (λ n. no-some n _)
-    (record { ok = f.ok; refused = tt; only = tt; err = f.err; same_env = f.same_env; same_levels = f.same_levels }) v (λ e h. inr h)
+    (record { ok = f.ok; refused = tt; only = tt; grows = f.grows; same_env = f.same_env; same_levels = f.same_levels }) v (λ e h. inr h)

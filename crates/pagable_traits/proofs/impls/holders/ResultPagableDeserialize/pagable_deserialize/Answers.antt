@@ -1,4 +1,7 @@
-use Rattle.pagable_traits.proofs.{JsonSteps.{as-read, read-err, then-err, then-ok}, Words.{Err, Ok, failure, inl, inr, means-err, means-ok, read, read_with, refl, success}}
+use Rattle.pagable_traits.proofs.{
+  JsonSteps.{as-read, read-err, then-err, then-ok},
+  Words.{Err, Ok, failure, inl, inr, means-err, means-ok, read, read_with, refl, success},
+}
 use Rattle.pagable_traits.proofs.impls.holders.ResultPagableDeserialize.pagable_deserialize.Goals as goal
 
 pub returns-in_err-good-clause-reads : goal.returns-in_err-good-clause-reads

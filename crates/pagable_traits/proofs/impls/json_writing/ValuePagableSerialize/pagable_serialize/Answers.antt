@@ -5,5 +5,5 @@ returns g c =
     let told = c.write_value.ensures in
     record {
       wrote = wrote-as g.E.Env g.S.PagableSerializer c.write_value.result told (λ n old new w. w) (λ n e l. l.0);
-      first = err_along c.write_value.result told.refused (λ e l. l.1);
+      first_fault = err_along c.write_value.result told.refused (λ e l. l.1);
     }

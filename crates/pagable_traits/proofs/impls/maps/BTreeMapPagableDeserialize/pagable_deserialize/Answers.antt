@@ -1,4 +1,4 @@
-use Rattle.pagable_traits.proofs.{JsonSteps.reads-as, Lent.sorted_map_holds, Words.{ordered, ordering_reverse}, Maps.key_like, Maps.reads_sorted_map}
+use Rattle.pagable_traits.proofs.{JsonSteps.reads-as, Lent.sorted_map_holds, Maps.{key_like, reads_sorted_map}, Words.{ordered, ordering_reverse}}
 
 pub returns-clause-reads : Rattle.pagable_traits.proofs.impls.maps.BTreeMapPagableDeserialize.pagable_deserialize.Goals.returns-clause-reads
 returns-clause-reads g c =

@@ -1,4 +1,9 @@
-use Rattle.pagable_traits.proofs.{Items.shows_entries, JsonSteps.wrote-counted, Maps.{key_like, wraps_sorted_map}, Words.{ordered, ordering_reverse, pairs, some}}
+use Rattle.pagable_traits.proofs.{
+  Items.shows_entries,
+  JsonSteps.wrote-counted,
+  Maps.{key_like, wraps_sorted_map},
+  Words.{ordered, ordering_reverse, pairs, some},
+}
 
 pub returns : Rattle.pagable_traits.proofs.impls.maps.BTreeMapPagableSerialize.pagable_serialize.Goals.returns
 returns g c =

@@ -1,4 +1,4 @@
-use Rattle.pagable_traits.proofs.{JsonSteps.reads-as, Lent.hash_map_holds, Words.same_key, Maps.key_like, Hashed.reads_hash_map}
+use Rattle.pagable_traits.proofs.{Hashed.reads_hash_map, JsonSteps.reads-as, Lent.hash_map_holds, Maps.key_like, Words.same_key}
 
 pub returns-clause-reads : Rattle.pagable_traits.proofs.impls.maps.HashMapPagableDeserialize.pagable_deserialize.Goals.returns-clause-reads
 returns-clause-reads g c =

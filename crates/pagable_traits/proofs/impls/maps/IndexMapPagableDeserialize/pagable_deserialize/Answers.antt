@@ -1,4 +1,4 @@
-use Rattle.pagable_traits.proofs.{JsonSteps.reads-as, Lent.placed_map_holds, Words.same_key, Maps.key_like, Maps.reads_placed_map}
+use Rattle.pagable_traits.proofs.{JsonSteps.reads-as, Lent.placed_map_holds, Maps.{key_like, reads_placed_map}, Words.same_key}
 
 pub returns-clause-reads : Rattle.pagable_traits.proofs.impls.maps.IndexMapPagableDeserialize.pagable_deserialize.Goals.returns-clause-reads
 returns-clause-reads g c =

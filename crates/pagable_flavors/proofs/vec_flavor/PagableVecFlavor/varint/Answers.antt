@@ -1,4 +1,0 @@
-use Rattle.{std.proofs.Common.{◌+◌, ◌%◌, refl}, pagable_flavors.proofs.Varint.WritesOn_more}
-
-pub loop-rest-preserved : Rattle.pagable_flavors.proofs.vec_flavor.PagableVecFlavor.varint.Goals.loop-rest-preserved
-loop-rest-preserved c = WritesOn_more (128 + c.loop-rest.rest % 128) c.loop-rest.invariant c.loop-rest-test.true refl c.in_ok-try_push.ensures.ok

@@ -1,0 +1,23 @@
+use Rattle.pagable_leaf.proofs.{Prepared.{begin-refused, leaf-roomier}, Words.refl}
+use Rattle.pagable_tables.proofs.OwnedByLoad.{widens-does}
+use Rattle.pagable_leaf.proofs.leaf.prepare_pin.Goals as goal
+
+pub returns-in-Ok-clause-leaf : goal.returns-in-Ok-clause-leaf
+returns-in-Ok-clause-leaf c storage =
+    let does = widens-does c.args.t.now c.reserve.new.handles c.args.t.now.ref_counts.nodes c.args.t.now.cache c.requires c.reserve.ensures.widens (λ n. refl)
+    (λ n. refl) (λ n. refl) (λ kind key. refl) in
+    leaf-roomier (does.does storage) (c.in-Some.ensures.leaf storage)
+
+pub returns-in-Ok-clause-does : goal.returns-in-Ok-clause-does
+returns-in-Ok-clause-does c = widens-does c.args.t.now c.reserve.new.handles c.args.t.now.ref_counts.nodes c.args.t.now.cache c.requires
+    c.reserve.ensures.widens (λ n. refl) (λ n. refl) (λ n. refl) (λ kind key. refl)
+
+pub returns-in-Err-clause-does : goal.returns-in-Err-clause-does
+returns-in-Err-clause-does c = widens-does c.args.t.now c.reserve.new.handles c.args.t.now.ref_counts.nodes c.args.t.now.cache c.requires
+    c.reserve.ensures.widens (λ n. refl) (λ n. refl) (λ n. refl) (λ kind key. refl)
+
+pub returns-in-Err-clause-refused : goal.returns-in-Err-clause-refused
+returns-in-Err-clause-refused c storage =
+    let does = widens-does c.args.t.now c.reserve.new.handles c.args.t.now.ref_counts.nodes c.args.t.now.cache c.requires c.reserve.ensures.widens (λ n. refl)
+    (λ n. refl) (λ n. refl) (λ kind key. refl) in
+    rw c.from.ensures (begin-refused c.args.handle c.in-Some.ensures.number (does.does storage) (c.in-Some.ensures.leaf storage))

@@ -1,9 +1,0 @@
-use Rattle.{pagable_load.{proofs.LoadSteps.LentTo, specs.AccessView.IfKnown}, std.{proofs.Common.{length, ◌≡◌}, specs.Arc.arc_value}}
-use Rattle.pagable_load.proofs.reading.lend.Given as goal
-
--- those before this one lend theirs
-abbrev pub invariant-loop-reference : goal.invariant-loop-reference
-invariant-loop-reference g l = record {
-  long : length l.lent.items ≡ l.reference-index;
-  lent : IfKnown (g.A.Access.known_state l.access) (λ s. LentTo arc_value s l.got l.reference-index l.lent.items);
-}

@@ -1,9 +1,0 @@
-use Rattle.std.proofs.Common.{◌≡◌, ◌+◌, ◌<◌, ℕ, vec_len, slice_index_or}
-use Rattle.pagable_locked.proofs.page_out_all.jobs.Given as goal
-
-abbrev pub invariant-loop-worker : goal.invariant-loop-worker
-invariant-loop-worker g l = record {
-  parts : l.all.share.parts + l.worker ≡ l.workers + 1;
-  count : vec_len l.jobs ≡ l.worker;
-  own : (i : ℕ) (d : _) → i < l.worker → (slice_index_or l.jobs.items i d).worker ≡ i;
-}

@@ -1,0 +1,191 @@
+-- The encoding and the meaning of a type's values, made of those of its fields.
+use Rattle.pagable_traits.specs.{
+  Meanings.{AreSingle, Meanings, exactly, lists, lists_single, options, options_single, pairs, pairs_single, seen_by},
+  OwnCauses.{ReadCauses, WriteCauses, reads_either, reads_memory, reads_memory_or, reads_never, writes_either},
+  OwnCauses.{writes_long_or, writes_memory, writes_memory_or, writes_never},
+  ReadBack.{IsReadableThroughout, basic_is_read, over_is_read, two_is_read},
+  References.{holding_kind, holding_means, loose_kind, loose_means, plain_means, reads_lending, reference_has_one_form},
+  References.reference_is_read,
+  Refers.{ListsInOrder, both_in_order, flag_in_order, list_in_order, nothing_in_order, optional_in_order},
+  Refers.{reference_in_order, signed_in_order, text_in_order, unsigned_in_order},
+  declared.{arc.HoldingArc.HoldingArc, pagable_arc.PagableArc.PagableArc, raw_ref.RawRef.RawRef},
+}
+use Rattle.pagable_value_spec.specs.{
+  OneForm.{HasOneFormThroughout, basic_has_one_form, over_has_one_form, two_has_one_form},
+  Shape.Shape,
+}
+use Rattle.std.specs.{
+  Global.Vec,
+  Int.Width,
+  Prelude.{Bool, Option, String, refl, ℕ, ℤ},
+  String.string_bytes,
+  declared.alloc.Global.Global,
+}
+use Rattle.pagable_value_spec.specs.Meaning as meanings
+use Rattle.pagable_value_spec.specs.Shape as shapes
+
+-- What the impls of a type say of its values: their shape, their one meaning each, all errors of writing them, and the
+-- errors of reading them other than faults of the input and of references; and, in every environment, that each form
+-- lists the references in their order, that no meaning has two forms, and that forms are read back.
+pub record Encoding (T : Type 0) : Type 1 where
+  pub shape : Shape
+  pub means : Meanings T
+  pub single : AreSingle means
+  pub writes : WriteCauses
+  pub reads : ReadCauses
+  pub in_order : (parts : ℕ → Shape) → ListsInOrder parts shape
+  pub one_form : (parts : ℕ → Shape) → HasOneFormThroughout parts shape
+  pub is_read : (parts : ℕ → Shape) → IsReadableThroughout parts shape
+
+-- the unit, which is written as no byte
+abbrev pub empty : Encoding Unit
+empty = record {
+  shape = shapes.nothing;
+  means = exactly (λ x. meanings.none);
+  single = λ x m is. is;
+  writes = writes_never;
+  reads = reads_never;
+  in_order = λ parts. nothing_in_order parts;
+  one_form = λ parts. basic_has_one_form tt;
+  is_read = λ parts. basic_is_read tt;
+}
+
+-- a number without a sign, of this width: `number w64` of u64
+abbrev pub number : Width → Encoding ℕ
+number w = record {
+  shape = shapes.unsigned w;
+  means = exactly meanings.number;
+  single = λ n m is. is;
+  writes = writes_memory;
+  reads = reads_never;
+  in_order = λ parts. unsigned_in_order parts w;
+  one_form = λ parts. basic_has_one_form tt;
+  is_read = λ parts. basic_is_read tt;
+}
+
+-- a number with a sign
+abbrev pub integer : Width → Encoding ℤ
+integer w = record {
+  shape = shapes.signed w;
+  means = exactly meanings.integer;
+  single = λ n m is. is;
+  writes = writes_memory;
+  reads = reads_never;
+  in_order = λ parts. signed_in_order parts w;
+  one_form = λ parts. basic_has_one_form tt;
+  is_read = λ parts. basic_is_read tt;
+}
+
+abbrev pub flag : Encoding Bool
+flag = record {
+  shape = shapes.flag;
+  means = exactly meanings.flag;
+  single = λ b m is. is;
+  writes = writes_memory;
+  reads = reads_never;
+  in_order = λ parts. flag_in_order parts;
+  one_form = λ parts. basic_has_one_form tt;
+  is_read = λ parts. basic_is_read tt;
+}
+
+abbrev pub text : Encoding (String Global)
+text = record {
+  shape = shapes.text;
+  means = exactly (λ s. meanings.text (string_bytes s));
+  single = λ s m is. is;
+  writes = writes_long_or writes_memory;
+  reads = reads_memory;
+  in_order = λ parts. text_in_order parts;
+  one_form = λ parts. basic_has_one_form tt;
+  is_read = λ parts. basic_is_read tt;
+}
+
+-- a reference of the kind with this number: `RawRef<KIND>`
+abbrev pub one : (kind : ℕ) → Encoding (RawRef kind)
+one kind = record {
+  shape = shapes.reference kind;
+  means = exactly (plain_means kind);
+  single = λ r m is. is;
+  writes = writes_memory;
+  reads = reads_never;
+  in_order = λ parts. reference_in_order parts kind;
+  one_form = λ parts. reference_has_one_form parts kind;
+  is_read = λ parts. reference_is_read parts kind;
+}
+
+-- a loose reference to a value of the type number t: `PagableArc<T>`
+abbrev pub loose : {T : Type 0} → ℕ → Encoding (PagableArc T)
+loose t = record {
+  shape = shapes.reference (loose_kind t);
+  means = exactly (loose_means t);
+  single = λ r m is. is;
+  writes = writes_memory;
+  reads = reads_never;
+  in_order = λ parts. reference_in_order parts (loose_kind t);
+  one_form = λ parts. reference_has_one_form parts (loose_kind t);
+  is_read = λ parts. reference_is_read parts (loose_kind t);
+}
+
+-- a reference that holds its value, of the type number t: `Arc<T>` (false), `PinnedPagableArc<T>` (true)
+abbrev pub holding : {T : Type 0} {sort : ℕ} → ℕ → Bool → Encoding (HoldingArc T sort)
+holding t pins = record {
+  shape = shapes.reference (holding_kind t pins);
+  means = exactly (holding_means t pins);
+  single = λ r m is. is;
+  writes = writes_memory;
+  reads = reads_lending;
+  in_order = λ parts. reference_in_order parts (holding_kind t pins);
+  one_form = λ parts. reference_has_one_form parts (holding_kind t pins);
+  is_read = λ parts. reference_is_read parts (holding_kind t pins);
+}
+
+abbrev pub optional : {T : Type 0} → Encoding T → Encoding (Option T)
+optional a = record {
+  shape = shapes.optional a.shape;
+  means = options a.means;
+  single = options_single a.means a.single;
+  writes = writes_memory_or a.writes;
+  reads = a.reads;
+  in_order = λ parts. optional_in_order parts a.shape (a.in_order parts);
+  one_form = λ parts. over_has_one_form refl (a.one_form parts);
+  is_read = λ parts. over_is_read refl (a.is_read parts);
+}
+
+-- a `Vec`
+abbrev pub many : {T : Type 0} → Encoding T → Encoding (Vec T)
+many a = record {
+  shape = shapes.list a.shape;
+  means = seen_by (λ v. v.items) (lists a.means);
+  single = λ v. lists_single a.means a.single v.items;
+  writes = writes_long_or (writes_memory_or a.writes);
+  reads = reads_memory_or a.reads;
+  in_order = λ parts. list_in_order parts a.shape (a.in_order parts);
+  one_form = λ parts. over_has_one_form refl (a.one_form parts);
+  is_read = λ parts. over_is_read refl (a.is_read parts);
+}
+
+-- a pair; more fields are the first and the pair of the others
+abbrev pub two : {A B : Type 0} → Encoding A → Encoding B → Encoding (A × B)
+two a b = record {
+  shape = shapes.both a.shape b.shape;
+  means = pairs a.means b.means;
+  single = pairs_single a.means b.means a.single b.single;
+  writes = writes_either a.writes b.writes;
+  reads = reads_either a.reads b.reads;
+  in_order = λ parts. both_in_order parts a.shape b.shape (a.in_order parts) (b.in_order parts);
+  one_form = λ parts. two_has_one_form (refl, refl) (a.one_form parts) (b.one_form parts);
+  is_read = λ parts. two_is_read (refl, refl) (a.is_read parts) (b.is_read parts);
+}
+
+-- a struct, seen as the pairs of its fields
+abbrev pub fields : {X Y : Type 0} → (X → Y) → Encoding Y → Encoding X
+fields view a = record {
+  shape = a.shape;
+  means = seen_by view a.means;
+  single = λ x. a.single (view x);
+  writes = a.writes;
+  reads = a.reads;
+  in_order = a.in_order;
+  one_form = a.one_form;
+  is_read = a.is_read;
+}

@@ -1,6 +1,0 @@
-use Rattle.pagable_pageout.specs.Slots.{FailedTo}
-use Rattle.pagable_pageout.proofs.lent_slot.fail_all.Given as goal
-
--- the rows so far are failed
-abbrev pub invariant-loop-place : goal.invariant-loop-place
-invariant-loop-place g l = FailedTo l.worker l.place l.fn.slots.entries l.slots.entries

@@ -1,0 +1,18 @@
+use Rattle.pagable_pageout.proofs.Nodes.{results-stand}
+use Rattle.pagable_pageout.specs.{Slots.keys_of, declared.tasks.Task.Task}
+use Rattle.std.proofs.Common.{refl}
+use mathlib.Core.Logic.{∥∥₁_map}
+use Rattle.pagable_pageout.proofs.turns.turn_after_store.Goals as goal
+
+pub returns-clause-follows : goal.returns-clause-follows
+returns-clause-follows g c =
+    let says = c.make_done.ensures in rw c.in-Some.is (
+      Task.SetKey c.make_done.result c.in-Some.node.through,
+      refl,
+      rw (says.reference, says.key, says.height) refl,
+      tt,
+    )
+
+pub returns-in_default-clause-over : goal.returns-in_default-clause-over
+returns-in_default-clause-over g c =
+    let w = c.args.waiting in ∥∥₁_map (results-stand w c.requires.all) (λ ts. record { keys = keys_of w.children.items; below = ts; key_is = c.requires.key })

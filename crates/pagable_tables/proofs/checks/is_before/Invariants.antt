@@ -1,5 +1,0 @@
-use Rattle.pagable_tables.proofs.Words.{◌≡◌, false, is_in, seen}
-use Rattle.pagable_tables.proofs.checks.is_before.Given as goal
-
-abbrev pub invariant-loop-at : goal.invariant-loop-at
-invariant-loop-at l = is_in (seen l.named l.at) l.number ≡ false

@@ -1,9 +1,0 @@
-use Rattle.pagable_tables.proofs.Words.{◌≤◌, ◌&&◌, [], take, length, None, Owner, Core, nobody, is_named_by, is_owned_in, live, IsFalling, Sheds, owns_nothing, row_by, counts_at, SoFar}
-use Rattle.pagable_tables.proofs.load.hand_over_named.Given as goal
-
-abbrev pub invariant-loop-reference : goal.invariant-loop-reference
-invariant-loop-reference g l = IsFalling l.t [] owns_nothing
-    × (length (live l.t.handles.places.items) ≤ length (live l.fn.t.handles.places.items))
-    × ((before w : Core) → SoFar before w nobody l.lists (record l.fn.t { listing_error = None }) → length (live l.fn.t.handles.places.items) ≤ length w.rows
-    → SoFar before w (λ q. is_named_by (take l.reference-index l.references) q && is_owned_in w (Owner.Load l.load) q) l.lists l.t)
-    × Sheds (counts_at l.fn.t.nodes) (row_by l.fn.values) (counts_at l.t.nodes) (row_by l.values)
