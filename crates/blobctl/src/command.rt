@@ -68,7 +68,7 @@ pub fn parse(line: &str) -> Option<(Verb, &str)> {
     }
 }
 
-/// Returns the verb that a word spells if nothing follows it, or None.
+/// Returns the verb that a word spells if it is the whole line, or None.
 fn verb_alone(word: &str) -> Option<Verb> {
     match word {
         "stat" => Some(Verb::Stat),

@@ -60,7 +60,7 @@ fn show(rt: &HostRuntime, pager: &mut CommitPager, commit: HandleNumber) -> Resu
     pager.release(pinned)
 }
 
-/// Keeps the commits, and shows both.
+/// Inserts two commits, pages them out, reads both back and prints them.
 fn run(rt: &HostRuntime, pager: &mut CommitPager) -> Result<(), Error> {
     let second = insert_commits(rt.alloc(), pager)?;
     show(rt, pager, second)?;

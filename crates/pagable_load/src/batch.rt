@@ -20,9 +20,9 @@ use pagable_value_spec::{ArcRef, DataKey, Kind};
 use std::alloc::Global;
 use std::mem::replace;
 
-/// What is known of the references that a load's blobs will ask for: for each blob a row, which has
-/// at each place a reference of the kind that is asked for there, from the blob's first reference
-/// on. An empty row says nothing.
+/// The kinds of the references that a load's blobs will ask for. Each blob has a row: at each place
+/// of the row stands a reference, or a stand-in for one, of the kind that the blob asks for there.
+/// A row says nothing of what comes after its end.
 #[derive(Drop)]
 pub struct Lookahead {
     /// The row of the innermost blob.

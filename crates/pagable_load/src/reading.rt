@@ -261,7 +261,7 @@ impl Reading {
         Ok((top, under))
     }
 
-    /// Puts `top` back as the innermost blob, with this reference after those that it has got.
+    /// Makes `top` the innermost blob again, and appends `reference` to those that were got for it.
     pub(crate) fn push_resolved(&mut self, mut top: Frame, reference: ArcRef)
         requires { vec_len top.got < vec_capacity top.got }
         ensures gets { frames_of self.new.top self.new.below.items

@@ -40,8 +40,9 @@ pub struct ClaimedNode {
     pub height: u64,
 }
 
-/// A written node (or the item, without `node`) that waits for its references. `children` has the
-/// results of the references done so far, and room for all others.
+/// The written value of a claimed node, or of the item (then `node` is None), which waits until each
+/// of its references is done. `children` has the results of the references done so far, and room
+/// for those of all others.
 #[derive(Drop)]
 pub struct WaitingValue<E: Env<Node: NodeSet<E>>> {
     pub node: Option<ClaimedNode>,

@@ -159,7 +159,7 @@ pub trait ArcEraseType {
         ensures { result.now ≡ name };
 }
 
-/// The sort of the references of type `A`.
+/// The sort of the reference type `A`: `Arc`, `PagableArc` or `PinnedPagableArc`.
 #[derive(Drop)]
 pub struct StdArcEraseType<A> {
     sort: PhantomData<A>,

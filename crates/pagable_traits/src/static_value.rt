@@ -104,7 +104,7 @@ impl StaticStr {
 pub type StaticBytes = StaticValue<&'static [u8]>;
 
 impl StaticBytes {
-    /// Returns the bytes.
+    /// Returns the static bytes, as `value` does.
     pub fn as_bytes(self) -> &'static [u8]
         ensures { result ≡ self.entry.0.value }
     {

@@ -134,8 +134,8 @@ where
     }
 }
 
-/// Runs the test that a row has beside its lines in a new pager, and says whether it succeeds. For
-/// the row 14 the pager's storage fails its second call.
+/// Says whether a row's own test, which it may have beside its lines, succeeds in a new pager. In
+/// row 14 the pager's storage fails its second call.
 fn row_test_succeeds(alloc: Global, number: u32) -> anyhow::Result<bool> {
     let mut pager = pager_over::<WeighHash>(alloc, if number == 14 { "1" } else { "" });
     let answer = row_test_succeeds_in(alloc, &mut pager, number);

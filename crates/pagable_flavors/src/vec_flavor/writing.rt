@@ -214,7 +214,7 @@ impl PagableVecFlavor {
         self.try_extend(bytes)
     }
 
-    /// Appends a character, as the text of that character.
+    /// Appends a character as a text of one character: how many bytes it has in UTF-8, and these.
     ///
     /// # Errors
     ///
