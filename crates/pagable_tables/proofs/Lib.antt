@@ -14,3 +14,6 @@ pub mod OwnedByLoad
 pub mod LoadEnd
 pub mod NodesSound
 pub mod LastHandles
+pub mod LeafRoom
+pub mod LeafPin
+pub mod LeafDrop

@@ -1,5 +1,5 @@
-use Rattle.pagable_leaf.proofs.Words.{arith, nat_tests, refl}
-use Rattle.pagable_leaf.proofs.leaf.take_numbers.Goals as goal
+use Rattle.pagable_tables.proofs.Words.{arith, nat_tests, refl}
+use Rattle.pagable_tables.proofs.leaf.take_numbers.Goals as goal
 
 pub returns-clause-does : goal.returns-clause-does
 returns-clause-does c =

@@ -1,7 +1,6 @@
-use Rattle.pagable_leaf.proofs.{GivenUp.drops-leaf, Words.{Tables, core_of, not, refl, subst, sym}}
-use Rattle.pagable_leaf.specs.Leaf.{DropsLeaf}
-use Rattle.pagable_tables.specs.Core.{IsWhole}
-use Rattle.pagable_leaf.proofs.leaf.leave_unloaded.Goals as goal
+use Rattle.pagable_tables.proofs.{LeafDrop.drops-leaf, Words.{Tables, core_of, not, refl, subst, sym}}
+use Rattle.pagable_tables.specs.{Core.IsWhole, Leaf.DropsLeaf}
+use Rattle.pagable_tables.proofs.leaf.leave_unloaded.Goals as goal
 
 pub returns-clause-does : goal.returns-clause-does
 returns-clause-does c =

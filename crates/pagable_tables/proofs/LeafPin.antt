@@ -1,14 +1,5 @@
 -- A leaf that is loaded in one call: the numbers of a load and of its handle are taken, and the cell is pinned. A load by steps that begins, fetches and ends
 -- leaves the same.
-use Rattle.pagable_leaf.proofs.{
-  Words.{Alike, BeginCall, Bool, Core, Falls, HandleNumber, HandleRow, Installs, Last, List, LoadNumber, MayEnd, Mode, MustList, None, Ok, Option},
-  Words.{OptionalDataKey, Owner, Owns, RefCounts, ReleasedSoFar, Some, Tables, ap, append-nil, arith, cases_Bool, cases_eq, changed, core_of, false},
-  Words.{filter-append, find_row, greatest, if◌then◌else◌, inl, inr, is_handle, is_here, is_loose, is_named_by, is_owned_by, is_owned_in, is_pin, is_plain_pin},
-  Words.{is_share, left_rows, length, length-append, length-map, moved, nat_tests, nobody, not, of_cell, one, or_else, owner_value, owns_nothing, pins, refl},
-  Words.{row_of, sharing, subst, sum_by-cons, sum_by-le-sum_by, sum_by_push, sym, times, type_at, with_handle, with_load, with_mode, with_pin, with_tables},
-  Words.{without_load, ℕ, [], ◌&&◌, ◌++◌, ◌+◌, ◌<◌, ◌==◌, ◌∙◌, ◌∷◌, ◌≡◌, ◌≤◌},
-}
-use Rattle.pagable_leaf.specs.Leaf.{PinsLeaf, with_numbers}
 use Rattle.pagable_pager_spec.specs.{World.key_at, declared.pinning.Beginning.Beginning}
 use Rattle.pagable_tables.proofs.{
   CascadeEnd.ended,
@@ -19,8 +10,14 @@ use Rattle.pagable_tables.proofs.{
   RowCounts.{found-among, sum-none},
   SameViews.{alike-on, moved-nobody, named-none, owner-same, same-cache},
   Views.none-named,
+  Words.{Alike, BeginCall, Bool, Core, Falls, HandleNumber, HandleRow, Installs, Last, List, LoadNumber, MayEnd, Mode, MustList, None, Ok, Option},
+  Words.{OptionalDataKey, Owner, Owns, RefCounts, ReleasedSoFar, Some, Tables, ap, append-nil, arith, cases_Bool, cases_eq, changed, core_of, false},
+  Words.{filter-append, find_row, greatest, if◌then◌else◌, inl, inr, is_handle, is_here, is_loose, is_named_by, is_owned_by, is_owned_in, is_pin, is_plain_pin},
+  Words.{is_share, left_rows, length, length-append, length-map, moved, nat_tests, nobody, not, of_cell, one, or_else, owner_value, owns_nothing, pins, refl},
+  Words.{row_of, sharing, subst, sum_by-cons, sum_by-le-sum_by, sum_by_push, sym, times, type_at, with_handle, with_load, with_mode, with_pin, with_tables},
+  Words.{without_load, ℕ, [], ◌&&◌, ◌++◌, ◌+◌, ◌<◌, ◌==◌, ◌∙◌, ◌∷◌, ◌≡◌, ◌≤◌},
 }
-use Rattle.pagable_tables.specs.Core.{ArePlaced, IsWhole, StorageView}
+use Rattle.pagable_tables.specs.{Core.{ArePlaced, IsWhole, StorageView}, Leaf.{PinsLeaf, with_numbers}}
 
 turned-more : (n q : ℕ) (rows : List HandleRow) → pins n rows ≤ pins n (changed (is_handle q) turned rows)
 turned-more n q [] = omega arith

@@ -1,6 +1,5 @@
-use Rattle.pagable_leaf.proofs.{Prepared.{begin-refused, leaf-roomier}, Words.refl}
-use Rattle.pagable_tables.proofs.OwnedByLoad.{widens-does}
-use Rattle.pagable_leaf.proofs.leaf.prepare_pin.Goals as goal
+use Rattle.pagable_tables.proofs.{LeafRoom.{begin-refused, leaf-roomier}, OwnedByLoad.widens-does, Words.refl}
+use Rattle.pagable_tables.proofs.leaf.prepare_pin.Goals as goal
 
 pub returns-in-Ok-clause-leaf : goal.returns-in-Ok-clause-leaf
 returns-in-Ok-clause-leaf c storage =

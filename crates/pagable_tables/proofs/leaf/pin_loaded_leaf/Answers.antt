@@ -1,12 +1,11 @@
-use Rattle.pagable_leaf.proofs.{
-  AtOnce.pins-leaf,
+use Rattle.pagable_tables.proofs.{
+  LeafPin.pins-leaf,
+  LoadEnd.has-come,
   Words.{Alike, Core, Mode, Tables, ap, arith, core_of, counts_at, find_row, has_value_once_loaded, live, nat_tests, not, refl, subst, with_handle, with_mode},
   Words.{◌+◌, ◌∙◌},
 }
-use Rattle.pagable_leaf.specs.Leaf.{with_numbers}
-use Rattle.pagable_tables.proofs.LoadEnd.{has-come}
-use Rattle.pagable_tables.specs.Core.{no_blobs}
-use Rattle.pagable_leaf.proofs.leaf.pin_loaded_leaf.Goals as goal
+use Rattle.pagable_tables.specs.{Core.no_blobs, Leaf.with_numbers}
+use Rattle.pagable_tables.proofs.leaf.pin_loaded_leaf.Goals as goal
 
 pub unreachable-requires : goal.unreachable-requires
 unreachable-requires c =

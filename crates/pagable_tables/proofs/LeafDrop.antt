@@ -1,12 +1,4 @@
 -- A load of a cell that begins and is dropped leaves only that its number and that of its handle are taken.
-use Rattle.pagable_leaf.proofs.{
-  Words.{Alike, BeginCall, Bool, Core, Falls, HandleNumber, HandleRow, LoadNumber, Mode, MustList, None, Ok, Option, OptionalDataKey, Owner, Owns, RefCounts},
-  Words.{ReleasedSoFar, Some, Tables, ap, append-nil, arith, cases_Bool, cases_eq, core_of, false, filter-append, find_row, greatest, if◌then◌else◌, inl, inr},
-  Words.{is_handle, is_here, is_loose, is_owned_by, is_owned_in, is_pin, is_plain_pin, is_share, left_rows, length-append, nat_tests, nobody, not, of_cell},
-  Words.{one, or_else, owns_nothing, refl, row_of, subst, sum_by_push, sym, times, type_at, with_handle, with_load, with_tables, without_load, ℕ, [], ◌&&◌},
-  Words.{◌+◌, ◌<◌, ◌==◌, ◌∙◌, ◌∷◌, ◌≡◌, ◌≤◌},
-}
-use Rattle.pagable_leaf.specs.Leaf.{DropsLeaf}
 use Rattle.pagable_pager_spec.specs.{World.key_at, declared.pinning.Beginning.Beginning}
 use Rattle.pagable_tables.proofs.{
   CascadeEnd.ended,
@@ -16,8 +8,13 @@ use Rattle.pagable_tables.proofs.{
   OwnedByLoad.seen-before,
   RowCounts.{found-among, sum-none},
   SameViews.{alike-on, owner-same, same-cache, still},
+  Words.{Alike, BeginCall, Bool, Core, Falls, HandleNumber, HandleRow, LoadNumber, Mode, MustList, None, Ok, Option, OptionalDataKey, Owner, Owns, RefCounts},
+  Words.{ReleasedSoFar, Some, Tables, ap, append-nil, arith, cases_Bool, cases_eq, core_of, false, filter-append, find_row, greatest, if◌then◌else◌, inl, inr},
+  Words.{is_handle, is_here, is_loose, is_owned_by, is_owned_in, is_pin, is_plain_pin, is_share, left_rows, length-append, nat_tests, nobody, not, of_cell},
+  Words.{one, or_else, owns_nothing, refl, row_of, subst, sum_by_push, sym, times, type_at, with_handle, with_load, with_tables, without_load, ℕ, [], ◌&&◌},
+  Words.{◌+◌, ◌<◌, ◌==◌, ◌∙◌, ◌∷◌, ◌≡◌, ◌≤◌},
 }
-use Rattle.pagable_tables.specs.{Core.{ArePlaced, IsWhole, StorageView}, HandleTable.room}
+use Rattle.pagable_tables.specs.{Core.{ArePlaced, IsWhole, StorageView}, HandleTable.room, Leaf.DropsLeaf}
 
 module _ (t : Tables) (storage : StorageView) (lists : Bool) (was : IsWhole t) (e : lists ≡ not storage.closed) (me : Owner) (row : HandleRow)
     (key type : ℕ) where
