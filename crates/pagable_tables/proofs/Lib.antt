@@ -15,5 +15,4 @@ pub mod LoadEnd
 pub mod NodesSound
 pub mod LastHandles
 pub mod LeafRoom
-pub mod LeafPin
-pub mod LeafDrop
+pub mod LeafLoad

@@ -1,10 +1,9 @@
 use Rattle.pagable_tables.proofs.{
-  LeafPin.pins-leaf,
+  LeafLoad.pins-leaf,
   LoadEnd.has-come,
-  Words.{Alike, Core, Mode, Tables, ap, arith, core_of, counts_at, find_row, has_value_once_loaded, live, nat_tests, not, refl, subst, with_handle, with_mode},
-  Words.{◌+◌, ◌∙◌},
+  Words.{Alike, Core, Mode, Tables, ap, arith, core_of, counts_at, find_row, has_value_once_loaded, live, nat_tests, subst, with_handle, with_mode, ◌+◌, ◌∙◌},
 }
-use Rattle.pagable_tables.specs.{Core.no_blobs, Leaf.with_numbers}
+use Rattle.pagable_tables.specs.Core.{no_blobs}
 use Rattle.pagable_tables.proofs.leaf.pin_loaded_leaf.Goals as goal
 
 pub unreachable-requires : goal.unreachable-requires
@@ -15,21 +14,15 @@ unreachable-requires c =
 
 pub returns-clause-pins : goal.returns-clause-pins
 returns-clause-pins c storage =
-    let t = c.args.t.now in
     let row = c.args.leaf.row in
-    let leaf = c.requires.leaf in
-    let p = (c.in-Ok.ensures.does.does storage).pinned in
-    let w = core_of t storage in
-    let w' = core_of c.pin_in_memory.new.t storage in
-    let is = c.take_numbers.ensures.does.does storage in
-    let a : Alike (with_handle (with_mode (with_numbers w) row.number Mode.LoosePinned) row.node Mode.Pinned c.args.me) w' =
-    subst (λ (v : Core). Alike (with_handle (with_mode v row.number Mode.LoosePinned) row.node Mode.Pinned c.args.me) w') is p.1 in
-    pins-leaf t c.pin_in_memory.new.t storage (not storage.closed) c.requires.whole c.in-Ok.ensures.does.whole refl c.args.me row c.args.leaf.key
-    c.args.leaf.node_type
-    (record { live = leaf.owned.live; own = leaf.owned.own; as_asked = leaf.owned.as_asked }) a
-    (λ kind k. ap (λ (u : Tables). (core_of u storage).cache kind k) (c.in-Ok.ensures.same)
-    ∙ ap (λ (u : Tables). (core_of u storage).cache kind k) c.take_numbers.ensures.same)
-    leaf.away leaf.keyed leaf.typed leaf.load_left leaf.handles_left c.in-Ok.handle (p.0.above ∙ ap (λ (v : Core). v.last.handle + 1) is)
+    let pinned = (c.in-Ok.ensures.does.does storage).pinned in
+    let taken = c.take_numbers.ensures.does.does storage in
+    pins-leaf c.args.t.now c.pin_in_memory.new.t storage c.requires.whole c.in-Ok.ensures.does.whole c.args.me c.args.leaf c.requires.leaf
+    (subst (λ (w : Core). Alike (with_handle (with_mode w row.number Mode.LoosePinned) row.node Mode.Pinned c.args.me) (core_of c.pin_in_memory.new.t storage))
+    taken pinned.1)
+    (λ kind k. ap (λ (t : Tables). (core_of t storage).cache kind k) (c.in-Ok.ensures.same)
+    ∙ ap (λ (t : Tables). (core_of t storage).cache kind k) c.take_numbers.ensures.same)
+    c.in-Ok.handle (pinned.0.above ∙ ap (λ (w : Core). w.last.handle + 1) taken)
 
 pub returns-clause-values : goal.returns-clause-values
 returns-clause-values c n =
