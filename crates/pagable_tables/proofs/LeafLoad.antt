@@ -8,7 +8,7 @@ use Rattle.pagable_tables.proofs.{
   LoadEnd.turned-sum,
   OwnedByLoad.{changed-push, seen-before},
   RowCounts.{found-among, sum-none},
-  SameViews.{alike-on, moved-nobody, named-none, owner-same, same-cache, still},
+  SameViews.{alike, alike-on, moved-nobody, named-none, owner-same, same-cache, still},
   Views.none-named,
   Words.{Alike, ArePlaced, BeginCall, Beginning, Bool, Core, Falls, HandleNumber, HandleRow, HasRoom, Installs, Last, List, LoadNumber, MayEnd, Mode, None, Ok},
   Words.{Option, Owner, Owns, RefCounts, ReleasedSoFar, Some, Tables, ap, append-nil, arith, cases_Bool, cases_eq, changed, core_alone, core_of, false},
@@ -41,7 +41,7 @@ shared-pins n rows = sum_by-le-sum_by (λ h. one (is_share n h)) (λ h. one (is_
 
 -- the same has fallen where the state afterwards is told alike
 falls-as : {b u v w' : Core} {given : ℕ → Bool} → Falls b u given (Ok tt) v → Alike v w' → Falls b u given (Ok tt) w'
-falls-as falls a = let leaves = alike-on falls.leaves a in grind (arith, nat_tests, a.rows, a.last, a.list)
+falls-as falls a = let leaves = alike-on falls.leaves a in grind (arith, nat_tests)
 
 module _ (t t1 : Tables) (storage : StorageView) (was : IsWhole t) (whole : IsWhole t1) (me : Owner) (leaf : Leaf) (is : IsLeaf (core_alone t) me leaf) where
   abbrev w : Core
@@ -75,22 +75,9 @@ module _ (t t1 : Tables) (storage : StorageView) (was : IsWhole t) (whole : IsWh
 
   begins : HasRoom w.places w'.places → BeginCall w me row.number (Ok (Beginning.Load l leaf.key)) begun
   begins room =
-      let alike : Alike (with_load (with_handle w row.node Mode.LooseUnpinned (Owner.Load l)) leaf.key (of_cell row.node leaf.node_type row.number) me) begun =
+      let same = alike (record begun { places = w.places }) begun refl (λ n. refl) refl room refl in
       record {
-        rows = refl;
-        cells = λ n. refl;
-        list = refl;
-        cache = record { gives = λ kind k. refl; only = λ kind k n is. is };
-        stored = λ k. refl;
-        closed = refl;
-        failures = refl;
-        loads = λ q. refl;
-        workers = λ v. refl;
-        last = refl;
-        places = room;
-      } in
-      record {
-        begins = (row, owned, (is.away, is.keyed, record { above = refl; is_left = is.load_left }, omega arith, (leaf.node_type, is.typed, alike)));
+        begins = (row, owned, (is.away, is.keyed, record { above = refl; is_left = is.load_left }, omega arith, (leaf.node_type, is.typed, same)));
         refused = tt;
       }
 
