@@ -1,5 +1,4 @@
 -- Cells that are pinned without a load's row: the load with the same effect keeps the pager's invariant as it begins, is given up, or ends.
-use Rattle.pagable_leaf.specs.{Leaf.{DropsLeaf, IsLeaf, PinsLeaf}, declared.leaf.Leaf.Leaf}
 use Rattle.pagable_pager.proofs.Invariant.{here-in, here-told, in-step}
 use Rattle.pagable_pager.specs.{
   Leaf.{LeafBegun, LeafDropped, LeafPinned},
@@ -18,8 +17,9 @@ use Rattle.pagable_tables.proofs.{CallsKeepWhole.begin-whole, Views.opened}
 use Rattle.pagable_tables.specs.{
   Core.{ArePlaced, Does, IsWhole, OwnLaterHandles, StorageView, core_of},
   EndingLoads.has_value_once_loaded,
+  Leaf.{DropsLeaf, IsLeaf, PinsLeaf},
   Nodes.{counts_at, has_value},
-  declared.tables.Tables.Tables,
+  declared.{leaf.Leaf.Leaf, tables.Tables.Tables},
 }
 use Rattle.pagable_theorems.proofs.ValuesOwned.{IsShut, begins, installed_away, load_closed, spared}
 use Rattle.pagable_value_spec.specs.declared.numbers.{HandleNumber.HandleNumber, LoadNumber.LoadNumber}

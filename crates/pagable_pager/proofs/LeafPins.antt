@@ -1,5 +1,4 @@
 -- What the pager's calls tell of a leaf is told of its pin's load, and these calls, one after the other, are a run of a pin.
-use Rattle.pagable_leaf.specs.{Leaf.IsLeaf, declared.leaf.Leaf.Leaf}
 use Rattle.pagable_load.proofs.PinsAndReads.{begun_is}
 use Rattle.pagable_load.specs.{Decoding.IsReadAs, PinStart.is_unpinned_at}
 use Rattle.pagable_pager.proofs.LeafRuns.{pins-run, refused-run, root-fails, root-pins, wanting-run}
@@ -17,7 +16,12 @@ use Rattle.pagable_pager_spec.specs.{
   declared.{handle_row.{HandleRow.HandleRow, Owner.Owner}, mode.Mode.Mode, pinning.Beginning.Beginning},
 }
 use Rattle.pagable_tables.proofs.SameViews.{alike-on}
-use Rattle.pagable_tables.specs.{Core.{Does, OnlyRoom, StorageView, core_alone, core_of, no_blobs}, HandleTable.room, declared.tables.Tables.Tables}
+use Rattle.pagable_tables.specs.{
+  Core.{Does, OnlyRoom, StorageView, core_alone, core_of, no_blobs},
+  HandleTable.room,
+  Leaf.IsLeaf,
+  declared.{leaf.Leaf.Leaf, tables.Tables.Tables},
+}
 use Rattle.pagable_theorems.proofs.{LoadProgress.row-pins, Trees.same_some, ValuesOwned.pinned-here}
 use Rattle.pagable_value_spec.specs.declared.{error.Error.Error, numbers.{HandleNumber.HandleNumber, LoadNumber.LoadNumber}}
 use Rattle.std.proofs.{

@@ -1,5 +1,4 @@
 -- A load of a leaf that begins once its blob has come is one that began before and got it, and so a run of a pin.
-use Rattle.pagable_leaf.specs.declared.leaf.Leaf.{Leaf}
 use Rattle.pagable_load.specs.{AccessView.MakesCallBringing, Decoding.IsReadAs}
 use Rattle.pagable_pager.specs.Leaf.{LeafBegun, rooted_reading}
 use Rattle.pagable_pager_spec.specs.{
@@ -15,7 +14,7 @@ use Rattle.pagable_pager_spec.specs.{
   World.{Core, Frame, OpenLoad, Reading, Root, Values, of_cell, usable},
   declared.{events.LoadAnswer.LoadAnswer, handle_row.Owner.Owner, mode.Mode.Mode, pinning.Beginning.Beginning},
 }
-use Rattle.pagable_tables.proofs.SameViews.{still}
+use Rattle.pagable_tables.{proofs.SameViews.still, specs.declared.leaf.Leaf.Leaf}
 use Rattle.pagable_value_spec.specs.{
   Stored.RefusesFetch,
   declared.{error.Error.Error, numbers.{ArcRef.ArcRef, HandleNumber.HandleNumber, LoadNumber.LoadNumber, NodeNumber.NodeNumber}},

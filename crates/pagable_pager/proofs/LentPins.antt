@@ -1,5 +1,4 @@
 -- Pins on a lent pager: a load's steps from its root's blob, the value that a new pin shares, and what an access tells as long as the storage is honest.
-use Rattle.pagable_leaf.specs.declared.leaf.Leaf.{Leaf}
 use Rattle.pagable_load.proofs.PinsAndReads.{taken_back, takes_back}
 use Rattle.pagable_load.specs.{
   AccessView.Acting,
@@ -18,6 +17,7 @@ use Rattle.pagable_pager_spec.specs.{
   World.{Reading, Values, of_cell},
   declared.{events.LoadAnswer.LoadAnswer, handle_row.Owner.Owner},
 }
+use Rattle.pagable_tables.specs.declared.leaf.Leaf.{Leaf}
 use Rattle.pagable_value_spec.specs.{Blob.Blob, declared.{error.Error.Error, numbers.{HandleNumber.HandleNumber, LoadNumber.LoadNumber}}}
 use Rattle.std.proofs.Common.{Bool, Err, None, Ok, Result, Some, ap, false, if◌then◌else◌, inl, refl, subst, sym, true, [], ◌∙◌, ◌≡◌}
 use Rattle.std.specs.Prelude.{IsTrue}

@@ -1,5 +1,4 @@
 -- Cells that are pinned without a load's row, and the loads that have the same effect.
-use Rattle.pagable_leaf.specs.declared.leaf.Leaf.{Leaf}
 use Rattle.pagable_load.specs.{
   AccessView.MakesCallBringing,
   LoadSteps.RunsLoad,
@@ -15,6 +14,7 @@ use Rattle.pagable_pager_spec.specs.{
   World.{Alike, Reading, Values, of_cell},
   declared.{events.LoadAnswer.LoadAnswer, handle_row.Owner.Owner, pinning.Beginning.Beginning},
 }
+use Rattle.pagable_tables.specs.declared.leaf.Leaf.{Leaf}
 use Rattle.pagable_value_spec.specs.{
   Blob.Blob,
   declared.{error.Error.Error, numbers.{HandleNumber.HandleNumber, LoadNumber.LoadNumber}},

@@ -3,7 +3,6 @@
 #![tactic(auto, using(crate::proofs::LentCalls::lending))]
 
 ghost use Rattle.pagable_core.specs.Data.{blob_of};
-ghost use Rattle.pagable_leaf.specs.Leaf.{IsLeaf};
 ghost use Rattle.pagable_load.specs.AccessView.{values_at};
 ghost use Rattle.pagable_pager.specs.{
   Leaf.{LeafLoads, PinsPagedOut},
@@ -14,7 +13,7 @@ ghost use Rattle.pagable_pager_spec.specs.{
   Pager.IsPagerWhole,
   World.result_map,
 };
-ghost use Rattle.pagable_tables.specs.{HandleTable.room, Soundness.is_sound};
+ghost use Rattle.pagable_tables.specs.{HandleTable.room, Leaf.IsLeaf, Soundness.is_sound};
 ghost use Rattle.std.specs.{Arc.arc_value, Prelude.{IfErr, IfOk, IsTrue, true, ◌≡◌, ◌≤◌}};
 
 use crate::pager::Pager;
@@ -23,11 +22,11 @@ use crate::pins::{read_rest, reading_with_root};
 use either::Either;
 use pagable_codec::{Env, NodeSet};
 use pagable_core::{PagableData, PagableStorage, SessionOf};
-use pagable_leaf::Leaf;
 use pagable_load::{Access, PinStart, PinnedOrLoading, TakenValue, WorkerAccess, WorkerNode};
 use pagable_pager_spec::handle_row::Owner;
 use pagable_pager_spec::{Beginning, FetchTarget};
 use pagable_tables::checks;
+use pagable_tables::leaf::Leaf;
 use pagable_value_spec::{
     ArcRef, DataKey, Error, HandleNumber, Kind, LoadNumber, NodeNumber, OptionalDataKey,
     WorkerNumber,

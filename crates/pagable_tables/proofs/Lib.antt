@@ -14,3 +14,5 @@ pub mod OwnedByLoad
 pub mod LoadEnd
 pub mod NodesSound
 pub mod LastHandles
+pub mod LeafRoom
+pub mod LeafLoad

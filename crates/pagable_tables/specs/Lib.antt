@@ -10,4 +10,5 @@ pub mod ValuesKept
 pub mod CascadeProgress
 pub mod Core
 pub mod EndingLoads
+pub mod Leaf
 pub mod Soundness

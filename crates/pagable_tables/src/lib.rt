@@ -5,7 +5,7 @@
 //! Each module imports only those before it in this order: `kinds`, `number_table`, `nodes`,
 //! `place`, `handle_table`, `cascade`, `load_table`, `tables`; `checks`, `queries`, `soundness`,
 //! which change nothing; `create`, `release`, `pending`, `workers`, `cache`; `load_handles`,
-//! `load`, `load_end`.
+//! `load`, `load_end`; `leaf`.
 #![tactic(auto)]
 
 pub mod cache;
@@ -14,6 +14,7 @@ pub mod checks;
 pub mod create;
 pub mod handle_table;
 pub mod kinds;
+pub mod leaf;
 pub mod load;
 pub mod load_end;
 pub mod load_handles;

@@ -2,24 +2,23 @@
 //! load that begins, fetches the blob, reads it and ends.
 
 ghost use Rattle.pagable_core.specs.Data.{blob_of};
-ghost use Rattle.pagable_leaf.specs.Leaf.{IsLeaf};
 ghost use Rattle.pagable_load.specs.{AccessView.values_at, Decoding.IsReadAs};
 ghost use Rattle.pagable_pager.specs.{
   Leaf.{LeafBegun, LeafDropped, LeafFetched, LeafPinned, LeafUnbegun},
   View.{pager_core, pager_state, storage_view},
 };
 ghost use Rattle.pagable_pager_spec.specs.Access.{PinRun};
-ghost use Rattle.pagable_tables.specs.HandleTable.{room};
+ghost use Rattle.pagable_tables.specs.{HandleTable.room, Leaf.IsLeaf};
 ghost use Rattle.std.specs.{Arc.arc_value, Prelude.{Err, IfErr, IfNone, IfOk, IfSome, IsTrue, [], ◌≡◌, ◌≤◌}};
 
 use crate::pager::Pager;
 use crate::pager::insert::put_value;
 use pagable_codec::{Env, NodeSet};
 use pagable_core::{PagableData, PagableStorage};
-use pagable_leaf::leaf::{self, Leaf};
 use pagable_load::{Access, Decoded, decode};
 use pagable_pager_spec::Beginning;
 use pagable_pager_spec::handle_row::Owner;
+use pagable_tables::leaf::{self, Leaf};
 use pagable_tables::load;
 use pagable_value_spec::{Error, HandleNumber, LoadNumber};
 use std::alloc::Global;

@@ -1,11 +1,12 @@
 use Rattle.pagable_tables.proofs.{
   CallsKeepWhole.adopted-whole,
   CascadeStep.closed-is,
-  SameViews.{if-open, learned},
-  Views.settles,
+  OwnedByLoad.later-on,
+  SameViews.{if-open, learned, still},
+  Views.{newer-alike, settles},
   Wholeness.whole-so,
-  Words.{Alike, IndexMap, Last, NodeNumber, Option, Owner, Some, adopted, ap, core_of, false, has_key, inl, inr, is_shared, key_in, mode_of, next_node, not},
-  Words.{option_map, refl, subst, sym, true, with_handle, with_node, ℕ, ◌+◌, ◌/◌, ◌∙◌, ◌≡◌},
+  Words.{Alike, IndexMap, Last, NodeNumber, Option, Owner, Some, adopted, ap, core_alone, core_of, false, has_key, inl, inr, is_shared, key_in, mode_of, next_node},
+  Words.{not, option_map, refl, subst, sym, true, with_handle, with_node, ℕ, ◌+◌, ◌/◌, ◌∙◌, ◌≡◌},
 }
 use Rattle.pagable_tables.specs.Core.{StorageView, no_blobs_of}
 
@@ -45,13 +46,5 @@ returns c =
       whole = whole-so born.whole.steady (settles (adopted-whole (core_of t (no_blobs_of c.args.lists)) r.whole.core c.args.load c.args.kind c.args.key
           (key_in c.args.own_key) rs r.holder r.fit
           r.ready.node_left r.ready.handle_left unkeyed) (new (no_blobs_of c.args.lists) (closed-is (not c.args.lists) c.args.lists refl)));
-      later = λ later. let l = born.later later in record {
-        given = l.given;
-        since = l.since;
-        begun = l.begun;
-        reach = l.reach;
-        loads = l.loads;
-        noted = l.noted;
-        until = l.until;
-      };
+      later = λ later. later-on (born.later later) (newer-alike (still (core_alone t1))) refl refl refl;
     }

@@ -58,8 +58,8 @@ returns-in-Ok-reserve-clause-ready c storage =
     ready-placed w w'.places w'.rows me l c.args.node_type c.args.references.now e c.reserve.ensures.widens.rows ready
 
 pub returns-in-Ok-reserve-clause-does : goal.returns-in-Ok-reserve-clause-does
-returns-in-Ok-reserve-clause-does c = widens-does c.args.t.now c.reserve.new.handles c.args.t.now.ref_counts.nodes c.args.t.now.cache c.requires
-    c.reserve.ensures.widens (λ n. refl) (λ n. refl) (λ n. refl) (λ kind key. refl)
+returns-in-Ok-reserve-clause-does c = widens-does c.args.t.now _ _ _ c.requires c.reserve.ensures.widens (λ n. refl) (λ n. refl) (λ n. refl)
+    (λ kind key. refl)
 
 pub returns-in-Err-reserve-clause-unended : goal.returns-in-Err-reserve-clause-unended
 returns-in-Err-reserve-clause-unended c storage =
@@ -69,8 +69,8 @@ returns-in-Err-reserve-clause-unended c storage =
     grind (arith, nat_tests, no-load-fault, alike, c.reserve.ensures.widens.rows, c.reserve.ensures.widens.capacity)
 
 pub returns-in-Err-reserve-clause-does : goal.returns-in-Err-reserve-clause-does
-returns-in-Err-reserve-clause-does c = widens-does c.args.t.now c.reserve.new.handles c.args.t.now.ref_counts.nodes c.args.t.now.cache c.requires
-    c.reserve.ensures.widens (λ n. refl) (λ n. refl) (λ n. refl) (λ kind key. refl)
+returns-in-Err-reserve-clause-does c = widens-does c.args.t.now _ _ _ c.requires c.reserve.ensures.widens (λ n. refl) (λ n. refl) (λ n. refl)
+    (λ kind key. refl)
 
 pub returns-in-Err-clause-unended : goal.returns-in-Err-clause-unended
 returns-in-Err-clause-unended c storage =

@@ -1,10 +1,10 @@
-use Rattle.pagable_leaf.proofs.Prepared.{begin-wants}
 use Rattle.pagable_pager.proofs.{
   Invariant.called,
   LeafCalls.{given-so, given-told},
   LeafPins.{begin-told, in-memory-never, leaf-in, unbegun-leaf, unbegun-place, unbegun-told},
 }
 use Rattle.pagable_pager.specs.View.{storage_view}
+use Rattle.pagable_tables.proofs.LeafRoom.{begin-wants}
 use Rattle.pagable_theorems.proofs.ValuesOwned.{begins}
 use Rattle.std.proofs.Common.{refl}
 use Rattle.pagable_pager.proofs.pager.Pager.begin_leaf_load.Goals as goal

@@ -2,22 +2,22 @@
 //! a load leaves which begins, gets the blob and ends step by step; but it makes no row and no
 //! handle of a load.
 
-ghost use Rattle.pagable_leaf.specs.Leaf.{DropsLeaf, IsLeaf, PinsLeaf, with_numbers};
 ghost use Rattle.pagable_pager_spec.specs.{LoadCalls.BeginCall, Pager.MayOwnLoad, World.greatest};
 ghost use Rattle.pagable_tables.specs.{
   Core.{Does, IsWhole, OnlyRoom, OwnLaterHandles, StorageView, core_alone, core_of},
   EndingLoads.has_value_once_loaded,
   HandleTable.room,
+  Leaf.{DropsLeaf, IsLeaf, PinsLeaf, with_numbers},
   Nodes.{counts_at, has_value},
 };
 ghost use Rattle.std.specs.Prelude.{Err, IfErr, IfNone, IfOk, IfSome, Option, ℕ, ◌+◌, ◌<◌, ◌≡◌, ◌≤◌};
 
+use crate::checks::find_owned;
+use crate::create::pin_in_memory;
+use crate::kinds::is_loose_mode;
+use crate::tables::Tables;
+use crate::{handle_table, nodes};
 use pagable_pager_spec::handle_row::{HandleRow, Owner};
-use pagable_tables::checks::find_owned;
-use pagable_tables::create::pin_in_memory;
-use pagable_tables::kinds::is_loose_mode;
-use pagable_tables::tables::{self, Tables};
-use pagable_tables::{handle_table, nodes};
 use pagable_value_spec::{DataKey, Error, HandleNumber};
 
 /// A cell whose value isn't in memory, with the handle that is to be pinned.

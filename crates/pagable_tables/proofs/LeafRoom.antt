@@ -1,9 +1,10 @@
 -- After room is made for a pin, the cell that was found is still as it was found; and if there is no room no load begins.
-use Rattle.pagable_leaf.proofs.Words.{Core, HandleNumber, None, Owner, arith, inl, inr, nat_tests, refl, subst, ◌≡◌}
-use Rattle.pagable_leaf.specs.{Leaf.IsLeaf, declared.leaf.Leaf.Leaf}
 use Rattle.pagable_pager_spec.specs.{Calls.is_handle_here, LoadCalls.{BeginCall, begin_fault}}
-use Rattle.pagable_tables.proofs.SameViews.{owner-self, room-alike}
-use Rattle.pagable_tables.specs.Core.{OnlyRoom}
+use Rattle.pagable_tables.proofs.{
+  SameViews.{owner-self, room-alike},
+  Words.{Core, HandleNumber, None, OnlyRoom, Owner, arith, inl, inr, nat_tests, refl, subst, ◌≡◌},
+}
+use Rattle.pagable_tables.specs.{Leaf.IsLeaf, declared.leaf.Leaf.Leaf}
 use Rattle.pagable_value_spec.specs.declared.error.Error.{Error}
 use Rattle.std.specs.Prelude.{Err, false}
 

@@ -1,5 +1,4 @@
 -- Loads of leaves in one call: what a load by steps leaves that begins, gets its blob and ends, or is dropped.
-use Rattle.pagable_leaf.specs.declared.leaf.Leaf.{Leaf}
 use Rattle.pagable_pager_spec.specs.{
   Kinds.is_loose,
   LoadCalls.{BeginCall, Installs, LoadCloses, MayEnd},
@@ -7,7 +6,7 @@ use Rattle.pagable_pager_spec.specs.{
   World.{Core, greatest, is_here, key_at, of_cell, type_at},
   declared.{handle_row.{HandleRow.HandleRow, Owner.Owner}, pinning.Beginning.Beginning},
 }
-use Rattle.pagable_tables.specs.Core.{ArePlaced}
+use Rattle.pagable_tables.specs.{Core.ArePlaced, declared.leaf.Leaf.Leaf}
 use Rattle.pagable_value_spec.specs.{
   declared.{data_key.OptionalDataKey.OptionalDataKey, numbers.HandleNumber.HandleNumber},
 }

@@ -1,4 +1,0 @@
-mod Words
-pub mod AtOnce
-pub mod GivenUp
-pub mod Prepared
