@@ -10,7 +10,6 @@ use Rattle.pagable_pager_spec.specs.{
   Basics.Types,
   Loads.{Need, answer_of, answers_from, asks, need_at, need_of, needs_lazy, needs_nested, next_by, next_of, read_with as read_blob},
   World.Frame,
-  declared.events.LoadAnswer.LoadAnswer,
 }
 use Rattle.pagable_theorems.proofs.{
   Naturality.{Out, SameRest, Sober, both-faulty, both-given, both-refused, first-refused, typed_par},
@@ -31,7 +30,7 @@ use Rattle.std.proofs.{
   lemmas.{Bool.{Decides.nat_tests, cases_Bool, eqb-true}, Grind.common_steps},
   lemmas.{List.{append_assoc, at_drop_all, at_drop_more, length-append, length-map, map-append}, Option.{slice_get-get_or, slice_get_cases, slice_get_within}},
 }
-use Rattle.std.specs.{Prelude.IfNone, declared.{alloc.Global.Global, vec.Vec.Vec}}
+use Rattle.std.specs.declared.{alloc.Global.Global, vec.Vec.Vec}
 use Rattle.pagable_value_spec.specs.Meaning as meanings
 
 -- ---- kinds that are asked for
@@ -305,11 +304,9 @@ follows_got b new rows mid f fs row row' rest place last is has left count at ke
     }
 
 -- what is ahead after a step that ends nothing
-pub ahead_then : {N : Type 0} (types : Types) (need : Needed N) (answer : Option (LoadAnswer N)) (old new : List Frame) (rows rows' : List (List ArcRef))
-    (b : Bool) → b ≡ is_adoption need → FramesChangeFor need answer old new
-    → RowsStayFit b new rows rows' → RowsFit types old rows → IfNone answer (RowsFit types new rows')
-ahead_then types need None old new rows rows' b is goes follows a = follows.follows types old (subst (λ x. FramesChange x old new) (sym is) (goes.goes refl)) a
-ahead_then types need (Some answer) old new rows rows' b is goes follows a = tt
+pub ahead_then : {N : Type 0} (types : Types) (need : Needed N) (old new : List Frame) (rows rows' : List (List ArcRef)) (b : Bool) → b ≡ is_adoption need
+    → FramesChangeFor need None old new → RowsStayFit b new rows rows' → RowsFit types old rows → RowsFit types new rows'
+ahead_then types need old new rows rows' b is goes follows a = follows.follows types old (subst (λ x. FramesChange x old new) (sym is) (goes.goes refl)) a
 
 -- ---- a step of a load leaves less to do
 

@@ -34,11 +34,11 @@ use Rattle.pagable_value_spec.specs.{
   declared.{error.Error.Error, numbers.{ArcRef.ArcRef, HandleNumber.HandleNumber, Kind.Kind, LoadNumber.LoadNumber}},
 }
 use Rattle.std.proofs.{
-  Common.{Bool, Err, List, None, Ok, Option, Result, Some, ap, arith, false, inl, inr, length, refl, slice_get, subst, sym, true, ℕ, [], ◌++◌, ◌+◌, ◌<◌, ◌∙◌},
-  Common.{◌∷◌, ◌≡◌, ◌≤◌},
+  Common.{Bool, Err, List, None, Ok, Option, Result, Some, ap, arith, false, if◌then◌else◌, inl, inr, length, refl, slice_get, subst, sym, true, ℕ, [], ◌++◌, ◌+◌, ◌<◌},
+  Common.{◌∙◌, ◌∷◌, ◌≡◌, ◌≤◌},
   lemmas.{Bool.Decides.nat_tests, Grind.common_steps, List.nil_from_length},
 }
-use Rattle.std.specs.Arc.{arc_value}
+use Rattle.std.specs.{Arc.arc_value, Prelude.IsTrue}
 unfoldable use Rattle.pagable_pager_spec.specs.{Kinds.find_row, Refusals.references_fault}
 use Rattle.pagable_core.specs.Context as context
 
@@ -140,19 +140,34 @@ module _ {A S E : Type 0} {told : A → Option S} {by : A → Acting E} where
       → ((s t : S) → P s → R (by o) s t → Q (by o) s t) → Acts told by o n Q
   acts_from {o} {n} {P} {R} {Q} h k f = record { step = grind (arith, nat_tests, common_steps); acting = k.acting }
 
+-- what is known afterwards was known before
+pub told-so : {S : Type 0} {R : S → S → Type 0} (b b' : Bool) (s t : S) → IfBothKnown (if b then Some s else None) (if b' then Some t else None) R → IsTrue b'
+    → IsTrue b × R s t
+told-so true true s t told is = (refl, told.holds)
+told-so false true s t told is = absurd told.holds
+told-so true false s t told is = absurd (cc)
+told-so false false s t told is = absurd (cc)
+
+-- an access lends what it lent before, for whom it did, and where
+pub lender-is : {E : Type 0} {a b : Acting E} → a ≡ b → a.lender ≡ b.lender
+lender-is {E} e = ap (λ (a : Acting E). a.lender) e
+
+pub me-is : {E : Type 0} {a b : Acting E} → a ≡ b → a.me ≡ b.me
+me-is {E} e = ap (λ (a : Acting E). a.me) e
+
+pub environment-is : {E : Type 0} {a b : Acting E} → a ≡ b → a.environment ≡ b.environment
+environment-is {E} e = ap (λ (a : Acting E). a.environment) e
+
 -- ---- which values come
-
-pub none_comes : {N E : Type 0} {comes : ℕ → N → Type 0} {s t : PagerState N E} → Moves (λ n x. ⊥) s t → Moves comes s t
-none_comes m = record { each = λ n x is. elim (m.each n x is) [ inl was ↦ inl was | inr came ↦ absurd came.1 ]; environment = m.environment }
-
-pub moves_then : {N E : Type 0} {comes : ℕ → N → Type 0} {s mid t : PagerState N E} → Moves comes s mid → Moves (λ n x. ⊥) mid t → Moves comes s t
-moves_then m k = record {
-  each = λ n x is. elim (k.each n x is) [ inl was ↦ m.each n x was | inr came ↦ absurd came.1 ];
-  environment = k.environment ∙ m.environment;
-}
 
 was-held : {N E : Type 0} {s t : PagerState N E} → Moves (λ n x. ⊥) s t → (n : ℕ) (x : N) → t.values n ≡ Some x → s.values n ≡ Some x
 was-held m n x is = elim (m.each n x is) [ inl was ↦ was | inr came ↦ absurd came.1 ]
+
+pub none_comes : {N E : Type 0} {comes : ℕ → N → Type 0} {s t : PagerState N E} → Moves (λ n x. ⊥) s t → Moves comes s t
+none_comes m = record { each = λ n x is. inl (was-held m n x is); environment = m.environment }
+
+pub moves_then : {N E : Type 0} {comes : ℕ → N → Type 0} {s mid t : PagerState N E} → Moves comes s mid → Moves (λ n x. ⊥) mid t → Moves comes s t
+moves_then m k = record { each = λ n x is. m.each n x (was-held k n x is); environment = k.environment ∙ m.environment }
 
 -- a new entry of the list pins nothing
 new-mode : (last q : ℕ) (entries : List HandleRow) (row : HandleRow) → AreNewEntries last entries → find_row q entries ≡ Some row → is_pinning row.mode ≡ false

@@ -19,7 +19,7 @@ use Rattle.pagable_value_spec.specs.{
   declared.{error.Error.Error, numbers.{ArcRef.ArcRef, Kind.Kind}},
 }
 use Rattle.std.specs.{
-  Prelude.{Bool, Err, IsSome, List, None, Ok, Option, Result, Some, false, if◌then◌else◌, length, map, slice_get, true},
+  Prelude.{Bool, IsSome, List, None, Option, Result, Some, false, if◌then◌else◌, length, map, slice_get, true},
   Prelude.{ℕ, [], ◌++◌, ◌<◌, ◌∷◌, ◌≡◌, ◌⊎◌},
   declared.{alloc.Global.Global, vec.Vec.Vec},
 }
@@ -176,8 +176,3 @@ pub record FramesChangeFor {N : Type 0} (need : Need N) (answer : Option (LoadAn
 pub record RowsStayFit (was_read : Bool) (new : List Frame) (rows rows' : List (List ArcRef)) : Type 0 where
   pub follows : (types : Types) (old : List Frame) → FramesChange was_read old new → RowsFit types old rows
       → RowsFit types new rows'
-
--- a step that gets a reference, or the root's blob, doesn't end the load
-abbrev pub without_answer : {N X : Type 0} → Result X Error → Result (Option (LoadAnswer N)) Error
-without_answer (Ok x) = Ok None
-without_answer (Err e) = Err e

@@ -6,7 +6,7 @@ ghost use Rattle.pagable_load.specs.{
   AccessView.{Acting, Acts, ActsThen, AdoptsValue, AsksFor, IfKnown, IsReadBy, MakesCallBringing, TakesLazily},
   AccessView.{as_caller, as_worker, values_at},
   PinStart.{Shares, StartsPin},
-  WorkerCalls.{RefusesEntry, ReleasesIfKeyed, SetsKeyAndReleases, SetsKeyIfLoose, SharesTaken, StartsEntry, StoresNode},
+  WorkerCalls.{RefusesEntry, ReleasesIfKeyed, SetsKeyAndReleases, SharesTaken, StartsEntry, StoresNode},
   WorkerCalls.{TakesReference, fault_in, taken_of},
 };
 ghost use Rattle.pagable_pager_spec.specs.{
@@ -335,7 +335,8 @@ pub struct WorkerNode {
     pub loose: Option<HandleNumber>,
 }
 
-/// The calls of a pager for one worker.
+/// The calls of a pager for one worker. An access behind a lock takes the lock once for each call,
+/// also for one that does several things.
 pub trait WorkerAccess<E: Env<Node: NodeSet<E>>>: Access<E> {
     /// Checks whether a reference can be claimed, whoever owns its handle.
     ///
@@ -368,40 +369,13 @@ pub trait WorkerAccess<E: Env<Node: NodeSet<E>>>: Access<E> {
         ensures takes { Acts Self.known_state Self.acting self.old self.new
             (λ a s t. MakesCall (values_at E.Node.NodeSet E.Env E.Hash.KeyHash a.environment)
             (λ w'. TakesReference s.core a.me reference (result_map taken_of result) w') s t) }
-        ensures shares { IfOk result (λ taken. IfKnown (Self.known_state self.new) (λ s. SharesTaken s taken)) }
-    {
-        match self.pin_or_load_reference(reference)? {
-            PinnedOrLoading::Held(through, pin) => Ok(TakenValue::Held(
-                through,
-                pin,
-                self.share(pin),
-            )),
-            PinnedOrLoading::Begun(through, load, key) => Ok(TakenValue::Begun(through, load, key)),
-        }
-    }
+        ensures shares { IfOk result (λ taken. IfKnown (Self.known_state self.new) (λ s. SharesTaken s taken)) };
 
     /// Releases all handles that a worker has of a node.
     fn release_worker_node(&mut self, worker: WorkerNumber, node: NodeNumber)
         ensures { Acts Self.known_state Self.acting self.old self.new
             (λ a s t. MakesCall (values_at E.Node.NodeSet E.Env E.Hash.KeyHash a.environment)
             (λ w'. FallsAnyhow s.core s.core (is_workers_at s.core worker.0 node.0) w') s t) };
-
-    /// Sets the key of a cell by its loose handle, if there is one; otherwise does nothing.
-    ///
-    /// # Errors
-    ///
-    /// - those of `set_data_key`.
-    fn set_key_if_loose(&mut self, loose: Option<HandleNumber>, key: DataKey) -> Result<(), Error>
-        ensures { Acts Self.known_state Self.acting self.old self.new
-            (λ a s t. SetsKeyIfLoose (values_at E.Node.NodeSet E.Env E.Hash.KeyHash a.environment) a.me
-            loose key result s
-            t) }
-    {
-        match loose {
-            Some(handle) => self.set_data_key(handle, key),
-            None => Ok(()),
-        }
-    }
 
     /// Sets the key of a worker's node by its loose handle, if `at` has one, and releases all
     /// handles that the worker has of the node.
@@ -412,12 +386,7 @@ pub trait WorkerAccess<E: Env<Node: NodeSet<E>>>: Access<E> {
     fn set_key_and_release(&mut self, at: WorkerNode, key: DataKey) -> Result<(), Error>
         ensures { Acts Self.known_state Self.acting self.old self.new
             (λ a s t. SetsKeyAndReleases (values_at E.Node.NodeSet E.Env E.Hash.KeyHash a.environment) a.me
-            at key result s t) }
-    {
-        self.set_key_if_loose(at.loose, key)?;
-        self.release_worker_node(at.worker, at.node);
-        Ok(())
-    }
+            at key result s t) };
 
     /// Stores the blob of a worker's node, sets the node's key and releases the worker's handles of
     /// the node, as `set_key_and_release` does, and returns the key.
@@ -435,12 +404,7 @@ pub trait WorkerAccess<E: Env<Node: NodeSet<E>>>: Access<E> {
         ensures key { IfOk result (λ key. key ≡ key_of E.Hash.digest (blob_of blob)) }
         ensures acts { Acts Self.known_state Self.acting self.old self.new
             (λ a s t. StoresNode (values_at E.Node.NodeSet E.Env E.Hash.KeyHash a.environment) a.me at
-            (blob_of blob) result s t) }
-    {
-        let key = self.store(alloc, blob)?;
-        self.set_key_and_release(at, key)?;
-        Ok(key)
-    }
+            (blob_of blob) result s t) };
 
     /// Does what `store_node` does, with a key that the caller has computed, for example before it
     /// takes the pager's lock.
@@ -459,12 +423,7 @@ pub trait WorkerAccess<E: Env<Node: NodeSet<E>>>: Access<E> {
         ensures key { IfOk result (λ answer. answer ≡ key_of E.Hash.digest (blob_of blob)) }
         ensures acts { Acts Self.known_state Self.acting self.old self.new
             (λ a s t. StoresNode (values_at E.Node.NodeSet E.Env E.Hash.KeyHash a.environment) a.me at
-            (blob_of blob) result s t) }
-    {
-        let stored = self.store_keyed(alloc, key, blob)?;
-        self.set_key_and_release(at, stored)?;
-        Ok(stored)
-    }
+            (blob_of blob) result s t) };
 
     /// Puts a loose unpinned handle at the end of the list of cells that wait for page-out; if the
     /// storage is closed, releases the handle instead.
@@ -536,17 +495,9 @@ pub trait WorkerAccess<E: Env<Node: NodeSet<E>>>: Access<E> {
 
     /// Releases the list entry at this place if its cell has a key. Returns whether it did so; None
     /// past the list's end. It ignores an error of the release, which says that a cell can't be
-    /// listed for page-out. An access behind a lock takes the lock once for all of it.
+    /// listed for page-out.
     fn release_if_keyed(&mut self, place: usize) -> Option<bool>
         ensures { Acts Self.known_state Self.acting self.old self.new
             (λ a s t. ReleasesIfKeyed (values_at E.Node.NodeSet E.Env E.Hash.KeyHash a.environment) s a.me place
-            result t) }
-    {
-        let OptionalDataKey::Some(_) = self.entry_key(place)? else {
-            return Some(false);
-        };
-        let entry = self.take_pending(place)?;
-        let _told = self.release(entry);
-        Some(true)
-    }
+            result t) };
 }

@@ -3,7 +3,7 @@
 
 ghost use Rattle.pagable_load.specs.{
   AccessView.{Acts, IfKnown, values_at},
-  Decoding.{FramesChange, FramesChangeFor, GotMore, IfValue, Needs, RowsFit, rows_of, without_answer},
+  Decoding.{FramesChange, FramesChangeFor, IfValue, Needs, RowsFit, rows_of},
   Frames.{frames_of, reading_of},
   LoadEnd.EndsOrLeavesLess,
   LoadSteps.{Drops, IsSameLoad, RunsLoad, RunsLoadOrPart, TriesStep},
@@ -18,7 +18,7 @@ ghost use Rattle.pagable_pager_spec.specs.{
 };
 ghost use Rattle.std.specs.{
   Arc.arc_value,
-  Prelude.{IfNone, IfOk, IfSome, IsSome, Ok, Some, length, true, [], ◌<◌, ◌≡◌},
+  Prelude.{IfNone, IfOk, IfSome, IsSome, Ok, Some, false, length, true, [], ◌<◌, ◌≡◌},
 };
 
 use crate::access::{Access, PinStart};
@@ -27,37 +27,36 @@ use crate::reading::{Need, Reading, collect_handles};
 use either::Either;
 use pagable_codec::{Env, NodeSet};
 use pagable_pager_spec::LoadAnswer;
-use pagable_value_spec::{ArcRef, DataKey, Error, HandleNumber, Kind};
+use pagable_value_spec::{DataKey, Error, HandleNumber, Kind};
 use std::alloc::Global;
 use std::sync::Arc;
 
 impl Reading {
-    /// Takes a loose reference for the innermost blob without reading it, and returns it. Leaves
-    /// `steps` as it is.
-    pub(crate) fn add_loose_reference<E: Env<Node: NodeSet<E>>, A: Access<E>>(
+    // Takes a loose reference for the innermost blob without reading it.
+    fn add_loose_reference<E: Env<Node: NodeSet<E>>, A: Access<E>>(
         &mut self,
         access: &mut A,
         alloc: Global,
         kind: Kind,
         key: DataKey,
-    ) -> Result<ArcRef, Error>
+    ) -> Result<Option<LoadAnswer<E::Node>>, Error>
         requires top { IsSome self.old.top }
         requires need { need_of (values_at E.Node.NodeSet E.Env E.Hash.KeyHash (A.acting access.old).environment).types
             (frames_of self.old.top self.old.below.items) ≡ needs_lazy kind key }
         ensures acts { Acts A.known_state A.acting access.old access.new
-            (λ a s t. TriesStep (values_at E.Node.NodeSet E.Env E.Hash.KeyHash a.environment) a.me self.old s
-            (without_answer result) (frames_of self.new.top self.new.below.items) t) }
-        ensures leads { EndsOrLeavesLess {N = E.Node} self.old.for_cell (frames_of self.old.top self.old.below.items)
-            (frames_of self.new.top self.new.below.items) (without_answer result) }
-        ensures got { IfOk result (λ r. GotMore (frames_of self.old.top self.old.below.items)
-            (frames_of self.new.top self.new.below.items) r) }
+            (λ a s t. TriesStep (values_at E.Node.NodeSet E.Env E.Hash.KeyHash a.environment) a.me self.old s result
+            (frames_of self.new.top self.new.below.items) t) }
+        ensures leads { EndsOrLeavesLess self.old.for_cell (frames_of self.old.top self.old.below.items)
+            (frames_of self.new.top self.new.below.items) result }
+        ensures goes { IfOk result (λ answer. FramesChange false (frames_of self.old.top self.old.below.items)
+            (frames_of self.new.top self.new.below.items)) }
         ensures same { IsSameLoad self.old self.new self.old.steps }
     {
         let load = self.load;
         let top = self.pop_frame()?;
         let taken = access.load_lazy(alloc, load, kind, key)?;
         self.push_resolved(top, taken);
-        Ok(taken)
+        Ok(None)
     }
 
     // Makes a node of the innermost blob's value, and gives its reference to the blob below, which
@@ -182,10 +181,7 @@ impl Reading {
                     Err(e) => Err(e),
                 }
             }
-            Need::Lazy(kind, key) => match self.add_loose_reference(access, alloc, kind, key) {
-                Ok(_) => Ok(None),
-                Err(e) => Err(e),
-            },
+            Need::Lazy(kind, key) => self.add_loose_reference(access, alloc, kind, key),
             Need::Adopt(value) => self.step_adopt(access, alloc, value),
             Need::End(value) => self.finish(access, alloc, value),
             Need::Refuse(e) => Err(e),
@@ -193,7 +189,7 @@ impl Reading {
     }
 
     // Drops the load, since a step failed, and releases all that it owns.
-    pub(crate) fn drop_failed_load<E: Env<Node: NodeSet<E>>, A: Access<E>>(
+    fn drop_failed_load<E: Env<Node: NodeSet<E>>, A: Access<E>>(
         &mut self,
         access: &mut A,
     )
@@ -206,23 +202,38 @@ impl Reading {
         self.top = None;
     }
 
-    // Finds what the load needs next, and gets it; ends the load if it needs nothing more. The
-    // caller counts this step in `steps`.
-    fn try_step<E: Env<Node: NodeSet<E>>, A: Access<E>>(
+    // Makes the step that gets what the load needs, and counts it. Drops the load if that fails.
+    #[tactic(auto, using(crate::proofs::LoadSteps::giving_up))]
+    fn step_for<E: Env<Node: NodeSet<E>>, A: Access<E>>(
         &mut self,
         access: &mut A,
         alloc: Global,
-    ) -> Result<Option<LoadAnswer<E::Node>>, Error>
+        need: Need<E::Node>,
+    ) -> Option<LoadAnswer<E::Node>>
+        requires need { Needs (values_at E.Node.NodeSet E.Env E.Hash.KeyHash (A.acting access.old).environment) self.old
+            need }
+        requires holds { IfKnown (A.known_state access.old) (λ s. IfValue need
+            (HoldsPinned (values_at E.Node.NodeSet E.Env E.Hash.KeyHash (A.acting access.old).environment) s)) }
         ensures acts { Acts A.known_state A.acting access.old access.new
-            (λ a s t. TriesStep (values_at E.Node.NodeSet E.Env E.Hash.KeyHash a.environment) a.me self.old s result
+            (λ a s t. TriesStep (values_at E.Node.NodeSet E.Env E.Hash.KeyHash a.environment) a.me
+            self.old s (Ok result)
             (frames_of self.new.top self.new.below.items) t) }
         ensures leads { EndsOrLeavesLess self.old.for_cell (frames_of self.old.top self.old.below.items)
-            (frames_of self.new.top self.new.below.items) result }
-        ensures same { IsSameLoad self.old self.new self.old.steps }
+            (frames_of self.new.top self.new.below.items) (Ok result) }
+        ensures goes { FramesChangeFor need result (frames_of self.old.top self.old.below.items)
+            (frames_of self.new.top self.new.below.items) }
+        ensures same { IsSameLoad self.old self.new (one_more self.old.steps) }
     {
-        match self.next_need::<E, A>(access, alloc) {
-            Need::End(value) => self.finish(access, alloc, value),
-            need => self.act_on_need(access, alloc, need),
+        match self.act_on_need(access, alloc, need) {
+            Ok(answer) => {
+                self.steps = self.steps.saturating_add(1);
+                answer
+            }
+            Err(e) => {
+                self.drop_failed_load(access);
+                self.steps = self.steps.saturating_add(1);
+                Some(LoadAnswer::Refused(e))
+            }
         }
     }
 
@@ -231,7 +242,6 @@ impl Reading {
     /// None if it goes on. If the step fails, the load is dropped, and all that it owns is
     /// released. If the access tells its state, the clause asks that the load is open and is the
     /// one with which this reading began.
-    #[tactic(auto, using(crate::proofs::LoadSteps::giving_up))]
     pub fn step<E: Env<Node: NodeSet<E>>, A: Access<E>>(
         &mut self,
         access: &mut A,
@@ -245,66 +255,8 @@ impl Reading {
             (frames_of self.new.top self.new.below.items) (Ok result) }
         ensures same { IsSameLoad self.old self.new (one_more self.old.steps) }
     {
-        match self.try_step(access, alloc) {
-            Ok(answer) => {
-                self.steps = self.steps.saturating_add(1);
-                answer
-            }
-            Err(e) => {
-                self.drop_failed_load(access);
-                self.steps = self.steps.saturating_add(1);
-                Some(LoadAnswer::Refused(e))
-            }
-        }
-    }
-
-    // Fetches the blob of the load's own key. The caller counts this step in `steps`.
-    fn fetch_root<E: Env<Node: NodeSet<E>>, A: Access<E>>(
-        &mut self,
-        access: &mut A,
-        alloc: Global,
-    ) -> Result<(), Error>
-        requires none { frames_of self.old.top self.old.below.items ≡ [] }
-        ensures acts { Acts A.known_state A.acting access.old access.new
-            (λ a s t. TriesStep (values_at E.Node.NodeSet E.Env E.Hash.KeyHash a.environment) a.me self.old s
-            (without_answer result) (frames_of self.new.top self.new.below.items) t) }
-        ensures same { IsSameLoad self.old self.new self.old.steps }
-    {
-        match access.load_root(alloc, self.load) {
-            Ok(root) => {
-                self.put_root(alloc, root);
-                Ok(())
-            }
-            Err(e) => Err(e),
-        }
-    }
-
-    // Makes the step that fetches the root's blob.
-    #[tactic(auto, using(crate::proofs::LoadSteps::giving_up))]
-    fn step_root<E: Env<Node: NodeSet<E>>, A: Access<E>>(
-        &mut self,
-        access: &mut A,
-        alloc: Global,
-    ) -> Option<LoadAnswer<E::Node>>
-        requires none { frames_of self.old.top self.old.below.items ≡ [] }
-        ensures acts { Acts A.known_state A.acting access.old access.new
-            (λ a s t. TriesStep (values_at E.Node.NodeSet E.Env E.Hash.KeyHash a.environment) a.me
-            self.old s (Ok result)
-            (frames_of self.new.top self.new.below.items) t) }
-        ensures ends { IfSome result (λ answer. EndsOrLeavesLess self.old.for_cell [] [] (Ok (Some answer))) }
-        ensures same { IsSameLoad self.old self.new (one_more self.old.steps) }
-    {
-        match self.fetch_root::<E, A>(access, alloc) {
-            Ok(()) => {
-                self.steps = self.steps.saturating_add(1);
-                None
-            }
-            Err(e) => {
-                self.drop_failed_load(access);
-                self.steps = self.steps.saturating_add(1);
-                Some(LoadAnswer::Refused(e))
-            }
-        }
+        let need = self.next_need::<E, A>(access, alloc);
+        self.step_for(access, alloc, need)
     }
 
     // Returns whether the innermost blob has references.
@@ -333,7 +285,7 @@ impl Reading {
         if self.top.is_some() {
             return None;
         }
-        if let Some(answer) = self.step_root(access, alloc) {
+        if let Some(answer) = self.step_for(access, alloc, Need::Root) {
             return Some(answer);
         }
         if self.has_references() {
@@ -344,7 +296,6 @@ impl Reading {
 
     // Makes the load's next step, as `step` does, but reads the innermost blob only if `ahead`
     // doesn't say what is needed.
-    #[tactic(auto, using(crate::proofs::LoadSteps::giving_up))]
     fn step_with_lookahead<E: Env<Node: NodeSet<E>>, A: Access<E>>(
         &mut self,
         access: &mut A,
@@ -367,18 +318,11 @@ impl Reading {
         self.plan_batch_if_useful(access, alloc, &mut ahead.top);
         let need = self.find_next_need::<E, A>(access, alloc, ahead.top.as_slice());
         let was_read = need.is_adoption();
-        match self.act_on_need(access, alloc, need) {
-            Ok(answer) => {
-                self.steps = self.steps.saturating_add(1);
-                self.update_rows(alloc, ahead, was_read);
-                answer
-            }
-            Err(e) => {
-                self.drop_failed_load(access);
-                self.steps = self.steps.saturating_add(1);
-                Some(LoadAnswer::Refused(e))
-            }
+        if let Some(answer) = self.step_for(access, alloc, need) {
+            return Some(answer);
         }
+        self.update_rows(alloc, ahead, was_read);
+        None
     }
 
     /// Makes the load's steps up to its end, and returns how it ended: a load of a cell with a pin,

@@ -11,7 +11,7 @@ use futures::task::{Context, Poll};
 use pagable_codec::{Env, NodeSet};
 use pagable_core::{PagableData, PagableStorage};
 use pagable_load::{Access, BegunPin, CellReading, begin_polled_pin};
-use pagable_traits::{NewPin, PinStage, Polls};
+use pagable_traits::{NewPin, Polls};
 use pagable_value_spec::{DataKey, Error, HandleNumber};
 use std::alloc::Global;
 use std::mem::replace;

@@ -192,11 +192,6 @@ impl<'a, R: Wait, E: Env<Node: NodeSet<E>>, S: PagableStorage<E>> WorkerAccess<E
         Lent::for_owner(&mut *pager, self.me)?.pin_or_load_value(reference)
     }
 
-    fn set_key_if_loose(&mut self, loose: Option<HandleNumber>, key: DataKey) -> Result<(), Error> {
-        let mut pager = lock_briefly(self.pager, self.rt);
-        Lent::for_owner(&mut *pager, self.me)?.set_key_if_loose(loose, key)
-    }
-
     fn set_key_and_release(&mut self, at: WorkerNode, key: DataKey) -> Result<(), Error> {
         let mut pager = lock_briefly(self.pager, self.rt);
         Lent::for_owner(&mut *pager, self.me)?.set_key_and_release(at, key)

@@ -200,14 +200,13 @@ fn order_results<E: Env<Node: NodeSet<E>>>(
 fn make_report<R: Wait, E: Env<Node: NodeSet<E>>, L: Ledger>(
     rt: &R,
     table: &SlotTable<E, L>,
-    all: ClaimShare<L>,
+    mut all: ClaimShare<L>,
     keys: Vec<Result<DataKey, PageOutError>>,
 ) -> PageOutReport
     requires { all.share.parts ≡ L.parts }
     ensures keys { result.keys ≡ keys }
     ensures claims { result.claims ≡ all.share.amount }
 {
-    let mut all = all;
     let claims = table.count_claims(rt, &mut all);
     PageOutReport { keys, claims }
 }

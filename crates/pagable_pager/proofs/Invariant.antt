@@ -16,7 +16,7 @@ use Rattle.pagable_pager_spec.specs.{
 }
 use Rattle.pagable_tables.proofs.SameViews.{still}
 use Rattle.pagable_tables.specs.{
-  Core.{Does, DoesAndDropsValues, IsWhole, OwnLaterHandles, StorageView, core_alone, core_of},
+  Core.{Does, DoesAndDropsValues, IsWhole, OwnLaterHandles, core_alone},
   EndingLoads.AsksCache,
   Nodes.{cell_in, counts_at, has_value, key_in, pins_in},
   NumberTable.row_by,
@@ -36,31 +36,36 @@ use Rattle.std.proofs.{
 use Rattle.std.specs.{Arc.arc_value, Option.option_map, Prelude.{IfErr, IfOk, IsTrue, OnErr, OnOk, is_some, nat_lt, ◌⊎◌}}
 use Rattle.pagable_pager_spec.specs.Pager as pager
 
--- the core is whole, whatever is stored, if nothing is listed or known once the storage is closed
-pub whole-over : (t : Tables) (storage : StorageView) → IsWhole t → IsShut (core_of t storage) → pager.IsWhole (core_of t storage)
-whole-over t storage whole shut =
-    let is = whole.core in
-    let h = is.handles in
-    let o = is.owners_there in
-    let l = is.loads in
-    record {
-      handles = search rules;
-      owners_there = search rules;
-      loads = record {
-        numbered = l.numbered;
-        owned = l.owned;
-        roots = λ n load node k q e root. let r = l.roots n load node k q e root in
-            record { typed = r.typed; begun = r.begun; given = r.given };
-      };
-      cache = λ kind key n known. let c = is.cache kind key n known in record { given = c.given; typed = c.typed; shares = c.shares };
-      workers_numbered = is.workers_numbered;
-      shut = shut;
-    }
+-- a whole core stays whole over another storage, that of v, if nothing is listed or cached once this is closed
+module _ (w v : Core) where
+  abbrev over : Core
+  over = record w { stored = v.stored; closed = v.closed; failures = v.failures }
+
+  pub whole-over : pager.IsWhole w → IsShut over → pager.IsWhole over
+  whole-over is shut =
+      let h = is.handles in
+      let o = is.owners_there in
+      let l = is.loads in
+      record {
+        handles = search rules;
+        owners_there = search rules;
+        loads = record {
+          numbered = l.numbered;
+          owned = l.owned;
+          roots = λ n load node k q e root. let r = l.roots n load node k q e root in
+              record { typed = r.typed; begun = r.begun; given = r.given };
+        };
+        cache = λ kind key n known. let c = is.cache kind key n known in record { given = c.given; typed = c.typed; shares = c.shares };
+        workers_numbered = is.workers_numbered;
+        shut = shut;
+      }
 
 -- tables that are whole leave the pager in step, where the core stays well-formed
 pub in-step : {N S E : Type 0} {tells : Telling S} {says : E → Values N} (q : PagerView N S E) → IsWhole q.tables → OwnLaterHandles q.tables
     → (IsRight (pager_state tells q) → IsPagerWhole (says q.environment) (pager_state tells q)) → IsPager tells says q
-in-step {tells = tells} q whole later state = search (whole-over)
+in-step {tells = tells} q whole later state =
+    let right = whole-over (core_alone q.tables) (pager_core tells q) whole.core in
+    search (rules)
 
 has-key : (k : ℕ) → has_key (key_in k) ≡ nat_lt 0 k
 has-key k = grind (arith, nat_tests)

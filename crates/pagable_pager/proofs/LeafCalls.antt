@@ -1,5 +1,5 @@
 -- Cells that are pinned without a load's row: the load with the same effect keeps the pager's invariant as it begins, is given up, or ends.
-use Rattle.pagable_pager.proofs.Invariant.{here-in, here-told, in-step}
+use Rattle.pagable_pager.proofs.Invariant.{here-in, here-told, in-step, whole-over}
 use Rattle.pagable_pager.specs.{
   Leaf.{LeafBegun, LeafDropped, LeafPinned},
   View.{IsPager, PagerView, Telling, ValuesByNode, pager_core, pager_state, value_in, with_value},
@@ -21,45 +21,13 @@ use Rattle.pagable_tables.specs.{
   Nodes.{counts_at, has_value},
   declared.{leaf.Leaf.Leaf, tables.Tables.Tables},
 }
-use Rattle.pagable_theorems.proofs.ValuesOwned.{IsShut, begins, installed_away, load_closed, spared}
+use Rattle.pagable_theorems.proofs.ValuesOwned.{begins, installed_away, load_closed, spared}
 use Rattle.pagable_value_spec.specs.declared.numbers.{HandleNumber.HandleNumber, LoadNumber.LoadNumber}
 use Rattle.std.proofs.{
   Common.{None, Ok, Some, ap, arith, if◌then◌else◌, inl, refl, subst, sym, true, ℕ, [], ◌&&◌, ◌+◌, ◌∙◌, ◌≡◌},
   lemmas.{Bool.{Decides.nat_tests, cases_eq}, List.Sums.sum_by_push},
 }
 use Rattle.std.specs.Prelude.{is_some, ◌⊎◌}
-use Rattle.pagable_pager_spec.specs.Pager as pager
-
--- whole while its storage is taken to be open, and nothing is listed or known once it is closed
-opened-whole : (w : Core) → IsShut w → pager.IsWhole (opened w) → pager.IsWhole w
-opened-whole w shut is =
-    let h = is.handles in
-    let o = is.owners_there in
-    let l = is.loads in
-    record {
-      handles = record {
-        ordered = h.ordered;
-        numbered = h.numbered;
-        nodes_numbered = h.nodes_numbered;
-        within = h.within;
-        live = h.live;
-        uniform = h.uniform;
-        unkeyed = h.unkeyed;
-        places = h.places;
-      };
-      owners_there = record { listed = o.listed; waiting = o.waiting; loads = o.loads; workers = o.workers };
-      loads = record {
-        numbered = l.numbered;
-        owned = l.owned;
-        roots = λ n load node k q e root. let r = l.roots n load node k q e root in
-            record { typed = r.typed; begun = r.begun; given = r.given };
-      };
-      cache = λ kind key n known. let c = is.cache kind key n known in record { given = c.given; typed = c.typed; shares = c.shares };
-      workers_numbered = is.workers_numbered;
-      shut = shut;
-    }
-
--- ---- what the pager's calls stand for
 
 module _ {N S E : Type 0} {tells : Telling S} {says : E → Values N} {p : PagerView N S E} (is : IsPager tells says p) where
   abbrev w : Core
@@ -77,7 +45,7 @@ module _ {N S E : Type 0} {tells : Telling S} {says : E → Values N} {p : Pager
         counted = λ n. is.state.counted n ∙ (let rows = ap (pins n) a.rows in
             let more = sum_by_push (λ x. one (is_pin n x)) w.rows (row_of (w.last.handle + 1) row.node Mode.LooseUnpinned (Owner.Load l)) in
             grind (arith, nat_tests));
-        whole = λ shut. opened-whole b shut (begin-whole Owner.Caller h is.state.whole tt call (record { rows = placed.rows; list = placed.list }));
+        whole = whole-over (opened b) b (begin-whole Owner.Caller h is.state.whole tt call (record { rows = placed.rows; list = placed.list }));
       })
 
   leaf-begun : (leaf : Leaf) (b : Core) (l : LoadNumber) → BeginCall w Owner.Caller leaf.row.number (Ok (Beginning.Load l leaf.key)) b

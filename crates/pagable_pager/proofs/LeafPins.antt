@@ -8,7 +8,7 @@ use Rattle.pagable_pager.specs.{
 }
 use Rattle.pagable_pager_spec.specs.{
   Access.{PinRun, load-is-refused},
-  Basics.Blob,
+  Basics.{Blob, SameAt},
   Calls.{FetchCall, with_handle},
   LoadCalls.BeginCall,
   Pager.{IsPagerWhole, PagerState},
@@ -43,6 +43,11 @@ pub not-begun : {N S E : Type 0} {tells : Telling S} {says : E → Values N} {p 
     → PinRun (says p.environment) (pager_state tells p) h (Err e) (pager_state tells (record p { tables = t }))
 not-begun {tells = tells} {p = p} was t {e = e} is call = load-is-refused e (pager_state tells (record p { tables = t }))
     (record { step = call; moves = record { each = λ n x has. inl has; environment = refl }; whole = is.state })
+
+-- a leaf stays one while rows, cells and numbers stay
+leaf-alike : {w w1 : Core} {leaf : Leaf} → w1.rows ≡ w.rows → SameAt w.cells w1.cells → w1.last ≡ w.last → IsLeaf w Owner.Caller leaf
+    → IsLeaf w1 Owner.Caller leaf
+leaf-alike rows cells last is = grind (arith, nat_tests, rows, cells, last)
 
 -- what was found is so once the storage was asked
 pub leaf-after : {N S E : Type 0} {p q : PagerView N S E} {t : Tables} {leaf : Leaf} → p ≡ q → q.tables ≡ t
@@ -112,14 +117,7 @@ module _ {N S E : Type 0} {tells : Telling S} {says : E → Values N} {p p1 : Pa
   leaf-still =
       let f : IsLeaf w0 Owner.Caller leaf = found (tells p.storage) in
       let g : IsLeaf (record (pager_core tells p) { places = w0.places }) Owner.Caller leaf = subst (λ u. IsLeaf u Owner.Caller leaf) roomier-so.same f in
-      record {
-        owned = record { live = g.owned.live; own = g.owned.own; as_asked = g.owned.as_asked };
-        away = g.away;
-        keyed = g.keyed;
-        typed = g.typed;
-        load_left = g.load_left;
-        handles_left = g.handles_left;
-      }
+      leaf-alike refl (λ n. refl) refl g
 
   pub fetch-told : (blob : Blob) → r ≡ Ok blob → LeafFetched (says p.environment) (pager_state tells p) leaf blob (pager_state tells p1)
   fetch-told blob of_blob = record {
@@ -218,24 +216,12 @@ begin-told {tells = tells} {p = p} was t after leaf {l} {key} is call =
       opened = b.1;
     }
 
-leaf-alike : {w w1 : Core} {leaf : Leaf} → Alike w w1 → IsLeaf w Owner.Caller leaf → IsLeaf w1 Owner.Caller leaf
-leaf-alike a is = grind (arith, nat_tests, a.rows, a.cells, a.last)
-
 module _ {N S E : Type 0} {tells : Telling S} {says : E → Values N} {p p1 : PagerView N S E} (is : IsPager tells says p) (is1 : IsPager tells says p1)
     (leaf : Leaf) (e : Error)
     (found : IsLeaf (pager_core tells p) Owner.Caller leaf) (call : BeginCall (pager_core tells p) Owner.Caller leaf.row.number (Err e) (pager_core tells p1))
     (only : ChangesOnlyTables p p1) where
   pub unbegun-leaf : IsLeaf (core_alone p1.tables) Owner.Caller leaf
-  unbegun-leaf =
-      let g = leaf-alike call.refused.stays found in
-      record {
-        owned = record { live = g.owned.live; own = g.owned.own; as_asked = g.owned.as_asked };
-        away = g.away;
-        keyed = g.keyed;
-        typed = g.typed;
-        load_left = g.load_left;
-        handles_left = g.handles_left;
-      }
+  unbegun-leaf = let a = call.refused.stays in leaf-alike a.rows a.cells a.last found
 
   pub unbegun-place : 1 ≤ room p.tables.ref_counts.handles → 1 ≤ room p1.tables.ref_counts.handles
   unbegun-place place =

@@ -1,5 +1,6 @@
 -- A load of a leaf that begins once its blob has come is one that began before and got it, and so a run of a pin.
-use Rattle.pagable_load.specs.{AccessView.MakesCallBringing, Decoding.IsReadAs}
+use Rattle.pagable_load.{proofs.LoadSteps.none_comes, specs.{AccessView.MakesCallBringing, Decoding.IsReadAs}}
+use Rattle.pagable_pager.proofs.Invariant.{whole-over}
 use Rattle.pagable_pager.specs.Leaf.{LeafBegun, rooted_reading}
 use Rattle.pagable_pager_spec.specs.{
   Access.{LoadRun, LoadStarts, MakesCall, PinRun, ReadingStep, load-ends, load-fails, load-goes-on, load-pins},
@@ -101,33 +102,8 @@ module _ {N E : Type 0} (v : Values N) (s s1 mid1 : PagerState N E) (leaf : Leaf
   before-whole : IsPagerWhole v before
   before-whole =
       let b = begun.begins.whole in
-      let is = b.whole in
-      let h = is.handles in
-      let o = is.owners_there in
-      let n = is.loads in
       record {
-        whole = record {
-          handles = record {
-            ordered = h.ordered;
-            numbered = h.numbered;
-            nodes_numbered = h.nodes_numbered;
-            within = h.within;
-            live = h.live;
-            uniform = h.uniform;
-            unkeyed = h.unkeyed;
-            places = h.places;
-          };
-          owners_there = record { listed = o.listed; waiting = o.waiting; loads = o.loads; workers = o.workers };
-          loads = record {
-            numbered = n.numbered;
-            owned = n.owned;
-            roots = λ m open_load node k q e root. let r = n.roots m open_load node k q e root in
-                record { typed = r.typed; begun = r.begun; given = r.given };
-          };
-          cache = λ kind key m known. let c = is.cache kind key m known in record { given = c.given; typed = c.typed; shares = c.shares };
-          workers_numbered = is.workers_numbered;
-          shut = λ shut. is.shut (closed-is ∙ shut);
-        };
+        whole = whole-over mid1.core s.core b.whole (λ shut. b.whole.shut (closed-is ∙ shut));
         counted = b.counted;
         valued = b.valued;
         typed = b.typed;
@@ -274,14 +250,8 @@ module _ {N E : Type 0} (v : Values N) (s s1 mid1 : PagerState N E) (leaf : Leaf
       step-wanting : ReadingStep v Owner.Caller rooted mid1 (Some (LoadAnswer.Refused Error.OutOfMemory)) [] u
       step-wanting = record {
         does = record { does = (inl (record { mid = mid1.core; meets = inl (inr (inr refl), still mid1.core); told = Ok tt; closes = closes.step }), refl) };
-        moves = record {
-          each = λ n y some. elim (closes.moves.each n y some) [ inl was ↦ inl was | inr (none, never) ↦ absurd never ];
-          environment = closes.moves.environment;
-        };
-        holds = λ well. record {
-          each = λ n y some. elim (closes.moves.each n y some) [ inl was ↦ inl was | inr (none, never) ↦ absurd never ];
-          environment = closes.moves.environment;
-        };
+        moves = none_comes closes.moves;
+        holds = λ well. none_comes closes.moves;
         answers = tt;
         whole = closes.whole;
       }
@@ -315,14 +285,8 @@ module _ {N E : Type 0} (v : Values N) (s s1 mid1 : PagerState N E) (leaf : Leaf
           refl,
         );
       };
-      moves = record {
-        each = λ n y some. elim (closes.moves.each n y some) [ inl was ↦ inl was | inr (none, never) ↦ absurd never ];
-        environment = closes.moves.environment;
-      };
-      holds = λ well. record {
-        each = λ n y some. elim (closes.moves.each n y some) [ inl was ↦ inl was | inr (none, never) ↦ absurd never ];
-        environment = closes.moves.environment;
-      };
+      moves = none_comes closes.moves;
+      holds = λ well. none_comes closes.moves;
       answers = tt;
       whole = closes.whole;
     }

@@ -4,7 +4,7 @@ use Rattle.pagable_load.proofs.PinsAndReads.{begun_is}
 use Rattle.pagable_load.specs.{AccessView.{AsksFor, IfKnown, IsMade, MakesCallBringing}, PinStart.StartsPin, declared.access.PinStart.PinStart}
 use Rattle.pagable_pager.proofs.Invariant.{in-step, less, swept}
 use Rattle.pagable_pager.specs.{
-  View.{Calls, FewerValues, IsPager, KeepsWorkers, PagerView, SameValues, TakesEntry, Telling, ValuesByNode, from_cache_or_store, may_call, pager_core},
+  View.{Calls, ChangesOnlyStorage, FewerValues, IsPager, KeepsWorkers, PagerView, SameValues, TakesEntry, Telling, ValuesByNode, from_cache_or_store, may_call, pager_core},
   View.{pager_state, value_in},
 }
 use Rattle.pagable_pager_spec.specs.{
@@ -59,11 +59,15 @@ module _ {N S E : Type 0} (tells : Telling S) (v : E → Values N) (p q : PagerV
       → MakesCallBringing (v p.environment) D comes (pager_state tells p) (pager_state tells q)
   brings-so D step moves whole = record { step = step; moves = moves; whole = subst (λ e. IsPagerWhole (v e) (pager_state tells q)) moves.environment whole }
 
+module _ {N S E : Type 0} {p q : PagerView N S E} where
   pub fewer_of_same : SameValues p q → FewerValues p q
   fewer_of_same only = record {
     values = λ n x has. subst (λ (values : ValuesByNode N). value_in values n ≡ Some x) only.values has;
     environment = only.environment;
   }
+
+  pub fewer_of_asked : ChangesOnlyStorage p q → FewerValues p q
+  fewer_of_asked only = fewer_of_same (record { values = only.values; environment = only.environment })
 
 -- what an access tells that tells its state as long as it is in no doubt
 pub told-if : {A : Type 0} {R : A → A → Type 0} (b b' : Bool) (s t : A) → (IsTrue b' → IsTrue b) → (IsTrue b' → R s t)
@@ -153,7 +157,7 @@ pub load_starts : {w w' : Core} {me : Owner} {h : HandleNumber} {l : LoadNumber}
     → Some t ≡ option_map (λ (r : Reading). r.node_type) (reading_of_load l (w'.loads l.0)) → StartsPin w me h (Ok (PinStart.Load l key t)) w'
 load_starts c t is = grind (arith, nat_tests, begun_is, pinned-here, row-pins, same_some)
 
-pub ruleset lending = (nat_tests, fewer_of_same, called_fewer, stored_key, known_live, adopted_live)
+pub ruleset lending = (nat_tests, fewer_of_same, fewer_of_asked, called_fewer, stored_key, known_live, adopted_live)
 
 module _ {w w' : Core} (whole : pager.IsWhole w) where
   pub begins : (r : Result WorkerNumber Error) → BeginsWorker w r w' → Rests w w'

@@ -1,7 +1,6 @@
--- Pins on a lent pager: a load's steps from its root's blob, the value that a new pin shares, and what an access tells as long as the storage is honest.
+-- Pins on a lent pager: a load's steps from its root's blob, and the value that a new pin shares.
 use Rattle.pagable_load.proofs.PinsAndReads.{taken_back, takes_back}
 use Rattle.pagable_load.specs.{
-  AccessView.Acting,
   Decoding.IsReadAs,
   Frames.{IsLoadOf, reading_of},
   LoadSteps.RunsLoad,
@@ -11,7 +10,7 @@ use Rattle.pagable_load.specs.{
 use Rattle.pagable_pager.proofs.LeafPins.{dropped-run, loads-pinned, loads-refused, pinned-run}
 use Rattle.pagable_pager.specs.Leaf.{EndsCellLoad, LeafBegun, LeafDropped, LeafFetched, LeafLoads, LeafPinned, PinsPagedOut, SharesOrUndoes, rooted_reading}
 use Rattle.pagable_pager_spec.specs.{
-  Access.{IfBothKnown, LoadRun, MakesCall, PinRun},
+  Access.{LoadRun, MakesCall, PinRun},
   Calls.{ReleaseCall, UnpinCall},
   Pager.PagerState,
   World.{Reading, Values, of_cell},
@@ -19,28 +18,7 @@ use Rattle.pagable_pager_spec.specs.{
 }
 use Rattle.pagable_tables.specs.declared.leaf.Leaf.{Leaf}
 use Rattle.pagable_value_spec.specs.{Blob.Blob, declared.{error.Error.Error, numbers.{HandleNumber.HandleNumber, LoadNumber.LoadNumber}}}
-use Rattle.std.proofs.Common.{Bool, Err, None, Ok, Result, Some, ap, false, if◌then◌else◌, inl, refl, subst, sym, true, [], ◌∙◌, ◌≡◌}
-use Rattle.std.specs.Prelude.{IsTrue}
-
--- an access lends what it lent before, for whom it did, and where
-pub lender-is : {E : Type 0} {a b : Acting E} → a ≡ b → a.lender ≡ b.lender
-lender-is {E} e = ap (λ (a : Acting E). a.lender) e
-
-pub me-is : {E : Type 0} {a b : Acting E} → a ≡ b → a.me ≡ b.me
-me-is {E} e = ap (λ (a : Acting E). a.me) e
-
-pub environment-is : {E : Type 0} {a b : Acting E} → a ≡ b → a.environment ≡ b.environment
-environment-is {E} e = ap (λ (a : Acting E). a.environment) e
-
--- what is told afterwards was told before
-pub told-so : {A : Type 0} {R : A → A → Type 0} (b b' : Bool) (s t : A) → IfBothKnown (if b then Some s else None) (if b' then Some t else None) R → IsTrue b'
-    → IsTrue b × R s t
-told-so true true s t told is = (refl, told.holds)
-told-so false true s t told is = absurd told.holds
-told-so true false s t told is = absurd (cc)
-told-so false false s t told is = absurd (cc)
-
--- ---- a load's steps up to its end
+use Rattle.std.proofs.Common.{Err, Ok, Result, Some, ap, inl, refl, subst, sym, true, [], ◌∙◌, ◌≡◌}
 
 module _ {N E : Type 0} (v : Values N) (me : Owner) (own : Own) where
   pub ends-pinned : (k : HandleNumber) (s t : PagerState N E) → RunsLoad v me own s (LoadAnswer.Pinned k) t → EndsCellLoad v me own s (Ok k) t
@@ -118,5 +96,3 @@ module _ {N E : Type 0} (v : Values N) (h k : HandleNumber) where
       → MakesCall v (λ w'. UnpinCall s.core me h told w') s low → MakesCall v (λ w'. ReleaseCall low.core me k other w') low t → TakesBack v true h k s t
   back-so {me} mine told other s low t unpins releases = takes_back v h mine k true s low t other
       (told, subst (λ m. MakesCall v (λ w'. UnpinCall s.core m h told w') s low) mine unpins) releases
-
--- ---- a pin by a lent pager

@@ -342,15 +342,10 @@ impl<'a, E: Env<Node: NodeSet<E>>, S: PagableStorage<E>> WorkerAccess<E> for Len
         self.pager.release_worker_node(worker, node);
     }
 
-    fn set_key_if_loose(&mut self, loose: Option<HandleNumber>, key: DataKey) -> Result<(), Error> {
-        match loose {
-            Some(handle) => self.set_data_key(handle, key),
-            None => Ok(()),
-        }
-    }
-
     fn set_key_and_release(&mut self, at: WorkerNode, key: DataKey) -> Result<(), Error> {
-        self.set_key_if_loose(at.loose, key)?;
+        if let Some(handle) = at.loose {
+            self.set_data_key(handle, key)?;
+        }
         self.release_worker_node(at.worker, at.node);
         Ok(())
     }

@@ -52,13 +52,12 @@ pub(crate) fn reading_with_root(
 pub(crate) fn read_rest<E: Env<Node: NodeSet<E>>, A: Access<E>>(
     access: &mut A,
     alloc: Global,
-    reading: Reading,
+    mut reading: Reading,
 ) -> Result<HandleNumber, Error>
     requires of_cell { reading.for_cell ≡ true }
     ensures { Acts A.known_state A.acting access.old access.new
         (λ a s t. EndsCellLoad (values_at E.Node.NodeSet E.Env E.Hash.KeyHash a.environment) a.me reading s result t) }
 {
-    let mut reading = reading;
     match reading.run(access, alloc) {
         LoadAnswer::Pinned(pinned) => Ok(pinned),
         LoadAnswer::Refused(e) => Err(e),

@@ -8,13 +8,13 @@ returns-in-Some-clause-acts g c =
 
 pub returns-then-has_references-clause-acts : goal.returns-then-has_references-clause-acts
 returns-then-has_references-clause-acts g c =
-    let own = c.args.self.now in acts_map c.in_default.ensures.acts (λ s t step. went_on _ _ own own s s t (none_gone own s) c.step_root.new.self _
-    c.step_root.ensures.same refl step)
+    let own = c.args.self.now in acts_map c.in_default.ensures.acts (λ s t step. went_on _ _ own own s s t (none_gone own s) c.step_for.new.self _
+    c.step_for.ensures.same refl step)
 
 pub returns-clause-acts : goal.returns-clause-acts
 returns-clause-acts g c =
     let own = c.args.self.now in
-    let now = c.step_root.new.self in
+    let now = c.step_for.new.self in
     acts_then c.in_default.ensures.acts c.step.ensures.acts
-    (λ s mid t one two. goes_or_ends _ _ own now s mid t (went_on _ _ own own s s mid (none_gone own s) now _ c.step_root.ensures.same refl one) c.step.new.self
+    (λ s mid t one two. goes_or_ends _ _ own now s mid t (went_on _ _ own own s s mid (none_gone own s) now _ c.step_for.ensures.same refl one) c.step.new.self
     _ c.step.result c.step.ensures.same refl two)

@@ -1,5 +1,5 @@
-use Rattle.pagable_load.specs.AccessView.{values_at}
-use Rattle.pagable_pager.proofs.LentPins.{environment-is, lender-is, loads-told, me-is, told-so}
+use Rattle.pagable_load.{proofs.LoadSteps.{environment-is, lender-is, me-is, told-so}, specs.AccessView.values_at}
+use Rattle.pagable_pager.proofs.LentPins.{loads-told}
 use Rattle.std.proofs.Common.{refl, subst, ◌∙◌}
 use Rattle.std.specs.Prelude.{IsTrue}
 use Rattle.pagable_pager.proofs.lent.Lent.pin_by_load.Goals as goal

@@ -12,7 +12,7 @@ returns-in_err-adopted g c =
     let e = c.in_err-adopted.ensures in
     record {
       step = told-if _ _ _ _ (λ h. subst (λ s. IsTrue (g.S.PagableStorage.is_honest s)) c.load_adopt_for-adopted.ensures.storage h)
-          (λ h. brings-so tells (λ e. values_at g.E.Node.NodeSet g.E.Env g.E.Hash.KeyHash e) c.args.self.now.pager.now c.load_adopt_for-adopted.new.self
+          (λ h. brings-so tells (values_at g.E.Node.NodeSet g.E.Env g.E.Hash.KeyHash) c.args.self.now.pager.now c.load_adopt_for-adopted.new.self
           (λ w'. AdoptsValue (pager_core tells c.args.self.now.pager.now) c.args.self.now.me c.args.load c.args.kind c.args.key c.args.node
           (g.E.Node.NodeSet.type_of c.args.node) (g.E.Node.NodeSet.refs_of c.args.node) (c.from_residual.result) w')
           (rw (failed c.from_residual.result c.from_residual.ensures.1) (record { adopted = e.step; made = tt })) e.moves c.assert_invariant-2.ensures);
@@ -25,7 +25,7 @@ returns g c =
     let e = c.in_ok-adopted.ensures in
     record {
       step = told-if _ _ _ _ (λ h. subst (λ s. IsTrue (g.S.PagableStorage.is_honest s)) c.load_adopt_for-adopted.ensures.storage h)
-          (λ h. brings-so tells (λ e. values_at g.E.Node.NodeSet g.E.Env g.E.Hash.KeyHash e) c.args.self.now.pager.now c.load_adopt_for-adopted.new.self
+          (λ h. brings-so tells (values_at g.E.Node.NodeSet g.E.Env g.E.Hash.KeyHash) c.args.self.now.pager.now c.load_adopt_for-adopted.new.self
           (λ w'. AdoptsValue (pager_core tells c.args.self.now.pager.now) c.args.self.now.me c.args.load c.args.kind c.args.key c.args.node
           (g.E.Node.NodeSet.type_of c.args.node) (g.E.Node.NodeSet.refs_of c.args.node) (Ok c.reference.result) w')
           (record {

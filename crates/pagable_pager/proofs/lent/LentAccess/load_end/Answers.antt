@@ -11,7 +11,7 @@ returns g c =
     let e = c.load_end_for-ended.ensures in
     record {
       step = told-if _ _ _ _ (λ h. subst (λ s. IsTrue (g.S.PagableStorage.is_honest s)) e.storage h)
-          (λ h. brings-so tells (λ e. values_at g.E.Node.NodeSet g.E.Env g.E.Hash.KeyHash e) c.args.self.now.pager.now c.load_end_for-ended.new.self
+          (λ h. brings-so tells (values_at g.E.Node.NodeSet g.E.Env g.E.Hash.KeyHash) c.args.self.now.pager.now c.load_end_for-ended.new.self
           (λ w'. EndCall (pager_core tells c.args.self.now.pager.now) c.args.self.now.me c.args.load c.args.value (g.E.Node.NodeSet.type_of c.args.value)
           (g.E.Node.NodeSet.refs_of c.args.value) c.with_invariant.result w')
           (rw c.with_invariant.ensures.same e.step) e.moves c.with_invariant.ensures.whole);

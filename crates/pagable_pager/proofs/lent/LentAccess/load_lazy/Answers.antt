@@ -10,10 +10,9 @@ returns g c =
     let e = c.in_ok-taken.ensures in
     record {
       step = told-if _ _ _ _ (λ h. subst (λ s. IsTrue (g.S.PagableStorage.is_honest s)) e.only.storage h)
-          (λ h. called_fewer tells (λ e. values_at g.E.Node.NodeSet g.E.Env g.E.Hash.KeyHash e) c.args.self.now.pager.now c.load_lazy_for-taken.new.self
+          (λ h. called_fewer tells (values_at g.E.Node.NodeSet g.E.Env g.E.Hash.KeyHash) c.args.self.now.pager.now c.load_lazy_for-taken.new.self
           (λ w'. TakesLazily (pager_core tells c.args.self.now.pager.now) c.args.self.now.me c.args.load c.args.kind c.args.key (Ok c.reference.result) w')
           (record { taken = rw c.reference.ensures.handle e.step; made = c.reference.ensures.made (lazy_live e.step) })
-          (fewer_of_same tells (λ e. values_at g.E.Node.NodeSet g.E.Env g.E.Hash.KeyHash e) _ _
-          (record { values = e.only.values; environment = e.only.environment })) c.assert_invariant.ensures);
+          (fewer_of_same (record { values = e.only.values; environment = e.only.environment })) c.assert_invariant.ensures);
       acting = search rules;
     }

@@ -15,11 +15,11 @@ returns-in-Left g c =
     let tells = storage_view g.S.PagableStorage in
     let e = c.in_ok-handle.ensures in
     record {
-      step = told-if _ _ _ _ e.honest (λ h. called_fewer tells (λ e. values_at g.E.Node.NodeSet g.E.Env g.E.Hash.KeyHash e) c.args.self.now.pager.now
+      step = told-if _ _ _ _ e.honest (λ h. called_fewer tells (values_at g.E.Node.NodeSet g.E.Env g.E.Hash.KeyHash) c.args.self.now.pager.now
           c.load_fetch_for-found.new.self
           (λ w'. AsksFor (λ d. blob_of (arc_value d)) (pager_core tells c.args.self.now.pager.now) c.args.self.now.me c.args.load c.args.kind c.args.key
           (Ok (Either.Left c.reference.result)) w')
           (found-made (λ d. blob_of (arc_value d)) c.in_ok-handle.field-0 c.in-Left.is c.reference.ensures.handle c.reference.ensures.made (e.step h))
-          (fewer_of_same tells (λ e. values_at g.E.Node.NodeSet g.E.Env g.E.Hash.KeyHash e) _ _ e.only) c.assert_invariant.ensures);
+          (fewer_of_same e.only) c.assert_invariant.ensures);
       acting = search rules;
     }
