@@ -93,30 +93,36 @@ pub kinds-pushed : (got : List ArcRef) (r : ArcRef) → kinds_of (got ++ r ∷ [
 kinds-pushed got r = map-append (λ (q : ArcRef). q.kind.0) got (r ∷ [])
 
 -- an answer, by the kind of its reference
-abbrev look_kind : ℕ → Answer → Result ℕ Error
+abbrev pub look_kind : ℕ → Answer → Result ℕ Error
 look_kind kind a = answer_at kind a >>= λ r. Ok (kind_of_arc r)
+
+-- what is looked up of kinds, where the front is behind and the back was got
+abbrev pub Lookup : List ArcRef → List ArcRef → List ℕ → List ℕ → Result (List Answer) Error → Type 0
+Lookup front back keys kinds c = Looked look_kind (λ k. k) (answers_from (front ++ back) (length front) keys) kinds c
 
 pub at-place : (front : List ArcRef) (g : ArcRef) (back : List ArcRef) → slice_get (front ++ g ∷ back) (length front) ≡ Some g
 at-place [] g back = refl
 at-place (x ∷ xs) g back = at-place xs g back
 
--- what is looked up of references, the first of which were got: the first of those that are left is refused
-looked : (front back done : List ArcRef) (q : ArcRef) (more : List ArcRef) (keys : List ℕ) → kinds_of back ≡ kinds_of done → length keys
-    ≡ length (done ++ q ∷ more)
-    → Looked look_kind (λ k. k) (answers_from (front ++ back) (length front) keys) (map kind_of_arc (done ++ q ∷ more)) (Err (Error.Storage q.kind.0))
+pub looked-none : (front : List ArcRef) (kind key : ℕ) (kinds keys : List ℕ) → Lookup front [] (key ∷ keys) (kind ∷ kinds) (Err (Error.Storage kind))
 unfolding answers_from
-looked front [] [] q more (key ∷ keys) same few = not-looked _ _ _ _ _ (rw (slice_get_past (front ++ []) (length front) (omega (arith, length-append front [])))
-    refl)
-looked front (g ∷ back) (d ∷ done) q more (key ∷ keys) same few =
-    let one : g.kind.0 ≡ d.kind.0 = cc in
-    let others : kinds_of back ≡ kinds_of done = cc in
-    let all = map kind_of_arc (done ++ q ∷ more) in
-    let tail = looked (front ++ g ∷ []) back done q more keys others (omega arith) in
-    let moved = subst (λ gs. Looked look_kind (λ k. k) (answers_from gs (length (front ++ g ∷ [])) keys) all (Err (Error.Storage q.kind.0)))
-    (append_assoc front (g ∷ []) back) tail in
-    one-looked _ _ _ _ _ (let there = at-place front g back in grind (arith, self-number))
-    (subst (λ n. Looked look_kind (λ k. k) (answers_from (front ++ g ∷ back) n keys) all (Err (Error.Storage q.kind.0))) (length-append front (g ∷ [])) moved)
-looked front x1 x2 q more x4 same few = grind (arith, nat_tests)
+looked-none front kind key kinds keys = not-looked _ _ _ _ _ (rw (slice_get_past (front ++ []) (length front) (omega (arith, length-append front []))) refl)
+
+pub looked-more : (front : List ArcRef) (g : ArcRef) (back : List ArcRef) (kind key : ℕ) (kinds keys : List ℕ) (c : Result (List Answer) Error)
+    → g.kind.0 ≡ kind → Lookup (front ++ g ∷ []) back keys kinds c → Lookup front (g ∷ back) (key ∷ keys) (kind ∷ kinds) c
+unfolding answers_from
+looked-more front g back kind key kinds keys c same tail =
+    let moved = subst (λ gs. Looked look_kind (λ k. k) (answers_from gs (length (front ++ g ∷ [])) keys) kinds c) (append_assoc front (g ∷ []) back) tail in
+    one-looked _ _ _ _ c (let there = at-place front g back in grind (arith, self-number))
+    (subst (λ n. Looked look_kind (λ k. k) (answers_from (front ++ g ∷ back) n keys) kinds c) (length-append front (g ∷ [])) moved)
+
+-- where the first were got, the next one is refused
+pub looked : {X : Type 0} (kind : X → ℕ) (front back : List ArcRef) (done : List X) (q : X) (more : List X) (keys : List ℕ) → kinds_of back ≡ map kind done
+    → length keys ≡ length (done ++ q ∷ more) → Lookup front back keys (map kind (done ++ q ∷ more)) (Err (Error.Storage (kind q)))
+looked kind front [] [] q more (key ∷ keys) same few = looked-none front (kind q) key (map kind more) keys
+looked kind front (g ∷ back) (d ∷ done) q more (key ∷ keys) same few =
+    looked-more front g back (kind d) key (map kind (done ++ q ∷ more)) keys _ (cc) (looked kind (front ++ g ∷ []) back done q more keys (cc) (omega arith))
+looked kind front x1 x2 q more x4 same few = grind (arith, nat_tests)
 
 -- A blob that is a form of a value of the type, which names no handle twice: its bytes, and a key for each reference.
 pub record IsFormOf (types : Types) (t : ℕ) (blob : Blob) (refs : List ArcRef) : Type 0 where
@@ -185,9 +191,8 @@ module _ (types : Types) (t : ℕ) (blob : Blob) (refs : List ArcRef) (f : IsFor
   unfolding read
   asks-next got done q more split same =
       let few : length blob.keys ≡ length (done ++ q ∷ more) = f.as_many ∙ ap length split in
-      let stops = subst (λ (rs : List ArcRef). Looked look_kind (λ k. k) (answers_from got 0 blob.keys) (map kind_of_arc rs) (Err (Error.Storage q.kind.0)))
-      (sym split)
-      (looked [] got done q more blob.keys same few) in
+      let stops = subst (λ (rs : List ArcRef). Lookup [] got blob.keys (map kind_of_arc rs) (Err (Error.Storage q.kind.0))) (sym split)
+      (looked kind_of_arc [] got done q more blob.keys same few) in
       let stopped = form-again [] (keeps_forms kind_of_arc kind_of_arc (λ k. k) types.parts deepest f.shape f.own blob.bytes refs (λ a. refl) f.form) stops
       f.can in
       let refused : read (at 0 look_kind types.parts) f.shape (input got) ≡ Err (Error.Storage q.kind.0) = rw append-nil at stopped in

@@ -22,7 +22,7 @@ use Rattle.pagable_theorems.proofs.{
   Decoding.{among-left, among-right},
   EventEffects.site_of,
   FormsOfTrees.{cell-of, keys-of, known-of, tree-form},
-  HandlesKept.{Goes, updated-at},
+  HandlesKept.{Goes, rows-then, updated-at},
   LoadProgress.{Going, given-nodes, going-new, going-step, row-held, stands-here, was-open},
   Merkle.{one_item_key, one_key},
   NewClaims.{FailsMet, answered as was-answered, failed-elsewhere, failed-stays, fails-stay, first-met, follows-met, goes-same, stands-on},
@@ -60,17 +60,6 @@ pub record After {N E : Type 0} (v : Values N) (s : PagerState N E) (trees : ℕ
   pub stands : PagerStandsFor v s' trees'
   pub handles : s.core.last.handle ≤ s'.core.last.handle
   pub rows : RowsGo s.core.last.handle s.core.rows s'.core.rows
-
-rows-then : (last more : ℕ) (first mid rows : List HandleRow) → last ≤ more → RowsGo last first mid → RowsGo more mid rows → RowsGo last first rows
-rows-then last more first mid rows le f g q row is small =
-    let b = g q row is (omega (arith, le, small)) in
-    let a = f q b.was b.live small in
-    let mine : (l : LoadNumber) → row.owner ≡ Owner.Load l → a.was ≡ row =
-    λ l own. let same = b.mine l own in a.mine l (ap (λ (h : HandleRow). h.owner) same ∙ own) ∙ same in
-    record { was = a.was; live = a.live; at = a.at ∙ b.at; mine = mine; loose = λ is. b.loose (a.loose is) }
-
-pub rows-stay : (last : ℕ) (rows : List HandleRow) → RowsGo last rows rows
-rows-stay last rows q row is small = record { was = row; live = is; at = refl; mine = λ l own. refl; loose = λ is. is }
 
 pub after-then : {N E : Type 0} {v : Values N} {s m t : PagerState N E} {trees mid after : ℕ → Tree} → After v s trees m mid → After v m mid t after
     → After v s trees t after
