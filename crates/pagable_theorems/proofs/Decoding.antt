@@ -59,7 +59,7 @@ unfolding answers_from
 answers-two R got place [] [] few all = no-two
 answers-two R got place (k ∷ ks) (y ∷ ys) few all =
     more-two _ y _ ys (all 0 y refl place (omega arith)) (answers-two R got (place + 1) ks ys (omega arith)
-    (λ i z is n at. all (suc i) z is n (omega (arith, at))))
+    (λ i z is n at. all (suc i) z is n (omega arith)))
 answers-two R got place _ _ few all = absurd (omega arith)
 
 -- the same next, but for the references in what is read
@@ -83,11 +83,11 @@ next-alike types t blob got isnt =
 
 pub asks-by-kinds : (types : Types) (t : ℕ) (blob : Blob) (got : List ArcRef) (kind : Kind) (key : ℕ) → next_of types t blob got ≡ asks kind key
     → after_kinds types t blob (kinds_of got) ≡ asks kind key
-asks-by-kinds types t blob got kind key is = next-alike types t blob got (λ own e. let f : reads own ≡ asks kind key = sym e ∙ is in cc) ∙ is
+asks-by-kinds types t blob got kind key is = next-alike types t blob got (λ own e. cc (sym e ∙ is)) ∙ is
 
 pub faulty-by-kinds : (types : Types) (t : ℕ) (blob : Blob) (got : List ArcRef) (e : Error) → next_of types t blob got ≡ is_faulty e
     → after_kinds types t blob (kinds_of got) ≡ is_faulty e
-faulty-by-kinds types t blob got e is = next-alike types t blob got (λ own o. let f : reads own ≡ is_faulty e = sym o ∙ is in cc) ∙ is
+faulty-by-kinds types t blob got e is = next-alike types t blob got (λ own o. cc (sym o ∙ is)) ∙ is
 
 pub kinds-pushed : (got : List ArcRef) (r : ArcRef) → kinds_of (got ++ r ∷ []) ≡ kinds_of got ++ r.kind.0 ∷ []
 kinds-pushed got r = map-append (λ (q : ArcRef). q.kind.0) got (r ∷ [])
@@ -198,7 +198,7 @@ module _ (types : Types) (t : ℕ) (blob : Blob) (refs : List ArcRef) (f : IsFor
       let refused : read (at 0 look_kind types.parts) f.shape (input got) ≡ Err (Error.Storage q.kind.0) = rw append-nil at stopped in
       let as_read = sym (renamed kind_of_arc answer_at 0 types.parts f.shape (input got)) ∙ refused in
       let first : read (handles_at 0 types.parts) f.shape (input got) ≡ Err (Error.Storage q.kind.0) = grind (arith, nat_tests) in
-      let there = slice_get-get_or blob.keys (length done) 0 (let long = length-append done (q ∷ more) in omega arith) in
+      let there = slice_get-get_or blob.keys (length done) 0 (omega (arith, length-append done (q ∷ more))) in
       let kind = λ (r : ArcRef). r.kind.0 in
       let gotten : length got ≡ length done = sym (length-map got kind) ∙ ap length same ∙ length-map done kind in (
         _,
@@ -216,7 +216,7 @@ module _ (types : Types) (t : ℕ) (blob : Blob) (refs : List ArcRef) (f : IsFor
     unfolding read
     reads-all =
         let all : AllTwo (λ r a. Answers a r) refs (answers_from got 0 blob.keys) = swap-two (answers-two Answers got 0 blob.keys refs f.as_many (λ i r is n at.
-        let g = kind-at got refs same i r is in let here : n ≡ i = omega (arith, at) in
+        let g = kind-at got refs same i r is in let here : n ≡ i = omega arith in
         subst (λ o. Answers (λ kind. answer_of o kind) r) (sym (ap (slice_get got) here ∙ g.1)) (grind (arith, both-looked-up, both-not)))) in
         let par = read_par {E = one_cause} {F = ⊥} {T = AllTwo (λ r a. Answers a r)} {R = λ r g. InPlace got refs g r} own_look answer_at
         (each _ _ (λ kind r a h. h kind)) 0 f.shape (inr f.can) in
@@ -234,7 +234,7 @@ module _ (types : Types) (t : ℕ) (blob : Blob) (refs : List ArcRef) (f : IsFor
   pub comes-to : {got : List ArcRef} → GotAsked types t blob got → Ahead types t blob refs got
   comes-to (none-got got is) = ahead got [] refs refl (ap kinds_of is)
   comes-to (one-got got more r key h next is) = subst (Ahead types t blob refs) (sym is) (elim (comes-to h) [
-    | all-done own read all ↦ absurd (let e : reads own ≡ asks r.kind key = sym read ∙ next in cc)
+    | all-done own read all ↦ absurd (cc (sym read ∙ next))
     | one-left done left q k split same there asked ↦
         let kinds : q.kind ≡ r.kind = cc in
         ahead (got ++ r ∷ []) (done ++ q ∷ []) left (split ∙ sym (append_assoc done (q ∷ []) left))
@@ -263,7 +263,7 @@ module _ (types : Types) (t : ℕ) (blob : Blob) (refs got : List ArcRef) (f : I
   reads-once own is q = elim (cases_lt 0 (times (λ (r : ArcRef). r.handle.0 == q) (references_in own))) [
     | inr few ↦ omega arith
     | inl some ↦
-        let (read, next, along) = reads-all types t blob refs f got same in let e : read ≡ own = (let f : reads read ≡ reads own = sym next ∙ is in cc) in
+        let (read, next, along) = reads-all types t blob refs f got same in let e : read ≡ own = (cc (sym next ∙ is)) in
         let two = swap-two (refs-two (subst (λ m. Along ⊥ (λ r g. InPlace got refs g r) f.own m) e along)) in
         let (g, among, named) = counted (λ (r : ArcRef). one (r.handle.0 == q)) (references_in own) some in
         let (r, place) = each-two two g among in
@@ -285,10 +285,10 @@ fine w owner seen (r ∷ rs) good new once =
     let c = at-most-sum (λ (x : ArcRef). one (x.handle.0 == q.handle.0)) rs q among in
     let d : one (q.handle.0 == q.handle.0) ≡ 1 = ap one (self-number q.handle.0) in
     elim (cases_Bool (r.handle.0 == q.handle.0)) [
-      | inl e ↦ absurd (let z : one (r.handle.0 == q.handle.0) ≡ 1 = ap one e in omega (arith, a, b, c, d, z))
+      | inl e ↦ absurd (let z : one (r.handle.0 == q.handle.0) ≡ 1 = ap one e in omega arith)
       | inr e ↦ rw (e, n) refl
     ])
-    (λ q. let a = once q in let b = sum_by-cons (λ (x : ArcRef). one (x.handle.0 == q)) r rs in omega (arith, a, b)) in
+    (λ q. omega (arith, once q, sum_by-cons (λ (x : ArcRef). one (x.handle.0 == q)) r rs)) in
     let first : reference_fault w owner seen r ≡ None = let is = good r (zero, refl) in let isnt = new r (zero, refl) in grind (arith, self-number) in
     rw first rest
 
@@ -365,7 +365,7 @@ module _ {N : Type 0} {v : Values N} (lawful : IsLawful v) {stored : ℕ → Opt
       let all = answers-two (AnswersFor v.types stored trees frame.got) frame.got 0 frame.blob.keys frame.blob.keys refl (λ i key is n at.
       answer-of (slice_get frame.got n) key (λ r there. (
         (n, there),
-        let same : n ≡ i = omega (arith, at) in
+        let same : n ≡ i = omega arith in
             fits.got i key r (subst (λ k. slice_get frame.got k ≡ Some r) same there) is,
       ))) in
       let both = typed_par {E = any_cause} {F = ⊥} {T = AllTwo (AnswersFor v.types stored trees frame.got)} {R = Found v.types stored trees frame.got}

@@ -199,10 +199,8 @@ module _ {store : ℕ → Option Blob} {types : Types} where
   comes-down (goes-down t key child n longer u last blob kinds kind e at next eager more) a s can =
       let same : blob ≡ blob_of s.stands.bytes (map key_of_ref s.stands.refs) = same_some _ _ (sym at ∙ s.stands.stored) in
       elim (next-is types s.stands can.0 (some_of kinds)) [
-        | is-read own is ↦ absurd (let f : reads own ≡ asks kind child = sym is ∙ subst (λ
-            (b : Blob). after_kinds types t b kinds ≡ asks kind child) same next in cc)
-        | was-another is ↦ absurd (let f : is_faulty Error.WrongKind ≡ asks kind child = sym is ∙ subst (λ
-            (b : Blob). after_kinds types t b kinds ≡ asks kind child) same next in cc)
+        | is-read own is ↦ absurd (cc (sym is ∙ subst (λ (b : Blob). after_kinds types t b kinds ≡ asks kind child) same next))
+        | was-another is ↦ absurd (cc (sym is ∙ subst (λ (b : Blob). after_kinds types t b kinds ≡ asks kind child) same next))
         | is-asked q among is ↦
             let f : asks (record { 0 = q.kind }) q.key ≡ asks kind child = sym is ∙ subst (λ
             (b : Blob). after_kinds types t b kinds ≡ asks kind child) same next in
@@ -256,9 +254,9 @@ depth_is_height types store t key can s = (
             let same : d.blob ≡ blob_of there.stands.bytes (map key_of_ref there.stands.refs) = same_some _ _ (sym d.is ∙ there.stands.stored) in
             let is = subst (λ (x : Blob). after_kinds types d.last_type x kinds ≡ is_faulty Error.TooDeep) same faulty in
             absurd (elim (next-is types there.stands read.0 (some_of kinds)) [
-              | is-read own e ↦ (let f : reads own ≡ is_faulty Error.TooDeep = sym e ∙ is in cc)
-              | is-asked q among e ↦ (let f : asks (record { 0 = q.kind }) q.key ≡ is_faulty Error.TooDeep = sym e ∙ is in cc)
-              | was-another e ↦ (let f : is_faulty Error.WrongKind ≡ is_faulty Error.TooDeep = sym e ∙ is in cc)
+              | is-read own e ↦ (cc (sym e ∙ is))
+              | is-asked q among e ↦ (cc (sym e ∙ is))
+              | was-another e ↦ (cc (sym e ∙ is))
             ])
       ],
   λ high.

@@ -64,10 +64,10 @@ pub record After {N E : Type 0} (v : Values N) (s : PagerState N E) (trees : ℕ
 pub after-then : {N E : Type 0} {v : Values N} {s m t : PagerState N E} {trees mid after : ℕ → Tree} → After v s trees m mid → After v m mid t after
     → After v s trees t after
 after-then a b = record {
-  same = λ n within. b.same n (let c = a.nodes in omega (arith, within, c)) ∙ a.same n within;
-  nodes = let c = a.nodes in let d = b.nodes in omega (arith, c, d);
+  same = λ n within. b.same n (omega arith) ∙ a.same n within;
+  nodes = omega arith;
   stands = b.stands;
-  handles = let c = a.handles in let d = b.handles in omega (arith, c, d);
+  handles = omega arith;
   rows = rows-then _ _ _ _ _ a.handles a.rows b.rows;
 }
 
@@ -137,7 +137,7 @@ module _ {N E : Type 0} {v : Values N} (lawful : IsLawful v) where
     unfolding FramesFit
     under w l t key root next a =
         let still : HoldsSettled v mid = λ n x has. elim (moves.each n x has) [ inl was ↦ settled n x was | inr came ↦ absurd came.1 ] in
-        let going = going-new {v = v} mid trees (fresh l t) refl (let e = ap (λ (x : Last). x.load) a.last in omega (arith, e, next)) in
+        let going = going-new {v = v} mid trees (fresh l t) refl (omega (arith, ap (λ (x : Last). x.load) a.last)) in
         grind (arith, nat_tests, same_some, still, whole, begun.stands, going)
 
 -- a load of a cell by one call keeps trees
@@ -265,7 +265,7 @@ module _ (k : ℕ) (i : Identity) where
         (few-claims (Action.Claim j (Ok Claim.Claimed)) steps few) in
         grind (arith, nat_tests, once-more, bounded, along)
     entry r place (Action.Claim j (Ok Claim.Waiting) ∷ steps) last (mid, (is, e), leads) few =
-        let less : times (is_claim_of i) steps ≤ 1 = let c = few-claims (Action.Claim j (Ok Claim.Waiting)) steps few in omega arith in
+        let less : times (is_claim_of i) steps ≤ 1 = omega (arith, few-claims (Action.Claim j (Ok Claim.Waiting)) steps few) in
         grind (arith, nat_tests, once-more, entry r place steps last (subst (λ m. Leads f m steps last) e leads) less)
     entry r place (step ∷ steps) last (mid, follows, leads) few = grind (arith, nat_tests, once-more, bounded, along, few-claims, after-release)
 

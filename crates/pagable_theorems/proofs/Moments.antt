@@ -52,7 +52,7 @@ pub with-table-rests : (work : Work) (shelf : Shelf) → IsAtRest work → IsAtR
 with-table-rests work shelf rests = record {
   unread = rests.unread;
   answered = λ q w is. let r = rests.answered q w is in
-      (r.0, r.1, let le = r.2 in omega (arith, le));
+      (r.0, r.1, omega arith);
 }
 
 abbrev pub walking-on : ℕ → Task → List Todo → ℕ → Option WorkerAnswer → Walking
@@ -85,9 +85,9 @@ module _ {N E B W : Type 0} (m : Seen N B W) where
   pub rest-whole : (s : PagerState N E) (work : Work) → IsAtRest work → IsPagerWhole m.values s → NobodyWorks s.core → IsMachineWhole m.values (at-rest s work)
   rest-whole s work rests well nobody = record {
     pager = well;
-    readings = λ l reading is. absurd (let e = rests.unread l in cc);
+    readings = λ l reading is. absurd (cc (rests.unread l));
     walkings = λ q w is. let r = rests.answered q w is in record { table = (r.1, r.2); at_work = nobody q ∙ sym r.0 };
-    each_walks = λ q is. absurd (let e = nobody q in cc);
+    each_walks = λ q is. absurd (cc (nobody q));
   }
 
   pub table-made : (s : PagerState N E) (work : Work) (shelf : Shelf) → IsAtRest work → IsPagerWhole m.values s → NobodyWorks s.core → SameShelf no_shelf shelf
@@ -133,7 +133,7 @@ module _ {N E B W : Type 0} (m : Seen N B W) where
             }
         | inr e ↦ let r = rests.answered q w (rw e at is) in record { table = (r.1, r.2); at_work = alone.others q e ∙ sym r.0 }
       ];
-      each_walks = λ q is. elim (cases_Bool (q == n)) [ inl e ↦ rw e refl | inr e ↦ absurd (let f = alone.others q e in cc) ];
+      each_walks = λ q is. elim (cases_Bool (q == n)) [ inl e ↦ rw e refl | inr e ↦ absurd (cc (alone.others q e)) ];
     }
 
     -- a worker begins, for an item or for an entry of the list

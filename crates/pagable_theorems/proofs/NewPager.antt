@@ -27,7 +27,7 @@ module _ {N E : Type 0} (v : Values N) (s : PagerState N E) (new : IsNew s) wher
     within = rw new.last (omega arith, omega arith, omega arith);
     live = λ n. rw (no-cell n, none-counted (is_at n)) refl;
     uniform = λ n. inl (none-counted (is_share n));
-    unkeyed = λ n some. absurd (let e = none-counted (is_share n) in omega arith);
+    unkeyed = λ n some. absurd (omega (arith, none-counted (is_share n)));
     places = rw (new.rows, new.list) (omega arith, omega arith);
   }
 
@@ -63,8 +63,8 @@ module _ {N E : Type 0} (v : Values N) (s : PagerState N E) (new : IsNew s) wher
 
   new-represents : (trees : ℕ → Tree) → PagerStandsFor v s trees
   new-represents trees = record {
-    stands = λ n some. absurd (let e = none-counted (is_at n) in omega arith);
-    typed = λ n some. absurd (let e = none-counted (is_at n) in omega arith);
+    stands = λ n some. absurd (omega (arith, none-counted (is_at n)));
+    typed = λ n some. absurd (omega (arith, none-counted (is_at n)));
     loads = λ l load node t h is root. absurd (cc (new.loads l));
     cache = λ kind key n is. absurd (cc (new.cache kind key));
   }
