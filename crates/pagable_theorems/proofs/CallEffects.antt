@@ -41,7 +41,7 @@ module _ {me : Owner} {lists : Bool} {Asks Leaves : Type 0} {c : Change} where
   pub stores : {digest : Blob → ℕ} {w w' : Core} {blob : Blob} → (r : Result ℕ Error) → StoreCall digest w blob r w' → Effect me lists Asks Leaves false c w w'
   stores {w = w} {w'} (Ok key) x =
       let s = x.stores.1 in like (beside w w'.stored w'.failures (λ q b is. let adds = s.adds in grind (arith, same-number))
-      (λ is. absurd (let a = is.0 in let b = s.stands_open in cc))) s.leaves
+      (λ is. absurd (cc))) s.leaves
   stores (Err e) x = was-asked x.refused.0
 
   pub clones : {w w' : Core} {h : HandleNumber} (r : Result HandleNumber Error) → CloneCall w me h r w' → Effect me lists Asks Leaves false c w w'

@@ -72,7 +72,7 @@ pinned-at {N} {v = v} (load-ends reading answer s s' step) well few k is =
 pinned-at {N} {v = v} (load-goes-on reading frames answer s mid s' step more) well few k is =
     let seen : Seen N Blob Written = record { values = v; blob_of = λ b. b; written_of = λ w. w } in
     let goes = (reading-feels seen s.core Owner.Caller caller-free mid.core reading None frames step.does).does.goes in
-    let p = pinned-at more step.whole (let more_loads = goes.loads_last in omega (arith, few)) k is in
+    let p = pinned-at more step.whole (omega arith) k is in
     record { load = p.load; node = p.node; t = p.t; h = p.h; open_load = was-open goes reading.load.0 p.load few p.open_load; root = p.root; pin = p.pin }
 
 -- a load that has begun is of its handle's node
@@ -217,7 +217,7 @@ pinned_again_law E m s mid later s' trees h k l x y first between again well nob
     (cell-of p.now.well.whole.handles gives.row.node.0 (row-held mid.core k gives.row gives.live))).1 in
     let later_given = o.after.nodes in
     let tree : q.trees' gives_again.row.node.0 ≡ p.trees' gives.row.node.0 =
-    ap (λ (n : NodeNumber). q.trees' n.0) (at2 ∙ sym at) ∙ q.after.same gives.row.node.0 (omega (arith, given, later_given))
+    ap (λ (n : NodeNumber). q.trees' n.0) (at2 ∙ sym at) ∙ q.after.same gives.row.node.0 (omega arith)
     ∙ o.after.same gives.row.node.0 given in
     let x_is : gives.x ≡ x = value-of mid k gives a in
     let y_is : gives_again.x ≡ y = value-of s' l gives_again b in (

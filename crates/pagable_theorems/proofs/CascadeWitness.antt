@@ -166,7 +166,7 @@ fall_laws = record {
     closed = grind (arith, nat_tests, and-false);
     least = λ t holds closed. let f : owned_outside two_rows t 1 ≡ 0 = closed 1 (grind (arith, nat_tests)) in omega arith;
   };
-  not_less = λ least. let fallen = least.closed 1 refl in absurd (omega arith);
+  not_less = λ least. absurd (omega (arith, least.closed 1 refl));
   lone_is_listed = λ stored. record {
     does = inr (
       row_of 1 first_node Mode.LoosePinned Owner.Caller,

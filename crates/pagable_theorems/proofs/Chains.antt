@@ -119,11 +119,11 @@ still-held {w} {w'} v r through key u whole s call =
     let held : (row : HandleRow) → Owns w (owner_worker v) through any_mode row → Stands w'.last.handle w'.rows through.0 row → HasHandle w' v r.node.0 =
     λ row owns stands.
     record { h = through; row = row; live = stands.live; own = owns.own; at = ap (λ (n : NodeNumber). n.0) (s.is row owns.live).0 } in elim call.does [
-      | inl refused ↦ let f = refused.told in absurd (cc)
+      | inl refused ↦ absurd (cc)
       | inr (row, owns, inl (other, told, a)) ↦ held row owns (stands-alike a (stands-whole whole through.0 row owns.live))
       | inr (row, owns, inr (loose, f)) ↦ let s : Stands (with_key w row.node key).last.handle (with_key w row.node key).rows through.0 row =
           stands-whole whole through.0 row owns.live in
-          held row owns (stands-fell f (λ n is. let f : owner_worker v ≡ Owner.Value n = sym owns.own ∙ is in absurd (cc)) refl s)
+          held row owns (stands-fell f (λ n is. absurd (cc (sym owns.own ∙ is))) refl s)
     ]
 
 -- a key that is known afterwards was known, or P holds

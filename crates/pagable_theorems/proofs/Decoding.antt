@@ -59,7 +59,7 @@ unfolding answers_from
 answers-two R got place [] [] few all = no-two
 answers-two R got place (k ∷ ks) (y ∷ ys) few all =
     more-two _ y _ ys (all 0 y refl place (omega arith)) (answers-two R got (place + 1) ks ys (omega arith)
-    (λ i z is n at. all (suc i) z is n (omega (arith, at))))
+    (λ i z is n at. all (suc i) z is n (omega arith)))
 answers-two R got place _ _ few all = absurd (omega arith)
 
 -- the same next, but for the references in what is read
@@ -83,40 +83,46 @@ next-alike types t blob got isnt =
 
 pub asks-by-kinds : (types : Types) (t : ℕ) (blob : Blob) (got : List ArcRef) (kind : Kind) (key : ℕ) → next_of types t blob got ≡ asks kind key
     → after_kinds types t blob (kinds_of got) ≡ asks kind key
-asks-by-kinds types t blob got kind key is = next-alike types t blob got (λ own e. let f : reads own ≡ asks kind key = sym e ∙ is in cc) ∙ is
+asks-by-kinds types t blob got kind key is = next-alike types t blob got (λ own e. cc (sym e ∙ is)) ∙ is
 
 pub faulty-by-kinds : (types : Types) (t : ℕ) (blob : Blob) (got : List ArcRef) (e : Error) → next_of types t blob got ≡ is_faulty e
     → after_kinds types t blob (kinds_of got) ≡ is_faulty e
-faulty-by-kinds types t blob got e is = next-alike types t blob got (λ own o. let f : reads own ≡ is_faulty e = sym o ∙ is in cc) ∙ is
+faulty-by-kinds types t blob got e is = next-alike types t blob got (λ own o. cc (sym o ∙ is)) ∙ is
 
 pub kinds-pushed : (got : List ArcRef) (r : ArcRef) → kinds_of (got ++ r ∷ []) ≡ kinds_of got ++ r.kind.0 ∷ []
 kinds-pushed got r = map-append (λ (q : ArcRef). q.kind.0) got (r ∷ [])
 
 -- an answer, by the kind of its reference
-abbrev look_kind : ℕ → Answer → Result ℕ Error
+abbrev pub look_kind : ℕ → Answer → Result ℕ Error
 look_kind kind a = answer_at kind a >>= λ r. Ok (kind_of_arc r)
+
+-- what is looked up of kinds, where the front is behind and the back was got
+abbrev pub Lookup : List ArcRef → List ArcRef → List ℕ → List ℕ → Result (List Answer) Error → Type 0
+Lookup front back keys kinds c = Looked look_kind (λ k. k) (answers_from (front ++ back) (length front) keys) kinds c
 
 pub at-place : (front : List ArcRef) (g : ArcRef) (back : List ArcRef) → slice_get (front ++ g ∷ back) (length front) ≡ Some g
 at-place [] g back = refl
 at-place (x ∷ xs) g back = at-place xs g back
 
--- what is looked up of references, the first of which were got: the first of those that are left is refused
-looked : (front back done : List ArcRef) (q : ArcRef) (more : List ArcRef) (keys : List ℕ) → kinds_of back ≡ kinds_of done → length keys
-    ≡ length (done ++ q ∷ more)
-    → Looked look_kind (λ k. k) (answers_from (front ++ back) (length front) keys) (map kind_of_arc (done ++ q ∷ more)) (Err (Error.Storage q.kind.0))
+pub looked-none : (front : List ArcRef) (kind key : ℕ) (kinds keys : List ℕ) → Lookup front [] (key ∷ keys) (kind ∷ kinds) (Err (Error.Storage kind))
 unfolding answers_from
-looked front [] [] q more (key ∷ keys) same few = not-looked _ _ _ _ _ (rw (slice_get_past (front ++ []) (length front) (omega (arith, length-append front [])))
-    refl)
-looked front (g ∷ back) (d ∷ done) q more (key ∷ keys) same few =
-    let one : g.kind.0 ≡ d.kind.0 = cc in
-    let others : kinds_of back ≡ kinds_of done = cc in
-    let all = map kind_of_arc (done ++ q ∷ more) in
-    let tail = looked (front ++ g ∷ []) back done q more keys others (omega arith) in
-    let moved = subst (λ gs. Looked look_kind (λ k. k) (answers_from gs (length (front ++ g ∷ [])) keys) all (Err (Error.Storage q.kind.0)))
-    (append_assoc front (g ∷ []) back) tail in
-    one-looked _ _ _ _ _ (let there = at-place front g back in grind (arith, self-number))
-    (subst (λ n. Looked look_kind (λ k. k) (answers_from (front ++ g ∷ back) n keys) all (Err (Error.Storage q.kind.0))) (length-append front (g ∷ [])) moved)
-looked front x1 x2 q more x4 same few = grind (arith, nat_tests)
+looked-none front kind key kinds keys = not-looked _ _ _ _ _ (rw (slice_get_past (front ++ []) (length front) (omega (arith, length-append front []))) refl)
+
+pub looked-more : (front : List ArcRef) (g : ArcRef) (back : List ArcRef) (kind key : ℕ) (kinds keys : List ℕ) (c : Result (List Answer) Error)
+    → g.kind.0 ≡ kind → Lookup (front ++ g ∷ []) back keys kinds c → Lookup front (g ∷ back) (key ∷ keys) (kind ∷ kinds) c
+unfolding answers_from
+looked-more front g back kind key kinds keys c same tail =
+    let moved = subst (λ gs. Looked look_kind (λ k. k) (answers_from gs (length (front ++ g ∷ [])) keys) kinds c) (append_assoc front (g ∷ []) back) tail in
+    one-looked _ _ _ _ c (let there = at-place front g back in grind (arith, self-number))
+    (subst (λ n. Looked look_kind (λ k. k) (answers_from (front ++ g ∷ back) n keys) kinds c) (length-append front (g ∷ [])) moved)
+
+-- where the first were got, the next one is refused
+pub looked : {X : Type 0} (kind : X → ℕ) (front back : List ArcRef) (done : List X) (q : X) (more : List X) (keys : List ℕ) → kinds_of back ≡ map kind done
+    → length keys ≡ length (done ++ q ∷ more) → Lookup front back keys (map kind (done ++ q ∷ more)) (Err (Error.Storage (kind q)))
+looked kind front [] [] q more (key ∷ keys) same few = looked-none front (kind q) key (map kind more) keys
+looked kind front (g ∷ back) (d ∷ done) q more (key ∷ keys) same few =
+    looked-more front g back (kind d) key (map kind (done ++ q ∷ more)) keys _ (cc) (looked kind (front ++ g ∷ []) back done q more keys (cc) (omega arith))
+looked kind front x1 x2 q more x4 same few = grind (arith, nat_tests)
 
 -- A blob that is a form of a value of the type, which names no handle twice: its bytes, and a key for each reference.
 pub record IsFormOf (types : Types) (t : ℕ) (blob : Blob) (refs : List ArcRef) : Type 0 where
@@ -185,15 +191,14 @@ module _ (types : Types) (t : ℕ) (blob : Blob) (refs : List ArcRef) (f : IsFor
   unfolding read
   asks-next got done q more split same =
       let few : length blob.keys ≡ length (done ++ q ∷ more) = f.as_many ∙ ap length split in
-      let stops = subst (λ (rs : List ArcRef). Looked look_kind (λ k. k) (answers_from got 0 blob.keys) (map kind_of_arc rs) (Err (Error.Storage q.kind.0)))
-      (sym split)
-      (looked [] got done q more blob.keys same few) in
+      let stops = subst (λ (rs : List ArcRef). Lookup [] got blob.keys (map kind_of_arc rs) (Err (Error.Storage q.kind.0))) (sym split)
+      (looked kind_of_arc [] got done q more blob.keys same few) in
       let stopped = form-again [] (keeps_forms kind_of_arc kind_of_arc (λ k. k) types.parts deepest f.shape f.own blob.bytes refs (λ a. refl) f.form) stops
       f.can in
       let refused : read (at 0 look_kind types.parts) f.shape (input got) ≡ Err (Error.Storage q.kind.0) = rw append-nil at stopped in
       let as_read = sym (renamed kind_of_arc answer_at 0 types.parts f.shape (input got)) ∙ refused in
       let first : read (handles_at 0 types.parts) f.shape (input got) ≡ Err (Error.Storage q.kind.0) = grind (arith, nat_tests) in
-      let there = slice_get-get_or blob.keys (length done) 0 (let long = length-append done (q ∷ more) in omega arith) in
+      let there = slice_get-get_or blob.keys (length done) 0 (omega (arith, length-append done (q ∷ more))) in
       let kind = λ (r : ArcRef). r.kind.0 in
       let gotten : length got ≡ length done = sym (length-map got kind) ∙ ap length same ∙ length-map done kind in (
         _,
@@ -211,7 +216,7 @@ module _ (types : Types) (t : ℕ) (blob : Blob) (refs : List ArcRef) (f : IsFor
     unfolding read
     reads-all =
         let all : AllTwo (λ r a. Answers a r) refs (answers_from got 0 blob.keys) = swap-two (answers-two Answers got 0 blob.keys refs f.as_many (λ i r is n at.
-        let g = kind-at got refs same i r is in let here : n ≡ i = omega (arith, at) in
+        let g = kind-at got refs same i r is in let here : n ≡ i = omega arith in
         subst (λ o. Answers (λ kind. answer_of o kind) r) (sym (ap (slice_get got) here ∙ g.1)) (grind (arith, both-looked-up, both-not)))) in
         let par = read_par {E = one_cause} {F = ⊥} {T = AllTwo (λ r a. Answers a r)} {R = λ r g. InPlace got refs g r} own_look answer_at
         (each _ _ (λ kind r a h. h kind)) 0 f.shape (inr f.can) in
@@ -229,7 +234,7 @@ module _ (types : Types) (t : ℕ) (blob : Blob) (refs : List ArcRef) (f : IsFor
   pub comes-to : {got : List ArcRef} → GotAsked types t blob got → Ahead types t blob refs got
   comes-to (none-got got is) = ahead got [] refs refl (ap kinds_of is)
   comes-to (one-got got more r key h next is) = subst (Ahead types t blob refs) (sym is) (elim (comes-to h) [
-    | all-done own read all ↦ absurd (let e : reads own ≡ asks r.kind key = sym read ∙ next in cc)
+    | all-done own read all ↦ absurd (cc (sym read ∙ next))
     | one-left done left q k split same there asked ↦
         let kinds : q.kind ≡ r.kind = cc in
         ahead (got ++ r ∷ []) (done ++ q ∷ []) left (split ∙ sym (append_assoc done (q ∷ []) left))
@@ -258,7 +263,7 @@ module _ (types : Types) (t : ℕ) (blob : Blob) (refs got : List ArcRef) (f : I
   reads-once own is q = elim (cases_lt 0 (times (λ (r : ArcRef). r.handle.0 == q) (references_in own))) [
     | inr few ↦ omega arith
     | inl some ↦
-        let (read, next, along) = reads-all types t blob refs f got same in let e : read ≡ own = (let f : reads read ≡ reads own = sym next ∙ is in cc) in
+        let (read, next, along) = reads-all types t blob refs f got same in let e : read ≡ own = (cc (sym next ∙ is)) in
         let two = swap-two (refs-two (subst (λ m. Along ⊥ (λ r g. InPlace got refs g r) f.own m) e along)) in
         let (g, among, named) = counted (λ (r : ArcRef). one (r.handle.0 == q)) (references_in own) some in
         let (r, place) = each-two two g among in
@@ -280,10 +285,10 @@ fine w owner seen (r ∷ rs) good new once =
     let c = at-most-sum (λ (x : ArcRef). one (x.handle.0 == q.handle.0)) rs q among in
     let d : one (q.handle.0 == q.handle.0) ≡ 1 = ap one (self-number q.handle.0) in
     elim (cases_Bool (r.handle.0 == q.handle.0)) [
-      | inl e ↦ absurd (let z : one (r.handle.0 == q.handle.0) ≡ 1 = ap one e in omega (arith, a, b, c, d, z))
+      | inl e ↦ absurd (let z : one (r.handle.0 == q.handle.0) ≡ 1 = ap one e in omega arith)
       | inr e ↦ rw (e, n) refl
     ])
-    (λ q. let a = once q in let b = sum_by-cons (λ (x : ArcRef). one (x.handle.0 == q)) r rs in omega (arith, a, b)) in
+    (λ q. omega (arith, once q, sum_by-cons (λ (x : ArcRef). one (x.handle.0 == q)) r rs)) in
     let first : reference_fault w owner seen r ≡ None = let is = good r (zero, refl) in let isnt = new r (zero, refl) in grind (arith, self-number) in
     rw first rest
 
@@ -360,7 +365,7 @@ module _ {N : Type 0} {v : Values N} (lawful : IsLawful v) {stored : ℕ → Opt
       let all = answers-two (AnswersFor v.types stored trees frame.got) frame.got 0 frame.blob.keys frame.blob.keys refl (λ i key is n at.
       answer-of (slice_get frame.got n) key (λ r there. (
         (n, there),
-        let same : n ≡ i = omega (arith, at) in
+        let same : n ≡ i = omega arith in
             fits.got i key r (subst (λ k. slice_get frame.got k ≡ Some r) same there) is,
       ))) in
       let both = typed_par {E = any_cause} {F = ⊥} {T = AllTwo (AnswersFor v.types stored trees frame.got)} {R = Found v.types stored trees frame.got}

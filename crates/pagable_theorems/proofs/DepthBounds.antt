@@ -45,7 +45,7 @@ size _ = 0
 
 height-within : (m : Meaning ⊥) → height m ≤ deepest_path m
 unfolding height deepest_path
-height-within (pair a b) = let p = height-within a in let q = height-within b in omega arith
+height-within (pair a b) = omega (arith, height-within a, height-within b)
 height-within (variant n a) = height-within a
 height-within x0 = grind (arith, nat_tests)
 
@@ -98,7 +98,7 @@ module _ {N E : Type 0} (v : Values N) (s : MachineState N E) (trees : ℕ → T
       → WroteTree v.types (ground_of s trees) i.node.0 written
       → IsAttained shelf h written.references → h ≤ height (trees i.node.0).meaning
   attained-height n i h few written w (inl is) = omega arith
-  attained-height zero i h few written w (inr a) = let part = part-of w a.r a.among in absurd (omega arith)
+  attained-height zero i h few written w (inr a) = absurd (omega (arith, part-of w a.r a.among))
   attained-height (suc n) i h few written w (inr a) =
       let part = part-of w a.r a.among in
       let k = known (identity_of a.r) a.key a.below a.known in
@@ -133,7 +133,7 @@ module _ {N E : Type 0} (v : Values N) (s : MachineState N E) (trees : ℕ → T
       let f = fit.slots t (identity_of o.reference) claim.slot claim.claimed in
       let part = part-of (f.writes o.written.references claim.written_so).1 r (next-among shelf o.written.references o.keys r more e) in
       elim (or_cases (is_identity q (identity_of o.reference)) (is_open_in q below) is) [
-        | inl same ↦ let e = ap (λ (j : Identity). size (trees j.node.0).meaning) (is-same q (identity_of o.reference) same) in absurd (omega arith)
+        | inl same ↦ absurd (omega (arith, ap (λ (j : Identity). size (trees j.node.0).meaning) (is-same q (identity_of o.reference) same)))
         | inr rest ↦ not-below n task q o.reference below (omega arith) expects waits all rest
       ]
   not-below n task q r x4 few x6 x7 x8 is = grind (arith, nat_tests)
@@ -228,7 +228,7 @@ module _ {N E : Type 0} (v : Values N) (s : MachineState N E) (trees : ℕ → T
     λ (r, among, long). let l = lows r among in let p = shallow-tree (identity_of r) l.key l.below l.known in grind (arith, nat_tests),
     λ (r, among, formless). let p = known-of shelf written.references keys each r among in has-forms (identity_of r) p.0 p.1.0 p.1.1 formless,
   )
-  task-is-fine (of_entry h i) key (top, p) = (λ long. let d = (shallow-tree i key top p).1 in absurd (omega arith), has-forms i key top p)
+  task-is-fine (of_entry h i) key (top, p) = (λ long. absurd (omega (arith, (shallow-tree i key top p).1)), has-forms i key top p)
 
 module _ {N B W E : Type 0} (m : Seen N B W) (s s' : MachineState N E) (trees trees' : ℕ → Tree) (fit : WorkFits m.values s trees)
     (work : StandsIn (world_of s)) where

@@ -197,7 +197,7 @@ module _ (mine : Owner) where
   handed-free apart w l hs seen none q row own s = false_from_ne_true (is_in (numbers_of hs) q) (λ is.
       let has = named w (Owner.Load l) seen hs none (record { 0 = q }) is in let same : row ≡ has.row = same_some _ _ (sym s.live ∙ has.live) in
       let e : Owner.Load l ≡ mine = sym has.own ∙ ap (λ (x : HandleRow). x.owner) (sym same) ∙ own in
-      let f : is_owner (Owner.Load l) (Owner.Load l) ≡ false = ap (is_owner (Owner.Load l)) e ∙ apart l in let g = self-number l.0 in cc)
+      cc (ap (is_owner (Owner.Load l)) e ∙ apart l, self-number l.0))
 
 -- an owner of whom nothing is taken: not the asker, no value and no load; and not the list, where its entries may be taken
 pub record IsOther (me : Owner) (lists : Bool) (w : Core) (mine : Owner) : Type 0 where
@@ -228,16 +228,15 @@ abbrev pub Ours : Owner → Bool → Core → (ℕ → Bool) → Type 0
 Ours me lists w set = (mine : Owner) → IsOther me lists w mine → Free mine w set
 
 pub none-named : (w : Core) (owner : Owner) → AreGood w owner []
-none-named w owner r among = absurd (let e = among.1 in cc)
+none-named w owner r among = absurd (cc (among.1))
 
 not-load : {mine : Owner} (l : LoadNumber) → IsApart mine → Owner.Load l ≡ mine → ⊥
-not-load l apart e = let f : is_owner (Owner.Load l) (Owner.Load l) ≡ false = ap (is_owner (Owner.Load l)) e ∙ apart.no_load l in let g =
-    self-number l.0 in absurd (cc)
+not-load l apart e = absurd (cc (ap (is_owner (Owner.Load l)) e ∙ apart.no_load l, self-number l.0))
 
 -- what a worker gives up isn't another's
 module _ (mine : Owner) (apart : IsApart mine) (u : ℕ) (other : owner_worker u ≡ mine → ⊥) where
   no-load : (w : Core) (o : Owner) → IsApart o → is_load_of w u o ≡ false
-  no-load w (Owner.Load l) a = let f = a.no_load l in let g = self-number l.0 in absurd (cc)
+  no-load w (Owner.Load l) a = absurd (cc (a.no_load l, self-number l.0))
   no-load w o a = refl
 
   pub ended-free : (w : Core) → Free mine w (is_workers w u)
@@ -384,5 +383,5 @@ one-then up asks a b = record {
   lasts = λ k kind key n e h still. b.lasts k kind key n (a.lasts k kind key n e h (λ f. up kind key n h)) (up kind key n h) still;
   workers = λ v. b.workers v ∙ a.workers v;
   others = λ own l load is few other. let more = a.goes.loads_last in b.others (asks own) l load (a.others own l load is few other)
-      (omega (arith, few, more)) other;
+      (omega arith) other;
 }

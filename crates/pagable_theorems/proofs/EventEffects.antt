@@ -44,7 +44,7 @@ abbrev pub LoadsAnew : WorkerState → Type 0
 LoadsAnew s = (reading : Reading) → front_reading s.todo ≡ Some reading → IsFresh s.core reading
 
 no-load : (s : WorkerState) (todo : List Todo) → s.todo ≡ todo → front_reading todo ≡ None → LoadsAnew s
-no-load s todo is none reading e = let f : front_reading todo ≡ Some reading = ap front_reading (sym is) ∙ e in absurd (cc)
+no-load s todo is none reading e = absurd (cc (ap front_reading (sym is) ∙ e))
 
 pub started : (place : ℕ) (rs : List ArcRef) (x : Todo) (below : List Todo) → front_reading (x ∷ below) ≡ None
     → front_reading (next_start place rs ++ x ∷ below) ≡ None
@@ -261,7 +261,7 @@ module _ {N B W : Type 0} (m : Seen N B W) (u u' : World) where
     now anew =
         let q = ends-quiet reply.answer k.0 s.ends in let le = q.loads_last in
         keeps-but s.readings k.0 (record s.walking { todo = s.after.todo; steps = reply.steps; answer = reply.answer }) s.work.same_walkings
-        (λ reading is. let a = anew reading is in let b = a.2 in (a.0, a.1, omega (arith, b, le)))
+        (λ reading is. let a = anew reading is in let b = a.2 in (a.0, a.1, omega arith))
 
     worker-feels : (c : Change) → WalkFeels m k.0 (site_of u s.walking) s.after s.walking.todo c
         → IsWhole u.core → EventFeels {B = B} m.values u (Event.WorkerStep k) (EventReply.WorkerMoved (Ok reply)) u' c
@@ -338,7 +338,7 @@ module _ {c : Change} {w w' : Core} (g : Goes c w w') where
 
   pub new-node : HandlesAreWhole w → (n : ℕ) → w.last.node < n → is_some (w'.cells n) ≡ true → NewNode c w w' n
   new-node whole n above there = let c : (cell : Cell) × (w'.cells n ≡ Some cell) = grind (arith, nat_tests) in let cell = c.0 in elim (g.cells n cell c.1) [
-    | inl kept ↦ absurd (let few = (whole.nodes_numbered n (ap is_some kept.live)).1 in omega (arith, few, above))
+    | inl kept ↦ absurd (omega (arith, (whole.nodes_numbered n (ap is_some kept.live)).1))
     | inr (next, bears) ↦ record {
       t = cell.node_type;
       own = cell.key;

@@ -84,7 +84,7 @@ rows-once : (q : ℕ) (rows : List HandleRow) → ((i j : ℕ) (a b : HandleRow)
     → a.number.0 < b.number.0) → times (is_handle q) rows ≤ 1
 rows-once q [] apart = omega arith
 rows-once q (h ∷ hs) apart =
-    let rest = rows-once q hs (λ i j a b lt x y. apart (suc i) (suc j) a b (omega (arith, lt)) x y) in
+    let rest = rows-once q hs (λ i j a b lt x y. apart (suc i) (suc j) a b (omega arith) x y) in
     let sum = sum_by-cons (λ (x : HandleRow). one (is_handle q x)) h hs in
     let off : h.number.0 ≡ q → times (is_handle q) hs ≡ 0 = λ same. sum-zero (λ x. one (is_handle q x)) hs
     (λ x (i, there). let lt = apart 0 (suc i) h x (omega arith) refl there in grind (arith, nat_tests, same-number)) in
@@ -161,7 +161,7 @@ module _ {N E : Type 0} {v : Values N} {s : PagerState N E} {trees : ℕ → Tre
         owned-once whole.whole.handles (owner_value n) q,
       ) in
       search (shape_is, readable, w.form.form, follows, given, once)
-  wrote-of n written t readable is (away n2 key t2 none_there keyed fits) w = let f = w.held in absurd (cc)
+  wrote-of n written t readable is (away n2 key t2 none_there keyed fits) w = absurd (cc)
 
   pub wrote : (n : ℕ) (written : Written) → IsReadableType v.types (trees n).type → IsWrittenOf v s n written
       → WroteTree v.types (record { stored = s.core.stored; last = s.core.last.node; trees = trees }) n written

@@ -202,7 +202,7 @@ goes-then {w} {m} {w'} a b =
     let begins : (load : OpenLoad) → BeginsWell m load → BeginsWell w load = λ load well node t h root. let k = well node t h root in let was =
     was-there a node.0 in grind (arith, nat_tests) in
     let loads : (l : ℕ) (load : OpenLoad) → w'.loads l ≡ Some load → (w.loads l ≡ Some load) ⊎ ((w.last.load < l) × BeginsWell w load) = λ l load is.
-    elim (b.loads l load is) [ inl there ↦ a.loads l load there | inr (above, well) ↦ inr (let c = a.loads_last in omega arith, begins load well) ] in
+    elim (b.loads l load is) [ inl there ↦ a.loads l load there | inr (above, well) ↦ inr (omega arith, begins load well) ] in
     let cache : (kind key n : ℕ) → w'.cache kind key ≡ Some n → (w.cache kind key ≡ Some n) ⊎ Knows nothing_felt w kind key n = λ kind key n is.
     elim (b.cache kind key n is) [ inl there ↦ a.cache kind key n there | inr known ↦ absurd known ] in
     search (rules, rows-then, le_trans, cells, loads, cache, a.stored, b.stored, a.shut, b.shut)
@@ -326,7 +326,7 @@ stands-fell {before} {w} {w'} {given} {r} {q} {row} f free kept s =
     let no_value = λ (h : HandleRow) (a : Among w.rows h) (is : h.number.0 ≡ q). subst (λ (x : HandleRow). NotValues x.owner) (sym (s.only h a is)) free in
     let number = found-number q w.rows row s.live in
     let stays = ap f.gone (sym number) ∙ outlast w.rows (is_keyed w) f.entries given f.gone (λ p. p == q) f.set
-    (λ x there goes. false_from_ne_true (x.number.0 == q) (λ e. let s = same-number x.number.0 q e in cc))
+    (λ x there goes. false_from_ne_true (x.number.0 == q) (λ e. cc (same-number x.number.0 q e)))
     (λ n x there own lost. false_from_ne_true (x.number.0 == q) (λ e.
     let o = no_value x there (same-number x.number.0 q e) in let no : is_owner (owner_value n) x.owner ≡ false = grind (arith, nat_tests) in cc))
     row among (ap (λ p. p == q) number ∙ self-number q) in

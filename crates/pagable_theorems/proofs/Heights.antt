@@ -6,7 +6,7 @@ use Rattle.pagable_pager_spec.specs.{
   Order.{LeadsDown, after_kinds, goes-down, is-there, some_of},
 }
 use Rattle.pagable_theorems.proofs.{
-  Decoding.kinds_of,
+  Decoding.{Lookup, at-place, kinds_of, looked, looked-more, looked-none},
   FormsOfTrees.references-among,
   Merkle.longest_path,
   Naturality.{keeps_forms, renamed},
@@ -32,46 +32,13 @@ use Rattle.std.proofs.lemmas.{List.length-map, Option.slice_get_past}
 
 -- ---- what a blob asks for that is a form of a stored value: its references one after another
 
-abbrev look_kind : ℕ → Answer → Result ℕ Error
-look_kind kind a = answer_at kind a >>= λ r. Ok (kind_of_arc r)
-
-abbrev Lookup : List ArcRef → List ArcRef → List KeyRef → Result (List Answer) Error → Type 0
-Lookup front back refs c = Looked look_kind (λ k. k) (answers_from (front ++ back) (length front) (map key_of_ref refs)) (map kind_of_ref refs) c
-
-there-at : (front : List ArcRef) (g : ArcRef) (back : List ArcRef) → slice_get (front ++ g ∷ back) (length front) ≡ Some g
-there-at [] g back = refl
-there-at (x ∷ xs) g back = there-at xs g back
-
-looked-none : (front : List ArcRef) (d : KeyRef) (refs : List KeyRef) → Lookup front [] (d ∷ refs) (Err (Error.Storage d.kind))
-unfolding answers_from
-looked-none front d refs = not-looked _ _ _ _ _ (rw (slice_get_past (front ++ []) (length front) (omega (arith, length-append front []))) refl)
+abbrev LookupOf : List ArcRef → List ArcRef → List KeyRef → Result (List Answer) Error → Type 0
+LookupOf front back refs c = Lookup front back (map key_of_ref refs) (map kind_of_ref refs) c
 
 looked-another : (front : List ArcRef) (g : ArcRef) (back : List ArcRef) (d : KeyRef) (refs : List KeyRef) → (g.kind.0 == d.kind) ≡ false
-    → Lookup front (g ∷ back) (d ∷ refs) (Err Error.WrongKind)
+    → LookupOf front (g ∷ back) (d ∷ refs) (Err Error.WrongKind)
 unfolding answers_from
-looked-another front g back d refs e = not-looked _ _ _ _ _ (let there = there-at front g back in grind (arith, nat_tests))
-
-looked-more : (front : List ArcRef) (g : ArcRef) (back : List ArcRef) (d : KeyRef) (refs : List KeyRef) (c : Result (List Answer) Error)
-    → g.kind.0 ≡ d.kind → Lookup (front ++ g ∷ []) back refs c
-    → Lookup front (g ∷ back) (d ∷ refs) c
-unfolding answers_from
-looked-more front g back d refs c same tail =
-    let keys = map key_of_ref refs in
-    let moved = subst (λ gs. Looked look_kind (λ k. k) (answers_from gs (length (front ++ g ∷ [])) keys) (map kind_of_ref refs) c) (append_assoc front
-    (g ∷ []) back) tail in
-    one-looked _ _ _ _ c (let there = there-at front g back in grind (arith, self-number))
-    (subst (λ n. Looked look_kind (λ k. k) (answers_from (front ++ g ∷ back) n keys) (map kind_of_ref refs) c) (length-append front (g ∷ [])) moved)
-
--- where the first of the references were got, the next is asked for
-looked-front : (front back : List ArcRef) (done left : List KeyRef) (q : KeyRef) → kinds_of back ≡ map kind_of_ref done
-    → Lookup front back (done ++ q ∷ left) (Err (Error.Storage q.kind))
-looked-front front [] [] left q same = looked-none front q left
-looked-front front (g ∷ back) (d ∷ done) left q same =
-    let one : g.kind.0 ≡ d.kind = cc in
-    let others : kinds_of back ≡ map kind_of_ref done = cc in
-    looked-more front g back d (done ++ q ∷ left) _ one (looked-front (front ++ g ∷ []) back done left q others)
-looked-front front [] (d ∷ done) left q same = absurd (cc)
-looked-front front (g ∷ back) [] left q same = absurd (cc)
+looked-another front g back d refs e = not-looked _ _ _ _ _ (let there = at-place front g back in grind (arith, nat_tests))
 
 -- whatever was got: all that the form has, or one of another kind, or the first of them
 data Ends (got : List ArcRef) (refs : List KeyRef) : Result (List Answer) Error → Type 0 where
@@ -85,15 +52,15 @@ one-more got g refs d c same (all-there left) = all-there left
 one-more got g refs d c same of-another = of-another
 one-more got g refs d c same (one-left done left q is kinds) = one-left (d ∷ done) left q (ap (λ (rs : List KeyRef). d ∷ rs) is) (rw (same, kinds) refl)
 
-looks : (front back : List ArcRef) (refs : List KeyRef) → (c : Result (List Answer) Error) × Lookup front back refs c × Ends back refs c
+looks : (front back : List ArcRef) (refs : List KeyRef) → (c : Result (List Answer) Error) × LookupOf front back refs c × Ends back refs c
 unfolding answers_from
 looks front back [] = (Ok [], all-looked [], all-there [])
-looks front [] (d ∷ refs) = (_, looked-none front d refs, one-left [] refs d refl refl)
+looks front [] (d ∷ refs) = (_, looked-none front d.kind d.key _ _, one-left [] refs d refl refl)
 looks front (g ∷ back) (d ∷ refs) = elim (cases_Bool (g.kind.0 == d.kind)) [
   | inl e ↦
       let same = same-number g.kind.0 d.kind e in
       let (c, tail, ends) = looks (front ++ g ∷ []) back refs in
-      (c, looked-more front g back d refs c same tail, one-more back g refs d c same ends)
+      (c, looked-more front g back d.kind d.key _ _ c same tail, one-more back g refs d c same ends)
   | inr e ↦ (Err Error.WrongKind, looked-another front g back d refs e, of-another)
 ]
 
@@ -140,7 +107,7 @@ module _ (types : Types) {store : ℕ → Option Blob} {t key : ℕ} {own : Mean
   own_kinds left = (rename kind_of_ref own, rest [] left)
 
   -- what is read, by what is looked up
-  read-so : (got : List ArcRef) (c : Result (List Answer) Error) → Lookup [] got h.refs c
+  read-so : (got : List ArcRef) (c : Result (List Answer) Error) → LookupOf [] got h.refs c
       → (outcome got >>= λ x. Ok (kinds_in x)) ≡ (c >>= λ y. Ok (own_kinds y))
   unfolding read
   read-so got c looked =
@@ -180,9 +147,9 @@ module _ (types : Types) {store : ℕ → Option Blob} {t key : ℕ} {own : Mean
       → after_kinds types t blob (map kind_of_ref done) ≡ asks (record { 0 = q.kind }) q.key
   next-asked done left q split =
       let got = some_of (map kind_of_ref done) in
-      let looked : Lookup [] got h.refs (Err (Error.Storage q.kind)) = subst (λ (rs : List KeyRef). Lookup [] got rs (Err (Error.Storage q.kind)))
-      (sym split) (looked-front [] got done left q (kinds-some done)) in
-      asked-so got done left q split (kinds-some done) (bound-err (outcome got) kinds_in _ (read-so got _ looked))
+      let stops = subst (λ (rs : List KeyRef). LookupOf [] got rs (Err (Error.Storage q.kind))) (sym split)
+      (looked kind_of_ref [] got done q left (map key_of_ref (done ++ q ∷ left)) (kinds-some done) (length-map (done ++ q ∷ left) key_of_ref)) in
+      asked-so got done left q split (kinds-some done) (bound-err (outcome got) kinds_in _ (read-so got _ stops))
 
 -- ---- what a stored tree's references lead to
 
@@ -232,10 +199,8 @@ module _ {store : ℕ → Option Blob} {types : Types} where
   comes-down (goes-down t key child n longer u last blob kinds kind e at next eager more) a s can =
       let same : blob ≡ blob_of s.stands.bytes (map key_of_ref s.stands.refs) = same_some _ _ (sym at ∙ s.stands.stored) in
       elim (next-is types s.stands can.0 (some_of kinds)) [
-        | is-read own is ↦ absurd (let f : reads own ≡ asks kind child = sym is ∙ subst (λ
-            (b : Blob). after_kinds types t b kinds ≡ asks kind child) same next in cc)
-        | was-another is ↦ absurd (let f : is_faulty Error.WrongKind ≡ asks kind child = sym is ∙ subst (λ
-            (b : Blob). after_kinds types t b kinds ≡ asks kind child) same next in cc)
+        | is-read own is ↦ absurd (cc (sym is ∙ subst (λ (b : Blob). after_kinds types t b kinds ≡ asks kind child) same next))
+        | was-another is ↦ absurd (cc (sym is ∙ subst (λ (b : Blob). after_kinds types t b kinds ≡ asks kind child) same next))
         | is-asked q among is ↦
             let f : asks (record { 0 = q.kind }) q.key ≡ asks kind child = sym is ∙ subst (λ
             (b : Blob). after_kinds types t b kinds ≡ asks kind child) same next in
@@ -289,9 +254,9 @@ depth_is_height types store t key can s = (
             let same : d.blob ≡ blob_of there.stands.bytes (map key_of_ref there.stands.refs) = same_some _ _ (sym d.is ∙ there.stands.stored) in
             let is = subst (λ (x : Blob). after_kinds types d.last_type x kinds ≡ is_faulty Error.TooDeep) same faulty in
             absurd (elim (next-is types there.stands read.0 (some_of kinds)) [
-              | is-read own e ↦ (let f : reads own ≡ is_faulty Error.TooDeep = sym e ∙ is in cc)
-              | is-asked q among e ↦ (let f : asks (record { 0 = q.kind }) q.key ≡ is_faulty Error.TooDeep = sym e ∙ is in cc)
-              | was-another e ↦ (let f : is_faulty Error.WrongKind ≡ is_faulty Error.TooDeep = sym e ∙ is in cc)
+              | is-read own e ↦ (cc (sym e ∙ is))
+              | is-asked q among e ↦ (cc (sym e ∙ is))
+              | was-another e ↦ (cc (sym e ∙ is))
             ])
       ],
   λ high.

@@ -50,7 +50,7 @@ module _ {N E : Type 0} (v : Values N) {s s' : PagerState N E} (whole : IsPagerW
   stays : (n : ℕ) (y : N) → s.values n ≡ Some y → is_some (s'.values n) ≡ true → s'.values n ≡ Some y
   stays n y was some =
       let p = some-of (s'.values n) some in
-      elim (moves.each n p.0 p.1) [ inl same ↦ p.1 ∙ (sym same ∙ was) | inr (none, came) ↦ let no : None ≡ Some y = sym none ∙ was in absurd cc ]
+      elim (moves.each n p.0 p.1) [ inl same ↦ p.1 ∙ (sym same ∙ was) | inr (none, came) ↦ absurd (cc (sym none ∙ was)) ]
 
   kept : (n : ℕ) (x : N) (r : ArcRef) → s'.values n ≡ Some x → Among (v.references x) r → is_eager r.kind.0 ≡ true → HoldsNode v s x r → HoldsNode v s' x r
   kept n x r is among eager h = record {

@@ -37,7 +37,7 @@ pub record IsForm {N : Type 0} (v : Values N) (frame : Frame) : Type 0 where
   pub kinds : kinds_of frame.got ≡ kinds_of refs
 
 as-many-keys : (shelf : Shelf) (rs : List ArcRef) (keys : List ℕ) → AreKeysOf shelf rs keys → length keys ≡ length rs
-as-many-keys shelf (r ∷ rs) (k ∷ ks) all = let a = as-many-keys shelf rs ks all.1 in omega (arith, a)
+as-many-keys shelf (r ∷ rs) (k ∷ ks) all = omega (arith, as-many-keys shelf rs ks all.1)
 as-many-keys shelf x1 x2 all = grind (arith, nat_tests)
 
 above-eager : (kind h limit : ℕ) → is_eager kind ≡ true → above kind h ≤ limit → h + 1 ≤ limit
@@ -90,7 +90,7 @@ module _ {N E : Type 0} (v : Values N) (s : MachineState N E) (trees : ℕ → T
   asked-known : (frame : Frame) (height : ℕ) (k : IsKnown frame height) → Ahead v.types frame.node_type frame.blob k.refs frame.got → (kind : Kind) (key : ℕ)
       → next_in v.types frame ≡ asks kind key
       → IsAsked kind key height
-  asked-known frame height k (all-done own is all) kind key next = absurd (let e : reads own ≡ asks kind key = sym is ∙ next in cc)
+  asked-known frame height k (all-done own is all) kind key next = absurd (cc (sym is ∙ next))
   asked-known frame height k (one-left done left r q split same there is) kind key next =
       let at : slice_get k.refs (length done) ≡ Some r = ap (λ (rs : List ArcRef). slice_get rs (length done)) split ∙ at-place done r left in
       let e : asks r.kind q ≡ asks kind key = sym is ∙ next in let kinds : r.kind ≡ kind = cc in
@@ -234,7 +234,7 @@ module _ {N E : Type 0} (v : Values N) (s : MachineState N E) (trees : ℕ → T
     C e = Cause v w load reading e
 
     no-load-fault : (P : Error → Type 0) → Only P (load_fault w Owner.Caller reading.load)
-    no-load-fault P e is = absurd (let f = ap (load_fault w Owner.Caller) number ∙ may in cc)
+    no-load-fault P e is = absurd (cc (ap (load_fault w Owner.Caller) number ∙ may))
 
     need-there : (kind : Kind) (key : ℕ) → Needs v.types reading.frames kind key → (blob : Blob) × (w.stored key ≡ Some blob)
         × (is_eager kind.0 ≡ true → length reading.frames ≤ longest_path)
@@ -308,7 +308,7 @@ module _ {N E : Type 0} (v : Values N) (s : MachineState N E) (trees : ℕ → T
       | inr (inl (first, asked)) ↦ by-chance (grind (arith, nat_tests, ask-chance, same_some, number, found))
       | inr (inr (inl (kind, key, needs, inl asked))) ↦ let n = need-there kind key (inl needs) in by-chance (nested-asked kind key n.0 gives.mid e n.1 asked)
       | inr (inr (inl (kind, key, needs, inr (blob, is, deep, asked)))) ↦
-          absurd (let n = (need-there kind key (inl needs)).2 (front reading.frames kind key needs) in omega arith)
+          absurd (omega (arith, (need-there kind key (inl needs)).2 (front reading.frames kind key needs)))
       | inr (inr (inr (inl (kind, key, needs, asked)))) ↦ by-chance (of-lazy gives.mid e kind key needs asked)
       | inr (inr (inr (inr (inl node)))) ↦ of-node gives.mid e node
       | inr (inr (inr (inr (inr root)))) ↦ of-root gives.mid e root
@@ -352,7 +352,7 @@ module _ (types : Types) (stored : ℕ → Option Blob) where
   goes-further blob kinds kind child (is-there t key) is next eager = goes-down t key child 0 (0 + 1) (type_of kind.0) child blob kinds kind refl is next eager
       (is-there (type_of kind.0) child)
   goes-further blob kinds kind child (goes-down t key c n longer u last b ks k e at step own more) is next eager =
-      goes-down t key c (n + 1) (longer + 1) (type_of kind.0) child b ks k (omega (arith, e)) at step own
+      goes-down t key c (n + 1) (longer + 1) (type_of kind.0) child b ks k (omega arith) at step own
       (goes-further blob kinds kind child more is next eager)
 
   module _ (trees : ℕ → Tree) (root_key root_type : ℕ) where
@@ -374,7 +374,7 @@ module _ (types : Types) (stored : ℕ → Option Blob) where
         let d = down-to top below fits got in
         let step = asks-by-kinds types top.node_type top.blob top.got kind key (asked below (next_in types top) kind key (inl needs)) in
         let further = goes-further top.blob (kinds_of top.got) kind key d.0 d.1 step (eager-nested below (next_in types top) kind key needs) in
-        record { n = length below + 1; last_type = type_of kind.0; last = key; blob = blob; down = further; is = is; deep = inl (omega (arith, long)) }
+        record { n = length below + 1; last_type = type_of kind.0; last = key; blob = blob; down = further; is = is; deep = inl (omega arith) }
 
 module _ {N B W : Type 0} (m : Seen N B W) (lawful : IsLawful m.values) (w : Core) (me : Owner) (reading : Reading) (trees : ℕ → Tree) (root_key root_type : ℕ)
     (fits : FramesFit m.values.types w.stored trees root_key root_type reading.frames)

@@ -29,7 +29,7 @@ pub asked : (below : List Frame) (next : Next) (kind : Kind) (key : ℕ) → (ne
 asked x0 x1 kind key x4 = grind (arith, nat_tests)
 
 pub pushed : {X : Type 0} (xs : List X) (y : X) (i : ℕ) (x : X) → slice_get (xs ++ y ∷ []) i ≡ Some x → (slice_get xs i ≡ Some x) ⊎ ((i ≡ length xs) × (y ≡ x))
-pushed (z ∷ xs) y (suc i) x is = elim (pushed xs y i x is) [ inl old ↦ inl old | inr new ↦ inr (let n = new.0 in omega (arith, n), new.1) ]
+pushed (z ∷ xs) y (suc i) x is = elim (pushed xs y i x is) [ inl old ↦ inl old | inr new ↦ inr (omega arith, new.1) ]
 pushed x0 y x2 x is = grind (arith, nat_tests)
 
 module _ {stored stored' : ℕ → Option Blob} {types : Types} (kept : KeepsStored stored stored') where
@@ -62,7 +62,7 @@ module _ {types : Types} {stored : ℕ → Option Blob} {trees : ℕ → Tree} w
       → FrameFits types stored trees frame → FrameFits types stored trees (record frame { got = frame.got ++ q ∷ [] })
   got-fits frame q key next read h = record {
     is = h.is;
-    few = let a = length-append frame.got (q ∷ []) in let b = slice_get_within frame.blob.keys (length frame.got) key next in omega (arith, a, b);
+    few = omega (arith, length-append frame.got (q ∷ []), slice_get_within frame.blob.keys (length frame.got) key next);
     got = λ place k r is at. elim (pushed frame.got q place r is) [
       | inl old ↦ h.got place k r old at
       | inr new ↦ let same : k ≡ key = cc in
@@ -105,7 +105,7 @@ module _ (types : Types) (root_key root_type : ℕ) where
 
 module _ (P : ArcRef → Type 0) where
   pub all-none : (frames : List Frame) → frames ≡ [] → AllGot P frames
-  all-none frames bare frame r among got = let there = subst (λ fs. Among fs frame) bare among in absurd (let e = there.1 in cc)
+  all-none frames bare frame r among got = let there = subst (λ fs. Among fs frame) bare among in absurd (cc (there.1))
 
   pub all-new : (frame : Frame) (frames : List Frame) → frame.got ≡ [] → AllGot P frames → AllGot P (frame ∷ frames)
   all-new frame frames bare all f r (zero, is) (place, there) = grind (arith, nat_tests)
@@ -150,8 +150,8 @@ frames-on : {c : Change} {w w' : Core} → CoreGoes c w w' → (l : LoadNumber) 
 frames-on goes l frames held frame r among got =
     let g = held frame r among got in
     record {
-      given = let a = g.given in let b = goes.handles in omega (arith, a, b);
-      node_given = let a = g.node_given in let b = goes.nodes in omega (arith, a, b);
+      given = omega arith;
+      node_given = omega arith;
       is = λ row live own. g.is row (let a = goes.rows r.handle.0 row live g.given in a.live ∙ ap Some (a.mine l own)) own;
     }
 
@@ -190,7 +190,7 @@ going-of s trees readings reading (inr new) = going-new s.pager trees reading ne
 
 -- a load that is open afterwards and was given was open before
 pub was-open : {c : Change} {w w' : Core} → CoreGoes c w w' → (l : ℕ) (load : OpenLoad) → l ≤ w.last.load → w'.loads l ≡ Some load → w.loads l ≡ Some load
-was-open goes l load within is = elim (goes.loads l load is) [ inl was ↦ was | inr (above, begins) ↦ absurd (omega (arith, within, above)) ]
+was-open goes l load within is = elim (goes.loads l load is) [ inl was ↦ was | inr (above, begins) ↦ absurd (omega arith) ]
 
 module _ {N E : Type 0} {v : Values N} {s s' : PagerState N E} {trees trees' : ℕ → Tree} (whole : IsPagerWhole v s) (whole' : IsPagerWhole v s')
     (stands : PagerStandsFor v s trees) where
@@ -268,7 +268,7 @@ module _ {N E : Type 0} {v : Values N} {s s' : PagerState N E} {trees trees' : �
 
   module _ {c : Change} {comes : ℕ → N → Type 0} (goes : CoreGoes c s.core s'.core) (fits : ChangeFits v c comes s s' trees trees') where
     still-within : (l : ℕ) → l ≤ s.core.last.load → l ≤ s'.core.last.load
-    still-within l within = let a = goes.loads_last in omega (arith, a, within)
+    still-within l within = omega arith
 
     pub going-on : (reading : Reading) → Going v s trees reading → Going v s' trees' reading
     going-on reading g =

@@ -22,7 +22,7 @@ use Rattle.pagable_theorems.proofs.{
   Decoding.{among-left, among-right},
   EventEffects.site_of,
   FormsOfTrees.{cell-of, keys-of, known-of, tree-form},
-  HandlesKept.{Goes, updated-at},
+  HandlesKept.{Goes, rows-then, updated-at},
   LoadProgress.{Going, given-nodes, going-new, going-step, row-held, stands-here, was-open},
   Merkle.{one_item_key, one_key},
   NewClaims.{FailsMet, answered as was-answered, failed-elsewhere, failed-stays, fails-stay, first-met, follows-met, goes-same, stands-on},
@@ -61,24 +61,13 @@ pub record After {N E : Type 0} (v : Values N) (s : PagerState N E) (trees : ℕ
   pub handles : s.core.last.handle ≤ s'.core.last.handle
   pub rows : RowsGo s.core.last.handle s.core.rows s'.core.rows
 
-rows-then : (last more : ℕ) (first mid rows : List HandleRow) → last ≤ more → RowsGo last first mid → RowsGo more mid rows → RowsGo last first rows
-rows-then last more first mid rows le f g q row is small =
-    let b = g q row is (omega (arith, le, small)) in
-    let a = f q b.was b.live small in
-    let mine : (l : LoadNumber) → row.owner ≡ Owner.Load l → a.was ≡ row =
-    λ l own. let same = b.mine l own in a.mine l (ap (λ (h : HandleRow). h.owner) same ∙ own) ∙ same in
-    record { was = a.was; live = a.live; at = a.at ∙ b.at; mine = mine; loose = λ is. b.loose (a.loose is) }
-
-pub rows-stay : (last : ℕ) (rows : List HandleRow) → RowsGo last rows rows
-rows-stay last rows q row is small = record { was = row; live = is; at = refl; mine = λ l own. refl; loose = λ is. is }
-
 pub after-then : {N E : Type 0} {v : Values N} {s m t : PagerState N E} {trees mid after : ℕ → Tree} → After v s trees m mid → After v m mid t after
     → After v s trees t after
 after-then a b = record {
-  same = λ n within. b.same n (let c = a.nodes in omega (arith, within, c)) ∙ a.same n within;
-  nodes = let c = a.nodes in let d = b.nodes in omega (arith, c, d);
+  same = λ n within. b.same n (omega arith) ∙ a.same n within;
+  nodes = omega arith;
   stands = b.stands;
-  handles = let c = a.handles in let d = b.handles in omega (arith, c, d);
+  handles = omega arith;
   rows = rows-then _ _ _ _ _ a.handles a.rows b.rows;
 }
 
@@ -148,7 +137,7 @@ module _ {N E : Type 0} {v : Values N} (lawful : IsLawful v) where
     unfolding FramesFit
     under w l t key root next a =
         let still : HoldsSettled v mid = λ n x has. elim (moves.each n x has) [ inl was ↦ settled n x was | inr came ↦ absurd came.1 ] in
-        let going = going-new {v = v} mid trees (fresh l t) refl (let e = ap (λ (x : Last). x.load) a.last in omega (arith, e, next)) in
+        let going = going-new {v = v} mid trees (fresh l t) refl (omega (arith, ap (λ (x : Last). x.load) a.last)) in
         grind (arith, nat_tests, same_some, still, whole, begun.stands, going)
 
 -- a load of a cell by one call keeps trees
@@ -276,7 +265,7 @@ module _ (k : ℕ) (i : Identity) where
         (few-claims (Action.Claim j (Ok Claim.Claimed)) steps few) in
         grind (arith, nat_tests, once-more, bounded, along)
     entry r place (Action.Claim j (Ok Claim.Waiting) ∷ steps) last (mid, (is, e), leads) few =
-        let less : times (is_claim_of i) steps ≤ 1 = let c = few-claims (Action.Claim j (Ok Claim.Waiting)) steps few in omega arith in
+        let less : times (is_claim_of i) steps ≤ 1 = omega (arith, few-claims (Action.Claim j (Ok Claim.Waiting)) steps few) in
         grind (arith, nat_tests, once-more, entry r place steps last (subst (λ m. Leads f m steps last) e leads) less)
     entry r place (step ∷ steps) last (mid, follows, leads) few = grind (arith, nat_tests, once-more, bounded, along, few-claims, after-release)
 

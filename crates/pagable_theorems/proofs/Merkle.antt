@@ -125,14 +125,14 @@ same-key-lists : (ks ls : List ℕ) → Each (λ k. k < 2 ^ 128) ks → Each (λ
 same-key-lists [] [] h g e = refl
 same-key-lists (k ∷ ks) (l ∷ ls) h g e =
     let parts = cut (to_le_bytes w128 k) (to_le_bytes w128 l) _ _ refl e in
-    rw (same-bytes 16 k l (omega (arith, h)) (omega (arith, g)) parts.0, same-key-lists ks ls h.1 g.1 parts.1) refl
+    rw (same-bytes 16 k l (omega arith) (omega arith) parts.0, same-key-lists ks ls h.1 g.1 parts.1) refl
 same-key-lists x0 x1 h g e = grind (arith, nat_tests, keys-length)
 
 one_preimage : (a b : Blob) → IsBlob a → IsBlob b → preimage a ≡ preimage b → a ≡ b
 unfolding preimage
 one_preimage a b h g e =
     let counts = cut (to_le_bytes w64 (length a.keys)) (to_le_bytes w64 (length b.keys)) _ _ refl e in
-    let count : length a.keys ≡ length b.keys = same-bytes 8 _ _ (omega (arith, h)) (omega (arith, g)) counts.0 in
+    let count : length a.keys ≡ length b.keys = same-bytes 8 _ _ (omega arith) (omega arith) counts.0 in
     let long = ap length counts.1 in let size : length a.bytes ≡ length b.bytes = omega (
       arith,
       long,

@@ -52,7 +52,7 @@ pub with-table-rests : (work : Work) (shelf : Shelf) → IsAtRest work → IsAtR
 with-table-rests work shelf rests = record {
   unread = rests.unread;
   answered = λ q w is. let r = rests.answered q w is in
-      (r.0, r.1, let le = r.2 in omega (arith, le));
+      (r.0, r.1, omega arith);
 }
 
 abbrev pub walking-on : ℕ → Task → List Todo → ℕ → Option WorkerAnswer → Walking
@@ -85,9 +85,9 @@ module _ {N E B W : Type 0} (m : Seen N B W) where
   pub rest-whole : (s : PagerState N E) (work : Work) → IsAtRest work → IsPagerWhole m.values s → NobodyWorks s.core → IsMachineWhole m.values (at-rest s work)
   rest-whole s work rests well nobody = record {
     pager = well;
-    readings = λ l reading is. absurd (let e = rests.unread l in cc);
+    readings = λ l reading is. absurd (cc (rests.unread l));
     walkings = λ q w is. let r = rests.answered q w is in record { table = (r.1, r.2); at_work = nobody q ∙ sym r.0 };
-    each_walks = λ q is. absurd (let e = nobody q in cc);
+    each_walks = λ q is. absurd (cc (nobody q));
   }
 
   pub table-made : (s : PagerState N E) (work : Work) (shelf : Shelf) → IsAtRest work → IsPagerWhole m.values s → NobodyWorks s.core → SameShelf no_shelf shelf
@@ -100,7 +100,7 @@ module _ {N E B W : Type 0} (m : Seen N B W) where
           alike s.core,
           λ l. rests.unread l ∙ (let f = rests.unread l in (grind (arith, nat_tests))),
           record {
-            same_shelves = λ q. elim (cases_Bool (q == work.last_table + 1)) [ inl e ↦ rw (e) new | inr e ↦ rw (e) (same-shelf refl) ];
+            same_shelves = λ q. elim (cases_Bool (q == work.last_table + 1)) [ inl e ↦ rw e new | inr e ↦ rw e (same-shelf refl) ];
             last_is = refl;
             same_walkings = λ q. refl;
           },
@@ -126,14 +126,14 @@ module _ {N E B W : Type 0} (m : Seen N B W) where
       readings = λ l reading is. absurd (cc);
       walkings = λ q w is. elim (cases_Bool (q == n)) [
         | inl e ↦
-            let same : walking-on t task todo count answer ≡ w = same_some _ _ (rw (e) at is) in
+            let same : walking-on t task todo count answer ≡ w = same_some _ _ (rw e at is) in
             record {
               table = subst (λ (x : Walking). (0 < x.table) × (x.table ≤ base.last_table)) same there;
               at_work = ap s.pager.core.workers (same-number q n e) ∙ alone.self ∙ ap (λ (x : Walking). is_none x.answer) same;
             }
-        | inr e ↦ let r = rests.answered q w (rw (e) at is) in record { table = (r.1, r.2); at_work = alone.others q e ∙ sym r.0 }
+        | inr e ↦ let r = rests.answered q w (rw e at is) in record { table = (r.1, r.2); at_work = alone.others q e ∙ sym r.0 }
       ];
-      each_walks = λ q is. elim (cases_Bool (q == n)) [ inl e ↦ rw (e) refl | inr e ↦ absurd (let f = alone.others q e in cc) ];
+      each_walks = λ q is. elim (cases_Bool (q == n)) [ inl e ↦ rw e refl | inr e ↦ absurd (cc (alone.others q e)) ];
     }
 
     -- a worker begins, for an item or for an entry of the list
@@ -147,8 +147,8 @@ module _ {N E B W : Type 0} (m : Seen N B W) where
       readings = λ l. (let f = rests.unread l in (grind (arith, nat_tests)));
       work = record {
         same_shelves = λ q. elim (cases_Bool (q == t)) [
-          | inl e ↦ rw (e) (same-shelf (sym (ap base.shelves (same-number q t e) ∙ on)))
-          | inr e ↦ rw (e) (same-shelf refl)
+          | inl e ↦ rw e (same-shelf (sym (ap base.shelves (same-number q t e) ∙ on)))
+          | inr e ↦ rw e (same-shelf refl)
         ];
         last_is = refl;
         same_walkings = λ q. refl;
@@ -230,12 +230,12 @@ module _ {N E B W : Type 0} (m : Seen N B W) where
                   ends = w.ends;
                   readings = λ l. none-read (s'.pager.core.loads l);
                   work = record {
-                    same_shelves = λ q. elim (cases_Bool (q == t)) [ inl e ↦ rw (e) w.shelf_is | inr e ↦ rw (e) (same-shelf refl) ];
+                    same_shelves = λ q. elim (cases_Bool (q == t)) [ inl e ↦ rw e w.shelf_is | inr e ↦ rw e (same-shelf refl) ];
                     last_is = refl;
                     same_walkings = λ q. elim (cases_Bool (q == n)) [
-                      | inl e ↦ rw (e) (ap (λ list. Some (walking-on t task list (steps_after count (is_counted todo step)) (answer_after todo step)))
+                      | inl e ↦ rw e (ap (λ list. Some (walking-on t task list (steps_after count (is_counted todo step)) (answer_after todo step)))
                           w.goes_on)
-                      | inr e ↦ rw (e) refl
+                      | inr e ↦ rw e refl
                     ];
                   };
                 };

@@ -132,7 +132,7 @@ module _ {N B W : Type 0} (m : Seen N B W) (u u' : World) (work : StandsIn u) wh
         → Starts u t task core v u'
         → EventTurns m u event reply u'
     starts no_step t task core v same s =
-        let above : u.core.last.worker < v.0 = let e = s.next in omega arith in
+        let above : u.core.last.worker < v.0 = omega arith in
         let last : u'.core.last.worker ≡ core.last.worker + 1 = ap (λ l. l.worker) s.pager.last in
         let new : u'.work.walkings v.0 ≡ Some (new_walking t task) = s.work.same_walkings v.0 ∙ updated-at v.0 (Some (new_walking t task)) u.work.walkings in
         let turned = is-started u.work.shelves u'.work.shelves u.work.walkings u'.work.walkings u.core.last.worker work (λ q i. (s.work.same_shelves q).slots i)
@@ -147,7 +147,7 @@ module _ {N B W : Type 0} (m : Seen N B W) (u u' : World) (work : StandsIn u) wh
       → EventTurns m u event reply u'
   event-turns tables Event.TableNew (EventReply.TableMade (Ok t)) h =
       let w = h.made.3 in let next = h.made.0 in let nothing : (i : Identity) (slot : Slot) → (u.work.shelves t.0).slots i ≡ Some slot → ⊥ =
-      λ i slot there. let s = work.slots t.0 i slot there in let few = tables slot.worker s.walking s.there in let on = s.on_table in absurd (omega arith) in
+      λ i slot there. let s = work.slots t.0 i slot there in absurd (omega (arith, tables slot.worker s.walking s.there)) in
       quiet _ _ h (λ n. refl) (λ q i. let same = (w.same_shelves q).slots i in
       grind (arith, nat_tests, cases_Bool (nat_eq q t.0), same-number q t.0, nothing i)) w.same_walkings
   event-turns tables (Event.WorkerItem t item) (EventReply.WorkerMade (Ok v)) h = starts _ _ h (λ n. refl) t _ u.core v refl h.starts
@@ -172,7 +172,7 @@ module _ {N B W : Type 0} (m : Seen N B W) (u u' : World) (work : StandsIn u) wh
         who = v.0;
         turned = turned;
         last = last;
-        small = omega (arith, few, last);
+        small = omega arith;
         others = λ n other. grind (arith, nat_tests);
         own = steps v reply refl (grind (arith, nat_tests)) s;
       }
@@ -279,9 +279,9 @@ first-due written below = grind (arith, started-due)
 pub pays : {W : Type 0} (f : W → Written) (todo : List Todo) (step : Action W) (next : List Todo) → Follows f todo step next
     → one (is_counted todo step) + all-due next ≤ 8 * one (is_claim step) + references_written f step + all-due todo
 pays f (to_start r place ∷ x ∷ xs) (Action.Claim j (Ok (Claim.Known key height))) next (is, e) =
-    rw e (let le = given-due r key height (x ∷ xs) in omega (arith, le))
+    rw e (omega (arith, given-due r key height (x ∷ xs)))
 pays f (to_write r place through ∷ below) (Action.Write j (Ok out)) next (is, e) = grind (arith, started-due, length-drop)
-pays f (to_release r key height ∷ below) (Action.Release j) next (is, e) = rw e (let le = given-due r key height below in omega (arith, le))
+pays f (to_release r key height ∷ below) (Action.Release j) next (is, e) = rw e (omega (arith, given-due r key height below))
 pays f _ step next follows = grind (arith, nat_tests, given-due)
 
 -- ---- what a worker fails with: a refusal that a step of its own met, or that another's claim has failed where its walk came
@@ -367,7 +367,7 @@ failed-elsewhere m v s s' (to_start r place ∷ below) i (is, c) clean =
     let found = c.finds.1.1 in
     let claimed = ap s.shelf.slots is ∙ found.1 in
     let other : (found.0.worker == v) ≡ false =
-    false_from_ne_true (found.0.worker == v) (λ e. let a = clean i found.0 claimed (same-number found.0.worker v e) in let b = ap is_failed found.2 in cc) in
+    false_from_ne_true (found.0.worker == v) (λ e. cc (clean i found.0 claimed (same-number found.0.worker v e), ap is_failed found.2)) in
     record { slot = found.0; claimed = claimed; of_another = other; is_failed = found.2 }
 failed-elsewhere m v s s' todo i does clean = absurd does
 

@@ -14,8 +14,8 @@ use Rattle.pagable_theorems.proofs.{
   CallEffects.calls-go,
   Chains.{IsGoingOn, goes, idle-goes},
   EventEffects.event-goes,
-  HandlesKept.updated-at,
-  LoadResults.{After, after-then, rows-stay},
+  HandlesKept.{rows-self, updated-at},
+  LoadResults.{After, after-then},
   Moments.{IsAtRest, WorksAlone, at-rest, at-work, entry-began, item-began, moved, reply-of, rest-whole, same-shelf, table-made, walking-on, with-table},
   Moments.{with-table-rests, works-alone},
   ReadingSteps.caller-free,
@@ -267,7 +267,7 @@ module _ {N E B W : Type 0} (m : Seen N B W) (lawful : IsLawful m.values) where
   pub stays-same : {s : PagerState N E} {trees : ℕ → Tree} → Stands m.values s trees → Stays m.values s trees s
   stays-same {s} {trees} at = record {
     trees' = trees;
-    after = record { same = λ n within. refl; nodes = omega arith; stands = at.stands; handles = omega arith; rows = rows-stay s.core.last.handle s.core.rows };
+    after = record { same = λ n within. refl; nodes = omega arith; stands = at.stands; handles = omega arith; rows = rows-self _ _ _ refl };
     now = at;
   }
 

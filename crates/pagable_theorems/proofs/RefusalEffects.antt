@@ -188,7 +188,7 @@ module _ {N B W : Type 0} (m : Seen N B W) (lawful : IsLawful m.values) (w : Cor
   calls (Call.ScheduleForPaging h) (Reply.Done (Err f)) e is c = quiet-so f e is (of-schedule w me w' h f c)
   calls (Call.CacheGet kind key) (Reply.FromCache (Err f)) e is c = quiet-so f e is (of-recall w me w' kind key f c)
   calls (Call.OnArcDeserialized kind key h) (Reply.FromCache (Err f)) e is c = quiet-so f e is (of-offer w me w' kind key h f c)
-  calls Call.CacheClear (Reply.Done (Err f)) e is c = absurd (let told = c.told in cc)
+  calls Call.CacheClear (Reply.Done (Err f)) e is c = absurd (cc (c.told))
   calls (Call.Fetch key) (Reply.Fetched (Err f)) e is c = so f e is (fetched w w' key f c.refused).tells
   calls (Call.Store b) (Reply.Stored (Err f)) e is c = so f e is (said w w' f (of-store w w' _ _ _ f c.refused.1))
   calls Call.Flush (Reply.Done (Err f)) e is c = so f e is (said w w' f (of-flush w w' f c.refused))
@@ -202,7 +202,7 @@ module _ {N B W : Type 0} (m : Seen N B W) (lawful : IsLawful m.values) (w : Cor
   calls (Call.LoadTake l hs) (Reply.Done (Err f)) e is c = quiet-so f e is (of-hand-over w me w' l hs.items f c)
   calls (Call.LoadDrop l) (Reply.Done (Err f)) e is c = quiet-so f e is (of-drop w me w' l f c)
   calls (Call.Reserve n) (Reply.Done (Err f)) e is c = quiet-so f e is (subst Quiet (sym c.wanting.0) tt)
-  calls Call.Close (Reply.Done (Err f)) e is c = absurd (let told = c.told in cc)
+  calls Call.Close (Reply.Done (Err f)) e is c = absurd (cc (c.told))
   calls _ reply e is c = grind (arith, nat_tests)
 
 -- ---- a worker's step

@@ -224,7 +224,7 @@ module _ (w : Core) (vs : List (Option Sample)) (few : Few w) (p : Passes w vs) 
             within = grind (arith, nat_tests);
             live = λ n. (number n).1;
             uniform = λ n. inl (unshared w.rows p.handles.0 n);
-            unkeyed = λ n some. let a = unshared w.rows p.handles.0 n in absurd (omega arith);
+            unkeyed = λ n some. absurd (omega (arith, unshared w.rows p.handles.0 n));
             places = (grind (arith, nat_tests), let e : length w.list ≡ 0 = ap length p.stands.list in omega arith);
           };
           owners_there = record {
@@ -241,7 +241,7 @@ module _ (w : Core) (vs : List (Option Sample)) (few : Few w) (p : Passes w vs) 
           };
           cache = λ kind key n is. let known = few.3 kind key n is in let third = p.stands.third in grind (arith, nat_tests, low);
           workers_numbered = grind (arith, nat_tests);
-          shut = λ closed. let e = p.stands.stands_open in absurd (cc);
+          shut = λ closed. absurd (cc);
         };
         counted = λ n. refl;
         valued = λ n. (number n).2;

@@ -70,7 +70,7 @@ pub got-typed : {types : Types} {stored : ℕ → Option Blob} {trees : ℕ → 
     → (trees r.node.0).type ≡ type_of r.kind.0
 got-typed frame fits r (place, is) =
     let few = slice_get_within frame.got place r is in let most = fits.few in
-    (fits.got place _ r is (slice_get-get_or frame.blob.keys place 0 (omega (arith, few, most)))).typed
+    (fits.got place _ r is (slice_get-get_or frame.blob.keys place 0 (omega arith))).typed
 
 module _ {N E : Type 0} {v : Values N} (lawful : IsLawful v) (s s' : PagerState N E) (trees trees' : ℕ → Tree) (same : SameTrees s.core.last.node trees trees')
     (stored : KeepsStored s.core.stored s'.core.stored) (whole' : IsPagerWhole v s') (stands' : PagerStandsFor v s' trees') where
@@ -190,7 +190,7 @@ module _ (types : Types) (store : ℕ → Option Blob) (many : ℕ) where
           below = under;
           sum = refl;
         };
-        less = omega (arith, s, e);
+        less = omega arith;
       }
 
   owes-got : (frames : List Frame) (kind : Kind) (key owed : ℕ) (row : HandleRow) → Needs types frames kind key → Owes types store many frames owed
@@ -204,7 +204,7 @@ module _ (types : Types) (store : ℕ → Option Blob) (many : ℕ) where
       record {
         now = 2 * t.0 + 1 + o.more;
         owes = record { many = t.0; longest = t.1; more = o.more; from = after; below = o.below; sum = refl };
-        less = omega (arith, s, f);
+        less = omega arith;
       }
 
   owes-made : (top : Frame) (below : List Frame) (owed : ℕ) (row : HandleRow) → need_of types (top ∷ below) ≡ to_adopt
@@ -241,7 +241,7 @@ bounded-step : {N : Type 0} {v : Values N} {w w' : Core} {c : Change} (reading :
 bounded-step reading load frames open_load b feels more kept many longest under = search (rules, owes-less)
 
 nothing-unfolds : {types : Types} {store : ℕ → Option Blob} {t key many longest : ℕ} → ((q : ℕ) → store q ≡ None) → Unfolds types store t key many longest → ⊥
-nothing-unfolds none (unfolds t key many longest blob there from) = let e = none key in absurd (cc)
+nothing-unfolds none (unfolds t key many longest blob there from) = absurd (cc (none key))
 
 -- each load, of the caller's or of a worker's, was given its number and is bounded
 abbrev IsBounded : Types → World → Reading → Type 0
@@ -252,7 +252,7 @@ fresh-bounded : (types : Types) (u : World) (reading : Reading) → IsFresh u.co
 fresh-bounded types u reading new = (
   new.2,
   λ load o more k many longest d.
-      (2 * many + 2, subst (λ fs. Owes types more many fs (2 * many + 2)) (sym new.0) refl, let none = new.1 in omega (arith, none)),
+      (2 * many + 2, subst (λ fs. Owes types more many fs (2 * many + 2)) (sym new.0) refl, omega arith),
 )
 
 abbrev AllBounded : Types → World → Type 0
@@ -353,7 +353,7 @@ fewer (x ∷ xs) ys le =
     ∙ same-number _ _ (one-true _ y.2) in
     let rest = fewer xs (remove ys y.1.0) (λ q. let a = le q in let b = sum_by-cons (λ h. one (has q h)) x xs in
     let c = sum_by-remove (λ h. one (has q h)) ys y.1.0 y.0 lt in grind (arith, nat_tests)) in
-    let shorter = length-remove ys y.1.0 lt in omega (arith, rest, shorter)
+    omega (arith, length-remove ys y.1.0 lt)
 
 pub found : {w : Core} → HandlesAreWhole w → (q : ℕ) (x : HandleRow) → Among w.rows x → x.number.0 ≡ q → find_row q w.rows ≡ Some x
 found {w} whole q x among is = by (find_row q w.rows) refl
@@ -369,9 +369,9 @@ none-shorter {w} {w'} whole whole' spares = fewer w.list w'.list (λ q. each q (
     own q h = is_handle q h && is_owned_by Owner.List h
 
     each : (q n : ℕ) → times (own q) w.rows ≡ n → times (has q) w.list ≤ times (has q) w'.list
-    each q zero e = let a = whole.owners_there.listed q in omega (arith, a, e)
+    each q zero e = omega (arith, whole.owners_there.listed q)
     each q (suc n) e =
-        let x = counted (λ h. one (own q h)) w.rows (omega (arith, e)) in
+        let x = counted (λ h. one (own q h)) w.rows (omega arith) in
         let both = and_parts (is_handle q x.0) (is_owned_by Owner.List x.0) (one-true _ x.2) in
         let s = spares.each q x.0 (same-owner Owner.List x.0.owner both.1)
         (stands-whole whole.handles q x.0 (found whole.handles q x.0 x.1 (same-number _ _ both.0))) in
@@ -446,7 +446,7 @@ once-got {w} {w'} kind key n whole filled (got-new none next l own references a)
     let g = goes-quiet (adopts w l kind key own references) (alike a) in
     let made = with_handle (with_node w (type_of kind.0) own references) (next_node w) (mode_of kind.0) (Owner.Load l) in
     let last = ap (λ (x : Last). x.node) (a.last ∙ (cached-rows made kind key (next_node w)).1) in
-    record { given = omega (arith, next, last); only = λ k q is. grind (arith, g.cache k q n is, whole.cache k q n, next) }
+    record { given = omega arith; only = λ k q is. grind (arith, g.cache k q n is, whole.cache k q n, next) }
 
 module _ {N B W E : Type 0} (m : Seen N B W) (kind : Kind) (key n : ℕ) where
   along : (s : MachineState N E) (xs : List (Moment N E B W)) → IsMachineWhole m.values s → AreMoments m s xs
@@ -478,8 +478,7 @@ known-twice x0 w kind key k q n a b = grind (arith, nat_tests)
 
 filled-goes : {c : Change} {w w' : Core} → IsWhole w → Goes c w w' → KnowsNext c w → IsFilledByReading w → IsFilledByReading w'
 filled-goes {c} {w} whole g next filled kind key k q n a b =
-    let old : (kind key : ℕ) → w.cache kind key ≡ Some n → (k q : ℕ) → Knows c w k q n → ⊥ = λ kind key was k q new. let given =
-    (whole.cache kind key n was).given in let e = next k q n new in omega (arith, given, e) in
+    let old : (kind key : ℕ) → w.cache kind key ≡ Some n → (k q : ℕ) → Knows c w k q n → ⊥ = λ kind key was k q new. omega (arith, (whole.cache kind key n was).given, next k q n new) in
     elim (g.cache kind key n a) [
       | inl was ↦ elim (g.cache k q n b) [ inl too ↦ filled kind key k q n was too | inr new ↦ absurd (old kind key was k q new) ]
       | inr new ↦ elim (g.cache k q n b) [ inl was ↦ absurd (old k q was kind key new) | inr too ↦ known-twice c w kind key k q n new too ]
@@ -496,7 +495,7 @@ filled-along m s (x ∷ xs) whole (does, more) leaves filled =
     filled-along m x.after xs does.whole more (λ y (i, is). leaves y (suc i, is)) (filled-goes whole.pager.whole g.goes (g.knows whole.pager.whole kept) filled)
 
 pub loads_alone_fill_cache : {N B W : Type 0} (E : Type 0) (m : Seen N B W) → LoadsAloneFillCache E m
-loads_alone_fill_cache E m = record { new = λ s new kind key k q n a b. absurd (let e = new.cache kind key in cc); stays = filled-along m }
+loads_alone_fill_cache E m = record { new = λ s new kind key k q n a b. absurd (cc (new.cache kind key)); stays = filled-along m }
 
 same : {u last : Core} (kind other_kind : Kind) (key other_key n other_n : ℕ) → Got u other_kind other_key other_n last
     → (IsKnownOnce kind.0 key n u → other_n ≡ n → other_key ≡ key) × (usable u kind.0 key ≡ Some n → other_kind ≡ kind → other_key ≡ key → other_n ≡ n)

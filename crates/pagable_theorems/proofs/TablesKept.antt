@@ -60,8 +60,7 @@ module _ {N : Type 0} (v : Values N) {g g' : Ground} (goes : GroundGoes g g') wh
   pub wrote-on : {n : ℕ} {written : Written} → n ≤ g.last → WroteTree v.types g n written → WroteTree v.types g' n written
   wrote-on {n} {written} given w =
       let same = goes.trees n given in
-      let inside : (r : ArcRef) → Among written.references r → r.node.0 ≤ g'.last = λ r among. let le = w.given r among in let more =
-      goes.last in omega arith in
+      let inside : (r : ArcRef) → Among written.references r → r.node.0 ≤ g'.last = λ r among. omega (arith, w.given r among, goes.last) in
       let follows : FollowsTo g'.trees written.references w.own (g'.trees n).meaning =
       leads-on (subst (λ (t : Tree). FollowsTo g.trees written.references w.own t.meaning) (sym same) w.follows)
       (λ r own among. (among, goes.trees r.node.0 (w.given r among))) in
@@ -85,7 +84,7 @@ module _ {N : Type 0} (v : Values N) {g g' : Ground} (goes : GroundGoes g g') wh
 
     pub slot-on : {i : Identity} {slot : Slot} → SlotFits v g shelf i slot → SlotFits v g' shelf' i slot
     slot-on {i} {slot} fits = record {
-      given = let a = fits.given in let b = goes.last in omega arith;
+      given = omega arith;
       typed = ap (λ (t : Tree). t.type) (goes.trees i.node.0 fits.given) ∙ fits.typed;
       writes = λ references is. let (bytes, w) = fits.writes references is in (bytes, wrote-on fits.given w);
       publishes = λ key height is. let (written, so, b) = fits.publishes key height is in (written, so, blob-on fits.given b);
@@ -93,7 +92,7 @@ module _ {N : Type 0} (v : Values N) {g g' : Ground} (goes : GroundGoes g g') wh
 
 module _ {N : Type 0} (v : Values N) {g g' : Ground} (goes : GroundGoes g g') where
   first-wrote-on : (x : Todo) → Wrote v.types g x → Wrote v.types g' x
-  first-wrote-on (to_finish o) (given, w) = (let more = goes.last in omega arith, wrote-on v goes given w)
+  first-wrote-on (to_finish o) (given, w) = (omega arith, wrote-on v goes given w)
   first-wrote-on x0 w = grind (arith, nat_tests)
 
   pub all-wrote-on : (todo : List Todo) → AllWrote v.types g todo → AllWrote v.types g' todo

@@ -42,7 +42,7 @@ once-got (top ∷ below) kind row small o =
     -- one of the old ones isn't the new one
     let old-isnt : (frame : Frame) (r q : ArcRef) → Among (top ∷ below) frame → Among frame.got r → new ≡ q → r.handle.0 ≡ q.handle.0 → ⊥ =
     λ frame r q among got is same.
-    let lt = small frame r among got in let e = ap (λ (g : ArcRef). g.handle.0) is in omega (arith, lt, e, same) in (
+    omega (arith, small frame r among got, ap (λ (g : ArcRef). g.handle.0) is) in (
       λ j l r q at there same. elim (pushed top.got new j r at) [
         | inl a ↦ elim (pushed top.got new l q there) [ inl b ↦ o.0 j l r q a b same | inr b ↦ absurd (old-isnt top r q (zero, refl) (j, a) b.1 same) ]
         | inr a ↦ elim (pushed top.got new l q there) [ inl b ↦ absurd (old-isnt top q r (zero, refl) (l, b) a.1 (sym same)) | inr b ↦ a.0 ∙ sym b.0 ]
@@ -123,7 +123,7 @@ module _ {N : Type 0} (v : Values N) (lawful : IsLawful v) (w w' : Core) (readin
       }
 
   small : AllGot (λ r. r.handle.0 < w.last.handle + 1) reading.frames
-  small frame r among got = let g = (held frame r among got).given in omega (arith, g)
+  small frame r among got = omega (arith, (held frame r among got).given)
 
   -- a handle was got
   got-ready : (fs : List Frame) (kind : Kind) (row : HandleRow) (k : HandleNumber) (new : HandleRow) → row_at w' k ≡ Some row → k.0 ≡ w.last.handle + 1
@@ -136,7 +136,7 @@ module _ {N : Type 0} (v : Values N) (lawful : IsLawful v) (w w' : Core) (readin
       let there : row_at w' row.number ≡ Some row = ap (λ n. find_row n w'.rows) number ∙ made in
       let owned : row.owner ≡ Owner.Load l = ap (λ (x : HandleRow). x.owner) same ∙ own in
       let here : Has w' (Owner.Load l) row.number = record { row = row; live = there; own = owned } in
-      let once = once-got fs kind row (λ frame r among got. let lt = below frame r among got in omega (arith, lt, number, next)) still.once in
+      let once = once-got fs kind row (λ frame r among got. omega (arith, below frame r among got)) still.once in
       record { begun = still.begun; live = all-more (λ r. Has w' (Owner.Load l) r.handle) fs kind row here still.live; once = once }
 
   -- where no handle is given up
@@ -163,7 +163,7 @@ module _ {N : Type 0} (v : Values N) (lawful : IsLawful v) (w w' : Core) (readin
       let a = good w (Owner.Load l) [] refs c.good x named in let e : Owner.Load l ≡ Owner.Caller = cc (same, a.live, a.owned, has.live, has.own) in cc) in
       -- no reference names the handle that comes
       let new-free : is_named_by refs (w.last.handle + 1) ≡ false = not-named refs (w.last.handle + 1)
-      (λ x named same. let lt = small_all top x (zero, refl) (was_got x named) in omega (arith, lt, same)) in
+      (λ x named same. omega (arith, small_all top x (zero, refl) (was_got x named))) in
       let by : (new : HandleRow) → Stands w'.last.handle w'.rows (w.last.handle + 1) new → new.owner ≡ Owner.Load l → Keeps (is_named_by refs)
       → LoadReady w' l load (with_got top.kind g.row below) =
       λ new s own keeps. got-ready below top.kind g.row g.k new g.made c.next.above s own (λ frame r (i, e) got. small_all frame r (suc i, e) got)
@@ -218,7 +218,7 @@ module _ {N B W E : Type 0} (m : Seen N B W) (s s' : MachineState N E) (whole : 
       let st = stands-alike a (with-one s.pager.core row.node Mode.LooseUnpinned (Owner.Load k) (stands-whole whole.pager.whole.handles h.0 row g.1.live)) in
       -- a load of a number that wasn't given yet isn't read
       let unread : (r : Reading) → s.work.readings l.0 ≡ Some r → r.frames ≡ [] = λ r e.
-      let few = (whole.pager.whole.loads.numbered l.0 (ap is_some (whole.readings l.0 r e).open_load)).1 in absurd (omega (arith, same, next, few)) in
+      absurd (omega (arith, (whole.pager.whole.loads.numbered l.0 (ap is_some (whole.readings l.0 r e).open_load)).1)) in
       let empty : reading.frames ≡ [] = grind (arith, nat_tests, unread) in
       rw empty (record {
         begun = λ node t q root. let hs : h ≡ q = cc in record {
@@ -226,7 +226,7 @@ module _ {N B W E : Type 0} (m : Seen N B W) (s s' : MachineState N E) (whole : 
           live = subst (λ (x : HandleNumber). row_at s'.pager.core x ≡ Some row) hs st.live;
           own = g.1.own;
         };
-        live = λ frame r among got. absurd (let e = among.1 in cc);
+        live = λ frame r among got. absurd (cc (among.1));
         once = tt;
       })
 
@@ -298,7 +298,7 @@ module _ {N B W E : Type 0} (m : Seen N B W) (lawful : IsLawful m.values) (s s' 
       elim (load-cause m lawful s s' trees trees on l reply x load e open_load paged ended) [
         | by-chance chance ↦ chance
         | by-references frame below y frames decoded form fault ↦ absurd
-            (let f = references-fine l x.reading load asks x.at open_load r frame below y frames decoded form in cc)
+            (cc (references-fine l x.reading load asks x.at open_load r frame below y frames decoded form))
         | by-handle node t h root fault ↦ absurd (let b = r.begun node t h root in grind (arith, nat_tests))
       ]
 
@@ -344,26 +344,26 @@ module _ {N B W E : Type 0} (m : Seen N B W) where
       | inl h ↦ by h.i h.a h.before h.at h.begins
       | inr (r, own) ↦ inr (
         turn-ready m lawful s x.after trees on whole' l x.event x.reply is asks (own 0 x (omega arith) refl) r,
-        λ i a lt at. own (suc i) a (omega (arith, lt)) at,
+        λ i a lt at. own (suc i) a (omega arith) at,
       )
     ]
       where
         by : (i : ℕ) (a : Moment N E B W) → i < suc k → slice_get (x ∷ xs) i ≡ Some a → IsBeginOf l.0 a.event a.reply → Stage x.after l xs k
-        by (suc i) a before there begins = inl (record { i = i; a = a; before = omega (arith, before); at = there; begins = begins })
+        by (suc i) a before there begins = inl (record { i = i; a = a; before = omega arith; at = there; begins = begins })
         by zero a before there begins =
             let same : a ≡ x = cc in
             let here = subst (λ (y : Moment N E B W). IsBeginOf l.0 y.event y.reply) same begins in
             let turn = begin-turn l.0 x.event x.reply here in
             inr (
               begin-ready m s x.after on.whole whole' l x.event x.reply here is,
-              λ j b lt later. together 0 (suc j) (suc k) x b c (omega arith) (omega (arith, lt)) refl later at
-                  (λ nobody. let e : of_load l.0 ≡ of_nobody = sym turn ∙ nobody in cc) (ap (λ (v : Event N B W). turn_of v c.reply) step ∙ sym turn) ∙ turn,
+              λ j b lt later. together 0 (suc j) (suc k) x b c (omega arith) (omega arith) refl later at
+                  (λ nobody. cc (sym turn ∙ nobody)) (ap (λ (v : Event N B W). turn_of v c.reply) step ∙ sym turn) ∙ turn,
             )
 
     load-sound : Stages s (x ∷ xs) → (trees' : ℕ → Tree) (event : Event N B W) (reply : EventReply N B W) → x.event ≡ event
         → Happens m (world_of s) event reply (world_of x.after) → IsWellAsked m.values s trees event reply → LoadIsSound s trees event reply x.after trees'
     load-sound stages trees' (Event.LoadStep l) (EventReply.LoadMoved (Ok reply)) same h asked = λ load e open_load paged ended. elim (stages 0 x l refl same) [
-      | inl begun ↦ absurd (let lt = begun.before in omega (arith, lt))
+      | inl begun ↦ absurd (omega arith)
       | inr (ready, own) ↦ sound m lawful s x.after trees on whole' l reply h.moves asked ready load e open_load paged ended
     ]
     load-sound stages trees' event reply same h asked = tt
@@ -373,7 +373,7 @@ sound_law E m start moments together begun trees whole idle chain stands lawful 
     along-with m lawful LoadIsSound (λ s xs. StandTogether xs × Stages m s xs) (λ s trees trees' x xs on so whole' is asks right. (
       load-sound m lawful s trees on x xs whole' is asks so.0 so.1 trees' x.event x.reply refl is asks,
       (
-        λ i j k p q r lt lt2 at a b. so.0 (suc i) (suc j) (suc k) p q r (omega (arith, lt)) (omega (arith, lt2)) at a b,
+        λ i j k p q r lt lt2 at a b. so.0 (suc i) (suc j) (suc k) p q r (omega arith) (omega arith) at a b,
         next-stage m lawful s trees on x xs whole' is asks so.0 so.1,
       ),
     ))

@@ -81,9 +81,7 @@ module _ {N E : Type 0} {v : Values N} {s : PagerState N E} (is : IsPagerWhole v
   sits n = at (s.values n) refl
     where
       at : (o : Option N) → s.values n ≡ o → At v s.core n o
-      at None e = λ h among own. let none = is.owns_nothing n e in let some =
-          some-there (is_owned_by (owner_value n)) s.core.rows h among (owned-test n h.owner own) in
-          absurd (omega (arith, none, some))
+      at None e = λ h among own. absurd (omega (arith, is.owns_nothing n e, some-there (is_owned_by (owner_value n)) s.core.rows h among (owned-test n h.owner own)))
       at (Some x) e = record {
         typed = is.typed n x e;
         names = λ r among. let a = is.references n x r e among in record { is = a; stands = stands-whole is.whole.handles r.handle.0 a.row a.live };
@@ -308,7 +306,7 @@ module _ {w : Core} (whole : IsWhole w) where
   pub begins : {w' : Core} {me : Owner} {h : HandleNumber} (r : Result Beginning Error) → BeginCall w me h r w' → Rests w w'
   begins (Ok (Beginning.Load l key)) c =
       let row : HandleRow = c.begins.0 in
-      let clone = spares-handle w row.node Mode.LooseUnpinned (Owner.Load l) (not-load l) (λ is. absurd (let e : false ≡ true = is in cc)) in
+      let clone = spares-handle w row.node Mode.LooseUnpinned (Owner.Load l) (not-load l) (λ is. absurd (cc)) in
       rests-then (spares-then clone (spares-same refl (λ n. refl) refl)) c.begins.2.4.2 whole.shut
   begins x0 c = grind (arith, nat_tests, unmoved)
 
@@ -335,8 +333,7 @@ module _ {w : Core} (whole : IsWhole w) where
   listed-free i h at = rowed (only_handle h) (λ n. effects.listed-free (Owner.Value n) refl whole.owners_there i h at)
 
   listed-open : (i : ℕ) (h : HandleNumber) → slice_get w.list i ≡ Some h → w.closed ≡ true → ⊥
-  listed-open i h at closed = let some = slice_get_within w.list i h at in let none =
-      ap (λ (hs : List HandleNumber). length hs) (whole.shut closed).0 in omega (arith, some, none)
+  listed-open i h at closed = omega (arith, slice_get_within w.list i h at, ap (λ (hs : List HandleNumber). length hs) (whole.shut closed).0)
 
   -- a worker comes for an entry, which moves to it
   pub starts-listed : {w' : Core} (i : ℕ) (h : HandleNumber) (v : WorkerNumber) → slice_get w.list i ≡ Some h
@@ -385,7 +382,7 @@ module _ {w : Core} (whole : IsWhole w) where
       let shares : is_shared holds.0.mode ≡ true = (whole.cache kind key n entered.entry).shares holds.0 holds.1 (same-number _ _ at) ∙ is in
       let one_share : one (is_share n holds.0) ≡ 1 = rw (at, shares) refl in
       let le = at-most-sum (λ h. one (is_share n h)) w.rows holds.0 holds.1 in
-      let unkeyed = whole.handles.unkeyed n (omega (arith, one_share, le)) in
+      let unkeyed = whole.handles.unkeyed n (omega arith) in
       grind (arith, nat_tests) in
       grind (arith, nat_tests, not, is_some, is_here)
 

@@ -82,7 +82,7 @@ module _ {before w w' : Core} {given : ℕ → Bool} {r : _} (f : Falls before w
   was : (n : ℕ) (h : HandleRow) → Among w'.rows h → h.owner ≡ owner_value n → Among w.rows h × (f.gone h.number.0 ≡ false)
   was n h (i, at) own = elim (among-either (left_rows f.gone w.rows) f.entries i h (subst (λ rows. slice_get rows i ≡ Some h) f.leaves.rows at)) [
     | inl left ↦ (let (there, passes) = among-left _ w.rows h left in (there, grind (arith, nat_tests)))
-    | inr new ↦ absurd (let e : Owner.List ≡ owner_value n = sym (listed w.last.handle f.entries f.new h new) ∙ own in cc)
+    | inr new ↦ absurd (cc (sym (listed w.last.handle f.entries f.new h new) ∙ own))
   ]
 
   same-cell : (n : ℕ) → is_some (w'.cells n) ≡ true → w'.cells n ≡ w.cells n
@@ -95,7 +95,7 @@ module _ {before w w' : Core} {given : ℕ → Bool} {r : _} (f : Falls before w
   shut-fell shut closed =
       let e : w.closed ≡ true = sym f.leaves.closed ∙ closed in
       let none : f.entries ≡ [] = no-entries f.entries (λ n some. let open_still = (f.only n some).0.stands_open in
-      absurd (let x : true ≡ false = sym e ∙ open_still in cc)) in
+      absurd (cc (sym e ∙ open_still))) in
       let listed = ap (λ (qs : List HandleNumber). filter (λ (q : HandleNumber). not (f.gone q.0)) qs ++ map (λ (h : HandleRow). h.number) f.entries)
       (shut e).0 in
       shut-alike {w = fallen w f.gone f.entries} f.leaves (λ c. (listed ∙ ap (map (λ (h : HandleRow). h.number)) none, (shut e).1)) closed
@@ -121,9 +121,7 @@ module _ {before w w' : Core} {given : ℕ → Bool} {r : _} (f : Falls before w
         (λ h there is. false_from_ne_true (is_named_by (v.references x) h.number.0) (λ named. free h there is (record { 0 = n }) (owner h there named)))
         (λ m h there own lost. false_from_ne_true (is_named_by (v.references x) h.number.0) (λ named.
         let same : m ≡ n = same-value h.owner (owner h there named) (same-owner (owner_value m) h.owner own) in
-        let goes : loses_value w.rows (is_keyed w) f.entries f.gone n ≡ true = ap (loses_value w.rows (is_keyed w) f.entries f.gone) (sym same) ∙ lost in
-        let stays = loses-it n x e in
-        cc))
+        cc (ap (loses_value w.rows (is_keyed w) f.entries f.gone) (sym same) ∙ lost, loses-it n x e)))
         a.row (among-found r.handle.0 w.rows a.row a.live) (ap (is_named_by (v.references x)) number ∙ among-named (v.references x) r among)
 
     pub at-left : (n : ℕ) → At v w' n (if holds_value w' n then values n else None)
@@ -159,7 +157,7 @@ module _ {before w w' : Core} {given : ℕ → Bool} {r : _} (f : Falls before w
             let a = was n h among own in
             let some = at-most-sum (λ y. one (is_owned_by (owner_value n) y && is_outside f.gone y)) w.rows h a.0 in
             let counts : one (is_owned_by (owner_value n) h && is_outside f.gone h) ≡ 1 = rw (owned-test n h.owner own, a.1) refl in
-            absurd (omega (arith, none, some, counts))
+            absurd (omega arith)
         by None e true still = λ h among own. subst (At v w n) e (at n) h (was n h among own).0 own
         by None e false goes = λ h among own. subst (At v w n) e (at n) h (was n h among own).0 own
 
@@ -201,7 +199,7 @@ module _ {N E : Type 0} {v : Values N} {s s' : PagerState N E} (is : IsPagerWhol
         let right = good s.core (Owner.Load l) [] references a.good in
         let free = rowed is.whole (is_named_by references) (λ m. effects.named-free (Owner.Value m) s.core (Owner.Load l) references (not-load l m) right) in
         fell is (spares-keeps (spares-known is.whole kind key n (not-load l) usable)) f.falls is.whole.shut free left
-    | inr (none, few, alike) ↦ absurd (let e : None ≡ Some _ = sym none ∙ known in cc)
+    | inr (none, few, alike) ↦ absurd (cc (sym none ∙ known))
   ]
 
   pub closed : {r : Result (Unit {0}) Error} → CloseCall s.core r s'.core → IsPagerWhole v s'
@@ -257,7 +255,7 @@ module _ {N E : Type 0} {v : Values N} {s s' : PagerState N E} (is : IsPagerWhol
     scheduled {h} (Ok u) c = elim c.moves.2 [
       | inl (open_still, a) ↦
           let listed = spares-moved s.core (only_handle h) Owner.List (λ n e. cc) (own-free is.whole h c.moves.0 none c.moves.1) in
-          stayed is (rests-then listed a (λ e. absurd (let x : true ≡ false = sym e ∙ open_still in cc))) left
+          stayed is (rests-then listed a (λ e. absurd (cc (sym e ∙ open_still)))) left
       | inr (shut, f) ↦ fell is (spares-keeps (spares-same refl (λ n. refl) refl)) f.falls is.whole.shut (own-free is.whole h c.moves.0 none c.moves.1) left
     ]
     scheduled (Err e) c = stays c.refused.stays
@@ -265,7 +263,7 @@ module _ {N E : Type 0} {v : Values N} {s s' : PagerState N E} (is : IsPagerWhol
     pub offered : {kind : Kind} {key : ℕ} {h : HandleNumber} (r : Result (Option HandleNumber) Error) → OfferCall s.core me kind key h r s'.core
         → IsPagerWhole v s'
     offered (Ok None) c = stayed is (rests-then (spares-same refl (λ n. refl) refl) c.answers.3.2
-        (λ e. absurd (let x : true ≡ false = sym e ∙ c.answers.3.0 in cc))) left
+        (λ e. absurd (cc (sym e ∙ c.answers.3.0)))) left
     offered {kind} {key} {h} (Ok (Some k)) c = elim c.answers.3 [
       | inl (shut, same, a) ↦ stays a
       | inr (open_still, (n, usable, next, f)) ↦ fell is (spares-keeps (spares-known is.whole kind key n none usable)) f.falls is.whole.shut
@@ -416,7 +414,7 @@ module _ {N E : Type 0} {v : Values N} {s : PagerState N E} (s' : PagerState N E
   comes-away key keyed nothing unpinned same =
       let no-pins : pins next s.core.rows ≡ 0 = grind (arith, nat_tests, sum-le, one-less, no-cell) in
       let away : is_here made next ≡ false = let p = pins-made next in let q = self-number next in grind (arith, nat_tests) in
-      comes None (λ h among mine. let e = ap (λ rs. is_named_by rs h.number.0) (sym nothing) ∙ receives-it.named h among mine in absurd (cc)) (sym away)
+      comes None (λ h among mine. absurd (cc (ap (λ rs. is_named_by rs h.number.0) (sym nothing) ∙ receives-it.named h among mine))) (sym away)
       (λ n. let a = same n in grind (arith, nat_tests, no-value))
 
 module _ {N E : Type 0} {v : Values N} {s s' : PagerState N E} (is : IsPagerWhole v s) where
@@ -431,7 +429,7 @@ module _ {N E : Type 0} {v : Values N} {s s' : PagerState N E} (is : IsPagerWhol
       → Adopts s.core me l kind key (v.node_type x) (v.references x) k s'.core
       → usable s.core kind.0 key ≡ None → ((n : ℕ) → s'.values n ≡ (if n == s.core.last.node + 1 then Some x else s.values n)) → IsRight s' → IsPagerWhole v s'
   adopts-new {l = l} {kind} {key} {x} a unknown = elim a.makes [
-    | inl (n, known, f) ↦ absurd (let e : None ≡ Some n = sym unknown ∙ known in cc)
+    | inl (n, known, f) ↦ absurd (cc (sym unknown ∙ known))
     | inr (none, few, alike) ↦ comes-with s' is (not-load l) (type_of kind.0) _ (v.references x) (mode_of kind.0) a.good
         (rests-cached kind key (next_node s.core) s.core.closed alike refl is.whole.shut) x a.typed refl (let eager = a.eager in grind (arith, nat_tests))
   ]
@@ -506,7 +504,7 @@ module _ {N E : Type 0} {v : Values N} {s : PagerState N E} (is : IsPagerWhole v
         let b = mode-others closed-given h Mode.LoosePinned row stands-still n (ap (λ (m : NodeNumber). m.0 == n) at_node ∙ apart) in
         let c = takes-it.pins n in
         let d : one (is_pin n (row_of (s.core.last.handle + 1) node Mode.Pinned me)) ≡ 0 = rw apart refl in
-        omega (arith, a, b, c, d) in
+        omega arith in
         let v = is.valued n in grind (arith, nat_tests)
 
     none-goes : AreFree (with_pin closed-given h node me) (λ q. is_owned_in s.core (Owner.Load l) q && not (is_named_by (v.references x) q))
@@ -514,13 +512,10 @@ module _ {N E : Type 0} {v : Values N} {s : PagerState N E} (is : IsPagerWhole v
         let before = (after n.0).owned q among mine in
         let (owned_so, unnamed) = and_parts (is_owned_in s.core (Owner.Load l) q.number.0) _ goes in
         elim (cases_Bool (n.0 == node.0)) [
-          | inl e ↦ let named = takes-it.named q before (mine ∙ ap owner_value (same-number n.0 node.0 e)) in cc
+          | inl e ↦ cc (takes-it.named q before (mine ∙ ap owner_value (same-number n.0 node.0 e)))
           | inr e ↦
               let row_found = found is.whole.handles q.number.0 q ((takes-it.before n.0 e).owned q before mine) refl in
-              let other : is_owned_in s.core (Owner.Load l) q.number.0 ≡ is_owner (Owner.Load l) q.owner =
-              ap (if_there (is_owned_by (Owner.Load l)) false) row_found in
-              let f = ap (is_owner (Owner.Load l)) mine in
-              cc
+              cc (ap (if_there (is_owned_by (Owner.Load l)) false) row_found, ap (is_owner (Owner.Load l)) mine)
         ]
 
 module _ {N E : Type 0} {v : Values N} {s s' : PagerState N E} (is : IsPagerWhole v s) {me : Owner} {l : LoadNumber} {node : NodeNumber} {h k : HandleNumber}
@@ -528,7 +523,7 @@ module _ {N E : Type 0} {v : Values N} {s s' : PagerState N E} (is : IsPagerWhol
     (may : MayEnd s.core me l node h (v.node_type x) (v.references x)) (i : Installs s.core me l node h k (v.references x) s'.core) where
   pub installed_there : is_here s.core node.0 ≡ true → Leaves s.values s' → IsPagerWhole v s'
   installed_there there left = elim i.falls [
-    | inl (away, f) ↦ absurd (let e : false ≡ true = sym away ∙ there in cc)
+    | inl (away, f) ↦ absurd (cc (sym away ∙ there))
     | inr (here, f) ↦ fell is (there-keeps is may i.row i.owned i.at there) f.falls is.whole.shut (load-free is.whole l) left
   ]
 
@@ -536,5 +531,5 @@ module _ {N E : Type 0} {v : Values N} {s s' : PagerState N E} (is : IsPagerWhol
   installed_away away left = elim i.falls [
     | inl (none, f) ↦ fell-from (sits-all is may i.row i.owned i.at away) (there is may i.row i.owned i.at away) s' f.falls is.whole.shut
         (none-goes is may i.row i.owned i.at away) left
-    | inr (there, f) ↦ absurd (let e : true ≡ false = sym there ∙ away in cc)
+    | inr (there, f) ↦ absurd (cc (sym there ∙ away))
   ]

@@ -228,7 +228,7 @@ evicts =
     let w = with_mode two.answered.core (two.handle 2) Mode.LooseUnpinned in
     let set : IsLeast w.rows (is_keyed w) [] nobody outer = record {
       holds = refl;
-      closed = λ n goes. let a = and-false (2 == n) in omega arith;
+      closed = λ n goes. omega (arith, and-false (2 == n));
       least = λ t holds closed. let fallen : owned_outside w.rows t 2 ≡ 0 = closed 2 refl in omega arith;
     } in
     record {
