@@ -5,58 +5,16 @@ and not from the crates, for fuzz.py to compare with them. Types are named as in
 import re
 
 from original_rows import split
-from plain_pager import varint
+from plain_pager import DEEPEST, TOO_DEEP, Bytes, Refused, need, varint
 
-UNEXPECTED_END, BAD_VARINT, BAD_BOOL, BAD_UTF8, BAD_CHAR, TOO_LONG, TOO_DEEP = range(1, 8)
+BAD_CHAR = 5
 JSON_CASE, JSON_NUMBER, BAD_DURATION = range(8, 11)
-DEEPEST = 128
-# Of a number of so many bits: how many bytes there are at most, and how large the last of so many may be.
-WIDTHS = {16: (3, 3), 32: (5, 15), 64: (10, 1), 128: (19, 3)}
 
 
-class Refused(Exception):
-    """A refusal, by its number."""
+class Source(Bytes):
+    """Bytes, and the levels that are left."""
 
-
-def need(is_so, number):
-    if not is_so:
-        raise Refused(number)
-
-
-class Bytes:
-    """Bytes that are read from the front, and the levels that are left."""
-
-    def __init__(self, data):
-        self.data, self.place, self.levels = data, 0, DEEPEST
-
-    def take(self, count):
-        need(len(self.data) - self.place >= count, UNEXPECTED_END)
-        self.place += count
-        return self.data[self.place - count:self.place]
-
-    def varint(self, bits):
-        longest, greatest = WIDTHS[bits]
-        front = self.data[self.place:self.place + longest]
-        length = next((place for place, byte in enumerate(front, 1) if byte < 128), None)
-        need(length is not None or len(front) == longest, UNEXPECTED_END)
-        need(length is not None and (length < longest or front[-1] <= greatest), BAD_VARINT)
-        return sum((byte & 127) << 7 * place for place, byte in enumerate(self.take(length)))
-
-    def length(self):
-        length = self.varint(64)
-        need(length < 2**32, TOO_LONG)
-        return length
-
-    def bool(self):
-        byte = self.take(1)[0]
-        need(byte <= 1, BAD_BOOL)
-        return byte == 1
-
-    def text(self):
-        try:
-            return self.take(self.length()).decode()
-        except UnicodeDecodeError:
-            raise Refused(BAD_UTF8) from None
+    levels = DEEPEST
 
 
 def written_text(text):
@@ -200,10 +158,10 @@ TYPES = (
 
 def answer(name, data):
     """What comes of an input, as rows tell it, but for what a value shows."""
-    source = Bytes(data)
+    source = Source(data)
     try:
         written = reader(name)(source)
     except Refused as refusal:
-        return f"refused {refusal.args[0]}"
+        return refusal.text()
     taken = data[:source.place]
     return f"ok {len(taken)}" + ("" if written == taken else " " + (written.hex() or "-"))
