@@ -91,30 +91,44 @@ def varint(number):
     return bytes([number]) if number < 128 else bytes([number % 128 + 128]) + varint(number // 128)
 
 
-class Bytes:
-    """The bytes of a blob, read from the front."""
+# Of a number of so many bits: how many bytes there are at most, and how large the last of so many may be.
+WIDTHS = {16: (3, 3), 32: (5, 15), 64: (10, 1), 128: (19, 3)}
 
-    def __init__(self, rest):
-        self.rest = rest
+
+class Bytes:
+    """Bytes that are read from the front."""
+
+    def __init__(self, data):
+        self.data, self.place = data, 0
 
     def take(self, count):
-        need(len(self.rest) >= count, UNEXPECTED_END)
-        taken, self.rest = self.rest[:count], self.rest[count:]
-        return taken
+        need(len(self.data) - self.place >= count, UNEXPECTED_END)
+        self.place += count
+        return self.data[self.place - count:self.place]
+
+    def varint(self, bits):
+        longest, greatest = WIDTHS[bits]
+        front = self.data[self.place:self.place + longest]
+        length = next((place for place, byte in enumerate(front, 1) if byte < 128), None)
+        need(length is not None or len(front) == longest, UNEXPECTED_END)
+        need(length is not None and (length < longest or front[-1] <= greatest), BAD_VARINT)
+        return sum((byte & 127) << 7 * place for place, byte in enumerate(self.take(length)))
 
     def length(self):
-        """A varint of ten bytes at most, of which the tenth is at most 1."""
-        ends = [place for place, byte in enumerate(self.rest[:10], 1) if byte < 128]
-        need(ends or len(self.rest) >= 10, UNEXPECTED_END)
-        need(ends and (ends[0] < 10 or self.rest[9] <= 1), BAD_VARINT)
-        length = sum(byte % 128 << 7 * place for place, byte in enumerate(self.take(ends[0])))
+        length = self.varint(64)
         need(length < 2**32, TOO_LONG)
         return length
 
     def bool(self):
         byte = self.take(1)[0]
         need(byte <= 1, BAD_BOOL)
-        return byte
+        return byte == 1
+
+    def text(self):
+        try:
+            return self.take(self.length()).decode()
+        except UnicodeDecodeError:
+            raise Refused(BAD_UTF8) from None
 
 
 class RowTypes:
@@ -141,10 +155,7 @@ class RowTypes:
         need(node_type < cls.END, WRONG_KIND)
         taken, keys, references = Bytes(blob.data), list(blob.arcs), []
         if node_type <= cls.NOTE:
-            try:
-                return Value(node_type, taken.take(taken.length()).decode())
-            except UnicodeDecodeError:
-                raise Refused(BAD_UTF8) from None
+            return Value(node_type, taken.text())
         content = taken.take(cls.FIRST.get(node_type, 0))
         counts = {cls.LINK: taken.bool, cls.ARC_LINK: taken.bool, cls.HOLDER: lambda: 1}
         for kind in cls.KINDS[node_type]:

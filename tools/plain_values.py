@@ -4,64 +4,21 @@ and not from the crates, for fuzz.py to compare with them. Types are named as in
 
 import re
 
-UNEXPECTED_END, BAD_VARINT, BAD_BOOL, BAD_UTF8, BAD_CHAR, TOO_LONG, TOO_DEEP = range(1, 8)
+from original_rows import split
+from plain_pager import DEEPEST, TOO_DEEP, Bytes, Refused, need, varint
+
+BAD_CHAR = 5
 JSON_CASE, JSON_NUMBER, BAD_DURATION = range(8, 11)
-DEEPEST = 128
-# Of a number of so many bits: how many bytes there are at most, and how large the last of so many may be.
-WIDTHS = {16: (3, 3), 32: (5, 15), 64: (10, 1), 128: (19, 3)}
 
 
-class Refused(Exception):
-    """A refusal, by its number."""
+class Source(Bytes):
+    """Bytes, and the levels that are left."""
 
-
-def need(is_so, number):
-    if not is_so:
-        raise Refused(number)
-
-
-class Bytes:
-    """Bytes that are read from the front, and the levels that are left."""
-
-    def __init__(self, data):
-        self.data, self.place, self.levels = data, 0, DEEPEST
-
-    def take(self, count):
-        need(len(self.data) - self.place >= count, UNEXPECTED_END)
-        self.place += count
-        return self.data[self.place - count:self.place]
-
-    def varint(self, bits):
-        longest, greatest = WIDTHS[bits]
-        front = self.data[self.place:self.place + longest]
-        length = next((place for place, byte in enumerate(front, 1) if byte < 128), None)
-        need(length is not None or len(front) == longest, UNEXPECTED_END)
-        need(length is not None and (length < longest or front[-1] <= greatest), BAD_VARINT)
-        return sum((byte & 127) << 7 * place for place, byte in enumerate(self.take(length)))
-
-    def length(self):
-        length = self.varint(64)
-        need(length < 2**32, TOO_LONG)
-        return length
-
-    def bool(self):
-        byte = self.take(1)[0]
-        need(byte <= 1, BAD_BOOL)
-        return byte == 1
-
-    def text(self):
-        try:
-            return self.take(self.length()).decode()
-        except UnicodeDecodeError:
-            raise Refused(BAD_UTF8) from None
-
-
-def written_varint(number):
-    return bytes([number]) if number < 128 else bytes([number % 128 + 128]) + written_varint(number // 128)
+    levels = DEEPEST
 
 
 def written_text(text):
-    return written_varint(len(text.encode())) + text.encode()
+    return varint(len(text.encode())) + text.encode()
 
 
 def number(name):
@@ -69,7 +26,7 @@ def number(name):
     bits = 64 if name == "usize" else int(name[1:])
     if bits == 8:
         return lambda b: b.take(1)
-    return lambda b: written_varint(b.varint(bits))
+    return lambda b: varint(b.varint(bits))
 
 
 def counted(name):
@@ -78,22 +35,9 @@ def counted(name):
 
     def read(b):
         items = [item(b) for _ in range(b.length())]
-        return written_varint(len(items)) + b"".join(items)
+        return varint(len(items)) + b"".join(items)
 
     return read
-
-
-def parts(name):
-    """The types that stand between the outermost commas."""
-    found, depth = [""], 0
-    for letter in name:
-        depth += letter in "<([" 
-        depth -= letter in ">)]"
-        if letter == "," and depth == 0:
-            found.append("")
-        else:
-            found[-1] += letter
-    return found
 
 
 def sequence(names):
@@ -121,13 +65,13 @@ def duration(b):
     seconds, nanoseconds = b.varint(64), b.varint(32)
     seconds += nanoseconds // 10**9
     need(seconds < 2**64, BAD_DURATION)
-    return written_varint(seconds) + written_varint(nanoseconds % 10**9)
+    return varint(seconds) + varint(nanoseconds % 10**9)
 
 
 def ordered_map(name, is_sorted):
     """A map: of a key that comes twice the later value stands, at the key's first place. Where keys are sorted they
     are numbers of one byte."""
-    first, second = (reader(part) for part in parts(name))
+    first, second = (reader(part) for part in split(name))
 
     def read(b):
         pairs = {}
@@ -135,7 +79,7 @@ def ordered_map(name, is_sorted):
             key = first(b)
             pairs[key] = second(b)
         keys = sorted(pairs) if is_sorted else pairs
-        return written_varint(len(pairs)) + b"".join(key + pairs[key] for key in keys)
+        return varint(len(pairs)) + b"".join(key + pairs[key] for key in keys)
 
     return read
 
@@ -143,12 +87,12 @@ def ordered_map(name, is_sorted):
 def json(b):
     case = b.varint(64)
     need(case <= 5, JSON_CASE)
-    front = written_varint(case)
+    front = varint(case)
     if case == 1:
         return front + (b"\1" if b.bool() else b"\0")
     if case == 2:
         need(not b.bool(), JSON_NUMBER)
-        return front + b"\0" + written_varint(b.varint(64))
+        return front + b"\0" + varint(b.varint(64))
     if case == 3:
         return front + written_text(b.text())
     return front + (json_items(b, case == 5) if case > 3 else b"")
@@ -164,11 +108,11 @@ def json_items(b, is_object):
         for _ in range(count):
             key = b.text()
             members[key.encode()] = json(b)
-        items = [written_varint(len(key)) + key + members[key] for key in sorted(members)]
+        items = [varint(len(key)) + key + members[key] for key in sorted(members)]
     else:
         items = [json(b) for _ in range(count)]
     b.levels += 1
-    return written_varint(len(items)) + b"".join(items)
+    return varint(len(items)) + b"".join(items)
 
 
 def string(b):
@@ -190,12 +134,12 @@ def reader(name):
     if found := re.fullmatch(r"\[(\w+);(\d+)\]", name):
         return sequence([found[1]] * int(found[2]))
     if found := re.fullmatch(r"\((.*)\)", name):
-        return sequence(parts(found[1]))
+        return sequence(split(found[1]))
     word, _, inner = name.partition("<")
     inner = inner.removesuffix(">")
     of = {
         "Vec": counted, "Option": optional, "OnceLock": optional, "Box": reader,
-        "Result": lambda names: result(*parts(names)),
+        "Result": lambda names: result(*split(names)),
         "BTreeMap": lambda names: ordered_map(names, True),
         "IndexMap": lambda names: ordered_map(names, False),
         "SmallVec": lambda names: counted(names[1:].partition(";")[0]),
@@ -214,10 +158,10 @@ TYPES = (
 
 def answer(name, data):
     """What comes of an input, as rows tell it, but for what a value shows."""
-    source = Bytes(data)
+    source = Source(data)
     try:
         written = reader(name)(source)
     except Refused as refusal:
-        return f"refused {refusal.args[0]}"
+        return refusal.text()
     taken = data[:source.place]
     return f"ok {len(taken)}" + ("" if written == taken else " " + (written.hex() or "-"))

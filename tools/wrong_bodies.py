@@ -4,12 +4,10 @@ breaks.
 
 usage: tools/wrong_bodies.py [CRATE..]        (with no word: every crate that has wrong bodies)
 
-Below a line 'file: src/lib.rt' stand the edits of that file, each a line 'NAME: TEXT'. TEXT stands once in the file,
-but for each '⟦OLD ⇒ NEW⟧' in it the file has OLD and gets NEW, either of which may be empty. A line 'and: TEXT' does
-more of the same edit, on what the line before it made. All edits of a crate are tried together, on a copy of the
-repository over the work that earlier checks kept: one body a function and round, so that one check answers many. If
-stored answers or invariants don't fit the edited bodies, they are taken out of the copy, and it is checked once more,
-with search in their place. Each edit gets one of these results, of which the first two pass:
+tools/edits.py tells how they are spelled. All edits of a crate are tried together, on a copy of the repository over the
+work that earlier checks kept: one body a function and round, so that one check answers many. If stored answers or
+invariants don't fit the edited bodies, they are taken out of the copy, and it is checked once more, with search in
+their place. Each edit gets one of these results, of which the first two pass:
   refused                       the check says that its functions aren't proved, for a reason of their own
   refused, without its answers  the same, of a function that lost stored answers or invariants: the contract refuses it,
                                 or search finds no answer
@@ -27,9 +25,11 @@ import sys
 import tempfile
 from pathlib import Path
 
+sys.dont_write_bytecode = True
+from edits import edits_in  # noqa: E402
+
 TOP = Path(__file__).resolve().parent.parent
 EDITS = TOP / "tools" / "wrong_bodies"
-CHANGE = re.compile(r"⟦(.*?) ⇒ (.*?)⟧")
 MISFIT = re.compile(r"(?m)^(?:\./)?(proofs/\S+/(?:Answers|Invariants)\.antt):(\d+):\d+: error")
 NOT_PROVED = re.compile(r"(?m)^\w+ (\S+): ((?:not proved|no proof).*)$")
 REFUSED, WITHOUT = "refused", "refused, without its answers"
@@ -37,37 +37,9 @@ UNJUDGED = re.compile(r"no proof: (?:it calls|.*, which has no proof)")
 UNREAD = re.compile(r"is not in scope|has no field|is no name|operand is missing|expected the end|cannot continue")
 
 
-class Edit:
-    """A wrong body: its name, in the order of its lines the file, the old text and the new one, and patterns of its functions' names."""
-
-    def __init__(self, name):
-        self.name, self.pairs, self.functions = name, [], set()
-
-    def apply(self, texts, folder):
-        """Makes the edit in texts, a map from files to what stands in them; answers why it can't, or None."""
-        made = dict(texts)
-        for file, old, new in self.pairs:
-            text = made.get(file) or (folder / file).read_text(encoding="utf-8")
-            if text.count(old) != 1:
-                return f"an old text stands {text.count(old)} times in {file}"
-            self.functions.add(function_at(text[: text.find("\n", text.index(old))], file))
-            made[file] = text.replace(old, new)
-        texts.update(made)
-        return None
-
-
-def edits_of(crate):
-    """The wrong bodies of a crate."""
-    edits = []
-    for line in (EDITS / f"{crate}.edits").read_text(encoding="utf-8").splitlines():
-        word, _, text = line.partition(": ")
-        if word == "file":
-            file = text
-            continue
-        if word != "and":
-            edits.append(Edit(f"{crate}/{word}"))
-        edits[-1].pairs.append((file, CHANGE.sub(r"\1", text), CHANGE.sub(r"\2", text)))
-    return edits
+def functions(edit):
+    """Patterns of the names of the functions that an edit changes."""
+    return {function_at(text, file) for file, text in edit.places}
 
 
 def function_at(text, file):
@@ -170,20 +142,20 @@ def try_round(folder, edits):
     """Tries those of the edits together that meet in no function; answers them, each with what is told of it."""
     texts, held = {}, []
     for edit in edits:
-        if not any(edit.functions & it.functions for it in held) and edit.apply(texts, folder) is None:
+        if not any(functions(edit) & functions(it) for it in held) and edit.apply(texts, folder) is None:
             held.append(edit)
     answer = Answer(folder, texts)
     for edit in held:
-        of_each = [{it for it in answer.refused if re.fullmatch(pattern, it, re.IGNORECASE)} for pattern in edit.functions]
+        of_each = [{it for it in answer.refused if re.fullmatch(pattern, it, re.IGNORECASE)} for pattern in functions(edit)]
         alone = not all(of_each)
         told = tried_alone(folder, edit) if alone else WITHOUT if set().union(*of_each) <= answer.lost else REFUSED
-        print(f"{edit.name}: {told}{' (alone)' if alone else ''}", flush=True)
+        print(f"{folder.name}/{edit.name}: {told}{' (alone)' if alone else ''}", flush=True)
         yield edit, told
 
 
 def try_crate(crate):
     """Tries a crate's wrong bodies, and answers how many were refused and how many weren't."""
-    edits = edits_of(crate)
+    edits = edits_in(EDITS / f"{crate}.edits")
     with tempfile.TemporaryDirectory(prefix="wrong-bodies-") as room:
         folder = copied(room, crate)
         told = {edit: edit.apply({}, folder) for edit in edits}
@@ -194,7 +166,7 @@ def try_crate(crate):
             left = [edit for edit in left if edit not in tried]
     failed = [edit for edit in edits if told[edit] not in (REFUSED, WITHOUT)]
     for edit in failed:
-        print(f"{edit.name}: FAILED: {told[edit]}", flush=True)
+        print(f"{crate}/{edit.name}: FAILED: {told[edit]}", flush=True)
     return len(edits) - len(failed), len(failed)
 
 
@@ -208,4 +180,5 @@ def main():
     sys.exit(1 if failed else 0)
 
 
-main()
+if __name__ == "__main__":
+    main()
