@@ -46,9 +46,9 @@ pub enum PinStart {
 }
 
 /// The calls of a pager for one owner: the caller, or a page-out worker. If the access knows the
-/// pager's state, each call's clause says what the call does to it; an access behind a lock
-/// doesn't know it. Apart from `worker_begin`, `worker_listed` and `worker_end`, no call changes the
-/// owner, the environment or the lender.
+/// pager's state, each call's clause says what the call does to that state; an access behind a lock
+/// doesn't know it. Only `worker_begin`, `worker_listed` and `worker_end` change the owner; no call
+/// changes the environment or the lender.
 pub trait Access<E: Env<Node: NodeSet<E>>> {
     // The pager's state, if the access knows it.
     ghost known_state: { Self → Option (PagerState E.Node E) };
@@ -60,8 +60,8 @@ pub trait Access<E: Env<Node: NodeSet<E>>> {
     fn env(&self) -> &E
         ensures { result.now ≡ (acting self.now).environment };
 
-    /// Lends the context of the one session of all values that are read and written over this
-    /// pager's storage. No clause says which values it keeps.
+    /// Lends the context of the one session in which all values of this pager's storage are read
+    /// and written. No clause says what the context holds.
     fn session_context(&self) -> &SessionOf<E>;
 
     /// Pins a loose handle if its value is in memory; otherwise begins a load of its cell.
@@ -185,8 +185,8 @@ pub trait Access<E: Env<Node: NodeSet<E>>> {
             (result_map (λ d. from_store (blob_of (arc_value d))) result) w') s
             t) };
 
-    /// Fetches what a reference needs: a handle of the node that the cache has, which the load
-    /// owns, or the blob if the cache has none.
+    /// Gets what a reference leads to: the cached node, by a handle that the load owns, or the blob
+    /// if no node is cached.
     ///
     /// # Errors
     ///
@@ -205,8 +205,8 @@ pub trait Access<E: Env<Node: NodeSet<E>>> {
             (values_at E.Node.NodeSet E.Env E.Hash.KeyHash a.environment)
             (λ w'. AsksFor (λ d. blob_of (arc_value d)) s.core a.me load kind key result w') s t) };
 
-    /// Takes a reference through a loose handle without reading it: returns a handle, which the
-    /// load owns, of the cell that the cache has, or of a new cell.
+    /// Resolves a loose reference without loading a value: returns a reference to the cached cell
+    /// or to a new one, by a handle that the load owns.
     ///
     /// # Errors
     ///
@@ -252,8 +252,8 @@ pub trait Access<E: Env<Node: NodeSet<E>>> {
             (λ n x. (x ≡ node) × IsNewNode s.core n) s t) };
 
     /// Ends a load of a cell: pins the cell, which gets the value if it has none, and returns the
-    /// new Pinned handle. The caller makes sure that the value is what the load's root was read as,
-    /// even if the access doesn't tell its state.
+    /// new Pinned handle. The value has to be the one that was read for the load's root, even if
+    /// the access doesn't know the pager's state.
     ///
     /// # Errors
     ///
@@ -348,7 +348,8 @@ pub trait WorkerAccess<E: Env<Node: NodeSet<E>>>: Access<E> {
     fn check_reference(&self, reference: ArcRef) -> Result<(), Error>
         ensures { IfKnown (Self.known_state self.now) (λ s. fault_in result ≡ claim_fault s.core reference) };
 
-    /// Clones a reference's handle for the worker and pins the clone, or begins a load by it.
+    /// Clones a reference's handle for the worker. If the clone is loose, pins its cell, or begins
+    /// a load of the cell if the value isn't in memory.
     ///
     /// # Errors
     ///
@@ -439,7 +440,7 @@ pub trait WorkerAccess<E: Env<Node: NodeSet<E>>>: Access<E> {
             (λ a s t. MakesCall (values_at E.Node.NodeSet E.Env E.Hash.KeyHash a.environment)
             (λ w'. ScheduleCall s.core a.me handle result w') s t) };
 
-    /// Begins a worker, who is the owner from now on.
+    /// Begins a worker, for which the access makes calls from now on.
     ///
     /// # Errors
     ///
@@ -453,8 +454,8 @@ pub trait WorkerAccess<E: Env<Node: NodeSet<E>>>: Access<E> {
             (λ w'. Alike s.core w') s t)) };
 
     /// Begins a worker for the entry at this place, counted from 0, of the list of cells that wait
-    /// for page-out. The worker owns the entry and is the owner of calls from now on. Returns the
-    /// reference that the worker pages out: the entry's handle, as a loose one of its cell.
+    /// for page-out. The worker owns the entry's handle, and the access makes calls for the worker
+    /// from now on. Returns also the loose reference to the entry's cell by that handle.
     ///
     /// # Errors
     ///
@@ -468,8 +469,8 @@ pub trait WorkerAccess<E: Env<Node: NodeSet<E>>>: Access<E> {
         ensures refused { IfErr result (λ e. Acts Self.known_state Self.acting self.old self.new
             (λ a s t. RefusesEntry (values_at E.Node.NodeSet E.Env E.Hash.KeyHash a.environment) s place e t)) };
 
-    /// Ends a worker: releases what it still owns and closes its loads. The caller is the owner of
-    /// calls again.
+    /// Ends a worker: releases what it still owns and closes its loads. The access makes calls for
+    /// the caller again.
     fn worker_end(&mut self, worker: WorkerNumber)
         ensures { ActsThen Self.known_state Self.acting self.old self.new as_caller
             (λ a s t. MakesCall (values_at E.Node.NodeSet E.Env E.Hash.KeyHash a.environment)
@@ -479,8 +480,7 @@ pub trait WorkerAccess<E: Env<Node: NodeSet<E>>>: Access<E> {
     fn pending(&self) -> usize
         ensures { IfKnown (Self.known_state self.now) (λ s. result ≡ length s.core.list) };
 
-    /// Returns the key of the cell of the list entry at this place, which stays listed; None past
-    /// the list's end.
+    /// Returns the key of the listed cell at this place; None past the list's end.
     fn entry_key(&self, place: usize) -> Option<OptionalDataKey>
         ensures some { IfSome result (λ key. IfKnown (Self.known_state self.now)
             (λ s. (h : Handle) × EntryHas s.core place h key)) }

@@ -1,7 +1,6 @@
-//! What is ahead of a load: the references that a blob will ask for, one after the other, are found
-//! before they are got, and each blob keeps its own. Two trial reads with stand-ins for the missing
-//! references find them: one notes what the reader asks for, and one checks the last of them with
-//! all that are before it.
+//! Finds the kinds of the references that a blob of a load will ask for before these are got, by
+//! two trial reads with stand-ins for the missing references: the first notes what the reader asks
+//! for, and the second checks the last kind, with all references before it.
 
 ghost use Rattle.pagable_load.specs.{
   AccessView.{IfKnown, values_at},
@@ -153,9 +152,9 @@ impl Reading {
         None
     }
 
-    /// Fills `row`, if it is empty, with stand-ins for the references that the innermost blob will
-    /// ask for, of their kinds, after those that it has got. Two trial reads find them. Leaves
-    /// `row` as it is if trial reads aren't likely to save others, or find nothing.
+    /// Fills `row`, if it is empty, with the references that the innermost blob has got, and then
+    /// stand-ins, of the same kinds, for those that it will ask for. Two trial reads find them.
+    /// Leaves `row` as it is if trial reads aren't likely to save others, or find nothing.
     pub(crate) fn plan_batch_if_useful<E: Env<Node: NodeSet<E>>, A: Access<E>>(
         &self,
         access: &A,
@@ -172,8 +171,8 @@ impl Reading {
         };
         let got = top.got.as_slice();
         let left = top.blob.as_ref().arcs.len().saturating_sub(got.len());
-        // (It is likely if the blob begins or has got a loose reference last, and at least four
-        // references are left.)
+        // (Trial reads are likely to save others if nothing or a loose reference was got last, and
+        // at least four references are left.)
         if !row.is_empty() || left < 4 || got.last().map_or(false, |r| is_read_at_once(r.kind)) {
             return;
         }
@@ -201,9 +200,9 @@ impl Reading {
         Some((row[place].kind, keys[place]))
     }
 
-    /// Returns what the load needs next. Reads the innermost blob to find it only if `row`, the
-    /// references that the blob is known to ask for, doesn't reach so far. Beside its references, a
-    /// value that was read holds only values that their handles pin.
+    /// Returns what the load needs next: the next reference of `row`, or, if the row ends before
+    /// it, what `next_need` finds by reading the innermost blob. Beside its references, a value
+    /// that was read holds only values that their handles pin.
     #[tactic(auto, using(crate::proofs::LoadSteps::tells_all))]
     pub(crate) fn find_next_need<E: Env<Node: NodeSet<E>>, A: Access<E>>(
         &self,

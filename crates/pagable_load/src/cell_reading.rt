@@ -1,4 +1,4 @@
-//! A load of a cell up to the blob of its root.
+//! A load of a cell before the fetch of its root's blob.
 
 ghost use Rattle.pagable_load.specs.Frames.{reading_of};
 ghost use Rattle.pagable_pager_spec.specs.Workers.{fresh};

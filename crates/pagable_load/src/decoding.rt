@@ -156,9 +156,9 @@ pub(crate) fn read_with_references<E: Env<Node: NodeSet<E>>, A: Access<E>>(
 }
 
 /// Reads a blob from its front as a value of this type, with the references that its load has got
-/// so far, and with their shared values, which `lent` has at the same places. The same blob, type
-/// and references ask for the same reference next at each read. Beside its references, a value
-/// holds only values that their handles pin.
+/// so far, and with their shared values, which `lent` has at the same places. Each read of the same
+/// blob, type and references wants the same reference next. Beside its references, a value holds
+/// only values that their handles pin.
 #[tactic(auto, using(crate::proofs::LoadSteps::tells_all))]
 pub fn decode<E: Env<Node: NodeSet<E>>, A: Access<E>>(
     access: &A,

@@ -1,5 +1,4 @@
-//! Loads, run step by step: each step makes at most one call of an access to a pager, which may be
-//! lent or behind a lock.
+//! Loads, run step by step over an access to a pager, which may be lent or behind a lock.
 #![tactic(auto)]
 
 pub mod access;

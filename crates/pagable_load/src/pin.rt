@@ -1,5 +1,5 @@
-//! A pin of a loose handle in parts: its begin, and the load of its cell, whose root's blob the
-//! caller fetches in between.
+//! A pin of a loose handle in two parts, the beginning and the load of the cell: the caller fetches
+//! the root's blob in between.
 
 ghost use Rattle.pagable_core.specs.Data.{blob_of};
 ghost use Rattle.pagable_load.specs.{AccessView.{Acts, values_at}, PinStart.StartsPin, PolledPin.{PinsFrom, start_of}};

@@ -1,5 +1,5 @@
 //! The progress of a load: the blobs that it reads, what it needs next, and the values of the
-//! references that it has got, which it lends to the reader of its innermost blob.
+//! references that it has got, which the reader of the innermost blob can borrow.
 
 ghost use Rattle.pagable_core.specs.Data.{blob_of};
 ghost use Rattle.pagable_load.specs.{
@@ -60,7 +60,7 @@ pub struct Reading {
     pub key: DataKey,
     pub node_type: u32,
     pub for_cell: bool,
-    /// The innermost blob; None before the root's is fetched.
+    /// The innermost blob; None before the root's is fetched, and after the load's end.
     pub top: Option<Frame>,
     /// The blobs that wait, each for the value of the next one, the root's first.
     pub below: Vec<Frame>,
@@ -76,7 +76,7 @@ pub enum Need<N: Drop> {
     Nested(Kind, DataKey),
     /// A loose reference, which isn't loaded.
     Lazy(Kind, DataKey),
-    /// A node of this value, as which the innermost blob was read.
+    /// A node of this value, which was read from the innermost blob.
     Adopt(N),
     /// Nothing more: this is the root's value, for the cell or the caller.
     End(N),
@@ -125,9 +125,8 @@ impl Reading {
     }
 }
 
-/// Shares the value of a reference that is loaded with the value that holds it. Returns None for a
-/// loose reference, and if the reference's handle pins no value or isn't live. Fails with
-/// OutOfMemory only.
+/// Shares the value that a reference's handle pins. Returns None for a loose reference, and if the
+/// handle pins no value or isn't live. Fails with OutOfMemory only.
 #[tactic(auto, using(crate::proofs::Lending::sharing))]
 pub(crate) fn value_of<E: Env<Node: NodeSet<E>>, A: Access<E>>(
     access: &A,
@@ -161,9 +160,8 @@ fn are_read_later(got: &[ArcRef]) -> bool
     true
 }
 
-// Shares the values of these references, and returns them in the same order, with None for each
-// that `value_of` gives none for. Returns an empty list if all references are loose. Fails with
-// OutOfMemory only.
+// Returns what `value_of` returns for each of these references, in their order; an empty list if
+// all of them are loose. Fails with OutOfMemory only.
 pub(crate) fn values_of<E: Env<Node: NodeSet<E>>, A: Access<E>>(
     access: &A,
     alloc: Global,
@@ -186,7 +184,7 @@ pub(crate) fn values_of<E: Env<Node: NodeSet<E>>, A: Access<E>>(
 
 impl Reading {
     /// Returns what the load needs next. It reads the innermost blob from its front, with the
-    /// values of the references that the load has got, and changes nothing. If there is no memory
+    /// values of the references that were got for it, and changes nothing. If there is no memory
     /// to share these values, it returns `Refuse`. A value that was read holds, beside its
     /// references, the values that their handles pin.
     #[tactic(auto, using(crate::proofs::LoadSteps::needing, crate::proofs::LoadSteps::tells_all))]

@@ -95,7 +95,7 @@ impl Reading {
     }
 
     // Ends the load with the root's value: the cell gets it and is pinned, or the caller gets it
-    // with its handles.
+    // and the handles of its references.
     #[tactic(auto, using(crate::proofs::LoadSteps::acts_map, crate::proofs::LoadSteps::hands_over))]
     fn finish<E: Env<Node: NodeSet<E>>, A: Access<E>>(
         &mut self,
@@ -189,10 +189,7 @@ impl Reading {
     }
 
     // Drops the load, since a step failed, and releases all that it owns.
-    fn drop_failed_load<E: Env<Node: NodeSet<E>>, A: Access<E>>(
-        &mut self,
-        access: &mut A,
-    )
+    fn drop_failed_load<E: Env<Node: NodeSet<E>>, A: Access<E>>(&mut self, access: &mut A)
         ensures acts { Acts A.known_state A.acting access.old access.new
             (λ a s t. Drops (values_at E.Node.NodeSet E.Env E.Hash.KeyHash a.environment) a.me self.old.load s t) }
         ensures none { frames_of self.new.top self.new.below.items ≡ [] }
@@ -267,9 +264,9 @@ impl Reading {
         }
     }
 
-    // Makes the first steps of a load that has just begun: the one that fetches its root's blob
-    // and, if that has no references, the one that ends the load. Returns how the load ended, or
-    // None if it goes on.
+    // Makes the first steps of a load that has just begun: fetches its root's blob and, if the
+    // blob has no references, ends the load. Returns how the load ended, or None if it goes on.
+    // Does nothing if the load has a blob.
     fn run_first_steps<E: Env<Node: NodeSet<E>>, A: Access<E>>(
         &mut self,
         access: &mut A,
@@ -326,7 +323,7 @@ impl Reading {
     }
 
     /// Makes the load's steps up to its end, and returns how it ended: a load of a cell with a pin,
-    /// a load of a key with its value, and either with an error. It gets several references of a
+    /// a load of a key with its value, or either with an error. It gets several references of a
     /// blob without reading the blob in between, if the reader doesn't need their values to go on.
     #[tactic(auto, using(crate::proofs::PinsAndReads::driving))]
     pub fn run<E: Env<Node: NodeSet<E>>, A: Access<E>>(
@@ -413,8 +410,8 @@ pub fn share_pinned<E: Env<Node: NodeSet<E>>, A: Access<E>>(
     }
 }
 
-/// Does what `pin_over` does, and returns also whether the loose handle was unpinned before: who
-/// undoes the pin has to unpin the loose handle then.
+/// Does what `pin_over` does, and returns also whether the loose handle was unpinned before: then
+/// whoever undoes the pin has to unpin the loose handle.
 ///
 /// # Errors
 ///

@@ -1,5 +1,5 @@
-//! The calls that a worker makes on a table of claims: on a lent table, of whose slots contracts
-//! say what each call does, or on one that threads share, of whose slots they say nothing.
+//! The calls that a worker makes on a table of claims. Contracts say what each call does to the
+//! slots of a lent table, and nothing of the slots of a table that threads share.
 
 ghost use Rattle.pagable_pageout.specs.{
   Joint.FitsAtPlace,
@@ -37,7 +37,8 @@ pub trait Claims<E: Env<Node: NodeSet<E>>> {
     ghost shelf: { Self → Option Shelf };
 
     /// Claims an identity for a worker, at this place on its path (from 0 to 128), or returns what
-    /// is known of it. If another worker has claimed it, this worker waits for it from then on.
+    /// is known of it. If another worker's claim of it has no outcome yet, this worker waits for
+    /// the outcome from then on.
     ///
     /// # Errors
     ///

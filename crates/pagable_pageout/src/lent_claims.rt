@@ -18,8 +18,8 @@ use pagable_codec::{Env, NodeSet};
 use pagable_value_spec::{ArcRef, Error, Identity, WorkerNumber};
 use std::alloc::Global;
 
-/// A table with more slots than this is replaced by a new one instead of being cleared, which costs
-/// time for all of its memory.
+/// A table with more slots than this is replaced by a new one instead of being cleared, since
+/// clearing costs time for all of its memory.
 const FEW: usize = 16;
 
 impl<E: Env<Node: NodeSet<E>>> LentTable<E> {
@@ -153,7 +153,8 @@ impl<E: Env<Node: NodeSet<E>>> LentTable<E> {
     }
 
     /// Claims an identity for a worker at this place on its path, or returns what is known of it.
-    /// If another worker has claimed it, this one waits for it from then on.
+    /// If another worker's claim of it has no outcome yet, this one waits for the outcome from then
+    /// on.
     ///
     /// # Errors
     ///

@@ -6,7 +6,7 @@ ghost use Rattle.std.specs.Prelude.{◌≡◌};
 use crate::tasks::PageOutError;
 use pagable_value_spec::{Error, Reason};
 
-/// Returns the worker's own error; for a failure of another worker a `Custom` error that says so.
+/// The worker's own error; for another worker's failure, a `Custom` error that says so.
 impl From<PageOutError> for Error {
     ghost use Rattle.pagable_value_spec.specs.declared.error.Error.{Error as Refusal};
 

@@ -25,8 +25,8 @@ use pagable_value_spec::{ArcRef, Error, HandleNumber, Kind};
 use std::alloc::Global;
 use std::sync::Arc;
 
-/// Returns the place (the depth on the path) of a child under a node at this place: 0 through a
-/// loose reference, at which a new path begins, else one more than its parent's.
+/// Returns the place (the depth on the path) of what a node at this place refers to: 0 through a
+/// loose reference, at which a new path begins, else `place` + 1.
 pub fn place_below(place: u64, kind: Kind) -> u64
     requires { place ≤ longest_path }
     ensures { result ≡ place_below place kind.0 }
@@ -57,8 +57,8 @@ pub fn advance<E: Env<Node: NodeSet<E>>>(
     Task::Start(next, place)
 }
 
-// Returns the node with its height raised, if need be, to that of the path through a reference of
-// this kind to a node of height `below`.
+// Returns the node with its height raised, if it is lower, to that of the path through a reference
+// of this kind to a node of height `below`: `below` + 1, or 0 for a loose kind.
 fn raise_height(node: Option<ClaimedNode>, kind: Kind, below: u64) -> Option<ClaimedNode>
     requires { below ≤ longest_path }
     ensures { result ≡ raise_height kind.0 below node }
@@ -92,7 +92,7 @@ fn with_result<E: Env<Node: NodeSet<E>>>(
 }
 
 /// Pops the last entry of the path, which waits for this result, adds the result to it, and returns
-/// the next task as `advance` does. Returns the result back as an error if the path is empty.
+/// the next task as `advance` does. If the path is empty, hands `done` back as the error.
 #[tactic(auto, using(crate::proofs::Stacks::giving))]
 pub fn give_result<E: Env<Node: NodeSet<E>>>(
     path: &mut Vec<WaitingValue<E>>,
@@ -149,7 +149,7 @@ pub fn fail_with<E: Env<Node: NodeSet<E>>>(
     fail(path, PageOutError::Failed(*e), entry)
 }
 
-/// Returns the first task for an item, and a path with room for it.
+/// Returns the first task for an item, and the path, where the item waits if it has references.
 ///
 /// # Errors
 ///
@@ -175,8 +175,8 @@ pub fn start_item<E: Env<Node: NodeSet<E>>>(
     Ok((advance(&mut path, item), path))
 }
 
-/// Returns the first task of a worker that pages out one entry of the pending list, the cell that
-/// `reference` names, and an empty path. It takes no memory.
+/// Returns the first task of a worker that pages out the listed cell that `reference` names, and an
+/// empty path. It takes no memory.
 #[tactic(auto, using(crate::proofs::Stacks::paths), unfolding(crate::specs::Tasks::Awaits))]
 pub fn start_entry<E: Env<Node: NodeSet<E>>>(
     alloc: Global,

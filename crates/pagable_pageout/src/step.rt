@@ -108,9 +108,9 @@ pub(crate) fn end_if_answered<E: Env<Node: NodeSet<E>>, A: WorkerAccess<E>>(
     access.worker_end(worker);
 }
 
-/// Performs a worker's next task, on the pager and its table, and returns the step with the next
-/// task or the worker's answer. With its answer the worker ends: all its handles are released, and
-/// the access is the caller's again.
+/// Performs a worker's next task, on a pager and a table, and returns the step with the next task
+/// or the worker's answer. With its answer the worker ends: all its handles are released, and the
+/// access is the caller's again.
 pub fn step<E: Env<Node: NodeSet<E>>, A: WorkerAccess<E>, T: Claims<E>>(
     access: &mut A,
     alloc: Global,
@@ -135,7 +135,7 @@ pub fn step<E: Env<Node: NodeSet<E>>, A: WorkerAccess<E>, T: Claims<E>>(
     moved
 }
 
-/// Makes a worker's steps from its task and path on, up to its answer. If a claim answers that the
+/// Makes a worker's steps from the task `first` up to its answer. If a claim answers that the
 /// worker has to wait, the worker fails with `TooDeep`, since nobody else makes steps meanwhile (on
 /// a table that threads share, the claim itself waits). So the contract says nothing of a table on
 /// which other workers have claims without a result. The worker makes at most 2^64 - 1 claims, and
@@ -266,7 +266,7 @@ fn page_out_at<E: Env<Node: NodeSet<E>>, A: WorkerAccess<E>>(
         (λ a. PagesAt (values_at E.Node.NodeSet E.Env E.Hash.KeyHash a.environment) place result) }
 {
     match access.release_if_keyed(place) {
-        // (or another thread has taken the entry meanwhile)
+        // (`Ok(None)` if another thread has taken the entry meanwhile)
         Some(false) => match page_out_entry(access, alloc, table, place) {
             Ok(_) => Ok(()),
             Err(why) => Err(why),

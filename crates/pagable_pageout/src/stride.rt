@@ -273,8 +273,8 @@ fn finish_waiting<E: Env<Node: NodeSet<E>>, A: WorkerAccess<E>, T: Claims<E>>(
     }
 }
 
-/// Makes a worker's next steps, on the pager and its table, and returns the next task or the
-/// worker's answer; with its answer the worker ends, as in `step`. At the task of a claim, makes
+/// Makes a worker's next steps, on a pager and a table, and returns the next task or the worker's
+/// answer; with its answer the worker ends, as in `step`. At the task of a claim, makes
 /// the steps up to the next claim or the next blob to store, as far as the value is in memory and
 /// nothing fails; at a node whose references are done, the steps up to the next claim, blob or
 /// answer; at any other task one step. `left` is the number of claims that the worker may still
@@ -311,7 +311,7 @@ pub fn make_next_steps<E: Env<Node: NodeSet<E>>, A: WorkerAccess<E>, T: Claims<E
                     Error::NumbersSpent,
                 ));
             }
-            // (the count shows that the path is no longer than a u64 tells)
+            // (by this call the proof knows that the length fits a u64)
             let _entries = path.len();
             *left -= 1;
             claim_as_turn(access, alloc, table, worker, path, reference, place)

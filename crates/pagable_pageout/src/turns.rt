@@ -1,4 +1,4 @@
-//! The tasks of a worker one by one: at a reference, it claims what that names, pins it (by a load
+//! The tasks of a worker one by one. At a reference, the worker claims the node, pins it (by a load
 //! if it has to) and writes its value; at a written node whose references are done, it stores the
 //! blob, sets the key, publishes the result and releases the handles.
 
@@ -100,8 +100,8 @@ pub fn claim_answer<E: Env<Node: NodeSet<E>>>(
 }
 
 /// Returns the task that follows a claim with this result: to pin what was claimed, to claim once
-/// more if the worker has to wait, or to fail the worker. Gives a result that is known already to
-/// the last entry of the path, and returns that entry's next task; if the path is empty, returns
+/// more if the worker has to wait, or to fail the worker. If the result is known already, gives it
+/// to the last entry of the path, and returns that entry's next task; if the path is empty, returns
 /// the task that releases the worker's handles.
 #[tactic(auto, using(crate::proofs::Stacks::ways))]
 pub fn task_after_claim<E: Env<Node: NodeSet<E>>>(
@@ -139,7 +139,7 @@ pub fn task_after_claim<E: Env<Node: NodeSet<E>>>(
     }
 }
 
-/// Pins the node that was claimed, or begins a load of its value if that isn't in memory.
+/// Pins the node that was claimed; if its value isn't in memory, begins a load of it.
 #[tactic(auto, using(std::proofs::lemmas::Bool::Decides::nat_tests))]
 pub fn pin<E: Env<Node: NodeSet<E>>, A: WorkerAccess<E>>(
     access: &mut A,
@@ -182,7 +182,7 @@ pub fn pin<E: Env<Node: NodeSet<E>>, A: WorkerAccess<E>>(
     }
 }
 
-/// Makes the next step of the load of what was claimed.
+/// Makes the next step of the load of the claimed node's value.
 #[tactic(auto, using(crate::proofs::WorkerTurns::pinning))]
 pub fn load<E: Env<Node: NodeSet<E>>, A: WorkerAccess<E>>(
     access: &mut A,
@@ -324,8 +324,8 @@ pub(crate) fn write_claimed<E: Env<Node: NodeSet<E>>, A: WorkerAccess<E>>(
     Ok((waiting, references, told))
 }
 
-/// Writes the value that is pinned, notes its references in the table, and returns the task of its
-/// first reference.
+/// Writes the value that is pinned and notes its references in the table. The next task is that of
+/// its first reference, or of finishing the node if it has none.
 pub fn write<E: Env<Node: NodeSet<E>>, A: WorkerAccess<E>, T: Claims<E>>(
     access: &A,
     alloc: Global,

@@ -96,7 +96,7 @@ impl<'a, E: Env<Node: NodeSet<E>>, S: PagableStorage<E>> Lent<'a, E, S> {
 }
 
 impl<'a, E: Env<Node: NodeSet<E>>, S: PagableStorage<E>> Lent<'a, E, S> {
-    /// Computes whether all that the pager keeps is consistent, as `Pager::is_sound` does.
+    /// Computes whether the pager's tables and values agree, as `Pager::is_sound` does.
     pub fn is_sound(&self) -> bool
         ensures { result ≡ is_sound self.now.pager.now.tables self.now.pager.now.values }
     {
@@ -417,8 +417,7 @@ impl<'a, E: Env<Node: NodeSet<E>>, S: PagableStorage<E>> WorkerAccess<E> for Len
     }
 }
 
-/// The cell of a kind and a key, with a handle of the node that the cache has under them, if there
-/// is one.
+/// A kind and a key, with a handle of the node that is cached under them, if there is one.
 #[derive(Clone, Copy)]
 pub struct ArcCell {
     pub kind: Kind,
@@ -455,8 +454,8 @@ impl<'a, E: Env<Node: NodeSet<E>>, S: PagableStorage<E>> DeserializedArcCache<'a
         self.pager.cache_get(kind, key)
     }
 
-    /// Returns the kind, the key and the handle that `get` returns for them. If the cache has no
-    /// node there, the cell is empty, and nothing is stored for it.
+    /// Returns the kind, the key and the handle that `get` returns for them. If no node is cached
+    /// there, the handle is None, and nothing is stored.
     ///
     /// # Errors
     ///

@@ -49,7 +49,7 @@ use std::sync::Arc;
 
 /// Shared values, their handles and their loads, over a storage of blobs.
 ///
-/// A call that fails changes nothing and hands the value that it was given back, except where its
+/// A call that fails changes nothing and hands back the value that it was given, except where its
 /// own description says otherwise.
 #[derive(Drop)]
 pub struct Pager<E: Env<Node: NodeSet<E>>, S: PagableStorage<E>> {
@@ -110,8 +110,8 @@ impl<E: Env<Node: NodeSet<E>>, S: PagableStorage<E>> Pager<E, S> {
     }
 
     /// Creates an empty pager over a storage, which may hold blobs, with an environment and a
-    /// session that are also used outside of it, as they are outside the lock of a pager that
-    /// threads share. It allocates nothing.
+    /// session that are also used without the pager, as by threads outside its lock. It allocates
+    /// nothing.
     pub fn with_shared_setting(alloc: Global, storage: S, setting: Arc<Setting<E>>) -> Pager<E, S>
         ensures empty { IsNew (pager_state (storage_view S.PagableStorage) result) }
         ensures storage { result.storage ≡ storage }
@@ -176,15 +176,15 @@ impl<E: Env<Node: NodeSet<E>>, S: PagableStorage<E>> Pager<E, S> {
         &self.setting.get().env
     }
 
-    /// Lends the context of the one session of all values that this pager's storage holds. No
-    /// clause says which values it keeps.
+    /// Lends the context of the one session in which all values of this pager's storage are read
+    /// and written. No clause says what the context holds.
     pub fn session_context(&self) -> &SessionOf<E> {
         &self.setting.get().session
     }
 
     /// Returns whether no page-out worker is at work on this pager. A page-out ends its workers
-    /// before it returns; only a `Machine`, which makes one step for each event, has workers at
-    /// work from one event to the next.
+    /// before it returns; but workers are at work between the steps of a `Machine`, and between
+    /// those of a page-out that takes a lock for each step.
     pub fn is_at_rest(&self) -> bool
         ensures { result ≡ true → (v : ℕ) → (pager_core (storage_view S.PagableStorage) self.now).workers v ≡ false }
     {
@@ -215,9 +215,9 @@ impl<E: Env<Node: NodeSet<E>>, S: PagableStorage<E>> Pager<E, S> {
         self.storage
     }
 
-    /// States the invariant of every pager: each kept count is the number of pinning handles; a
-    /// value is in memory exactly if its node is pinned or has no key; and a value owns the handles
-    /// of its references.
+    /// States the invariant of every pager: each node's count is the number of its pinning handles;
+    /// a value is in memory exactly if its node is pinned or has no key; and a value owns the
+    /// handles of its references.
     pub fn assert_invariant(&self)
         ensures { IsPagerWhole (values_at E.Node.NodeSet E.Env E.Hash.KeyHash self.now.environment)
             (pager_state (storage_view S.PagableStorage) self.now) }
@@ -225,10 +225,11 @@ impl<E: Env<Node: NodeSet<E>>, S: PagableStorage<E>> Pager<E, S> {
         let _tables = &self.tables;
     }
 
-    /// Computes whether all that the pager keeps is consistent, for tests: each live handle has a
-    /// node and an owner that has it once; each node counts its handles, and has its value exactly
-    /// if one pins it or it has no key; each value owns the handles of its references; and list and
-    /// cache name numbers that were given out. It takes time for each pair of a node and a handle.
+    /// Computes, for tests, whether the pager's tables and values agree: each live handle has a
+    /// node, and an owner that knows the handle; each node counts its handles, and has its value
+    /// exactly if one pins it or it has no key; each value owns the handles of its references; the
+    /// list owns its handles; and each cached node is of its kind. It takes time quadratic in the
+    /// size of the tables.
     pub fn is_sound(&self) -> bool
         ensures { result ≡ is_sound self.now.tables self.now.values }
     {
@@ -251,8 +252,8 @@ impl<E: Env<Node: NodeSet<E>>, S: PagableStorage<E>> Pager<E, S> {
         self.storage.fetch_data_blocking(alloc, key)
     }
 
-    /// Polls the fetch of the blob under a key. While it is pending, the storage keeps a waker of
-    /// `cx`, and only its count of failures may have changed.
+    /// Polls the fetch of the blob under a key. If the result is pending, the storage has kept a
+    /// waker of `cx`, and only the storage's count of failures may have changed.
     ///
     /// # Errors
     ///
@@ -332,8 +333,8 @@ impl<E: Env<Node: NodeSet<E>>, S: PagableStorage<E>> Pager<E, S> {
         self.storage.flush()
     }
 
-    /// Closes the storage, which drops all blobs. Releases the handles of all cells that wait for
-    /// page-out, with all that follows, and empties the cache; from then on nothing is listed for
+    /// Closes the storage, which drops all blobs. Releases the handles of the page-out list, with
+    /// all that follows, and empties the list and the cache; from then on nothing is listed for
     /// page-out or cached. Never fails, and allocates nothing.
     pub fn close(&mut self) -> Result<(), Error>
         ensures calls { Calls FewerValues (storage_view S.PagableStorage) self.old (λ w w'. CloseCall w result w')
@@ -474,8 +475,8 @@ impl<E: Env<Node: NodeSet<E>>, S: PagableStorage<E>> Pager<E, S> {
         }
     }
 
-    /// Takes a reference through a loose handle without reading it: returns a handle, which the
-    /// load owns, of the cell that the cache has, or of a new cell with this key and no value.
+    /// Resolves a loose reference without loading a value: returns a handle, which the load owns,
+    /// of the cached cell, or of a new cell with this key and no value.
     ///
     /// # Errors
     ///
@@ -518,8 +519,8 @@ impl<E: Env<Node: NodeSet<E>>, S: PagableStorage<E>> Pager<E, S> {
         self.tables.last_load < u64::MAX
     }
 
-    /// Returns the key that an open load of the caller's reads, and the type of its value if it is
-    /// a load of a cell.
+    /// Returns the key of an open load that the caller began, and the type of its value if it is a
+    /// load of a cell.
     ///
     /// # Errors
     ///

@@ -66,8 +66,7 @@ pub(crate) fn read_rest<E: Env<Node: NodeSet<E>>, A: Access<E>>(
 }
 
 // Shares the value of a new pin, made by a handle that was unpinned before. If the value can't be
-// shared, undoes the pin. So the pin and this together do all that a pin with its value does
-// (`PinsOver`), from the state before the pin.
+// shared, undoes the pin. The pin and this call together do what `PinsOver` says.
 fn share_or_undo<E: Env<Node: NodeSet<E>>, A: Access<E>>(
     access: &mut A,
     handle: HandleNumber,
@@ -88,8 +87,8 @@ fn share_or_undo<E: Env<Node: NodeSet<E>>, A: Access<E>>(
     }
 }
 
-// Pins as `pin` does, over a lent pager. (The borrow checker accepts a lent struct where its own
-// type is required, but not where any access is.)
+// Pins as `pin` does, over a lent pager. (It is a function of its own since the borrow checker
+// accepts `&mut` of a local for a parameter of type `Lent`, but not for one of any `Access`.)
 fn pin_lent<'a, E: Env<Node: NodeSet<E>>, S: PagableStorage<E>>(
     lent: &mut Lent<'a, E, S>,
     alloc: Global,

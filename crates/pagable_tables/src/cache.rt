@@ -63,8 +63,8 @@ pub fn cache_if(cache: &mut Cache, wanted: bool, kind: Kind, key: DataKey, node:
     }
 }
 
-/// The constant part of the cache's limit: `forget_gone` sets the limit to twice the entries that
-/// it leaves, and 64.
+/// The constant part of the cache's limit, which `forget_gone` sets to twice the number of entries
+/// left plus 64.
 const FEW_ENTRIES: usize = 64;
 
 /// Removes the cache entries of nodes that are gone.
@@ -80,10 +80,9 @@ fn keep_living(cache: &mut Cache, nodes: &Nodes)
     );
 }
 
-/// Removes the cache entries of nodes that are gone if the cache has more entries than its limit,
-/// and sets the limit to 64 more than twice the number of entries left. So each insertion pays for
-/// a look at one or two entries, and the cache has at most 64 entries more than twice those whose
-/// nodes lived at the last look.
+/// If the cache has more entries than its limit, removes those of nodes that are gone, and sets the
+/// limit to twice the number of entries left plus 64. So each insertion pays for a look at one or
+/// two entries, and the cache stays within its limit.
 pub fn forget_gone(t: &mut Tables)
     requires { IsWhole t.old }
     ensures does { Does t.old Alike t.new }
@@ -100,8 +99,8 @@ pub fn forget_gone(t: &mut Tables)
     t.cache_limit = t.cache.len().saturating_mul(2).saturating_add(FEW_ENTRIES);
 }
 
-/// Returns the node that is cached under a kind and a key. It ignores an entry whose node is gone
-/// or, for the kind of a pin, whose node has no value in memory.
+/// Returns the node that is cached under a kind and a key; None if there is none, if it is gone or,
+/// for a pinned kind, if its value isn't in memory.
 pub fn usable_of(t: &Tables, kind: Kind, key: DataKey) -> Option<NodeNumber>
     requires { IsWhole t.now }
     ensures { (storage : StorageView) → option_map (λ (n : NodeNumber). n.0) result

@@ -1,4 +1,4 @@
-//! Releases a handle and runs the cascade: a node that loses its last handle, or its last pin while
+//! Releases a handle and runs the cascade. A node that loses its last handle, or its last pin while
 //! it has a key, is dying: the cascade releases the handles that its value owns, which may let
 //! other nodes die, and drops its value. A cell without a key is listed for page-out when it loses
 //! its last pin.
@@ -47,14 +47,14 @@ pub struct RefCounts {
     pub list: VecDeque<HandleNumber>,
     /// The first dying node, 0 for none.
     pub top: u64,
-    /// The first error by which a cell couldn't be listed since this release began.
+    /// The first error of listing a cell since this release began.
     pub listing_error: Option<Error>,
     pub last_handle: u64,
 }
 
 /// Lists this node's cell for page-out, by a new handle that the list owns. Fails with NumbersSpent
-/// if no handle number is left, and with OutOfMemory if the handles or the list can't grow: then
-/// there is no new handle or entry, and at most more room.
+/// if no handle number is left, and with OutOfMemory if the handles or the list can't grow: then no
+/// handle or entry is added.
 fn push_pending(t: &mut RefCounts, node: NodeNumber) -> Result<(), Error>
     requires sound { AreSound t.old.handles }
     requires next { IsNext (t.old.last_handle + 1) t.old.handles.places.items }
@@ -96,8 +96,8 @@ fn push_pending_if(t: &mut RefCounts, node: NodeNumber, wanted: bool) -> bool
     false
 }
 
-/// Says whether a handle of this mode is the last pin of a cell without a key, and no Shared one,
-/// while cells are listed: the cell must be listed when that pin is given up.
+/// Says whether a cell with these counts must be listed when a handle of this mode loses its pin:
+/// `lists` is set, the cell has no key and no other pin, and the mode is LoosePinned or Pinned.
 fn wants_entry(counts: Counts, mode: Mode, lists: bool) -> bool
     ensures { result ≡ (lists && is_last_pin_without_key counts mode) }
 {
@@ -120,9 +120,8 @@ fn remove_or_unpin(handles: &mut Handles, at: HandleAt, stays: bool)
     }
 }
 
-/// Returns a node's counts after one of its handles was removed, or unpinned if it `stays`, and
-/// perhaps an entry was `listed`. If the node starts dying then, it stands before `top` in the list
-/// of dying nodes.
+/// Returns a node's counts after one of its handles was removed, or unpinned if it `stays`, and an
+/// entry was added if `listed`. If the node starts dying by this, its `next` is `top`.
 fn counts_after(counts: Counts, pinning: bool, stays: bool, listed: bool, top: u64) -> Counts
     requires pins { one pinning ≤ counts.pins }
     requires holds { 1 ≤ counts.holds }
@@ -139,8 +138,8 @@ fn counts_after(counts: Counts, pinning: bool, stays: bool, listed: bool, top: u
     left
 }
 
-/// Subtracts one from the node's bound of handles that workers own, if a worker owned this handle
-/// and it doesn't stay.
+/// Subtracts one from the upper bound of how many of the node's handles are owned by workers, if a
+/// worker owned this handle, unless the handle `stays`.
 fn lower_bound_for(nodes: &mut Nodes, row: HandleRow, stays: bool)
     requires { IsSome (counts_at nodes.old row.node.0) }
     ensures here { most_worker_handles_at nodes.old row.node.0 ≤ most_worker_handles_at nodes.new row.node.0 +
@@ -157,8 +156,8 @@ fn lower_bound_for(nodes: &mut Nodes, row: HandleRow, stays: bool)
     }
 }
 
-/// Returns which dying node is the first after a node's counts have changed: `node` if it is dying
-/// now (`falls`) and wasn't `before`, else `top`, which was the first one until then.
+/// Returns the first dying node after the counts of `node` have changed: `node` if it is dying now
+/// (`falls`) and wasn't `before`, else `top`, the first one until then.
 pub fn first_dying_after(before: bool, falls: bool, node: u64, top: u64) -> u64
     ensures { result ≡ (if falls && not before then node else top) }
 {
@@ -212,9 +211,9 @@ fn finish_node(nodes: &mut Nodes, node: u64, counts: Counts)
     }
 }
 
-/// Makes one step of the cascade: the first dying node releases one handle of its references; or it
-/// has none left, and the call finishes it and returns its number, so that its value can be
-/// dropped.
+/// Makes one step of the cascade, at the first dying node: releases the handle of one of its
+/// references; or, if none is left, finishes the node and returns its number, so that its value can
+/// be dropped.
 pub fn step_cascade(t: &mut RefCounts, lists: bool) -> Option<NodeNumber>
     requires falling { (stack : List ℕ) × IsSoundInCascade t.old stack owns_nothing }
     requires some { t.old.top ≢ 0 }
@@ -247,8 +246,8 @@ fn drop_value<N: Drop>(values: &mut NodeValues<N>, done: Option<NodeNumber>)
     }
 }
 
-/// Runs the cascade to its end: releases the handles of each dying node's references, and drops its
-/// value. It takes no memory but for list entries.
+/// Runs the cascade to its end: releases the handles of each dying node's references, and drops the
+/// node's value. It takes memory only for list entries and their handles.
 #[tactic(auto, using(crate::proofs::CascadeEnd::falls))]
 pub fn cascade<N: Drop>(t: &mut RefCounts, values: &mut NodeValues<N>, lists: bool)
     requires falling { (stack : List ℕ) × IsSoundInCascade t.old stack owns_nothing × (length stack ≤ 1) }
@@ -290,7 +289,7 @@ pub fn release_at<N: Drop>(t: &mut RefCounts, values: &mut NodeValues<N>, at: Ha
     cascade(t, values, lists);
 }
 
-/// Runs the cascade, and then returns the first error by which a cell couldn't be listed.
+/// Runs the cascade, and then returns the first error of listing a cell.
 ///
 /// # Errors
 ///

@@ -57,8 +57,8 @@ pub fn find_owned(t: &Tables, me: Owner, handle: HandleNumber) -> Result<HandleA
 }
 
 /// Says whether one of these references names the handle. All handles that they name have numbers
-/// from `lowest` to `highest`, so a handle outside of these bounds is answered without a search:
-/// checking references whose handles ascend or descend takes linear time.
+/// from `lowest` to `highest`, so a handle outside of these bounds needs no search: references
+/// are checked in linear time if their handles ascend or descend.
 #[tactic(auto, using(crate::proofs::SameViews::naming))]
 fn is_named(references: &[ArcRef], lowest: u64, highest: u64, handle: HandleNumber) -> bool
     requires below { (q : ℕ) → q < lowest → is_named_by references.now q ≡ false }
@@ -107,7 +107,8 @@ fn reference_fault(t: &Tables, me: Owner, reference: ArcRef, is_seen: bool) -> O
     row_fault(t, at.row, reference, !is_owner(me, at.row.owner) | is_seen)
 }
 
-/// Returns why a worker can't claim what a reference names, if it can't, whoever owns the handle.
+/// Returns why a worker can't claim what a reference names, or None if it can. The owner of the
+/// handle doesn't matter.
 pub fn claim_fault(t: &Tables, reference: ArcRef) -> Option<Error>
     requires { IsWhole t.now }
     ensures { (storage : StorageView) → result ≡ claim_fault (core_of t.now storage) reference }
@@ -141,8 +142,8 @@ pub fn references_fault(t: &Tables, me: Owner, references: &[ArcRef]) -> Option<
     None
 }
 
-/// Returns why this owner can't use the load of this row, if it can't: `NoSuchHandle` if there is
-/// none, `NotYours` if another began it.
+/// Returns why this owner can't use the load of this row, if it can't: `NoSuchHandle` without a
+/// row, `NotYours` if another began the load.
 pub fn load_fault(row: Option<LoadRow>, me: Owner) -> Option<Error>
     ensures { result ≡ if_there (λ (load : OpenLoad). refused_if (not (is_owner me load.owner)) errors.NotYours)
         (Some errors.NoSuchHandle) (option_map load_in row) }

@@ -124,7 +124,7 @@ pub fn make_handle(
     add_handle(&mut t.ref_counts, node, mode, me)
 }
 
-/// Makes a second handle of the same node and mode, whoever owns the first.
+/// Makes a handle of the same node and mode for `me`, whoever owns `handle`.
 ///
 /// # Errors
 ///
@@ -142,8 +142,8 @@ pub fn clone(t: &mut Tables, me: Owner, handle: HandleNumber) -> Result<HandleNu
     make_handle(t, at.row.node, at.row.mode, me)
 }
 
-/// Checks whether a value with these references can become a node, and makes room for it: first the
-/// references, then numbers, then memory.
+/// Checks whether a value with these references can become a node (first the references, then
+/// numbers, then memory), and makes room for it.
 ///
 /// # Errors
 ///
@@ -167,8 +167,8 @@ pub fn prepare_insert(t: &mut Tables, me: Owner, references: &[ArcRef]) -> Resul
 }
 
 /// Inserts a node with this key (0 for none), makes its value the owner of the handles that these
-/// references name, and returns one handle of it. It can't fail: `prepare_insert` or
-/// `make_room_for_node` made all ready.
+/// references name, and returns a handle of the node. It can't fail: `prepare_insert` or
+/// `make_room_for_node` has made room.
 pub fn insert_node(
     t: &mut Tables,
     me: Owner,
@@ -238,7 +238,7 @@ pub fn insert_paged_out(
     Ok(insert_node(t, me, node_type, key.get(), Vec::new(alloc), mode))
 }
 
-/// Makes a handle that isn't Shared loose and pinned.
+/// Turns a handle, which isn't Shared, into a loose pinned one.
 #[tactic(auto, using(crate::proofs::CascadeStep::counting))]
 pub fn set_loose_pinned(t: &mut Tables, at: HandleAt)
     requires whole { IsWhole t.old }
@@ -258,7 +258,7 @@ pub fn set_loose_pinned(t: &mut Tables, at: HandleAt)
     nodes::set_counts(&mut t.ref_counts.nodes, at.row.node.0, pinned);
 }
 
-/// Makes a Pinned handle a loose pinned one, under its own number.
+/// Turns a Pinned handle into a loose pinned one of the same number.
 ///
 /// # Errors
 ///

@@ -50,8 +50,8 @@ pub fn count_up_to(places: &[Place], number: u64) -> usize
     places.partition_point(|place| place.number() <= number)
 }
 
-/// Returns an index from which all rows have numbers above this one: the end if `guess` is past it,
-/// `guess` if the number of the row there is above this one, and else what a binary search finds.
+/// Returns an index from which on all rows have numbers above `number`: the end if `guess` isn't
+/// below it, `guess` if the row there has a number above `number`, else what a binary search finds.
 pub fn index_above(places: &[Place], number: u64, guess: usize) -> usize
     requires { AllPairs IsBefore places.now }
     ensures within { result ≤ length places.now }
@@ -86,7 +86,7 @@ fn live_handle_at(places: &[Place], place: usize, number: u64) -> Option<HandleA
 }
 
 /// Returns the live handle of this number if its row is at one of two indexes: where it is if no
-/// number before it is missing in the vector, or where it is if none behind it is.
+/// number between the first row's and this one is missing, or none between this and the last row's.
 fn look_at_guesses(places: &[Place], number: u64) -> Option<HandleAt>
     requires { AllPairs IsBefore places.now }
     ensures place { IfSome result (λ at. slice_get places.now at.place ≡ Some (alive at.row)) }
@@ -102,8 +102,8 @@ fn look_at_guesses(places: &[Place], number: u64) -> Option<HandleAt>
     live_handle_at(places, end.saturating_sub(back), number)
 }
 
-/// Returns the live handle of this number, with its index. It takes one or two looks if no number
-/// before it or none behind it is missing, and else the logarithm of the number of rows.
+/// Returns the live handle of this number, with its index: after one or two looks if a guess of
+/// `look_at_guesses` is right, else by binary search.
 #[tactic(auto, using(crate::proofs::HandleTable::looks))]
 pub fn find_live(handles: &Handles, number: HandleNumber) -> Option<HandleAt>
     requires { AreSound handles.now }
@@ -119,7 +119,7 @@ pub fn find_live(handles: &Handles, number: HandleNumber) -> Option<HandleAt>
     live_handle_at(&handles.places, last, number.0)
 }
 
-/// Returns how many handles can still be pushed without a request for memory.
+/// Returns how many handles can still be pushed even if no memory is left.
 pub fn room_of(handles: &Handles) -> usize
     requires { AreSound handles.now }
     ensures { result ≡ room handles.now }

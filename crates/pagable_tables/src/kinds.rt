@@ -20,7 +20,7 @@ pub fn pins(mode: Mode) -> bool
     !matches!(mode, Mode::LooseUnpinned)
 }
 
-/// Says whether both are the same owner.
+/// Says whether `a` and `b` are the same owner.
 pub fn is_owner(a: Owner, b: Owner) -> bool
     ensures { result ≡ is_owner a b }
 {
@@ -79,8 +79,8 @@ pub fn fits_mode(kind: Kind, mode: Mode) -> bool
     }
 }
 
-/// Returns the error's place in the order in which a call that meets several errors chooses the one
-/// to return: no such handle, another's handle, wrong mode, wrong type, no number left, all others.
+/// Returns the error's rank, from 0 on: no such handle, another's handle, wrong mode, wrong type,
+/// no number left, all others. Of two errors `earlier` returns the one of lower rank.
 fn rank(error: &Error) -> u32
     ensures { result ≡ rank error.now }
 {
@@ -94,8 +94,8 @@ fn rank(error: &Error) -> u32
     }
 }
 
-/// Returns whichever error has the earlier place in the order of `rank`, and `a` if both have the
-/// same place.
+/// Returns the error of the lower `rank`, `a` if the ranks are equal. If one error is None, returns
+/// the other.
 pub fn earlier(a: Option<Error>, b: Option<Error>) -> Option<Error>
     ensures { result ≡ earlier a b }
 {

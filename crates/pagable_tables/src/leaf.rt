@@ -1,6 +1,5 @@
-//! Loads leaves (cells whose blobs have no references) in one call. The call leaves the state that
-//! a load leaves which begins, gets the blob and ends step by step; but it makes no row and no
-//! handle of a load.
+//! Pins leaves (cells whose blobs have no references) without the row and the handle of a load. The
+//! tables are afterwards as if a load had begun, got the blob and ended step by step.
 
 ghost use Rattle.pagable_pager_spec.specs.{LoadCalls.BeginCall, Pager.MayOwnLoad, World.greatest};
 ghost use Rattle.pagable_tables.specs.{
@@ -76,7 +75,7 @@ pub fn prepare_pin(t: &mut Tables, me: Owner, handle: HandleNumber) -> Result<Op
     }
 }
 
-/// Takes the numbers of a load and of its handle, as if both had been made and closed again.
+/// Uses up the numbers of a load and of its handle, as if a load had begun and been dropped.
 pub fn take_numbers(t: &mut Tables)
     requires whole { IsWhole t.old }
     requires load_left { t.old.last_load < greatest }
@@ -92,8 +91,8 @@ pub fn take_numbers(t: &mut Tables)
     t.ref_counts.last_handle += 1;
 }
 
-/// Pins the cell and returns the new Pinned handle, as a load does that begins and ends with a
-/// value without references. The caller has stored the value among the values in memory already.
+/// Pins the cell and returns the new Pinned handle, as if a load had begun and ended with a value
+/// without references. The caller has stored the value among the values in memory already.
 pub fn pin_loaded_leaf(t: &mut Tables, me: Owner, leaf: Leaf) -> HandleNumber
     requires whole { IsWhole t.old }
     requires leaf { IsLeaf (core_alone t.old) me leaf }
@@ -113,8 +112,8 @@ pub fn pin_loaded_leaf(t: &mut Tables, me: Owner, leaf: Leaf) -> HandleNumber
     handle
 }
 
-/// Leaves the cell without its value, as a load does that begins and is dropped: only its numbers
-/// are taken.
+/// Leaves the cell without its value, as if a load had begun and been dropped: only the load's
+/// numbers are used up.
 pub fn leave_unloaded(t: &mut Tables, me: Owner, leaf: Leaf)
     requires whole { IsWhole t.old }
     requires leaf { IsLeaf (core_alone t.old) me leaf }

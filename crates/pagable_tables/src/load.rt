@@ -54,7 +54,8 @@ use std::alloc::Global;
 /// - `NotYours` if another owns it.
 /// - `WrongMode` if it isn't loose.
 /// - `NumbersSpent` if no number of a load or a handle is left.
-/// - `OutOfMemory` if a table can't grow. After each error no load is open and no handle was made.
+/// - `OutOfMemory` if a table can't grow. After each error no load has begun and no handle was
+///   made.
 #[tactic(auto, using(crate::proofs::CascadeStep::counting))]
 pub fn load_begin(t: &mut Tables, me: Owner, handle: HandleNumber) -> Result<Beginning, Error>
     requires whole { IsWhole t.old }
@@ -118,7 +119,7 @@ pub fn load_cached(
     cache_get(t, Owner::Load(load), kind, key)
 }
 
-/// Begins a load of a key: the caller gets the key's blob and makes of it what the caller needs.
+/// Begins a load of a key, without a cell.
 ///
 /// # Errors
 ///
@@ -174,8 +175,7 @@ fn insert_and_cache(
     handle
 }
 
-/// Inserts a node as `insert_and_cache` does, and lets the cache forget entries of nodes that are
-/// gone.
+/// Inserts a node as `insert_and_cache` does, and then calls `forget_gone`.
 fn insert_and_prune_cache(
     t: &mut Tables,
     load: LoadNumber,
@@ -201,7 +201,7 @@ fn insert_and_prune_cache(
 }
 
 /// Makes a handle, owned by the load, of the cell that is cached under a loose kind and a key; or
-/// inserts a cell that has this key and no value, and caches it.
+/// inserts a cell that has this key and no value, and caches it if `lists`.
 ///
 /// # Errors
 ///
@@ -234,7 +234,7 @@ pub fn load_lazy(
     Ok(insert_and_prune_cache(t, load, kind, key, key.get(), Vec::new(alloc), lists))
 }
 
-/// Returns why what a load has read can't become a node, apart from numbers and memory.
+/// Returns why a value that a load has read can't become a node, apart from numbers and memory.
 fn adopt_fault(
     t: &Tables,
     me: Owner,

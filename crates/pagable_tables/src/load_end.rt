@@ -42,8 +42,8 @@ use crate::{handle_table, load_table, nodes};
 use pagable_pager_spec::handle_row::{HandleRow, Owner};
 use pagable_value_spec::{ArcRef, Error, HandleNumber, LoadNumber, NodeNumber};
 
-/// A load of a cell that can end: its row, the row of the handle by which it began, and whether the
-/// cell has no value.
+/// A load of a cell, ready to end: its row, the row of the handle by which it began, and whether
+/// the cell has no value.
 #[derive(Clone, Copy)]
 pub struct Ending {
     pub load: LoadRow,
@@ -300,8 +300,8 @@ pub fn load_drop<N: Drop>(
     drop_until(t, values, me, load, row, until, lists)
 }
 
-/// Raises the bound of how many handles of a node workers own, which the node's row holds, to the
-/// number of all handles of the node; for the node of this handle.
+/// Raises the upper bound of how many handles of this handle's node are owned by workers to the
+/// number of all handles of the node.
 #[tactic(auto, using(crate::proofs::CascadeStep::counting))]
 fn raise_worker_bound(handles: &Handles, nodes: &mut Nodes, handle: HandleNumber)
     requires sound { AreSound handles.now }
@@ -320,8 +320,7 @@ fn raise_worker_bound(handles: &Handles, nodes: &mut Nodes, handle: HandleNumber
     }
 }
 
-/// Raises, if `me` is a worker, the bound of how many handles of a node workers own: for the node
-/// of each of these handles, as `raise_worker_bound` does.
+/// Does what `raise_worker_bound` does for each of these handles, if `me` is a worker.
 fn raise_worker_bounds(handles: &Handles, nodes: &mut Nodes, named: &[HandleNumber], me: Owner)
     requires sound { AreSound handles.now }
     requires ordered { AllPairs IsHandleBefore (live handles.now.places.items) }

@@ -17,7 +17,8 @@ use crate::{handle_table, load_table};
 use pagable_pager_spec::handle_row::{HandleRow, Owner};
 use pagable_value_spec::LoadNumber;
 
-/// Takes note of the handle in the row of the load that owns it, if a load owns it.
+/// Raises `last` in the row of the load that owns this handle to the handle's number. Does nothing
+/// if no load owns the handle.
 fn note(loads: &mut Loads, handle: HandleRow)
     ensures rows { AreRaised loads.old loads.new }
     ensures last { (l : LoadNumber) (row : LoadRow) → handle.owner ≡ Owner.Load l
@@ -39,7 +40,7 @@ fn place_above(handles: &Handles, number: u64) -> usize
     handle_table::count_up_to(&handles.places, number)
 }
 
-/// Takes note of all handles of numbers above `number` in the rows of the loads that own them.
+/// Raises `last` in the rows of loads, as `note` does, for all handles of numbers above `number`.
 fn note_above(loads: &mut Loads, handles: &Handles, number: u64)
     requires { AreSound handles.now }
     ensures rows { AreRaised loads.old loads.new }
@@ -52,8 +53,7 @@ fn note_above(loads: &mut Loads, handles: &Handles, number: u64)
     }
 }
 
-/// Takes note of all handles in the rows of the loads that own them. Each handle is looked at once,
-/// in the first call after the handle was made.
+/// Raises `last` in the rows of loads, as `note` does, for all handles made since the last call.
 fn note_all(t: &mut Tables)
     requires whole { IsWhole t.old }
     requires later { OwnLaterHandles t.old }

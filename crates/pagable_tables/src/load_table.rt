@@ -14,12 +14,12 @@ use std::alloc::AllocError;
 /// Open loads by their numbers.
 pub type Loads = IndexMap<u64, LoadRow>;
 
-/// What a load reads its key for.
+/// What a load is for.
 #[derive(Clone, Copy)]
 pub enum LoadRoot {
     /// The value of a cell: its node, its type, and the handle by which the load began.
     Cell(NodeNumber, u32, HandleNumber),
-    /// No cell: the caller gets the blob and makes of it what the caller needs (`load_key`).
+    /// No cell: the load is of a key alone (`load_key`), and its owner gets the value.
     Key,
 }
 

@@ -49,8 +49,8 @@ pub struct Counts {
     pub node_type: u32,
 }
 
-/// The counts as a row keeps them. The key is split in two halves, so that the row has padding
-/// behind its last field alone.
+/// The counts as a node's row stores them: with the key in two halves, so that the only padding is
+/// behind the last field.
 #[derive(Drop)]
 pub struct PackedCounts {
     key_high: u64,
@@ -119,7 +119,7 @@ pub struct NodeRow {
     /// The references of the node's value, while the value is in memory. The value owns their
     /// handles.
     pub references: Vec<ArcRef>,
-    /// An upper bound of how many of the node's handles workers own.
+    /// An upper bound of how many of the node's handles are owned by workers.
     pub worker_bound: u64,
 }
 
@@ -145,14 +145,15 @@ pub fn set_counts(nodes: &mut Nodes, node: u64, counts: Counts)
     }
 }
 
-/// Returns an upper bound of how many handles of the node workers own, 0 if there is no such node.
+/// Returns an upper bound of how many of the node's handles are owned by workers, 0 if there is no
+/// such node.
 pub fn worker_bound_of(nodes: &Nodes, node: u64) -> u64
     ensures { result ≡ most_worker_handles_at nodes.now node }
 {
     nodes.get(node).map_or(0, |row| row.worker_bound)
 }
 
-/// Sets the node's upper bound of how many of its handles workers own.
+/// Sets the upper bound of how many of the node's handles are owned by workers.
 #[tactic(auto, unfolding(crate::specs::NumberTable::place_at, crate::specs::NumberTable::row_by))]
 pub fn set_worker_bound(nodes: &mut Nodes, node: u64, bound: u64)
     requires { IsSome (counts_at nodes.old node) }
@@ -209,7 +210,7 @@ pub fn key_in(counts: Option<Counts>) -> OptionalDataKey
 }
 
 /// Says whether a node with these counts has its value in memory: a handle pins it, or it has no
-/// key.
+/// key. Returns true for None.
 pub fn is_in_memory(counts: Option<Counts>) -> bool
     ensures { result ≡ is_in_memory (pins_in counts) (if_there (λ (cell : Cell). cell.key) OptionalDataKey.None
         (cell_in counts)) }
@@ -238,11 +239,11 @@ pub fn counts_with_handle(counts: Counts, pinning: bool) -> Counts
     }
 }
 
-/// Adds one to the node's upper bound of how many of its handles workers own, if `owner` is a
-/// worker. The bound stops at 2^64 - 1.
+/// Adds one to the upper bound of how many of the node's handles are owned by workers, if `owner`
+/// is a worker. The bound stops at 2^64 - 1.
 pub fn raise_bound_for(nodes: &mut Nodes, node: u64, owner: Owner)
     requires { IsSome (counts_at nodes.old node) }
-    // what 64 bits hold of the old bound, plus one for a worker, is within the new bound
+    // the new bound is at least the old one, plus one for a worker, as far as 64 bits go
     ensures here { (k : ℕ) → k < 2 ^ 64 → k ≤ most_worker_handles_at nodes.old node + one (is_worker owner)
         → k ≤ most_worker_handles_at nodes.new node }
     ensures others { (q : ℕ) → most_worker_handles_at nodes.old q ≤ most_worker_handles_at nodes.new q }

@@ -12,8 +12,8 @@ use std::alloc::{AllocError, Global};
 
 /// Rows by their numbers, in chunks of 256 places. A chunk grows when a place is reserved. When a
 /// row is removed, its chunk loses the places behind the last row that is left, and frees its
-/// memory if none is left. Besides, a vector holds 24 bytes for each 256 numbers up to the greatest
-/// that was ever reserved.
+/// memory if no row is left. The vector of chunks takes 24 bytes for each 256 numbers up to the
+/// greatest that was ever reserved.
 #[derive(Drop)]
 pub struct NumberTable<T> {
     pub(crate) chunks: Vec<Vec<Option<T>>>,

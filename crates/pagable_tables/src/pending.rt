@@ -56,9 +56,9 @@ pub fn schedule_for_paging<N: Drop>(
     Ok(())
 }
 
-/// Widens the range of handles that a worker may own by this handle, which may be older than the
-/// worker. A range has room for one older handle: a second one widens it to all handles. Does
-/// nothing for another owner than a worker.
+/// Adds this handle, which may be older than the worker, to the range of handles that a worker may
+/// own. A range has room for one added handle: a second one widens it to all handles. Does nothing
+/// if `me` isn't a worker.
 fn widen_range(workers: &mut Workers, me: Owner, handle: HandleNumber)
     ensures same_workers { (v : ℕ) → is_some (worker_at workers.new v) ≡ is_some (worker_at workers.old v) }
     ensures wider { AreRangesWider workers.old workers.new }

@@ -78,7 +78,7 @@ fn is_in_release_set(loads: &Loads, giving: ReleaseSet, row: HandleRow) -> bool
 }
 
 /// Returns the last handle of the set with a number above `since` and at most `left`. The search
-/// starts at the index `guess` and goes down, if numbers from there on are above `left`.
+/// goes down from the index `guess`, or, if `guess` is too low, from one found by binary search.
 #[tactic(auto, using(crate::proofs::OwnedByLoad::places))]
 fn find_last_handle(
     handles: &Handles,
@@ -108,7 +108,7 @@ fn find_last_handle(
     None
 }
 
-/// Says whether the set is that of a worker at a node of which no worker owns a handle.
+/// Says whether the set is empty since it is of a node of which no worker owns a handle.
 fn is_known_empty(nodes: &Nodes, giving: ReleaseSet) -> bool
     ensures { result ≡ true → (v : WorkerNumber) × (n : NodeNumber) × (giving ≡ ReleaseSet.AtNode v n)
         × (most_worker_handles_at nodes.now n.0 ≡ 0) }
@@ -150,8 +150,8 @@ fn find_last_handle_in_range(
     }
 }
 
-/// Guesses the index from which handles have numbers above `until`: it is right if no number behind
-/// it is missing.
+/// Guesses the index from which on handles have numbers above `until`. The guess is right if none
+/// of these numbers up to `last` is missing.
 fn guess_end(handles: &Handles, last: u64, until: u64) -> usize {
     let behind = last.saturating_sub(until) as usize;
     handles.places.len().saturating_sub(behind)
@@ -339,7 +339,7 @@ pub fn unpin<N: Drop>(
 }
 
 /// Sets the key of the cell of a loose handle that `me` owns; if nothing pins the cell, drops its
-/// value and runs the cascade. Through a handle of another mode it does nothing.
+/// value and runs the cascade. Does nothing if the handle isn't loose.
 ///
 /// # Errors
 ///

@@ -103,8 +103,9 @@ fn is_listed_once(t: &Tables, handle: u64) -> bool
     listed.count() == 1
 }
 
-// Says whether the owner in a handle's row knows the handle: a value names it in one reference, the
-// list in one entry; a load is open; a worker is running.
+// Says whether the owner in a handle's row knows the handle: a value if one reference names it, the
+// list if it is unpinned and in one entry, a load if it is open, a worker if it runs, the caller
+// always.
 fn is_known_to_owner(t: &Tables, row: HandleRow) -> bool
     ensures { result ≡ is_known_to_owner t.now row row.owner }
 {
@@ -130,7 +131,7 @@ fn is_row_sound(t: &Tables, row: HandleRow) -> bool
         && is_known_to_owner(t, row)
 }
 
-// Says whether both are true, or neither.
+// Says whether `left` equals `right`.
 fn agree(left: bool, right: bool) -> bool
     ensures { result ≡ agree left right }
 {
@@ -247,7 +248,7 @@ fn is_list_sound(t: &Tables) -> bool
 }
 
 // Says whether a cached node has a number that was given out and, while it lives, the kind's type,
-// and is Shared exactly if the kind is.
+// and Shared handles exactly if the kind is shared.
 fn is_cache_entry_sound(t: &Tables, kind: Kind, node: NodeNumber) -> bool
     ensures { result ≡ is_cache_entry_sound t.now kind.0 node.0 (counts_at t.now.ref_counts.nodes node.0) }
 {
@@ -271,8 +272,8 @@ fn is_cache_sound(t: &Tables) -> bool
 /// Says whether handles, nodes and their counts, list, cache, loads, workers and values agree: each
 /// live handle has a node, and an owner that knows the handle; each node counts its handles, and
 /// has its value exactly while a handle pins it or it has no key; each value owns the handles of
-/// its references; and each cached node is of its kind. The check takes time proportional to the
-/// number of nodes times the number of handles.
+/// its references; and each cached node is of its kind. The check takes time quadratic in the size
+/// of the tables.
 #[tactic(auto, unfolding(crate::specs::Soundness::is_sound))]
 pub fn is_sound<N: Drop>(t: &Tables, values: &NodeValues<N>) -> bool
     ensures { result ≡ is_sound t.now values.now }

@@ -30,8 +30,7 @@ pub type Workers = IndexMap<u64, HandleRange>;
 /// The cached nodes, by kind and key.
 pub type Cache = IndexMap<(u32, DataKey), NodeNumber>;
 
-/// The handles that a worker may own: those of numbers above `since`, and the one of number
-/// `beside` (0 for none).
+/// A range of handles: those of numbers above `since`, and the one of number `beside` (0 for none).
 #[derive(Clone, Copy)]
 pub struct HandleRange {
     pub since: u64,
@@ -93,7 +92,8 @@ pub fn new(alloc: Global) -> Tables
     }
 }
 
-/// Returns how many handles and list entries can still be added without a request for memory.
+/// Returns how many handles, and as many list entries, can still be added even if no memory is
+/// left.
 pub fn room(t: &Tables) -> usize
     requires { IsWhole t.now }
     ensures { result ≡ room_of (core_alone t.now) }

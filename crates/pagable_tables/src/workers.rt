@@ -73,7 +73,7 @@ fn reach_of(workers: &Workers, worker: WorkerNumber) -> HandleRange
     workers.get(&worker.0).copied().unwrap_or(nothing)
 }
 
-/// Releases all handles that a worker owns at a node, and runs the cascade.
+/// Releases all handles of a node that a worker owns, and runs the cascade.
 pub fn release_node<N: Drop>(
     t: &mut Tables,
     values: &mut NodeValues<N>,

@@ -84,9 +84,9 @@ impl<E: Env<Node: NodeSet<E>>, S: PagableStorage<E>> Pager<E, S> {
         create::into_pagable(&mut self.tables, Owner::Caller, handle)
     }
 
-    /// Pins by a loose handle: the handle becomes pinned, and a new Pinned handle is returned. If
-    /// the value isn't in memory, returns the key from which the caller has to load it first, and
-    /// changes nothing.
+    /// Pins a loose handle's cell: the handle becomes LoosePinned, and a new Pinned handle is
+    /// returned. If the value isn't in memory, returns the key from which the caller has to load it
+    /// first, and changes nothing.
     ///
     /// # Errors
     ///
@@ -283,8 +283,8 @@ impl<E: Env<Node: NodeSet<E>>, S: PagableStorage<E>> Pager<E, S> {
         pending::schedule_for_paging(&mut self.tables, &mut self.values, me, handle, lists)
     }
 
-    /// Returns a new handle, in the kind's mode, of the node that the cache has under a kind and a
-    /// key; None if it has none that is live and, for a pinned kind, has its value in memory.
+    /// Returns a new handle, in the kind's mode, of the node that is cached under a kind and a key;
+    /// None if there is none, if it is gone or, for a pinned kind, if its value isn't in memory.
     ///
     /// # Errors
     ///
@@ -330,8 +330,8 @@ impl<E: Env<Node: NodeSet<E>>, S: PagableStorage<E>> Pager<E, S> {
         queries::pending_count(&self.tables)
     }
 
-    /// Returns how many handles and as many entries of the page-out list can be added without an
-    /// allocation.
+    /// Returns how many handles, and as many entries of the page-out list, can be added even if no
+    /// memory is left.
     pub fn room(&self) -> usize
         ensures { result ≡ room_of (pager_core (storage_view S.PagableStorage) self.now) }
     {
@@ -528,8 +528,8 @@ impl<E: Env<Node: NodeSet<E>>, S: PagableStorage<E>> Pager<E, S> {
         workers::worker_begin(&mut self.tables)
     }
 
-    /// Begins a worker, and removes the entry at this place from the page-out list: the worker owns
-    /// its handle then. Fails with NumbersSpent or OutOfMemory.
+    /// Begins a worker, removes the entry at this place from the page-out list, and makes the
+    /// worker the owner of the entry's handle. Fails with NumbersSpent or OutOfMemory.
     pub(crate) fn worker_begin_with_entry(&mut self, place: usize) -> Result<WorkerNumber, Error>
         requires { place < length (pager_core (storage_view S.PagableStorage) self.old).list }
         ensures { Calls ChangesOnlyTables (storage_view S.PagableStorage) self.old
@@ -539,10 +539,10 @@ impl<E: Env<Node: NodeSet<E>>, S: PagableStorage<E>> Pager<E, S> {
         workers::worker_begin_with_entry(&mut self.tables, place)
     }
 
-    /// Begins a worker as `worker_begin_with_entry` does, and returns also the reference that it
-    /// pages out: the entry's handle, as a loose one of its cell. Fails with NoSuchHandle past the
-    /// list's end, with WrongKind if the kinds of the cell's type don't fit 32 bits, and with
-    /// NumbersSpent or OutOfMemory.
+    /// Begins a worker as `worker_begin_with_entry` does, and returns also the loose reference to
+    /// the entry's cell through the entry's handle. Fails with NoSuchHandle past the list's end,
+    /// with WrongKind if the kinds of the cell's type don't fit 32 bits, and with NumbersSpent or
+    /// OutOfMemory.
     pub(crate) fn worker_listed(&mut self, place: usize) -> Result<(WorkerNumber, ArcRef), Error>
         ensures begins { IfOk result (λ b. TakesEntry (pager_core (storage_view S.PagableStorage) self.old) place b.0
             b.1

@@ -215,8 +215,8 @@ impl<E: Env<Node: NodeSet<E>>, S: PagableStorage<E>> Pager<E, S> {
         Ok(load::adopt(tables, load, kind, key, references, lists))
     }
 
-    /// Returns the error of a load that couldn't list the references of a value that it has read,
-    /// since memory ran out: NoSuchHandle if the load isn't open, and otherwise `e`.
+    /// Returns the error of a load's call that ran out of memory when it listed the references of
+    /// a value: NoSuchHandle if the load isn't open, and otherwise `e`.
     fn references_error(&self, me: Owner, load: LoadNumber, e: Error) -> Error
         ensures { e ≡ Error.OutOfMemory → (later : Option Error)
             → Refused (earlier (load_fault (pager_core (storage_view S.PagableStorage) self.now) me load) later)
@@ -328,9 +328,9 @@ impl<E: Env<Node: NodeSet<E>>, S: PagableStorage<E>> Pager<E, S> {
         self.load_end_for(Owner::Caller, alloc, load, value)
     }
 
-    /// Ends a load of an owner's, as `load_end` does for the caller. An access behind a lock ends
-    /// its loads by this call: it can't name this pager's environment, so it asks in its own
-    /// contract that the value was read.
+    /// Ends a load of `me`, as `load_end` does for the caller. An access behind a lock ends its
+    /// loads by this call: it can't name this pager's environment, so it asks in its own contract
+    /// that the value was read.
     ///
     /// # Errors
     ///
