@@ -110,7 +110,7 @@ fn are_refused<S: PagableStorage<Linked>>(alloc: Global, pager: &mut Pager<Linke
 
 /// Says whether a bundle that was paged out is found by its key, and its loose link by the
 /// reference in it; and whether a look leaves the bundle's cell paged out and unpinned.
-fn tests_succeed_in<S: PagableStorage<Linked>>(
+fn tests_pass_in_pager<S: PagableStorage<Linked>>(
     alloc: Global,
     pager: &mut Pager<Linked, S>,
 ) -> Option<bool> {
@@ -132,10 +132,10 @@ fn tests_succeed_in<S: PagableStorage<Linked>>(
     Some(is_kept && is_stored && !is_other_stored && is_found && is_away && is_link)
 }
 
-/// Runs the tests of `tests_succeed_in` in a new pager, and returns whether all succeed.
+/// Runs the tests of `tests_pass_in_pager` in a new pager, and returns whether all succeed.
 pub fn all_pass(alloc: Global) -> bool {
     let mut pager = Pager::new(alloc, InMemoryBlobs::new(alloc), Linked);
-    let answer = tests_succeed_in(alloc, &mut pager);
+    let answer = tests_pass_in_pager(alloc, &mut pager);
     drop_value(pager);
     answer == Some(true)
 }

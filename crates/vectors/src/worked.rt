@@ -116,7 +116,7 @@ where
 
 /// Says whether the test that a row has beside its lines succeeds in a pager without cells. Most
 /// rows have none, and succeed.
-fn row_test_succeeds_in<E: Env<Node = CellNode>, S: PagableStorage<E>>(
+fn row_test_passes_in_pager<E: Env<Node = CellNode>, S: PagableStorage<E>>(
     alloc: Global,
     pager: &mut Pager<E, S>,
     number: u32,
@@ -138,7 +138,7 @@ where
 /// row 14 the pager's storage fails its second call.
 fn row_test_succeeds(alloc: Global, number: u32) -> anyhow::Result<bool> {
     let mut pager = pager_over::<WeighHash>(alloc, if number == 14 { "1" } else { "" });
-    let answer = row_test_succeeds_in(alloc, &mut pager, number);
+    let answer = row_test_passes_in_pager(alloc, &mut pager, number);
     drop_value(pager);
     answer
 }
