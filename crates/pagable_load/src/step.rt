@@ -189,10 +189,7 @@ impl Reading {
     }
 
     // Drops the load, since a step failed, and releases all that it owns.
-    fn drop_failed_load<E: Env<Node: NodeSet<E>>, A: Access<E>>(
-        &mut self,
-        access: &mut A,
-    )
+    fn drop_failed_load<E: Env<Node: NodeSet<E>>, A: Access<E>>(&mut self, access: &mut A)
         ensures acts { Acts A.known_state A.acting access.old access.new
             (λ a s t. Drops (values_at E.Node.NodeSet E.Env E.Hash.KeyHash a.environment) a.me self.old.load s t) }
         ensures none { frames_of self.new.top self.new.below.items ≡ [] }

@@ -12,15 +12,15 @@ returns g c =
     → ReleasesEntry (values_at g.E.Node.NodeSet g.E.Env g.E.Hash.KeyHash a.environment) s a.me place t}
     (rw c.in-Some.is at c.in_ok-entry_key.ensures.some)
     (acts_then c.in_ok-entry.ensures c.release-told.ensures (λ s mid t takes releases found.
-        let (h, has) = found in
-        let same : h ≡ c.in_ok-entry.entry = cc (takes.step.0, has.listed) in
-        record {
-          h = c.in_ok-entry.entry;
-          key = key;
-          has = subst (λ x. EntryHas s.core place x (OptionalDataKey.Some key)) same has;
-          mid = mid;
-          takes = takes;
-          refused = c.release-told.result;
-          releases = releases;
-        }))
+    let (h, has) = found in
+    let same : h ≡ c.in_ok-entry.entry = cc (takes.step.0, has.listed) in
+    record {
+      h = c.in_ok-entry.entry;
+      key = key;
+      has = subst (λ x. EntryHas s.core place x (OptionalDataKey.Some key)) same has;
+      mid = mid;
+      takes = takes;
+      refused = c.release-told.result;
+      releases = releases;
+    }))
     (λ s t has f. f has)
