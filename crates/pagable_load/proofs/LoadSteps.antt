@@ -34,8 +34,8 @@ use Rattle.pagable_value_spec.specs.{
   declared.{error.Error.Error, numbers.{ArcRef.ArcRef, HandleNumber.HandleNumber, Kind.Kind, LoadNumber.LoadNumber}},
 }
 use Rattle.std.proofs.{
-  Common.{Bool, Err, List, None, Ok, Option, Result, Some, ap, arith, false, if◌then◌else◌, inl, inr, length, refl, slice_get, subst, sym, true, ℕ, [], ◌++◌, ◌+◌, ◌<◌},
-  Common.{◌∙◌, ◌∷◌, ◌≡◌, ◌≤◌},
+  Common.{Bool, Err, List, None, Ok, Option, Result, Some, ap, arith, false, if◌then◌else◌, inl, inr, length, refl, slice_get, subst, sym, true, ℕ, [], ◌++◌},
+  Common.{◌+◌, ◌<◌, ◌∙◌, ◌∷◌, ◌≡◌, ◌≤◌},
   lemmas.{Bool.Decides.nat_tests, Grind.common_steps, List.nil_from_length},
 }
 use Rattle.std.specs.{Arc.arc_value, Prelude.IsTrue}
@@ -116,12 +116,12 @@ module _ {A S E : Type 0} {told : A → Option S} {by : A → Acting E} where
   acts_map {o} {n} h f = record { step = grind (arith, nat_tests); acting = h.acting }
 
   -- one thing after another
-  pub acts_on : {o m n : A} {first then after : Acting E → Acting E} {R T Q : Acting E → S → S → Type 0} → ActsThen told by o m first R
-      → ActsThen told by m n then T
-      → ((s mid t : S) → R (by o) s mid → T (first (by o)) mid t → Q (by o) s t) → then (first (by o)) ≡ after (by o) → ActsThen told by o n after Q
-  acts_on {m = m} {n = n} {then = then} {T = T} h k f is = record {
+  pub acts_on : {o m n : A} {first next after : Acting E → Acting E} {R T Q : Acting E → S → S → Type 0} → ActsThen told by o m first R
+      → ActsThen told by m n next T
+      → ((s mid t : S) → R (by o) s mid → T (first (by o)) mid t → Q (by o) s t) → next (first (by o)) ≡ after (by o) → ActsThen told by o n after Q
+  acts_on {m = m} {n = n} {next = next} {T = T} h k f is = record {
     step = told_then f h.step (subst (λ a. IfBothKnown (told m) (told n) (T a)) h.acting k.step);
-    acting = k.acting ∙ ap then h.acting ∙ is;
+    acting = k.acting ∙ ap next h.acting ∙ is;
   }
 
   pub acts_then : {o m n : A} {R T Q : Acting E → S → S → Type 0} → Acts told by o m R → Acts told by m n T
