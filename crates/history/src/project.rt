@@ -110,7 +110,7 @@ impl<E: Env> NodeValue<E> for Folder {
     }
 }
 
-/// A file: how long it is, its text, and the folder in which it stands.
+/// A file: how long it is, its text, and its folder, if it is in one.
 #[derive(Drop)]
 pub struct File {
     pub length: u64,

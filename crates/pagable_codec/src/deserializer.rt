@@ -40,7 +40,7 @@ pub trait PagableDeserializer<E: Env> {
 
     ghost reader: { Self → Self.Reader };
 
-    // The nodes that the deserializer lends by the references that it has read.
+    // The nodes that the deserializer lends for the references that it has read.
     ghost lends: { Self → Reference → Option E.Node };
 
     // The deserializer with another reader.
@@ -48,7 +48,7 @@ pub trait PagableDeserializer<E: Env> {
 
     /// Returns the reader of bytes, which basic types use.
     fn serde(&mut self) -> &mut Self::Reader
-        // what the borrowed reader is in the end, is the deserializer's reader afterwards
+        // the borrowed reader's last state is the deserializer's reader afterwards
         ensures* writes_back { sem 𝓛 (Lends Self.row Self.Reader.row self.entry result (with_reader self.old)) }
         ensures value { result.now ≡ reader self.old };
 
@@ -70,7 +70,7 @@ pub trait PagableDeserializer<E: Env> {
         ensures same_levels { levels self.new ≡ levels self.old };
 
     /// Returns a shared pointer to a reference's value, if the value was read together with the
-    /// reference. Returns None if the deserializer lends no value of type `T` by this reference.
+    /// reference. Returns None if the deserializer lends no value of type `T` for this reference.
     ///
     /// # Errors
     ///
@@ -121,9 +121,8 @@ pub trait PagableDeserializer<E: Env> {
     fn env(&self) -> &E
         ensures { result.now ≡ environment self.now };
 
-    /// Returns the context of the session in which the deserializer reads: the map of values that
-    /// it was made with. No clause says which context, since what a lock holds is no part of a
-    /// value.
+    /// Returns the session's context, with which the deserializer was made: a map of values behind
+    /// a lock. No clause says which context.
     fn session_context(&self) -> &SessionContext<E::CtxKey, E::CtxValue>;
 
     // What isn't read follows from the deserializer's position, and its reader is at the same

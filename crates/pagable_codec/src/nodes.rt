@@ -36,9 +36,8 @@ pub trait NodeSet<E: Env>: Sized {
     // The references in the value, in the order in which they are written.
     ghost refs_of: { Self → List Reference };
 
-    // Says that, wherever the value refers by this reference and holds what it refers to, it holds
-    // the value of this node. By default it says nothing, which fits values that hold only
-    // references.
+    // Says that what the value holds beside this reference, wherever it holds the reference, is the
+    // value of this node. By default it says nothing, which fits values that hold only references.
     ghost beside: { Self → Reference → E.Node → Type 0 } = { λ n r y. Unit {0} };
 
     // All errors of writing a type's values, and all errors of reading them other than faults of
@@ -86,6 +85,7 @@ pub trait NodeSet<E: Env>: Sized {
     ///
     /// - `WrongKind` if there is no such type.
     /// - as the type's `pagable_deserialize`.
+    /// - `OutOfMemory`.
     fn read<D: PagableDeserializer<E>>(
         node_type: u32,
         alloc: Global,

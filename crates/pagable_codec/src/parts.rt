@@ -15,7 +15,7 @@ use crate::env::Env;
 use crate::serializer::PagableSerializer;
 use pagable_flavors::{Error, Reader};
 
-/// Writes the flag that says whether an optional part follows.
+/// Writes a flag.
 ///
 /// # Errors
 ///

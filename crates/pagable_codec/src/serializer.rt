@@ -28,7 +28,7 @@ pub trait PagableSerializer<E: Env> {
 
     /// Returns the writer of bytes, which basic types use.
     fn serde(&mut self) -> &mut PagableVecFlavor
-        // what the borrowed writer holds in the end, are the serializer's bytes afterwards
+        // the borrowed writer's last bytes are the serializer's bytes afterwards
         ensures* writes_back { sem 𝓛 (Lends Self.row writer_row self.entry result (with_bytes self.old)) }
         ensures value { result.now ≡ (out self.old).bytes };
 
@@ -79,8 +79,8 @@ pub trait PagableSerializer<E: Env> {
     fn env(&self) -> &E
         ensures { result.now ≡ environment self.now };
 
-    /// Returns the context of the session in which the serializer writes: the map of values that it
-    /// was made with. No clause says which context, since what a lock holds is no part of a value.
+    /// Returns the session's context, with which the serializer was made: a map of values behind a
+    /// lock. No clause says which context.
     fn session_context(&self) -> &SessionContext<E::CtxKey, E::CtxValue>;
 
     ghost out_of_with: { (s : Self) (w : List ℕ) → out (with_bytes s w) ≡ record (out s) { bytes = w } };

@@ -93,7 +93,7 @@ impl<K: Ord + Drop, V: SessionValue> SessionMap<K, V> {
         }
     }
 
-    /// Returns a clone of the key's value. If the key has none, calls `make` and keeps what it
+    /// Returns a clone of the key's value. If the key has none, first sets it to what `make`
     /// returns.
     ///
     /// # Errors

@@ -15,8 +15,8 @@ mod reading;
 use pagable_value_spec::Error;
 use std::marker::Model;
 
-/// A reader of bytes, which never allocates. Contracts see all its bytes and how many of them it
-/// has read.
+/// A reader of bytes, which allocates only in `read_string`. Contracts see all its bytes and how
+/// many of them it has read.
 ///
 /// A reading call that fails leaves the position between the old one and the end; `pop`,
 /// `try_take_n` and `try_take_n_temp` leave it where it was.
@@ -93,7 +93,7 @@ impl<'de> PagableSlice<'de> {
         Ok(byte)
     }
 
-    /// Takes the next `count` bytes, which stay where they are.
+    /// Reads the next `count` bytes without copying them.
     ///
     /// # Errors
     ///

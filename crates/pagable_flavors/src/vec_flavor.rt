@@ -14,7 +14,7 @@ pub(crate) const LONGEST: usize = 4_294_967_295;
 
 /// A writer, which contracts see as the bytes that it has written.
 ///
-/// A writing call that fails may leave some bytes more at the end; `try_push` and `try_extend`
+/// A writing call that fails may leave some more bytes at the end; `try_push` and `try_extend`
 /// leave none.
 #[derive(Drop)]
 pub struct PagableVecFlavor {

@@ -1,5 +1,4 @@
-//! A writer of values without references to bytes, and a reader of such values from bytes, each in
-//! one call.
+//! Values without references, each written to bytes, or read from bytes, by one call.
 
 ghost use Rattle.pagable_nodes.specs.Bytes.{IsFormOf, ReadsAtStart};
 ghost use Rattle.pagable_value_spec.specs.{Writing.{Refused, nesting}, declared.error.Error.TheVariants.WrongKind};
@@ -37,12 +36,12 @@ pub fn to_bytes<E: Env, T: PagableSerialize<E>>(
     Ok(data.bytes)
 }
 
-/// Reads a value without references from the start of these bytes, and ignores the bytes behind it.
+/// Reads a value without references from the start of these bytes, and ignores the bytes after it.
 ///
 /// # Errors
 ///
 /// - the first fault of the bytes.
-/// - `WrongKind` or `NoMoreKeys` if the value has a reference.
+/// - `NoMoreKeys` if the value has a reference.
 /// - a cause of the type's own.
 #[tactic(auto, using(crate::proofs::Alone::read_alone))]
 pub fn from_bytes<'de, E: Env, T: PagableDeserialize<'de, E>>(

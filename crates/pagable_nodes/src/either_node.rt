@@ -27,7 +27,7 @@ pub enum EitherNode<A, B, C> {
 }
 
 impl<A: Drop, B: Drop, C: Drop> EitherNode<A, B, C> {
-    /// Returns its value of the type number 0, shared; or None if it holds another value.
+    /// Returns the node's value, shared, if it has the type number 0, else None.
     ///
     /// # Errors
     ///
@@ -42,7 +42,7 @@ impl<A: Drop, B: Drop, C: Drop> EitherNode<A, B, C> {
         }
     }
 
-    /// Returns its value of the type number 1, shared; or None if it holds another value.
+    /// Returns the node's value, shared, if it has the type number 1, else None.
     ///
     /// # Errors
     ///
@@ -57,7 +57,7 @@ impl<A: Drop, B: Drop, C: Drop> EitherNode<A, B, C> {
         }
     }
 
-    /// Returns its value of the type number 2, shared; or None if it holds another value.
+    /// Returns the node's value, shared, if it has the type number 2, else None.
     ///
     /// # Errors
     ///

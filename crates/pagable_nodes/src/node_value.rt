@@ -19,7 +19,7 @@ use std::alloc::Global;
 /// `references_of`, `write_with_refs` and `pagable_deserialize`.
 ///
 /// It is a trait of its own because the environment's node is a part of the pager's type: a bound
-/// there may name no lifetime, and no trait that has an impl for a type parameter.
+/// there may name no lifetime, and no trait with a blanket impl.
 pub trait NodeValue<E: Env>: Sized {
     // The shape of the values, the one meaning of each, and all errors of writing and reading them.
     ghost encoding: { Encoding Self };

@@ -26,9 +26,9 @@ pub enum Call<N: Drop, B: Drop> {
     NewShared(N),
     /// Makes a cell of this type with a key and no value, and one loose unpinned handle.
     NewPagedOut(u32, DataKey),
-    /// Makes a second handle of the same mode.
+    /// Makes another handle of the handle's node, in the same mode.
     Clone(HandleNumber),
-    /// Makes a Pinned handle from a loose handle, which becomes pinned too.
+    /// If the value is in memory, makes a Pinned handle from a loose one, which then pins too.
     Pin(HandleNumber),
     /// Makes a loose pinned handle a loose unpinned one. One that is unpinned stays as it is.
     Unpin(HandleNumber),
@@ -48,7 +48,8 @@ pub enum Call<N: Drop, B: Drop> {
     NodeOf(HandleNumber),
     /// Reads the type of the node with this number, if it is live.
     NodeLive(NodeNumber),
-    /// Puts a loose unpinned handle at the end of the pending list of page-out.
+    /// Puts a loose unpinned handle at the end of the pending list; if the storage is closed,
+    /// releases it.
     ScheduleForPaging(HandleNumber),
     /// Counts the entries of the pending list.
     Pending,
@@ -57,7 +58,8 @@ pub enum Call<N: Drop, B: Drop> {
     TakePending(u64),
     /// Makes a handle of the node that the cache has under a kind and a key.
     CacheGet(Kind, DataKey),
-    /// Caches a handle's node, or exchanges the handle for one of the node that is cached already.
+    /// Unless the storage is closed, caches a handle's node, or exchanges the handle for one of the
+    /// node that is cached already.
     OnArcDeserialized(Kind, DataKey, HandleNumber),
     /// Empties the cache.
     CacheClear,
@@ -67,26 +69,27 @@ pub enum Call<N: Drop, B: Drop> {
     Store(B),
     /// Makes the storage write what it has held back.
     Flush,
-    /// Begins a load of a loose handle's cell.
+    /// Begins a load of a loose handle's cell, unless the value is in memory.
     LoadBegin(HandleNumber),
     /// Begins a load of a key.
     LoadKey(DataKey),
     /// Fetches a blob for a load, or makes a handle of a node that the cache has.
     LoadFetch(LoadNumber, FetchTarget),
-    /// Makes a node of a value that the load has read, under this kind and key.
+    /// Makes a node of a value that the load has read, under this kind and key; or, if the cache
+    /// has one, drops the value and makes a handle of that.
     LoadAdopt(LoadNumber, Kind, DataKey, N),
     /// Makes a handle of the cell that the cache has under this kind and key, or of a new cell
     /// without a value.
     LoadLazy(LoadNumber, Kind, DataKey),
-    /// Ends a load of a cell: gives the cell its value and pins it.
+    /// Ends a load of a cell: gives the cell its value, if it has none, and pins the cell.
     LoadEnd(LoadNumber, N),
-    /// Ends a load of a key: hands these handles of the load to the caller.
+    /// Ends a load of a key: hands these of its handles to the caller, and releases the others.
     LoadTake(LoadNumber, Vec<HandleNumber>),
     /// Drops a load.
     LoadDrop(LoadNumber),
     /// Reserves room for this many handles and list entries.
     Reserve(u64),
-    /// Counts the handles and list entries that can be added without an allocation.
+    /// Counts how many handles, and as many list entries, can be added without an allocation.
     Room,
     /// Closes the storage.
     Close,
@@ -106,7 +109,7 @@ pub enum Found<B: Drop> {
 pub enum Reply<N: Drop, B: Drop> {
     /// A call that makes a node of a value returns the new handle, or the error and the value.
     Made(Result<HandleNumber, (Error, N)>),
-    /// Any other call that returns a handle returns the handle, or the error.
+    /// `new_paged_out`, `clone`, `into_pagable` and `load_lazy` return the handle, or the error.
     Handle(Result<HandleNumber, Error>),
     /// `pin` returns the new handle, or the key that has to be loaded first.
     Pin(Result<Pinning, Error>),
@@ -122,7 +125,7 @@ pub enum Reply<N: Drop, B: Drop> {
     Node(Result<NodeNumber, Error>),
     /// `node_live` returns the node's type, or None if no such node is live.
     NodeType(Option<u32>),
-    /// `pending` returns how many entries the list has, `room` how many have room beside them.
+    /// `pending` returns how many entries the list has, `room` how many more fit.
     Length(u64),
     /// `take_pending` returns the entry's handle, or None if the list has no such entry.
     TakenPending(Option<HandleNumber>),
@@ -136,7 +139,7 @@ pub enum Reply<N: Drop, B: Drop> {
     Begun(Result<Beginning, Error>),
     /// `load_fetch` returns a handle of the cached node, or the blob.
     LoadFound(Result<Found<B>, Error>),
-    /// `load_end` returns the new Pinned handle, or the error, with the value if the load stays
-    /// open.
+    /// `load_end` returns the new Pinned handle, or the error, with the value unless the call
+    /// closed the load.
     LoadEnded(Result<HandleNumber, (Error, Option<N>)>),
 }

@@ -14,7 +14,7 @@ pub struct TableNumber(pub u64);
 pub enum Event<N: Drop, B: Drop, W: Drop> {
     /// One call of the pager.
     Call(Call<N, B>),
-    /// Begins a load of a loose handle's cell.
+    /// Begins a load of a loose handle's cell, unless the value is in memory.
     LoadStart(HandleNumber),
     /// Begins a load of a key, to be read as a value of this type.
     LoadKey(DataKey, u32),
@@ -85,7 +85,7 @@ pub enum Action<W: Drop> {
     /// Stores a blob with the keys of its references: the blob of an identity, or at the end the
     /// item's (None).
     Store(Option<Identity>, Result<DataKey, Error>),
-    /// Sets the key of the node.
+    /// Sets the key of the node, if the kind is loose.
     SetKey(Identity, Result<(), Error>),
     /// Publishes key and height for the other workers of the table.
     Publish(Identity, DataKey, u64),

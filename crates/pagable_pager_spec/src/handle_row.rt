@@ -25,7 +25,7 @@ pub struct HandleRow {
     pub number: HandleNumber,
     /// The handle's node.
     pub node: NodeNumber,
-    /// Whether the handle is loose, and whether it pins.
+    /// How the handle holds its node.
     pub mode: Mode,
     /// Who owns the handle.
     pub owner: Owner,

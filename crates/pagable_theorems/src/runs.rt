@@ -21,8 +21,8 @@ ghost use Rattle.pagable_theorems.specs.{
   Witness.TwoLevelsMeetTheHeadline,
 };
 
-/// Stands for any type of values, with views of its blobs B and of what is written of a value W. A
-/// law that is stated for `SeenAs` holds for every such type.
+/// Stands for any type of values, with views of their blobs (B) and of what is written of them (W).
+/// A law that is stated for `SeenAs` holds for every such type.
 pub trait SeenAs<B, W>: Sized {
     // The values, and their blobs and writings as contracts see them.
     ghost seen: { Seen Self B W };
@@ -39,8 +39,9 @@ pub fn release_laws()
 /// States two laws, of chains of events and of new machines.
 ///
 /// - A chain can be continued by another.
-/// - A new machine on which nobody works satisfies, if its values are lawful, the premises of the
-///   headline: it satisfies the invariant, stands for any trees, and has no value in memory.
+/// - A new machine on which nobody works satisfies, if its values are lawful, what the headline
+///   asks of the start: it satisfies the invariant, stands for any trees, and has no value in
+///   memory.
 pub fn chain_laws<N: SeenAs<B, W>, B, W, E>()
     ensures chains_join { ChainsJoin E N.seen }
     ensures new_machine_is_whole { NewMachineIsWhole E N.seen.values }
@@ -52,9 +53,10 @@ pub fn two_levels_meet_the_headline()
     ensures { TwoLevelsMeetTheHeadline }
 {}
 
-/// States the headline, the main theorem, of every chain of events that begins at a machine that
-/// satisfies its invariant and on which nobody works yet: each pin gives the tree that its handle
-/// was made with, and each page-out stores what it met and returns its key (`Headline`).
+/// States the headline, the main theorem, of every chain of events from a machine that satisfies
+/// its invariant and on which nobody works yet. Given its premises, each pin that succeeds gives
+/// the tree of its handle, and each page-out that succeeds stores what it met and returns its key
+/// (`Headline`).
 pub fn headline<N: SeenAs<B, W>, B, W, E>()
     ensures { HeadlineLaw E N.seen }
 {}
@@ -63,13 +65,14 @@ pub fn headline<N: SeenAs<B, W>, B, W, E>()
 ///
 /// - No worker returns a key if a path that is too long, or a value without a form (one that can't
 ///   be encoded), is below its task.
-/// - Such a worker fails with TooDeep, if none of its steps fails otherwise.
+/// - Such a worker fails with TooDeep, if none of its steps fails otherwise or meets a failed
+///   worker.
 /// - A claim fails as too deep only if the worker's task leads down a path that is too long, or if
 ///   another worker has the identity and waits for this one.
 /// - A load fails as too deep only if reading its key reaches a blob that is too deep, or one that
 ///   enters a level too many.
-/// - For a key under which a tree is stored, reading the key reaches such a blob exactly if the
-///   tree's longest path is too long.
+/// - For a key under which a tree of readable types is stored, reading the key reaches such a blob
+///   exactly if the tree's longest path is too long.
 pub fn depth_laws<N: SeenAs<B, W>, B, W, E>()
     ensures keys_are_shallow { HoldsAlong E N.seen (KeyIsShallow N.seen.values) }
     ensures workers_report_depth { HoldsAlong E N.seen (WorkerReportsDepth N.seen) }
@@ -80,14 +83,14 @@ pub fn depth_laws<N: SeenAs<B, W>, B, W, E>()
 
 /// States the laws of loads and of what they get.
 ///
-/// - A load of a cell whose key a page-out has set fails only if numbers or memory run out, if the
-///   storage or the type's own reader fails, or by a handle: never by a blob that it reads, by a key
-///   or by a path.
-/// - If each load begins in the chain and no load is interrupted, such a load doesn't fail by a
-///   handle either.
+/// - A caller's load of a cell whose key a page-out has set fails only if numbers or memory run
+///   out, if the storage or the type's own reader fails, or by a handle: never by a blob that it
+///   reads, by a key or by a path.
+/// - If each load begins in the chain and no load and no worker is interrupted, such a load doesn't
+///   fail by a handle either.
 /// - If two references are got through one cache that only loads fill, they have one identity only
-///   if their kinds and keys are the same; and then they always have, while a handle holds the
-///   node.
+///   if their kinds and keys are the same; and then they have one, if a handle of that kind held
+///   the node all the time between.
 /// - The cache of a new pager is such a cache, and stays one while no call clears it, puts a
 ///   caller's reference into it or closes the storage.
 /// - The value that a load of a cell pins stands for the tree of the cell's node.
@@ -104,8 +107,8 @@ pub fn load_laws<N: SeenAs<B, W>, B, W, E>()
 
 /// States the laws of errors, by their numbers.
 ///
-/// - A pin, or the begin of a load, fails only with 18 to 22: the handle isn't live, is another's
-///   or has another mode, or numbers or memory have run out.
+/// - The call `pin`, or the begin of a load, fails only with 18 to 22: the handle isn't live, is
+///   another's or has another mode, or numbers or memory have run out.
 /// - A load, the caller's or a worker's, fails only with 1 to 13, 15 to 23 or 26.
 /// - A call, or a step of a load or a worker, fails with 23 only if the storage's count of failures
 ///   rose meanwhile or was at its greatest, and with 16 only if the storage had no blob under the
@@ -119,12 +122,12 @@ pub fn refusal_laws<N: SeenAs<B, W>, B, W>()
 
 /// States the laws of what values hold beside the references that are loaded with them.
 ///
-/// - After any step each value in memory holds the values of its references' nodes, if that held
-///   before and holds for each value that the step brings into memory.
+/// - After any step each value in memory holds the values of its references' nodes, if each did so
+///   before, and each value that the step brings into memory does.
 /// - A value that holds what the handles of its references pin, as a decoded one does, holds the
 ///   values of their nodes, if its references have no fault.
-/// - After any calls, pins, reads and page-outs each value in memory still holds them, if each
-///   value that a call of the caller brings does. Values that loads bring do.
+/// - After any calls, pins, reads and page-outs each value in memory still holds these values, if
+///   each value that a call of the caller brings does. Those that loads bring do.
 /// - The same holds along any chain of a machine's events, however the steps are interleaved.
 /// - The value that a read of a key returns holds what the handles of its references pin. The
 ///   caller owns these handles.
@@ -139,9 +142,9 @@ pub fn held_value_laws<N: SeenAs<B, W>, B, W, E>()
 /// States the laws of page-out by one call, on a pager that nobody else uses, if keys, types and
 /// values are as the headline asks.
 ///
-/// - An item that is paged out on a new table leaves all that it met stored under published keys,
-///   with the keys of its cells set, and the call returns the item's key.
-/// - So does each list entry that a page-out of the list pages out, even if a later one fails.
+/// - The page-out of an item on a new table, if it succeeds, leaves all that it met stored under
+///   published keys, sets the keys of the cells that it met, and returns the item's key.
+/// - So does each page-out of a list entry, even if that of a later entry fails.
 pub fn page_out_laws<N: SeenAs<B, W>, B, W, E>()
     ensures items_are_paged_out { ItemLaw E N.seen }
     ensures entries_are_paged_out { ListLaw E N.seen }
@@ -151,8 +154,8 @@ pub fn page_out_laws<N: SeenAs<B, W>, B, W, E>()
 /// call, in any order.
 ///
 /// - Each node keeps its tree, each pin gives it, and a value that is read under a key stands for
-///   the key's tree. If a page-out returns a key, all that it met is stored, each node under a key
-///   of its own. The law asks that each item is paged out on a new table.
+///   the key's tree. If a page-out returns a key, this is the key of the item or cell, and all that
+///   it met is stored. The law asks that each item is paged out on a new table.
 /// - So a value that is pinned again by the same handle, after any of these, stands for the same
 ///   tree.
 pub fn caller_laws<N: SeenAs<B, W>, B, W, E>()

@@ -12,7 +12,7 @@ ghost use Rattle.std.specs.Prelude.{ℕ};
 /// States the laws of forms (the encodings of meanings) and of the keys of maps.
 ///
 /// - A form of a shape that is readable throughout is read back, whatever follows it.
-/// - No form of one meaning is a prefix of another's.
+/// - No form of one meaning in such a shape is a prefix of another's.
 /// - A meaning of a canonical shape has at most one form.
 /// - A form of a value that holds references of one sort is a form of the same value with
 ///   references of another sort.
@@ -34,9 +34,9 @@ pub fn form_laws<A, B>()
 
 /// States the laws of reading, whatever stands for references.
 ///
-/// - What is read from a front of the input is read from the whole, whatever follows.
+/// - What is read from a prefix of the input is read from the whole, whatever follows.
 /// - The part that was used, alone, reads as the same value and leaves nothing.
-/// - A fault stays the first fault whatever follows, unless the fault is that the input ends.
+/// - A fault stays the first fault whatever follows, unless it is that bytes or references end.
 /// - Reading gives the same whatever stands for references.
 /// - Replacing what stands for references before reading is the same as replacing it in the
 ///   look-up.

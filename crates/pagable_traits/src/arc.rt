@@ -23,9 +23,9 @@ use std::alloc::Global;
 use std::ops::Deref;
 use std::sync::{Arc as Shared, Wait};
 
-/// A reference that holds its shared value: reading the value takes no lock. If values of type `T`
-/// have the number `t`, its kind is `3t + 2` if it pins, else `3t`. Two references are equal if
-/// their values are, whatever their nodes.
+/// A reference that holds its shared value: reading the value takes no lock. If `t` is the number
+/// of the type `T`, the reference's kind is `3t + 2` for a pin (`PINS`), else `3t`. Two references
+/// are equal if their values are, whatever their nodes.
 #[derive(Drop)]
 #[derive_where(PartialEq, Eq; T)]
 pub struct HoldingArc<T, const PINS: bool> {
@@ -40,7 +40,7 @@ pub struct HoldingArc<T, const PINS: bool> {
 /// of its own.
 pub type Arc<T> = HoldingArc<T, false>;
 
-/// A pin: the value stays in memory as long as its cell is pinned; after that it may be paged out.
+/// A pin: the value stays in memory as long as its cell is pinned; after that it may leave memory.
 pub type PinnedPagableArc<T> = HoldingArc<T, true>;
 
 /// Returns the kind of the references that hold values of type `T`: pins if `pins`, else shared
@@ -69,8 +69,8 @@ impl<T, const PINS: bool> HoldingArc<T, PINS> {
         }
     }
 
-    /// Makes a reference that holds this value. If the reference is of another kind, returns the
-    /// value as the error.
+    /// Returns `reference` as a typed one that holds `value`, or `value` as the error if
+    /// `reference` is of another kind.
     pub fn from_reference<E: Env>(
         reference: ArcRef,
         value: Shared<T>,
@@ -200,7 +200,7 @@ impl<T, const PINS: bool> HoldingArc<T, PINS> {
         storage.count(rt, self.handle)
     }
 
-    /// Returns the key of the reference's cell, if the cell has one.
+    /// Returns the key of the reference's node, if it is a cell that has one.
     ///
     /// # Errors
     ///
@@ -213,7 +213,7 @@ impl<T, const PINS: bool> HoldingArc<T, PINS> {
         storage.key(rt, self.handle)
     }
 
-    /// Returns whether the value of the reference's cell is only in the storage.
+    /// Returns whether the value of the reference's node isn't in memory.
     ///
     /// # Errors
     ///
@@ -237,7 +237,7 @@ fn first_handle(is_pin: bool) -> FirstHandle {
 }
 
 impl<T> HoldingArc<T, true> {
-    /// Makes a pin of its node, its handle and the value that it holds.
+    /// Makes a pin from its node, its handle and its value.
     pub(crate) fn from_handle(
         node: NodeNumber,
         handle: HandleNumber,
@@ -360,7 +360,7 @@ impl<E: Env, T: OfNode<E>, const PINS: bool> PagableSerialize<E> for HoldingArc<
     }
 }
 
-// Returns the error of reading a reference by which the deserializer lends no value of its type.
+// Returns the error for a reference whose value the deserializer doesn't lend.
 fn not_lent_error() -> Error
     ensures { lending_causes result }
 {
@@ -371,14 +371,14 @@ impl<'de, E: Env, T: OfNode<E> + Drop, const PINS: bool> PagableDeserialize<'de,
     for HoldingArc<T, PINS> {
     ghost read_causes = { reads_lending };
 
-    /// Reads the next reference, of this sort, and takes the value that the deserializer lends by
-    /// it.
+    /// Reads the next reference, of this sort, which then holds the value that the deserializer
+    /// lends for it.
     ///
     /// # Errors
     ///
     /// - an error of the reference itself.
     /// - `OutOfMemory`.
-    /// - `Custom` if the deserializer lends no value of the type by the reference.
+    /// - `Custom` if the deserializer lends no value of the type for the reference.
     #[tactic(auto, using(crate::proofs::Lent::taken_holds))]
     fn pagable_deserialize<D: PagableDeserializer<E>>(
         alloc: Global,

@@ -39,11 +39,11 @@ pub trait ArcErase<E: Env>: Sized {
 
     ghost own_reference: { Self → Reference };
 
-    // Says whether these references are loose: they refer to cells, which have keys of their own.
+    // Says whether these references are loose.
     ghost is_paged: { Bool };
 
-    // Says that the reference refers to this value, if it is known to which node each handle
-    // refers.
+    // Says that the reference refers to this value. For a loose one it says nothing if the nodes of
+    // handles aren't known.
     ghost refers_to: { Self → Option (ℕ → Option E.Node) → Self.Value → Type 0 };
 
     /// Returns the kind of these references.
@@ -119,8 +119,8 @@ pub trait ArcErase<E: Env>: Sized {
     ) -> Result<(), Error>
         ensures { SetsKey is_paged (S.set_key_answers storage.now (own_reference self.now).handle key) result };
 
-    /// Returns whether the value has still to be written to the storage: true only for a loose
-    /// reference whose cell has no key.
+    /// Returns whether this is a loose reference whose cell has no key, so that the value has still
+    /// to be written to the storage.
     ///
     /// # Errors
     ///
@@ -375,7 +375,7 @@ impl<E: Env, T: OfNode<E>, const PINS: bool> ArcErase<E> for HoldingArc<T, PINS>
     }
 }
 
-// Reads a node of the type, and takes its value.
+// Reads a node of the type, and returns its value.
 fn read_node_value<E: Env<Node: NodeSet<E>>, T: OfNode<E> + Drop, D: PagableDeserializer<E>>(
     alloc: Global,
     deserializer: &mut D,

@@ -1,5 +1,5 @@
-//! Types that are encoded as another type: borrowed and boxed values as the value itself, longer
-//! tuples as pairs.
+//! Types that are encoded as another type, such as boxes (as the boxed value) and longer tuples (as
+//! pairs).
 
 ghost use Rattle.pagable_traits.specs.Meanings.{seen_by};
 ghost use Rattle.std.specs.Prelude.{◌≡◌};
@@ -14,7 +14,7 @@ use std::alloc::Global;
 pub trait EncodedAs {
     type Other;
 
-    // Sees a value as the value of the other type that is written in its place.
+    // The value of the other type that is written in a value's place.
     ghost as_other: { Self → Self.Other };
 }
 

@@ -35,8 +35,8 @@ use std::collections::{BTreeMap, BTreeSet};
 use std::marker::PhantomData;
 
 /// A type whose values may be keys of a map or items of a set: two values are equal exactly if they
-/// mean the same, and no value refers to anything. By the law of `Hash` equal values have equal
-/// hashes. So a map has one form, whichever of equal values it was made of.
+/// mean the same, and no value refers to anything. So a map means the same, whichever of equal keys
+/// it holds.
 pub trait PagableKey<E: Env>: OneMeaning<E> + Eq {
     ghost key: { IsKey Self.means Self.eq E.parts Self.shape };
 }
@@ -424,7 +424,7 @@ impl<E: Env, H: PagableKey<E>, T: PagableKey<E>> PagableKey<E> for Thin<H, T> {
         (key_seen (λ v. v.items) (list_key (λ e. refl) T.key))) };
 }
 
-/// A header decides before the list behind it.
+/// Values are ordered by header, then by list.
 impl<E: Env, H: PagableOrdKey<E>, T: PagableOrdKey<E>> PagableOrdKey<E> for Thin<H, T> {
     ghost order = { pair_order H.order (list_order T.order) };
 

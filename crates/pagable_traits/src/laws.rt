@@ -42,10 +42,10 @@ pub fn hash_map_is_carried<
         → ⟦<HashMap<K, V> as Carried<E>>⟧.means.of x m → ⟦<HashMap<K, V> as Carried<E>>⟧.means.of y m }
 {}
 
-/// Proves of each carried type that it is read throughout if the types of its parts are: a reader
-/// reads back each form of its values, and of all parts of them that are in one blob, whatever
-/// bytes follow the form (`forms_are_read_again` of `pagable`). `O` stands for a type that is
-/// encoded as `T`, such as a box, a borrow or a tuple.
+/// Proves of each type named here that it is read throughout if the types of its parts are: a
+/// reader reads back each form of its values, and of all parts of them that are in one blob,
+/// whatever bytes follow the form (`forms_are_read_again` of `pagable`). `O` stands for a type that
+/// is encoded as `T`, such as a box, a borrow or a longer tuple.
 pub fn carried_types_are_read<
     E: Env,
     T: Carried<E>,

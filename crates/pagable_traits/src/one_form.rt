@@ -1,5 +1,4 @@
-//! Canonical types: a value has one meaning, and a meaning one form, so equal values have equal
-//! keys.
+//! Canonical types: a value has one meaning, and a meaning at most one form.
 
 ghost use Rattle.pagable_value_spec.specs.{
   OneForm.{HasOneFormThroughout, basic_has_one_form, over_has_one_form, run_has_one_form, two_has_one_form},
@@ -20,8 +19,8 @@ use std::hash::Hash;
 use std::time::Duration;
 
 /// A type whose values each have one meaning, and whose meanings each have at most one form, in all
-/// parts of a value that are in one blob. So equal values are written alike and have one key. A
-/// type with a hash map in it isn't canonical, since the map's entries may be written in any order.
+/// parts of a value that are in one blob. So values that mean the same are written alike. No type
+/// with a hash map in it is canonical: the map's entries may be written in any order.
 pub trait Canonical<E: Env>: OneMeaning<E> {
     ghost one_form: { (e : E) → HasOneFormThroughout (E.parts e) (Self.shape e) };
 }

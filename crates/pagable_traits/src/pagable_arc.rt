@@ -41,7 +41,7 @@ pub fn loose_kind_of<E: Env, T: OfNode<E>>() -> Kind
 }
 
 impl<T> PagableArc<T> {
-    /// Returns the loose reference, or None if the reference is of another kind.
+    /// Returns `reference` as a loose one, or None if it is of another kind.
     pub fn from_reference<E: Env>(reference: ArcRef) -> Option<PagableArc<T>>
     where
         T: OfNode<E>,
@@ -71,7 +71,7 @@ impl<T> PagableArc<T> {
         }
     }
 
-    /// Makes a loose reference of its node and its handle.
+    /// Makes a loose reference from its node and its handle.
     pub(crate) fn from_handle(node: NodeNumber, handle: HandleNumber) -> PagableArc<T>
         ensures { (result.node ≡ node) × (result.handle ≡ handle) }
     {
@@ -114,8 +114,8 @@ impl<T> PagableArc<T> {
     }
 
     /// Makes a cell whose value is stored under this key and has the type `T`, and returns the
-    /// cell's first reference, which pins nothing. It reads nothing: the caller must know that the
-    /// blob of the key is read as a value of this type.
+    /// cell's first reference, which pins nothing. The call reads nothing: the caller must know
+    /// that the blob of the key is read as a value of this type.
     ///
     /// # Errors
     ///
@@ -193,8 +193,8 @@ impl<T> PagableArc<T> {
         Err(refused)
     }
 
-    /// Returns a future that pins the cell of this reference, which the caller must own. Its first
-    /// poll begins the pin.
+    /// Returns a future that pins the cell of this reference. The caller must own the reference.
+    /// The first poll begins the pin.
     ///
     /// # Errors
     ///
@@ -207,8 +207,8 @@ impl<T> PagableArc<T> {
         Ok(PinFuture::new(self.node, pin))
     }
 
-    /// Pins the cell of a reference that is in a value, which owns its handle: clones the
-    /// reference, pins by the clone, and releases the clone.
+    /// Pins the cell of a reference whose handle a value owns: clones the reference, pins by the
+    /// clone, and releases the clone.
     ///
     /// # Errors
     ///
@@ -232,7 +232,7 @@ impl<T> PagableArc<T> {
     }
 
     /// Unpins the reference: it stops pinning its cell. If it was the cell's last pin and the cell
-    /// has no key, the storage lists the cell for page-out.
+    /// has no key, the storage, if open, lists the cell for page-out.
     ///
     /// # Errors
     ///
@@ -241,7 +241,7 @@ impl<T> PagableArc<T> {
         storage.unpin(rt, self.handle)
     }
 
-    /// Sets the key of the reference's cell, and fails, as `Storage::set_data_key` does.
+    /// Sets the key of the reference's cell, with the errors of `Storage::set_data_key`.
     pub(crate) fn set_key<E: Env, R: Wait, S: Storage<E>>(
         &self,
         rt: &R,
@@ -297,7 +297,7 @@ impl<T> PagableArc<T> {
         storage.key(rt, self.handle)
     }
 
-    /// Returns whether the value of the reference's cell is only in the storage.
+    /// Returns whether the value of the reference's cell isn't in memory.
     ///
     /// # Errors
     ///

@@ -17,27 +17,28 @@ use std::sync::Wait;
 pub enum PinStage {
     /// No poll has begun the pin.
     Begin,
-    /// The pin's load is open; the next poll polls the fetch of the root's blob.
+    /// The pin's load is open; the next poll polls the fetch of the cell's blob.
     Fetch,
     /// The pin has returned a result, or was cancelled.
     Ended,
 }
 
-/// A polled pin of a loose handle. A storage has one such type (`Storage::Pin`). If it is dropped
-/// before it has ended, its load stays open, with all that the load owns.
+/// A polled pin of a loose handle. A storage has one such type (`Storage::Pin`). If a pin is
+/// dropped while it is pending, its load stays open, with all that the load owns.
 pub trait Polls<E: Env>: Sized {
     ghost use Rattle.pagable_traits.specs.declared.pin_future.PinStage.{PinStage};
 
     ghost stage: { Self → PinStage };
 
-    /// Begins the pin at the first poll, polls the fetch of its root's blob, and once that is ready
-    /// reads the value and pins the cell. Nested blobs are fetched by blocking calls. It is pending
-    /// only if the storage's fetch is, which has left a waker in `cx`.
+    /// Begins the pin at the first poll. If the value isn't in memory, polls the fetch of the
+    /// cell's blob and, once that is ready, reads the value. Then pins the cell. Nested blobs are
+    /// fetched by blocking calls. A poll is pending only if the fetch is, which has left a waker in
+    /// `cx`.
     ///
     /// # Errors
     ///
     /// - as `Storage::pin`: handles and counts are as they were.
-    /// - `NoSuchHandle` if it ended before.
+    /// - `NoSuchHandle` if the pin ended before.
     fn poll<R: Wait>(
         &mut self,
         rt: &R,
@@ -59,8 +60,8 @@ pub trait Polls<E: Env>: Sized {
         ensures { stage self.new ≡ PinStage.Ended };
 }
 
-/// A polled pin of a `PagableArc`. If it is dropped without `cancel`, its load stays open, with all
-/// that the load owns.
+/// A polled pin of a `PagableArc`. If it is dropped while it is pending, its load stays open, with
+/// all that the load owns.
 #[derive(Drop)]
 pub struct PinFuture<T, P> {
     node: NodeNumber,

@@ -21,7 +21,7 @@ use pagable_codec::{
 use pagable_flavors::Error;
 use std::alloc::Global;
 
-/// Writes a reference: appends it to the list, and writes no byte.
+/// Writes a reference: appends it to the list of references, and writes no byte.
 ///
 /// # Errors
 ///
@@ -38,7 +38,7 @@ pub fn write_reference<E: Env, S: PagableSerializer<E>>(
     serializer.serialize_arc(reference)
 }
 
-/// Reads the next reference, of this kind. It takes the next key, also if the reference fails.
+/// Reads the next reference, as one of this kind. The key counts as read even if this fails.
 ///
 /// # Errors
 ///
@@ -60,8 +60,8 @@ pub fn read_reference<E: Env, D: PagableDeserializer<E>>(
     Ok(reference)
 }
 
-/// A reference of the kind `KIND`: a type holds it if it knows the kind by number, such as a type
-/// that refers to its own type.
+/// A reference of the kind `KIND`, for a type that can name the kind only by its number, such as
+/// one that refers to its own type.
 #[derive(Clone, Copy, Debug, PartialEq, Eq)]
 pub struct RawRef<const KIND: u32> {
     node: NodeNumber,
@@ -69,7 +69,7 @@ pub struct RawRef<const KIND: u32> {
 }
 
 impl<const KIND: u32> RawRef<KIND> {
-    /// Returns the raw reference, or None if the reference is of another kind.
+    /// Returns `reference` as a raw one, or None if it is of another kind.
     pub fn from_reference(reference: ArcRef) -> Option<RawRef<KIND>>
         ensures some { IfSome result (λ a. raw_reference KIND a ≡ reference) }
         ensures none { IfNone result (reference.kind.0 ≢ KIND) }

@@ -19,8 +19,8 @@ use pagable_codec::{ArcRef, Env, OfNode};
 use pagable_flavors::Error;
 use std::alloc::Global;
 
-/// A type whose values list the references in them, in the order of writing. A type with a hash map
-/// in it doesn't implement the trait, since the map's entries may be written in any order.
+/// A type whose values list the references in them, in the order of writing. Hash maps don't
+/// implement the trait, since their entries may be written in any order.
 pub trait Refers<E: Env>: OneMeaning<E> {
     /// Appends the references in the value, in the order in which they are written.
     ///

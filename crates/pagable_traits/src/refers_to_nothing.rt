@@ -1,5 +1,4 @@
-//! Impls for values that refer to nothing: numbers, flags, texts, durations, patterns and static
-//! values.
+//! Impls for values that refer to nothing, such as numbers, texts, patterns and static values.
 #![tactic(auto, using(crate::proofs::Listed::parts), unfolding(pagable_value_spec::specs::References::references_in))]
 
 ghost use Rattle.pagable_traits.specs.{

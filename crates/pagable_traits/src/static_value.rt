@@ -1,6 +1,6 @@
 //! Static values: a registry of the environment holds them, and each is written as its index there.
-//! `T` is the reference to what is static, such as `&'static str`: nothing is proved yet for a
-//! `&'static T` with a type parameter `T`.
+//! `T` is itself the reference to what is static, such as `&'static str`: nothing is proved yet for
+//! a `&'static X` with a type parameter `X`.
 
 ghost use Rattle.pagable_traits.specs.{
   Clauses.{Reads, Wrote, value as form},
@@ -262,8 +262,7 @@ impl<E: Env, T: HasStaticValueRegistry<E>> OneMeaning<E> for StaticValue<T> {
     ghost single = { λ v m is. is };
 }
 
-/// Two static values are the same key if their values are equal, whatever their indices, as for
-/// equality and hash.
+/// Two static values are the same key if their values are equal, whatever their indices.
 impl<E: Env, T: HasStaticValueRegistry<E>> PagableKey<E> for StaticValue<T> {
     ghost key = { record {
       same = λ x y. static_is_same T.eq T.plain_meaning T.same_meaning T.same_value x.0.value y.0.value;

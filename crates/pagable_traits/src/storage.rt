@@ -1,5 +1,5 @@
-//! The calls by which typed references make, pin and release their handles: of a pager behind a
-//! lock, or of a borrowed one.
+//! The calls by which typed references make, pin and release their handles. A storage is a pager
+//! behind a lock, or a borrowed pager.
 
 ghost use Rattle.pagable_traits.specs.declared.pin_future.PinStage.{PinStage};
 ghost use Rattle.pagable_value_spec.specs.declared.{
@@ -16,7 +16,7 @@ use pagable_value_spec::{DataKey, OptionalDataKey};
 use std::alloc::Global;
 use std::sync::{Arc, Wait};
 
-/// The mode in which a new node's first handle holds it.
+/// The mode of a new node's first handle.
 #[derive(Clone, Copy, Debug, PartialEq)]
 pub enum FirstHandle {
     /// A Loose handle, which pins.
@@ -54,7 +54,7 @@ pub trait Storage<E: Env> {
 
     ghost new_cells: { Self → ℕ → ℕ → Node × Handle → Type 0 } = { λ s t k r. Unit {0} };
 
-    /// Inserts a node with its first handle. The caller owns that handle; it must own the handles
+    /// Inserts a node with its first handle. The caller owns that handle, and must own the handles
     /// in the value.
     ///
     /// # Errors
@@ -74,8 +74,8 @@ pub trait Storage<E: Env> {
         ensures value { IfOk result (λ r. IfSome (nodes_by_handle self.now) (λ at. at r.1.0 ≡ Some node)) };
 
     /// Makes a cell that has a key and no value, with an unpinned loose handle that the caller
-    /// owns. It reads nothing: the caller must know that the blob of the key is read as a value of
-    /// this type.
+    /// owns. The call reads nothing: the caller must know that the blob of the key is read as a
+    /// value of this type.
     ///
     /// # Errors
     ///
@@ -158,7 +158,7 @@ pub trait Storage<E: Env> {
     /// - `NoSuchHandle`.
     fn count<R: Wait>(&self, rt: &R, handle: HandleNumber) -> Result<u64, Error>;
 
-    /// Returns the key of a handle's cell, if the cell has one.
+    /// Returns the key of a handle's node, if it is a cell that has one.
     ///
     /// # Errors
     ///
@@ -166,9 +166,9 @@ pub trait Storage<E: Env> {
     fn key<R: Wait>(&self, rt: &R, handle: HandleNumber) -> Result<OptionalDataKey, Error>
         ensures answers { key_answers self.now handle result };
 
-    /// Sets the key of a handle's cell; if nothing pins the cell, its value is dropped. For a
-    /// Pinned or a Shared handle it changes nothing. The caller must know that the blob of the key
-    /// is read as the cell's value.
+    /// Sets the key of a loose handle's cell; if nothing pins the cell, its value is dropped. For a
+    /// Pinned or a Shared handle the call changes nothing. The caller must know that the blob of
+    /// the key is read as the cell's value.
     ///
     /// # Errors
     ///
@@ -178,7 +178,7 @@ pub trait Storage<E: Env> {
     fn set_data_key<R: Wait>(&self, rt: &R, handle: HandleNumber, key: DataKey) -> Result<(), Error>
         ensures answers { set_key_answers self.now handle key result };
 
-    /// Returns whether the value of a handle's cell is only in the storage.
+    /// Returns whether the value of a handle's node isn't in memory.
     ///
     /// # Errors
     ///

@@ -20,16 +20,15 @@ use pagable_codec::{Env, NodeSet, OfNode, PagableDeserializer, PagableSerializer
 use pagable_flavors::Error;
 use std::alloc::Global;
 
-/// A type whose values have a shape in an environment, by which they are written, and a meaning.
+/// A type whose values have a meaning and, in an environment, a shape by which they are written.
 pub trait Carried<E: Env> {
     ghost shape: { E → Shape };
 
     // What a value may mean: one meaning, or several if no contract knows its content.
     ghost means: { Meanings Self };
 
-    // Says that, wherever the value refers by this reference and holds what it refers to, it holds
-    // the value of this node. By default it says nothing, which fits values that hold only
-    // references.
+    // Says that what the value holds beside this reference, wherever it holds the reference, is the
+    // value of this node. By default it says nothing, which fits values that hold only references.
     ghost beside: { Self → Reference → E.Node → Type 0 } = { λ x r y. Unit {0} };
 }
 
@@ -59,11 +58,11 @@ pub trait PagableDeserialize<'de, E: Env>: Carried<E> + Sized {
     ghost read_causes: { ReadCauses } = { reads_never };
 
     /// Reads the value at the start of what is left, and leaves the rest. If the value holds what
-    /// its references refer to, it holds what the deserializer lent by them.
+    /// its references refer to, it holds what the deserializer lent for them.
     ///
     /// # Errors
     ///
-    /// The position is then at or behind the old one, within the bytes and the keys, and as many
+    /// The position is then at or after the old one, within the bytes and the keys, and as many
     /// levels are entered as before.
     ///
     /// - the first fault from the start, an error of a reference included.
@@ -90,7 +89,8 @@ pub trait PagableDeserializeOwned<E: Env>: Carried<E> {}
 impl<E: Env, T: PagableDeserialize<'static, E>> PagableDeserializeOwned<E> for T {}
 
 /// A type whose values are written, and read without borrowing from the input. A function that does
-/// both requires it at a lifetime parameter of its own, so its caller may choose any lifetime.
+/// both requires this trait at a lifetime parameter of its own, so its caller may choose any
+/// lifetime.
 pub trait Pagable<'de, E: Env>: PagableSerialize<E>
     + PagableDeserialize<'de, E>
     + PagableDeserializeOwned<E> {}
@@ -107,11 +107,11 @@ pub trait PagableBoxDeserialize<'de, E: Env>: Carried<E> + Sized {
     ghost box_causes: { ReadCauses };
 
     /// Reads the value at the start of what is left into a box, and leaves the rest. If the value
-    /// holds what its references refer to, it holds what the deserializer lent by them.
+    /// holds what its references refer to, it holds what the deserializer lent for them.
     ///
     /// # Errors
     ///
-    /// The position is then at or behind the old one, within the bytes and the keys, and as many
+    /// The position is then at or after the old one, within the bytes and the keys, and as many
     /// levels are entered as before.
     ///
     /// - the first fault from the start, an error of a reference included.
@@ -202,8 +202,8 @@ pub trait InNode<E: Env<Node: NodeSet<E>>>: OfNode<E>
 
     ghost shape_is: { (e : E) → E.Node.shape_of e Self.OfNode.TYPE ≡ Some (Self.Carried.shape e) };
 
-    // A node of this type is written with the type's own errors, and read with those or
-    // `OutOfMemory`.
+    // A node of this type is written with the errors of writing its value, and read with those of
+    // reading it or `OutOfMemory`.
     ghost writes_as: { (e : Refusal) → E.Node.write_causes Self.OfNode.TYPE e
         → Self.PagableSerialize.write_causes.are e };
 

@@ -42,9 +42,8 @@ pub trait PagableTagged<E: Env>: Sized {
     // What the body of a value may mean.
     ghost body_means: { Meanings Self };
 
-    // Says that, wherever the body refers by this reference and holds what it refers to, the value
-    // holds the value of this node. By default it says nothing, which fits values that hold only
-    // references.
+    // Says that what the body holds beside this reference, wherever it holds the reference, is the
+    // value of this node. By default it says nothing, which fits values that hold only references.
     ghost body_holds_target: { Self → Reference → E.Node → Type 0 } = { λ x r y. Unit {0} };
 
     // All errors of writing a body, those included that say that the body has no form.
@@ -63,7 +62,7 @@ pub trait PagableTagged<E: Env>: Sized {
             (bodies (S.environment serializer.old) (tag self.now))) body_causes.are serializer.old
             serializer.new result };
 
-    /// Writes the tag and then the body, whichever tags are registered.
+    /// Writes the tag and then the body, even if the tag isn't registered.
     ///
     /// # Errors
     ///
@@ -116,9 +115,9 @@ pub trait TagReader<E: Env, T: PagableTagged<E>>: HasOwnTag {
     // The errors of reading other than faults of the input and errors of references.
     ghost read_causes: { ReadCauses };
 
-    /// Reads a body, as `PagableDeserialize` reads a value. The value that it returns has the
-    /// reader's tag. If the value holds what its references refer to, it holds what the
-    /// deserializer lent by them.
+    /// Reads a body, as `PagableDeserialize` reads a value. The returned value has the reader's
+    /// tag. If the value holds what its references refer to, it holds what the deserializer lent
+    /// for them.
     fn read<D: PagableDeserializer<E>>(
         &self,
         alloc: Global,
@@ -186,8 +185,8 @@ impl<T, F: HasOwnTag> TypetagRegistry<T, F> {
     }
 
     /// Reads a tag, and then the body by the reader that this registry has for the tag (the last
-    /// one registered). The value that it returns has the tag that was read. If the value holds
-    /// what its references refer to, it holds what the deserializer lent by them. The function
+    /// one registered). The returned value has the tag that was read. If the value holds what its
+    /// references refer to, it holds what the deserializer lent for them. The function
     /// `deserialize_tagged` uses the environment's registry instead.
     ///
     /// # Errors
@@ -277,8 +276,8 @@ fn registered_reader<E: Env, T: HasTypetagRegistry<E>>(tag: &str, env: &E) -> Op
 }
 
 /// Reads a tag, and then the body by the reader that the environment's registry has for the tag
-/// (the last one registered). The value that it returns has the tag that was read. If the value
-/// holds what its references refer to, it holds what the deserializer lent by them.
+/// (the last one registered). The returned value has the tag that was read. If the value holds what
+/// its references refer to, it holds what the deserializer lent for them.
 ///
 /// # Errors
 ///
@@ -303,9 +302,9 @@ pub fn deserialize_tagged<E: Env, T: HasTypetagRegistry<E>, D: PagableDeserializ
     reader.read(alloc, deserializer)
 }
 
-/// Proves that a reader reads back each form of a tagged value, as `forms_are_read_again` of
-/// `pagable` requires, if no tag is registered twice and each tag under which a body has a form is
-/// registered with a reader of the shape that is written under this tag.
+/// Proves that a reader reads back each form of a tagged value (`forms_are_read_again` of
+/// `pagable`) if no tag is registered twice, each tag under which a body has a form is registered,
+/// and each reader reads the shape, a readable one, that is written under its tag.
 #[tactic(auto, using(crate::proofs::Registered::distinct_is_read))]
 pub fn distinct_tags_are_read_again()
     ensures { (parts : ℕ → Shape) (written : List ℕ → Shape) (registrations : List (List ℕ × Shape))

@@ -70,7 +70,7 @@ impl Reason {
         }
     }
 
-    /// Adds `text` to a reason that isn't cut, and cuts both together if they are too long.
+    /// Adds `text` to a reason that isn't cut, and cuts the whole if it is too long.
     #[tactic(auto, using(crate::proofs::Cut::kept_no_room, crate::proofs::Cut::kept_room))]
     fn append_text(self, text: &str) -> Reason
         requires { self.is_cut ≡ false }
@@ -82,7 +82,7 @@ impl Reason {
         self.append_and_cut(text)
     }
 
-    /// Adds a text for which there is no room, and cuts.
+    /// Adds a text for which there is no room, and cuts the whole.
     fn append_and_cut(&self, text: &str) -> Reason
         requires { 61 < self.now.length + length text.now }
         ensures kept { IsCut (kept_of self.now ++ text.now) (kept_of result) }

@@ -40,7 +40,7 @@ impl<'de> PagableKeys<'de> {
         self.position
     }
 
-    /// Moves to a position at most the number of keys.
+    /// Moves to a position that isn't past the end.
     pub fn set_position(&mut self, position: usize)
         requires { position ≤ length self.old.all }
         ensures { self.new ≡ record self.old { position = position } }
@@ -48,7 +48,7 @@ impl<'de> PagableKeys<'de> {
         self.position = position;
     }
 
-    /// Returns the next key and moves past it; or returns None if no key is left, and stays.
+    /// Returns the next key and moves past it, or returns None if no key is left.
     pub fn next_key(&mut self) -> Option<DataKey>
         ensures none { IfNone result ((self.new ≡ self.old) × (length self.old.all ≤ self.old.position)) }
         ensures key { IfSome result (λ key. slice_get self.old.all self.old.position ≡ Some key) }

@@ -14,7 +14,7 @@ use std::sync::Arc;
 
 /// A deserializer of one blob's bytes and keys. `B` reads the bytes; `R` returns the references,
 /// and lends the environment and the session's context. Bytes and keys may be left over after a
-/// value: the deserializer doesn't fail by that.
+/// value: that is no error.
 #[derive(Drop)]
 pub struct PagableDeserializerImpl<'de, B, R> {
     reader: B,

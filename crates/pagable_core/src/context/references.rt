@@ -12,20 +12,20 @@ use pagable_flavors::{DataKey, Error};
 /// The context of an environment's sessions.
 pub type SessionOf<E> = SessionContext<<E as Env>::CtxKey, <E as Env>::CtxValue>;
 
-/// Returns a blob's references to its deserializer, and lends it the environment and the session's
-/// context. A result depends on the reference's place in the blob, its key and its kind alone, so a
-/// blob may be read again from its start.
+/// A source of a blob's references. It also lends the deserializer the environment and the
+/// session's context. A result depends on the reference's place in the blob, its key and its kind
+/// alone, so a blob may be read again from its start.
 pub trait References<E: Env> {
     ghost environment: { Self → E };
 
     // What `reference` returns for the key at a place (counted from 0), read as a kind.
     ghost answer: { Self → ℕ → ℕ → ℕ → Result Reference Refusal };
 
-    // The node that `shared` lends by each reference that `reference` has returned.
+    // The node that `shared` lends for each reference that `reference` has returned.
     ghost lends: { Self → Reference → Option E.Node };
 
-    // The reference that `reference` returns at a place, with the node that is lent by it there; or
-    // None if no node is lent there.
+    // The reference that `reference` returns at a place, with the node that is lent for it there;
+    // or None if no node is lent there.
     ghost lends_at: { Self → ℕ → Option (Reference × E.Node) };
 
     fn env(&self) -> &E
@@ -44,7 +44,7 @@ pub trait References<E: Env> {
         ensures same_lent { lends_at self.new ≡ lends_at self.old };
 
     /// Returns the node of a reference, if the node's value was read together with the reference.
-    /// Returns None if no node is lent by this reference.
+    /// Returns None if no node is lent for this reference.
     fn shared(&self, reference: ArcRef) -> Option<&E::Node>
         ensures { option_map (λ x. x.now) result ≡ lends self.now reference };
 

@@ -17,8 +17,7 @@ pub struct PagableData {
 impl PagableData {
     /// Computes the key under which the blob is stored: the hash of its preimage, read as a number
     /// of 128 bits with low bytes first; 0 becomes 1. The preimage is the count of child keys as 8
-    /// bytes, the blob's bytes, and each child key as 16 bytes, all with low bytes first. The call
-    /// allocates nothing.
+    /// bytes, the blob's bytes, and each child key as 16 bytes; numbers have low bytes first.
     pub fn compute_key<H: KeyHash>(&self) -> DataKey
         ensures { result ≡ key_of H.digest (blob_of self.now) }
     {

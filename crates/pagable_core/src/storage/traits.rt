@@ -69,10 +69,10 @@ pub trait PagableStorage<E: Env>: Sized {
         ensures open { is_closed self.new ≡ is_closed self.old }
         ensures later { failed self.old ≤ failed self.new };
 
-    /// Polls the fetch of the blob under a key. If it is ready, it returns what
-    /// `fetch_data_blocking` returns; a storage may be ready at every poll. If it is pending, it
-    /// has left a waker in `cx` and changed only the count of failures: whoever ends the wait wakes
-    /// that waker, and the next poll asks for the fetch again.
+    /// Polls the fetch of the blob under a key. A ready poll returns what `fetch_data_blocking`
+    /// returns; a storage may be ready at every poll. A pending one has left a waker in `cx` and
+    /// changed only the count of failures: whoever ends the wait wakes that waker, and the next
+    /// poll asks for the fetch again.
     ///
     /// # Errors
     ///
@@ -159,8 +159,8 @@ pub trait PagableStorage<E: Env>: Sized {
         self.store_data(alloc, blob)
     }
 
-    /// Writes what the storage has held back: after the call, all that is stored is durable. The
-    /// call changes nothing that is stored.
+    /// Writes what the storage has held back: after a call that succeeds, all that is stored is
+    /// durable. The call changes nothing that is stored.
     ///
     /// # Errors
     ///

@@ -12,7 +12,7 @@ use super::PagableSlice;
 use pagable_value_spec::Error;
 
 // Returns the number at the front and how many bytes it takes: at most `more` bytes with the top
-// bit set, and then one that is at most `last`.
+// bit set, and then one without, which is at most `last` if it comes after `more` others.
 #[tactic(auto, using(crate::proofs::Varint::reading))]
 fn varint_of(bytes: &[u8], more: usize, last: u8) -> Result<(u64, usize), Error>
     requires ends { (0 < last) × (last < 128) }
@@ -62,7 +62,7 @@ pub(super) fn wide_varint_of(bytes: &[u8], more: usize, last: u8) -> Result<(u12
 }
 
 impl<'de> PagableSlice<'de> {
-    // Reads the next byte if its top bit isn't set; otherwise leaves the position.
+    // Reads the next byte if its top bit isn't set; otherwise, or at the end, reads nothing.
     pub(super) fn read_one_byte_varint(&mut self) -> Option<u8>
         ensures reads { MatchOption result (self.new ≡ self.old)
             (λ b. (b < 128) × (byte_at (left self.old) ≡ Ok (b, left self.new))) }
@@ -76,9 +76,8 @@ impl<'de> PagableSlice<'de> {
         Some(byte)
     }
 
-    // Reads the next number: at most `more` bytes with the top bit set, and then one that is at
-    // most `last`. It isn't inlined, so that the path for a number of one byte stays short in its
-    // callers.
+    // Reads the next number, as `varint_of` does. It isn't inlined, so that the path for a number
+    // of one byte stays short in its callers.
     #[inline(never)]
     pub(super) fn read_varint(&mut self, more: usize, last: u8) -> Result<u64, Error>
         requires ends { (0 < last) × (last < 128) }

@@ -25,7 +25,7 @@ pub trait Collects<T>: Sized {
     // The items that a collection holds, in their order.
     ghost held: { Self → List T };
 
-    // Relates the items before `put_in`, the item that it adds, and the items after it.
+    // Relates the items before `put_in`, the added item, and the items after the call.
     ghost puts: { List T → T → List T → Type 0 };
 
     // Says that a collection has room reserved for this many more items. By default it says
@@ -58,8 +58,8 @@ pub trait Collects<T>: Sized {
         ensures only { IfErr result IsOutOfMemory };
 }
 
-/// Creates an empty collection with room for `count` items, but at most for as many as bytes are
-/// left.
+/// Creates an empty collection, by `with_places`, for `count` items, but at most for as many as
+/// bytes are left.
 ///
 /// # Errors
 ///
@@ -82,8 +82,7 @@ pub fn with_room<E: Env, T, C: Collects<T>, D: PagableDeserializer<E>>(
 }
 
 /// Reads `count` items and adds each to a collection made by `with_room`. So room is reserved for
-/// at most as many items as bytes are left; for further items, which take no byte, the collection
-/// grows.
+/// at most as many items as bytes are left; more are read only if some take no byte.
 ///
 /// # Errors
 ///

@@ -180,7 +180,7 @@ impl<'de, E: Env, T: PagableDeserialize<'de, E>, X: PagableDeserialize<'de, E>> 
     }
 }
 
-/// A borrowed value is written as the value itself. Nothing reads it: a reader has no owner to
+/// A borrowed value is written as the value itself. No reader returns one: it has no owner to
 /// borrow from.
 impl<'a, T> EncodedAs for &'a T {
     type Other = T;
@@ -216,8 +216,8 @@ impl<E: Env, T> PagableSerialize<E> for PhantomData<T> {
     }
 }
 
-/// A header and a list, to which a thin pointer refers in the Rust crate. It is written as the pair
-/// of both.
+/// A header and a list, to which a thin pointer refers in the Rust crate. They are written as a
+/// pair.
 #[derive(Debug, PartialEq, Eq, PartialOrd, Ord, Hash, Drop)]
 pub struct Thin<H, T> {
     pub header: H,
@@ -350,8 +350,8 @@ impl<
 }
 
 // ---- cells: an atomic number, and a value that is set once. Another thread may write to a cell
-// while this one reads it, so no contract knows what a cell holds: each means what it may hold, and
-// the four functions below say what that is.
+// while it is read, so no contract knows what a cell holds: a cell means each thing that it may
+// hold, as the four functions below state.
 
 /// Returns the number that the cell holds now.
 #[tactic(auto, unfolding(pagable_value_spec::specs::Composite::MayHold))]
@@ -369,8 +369,8 @@ fn atomic_of(number: i64) -> AtomicI64
     AtomicI64::new(number)
 }
 
-/// Returns the value that the cell holds now, or None. The call doesn't wait for a thread that sets
-/// the cell: until this thread is done, the cell holds none.
+/// Returns the value that the cell holds now, or None. The call doesn't wait for a thread that is
+/// setting the cell: until that thread is done, the cell holds none.
 #[tactic(auto, unfolding(pagable_value_spec::specs::Composite::MayHold))]
 fn value_in<T>(cell: &OnceLock<T>) -> Option<&T>
     ensures { MayHold cell.now (option_copied result) }

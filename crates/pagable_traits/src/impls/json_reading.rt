@@ -173,7 +173,7 @@ fn read_object<E: Env, D: PagableDeserializer<E>>(
     read
 }
 
-// Reads `count` members of an object, and returns the object: of a repeated key the later value
+// Reads `count` members of an object, and returns the object: of a repeated key the last value
 // counts.
 #[cycle(reading_json)]
 #[tactic(auto, using(crate::proofs::JsonSteps::no_memory))]

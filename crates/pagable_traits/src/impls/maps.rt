@@ -105,7 +105,7 @@ impl<
     }
 }
 
-/// Adding an item that the set has already changes nothing.
+/// Adding an item that the set already has changes nothing.
 impl<T: Ord + Drop> Collects<T> for BTreeSet<T> {
     ghost held = { λ s. s.keys };
 
@@ -157,7 +157,7 @@ impl<'de, E: Env, T: PagableOrdKey<E> + PagableDeserialize<'de, E> + Drop> Pagab
     }
 }
 
-/// Adding an entry with a key that the map has already replaces the value, and keeps the old key in
+/// Adding an entry with a key that the map already has replaces the value, and keeps the old key in
 /// its place.
 impl<K: Eq + Hash + Drop, V: Drop> Collects<(K, V)> for IndexMap<K, V> {
     ghost held = { λ m. m.entries };
@@ -221,7 +221,7 @@ impl<
     }
 }
 
-/// Adding an item that the set has already changes nothing: the item keeps its place.
+/// Adding an item that the set already has changes nothing: the item keeps its place.
 impl<T: Eq + Hash + Drop> Collects<T> for IndexSet<T> {
     ghost held = { λ s. s.keys };
 
