@@ -278,7 +278,7 @@ impl Reading {
             ≡ root_frame self.old.key self.old.node_type (blob_of (arc_value blob)) ∷ [] }
         ensures same { IsSameLoad self.old self.new self.old.steps }
     {
-        // (by this count its references are known to be fewer than numbers go)
+        // (by this call the proof knows that the references are fewer than 2^63)
         let _count = blob.as_ref().arcs.len();
         self.below.clear();
         self.top = Some(Frame::of_root(alloc, self.key, self.node_type, blob));
@@ -304,7 +304,7 @@ impl Reading {
         ensures long { IfErr result (λ e. longest_path ≤ length self.old.below.items) }
         ensures same { IsSameLoad self.old self.new self.old.steps }
     {
-        // (by this count its references are known to be fewer than numbers go)
+        // (by this call the proof knows that the references are fewer than 2^63)
         let _count = blob.as_ref().arcs.len();
         if self.below.len() >= 128 {
             return Err(Error::TooDeep);

@@ -45,7 +45,7 @@ pub fn write_entry<E: Env, K: PagableSerialize<E>, V: PagableSerialize<E>, S: Pa
     value.pagable_serialize(serializer)
 }
 
-/// An entry with a key that the map has replaces the value and keeps the old key.
+/// Adding an entry with a key that the map already has replaces the value and keeps the old key.
 impl<K: Ord + Drop, V: Drop> Collects<(K, V)> for BTreeMap<K, V> {
     ghost held = { λ m. m.entries };
 
@@ -275,7 +275,7 @@ impl<'de, E: Env, T: PagableKey<E> + Hash + PagableDeserialize<'de, E> + Drop> P
     }
 }
 
-/// An entry with a key that the map has replaces the value and keeps the old key.
+/// Adding an entry with a key that the map already has replaces the value and keeps the old key.
 impl<K: Eq + Hash + Drop, V: Drop> Collects<(K, V)> for HashMap<K, V> {
     ghost held = { λ m. m.entries };
 
