@@ -9,11 +9,11 @@ use std::collections::BTreeMap;
 use std::fs;
 use std::num::NonZeroUsize;
 
-/// The tag of a record of a build. It refers to the records of its steps, the last used first.
+/// The tag of a build's record, which refers to the records of the steps, the last used first.
 const BUILD: u32 = 1;
 
-/// The tag of a record of a step: its text is the command with the keys of its inputs, and it refers to
-/// the record of its output.
+/// The tag of a step's record, whose text is the command with the keys of the inputs, and which
+/// refers to the record of the output.
 const STEP: u32 = 2;
 
 /// How many steps a build keeps besides those of its own rules, the last used of all others.
@@ -97,7 +97,7 @@ impl<'a, R: RecordCalls> Build<'a, R> {
         Ok(())
     }
 
-    /// Builds a target: takes the output of the same step, or else runs the command.
+    /// Builds a target: takes the output of its step if that is known, else runs the command.
     fn build_target(&mut self, rule: &Rule<'_>) -> Result<()> {
         let step = self.spell_step(rule)?;
         let known = self.steps.get(step.as_str()).copied();

@@ -1,5 +1,5 @@
-//! Keeps two commits, of which the second refers to the first, pages them out, and reads both back, from the second one
-//! on. Prints each.
+//! Inserts two commits, the second of which refers to the first, pages them out, reads both back,
+//! the second one first, and prints them.
 #![tactic(auto)]
 
 use history::{Commit, History};
@@ -13,7 +13,7 @@ use std::sync::Arc;
 /// A pager of commits over blobs in memory.
 type CommitPager = Pager<History, InMemoryBlobs<History>>;
 
-/// Inserts a commit, which refers to the cell of this handle, if one is given. The handle becomes the commit's.
+/// Inserts a commit. If a handle is given, the commit refers to its cell, and owns the handle.
 fn insert_commit(
     alloc: Global,
     pager: &mut CommitPager,
@@ -34,7 +34,7 @@ fn insert_commit(
     Ok(insert(alloc, pager, node)?)
 }
 
-/// Inserts both commits and pages them out. Answers the handle of the second.
+/// Inserts two commits and pages them out. Returns the handle of the second.
 fn insert_commits(alloc: Global, pager: &mut CommitPager) -> Result<HandleNumber, Error> {
     let first = insert_commit(alloc, pager, "first", None)?;
     let second = insert_commit(alloc, pager, "second", Some(first))?;
@@ -47,7 +47,7 @@ fn print(rt: &HostRuntime, commit: &Commit) {
     let _ = println!(rt; "{}", commit.message.as_str());
 }
 
-/// Prints a commit, and its parent by the reference in it, which holds as long as the commit is pinned.
+/// Prints a commit, which it pins meanwhile, and the commit's parent, if there is one.
 fn show(rt: &HostRuntime, pager: &mut CommitPager, commit: HandleNumber) -> Result<(), Error> {
     let (pinned, node) = follow(rt.alloc(), pager, commit)?;
     let commit = node.value.as_ref();

@@ -1,4 +1,4 @@
-//! Keeps a text, pages it out, and reads it back. Prints each step, and beside it what came of it.
+//! Keeps a text in a pager, pages it out, and reads it back. Prints each step with its result.
 #![tactic(auto)]
 
 use pagable::cells::{insert, look};

@@ -68,7 +68,7 @@ impl Machine {
     }
 
     /// Runs the line at the machine's place, and returns the number that it shows, if it shows one. An
-    /// empty line does nothing.
+    /// empty line or a label does nothing.
     ///
     /// # Errors
     ///
@@ -102,7 +102,7 @@ impl Machine {
         Ok(None)
     }
 
-    /// Goes on at the line with a label.
+    /// Moves the place to the line with a label.
     fn go_to_label(&mut self, program: &[&str], label: &str) -> Result<()> {
         let place = program.iter().position(|line| line.trim() == label);
         self.place = place.context(format_args!("no line is labelled {label}"))?;

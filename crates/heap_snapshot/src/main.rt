@@ -41,7 +41,8 @@ impl<'a> Job for Run<'a> {
 }
 
 impl<'a> Run<'a> {
-    /// Runs lines, prints the numbers that they show, and drops what no variable holds any more.
+    /// Runs lines and prints the numbers that they show. After each 1,000 lines, drops what nothing
+    /// refers to any more.
     fn run_lines<R: RecordCalls>(&self, store: &mut R, machine: &mut Machine) -> Result<()> {
         let text = store.read(machine.program)?;
         let lines: Vec<&str> = text.text().lines().collect(store.alloc())?;

@@ -51,15 +51,15 @@ fn page_out_last<R: Wait, H: KeyHash, S: PagableStorage<TextEnv<H>>>(
     page_out_entry(&mut access, alloc, &mut table, pending - 1)
 }
 
-/// Pages out the cell of a handle of any mode, and returns its key. If the cell has a key already,
-/// returns that and does nothing. No other thread may use the storage meanwhile.
+/// Pages out the cell of a handle of any mode but Shared, and returns its key. If the cell has a
+/// key already, only returns this. No other thread may use the storage meanwhile.
 ///
 /// # Errors
 ///
 /// - `NoSuchHandle` if the handle isn't live.
 /// - `Closed` after the storage was closed.
-/// - `OutOfMemory`, `NumbersSpent`, or the error of writing or storing the text: the cell is then in
-///   the list.
+/// - `OutOfMemory`, `NumbersSpent`, or the error of writing or storing the text: the cell may then
+///   be in the list.
 pub fn page_out<R: Wait, H: KeyHash, S: PagableStorage<TextEnv<H>>>(
     rt: &R,
     alloc: Global,

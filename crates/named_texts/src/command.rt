@@ -35,7 +35,7 @@ pub enum Command<'a> {
     Release(&'a str),
     /// `unpin NAME`, `loose NAME`, `count NAME`, `key NAME` or `out NAME`.
     RunVerb(Verb, &'a str),
-    /// `pending`: counts the cells that are listed for page-out.
+    /// `pending`: counts the entries of the page-out list.
     Pending,
     /// `pageout`: pages out the list.
     PageOut,

@@ -8,7 +8,7 @@ use std::collections::HashSet;
 use std::fmt;
 use std::sync::Wait;
 
-/// How many roots a storage has, and how much they stand for.
+/// The counts of a storage's roots, and of their blobs and bytes.
 #[derive(Clone, Copy)]
 pub struct Counts {
     /// The blobs of the roots' keys, each counted once.

@@ -29,7 +29,7 @@ where
 }
 
 impl<'a, R: Wait, H: KeyHash, S: Roots<TextEnv<H>>> DurableSession<'a, R, H, S> {
-    /// Makes a session without names of handles and cells, over a storage whose names of roots it
+    /// Makes a session without cells and names of handles, over a storage whose names of roots it
     /// reads.
     ///
     /// # Errors

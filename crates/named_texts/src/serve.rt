@@ -44,8 +44,8 @@ pub fn serve<H: KeyHash, T: Wait, R: BufRead, W: Write + Drop>(
 }
 
 /// Answers each line of the input with one line, over a storage with names of roots: the lines that
-/// `serve` answers, and those of `DurableCommand`. It drops the storage at the end of the input, and
-/// flushes nothing that no line flushed.
+/// `serve` answers, and those of `DurableCommand`. At the end of the input it drops the storage,
+/// with all that no `flush` line committed.
 ///
 /// # Errors
 ///

@@ -170,7 +170,7 @@ fn clone<R: Wait, H: KeyHash, S: PagableStorage<TextEnv<H>>>(
 }
 
 /// Releases the handle of a name, and frees the name. The caller owns each handle that has a name, so
-/// an error says that the cell couldn't be listed: the handle is released all the same.
+/// an error but `NoName` says that the cell couldn't be listed, and the handle is released anyway.
 fn release<R: Wait, H: KeyHash, S: PagableStorage<TextEnv<H>>>(
     rt: &R,
     names: &mut Names,
@@ -186,8 +186,7 @@ fn release<R: Wait, H: KeyHash, S: PagableStorage<TextEnv<H>>>(
     Ok(Answer::Word("ok"))
 }
 
-/// Unpins a handle, makes a Pinned handle loose, or returns how many handles pin its cell, the number
-/// of the cell's key, or whether the cell is paged out.
+/// Does with a handle what the verb asks, and returns the answer.
 fn run_verb<R: Wait, H: KeyHash, S: PagableStorage<TextEnv<H>>>(
     rt: &R,
     storage: &TextStorage<H, S>,

@@ -71,7 +71,7 @@ fn page_out_last<E: Env<Node: NodeSet<E>>, S: PagableStorage<E>>(
 }
 
 // Clones the handle, makes the clone loose and unpinned, and puts it at the end of the page-out
-// list; if that fails, releases the clone.
+// list. If that fails, or after `close`, releases the clone.
 fn list_clone<E: Env<Node: NodeSet<E>>, S: PagableStorage<E>>(
     pager: &mut Pager<E, S>,
     handle: HandleNumber,
@@ -113,8 +113,8 @@ fn page_out_clone<E: Env<Node: NodeSet<E>>, S: PagableStorage<E>>(
     }
 }
 
-/// Pages out the cell of a handle of any mode but Shared, listed or not, with all that it refers
-/// to, and returns its key. If the cell has a key already, returns that and does nothing. The value
+/// Pages out the cell of a handle of any mode but Shared, listed or not, with all that the cell
+/// refers to, and returns the cell's key. If it has a key already, only returns this. The value
 /// leaves memory only if no handle pins it.
 ///
 /// # Errors

@@ -18,8 +18,8 @@ use pagable_value_spec::{DataKey, Error, HandleNumber};
 use std::alloc::Global;
 use std::sync::Arc;
 
-/// Inserts a value as a cell that nothing pins and that is listed for page-out, and returns its
-/// loose handle.
+/// Inserts a value as a cell that nothing pins, lists it for page-out, but not after `close`, and
+/// returns its loose handle.
 ///
 /// # Errors
 ///
@@ -44,9 +44,8 @@ pub fn insert<E: Env<Node: NodeSet<E>>, S: PagableStorage<E>>(
     }
 }
 
-/// Returns a loose handle of the cell whose value has this key and the type `T`: of the cached one,
-/// or of a new one. It reads nothing; the caller makes sure that the key reads as a value of this
-/// type.
+/// Returns a loose handle of a cell whose value has this key and the type `T`: the cached cell, or
+/// a new one. It reads nothing; the caller makes sure that the key reads as a value of this type.
 ///
 /// # Errors
 ///
@@ -119,8 +118,7 @@ fn show_shared<N, Y, F: FnOnce(&N) -> Y>(show: F, value: &Arc<N>) -> Y
     show(value.as_ref())
 }
 
-// Shows the value of a handle that pins nothing, as `look` does: pins it, and undoes the pin
-// afterwards.
+// Calls `show` with the value of a handle that pins nothing; the cell is pinned meanwhile.
 fn look_by_pin<E: Env<Node: NodeSet<E>>, S: PagableStorage<E>, Y: Drop, F: FnOnce(&E::Node) -> Y>(
     alloc: Global,
     pager: &mut Pager<E, S>,
@@ -144,8 +142,8 @@ where
     }
 }
 
-/// Calls `show` with the value of a handle's node, which it loads if it isn't in memory, and leaves
-/// the handle in the mode that it had.
+/// Calls `show` with the value of a handle's node, loaded if it isn't in memory, and returns the
+/// result. The handle keeps its mode.
 ///
 /// # Errors
 ///

@@ -96,7 +96,7 @@ fn make_call<E: Env<Node: NodeSet<E>>, S: PagableStorage<E>>(
     }
 }
 
-// Drops the kept progress of a load if its step has ended it.
+// Drops the progress of a load if its step has ended the load.
 fn forget_if_ended<N: Drop>(
     readings: &mut IndexMap<u64, Reading>,
     load: u64,
@@ -110,8 +110,8 @@ fn forget_if_ended<N: Drop>(
     }
 }
 
-// Makes and keeps the progress of an open load of a cell, if none is kept yet, as before the load's
-// first step. Does nothing for a load of a key. Fails with OutOfMemory if it can't get memory.
+// Adds the initial progress of an open load of a cell, unless the load has progress already. Does
+// nothing for a load of a key. Fails with OutOfMemory if it can't get memory.
 #[tactic(auto, using(crate::proofs::Driven::unprepared))]
 fn keep_reading(
     readings: &mut IndexMap<u64, Reading>,
@@ -140,8 +140,8 @@ fn keep_reading(
     Ok(())
 }
 
-// Makes one step of a load over a lent pager. (The borrow checker accepts a lent struct where a
-// function asks for its own type, and not where it asks for any access.)
+// Makes one step of a load over a lent pager. (The borrow checker accepts `lent` where a function
+// asks for a `Lent`, and not where it asks for any access.)
 fn step_lent<'a, E: Env<Node: NodeSet<E>>, S: PagableStorage<E>>(
     lent: &mut Lent<'a, E, S>,
     alloc: Global,
@@ -187,7 +187,7 @@ fn load_step<E: Env<Node: NodeSet<E>>, S: PagableStorage<E>>(
         });
     }
     let Some(own) = held.readings.get_mut(&load.0) else {
-        // The event that began it didn't say as what type it is read.
+        // The call that began the load didn't say as what type to read its key.
         return Err(Error::WrongMode);
     };
     let mut lent = Lent::new(pager);
@@ -275,7 +275,7 @@ pub fn run_event<E: Env<Node: NodeSet<E>>, S: PagableStorage<E>>(
             forget_if_closed(pager, &mut held.readings, closed);
             EventReply::CallReply(reply)
         }
-        // A load of a cell is kept from its first step on.
+        // The progress of a cell's load is kept from its first step on.
         Event::LoadStart(handle) => {
             let begun = pager.load_begin(handle);
             pager.assert_invariant();

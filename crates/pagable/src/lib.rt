@@ -4,7 +4,7 @@
 //!
 //! The crate's root exports all public names, and modules named as in the original crate export
 //! them again. Each module lists its items one by one: a re-export of a whole module of a lower
-//! crate would make every check above read all of that module.
+//! crate would make the check of each user of this crate read all of it.
 #![tactic(auto)]
 
 pub mod cell_page_out;
@@ -106,9 +106,9 @@ pub mod storage {
         pub use pagable_core::SerializerForPaging;
     }
 
-    /// The traits of storages without and with named roots, and the `Setting` that all values over
-    /// a storage share; the accesses to a pager, lent or behind a lock, and the functions that pin,
-    /// read and page out by any of them; the tables of claims, and why a page-out fails.
+    /// Storages, without and with named roots, and the `Setting` that all values over a storage
+    /// share; accesses to a pager, lent or behind a lock, and the functions that pin, read and page
+    /// out by them; tables of claims, and the error of a page-out.
     pub mod traits {
         pub use pagable_core::{PagableStorage, Roots, Setting};
         pub use pagable_load::{Access, WorkerAccess, pin_over, read_over};

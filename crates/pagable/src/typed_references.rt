@@ -56,8 +56,8 @@ pub fn loose<T: OfNode<E>, E: Env<Node: NodeSet<E>>, S: PagableStorage<E>>(
     }
 }
 
-/// Makes a reference, with the node's value, of a handle that pins its node, for another value to
-/// hold: an `Arc` of a Shared handle, or a pin of a Pinned one.
+/// Makes a reference, with the node's value, from a handle that pins its node, for another value to
+/// hold: an `Arc` from a Shared handle, a pin from a Pinned one. The call doesn't test which.
 ///
 /// # Errors
 ///

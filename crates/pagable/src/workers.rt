@@ -1,5 +1,5 @@
-//! What a machine keeps beside its pager: progress of loads, tables and workers; and the events
-//! that make tables and workers and step workers.
+//! What a machine has besides its pager: tables, workers and the progress of loads; and the events
+//! that make tables and workers, and step workers.
 
 ghost use Rattle.pagable.specs.{
   Driving.{Drives, HeldFitsPager, IsBegun, IsOnTable, IsTableNumber, SetsOne, WalksOn, is_done, kept_at},
@@ -56,7 +56,7 @@ pub struct WorkerProgress<E: Env<Node: NodeSet<E>>> {
     pub turn: Turn<E>,
 }
 
-/// What a machine keeps beside its pager: the progress of loads by their numbers; the workers'
+/// What a machine has besides its pager: the progress of loads by their numbers; the workers'
 /// tables of claims, in the order in which they were made; and the workers by their numbers.
 #[derive(Drop)]
 pub struct LoadsAndWorkers<E: Env<Node: NodeSet<E>>> {
@@ -65,7 +65,7 @@ pub struct LoadsAndWorkers<E: Env<Node: NodeSet<E>>> {
     pub walks: IndexMap<u64, WorkerProgress<E>>,
 }
 
-/// Keeps a value under a number; the map has room for it.
+/// Puts a value under a number into a map that has room for it.
 pub fn put<V: Drop>(kept: &mut IndexMap<u64, V>, number: u64, value: V)
     requires { 0 < spare kept.old }
     ensures { SetsOne (kept_at kept.old) number (Some value) (kept_at kept.new) }
@@ -216,8 +216,8 @@ pub fn begin_entry_worker<E: Env<Node: NodeSet<E>>, S: PagableStorage<E>>(
     Ok(worker)
 }
 
-// Makes one step over a lent pager. (The borrow checker accepts a lent struct where a function asks
-// for its own type, and not where it asks for any access.)
+// Makes one step over a lent pager. (The borrow checker accepts `lent` where a function asks for a
+// `Lent`, and not where it asks for any access.)
 fn step_lent<'a, E: Env<Node: NodeSet<E>>, S: PagableStorage<E>>(
     lent: &mut Lent<'a, E, S>,
     alloc: Global,

@@ -34,8 +34,8 @@ pub struct BudgetStats {
     pub evictions: u64,
 }
 
-/// Keeps pins for a program, up to a total cost. It owns its pins, which are handles of its own,
-/// and evicts the least recently used first. It releases no other handles.
+/// The pins that are kept for a program, up to a total cost. A budget owns their handles, evicts
+/// the least recently used first, and releases no other handles.
 ///
 /// A budget is for one pager. Call `clear` before you drop it: the cells of pins that it still
 /// holds stay in memory as long as the pager.
@@ -74,8 +74,8 @@ fn counted(stats: BudgetStats, is_hit: bool) -> BudgetStats
 }
 
 impl Budget {
-    /// Creates a budget that keeps no pin yet, and later keeps pins of at most `most` in total, in
-    /// the unit of the costs given to `pin`: 1 for each cell, or bytes.
+    /// Creates a budget without pins. Its pins may cost `most` in total, in the unit of the costs
+    /// given to `pin`: 1 for each cell, or bytes.
     ///
     /// # Errors
     ///
@@ -134,11 +134,11 @@ impl Budget {
     }
 
     /// Pins a loose handle's cell for the caller, as `paging::pin` does, and returns the caller's
-    /// pin. Beside it the budget keeps a pin of its own at this cost, as the most recently used,
-    /// and evicts others as far as the bound requires. If it keeps a pin of the cell already, that
+    /// pin. The budget also keeps a pin of its own at this cost, as the most recently used, and
+    /// evicts others as far as the bound requires. If it keeps a pin of the cell already, this pin
     /// becomes the most recently used, at the cost that it has.
     ///
-    /// The budget keeps no pin if the cell alone costs more than the bound, or if handle numbers or
+    /// The budget adds no pin if the cell alone costs more than the bound, or if handle numbers or
     /// memory run out; the caller gets its pin all the same.
     ///
     /// # Errors
@@ -161,8 +161,8 @@ impl Budget {
         Ok(pinned)
     }
 
-    // Counts a hit or a miss, and keeps a pin of the budget's own beside the caller's, if it can.
-    // If it has one of this cell already, makes that the most recently used instead.
+    // Counts a hit or a miss. If the budget keeps a pin of this cell already, makes this pin the
+    // most recently used; else keeps one, if it can.
     fn keep<E: Env<Node: NodeSet<E>>, S: PagableStorage<E>>(
         &mut self,
         pager: &mut Pager<E, S>,
@@ -180,8 +180,8 @@ impl Budget {
         self.admit(pager, cell.0, pinned, cost);
     }
 
-    // Counts a hit or a miss, and makes the cell's pin the most recently used. Returns whether the
-    // budget keeps one.
+    // Counts a hit or a miss, and makes the kept pin of the cell, if there is one, the most
+    // recently used. Returns whether there is one.
     fn touch(&mut self, cell: u64) -> bool
         ensures kept { result ≡ is_some (lookup (nat_eq cell) self.old.pins) }
         ensures touched { self.new ≡ touched cell self.old }

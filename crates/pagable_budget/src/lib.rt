@@ -1,6 +1,5 @@
-//! Bounds on the memory of a pager that the user holds: a budget of pins that a program wants kept,
-//! which evicts the least recently used first; and a page-out as soon as more than a number of
-//! cells wait for it.
+//! Bounds on the memory of a pager: a budget of pins that a program wants kept, which evicts the
+//! least recently used first; and a page-out made only if more than a number of cells wait for it.
 #![tactic(auto)]
 
 mod bound;

@@ -14,7 +14,7 @@ use std::alloc::Global;
 
 /// Pages out all cells of the pending list, as `paging::page_out_pending` does, if there are more
 /// than `most`; else does nothing. A cell without a key stays in memory even when nothing pins it,
-/// so a program that bounds its memory needs this beside a budget.
+/// so a program that bounds its memory needs this call besides a budget.
 ///
 /// # Errors
 ///

@@ -33,8 +33,8 @@ pub struct GatedClaims<'a, R: Wait, E: Env<Node: NodeSet<E>>, L: Ledger, G: Gate
 }
 
 impl<'a, R: Wait, E: Env<Node: NodeSet<E>>, L: Ledger, G: Gate> GatedClaims<'a, R, E, L, G> {
-    /// Wraps the claims of a worker, which has made none yet, so that each one calls the gate with
-    /// the worker's number. Allocates nothing.
+    /// Wraps the claims of a worker that has made none yet: after each claim the gate is called
+    /// with the worker's number and the claim's. Allocates nothing.
     pub fn new(
         claims: SharedClaims<'a, R, E, L>,
         gate: &'a G,

@@ -21,13 +21,13 @@ use std::sync::{Arc, Wait};
 #[derive(Drop)]
 enum PinState {
     Begin,
-    // The next poll polls the fetch of the root's blob.
+    // The next poll polls the fetch of the cell's blob.
     Fetch(CellReading),
     Ended,
 }
 
-/// A polled pin of a cell, by one of its loose handles. Each call of the pager takes the lock for
-/// itself alone.
+/// A polled pin of a cell, by one of its loose handles. Each call of the pager takes and releases
+/// the lock.
 #[derive(Drop)]
 pub struct HandlePin<E: Env<Node: NodeSet<E>>, S: PagableStorage<E>> {
     storage: PagableStorageHandle<E, S>,
@@ -47,7 +47,7 @@ impl<E: Env<Node: NodeSet<E>>, S: PagableStorage<E>> HandlePin<E, S> {
         }
     }
 
-    // Begins the load of the cell, if it has to be loaded; else pins it.
+    // Begins a load of the cell if its value isn't in memory; else pins it.
     fn begin<R: Wait>(&self, rt: &R, alloc: Global) -> Result<BegunPin, Error> {
         let mut access = self.storage.access(rt);
         begin_polled_pin(&mut access, alloc, self.handle)
@@ -67,7 +67,7 @@ impl<E: Env<Node: NodeSet<E>>, S: PagableStorage<E>> HandlePin<E, S> {
         self.storage.inner.pager.lock(rt).poll_fetch(cx, alloc, key)
     }
 
-    // Reads the cell's value from its root's blob, and pins the cell.
+    // Reads the cell's value from the cell's blob, and pins the cell.
     fn read<R: Wait>(
         &self,
         rt: &R,

@@ -55,7 +55,7 @@ impl<E: Env<Node: NodeSet<E>>> InMemoryPagableStorage<E> {
         self.handle.session_context()
     }
 
-    /// Returns how many cells are listed for page-out.
+    /// Returns how many entries the page-out list has.
     pub fn pending_paging_count<R: Wait>(&self, rt: &R) -> usize {
         self.handle.pending_paging_count(rt)
     }

@@ -1,4 +1,4 @@
-//! A pager that threads share: each call takes its lock for itself alone; values are decoded and
+//! A pager that threads share: a call takes its lock for one step at a time; values are decoded and
 //! written with no lock held.
 #![tactic(auto)]
 

@@ -1,5 +1,5 @@
-//! Access to a pager behind a lock, for a caller or a page-out worker. Other threads may make calls
-//! between any two of these, so contracts tell nothing of the pager's state.
+//! Access to a pager behind a lock, for a caller or a page-out worker. Between any two of its calls
+//! other threads may make theirs, so contracts tell nothing of the pager's state.
 
 use crate::lock::lock_briefly;
 use either::Either;
@@ -16,7 +16,7 @@ use std::alloc::Global;
 use std::sync::{Arc, Mutex, Wait};
 
 /// The access of one thread to a pager behind a lock, for the caller or for a worker of this
-/// thread. Each call takes the lock, makes one call of the pager for its owner, and releases the
+/// thread. Each call takes the lock, makes one call of the pager for `me`, and releases the
 /// lock; environment and session are outside the lock. A call for a worker that isn't running fails
 /// with NotYours; `take_pending` and `release_if_keyed` return None then. `share`, `store`,
 /// `store_keyed`, `pending`, `entry_key`, `worker_begin`, `worker_listed`, `worker_end` and

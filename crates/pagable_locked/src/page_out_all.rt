@@ -1,4 +1,4 @@
-//! Page-out of many items by several workers, each on a thread of its own.
+//! Page-out of many items by several workers on threads.
 
 ghost use Rattle.pagable_load.specs.AccessView.{values_at};
 ghost use Rattle.pagable_locked.specs.Answers.{AnswersEach, IsAnswerOf, items_of};
@@ -69,7 +69,8 @@ fn page_out_one<'a, R: Wait, E: Env<Node: NodeSet<E>>, S: PagableStorage<E>, L: 
     page_out_item_over(&mut access, alloc, claims, shared)
 }
 
-// Pages out the items of one worker, one after the other. Fails with OutOfMemory alone.
+// Pages out the items whose index mod `workers` is `worker`, in their order. Fails with OutOfMemory
+// alone.
 fn page_out_each<'a, R: Wait, E: Env<Node: NodeSet<E>>, S: PagableStorage<E>, L: Ledger, G: Gate>(
     rt: &R,
     alloc: Global,
@@ -261,12 +262,13 @@ impl<E: Env<Node: NodeSet<E>>, S: PagableStorage<E>> PagableStorageHandle<E, S> 
         Ok(make_report(rt, &table, all, keys))
     }
 
-    /// Pages out items, with all that they refer to, by this many workers, which claim on one table
-    /// of their own: item i by worker i mod `workers`, each on a thread of its own, or on the
-    /// caller's if a thread can't start. The report has for each item its key, or why its page-out
-    /// failed. A key is the hash of its item's bytes and of the keys of results, one for each of
-    /// the item's references. Each worker calls the gate after each claim, while it holds no lock.
-    /// The caller keeps the items' handles, and must keep them until the call returns.
+    /// Pages out items, with all that they refer to, by this many workers (at most one for each
+    /// item), which claim on one table of their own: item i by worker i mod `workers`. The last
+    /// worker runs on the caller's thread, each other on its own, if one can start. The report has
+    /// for each item its key, or why its page-out failed. A key is the hash of its item's bytes and
+    /// of the keys of results, one for each of the item's references. Each worker calls the gate
+    /// after each claim, while it holds no lock. The caller must keep the items' handles until the
+    /// call returns.
     ///
     /// # Errors
     ///

@@ -1,10 +1,10 @@
-//! A worker's part of the total of claims.
+//! Shares of the total of claims.
 
 ghost use Rattle.std.specs.Prelude.{◌+◌, ◌<◌, ◌≡◌, ◌≤◌};
 
 use std::sync::ledger::{Ledger, Share};
 
-/// A worker's part of the total of claims on the table that `L` names: how many claims it has made.
+/// A share of the total of claims on the table that `L` names: how many claims were counted in it.
 /// It can be split into as many shares as it has parts, and merged again.
 #[derive(Drop)]
 pub struct ClaimShare<L: Ledger> {

@@ -232,7 +232,7 @@ impl<E: Env<Node: NodeSet<E>>, S: PagableStorage<E>> PagableStorageHandle<E, S> 
         self.inner.pager.lock(rt).cache_clear()
     }
 
-    /// Returns how many cells are listed for page-out.
+    /// Returns how many entries the page-out list has.
     pub fn pending_paging_count<R: Wait>(&self, rt: &R) -> usize {
         self.inner.pager.lock(rt).pending()
     }
@@ -280,16 +280,15 @@ impl<E: Env<Node: NodeSet<E>>, S: PagableStorage<E>> PagableStorageHandle<E, S> 
     }
 
     /// Pages out the cells that wait for page-out when it is called, with all that they refer to,
-    /// from the last entry of the list to the first, up to the first failure. Entries that are
-    /// listed meanwhile wait for the next call; an entry that another thread takes meanwhile is
-    /// skipped.
+    /// from the last entry of the list to the first, up to the first failure. An entry whose cell
+    /// has a key is only released. Entries that are listed meanwhile wait for the next call, unless
+    /// other threads take entries before them.
     ///
     /// # Errors
     ///
-    /// - `Failed` with the error of the first entry that fails: it is listed again, at the end, or
-    ///   keeps its place if no worker could begin; those before it stay listed. If the list can't
-    ///   grow, since other threads have filled it meanwhile, the entry's cell is listed when it
-    ///   loses its last pin the next time.
+    /// - `Failed` with the error of the first entry that fails: it keeps its place if no worker
+    ///   could begin; else its cell is listed again, at the end, or, if it is still pinned or the
+    ///   list can't grow, perhaps only when it next loses its last pin. Entries before it stay.
     pub fn page_out_pending<R: Wait>(&self, rt: &R, alloc: Global) -> Result<(), PageOutError> {
         let mut access = self.access(rt);
         page_out_pending_over(&mut access, alloc)

@@ -124,9 +124,9 @@ impl<E: Env<Node: NodeSet<E>>, L: Ledger> Slots<E, L> {
         }
     }
 
-    // Says whether the worker that has claimed an identity is `asker`, or waits for it, directly or
-    // through others. A wait for a slot that has an outcome is over, even if its worker doesn't
-    // know it yet; no chain is longer than the number of waits.
+    // Says whether the worker that has claimed an identity is `asker`, or waits for `asker`,
+    // directly or through others. A wait for a slot that has an outcome is over, even if the worker
+    // that waits doesn't know it yet; no chain is longer than the number of waits.
     fn would_deadlock<R: Wait>(&self, rt: &R, asker: WorkerNumber, identity: Identity) -> bool {
         let mut claimed = identity;
         for _ in 0..=self.waits.len() {

@@ -99,7 +99,7 @@ pub fn references_of_two_kinds<const KIND: u32, const OTHER: u32>(
     Ok((first, references_of_kind(alloc, references)?))
 }
 
-/// Sorts these references into lists, one for each kind.
+/// Sorts these references by kind into `Lists`, without those of other kinds.
 pub fn sort_into_lists(alloc: Global, spelled: &[ArcRef]) -> Result<Lists, Error> {
     let (own, loose) = references_of_two_kinds(alloc, spelled)?;
     let pinned = references_of_kind(alloc, spelled)?;

@@ -46,9 +46,9 @@ fn push_event(alloc: Global, events: &mut Vec<CellEvent>, one: &str) -> anyhow::
     Ok(events.push(parse_event(alloc, one)?)?)
 }
 
-/// Appends inserts into a new pager, each of which refers to the node before. A chain such as
-/// `new_loose 3 10 130` is the call, the type, the kind of the references, and the number of
-/// inserts.
+/// Appends inserts into a new pager; each value but the first refers to the node before. A chain
+/// such as `new_loose 3 10 130` is the call, the type, the kind of the references, and the number
+/// of inserts.
 fn push_chain(alloc: Global, events: &mut Vec<CellEvent>, chain: &str) -> anyhow::Result<()> {
     let (birth, times) = chain.rsplit_once(' ').context("no chain")?;
     let (birth, kind) = birth.rsplit_once(' ').context("no chain")?;
@@ -72,7 +72,7 @@ fn split_count(part: &str) -> (&str, u64) {
     }
 }
 
-/// Parses one event: a step of a load or of a worker, or a call.
+/// Parses one event: of a load, a table or a worker, or a call.
 fn parse_event(alloc: Global, part: &str) -> anyhow::Result<CellEvent> {
     let (name, rest) = split_first_word(part);
     let (first, behind) = split_first_word(rest);
@@ -116,7 +116,7 @@ fn key_of(word: &str) -> Option<DataKey> {
     DataKey::new(word.parse::<u128>().unwrap_or_default())
 }
 
-/// Parses one call: its name and its arguments. A number that is missing is 0, which names nothing.
+/// Parses one call: its name and its arguments. A number that is missing is 0.
 fn parse_call(alloc: Global, name: &str, rest: &str) -> anyhow::Result<CellCall> {
     let (first, behind) = split_first_word(rest);
     let load = LoadNumber(number_of(first));
@@ -132,7 +132,7 @@ fn parse_call(alloc: Global, name: &str, rest: &str) -> anyhow::Result<CellCall>
     }
 }
 
-/// Parses a call whose one argument is a handle, and passes on the name of any other call.
+/// Parses a call whose one argument is a handle. Leaves any other call to `call_of_number`.
 fn call_of_handle(name: &str, first: &str, behind: &str) -> Option<CellCall> {
     let handle = HandleNumber(number_of(first));
     Some(match name {

@@ -47,8 +47,8 @@ fn beginning_words(beginning: &Beginning) -> WordAndNumbers {
     }
 }
 
-/// Returns the word and the numbers that a call's result is printed as. `push_call` adds what is
-/// missing: a blob's bytes, and the ` back` of a refusal that gives the caller its value back.
+/// Returns the word and the numbers that a call's result is printed as. `push_call` itself prints a
+/// blob's bytes, and a refusal that gives the caller its value back.
 fn reply_words(reply: &CellReply) -> WordAndNumbers {
     let number = match reply {
         Reply::Made(Ok(handle))

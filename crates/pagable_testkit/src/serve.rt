@@ -7,7 +7,7 @@ use std::alloc::Global;
 use std::io;
 use std::io::{BufReader, Read, Write};
 
-/// Answers each line with the number of its bytes.
+/// A program that answers each line with the number of its bytes, or `none`.
 #[derive(Clone, Copy)]
 struct ByteCounter;
 

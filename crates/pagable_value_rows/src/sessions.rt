@@ -66,9 +66,8 @@ fn check_and_set<R: Wait>(rt: &R, session: &SessionContext<(), ()>) -> Option<bo
     Some(found.is_some())
 }
 
-/// Returns whether there was a value, before one is set, in a session; in the same session as a
-/// page-out's serializer and as a deserializer lend it; and, asked twice, in the session that a
-/// serializer for tests owns.
+/// Returns whether `check_and_set` finds a value: in a new session, in the same as a page-out's
+/// serializer and as a deserializer lend it, and twice in one that a serializer for tests owns.
 fn check_lent_sessions<R: Wait>(rt: &R, alloc: Global) -> [Option<bool>; 5] {
     let session = SessionContext::new(alloc);
     let before = check_and_set(rt, &session);

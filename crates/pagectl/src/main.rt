@@ -1,4 +1,4 @@
-//! `pagectl HASH` keeps named texts in a pager, and answers one line for each line that it reads.
+//! `pagectl HASH` keeps named texts in a pager, and answers each nonempty line by one line.
 #![tactic(auto)]
 
 use named_texts::serve::serve;

@@ -11,7 +11,7 @@ use std::io::ErrorKind;
 const VERSION: u32 = 1;
 
 /// The tag of a sheet's record. The record's text has a line for each sum that any run has added up
-/// so far, and the record refers to that of the sheet's version.
+/// so far, and the record refers to the version's record.
 const SHEET: u32 = 2;
 
 /// The job of answering the lines of standard input about the last run's sheet. It takes a line that

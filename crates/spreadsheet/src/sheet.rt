@@ -16,7 +16,7 @@ pub struct Sheet {
     pub version: HandleNumber,
     /// A line for each cell: its name and its formula, which is `5` or `=A+B`.
     cells: String,
-    /// The values of the cells that were asked for.
+    /// The values of this version's cells, as far as they were evaluated.
     values: BTreeMap<String, i64>,
     /// The sums of all versions and runs, by the numbers that were added up, as `[5, 7]`.
     sums: BTreeMap<String, i64>,

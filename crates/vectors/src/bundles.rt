@@ -40,9 +40,8 @@ fn next<const KIND: u32>(link: &Chain<KIND>) -> Option<ArcRef> {
     link.next.as_ref().map(|next| next.reference())
 }
 
-/// Says whether a link is the very one that the pager has under this handle, and no copy. It
-/// compares the handles of their references to the next link: each decoding of a link's blob makes
-/// a new one.
+/// Says whether a link is the very one that the pager has under this handle, and no copy: whether
+/// the two refer to a next link by the same handle; each decoding of a link makes a new one.
 fn is_pagers_own_link<const KIND: u32, S: PagableStorage<Linked>>(
     pager: &Pager<Linked, S>,
     link: &Chain<KIND>,
@@ -72,8 +71,8 @@ fn has_pagers_own_links<S: PagableStorage<Linked>>(
     is_pagers_own_link(pager, pinned.get(), pinned.reference::<Linked>().handle)
 }
 
-/// Reads the bundle under a key. Returns None unless it has `count` shared links, and the links
-/// that it holds are the very ones that stand in the pager, and no copies.
+/// Reads the bundle under a key. Returns None unless it has `count` shared links and passes
+/// `has_pagers_own_links`.
 fn read<S: PagableStorage<Linked>>(
     alloc: Global,
     pager: &mut Pager<Linked, S>,
@@ -97,9 +96,9 @@ fn insert_and_page_out<T: OfNode<Linked> + Drop, S: PagableStorage<Linked>>(
     pager.key(cell).ok()
 }
 
-/// Reads bundles in three cases: no link of it is in memory yet, all are, and one of two is. Says
-/// whether in each the links that the bundle holds are the very ones that stand in the pager; and
-/// whether a page-out of the last bundle returns the key that it was read from.
+/// Reads a bundle in three cases: none of its links is in memory yet, all are, and one of two is.
+/// Returns None if `read` does in a case, else whether a page-out of the last bundle gives the key
+/// that it was read from.
 fn cases_succeed_in<S: PagableStorage<Linked>>(
     alloc: Global,
     pager: &mut Pager<Linked, S>,

@@ -1,4 +1,4 @@
-//! Rows of events for a machine over a pager of their values.
+//! Rows of events, and the machine that answers them.
 
 use anyhow::bail;
 use pagable::{
@@ -123,8 +123,8 @@ where
     Ok((node, count, pager.key(handle)?, pager.is_paged_out(handle)?))
 }
 
-/// Tells, in one line, how many entries wait for page-out, and then each live handle of a number
-/// from 1 to `last`: where its node stands, and the node's value if the handle pins it.
+/// Tells, in one line, how many entries wait for page-out, and then of each live handle of a number
+/// from 1 to `last` its node's state, and the node's value if the handle pins it.
 fn look<E: Env<Node = CellNode>, S: PagableStorage<E>>(
     alloc: Global,
     pager: &Pager<E, S>,

@@ -1,5 +1,5 @@
-//! Cells by one call each: inserted, looked at, referred to by each sort of references, found by their key, followed,
-//! and refused.
+//! Tests of calls on one cell, which insert it, look at it, refer to it by each sort of references,
+//! find it by its key, follow or refuse it.
 
 use crate::calls::drop_value;
 use pagable::cell_page_out::page_out;
@@ -16,9 +16,9 @@ use pagable_testkit::linked::{Linked, LinkedNode};
 use std::alloc::Global;
 use std::sync::Arc;
 
-/// The key of a bundle of one link by each sort of references, by weight: 3 for the count of its keys, 1 at each of the
-/// places 9, 10 and 11 of its bytes, and at 12, 28 and 44 the links' keys, which are 1, since a link of nothing weighs
-/// nothing.
+/// The key by weight of a bundle with one link by each sort of references: 3 for the count of its
+/// keys, 1 at each of the places 9, 10 and 11 of its bytes, and at 12, 28 and 44 the links' keys,
+/// which are 1, since a link without a next one weighs 0, and the key 0 becomes 1.
 const KEY: u128 = 117;
 
 /// The node of a value.
@@ -108,8 +108,8 @@ fn are_refused<S: PagableStorage<Linked>>(alloc: Global, pager: &mut Pager<Linke
     is_unknown && page_out_shared(alloc, pager) == Err(Error::WrongMode)
 }
 
-/// Says whether a bundle that was paged out is found by its key, and its loose link by the
-/// reference in it; and whether a look leaves the bundle's cell paged out and unpinned.
+/// Says whether `is_kept` and `are_refused` hold, a bundle that was paged out is found by its key,
+/// its loose link by the reference to it, and a look leaves the bundle paged out and unpinned.
 fn tests_pass_in_pager<S: PagableStorage<Linked>>(
     alloc: Global,
     pager: &mut Pager<Linked, S>,

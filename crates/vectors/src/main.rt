@@ -1,6 +1,7 @@
-//! `vectors FILE..` answers each row of each file, compares the answer with the one that the row expects, and prints
-//! one line of counts for each file. Before, it prints whether its tests of sessions, bundles and cells succeed. The
-//! expected answers come from outside the program. For a row that expects none, the program prints its answer.
+//! `vectors FILE..` prints whether its tests of sessions, bundles and cells succeed. Then it
+//! answers each row of each file, compares the answer with the expected one, which comes from
+//! outside the program, and prints a line of counts for each file. If none is expected, it prints
+//! its own.
 #![tactic(auto)]
 
 mod bundles;

@@ -52,7 +52,8 @@ pub fn print_counts(
     Ok(println!(rt; "{file}: {as_expected} ok, {otherwise} failed")?)
 }
 
-/// Compares the rows of a file, prints one line of their counts, and tells whether all are answered as they expect.
+/// Answers the rows of a file, prints one line of counts, and returns whether no answer differs
+/// from the one that its row expects.
 pub fn compare(
     rt: &HostRuntime,
     calls: &mut RowMachine,

@@ -114,8 +114,8 @@ where
     Ok(listed == 2 && pager.pending() == 0 && fetched == Some(Error::Storage(7)))
 }
 
-/// Says whether the test that a row has beside its lines succeeds in a pager without cells. Most
-/// rows have none, and succeed.
+/// Says whether a row's own test succeeds in a pager without cells. Most rows have none, and
+/// succeed.
 fn row_test_passes_in_pager<E: Env<Node = CellNode>, S: PagableStorage<E>>(
     alloc: Global,
     pager: &mut Pager<E, S>,
@@ -143,8 +143,8 @@ fn row_test_succeeds(alloc: Global, number: u32) -> anyhow::Result<bool> {
     answer
 }
 
-/// Says whether a row's lines get the expected answers on a new machine, and the test that the row
-/// has beside them succeeds. An error that the row doesn't expect counts as a failure.
+/// Says whether a row's lines get the expected answers on a new machine, and its own test succeeds.
+/// An error that the row doesn't expect counts as a failure.
 fn row_succeeds(alloc: Global, calls: &mut RowMachine, text: &str, number: u32) -> bool {
     calls.answer(alloc, "machine").is_ok()
         && lines_hold(alloc, calls, text, number).unwrap_or(false)
