@@ -3,12 +3,12 @@
 use Rattle.pagable_tables.proofs.{
   CascadeEnd.ended,
   CascadeStep.{aside, turned, unmixed},
-  Counting.{all-kept, kept-more, left-none, of_list, there-is},
+  Counting.{all-kept, kept-more, left-none, of_list},
   HandleTable.found-append,
   LoadEnd.turned-sum,
-  OwnedByLoad.{changed-push, seen-before},
+  OwnedByLoad.{changed-push, none-owned, seen-before},
   RowCounts.{found-among, sum-none},
-  SameViews.{alike, alike-on, moved-nobody, named-none, owner-same, same-cache, still},
+  SameViews.{alike, alike-on, moved-nobody, named-none, same-cache, still},
   Views.none-named,
   Words.{Alike, ArePlaced, BeginCall, Beginning, Bool, Core, Falls, HandleNumber, HandleRow, HasRoom, Installs, Last, List, LoadNumber, MayEnd, Mode, None, Ok},
   Words.{Option, Owner, Owns, RefCounts, ReleasedSoFar, Some, Tables, ap, append-nil, arith, cases_Bool, cases_eq, changed, core_alone, core_of, false},
@@ -91,9 +91,8 @@ module _ (t t1 : Tables) (storage : StorageView) (was : IsWhole t) (whole : IsWh
 
   own-none : (q : ℕ) → is_owned_in w (Owner.Load l) q ≡ false
   own-none q = elim (cases_Bool (is_owned_in w (Owner.Load l) q)) [
-    | inl own ↦ absurd (let (y, found, same) = there-is (is_owned_by (Owner.Load l)) (find_row q w.rows) own in
-        let open_load = was.core.owners_there.loads y l (found-among q w.rows y found).0 (owner-same (Owner.Load l) y.owner same) in
-        let n = was.core.loads.numbered l.0 open_load in omega arith)
+    | inl own ↦ absurd (none-owned w (Owner.Load l) q
+        (λ h among of. absurd (let n = was.core.loads.numbered l.0 (was.core.owners_there.loads h l among of) in omega arith)) own)
     | inr other ↦ other
   ]
 

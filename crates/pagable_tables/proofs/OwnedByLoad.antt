@@ -137,7 +137,7 @@ pub closed-still : (at at' : ℕ → Option LoadRow) (m : ℕ) → at' m ≡ Non
     ≡ Some load
 closed-still at at' m gone others l load is = grind (arith, nat_tests)
 
-none-owned : (w : Core) (o : Owner) (q : ℕ) → ((h : HandleRow) → Among w.rows h → h.owner ≡ o → ⊥) → is_owned_in w o q ≡ true → ⊥
+pub none-owned : (w : Core) (o : Owner) (q : ℕ) → ((h : HandleRow) → Among w.rows h → h.owner ≡ o → ⊥) → is_owned_in w o q ≡ true → ⊥
 none-owned w o q nobody own = let (row, e, is) = there-is (is_owned_by o) (find_row q w.rows) own in
     nobody row (found-among q w.rows row e).0 (owner-same o row.owner is)
 
@@ -148,25 +148,7 @@ later-opened {t} {t'} whole later newer m row none here since others same noted 
     let new-owns : (q : ℕ) → owned (Owner.Load (record { 0 = m })) q (core_alone t).rows ≡ true → ⊥ = λ q own.
     none-owned (core_alone t) (Owner.Load (record { 0 = m })) q (λ h among of. absurd (let a = whole.owners_there.loads h (record { 0 = m }) among of in
     let b : is_some ((core_alone t).loads m) ≡ false = ap (λ o. is_some (option_map load_in o)) none in cc)) own in
-    grind (
-      arith,
-      nat_tests,
-      cases_eq,
-      here,
-      since,
-      others,
-      later.given,
-      later.since,
-      later.begun,
-      later.reach,
-      later.loads,
-      later.noted,
-      later.until,
-      noted,
-      newer.last,
-      newer.kept,
-      new-owns,
-    )
+    grind (arith, nat_tests, cases_eq, here, since, others, later, noted, newer, new-owns)
 
 pub later-begun : {t t' : Tables} → pager.IsWhole (core_alone t) → OwnLaterHandles t → t' ≡ record t { workers = t'.workers; last_worker = t'.last_worker }
     → (v : ℕ)
@@ -180,21 +162,7 @@ later-begun {t} {t'} whole later same v new here others =
     λ m o owns may. grind (arith, nat_tests) in
     let nobody : (q : ℕ) → owned (owner_worker v) q (core_alone t).rows ≡ true → ⊥ =
     λ q own. none-owned (core_alone t) (owner_worker v) q (λ h among of. at-rest v refl (whole.owners_there.workers h v among of)) own in
-    subst OwnLaterHandles (sym same) (grind (
-      arith,
-      nat_tests,
-      cases_eq,
-      here,
-      others,
-      nobody,
-      later.given,
-      later.since,
-      later.begun,
-      later.reach,
-      later.loads,
-      later.noted,
-      later.until,
-    ))
+    subst OwnLaterHandles (sym same) (grind (arith, nat_tests, cases_eq, here, others, nobody, later))
 
 -- ---- handles that come to a worker
 
