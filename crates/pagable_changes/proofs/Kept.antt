@@ -30,14 +30,14 @@ use Rattle.pagable_theorems.proofs.{
   CallEffects.calls-go,
   Decoding.{among-left, among-right},
   FormsOfTrees.{given-of, leads-on, tree-form, wrote},
-  HandlesKept.{among-found, found-number},
+  HandlesKept.{among-found, found-number, rows-self},
   LoadProgress.{row-held, tree-stays},
-  LoadResults.{After, after-then, rows-stay},
-  Operations.{Stands, call-stays, no-value, still-settled},
+  LoadResults.{After, after-then},
+  Operations.{Stands, plain-stays},
   ReadingSteps.caller-free,
   Trees.{same-number, same_some},
 }
-use Rattle.pagable_theorems.specs.{CallerLaws.IsCall, TreeSteps.{CallFeels, Change, CoreGoes, FollowsTo, Ground, KeepsStored, WroteTree}}
+use Rattle.pagable_theorems.specs.TreeSteps.{CallFeels, Change, CoreGoes, FollowsTo, Ground, KeepsStored, WroteTree}
 use Rattle.pagable_value_spec.specs.{Canonical.IsReadableType, Merkle.{KeyOf, KeysOf, blob_of, key-of}, Trees.{ReadsTree, Tree, type_of}}
 use Rattle.std.proofs.{
   Common.{Err, IfOk, List, Ok, Result, Some, ap, arith, if◌then◌else◌, inl, inr, refl, subst, sym, ℕ, [], ◌<◌, ◌==◌, ◌∙◌, ◌∷◌, ◌≡◌, ◌≤◌},
@@ -61,7 +61,7 @@ module _ {N E : Type 0} (v : Values N) (lawful : IsLawful v) (M : Type 0) where
   abbrev went-same : {s : PagerState N E} {trees : ℕ → Tree} → Stands v s trees → Went s trees s
   went-same {s} {trees} at = record {
     trees' = trees;
-    after = record { same = λ n within. refl; nodes = omega arith; stands = at.stands; handles = omega arith; rows = rows-stay s.core.last.handle s.core.rows };
+    after = record { same = λ n within. refl; nodes = omega arith; stands = at.stands; handles = omega arith; rows = rows-self _ _ _ refl };
     now = at;
     kept = λ q b is. is;
     keys = λ keyed. keyed;
@@ -92,12 +92,7 @@ module _ {N E : Type 0} (v : Values N) (lawful : IsLawful v) (M : Type 0) where
       → MakesCall v does s s' → (does s'.core → CallDoes (seen_in v) s.core Owner.Caller call reply s'.core) → AsksWell v s trees call reply → Stands v s trees
       → Went s trees s'
   by-call {s = s} {s'} call reply keys_go sets stays_open c is asks at =
-      let one : IsCall (seen_in v) s call reply s' = record {
-        step = record { does = is c.step };
-        moves = no-value (seen_in v) lawful call c.moves;
-        whole = c.whole;
-      } in
-      let r = (call-stays (seen_in v) lawful call reply at one stays_open asks (still-settled (seen_in v) lawful at c)).0 in
+      let r = (plain-stays (seen_in v) lawful call reply at c (is c.step) stays_open asks).0 in
       let g = calls-go (seen_in v) s.core Owner.Caller caller-free s'.core call reply stays_open (is c.step) in
       record {
         trees' = r.trees';

@@ -15,8 +15,8 @@ use Rattle.pagable_theorems.proofs.{
   HandlesKept.{Goes, KnowsNext, NotLoads, a-handle, alike-away, begun, fell-away, found-changed, goes-then, good, quiet-goes},
   Trees.{same-number, same_some},
   Words.{Alike, ArcRef, Beginning, Blob, Bool, Call, Change, CloneCall, Core, Err, Error, Event, GetsKnown, HandleNumber, HandleRow, KeepsOpen, Kind, List},
-  Words.{LoadNumber, Mode, NodeNumber, None, Ok, Option, OptionalDataKey, Owner, PinCall, Reply, Result, Seen, Some, Values, adopted, ap, arith, bears_known},
-  Words.{false, find_row, first_key, inl, inr, is_in, is_named_by, moved, nat_tests, next_node, nothing_felt, of_cell, owner_value, refl, rules, subst, sym},
+  Words.{LoadNumber, Mode, NodeNumber, None, Ok, Option, OptionalDataKey, Owner, PinCall, Reply, Result, Seen, Some, Values, adopted, ap, arith, basics},
+  Words.{bears_known, false, find_row, first_key, inl, inr, is_in, is_named_by, moved, next_node, nothing_felt, of_cell, owner_value, refl, rules, subst, sym},
   Words.{true, with_handle, ℕ, [], ◌∙◌, ◌≡◌, ◌⊎◌},
 }
 use Rattle.pagable_theorems.specs.{
@@ -27,7 +27,10 @@ use Rattle.pagable_theorems.specs.{
 -- ---- each call, and what loads do, by whoever asks
 
 module _ {me : Owner} {lists : Bool} {Asks Leaves : Type 0} {c : Change} where
-  pub made-handle : {w w' : Core} (node : NodeNumber) (mode : Mode) (owner : Owner) → Alike (with_handle w node mode owner) w'
+  unmoved : {w w' : Core} → Alike w w' → Effect me lists Asks Leaves false c w w'
+  unmoved a = stays a
+
+  made-handle : {w w' : Core} (node : NodeNumber) (mode : Mode) (owner : Owner) → Alike (with_handle w node mode owner) w'
       → Effect me lists Asks Leaves false c w w'
   made-handle {w = w} node mode owner a = like (handle (none w) node mode owner) a
 
@@ -45,11 +48,11 @@ module _ {me : Owner} {lists : Bool} {Asks Leaves : Type 0} {c : Change} where
   stores (Err e) x = was-asked x.refused.0
 
   pub clones : {w w' : Core} {h : HandleNumber} (r : Result HandleNumber Error) → CloneCall w me h r w' → Effect me lists Asks Leaves false c w w'
-  clones x0 x = grind (arith, nat_tests, made-handle, stays {me = me} {lists = lists} {Asks = Asks} {Leaves = Leaves} {c = c})
+  clones x0 x = grind (basics, made-handle, unmoved)
 
   pub recalls : {w w' : Core} {kind : Kind} {key : ℕ} (r : Result (Option HandleNumber) Error) → RecallCall w me kind key r w'
       → Effect me lists Asks Leaves false c w w'
-  recalls x0 x = grind (arith, nat_tests, made-handle, stays {me = me} {lists = lists} {Asks = Asks} {Leaves = Leaves} {c = c})
+  recalls x0 x = grind (basics, made-handle, unmoved)
 
   pub gets-known : {w w' : Core} {l : LoadNumber} {kind : Kind} {key : ℕ} {k : HandleNumber} → GetsKnown w l kind key k w'
       → Effect me lists Asks Leaves false c w w'
@@ -57,7 +60,7 @@ module _ {me : Owner} {lists : Bool} {Asks Leaves : Type 0} {c : Change} where
 
   pub asks : {w w' : Core} {l : LoadNumber} {want : FetchTarget} (r : Result Given Error) → LoadFetchCall w me l want r w'
       → Effect me lists Asks Leaves false c w w'
-  asks x0 x = grind (arith, nat_tests, was-asked, gets-known, same_some, stays {me = me} {lists = lists} {Asks = Asks} {Leaves = Leaves} {c = c})
+  asks x0 x = grind (basics, was-asked, gets-known, same_some, unmoved)
 
   pub closes : {w w' : Core} (l : LoadNumber) {r : Result (Unit {0}) Error} → (Asks → IsMine w me l) → LoadCloses w l r w'
       → Effect me lists Asks Leaves false c w w'
@@ -71,7 +74,7 @@ module _ {me : Owner} {lists : Bool} {Asks Leaves : Type 0} {c : Change} where
   module _ (free : NotLoads me) where
     pub pins : {w w' : Core} {h : HandleNumber} (r : Result Pinning Error) → PinCall w me h r w' → Effect me lists Asks Leaves false c w w'
     pins {w = w} {h = h} (Ok (Pinning.Pinned k)) x = like (handle (own-mode free w h x.pins.0 x.pins.1 Mode.LoosePinned refl) _ Mode.Pinned me) x.pins.2.2
-    pins x0 x = grind (arith, nat_tests, stays {me = me} {lists = lists} {Asks = Asks} {Leaves = Leaves} {c = c})
+    pins x0 x = grind (basics, unmoved)
 
     pub schedules : {w w' : Core} (h : HandleNumber) (r : Result (Unit {0}) Error) → ScheduleCall w me h r w' → Effect me lists Asks Leaves false c w w'
     schedules {w = w} h (Ok u) x = elim x.moves.2 [
@@ -84,7 +87,7 @@ module _ {me : Owner} {lists : Bool} {Asks Leaves : Type 0} {c : Change} where
         → Effect me lists Asks Leaves false c w w'
     hands-over {w = w} l hs (Ok u) x =
         let named = both-none _ _ x.hands.0 in
-        let mine : IsMine w me l = λ load is. let may = named.0 in grind (arith, nat_tests) in
+        let mine : IsMine w me l = λ load is. let may = named.0 in grind basics in
         fell (moves (shuts (none w) l (λ own. mine)) (is_in (numbers_of hs)) me w.list free (handed w l hs (both-none _ _ named.1).1)) x.hands.1.falls
         (but (is_owned_in w (Owner.Load l)) (is_in (numbers_of hs)) (load-owns w l))
     hands-over l hs (Err e) x = stays x.refused.1
@@ -95,13 +98,13 @@ module _ {me : Owner} {lists : Bool} {Asks Leaves : Type 0} {c : Change} where
         → Effect me lists Asks Leaves false c w w'
     ends-load {w = w} {w'} {references = references} l (Ok k) e =
         let (p, h, may, i) = e.installs in
-        let closed : Effect me lists Asks Leaves true c w (without_load w l) = shuts (none w) l (λ own. owned-mine may.owned) in
+        let closed = shuts (none w) l (λ own. owned-mine may.owned) in
         let own-free : (r : HandleRow) → find_row h.0 w.rows ≡ Some r → NotLoads r.owner =
         λ r found. subst NotLoads (sym (ap (λ (x : HandleRow). x.owner) (same_some _ _ (sym found ∙ i.owned.live)) ∙ i.owned.own)) free in
         let pinned-free : (r : HandleRow) → find_row h.0 (moved (is_named_by references) (owner_value p.0) w.rows) ≡ Some r → NotLoads r.owner = λ r found l is.
         let c = found-changed (λ (r : HandleRow). is_named_by references r.number.0) (λ row. record row { owner = owner_value p.0 })
         (λ r. refl) h.0 w.rows r found in
-        grind (arith, nat_tests, found-changed, same_some, own-free) in
+        grind (basics, found-changed, same_some, own-free) in
         elim i.falls [
           | inl (away, f) ↦ fell
               (handle (turned (moves closed (is_named_by references) (owner_value p.0) w.list (λ l is. absurd (cc))
@@ -120,18 +123,18 @@ module _ {me : Owner} {lists : Bool} {Asks Leaves : Type 0} {c : Change} where
 module _ {me : Owner} {lists : Bool} {Asks Leaves : Type 0} where
   pub begins : {w w' : Core} {h : HandleNumber} (r : Result Beginning Error) → BeginCall w me h r w' → Effect me lists Asks Leaves false nothing_felt w w'
   begins {w} {w'} {h} (Ok (Beginning.Load l key)) x =
-      let row : HandleRow = x.begins.0 in
+      let row = x.begins.0 in
       let a = x.begins.2 in
       let made = with_handle w row.node Mode.LooseUnpinned (Owner.Load l) in
       like (opens (handle (none w) row.node Mode.LooseUnpinned (Owner.Load l)) key (of_cell row.node a.4.0 h)
       (goes-then (quiet-goes nothing_felt (a-handle w row.node Mode.LooseUnpinned (Owner.Load l)))
-      (begun nothing_felt made key (of_cell row.node a.4.0 h) me (λ node t k root. let typed = a.4.1 in let own = a.1 in grind (arith, nat_tests))))) a.4.2
-  begins x0 x = grind (arith, nat_tests, stays {me = me} {lists = lists} {Asks = Asks} {Leaves = Leaves} {c = nothing_felt})
+      (begun nothing_felt made key (of_cell row.node a.4.0 h) me (λ node t k root. grind (basics, a.4.1, a.1))))) a.4.2
+  begins x0 x = grind (basics, stays {me = me} {lists = lists} {Asks = Asks} {Leaves = Leaves} {c = nothing_felt})
 
   pub begins-key : {w w' : Core} {key : ℕ} (r : Result Beginning Error) → BeginKeyCall w me key r w' → Effect me lists Asks Leaves false nothing_felt w w'
   begins-key {w} {key = key} (Ok (Beginning.Load l k)) x = like (opens (none w) key of_key (begun nothing_felt w key of_key me (λ node t h is. absurd (cc))))
       x.begins.2
-  begins-key x0 x = grind (arith, nat_tests, stays {me = me} {lists = lists} {Asks = Asks} {Leaves = Leaves} {c = nothing_felt})
+  begins-key x0 x = grind (basics, stays {me = me} {lists = lists} {Asks = Asks} {Leaves = Leaves} {c = nothing_felt})
 
   -- a node that a load adopts, which the cache gets to know while the storage is open
   pub adopts : {w w' : Core} (l : LoadNumber) (kind : Kind) (key : ℕ) (own : OptionalDataKey) (references : List ArcRef) → usable w kind.0 key ≡ None
@@ -206,7 +209,7 @@ module _ {N B W : Type 0} (m : Seen N B W) (w : Core) (me : Owner) (free : NotLo
         (feels-key h key row (record { live = owns.live; own = owns.own; as_asked = loose }))
   ]
   calls-go (Call.OnArcDeserialized kind key h) (Reply.FromCache (Ok None)) still c =
-      let row : HandleRow = c.answers.0 in
+      let row = c.answers.0 in
       let owns = c.answers.1 in
       so (knows_node kind.0 key row.node.0) (like (cached (none w) kind key row.node (refl, refl, refl) c.answers.3.1) c.answers.3.2)
       (feels-known kind key h row (record { live = owns.live; own = owns.own; as_asked = refl }) c.answers.2)
@@ -237,10 +240,10 @@ module _ {N B W : Type 0} (m : Seen N B W) (w : Core) (me : Owner) (free : NotLo
   calls-go _ reply still c =
       let unmoved : Alike w w' → Effect me true (Unit {0}) (Unit {0}) false nothing_felt w w' = stays in
       let asked : Asked w w' → Effect me true (Unit {0}) (Unit {0}) false nothing_felt w w' = was-asked in
-      grind (arith, nat_tests, quiet, unmoved, asked, births)
+      grind (basics, quiet, unmoved, asked, births)
 
 -- the cache gets to know an old node only where the caller puts it there
 pub call-knows : (W : Type 0) {N B : Type 0} {v : Values N} {w w' : Core} {me : Owner} {call : Call N B} {reply : Reply N B} {c : Change}
     → CallFeels v w me call reply w' c
     → LeavesCache {N = N} {B = B} {W = W} (Event.Call call) → KnowsNext c w
-call-knows x0 x1 leaves = grind (arith, nat_tests)
+call-knows x0 x1 leaves = grind basics

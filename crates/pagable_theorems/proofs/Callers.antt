@@ -12,8 +12,8 @@ use Rattle.pagable_theorems.proofs.{
   FormsOfTrees.cell-of,
   HandlesKept.{PinOf, among-found, end-call, found-number, low-whole, pin-call, updated-at},
   LoadProgress.{pin_stands, row-held, was-open},
-  LoadResults.{After, after-then, pin-after, read-after},
-  Operations.{Stands, Stays, call-nobody, call-stays, item-stays, list-stays, no-value, stays-same, still-settled},
+  LoadResults.{After, after-then, caller-feels, pin-after, read-after},
+  Operations.{Stands, Stays, call-nobody, call-stays, item-stays, list-stays, plain-stays, plainly, stays-same, stays-then},
   ReadingSteps.{caller-free, reading-feels},
   Trees.same_some,
   Words.{Beginning, Blob, Call, Core, Err, Error, Frame, HandleNumber, HandleRow, HoldsSettled, IsLawful, IsPagerWhole, Last, List, LoadAnswer, LoadNumber},
@@ -33,23 +33,16 @@ pub record LoadLeft {N E : Type 0} (v : Values N) (s : PagerState N E) : Type 0 
   pub settled : HoldsSettled v s
   pub nobody : NobodyWorks s.core
 
-load-works : {N E : Type 0} {v : Values N} (s s' : PagerState N E) (reading : Reading) (answer : Option (LoadAnswer N)) (frames : List Frame)
-    → ReadingStep v Owner.Caller reading s answer frames s' → (q : ℕ)
-    → s'.core.workers q ≡ s.core.workers q
-load-works {N} {v = v} s s' reading answer frames step q =
-    let seen : Seen N Blob Written = record { values = v; blob_of = λ b. b; written_of = λ w. w } in
-    (reading-feels seen s.core Owner.Caller caller-free s'.core reading answer frames step.does).does.workers q
-
 load-left : {N E : Type 0} {v : Values N} {reading : Reading} {s s' : PagerState N E} {answer : LoadAnswer N} (run : LoadRun v Owner.Caller reading s answer s')
     → LoadAsksWell run → NobodyWorks s.core → LoadLeft v s'
 unfolding LoadAsksWell
 load-left (load-ends reading answer s s' step) asks nobody = record {
   well = step.whole;
   settled = asks.0;
-  nobody = λ q. load-works s s' reading (Some answer) [] step q ∙ nobody q;
+  nobody = λ q. (caller-feels step).does.workers q ∙ nobody q;
 }
 load-left (load-goes-on reading frames answer s mid s' step more) asks nobody =
-    load-left more asks.2 (λ q. load-works s mid reading None frames step q ∙ nobody q)
+    load-left more asks.2 (λ q. (caller-feels step).does.workers q ∙ nobody q)
 
 -- the load is of a node's cell, and the handle that it answers pins this
 record LoadPins (w : Core) (l : LoadNumber) (k : HandleNumber) (w' : Core) : Type 0 where
@@ -69,9 +62,8 @@ pinned-at {N} {v = v} (load-ends reading answer s s' step) well few k is =
     let (node, h, may, i) = e.ended.installs in
     let pin = end-call s.core s'.core (low-whole well.whole.handles) Owner.Caller reading.load e.x _ _ k (λ n is. absurd (cc)) e.ended in
     record { load = may.load; node = node; t = v.node_type e.x; h = h; open_load = may.owned.stands_open; root = may.of_node; pin = pin }
-pinned-at {N} {v = v} (load-goes-on reading frames answer s mid s' step more) well few k is =
-    let seen : Seen N Blob Written = record { values = v; blob_of = λ b. b; written_of = λ w. w } in
-    let goes = (reading-feels seen s.core Owner.Caller caller-free mid.core reading None frames step.does).does.goes in
+pinned-at (load-goes-on reading frames answer s mid s' step more) well few k is =
+    let goes = (caller-feels step).does.goes in
     let p = pinned-at more step.whole (omega arith) k is in
     record { load = p.load; node = p.node; t = p.t; h = p.h; open_load = was-open goes reading.load.0 p.load few p.open_load; root = p.root; pin = p.pin }
 
@@ -101,7 +93,7 @@ load-begun w w' h l key c =
     }
 
 -- the handle that a pin answers is of its handle's node
-pub pin-of : {N E : Type 0} {v : Values N} {s s' : PagerState N E} {h k : HandleNumber} → PinRun v s h (Ok k) s' → IsPagerWhole v s
+pin-of : {N E : Type 0} {v : Values N} {s s' : PagerState N E} {h k : HandleNumber} → PinRun v s h (Ok k) s' → IsPagerWhole v s
     → (row : HandleRow) × (row_at s.core h ≡ Some row) × PinOf s'.core Owner.Caller row.node k
 pin-of {s = s} {s'} {h} {k} (pins-at-once k2 s2 c) well =
     (c.step.pins.0, c.step.pins.1.live, pin-call s.core s'.core (low-whole well.whole.handles) Owner.Caller h k c.step)
@@ -116,11 +108,6 @@ pin-of {s = s} {s'} {h} {k} (load-pins k2 reading mid s2 starts run) well =
 -- ---- each operation
 
 module _ {N E B W : Type 0} (m : Seen N B W) (lawful : IsLawful m.values) where
-  -- a call that brings no value and of which nothing is asked
-  plainly : {does : Core → Type 0} {s s' : PagerState N E} (call : Call N B) (reply : Reply N B) → MakesCall m.values does s s'
-      → (does s'.core → CallStep m s.core Owner.Caller call reply s'.core) → IsCall m s call reply s'
-  plainly call reply c is = record { step = is c.step; moves = no-value m lawful call c.moves; whole = c.whole }
-
   abbrev stays-so : {s s' : PagerState N E} {trees trees' : ℕ → Tree} → After m.values s trees s' trees' → LoadLeft m.values s' → Stays m.values s trees s'
   stays-so {trees' = trees'} after left = record {
     trees' = trees';
@@ -132,43 +119,30 @@ module _ {N E B W : Type 0} (m : Seen N B W) (lawful : IsLawful m.values) where
       → Stands m.values s trees → PinAsksWell run
       → (a : Stays m.values s trees s') × PinIsRight m.values s' a.trees' r
   pin-stays {h = h} (pins-at-once k s' c) at asks =
-      let p = call-stays m lawful (Call.Pin h) (Reply.Pin (Ok (Pinning.Pinned k))) at (plainly (Call.Pin h) (Reply.Pin (Ok (Pinning.Pinned k))) c
-      (λ d. record { does = d })) tt tt (still-settled m lawful at c) in (p.0, p.1)
-  pin-stays {h = h} (pin-is-refused e s' c) at asks = (
-    (call-stays m lawful (Call.Pin h) (Reply.Pin (Err e)) at (plainly (Call.Pin h) (Reply.Pin (Err e)) c (λ d. record { does = d })) tt tt
-        (still-settled m lawful at c)).0,
-    tt,
-  )
-  pin-stays {h = h} (load-is-refused e s' c) at asks = (
-    (call-stays m lawful (Call.LoadBegin h) (Reply.Begun (Err e)) at (plainly (Call.LoadBegin h) (Reply.Begun (Err e)) c
-        (λ d. record { does = d })) tt tt (still-settled m lawful at c)).0,
-    tt,
-  )
+      let p = plain-stays m lawful (Call.Pin h) (Reply.Pin (Ok (Pinning.Pinned k))) at c c.step tt tt in (p.0, p.1)
+  pin-stays {h = h} (pin-is-refused e s' c) at asks = ((plain-stays m lawful (Call.Pin h) (Reply.Pin (Err e)) at c c.step tt tt).0, tt)
+  pin-stays {h = h} (load-is-refused e s' c) at asks = ((plain-stays m lawful (Call.LoadBegin h) (Reply.Begun (Err e)) at c c.step tt tt).0, tt)
   pin-stays {s} {trees = trees} {h} (load-pins k reading mid s' starts run) at asks =
-      let begun = plainly (Call.LoadBegin h) (Reply.Begun (Ok (Beginning.Load reading.load starts.key))) starts.begins (λ d. record { does = d }) in
+      let begun = plainly m lawful (Call.LoadBegin h) (Reply.Begun (Ok (Beginning.Load reading.load starts.key))) starts.begins starts.begins.step in
       let r = pin-after m.values s mid s' h reading (LoadAnswer.Pinned k) run at.well starts asks lawful at.settled trees at.stands in
       let left = load-left run asks (call-nobody m begun tt at.nobody) in
       let p = (pin-of (load-pins k reading mid s' starts run) at.well).2.pin in
       (stays-so r.1 left, pin_stands s' r.0 k p.row left.well r.1.stands p.live p.is)
   pin-stays {s} {trees = trees} {h} (load-fails e reading mid s' starts run) at asks =
-      let begun = plainly (Call.LoadBegin h) (Reply.Begun (Ok (Beginning.Load reading.load starts.key))) starts.begins (λ d. record { does = d }) in
+      let begun = plainly m lawful (Call.LoadBegin h) (Reply.Begun (Ok (Beginning.Load reading.load starts.key))) starts.begins starts.begins.step in
       let r = pin-after m.values s mid s' h reading (LoadAnswer.Refused e) run at.well starts asks lawful at.settled trees at.stands in
       (stays-so r.1 (load-left run asks (call-nobody m begun tt at.nobody)), tt)
 
   read-stays : {s s' : PagerState N E} {trees : ℕ → Tree} {key t : ℕ} {r : Result N Error} (run : ReadRun m.values s key t r s') → Stands m.values s trees
       → ReadAsksWell run
       → Stays m.values s trees s' × ReadingIsRight m.values s' key r
-  read-stays {key = key} (reading-is-refused e s' c) at asks = (
-    (call-stays m lawful (Call.LoadKey key) (Reply.Begun (Err e)) at (plainly (Call.LoadKey key) (Reply.Begun (Err e)) c
-        (λ d. record { does = d })) tt tt (still-settled m lawful at c)).0,
-    tt,
-  )
+  read-stays {key = key} (reading-is-refused e s' c) at asks = ((plain-stays m lawful (Call.LoadKey key) (Reply.Begun (Err e)) at c c.step tt tt).0, tt)
   read-stays {s} {trees = trees} {key} {t} (load-reads x l mid s' starts run) at asks =
-      let begun = plainly (Call.LoadKey key) (Reply.Begun (Ok (Beginning.Load l key))) starts (λ d. record { does = d }) in
+      let begun = plainly m lawful (Call.LoadKey key) (Reply.Begun (Ok (Beginning.Load l key))) starts starts.step in
       let r = read-after m.values s mid s' key t l (LoadAnswer.Read x) run at.well starts asks lawful at.settled trees at.stands in
       (stays-so r.1 (load-left run asks (call-nobody m begun tt at.nobody)), r.2 x refl)
   read-stays {s} {trees = trees} {key} {t} (reading-fails e l mid s' starts run) at asks =
-      let begun = plainly (Call.LoadKey key) (Reply.Begun (Ok (Beginning.Load l key))) starts (λ d. record { does = d }) in
+      let begun = plainly m lawful (Call.LoadKey key) (Reply.Begun (Ok (Beginning.Load l key))) starts starts.step in
       let r = read-after m.values s mid s' key t l (LoadAnswer.Refused e) run at.well starts asks lawful at.settled trees at.stands in
       (stays-so r.1 (load-left run asks (call-nobody m begun tt at.nobody)), tt)
 
@@ -187,15 +161,13 @@ module _ {N E B W : Type 0} (m : Seen N B W) (lawful : IsLawful m.values) where
       operation-stays one at asks in (a.trees', a.after.same, a.after.stands, right, all-right a.trees' more a.now)
 
 module _ {N E B W : Type 0} (m : Seen N B W) (lawful : IsLawful m.values) where
-  -- from one moment to any later one
   all-stays : {s s' : PagerState N E} {trees : ℕ → Tree} (operations : Operations m s s') → Stands m.values s trees → AskWell operations
       → Stays m.values s trees s'
   unfolding AskWell
   all-stays (is-done s) at asks = stays-same m lawful at
   all-stays {trees = trees} (goes-on s mid s' one more) at asks =
       let a = (operation-stays m lawful one at (asks.0 trees at.stands)).0 in
-      let r = all-stays more a.now asks.1 in
-      record { trees' = r.trees'; after = after-then a.after r.after; now = r.now }
+      stays-then a.after (all-stays more a.now asks.1)
 
 -- each of two pins gives its node's tree, and the handle's node is one all along
 pub pinned_again_law : {N B W : Type 0} (E : Type 0) (m : Seen N B W) → PinnedAgainLaw E m

@@ -6,9 +6,9 @@ use Rattle.pagable_pager_spec.specs.{
 }
 use Rattle.pagable_theorems.proofs.{
   Trees.{at-most-sum, counted, one-small, one-true, same-number, sum-le, sum-plus, sum-zero},
-  Words.{Among, Blob, Bool, HandleRow, Last, List, Mode, Ok, Option, Owner, and_parts, ap, arith, cases_lt, false, false_from_ne_true, find_row, held, inl},
-  Words.{inr, is_owned_by, is_owner, is_pinning, length, nat_tests, not, one, owner_value, pins, refl, suc, sum_by-cons, sym, true, zero, ℕ, [], ◌&&◌, ◌+◌},
-  Words.{◌<◌, ◌==◌, ◌||◌, ◌∙◌, ◌∷◌, ◌≡◌, ◌≤◌},
+  Words.{Among, Blob, Bool, HandleRow, Last, List, Mode, Ok, Option, Owner, and_parts, ap, arith, basics, cases_lt, false, false_from_ne_true, find_row, held},
+  Words.{inl, inr, is_owned_by, is_owner, is_pinning, length, not, one, owner_value, pins, refl, suc, sum_by-cons, sym, true, zero, ℕ, [], ◌&&◌, ◌+◌, ◌<◌},
+  Words.{◌==◌, ◌||◌, ◌∙◌, ◌∷◌, ◌≡◌, ◌≤◌},
 }
 use Rattle.pagable_theorems.specs.SmallWorlds.{OwnsNothing, ReleaseLaws, first, first_node, lone, lone_listed, lone_unlisted, two_rows}
 use Rattle.std.proofs.{Common.sum_by, lemmas.List.Sums.length-filter}
@@ -34,10 +34,10 @@ abbrev follows : (ℕ → Bool) → ℕ → HandleRow → ℕ
 follows lost q h = one (h.number.0 == q && owner_goes lost h.owner)
 
 owned-by : (lost : ℕ → Bool) (n : ℕ) (o : Owner) → is_owner (owner_value n) o ≡ true → lost n ≡ true → owner_goes lost o ≡ true
-owned-by lost n x2 is goes = grind (arith, nat_tests)
+owned-by lost n x2 is goes = grind basics
 
 owner-of : (lost : ℕ → Bool) (o : Owner) → owner_goes lost o ≡ true → (n : ℕ) × (is_owner (owner_value n) o ≡ true) × (lost n ≡ true)
-owner-of lost x1 goes = grind (arith, nat_tests)
+owner-of lost x1 goes = grind basics
 
 module _ (rows : List HandleRow) (keyed : ℕ → Bool) (entries : List HandleRow) where
   abbrev lost : (ℕ → Bool) → ℕ → Bool
@@ -49,27 +49,26 @@ module _ (rows : List HandleRow) (keyed : ℕ → Bool) (entries : List HandleRo
 
   -- a handle that a value owns that goes is in the greater set
   comes : (s : ℕ → Bool) (h : HandleRow) (n : ℕ) → Among rows h → is_owner (owner_value n) h.owner ≡ true → lost s n ≡ true → more s h.number.0 ≡ true
-  comes s h n among is goes = let a = owned-by (lost s) n h.owner is goes in let c =
-      at-most-sum (follows (lost s) h.number.0) rows h among in grind (arith, nat_tests)
+  comes s h n among is goes = grind (basics, owned-by (lost s) n h.owner is goes, at-most-sum (follows (lost s) h.number.0) rows h among)
 
   -- where no more follows, the set is closed
   closed-if : (s : ℕ → Bool) → sum_by (outside s) rows ≤ sum_by (outside (more s)) rows → IsClosed rows keyed entries s
   closed-if s same n goes =
-      let a = sum-le (λ h. owned_out s n h + outside (more s) h) (outside s) rows (λ h among. grind (arith, nat_tests, comes)) in
+      let a = sum-le (λ h. owned_out s n h + outside (more s) h) (outside s) rows (λ h among. grind (basics, comes)) in
       let b = sum-plus (owned_out s n) (outside (more s)) rows in omega arith
 
   -- what is in the one set is in the other
   pub inside : (s t : ℕ → Bool) (h : HandleRow) → IsWithin rows s t → Among rows h → s h.number.0 ≡ true → t h.number.0 ≡ true
-  inside s t h within among is = let a = at-most-sum (only_in s t) rows h among in grind (arith, nat_tests)
+  inside s t h within among is = grind (basics, at-most-sum (only_in s t) rows h among)
 
   -- a value that goes with fewer handles goes with more
   pub wider : (s t : ℕ → Bool) (n : ℕ) → IsWithin rows s t → lost s n ≡ true → lost t n ≡ true
   wider s t n within goes =
       let pins = sum-le (λ h. one (is_pin n h && is_outside t h)) (λ h. one (is_pin n h && is_outside s h)) rows
-      (λ h among. let a = at-most-sum (only_in s t) rows h among in grind (arith, nat_tests)) in
+      (λ h among. grind (basics, at-most-sum (only_in s t) rows h among)) in
       let handles = sum-le (λ h. one (is_at n h && is_outside t h)) (λ h. one (is_at n h && is_outside s h)) rows
-      (λ h among. let a = at-most-sum (only_in s t) rows h among in grind (arith, nat_tests)) in
-      grind (arith, nat_tests)
+      (λ h among. grind (basics, at-most-sum (only_in s t) rows h among)) in
+      grind basics
 
   -- what isn't given, and is owned by no value that goes, doesn't fall
   module _ (given gone stay : ℕ → Bool) (least : IsLeast rows keyed entries given gone)
@@ -80,14 +79,14 @@ module _ (rows : List HandleRow) (keyed : ℕ → Bool) (entries : List HandleRo
 
     pub outlast : (h : HandleRow) → Among rows h → stay h.number.0 ≡ true → gone h.number.0 ≡ false
     outlast h among is =
-        let holds : IsWithin rows given but = sum-zero (only_in given but) rows
-        (λ h among. grind (arith, nat_tests, inside given gone h least.holds among, free h among)) in
+        let holds = sum-zero (only_in given but) rows
+        (λ h among. grind (basics, inside given gone h least.holds among, free h among)) in
         let closed : IsClosed rows keyed entries but = λ n goes.
-        let lost_too = wider but gone n (sum-zero (only_in but gone) rows (λ h among. grind (arith, nat_tests))) goes in
+        let lost_too = wider but gone n (sum-zero (only_in but gone) rows (λ h among. grind basics)) goes in
         let none = least.closed n lost_too in sum-zero (owned_out but n) rows (λ h among.
         let f : is_owner (owner_value n) h.owner ≡ true → stay h.number.0 ≡ false = λ e. apart n h among e lost_too in
-        let a = at-most-sum (owned_out gone n) rows h among in grind (arith, nat_tests, f)) in
-        false_from_ne_true (gone h.number.0) (λ e. let goes = inside gone but h (least.least but holds closed) among e in grind (arith, nat_tests))
+        grind (basics, f, at-most-sum (owned_out gone n) rows h among)) in
+        false_from_ne_true (gone h.number.0) (λ e. grind (basics, inside gone but h (least.least but holds closed) among e))
 
   -- what follows is in each closed set
   stays : (s t : ℕ → Bool) → IsWithin rows s t → IsClosed rows keyed entries t → IsWithin rows (more s) t
@@ -97,10 +96,10 @@ module _ (rows : List HandleRow) (keyed : ℕ → Bool) (entries : List HandleRo
       λ h x among number (n, is, goes).
       let none : sum_by (owned_out t n) rows ≡ 0 = closed n (wider s t n within goes) in
       let at : owned_out t n x ≤ sum_by (owned_out t n) rows = at-most-sum (owned_out t n) rows x among in
-      let it : t x.number.0 ≡ true = grind (arith, nat_tests) in sym (ap t number) ∙ it in
+      let it : t x.number.0 ≡ true = grind basics in sym (ap t number) ∙ it in
       let owned : (h : HandleRow) → Among rows h → 0 < sum_by (follows (lost s) h.number.0) rows → t h.number.0 ≡ true = λ h among some.
-      grind (arith, nat_tests, one-true, of-value, same-number, owner-of, counted (follows (lost s) h.number.0) rows some) in
-      sum-zero (only_in (more s) t) rows (λ h among. grind (arith, nat_tests, inside s t h within among, owned h among))
+      grind (basics, one-true, of-value, same-number, owner-of, counted (follows (lost s) h.number.0) rows some) in
+      sum-zero (only_in (more s) t) rows (λ h among. grind (basics, inside s t h within among, owned h among))
 
   -- a set that is in each closed one is the least once it is closed itself; until then it grows
   grows : (given : ℕ → Bool) (k : ℕ) (s : ℕ → Bool) → sum_by (outside s) rows ≤ k → IsWithin rows given s
@@ -109,19 +108,18 @@ module _ (rows : List HandleRow) (keyed : ℕ → Bool) (entries : List HandleRo
   grows given zero s few holds least = (s, record { holds = holds; closed = closed-if s (omega arith); least = least })
   grows given (suc k) s few holds least = elim (cases_lt (sum_by (outside (more s)) rows) (sum_by (outside s) rows)) [
     | inl fewer ↦ grows given k (more s) (omega arith)
-        (sum-zero (only_in given (more s)) rows (λ h among. let a = at-most-sum (only_in given s) rows h among in grind (arith, nat_tests)))
+        (sum-zero (only_in given (more s)) rows (λ h among. grind (basics, at-most-sum (only_in given s) rows h among)))
         (λ t h c. stays s t (least t h c) c)
     | inr enough ↦ (s, record { holds = holds; closed = closed-if s (omega arith); least = least })
   ]
 
   pub within-self : (given : ℕ → Bool) → IsWithin rows given given
-  within-self given = sum-zero (only_in given given) rows (λ h among. grind (arith, nat_tests))
+  within-self given = sum-zero (only_in given given) rows (λ h among. grind basics)
 
-  pub least_is_one : (given s t : ℕ → Bool) (h : HandleRow) → IsLeast rows keyed entries given s → IsLeast rows keyed entries given t → Among rows h
+  least_is_one : (given s t : ℕ → Bool) (h : HandleRow) → IsLeast rows keyed entries given s → IsLeast rows keyed entries given t → Among rows h
       → s h.number.0 ≡ t h.number.0
   least_is_one given s t h a b among = grind (
-    arith,
-    nat_tests,
+    basics,
     inside s t h (a.least t b.holds b.closed) among,
     inside t s h (b.least s a.holds a.closed) among,
   )
@@ -131,11 +129,11 @@ given-least : (rows : List HandleRow) (keyed : ℕ → Bool) (entries : List Han
     → IsLeast rows keyed entries given given
 given-least rows keyed entries given nothing =
     let closed : IsClosed rows keyed entries given = λ n goes. let none : sum_by (λ h. one (is_owner (owner_value n) h.owner)) rows ≡ 0 =
-    nothing n in grind (arith, nat_tests, and_parts, sum-le) in
+    nothing n in grind (basics, and_parts, sum-le) in
     search (within-self rows keyed entries given, closed)
 
 pub and-false : (b : Bool) → one (b && false) ≡ 0
-and-false x0 = grind (arith, nat_tests)
+and-false x0 = grind basics
 
 -- ---- small worlds, and all laws of what falls
 
@@ -145,11 +143,11 @@ fell stored = record {
   entries = row_of 2 first_node Mode.LooseUnpinned Owner.List ∷ [];
   set = given-least _ _ _ nobody (omega arith);
   new = (refl, refl, refl, tt);
-  only = λ n some. ((grind (arith, nat_tests, first)), (grind (arith, nat_tests)));
-  each = λ n must. inl (grind (arith, nat_tests));
-  tells = record { all = λ n must. grind (arith, nat_tests); not_all = tt };
+  only = λ n some. ((grind (basics, first)), (grind basics));
+  each = λ n must. inl (grind basics);
+  tells = record { all = λ n must. grind basics; not_all = tt };
   within = omega arith;
-  leaves = grind (arith, nat_tests);
+  leaves = grind basics;
 }
 
 pub fall_laws : ReleaseLaws
@@ -163,8 +161,8 @@ fall_laws = record {
   pins_are_a_filter = λ n rows. sym (length-filter (λ (h : HandleRow). h.node.0 == n && is_pinning h.mode) rows);
   two_levels_fall = record {
     holds = refl;
-    closed = grind (arith, nat_tests, and-false);
-    least = λ t holds closed. let f : owned_outside two_rows t 1 ≡ 0 = closed 1 (grind (arith, nat_tests)) in omega arith;
+    closed = grind (basics, and-false);
+    least = λ t holds closed. let f : owned_outside two_rows t 1 ≡ 0 = closed 1 (grind basics) in omega arith;
   };
   not_less = λ least. absurd (omega (arith, least.closed 1 refl));
   lone_is_listed = λ stored. record {
@@ -180,7 +178,7 @@ fall_laws = record {
         ap (pins 1) alike.rows in absurd (omega arith)
     | inr (row, own, inr (is, falls)) ↦
         let last : 1 ≡ 1 + length falls.entries = ap (λ (l : Last). l.handle) falls.leaves.last in
-        let few : held 1 falls.entries ≤ length falls.entries = grind (arith, nat_tests, sum_by-cons, one-small) in
+        let few : held 1 falls.entries ≤ length falls.entries = grind (basics, sum_by-cons, one-small) in
         absurd (omega arith)
   ];
 }

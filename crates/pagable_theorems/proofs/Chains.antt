@@ -33,8 +33,8 @@ use Rattle.pagable_theorems.proofs.{
   Words.{Action, Among, ArcRef, AreMoments, Beginning, Bool, Change, Claim, CloneCall, Core, Event, EventReply, HandleNumber, HandleRow, HandlesAreWhole},
   Words.{Happens, HoldsSettled, Identity, IsIdle, IsLawful, IsMachineWhole, IsPublished, IsWellAsked, List, MachineState, Moment, NodeNumber, None, Ok, Option},
   Words.{Owner, Reading, Seen, Shelf, Slot, Some, Todo, Tree, Values, Walking, WorkDoes, WorkFits, WorkerAnswer, WorkerNumber, WorkerReply, WorkerState},
-  Words.{WorkerSteps, World, above, any_mode, ap, append_assoc, arith, false, false_from_ne_true, find_row, give, identity_of, inl, inr, is_owner, is_some},
-  Words.{le_trans, nat_tests, nothing_felt, one, owner_worker, refl, row_at, rules, state_after, step_of, subst, sum_by-cons, sym, times, to_finish, to_item},
+  Words.{WorkerSteps, World, above, any_mode, ap, append_assoc, arith, basics, false, false_from_ne_true, find_row, give, identity_of, inl, inr, is_owner},
+  Words.{is_some, le_trans, nothing_felt, one, owner_worker, refl, row_at, rules, state_after, step_of, subst, sum_by-cons, sym, times, to_finish, to_item},
   Words.{to_load, to_pin, to_set, to_start, to_write, true, type_of, world_of, ℕ, [], ◌&&◌, ◌++◌, ◌+◌, ◌∙◌, ◌∷◌, ◌≡◌, ◌≤◌, ◌⊎◌},
 }
 use Rattle.pagable_theorems.specs.{
@@ -51,24 +51,22 @@ module _ {c : Change} {w w' : Core} (goes : CoreGoes c w w') where
       record {
         node_given = omega arith;
         given = omega arith;
-        is = λ row live. let was = goes.rows h.0 row live s.given in let old = s.is was.was was.live in
-            grind (arith, nat_tests);
+        is = λ row live. let was = goes.rows h.0 row live s.given in grind (basics, s.is was.was was.live);
       }
 
   pub key-on : {n : ℕ} → KeyIsSet w n → KeyIsSet w' n
   key-on {n} s = let a = s.given in let b = goes.nodes in record {
     given = omega arith;
-    keyed = λ cell live. let c = goes.cells n cell live in
-        let was = s.keyed in grind (arith, nat_tests);
+    keyed = λ cell live. grind (basics, goes.cells n cell live, s.keyed);
   }
 
   pub waits-on : (todo : List Todo) → WaitsHeld w todo → WaitsHeld w' todo
   waits-on (to_finish o ∷ below) (h, waits) = (stands-on h, waits-on below waits)
   waits-on (to_item written keys ∷ below) waits = waits-on below waits
-  waits-on x0 waits = grind (arith, nat_tests)
+  waits-on x0 waits = grind basics
 
   -- where the worker keeps handles
-  pub all-on : (v : ℕ) → ((n : ℕ) → HasHandle w v n → HasHandle w' v n) → (todo : List Todo) → AllHold w v todo → AllHold w' v todo
+  all-on : (v : ℕ) → ((n : ℕ) → HasHandle w v n → HasHandle w' v n) → (todo : List Todo) → AllHold w v todo → AllHold w' v todo
   all-on v keeps [] all = tt
   all-on v keeps (to_publish r key height ∷ below) (h, waits) = ((λ kind. (key-on (h kind).0, keeps r.node.0 (h kind).1)), waits-on below waits)
   all-on v keeps (x ∷ below) (h, waits) = (search (rules, stands-on), waits-on below waits)
@@ -82,35 +80,35 @@ pub record IsClaimable (w : Core) (r : ArcRef) : Type 0 where
   pub typed : type_at w r.node.0 ≡ Some (type_of r.kind.0)
 
 pub may-claim : (w : Core) (r : ArcRef) → claim_fault w r ≡ None → IsClaimable w r
-may-claim w r may = grind (arith, nat_tests)
+may-claim w r may = grind basics
 
 module _ {w : Core} (whole : HandlesAreWhole w) where
-  pub handle-given : (h : HandleNumber) (row : HandleRow) → row_at w h ≡ Some row → h.0 ≤ w.last.handle
+  handle-given : (h : HandleNumber) (row : HandleRow) → row_at w h ≡ Some row → h.0 ≤ w.last.handle
   handle-given h row live = omega (arith, (whole.numbered row (among-found h.0 w.rows row live)).1, found-number h.0 w.rows row live)
 
   pub claimed-stands : (r : ArcRef) → claim_fault w r ≡ None → StandsAt w r r.handle
-  claimed-stands r may = search (rules, may-claim, given-of, handle-given, arith, nat_tests)
+  claimed-stands r may = search (rules, may-claim, given-of, handle-given, basics)
 
   -- a clone stands for what its handle stands for
   pub clone-stands : {w' : Core} {me : Owner} (r : ArcRef) (k : HandleNumber) → StandsAt w r r.handle → CloneCall w me r.handle (Ok k) w' → StandsAt w' r k
   clone-stands {w'} {me} r k s call =
-      let row : HandleRow = call.made.0 in let old = s.is row call.made.1 in let above : k.0 ≡ w.last.handle + 1 = call.made.2.above in let a =
+      let row = call.made.0 in let old = s.is row call.made.1 in let above : k.0 ≡ w.last.handle + 1 = call.made.2.above in let a =
       call.made.3 in let b = s.node_given in
       let s_made = stands-new w.last.handle w.rows (row_of (w.last.handle + 1) row.node row.mode me) (λ h among. (whole.numbered h among).1) refl in
-      grind (arith, nat_tests, find_row, among-found, found-number, above, is_loose)
+      grind (basics, find_row, among-found, found-number, above, is_loose)
 
 -- ---- what workers hold they hold after each event, and each cell whose key was published by a loose reference has a key
 
 module _ (w : Core) (v : ℕ) where
   started : (place : ℕ) (rs : List ArcRef) (x : Todo) (below : List Todo) → Holds w v x → WaitsHeld w below → WaitsHeld w (x ∷ below)
       → AllHold w v (next_start place rs ++ x ∷ below)
-  started place x1 x below h waits all = grind (arith, nat_tests)
+  started place x1 x below h waits all = grind basics
 
   given : (r : ArcRef) (key height : ℕ) (below : List Todo) → WaitsHeld w below → AllHold w v (give r key height below)
-  given r key height x3 waits = grind (arith, nat_tests, started, above)
+  given r key height x3 waits = grind (basics, started, above)
 
   known : (r : ArcRef) (key height : ℕ) (below : List Todo) → WaitsHeld w below → AllHold w v (give_known r key height below)
-  known r key height x3 waits = grind (arith, nat_tests, given)
+  known r key height x3 waits = grind (basics, given)
 
 -- the worker has the handle still through which it has set a key
 still-held : {w w' : Core} (v : ℕ) (r : ArcRef) (through : HandleNumber) (key : ℕ) (u : Unit {0}) → HandlesAreWhole w → StandsAt w r through
@@ -121,7 +119,7 @@ still-held {w} {w'} v r through key u whole s call =
     record { h = through; row = row; live = stands.live; own = owns.own; at = ap (λ (n : NodeNumber). n.0) (s.is row owns.live).0 } in elim call.does [
       | inl refused ↦ absurd (cc)
       | inr (row, owns, inl (other, told, a)) ↦ held row owns (stands-alike a (stands-whole whole through.0 row owns.live))
-      | inr (row, owns, inr (loose, f)) ↦ let s : Stands (with_key w row.node key).last.handle (with_key w row.node key).rows through.0 row =
+      | inr (row, owns, inr (loose, f)) ↦ let s =
           stands-whole whole through.0 row owns.live in
           held row owns (stands-fell f (λ n is. absurd (cc (sym owns.own ∙ is))) refl s)
     ]
@@ -132,7 +130,7 @@ Reveals shelf shelf' P = (i : Identity) (key height : ℕ) → IsPublished shelf
 
 changed-reveals : (shelf shelf' : Shelf) (P : Identity → Type 0) (i : Identity) (f : Slot → Slot) → SameShelf (with_changed_slot shelf i f) shelf'
     → ((old : Slot) (key height : ℕ) → (f old).outcome ≡ published key height → (old.outcome ≡ published key height) ⊎ P i) → Reveals shelf shelf' P
-changed-reveals shelf shelf' P i f same back j key height p = grind (arith, nat_tests, same_some, is-same, known)
+changed-reveals shelf shelf' P i f same back j key height p = grind (basics, same_some, is-same, known)
 
 module _ {N B W : Type 0} (m : Seen N B W) (v : ℕ) (s s' : WorkerState) (whole : HandlesAreWhole s.core) where
   abbrev pub KeyThere : Identity → Type 0
@@ -183,7 +181,7 @@ module _ {N B W : Type 0} (m : Seen N B W) (v : ℕ) (s s' : WorkerState) (whole
       stays t.table_stays.slots t.list_is (
         elim p.sets.does [
           | inl (kind, sets) ↦ (let there : is_loose_kind r.kind.0 ≡ true
-              → KeyIsSet s'.core r.node.0 = grind (arith, nat_tests, goes-quiet, fell, updated-at) in
+              → KeyIsSet s'.core r.node.0 = grind (basics, goes-quiet, fell, updated-at) in
               λ loose. (there loose, still-held v r through key u whole h sets))
           | inr (held, done, a) ↦ λ loose. absurd (cc)
         ],
@@ -192,7 +190,7 @@ module _ {N B W : Type 0} (m : Seen N B W) (v : ℕ) (s s' : WorkerState) (whole
   stepped (to_publish r key height ∷ below) (Action.Publish i k q) e (is, same_key, same_height, t) f (h, waits) = leaves t.list_is (tt, waits-on f below waits)
       (changed-reveals s.shelf s'.shelf KeyThere (identity_of r) (with_outcome (published key height)) t.table_is
       (λ old k2 h2 known. inr (λ kind. key-on f (h kind).0)))
-  stepped _ step e does f all = grind (arith, nat_tests, stays, leaves, same_some, known, waits-on f, given)
+  stepped _ step e does f all = grind (basics, stays, leaves, same_some, known, waits-on f, given)
 
 module _ {N B W : Type 0} (m : Seen N B W) (u u' : World) {c : Change} (goes : CoreGoes c u.core u'.core) (held : KeysHeld u)
     (whole : HandlesAreWhole u.core) where
@@ -201,7 +199,7 @@ module _ {N B W : Type 0} (m : Seen N B W) (u u' : World) {c : Change} (goes : C
 
   a-step : StandsIn u' → (k : WorkerNumber) (r : WorkerReply W) (s : WorkerSteps m u k r u') → SlotsHeld s.after.shelf × AllHold u'.core k.0 s.after.todo
   a-step work k r s =
-      let w : Walking = s.walking in
+      let w = s.walking in
       let l = stepped m k.0 (site_of u w) s.after whole w.todo r.action refl s.does.does
       (walk-goes m k.0 (site_of u w) s.after w.todo r.action s.does.does).goes (held.walks k.0 w s.at) in
       let ends = quiet-goes nothing_felt (ends-quiet r.answer k.0 s.ends) in
@@ -214,7 +212,7 @@ module _ {N B W : Type 0} (m : Seen N B W) (u u' : World) {c : Change} (goes : C
           → AllHold u'.core v todo)
           → AllHold s.after.core k.0 s.after.todo → (a : Option WorkerAnswer) → Ends a k.0 s.after.core u'.core → r.answer ≡ a
           → AllHold u'.core k.0 s.after.todo
-      after on all None e none = on k.0 (λ n h. (grind (arith, nat_tests, find_row))) s.after.todo all
+      after on all None e none = on k.0 (λ n h. (grind (basics, find_row))) s.after.todo all
       after on all (Some a) e is = subst (λ todo. AllHold u'.core k.0 todo)
           (sym ((work.workers k.0 _ (s.work.same_walkings k.0 ∙ updated-at k.0 _ u.work.walkings)).done a is)) tt
 
@@ -228,21 +226,21 @@ module _ {N B W : Type 0} (m : Seen N B W) (u u' : World) {c : Change} (goes : C
       (λ t shelf more same i key height p kind. key-on goes (held.slots t i key height (keys-same (λ j. sym (same j)) i key height p) kind))
       (λ n w none there. all-on goes n (λ q. λ h. let s = (spares n none).each h.h.0 h.row h.own (stands-whole whole h.h.0 h.row h.live) in
       record { h = h.h; row = h.row; live = s.live; own = h.own; at = h.at }) w.todo (held.walks n w there))
-      (λ n shelf t task. (let s = started u'.core n 0 in grind (arith, nat_tests, s))) (λ k r s at one more. a-step work k r s) turns.own in
+      (λ n shelf t task. (let s = started u'.core n 0 in grind (basics, s))) (λ k r s at one more. a-step work k r s) turns.own in
       record { walks = h.walks; slots = h.slots }
 
-pub keys-ready : {N E : Type 0} (v : Values N) (s : MachineState N E) (trees : ℕ → Tree) → WorkFits v s trees → KeysHeld (world_of s) → KeysAreReady v s trees
+keys-ready : {N E : Type 0} (v : Values N) (s : MachineState N E) (trees : ℕ → Tree) → WorkFits v s trees → KeysHeld (world_of s) → KeysAreReady v s trees
 keys-ready v s trees fit held k key row sets =
-    let there = sets.there in let todo = sets.sets in let owns = sets.owns in grind (arith, nat_tests, same_some, tree_readable)
+    grind (basics, same_some, tree_readable, sets.there, sets.sets, sets.owns)
 
 module _ {N E B W : Type 0} (m : Seen N B W) (s : MachineState N E) (trees : ℕ → Tree) where
   reading-takes : (event : Event N B W) (reply : EventReply N B W) (reading : Reading) → IsSteppedReading (world_of s) event reading
       → IsWellAsked m.values s trees event reply
       → TakesWell m.values s.pager reading
-  reading-takes x0 reply reading x3 well = grind (arith, nat_tests)
+  reading-takes x0 reply reading x3 well = grind basics
 
   module _ (stands : StandsFor m.values s trees) (readings : (reading : Reading) → IsReadingOf s.work reading → Going m.values s.pager trees reading) where
-    pub event-fits : (lawful : IsLawful m.values) (s' : MachineState N E) → HoldsSettled m.values s.pager → IsMachineWhole m.values s
+    event-fits : (lawful : IsLawful m.values) (s' : MachineState N E) → HoldsSettled m.values s.pager → IsMachineWhole m.values s
         → IsMachineWhole m.values s' → KeysAreReady m.values s trees
         → (event : Event N B W) (reply : EventReply N B W) {c : Change} → CoreGoes c s.pager.core s'.pager.core → IsWellAsked m.values s trees event reply
         → EventFeels m.values (world_of s) event reply (world_of s') c → (trees' : ℕ → Tree)
@@ -254,11 +252,11 @@ module _ {N E B W : Type 0} (m : Seen N B W) (s : MachineState N E) (trees : ℕ
         let g = going-of s trees readings reading (is-reading-of (world_of s) event reading stepped) in
         let f = reading-fits lawful settled whole.pager whole'.pager stands.pager reading (reading-takes event reply reading stepped well) g.fits
         (given-nodes reading.frames g.held) goes opens feels in
-        (f.0, (grind (arith, nat_tests)))
+        (f.0, (grind basics))
     event-fits lawful s' settled whole whole' ready event reply goes well (by-key k key row is sets keeps) =
         let reads = ready k key row sets in (
           trees,
-          fits-key lawful settled whole.pager whole'.pager stands.pager _ row.node.0 key (λ n x brings. (grind (arith, nat_tests, same_some)))
+          fits-key lawful settled whole.pager whole'.pager stands.pager _ row.node.0 key (λ n x brings. (grind (basics, same_some)))
               (tree-stays goes.stored reads),
         )
     event-fits lawful s' settled whole whole' ready event reply goes well (by-nothing stays keeps) =
@@ -273,7 +271,7 @@ module _ {N E B W : Type 0} (m : Seen N B W) (s s' : MachineState N E) (trees tr
     (stands : StandsFor m.values s' trees') where
   pin-gives : (event : Event N B W) (reply : EventReply N B W) → PinHolds event reply s'.pager.core → PinGives m.values s trees event reply s' trees'
   pin-gives x0 x1 pinned = let given = λ (k : HandleNumber) (h : HasPin s'.pager.core k). pin_stands s'.pager trees' k h.row whole.pager stands.pager h.live
-      h.is in grind (arith, nat_tests, given)
+      h.is in grind (basics, given)
 
 -- what holds of a machine and its trees along a chain
 pub record IsGoingOn {N E : Type 0} (v : Values N) (s : MachineState N E) (trees : ℕ → Tree) : Type 0 where
@@ -288,7 +286,7 @@ pub record IsGoingOn {N E : Type 0} (v : Values N) (s : MachineState N E) (trees
 module _ {N E B W : Type 0} (m : Seen N B W) (lawful : IsLawful m.values) where
   pub idle-goes : (s : MachineState N E) (trees : ℕ → Tree) → IsMachineWhole m.values s → IsIdle s → HoldsSettled m.values s.pager → StandsFor m.values s trees
       → IsGoingOn m.values s trees
-  idle-goes s trees whole idle settled stands = grind (arith, nat_tests, idle-stands)
+  idle-goes s trees whole idle settled stands = grind (basics, idle-stands)
 
   pub goes : (s : MachineState N E) (trees : ℕ → Tree) (x : Moment N E B W) → IsGoingOn m.values s trees → EventDoes m s x.event x.reply x.after
       → IsPremised m.values s trees x.event x.reply x.after → (trees' : ℕ → Tree) × TreesAfter m (IsRight m.values) s trees x.event x.reply x.after trees'
@@ -340,19 +338,18 @@ claim_made walkings t i (Event.WorkerStep v) (EventReply.WorkerMoved (Ok reply))
 claim_made walkings t i event reply = 0
 
 module _ {N B W : Type 0} (walkings : ℕ → Option Walking) (t : ℕ) (i : Identity) where
-  pub claims-cons : (event : Event N B W) (reply : EventReply N B W) (more : List (Event N B W)) (rest : List (EventReply N B W))
+  claims-cons : (event : Event N B W) (reply : EventReply N B W) (more : List (Event N B W)) (rest : List (EventReply N B W))
       → claims_made walkings t i (event ∷ more) (reply ∷ rest) ≡ claim_made walkings t i event reply + claims_made walkings t i more rest
   unfolding claims_made
-  claims-cons x0 x1 more rest = grind (arith, nat_tests, zero-add)
+  claims-cons x0 x1 more rest = grind (basics, zero-add)
 
   -- what one worker of the table claimed is among them
-  pub own-claims : (n : ℕ) (w : Walking) → walkings n ≡ Some w → w.table ≡ t → (happened : List (Event N B W)) (replied : List (EventReply N B W))
+  own-claims : (n : ℕ) (w : Walking) → walkings n ≡ Some w → w.table ≡ t → (happened : List (Event N B W)) (replied : List (EventReply N B W))
       → times (is_claim_of {W = W} i) (steps_of n happened replied) ≤ claims_made walkings t i happened replied
   unfolding steps_of claims_made
   own-claims n w there on (event ∷ more) (reply ∷ rest) =
       grind (
-        arith,
-        nat_tests,
+        basics,
         sum_by-append,
         one,
         is_claim_of,
@@ -365,21 +362,21 @@ module _ {N B W : Type 0} (walkings : ℕ → Option Walking) (t : ℕ) (i : Ide
         claim_made,
         own-claims n w there on more rest,
       )
-  own-claims n w there on x4 x5 = grind (arith, nat_tests)
+  own-claims n w there on x4 x5 = grind basics
 
   -- each event claims what wasn't claimed, where workers keep their tables
   module _ (m : Seen N B W) (u u' : World) (grow : (q : ℕ) → ShelfGrows (u.work.shelves q) (u'.work.shelves q))
       (keeps : (v : ℕ) (w : Walking) → u.work.walkings v ≡ Some w → KeepsTask walkings v w) where
     is-still : one (is_some ((u.work.shelves t).slots i)) ≤ one (is_some ((u'.work.shelves t).slots i))
-    is-still = let more = grow t i in grind (arith, nat_tests)
+    is-still = grind (basics, grow t i)
 
-    pub event-claims : (event : Event N B W) (reply : EventReply N B W) → Happens m u event reply u'
+    event-claims : (event : Event N B W) (reply : EventReply N B W) → Happens m u event reply u'
         → one (is_some ((u.work.shelves t).slots i)) + claim_made walkings t i event reply ≤ one (is_some ((u'.work.shelves t).slots i))
     event-claims (Event.WorkerStep v) (EventReply.WorkerMoved (Ok reply)) h =
         let s = h.moves in let k = keeps v.0 s.walking s.at in
         let after = (s.work.same_shelves s.walking.table).slots i ∙ ap (λ (x : Shelf). x.slots i) (updated-at s.walking.table s.after.shelf u.work.shelves) in
-        grind (arith, nat_tests, is-still, puts-slot, is-same)
-    event-claims x0 x1 h = grind (arith, nat_tests, is-still)
+        grind (basics, is-still, puts-slot, is-same)
+    event-claims x0 x1 h = grind (basics, is-still)
 
 module _ {N E B W : Type 0} (m : Seen N B W) where
   -- what a chain of these events comes to
@@ -397,9 +394,9 @@ module _ {N E B W : Type 0} (m : Seen N B W) where
       → LoadsStand m.values.types (world_of s)
       → Arrives s (state_after s moments) (events_of moments) (replies_of moments) × StepsAreWithin m.values s moments
   unfolding state_after steps_of claims_made
-  arrives s [] chain whole work loads = (grind (arith, nat_tests, append-nil), tt)
+  arrives s [] chain whole work loads = (grind (basics, append-nil), tt)
   arrives s (x ∷ xs) (does, chain) whole work loads =
-      let turns : EventTurns m (world_of s) x.event x.reply (world_of x.after) =
+      let turns =
       event-turns m (world_of s) (world_of x.after) work (λ v w there. (whole.walkings v w there).table.1) x.event x.reply does.step.happens in
       let t = turns.turned in let last = (state_after x.after xs).work.walkings in
       let waits = λ (n : ℕ) (w : Walking) (is : s.work.walkings n ≡ Some w). (work.workers n w is).waits in
@@ -438,28 +435,28 @@ module _ {N E B W : Type 0} (m : Seen N B W) (s end : MachineState N E) (happene
       let rests : end.pager.core.workers n ≡ false = (all.whole.walkings n walking there).at_work ∙ ap is_none is in
       let own : (h : HandleRow) → Among end.pager.core.rows h → (b : Bool) → is_owner (owner_worker n) h.owner ≡ b → one (is_owner (owner_worker n) h.owner)
       ≡ 0 =
-      λ h among b e. grind (arith, nat_tests, true-false, all.whole.pager.whole.owners_there.workers h n among, rests) in
-      grind (arith, nat_tests, own, all.work.workers n walking there, sum-zero, false_from_ne_true, true-false, rests) in
-      let nobody : HasGone m.written_of n s.work.shelves (s.work.walkings n) [] =
+      λ h among b e. grind (basics, true-false, all.whole.pager.whole.owners_there.workers h n among, rests) in
+      grind (basics, own, all.work.workers n walking there, sum-zero, false_from_ne_true, true-false, rests) in
+      let nobody =
       subst (λ o. HasGone m.written_of n s.work.shelves o []) (sym (idle.walkings n)) refl in
       let went = rw there at (all.gone n [] nobody) in
       let order : InOrder m.written_of walking.task (steps_of n happened replied) = record { left = walking.todo; leads = went.leads } in
       let few : (i : Identity) → times (is_claim_of i) (steps_of n happened replied) ≤ 1 =
-      λ i. le_trans (own-claims end.work.walkings walking.table i n walking there refl happened replied) (grind (arith, nat_tests, one-small)) in
+      λ i. le_trans (own-claims end.work.walkings walking.table i n walking there refl happened replied) (grind (basics, one-small)) in
       let once : OnceEach (steps_of n happened replied) =
       record { claim = few; later = λ stage i. at-once stage i m.written_of walking.task (steps_of n happened replied) walking.todo went.leads (few i) } in
       let within = went.within in record { order = order; once = once; bounded = omega arith; met = went.met; let_go = let_go }
 
 pub headline_law : {N B W : Type 0} (E : Type 0) (m : Seen N B W) → HeadlineLaw E m
 headline_law E m start moments whole idle chain =
-    let (all, within) = arrives m start moments chain whole (idle-stands start idle) (grind (arith, nat_tests)) in let end = state_after start moments in
+    let (all, within) = arrives m start moments chain whole (idle-stands start idle) (grind basics) in let end = state_after start moments in
     record {
       chain = chain;
       work = record {
         claims_right = record {
-          at_most_once = grind (arith, nat_tests, one-small, all.claims);
+          at_most_once = grind (basics, one-small, all.claims);
           met = λ t i is.
-              let c : (slot : Slot) × ((end.work.shelves t).slots i ≡ Some slot) = grind (arith, nat_tests) in
+              let c : (slot : Slot) × ((end.work.shelves t).slots i ≡ Some slot) = grind basics in
               let a = all.work.slots t i c.0 c.1 in record { n = c.0.worker; walking = a.walking; there = a.there; on_table = a.on_table; meets = a.meets };
         };
         workers = worker m start end (events_of moments) (replies_of moments) idle all;

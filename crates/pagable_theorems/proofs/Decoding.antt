@@ -16,7 +16,7 @@ use Rattle.pagable_theorems.proofs.{
   Trees.{pair-along, pattern-along, reference-along, refs-two, same-number, self-number, swap-two, text-along, tree_is, variant-along},
   Words.{Among, ArcRef, Blob, Bool, Core, Err, Error, Form, Frame, IsLawful, IsReadable, IsReadableType, IsReference, Kind, List, Meaning, None, Ok, Option},
   Words.{Owner, PagerState, ReadsTree, Result, Shape, Some, Throughout, Tree, Types, ValueStands, Values, and_parts, ap, append-nil, append_assoc, arith},
-  Words.{cases_Bool, cases_lt, false, followed, if◌then◌else◌, inl, inr, integer-leads, is_eager, is_in, length, length-append, map, nat_tests, next_in, none},
+  Words.{basics, cases_Bool, cases_lt, false, followed, if◌then◌else◌, inl, inr, integer-leads, is_eager, is_in, length, length-append, map, next_in, none},
   Words.{one, pair, read, reference, references_fault, references_in, refl, rest, slice_get, subst, suc, sum_by-cons, sym, times, tree, true, type_of, variant},
   Words.{zero, ℕ, [], ◌&&◌, ◌++◌, ◌+◌, ◌==◌, ◌∙◌, ◌∷◌, ◌≡◌, ◌≤◌, ◌⊎◌},
 }
@@ -44,7 +44,7 @@ AnswersAlike a b = (kind : ℕ) → OutLook one_cause (λ r q. Unit {0}) (a kind
 
 got-alike : (got : List ArcRef) (place : ℕ) → AnswersAlike (answer_of (slice_get got place)) (answer_of (slice_get (some_of (kinds_of got)) place))
 got-alike (r ∷ rs) (suc place) kind = got-alike rs place kind
-got-alike x0 x1 kind = grind (arith, nat_tests, both-not, both-looked-up)
+got-alike x0 x1 kind = grind (basics, both-not, both-looked-up)
 
 answers-alike : (got : List ArcRef) (place : ℕ) (keys : List ℕ) → AllTwo AnswersAlike (answers_from got place keys)
     (answers_from (some_of (kinds_of got)) place keys)
@@ -122,7 +122,7 @@ pub looked : {X : Type 0} (kind : X → ℕ) (front back : List ArcRef) (done : 
 looked kind front [] [] q more (key ∷ keys) same few = looked-none front (kind q) key (map kind more) keys
 looked kind front (g ∷ back) (d ∷ done) q more (key ∷ keys) same few =
     looked-more front g back (kind d) key (map kind (done ++ q ∷ more)) keys _ (cc) (looked kind (front ++ g ∷ []) back done q more keys (cc) (omega arith))
-looked kind front x1 x2 q more x4 same few = grind (arith, nat_tests)
+looked kind front x1 x2 q more x4 same few = grind basics
 
 -- A blob that is a form of a value of the type, which names no handle twice: its bytes, and a key for each reference.
 pub record IsFormOf (types : Types) (t : ℕ) (blob : Blob) (refs : List ArcRef) : Type 0 where
@@ -155,7 +155,7 @@ kind-at (g ∷ got) (x ∷ refs) same (suc place) r is = kind-at got refs (cc) p
 pub given-too : {A B X Y : Type 0} {E : Error → Error → Type 0} {T : List A → List B → Type 0} {V : X → Y → Type 0} {x : X} {after : Rest A}
     {first : Result (X × Rest A) Error} {second : Result (Y × Rest B) Error}
     → Out E T V first second → first ≡ Ok (x, after) → (y : Y) × (left : Rest B) × (second ≡ Ok (y, left)) × V x y
-given-too x0 e = grind (arith, nat_tests, both-given)
+given-too x0 e = grind (basics, both-given)
 
 -- What was got for a blob was asked for, one reference after another.
 pub data GotAsked (types : Types) (t : ℕ) (blob : Blob) : List ArcRef → Type 0 where
@@ -197,7 +197,7 @@ module _ (types : Types) (t : ℕ) (blob : Blob) (refs : List ArcRef) (f : IsFor
       f.can in
       let refused : read (at 0 look_kind types.parts) f.shape (input got) ≡ Err (Error.Storage q.kind.0) = rw append-nil at stopped in
       let as_read = sym (renamed kind_of_arc answer_at 0 types.parts f.shape (input got)) ∙ refused in
-      let first : read (handles_at 0 types.parts) f.shape (input got) ≡ Err (Error.Storage q.kind.0) = grind (arith, nat_tests) in
+      let first : read (handles_at 0 types.parts) f.shape (input got) ≡ Err (Error.Storage q.kind.0) = grind basics in
       let there = slice_get-get_or blob.keys (length done) 0 (omega (arith, length-append done (q ∷ more))) in
       let kind = λ (r : ArcRef). r.kind.0 in
       let gotten : length got ≡ length done = sym (length-map got kind) ∙ ap length same ∙ length-map done kind in (
@@ -215,7 +215,7 @@ module _ (types : Types) (t : ℕ) (blob : Blob) (refs : List ArcRef) (f : IsFor
     reads-all : (own : Meaning ArcRef) × (next_of types t blob got ≡ reads own) × Along ⊥ (λ r g. InPlace got refs g r) f.own own
     unfolding read
     reads-all =
-        let all : AllTwo (λ r a. Answers a r) refs (answers_from got 0 blob.keys) = swap-two (answers-two Answers got 0 blob.keys refs f.as_many (λ i r is n at.
+        let all = swap-two (answers-two Answers got 0 blob.keys refs f.as_many (λ i r is n at.
         let g = kind-at got refs same i r is in let here : n ≡ i = omega arith in
         subst (λ o. Answers (λ kind. answer_of o kind) r) (sym (ap (slice_get got) here ∙ g.1)) (grind (arith, both-looked-up, both-not)))) in
         let par = read_par {E = one_cause} {F = ⊥} {T = AllTwo (λ r a. Answers a r)} {R = λ r g. InPlace got refs g r} own_look answer_at
@@ -241,7 +241,8 @@ module _ (types : Types) (t : ℕ) (blob : Blob) (refs : List ArcRef) (f : IsFor
         (kinds-pushed got r ∙ ap (λ ks. ks ++ r.kind.0 ∷ []) same ∙ ap (λ (k : Kind). kinds_of done ++ k.0 ∷ []) (sym kinds) ∙ sym (kinds-pushed done q))
   ])
 
--- ---- a value that was read of a form names no handle twice, where the handles that were got are apart. So nothing is to be said against its references, where each is good
+-- ---- a value that was read of a form names no handle twice, where the handles that were got are apart. So nothing is to be said against its references, where
+-- each is good
 
 abbrev pub AreApart : List ArcRef → Type 0
 AreApart got = (i j : ℕ) (r q : ArcRef) → slice_get got i ≡ Some r → slice_get got j ≡ Some q → r.handle.0 ≡ q.handle.0 → i ≡ j
@@ -256,7 +257,7 @@ module _ (types : Types) (t : ℕ) (blob : Blob) (refs got : List ArcRef) (f : I
       let tail = no-more q r g p is more in
       let left = sum_by-cons (λ (x : ArcRef). one (x.handle.0 == q)) a xs in
       let right = sum_by-cons (λ (y : ArcRef). one (y.handle.0 == r.handle.0)) b ys in
-      grind (arith, nat_tests, one, same-number, self-number)
+      grind (basics, one, same-number, self-number)
 
   -- what is read names no handle twice
   pub reads-once : (own : Meaning ArcRef) → next_of types t blob got ≡ reads own → (q : ℕ) → times (λ (r : ArcRef). r.handle.0 == q) (references_in own) ≤ 1
@@ -292,15 +293,15 @@ fine w owner seen (r ∷ rs) good new once =
     let first : reference_fault w owner seen r ≡ None = let is = good r (zero, refl) in let isnt = new r (zero, refl) in grind (arith, self-number) in
     rw first rest
 
-pub read-gives : (key : Option ℕ) (r : Result (Meaning ArcRef × Rest Answer) Error) (own : Meaning ArcRef) → next_by key r ≡ reads own → (after : Rest Answer)
+read-gives : (key : Option ℕ) (r : Result (Meaning ArcRef × Rest Answer) Error) (own : Meaning ArcRef) → next_by key r ≡ reads own → (after : Rest Answer)
     × (r ≡ Ok (own, after))
 read-gives key (Ok (m, after)) own is = let same : m ≡ own = cc in (after, rw same refl)
-read-gives key (Err e) own is = absurd (grind (arith, nat_tests))
+read-gives key (Err e) own is = absurd (grind basics)
 
 -- the key that a blob asks for next is the next of its keys
 pub asks_next : (types : Types) (frame : Frame) (kind : Kind) (key : ℕ) → next_in types frame ≡ asks kind key → slice_get frame.blob.keys (length frame.got)
     ≡ Some key
-asks_next types frame kind key is = grind (arith, nat_tests)
+asks_next types frame kind key is = grind basics
 
 -- ---- what is answered, place by place
 
@@ -316,12 +317,12 @@ AnswersFor types stored trees got answer key = (kind : ℕ) → OutLook any_caus
 
 pub among-either : {X : Type 0} (xs ys : List X) (i : ℕ) (r : X) → slice_get (xs ++ ys) i ≡ Some r → Among xs r ⊎ Among ys r
 among-either (x ∷ xs) ys (suc i) r is = elim (among-either xs ys i r is) [ inl a ↦ inl (suc a.0, a.1) | inr b ↦ inr b ]
-among-either x0 ys x2 r is = grind (arith, nat_tests)
+among-either x0 ys x2 r is = grind basics
 
 module _ {types : Types} {stored : ℕ → Option Blob} {trees : ℕ → Tree} {got : List ArcRef} where
   answer-of : (o : Option ArcRef) (key : ℕ) → ((r : ArcRef) → o ≡ Some r → Among got r × ReadsNodeTree types stored trees key (type_of r.kind.0) r.node.0)
       → AnswersFor types stored trees got (answer_of o) key
-  answer-of x0 key h kind = grind (arith, nat_tests, first-not, both-looked-up, same-number)
+  answer-of x0 key h kind = grind (basics, first-not, both-looked-up, same-number)
 
   -- what was read leads to a tree, to which the bare keys lead too
   leads-follows : {x : Meaning ArcRef} {m : Meaning KeyRef} → Along ⊥ (Found types stored trees got) x m → (a : Meaning ⊥) × LeadsTo trees x a
@@ -386,7 +387,7 @@ module _ {N : Type 0} {v : Values N} (lawful : IsLawful v) {stored : ℕ → Opt
 
 pub among-left : {X : Type 0} (xs ys : List X) (i : ℕ) (r : X) → slice_get xs i ≡ Some r → Among (xs ++ ys) r
 among-left (x ∷ xs) ys (suc i) r is = let a = among-left xs ys i r is in (suc a.0, a.1)
-among-left x0 ys x2 r is = grind (arith, nat_tests)
+among-left x0 ys x2 r is = grind basics
 
 pub among-right : {X : Type 0} (xs ys : List X) (i : ℕ) (r : X) → slice_get ys i ≡ Some r → Among (xs ++ ys) r
 among-right [] ys i r is = (i, is)
@@ -394,7 +395,7 @@ among-right (x ∷ xs) ys i r is = let a = among-right xs ys i r is in (suc a.0,
 
 module _ {N E : Type 0} {v : Values N} {s : PagerState N E} {trees : ℕ → Tree} where
   -- a meaning that leads to a tree stands for it where the nodes that it refers to do
-  pub leads-stands : {x : Meaning ArcRef} {a : Meaning ⊥} → LeadsTo trees x a
+  leads-stands : {x : Meaning ArcRef} {a : Meaning ⊥} → LeadsTo trees x a
       → ((r : ArcRef) → Among (references_in x) r → NodeStands v s r.node.0 (trees r.node.0)) → MeaningStands v s x a
   unfolding references_in
   leads-stands (pair-leads x y a b f g) h =
@@ -404,7 +405,7 @@ module _ {N E : Type 0} {v : Values N} {s : PagerState N E} {trees : ℕ → Tre
   leads-stands (variant-leads i x a f) h = variant-stands i x a (leads-stands f h)
   leads-stands (followed-leads kind x a n f) h = followed-stands kind x a (leads-stands f h)
   leads-stands (reference-leads r a typed meant) h = reference-stands r a
-      (subst (λ (t : Tree). NodeStands v s r.node.0 t) (tree_is _ _ _ _ typed meant) (h r (zero, refl)))
+      (subst (λ (t : Tree). NodeStands v s r.node.0 t) (tree_is typed meant) (h r (zero, refl)))
   leads-stands l h = search (number-stands, integer-stands, text-stands, pattern-stands, none-stands)
 
 -- a value that was read of a blob stands for each tree of its type that the key reads as, where the nodes of its references stand for theirs

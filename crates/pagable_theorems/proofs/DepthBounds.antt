@@ -22,8 +22,8 @@ use Rattle.pagable_theorems.proofs.{
   Trees.variant-along,
   Words.{Action, Among, ArcRef, AreMoments, Bool, Core, Err, Error, Event, EventReply, FollowsTo, Happens, HoldsSettled, Identity, IsIdle, IsLawful},
   Words.{IsMachineWhole, IsPublished, List, MachineState, Meaning, Moment, Ok, Seen, Shelf, Some, Task, Todo, Tree, Types, Values, Walking, WorkDoes, WorkFits},
-  Words.{WorkerAnswer, WorkerState, Written, above, ap, arith, followed, identity_of, if◌then◌else◌, inl, inr, is_eager, max, nat_tests, of_entry, of_item},
-  Words.{pair, refl, subst, suc, sym, to_finish, to_item, to_start, tree, true, type_of, variant, world_of, zero, ℕ, ◌+◌, ◌<◌, ◌∙◌, ◌∷◌, ◌≡◌, ◌≤◌, ◌⊎◌},
+  Words.{WorkerAnswer, WorkerState, Written, above, ap, arith, basics, followed, identity_of, if◌then◌else◌, inl, inr, is_eager, max, of_entry, of_item, pair},
+  Words.{refl, subst, suc, sym, to_finish, to_item, to_start, tree, true, type_of, variant, world_of, zero, ℕ, ◌+◌, ◌<◌, ◌∙◌, ◌∷◌, ◌≡◌, ◌≤◌, ◌⊎◌},
 }
 use Rattle.pagable_theorems.specs.{
   DepthLaws.{ClaimIsDeep, MetDepthAlone, WaitsForAsker, WorkerReportsDepth},
@@ -47,7 +47,7 @@ height-within : (m : Meaning ⊥) → height m ≤ deepest_path m
 unfolding height deepest_path
 height-within (pair a b) = omega (arith, height-within a, height-within b)
 height-within (variant n a) = height-within a
-height-within x0 = grind (arith, nat_tests)
+height-within x0 = grind basics
 
 -- what the reference leads to is part of what the meaning says
 record Part (trees : ℕ → Tree) (m : Meaning ⊥) (r : ArcRef) : Type 0 where
@@ -65,7 +65,7 @@ module _ (trees : ℕ → Tree) (rs : List ArcRef) (whole : Meaning ⊥) where
   parts-along (variant-leads i x a f) h d s = variant-along _ _ _ (parts-along f h d s)
   parts-along (reference-leads r a among is) h d s = grind (arith, reference-along, size)
   parts-along (followed-leads kind x a none f) h d s = absurd none
-  parts-along x0 h d s = grind (arith, nat_tests, number-along, integer-along, text-along, pattern-along, none-along)
+  parts-along x0 h d s = grind (basics, number-along, integer-along, text-along, pattern-along, none-along)
 
 part-of : {types : Types} {g : Ground} {n : ℕ} {written : Written} → WroteTree types g n written → (r : ArcRef) → Among written.references r
     → Part g.trees (g.trees n).meaning r
@@ -74,10 +74,9 @@ part-of {g = g} {n} {written} w r among =
     (omega arith)) in
     (each-two p.each r among).1.1
 
--- a height and a depth go up with the place
 climbs : (e : Bool) (place h d top deep : ℕ) → (if e then h + 1 else 0) ≤ top → d ≤ deep → h ≤ d → longest_path < max ((if e then place + 1 else 0) + h) d
     → longest_path < max (place + top) deep
-climbs x0 place h d top deep le few within long = grind (arith, nat_tests)
+climbs x0 place h d top deep le few within long = grind basics
 
 module _ {N E : Type 0} (v : Values N) (s : MachineState N E) (trees : ℕ → Tree) (fit : WorkFits v s trees) (t : ℕ) where
   abbrev shelf : Shelf
@@ -103,7 +102,7 @@ module _ {N E : Type 0} (v : Values N) (s : MachineState N E) (trees : ℕ → T
       let part = part-of w a.r a.among in
       let k = known (identity_of a.r) a.key a.below a.known in
       let below = attained-height n (identity_of a.r) a.below (omega arith) k.written k.stands.wrote k.stands.attained in
-      grind (arith, nat_tests)
+      grind basics
 
   -- a path that is too long from the reference's place is one of the task's
   leads-down : (n : ℕ) (task : Task) (r : ArcRef) (below : List Todo) → Expects task r below → Waits shelf task below → AllStand shelf n task below
@@ -120,8 +119,8 @@ module _ {N E : Type 0} (v : Values N) (s : MachineState N E) (trees : ℕ → T
       leads-down n task o.reference below expects waits all (subst (λ q. longest_path < max (q + height above_it) (deepest_path above_it)) place up)
   leads-down n task r (to_item written keys ∷ below) (more, e) (is, known) all long =
       let m = (trees r.node.0).meaning in
-      subst (λ x. IsTooDeepTask trees x) (sym is) (r, next-among shelf written.references keys r more e, grind (arith, nat_tests, height-within m))
-  leads-down n x1 r x3 x4 x5 x6 long = grind (arith, nat_tests, height-within)
+      subst (λ x. IsTooDeepTask trees x) (sym is) (r, next-among shelf written.references keys r more e, grind (basics, height-within m))
+  leads-down n x1 r x3 x4 x5 x6 long = grind (basics, height-within)
 
   -- a worker comes upon no claim of its own that it is at: a tree is no part of itself
   not-below : (n : ℕ) (task : Task) (q : Identity) (r : ArcRef) (below : List Todo) → size (trees q.node.0).meaning ≤ size (trees r.node.0).meaning
@@ -136,20 +135,20 @@ module _ {N E : Type 0} (v : Values N) (s : MachineState N E) (trees : ℕ → T
         | inl same ↦ absurd (omega (arith, ap (λ (j : Identity). size (trees j.node.0).meaning) (is-same q (identity_of o.reference) same)))
         | inr rest ↦ not-below n task q o.reference below (omega arith) expects waits all rest
       ]
-  not-below n task q r x4 few x6 x7 x8 is = grind (arith, nat_tests)
+  not-below n task q r x4 few x6 x7 x8 is = grind basics
 
   -- a claim that is too deep is so by a path of the task's, or another is at it that waits for the asker
-  pub claim-deep : (n : ℕ) (task : Task) (core : Core) (todo : List Todo) (r : ArcRef) (place : ℕ) (below : List Todo) (s' : WorkerState)
+  claim-deep : (n : ℕ) (task : Task) (core : Core) (todo : List Todo) (r : ArcRef) (place : ℕ) (below : List Todo) (s' : WorkerState)
       → ClaimStep n (record { core = core; shelf = shelf; todo = todo }) r place below (Err Error.TooDeep) s'
       → Expects task r below → Waits shelf task below → AllStand shelf n task below → Covers shelf n (to_start r place ∷ below) → place ≡ place_over r below
       → IsTooDeepTask trees task ⊎ WaitsForAsker shelf n (identity_of r)
   claim-deep n task core todo r place below s' c expects waits all covers at = elim c.refused.0 [
     | inl fault ↦ absurd (grind arith)
-    | inr (inl (none_there, is, inl long)) ↦ inl (grind (arith, nat_tests, leads-down))
+    | inr (inl (none_there, is, inl long)) ↦ inl (grind (basics, leads-down))
     | inr (inl (none_there, is, inr (inl (key, h, p, long)))) ↦
         let k = known (identity_of r) key h p in
         let few = attained-height (size (trees (identity_of r).node.0).meaning) (identity_of r) h (omega arith) k.written k.stands.wrote k.stands.attained in
-        inl (grind (arith, nat_tests, leads-down))
+        inl (grind (basics, leads-down))
     | inr (inl (none_there, is, inr (inr (slot, still, back)))) ↦
         let other : slot.worker ≢ n = λ own. not-below n task (identity_of r) r below (omega arith) expects waits all
         (covers (identity_of r) slot still.claimed own still.no_result_yet) in
@@ -166,23 +165,20 @@ module _ {N E : Type 0} (v : Values N) (s : MachineState N E) (trees : ℕ → T
       → (height m ≤ limit) × (deepest_path m ≤ longest_path)
   unfolding height deepest_path
   shallow limit rs le lows (pair-leads x y a b h g) (pair c d) e = grind (
-    arith,
-    nat_tests,
+    basics,
     shallow limit rs le lows h c (cc),
     shallow limit rs le lows g d (cc),
   )
-  shallow limit rs le lows (variant-leads i x a h) (variant j c) e = grind (arith, nat_tests, shallow limit rs le lows h c (cc))
+  shallow limit rs le lows (variant-leads i x a h) (variant j c) e = grind (basics, shallow limit rs le lows h c (cc))
   shallow limit rs le lows (reference-leads r a among is) (followed kind c) e =
       let l = lows r among in
       let k = known (identity_of r) l.key l.below l.known in
       let kinds : kind ≡ r.kind.0 = cc in
       let meanings : a ≡ c = cc in
-      let p = shallow l.below k.written.references k.stands.within k.stands.low k.stands.wrote.follows c (is ∙ meanings) in
-      grind (arith, nat_tests)
+      grind (basics, shallow l.below k.written.references k.stands.within k.stands.low k.stands.wrote.follows c (is ∙ meanings))
   shallow limit rs le lows (followed-leads kind x a none h) m e = absurd none
-  shallow limit rs le lows follows x5 e = grind (arith, nat_tests)
+  shallow limit rs le lows follows x5 e = grind basics
 
-  -- so is the tree of an identity whose key is known
   shallow-tree : (i : Identity) (key h : ℕ) → IsPublished shelf i key h → (height (trees i.node.0).meaning ≤ h)
       × (deepest_path (trees i.node.0).meaning ≤ longest_path)
   shallow-tree i key h p = let k = known i key h p in shallow h k.written.references k.stands.within k.stands.low k.stands.wrote.follows
@@ -196,7 +192,6 @@ module _ {N E : Type 0} (v : Values N) (s : MachineState N E) (trees : ℕ → T
       let kids = kids_of trees k.written.references in
       formless.none_within k.written.bytes kids (subst (λ x. TreeForm v.types x (trees i.node.0).meaning k.written.bytes kids) same (tree-form k.stands.wrote))
 
-  -- and so has each that it reaches
   below-has-form : {i : Identity} {key height : ℕ} (j : Known i key height) {own : Meaning ArcRef} {m n : Meaning ⊥} {u : Tree} → Reaches n u
       → FollowsTo trees j.written.references own m
       → n ≡ m → HasNoForm v.types u → ⊥
@@ -205,7 +200,7 @@ module _ {N E : Type 0} (v : Values N) (s : MachineState N E) (trees : ℕ → T
       let k = known (identity_of r) p.0 p.1.0 p.1.1 in
       let kinds : kind ≡ r.kind.0 = cc in
       let meanings : b ≡ a = cc in
-      let same : tree (type_of kind) b ≡ trees r.node.0 = tree_is _ _ _ _ (ap type_of kinds ∙ sym k.typed) (meanings ∙ sym is) in
+      let same : tree (type_of kind) b ≡ trees r.node.0 = tree_is (ap type_of kinds ∙ sym k.typed) (meanings ∙ sym is) in
       has-form (identity_of r) k (subst (λ x. HasNoForm v.types x) same formless)
   below-has-form {i = i} {key = key} {height = top} j (refers-on kind b u reach) (reference-leads r a among is) e formless =
       let p = known-of shelf j.written.references j.stands.keys j.stands.known r among in
@@ -225,7 +220,7 @@ module _ {N E : Type 0} (v : Values N) (s : MachineState N E) (trees : ℕ → T
   -- a task that has come to a key leads down no path that is too long, and to no value that has no form
   task-is-fine : (task : Task) (key : ℕ) → IsDone v shelf task key → (¬ IsTooDeepTask trees task) × (¬ IsFormlessTask v.types trees task)
   task-is-fine (of_item written) key (keys, each, is, lows) = (
-    λ (r, among, long). let l = lows r among in let p = shallow-tree (identity_of r) l.key l.below l.known in grind (arith, nat_tests),
+    λ (r, among, long). let l = lows r among in grind (basics, shallow-tree (identity_of r) l.key l.below l.known),
     λ (r, among, formless). let p = known-of shelf written.references keys each r among in has-forms (identity_of r) p.0 p.1.0 p.1.1 formless,
   )
   task-is-fine (of_entry h i) key (top, p) = (λ long. absurd (omega (arith, (shallow-tree i key top p).1)), has-forms i key top p)
@@ -238,7 +233,7 @@ module _ {N B W E : Type 0} (m : Seen N B W) (s s' : MachineState N E) (trees tr
       let w = is.moves in
       let a = answered m n.0 (ground_of s trees) w.walking.task (site_of (world_of s) w.walking) w.after w.walking.todo reply.action w.does.does
       (fit.walks n.0 w.walking w.at) key (sym w.answers ∙ e) in
-      let fine = task-is-fine m.values s trees fit w.walking.table w.walking.task key a.0 in grind (arith, nat_tests, same_some)
+      grind (basics, same_some, task-is-fine m.values s trees fit w.walking.table w.walking.task key a.0)
   key-is-shallow event reply is = tt
 
   -- what a worker answers that leads down so, and met no other refusal
@@ -276,7 +271,7 @@ module _ {N B W E : Type 0} (m : Seen N B W) (s s' : MachineState N E) (trees tr
 
   pub claim-is-deep : (event : Event N B W) (reply : EventReply N B W) → Happens m (world_of s) event reply (world_of s')
       → ClaimIsDeep s trees event reply s' trees'
-  claim-is-deep x0 x1 is = grind (arith, nat_tests, same_some, of-claim)
+  claim-is-deep x0 x1 is = grind (basics, same_some, of-claim)
 
 module _ {N B W E : Type 0} (m : Seen N B W) (lawful : IsLawful m.values) (P : Fact N E B W) where
   pub along-first : ((s s' : MachineState N E) (trees trees' : ℕ → Tree) (event : Event N B W) (reply : EventReply N B W) → IsGoingOn m.values s trees

@@ -19,8 +19,8 @@ use Rattle.pagable_theorems.proofs.{
   HandlesKept.{stands-alike, stands-changed, stands-fell, stands-more},
   Trees.{at-most-sum, counted, one-true, same-number, same_some, self-number},
   Words.{Alike, Among, ArcRef, Blob, Bool, Change, Core, Error, HandleNumber, HandleRow, Kind, List, LoadNumber, Mode, NodeNumber, None, OpenLoad, Option},
-  Words.{OptionalDataKey, Owner, Result, Some, and_parts, ap, arith, cases_Bool, false, false_from_ne_true, find_row, held, if_there, if◌then◌else◌, inl, inr},
-  Words.{is_handle, is_in, is_named_by, is_owned_by, is_owner, is_pinning, is_some, moved, nat_tests, not, nothing_felt, one, owner_value, owner_worker, pins},
+  Words.{OptionalDataKey, Owner, Result, Some, and_parts, ap, arith, basics, cases_Bool, false, false_from_ne_true, find_row, held, if_there, if◌then◌else◌},
+  Words.{inl, inr, is_handle, is_in, is_named_by, is_owned_by, is_owner, is_pinning, is_some, moved, not, nothing_felt, one, owner_value, owner_worker, pins},
   Words.{refl, rules, slice_get, subst, suc, sym, true, updated, with_handle, zero, ℕ, [], ◌&&◌, ◌++◌, ◌+◌, ◌<◌, ◌==◌, ◌∙◌, ◌∷◌, ◌≡◌, ◌≤◌},
 }
 use Rattle.pagable_theorems.specs.TreeSteps.{AreGood, Bears, Knows, sets_key}
@@ -43,16 +43,16 @@ module _ (kind key n : ℕ) where
   at-row row at = ap (λ (x : ℕ). x == n) at ∙ self-number n
 
   above-none : (a b : ℕ) (t : Bool) → t ≡ true → one t ≤ b → nat_lt 0 b ≡ true
-  above-none a b t is le = let e : one t ≡ 1 = ap one is in grind (arith, nat_tests)
+  above-none a b t is le = let e : one t ≡ 1 = ap one is in grind basics
 
   pinned : (rows : List HandleRow) → IsHeldFor rows → is_pinned_kind kind ≡ true → nat_lt 0 (pins n rows) ≡ true
-  pinned rows h is = let e = at-row h.row h.at in let le = at-most-sum (λ x. one (is_pin n x)) rows h.row h.live in grind (arith, nat_tests, above-none)
+  pinned rows h is = grind (basics, above-none, at-row h.row h.at, at-most-sum (λ x. one (is_pin n x)) rows h.row h.live)
 
   pub can-use : (w : Core) → IsEntered w.cache w.cells → IsHeldFor w.rows → usable w kind key ≡ Some n
-  can-use w e h = grind (arith, nat_tests, pins, pinned, if_there, is_pinned_kind, is_in_memory)
+  can-use w e h = grind (basics, pins, pinned, if_there, is_pinned_kind, is_in_memory)
 
   pub entered-of : (w : Core) → usable w kind key ≡ Some n → IsEntered w.cache w.cells
-  entered-of w is = grind (arith, nat_tests)
+  entered-of w is = grind basics
 
   pub stays-alike : {w w' : Core} → Alike w w' → IsEntered w.cache w.cells → IsHeldFor w'.rows → IsEntered w'.cache w'.cells
   stays-alike {w} {w'} a e h = entered-of w' (a.cache.gives kind key ∙ can-use w e (subst IsHeldFor a.rows h))
@@ -60,8 +60,8 @@ module _ (kind key n : ℕ) where
   pub stays-fell : {before w w' : Core} {given : ℕ → Bool} {r : Result (Unit {0}) Error} → Falls before w given r w' → IsEntered w.cache w.cells
       → IsHeldFor w'.rows → IsEntered w'.cache w'.cells
   stays-fell {before} {w} {w'} {given} {r} f e h =
-      let rows : List HandleRow = left_rows f.gone w.rows ++ f.entries in
-      let g : IsHeldFor rows = subst IsHeldFor f.leaves.rows h in
+      let rows = left_rows f.gone w.rows ++ f.entries in
+      let g = subst IsHeldFor f.leaves.rows h in
       let some : nat_lt 0 (held n rows) ≡ true = above-none 0 (held n rows) (is_at n g.row) (at-row g.row g.at)
       (at-most-sum (λ x. one (is_at n x)) rows g.row g.live) in
       let there : is_some (if nat_lt 0 (held n rows) then w.cells n else None) ≡ true = rw some e.there in
@@ -74,7 +74,7 @@ module _ (kind key n : ℕ) where
   -- what is held after handles were given up was held before: an entry of the list comes for a node that was pinned
   pub held-fell : {w m w' : Core} {given : ℕ → Bool} {r : Result (Unit {0}) Error} → m.rows ≡ w.rows → Falls w m given r w' → IsHeldFor w'.rows
       → IsHeldFor w.rows
-  held-fell {w} {m} {w'} same f h = let g : IsHeldFor (left_rows f.gone m.rows ++ f.entries) = subst IsHeldFor f.leaves.rows h in
+  held-fell {w} {m} {w'} same f h = let g = subst IsHeldFor f.leaves.rows h in
       elim (among-either (left_rows f.gone m.rows) f.entries g.live.0 g.row g.live.1) [
         | inl left ↦ record { row = g.row; live = subst (λ rows. Among rows g.row) same (among-left _ m.rows g.row left).0; at = g.at; pins_it = g.pins_it }
         | inr new ↦
@@ -85,9 +85,9 @@ module _ (kind key n : ℕ) where
             record { row = p.0; live = p.1; at = same-number _ _ both.0; pins_it = λ is. both.1 }
       ]
 
-  pub entered-born : {cache : ℕ → ℕ → Option ℕ} {cells : ℕ → Option Cell} (p : ℕ) (x : Cell) → IsEntered cache cells
+  entered-born : {cache : ℕ → ℕ → Option ℕ} {cells : ℕ → Option Cell} (p : ℕ) (x : Cell) → IsEntered cache cells
       → IsEntered cache (updated p (Some x) cells)
-  entered-born {cache} {cells} p x e = grind (arith, nat_tests)
+  entered-born {cache} {cells} p x e = grind basics
 
 -- A call leaves each handle of an owner as it is that doesn't ask: it is there afterwards, with its row. The owner is a worker, or the list.
 
@@ -118,7 +118,7 @@ with-one w {q} {row} node mode owner s =
     (none-in-next w.last.handle q (row_of (w.last.handle + 1) node mode owner) refl s.given) s
 
 pub both-none : (a b : Option Error) → earlier a b ≡ None → (a ≡ None) × (b ≡ None)
-both-none x0 x1 is = grind (arith, nat_tests)
+both-none x0 x1 is = grind basics
 
 -- where nothing is said against handles that are named, each is live and the owner's
 pub named : (w : Core) (owner : Owner) (seen : List ℕ) (hs : List HandleNumber) → named_fault w owner seen hs ≡ None → (h : HandleNumber)
@@ -126,7 +126,7 @@ pub named : (w : Core) (owner : Owner) (seen : List ℕ) (hs : List HandleNumber
 unfolding named_fault is_in
 named w owner seen [] none h is = absurd (cc)
 named w owner seen (x ∷ hs) none h is = elim (cases_Bool (x.0 == h.0)) [
-  | inl e ↦ subst (λ z. Has w owner z) (ap (λ n. let k : HandleNumber = record { 0 = n } in k) (same-number _ _ e)) (grind (arith, nat_tests))
+  | inl e ↦ subst (λ z. Has w owner z) (ap (λ n. let k : HandleNumber = record { 0 = n } in k) (same-number _ _ e)) (grind basics)
   | inr e ↦ named w owner (x.0 ∷ seen) hs (both-none _ _ none).1 h (rw e at is)
 ]
 
@@ -142,7 +142,6 @@ module _ (mine : Owner) where
   pub spares-then : {w m w' : Core} → Spares w m → Spares m w' → Spares w w'
   spares-then a b = record { each = λ q row own s. b.each q row own (a.each q row own s) }
 
-  -- with the same rows, the second core stays alike
   pub then-alike : {w m w' : Core} → Alike m w' → Spares w m → Spares w w'
   then-alike a b = spares-then b (record { each = λ q row own s. stands-alike a s })
 
@@ -168,7 +167,7 @@ module _ (mine : Owner) where
 
   pub other-handle : {w : Core} {me : Owner} {fits : Mode → Bool} (h : HandleNumber) (r : HandleRow) → (me ≡ mine → ⊥) → Owns w me h fits r
       → Free w (only_handle h)
-  other-handle {w} {me} h r other owns = grind (arith, nat_tests)
+  other-handle {w} {me} h r other owns = grind basics
 
   -- references of another's name none of the owner's handles
   pub named-free : (w : Core) (owner : Owner) (rs : List ArcRef) → (owner ≡ mine → ⊥) → AreGood w owner rs → Free w (is_named_by rs)
@@ -186,8 +185,7 @@ module _ (mine : Owner) where
         let most = at-most-sum (λ (x : HandleNumber). one (x.0 == q)) w.list h (i, at) in
         let (x, among, some) = counted (λ (x : HandleRow). one (is_handle q x && is_owned_by Owner.List x)) w.rows
         (omega (arith, here, most, there.listed q)) in
-        let it = s.only x among in
-        grind (arith, nat_tests, one-true, same-number));
+        grind (basics, one-true, same-number, s.only x among));
   }
 
   -- handles that a load hands over aren't the owner's
@@ -211,10 +209,11 @@ IsMine w me l = (load : OpenLoad) → w.loads l.0 ≡ Some load → is_owner me 
 
 pub owned-mine : {w : Core} {me : Owner} {l : LoadNumber} {load : OpenLoad} → OwnsLoad w me l load → IsMine w me l
 owned-mine {me = me} o load is = ap (is_owner me) (ap (λ (x : OpenLoad). x.owner) (same_some _ _ (sym is ∙ o.stands_open)) ∙ o.own)
-    ∙ (grind (arith, nat_tests, self-number))
+    ∙ (grind (basics, self-number))
 
--- What a step of the asker's does: up to what falls then, or to its end. It is felt as this change; each handle stays that isn't the asker's; where the cache is left to
--- itself it goes on to give what it gave, as long as the node is held; the same work, and loads that aren't the asker's stay, where what it asks is so.
+-- What a step of the asker's does: up to what falls then, or to its end. It is felt as this change; each handle stays that isn't the asker's; where the cache
+-- is left to itself it goes on to give what it gave, as long as the node is held; the same work, and loads that aren't the asker's stay, where what it asks is
+-- so.
 pub record Effect (me : Owner) (lists : Bool) (Asks Leaves : Type 0) (direct : Bool) (c : Change) (w w' : Core) : Type 0 where
   pub goes : Goes c w w'
   pub spares : (mine : Owner) → IsOther me lists w mine → Spares mine w w'
@@ -240,10 +239,10 @@ module _ (mine : Owner) (apart : IsApart mine) (u : ℕ) (other : owner_worker u
   no-load w o a = refl
 
   pub ended-free : (w : Core) → Free mine w (is_workers w u)
-  ended-free w = grind (arith, nat_tests, same-owner, no-load)
+  ended-free w = grind (basics, same-owner, no-load)
 
   pub released-free : (w : Core) (p : ℕ) → Free mine w (is_workers_at w u p)
-  released-free w p = grind (arith, nat_tests, same-owner)
+  released-free w p = grind (basics, same-owner)
 
 module _ {me : Owner} {lists : Bool} where
   pub own-handle : {w : Core} {fits : Mode → Bool} (h : HandleNumber) (row : HandleRow) → Owns w me h fits row → Ours me lists w (only_handle h)
@@ -256,7 +255,7 @@ module _ {me : Owner} {lists : Bool} where
   own-named w references right mine o = named-free mine w me references o.other right
 
   pub load-owns : (w : Core) (l : LoadNumber) → Ours me lists w (is_owned_in w (Owner.Load l))
-  load-owns w l mine o = grind (arith, nat_tests)
+  load-owns w l mine o = grind basics
 
   pub but : {w : Core} (f g : ℕ → Bool) → Ours me lists w f → Ours me lists w (λ q. f q && not (g q))
   but f g free mine o = record { each = λ q row own s. ap (λ b. b && not (g q)) ((free mine o).each q row own s) }
@@ -272,10 +271,9 @@ module _ {me : Owner} {lists : Bool} where
 
 module _ {me : Owner} {lists : Bool} {Asks Leaves : Type 0} where
   pub none : {c : Change} (w : Core) → Effect me lists Asks Leaves true c w w
-  none {c} w = grind (arith, nat_tests, quiet-self, quiet-goes)
+  none {c} w = grind (basics, quiet-self, quiet-goes)
 
   module _ {c : Change} {w m : Core} (d : Effect me lists Asks Leaves true c w m) where
-    -- the entry is there in the middle
     directly : Leaves → (kind key n : ℕ) → IsEntered kind key n w.cache w.cells → IsHeldFor kind key n w.rows → IsEntered kind key n m.cache m.cells
     directly leaves kind key n e h = d.lasts leaves kind key n e h (λ f. absurd (cc))
 
@@ -319,19 +317,18 @@ module _ {me : Owner} {lists : Bool} {Asks Leaves : Type 0} where
     pub cached : (kind : Kind) (key : ℕ) (n : NodeNumber) → Knows c w kind.0 key n.0 → usable w kind.0 key ≡ None
         → Effect me lists Asks Leaves true c w (with_cached m kind key n)
     cached kind key n knows unknown = plainly (goes-known d.goes kind key n knows) (λ k k' q p e h.
-        let was = directly k k' q p e h in record { entry = grind (arith, nat_tests, same-number, can-use k' q p w e h); there = was.there }) d.others
+        let was = directly k k' q p e h in record { entry = grind (basics, same-number, can-use k' q p w e h); there = was.there }) d.others
 
     pub cached-if : (b : Bool) (kind : Kind) (key : ℕ) (n : NodeNumber) → Knows c w kind.0 key n.0 → usable w kind.0 key ≡ None
         → Effect me lists Asks Leaves true c w (if b then m else with_cached m kind key n)
-    cached-if x0 kind key n knows unknown = grind (arith, nat_tests, cached)
+    cached-if x0 kind key n knows unknown = grind (basics, cached)
 
     pub opens : (key : ℕ) (root : Root) → Goes c w (with_load m key root me) → Effect me lists Asks Leaves true c w (with_load m key root me)
-    opens key root goes = plainly goes directly (λ own l load is few other. let more = d.goes.loads_last in let a = d.others own l load is few other in
-        grind (arith, nat_tests))
+    opens key root goes = plainly goes directly (λ own l load is few other. grind (basics, d.goes.loads_last, d.others own l load is few other))
 
     pub shuts : (l : LoadNumber) → (Asks → IsMine w me l) → Effect me lists Asks Leaves true c w (without_load m l)
     shuts l mine = plainly (goes-quiet d.goes (grind (arith, parts, le-self, rows-self))) directly
-        (λ own l load is few other. let a = d.others own l load is few other in let b = mine own in grind (arith, nat_tests, same-number))
+        (λ own l load is few other. grind (basics, same-number, d.others own l load is few other, mine own))
 
     pub like : {w' : Core} → Alike m w' → Effect me lists Asks Leaves false c w w'
     like a = search (rules, goes-quiet, alike, then-alike, stays-alike, directly, a.workers, a.loads, d.workers, d.others, d.spares)
@@ -358,16 +355,16 @@ module _ {me : Owner} {lists : Bool} {Asks Leaves : Type 0} where
       search (rules, born, spares, entered-born)
 
   pub with-key : (w : Core) (n : NodeNumber) (key : ℕ) → Effect me lists Asks Leaves true (sets_key n.0 key) w (with_key w n key)
-  with-key w n key = grind (arith, nat_tests, keyed w n key)
+  with-key w n key = grind (basics, keyed w n key)
 
   -- what is stored may grow, and the storage may fail
   pub beside : {c : Change} (w : Core) (stored : ℕ → Option Blob) (failures : ℕ) → ((q : ℕ) (b : Blob) → w.stored q ≡ Some b → stored q ≡ Some b)
       → (IsShut w → (q : ℕ) → stored q ≡ None)
       → Effect me lists Asks Leaves true c w (record w { stored = stored; failures = failures })
-  beside {c} w stored failures keeps shut = grind (arith, nat_tests, quiet-self, quiet-goes)
+  beside {c} w stored failures keeps shut = grind (basics, quiet-self, quiet-goes)
 
   pub forgets : {c : Change} (w : Core) → (Leaves → ⊥) → Effect me lists Asks Leaves true c w (record w { cache = λ kind key. None })
-  forgets {c} w none = grind (arith, nat_tests, parts, le-self, rows-self, quiet-goes)
+  forgets {c} w none = grind (basics, parts, le-self, rows-self, quiet-goes)
 
   pub stays : {c : Change} {w w' : Core} → Alike w w' → Effect me lists Asks Leaves false c w w'
   stays {w = w} a = like (none w) a

@@ -23,15 +23,13 @@ use Rattle.pagable_theorems.proofs.{
   Trees.{same_some, self-number},
   Words.{Action, Alike, Among, ArcRef, Beginning, Blob, Bool, Change, Claim, CloneCall, Core, Err, Error, Event, EventReply, HandleNumber, HandleRow},
   Words.{HandlesAreWhole, Happens, KeepsOpen, Last, List, None, Ok, OpenLoad, Option, Owner, Reading, ReadingFeels, Result, Seen, Some, Task, Todo, Walking},
-  Words.{WorkDoes, WorkerAnswer, WorkerNumber, WorkerReply, WorkerState, WorkerSteps, World, answer_after, ap, arith, false, give, inl, inr, is_some},
-  Words.{nat_tests, nothing_felt, owner_worker, refl, step_of, subst, sym, to_fail, to_load, to_pin, to_release, to_set, to_start, true, updated, ℕ, [], ◌++◌},
-  Words.{◌+◌, ◌<◌, ◌∙◌, ◌∷◌, ◌≡◌, ◌≤◌, ◌⊎◌},
+  Words.{WorkDoes, WorkerAnswer, WorkerNumber, WorkerReply, WorkerState, WorkerSteps, World, answer_after, ap, arith, basics, false, give, inl, inr, is_some},
+  Words.{nothing_felt, owner_worker, refl, step_of, subst, sym, to_fail, to_load, to_pin, to_release, to_set, to_start, true, updated, ℕ, [], ◌++◌, ◌+◌, ◌<◌},
+  Words.{◌∙◌, ◌∷◌, ◌≡◌, ◌≤◌, ◌⊎◌},
 }
 use Rattle.pagable_theorems.specs.{
   TreeSteps.{EventFeels, IsFresh, KeepsReadings, NewNode, SameNode, StaysAway, StepsReading, by-call, by-key, by-nothing, by-reading, sets_key},
 }
-
--- What a worker's step does to the core, as trees feel it, and which loads it begins.
 
 -- where a worker stands before its step
 abbrev pub site_of : World → Walking → WorkerState
@@ -48,12 +46,13 @@ no-load s todo is none reading e = absurd (cc (ap front_reading (sym is) ∙ e))
 
 pub started : (place : ℕ) (rs : List ArcRef) (x : Todo) (below : List Todo) → front_reading (x ∷ below) ≡ None
     → front_reading (next_start place rs ++ x ∷ below) ≡ None
-started place x1 x below x4 = grind (arith, nat_tests)
+started place x1 x below x4 = grind basics
 
 given : (r : ArcRef) (key height : ℕ) (below : List Todo) → AllWait below → front_reading (give r key height below) ≡ None
-given r key height x3 well = grind (arith, nat_tests, started)
+given r key height x3 well = grind (basics, started)
 
--- A load makes its step; the key is set through the worker's own loose handle; or nothing is felt. But for the first, a load at the front afterwards has just begun.
+-- A load makes its step; the key is set through the worker's own loose handle; or nothing is felt. But for the first, a load at the front afterwards has just
+-- begun.
 pub data WalkFeels {N B W : Type 0} (m : Seen N B W) (v : ℕ) (s s' : WorkerState) (todo : List Todo) : Change → Type 0 where
   walk-loads : (c : Change) (r : ArcRef) (place : ℕ) (through : HandleNumber) (reading : Reading) (below : List Todo) → todo ≡ to_load r place through reading
       ∷ below
@@ -93,7 +92,6 @@ module _ {N B W : Type 0} (m : Seen N B W) (v : ℕ) (s s' : WorkerState) where
   abbrev WE : List Todo → Change → Type 0
   WE todo c = Effect (owner_worker v) false (FrontMine s.core (owner_worker v) todo) (Unit {0}) false c s.core s'.core
 
-  -- nothing is felt
   quiet : {todo : List Todo} → ((n : ℕ) (x : N) → TodoBrings m.values s.core todo n x → ⊥) → (s.todo ≡ todo → WaitsWell todo → LoadsAnew s')
       → WE todo nothing_felt → WalkFelt m v s s' todo
   quiet none anew e = record {
@@ -104,7 +102,6 @@ module _ {N B W : Type 0} (m : Seen N B W) (v : ℕ) (s s' : WorkerState) where
     knows = λ whole k q n known. absurd known;
   }
 
-  -- and this stands at the front afterwards
   rests : {todo : List Todo} (next : List Todo) → ((n : ℕ) (x : N) → TodoBrings m.values s.core todo n x → ⊥)
       → s'.todo ≡ next → (WaitsWell todo → front_reading next ≡ None) → WE todo nothing_felt → WalkFelt m v s s' todo
   rests next none is other e = quiet none (λ front well. no-load s' next is (other well)) e
@@ -117,7 +114,7 @@ module _ {N B W : Type 0} (m : Seen N B W) (v : ℕ) (s s' : WorkerState) where
     | inl (kind, call) ↦ elim call.does [
       | inl refused ↦ rests next (λ n x b. b) is (λ well. other) (stays refused.stays)
       | inr (row, owns, inl (mode, done, a)) ↦ rests next (λ n x b. b) is (λ well. other) (stays a)
-      | inr (row, owns, inr (loose, f)) ↦ let e : WE (to_set r through key height ∷ below) (sets_key row.node.0 key) =
+      | inr (row, owns, inr (loose, f)) ↦ let e =
           fell (with-key s.core row.node key) f no-one in record {
             change = sets_key row.node.0 key;
             does = e;
@@ -139,14 +136,14 @@ module _ {N B W : Type 0} (m : Seen N B W) (v : ℕ) (s s' : WorkerState) where
   walk-goes (to_pin r place ∷ below) (Action.Pin i (Ok (PinStep.LoadBegun l))) (is, p) =
       let (mid, key, clone, begin) = p.pins.1.1 in let list = p.pins.2.list_is in
       let next = begin.begins.2.2.above in let last = ap (λ (x : Last). x.load) begin.begins.2.4.2.last in
-      quiet (λ n x b. b) (λ front well reading e. grind (arith, nat_tests)) (then-clone v clone (begins (Ok (Beginning.Load l key)) begin))
+      quiet (λ n x b. b) (λ front well reading e. grind basics) (then-clone v clone (begins (Ok (Beginning.Load l key)) begin))
   walk-goes (to_pin r place ∷ below) (Action.Pin i (Err f)) (is, p) = rests _ (λ n x b. b) p.refused.1.list_is (λ well. refl) (elim p.refused.0 [
     | inl clone ↦ clones (Err f) clone
     | inr (row, (mid, through, clone, inl pin)) ↦ then-clone v clone (pins (works-free v) (Err f) pin)
     | inr (row, (mid, through, clone, inr begin)) ↦ then-clone v clone (begins (Err f) begin)
   ])
   walk-goes (to_load r place through reading ∷ below) step does =
-      let t : LoadsTodo m.values (owner_worker v) s s' reading = grind (arith, nat_tests) in
+      let t : LoadsTodo m.values (owner_worker v) s s' reading = grind basics in
       let f = reading-feels m s.core (owner_worker v) (works-free v) s'.core reading t.answer t.frames t.does in
       record {
         change = f.change;
@@ -169,9 +166,7 @@ module _ {N B W : Type 0} (m : Seen N B W) (v : ℕ) (s s' : WorkerState) where
       let stored : (blob : Blob) (r : Result ℕ Error) → StoreCall (digest m.values) s.core blob r s'.core
       → Effect (owner_worker v) false (Unit {0}) (Unit {0}) false nothing_felt s.core s'.core =
       λ blob r c. stores r c in
-      grind (arith, nat_tests, rests, unmoved, stored, given, started)
-
--- What trees feel of each event that doesn't close the storage.
+      grind (basics, rests, unmoved, stored, given, started)
 
 -- workers come and go, and loads go
 others-work : (w : Core) (loads : ℕ → Option OpenLoad) (workers : ℕ → Bool) (worker : ℕ) → w.last.worker ≤ worker
@@ -183,7 +178,7 @@ others-work w loads workers worker more fewer = parts (le-self _) more (λ n cel
 pub ends-quiet : {w w' : Core} (answer : Option WorkerAnswer) (v : ℕ) → Ends answer v w w' → Quiet w w'
 ends-quiet None v e = alike e
 ends-quiet {w} (Some answer) v f =
-    quiet-then (others-work w (without_worker w v).loads (without_worker w v).workers w.last.worker (omega arith) (λ l load is. grind (arith, nat_tests)))
+    quiet-then (others-work w (without_worker w v).loads (without_worker w v).workers w.last.worker (omega arith) (λ l load is. grind basics))
     (fell-anyhow f)
 
 -- it gives up what it has: what others own stays, and what is held then was held before
@@ -218,7 +213,7 @@ module _ {N B W : Type 0} (m : Seen N B W) (u u' : World) where
   keeps-but : ReadingsAre u.work.readings u' → (k : ℕ) (now : Walking) → ((n : ℕ) → u'.work.walkings n ≡ updated k (Some now) u.work.walkings n)
       → ((reading : Reading) → front_reading now.todo ≡ Some reading → IsFresh u'.core reading) → KeepsReadings u u'
   keeps-but are k now same anew = read-after u u' (λ r. IsFresh u'.core r) are same (λ q r is. inl is)
-      (λ n w r there. grind (arith, nat_tests, at-updated k (Some now) u.work.walkings, same_some, anew))
+      (λ n w r there. grind (basics, at-updated k (Some now) u.work.walkings, same_some, anew))
 
   callers : (v : ℕ) → Owner.Caller ≡ owner_worker v → ⊥
   callers v e = absurd (cc)
@@ -252,7 +247,7 @@ module _ {N B W : Type 0} (m : Seen N B W) (u u' : World) where
         then-alike (owner_worker q) s.pager (record { each = a.each });
     lasts = λ left kind key n. record { lasts = λ i h h'. stays-alike kind key n s.pager (e.lasts tt kind key n i h (λ f. absurd (cc))) h' };
     feels = λ whole well. by-nothing (λ n x b. absurd (brings n x b)) (keeps-but s.readings v.0 (new_walking t task) s.work.same_walkings
-        (λ reading is. absurd (grind (arith, nat_tests, started))));
+        (λ reading is. absurd (grind (basics, started))));
     knows = λ whole leaves k q n known. absurd known;
   }
 
@@ -267,13 +262,12 @@ module _ {N B W : Type 0} (m : Seen N B W) (u u' : World) where
         → IsWhole u.core → EventFeels {B = B} m.values u (Event.WorkerStep k) (EventReply.WorkerMoved (Ok reply)) u' c
     worker-feels c (walk-loads c2 r place through reading below todo t opens feels) whole =
         let none : reply.answer ≡ None = s.answers ∙ ap (λ x. answer_after x reply.action) todo in
-        let last : Alike s.after.core u'.core = subst (λ a. Ends a k.0 s.after.core u'.core) none s.ends in
+        let last = subst (λ a. Ends a k.0 s.after.core u'.core) none s.ends in
         by-reading c reading t.answer t.frames (s.walking, r, place, through, below, s.at, todo) opens (feels-alike (feels whole.handles) last)
         (read-after u u' (λ after. (t.answer ≡ None) × (after ≡ gone_on reading t.frames)) s.readings s.work.same_walkings (λ q after is. inl is)
         (λ n w after there.
         grind (
-          arith,
-          nat_tests,
+          basics,
           at-updated k.0 (Some (record s.walking { todo = s.after.todo; steps = reply.steps; answer = reply.answer })) u.work.walkings,
           same_some,
           t.next,
@@ -292,7 +286,7 @@ module _ {N B W : Type 0} (m : Seen N B W) (u u' : World) where
           change = f.change;
           goes = goes-quiet f.goes (ends-quiet reply.answer k.0 s.ends);
           spares = λ v there others.
-              let other : (owner_worker k.0 ≡ owner_worker v → ⊥) = λ is. grind (arith, nat_tests, self-number) in
+              let other : (owner_worker k.0 ≡ owner_worker v → ⊥) = λ is. grind (basics, self-number) in
               ends-spare (owner_worker v) (worker-apart v) k.0 other reply.answer s.ends
               (f.does.spares (owner_worker v) (record { apart = worker-apart v; other = other; listing_error = λ yes. absurd (cc) }));
           lasts = λ left kind key n. ends-last kind key n reply.answer k.0 s.ends (record { lasts = λ i h h'. f.does.lasts tt kind key n i h (λ g. h') });
@@ -308,9 +302,9 @@ module _ {N B W : Type 0} (m : Seen N B W) (u u' : World) where
   event-goes (Event.LoadStep l) (EventReply.LoadMoved (Ok reply)) open_still is =
       let x = is.moves in
       let f = reading-feels m u.core Owner.Caller caller-free u'.core x.reading reply.ended x.frames x.does in
-      let steps : StepsReading u x.reading reply.ended x.frames u' = read-after u u' (λ after. (reply.ended ≡ None) × (after ≡ gone_on x.reading x.frames))
+      let steps = read-after u u' (λ after. (reply.ended ≡ None) × (after ≡ gone_on x.reading x.frames))
       x.readings x.work.walkings
-      (λ q r there. grind (arith, nat_tests, at-updated l.0 (reading_after reply.ended x.reading x.frames) u.work.readings q r there, same_some))
+      (λ q r there. grind (basics, at-updated l.0 (reading_after reply.ended x.reading x.frames) u.work.readings q r there, same_some))
       (λ n w r there. inl there) in
       felt f.does (λ left. tt)
       (λ whole well. by-reading f.change x.reading reply.ended x.frames (x.at, reading-stands u whole l x.reading x.at) f.opens (f.feels whole.handles) steps)
@@ -323,28 +317,28 @@ module _ {N B W : Type 0} (m : Seen N B W) (u u' : World) where
   event-goes (Event.LoadKey key t) (EventReply.Started (Ok (Beginning.Load l k))) open_still is =
       let next = is.step.begins.1.above in let last = ap (λ (x : Last). x.load) is.step.begins.2.last in
       event-rests (λ n x b. absurd b) (read-after u u' (λ r. IsFresh u'.core r) is.begun is.work.walkings
-      (λ q r there. grind (arith, nat_tests, at-updated l.0 (Some (fresh l t)) u.work.readings, same_some, next, last)) (λ n w r there. inl there))
+      (λ q r there. grind (basics, at-updated l.0 (Some (fresh l t)) u.work.readings, same_some, next, last)) (λ n w r there. inl there))
       (begins-key (Ok (Beginning.Load l k)) is.step)
   event-goes Event.TableNew (EventReply.TableMade (Ok t)) open_still is = let x =
       is.made in event-rests (λ n x b. absurd b) (keeps-all x.2 x.3.same_walkings) (stays x.1)
   event-goes (Event.WorkerItem t item) (EventReply.WorkerMade (Ok v)) open_still is = starts (λ n x b. b) t _ u.core v (none u.core) is.starts
   event-goes (Event.WorkerListed t i) (EventReply.WorkerMade (Ok v)) open_still is = let x = is.starts in
       starts (λ n x b. b) t _ _ v (moves (none u.core) (only_handle x.0) (Owner.Worker v) _ (λ l is. absurd (cc)) (entry refl i x.0 x.3.listed)) x.5
-  event-goes event reply open_still is = grind (arith, nat_tests, same, worker-steps)
+  event-goes event reply open_still is = grind (basics, same, worker-steps)
 
 module _ {c : Change} {w w' : Core} (g : Goes c w w') where
   pub old-node : (n : ℕ) → n ≤ w.last.node → is_some (w'.cells n) ≡ true → SameNode c w w' n
-  old-node n few there = let c : (cell : Cell) × (w'.cells n ≡ Some cell) = grind (arith, nat_tests) in let k = g.cells n c.0 c.1 in grind (arith, nat_tests)
+  old-node n few there = let c : (cell : Cell) × (w'.cells n ≡ Some cell) = grind basics in grind (basics, g.cells n c.0 c.1)
 
   pub new-node : HandlesAreWhole w → (n : ℕ) → w.last.node < n → is_some (w'.cells n) ≡ true → NewNode c w w' n
-  new-node whole n above there = let c : (cell : Cell) × (w'.cells n ≡ Some cell) = grind (arith, nat_tests) in let cell = c.0 in elim (g.cells n cell c.1) [
+  new-node whole n above there = let c : (cell : Cell) × (w'.cells n ≡ Some cell) = grind basics in let cell = c.0 in elim (g.cells n cell c.1) [
     | inl kept ↦ absurd (omega (arith, (whole.nodes_numbered n (ap is_some kept.live)).1))
     | inr (next, bears) ↦ record {
       t = cell.node_type;
       own = cell.key;
       born = bears;
       next = next;
-      typed = grind (arith, nat_tests);
-      key = grind (arith, nat_tests);
+      typed = grind basics;
+      key = grind basics;
     }
   ]

@@ -12,9 +12,9 @@ use Rattle.pagable_theorems.proofs.{
   Trees.{AllTwo, Along, followed-along, more-two, no-two, one_tree, pair-along, reference-along, same-number, same_some, sum-le, sum-zero, variant-along},
   Words.{Among, ArcRef, Bool, Core, FollowsTo, Form, HandleRow, HandlesAreWhole, HoldsSettled, Identity, IsLawful, IsPagerWhole, IsPublished, IsReadable},
   Words.{IsReadableType, List, Meaning, Ok, Option, Owner, PagerStandsFor, PagerState, Shape, Shelf, Slot, Some, Throughout, Tree, Types, Values, Written, ap},
-  Words.{append-nil, arith, blob_of, held, identity_of, if_there, inr, integer-leads, is_handle, is_owned_by, is_some, le_trans, map, nat_tests, one},
-  Words.{owner_value, reference, references_in, refl, rename, rest, slice_get, slice_get_within, subst, suc, sum_by-cons, sym, times, tree, true, type_of},
-  Words.{zero, ℕ, [], ◌&&◌, ◌++◌, ◌<◌, ◌==◌, ◌∙◌, ◌∷◌, ◌≡◌, ◌≤◌},
+  Words.{append-nil, arith, basics, blob_of, held, identity_of, if_there, inr, integer-leads, is_handle, is_owned_by, is_some, le_trans, map, one, owner_value},
+  Words.{reference, references_in, refl, rename, rest, slice_get, slice_get_within, subst, suc, sum_by-cons, sym, times, tree, true, type_of, zero, ℕ, []},
+  Words.{◌&&◌, ◌++◌, ◌<◌, ◌==◌, ◌∙◌, ◌∷◌, ◌≡◌, ◌≤◌},
 }
 use Rattle.pagable_theorems.specs.{
   TreeSteps.{Ground, KeyStands, LeadsBy, WroteTree, followed-leads, none-leads, number-leads, pair-leads, pattern-leads, reference-leads, text-leads},
@@ -72,10 +72,10 @@ module _ {N E : Type 0} {v : Values N} {s : PagerState N E} (settled : HoldsSett
 
 module _ {w : Core} (whole : HandlesAreWhole w) (n : ℕ) where
   pub held-of : is_some (w.cells n) ≡ true → 0 < held n w.rows
-  held-of is = let f : nat_lt 0 (held n w.rows) ≡ true = sym (whole.live n) ∙ is in grind (arith, nat_tests)
+  held-of is = let f : nat_lt 0 (held n w.rows) ≡ true = sym (whole.live n) ∙ is in grind basics
 
   pub cell-of : 0 < held n w.rows → is_some (w.cells n) ≡ true
-  cell-of some = let f : nat_lt 0 (held n w.rows) ≡ true = grind (arith, nat_tests) in whole.live n ∙ f
+  cell-of some = let f : nat_lt 0 (held n w.rows) ≡ true = grind basics in whole.live n ∙ f
 
   pub given-of : {t : ℕ} → type_at w n ≡ Some t → (0 < held n w.rows) × (n ≤ w.last.node)
   given-of {t} is = let there : is_some (w.cells n) ≡ true = grind arith in (held-of there, (whole.nodes_numbered n there).1)
@@ -87,13 +87,12 @@ rows-once q (h ∷ hs) apart =
     let rest = rows-once q hs (λ i j a b lt x y. apart (suc i) (suc j) a b (omega arith) x y) in
     let sum = sum_by-cons (λ (x : HandleRow). one (is_handle q x)) h hs in
     let off : h.number.0 ≡ q → times (is_handle q) hs ≡ 0 = λ same. sum-zero (λ x. one (is_handle q x)) hs
-    (λ x (i, there). let lt = apart 0 (suc i) h x (omega arith) refl there in grind (arith, nat_tests, same-number)) in
-    grind (arith, nat_tests, one, same-number)
+    (λ x (i, there). let lt = apart 0 (suc i) h x (omega arith) refl there in grind (basics, same-number)) in
+    grind (basics, one, same-number)
 
 pub one-less : (a b : Bool) → one (a && b) ≤ one a
-one-less x0 x1 = grind (arith, nat_tests)
+one-less x0 x1 = grind basics
 
--- and an owner's once at most
 pub owned-once : {w : Core} → HandlesAreWhole w → (o : Owner) (q : ℕ) → times (λ h. is_handle q h && is_owned_by o h) w.rows ≤ 1
 owned-once {w} whole o q =
     le_trans (sum-le (λ h. one (is_handle q h && is_owned_by o h)) (λ h. one (is_handle q h)) w.rows (λ h among. one-less (is_handle q h) (is_owned_by o h)))
@@ -181,13 +180,13 @@ module _ (shelf : Shelf) where
 
   keys-are : (rs : List ArcRef) (keys : List ℕ) → AreKeysOf shelf rs keys → keys ≡ map key_of_ref (map (keyed_by shelf) rs)
   keys-are (r ∷ rs) (k ∷ ks) ((h, p), known) = rw (known-key r k h p, ← keys-are rs ks known) refl
-  keys-are x0 x1 x2 = grind (arith, nat_tests)
+  keys-are x0 x1 x2 = grind basics
 
   -- of each reference a key is known
   pub known-of : (rs : List ArcRef) (keys : List ℕ) → AreKeysOf shelf rs keys → (r : ArcRef) (among : Among rs r)
       → (k : ℕ) × ((h : ℕ) × IsPublished shelf (identity_of r) k h) × (slice_get keys among.0 ≡ Some k)
   known-of (x ∷ rs) (k ∷ ks) (p, known) r (suc i, e) = known-of rs ks known r (i, e)
-  known-of x0 x1 x2 r x4 = grind (arith, nat_tests)
+  known-of x0 x1 x2 r x4 = grind basics
 
 -- a known key stands for the tree of its node, which is of its kind's type
 pub record IdentityStands {N : Type 0} (v : Values N) (g : Ground) (i : Identity) (key : ℕ) : Type 0 where
@@ -198,7 +197,7 @@ module _ {N : Type 0} {v : Values N} {g : Ground} {shelf : Shelf} (right : (i : 
   -- the keys that are known of references are those of what they lead to
   pub keys-of : (rs : List ArcRef) (keys : List ℕ) → AreKeysOf shelf rs keys → KeysOf v.hash v.types (kids_of g.trees rs) keys
   keys-of (r ∷ rs) (k ∷ ks) ((h, p), known) = more-keys _ _ k ks (let is = right (identity_of r) k h p in rw (← is.typed) is.right.is_key) (keys-of rs ks known)
-  keys-of x0 x1 known = grind (arith, nat_tests, no-keys)
+  keys-of x0 x1 known = grind (basics, no-keys)
 
   follows-keys : (rs : List ArcRef) (keys : List ℕ) → AreKeysOf shelf rs keys → {x : Meaning ArcRef} {a : Meaning ⊥} → FollowsTo g.trees rs x a
       → IsFollowed (StoredAs g.stored v.types) (rename (keyed_by shelf) x) a

@@ -17,8 +17,8 @@ use Rattle.pagable_theorems.proofs.{
   Trees.{same-number, same_some, self-number},
   Words.{Action, Alike, Among, ArcRef, Blob, Bool, Call, Change, CloneCall, Core, Event, EventReply, HandleNumber, HandleRow, HandlesAreWhole, Happens},
   Words.{Identity, IsReference, Kind, Last, List, LoadNumber, Mode, NodeNumber, None, Ok, OpenLoad, Option, OptionalDataKey, Owner, PinCall, Reply, Seen, Some},
-  Words.{Todo, WorkerState, World, adopted, answer_after, ap, arith, bears_known, false, false_from_ne_true, find_row, if◌then◌else◌, inl, inr, is_handle},
-  Words.{is_named_by, is_owner, is_pinning, le_trans, mode_of, moved, nat_tests, next_node, not, nothing_felt, one, owner_value, owner_worker, pins},
+  Words.{Todo, WorkerState, World, adopted, answer_after, ap, arith, basics, bears_known, false, false_from_ne_true, find_row, if◌then◌else◌, inl, inr},
+  Words.{is_handle, is_named_by, is_owner, is_pinning, le_trans, mode_of, moved, next_node, not, nothing_felt, one, owner_value, owner_worker, pins},
   Words.{references_fault, refl, row_at, rules, subst, suc, sum_by-cons, sym, to_load, to_pin, true, type_of, updated, with_handle, zero, ℕ, [], ◌&&◌, ◌++◌},
   Words.{◌+◌, ◌<◌, ◌==◌, ◌∙◌, ◌∷◌, ◌≡◌, ◌≤◌, ◌⊎◌},
 }
@@ -63,8 +63,7 @@ rows-self last rows rows' same q row found few = record {
 }
 
 pub rows-then : (last more : ℕ) (rows mid rows' : List HandleRow) → last ≤ more → RowsGo last rows mid → RowsGo more mid rows' → RowsGo last rows rows'
-rows-then last more rows mid rows' le first second q row found few = let b = second q row found (omega arith) in let a =
-    first q b.was b.live few in grind (arith, nat_tests)
+rows-then last more rows mid rows' le first second q row found few = let b = second q row found (omega arith) in grind (basics, first q b.was b.live few)
 
 pub found-number : (q : ℕ) (rows : List HandleRow) (row : HandleRow) → find_row q rows ≡ Some row → row.number.0 ≡ q
 found-number q rows row found = (found-among q rows row found).1
@@ -75,7 +74,7 @@ pub found-changed : (test : HandleRow → Bool) (f : HandleRow → HandleRow) �
     → find_row q (changed test f rows) ≡ Some row → (was : HandleRow) × (find_row q rows ≡ Some was) × (row ≡ (if test was then f was else was))
 unfolding find_row
 found-changed test f same q [] row found = absurd (cc)
-found-changed test f same q (h ∷ hs) row found = grind (arith, nat_tests, is_handle, false, true, find_row, changed, found-changed test f same q hs row)
+found-changed test f same q (h ∷ hs) row found = grind (basics, is_handle, false, true, find_row, changed, found-changed test f same q hs row)
 
 abbrev pub NotLoads : Owner → Type 0
 NotLoads o = (l : LoadNumber) → o ≡ Owner.Load l → ⊥
@@ -83,36 +82,36 @@ NotLoads o = (l : LoadNumber) → o ≡ Owner.Load l → ⊥
 pub rows-mode : (last : ℕ) (rows : List HandleRow) (h : HandleNumber) (mode : Mode) → is_loose mode ≡ true
     → ((r : HandleRow) → find_row h.0 rows ≡ Some r → NotLoads r.owner)
     → RowsGo last rows (changed (is_handle h.0) (λ row. record row { mode = mode }) rows)
-rows-mode last rows h mode is_so free q row found few = grind (arith, nat_tests, found-changed, found-number)
+rows-mode last rows h mode is_so free q row found few = grind (basics, found-changed, found-number)
 
 pub rows-moved : (last : ℕ) (rows : List HandleRow) (s : ℕ → Bool) (owner : Owner) → NotLoads owner → RowsGo last rows (moved s owner rows)
-rows-moved last rows s owner free q row found few = grind (arith, nat_tests, found-changed)
+rows-moved last rows s owner free q row found few = grind (basics, found-changed)
 
 pub find-both : (q : ℕ) (xs ys : List HandleRow) → find_row q (xs ++ ys) ≡ or_else (find_row q xs) (find_row q ys)
 unfolding find_row
 find-both q [] ys = refl
-find-both q (h ∷ hs) ys = grind (arith, nat_tests, find-both q hs ys)
+find-both q (h ∷ hs) ys = grind (basics, find-both q hs ys)
 
 -- handles that come at the end have greater numbers
-pub rows-more : (last : ℕ) (rows more : List HandleRow) → ((q : ℕ) → q ≤ last → find_row q more ≡ None) → RowsGo last rows (rows ++ more)
+rows-more : (last : ℕ) (rows more : List HandleRow) → ((q : ℕ) → q ≤ last → find_row q more ≡ None) → RowsGo last rows (rows ++ more)
 rows-more last rows more new q row found few =
-    let back : find_row q rows ≡ Some row = grind (arith, nat_tests, find-both, new q few) in
+    let back : find_row q rows ≡ Some row = grind (basics, find-both, new q few) in
     record { was = row; live = back; at = refl; mine = λ l is. refl; loose = λ is. is }
 
 pub none-in-new : (last q : ℕ) (entries : List HandleRow) → AreNewEntries last entries → q ≤ last → find_row q entries ≡ None
 unfolding find_row
 none-in-new last q [] new few = refl
 none-in-new last q (h ∷ hs) (number, mode, owner, new) few = let a : is_handle q h ≡ false =
-    grind (arith, nat_tests) in rw a (none-in-new (last + 1) q hs new (omega arith))
+    grind basics in rw a (none-in-new (last + 1) q hs new (omega arith))
 
 pub none-in-next : (last q : ℕ) (h : HandleRow) → h.number.0 ≡ last + 1 → q ≤ last → find_row q (h ∷ []) ≡ None
 unfolding find_row
-none-in-next last q h next few = let a : is_handle q h ≡ false = grind (arith, nat_tests) in rw a refl
+none-in-next last q h next few = let a : is_handle q h ≡ false = grind basics in rw a refl
 
 pub find-left : (gone : ℕ → Bool) (q : ℕ) (rows : List HandleRow) → find_row q (left_rows gone rows) ≡ (if gone q then None else find_row q rows)
 unfolding find_row
-find-left gone q [] = grind (arith, nat_tests)
-find-left gone q (h ∷ hs) = grind (arith, nat_tests, is_handle, find_row, left_rows, false, true, same-number, find-left gone q hs)
+find-left gone q [] = grind basics
+find-left gone q (h ∷ hs) = grind (basics, is_handle, find_row, left_rows, false, true, same-number, find-left gone q hs)
 
 pub quiet-then : {w m w' : Core} → Quiet w m → Quiet m w' → Quiet w w'
 quiet-then {w} {m} {w'} a b = search (rules, rows-then, le_trans, a.cells, b.cells, a.stored, b.stored, a.loads, b.loads, a.cache, b.cache, a.shut, b.shut)
@@ -149,9 +148,9 @@ only-rows go le = parts le (le-self _) (λ n cell is. is) (λ l load is. is) (λ
 
 pub fell : {before w w' : Core} {given : ℕ → Bool} {r : _} → Falls before w given r w' → Quiet w w'
 fell {w = w} f = quiet-then {m = fallen w f.gone f.entries}
-    (parts (le-more _ _) (le-self _) (λ n cell is. grind (arith, nat_tests)) (λ l load is. is) (λ kind key n is. is)
+    (parts (le-more _ _) (le-self _) (λ n cell is. grind basics) (λ l load is. is) (λ kind key n is. is)
     (rows-then w.last.handle w.last.handle w.rows (left_rows f.gone w.rows) _ (le-of _ _ refl)
-    (λ q row found few. record { was = row; live = grind (arith, nat_tests, find-left f.gone q w.rows); at = refl; mine = λ l is. refl; loose = λ is. is })
+    (λ q row found few. record { was = row; live = grind (basics, find-left f.gone q w.rows); at = refl; mine = λ l is. refl; loose = λ is. is })
     (rows-more w.last.handle (left_rows f.gone w.rows) f.entries (λ q few. none-in-new w.last.handle q f.entries f.new few)))) (alike f.leaves)
 
 pub fell-anyhow : {before w w' : Core} {given : ℕ → Bool} → FallsAnyhow before w given w' → Quiet w w'
@@ -187,11 +186,11 @@ begun c w key root me well =
       | inl (at, e) ↦ inr (next-above l w.last.load at, rw (← same_some _ _ e) well)
       | inr there ↦ inl there
     ] in
-    grind (arith, nat_tests, le-self, le-more, rows-self, loads)
+    grind (basics, le-self, le-more, rows-self, loads)
 
 -- where nothing is felt, a cell was there as it is
 was-there : {w m : Core} → Goes nothing_felt w m → (n : ℕ) (cell : Cell) → m.cells n ≡ Some cell → w.cells n ≡ Some cell
-was-there a n cell is = grind (arith, nat_tests, a.cells n cell is)
+was-there a n cell is = grind (basics, a.cells n cell is)
 
 -- two steps of which nothing is felt: the cells that the first leaves are those that a load that the second begins is of
 pub goes-then : {w m w' : Core} → Goes nothing_felt w m → Goes nothing_felt m w' → Goes nothing_felt w w'
@@ -199,8 +198,8 @@ goes-then {w} {m} {w'} a b =
     let cells : (n : ℕ) (cell : Cell) → w'.cells n ≡ Some cell → Kept nothing_felt w n cell
     ⊎ ((n ≡ w.last.node + 1) × Bears nothing_felt cell.node_type cell.key) =
     λ n cell is. inl (record { was = cell; live = was-there a n cell (was-there b n cell is); typed = refl; key = inl refl }) in
-    let begins : (load : OpenLoad) → BeginsWell m load → BeginsWell w load = λ load well node t h root. let k = well node t h root in let was =
-    was-there a node.0 in grind (arith, nat_tests) in
+    let begins : (load : OpenLoad) → BeginsWell m load → BeginsWell w load =
+    λ load well node t h root. grind (basics, well node t h root, was-there a node.0) in
     let loads : (l : ℕ) (load : OpenLoad) → w'.loads l ≡ Some load → (w.loads l ≡ Some load) ⊎ ((w.last.load < l) × BeginsWell w load) = λ l load is.
     elim (b.loads l load is) [ inl there ↦ a.loads l load there | inr (above, well) ↦ inr (omega arith, begins load well) ] in
     let cache : (kind key n : ℕ) → w'.cache kind key ≡ Some n → (w.cache kind key ≡ Some n) ⊎ Knows nothing_felt w kind key n = λ kind key n is.
@@ -216,7 +215,7 @@ pub adopts : (w : Core) (l : LoadNumber) (kind : Kind) (key : ℕ) (own : Option
 adopts w l kind key own references =
     let made = goes-quiet (born (bears_known kind.0 key own) w (type_of kind.0) own references (refl, refl))
     (a-handle _ (next_node w) (mode_of kind.0) (Owner.Load l)) in
-    let known = goes-known made kind key (next_node w) (refl, refl, refl) in grind (arith, nat_tests)
+    grind (basics, goes-known made kind key (next_node w) (refl, refl, refl))
 
 abbrev pub NotValues : Owner → Type 0
 NotValues o = (n : NodeNumber) → o ≡ Owner.Value n → ⊥
@@ -235,16 +234,16 @@ pub none-found : (q : ℕ) (rows : List HandleRow) (h : HandleRow) → find_row 
 unfolding find_row
 none-found q [] h none among is = absurd (cc)
 none-found q (x ∷ xs) h none among is = let rest : (find_row q xs ≡ None → Among xs h → ⊥) =
-    λ no there. none-found q xs h no there is in grind (arith, nat_tests, self-number, rest)
+    λ no there. none-found q xs h no there is in grind (basics, self-number, rest)
 
 -- no number of a row is above this one
 abbrev pub AreUpTo : ℕ → List HandleRow → Type 0
 AreUpTo last rows = (h : HandleRow) → Among rows h → h.number.0 ≤ last
 
-pub none-above : (last q : ℕ) (rows : List HandleRow) → AreUpTo last rows → last < q → find_row q rows ≡ None
+none-above : (last q : ℕ) (rows : List HandleRow) → AreUpTo last rows → last < q → find_row q rows ≡ None
 unfolding find_row
 none-above last q [] few above = refl
-none-above last q (h ∷ hs) few above = grind (arith, nat_tests, few h (zero, refl), none-above last q hs (λ x among. few x (suc among.0, among.1)) above)
+none-above last q (h ∷ hs) few above = grind (basics, few h (zero, refl), none-above last q hs (λ x among. few x (suc among.0, among.1)) above)
 
 pub stands-whole : {w : Core} → HandlesAreWhole w → (q : ℕ) (row : HandleRow) → find_row q w.rows ≡ Some row → Stands w.last.handle w.rows q row
 stands-whole {w} whole q row found =
@@ -272,18 +271,18 @@ module _ (test : HandleRow → Bool) (f : HandleRow → HandleRow) (same : (h : 
   abbrev after : HandleRow → HandleRow
   after h = if test h then f h else h
 
-  pub after-number : (h : HandleRow) → (after h).number ≡ h.number
-  after-number h = grind (arith, nat_tests)
+  after-number : (h : HandleRow) → (after h).number ≡ h.number
+  after-number h = grind basics
 
   pub found-after : (q : ℕ) (rows : List HandleRow) (row : HandleRow) → find_row q rows ≡ Some row → find_row q (changed test f rows) ≡ Some (after row)
   unfolding find_row
   found-after q [] row found = absurd (cc)
-  found-after q (h ∷ hs) row found = grind (arith, nat_tests, is_handle, find_row, changed, true, false, after-number, found-after q hs row)
+  found-after q (h ∷ hs) row found = grind (basics, is_handle, find_row, changed, true, false, after-number, found-after q hs row)
 
   pub stands-changed : {last : ℕ} {rows : List HandleRow} {q : ℕ} {row : HandleRow} → Stands last rows q row → Stands last (changed test f rows) q (after row)
   stands-changed {last} {rows} {q} {row} s =
       let only : (h : HandleRow) → Among (changed test f rows) h → h.number.0 ≡ q → h ≡ after row = λ h among is.
-      let a = among-changed after rows h among in let n = after-number a.0 in let o = s.only a.0 a.1 in grind (arith, nat_tests) in
+      let a = among-changed after rows h among in grind (basics, after-number a.0, s.only a.0 a.1) in
       record { live = found-after q rows row s.live; only = only; given = s.given }
 
 -- where rows of greater numbers come; and such a row itself
@@ -328,17 +327,17 @@ stands-fell {before} {w} {w'} {given} {r} {q} {row} f free kept s =
     let stays = ap f.gone (sym number) ∙ outlast w.rows (is_keyed w) f.entries given f.gone (λ p. p == q) f.set
     (λ x there goes. false_from_ne_true (x.number.0 == q) (λ e. cc (same-number x.number.0 q e)))
     (λ n x there own lost. false_from_ne_true (x.number.0 == q) (λ e.
-    let o = no_value x there (same-number x.number.0 q e) in let no : is_owner (owner_value n) x.owner ≡ false = grind (arith, nat_tests) in cc))
+    let o = no_value x there (same-number x.number.0 q e) in let no : is_owner (owner_value n) x.owner ≡ false = grind basics in cc))
     row among (ap (λ p. p == q) number ∙ self-number q) in
     stands-left f stays s
 
 -- ---- references that nothing is to be said against name handles of their owner, as they should
 
 pub or-none : {X : Type 0} (a b : Option X) → or_else a b ≡ None → (a ≡ None) × (b ≡ None)
-or-none x0 b is = grind (arith, nat_tests)
+or-none x0 b is = grind basics
 
 pub same-owner : (o p : Owner) → is_owner o p ≡ true → p ≡ o
-same-owner x0 x1 is = grind (arith, nat_tests, same-number)
+same-owner x0 x1 is = grind (basics, same-number)
 
 module _ (w : Core) (owner : Owner) where
   good-one : (seen : List ℕ) (r : ArcRef) → reference_fault w owner seen r ≡ None → IsReference w owner r
@@ -347,7 +346,7 @@ module _ (w : Core) (owner : Owner) where
   pub good : (seen : List ℕ) (references : List ArcRef) → references_fault w owner seen references ≡ None → AreGood w owner references
   unfolding references_fault
   good seen (x ∷ xs) none r (suc i, is) = good (x.handle.0 ∷ seen) xs (or-none _ _ none).1 r (i, is)
-  good seen x1 x2 r x4 = grind (arith, nat_tests, good-one, or-none)
+  good seen x1 x2 r x4 = grind (basics, good-one, or-none)
 
 -- ---- a handle that is given up doesn't bring a value back
 
@@ -358,8 +357,7 @@ pins-left : (n : ℕ) (gone : ℕ → Bool) (rows more : List HandleRow) → pin
 pins-left n gone [] more none = grind arith
 pins-left n gone (h ∷ hs) more none =
     grind (
-      arith,
-      nat_tests,
+      basics,
       sum_by-cons (λ x. one (is_pin n x)) h hs,
       sum_by-cons (λ x. one (is_pin n x)) h (left_rows gone hs ++ more),
       pins-left n gone hs more none,
@@ -367,7 +365,7 @@ pins-left n gone (h ∷ hs) more none =
 
 pub no-pins : (n last : ℕ) (entries : List HandleRow) → AreNewEntries last entries → pins n entries ≡ 0
 no-pins n last [] new = refl
-no-pins n last (h ∷ hs) (number, mode, owner, new) = grind (arith, nat_tests, one, no-pins n (last + 1) hs new)
+no-pins n last (h ∷ hs) (number, mode, owner, new) = grind (basics, one, no-pins n (last + 1) hs new)
 
 pub fell-away : {before w w' : Core} {given : ℕ → Bool} {r : _} → Falls before w given r w' → (n : ℕ) → StaysAway w w' n
 fell-away {before} {w} {w'} f n = grind (arith, fell, pins-left, no-pins)
@@ -420,7 +418,7 @@ module _ (w w' : Core) (low : AreLow w) where
   clone-call me h k c = search (rules, stands-alike, new-handle)
 
   -- what the load owned goes, and not the pin
-  pub owned-none : (l : LoadNumber) → is_owned_in w (Owner.Load l) (w.last.handle + 1) ≡ false
+  owned-none : (l : LoadNumber) → is_owned_in w (Owner.Load l) (w.last.handle + 1) ≡ false
   owned-none l = let none = none-above w.last.handle (w.last.handle + 1) w.rows low (omega arith) in rw none refl
 
   pin-stays : (u : Core) (h : HandleNumber) (node : NodeNumber) (me : Owner) (k : HandleNumber) (given : ℕ → Bool) → NotValues me → AreLow u → u.last.handle
@@ -444,12 +442,12 @@ module _ (w w' : Core) (low : AreLow w) where
       ]
 
 pub not-loose : (mode : Mode) → is_loose mode ≡ false → is_pinning mode ≡ true
-not-loose x0 is = grind (arith, nat_tests)
+not-loose x0 is = grind basics
 
 pub low-handle : (w m : Core) (node : NodeNumber) (mode : Mode) (owner : Owner) → AreLow w → Alike (with_handle w node mode owner) m → AreLow m
 low-handle w m node mode owner low a h among =
-    let there : Among (w.rows ++ row_of (w.last.handle + 1) node mode owner ∷ []) h = subst (λ rows. Among rows h) a.rows among in
-    grind (arith, nat_tests, among-either w.rows (row_of (w.last.handle + 1) node mode owner ∷ []) there.0 h there.1, only-one, low h)
+    let there = subst (λ rows. Among rows h) a.rows among in
+    grind (basics, among-either w.rows (row_of (w.last.handle + 1) node mode owner ∷ []) there.0 h there.1, only-one, low h)
 
 module _ {N B W : Type 0} (m : Seen N B W) (v : ℕ) (s s' : WorkerState) (low : AreLow s.core) where
   held : (todo : List Todo) (i : Identity) (k : HandleNumber) → workers.WorkDoes m v s todo (Action.Pin i (Ok (PinStep.Pinned k))) s'
@@ -478,6 +476,5 @@ pins-hold m u u' (Event.LoadStep l) (EventReply.LoadMoved (Ok reply)) whole happ
 pins-hold m u u' (Event.Call (Call.LoadEnd l x)) (EventReply.CallReply (Reply.LoadEnded (Ok k))) whole happens =
     (end-call u.core u'.core (low-whole whole) Owner.Caller l x _ _ k (λ n is. absurd (cc)) happens.step.does).pin
 pins-hold {W = W} m u u' (Event.WorkerStep n) (EventReply.WorkerMoved (Ok reply)) whole happens = λ i k is.
-    let steps = happens.moves in let h = held m n.0 _ steps.after (low-whole whole) steps.walking.todo i k (rw is at steps.does.does) in
-    grind (arith, nat_tests, find_row)
+    let steps = happens.moves in grind (basics, find_row, held m n.0 _ steps.after (low-whole whole) steps.walking.todo i k (rw is at steps.does.does))
 pins-hold m u u' event reply whole happens = tt

@@ -13,9 +13,9 @@ use Rattle.pagable_theorems.proofs.{
   RoundTrip.{Looked, all-looked, form-again, not-looked, one-looked},
   Trees.{Along, each-two, form-along, integer-along, none-along, number-along, pair-along, pattern-along, reference-along, same-number, same_some, self-number},
   Trees.{text-along, variant-along},
-  Words.{Among, ArcRef, Blob, Err, Error, IsReadableType, List, Meaning, Ok, Option, Result, Some, Types, above, ap, append-nil, append_assoc, arith},
-  Words.{cases_Bool, false, inl, inr, is_eager, length, length-append, map, nat_tests, read, refl, rename, rest, slice_get, subst, suc, sym, tree, true},
-  Words.{type_of, zero, ℕ, [], ◌++◌, ◌+◌, ◌==◌, ◌∙◌, ◌∷◌, ◌≡◌, ◌≤◌},
+  Words.{Among, ArcRef, Blob, Err, Error, IsReadableType, List, Meaning, Ok, Option, Result, Some, Types, above, ap, append-nil, append_assoc, arith, basics},
+  Words.{cases_Bool, false, inl, inr, is_eager, length, length-append, map, read, refl, rename, rest, slice_get, subst, suc, sym, tree, true, type_of, zero, ℕ},
+  Words.{[], ◌++◌, ◌+◌, ◌==◌, ◌∙◌, ◌∷◌, ◌≡◌, ◌≤◌},
 }
 use Rattle.pagable_theorems.specs.{DepthLaws.DepthIsHeight, FormLaws.at}
 use Rattle.pagable_value_spec.specs.{
@@ -38,7 +38,7 @@ LookupOf front back refs c = Lookup front back (map key_of_ref refs) (map kind_o
 looked-another : (front : List ArcRef) (g : ArcRef) (back : List ArcRef) (d : KeyRef) (refs : List KeyRef) → (g.kind.0 == d.kind) ≡ false
     → LookupOf front (g ∷ back) (d ∷ refs) (Err Error.WrongKind)
 unfolding answers_from
-looked-another front g back d refs e = not-looked _ _ _ _ _ (let there = at-place front g back in grind (arith, nat_tests))
+looked-another front g back d refs e = not-looked _ _ _ _ _ (grind (basics, at-place front g back))
 
 -- whatever was got: all that the form has, or one of another kind, or the first of them
 data Ends (got : List ArcRef) (refs : List KeyRef) : Result (List Answer) Error → Type 0 where
@@ -184,9 +184,8 @@ module _ {store : ℕ → Option Blob} {types : Types} where
   below-along whole (variant-followed n x a f) can le = variant-along _ _ _ (below-along whole f can le)
   below-along whole (reference-followed r x a o f) can le = reference-along _ _
       (record { kind = refl; stored = record { own = x; stands = o; follows = f }; can = can; low = le })
-  below-along whole x0 can le = grind (arith, nat_tests, number-along, integer-along, text-along, pattern-along, none-along)
+  below-along whole x0 can le = grind (basics, number-along, integer-along, text-along, pattern-along, none-along)
 
-  -- of each reference of the form
   below-of : {t key : ℕ} {a : Meaning ⊥} (s : StoredTree store types key (tree t a)) → IsReadableTree types (tree t a) → (r : KeyRef)
       → Among s.stands.refs r → (k : Kid) × Below store types a r k
   below-of {a = a} s can r among = each-two (form-along (λ r k o. o.kind) s.stands.form (below-along a s.follows can.1 (omega arith))).each r among
@@ -208,11 +207,11 @@ module _ {store : ℕ → Option Blob} {types : Types} where
             let keys_are : q.key ≡ child = cc in
             let (k, below) = below-of s can q among in
             let of_kind : k.kind ≡ kind.0 = below.kind ∙ kinds_are in
-            let stored : StoredTree store types child (tree (type_of kind.0) k.meaning) =
+            let stored =
             subst (λ c. StoredTree store types c (tree (type_of kind.0) k.meaning)) keys_are (subst (λ c. StoredTree store types q.key (tree
             (type_of c) k.meaning)) of_kind below.stored) in
             let (b, there, read, few) = comes-down more k.meaning stored (subst (λ c. IsReadableTree types (tree (type_of c) k.meaning)) of_kind below.can) in
-            let top : height k.meaning + 1 ≤ height a = (let low = below.low in grind (arith, nat_tests)) in
+            let top : height k.meaning + 1 ≤ height a = (grind (basics, below.low)) in
             (b, there, read, omega arith)
       ]
 
@@ -227,7 +226,7 @@ module _ {store : ℕ → Option Blob} {types : Types} where
   first-of rs n (variant-followed i x a f) can path (variant-along j x2 c k) = first-of rs n f can path k
   first-of rs n (reference-followed r x a o f) can path (reference-along r2 c among) =
       record { r = r; among = among; eager = path.0; m = a; path = path.1; stored = record { own = x; stands = o; follows = f }; can = can }
-  first-of rs n f can path along = grind (arith, nat_tests)
+  first-of rs n f can path along = grind basics
 
   goes-deep : (n : ℕ) (t key : ℕ) (a : Meaning ⊥) → HasPath n a → StoredTree store types key (tree t a) → IsReadableTree types (tree t a)
       → (u last : ℕ) × LeadsDown types store t key n u last × ((blob : Blob) × (store last ≡ Some blob))

@@ -10,10 +10,10 @@ use Rattle.pagable_pager_spec.specs.{
 }
 use Rattle.pagable_theorems.proofs.{
   HandlesKept.good,
-  LoadProgress.row-pins,
+  LoadProgress.{moves-as, row-pins},
   Words.{Action, Among, ArcRef, Core, Error, Event, EventReply, HandleNumber, IsPagerWhole, IsReference, List, LoadAnswer, Mode, None, Ok, Option, Owner},
-  Words.{PagerState, Reading, Result, Seen, Some, Todo, Values, WorkerAnswer, Written, ap, arith, inl, inr, is_eager, is_pinning, is_some, nat_tests, pins},
-  Words.{refl, subst, sym, true, ℕ, [], ◌<◌, ◌∙◌, ◌∷◌, ◌≡◌},
+  Words.{PagerState, Reading, Result, Seen, Some, Todo, Values, WorkerAnswer, Written, ap, basics, inl, inr, is_eager, is_pinning, is_some, pins, refl, subst},
+  Words.{sym, true, ℕ, [], ◌<◌, ◌∙◌, ◌∷◌, ◌≡◌},
 }
 use Rattle.pagable_theorems.specs.{
   CallerLaws.{Operation, Operations, calls, goes-on, is-done, pages-item, pages-list, pins as pins-by, reads-key},
@@ -23,7 +23,7 @@ use Rattle.pagable_theorems.specs.{
 
 -- a reference that is read together with its value stands for a handle that pins
 eager-pins : (kind : ℕ) (mode : Mode) → is_eager kind ≡ true → fits_mode kind mode ≡ true → is_pinning mode ≡ true
-eager-pins kind Mode.LooseUnpinned eager fits = grind (arith, nat_tests)
+eager-pins kind Mode.LooseUnpinned eager fits = grind basics
 eager-pins kind Mode.LoosePinned eager fits = refl
 eager-pins kind Mode.Pinned eager fits = refl
 eager-pins kind Mode.Shared eager fits = refl
@@ -41,10 +41,7 @@ module _ {N E : Type 0} (v : Values N) {s : PagerState N E} (whole : IsPagerWhol
   there : is_some (s.values r.node.0) ≡ true
   there =
       let pinned : 0 < pins ref.row.node.0 s.core.rows = row-pins s.core r.handle ref.row ref.live pinning in
-      let valued = whole.valued r.node.0 in
-      let at = ref.at in
-      let typed = ref.typed in
-      grind (arith, nat_tests)
+      grind (basics, whole.valued r.node.0, ref.at, ref.typed)
 
 module _ {N E : Type 0} (v : Values N) {s s' : PagerState N E} (whole : IsPagerWhole v s') (moves : Moves (λ n x. HoldsItsNodes v s x) s s') where
   stays : (n : ℕ) (y : N) → s.values n ≡ Some y → is_some (s'.values n) ≡ true → s'.values n ≡ Some y
@@ -67,7 +64,7 @@ held_law E v s s' whole moves held = record {
 
 pub pinned_law : {N : Type 0} (E : Type 0) (v : Values N) → PinnedValuesAreHeld E v
 pinned_law E v s owner x whole none pinned = λ r among eager.
-    let ref : IsReference s.core owner r = good s.core owner _ (v.references x) none r among in
+    let ref = good s.core owner _ (v.references x) none r among in
     let p = some-of (s.values r.node.0) (there v whole r ref eager) in
     let valued : s.values ref.row.node.0 ≡ Some p.0 = ap (λ (n : NodeNumber). s.values n.0) ref.at ∙ p.1 in
     record { y = p.0; there = p.1; beside = pinned.each r p.0 (record { found = (ref.row, ref.live, (pinning v whole r ref eager, valued)); refused = tt }) }
@@ -84,11 +81,7 @@ module _ {N E : Type 0} (v : Values N) where
 
   nothing-comes : {comes : ℕ → N → Type 0} {s s' : PagerState N E} → ((n : ℕ) (x : N) → comes n x → ⊥) → IsPagerWhole v s' → Moves comes s s' → Held v s
       → Held v s'
-  nothing-comes none well moves h = comes-held well (record {
-    each = λ n x is. elim (moves.each n x is)
-        [ inl was ↦ inl was | inr came ↦ absurd (none n x came.1) ];
-    environment = moves.environment;
-  }) h
+  nothing-comes none well moves h = comes-held well (moves-as (λ n x is came. absurd (none n x came)) moves) h
 
   called-held : {does : Core → Type 0} {s s' : PagerState N E} → MakesCall v does s s' → Held v s → Held v s'
   called-held c h = nothing-comes (λ n x came. came) c.whole c.moves h
@@ -138,11 +131,7 @@ module _ {N E B W : Type 0} (m : Seen N B W) where
 
   operation-held : {s s' : PagerState N E} (operation : Operation m s s') → OperationBringsHeld operation → Held m.values s → Held m.values s'
   operation-held (calls call reply s s' c) brings h =
-      comes-held m.values c.whole (record {
-        each = λ n x is. elim (c.moves.each n x is)
-            [ inl was ↦ inl was | inr (none, came) ↦ inr (none, brings n x came is) ];
-        environment = c.moves.environment;
-      }) h
+      comes-held m.values c.whole (moves-as (λ n x is came. brings n x came is) c.moves) h
   operation-held (pins-by h r s s' run) brings was = pin-held m.values run was
   operation-held (reads-key key t r s s' run) brings was = read-held m.values run was
   operation-held (pages-item item answer s s' new run) brings was = item-held run was
@@ -170,18 +159,10 @@ module _ {N E B W : Type 0} (m : Seen N B W) where
   moment-held : (s s' : MachineState N E) (event : Event N B W) (reply : EventReply N B W) → EventDoes m s event reply s'
       → MomentBringsHeld m.values s.pager event s'.pager → Held m.values s.pager → Held m.values s'.pager
   moment-held s s' (Event.Call call) reply d brings h =
-      comes-held m.values d.whole.pager (record {
-        each = λ n x is. elim (d.moves.each n x is)
-            [ inl was ↦ inl was | inr (none, came) ↦ inr (none, brings n x came is) ];
-        environment = d.moves.environment;
-      }) h
+      comes-held m.values d.whole.pager (moves-as (λ n x is came. brings n x came is) d.moves) h
   moment-held s s' (Event.LoadStep l) reply d brings h = comes-held m.values d.whole.pager d.holds h
   moment-held s s' (Event.WorkerStep k) reply d brings h = comes-held m.values d.whole.pager d.holds h
-  moment-held s s' (Event.LoadStart through) reply d brings h = nothing-comes m.values (λ n x came. came) d.whole.pager d.moves h
-  moment-held s s' (Event.LoadKey key t) reply d brings h = nothing-comes m.values (λ n x came. came) d.whole.pager d.moves h
-  moment-held s s' Event.TableNew reply d brings h = nothing-comes m.values (λ n x came. came) d.whole.pager d.moves h
-  moment-held s s' (Event.WorkerItem t item) reply d brings h = nothing-comes m.values (λ n x came. came) d.whole.pager d.moves h
-  moment-held s s' (Event.WorkerListed t i) reply d brings h = nothing-comes m.values (λ n x came. came) d.whole.pager d.moves h
+  moment-held s s' _ reply d brings h = nothing-comes m.values (λ n x came. came) d.whole.pager d.moves h
 
   moments-held : (s : MachineState N E) (moments : List (Moment N E B W)) → AreMoments m s moments → MomentsBringHeld m.values s moments → Held m.values s.pager
       → HoldsItsValues m.values (state_after s moments).pager

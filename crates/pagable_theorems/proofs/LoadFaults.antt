@@ -1,5 +1,4 @@
--- Why a load fails whose key a page-out has published: by chance, or by a handle. And a load fails as too deep only if reading its key reaches a blob that is
--- too deep, or one that enters a level too many.
+-- Why a load fails whose key a page-out has published: by chance, or by a handle.
 use Rattle.pagable_pager_spec.specs.{
   Basics.longest_path,
   Events.{LoadSteps, reading_at},
@@ -7,7 +6,7 @@ use Rattle.pagable_pager_spec.specs.{
   Loads.{Fails, IsDecoded, IsOfKey, LoadDoes, RefusesNested, RefusesNode, RefusesRoot, asks, handles_of, is_broken, need_of, needs_lazy, needs_nested, reads},
   Order.{LeadsDown, ReadsTooDeep, after_kinds, goes-down, is-there},
   Pager.{IsReadingOf, of_worker},
-  Refusals.{AreHandlesFull, Refused, earlier, handle_fault, load_fault, named_fault, reference_fault, refused_if, row_fault},
+  Refusals.{AreHandlesFull, Refused, earlier, handle_fault, load_fault, named_fault, reference_fault, refused_if, row_fault, where_so},
   Rightness.AreKeysOf,
   WorkerClaims.{IsLoadOfPagedOut, IsOfChance, IsPagedOutAs},
   declared.{calls.FetchTarget.FetchTarget, events.LoadReply.LoadReply},
@@ -22,13 +21,14 @@ use Rattle.pagable_theorems.proofs.{
   Trees.{same_some, self-number},
   Words.{ArcRef, Blob, Bool, Core, Err, Error, Event, EventReply, Frame, FramesFit, HandleNumber, HandleRow, Happens, Identity, IsLawful, IsPublished},
   Words.{IsReadableType, Kind, List, LoadAnswer, LoadNumber, MachineState, Meaning, Mode, NodeNumber, None, Ok, OpenLoad, Option, Owner, Reading, Seen, Shelf},
-  Words.{Some, Tree, Types, Values, WorkFits, Written, above, adopted, any_mode, ap, arith, blob_of, false, identity_of, inl, inr, is_eager, length, nat_tests},
+  Words.{Some, Tree, Types, Values, WorkFits, Written, above, adopted, any_mode, ap, arith, basics, blob_of, false, identity_of, inl, inr, is_eager, length},
   Words.{next_in, not, of_cell, owner_worker, references_fault, refl, rules, slice_get, subst, sym, true, type_of, world_of, ℕ, [], ◌+◌, ◌<◌, ◌==◌, ◌∙◌, ◌∷◌},
   Words.{◌≡◌, ◌≤◌, ◌⊎◌},
 }
 use Rattle.pagable_theorems.specs.{DepthLaws.{IsOfHandles, LoadIsDeep, LoadOfPagedOutIsFaultless}, TreeSteps.{AllLow, IsFresh, Needs}}
 
--- ---- what a load reads of a key that a page-out has published: each blob is a form of a tree, asks for references whose keys are known, and lies within the path's limit
+-- ---- what a load reads of a key that a page-out has published: each blob is a form of a tree, asks for references whose keys are known, and lies within the
+-- path's limit
 
 -- the blob is a form of some value, and all of its references were got
 pub record IsForm {N : Type 0} (v : Values N) (frame : Frame) : Type 0 where
@@ -38,10 +38,10 @@ pub record IsForm {N : Type 0} (v : Values N) (frame : Frame) : Type 0 where
 
 as-many-keys : (shelf : Shelf) (rs : List ArcRef) (keys : List ℕ) → AreKeysOf shelf rs keys → length keys ≡ length rs
 as-many-keys shelf (r ∷ rs) (k ∷ ks) all = omega (arith, as-many-keys shelf rs ks all.1)
-as-many-keys shelf x1 x2 all = grind (arith, nat_tests)
+as-many-keys shelf x1 x2 all = grind basics
 
 above-eager : (kind h limit : ℕ) → is_eager kind ≡ true → above kind h ≤ limit → h + 1 ≤ limit
-above-eager kind h limit is le = grind (arith, nat_tests)
+above-eager kind h limit is le = grind basics
 
 module _ {N E : Type 0} (v : Values N) (s : MachineState N E) (trees : ℕ → Tree) (fit : WorkFits v s trees) (table : ℕ) where
   abbrev shelf : Shelf
@@ -61,7 +61,7 @@ module _ {N E : Type 0} (v : Values N) (s : MachineState N E) (trees : ℕ → T
       ≡ Some frame.blob → IsKnown frame height
   known-frame frame i height p typed is =
       let f = fit.slots table i p.slot p.claimed in let b = f.publishes frame.key height p.known in
-      let written : Written = b.0 in let w = b.2.wrote in
+      let written = b.0 in let w = b.2.wrote in
       let there : v.types.nodes frame.node_type ≡ Some w.shape = ap v.types.nodes typed ∙ w.is in
       let same : blob_of written.bytes b.2.keys ≡ frame.blob = same_some _ _ (sym b.2.is_stored ∙ is) in
       let form : IsFormOf v.types frame.node_type (blob_of written.bytes b.2.keys) written.references =
@@ -109,7 +109,7 @@ module _ {N E : Type 0} (v : Values N) (s : MachineState N E) (trees : ℕ → T
   module _ (root_key root_type : ℕ) (i : Identity) (limit : ℕ) (p : IsPublished shelf i root_key limit) (typed : (trees i.node.0).type ≡ root_type) where
     first-asked : (frame : Frame) (below : List Frame) → FramesAsked v.types (frame ∷ below) → GotAsked v.types frame.node_type frame.blob frame.got
     unfolding FramesAsked
-    first-asked frame x1 h = grind (arith, nat_tests)
+    first-asked frame x1 h = grind basics
 
     -- the innermost blob is known, with its height within what the path leaves
     top-known : (frame : Frame) (below : List Frame) → FramesFit v.types stored trees root_key root_type (frame ∷ below) → FramesAsked v.types (frame ∷ below)
@@ -128,7 +128,7 @@ module _ {N E : Type 0} (v : Values N) (s : MachineState N E) (trees : ℕ → T
         (a.below, k, omega (arith, above-eager frame.kind.0 a.below height eager a.within, left))
 
     -- what a load needs that reads it
-    pub needed : (frames : List Frame) → FramesFit v.types stored trees root_key root_type frames → FramesAsked v.types frames → (kind : Kind) (key : ℕ)
+    needed : (frames : List Frame) → FramesFit v.types stored trees root_key root_type frames → FramesAsked v.types frames → (kind : Kind) (key : ℕ)
         → Needs v.types frames kind key
         → (blob : Blob) × (stored key ≡ Some blob) × (is_eager kind.0 ≡ true → length frames ≤ longest_path)
     needed (frame ∷ below) fits got kind key needs =
@@ -145,7 +145,7 @@ module _ {N E : Type 0} (v : Values N) (s : MachineState N E) (trees : ℕ → T
             ((fit.slots table i p.slot p.claimed).publishes root_key limit p.known).2.within,
           ),
         )
-    needed x0 fits got kind key x5 = grind (arith, nat_tests)
+    needed x0 fits got kind key x5 = grind basics
 
     -- the innermost blob is so, where it is read
     pub formed : (frame : Frame) (below : List Frame) → FramesFit v.types stored trees root_key root_type (frame ∷ below) → FramesAsked v.types (frame ∷ below)
@@ -154,23 +154,21 @@ module _ {N E : Type 0} (v : Values N) (s : MachineState N E) (trees : ℕ → T
     formed frame below fits got own is =
         let known = (top-known frame below fits got).1 in
         let next = comes-to v.types frame.node_type frame.blob known.refs known.form (first-asked frame below got) in
-        record { refs = known.refs; form = known.form; kinds = grind (arith, nat_tests, next) }
+        record { refs = known.refs; form = known.form; kinds = grind (basics, next) }
 
     -- nothing of it is refused as faulty
-    pub not-broken : (frames : List Frame) → FramesFit v.types stored trees root_key root_type frames → FramesAsked v.types frames → (e : Error)
+    not-broken : (frames : List Frame) → FramesFit v.types stored trees root_key root_type frames → FramesAsked v.types frames → (e : Error)
         → need_of v.types frames ≡ is_broken e → ⊥
     not-broken [] fits got e is = cc
     not-broken (frame ∷ below) fits got e is =
         let known = (top-known frame below fits got).1 in
-        let next = comes-to v.types frame.node_type frame.blob known.refs known.form (first-asked frame below got) in
-        grind (arith, nat_tests, next_in, v)
+        grind (basics, next_in, v, comes-to v.types frame.node_type frame.blob known.refs known.form (first-asked frame below got))
 
 pub either : (a b : Option Error) (e : Error) → earlier a b ≡ Some e → (a ≡ Some e) ⊎ (b ≡ Some e)
 either None b e is = inr is
 either (Some x) None e is = inl is
-either (Some x) (Some y) e is = grind (arith, nat_tests)
+either (Some x) (Some y) e is = grind basics
 
--- whatever is told is so
 abbrev pub Only : (Error → Type 0) → Option Error → Type 0
 Only P told = (e : Error) → told ≡ Some e → P e
 
@@ -178,10 +176,14 @@ pub only-earlier : {P : Error → Type 0} (a b : Option Error) → Only P a → 
 only-earlier a b first second e is = elim (either a b e is) [ inl p ↦ first e p | inr q ↦ second e q ]
 
 pub only-if : (P : Error → Type 0) (b : Bool) (f : Error) → P f → Only P (refused_if b f)
-only-if P x0 f p e is = grind (arith, nat_tests)
+only-if P x0 f p e is = grind basics
+
+pub only-where : {P : Error → Type 0} (b : Bool) (told : Option Error) → Only P told → Only P (where_so b told)
+only-where true told only e is = only e is
+only-where false told only e is = absurd (cc)
 
 pub only-node : (P : Error → Type 0) (w : Core) (kind : Kind) (key : ℕ) → P Error.NumbersSpent → Only P (node_fault w kind key)
-only-node P w kind key p e is = grind (arith, nat_tests, only-if P, only-earlier {P = P})
+only-node P w kind key p e is = grind (basics, only-if P, only-earlier {P = P})
 
 pub only-refused : {P : Error → Type 0} {cause before : Option Error} {full : Type 0} {w w' : Core} (e : Error) → Refused cause before full w e w'
     → Only P cause → P Error.OutOfMemory → P e
@@ -207,7 +209,6 @@ module _ {N E : Type 0} (v : Values N) (s : MachineState N E) (trees : ℕ → T
     abbrev out : IsPagedOutAs s paged.0.0 load.key
     out = paged.4
 
-    -- what is read of it
     number : reading.load ≡ l
     number = reading-number s on.whole l reading at
 
@@ -221,7 +222,7 @@ module _ {N E : Type 0} (v : Values N) (s : MachineState N E) (trees : ℕ → T
     of-type =
         let there : (s.work.readings l.0 ≡ Some reading → reading.node_type ≡ paged.1) = λ is.
         let a = on.whole.readings l.0 reading is in rw (same_some _ _ (sym a.open_load ∙ open_load), paged.3) at a.typed in
-        grind (arith, nat_tests, there)
+        grind (basics, there)
 
     -- the tree that it reads
     typed : (trees out.i.node.0).type ≡ reading.node_type
@@ -240,9 +241,8 @@ module _ {N E : Type 0} (v : Values N) (s : MachineState N E) (trees : ℕ → T
         × (is_eager kind.0 ≡ true → length reading.frames ≤ longest_path)
     need-there = needed v s trees on.fits out.t load.key reading.node_type out.i out.height out.known typed reading.frames fits going.asked
 
-    -- the front of what is needed
     front : (frames : List Frame) (kind : Kind) (key : ℕ) → need_of v.types frames ≡ needs_nested kind key → is_eager kind.0 ≡ true
-    front x0 kind key is = grind (arith, nat_tests, eager-nested)
+    front x0 kind key is = grind (basics, eager-nested)
 
     form-of : (frame : Frame) (below : List Frame) → reading.frames ≡ frame ∷ below → (x : N) → IsDecoded v frame x → IsForm v frame
     form-of frame below is x decoded = formed v s trees on.fits out.t load.key reading.node_type out.i out.height out.known typed frame below
@@ -252,28 +252,28 @@ module _ {N E : Type 0} (v : Values N) (s : MachineState N E) (trees : ℕ → T
     ask-chance : (want : FetchTarget) (mid : Core) (e : Error)
         → Refused (ask_fault w Owner.Caller reading.load want) (ask_fault w Owner.Caller reading.load want) ((is_known w want ≡ true) × AreHandlesFull w) w e
         mid → IsOfChance e
-    ask-chance want mid e r = only-refused {P = IsOfChance} e r (only-earlier _ _ (no-load-fault _) (λ e is. grind (arith, nat_tests, only-if IsOfChance))) tt
+    ask-chance want mid e r = only-refused {P = IsOfChance} e r (only-earlier _ _ (no-load-fault _) (λ e is. grind (basics, only-if IsOfChance))) tt
 
     nested-asked : (kind : Kind) (key : ℕ) (blob : Blob) (mid : Core) (e : Error) → w.stored key ≡ Some blob
         → LoadFetchCall w Owner.Caller reading.load (FetchTarget.Nested kind key) (Err e) mid → IsOfChance e
     nested-asked kind key blob mid e is c = elim c.refused [
       | inl r ↦ ask-chance (FetchTarget.Nested kind key) mid e r
-      | inr (other, owned, vain) ↦ (grind (arith, nat_tests))
+      | inr (other, owned, vain) ↦ (grind basics)
     ]
 
     of-lazy : (mid : Core) (e : Error) (kind : Kind) (key : ℕ) → need_of v.types reading.frames ≡ needs_lazy kind key
         → LazyCall w Owner.Caller reading.load kind key (Err e) mid → IsOfChance e
     of-lazy mid e kind key needs c = only-refused {P = IsOfChance} e c.refused
-        (only-earlier _ _ (no-load-fault _) (only-earlier _ _ (λ f so. absurd (never _ Error.WrongKind f (grind (arith, nat_tests)) so))
+        (only-earlier _ _ (no-load-fault _) (only-earlier _ _ (λ f so. absurd (never _ Error.WrongKind f (grind basics) so))
         (only-node IsOfChance w kind key tt))) tt
 
     of-node : (mid : Core) (e : Error) → RefusesNode v w Owner.Caller reading e mid → C e
     unfolding FramesFit FramesAsked
     of-node mid e r =
         let n = r.reads_node in
-        let right : (is_eager n.top.kind.0 ≡ true) × (n.top.node_type ≡ type_of n.top.kind.0) = grind (arith, nat_tests, fits, going, adopted-over) in
+        let right : (is_eager n.top.kind.0 ≡ true) × (n.top.node_type ≡ type_of n.top.kind.0) = grind (basics, fits, going, adopted-over) in
         only-refused {P = C} e r.adopted.refused.1 (only-earlier _ _ (no-load-fault _)
-        (only-earlier _ _ (λ f so. absurd (never _ Error.WrongMode f (grind (arith, nat_tests)) so))
+        (only-earlier _ _ (λ f so. absurd (never _ Error.WrongMode f (grind basics) so))
         (only-earlier _ _ (λ f so. absurd (never _ Error.WrongKind f (ap (λ x. not (x == (type_of n.top.kind.0))) (n.decoded.typed ∙ right.1)
         ∙ ap not (self-number (type_of n.top.kind.0))) so))
         (only-earlier _ _ (λ f a. by-references n.top n.below r.x n.frames n.decoded (form-of n.top n.below n.frames r.x n.decoded) a)
@@ -286,7 +286,7 @@ module _ {N E : Type 0} (v : Values N) (s : MachineState N E) (trees : ℕ → T
           let same : is.load ≡ load = same_some _ _ (sym is.open_load ∙ (ap (λ (x : LoadNumber). w.loads x.0) number ∙ open_load)) in
           absurd (subst IsOfKey (ap (λ (x : OpenLoad). x.root) same ∙ paged.3) is.sort)
       | inl (is, ended) ↦ only-refused {P = C} e ended.refused.1 (only-earlier _ _ (no-load-fault _) (only-earlier _ _
-          (λ f a. by-chance (grind (arith, nat_tests, number, fits, of-type, either, never, only-if IsOfChance, self-number)))
+          (λ f a. by-chance (grind (basics, number, fits, of-type, either, never, only-if IsOfChance, self-number)))
           (λ f a. by-references r.reads_root.root [] r.x r.reads_root.frames r.reads_root.decoded
           (form-of r.reads_root.root [] r.reads_root.frames r.x r.reads_root.decoded) a)))
           (by-chance tt)
@@ -300,12 +300,11 @@ module _ {N E : Type 0} (v : Values N) (s : MachineState N E) (trees : ℕ → T
     cause w' e (inl gives) = elim gives.meets [
       | inl (refuses, a) ↦
           by-chance (grind (
-            arith,
-            nat_tests,
+            basics,
             not-broken v s trees on.fits out.t load.key reading.node_type out.i out.height out.known typed reading.frames fits
                 going.asked,
           ))
-      | inr (inl (first, asked)) ↦ by-chance (grind (arith, nat_tests, ask-chance, same_some, number, found))
+      | inr (inl (first, asked)) ↦ by-chance (grind (basics, ask-chance, same_some, number, found))
       | inr (inr (inl (kind, key, needs, inl asked))) ↦ let n = need-there kind key (inl needs) in by-chance (nested-asked kind key n.0 gives.mid e n.1 asked)
       | inr (inr (inl (kind, key, needs, inr (blob, is, deep, asked)))) ↦
           absurd (omega (arith, (need-there kind key (inl needs)).2 (front reading.frames kind key needs)))
@@ -315,99 +314,18 @@ module _ {N E : Type 0} (v : Values N) (s : MachineState N E) (trees : ℕ → T
     ]
 
 by-row : (w : Core) (r : ArcRef) (b : Bool) (row : HandleRow) → Only IsOfHandles (row_fault w r (refused_if b Error.NotYours) row)
-by-row w r b row e is = grind (arith, nat_tests)
+by-row w r b row e is = grind basics
 
 of-reference : (w : Core) (owner : Owner) (seen : List ℕ) (r : ArcRef) → Only IsOfHandles (reference_fault w owner seen r)
-of-reference w owner seen r e is = grind (arith, nat_tests, by-row)
+of-reference w owner seen r e is = grind (basics, by-row)
 
 pub by-all : (w : Core) (owner : Owner) (seen : List ℕ) (rs : List ArcRef) → Only IsOfHandles (references_fault w owner seen rs)
 unfolding references_fault
 by-all w owner seen [] e is = absurd (cc)
-by-all w owner seen (r ∷ rs) e is = grind (arith, nat_tests, of-reference, by-all w owner (r.handle.0 ∷ seen) rs)
+by-all w owner seen (r ∷ rs) e is = grind (basics, of-reference, by-all w owner (r.handle.0 ∷ seen) rs)
 
-pub by-handle-row : (w : Core) (me : Owner) (h : HandleNumber) (fits : Mode → Bool) (e : Error) → handle_fault w me h fits ≡ Some e → IsOfHandles e
-by-handle-row w me h fits e is = grind (arith, nat_tests)
-
--- ---- what isn't refused as too deep
-
-abbrev NotDeep : Error → Type 0
-NotDeep Error.TooDeep = ⊥
-NotDeep e = Unit {0}
-
-only-load : (w : Core) (me : Owner) (l : LoadNumber) → Only NotDeep (load_fault w me l)
-only-load w me l e is = grind (arith, nat_tests)
-
-only-named : (w : Core) (owner : Owner) (seen : List ℕ) (hs : List HandleNumber) → Only NotDeep (named_fault w owner seen hs)
-unfolding named_fault
-only-named v owner seen [] e is = absurd (cc)
-only-named v owner seen (h ∷ hs) e is = only-earlier {P = NotDeep} _ _ (λ f so. grind (arith, nat_tests)) (only-named v owner (h.0 ∷ seen) hs) e is
-
-not-refused : {cause before : Option Error} {full : Type 0} {w w' : Core} → Refused cause before full w Error.TooDeep w' → Only NotDeep cause → ⊥
-not-refused r none = only-refused {P = NotDeep} Error.TooDeep r none tt
-
-module _ (types : Types) (stored : ℕ → Option Blob) where
-  -- a path goes on by one more reference
-  goes-further : {t key n u last : ℕ} (blob : Blob) (kinds : List ℕ) (kind : Kind) (child : ℕ) → LeadsDown types stored t key n u last → stored last ≡ Some blob
-      → after_kinds types u blob kinds ≡ asks kind child → is_eager kind.0 ≡ true → LeadsDown types stored t key (n + 1) (type_of kind.0) child
-  goes-further blob kinds kind child (is-there t key) is next eager = goes-down t key child 0 (0 + 1) (type_of kind.0) child blob kinds kind refl is next eager
-      (is-there (type_of kind.0) child)
-  goes-further blob kinds kind child (goes-down t key c n longer u last b ks k e at step own more) is next eager =
-      goes-down t key c (n + 1) (longer + 1) (type_of kind.0) child b ks k (omega arith) at step own
-      (goes-further blob kinds kind child more is next eager)
-
-  module _ (trees : ℕ → Tree) (root_key root_type : ℕ) where
-    -- the path comes down to each frame's blob, which is stored
-    down-to : (frame : Frame) (below : List Frame) → FramesFit types stored trees root_key root_type (frame ∷ below) → FramesAsked types (frame ∷ below)
-        → LeadsDown types stored root_type root_key (length below) frame.node_type frame.key × (stored frame.key ≡ Some frame.blob)
-    unfolding FramesFit FramesAsked
-    down-to frame [] (fits, key, of_type) got = grind (arith, nat_tests, is-there)
-    down-to frame (under ∷ rest) (fits, of_type, next, more) (got, eager, next2, more_asked) =
-        let u = down-to under rest more more_asked in
-        let step = asks-by-kinds types under.node_type under.blob under.got frame.kind frame.key next in
-        let d = goes-further under.blob (kinds_of under.got) frame.kind frame.key u.0 u.1 step eager in
-        let long : length rest + 1 ≡ length (under ∷ rest) = omega arith in grind (arith, nat_tests)
-
-    of-path : (frames : List Frame) → FramesFit types stored trees root_key root_type frames → FramesAsked types frames → (kind : Kind) (key : ℕ) (blob : Blob)
-        → need_of types frames ≡ needs_nested kind key → stored key ≡ Some blob → longest_path < length frames → ReadsTooDeep types stored root_type root_key
-    of-path [] fits got kind key blob needs is long = absurd (cc)
-    of-path (top ∷ below) fits got kind key blob needs is long =
-        let d = down-to top below fits got in
-        let step = asks-by-kinds types top.node_type top.blob top.got kind key (asked below (next_in types top) kind key (inl needs)) in
-        let further = goes-further top.blob (kinds_of top.got) kind key d.0 d.1 step (eager-nested below (next_in types top) kind key needs) in
-        record { n = length below + 1; last_type = type_of kind.0; last = key; blob = blob; down = further; is = is; deep = inl (omega arith) }
-
-module _ {N B W : Type 0} (m : Seen N B W) (lawful : IsLawful m.values) (w : Core) (me : Owner) (reading : Reading) (trees : ℕ → Tree) (root_key root_type : ℕ)
-    (fits : FramesFit m.values.types w.stored trees root_key root_type reading.frames)
-    (got : FramesAsked m.values.types reading.frames) where
-  abbrev Deep : Type 0
-  Deep = ReadsTooDeep m.values.types w.stored root_type root_key
-
-  not-asked : (want : FetchTarget) (u : Core) → LoadFetchCall w me reading.load want (Err Error.TooDeep) u → ⊥
-  not-asked want u c = grind (arith, not-refused, only-earlier {P = NotDeep}, only-load, only-if NotDeep)
-
-  nested-deep : (u : Core) → RefusesNested m.values.types w me reading Error.TooDeep u → Deep
-  nested-deep u x1 = grind (arith, nat_tests, not-asked, of-path)
-
-  by-references-not : (x : N) → Only NotDeep (references_fault w (Owner.Load reading.load) [] (m.values.references x))
-  by-references-not x e is = let of = by-all w (Owner.Load reading.load) [] (m.values.references x) e is in grind (arith, nat_tests)
-
-  pub fails-deep : (w' : Core) → Fails m.values w me reading Error.TooDeep w' → Deep
-  fails-deep w' (inr ended) = absurd (by-handle-row w me ended.ended.refused.h any_mode Error.TooDeep ended.ended.refused.why)
-  fails-deep w' (inl gives) = elim gives.meets [
-    | inl (refuses, a) ↦ (grind (arith, nat_tests, down-to, kinds_of, faulty-by-kinds, next_in))
-    | inr (inl (first, c)) ↦ absurd (not-asked FetchTarget.Root gives.mid c)
-    | inr (inr (inl nested)) ↦ nested-deep gives.mid nested
-    | inr (inr (inr (inl (kind, key, needs, c)))) ↦ absurd (not-refused c.refused
-        (search (rules, only-earlier {P = NotDeep}, only-load, only-if NotDeep, only-node NotDeep)))
-    | inr (inr (inr (inr (inl node)))) ↦ absurd (not-refused node.adopted.refused.1
-        (search (rules, only-earlier {P = NotDeep}, only-load, only-if NotDeep, by-references-not, only-node NotDeep)))
-    | inr (inr (inr (inr (inr root)))) ↦ absurd (elim root.refuses [
-      | inl (is, ended) ↦ not-refused ended.refused.1 (only-earlier _ _ (only-load w me reading.load)
-          (only-earlier _ _ (λ e is. grind (arith, nat_tests, only-earlier {P = NotDeep}, only-if NotDeep)) (by-references-not root.x)))
-      | inr (is, handed) ↦ only-earlier {P = NotDeep} _ _ (only-load w me reading.load) (only-earlier _ _ (λ e is. grind (arith, nat_tests))
-          (only-named w (Owner.Load reading.load) [] (handles_of (m.values.references root.x)))) Error.TooDeep handed.refused.0
-    ])
-  ]
+pub by-handle-row : (w : Core) (me : Owner) (h : HandleNumber) (fits : Mode → Bool) → Only IsOfHandles (handle_fault w me h fits)
+by-handle-row w me h fits e is = grind basics
 
 module _ {N B W E : Type 0} (m : Seen N B W) (lawful : IsLawful m.values) (s s' : MachineState N E) (trees trees' : ℕ → Tree)
     (on : IsGoingOn m.values s trees) where
@@ -421,23 +339,5 @@ module _ {N B W E : Type 0} (m : Seen N B W) (lawful : IsLawful m.values) (s s' 
   pub load-faultless : (event : Event N B W) (reply : EventReply N B W) → Happens m (world_of s) event reply (world_of s')
       → LoadOfPagedOutIsFaultless s trees event reply s' trees'
   load-faultless (Event.LoadStep l) (EventReply.LoadMoved (Ok reply)) is = λ load e open_load paged ended.
-      let why = load-cause l reply is.moves load e open_load paged ended in grind (arith, nat_tests, by-all, by-handle-row)
+      grind (basics, by-all, by-handle-row, load-cause l reply is.moves load e open_load paged ended)
   load-faultless event reply is = tt
-
-  by-reading : (me : Owner) (reading : Reading) (load : OpenLoad) → IsReadingOf s.work reading ⊎ IsFresh s.pager.core reading
-      → s.pager.core.loads reading.load.0 ≡ Some load → (w' : Core)
-      → Fails m.values s.pager.core me reading Error.TooDeep w' → ReadsTooDeep m.values.types s.pager.core.stored reading.node_type load.key
-  by-reading me reading load stands open_load w' fails =
-      let g = going-of s trees on.readings reading stands in fails-deep m lawful s.pager.core me reading trees load.key reading.node_type
-      (g.fits load open_load) g.asked w' fails
-
-  pub load-deep : (event : Event N B W) (reply : EventReply N B W) → Happens m (world_of s) event reply (world_of s')
-      → LoadIsDeep m.values s trees event reply s' trees'
-  load-deep (Event.LoadStep l) (EventReply.LoadMoved (Ok reply)) is = λ reading load at open_load ended.
-      let x = is.moves in let same : x.reading ≡ reading = same_some _ _ (sym x.at ∙ at) in let fails = rw (same, ended) at x.does.does in
-      by-reading Owner.Caller reading load (reading-stands (world_of s) on.whole.pager.whole l reading at) (reading-open s on.whole l reading at open_load)
-      s'.pager.core fails.0
-  load-deep (Event.WorkerStep n) (EventReply.WorkerMoved (Ok reply)) is = λ walking r place through reading below load i there todo open_load taken.
-      let x = is.moves in let same : x.walking ≡ walking = same_some _ _ (sym x.at ∙ there) in let step = rw (same, todo, taken) at x.does.does in
-      by-reading (owner_worker n.0) reading load (inl (of_worker n.0 place walking r through below there todo)) open_load x.after.core step.1.refused.0.does.0
-  load-deep event reply is = tt

@@ -2,7 +2,7 @@
 use Rattle.pagable_pager_spec.specs.{
   Kinds.{is_at, is_pin},
   Loads.{Next, asks, gone_on, need_at, need_of, needs_lazy, needs_nested, nested_frame, with_got},
-  Pager.{FrameFits, IsReadingOf, NodeStands, ReadsNodeTree, SameTrees},
+  Pager.{FrameFits, IsReadingOf, Moves, NodeStands, ReadsNodeTree, SameTrees},
   Rightness.GivesTree,
 }
 use Rattle.pagable_theorems.proofs.{
@@ -10,10 +10,10 @@ use Rattle.pagable_theorems.proofs.{
   FormsOfTrees.cell-of,
   HandlesKept.among-found,
   Trees.{at-most-sum, followed-all, same_some, self-number},
-  Words.{Among, ArcRef, Blob, Change, Core, Frame, FramesFit, HandleNumber, HandleRow, HandlesAreWhole, IsPagerWhole, Kind, List, LoadNumber, MachineState},
-  Words.{None, OpenLoad, Option, PagerStandsFor, PagerState, Reading, ReadingFeels, ReadingFits, ReadsTree, Some, Tree, Types, ValueStands, Values, ap, arith},
-  Words.{held, inl, inr, is_eager, is_pinning, length, length-append, nat_tests, next_in, one, pins, refl, root_frame, row_at, slice_get, slice_get_within},
-  Words.{subst, suc, sym, true, type_of, zero, ℕ, [], ◌++◌, ◌<◌, ◌∙◌, ◌∷◌, ◌≡◌, ◌≤◌, ◌⊎◌},
+  Words.{Among, ArcRef, Blob, Change, Core, Frame, FramesFit, HandleNumber, HandleRow, HandlesAreWhole, HoldsSettled, IsPagerWhole, Kind, List, LoadNumber},
+  Words.{MachineState, None, OpenLoad, Option, PagerStandsFor, PagerState, Reading, ReadingFeels, ReadingFits, ReadsTree, Some, Tree, Types, ValueStands},
+  Words.{Values, ap, arith, basics, held, inl, inr, is_eager, is_pinning, length, length-append, next_in, one, pins, refl, root_frame, row_at, slice_get},
+  Words.{slice_get_within, subst, suc, sym, true, type_of, zero, ℕ, [], ◌++◌, ◌<◌, ◌∙◌, ◌∷◌, ◌≡◌, ◌≤◌, ◌⊎◌},
 }
 use Rattle.pagable_theorems.specs.{
   TreeSteps.{ChangeFits, CoreGoes, FramesHeld, GetsRow, GotStands, IsFresh, KeepsStored, Needs, gets-known, gets-lazy, makes-known, makes-node, reading-ends},
@@ -26,15 +26,15 @@ AllGot P frames = (frame : Frame) (r : ArcRef) → Among frames frame → Among 
 
 pub asked : (below : List Frame) (next : Next) (kind : Kind) (key : ℕ) → (need_at below next ≡ needs_nested kind key)
     ⊎ (need_at below next ≡ needs_lazy kind key) → next ≡ asks kind key
-asked x0 x1 kind key x4 = grind (arith, nat_tests)
+asked x0 x1 kind key x4 = grind basics
 
 pub pushed : {X : Type 0} (xs : List X) (y : X) (i : ℕ) (x : X) → slice_get (xs ++ y ∷ []) i ≡ Some x → (slice_get xs i ≡ Some x) ⊎ ((i ≡ length xs) × (y ≡ x))
 pushed (z ∷ xs) y (suc i) x is = elim (pushed xs y i x is) [ inl old ↦ inl old | inr new ↦ inr (omega arith, new.1) ]
-pushed x0 y x2 x is = grind (arith, nat_tests)
+pushed x0 y x2 x is = grind basics
 
 module _ {stored stored' : ℕ → Option Blob} {types : Types} (kept : KeepsStored stored stored') where
   pub tree-stays : {key : ℕ} {t : Tree} → ReadsTree stored types key t → ReadsTree stored' types key t
-  tree-stays {t = t} h = record { own = h.own; reads = grind (arith, nat_tests); follows = followed-all (λ n key m r. grind (arith, nat_tests)) h.follows }
+  tree-stays {t = t} h = record { own = h.own; reads = grind basics; follows = followed-all (λ n key m r. grind basics) h.follows }
 
   pub node-stays : {trees trees' : ℕ → Tree} {key t n : ℕ} → trees' n ≡ trees n → ReadsNodeTree types stored trees key t n
       → ReadsNodeTree types stored' trees' key t n
@@ -101,14 +101,14 @@ module _ (types : Types) (root_key root_type : ℕ) where
 
     pub first-fits : (top : Frame) (below : List Frame) → FramesFit types stored trees root_key root_type (top ∷ below) → FrameFits types stored trees top
     unfolding FramesFit
-    first-fits top x1 h = grind (arith, nat_tests)
+    first-fits top x1 h = grind basics
 
 module _ (P : ArcRef → Type 0) where
-  pub all-none : (frames : List Frame) → frames ≡ [] → AllGot P frames
+  all-none : (frames : List Frame) → frames ≡ [] → AllGot P frames
   all-none frames bare frame r among got = let there = subst (λ fs. Among fs frame) bare among in absurd (cc (there.1))
 
   pub all-new : (frame : Frame) (frames : List Frame) → frame.got ≡ [] → AllGot P frames → AllGot P (frame ∷ frames)
-  all-new frame frames bare all f r (zero, is) (place, there) = grind (arith, nat_tests)
+  all-new frame frames bare all f r (zero, is) (place, there) = grind basics
   all-new frame frames bare all f r (suc i, is) among = all f r (i, is) among
 
   pub all-more : (frames : List Frame) (kind : Kind) (row : HandleRow) → P (record { kind = kind; node = row.node; handle = row.number }) → AllGot P frames
@@ -121,14 +121,13 @@ module _ (P : ArcRef → Type 0) where
       [ inl old ↦ all top r (zero, refl) (j, old) | inr last ↦ subst P last.1 new ]
 
 pub row-held : (w : Core) (k : HandleNumber) (row : HandleRow) → row_at w k ≡ Some row → 0 < held row.node.0 w.rows
-row-held w k row is = let a = at-most-sum (λ h. one (is_at row.node.0 h)) w.rows row (among-found k.0 w.rows row is) in grind (arith, nat_tests, self-number)
+row-held w k row is = grind (basics, self-number, at-most-sum (λ h. one (is_at row.node.0 h)) w.rows row (among-found k.0 w.rows row is))
 
 pub row-pins : (w : Core) (k : HandleNumber) (row : HandleRow) → row_at w k ≡ Some row → is_pinning row.mode ≡ true → 0 < pins row.node.0 w.rows
-row-pins w k row is pinning = let a = at-most-sum (λ h. one (is_pin row.node.0 h)) w.rows row (among-found k.0 w.rows row is) in
-    grind (arith, nat_tests, self-number)
+row-pins w k row is pinning = grind (basics, self-number, at-most-sum (λ h. one (is_pin row.node.0 h)) w.rows row (among-found k.0 w.rows row is))
 
 pub stands-here : {N E : Type 0} {v : Values N} {s : PagerState N E} {n : ℕ} {t : Tree} {x : N} → NodeStands v s n t → s.values n ≡ Some x → ValueStands v s x t
-stands-here x0 is = grind (arith, nat_tests)
+stands-here x0 is = grind basics
 
 -- each handle that pins gives the tree that its node was made with
 pub pin_stands : {N E : Type 0} {v : Values N} (s : PagerState N E) (trees : ℕ → Tree) (k : HandleNumber) (row : HandleRow) → IsPagerWhole v s
@@ -137,14 +136,14 @@ pub pin_stands : {N E : Type 0} {v : Values N} (s : PagerState N E) (trees : ℕ
 pin_stands {N} s trees k row whole represents live pinning =
     let held_there = row-held s.core k row live in
     let p = row-pins s.core k row live pinning in let valued = whole.valued row.node.0 in let cell = cell-of whole.whole.handles row.node.0 held_there in
-    let x : (x : N) × (s.values row.node.0 ≡ Some x) = grind (arith, nat_tests) in
+    let x : (x : N) × (s.values row.node.0 ≡ Some x) = grind basics in
     record { row = row; x = x.0; live = live; held = x.1; stands = stands-here (represents.stands row.node.0 held_there) x.1 }
 
 -- ---- what a load has got is what its blobs asked for, and goes on to be so
 
 -- what is read together with a value is asked for through a reference that isn't loose
 pub eager-nested : (below : List Frame) (next : Next) (kind : Kind) (key : ℕ) → need_at below next ≡ needs_nested kind key → is_eager kind.0 ≡ true
-eager-nested x0 x1 kind key is = grind (arith, nat_tests)
+eager-nested x0 x1 kind key is = grind basics
 
 frames-on : {c : Change} {w w' : Core} → CoreGoes c w w' → (l : LoadNumber) (frames : List Frame) → FramesHeld w l frames → FramesHeld w' l frames
 frames-on goes l frames held frame r among got =
@@ -157,8 +156,7 @@ frames-on goes l frames held frame r among got =
 
 got-new : {w w' : Core} (l : LoadNumber) (kind : Kind) (n : ℕ) (row : HandleRow) → HandlesAreWhole w' → GetsRow w w' kind n row
     → GotStands w' l (record { kind = kind; node = row.node; handle = row.number })
-got-new {w' = w'} l kind n row whole g = let few = (whole.nodes_numbered row.node.0 (cell-of whole row.node.0 (row-held w' row.number row g.live))).1 in
-    grind (arith, nat_tests)
+got-new {w' = w'} l kind n row whole g = grind (basics, (whole.nodes_numbered row.node.0 (cell-of whole row.node.0 (row-held w' row.number row g.live))).1)
 
 -- what was read fits, what was got names nodes as it should, and was asked for
 pub record FitAfter {N : Type 0} (v : Values N) (w : Core) (trees : ℕ → Tree) (reading : Reading) (load : OpenLoad) (frames : List Frame) : Type 0 where
@@ -236,7 +234,6 @@ module _ {N E : Type 0} {v : Values N} {s s' : PagerState N E} {trees trees' : �
     known-reads : (kind : Kind) (key n : ℕ) → s.core.cache kind.0 key ≡ Some n → ReadsNodeTree v.types s'.core.stored trees' key (type_of kind.0) n
     known-reads kind key n known = node-stays goes.stored (fits.same n (whole.whole.cache kind.0 key n known).given) (stands.cache kind.0 key n known)
 
-    -- what it had read fits still
     fit-still : (reading : Reading) (load : OpenLoad) (frames : List Frame) → FitAfter v s.core trees reading load frames
         → FitAfter v s'.core trees' reading load frames
     fit-still reading load frames f = search (frames-stay, goes.stored, fits.same, given-nodes, f.held, f.fit, frames-on, goes, f.asked)
@@ -247,7 +244,7 @@ module _ {N E : Type 0} {v : Values N} {s s' : PagerState N E} {trees trees' : �
       → FitAfter v s'.core trees' reading load frames
   unfolding FramesFit FramesAsked
   felt-after reading load frames goes fits open_load (reads-root l blob none_read at stored answer is) g =
-      grind (arith, nat_tests, same_some, root_frame, new-fits, none-got, held, all-new, all-none)
+      grind (basics, same_some, root_frame, new-fits, none-got, held, all-new, all-none)
   felt-after reading load frames goes fits open_load (reads-blob kind key blob needs stored answer is) g =
       subst (FitAfter v s'.core trees' reading load) (sym is) (fit-nested reading load reading.frames kind key blob needs (goes.stored key blob stored) g)
   felt-after reading load frames goes fits open_load (gets-known kind key n row needs known got answer is) g =
@@ -276,7 +273,6 @@ module _ {N E : Type 0} {v : Values N} {s s' : PagerState N E} {trees trees' : �
         (fit-still goes fits reading load reading.frames (record { fit = g.fits load was; held = g.held; asked = g.asked })).fit in
         search (still-within reading.load.0 g.within, fit, frames-on goes reading.load reading.frames g.held, g.asked)
 
-    -- and where the load makes a step and goes on
     pub going-step : (reading : Reading) (frames : List Frame) (load : OpenLoad) → s.core.loads reading.load.0 ≡ Some load → Going v s trees reading
         → ReadingFeels v s.core reading None frames s'.core c → Going v s' trees' (gone_on reading frames)
     going-step reading frames load opened g feels =
@@ -286,3 +282,17 @@ module _ {N E : Type 0} {v : Values N} {s s' : PagerState N E} {trees trees' : �
         subst (λ (z : OpenLoad). FramesFit v.types s'.core.stored trees' z.key reading.node_type frames)
         (same_some _ _ (sym opened ∙ was-open goes reading.load.0 other g.within at)) after.fit in
         search (still-within reading.load.0 g.within, fit, after.held, after.asked)
+
+-- ---- what becomes of values
+
+-- what comes by the one way comes by the other
+pub moves-as : {N E : Type 0} {comes comes' : ℕ → N → Type 0} {s s' : PagerState N E} → ((n : ℕ) (x : N) → s'.values n ≡ Some x → comes n x → comes' n x)
+    → Moves comes s s' → Moves comes' s s'
+moves-as on moves = record {
+  each = λ n x is. elim (moves.each n x is) [ inl was ↦ inl was | inr (none, came) ↦ inr (none, on n x is came) ];
+  environment = moves.environment;
+}
+
+-- where no value comes, those that are there are settled still
+pub settled-on : {N E : Type 0} (v : Values N) {s s' : PagerState N E} → HoldsSettled v s → Moves (λ n x. ⊥) s s' → HoldsSettled v s'
+settled-on v settled moves n x is = elim (moves.each n x is) [ inl was ↦ settled n x was | inr came ↦ absurd came.1 ]

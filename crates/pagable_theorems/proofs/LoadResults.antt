@@ -23,10 +23,10 @@ use Rattle.pagable_theorems.proofs.{
   EventEffects.site_of,
   FormsOfTrees.{cell-of, keys-of, known-of, tree-form},
   HandlesKept.{Goes, rows-then, updated-at},
-  LoadProgress.{Going, given-nodes, going-new, going-step, row-held, stands-here, was-open},
+  LoadProgress.{Going, given-nodes, going-new, going-step, row-held, settled-on, stands-here, was-open},
   Merkle.{one_item_key, one_key},
   NewClaims.{FailsMet, answered as was-answered, failed-elsewhere, failed-stays, fails-stay, first-met, follows-met, goes-same, stands-on},
-  ReadingSteps.{caller-free, reading-feels},
+  ReadingSteps.{ReadingFelt, caller-free, reading-feels},
   SlotsGrow.{AllStand, AllWait, Covers, Goes as ShelfGoes, HasNoFailed, first-stands, grows, some-none, some-same},
   StepBounds.{hands, read-right},
   TablesKept.{all-known, all-low, done-on, keys-same, stands-for},
@@ -35,8 +35,8 @@ use Rattle.pagable_theorems.proofs.{
   Words.{Action, Alike, ArcRef, Blob, Bool, Claim, Core, Event, EventReply, Frame, FramesFit, HandleNumber, HandleRow, Happens, HoldsSettled, Identity},
   Words.{IsLawful, IsMachineWhole, IsPagerWhole, IsPublished, Last, List, LoadAnswer, LoadNumber, MachineState, Mode, None, Ok, OpenLoad, Option},
   Words.{OptionalDataKey, Owner, PagerStandsFor, PagerState, Reading, ReadingFeels, Seen, Shelf, Slot, Some, Task, Todo, Tree, Values, Walking, WorkDoes},
-  Words.{WorkFits, WorkerAnswer, WorkerNumber, WorkerReply, WorkerState, WorkerSteps, Written, answer_after, ap, append_assoc, arith, cases_Bool, false, give},
-  Words.{held, identity_of, if_there, inl, inr, is_some, key_at, nat_eq, nat_tests, no_result, nothing_felt, of_cell, of_entry, of_item, one, refl, subst},
+  Words.{WorkFits, WorkerAnswer, WorkerNumber, WorkerReply, WorkerState, WorkerSteps, Written, answer_after, ap, append_assoc, arith, basics, cases_Bool},
+  Words.{false, give, held, identity_of, if_there, inl, inr, is_some, key_at, nat_eq, no_result, nothing_felt, of_cell, of_entry, of_item, one, refl, subst},
   Words.{sum_by-cons, sym, times, to_fail, to_finish, to_item, to_load, to_pin, to_release, to_set, to_start, to_write, true, with_handle, world_of, ℕ, []},
   Words.{◌&&◌, ◌++◌, ◌+◌, ◌==◌, ◌∙◌, ◌∷◌, ◌≡◌, ◌≤◌},
 }
@@ -52,6 +52,13 @@ record Under {N E : Type 0} (v : Values N) (s : PagerState N E) (trees : ℕ →
   pub stands : PagerStandsFor v s trees
   pub going : Going v s trees reading
   pub keyed : (load : OpenLoad) → s.core.loads reading.load.0 ≡ Some load → load.key ≡ key
+
+-- what a step of a caller's load does, as trees feel it
+pub caller-feels : {N E : Type 0} {v : Values N} {s s' : PagerState N E} {reading : Reading} {answer : Option (LoadAnswer N)} {frames : List Frame}
+    → ReadingStep v Owner.Caller reading s answer frames s' → ReadingFelt v s.core Owner.Caller reading answer frames s'.core
+caller-feels {N} {v = v} {s} {s'} {reading} {answer} {frames} step =
+    let seen : Seen N Blob Written = record { values = v; blob_of = λ b. b; written_of = λ w. w } in
+    reading-feels seen s.core Owner.Caller caller-free s'.core reading answer frames step.does
 
 -- each node keeps its tree, and each handle its node
 pub record After {N E : Type 0} (v : Values N) (s : PagerState N E) (trees : ℕ → Tree) (s' : PagerState N E) (trees' : ℕ → Tree) : Type 0 where
@@ -84,8 +91,7 @@ module _ {N E : Type 0} {v : Values N} (lawful : IsLawful v) where
       → Under v s trees key reading → HoldsSettled v s' → TakesWell v s reading
       → ReadingStep v Owner.Caller reading s answer frames s' → Stepped s trees key reading answer frames s'
   stepped s s' trees key reading answer frames u settled' takes step =
-      let seen : Seen N Blob Written = record { values = v; blob_of = λ b. b; written_of = λ w. w } in
-      let felt = reading-feels seen s.core Owner.Caller caller-free s'.core reading answer frames step.does in
+      let felt = caller-feels step in
       let feels = felt.feels u.well.whole.handles in
       let fit = reading-fits lawful u.settled u.well step.whole u.stands reading takes u.going.fits
       (given-nodes reading.frames u.going.held) felt.does.goes felt.opens feels in
@@ -136,9 +142,9 @@ module _ {N E : Type 0} {v : Values N} (lawful : IsLawful v) where
         → Under v mid trees key (fresh l t)
     unfolding FramesFit
     under w l t key root next a =
-        let still : HoldsSettled v mid = λ n x has. elim (moves.each n x has) [ inl was ↦ settled n x was | inr came ↦ absurd came.1 ] in
+        let still = settled-on v settled moves in
         let going = going-new {v = v} mid trees (fresh l t) refl (omega (arith, ap (λ (x : Last). x.load) a.last)) in
-        grind (arith, nat_tests, same_some, still, whole, begun.stands, going)
+        grind (basics, same_some, still, whole, begun.stands, going)
 
 -- a load of a cell by one call keeps trees
 pub pin-after : {N E : Type 0} (v : Values N) (s mid s' : PagerState N E) (h : HandleNumber) (reading : Reading) (answer : LoadAnswer N)
@@ -148,7 +154,7 @@ pub pin-after : {N E : Type 0} (v : Values N) (s mid s' : PagerState N E) (h : H
 pin-after v s mid s' h reading answer run well starts asks lawful settled trees stands =
     let c = starts.begins in let b = c.step.begins.2 in
     let first = begun lawful s mid trees well settled stands (begin-goes _ c.step) c.moves c.whole in
-    let f : (t : ℕ) × (reading ≡ fresh reading.load t) = grind (arith, nat_tests, same_some) in
+    let f : (t : ℕ) × (reading ≡ fresh reading.load t) = grind (basics, same_some) in
     let u = under lawful s mid trees well settled stands (begin-goes _ c.step) c.moves c.whole (with_handle s.core
     c.step.begins.0.node Mode.LooseUnpinned (Owner.Load reading.load)) reading.load f.0 starts.key (of_cell c.step.begins.0.node b.4.0 h) b.2.above b.4.2 in
     let r = comes lawful run asks trees starts.key (subst (λ z. Under v mid trees starts.key z) (sym f.1) u) in
@@ -204,21 +210,20 @@ module _ (k : ℕ) (i : Identity) where
 
   started : (place : ℕ) (rs : List ArcRef) (x : Todo) (below : List Todo) → AllWait (x ∷ below)
       → (all-left (next_start place rs ++ x ∷ below) ≡ all-left (x ∷ below)) × IsWay (next_start place rs ++ x ∷ below)
-  started place x1 x2 below more = grind (arith, nat_tests, zero-add)
+  started place x1 x2 below more = grind (basics, zero-add)
 
   given : (r : ArcRef) (key height : ℕ) (below : List Todo) → AllWait below → (all-left (give r key height below) ≡ all-left below)
       × IsWay (give r key height below)
-  given r key height x3 waits = grind (arith, nat_tests, started)
+  given r key height x3 waits = grind (basics, started)
 
-  -- whether the reference is of the identity
   abbrev at : ArcRef → Bool
   at r = is_identity i (identity_of r)
 
   goes-up : (p : ℕ) (r : ArcRef) (m n : ℕ) → m ≡ from k (p + 1) (at r) + n → one (k == p && at r) + m ≤ 0 + (from k p (at r) + n)
-  goes-up p r m n is = grind (arith, nat_tests)
+  goes-up p r m n is = grind basics
 
   ends : (p : ℕ) (r : ArcRef) (m n : ℕ) → m ≤ n → one (k == p && at r) + m ≤ 0 + (from k p (at r) + n)
-  ends p r m n few = grind (arith, nat_tests)
+  ends p r m n few = grind basics
 
   failed : {next : List Todo} {fault : Fault} {back : Option HandleNumber} (todo : List Todo) → next ≡ to_fail fault back ∷ []
       → (one false + all-left next ≤ one false + all-left todo) × IsWay next
@@ -229,7 +234,7 @@ module _ (k : ℕ) (i : Identity) where
     goes : (todo : List Todo) (step : Action W) (next : List Todo) → IsWay todo → Follows f todo step next
         → (one (is_later_of k i step) + all-left next ≤ one (is_claim_of i step) + all-left todo) × IsWay next
     goes (to_start r place ∷ []) step next way follows = absurd way
-    goes _ step next way follows = grind (arith, nat_tests, failed, started, given, goes-up, ends)
+    goes _ step next way follows = grind (basics, failed, started, given, goes-up, ends)
 
     along : (todo : List Todo) (steps : List (Action W)) (last : List Todo) → IsWay todo → Leads f todo steps last
         → times (is_later_of k i) steps + all-left last ≤ times (is_claim_of i) steps + all-left todo
@@ -241,12 +246,12 @@ module _ (k : ℕ) (i : Identity) where
     after-release : (r : ArcRef) (key height : ℕ) (steps : List (Action W)) (last : List Todo) → Leads f (to_release r key height ∷ []) steps last
         → times (is_later_of k i) steps ≤ 1
     after-release r key height (Action.Release j ∷ x ∷ more) last (mid, (is, e), (after, follows, leads)) = absurd (subst (λ m. Follows f m x after) e follows)
-    after-release r key height x3 last x5 = grind (arith, nat_tests)
+    after-release r key height x3 last x5 = grind basics
 
     -- a step that neither claims nor is of the stage
     once-more : (step : Action W) (steps : List (Action W)) → one (is_later_of k i step) ≡ 0 → times (is_later_of k i) steps ≤ 1
         → times (is_later_of k i) (step ∷ steps) ≤ 1
-    once-more step steps is few = grind (arith, nat_tests)
+    once-more step steps is few = grind basics
 
     few-claims : (step : Action W) (steps : List (Action W)) → times (is_claim_of i) (step ∷ steps) ≤ 1
         → one (is_claim_of i step) + times (is_claim_of i) steps ≤ 1
@@ -263,16 +268,16 @@ module _ (k : ℕ) (i : Identity) where
     entry r place (Action.Claim j (Ok Claim.Claimed) ∷ steps) last (mid, (is, e), leads) few =
         let few_left : one (at r) + times (is_claim_of i) steps ≤ 1 = subst (λ j. one (is_identity i j) + times (is_claim_of i) steps ≤ 1) is
         (few-claims (Action.Claim j (Ok Claim.Claimed)) steps few) in
-        grind (arith, nat_tests, once-more, bounded, along)
+        grind (basics, once-more, bounded, along)
     entry r place (Action.Claim j (Ok Claim.Waiting) ∷ steps) last (mid, (is, e), leads) few =
         let less : times (is_claim_of i) steps ≤ 1 = omega (arith, few-claims (Action.Claim j (Ok Claim.Waiting)) steps few) in
-        grind (arith, nat_tests, once-more, entry r place steps last (subst (λ m. Leads f m steps last) e leads) less)
-    entry r place (step ∷ steps) last (mid, follows, leads) few = grind (arith, nat_tests, once-more, bounded, along, few-claims, after-release)
+        grind (basics, once-more, entry r place steps last (subst (λ m. Leads f m steps last) e leads) less)
+    entry r place (step ∷ steps) last (mid, follows, leads) few = grind (basics, once-more, bounded, along, few-claims, after-release)
 
     -- what the automaton accepts, with no identity claimed twice, has each stage at most once after its claim
     pub at-once : (task : Task) (steps : List (Action W)) (last : List Todo) → Leads f (first_todo task) steps last → times (is_claim_of i) steps ≤ 1
         → times (is_later_of k i) steps ≤ 1
-    at-once x0 steps last leads few = grind (arith, nat_tests, started, bounded, along, zero-add, entry)
+    at-once x0 steps last leads few = grind (basics, started, bounded, along, zero-add, entry)
 
 module _ {N B W : Type 0} (m : Seen N B W) (n : ℕ) (g : Ground) (task : Task) (s s' : WorkerState) where
   -- what the answer of a key comes from
@@ -282,12 +287,12 @@ module _ {N B W : Type 0} (m : Seen N B W) (n : ℕ) (g : Ground) (task : Task) 
   unfolding Waits
   answered (to_item written ks ∷ below) (Action.Store i (Ok k)) (is, p) (of_it, known) key e =
       let to : k ≡ key = cc in let b = p.stored.stores in
-      let done : IsDone m.values s.shelf task key = subst (λ t. IsDone m.values s.shelf t key) (sym of_it)
+      let done = subst (λ t. IsDone m.values s.shelf t key) (sym of_it)
       (ks, all-known s.shelf longest_path written.references ks p.all known, sym to ∙ b.0, all-low s.shelf longest_path written.references ks p.all known) in
       let t = p.goes in search (done, t.table_stays.slots)
   answered (to_release r k h ∷ []) (Action.Release i) (is, falls, t) (p, reach, (expects, waits)) key e = let to : k ≡ key =
-      cc in (grind (arith, nat_tests), t.table_stays.slots)
-  answered x0 x1 x2 x3 key e = grind (arith, nat_tests)
+      cc in (grind basics, t.table_stays.slots)
+  answered x0 x1 x2 x3 key e = grind basics
 
 module _ {N E : Type 0} (v : Values N) (s : MachineState N E) (trees : ℕ → Tree) (fit : WorkFits v s trees) (t : ℕ) where
   abbrev shelf : Shelf
@@ -316,7 +321,7 @@ module _ {N E : Type 0} (v : Values N) (s : MachineState N E) (trees : ℕ → T
 -- a live cell whose key was set has one
 key-known : (w : Core) (n : ℕ) → KeyIsSet w n → is_some (w.cells n) ≡ true → (key : ℕ) × (key_at w n ≡ OptionalDataKey.Some key)
 key-known w n set live = elim (key_at w n) as (λ own. has_key own ≡ true → (key : ℕ) × (own ≡ OptionalDataKey.Some key))
-    [ OptionalDataKey.Some key ↦ λ is. (key, refl) | OptionalDataKey.None ↦ λ is. absurd (cc) ] (let keyed = set.keyed in grind (arith, nat_tests, if_there))
+    [ OptionalDataKey.Some key ↦ λ is. (key, refl) | OptionalDataKey.None ↦ λ is. absurd (cc) ] (grind (basics, if_there, set.keyed))
 
 -- a cell whose key is published has one by then
 set-by-then : {N B W : Type 0} (m : Seen N B W) (n : ℕ) (s s' : WorkerState) (todo : List Todo) (i : Identity) (key height : ℕ)
@@ -344,7 +349,7 @@ module _ {N B W E : Type 0} (m : Seen N B W) (s s' : MachineState N E) (trees tr
     -- the worker as it is afterwards
     is-after : (P : Walking → Type 0) → P (record w.walking { todo = w.after.todo; steps = reply.steps; answer = reply.answer }) → (walking : Walking)
         → s'.work.walkings n.0 ≡ Some walking → P walking
-    is-after P p walking there = grind (arith, nat_tests, same_some, updated-at)
+    is-after P p walking there = grind (basics, same_some, updated-at)
 
   left-all : (t : ℕ) (task : Task) (key : ℕ) → IsDone m.values (s'.work.shelves t) task key → LeavesAll m.values s'.pager (s'.work.shelves t) trees' task
   left-all t task key done = record {
@@ -354,10 +359,11 @@ module _ {N B W E : Type 0} (m : Seen N B W) (s s' : MachineState N E) (trees tr
         search (p.claimed, b.1, p, b.2.is_stored, b.2.known, w.is, tree-form w);
     cells = λ i meets kind live.
         let p = met m.values s' trees' after t task key done i meets in let k = key-known s'.pager.core i.node.0 (held.slots t i p.0 p.1.0 p.1.1 kind) live in
-        let handles = whole.pager.whole.handles in let represents = stands.pager in record { key = k.0; set = k.1; reads = (grind (arith, nat_tests)) };
+        let handles = whole.pager.whole.handles in let represents = stands.pager in record { key = k.0; set = k.1; reads = (grind basics) };
   }
 
-  -- each key that is published is its tree's, and a cell had one by then; each that is answered is its task's, and what was met then is left paged out, with keys of its cells
+  -- each key that is published is its tree's, and a cell had one by then; each that is answered is its task's, and what was met then is left paged out, with
+  -- keys of its cells
   pub keys-right : (event : Event N B W) (reply : EventReply N B W) → Happens m (world_of s) event reply (world_of s')
       → PublishIsKey m.values s trees event reply s' trees' × AnswerIsKey m.values s trees event reply s' trees'
       × AnswerLeavesAll m.values s trees event reply s' trees'
@@ -367,7 +373,7 @@ module _ {N B W E : Type 0} (m : Seen N B W) (s s' : MachineState N E) (trees tr
             let does = subst (λ (k : Action W). WorkDoes m n.0 (site_of (world_of s) w.walking) w.walking.todo k w.after) e w.does.does in
             let set = set-by-then m n.0 (site_of (world_of s) w.walking) w.after w.walking.todo i key height does (held_before.walks n.0 w.walking w.at) (λ k h.
             subst (λ k. is_some (s.pager.core.cells k) ≡ true) h.at (cell-of earlier.pager.whole.handles h.row.node.0 (row-held s.pager.core h.h h.row h.live)))
-            in (grind (arith, nat_tests), set),
+            in (grind basics, set),
         λ walking key there e. is-after n reply w (λ x. IsKeyOfTask m.values trees' x.task key)
             (is-key m.values s' trees' after w.walking.table w.walking.task key (done n reply w key e)) walking there,
         λ walking key there e. is-after n reply w (λ x. LeavesAll m.values s'.pager (s'.work.shelves x.table) trees' x.task)
@@ -383,7 +389,8 @@ module _ {N E B W : Type 0} (m : Seen N B W) (n : ℕ) (task : Task) (C : Type 0
       (goes-same n task s.shelf w.after.shelf s'.shelf _ w.after.todo w.shelf_is.slots
       (stands-on m n task (record { core = s.pager.core; shelf = s.shelf; todo = todo }) w.after todo refl all covers step w.does.does))
 
-  -- What a worker leaves with its answer: of its own claims, and of others'. And what it failed with was met where, if C, what its list fails with was met, and none of its claims had failed.
+  -- What a worker leaves with its answer: of its own claims, and of others'. And what it failed with was met where, if C, what its list fails with was met,
+  -- and none of its claims had failed.
   at-answer : {todo : List Todo} {s s' : AccessState N E} {steps : List (Action W)} {answer : WorkerAnswer} → WorkerRun m n todo s steps answer s'
       → (past : List (Action W)) → AllStand s.shelf n task todo
       → Covers s.shelf n todo → (C → HasNoFailed s.shelf n × FailsMet n s.shelf past todo)
@@ -394,8 +401,8 @@ module _ {N E B W : Type 0} (m : Seen N B W) (n : ℕ) (task : Task) (C : Type 0
       let g = went w all covers in let grown = grows n s.shelf s'.shelf g.changes in (
         λ i slot there own.
             let none : (slot.outcome ≡ no_result → false ≡ true) = λ still. subst (λ t. Covers s'.shelf n t) (g.done answer is) g.covers i slot there own
-            still in grind (arith, nat_tests),
-        λ i slot there other. grind (arith, nat_tests, some-same),
+            still in grind basics,
+        λ i slot there other. grind (basics, some-same),
         λ c. was-answered n s'.shelf (past ++ step ∷ []) todo step answer is
             (fails-stay n s.shelf s'.shelf past _ todo grown (λ x (i, at). among-left past (step ∷ []) i x at) (met c).1),
       )
@@ -414,7 +421,7 @@ module _ {N E B W : Type 0} (m : Seen N B W) (n : ℕ) (task : Task) (C : Type 0
       let a = at-answer more (past ++ step ∷ []) g.all g.covers on in
       let met : C → IsMetFailure s'.shelf n (past ++ step ∷ steps) answer =
       λ c. subst (λ past. IsMetFailure s'.shelf n past answer) (append_assoc past (step ∷ []) steps) (a.2 c) in
-      grind (arith, nat_tests, some-same, a.0, a.1, met)
+      grind (basics, some-same, a.0, a.1, met)
 
 -- of an item: where each claim of its table had a result, each has one
 pub item-answered : {N E B W : Type 0} (m : Seen N B W) (n : ℕ) (item : Written) {s s' : AccessState N E} {steps : List (Action W)} {answer : WorkerAnswer}

@@ -4,8 +4,8 @@ use Rattle.pagable_theorems.proofs.{
   RoundTrip.{Looked, all-looked, alone, form-again, here, lower, one-form, one-looked, part_of},
   Trees.{AllTwo, Along, EntryAlong, entries-two, flag-same, followed-on, form-along, integer-along, lifted-along, more-two, no-two, none-along, number-along},
   Trees.{one-followed, one_tree, pair-along, pattern-along, reference-along, same_some, sequence-two, sorted-two, text-along, tree_is, variant-along},
-  Words.{Blob, Entries, Entry, Form, Forms, LiesIn, List, Meaning, Ok, Option, ReadsTree, Shape, Throughout, Tree, Types, ap, append-nil, arith, blob_of},
-  Words.{followed, inl, is_eager, length, length-append, map, nat_tests, one, pair, read, reference-form, refl, rest, rules, run-form, subst, suc, sym, tree},
+  Words.{Blob, Entries, Entry, Form, Forms, LiesIn, List, Meaning, Ok, Option, ReadsTree, Shape, Throughout, Tree, Types, ap, append-nil, arith, basics},
+  Words.{blob_of, followed, inl, is_eager, length, length-append, map, one, pair, read, reference-form, refl, rest, rules, run-form, subst, suc, sym, tree},
   Words.{true, type_of, variant, zero, ℕ, [], ◌*◌, ◌++◌, ◌<◌, ◌∙◌, ◌∷◌, ◌≡◌, ◌≤◌},
 }
 use Rattle.pagable_theorems.specs.FormLaws.{IsOneItemKey, TreeLaws}
@@ -89,7 +89,7 @@ module _ (hash : List ℕ → List ℕ) (types : Types) (nodes M : ℕ → Type 
   types_of (pair a b) (pair-along x y c d h g) = (types_of a h, types_of b g)
   types_of (variant i a) (variant-along j x c h) = types_of a h
   types_of (followed kind a) (reference-along k l found) = found
-  types_of x0 h = grind (arith, nat_tests)
+  types_of x0 h = grind basics
 
   mutual
     stays : {t : Tree} {key : ℕ} → KeyOf hash types t key → nodes t.type → EachType M t.meaning
@@ -109,7 +109,7 @@ same-from : (k j m n : ℕ) → m / 256 ^ j < 256 ^ k → n / 256 ^ j < 256 ^ k 
 same-from zero j m n h g e = omega arith
 same-from (suc k) j m n h g e =
     let heads : byte_at j m ≡ byte_at j n = cc in
-    let first : m / 256 ^ j % 256 ≡ n / 256 ^ j % 256 = sym (grind (arith, nat_tests)) ∙ heads ∙ (grind (arith, nat_tests)) in
+    let first : m / 256 ^ j % 256 ≡ n / 256 ^ j % 256 = sym (grind basics) ∙ heads ∙ (grind basics) in
     let few : m / 256 ^ suc j < 256 ^ k = omega (arith, pow-suc 256 k, shifted j m) in
     omega (arith, first, same-from k (suc j) m n few (omega (arith, pow-suc 256 k, shifted j n)) cc, shifted j m, shifted j n)
 
@@ -126,7 +126,7 @@ same-key-lists [] [] h g e = refl
 same-key-lists (k ∷ ks) (l ∷ ls) h g e =
     let parts = cut (to_le_bytes w128 k) (to_le_bytes w128 l) _ _ refl e in
     rw (same-bytes 16 k l (omega arith) (omega arith) parts.0, same-key-lists ks ls h.1 g.1 parts.1) refl
-same-key-lists x0 x1 h g e = grind (arith, nat_tests, keys-length)
+same-key-lists x0 x1 h g e = grind (basics, keys-length)
 
 one_preimage : (a b : Blob) → IsBlob a → IsBlob b → preimage a ≡ preimage b → a ≡ b
 unfolding preimage
@@ -142,23 +142,22 @@ one_preimage a b h g e =
       keys-length a.keys,
       keys-length b.keys,
     ) in
-    let rest = cut a.bytes b.bytes _ _ size counts.1 in let keys = same-key-lists a.keys b.keys h.1 g.1 rest.1 in
-    grind (arith, nat_tests)
+    let rest = cut a.bytes b.bytes _ _ size counts.1 in grind (basics, same-key-lists a.keys b.keys h.1 g.1 rest.1)
 
 -- ---- the height of a tree is the length of its longest path
 
 pub longest_path : (m : Meaning ⊥) (n : ℕ) → HasPath n m ↔ (n ≤ height m)
 unfolding HasPath height
 longest_path (pair a b) n = let p = longest_path a n in let q = longest_path b n in
-    (λ h. grind (arith, nat_tests, p.0, q.0), λ h. grind (arith, nat_tests, p.1, q.1))
+    (λ h. grind (basics, p.0, q.0), λ h. grind (basics, p.1, q.1))
 longest_path (variant x a) n = longest_path a n
 longest_path (followed kind a) (suc n) =
     let p = longest_path a n in (
-      λ (eager, h). let le = p.0 h in grind (arith, nat_tests),
-      λ h. let e : ((is_eager kind) ≡ true) × (n ≤ (height a)) = grind (arith, nat_tests) in
+      λ (eager, h). grind (basics, p.0 h),
+      λ h. let e : ((is_eager kind) ≡ true) × (n ≤ (height a)) = grind basics in
           (e.0, p.1 e.1),
     )
-longest_path x0 x1 = (λ h. grind (arith, nat_tests), λ h. grind (arith, nat_tests))
+longest_path x0 x1 = (λ h. grind basics, λ h. grind basics)
 
 -- a kid of canonical types, and one of its kind
 abbrev CanonicalKid : Types → Kid → Kid → Type 0
@@ -170,7 +169,7 @@ module _ (types : Types) where
   canonical-along (pair a b) h = pair-along _ _ _ _ (canonical-along a h.0) (canonical-along b h.1)
   canonical-along (variant n a) h = variant-along _ _ _ (canonical-along a h)
   canonical-along (followed kind a) h = reference-along _ _ (refl, h)
-  canonical-along x0 h = grind (arith, nat_tests, number-along, integer-along, text-along, pattern-along, none-along)
+  canonical-along x0 h = grind (basics, number-along, integer-along, text-along, pattern-along, none-along)
 
   -- the references in a form of a tree's value are of canonical types where the tree's are
   canonical-kids : (s : Shape) (m : Meaning ⊥) (bytes : List ℕ) (kids : List Kid) → EachType (IsCanonicalType types) m → TreeForm types s m bytes kids
@@ -216,7 +215,7 @@ stored-reads store types type key m can h =
 
 pub tree_readable : (store : ℕ → Option Blob) (types : Types) (t : Tree) (key : ℕ) → IsReadableTree types t → StoredTree store types key t
     → ReadsTree store types key t
-tree_readable store types t key can h = grind (arith, nat_tests, stored-reads, followed-on)
+tree_readable store types t key can h = grind (basics, stored-reads, followed-on)
 
 -- a kid of the reference's kind, whose key the reference has
 record KeyedKid (hash : List ℕ → List ℕ) (types : Types) (r : KeyRef) (k : Kid) : Type 0 where
@@ -241,7 +240,7 @@ module _ {hash : List ℕ → List ℕ} {types : Types} where
     keys-along (pair-followed x y a b f g) = pair-along _ _ _ _ (keys-along f) (keys-along g)
     keys-along (variant-followed n x a f) = variant-along _ _ _ (keys-along f)
     keys-along (reference-followed r x a o f) = reference-along _ _ (record { kind = refl; key = node-key (type_of r.kind) r.key x a o (keys-along f) })
-    keys-along x0 = grind (arith, nat_tests, number-along, integer-along, text-along, pattern-along, none-along)
+    keys-along x0 = grind (basics, number-along, integer-along, text-along, pattern-along, none-along)
 
 stored_key : (hash : List ℕ → List ℕ) (store : ℕ → Option Blob) (types : Types) (t : Tree) (key : ℕ) → HasOwnKeys hash store → StoredTree store types key t
     → KeyOf hash types t key
@@ -253,7 +252,7 @@ module _ {store other : ℕ → Option Blob} {types : Types} (shares : SharesNoK
   same-stored : {type key : ℕ} {m n : Meaning KeyRef} → IsReadableType types type → StoredAs store types type key m → StoredAs other types type key n → m ≡ n
   same-stored {type} {key} {m} {n} can h g =
       let first = stored-reads store types type key m can h in let second = stored-reads other types type key n can g in
-      let blobs : first.blob ≡ second.blob = shares key _ _ first.stored second.stored in grind (arith, nat_tests)
+      let blobs : first.blob ≡ second.blob = shares key _ _ first.stored second.stored in grind basics
 
 pub tree_laws : TreeLaws
 tree_laws = record {
@@ -266,7 +265,7 @@ tree_laws = record {
     λ e.
         let stands = let P : ℕ → ℕ → Type 0 = λ n key. StoredAs other types n key g.own in
         subst (λ (n : ℕ). P n k) (sym type) (subst (λ (key : ℕ). P u.type key) (sym e) g.stands) in
-        tree_is _ _ _ _ type (one-followed (IsReadableType types) (λ t key m n can p q. same-stored shares can p q) readable.1 h.follows g.follows
+        tree_is type (one-followed (IsReadableType types) (λ t key m n can p q. same-stored shares can p q) readable.1 h.follows g.follows
         (same-stored shares readable.0 h.stands stands)),
     λ e.
         let two = let P : Tree → Type 0 = λ x. KeyOf hash types x l in subst P (sym e) (stored_key hash other types u l second g) in

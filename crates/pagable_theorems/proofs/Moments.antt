@@ -11,10 +11,11 @@ use Rattle.pagable_pager_spec.specs.{
 use Rattle.pagable_theorems.proofs.{
   EventEffects.walk-goes,
   HandlesKept.updated-at,
+  LoadProgress.moves-as,
   Trees.{same-number, same_some},
   Words.{Action, Alike, Bool, Core, Event, EventReply, HandleNumber, HandleRow, Happens, IsMachineWhole, IsPagerWhole, List, MachineState, None, Ok, OpenLoad},
   Words.{Option, PagerState, Reading, Seen, Shelf, Some, Task, Todo, WalkDoes, Walking, WorkerAnswer, WorkerReply, WorkerState, answer_after, ap, arith},
-  Words.{cases_Bool, false, if_there, inl, inr, nat_tests, of_item, refl, rules, subst, sym, true, updated, world_of, ℕ, ◌+◌, ◌<◌, ◌==◌, ◌∙◌, ◌≡◌, ◌≤◌},
+  Words.{basics, cases_Bool, false, if_there, inl, inr, of_item, refl, rules, subst, sym, true, updated, world_of, ℕ, ◌+◌, ◌<◌, ◌==◌, ◌∙◌, ◌≡◌, ◌≤◌},
 }
 use Rattle.pagable_theorems.specs.PageOutLaws.{NobodyWorks}
 use Rattle.std.specs.Prelude.{is_none}
@@ -33,7 +34,7 @@ abbrev no_reading : Option Reading
 no_reading = None
 
 none-read : (load : Option OpenLoad) → no_reading ≡ if_there (λ (load : OpenLoad). no_reading) None load
-none-read x0 = grind (arith, nat_tests)
+none-read x0 = grind basics
 
 alike : (w : Core) → Alike w w
 alike w = search (rules)
@@ -42,9 +43,8 @@ pub same-shelf : {s t : Shelf} → t ≡ s → SameShelf s t
 same-shelf e = record { slots = λ i. ap (λ (x : Shelf). x.slots i) e; waits = λ v. ap (λ (x : Shelf). x.waits v) e }
 
 ends-workers : (answer : Option WorkerAnswer) (n : ℕ) (w w' : Core) → Ends answer n w w' → WorksAlone w n true → WorksAlone w' n (is_none answer)
-ends-workers x0 n w w' ends alone = grind (arith, nat_tests)
+ends-workers x0 n w w' ends alone = grind basics
 
--- a new table
 abbrev pub with-table : Work → Shelf → Work
 with-table work shelf = record work { shelves = updated (work.last_table + 1) shelf work.shelves; last_table = work.last_table + 1 }
 
@@ -74,7 +74,7 @@ pub works-alone : {N E : Type 0} (n : ℕ) (core : Core) (mid : PagerState N E) 
     → WorksAlone mid.core n true
 works-alone n core mid a next nobody = record {
   self = ap mid.core.workers next ∙ a.workers (core.last.worker + 1) ∙ updated-at (core.last.worker + 1) true core.workers;
-  others = λ q e. a.workers q ∙ (let other = nobody q in (grind (arith, nat_tests)));
+  others = λ q e. a.workers q ∙ (let other = nobody q in (grind basics));
 }
 
 module _ {N E B W : Type 0} (m : Seen N B W) where
@@ -98,7 +98,7 @@ module _ {N E B W : Type 0} (m : Seen N B W) where
         made = (
           refl,
           alike s.core,
-          λ l. rests.unread l ∙ (let f = rests.unread l in (grind (arith, nat_tests))),
+          λ l. rests.unread l ∙ (let f = rests.unread l in (grind basics)),
           record {
             same_shelves = λ q. elim (cases_Bool (q == work.last_table + 1)) [ inl e ↦ rw e new | inr e ↦ rw e (same-shelf refl) ];
             last_is = refl;
@@ -144,7 +144,7 @@ module _ {N E B W : Type 0} (m : Seen N B W) where
       table = there;
       next = starts.next;
       pager = starts.begins.step;
-      readings = λ l. (let f = rests.unread l in (grind (arith, nat_tests)));
+      readings = λ l. (let f = rests.unread l in (grind basics));
       work = record {
         same_shelves = λ q. elim (cases_Bool (q == t)) [
           | inl e ↦ rw e (same-shelf (sym (ap base.shelves (same-number q t e) ∙ on)))
@@ -164,8 +164,8 @@ module _ {N E B W : Type 0} (m : Seen N B W) where
         let c = starts.begins in
         record {
           step = record { happens = happens };
-          moves = record { each = λ q x is. elim (c.moves.each q x is) [ inl was ↦ inl was | inr came ↦ absurd came.1 ]; environment = c.moves.environment };
-          holds = record { each = λ q x is. elim (c.moves.each q x is) [ inl was ↦ inl was | inr came ↦ absurd came.1 ]; environment = c.moves.environment };
+          moves = moves-as (λ q x is came. absurd came) c.moves;
+          holds = moves-as (λ q x is came. absurd came) c.moves;
           writes = writes;
           whole = is-whole _ (first_todo task) 0 None c.whole (works-alone n core mid c.step (starts.next ∙ ap (λ k. k + 1) (sym last)) nobody);
         }
@@ -202,14 +202,13 @@ module _ {N E B W : Type 0} (m : Seen N B W) where
           refused = tt;
         }) tt
 
-    -- and makes a step
     pub moved : (s s' : AccessState N E) (todo next : List Todo) (count : ℕ) (step : Action W) → WalkStep m n todo s step next s'
         → WorksAlone s.pager.core n true
         → EventDoes m (at-work s todo count None) (Event.WorkerStep (record { 0 = n })) (EventReply.WorkerMoved (Ok (reply-of todo count step)))
         (at-work s' next (steps_after count (is_counted todo step)) (answer_after todo step))
         × WorksAlone s'.pager.core n (is_none (answer_after todo step))
     moved s s' todo next count step w alone =
-        let now : Walking = walking-on t task todo count None in
+        let now = walking-on t task todo count None in
         let site : WorkerState = record { core = s.pager.core; shelf = s.shelf; todo = todo } in
         let felt = walk-goes m n site w.after todo step w.does.does in
         let mid : WorksAlone w.after.core n true = record { self = felt.does.workers n ∙ alone.self; others = λ q e. felt.does.workers q ∙ alone.others q e } in
@@ -242,10 +241,7 @@ module _ {N E B W : Type 0} (m : Seen N B W) where
                 refused = tt;
               };
             };
-            moves = record {
-              each = λ q x is. elim (w.moves.each q x is) [ inl was ↦ inl was | inr (none, came) ↦ inr (none, (now, at, came)) ];
-              environment = w.moves.environment;
-            };
+            moves = moves-as (λ q x is came. (now, at, came)) w.moves;
             holds = w.holds;
             writes = w.writes;
             whole = is-whole s' next (steps_after count (is_counted todo step)) (answer_after todo step) w.whole alone';

@@ -4,9 +4,9 @@ use Rattle.pagable_theorems.proofs.{
   RoundTrip.{Under, alone, here, narrowed, part_of},
   Trees.{AllTwo, Along, EntryAlong, entries-two, flag-same, followed-along, form-along, integer-along, lifted-along, more-two, no-two, none-along},
   Trees.{number-along, one-two, pair-along, pattern-along, plain-along, put_all-two, reference-along, sequence-two, sorted-two, text-along, variant-along},
-  Words.{Bool, Err, Error, Form, IsReadable, LiesIn, List, Meaning, None, Ok, Option, Result, Shape, Some, Throughout, ap, append-nil, append_assoc, arith},
-  Words.{cases_Bool, cases_lt, drop, followed, if◌then◌else◌, inl, inr, length, length-append, map, nat_tests, none, pair, put_all, read, refl, rename, rest},
-  Words.{rules, subst, suc, sym, true, variant, zero, ℕ, [], ◌*◌, ◌++◌, ◌+◌, ◌==◌, ◌∙◌, ◌∷◌, ◌≡◌, ◌≤◌, ◌⊎◌},
+  Words.{Bool, Err, Error, Form, IsReadable, LiesIn, List, Meaning, None, Ok, Option, Result, Shape, Some, Throughout, ap, append-nil, append_assoc, basics},
+  Words.{cases_Bool, cases_lt, drop, followed, if◌then◌else◌, inl, inr, length, length-append, map, none, pair, put_all, read, refl, rename, rest, rules},
+  Words.{subst, suc, sym, true, variant, zero, ℕ, [], ◌*◌, ◌++◌, ◌+◌, ◌==◌, ◌∙◌, ◌∷◌, ◌≡◌, ◌≤◌, ◌⊎◌},
 }
 use Rattle.pagable_theorems.specs.{
   FormLaws.{FaultStays, FrontReadsAlike, KeepsForms, ReadsAlikeForAnyReferences, ReadsWhatOtherReads, RenamesLookUps, ReplacesBeforeLookUp, UsedPartReadsAlone},
@@ -72,41 +72,39 @@ module _ {I : Type 0} {plus : I → I → I} {end : I} {K : Error → Type 0} (j
   pub refuses : (A : Type 0) (e : Error) → K e → Tame plus K (λ (i : I). let r : Result (A × I) Error = Err e in r)
   refuses A e known = record { comes = λ i. (known, inr (λ x. refl)) }
 
-  -- one of two
   pub either : {A : Type 0} (t : Bool) {get other : I → Result (A × I) Error} → Tame plus K get → Tame plus K other
       → Tame plus K (λ i. if t then get i else other i)
-  either x0 h g = grind (arith, nat_tests)
+  either x0 h g = grind basics
 
-  -- one after the other
   module _ {A B : Type 0} {get : I → Result (A × I) Error} (f : A → I → Result (B × I) Error) (whole : I → Result (B × I) Error)
       (is : (i : I) → whole i ≡ (get i >>= λ p. f p.0 p.1))
       (h : Tame plus K get) (g : (v : A) → Tame plus K (f v)) where
     after : (i : I) (p : A × I) → Front plus get i p.0 p.1 → (r : Result (B × I) Error) → Comes plus K (f p.0) p.1 r → Comes plus K whole i r
-    after i p a x3 x4 = grind (arith, nat_tests)
+    after i p a x3 x4 = grind basics
 
-    pub and_then : Tame plus K whole
-    and_then = record { comes = λ i. rw (is i) (grind (arith, nat_tests, after)) }
+    and_then : Tame plus K whole
+    and_then = record { comes = λ i. rw (is i) (grind (basics, after)) }
 
   -- one whose value is tested, and seen by view
-  pub tested : {A B : Type 0} {get : I → Result (A × I) Error} {whole : I → Result (B × I) Error} (pass : A → Bool) (view : A → B) (e : Error)
+  tested : {A B : Type 0} {get : I → Result (A × I) Error} {whole : I → Result (B × I) Error} (pass : A → Bool) (view : A → B) (e : Error)
       → ((i : I) → whole i ≡ (get i >>= λ p. if pass p.0 then Ok (view p.0, p.1) else Err e)) → Tame plus K get → K e → Tame plus K whole
   tested {B = B} {whole = whole} pass view e is h known = and_then (λ v i. if pass v then Ok (view v, i) else Err e) whole is h
       (λ v. either (pass v) (gives (view v)) (refuses B e known))
 
-pub bytes_join : Joins {I = List ℕ} ◌++◌ []
+bytes_join : Joins {I = List ℕ} ◌++◌ []
 bytes_join = record { assoc = append_assoc; start = λ a. refl }
 
-pub byte_tame : Tame ◌++◌ Sober byte_at
+byte_tame : Tame ◌++◌ Sober byte_at
 byte_tame = record { comes = elim [ [] ↦ (tt, inl (inl refl)) | b ∷ bs ↦ record { used = b ∷ []; whole = refl; reads = λ y. refl } ] }
 
 front_of : (n : ℕ) (bs : List ℕ) → n ≤ length bs → Front ◌++◌ (bytes_at n) bs (take n bs) (drop n bs)
 front_of n bs le = record {
   used = take n bs;
   whole = sym (take-append-drop n bs);
-  reads = λ y. grind (arith, nat_tests, le-ltb, length-append, take_at, drop_at, length-take-le n bs le);
+  reads = λ y. grind (basics, le-ltb, length-append, take_at, drop_at, length-take-le n bs le);
 }
 
-pub bytes_tame : (n : ℕ) → Tame ◌++◌ Sober (bytes_at n)
+bytes_tame : (n : ℕ) → Tame ◌++◌ Sober (bytes_at n)
 bytes_tame n = record {
   comes = λ bs. elim (cases_lt (length bs) n) [
     | inl lt ↦ rw (lt-ltb (length bs) n lt) (tt, inl (inl refl))
@@ -116,38 +114,38 @@ bytes_tame n = record {
 
 varint_tame : (more last : ℕ) → Tame ◌++◌ Sober (varint_at more last)
 unfolding varint_at
-varint_tame zero last = tested bytes_join (λ b. nat_le b last) (λ b. b) Error.BadVarint (grind (arith, nat_tests)) byte_tame tt
+varint_tame zero last = tested bytes_join (λ b. nat_le b last) (λ b. b) Error.BadVarint (grind basics) byte_tame tt
 varint_tame (suc more) last =
     and_then bytes_join (λ b bs. if nat_lt b 128 then Ok (b, bs) else (varint_at more last bs >>= λ high. Ok (b - 128 + 128 * high.0, high.1))) _
-    (grind (arith, nat_tests)) byte_tame
+    (grind basics) byte_tame
     (λ b. either bytes_join (nat_lt b 128) (gives bytes_join b)
     (and_then bytes_join (λ high bs. Ok (b - 128 + 128 * high, bs)) _ (λ bs. refl) (varint_tame more last) (λ high. gives bytes_join (b - 128 + 128 * high))))
 
-pub unsigned_tame : (w : Width) → Tame ◌++◌ Sober (unsigned_at w)
+unsigned_tame : (w : Width) → Tame ◌++◌ Sober (unsigned_at w)
 unsigned_tame w8 = byte_tame
 unsigned_tame w = varint_tame (more_of w) (last_of w)
 
-pub signed_tame : (w : Width) → Tame ◌++◌ Sober (signed_at w)
+signed_tame : (w : Width) → Tame ◌++◌ Sober (signed_at w)
 signed_tame w = and_then bytes_join (λ n bs. Ok (signed_from w n, bs)) _ (λ bs. refl) (unsigned_tame w) (λ n. gives bytes_join (signed_from w n))
 
-pub bool_tame : Tame ◌++◌ Sober bool_at
+bool_tame : Tame ◌++◌ Sober bool_at
 unfolding bool_at
-bool_tame = tested bytes_join (λ b. nat_le b 1) (λ b. b == 1) Error.BadBool (grind (arith, nat_tests)) byte_tame tt
+bool_tame = tested bytes_join (λ b. nat_le b 1) (λ b. b == 1) Error.BadBool (grind basics) byte_tame tt
 
-pub length_tame : Tame ◌++◌ Sober length_at
+length_tame : Tame ◌++◌ Sober length_at
 unfolding length_at
 length_tame = tested bytes_join (λ n. nat_le n longest) (λ n. n) Error.TooLong (λ bs. refl) (unsigned_tame w64) tt
 
-pub text_tame : Tame ◌++◌ Sober text_at
+text_tame : Tame ◌++◌ Sober text_at
 unfolding text_at
 text_tame = and_then bytes_join (λ n bs. bytes_at n bs >>= λ t. if is_utf8 t.0 then Ok t else Err Error.BadUtf8) _ (λ bs. refl) length_tame
     (λ n. tested bytes_join is_utf8 (λ t. t) Error.BadUtf8 (λ bs. refl) (bytes_tame n) tt)
 
-pub char_tame : Tame ◌++◌ Sober char_at
+char_tame : Tame ◌++◌ Sober char_at
 unfolding char_at
-char_tame = tested bytes_join (λ t. length (chars t) == 1) (λ t. get_or (chars t) 0 0) Error.BadChar (grind (arith, nat_tests)) text_tame tt
+char_tame = tested bytes_join (λ t. length (chars t) == 1) (λ t. get_or (chars t) 0 0) Error.BadChar (grind basics) text_tame tt
 
-pub duration_tame : Tame ◌++◌ Sober duration_at
+duration_tame : Tame ◌++◌ Sober duration_at
 unfolding duration_at
 duration_tame = and_then bytes_join (λ s bs. unsigned_at w32 bs >>= λ n. carried s n.0 n.1) _ (λ bs. refl) (unsigned_tame w64)
     (λ s. tested bytes_join (λ n. nat_lt (s + n / nanos_of_second) (2 ^ 64)) (λ n. (s + n / nanos_of_second, n % nanos_of_second)) Error.BadDuration
@@ -197,7 +195,8 @@ pub record SameRest {A B : Type 0} (T : List A → List B → Type 0) (r : Rest 
   pub bytes : q.bytes ≡ r.bytes
   pub refs : T r.refs q.refs
 
--- Both give what V relates, or are refused for one fault of the bytes, or for causes that E relates; for one that it relates to all the first may also be refused alone.
+-- Both give what V relates, or are refused for one fault of the bytes, or for causes that E relates; for one that it relates to all the first may also be
+-- refused alone.
 pub data Out {A B X Y : Type 0} (E : Error → Error → Type 0) (T : List A → List B → Type 0) (V : X → Y → Type 0) : Result (X × Rest A) Error
     → Result (Y × Rest B) Error → Type 0 where
   both-given : (p : X × Rest A) (q : Y × Rest B) → V p.0 q.0 → SameRest T p.1 q.1 → Out E T V (Ok p) (Ok q)
@@ -222,28 +221,27 @@ module _ {A B : Type 0} {E : Error → Error → Type 0} {T : List A → List B 
   bind-out f g (both-refused e d c) k = both-refused e d c
   bind-out f g (first-refused e r n) k = first-refused e (r >>= g) n
 
-  pub gives_par : {X Y : Type 0} {V : X → Y → Type 0} (v : X) (w : Y) → V v w
+  gives_par : {X Y : Type 0} {V : X → Y → Type 0} (v : X) (w : Y) → V v w
       → Par E T V (λ i. let r : Result (X × Rest A) Error = Ok (v, i) in r) (λ i. let r : Result (Y × Rest B) Error = Ok (w, i) in r)
   gives_par v w h = record { out = λ r q s. both-given (v, r) (w, q) h s; tame = gives joins v }
 
-  pub refuses_par : {X Y : Type 0} (V : X → Y → Type 0) (e : Error) → Sober e
+  refuses_par : {X Y : Type 0} (V : X → Y → Type 0) (e : Error) → Sober e
       → Par E T V (λ i. let r : Result (X × Rest A) Error = Err e in r) (λ i. let r : Result (Y × Rest B) Error = Err e in r)
   refuses_par {X} V e sober = record { out = λ r q s. both-faulty e sober; tame = refuses joins X e tt }
 
-  -- one after the other
   module _ {X Y U W : Type 0} {V : X → Y → Type 0} {V2 : U → W → Type 0} {get : Gets A X} {get2 : Gets B Y} (f : X → Gets A U) (g : Y → Gets B W)
       (h : Par E T V get get2)
       (k : (v : X) (w : Y) → V v w → Par E T V2 (f v) (g w)) (t : (v : X) → Tame more Any (f v)) where
-    pub then_par : Par E T V2 (λ i. get i >>= λ p. f p.0 p.1) (λ i. get2 i >>= λ p. g p.0 p.1)
+    then_par : Par E T V2 (λ i. get i >>= λ p. f p.0 p.1) (λ i. get2 i >>= λ p. g p.0 p.1)
     then_par = record { out = λ r q s. bind-out _ _ (h.out r q s) (λ p o v t. (k p.0 o.0 v).out p.1 o.1 t); tame = and_then joins f _ (λ i. refl) h.tame t }
 
   -- one after the other, where both give the same first
-  pub then_same : {X U W : Type 0} {V2 : U → W → Type 0} {get : Gets A X} {get2 : Gets B X} {f : X → Gets A U} {g : X → Gets B W}
+  then_same : {X U W : Type 0} {V2 : U → W → Type 0} {get : Gets A X} {get2 : Gets B X} {f : X → Gets A U} {g : X → Gets B W}
       → Par E T (λ (v w : X). v ≡ w) get get2
       → ((v : X) → Par E T V2 (f v) (g v)) → Par E T V2 (λ i. get i >>= λ p. f p.0 p.1) (λ i. get2 i >>= λ p. g p.0 p.1)
   then_same {X} {V2 = V2} {f = f} {g} h k = then_par f g h (λ v w e. let P : X → Type 0 = λ z. Par E T V2 (f v) (g z) in subst P e (k v)) (λ v. (k v).tame)
 
-  pub bytes_par : {X Y Z : Type 0} {V : X → Y → Type 0} (read : List ℕ → Read Z) → Tame ◌++◌ Sober read → (view : Z → X) (view2 : Z → Y)
+  bytes_par : {X Y Z : Type 0} {V : X → Y → Type 0} (read : List ℕ → Read Z) → Tame ◌++◌ Sober read → (view : Z → X) (view2 : Z → Y)
       → ((z : Z) → V (view z) (view2 z))
       → Par E T V (bytes_of read view) (bytes_of read view2)
   bytes_par {X} {Y} {Z} {V} read t view view2 h =
@@ -253,15 +251,15 @@ module _ {A B : Type 0} {E : Error → Error → Type 0} {T : List A → List B 
       }
     where
       by : (r : Rest A) (q : Rest B) → T r.refs q.refs → (first : Read Z) → Comes ◌++◌ Sober read r.bytes first
-          → Out E T V (first >>= λ z. let o : Result (X × Rest A) Error = Ok (view z.0, record r { bytes = z.1 }) in o)
-          (first >>= λ z. let o : Result (Y × Rest B) Error = Ok (view2 z.0, record q { bytes = z.1 }) in o)
+          → Out E T V (first >>= λ z. let o = Ok (view z.0, record r { bytes = z.1 }) in o)
+          (first >>= λ z. let o = Ok (view2 z.0, record q { bytes = z.1 }) in o)
       by r q refs (Ok z) c = both-given _ _ (h z.0) (record { bytes = refl; refs = refs })
       by r q refs (Err e) c = both-faulty e c.0
 
-  pub bytes_same : {Z : Type 0} (read : List ℕ → Read Z) → Tame ◌++◌ Sober read → Par E T (λ (v w : Z). v ≡ w) (bytes_of read (λ z. z)) (bytes_of read (λ z. z))
+  bytes_same : {Z : Type 0} (read : List ℕ → Read Z) → Tame ◌++◌ Sober read → Par E T (λ (v w : Z). v ≡ w) (bytes_of read (λ z. z)) (bytes_of read (λ z. z))
   bytes_same read t = bytes_par read t _ _ (λ z. refl)
 
-  pub seen_par : {X Y U W : Type 0} {V : X → Y → Type 0} {V2 : U → W → Type 0} {get : Gets A X} {get2 : Gets B Y} (view : X → U) (view2 : Y → W)
+  seen_par : {X Y U W : Type 0} {V : X → Y → Type 0} {V2 : U → W → Type 0} {get : Gets A X} {get2 : Gets B Y} (view : X → U) (view2 : Y → W)
       → ((v : X) (w : Y) → V v w → V2 (view v) (view2 w)) → Par E T V get get2 → Par E T V2 (seen view get) (seen view2 get2)
   seen_par view view2 k h = then_par (λ v i. Ok (view v, i)) (λ w i. Ok (view2 w, i)) h (λ v w r. gives_par (view v) (view2 w) (k v w r))
       (λ v. gives joins (view v))
@@ -276,7 +274,7 @@ module _ {A B : Type 0} {E : Error → Error → Type 0} {T : List A → List B 
       {g = λ z. choose (known z) (get2 z) (other2 z)} (bytes_same read t)
       (λ z. elim (cases_Bool (known z)) [ inl e ↦ rw e (h z e) | inr e ↦ rw e (g z) ])
 
-  pub items_par : {X Y : Type 0} {V : X → Y → Type 0} {get : Gets A X} {get2 : Gets B Y} → Par E T V get get2 → (n : ℕ)
+  items_par : {X Y : Type 0} {V : X → Y → Type 0} {get : Gets A X} {get2 : Gets B Y} → Par E T V get get2 → (n : ℕ)
       → Par E T (AllTwo V) (items get n) (items get2 n)
   unfolding items
   items_par h zero = gives_par [] [] no-two
@@ -285,7 +283,7 @@ module _ {A B : Type 0} {E : Error → Error → Type 0} {T : List A → List B 
       then_par (λ v. seen (λ vs. v ∷ vs) (items get n)) (λ w. seen (λ ws. w ∷ ws) (items get2 n)) h
       (λ v w r. seen_par _ _ (λ vs ws rs. more-two v w vs ws r rs) o) (seen_tame (λ v vs. v ∷ vs) o.tame)
 
-  pub counted_par : {X Y : Type 0} {V : X → Y → Type 0} {get : Gets A X} {get2 : Gets B Y} → Par E T V get get2
+  counted_par : {X Y : Type 0} {V : X → Y → Type 0} {get : Gets A X} {get2 : Gets B Y} → Par E T V get get2
       → Par E T (AllTwo V) (counted get) (counted get2)
   counted_par h = then_same (bytes_same length_at length_tame) (λ n. items_par h n)
 
@@ -294,7 +292,7 @@ abbrev pub Covers : Type 0 → (ℕ → Shape) → Shape → Type 0
 Covers F parts s = F ⊎ Throughout IsReadable parts s
 
 over : {F : Type 0} {parts : ℕ → Shape} {s t : Shape} → (IsReadable s → IsReadable t) → Under s t → Covers F parts s → Covers F parts t
-over h u x2 = grind (arith, nat_tests, narrowed)
+over h u x2 = grind (basics, narrowed)
 
 -- what stands for a reference is looked up alike
 pub data OutLook {A B : Type 0} (E : Error → Error → Type 0) (R : A → B → Type 0) : Result A Error → Result B Error → Type 0 where
@@ -313,7 +311,7 @@ module _ {A B C D : Type 0} {E : Error → Error → Type 0} {F : Type 0} {S : A
   look_par : {r : Rest A} {q : Rest B} {x : Result C Error} {y : Result D Error} → SameRest (AllTwo S) r q → OutLook E R x y
       → Out E (AllTwo S) (Along F R) (x >>= λ c. let z : Result (Meaning C × Rest A) Error = Ok (meanings.reference c, r) in z)
       (y >>= λ c. let z : Result (Meaning D × Rest B) Error = Ok (meanings.reference c, q) in z)
-  look_par s x1 = grind (arith, nat_tests, both-given, reference-along, both-refused, first-refused)
+  look_par s x1 = grind (basics, both-given, reference-along, both-refused, first-refused)
 
   -- so is what stands for each in lists that go along
   module _ (look : Look A C) (look2 : Look B D) (alike : (kind : ℕ) (a : A) (b : B) → S a b → OutLook E R (look kind a) (look2 kind b)) where
@@ -376,7 +374,7 @@ module _ {A B C D : Type 0} {E : Error → Error → Type 0} {F : Type 0} {T : L
     module _ (look : Look A C) (look2 : Look B D)
         (alike : (kind : ℕ) (r : Rest A) (q : Rest B) → SameRest T r q → Out E T (Along F R) (reference_at look kind r.refs r)
         (reference_at look2 kind q.refs q)) where
-      pub with_par : {d : Deeper A C} {d2 : Deeper B D} → DeeperPar E F T R parts d d2 → (s : Shape) → Covers F parts s
+      with_par : {d : Deeper A C} {d2 : Deeper B D} → DeeperPar E F T R parts d d2 → (s : Shape) → Covers F parts s
           → Par E T (Along F R) (λ i. read_with look parts d s i) (λ i. read_with look2 parts d2 s i)
       unfolding read_with IsReadable LiesIn
       with_par h nothing t = gives_par none none none-along
@@ -389,7 +387,7 @@ module _ {A B C D : Type 0} {E : Error → Error → Type 0} {F : Type 0} {T : L
       with_par h shapes.pattern t = bytes_par text_at text_tame _ _ (λ b. pattern-along b)
       with_par {d} {d2} h json t = then_same (bytes_same (unsigned_at w64) (unsigned_tame w64)) (λ n.
           elim (json_case n) as (λ c. IfErr c Sober → Par E T (Along F R) (λ i. c >>= λ case. json_part d case i) (λ i. c >>= λ case. json_part d2 case i))
-          [ Ok case ↦ λ s. json_par h case | Err e ↦ refuses_par (Along F R) e ] (grind (arith, nat_tests)))
+          [ Ok case ↦ λ s. json_par h case | Err e ↦ refuses_par (Along F R) e ] (grind basics))
       with_par h (optional s) t = known_par bool_at bool_tame (λ some. some)
           (λ some e. seen_par present present (λ m n r. variant-along _ _ _ r) (with_par h s (over (λ p. p) (λ n d l. l) t)))
           (λ some. gives_par absent absent (variant-along _ _ _ none-along))
@@ -414,7 +412,7 @@ module _ {A B C D : Type 0} {E : Error → Error → Type 0} {F : Type 0} {T : L
       with_par h (placed_set s) t = seen_par _ _ (λ ms ns r. sequence-two (put_all-two {V = Along F R} put_placed_item put_placed_item one-two
           (λ x u y w acc acc2 v g k l. search (rules, more-two, plain-along)) r no-two)) (counted_par (with_par h s (over (λ p. p) (λ n d l. l) t)))
       with_par h (static_value registry) t = then_same (bytes_same (unsigned_at w32) (unsigned_tame w32))
-          (λ n. registered_par registry (grind (arith, nat_tests, here)) n)
+          (λ n. registered_par registry (grind (basics, here)) n)
       with_par h (tagged written known body) t = known_par text_at text_tame known
           (λ tag e. seen_par (of_tagged tag) (of_tagged tag) (λ m n r. pair-along _ _ _ _ (text-along tag) r)
           (with_par h (body tag) (over (λ p. p.1 tag e) (λ n d l. l.1 tag e) t)))
@@ -423,7 +421,7 @@ module _ {A B C D : Type 0} {E : Error → Error → Type 0} {F : Type 0} {T : L
           (λ n e. seen_par (variant n) (variant n) (λ x y r. variant-along _ _ _ r) (with_par h (part n) (over (λ p. p n e) (λ nodes d l. l n e) t)))
           (λ n. refuses_par (Along F R) Error.UnknownTag tt)
       with_par h (shapes.reference kind) t = record { out = alike kind; tame = record { comes = λ i. reference_comes look kind i.bytes i.refs } }
-      with_par h (nested n) t = enter_par _ _ h (λ get get2 g. g (parts n) (grind (arith, nat_tests, part_of)))
+      with_par h (nested n) t = enter_par _ _ h (λ get get2 g. g (parts n) (grind (basics, part_of)))
 
       below_par : (left : ℕ) → DeeperPar E F T R parts (below look parts left) (below look2 parts left)
       unfolding below
@@ -467,7 +465,7 @@ used context s input after m e =
 
 pub lasting : {A B : Type 0} → FaultStays A B
 lasting context s front x y e is not_end not_keys = elim (comes-of context s front is).1
-    [ inl end ↦ absurd (grind (arith, nat_tests)) | inr stays ↦ stays (rest x y) ]
+    [ inl end ↦ absurd (grind basics) | inr stays ↦ stays (rest x y) ]
 
 -- ---- reading is natural in what stands for references, and forms are
 
@@ -476,15 +474,15 @@ abbrev Leads : {A C : Type 0} → (A → C) → A → C → Type 0
 Leads f a c = f a ≡ c
 
 module _ {A C : Type 0} (f : A → C) where
-  pub all-map : (k : List A) → AllTwo (Leads f) k (map f k)
+  all-map : (k : List A) → AllTwo (Leads f) k (map f k)
   all-map [] = no-two
   all-map (a ∷ k) = more-two a (f a) k (map f k) refl (all-map k)
 
-  pub map-all : {k : List A} {l : List C} → AllTwo (Leads f) k l → l ≡ map f k
+  map-all : {k : List A} {l : List C} → AllTwo (Leads f) k l → l ≡ map f k
   map-all no-two = refl
   map-all (more-two a c k l e h) = rw (e, map-all h) refl
 
-  pub rename-along : {F : Type 0} {m : Meaning A} {n : Meaning C} → Along F (Leads f) m n → n ≡ rename f m
+  rename-along : {F : Type 0} {m : Meaning A} {n : Meaning C} → Along F (Leads f) m n → n ≡ rename f m
   unfolding rename
   rename-along (pair-along x y a b h g) = rw (rename-along h, rename-along g) refl
   rename-along (variant-along n x a h) = rw (rename-along h) refl
@@ -497,7 +495,7 @@ module _ {A C : Type 0} (f : A → C) where
   along-rename (pair a b) = pair-along _ _ _ _ (along-rename a) (along-rename b)
   along-rename (variant n a) = variant-along _ _ _ (along-rename a)
   along-rename (followed kind a) = followed-along _ _ _ tt (along-rename a)
-  along-rename x0 = grind (arith, nat_tests, number-along, integer-along, text-along, pattern-along, none-along, reference-along)
+  along-rename x0 = grind (basics, number-along, integer-along, text-along, pattern-along, none-along, reference-along)
 
 natural-out : {A B C D : Type 0} (f : A → C) (g : B → D) {first : Result (Meaning B × Rest A) Error} {second : Result (Meaning D × Rest C) Error}
     → Out one_cause (AllTwo (Leads f)) (Along (Unit {0}) (Leads g)) first second → second ≡ (first >>= λ x. Ok (rename g x.0, rest x.1.bytes (map f x.1.refs)))
@@ -509,7 +507,7 @@ natural-out f g (first-refused e r h) = absurd (no_cause h)
 pub natural : {A B C D : Type 0} → ReadsAlikeForAnyReferences A B C D
 natural {A} {B} {C} {D} f g look other levels parts s input h =
     let alike : (kind : ℕ) (a : A) (c : C) → f a ≡ c → OutLook one_cause (Leads g) (look kind a) (other kind c) =
-    λ kind a c e. (grind (arith, nat_tests, both-looked-up, both-not)) in
+    λ kind a c e. (grind (basics, both-looked-up, both-not)) in
     let par = read_par look other (each look other alike) levels s (inl tt) in
     natural-out f g (par.out input (rest input.bytes (map f input.refs)) (record { bytes = refl; refs = all-map f input.refs }))
 
@@ -521,14 +519,14 @@ rename_same (followed kind a) = rw (rename_same a) refl
 rename_same _ = refl
 
 pub read_over : {A B C : Type 0} → ReplacesBeforeLookUp A B C
-read_over f look levels parts s input = natural f (λ b. b) (λ kind a. look kind (f a)) look levels parts s input (λ kind a. grind (arith, nat_tests))
-    ∙ (grind (arith, nat_tests, rename_same))
+read_over f look levels parts s input = natural f (λ b. b) (λ kind a. look kind (f a)) look levels parts s input (λ kind a. grind basics)
+    ∙ (grind (basics, rename_same))
 
 pub renamed : {A B D : Type 0} → RenamesLookUps A B D
 renamed {A} {B} {D} g look levels parts s input =
     let all = natural (λ a. a) g look (λ kind a. look kind a >>= λ b. Ok (g b)) levels parts s input (λ kind a. refl) in
     ap (λ (k : List A). read (at levels (λ kind a. look kind a >>= λ b. Ok (g b)) parts) s (rest input.bytes k)) (sym (map-id input.refs)) ∙ all
-    ∙ (grind (arith, nat_tests, map-id))
+    ∙ (grind (basics, map-id))
 
 pub keeps_forms : {A B : Type 0} → KeepsForms A B
 keeps_forms {A} {B} f kind_of kind_of2 parts left s m b k kinds h =
@@ -539,7 +537,7 @@ through-out : {A B C D : Type 0} (f : A → C) (g : B → D) (m : Meaning B) (af
     {second : Result (Meaning D × Rest C) Error}
     → Out any_cause (AllTwo (Leads f)) (Along (Unit {0}) (Leads g)) first second → first ≡ Ok (m, after) → second
     ≡ Ok (rename g m, rest after.bytes (map f after.refs))
-through-out f g m after x4 e = grind (arith, nat_tests, rename-along, map-all)
+through-out f g m after x4 e = grind (basics, rename-along, map-all)
 
 pub read_through : {A B C D : Type 0} → ReadsWhatOtherReads A B C D
 read_through {A} {B} {C} {D} f g look other levels parts s input after m h e =

@@ -18,9 +18,9 @@ use Rattle.pagable_theorems.proofs.{
   Trees.{same-number, steps_follow},
   Words.{Action, Among, ArcRef, Call, Claim, Core, Err, Error, Event, EventReply, Happens, Identity, IsIdle, KeepsOpen, List, MachineState, None, Ok, Option},
   Words.{Seen, Shelf, Slot, Some, Task, Todo, Walking, WorkDoes, WorkerAnswer, WorkerNumber, WorkerReply, WorkerState, WorkerSteps, World, Written},
-  Words.{answer_after, ap, arith, cases_Bool, drop, false, false_from_ne_true, give, identity_of, if◌then◌else◌, inl, inr, length, nat_eq, nat_tests},
-  Words.{no_result, one, refl, rules, step_of, subst, sum_by-cons, sym, times, to_fail, to_finish, to_item, to_load, to_pin, to_release, to_set, to_start},
-  Words.{to_write, true, updated, world_of, ℕ, [], ◌*◌, ◌++◌, ◌+◌, ◌<◌, ◌==◌, ◌∙◌, ◌∷◌, ◌≡◌, ◌≤◌, ◌⊎◌},
+  Words.{answer_after, ap, arith, basics, cases_Bool, drop, false, false_from_ne_true, give, identity_of, if◌then◌else◌, inl, inr, length, nat_eq, no_result},
+  Words.{one, refl, rules, step_of, subst, sum_by-cons, sym, times, to_fail, to_finish, to_item, to_load, to_pin, to_release, to_set, to_start, to_write, true},
+  Words.{updated, world_of, ℕ, [], ◌*◌, ◌++◌, ◌+◌, ◌<◌, ◌==◌, ◌∙◌, ◌∷◌, ◌≡◌, ◌≤◌, ◌⊎◌},
 }
 use Rattle.std.proofs.{Common.{append-nil, length-append, ◌-◌}, lemmas.{Bool.{or_cases, or_left, or_right}, List.{Sums.sum_by-append, length-drop}}}
 use Rattle.std.specs.List.{sum_by}
@@ -37,7 +37,7 @@ module _ {N B W : Type 0} (m : Seen N B W) (v : ℕ) (task : Task) (s s' : Worke
       → ((i : Identity) → s'.shelf.slots i ≡ s.shelf.slots i) → (step : Action W)
       → Goes v task s.shelf (answer_after (to_release r key height ∷ below) step) s'.shelf (give r key height below)
   released r key height below (stands, apart, rest) covers same step =
-      plain v task s.shelf s'.shelf same _ (give r key height below) (λ a is. grind (arith, nat_tests)) (gives v task s.shelf r key height below rest)
+      plain v task s.shelf s'.shelf same _ (give r key height below) (λ a is. grind basics) (gives v task s.shelf r key height below rest)
       (λ i slot there own still. given-open v task s.shelf i r key height below ∙ covers i slot there own still)
 
   pub stands-on : (todo : List Todo) → s.todo ≡ todo → AllStand s.shelf v task todo → Covers s.shelf v todo → (step : Action W) → WorkDoes m v s todo step s'
@@ -48,8 +48,8 @@ module _ {N B W : Type 0} (m : Seen N B W) (v : ℕ) (task : Task) (s s' : Worke
       (λ is. let a = open-slot v task s.shelf (identity_of r) below rest is in some-none a.1 c.finds.1.1) in
       to-list c.finds.1.2.list_is (own-goes v task s.shelf s'.shelf (identity_of r) new (to_pin r place ∷ below)
       (puts-slot (with_wait s.shelf v None) s'.shelf (identity_of r) new c.finds.1.2.table_is) (is-new new c.finds.1.1 refl refl) meets refl
-      (λ changes now. (grind (arith, nat_tests, all-stay, grows, false_from_ne_true, true-false, is-same, is-self)))
-      (grind (arith, nat_tests, put-cases, identity_of, is_open_in, or_right, is_identity, or_left, is-self)))
+      (λ changes now. (grind (basics, all-stay, grows, false_from_ne_true, true-false, is-same, is-self)))
+      (grind (basics, put-cases, identity_of, is_open_in, or_right, is_identity, or_left, is-self)))
   -- the key of the reference was known
   stands-on (to_start r place ∷ []) e (meets, apart, rest) covers (Action.Claim i (Ok (Claim.Known key height))) (is, c) = to-list c.finds.1.2.list_is
       (plain v task s.shelf s'.shelf c.finds.1.2.table_is.slots None (to_release r key height ∷ []) (λ a is. absurd (cc)) (
@@ -69,19 +69,19 @@ module _ {N B W : Type 0} (m : Seen N B W) (v : ℕ) (task : Task) (s s' : Worke
       p.writes.table_is in
       let o : Open = record { reference = r; place = place; through = through; written = m.written_of out; keys = []; height = 0 } in
       to-list p.writes.list_is (own-goes v task s.shelf s'.shelf (identity_of r) new (advance (to_finish o ∷ below)) puts
-      (is-changed c.slot new c.claimed c.own refl (grind (arith, nat_tests, some-none))) meets (ap is_failed c.no_result_yet)
-      (λ changes now. settles v task s'.shelf o below (grind (arith, nat_tests, all-stay, grows, false_from_ne_true, true-false, is-same, is-self)))
-      (grind (arith, nat_tests, or_right, started-open, put-cases, is_identity, or_left, is-self)))
+      (is-changed c.slot new c.claimed c.own refl (grind (basics, some-none))) meets (ap is_failed c.no_result_yet)
+      (λ changes now. settles v task s'.shelf o below (grind (basics, all-stay, grows, false_from_ne_true, true-false, is-same, is-self)))
+      (grind (basics, or_right, started-open, put-cases, is_identity, or_left, is-self)))
   stands-on (to_publish r key height ∷ below) e ((meets, c), apart, rest) covers (Action.Publish i k h) (is, same_key, same_height, t) =
-      let new : Slot = with_outcome (published key height) c.slot in
+      let new = with_outcome (published key height) c.slot in
       let puts = changes-slot s.shelf s'.shelf (identity_of r) c.slot (with_outcome (published key height)) c.claimed t.table_is in
       to-list t.list_is (own-goes v task s.shelf s'.shelf (identity_of r) new (to_release r key height ∷ below) puts
       (is-changed c.slot new c.claimed c.own refl (grind arith)) meets (grind arith)
-      (λ changes now. (grind (arith, nat_tests, all-stay, grows, false_from_ne_true, true-false, is-same, is-self)))
-      (grind (arith, nat_tests, put-cases, or_cases, true-false, is-same, is-self)))
+      (λ changes now. (grind (basics, all-stay, grows, false_from_ne_true, true-false, is-same, is-self)))
+      (grind (basics, put-cases, or_cases, true-false, is-same, is-self)))
   stands-on (to_fail fault back ∷ below) e all covers Action.Fail (back_is, table_is, list_is) =
       to-list list_is (failed-goes v task s.shelf s'.shelf (answer_of_fault fault) table_is)
-  stands-on _ e all covers step does = grind (arith, nat_tests, to-list, fails, swaps, plain, released)
+  stands-on _ e all covers step does = grind (basics, to-list, fails, swaps, plain, released)
 
 abbrev pub StandsIn : World → Type 0
 StandsIn u = WorkStands u.work.shelves u.work.walkings u.core.last.worker
@@ -102,13 +102,13 @@ pub record EventTurns {N B W : Type 0} (m : Seen N B W) (u : World) (event : Eve
   pub own : OwnTurn m u who (step_of who event reply) u'
 
 updated-off : {X : Type 0} (n : ℕ) (x : X) (f : ℕ → X) (q : ℕ) → nat_eq q n ≡ false → updated n x f q ≡ f q
-updated-off n x f q e = let a : (q == n) ≡ false = grind (arith, nat_tests) in ap (λ b. if b then x else f q) a
+updated-off n x f q e = let a : (q == n) ≡ false = grind basics in ap (λ b. if b then x else f q) a
 
 pub goes-same : (v : ℕ) (task : Task) (shelf mid shelf' : Shelf) (answer : Option WorkerAnswer) (todo : List Todo)
     → ((i : Identity) → shelf'.slots i ≡ mid.slots i)
     → Goes v task shelf answer mid todo → Goes v task shelf answer shelf' todo
 goes-same v task shelf mid shelf' answer todo same g =
-    let more : ShelfGrows mid shelf' = grows v mid shelf' (same-slots v mid shelf' same) in
+    let more = grows v mid shelf' (same-slots v mid shelf' same) in
     let changes : (i : Identity) → SlotChanges v (shelf.slots i) (shelf'.slots i) =
     λ i. subst (λ o. SlotChanges v (shelf.slots i) o) (sym (same i)) (g.changes i) in
     grind (arith, changes, all-stay v task mid shelf' more todo (λ i is slot there own. same i ∙ there) g.all, same, meets-grow mid shelf' task)
@@ -116,14 +116,14 @@ goes-same v task shelf mid shelf' answer todo same g =
 module _ {N B W : Type 0} (m : Seen N B W) (u u' : World) (work : StandsIn u) where
   module _ (event : Event N B W) (reply : EventReply N B W) (h : Happens m u event reply u') where
     last-on : u.core.last.worker ≤ u'.core.last.worker
-    last-on = let cases : KeepsOpen event ⊎ (event ≡ Event.Call Call.Close) = grind (arith, nat_tests) in elim cases [
+    last-on = let cases : KeepsOpen event ⊎ (event ≡ Event.Call Call.Close) = grind basics in elim cases [
       | inl keeps ↦ (event-goes m u u' event reply keeps h).goes.workers_last
-      | inr closes ↦ (let c = subst (λ e. Happens m u e reply u') closes h in grind (arith, nat_tests, le-of))
+      | inr closes ↦ (let c = subst (λ e. Happens m u e reply u') closes h in grind (basics, le-of))
     ]
 
     quiet : ((n : ℕ) → step_of n event reply ≡ []) → SameSlots u.work.shelves u'.work.shelves → ((v : ℕ) → u'.work.walkings v ≡ u.work.walkings v)
         → EventTurns m u event reply u'
-    quiet no_step same stay = grind (arith, nat_tests, is-quiet, last-on)
+    quiet no_step same stay = grind (basics, is-quiet, last-on)
 
     by-work : ((n : ℕ) → step_of n event reply ≡ []) → WorkStays u.work u'.work → EventTurns m u event reply u'
     by-work no_step w = quiet no_step (λ t i. (w.shelves t).slots i) w.walkings
@@ -138,8 +138,8 @@ module _ {N B W : Type 0} (m : Seen N B W) (u u' : World) (work : StandsIn u) wh
         let turned = is-started u.work.shelves u'.work.shelves u.work.walkings u'.work.walkings u.core.last.worker work (λ q i. (s.work.same_shelves q).slots i)
         v.0 (new_walking t task) above refl refl new (λ n other. s.work.same_walkings n
         ∙ updated-off v.0 (Some (new_walking t task)) u.work.walkings n other) in
-        let own : OwnTurn m u v.0 (step_of v.0 event reply) u' = begins t task (no_step v.0) (λ q i. (s.work.same_shelves q).slots i)
-        (grind (arith, nat_tests)) new in
+        let own = begins t task (no_step v.0) (λ q i. (s.work.same_shelves q).slots i)
+        (grind basics) new in
         record { who = v.0; turned = turned; last = last-on; small = omega (arith, s.next); others = λ n other. no_step n; own = own }
 
   pub event-turns : ((v : ℕ) (w : Walking) → u.work.walkings v ≡ Some w → w.table ≤ u.work.last_table) → (event : Event N B W) (reply : EventReply N B W)
@@ -148,8 +148,7 @@ module _ {N B W : Type 0} (m : Seen N B W) (u u' : World) (work : StandsIn u) wh
   event-turns tables Event.TableNew (EventReply.TableMade (Ok t)) h =
       let w = h.made.3 in let next = h.made.0 in let nothing : (i : Identity) (slot : Slot) → (u.work.shelves t.0).slots i ≡ Some slot → ⊥ =
       λ i slot there. let s = work.slots t.0 i slot there in absurd (omega (arith, tables slot.worker s.walking s.there)) in
-      quiet _ _ h (λ n. refl) (λ q i. let same = (w.same_shelves q).slots i in
-      grind (arith, nat_tests, cases_Bool (nat_eq q t.0), same-number q t.0, nothing i)) w.same_walkings
+      quiet _ _ h (λ n. refl) (λ q i. grind (basics, cases_Bool (nat_eq q t.0), same-number q t.0, nothing i, (w.same_shelves q).slots i)) w.same_walkings
   event-turns tables (Event.WorkerItem t item) (EventReply.WorkerMade (Ok v)) h = starts _ _ h (λ n. refl) t _ u.core v refl h.starts
   event-turns tables (Event.WorkerListed t i) (EventReply.WorkerMade (Ok v)) h = starts _ _ h (λ n. refl) t _ _ v refl h.starts.5
   event-turns tables (Event.WorkerStep v) (EventReply.WorkerMoved (Ok reply)) h =
@@ -159,7 +158,7 @@ module _ {N B W : Type 0} (m : Seen N B W) (u u' : World) (work : StandsIn u) wh
       let goes = stands-on m v.0 w.task (site_of u w) s.after w.todo refl stands.all stands.covers reply.action s.does.does in
       let shelf_is : (i : Identity) → (u'.work.shelves w.table).slots i ≡ s.after.shelf.slots i =
       λ i. (s.work.same_shelves w.table).slots i ∙ ap (λ (x : Shelf). x.slots i) (updated-at w.table s.after.shelf u.work.shelves) in
-      let turned : Turned v.0 u.work.shelves u'.work.shelves u.work.walkings u'.work.walkings =
+      let turned =
       is-stepped v.0 u.work.shelves u'.work.shelves u.work.walkings u'.work.walkings w now s.at
       (s.work.same_walkings v.0 ∙ updated-at v.0 (Some now) u.work.walkings) refl refl
       (λ n other. s.work.same_walkings n ∙ updated-off v.0 (Some now) u.work.walkings n other)
@@ -173,14 +172,14 @@ module _ {N B W : Type 0} (m : Seen N B W) (u u' : World) (work : StandsIn u) wh
         turned = turned;
         last = last;
         small = omega arith;
-        others = λ n other. grind (arith, nat_tests);
-        own = steps v reply refl (grind (arith, nat_tests)) s;
+        others = λ n other. grind basics;
+        own = steps v reply refl (grind basics) s;
       }
-  event-turns tables x1 x2 h = grind (arith, nat_tests, by-work)
+  event-turns tables x1 x2 h = grind (basics, by-work)
 
 -- one of two: at the number, or elsewhere
 at-number : {X : Type 0} (P : X → Type 0) (k : ℕ) (x : X) (f : ℕ → X) (q : ℕ) → P x → P (f q) → P (updated k x f q)
-at-number P k x f q here there = grind (arith, nat_tests)
+at-number P k x f q here there = grind basics
 
 pub turns-stand : {N B W : Type 0} (m : Seen N B W) {u u' : World} {event : Event N B W} {reply : EventReply N B W} → EventTurns m u event reply u' → StandsIn u
     → StandsIn u'
@@ -266,23 +265,23 @@ all-due (x ∷ below) = due x below + all-due below
 -- what waits starts the first of the references that are left, if there is one
 started-due : (place : ℕ) (rs : List ArcRef) (x : Todo) (below : List Todo)
     → all-due (next_start place rs ++ x ∷ below) + (length rs - 1) ≤ length rs + all-due (x ∷ below)
-started-due place x1 x below = grind (arith, nat_tests)
+started-due place x1 x below = grind basics
 
 given-due : (r : ArcRef) (key height : ℕ) (below : List Todo) → all-due (give r key height below) ≤ all-due below
-given-due r key height x3 = grind (arith, nat_tests, started-due, length-drop, length-append)
+given-due r key height x3 = grind (basics, started-due, length-drop, length-append)
 
 first-due : (written : Written) (below : List Todo) → all-due (next_start 0 written.references ++ to_item written [] ∷ below) ≤ 2 + length written.references +
     all-due below
 first-due written below = grind (arith, started-due)
 
 -- one step pays for itself: out of what was due, of its claim, or of the references that it wrote
-pub pays : {W : Type 0} (f : W → Written) (todo : List Todo) (step : Action W) (next : List Todo) → Follows f todo step next
+pays : {W : Type 0} (f : W → Written) (todo : List Todo) (step : Action W) (next : List Todo) → Follows f todo step next
     → one (is_counted todo step) + all-due next ≤ 8 * one (is_claim step) + references_written f step + all-due todo
 pays f (to_start r place ∷ x ∷ xs) (Action.Claim j (Ok (Claim.Known key height))) next (is, e) =
     rw e (omega (arith, given-due r key height (x ∷ xs)))
 pays f (to_write r place through ∷ below) (Action.Write j (Ok out)) next (is, e) = grind (arith, started-due, length-drop)
 pays f (to_release r key height ∷ below) (Action.Release j) next (is, e) = rw e (omega (arith, given-due r key height below))
-pays f _ step next follows = grind (arith, nat_tests, given-due)
+pays f _ step next follows = grind (basics, given-due)
 
 -- ---- what a worker fails with: a refusal that a step of its own met, or that another's claim has failed where its walk came
 
@@ -290,10 +289,10 @@ pub failed-stays : (n : ℕ) (shelf shelf' : Shelf) (i : Identity) → ShelfGrow
 failed-stays n shelf shelf' i more was = grind arith
 
 module _ {W : Type 0} (n : ℕ) where
-  pub met-stays : (shelf shelf' : Shelf) (past more : List (Action W)) (answer : WorkerAnswer) → ShelfGrows shelf shelf'
+  met-stays : (shelf shelf' : Shelf) (past more : List (Action W)) (answer : WorkerAnswer) → ShelfGrows shelf shelf'
       → ((x : Action W) → Among past x → Among more x)
       → IsMetFailure shelf n past answer → IsMetFailure shelf' n more answer
-  met-stays shelf shelf' past more x4 grown on x7 = grind (arith, nat_tests, on, failed-stays)
+  met-stays shelf shelf' past more x4 grown on x7 = grind (basics, on, failed-stays)
 
   abbrev pub FailsMet : Shelf → List (Action W) → List Todo → Type 0
   FailsMet shelf past [] = Unit {0}
@@ -305,17 +304,17 @@ module _ {W : Type 0} (n : ℕ) where
       → FailsMet shelf past todo → FailsMet shelf' more todo
   fails-stay shelf shelf' past more [] grown on met = tt
   fails-stay shelf shelf' past more (x ∷ below) grown on met = let rest =
-      fails-stay shelf shelf' past more below grown on in grind (arith, nat_tests, rest, met-stays)
+      fails-stay shelf shelf' past more below grown on in grind (basics, rest, met-stays)
 
   module _ (shelf : Shelf) (past : List (Action W)) where
     started : (place : ℕ) (rs : List ArcRef) (todo : List Todo) → FailsMet shelf past todo → FailsMet shelf past (next_start place rs ++ todo)
-    started place x1 todo met = grind (arith, nat_tests)
+    started place x1 todo met = grind basics
 
     given : (r : ArcRef) (key height : ℕ) (todo : List Todo) → FailsMet shelf past todo → FailsMet shelf past (give r key height todo)
-    given r key height x3 met = grind (arith, nat_tests, started)
+    given r key height x3 met = grind (basics, started)
 
     pub first-met : (task : Task) → FailsMet shelf past (first_todo task)
-    first-met x0 = grind (arith, nat_tests, started)
+    first-met x0 = grind (basics, started)
 
     refused : (step : Action W) (e : Error) → Among past step → MetError step e → IsMetFailure shelf n past (WorkerAnswer.Failed e) × Unit {0}
     refused step e among met = ((step, among, met), tt)
@@ -334,12 +333,12 @@ module _ {W : Type 0} (n : ℕ) where
     follows-met f (to_finish o ∷ below) (Action.Store (Some j) (Err fault)) next (is, e) among already met = rw e (refused _ fault among refl)
     follows-met f (to_item written keys ∷ below) (Action.Store None (Err fault)) next e among already met = rw e (refused _ fault among refl)
     follows-met f (to_set r through key height ∷ below) (Action.SetKey j (Err fault)) next (is, e) among already met = rw e (refused _ fault among refl)
-    follows-met f _ step next follows among already met = grind (arith, nat_tests, on, given, started, drop)
+    follows-met f _ step next follows among already met = grind (basics, on, given, started, drop)
 
     -- the answer is what the list was about to fail with, or a key
     pub answered : (todo : List Todo) (step : Action W) (answer : WorkerAnswer) → answer_after todo step ≡ Some answer → FailsMet shelf past todo
         → IsMetFailure shelf n past answer
-    answered x0 x1 answer is x4 = grind (arith, nat_tests)
+    answered x0 x1 answer is x4 = grind basics
 
 -- of a worker and its steps: they lead to its list, whatever it fails with was met, and they are within their bound
 pub record Went {W : Type 0} (f : W → Written) (n : ℕ) (shelf : Shelf) (w : Walking) (past : List (Action W)) : Type 0 where
@@ -398,12 +397,12 @@ module _ {N B W : Type 0} (m : Seen N B W) (u u' : World) (grow : (t : ℕ) → 
       → HasGone f k.0 u.work.shelves (u.work.walkings k.0) past
       → HasGone f k.0 u'.work.shelves (u'.work.walkings k.0) (past ++ reply.action ∷ [])
   went-on work k reply past s gone =
-      let w : Walking = s.walking in
-      let shelf : Shelf = u.work.shelves w.table in
-      let shelf' : Shelf = u'.work.shelves w.table in
+      let w = s.walking in
+      let shelf = u.work.shelves w.table in
+      let shelf' = u'.work.shelves w.table in
       let now : Walking = record w { todo = s.after.todo; steps = reply.steps; answer = reply.answer } in
       let new : u'.work.walkings k.0 ≡ Some now = s.work.same_walkings k.0 ∙ updated-at k.0 (Some now) u.work.walkings in
-      let was : Went f k.0 shelf w past = subst (λ o. HasGone f k.0 u.work.shelves o past) s.at gone in
+      let was = subst (λ o. HasGone f k.0 u.work.shelves o past) s.at gone in
       let follows = steps_follow m k.0 (site_of u w) s.after reply.action s.does in
       let fails = fails-stay k.0 shelf shelf' past (past ++ reply.action ∷ []) w.todo (grow w.table) (λ x (i, at). among-left past (reply.action ∷ []) i x at)
       was.fails in
@@ -417,7 +416,7 @@ module _ {N B W : Type 0} (m : Seen N B W) (u u' : World) (grow : (t : ℕ) → 
       let met = λ (answer : WorkerAnswer) (is : reply.answer ≡ Some answer). answered k.0 shelf' (past ++ reply.action ∷ []) w.todo reply.action answer
       (sym s.answers ∙ is) fails in
       let counts = s.counts in let was_so = was.within in let paid = pays f w.todo reply.action s.after.todo follows in
-      rw new (record { leads = leads; fails = left; met = met; within = grind (arith, nat_tests, sum_by-append, sum_by-cons) })
+      rw new (record { leads = leads; fails = left; met = met; within = grind (basics, sum_by-append, sum_by-cons) })
 
 -- whatever an event does, its steps are added
 pub goes-on : {N B W : Type 0} (m : Seen N B W) (u u' : World) (event : Event N B W) (reply : EventReply N B W) → StandsIn u → EventTurns m u event reply u'
@@ -425,7 +424,7 @@ pub goes-on : {N B W : Type 0} (m : Seen N B W) (u u' : World) (event : Event N 
     → HasGone m.written_of n u.work.shelves (u.work.walkings n) past → HasGone m.written_of n u'.work.shelves (u'.work.walkings n)
     (past ++ step_of n event reply)
 goes-on {W = W} m u u' event reply work turns n past gone = elim (cases_Bool (nat_eq n turns.who)) [
-  | inl e ↦ let is = same-number n turns.who e in let before = rw is at gone in rw is (grind (arith, nat_tests, stays, begun, went-on))
+  | inl e ↦ let is = same-number n turns.who e in let before = rw is at gone in rw is (grind (basics, stays, begun, went-on))
   | inr e ↦ stays m u u' (turns-grow m turns) n (u.work.walkings n) (u'.work.walkings n) past (step_of n event reply) (turns.turned.others n e)
       (turns.others n e) gone
 ]

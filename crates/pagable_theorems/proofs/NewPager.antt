@@ -2,13 +2,13 @@
 use Rattle.pagable_pager_spec.specs.{Kinds.{is_at, is_pin, is_share}, Pager.{IsNew, IsReadingOf, OwnersAreThere, of_caller, of_worker}}
 use Rattle.pagable_theorems.proofs.{
   Words.{Among, Bool, HandleNumber, HandleRow, HandlesAreWhole, IsIdle, IsLawful, IsPagerWhole, MachineState, Owner, PagerStandsFor, PagerState, Reading, Tree},
-  Words.{Values, ap, arith, false, held, inl, is_handle, is_owned_by, is_some, nat_tests, owner_value, pins, refl, sym, times, ℕ, ◌&&◌, ◌==◌, ◌∙◌, ◌≡◌},
+  Words.{Values, ap, arith, basics, false, held, inl, is_handle, is_owned_by, is_some, owner_value, pins, refl, sym, times, ℕ, ◌&&◌, ◌==◌, ◌∙◌, ◌≡◌},
 }
 use Rattle.pagable_theorems.specs.SmallWorlds.{NewMachineIsWhole, StartsWell}
 
 module _ {N E : Type 0} (v : Values N) (s : PagerState N E) (new : IsNew s) where
   nobody-has : (h : HandleRow) → Among s.core.rows h → ⊥
-  nobody-has h among = let e = new.rows in let is = among.1 in grind (arith, nat_tests)
+  nobody-has h among = grind (basics, new.rows, among.1)
 
   none-counted : (q : HandleRow → Bool) → times q s.core.rows ≡ 0
   none-counted q = rw new.rows refl
@@ -21,7 +21,7 @@ module _ {N E : Type 0} (v : Values N) (s : PagerState N E) (new : IsNew s) wher
 
   new-handles : HandlesAreWhole s.core
   new-handles = record {
-    ordered = rw new.rows (grind (arith, nat_tests));
+    ordered = rw new.rows (grind basics);
     numbered = λ h among. absurd (nobody-has h among);
     nodes_numbered = λ n is. absurd (cc (no-cell n));
     within = rw new.last (omega arith, omega arith, omega arith);
@@ -45,7 +45,7 @@ module _ {N E : Type 0} (v : Values N) (s : PagerState N E) (new : IsNew s) wher
       handles = new-handles;
       owners_there = new-owners;
       loads = record {
-        numbered = λ l is. absurd (let e = new.loads l in grind (arith, nat_tests));
+        numbered = λ l is. absurd (grind (basics, new.loads l));
         owned = λ l load is. absurd (cc (new.loads l));
         roots = λ l load node t h is root. absurd (cc (new.loads l));
       };

@@ -2,9 +2,8 @@
 use Rattle.pagable_pager_spec.specs.{
   Access.{AccessState, EntryRun, ItemRun, ListRun, MakesCall, WalkStep, WorkerRun, WorkerStarts, entry-is-refused, entry-is-walked, fails, item-is-walked},
   Access.{no-entry-worker, no-more, no-worker, pages, skips, worker-ends, worker-goes-on},
-  Events.{IsEntry, entry_task, no_shelf, steps_after, with_entry_taken},
+  Events.{CallDoes, IsEntry, entry_task, no_shelf, steps_after, with_entry_taken},
   Kinds.HasKinds,
-  Pager.{CallBrings, Moves},
   Rightness.{IsRight, LeavesAll, PinGives},
   Runs.{AsksWell, EventDoes, IsPremised, TodoAsksWell},
   Workers.{first_todo, is_counted},
@@ -15,6 +14,7 @@ use Rattle.pagable_theorems.proofs.{
   Chains.{IsGoingOn, goes, idle-goes},
   EventEffects.event-goes,
   HandlesKept.{rows-self, updated-at},
+  LoadProgress.{moves-as, settled-on},
   LoadResults.{After, after-then},
   Moments.{IsAtRest, WorksAlone, at-rest, at-work, entry-began, item-began, moved, reply-of, rest-whole, same-shelf, table-made, walking-on, with-table},
   Moments.{with-table-rests, works-alone},
@@ -22,8 +22,8 @@ use Rattle.pagable_theorems.proofs.{
   Trees.{same-number, same_some},
   Words.{Action, Alike, Call, Core, Event, EventReply, HandleNumber, HandleRow, HoldsSettled, IsLawful, IsPagerWhole, IsWellAsked, KeepsOpen, List},
   Words.{MachineState, Moment, None, Ok, Option, Owner, PagerStandsFor, PagerState, Reply, Result, Seen, Shelf, Some, Task, Todo, Tree, Values, Walking},
-  Words.{WorkerAnswer, answer_after, ap, arith, cases_Bool, inl, inr, length, nat_tests, of_item, refl, subst, sym, true, world_of, ℕ, ◌+◌, ◌<◌, ◌==◌, ◌∙◌},
-  Words.{◌≡◌, ◌≤◌},
+  Words.{WorkerAnswer, answer_after, ap, arith, basics, cases_Bool, inl, inr, length, of_item, refl, subst, sym, true, world_of, ℕ, ◌+◌, ◌<◌, ◌==◌, ◌∙◌, ◌≡◌},
+  Words.◌≤◌,
 }
 use Rattle.pagable_theorems.specs.{
   CallerLaws.{CallIsRight, IsCall},
@@ -34,22 +34,34 @@ use Rattle.std.specs.Prelude.{is_none}
 
 -- ---- where the pager stands for trees, so it does afterwards
 
+-- where the pager stands for trees, with all that is asked of it
+pub record Stands {N E : Type 0} (v : Values N) (s : PagerState N E) (trees : ℕ → Tree) : Type 0 where
+  pub well : IsPagerWhole v s
+  pub nobody : NobodyWorks s.core
+  pub settled : HoldsSettled v s
+  pub stands : PagerStandsFor v s trees
+
+-- afterwards, with the trees that there are then
+pub record Stays {N E : Type 0} (v : Values N) (s : PagerState N E) (trees : ℕ → Tree) (s' : PagerState N E) : Type 0 where
+  pub trees' : ℕ → Tree
+  pub after : After v s trees s' trees'
+  pub now : Stands v s' trees'
+
+abbrev pub stays-then : {N E : Type 0} {v : Values N} {s mid s' : PagerState N E} {trees trees' : ℕ → Tree} → After v s trees mid trees' → Stays v mid trees' s'
+    → Stays v s trees s'
+stays-then a r = record { trees' = r.trees'; after = after-then a r.after; now = r.now }
+
 -- after a worker's answer: where that is a key, all that its task met is left paged out
 pub record Ended {N E : Type 0} (v : Values N) (s : PagerState N E) (trees : ℕ → Tree) (answer : WorkerAnswer) (task : Task)
     (s' : AccessState N E) : Type 0 where
-  pub trees' : ℕ → Tree
-  pub after : After v s trees s'.pager trees'
-  pub well : IsPagerWhole v s'.pager
-  pub settled : HoldsSettled v s'.pager
-  pub nobody : NobodyWorks s'.pager.core
-  pub out : (key : ℕ) → answer ≡ WorkerAnswer.Key key → LeavesPagedOut v s'.pager s'.shelf trees' task key
+  pub stays : Stays v s trees s'.pager
+  pub out : (key : ℕ) → answer ≡ WorkerAnswer.Key key → LeavesPagedOut v s'.pager s'.shelf stays.trees' task key
 
 from-after : {N E : Type 0} {v : Values N} {s mid : PagerState N E} {trees trees' : ℕ → Tree} {answer : WorkerAnswer} {task : Task} {s' : AccessState N E}
     → After v s trees mid trees' → Ended v mid trees' answer task s' → Ended v s trees answer task s'
-from-after a r = record { trees' = r.trees'; after = after-then a r.after; well = r.well; settled = r.settled; nobody = r.nobody; out = r.out }
+from-after a r = record { stays = stays-then a r.stays; out = r.out }
 
 module _ {N E B W : Type 0} (m : Seen N B W) (lawful : IsLawful m.values) where
-  -- after a moment
   record Came (a : MachineState N E) (trees : ℕ → Tree) (x : Moment N E B W) : Type 0 where
     pub trees' : ℕ → Tree
     pub after : After m.values a.pager trees x.after.pager trees'
@@ -104,17 +116,22 @@ module _ {N E B W : Type 0} (m : Seen N B W) (lawful : IsLawful m.values) where
     ends (worker-ends todo next step answer s s' w is) asks count trees alone on =
         let c = step-comes s s' todo next count step trees w alone on asks.0 asks.1 in
         let rested = (moved m base rests n t there task s s' todo next count step w alone).1 in
-        let now : Walking = walking-on t task next (steps_after count (is_counted todo step)) (answer_after todo step) in
+        let now = walking-on t task next (steps_after count (is_counted todo step)) (answer_after todo step) in
         let there_now = updated-at n (Some now) base.walkings in
         record {
-          trees' = c.trees';
-          after = c.after;
-          well = w.whole;
-          settled = asks.0;
-          nobody = λ q. elim (cases_Bool (q == n)) [
-            | inl e ↦ ap s'.pager.core.workers (same-number q n e) ∙ rested.self ∙ ap (λ (a : Option WorkerAnswer). is_none a) is
-            | inr e ↦ rested.others q e
-          ];
+          stays = record {
+            trees' = c.trees';
+            after = c.after;
+            now = record {
+              well = w.whole;
+              nobody = λ q. elim (cases_Bool (q == n)) [
+                | inl e ↦ ap s'.pager.core.workers (same-number q n e) ∙ rested.self ∙ ap (λ (a : Option WorkerAnswer). is_none a) is
+                | inr e ↦ rested.others q e
+              ];
+              settled = asks.0;
+              stands = c.after.stands;
+            };
+          };
           out = λ key same.
               let e : answer_after todo step ≡ Some (WorkerAnswer.Key key) = is ∙ ap Some same in
               record {
@@ -140,7 +157,7 @@ module _ {N E B W : Type 0} (m : Seen N B W) (lawful : IsLawful m.values) (s : P
   starting : IsGoingOn m.values (at-rest m s no_work) trees
   starting = idle-goes m lawful (at-rest m s no_work) trees (rest-whole m s no_work nobody-yet well nobody)
       (record { no_table = refl; shelves = λ t i. refl; waits = λ t v. refl; readings = λ l. refl; walkings = λ v. refl; nobody = nobody }) settled
-      (record { pager = stands; readings = λ reading is. absurd (grind (arith, nat_tests)) })
+      (record { pager = stands; readings = λ reading is. absurd (grind basics) })
 
 module _ {N E B W : Type 0} (m : Seen N B W) (lawful : IsLawful m.values) (s : AccessState N E) (well : IsPagerWhole m.values s.pager)
     (nobody : NobodyWorks s.pager.core)
@@ -172,7 +189,7 @@ module _ {N E B W : Type 0} (m : Seen N B W) (lawful : IsLawful m.values) (s : A
       → Ended m.values s.pager trees answer task s'
   on-new n task core mid s' steps answer event does stays well starts nobody last run asks =
       let c = comes m lawful _ with-a-table.trees' _ with-a-table.going does (record {
-        settled = λ q x has. elim (starts.begins.moves.each q x has) [ inl was ↦ settled q x was | inr came ↦ absurd came.1 ];
+        settled = settled-on m.values settled starts.begins.moves;
         reads_settled = λ x is. absurd (cc);
         stays_open = stays;
         well = well;
@@ -216,34 +233,21 @@ module _ {N E B W : Type 0} (m : Seen N B W) where
     step = record {
       happens = record {
         step = c.step;
-        readings = λ l. (let f = rests.unread l in (grind (arith, nat_tests)));
+        readings = λ l. (let f = rests.unread l in (grind basics));
         work = record { shelves = λ t. same-shelf refl; last_table = refl; walkings = λ q. refl };
       };
     };
     moves = c.moves;
-    holds = record { each = λ q x is. elim (c.moves.each q x is) [ inl was ↦ inl was | inr (none, came) ↦ inr (none, tt) ]; environment = c.moves.environment };
+    holds = moves-as (λ q x is came. tt) c.moves;
     writes = tt;
     whole = rest-whole m s' work rests c.whole nobody;
   }
 
 -- ---- an operation after the other
 
--- where the pager stands for trees, with all that is asked of it
-pub record Stands {N E : Type 0} (v : Values N) (s : PagerState N E) (trees : ℕ → Tree) : Type 0 where
-  pub well : IsPagerWhole v s
-  pub nobody : NobodyWorks s.core
-  pub settled : HoldsSettled v s
-  pub stands : PagerStandsFor v s trees
-
--- afterwards, with the trees that there are then
-pub record Stays {N E : Type 0} (v : Values N) (s : PagerState N E) (trees : ℕ → Tree) (s' : PagerState N E) : Type 0 where
-  pub trees' : ℕ → Tree
-  pub after : After v s trees s' trees'
-  pub now : Stands v s' trees'
-
 call-right : (W : Type 0) {N E B : Type 0} (v : Values N) (s s' : MachineState N E) (trees trees' : ℕ → Tree) (call : Call N B) (reply : Reply N B)
     → PinGives {W = W} v s trees (Event.Call call) (EventReply.CallReply reply) s' trees' → CallIsRight v s'.pager trees' call reply
-call-right W v s s' trees trees' x6 x7 gives = grind (arith, nat_tests)
+call-right W v s s' trees trees' x6 x7 gives = grind basics
 
 module _ {N E B W : Type 0} (m : Seen N B W) (lawful : IsLawful m.values) where
   pub call-stays : {s s' : PagerState N E} {trees : ℕ → Tree} (call : Call N B) (reply : Reply N B) → Stands m.values s trees → IsCall m s call reply s'
@@ -257,12 +261,15 @@ module _ {N E B W : Type 0} (m : Seen N B W) (lawful : IsLawful m.values) where
         call-right W m.values (at-rest m s no_work) (at-rest m s' no_work) trees g.trees' call reply g.right.pins_give,
       )
 
-  pub still-settled : {does : Core → Type 0} {s s' : PagerState N E} {trees : ℕ → Tree} → Stands m.values s trees → MakesCall m.values does s s'
-      → HoldsSettled m.values s'
-  still-settled at c = λ q x has. elim (c.moves.each q x has) [ inl was ↦ at.settled q x was | inr came ↦ absurd came.1 ]
+  -- a call that brings no value
+  pub plainly : {does : Core → Type 0} {s s' : PagerState N E} (call : Call N B) (reply : Reply N B) → MakesCall m.values does s s'
+      → CallDoes m s.core Owner.Caller call reply s'.core → IsCall m s call reply s'
+  plainly call reply c does = record { step = record { does = does }; moves = moves-as (λ q x is came. absurd came) c.moves; whole = c.whole }
 
-  pub no-value : {s s' : PagerState N E} (call : Call N B) → Moves (λ n x. ⊥) s s' → Moves (CallBrings s.core call) s s'
-  no-value call moves = record { each = λ q x is. elim (moves.each q x is) [ inl was ↦ inl was | inr came ↦ absurd came.1 ]; environment = moves.environment }
+  pub plain-stays : {does : Core → Type 0} {s s' : PagerState N E} {trees : ℕ → Tree} (call : Call N B) (reply : Reply N B) → Stands m.values s trees
+      → MakesCall m.values does s s' → CallDoes m s.core Owner.Caller call reply s'.core → KeepsOpen {N = N} {B = B} {W = W} (Event.Call call)
+      → AsksWell m.values s trees call reply → (a : Stays m.values s trees s') × CallIsRight m.values s' a.trees' call reply
+  plain-stays call reply at c does stays asks = call-stays call reply at (plainly call reply c does) stays asks (settled-on m.values at.settled c.moves)
 
   pub stays-same : {s : PagerState N E} {trees : ℕ → Tree} → Stands m.values s trees → Stays m.values s trees s
   stays-same {s} {trees} at = record {
@@ -272,10 +279,9 @@ module _ {N E B W : Type 0} (m : Seen N B W) (lawful : IsLawful m.values) where
   }
 
   -- nothing that can be told of changes
-  pub unchanged : {s s' : PagerState N E} {trees : ℕ → Tree} → Stands m.values s trees → MakesCall m.values (λ w'. Alike s.core w') s s'
+  unchanged : {s s' : PagerState N E} {trees : ℕ → Tree} → Stands m.values s trees → MakesCall m.values (λ w'. Alike s.core w') s s'
       → Stays m.values s trees s'
-  unchanged {s} at c = (call-stays Call.Pending (Reply.Length (length s.core.list)) at
-      (record { step = record { does = (refl, c.step) }; moves = no-value Call.Pending c.moves; whole = c.whole }) tt tt (still-settled at c)).0
+  unchanged {s} at c = (plain-stays Call.Pending (Reply.Length (length s.core.list)) at c (refl, c.step) tt tt).0
 
   entry-stays : {s s' : PagerState N E} {place : ℕ} {answer : WorkerAnswer} {trees : ℕ → Tree} → Stands m.values s trees → (run : EntryRun m s place answer s')
       → EntryAsksWell run
@@ -285,7 +291,7 @@ module _ {N E B W : Type 0} (m : Seen N B W) (lawful : IsLawful m.values) where
   entry-stays {s} {place = place} {trees = trees} at (entry-is-walked h row t n steps answer mid s' is kinds starts run) asks =
       let r = entry-walks m lawful (record { pager = s; shelf = no_shelf }) at.well at.nobody
       (same-shelf refl) at.settled trees at.stands place h row t n mid is kinds starts run asks in (
-        record { trees' = r.trees'; after = r.after; now = record { well = r.well; nobody = r.nobody; settled = r.settled; stands = r.after.stands } },
+        r.stays,
         λ key same. record { h = h; row = row; t = t; shelf = s'.shelf; entry = is; out = r.out key same },
       )
 
@@ -295,8 +301,7 @@ module _ {N E B W : Type 0} (m : Seen N B W) (lawful : IsLawful m.values) where
       → LeavesPagedOut m.values s'.pager s'.shelf a.trees' (of_item (m.written_of item)) key)
   item-stays item at new (no-worker e s' why c same_shelf) asks = (unchanged at c, λ key same. absurd (cc))
   item-stays {s} {trees = trees} item at new (item-is-walked n steps answer mid s' starts run) asks =
-      let r = item-walks m lawful s at.well at.nobody new at.settled trees at.stands item starts run asks in
-      (record { trees' = r.trees'; after = r.after; now = record { well = r.well; nobody = r.nobody; settled = r.settled; stands = r.after.stands } }, r.out)
+      let r = item-walks m lawful s at.well at.nobody new at.settled trees at.stands item starts run asks in (r.stays, r.out)
 
   pub list-stays : {i : ℕ} {s s' : PagerState N E} {answer : Result (Unit {0}) WorkerAnswer} {trees : ℕ → Tree} (run : ListRun m i s answer s')
       → Stands m.values s trees → ListAsksWell run
@@ -304,19 +309,15 @@ module _ {N E B W : Type 0} (m : Seen N B W) (lawful : IsLawful m.values) where
   unfolding ListAsksWell EachIsPagedOut
   list-stays {trees = trees} (no-more s) at asks = (stays-same at, tt)
   list-stays (skips i place key h told answer s mid low s' is has takes releases more) at asks =
-      let a = (call-stays (Call.TakePending place) (Reply.TakenPending (Some h)) at
-      (record { step = record { does = takes.step }; moves = no-value (Call.TakePending place) takes.moves; whole = takes.whole }) tt tt
-      (still-settled at takes)).0 in
-      let b = (call-stays (Call.Release h) (Reply.Done told) a.now
-      (record { step = record { does = releases.step }; moves = no-value (Call.Release h) releases.moves; whole = releases.whole }) tt tt
-      (still-settled a.now releases)).0 in
+      let a = (plain-stays (Call.TakePending place) (Reply.TakenPending (Some h)) at takes takes.step tt tt).0 in
+      let b = (plain-stays (Call.Release h) (Reply.Done told) a.now releases releases.step tt tt).0 in
       let r = list-stays more b.now asks in
       let both = after-then a.after b.after in
-      (record { trees' = r.0.trees'; after = after-then both r.0.after; now = r.0.now }, (b.trees', both.same, both.stands, r.1))
+      (stays-then both r.0, (b.trees', both.same, both.stands, r.1))
   list-stays (pages i place key h answer s mid s' is has entry more) at asks =
       let (a, out) = entry-stays at entry asks.0 in
       let r = list-stays more a.now asks.1 in
-      (record { trees' = r.0.trees'; after = after-then a.after r.0.after; now = r.0.now }, (a.trees', a.after.same, a.after.stands, out key refl, r.1))
+      (stays-then a.after r.0, (a.trees', a.after.same, a.after.stands, out key refl, r.1))
   list-stays (fails i place h e s s' is has entry) at asks = let (a, out) = entry-stays at entry asks in (a, tt)
 
 pub list_law : {N B W : Type 0} (E : Type 0) (m : Seen N B W) → ListLaw E m

@@ -14,7 +14,7 @@ use Rattle.pagable_theorems.proofs.{
   Trees.same_some,
   Words.{Alike, ArcRef, Bool, Change, Core, Err, Event, EventReply, Frame, GetsKnown, HandleNumber, HandleRow, HandlesAreWhole, IsMachineWhole, Kind, List},
   Words.{LoadAnswer, LoadNumber, MachineState, NodeNumber, None, Ok, OpenLoad, Option, OptionalDataKey, Owner, Reading, ReadingFeels, Seen, Some, Todo, Values},
-  Words.{Walking, WorkerState, World, adopted, ap, arith, bears_known, false, find_row, first_key, inl, inr, is_named_by, mode_of, moved, nat_tests, next_node},
+  Words.{Walking, WorkerState, World, adopted, ap, basics, bears_known, false, find_row, first_key, inl, inr, is_named_by, mode_of, moved, next_node},
   Words.{nothing_felt, owner_value, refl, row_at, rules, subst, sym, to_load, world_of, ℕ, [], ◌++◌, ◌+◌, ◌∙◌, ◌∷◌, ◌≡◌, ◌≤◌, ◌⊎◌},
 }
 use Rattle.pagable_theorems.specs.{
@@ -24,7 +24,7 @@ use Rattle.pagable_theorems.specs.{
 
 pub cached-rows : (w : Core) (kind : Kind) (key : ℕ) (n : NodeNumber) → ((with_cached_if_open w kind key n).rows ≡ w.rows)
     × ((with_cached_if_open w kind key n).last ≡ w.last)
-cached-rows w kind key n = grind (arith, nat_tests)
+cached-rows w kind key n = grind basics
 
 module _ {w w' : Core} (whole : HandlesAreWhole w) (kind : Kind) (k : HandleNumber) (row : HandleRow) (made : row_at w' k ≡ Some row)
     (next : k.0 ≡ w.last.handle + 1) where
@@ -34,28 +34,25 @@ module _ {w w' : Core} (whole : HandlesAreWhole w) (kind : Kind) (k : HandleNumb
       let new = row_of (w.last.handle + 1) node (mode_of kind.0) owner in
       let s = stands-new w.last.handle rows new low refl in
       let e : new ≡ row = same_some _ _ (sym s.live ∙ sym (ap (λ n. find_row n (rows ++ new ∷ [])) next) ∙ found) in
-      grind (arith, nat_tests)
+      grind basics
 
-  -- of a node that there was
   pub got-known : (n : ℕ) (owner : Owner) → Alike (with_known w kind n owner) w' → GetsRow w w' kind n row
-  got-known n owner a = grind (arith, nat_tests, gets w.rows (record { 0 = n }) owner (low-whole whole))
+  got-known n owner a = grind (basics, gets w.rows (record { 0 = n }) owner (low-whole whole))
 
-  -- of such a one, where others were given up then
   pub got-fallen : (n : ℕ) (owner : Owner) {before : Core} {given : ℕ → Bool} → FallsAnyhow before (with_known w kind n owner) given w'
       → GetsRow w w' kind n row
-  got-fallen n owner f = grind (arith, nat_tests, find-both, gets w.rows (record { 0 = n }) owner (low-whole whole), next-above, find-left, none-in-new)
+  got-fallen n owner f = grind (basics, find-both, gets w.rows (record { 0 = n }) owner (low-whole whole), next-above, find-left, none-in-new)
 
-  -- of the next node
   pub got-born : (l : LoadNumber) (key : ℕ) (own : OptionalDataKey) (references : List ArcRef) → Alike (adopted w l kind key own references) w'
       → GetsRow w w' kind (w.last.node + 1) row
   got-born l key own references a =
       let low = low-changed w.last.handle w.rows (λ h. is_named_by references h.number.0) (λ h. record h { owner = owner_value (w.last.node + 1) }) (λ h. refl)
       (low-whole whole) in
-      grind (arith, nat_tests, gets (moved (is_named_by references) (owner_value (w.last.node + 1)) w.rows) (next_node w) (Owner.Load l) low)
+      grind (basics, gets (moved (is_named_by references) (owner_value (w.last.node + 1)) w.rows) (next_node w) (Owner.Load l) low)
 
 -- what can be used is in the cache
 pub is-cached : (w : Core) (kind key n : ℕ) → usable w kind key ≡ Some n → w.cache kind key ≡ Some n
-is-cached w kind key n is = grind (arith, nat_tests)
+is-cached w kind key n is = grind basics
 
 -- A load's step in the machine: which reading makes it, and that no other goes on by it.
 
@@ -64,12 +61,12 @@ pub reading-stands : (u : World) → IsWhole u.core → (l : LoadNumber) (readin
     ⊎ IsFresh u.core reading
 reading-stands u whole l reading at =
     let cases : (u.work.readings l.0 ≡ Some reading) ⊎ IsFresh u.core reading =
-    grind (arith, nat_tests) in elim cases [ inl there ↦ inl (of_caller l.0 there) | inr new ↦ inr new ]
+    grind basics in elim cases [ inl there ↦ inl (of_caller l.0 there) | inr new ↦ inr new ]
 
 -- it is of the load with this number
 pub reading-number : {N E : Type 0} {v : Values N} (s : MachineState N E) → IsMachineWhole v s → (l : LoadNumber) (reading : Reading)
     → reading_at (world_of s) l ≡ Some reading → reading.load ≡ l
-reading-number s whole l reading at = grind (arith, nat_tests, whole.readings l.0 reading)
+reading-number s whole l reading at = grind (basics, whole.readings l.0 reading)
 
 pub reading-open : {N E : Type 0} {v : Values N} (s : MachineState N E) → IsMachineWhole v s → (l : LoadNumber) (reading : Reading) {load : OpenLoad}
     → reading_at (world_of s) l ≡ Some reading
@@ -88,7 +85,7 @@ pub read-after : {readings : ℕ → Option Reading} {walkings : ℕ → Option 
     ⊎ (front_reading walking.todo ≡ Some after → New after))
     → (after : Reading) → IsReadingOf u'.work after → IsReadingOf u.work after ⊎ New after
 read-after {readings} u u' New are same callers workers after (of_caller q is) =
-    elim (callers q after (grind (arith, nat_tests))) [ inl old ↦ inl (of_caller q old) | inr new ↦ inr new ]
+    elim (callers q after (grind basics)) [ inl old ↦ inl (of_caller q old) | inr new ↦ inr new ]
 read-after u u' New are same callers workers after (of_worker n place walking r through below there todo) =
     elim (workers n walking after (sym (same n) ∙ there)) [
       | inl old ↦ inl (of_worker n place walking r through below old todo)
@@ -218,12 +215,12 @@ pub feels-alike : {N : Type 0} {v : Values N} {w u w' : Core} {reading : Reading
     → ReadingFeels v w reading answer frames u c → Alike u w' → ReadingFeels v w reading answer frames w' c
 feels-alike (reads-root load blob none_read at stored answer is) a = reads-root load blob none_read at stored answer is
 feels-alike (reads-blob kind key blob needs stored answer is) a = reads-blob kind key blob needs stored answer is
-feels-alike (gets-known kind key n row needs known got answer is) a = gets-known kind key n row needs known (grind (arith, nat_tests)) answer is
-feels-alike (gets-lazy kind key row needs got answer is) a = gets-lazy kind key row needs (grind (arith, nat_tests)) answer is
-feels-alike (makes-known x reads n row known got answer is) a = makes-known x reads n row known (grind (arith, nat_tests)) answer is
-feels-alike (makes-node x reads row got answer is) a = makes-node x reads row (grind (arith, nat_tests)) answer is
+feels-alike (gets-known kind key n row needs known got answer is) a = gets-known kind key n row needs known (grind basics) answer is
+feels-alike (gets-lazy kind key row needs got answer is) a = gets-lazy kind key row needs (grind basics) answer is
+feels-alike (makes-known x reads n row known got answer is) a = makes-known x reads n row known (grind basics) answer is
+feels-alike (makes-node x reads row got answer is) a = makes-node x reads row (grind basics) answer is
 feels-alike (reading-ends end answer is) a = reading-ends end answer is
 
 pub reading-knows : {N : Type 0} {v : Values N} {w w' : Core} {reading : Reading} {answer : Option (LoadAnswer N)} {frames : List Frame} {c : Change}
     → ReadingFeels v w reading answer frames w' c → KnowsNext c w
-reading-knows x0 = grind (arith, nat_tests)
+reading-knows x0 = grind basics

@@ -11,13 +11,13 @@ use Rattle.pagable_pager_spec.specs.{
   declared.events.TableNumber.TableNumber,
 }
 use Rattle.pagable_theorems.proofs.{
-  LoadFaults.{Only, by-handle-row, only-earlier, only-if, only-node, only-refused},
-  RefusalCauses.{Quiet, asked, cell-quiet, fails, fetched, handles-quiet, only-all, only-load, only-named, root-quiet, there-quiet},
+  LoadFaults.{Only, by-handle-row, only-earlier, only-if, only-node, only-refused, only-where},
+  RefusalCauses.{Quiet, asked, fails, fetched, handles-quiet, of-adopt, of-end, of-hand-over, of-lazy, only-all, only-handle, only-load, only-spent},
   Trees.same_some,
   Words.{Action, Alike, ArcRef, Blob, Bool, Call, CloneCall, Core, Err, Error, Event, EventReply, Frame, HandleNumber, HandleRow, Happens, IsLawful, Kind},
   Words.{List, LoadAnswer, LoadNumber, Mode, None, Ok, OpenLoad, Option, Owner, PinCall, Reading, Reply, Seen, Some, Task, Todo, WorkerNumber, WorkerReply},
-  Words.{WorkerState, WorkerSteps, World, answer_after, any_mode, arith, false, inl, inr, nat_tests, owner_worker, refl, row_at, subst, sym, to_finish},
-  Words.{to_item, to_load, to_pin, to_set, to_start, to_write, true, ℕ, [], ◌∙◌, ◌∷◌, ◌≡◌, ◌⊎◌},
+  Words.{WorkerState, WorkerSteps, World, answer_after, any_mode, basics, false, inl, inr, owner_worker, refl, row_at, subst, sym, to_finish, to_item, to_load},
+  Words.{to_pin, to_set, to_start, to_write, true, ℕ, [], ◌∙◌, ◌∷◌, ◌≡◌, ◌⊎◌},
 }
 use Rattle.pagable_theorems.specs.RefusalLaws.{StorageErrorsAreTrue, TellsOfStorage, refusal_of, refusal_of_end, refusal_of_reply, refusal_of_step}
 use Rattle.pagable_value_spec.specs.Stored.{HasFailed, IsMemoryOrFailure, RefusesStore}
@@ -29,7 +29,7 @@ Silent (Error.NoData key) = ⊥
 Silent e = Unit {0}
 
 quiet-silent : (e : Error) → Quiet e → Silent e
-quiet-silent e quiet = grind (arith, nat_tests)
+quiet-silent e quiet = grind basics
 
 silent : (w w' : Core) (e : Error) → Silent e → TellsOfStorage w w' e
 silent w w' e says = record { failed = λ code is. absurd (subst Silent is says); absent = λ key is. absurd (subst Silent is says) }
@@ -39,24 +39,14 @@ quiet w w' e q = silent w w' e (quiet-silent e q)
 
 -- ---- what each sort of cause says
 
-only-spent : (last : ℕ) → Only Quiet (spent last)
-only-spent last = only-if Quiet _ Error.NumbersSpent tt
-
 only-birth : (w : Core) → Only Quiet (insert_fault w)
 only-birth w = only-earlier _ _ (only-spent w.last.node) (only-spent w.last.handle)
 
-only-where : (b : Bool) (told : Option Error) → Only Quiet told → Only Quiet (where_so b told)
-only-where true told only e is = only e is
-only-where false told only e is = absurd (cc)
-
-only-handle : (w : Core) (me : Owner) (h : HandleNumber) (fits : Mode → Bool) → Only Quiet (handle_fault w me h fits)
-only-handle w me h fits e is = handles-quiet e (by-handle-row w me h fits e is)
-
 only-live : (found : Option HandleRow) → Only Quiet (live_fault found)
-only-live found e is = grind (arith, nat_tests)
+only-live found e is = grind basics
 
 by-listing : {before w w' : Core} {given : ℕ → Bool} (e : Error) → Falls before w given (Err e) w' → Quiet e
-by-listing e f = let told = f.tells.not_all in grind (arith, nat_tests)
+by-listing e f = grind (basics, f.tells.not_all)
 
 by-refused : {cause : Option Error} {w w' : Core} (e : Error) → IsRefused cause w (Err e) w' → Only Quiet cause → Quiet e
 by-refused e r only = let told = r.told in let same : r.e ≡ e = cc in subst Quiet same (only r.e r.why)
@@ -114,29 +104,6 @@ module _ (w : Core) (me : Owner) (w' : Core) where
   of-begin-key : (key : ℕ) (e : Error) → BeginKeyCall w me key (Err e) w' → Quiet e
   of-begin-key key e c = only-refused {P = Quiet} e c.refused (only-spent w.last.load) tt
 
-  of-adopt : {N : Type 0} (l : LoadNumber) (kind : Kind) (key : ℕ) (x y : N) (t : ℕ) (references : List ArcRef) (e : Error)
-      → AdoptCall w me l kind key x t references (Err (e, y)) w' → Quiet e
-  of-adopt l kind key x y t references e c =
-      only-refused {P = Quiet} e c.refused.1 (only-earlier _ _ (only-load w me l) (only-earlier _ _ (only-if Quiet _ Error.WrongMode tt)
-      (only-earlier _ _ (only-if Quiet _ Error.WrongKind tt) (only-earlier _ _ (only-all w (Owner.Load l) references) (only-node Quiet w kind key tt))))) tt
-
-  of-lazy-cell : (l : LoadNumber) (kind : Kind) (key : ℕ) (e : Error) → LazyCall w me l kind key (Err e) w' → Quiet e
-  of-lazy-cell l kind key e c =
-      only-refused {P = Quiet} e c.refused
-      (only-earlier _ _ (only-load w me l) (only-earlier _ _ (only-if Quiet _ Error.WrongKind tt) (only-node Quiet w kind key tt))) tt
-
-  of-end : {N : Type 0} (l : LoadNumber) (x : N) (t : ℕ) (references : List ArcRef) (e : Error) (given : Option N)
-      → EndCall w me l x t references (Err (e, given)) w' → Quiet e
-  of-end l x t references e (Some y) c = only-refused {P = Quiet} e c.refused.1 (only-earlier _ _ (only-load w me l)
-      (only-earlier _ _ (there-quiet (w.loads l.0) (λ (load : OpenLoad). root_fault w me t load.root) (λ load. root-quiet w me t load.root))
-      (only-all w (Owner.Load l) references))) tt
-  of-end l x t references e None c = only-handle w me c.refused.h any_mode e c.refused.why
-
-  of-hand-over : (l : LoadNumber) (hs : List HandleNumber) (e : Error) → HandOverCall w me l hs (Err e) w' → Quiet e
-  of-hand-over l hs e c = only-earlier {P = Quiet} _ _ (only-load w me l)
-      (only-earlier _ _ (there-quiet (w.loads l.0) (λ (load : OpenLoad). cell_fault load.root) (λ load. cell-quiet load.root))
-      (only-named w (Owner.Load l) [] hs)) e c.refused.0
-
   of-drop : (l : LoadNumber) (e : Error) → DropCall w me l (Err e) w' → Quiet e
   of-drop l e c = elim c.does [ inl refused ↦ by-refused e refused (only-load w me l) | inr (load, owned, f) ↦ by-listing e f ]
 
@@ -147,18 +114,15 @@ data Says (w w' : Core) : Error → Type 0 where
   has-failed : (code : ℕ) → HasFailed w.failures w'.failures → Says w w' (Error.Storage code)
   says-else : (e : Error) → Silent e → Says w w' e
 
-no-code : (k c : ℕ) → Error.Storage c ≡ Error.NoData k → ⊥
-no-code k c is = cc
-
 said : (w w' : Core) (e : Error) → Says w w' e → TellsOfStorage w w' e
-said w w' _ (has-failed code failed) = record { failed = λ c is. failed; absent = λ k is. absurd (no-code k code is) }
+said w w' _ (has-failed code failed) = record { failed = λ c is. failed; absent = λ k is. absurd (cc) }
 said w w' _ (says-else e says) = silent w w' e says
 
 of-store : (w w' : Core) (blob : Blob) (found : Option Blob) (closed : Bool) (e : Error) → RefusesStore blob found closed w.failures w'.failures e → Says w w' e
-of-store w w' blob found closed e h = grind (arith, nat_tests, has-failed, says-else)
+of-store w w' blob found closed e h = grind (basics, has-failed, says-else)
 
 of-flush : (w w' : Core) (e : Error) → IsMemoryOrFailure w.failures w'.failures e → Says w w' e
-of-flush w w' e h = grind (arith, nat_tests, has-failed, says-else)
+of-flush w w' e h = grind (basics, has-failed, says-else)
 
 module _ {N B W : Type 0} (m : Seen N B W) (lawful : IsLawful m.values) (w : Core) (me : Owner) (w' : Core) where
   abbrev Tells : Error → Type 0
@@ -197,18 +161,18 @@ module _ {N B W : Type 0} (m : Seen N B W) (lawful : IsLawful m.values) (w : Cor
   calls (Call.LoadFetch l want) (Reply.LoadFound (Err f)) e is c =
       so f e is (asked m.values lawful w me (record { load = l; node_type = 0; frames = []; steps = 0 }) want f w' c).tells
   calls (Call.LoadAdopt l kind key x) (Reply.Made (Err (f, y))) e is c = quiet-so f e is (of-adopt w me w' l kind key x y _ _ f c)
-  calls (Call.LoadLazy l kind key) (Reply.Handle (Err f)) e is c = quiet-so f e is (of-lazy-cell w me w' l kind key f c)
+  calls (Call.LoadLazy l kind key) (Reply.Handle (Err f)) e is c = quiet-so f e is (of-lazy w me w' l kind key f c)
   calls (Call.LoadEnd l x) (Reply.LoadEnded (Err (f, given))) e is c = quiet-so f e is (of-end w me w' l x _ _ f given c)
   calls (Call.LoadTake l hs) (Reply.Done (Err f)) e is c = quiet-so f e is (of-hand-over w me w' l hs.items f c)
   calls (Call.LoadDrop l) (Reply.Done (Err f)) e is c = quiet-so f e is (of-drop w me w' l f c)
   calls (Call.Reserve n) (Reply.Done (Err f)) e is c = quiet-so f e is (subst Quiet (sym c.wanting.0) tt)
   calls Call.Close (Reply.Done (Err f)) e is c = absurd (cc (c.told))
-  calls _ reply e is c = grind (arith, nat_tests)
+  calls _ reply e is c = grind basics
 
 -- ---- a worker's step
 
 only-claim : (w : Core) (r : ArcRef) → Only Quiet (claim_fault w r)
-only-claim w r e is = grind (arith, nat_tests)
+only-claim w r e is = grind basics
 
 module _ {N B W : Type 0} (m : Seen N B W) (lawful : IsLawful m.values) (v : ℕ) (s after : WorkerState) where
   abbrev WorkTells : Error → Type 0
@@ -231,7 +195,7 @@ module _ {N B W : Type 0} (m : Seen N B W) (lawful : IsLawful m.values) (v : ℕ
   of-first-pin r e (inr (row, (mid, through, cloned, inr c))) = of-begin mid (owner_worker v) after.core through e c
 
   of-write : (t : ℕ) (e : Error) → m.values.write_causes t e ⊎ (e ≡ Error.OutOfMemory) → Silent e
-  of-write t e h = grind (arith, nat_tests, lawful)
+  of-write t e h = grind (basics, lawful)
 
   of-set : (r : ArcRef) (through : HandleNumber) (key : ℕ) (e : Error) → KeySetFor s.core (owner_worker v) r through key (Err e) after.core → Quiet e
   of-set r through key e c = elim c.does [ inl (loose, set) ↦ of-key s.core (owner_worker v) after.core through key e set | inr (loose, told, a) ↦ absurd (cc) ]
@@ -250,7 +214,7 @@ module _ {N B W : Type 0} (m : Seen N B W) (lawful : IsLawful m.values) (v : ℕ
       (work-so f e is (said s.core after.core f (of-store s.core after.core _ _ _ f c.stored.refused.1)), refl)
   works (to_set r through key height ∷ below) (Action.SetKey i (Err f)) e is (same, c) =
       (work-so f e is (quiet s.core after.core f (of-set r through key f c.sets)), refl)
-  works todo action e is c = grind (arith, nat_tests)
+  works todo action e is c = grind basics
 
 -- ---- an event
 
@@ -266,7 +230,7 @@ module _ {N B W : Type 0} (m : Seen N B W) (lawful : IsLawful m.values) (u u' : 
       → EventTells e
   of-load-step reading (Some (LoadAnswer.Refused f)) frames e is does =
       subst EventTells (same_some _ _ is) (fails m.values lawful u.core Owner.Caller reading f u'.core does.0).tells
-  of-load-step reading ended frames e is does = absurd (grind (arith, nat_tests))
+  of-load-step reading ended frames e is does = absurd (grind basics)
 
   -- it has not answered yet, so it ends nothing
   of-worker-step : (v : WorkerNumber) (reply : WorkerReply W) (e : Error) → refusal_of_step reply.action ≡ Some e → WorkerSteps m u v reply u' → EventTells e
@@ -274,14 +238,14 @@ module _ {N B W : Type 0} (m : Seen N B W) (lawful : IsLawful m.values) (u u' : 
       let (told, none) =
       works m lawful v.0 (record { core = u.core; shelf = u.work.shelves x.walking.table; todo = x.walking.todo }) x.after
       x.walking.todo reply.action e is x.does.does in
-      let a : Alike x.after.core u'.core = subst (λ answer. Ends answer v.0 x.after.core u'.core) (x.answers ∙ none) x.ends in
+      let a = subst (λ answer. Ends answer v.0 x.after.core u'.core) (x.answers ∙ none) x.ends in
       record { failed = λ code same. subst (HasFailed u.core.failures) (sym a.failures) (told.failed code same); absent = told.absent }
 
   of-item : (t : TableNumber) (task : Task) (e : Error) → StartedItem u t task (Err e) u' → Quiet e
-  of-item t task e c = let why = c.refused.0 in grind (arith, nat_tests, only-spent)
+  of-item t task e c = grind (basics, only-spent, c.refused.0)
 
   of-listed : (t : TableNumber) (i : ℕ) (e : Error) → StartedListed u t i (Err e) u' → Quiet e
-  of-listed t i e c = let why = c.refused.0 in grind (arith, nat_tests, only-spent)
+  of-listed t i e c = grind (basics, only-spent, c.refused.0)
 
   of-event : (event : Event N B W) (reply : EventReply N B W) (e : Error) → refusal_of reply ≡ Some e → Happens m u event reply u' → EventTells e
   of-event (Event.Call call) (EventReply.CallReply r) e is x = calls m lawful u.core Owner.Caller u'.core call r e is x.step.does
@@ -295,7 +259,7 @@ module _ {N B W : Type 0} (m : Seen N B W) (lawful : IsLawful m.values) (u u' : 
   of-event (Event.WorkerListed t i) (EventReply.WorkerMade (Err f)) e is x = event-so f e is (of-listed t i f x)
   of-event (Event.WorkerStep v) (EventReply.WorkerMoved (Ok reply)) e is x = of-worker-step v reply e is x.moves
   of-event (Event.WorkerStep v) (EventReply.WorkerMoved (Err f)) e is x = event-so f e is (subst Quiet (sym x.refused.0) tt)
-  of-event event reply e is x = grind (arith, nat_tests)
+  of-event event reply e is x = grind basics
 
 pub storage-told : {N B W : Type 0} (m : Seen N B W) → StorageErrorsAreTrue m
 storage-told m lawful u event reply u' e step is = of-event m lawful u u' event reply e is step.happens

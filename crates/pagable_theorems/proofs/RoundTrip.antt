@@ -1,8 +1,8 @@
 -- A form is read back, whatever follows it; and reading it fails if the look-up of one of its references fails.
 use Rattle.pagable_theorems.proofs.{
   Words.{Bool, Entries, Entry, Err, Error, Form, Forms, IsReadable, LiesIn, List, Meaning, Ok, Result, Shape, Throughout, ap, append-nil, append_assoc, arith},
-  Words.{false, inl, inr, length, length-append, nat_tests, one, put_all, read, reference-form, refl, rest, run-form, subst, suc, sym, zero, ℕ, ℤ, [], ◌++◌},
-  Words.{◌+◌, ◌<◌, ◌∙◌, ◌∷◌, ◌≡◌, ◌≤◌, ◌⊎◌},
+  Words.{basics, false, inl, inr, length, length-append, one, put_all, read, reference-form, refl, rest, run-form, subst, suc, sym, zero, ℕ, ℤ, [], ◌++◌, ◌+◌},
+  Words.{◌<◌, ◌∙◌, ◌∷◌, ◌≡◌, ◌≤◌, ◌⊎◌},
 }
 use Rattle.pagable_theorems.specs.FormLaws.{FormIsReadBack, IsPrefixFree, LooksUp, more-references, no-references}
 use Rattle.pagable_value_spec.specs.{
@@ -62,42 +62,42 @@ lower nodes u h = narrowed h (u nodes (λ n. Unit {0})) u
 -- ---- whole numbers are read again
 
 -- what is written is read again, whatever follows
-pub varint-again : (more last n : ℕ) (rest : List ℕ) → n < varint_limit more last → last < 128 → varint_at more last (varint more n ++ rest) ≡ Ok (n, rest)
+varint-again : (more last n : ℕ) (rest : List ℕ) → n < varint_limit more last → last < 128 → varint_at more last (varint more n ++ rest) ≡ Ok (n, rest)
 unfolding varint_limit varint varint_at
 varint-again zero last n rest h l = rw (le-leb n last (omega arith)) refl
-varint-again (suc more) last n rest h l = grind (arith, nat_tests, varint-again more last)
+varint-again (suc more) last n rest h l = grind (basics, varint-again more last)
 
-pub unsigned-again : (w : Width) (n : ℕ) (rest : List ℕ) → n < bound w → unsigned_at w (unsigned_form w n ++ rest) ≡ Ok (n, rest)
+unsigned-again : (w : Width) (n : ℕ) (rest : List ℕ) → n < bound w → unsigned_at w (unsigned_form w n ++ rest) ≡ Ok (n, rest)
 unfolding varint_limit
-unsigned-again x0 n rest h = grind (arith, nat_tests, varint-again)
+unsigned-again x0 n rest h = grind (basics, varint-again)
 
 -- a number with a sign is one without, and back
-pub signed-again : (w : Width) (z : ℤ) (rest : List ℕ) → IsSigned w z → signed_at w (signed_form w z ++ rest) ≡ Ok (z, rest)
+signed-again : (w : Width) (z : ℤ) (rest : List ℕ) → IsSigned w z → signed_at w (signed_form w z ++ rest) ≡ Ok (z, rest)
 signed-again w z rest h = let back : signed_from w (unsigned_of w z) ≡ z =
-    grind (arith, nat_tests) in rw (unsigned-again w (unsigned_of w z) rest (grind (arith, nat_tests)), back) refl
+    grind basics in rw (unsigned-again w (unsigned_of w z) rest (grind basics), back) refl
 
 -- ---- flags, lengths, texts, characters and durations are read again
 
-pub bool-again : (b : Bool) (rest : List ℕ) → bool_at (bool_form b ++ rest) ≡ Ok (b, rest)
+bool-again : (b : Bool) (rest : List ℕ) → bool_at (bool_form b ++ rest) ≡ Ok (b, rest)
 unfolding bool_at
-bool-again x0 rest = grind (arith, nat_tests)
+bool-again x0 rest = grind basics
 
-pub length-again : (n : ℕ) (rest : List ℕ) → n ≤ longest → length_at (length_form n ++ rest) ≡ Ok (n, rest)
+length-again : (n : ℕ) (rest : List ℕ) → n ≤ longest → length_at (length_form n ++ rest) ≡ Ok (n, rest)
 unfolding length_at
 length-again n rest h = rw (unsigned-again w64 n rest (omega arith), le-leb n longest h) refl
 
-pub text-again : (t rest : List ℕ) → IsUtf8 t → length t ≤ longest → text_at (text_form t ++ rest) ≡ Ok (t, rest)
+text-again : (t rest : List ℕ) → IsUtf8 t → length t ≤ longest → text_at (text_form t ++ rest) ≡ Ok (t, rest)
 unfolding text_at
-text-again t x1 u h = grind (arith, nat_tests, ltb, rest, le-ltb, length-append, append_assoc, length-again, take_at, drop_at, is_utf8-from_IsUtf8)
+text-again t x1 u h = grind (basics, ltb, rest, le-ltb, length-append, append_assoc, length-again, take_at, drop_at, is_utf8-from_IsUtf8)
 
-pub char-again : (c : ℕ) (rest : List ℕ) → IsScalar c → char_at (char_form c ++ rest) ≡ Ok (c, rest)
+char-again : (c : ℕ) (rest : List ℕ) → IsScalar c → char_at (char_form c ++ rest) ≡ Ok (c, rest)
 unfolding char_at
 char-again c rest s =
     let small : len_utf8 c ≤ 4 = grind arith in
     let one : chars (encode_utf8 c) ≡ c ∷ [] = rw (← append-nil (encode_utf8 c)) (chars-encodes (c ∷ []) (rw s refl)) in
     rw (text-again (encode_utf8 c) rest (IsUtf8-encode c s) (omega (arith, length-encode c, small)), one) refl
 
-pub duration-again : (seconds nanos : ℕ) (rest : List ℕ) → seconds < 2 ^ 64 → nanos < nanos_of_second → duration_at (duration_form seconds nanos ++ rest)
+duration-again : (seconds nanos : ℕ) (rest : List ℕ) → seconds < 2 ^ 64 → nanos < nanos_of_second → duration_at (duration_form seconds nanos ++ rest)
     ≡ Ok ((seconds, nanos), rest)
 unfolding duration_at
 duration-again seconds nanos rest h l =
@@ -126,15 +126,15 @@ module _ {X : Type 0} (put : List X → X → List X) (R : X → X → Type 0) (
   put_on acc [] h = sym (append-nil acc)
   put_on acc (x ∷ xs) h = rw (put_end acc x xs h) (put_on (acc ++ x ∷ []) xs (rw append_assoc h) ∙ append_assoc acc (x ∷ []) xs)
 
-pub ascending-kept : {A : Type 0} (order : KeyOrder) (es : List (Entry A)) → Ascends order es → put_all (put_sorted order) [] es ≡ es
+ascending-kept : {A : Type 0} (order : KeyOrder) (es : List (Entry A)) → Ascends order es → put_all (put_sorted order) [] es ≡ es
 ascending-kept order es h = put_on (put_sorted order) (λ e f. ordered order e.0 f.0 ≡ Ordering.Greater) (λ e. refl) (λ f e acc r. rw r refl) [] es h
 
 -- ---- a form is read again, whatever follows it
 
 -- nothing that is written has a shape without cases
-pub no_case-form : {A : Type 0} {kind_of : A → ℕ} {parts : ℕ → Shape} {left : ℕ} {s : Shape} {m : Meaning A} {b : List ℕ} {k : List A}
+no_case-form : {A : Type 0} {kind_of : A → ℕ} {parts : ℕ → Shape} {left : ℕ} {s : Shape} {m : Meaning A} {b : List ℕ} {k : List A}
     → Form A kind_of parts left s m b k → HasNoCase s → ⊥
-no_case-form x0 h = grind (arith, nat_tests, case-form)
+no_case-form x0 h = grind (basics, case-form)
 
 -- What is left where what stands for references is looked up, one after another, as far as there are references; or why one is refused.
 pub data Looked {A B : Type 0} (look : Look A B) (kind_of : B → ℕ) : List A → List B → Result (List A) Error → Type 0 where
@@ -162,7 +162,7 @@ module _ {A B : Type 0} {look : Look A B} {kind_of : B → ℕ} where
   looked-by y (more-references a r b k e h) = one-looked a (r ++ y) b k (Ok y) e (looked-by y h)
 
 bind-then : {X Y Z : Type 0} (c : Result X Error) (f : X → Result Y Error) (g : Y → Result Z Error) → ((c >>= f) >>= g) ≡ (c >>= λ x. f x >>= g)
-bind-then x0 f g = grind (arith, nat_tests)
+bind-then x0 f g = grind basics
 
 -- reading where this many levels are left
 abbrev pub read_at : {A B : Type 0} → Look A B → (ℕ → Shape) → ℕ → Shape → Gets A (Meaning B)
@@ -275,7 +275,7 @@ module _ {A B : Type 0} {look : Look A B} {kind_of : B → ℕ} {parts : ℕ →
         ) refl
     form-again x _ u t = rw (none-left u) refl
 
-    pub forms-again : (x : List ℕ) {r : List A} {c : Result (List A) Error} {left : ℕ} {s : Shape} {ms : List (Meaning B)} {b : List ℕ} {k : List B}
+    forms-again : (x : List ℕ) {r : List A} {c : Result (List A) Error} {left : ℕ} {s : Shape} {ms : List (Meaning B)} {b : List ℕ} {k : List B}
         → Forms B kind_of parts left s ms b k
         → Looked look kind_of r k c → Throughout IsReadable parts s → items (read_at look parts left s) (length ms) (rest (b ++ x) r)
         ≡ (c >>= λ y. Ok (ms, rest x y))
@@ -285,7 +285,7 @@ module _ {A B : Type 0} {look : Look A B} {kind_of : B → ℕ} {parts : ℕ →
       | inr (e, f, is) ↦ rw (append_assoc, form-again (c ++ x) h f t, is) refl
     ]
 
-    pub entries-again : (x : List ℕ) {r : List A} {c : Result (List A) Error} {left : ℕ} {s s2 : Shape} {es : List (Entry B)} {b : List ℕ} {k : List B}
+    entries-again : (x : List ℕ) {r : List A} {c : Result (List A) Error} {left : ℕ} {s s2 : Shape} {es : List (Entry B)} {b : List ℕ} {k : List B}
         → Entries B kind_of parts left s s2 es b k
         → Looked look kind_of r k c → Throughout IsReadable parts s → Throughout IsReadable parts s2
         → items (two (read_at look parts left s) (read_at look parts left s2)) (length es) (rest (b ++ x) r) ≡ (c >>= λ y. Ok (es, rest x y))
@@ -325,11 +325,14 @@ prefix_free {A} parts s t kind_of left m n b c x y k l u v f g e h =
 -- ---- a meaning of a canonical shape has at most one form
 
 -- parts that are the same, one after the other
-joined : {A : Type 0} (a b c d : List ℕ) (j k l i : List A) → (a ≡ b) × (j ≡ k) → (c ≡ d) × (l ≡ i) → (a ++ c ≡ b ++ d) × (j ++ l ≡ k ++ i)
-joined a b c d j k l i h g = (rw (h.0, g.0) refl, rw (h.1, g.1) refl)
+joined : {A : Type 0} {a b c d : List ℕ} {j k l i : List A} → (a ≡ b) × (j ≡ k) → (c ≡ d) × (l ≡ i) → (a ++ c ≡ b ++ d) × (j ++ l ≡ k ++ i)
+joined h g = (rw (h.0, g.0) refl, rw (h.1, g.1) refl)
 
-sized : {A : Type 0} (m n : ℕ) (b c : List ℕ) (k l : List A) → (b ≡ c) × (k ≡ l) × (m ≡ n) → (length_form m ++ b ≡ length_form n ++ c) × (k ≡ l)
-sized m n b c k l h = (rw (h.0, h.2) refl, h.1)
+behind : {A : Type 0} (t : ℕ) {b c : List ℕ} {k l : List A} → (b ≡ c) × (k ≡ l) → (t ∷ b ≡ t ∷ c) × (k ≡ l)
+behind t h = (rw h.0 refl, h.1)
+
+sized : {A : Type 0} {m n : ℕ} {b c : List ℕ} {k l : List A} → (b ≡ c) × (k ≡ l) × (m ≡ n) → (length_form m ++ b ≡ length_form n ++ c) × (k ≡ l)
+sized h = (rw (h.0, h.2) refl, h.1)
 
 module _ {A : Type 0} {kind_of : A → ℕ} {parts : ℕ → Shape} where
   mutual
@@ -339,25 +342,25 @@ module _ {A : Type 0} {kind_of : A → ℕ} {parts : ℕ → Shape} where
         → Form A kind_of parts left2 s n c l
         → Throughout IsCanonical parts s → m ≡ n → (b ≡ c) × (k ≡ l)
     one-form (some-form left s m b k h) (some-form left2 s2 m2 b2 k2 h2) r e =
-        joined (1 ∷ []) (1 ∷ []) _ _ [] [] _ _ (refl, refl) (one-form h h2 (narrowed r (λ p. p) (λ n d l. l)) cc)
+        behind 1 (one-form h h2 (narrowed r (λ p. p) (λ n d l. l)) cc)
     one-form (err-form left s t m b k h) (err-form left2 s2 t2 m2 b2 k2 h2) r e =
-        joined (0 ∷ []) (0 ∷ []) _ _ [] [] _ _ (refl, refl) (one-form h h2 (narrowed r (λ p. p.1) (λ n d l. l.1)) cc)
+        behind 0 (one-form h h2 (narrowed r (λ p. p.1) (λ n d l. l.1)) cc)
     one-form (ok-form left s t m b k h) (ok-form left2 s2 t2 m2 b2 k2 h2) r e =
-        joined (1 ∷ []) (1 ∷ []) _ _ [] [] _ _ (refl, refl) (one-form h h2 (narrowed r (λ p. p.0) (λ n d l. l.0)) cc)
-    one-form (list-form left s ms b k le h) (list-form left2 s2 ms2 b2 k2 le2 h2) r e = sized _ _ _ _ _ _ (one-forms h h2 (narrowed r (λ p. p) (λ n d l. l)) e)
+        behind 1 (one-form h h2 (narrowed r (λ p. p.0) (λ n d l. l.0)) cc)
+    one-form (list-form left s ms b k le h) (list-form left2 s2 ms2 b2 k2 le2 h2) r e = sized (one-forms h h2 (narrowed r (λ p. p) (λ n d l. l)) e)
     one-form (run-form left s ms b k le h) (run-form left2 s2 ms2 b2 k2 le2 h2) r e = let o = one-forms h h2 (narrowed r (λ p. p) (λ n d l. l)) e in (o.0, o.1)
     one-form (array-form left n s ms b k q h) (array-form left2 n2 s2 ms2 b2 k2 q2 h2) r e = let o =
         one-forms h h2 (narrowed r (λ p. p) (λ n d l. l)) e in (o.0, o.1)
     one-form (both-form left s t m n b c k l h g) (both-form left2 s2 t2 m2 n2 b2 c2 k2 l2 h2 g2) r e =
-        joined _ _ _ _ _ _ _ _ (one-form h h2 (narrowed r (λ p. p.0) (λ n d l. l.0)) cc) (one-form g g2 (narrowed r (λ p. p.1) (λ n d l. l.1)) cc)
+        joined (one-form h h2 (narrowed r (λ p. p.0) (λ n d l. l.0)) cc) (one-form g g2 (narrowed r (λ p. p.1) (λ n d l. l.1)) cc)
     one-form (sorted-map-form left o s t es b k le up h) (sorted-map-form left2 o2 s2 t2 es2 b2 k2 le2 up2 h2) r e =
-        sized _ _ _ _ _ _ (one-entries h h2 (narrowed r (λ p. p.0) (λ n d l. l.0)) (narrowed r (λ p. p.1) (λ n d l. l.1)) e)
+        sized (one-entries h h2 (narrowed r (λ p. p.0) (λ n d l. l.0)) (narrowed r (λ p. p.1) (λ n d l. l.1)) e)
     one-form (placed-map-form left s t es b k le up h) (placed-map-form left2 s2 t2 es2 b2 k2 le2 up2 h2) r e =
-        sized _ _ _ _ _ _ (one-entries h h2 (narrowed r (λ p. p.0) (λ n d l. l.0)) (narrowed r (λ p. p.1) (λ n d l. l.1)) e)
+        sized (one-entries h h2 (narrowed r (λ p. p.0) (λ n d l. l.0)) (narrowed r (λ p. p.1) (λ n d l. l.1)) e)
     one-form (sorted-set-form left o s ms b k le up h) (sorted-set-form left2 o2 s2 ms2 b2 k2 le2 up2 h2) r e =
-        sized _ _ _ _ _ _ (one-forms h h2 (narrowed r (λ p. p) (λ n d l. l)) e)
+        sized (one-forms h h2 (narrowed r (λ p. p) (λ n d l. l)) e)
     one-form (placed-set-form left s ms b k le up h) (placed-set-form left2 s2 ms2 b2 k2 le2 up2 h2) r e =
-        sized _ _ _ _ _ _ (one-forms h h2 (narrowed r (λ p. p) (λ n d l. l)) e)
+        sized (one-forms h h2 (narrowed r (λ p. p) (λ n d l. l)) e)
     one-form (tagged-form left written known body tag m b k u h f) (tagged-form left2 written2 known2 body2 tag2 m2 b2 k2 u2 h2 f2) r e =
         let tags : tag ≡ tag2 = cc in
         let f3 = let P : List ℕ → Type 0 = λ t. Form A kind_of parts left2 (written t) m2 b2 k2 in subst P (sym tags) f2 in
@@ -370,13 +373,13 @@ module _ {A : Type 0} {kind_of : A → ℕ} {parts : ℕ → Shape} where
     one-form (reference-form left kind a q) (reference-form left2 kind2 a2 q2) r e = let same : a ≡ a2 = cc in (refl, ap (λ (x : A). x ∷ []) same)
     one-form (nested-form left less n m b k p h) (nested-form left2 less2 n2 m2 b2 k2 p2 h2) r e = one-form h h2 (part_of r) e
     one-form (json-array-form left less ms b k p le h) (json-array-form left2 less2 ms2 b2 k2 p2 le2 h2) r e =
-        joined (4 ∷ []) (4 ∷ []) _ _ [] [] _ _ (refl, refl) (sized _ _ _ _ _ _ (one-forms h h2 (alone (λ n d. tt) tt) cc))
+        behind 4 (sized (one-forms h h2 (alone (λ n d. tt) tt) cc))
     one-form (json-object-form left less es b k p le up h) (json-object-form left2 less2 es2 b2 k2 p2 le2 up2 h2) r e =
-        joined (5 ∷ []) (5 ∷ []) _ _ [] [] _ _ (refl, refl) (sized _ _ _ _ _ _ (one-entries h h2 (alone (λ n d. tt) tt) (alone (λ n d. tt) tt) cc))
-    one-form x0 (nothing-form left) r e = grind (arith, nat_tests)
-    one-form x0 x1 r e = grind (arith, nat_tests, here)
+        behind 5 (sized (one-entries h h2 (alone (λ n d. tt) tt) (alone (λ n d. tt) tt) cc))
+    one-form x0 (nothing-form left) r e = grind basics
+    one-form x0 x1 r e = grind (basics, here)
 
-    pub one-forms : {left left2 : ℕ} {s : Shape} {ms ns : List (Meaning A)} {b c : List ℕ} {k l : List A} → Forms A kind_of parts left s ms b k
+    one-forms : {left left2 : ℕ} {s : Shape} {ms ns : List (Meaning A)} {b c : List ℕ} {k l : List A} → Forms A kind_of parts left s ms b k
         → Forms A kind_of parts left2 s ns c l
         → Throughout IsCanonical parts s → sequence ms ≡ sequence ns → (b ≡ c) × (k ≡ l) × (length ms ≡ length ns)
     one-forms (no-forms left s) (no-forms left2 s2) r e = (refl, refl, refl)
@@ -385,7 +388,7 @@ module _ {A : Type 0} {kind_of : A → ℕ} {parts : ℕ → Shape} where
         (rw (o.0, p.0) refl, rw (o.1, p.1) refl, ap suc p.2)
     one-forms f g r e = absurd cc
 
-    pub one-entries : {left left2 : ℕ} {s t : Shape} {es fs : List (Entry A)} {b c : List ℕ} {k l : List A} → Entries A kind_of parts left s t es b k
+    one-entries : {left left2 : ℕ} {s t : Shape} {es fs : List (Entry A)} {b c : List ℕ} {k l : List A} → Entries A kind_of parts left s t es b k
         → Entries A kind_of parts left2 s t fs c l
         → Throughout IsCanonical parts s → Throughout IsCanonical parts t → of_entries es ≡ of_entries fs → (b ≡ c) × (k ≡ l) × (length es ≡ length fs)
     one-entries (no-entries left s t) (no-entries left2 s2 t2) r q e = (refl, refl, refl)

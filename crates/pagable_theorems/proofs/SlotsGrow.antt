@@ -8,7 +8,7 @@ use Rattle.pagable_pager_spec.specs.{
 use Rattle.pagable_theorems.proofs.{
   Trees.same-number,
   Words.{Action, Among, ArcRef, Bool, HandleNumber, Identity, IsPublished, List, None, Option, Shelf, Slot, Some, Task, Todo, Walking, WorkerAnswer, Written},
-  Words.{above, and_parts, arith, cases_Bool, drop, false, give, identity_of, if_there, if◌then◌else◌, inl, inr, is_some, max, nat_eq, nat_tests, no_result},
+  Words.{above, and_parts, arith, basics, cases_Bool, drop, false, give, identity_of, if_there, if◌then◌else◌, inl, inr, is_some, max, nat_eq, no_result},
   Words.{of_entry, of_item, refl, rules, subst, suc, sym, to_fail, to_finish, to_item, to_load, to_pin, to_release, to_set, to_start, to_write, true, ℕ, []},
   Words.{◌++◌, ◌<◌, ◌==◌, ◌||◌, ◌∙◌, ◌∷◌, ◌≡◌, ◌≤◌, ◌⊎◌},
 }
@@ -59,8 +59,8 @@ pub same-slots : (v : ℕ) (shelf shelf' : Shelf) → ((i : Identity) → shelf'
 same-slots v shelf shelf' same i = stays (same i)
 
 pub is-self : (i : Identity) → is_identity i i ≡ true
-is-self i = let a : (i.kind.0 == i.kind.0) ≡ true = grind (arith, nat_tests) in let b : (i.node.0 == i.node.0) ≡ true =
-    grind (arith, nat_tests) in rw (a, b) refl
+is-self i = let a : (i.kind.0 == i.kind.0) ≡ true = grind basics in let b : (i.node.0 == i.node.0) ≡ true =
+    grind basics in rw (a, b) refl
 
 pub is-same : (i j : Identity) → is_identity i j ≡ true → j ≡ i
 is-same i j is = grind (arith, and_parts, same-number)
@@ -89,7 +89,7 @@ fails-own : (v : ℕ) (shelf shelf' : Shelf) (i : Identity) (o : Option Slot) �
     → SlotChanges v (shelf.slots i) (shelf'.slots i)
 fails-own v shelf shelf' i None none is = stays (is ∙ sym none)
 fails-own v shelf shelf' i (Some slot) there is = elim (cases_Bool (nat_eq slot.worker v)) [
-  | inl own ↦ is-changed slot (with_outcome failed slot) there (grind (arith, nat_tests)) (rw own at is) (grind arith)
+  | inl own ↦ is-changed slot (with_outcome failed slot) there (grind basics) (rw own at is) (grind arith)
   | inr own ↦ stays ((rw own at is) ∙ sym there)
 ]
 
@@ -193,7 +193,7 @@ pub record WorkStands (shelves : ℕ → Shelf) (walkings : ℕ → Option Walki
 -- below what is done next written nodes and an item wait again after a step
 pub follows-waits : {W : Type 0} (f : W → Written) (todo : List Todo) (step : Action W) (next : List Todo) → Follows f todo step next → WaitsWell todo
     → WaitsWell next
-follows-waits f x1 x2 next x4 waits = grind (arith, nat_tests)
+follows-waits f x1 x2 next x4 waits = grind basics
 
 -- A worker's step keeps what stands of its to-do list and of its table.
 
@@ -207,14 +207,14 @@ module _ (u : ℕ) (task : Task) (shelf shelf' : Shelf) (more : ShelfGrows shelf
       → AllStand shelf u task todo → AllStand shelf' u task todo
   all-stay [] keeps all = tt
   all-stay (x ∷ below) keeps (stands, apart, rest) = (
-    (grind (arith, nat_tests, meets-grow, is-self, keys-grow)),
+    (grind (basics, meets-grow, is-self, keys-grow)),
     apart,
     all-stay below (λ i is. keeps i (or_right (is_open_of i x) (is_open_in i below) is)) rest,
   )
 
 pub among-drop : (k : ℕ) (rs : List ArcRef) (r : ArcRef) → Among (drop k rs) r → Among rs r
 among-drop (suc k) (x ∷ rs) r among = let a = among-drop k rs r among in (suc a.0, a.1)
-among-drop x0 x1 r among = grind (arith, nat_tests)
+among-drop x0 x1 r among = grind basics
 
 module _ (v : ℕ) (task : Task) where
   module _ (shelf : Shelf) (i : Identity) where
@@ -222,7 +222,7 @@ module _ (v : ℕ) (task : Task) where
     pub open-slot : (todo : List Todo) → AllStand shelf v task todo → is_open_in i todo ≡ true → (slot : Slot) × (shelf.slots i ≡ Some slot)
     open-slot [] all is = absurd (cc)
     open-slot (x ∷ below) (stands, apart, rest) is = elim (or_cases (is_open_of i x) (is_open_in i below) is)
-        [ inl a ↦ (grind (arith, nat_tests, is-same)) | inr b ↦ open-slot below rest b ]
+        [ inl a ↦ (grind (basics, is-same)) | inr b ↦ open-slot below rest b ]
 
   -- each claim without a result is worked at
   abbrev pub CoversBy : Shelf → List Todo → Type 0
@@ -241,40 +241,40 @@ module _ (v : ℕ) (task : Task) where
     pub plain : (answer : Option WorkerAnswer) (todo : List Todo) → ((a : WorkerAnswer) → answer ≡ Some a → todo ≡ []) → AllStand shelf v task todo
         → CoversBy shelf todo
         → Goes shelf answer shelf' todo
-    plain answer todo done all covers = grind (arith, nat_tests, same-slots, all-stay, grows, or_right, is_failing, is_open_in, some-none)
+    plain answer todo done all covers = grind (basics, same-slots, all-stay, grows, or_right, is_failing, is_open_in, some-none)
 
     pub fails : (fault : Fault) (back : Option HandleNumber) → Goes shelf None shelf' (to_fail fault back ∷ [])
-    fails fault back = grind (arith, nat_tests, same-slots, some-none)
+    fails fault back = grind (basics, same-slots, some-none)
 
     -- what stands at the front becomes something else about the same claim
     pub swaps : (x y : Todo) (below : List Todo) → AllStand shelf v task (x ∷ below) → CoversBy shelf (x ∷ below)
         → ((i : Identity) → is_open_of i y ≡ is_open_of i x)
         → (Stands shelf v task x below → Stands shelf v task y below) → Goes shelf None shelf' (y ∷ below)
-    swaps x y below (stands, apart, rest) covers about goes = plain None (y ∷ below) (λ a is. absurd (cc)) (goes stands, grind (arith, nat_tests), rest)
-        (grind (arith, nat_tests))
+    swaps x y below (stands, apart, rest) covers about goes = plain None (y ∷ below) (λ a is. absurd (cc)) (goes stands, grind basics, rest)
+        (grind basics)
 
   module _ (shelf : Shelf) where
     started : (place : ℕ) (rs : List ArcRef) (todo : List Todo) → ((r : ArcRef) → Among rs r → Meets shelf task (identity_of r)) → AllStand shelf v task todo
         → AllStand shelf v task (next_start place rs ++ todo)
-    started place x1 todo meets all = grind (arith, nat_tests)
+    started place x1 todo meets all = grind basics
 
     pub started-open : (i : Identity) (place : ℕ) (rs : List ArcRef) (todo : List Todo) → is_open_in i (next_start place rs ++ todo) ≡ is_open_in i todo
-    started-open i place x2 todo = grind (arith, nat_tests)
+    started-open i place x2 todo = grind basics
 
     pub settles : (o : Open) (below : List Todo) → AllStand shelf v task (to_finish o ∷ below) → AllStand shelf v task (advance (to_finish o ∷ below))
     settles o below x2 = search (rules, started, meets-below, among-drop)
 
-    pub item-settles : (written : Written) (keys : List ℕ) (below : List Todo) → AllStand shelf v task (to_item written keys ∷ below)
+    item-settles : (written : Written) (keys : List ℕ) (below : List Todo) → AllStand shelf v task (to_item written keys ∷ below)
         → AllStand shelf v task (advance (to_item written keys ∷ below))
     item-settles written keys below x3 = search (rules, started, meets-of-item, among-drop)
 
     pub gives : (r : ArcRef) (key height : ℕ) (todo : List Todo) → AllStand shelf v task todo → AllStand shelf v task (give r key height todo)
     gives r key height (to_finish o ∷ below) all = settles (record o { keys = o.keys ++ key ∷ []; height = max o.height (above r.kind.0 height) }) below all
     gives r key height (to_item written keys ∷ below) all = item-settles written (keys ++ key ∷ []) below all
-    gives r key height x3 all = grind (arith, nat_tests)
+    gives r key height x3 all = grind basics
 
     pub given-open : (i : Identity) (r : ArcRef) (key height : ℕ) (todo : List Todo) → is_open_in i (give r key height todo) ≡ is_open_in i todo
-    given-open i r key height x4 = grind (arith, nat_tests, above, started-open)
+    given-open i r key height x4 = grind (basics, above, started-open)
 
 -- Each kind of a worker's step: what it does to its list and to the slots.
 
@@ -288,11 +288,11 @@ module _ (v : ℕ) (task : Task) (shelf shelf' : Shelf) where
       let changes : Changes v shelf shelf' = λ j. elim (cases_Bool (is_identity i j))
       [ inl e ↦ rw (is-same i j e, puts.at) at | inr e ↦ stays (puts.elsewhere j e) ] in
       let now = meets-grow shelf shelf' task i (grows v shelf shelf' changes) meets in
-      let stands = all changes now in grind (arith, nat_tests, put-cases, some-none)
+      grind (basics, put-cases, some-none, all changes now)
 
   pub failed-goes : (answer : WorkerAnswer) → SameShelf (with_failed shelf v) shelf' → Goes v task shelf (Some answer) shelf' []
-  failed-goes answer same = let changes : Changes v shelf shelf' = λ i. fails-own v shelf shelf' i _ refl (same.slots i) in let slots =
-      same.slots in grind (arith, nat_tests, some-none, some-same)
+  failed-goes answer same = let changes : Changes v shelf shelf' = λ i. fails-own v shelf shelf' i _ refl (same.slots i) in
+      grind (basics, some-none, some-same, same.slots)
 
 -- What stands of all workers and tables goes on to stand, by what an event does to them.
 
@@ -322,7 +322,7 @@ module _ (v : ℕ) (shelves shelves' : ℕ → Shelf) (walkings walkings' : ℕ 
   keeps-task u w there = grind (arith, same-number)
 
   met-stays : (t : ℕ) (i : Identity) (u n : ℕ) → n ≡ u → IsMetBy (shelves t) walkings u t i → IsMetBy (shelves' t) walkings' n t i
-  met-stays t i u n same met = let k = keeps-task u met.walking met.there in grind (arith, nat_tests, keeps-task, meets-grow, grows)
+  met-stays t i u n same met = grind (basics, keeps-task, meets-grow, grows, keeps-task u met.walking met.there)
 
   pub work-stands : (last last' : ℕ) → last ≤ last' → v ≤ last' → WorkStands shelves walkings last → WorkStands shelves' walkings' last'
   work-stands last last' few small work =
@@ -330,8 +330,7 @@ module _ (v : ℕ) (shelves shelves' : ℕ → Shelf) (walkings walkings' : ℕ 
       let c = turned.changes w.table in
       let more = grows v (shelves w.table) (shelves' w.table) c in
       grind (
-        arith,
-        nat_tests,
+        basics,
         cases_Bool (nat_eq u v),
         same-number,
         walking-stays u w (shelves w.table) (shelves' w.table) more,
@@ -341,7 +340,7 @@ module _ (v : ℕ) (shelves shelves' : ℕ → Shelf) (walkings walkings' : ℕ 
         turned.others u,
         work.workers u w,
       ) in
-      grind (arith, nat_tests, each, met-stays, some-same, cases_Bool, nat_eq, same-number)
+      grind (basics, each, met-stays, some-same, cases_Bool, nat_eq, same-number)
 
 pub first-stands : (shelf : Shelf) (v : ℕ) (task : Task) → AllStand shelf v task (first_todo task)
 first-stands shelf v (of_item written) = item-settles v (of_item written) shelf written [] [] ((refl, refl), (λ i is. absurd (cc)), tt)
@@ -359,7 +358,7 @@ module _ (shelves shelves' : ℕ → Shelf) (walkings walkings' : ℕ → Option
       let stands : (w : Walking) → walkings' 0 ≡ Some w → WalkingStands (shelves' w.table) 0 w = λ w there.
       walking-stays 0 w (shelves w.table) (shelves' w.table) (grows 0 (shelves w.table) (shelves' w.table) (changes w.table))
       (λ i slot is own. same w.table i ∙ is) (λ i slot is own. sym (same w.table i) ∙ is) (work.workers 0 w (sym (stay 0) ∙ there)) in
-      grind (arith, nat_tests, some-none, changes, stands, stay)
+      grind (basics, some-none, changes, stands, stay)
 
   pub is-started : (v : ℕ) (new : Walking) → last < v → new.todo ≡ first_todo new.task → new.answer ≡ None → walkings' v ≡ Some new
       → ((u : ℕ) → nat_eq u v ≡ false → walkings' u ≡ walkings u) → Turned v shelves shelves' walkings walkings'
@@ -371,8 +370,8 @@ module _ (shelves shelves' : ℕ → Shelf) (walkings walkings' : ℕ → Option
       let changes : (t : ℕ) → Changes v (shelves t) (shelves' t) = λ t. same-slots v (shelves t) (shelves' t) (same t) in
       let stands : (w : Walking) → walkings' v ≡ Some w → WalkingStands (shelves' w.table) v w =
       λ w there. subst (λ x. WalkingStands (shelves' x.table) v x) (some-same at there)
-      (let all = first-stands (shelves' new.table) v new.task in grind (arith, nat_tests, all, unclaimed, some-none)) in
-      grind (arith, nat_tests, some-none, changes, stands, work.numbered v)
+      (let all = first-stands (shelves' new.table) v new.task in grind (basics, all, unclaimed, some-none)) in
+      grind (basics, some-none, changes, stands, work.numbered v)
 
 pub is-stepped : (v : ℕ) (shelves shelves' : ℕ → Shelf) (walkings walkings' : ℕ → Option Walking) (w now : Walking) → walkings v ≡ Some w → walkings' v
     ≡ Some now → now.table ≡ w.table
@@ -386,4 +385,4 @@ is-stepped v shelves shelves' walkings walkings' w now at at_now same_table same
       | inl e ↦ rw (same-number t w.table e) goes.changes
       | inr e ↦ same-slots v (shelves t) (shelves' t) (elsewhere t e)
     ] in
-    grind (arith, nat_tests, same-number, some-none, some-same, changes)
+    grind (basics, same-number, some-none, some-same, changes)

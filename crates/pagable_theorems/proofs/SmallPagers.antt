@@ -11,8 +11,8 @@ use Rattle.pagable_theorems.proofs.{
   HandlesKept.good,
   Trees.sum-zero,
   Words.{Alike, Among, ArcRef, Blob, Bool, Core, Event, HandleRow, IsPagerWhole, List, None, Ok, OpenLoad, Option, Owner, PagerState, Some, Written, and_parts},
-  Words.{ap, arith, cases_lt, false, held, inl, inr, is_handle, is_owned_by, is_owner, is_some, length, nat_eq, nat_tests, not, of_cell, one, owner_value},
-  Words.{pins, references_fault, refl, row_at, rules, subst, suc, sym, times, true, updated, zero, ℕ, [], ◌&&◌, ◌<◌, ◌==◌, ◌∷◌, ◌≡◌, ◌≤◌},
+  Words.{ap, arith, basics, cases_lt, false, held, inl, inr, is_handle, is_owned_by, is_owner, is_some, length, nat_eq, not, of_cell, one, owner_value, pins},
+  Words.{references_fault, refl, row_at, rules, subst, suc, sym, times, true, updated, zero, ℕ, [], ◌&&◌, ◌<◌, ◌==◌, ◌∷◌, ◌≡◌, ◌≤◌},
 }
 use Rattle.pagable_theorems.specs.{SmallWorlds.no_work, Witness.{Sample, machine, sample, value_at}}
 use Rattle.std.proofs.{Common.All, lemmas.{Bool.{agree_below, agree_below_at}, List.Kept.AllPairs-cons}}
@@ -24,20 +24,20 @@ of-some P {x} {y} h is = subst (λ o. IfSome o P) is h
 
 each-among : {X : Type 0} (P : X → Type 0) (xs : List X) (x : X) → Each P xs → Among xs x → P x
 each-among P (y ∷ ys) x h (suc i, is) = each-among P ys x h.1 (i, is)
-each-among x0 x1 x2 x3 x4 = grind (arith, nat_tests, of-some)
+each-among x0 x1 x2 x3 x4 = grind (basics, of-some)
 
 none-pass : {X : Type 0} (P : X → Type 0) (q : X → Bool) (xs : List X) → Each P xs → ((x : X) → P x → q x ≡ false) → times q xs ≡ 0
 none-pass P q xs all h = sum-zero (λ x. one (q x)) xs (λ x among. ap one (h x (each-among P xs x all among)))
 
 -- what holds of the first numbers and past them holds of all
 by-four : (P : ℕ → Type 0) → P 0 × P 1 × P 2 × P 3 → ((n : ℕ) → 3 < n → P n) → (n : ℕ) → P n
-by-four x0 h past x3 = grind (arith, nat_tests)
+by-four x0 h past x3 = grind basics
 
 by-number : (k : ℕ) (f g : ℕ → Bool) → agree_below f g (suc k) ≡ true → ((n : ℕ) → k < n → f n ≡ g n) → (n : ℕ) → f n ≡ g n
 by-number k f g ok past n = elim (cases_lt k n) [ inl lt ↦ past n lt | inr le ↦ agree_below_at f g (suc k) n ok (omega arith) ]
 
 pub updated-past : {X : Type 0} (k m : ℕ) (x d : X) (f : ℕ → X) → m ≤ k → ((n : ℕ) → k < n → f n ≡ d) → (n : ℕ) → k < n → updated m x f n ≡ d
-updated-past k m x d f le past n lt = let a : (n == m) ≡ false = grind (arith, nat_tests) in rw a (past n lt)
+updated-past k m x d f le past n lt = let a : (n == m) ≡ false = grind basics in rw a (past n lt)
 
 -- of the nodes up to 3, not shared, and owned by the values of these or by one who isn't the list
 abbrev pub OwnerLow : Owner → Type 0
@@ -53,16 +53,16 @@ IsLow w = Each RowLow w.rows
 
 module _ (rows : List HandleRow) (low : Each RowLow rows) where
   held-past : (n : ℕ) → 3 < n → held n rows ≡ 0
-  held-past n lt = none-pass RowLow (is_at n) rows low (λ h ok. let a = ok.0 in grind (arith, nat_tests))
+  held-past n lt = none-pass RowLow (is_at n) rows low (λ h ok. grind (basics, ok.0))
 
   unshared : (n : ℕ) → sharing n rows ≡ 0
-  unshared n = none-pass RowLow (is_share n) rows low (λ h ok. let a = ok.1 in grind (arith, nat_tests))
+  unshared n = none-pass RowLow (is_share n) rows low (λ h ok. grind (basics, ok.1))
 
   owner-past : (n : ℕ) → 3 < n → (o : Owner) → OwnerLow o → is_owner (owner_value n) o ≡ false
-  owner-past n lt x2 ok = grind (arith, nat_tests)
+  owner-past n lt x2 ok = grind basics
 
 pub alike-self : (w : Core) → Alike w w
-alike-self w = grind (arith, nat_tests, and_parts)
+alike-self w = grind (basics, and_parts)
 
 -- no cell without a key loses its last pin
 abbrev pub lists_none : Core → Core → (ℕ → Bool) → ℕ → Bool
@@ -78,9 +78,9 @@ pub falls-so : (before w : Core) (given gone : ℕ → Bool) → IsLow before �
 falls-so before w given gone low few none least =
     let no-must : (n : ℕ) → MustList before w (fallen w gone []) n → ⊥ = λ n must.
     let is_none = by-number 3 (lists_none before w gone) (λ n. false) none (λ n lt.
-    let a = none-pass RowLow (is_pin n) before.rows low (λ h ok. let b = ok.0 in grind (arith, nat_tests)) in rw a refl) n in
-    let a = must.pinned in let b = must.unpinned in let c = must.unkeyed in grind (arith, nat_tests) in
-    let few_left : w.last.handle ≤ 9 = grind (arith, nat_tests) in search (arith, least, no-must, alike-self)
+    let a = none-pass RowLow (is_pin n) before.rows low (λ h ok. grind (basics, ok.0)) in rw a refl) n in
+    grind (basics, must.pinned, must.unpinned, must.unkeyed) in
+    let few_left : w.last.handle ≤ 9 = grind basics in search (arith, least, no-must, alike-self)
 
 -- the given handles fall alone, if no value that goes owns another
 abbrev pub AreAlone : Core → Core → (ℕ → Bool) → Type 0
@@ -92,8 +92,8 @@ pub falls-alone : (before w : Core) (given : ℕ → Bool) → AreAlone before w
 falls-alone before w given (low_before, low, few, none, ok) = falls-so before w given given low_before few none (record {
   holds = within-self w.rows (is_keyed w) [] given;
   closed = λ n goes. let a = by-number 3 (takes_more w given) (λ n. false) ok
-      (λ n lt. let none : owned_outside w.rows given n ≡ 0 = search (rules, none-pass, owner-past) in grind (arith, nat_tests, none)) n in
-      grind (arith, nat_tests);
+      (λ n lt. let none : owned_outside w.rows given n ≡ 0 = search (rules, none-pass, owner-past) in grind (basics, none)) n in
+      grind basics;
   least = λ t holds closed. holds;
 })
 
@@ -113,7 +113,7 @@ Rises low (h ∷ hs) = (nat_lt low h.number.0 ≡ true) × Rises h.number.0 hs
 ordered : (low : ℕ) (rows : List HandleRow) → Rises low rows → AllPairs IsHandleBefore rows × All (λ (h : HandleRow). low < h.number.0) rows
 ordered low [] ok = (λ i j d lt within. absurd (omega arith), λ j d within. absurd (omega arith))
 ordered low (h ∷ hs) (first, more) = let rest = ordered h.number.0 hs more in
-    (AllPairs-cons IsHandleBefore h hs rest.1 rest.0, let others = rest.1 in λ i d within. grind (arith, nat_tests))
+    (AllPairs-cons IsHandleBefore h hs rest.1 rest.0, let others = rest.1 in λ i d within. grind basics)
 
 -- a handle's number was given, and its owner is there
 abbrev pub OwnerThere : Core → Owner → Type 0
@@ -172,19 +172,19 @@ pub record Passes (w : Core) (vs : List (Option Sample)) : Type 0 where
 
 past-end : (vs : List (Option Sample)) (n : ℕ) → length vs ≤ n → value_at vs n ≡ None
 past-end (x ∷ xs) (suc n) few = past-end xs n (omega arith)
-past-end x0 x1 few = grind (arith, nat_tests)
+past-end x0 x1 few = grind basics
 
 pub loose-at : (vs : List (Option Sample)) (n : ℕ) (x : Sample) → Each (λ (o : Option Sample). IfSome o IsLoose) vs → value_at vs n ≡ Some x → IsLoose x
 loose-at (o ∷ os) zero x (own, rest) is = of-some IsLoose own is
 loose-at (o ∷ os) (suc n) x (own, rest) is = loose-at os n x rest is
-loose-at x0 x1 x2 x3 x4 = grind (arith, nat_tests)
+loose-at x0 x1 x2 x3 x4 = grind basics
 
 -- so there is nothing that it would have to hold
 pub loose-holds : (s : PagerState Sample (Unit {0})) (event : Event Sample Blob Written) (x : Sample) → IsLoose x → EventHolds sample s event x
 loose-holds s event x loose = by event
   where
     nothing-eager : HoldsItsNodes sample s x
-    nothing-eager r among eager = grind (arith, nat_tests, each-among)
+    nothing-eager r among eager = grind (basics, each-among)
 
     by : (event : Event Sample Blob Written) → EventHolds sample s event x
     by (Event.LoadStep l) = nothing-eager
@@ -193,7 +193,7 @@ loose-holds s event x loose = by event
 
 module _ (w : Core) (vs : List (Option Sample)) (few : Few w) (p : Passes w vs) where
   number : (n : ℕ) → NumberFits w vs n
-  number = by-four (NumberFits w vs) p.numbers (λ n lt. grind (arith, nat_tests, past-end, held-past, none-pass, owner-past))
+  number = by-four (NumberFits w vs) p.numbers (λ n lt. grind (basics, past-end, held-past, none-pass, owner-past))
 
   row : (h : HandleRow) → Among w.rows h → RowThere w h
   row h among = each-among (RowThere w) w.rows h p.handles.2 among
@@ -209,8 +209,8 @@ module _ (w : Core) (vs : List (Option Sample)) (few : Few w) (p : Passes w vs) 
 
   inside : (n : ℕ) (x : Sample) (q : ℕ) → value_at vs n ≡ Some x → refers x q ≡ owns w n q
   inside n x q is = let a = by-number 9 (λ q. nat_eq (refers x q) (owns w n q)) (λ q. true) (value n x is).1
-      (λ q lt. let refs = (value n x is).2 in let there = p.handles.2 in grind (arith, nat_tests, none-pass)) q in
-      grind (arith, nat_tests)
+      (λ q lt. grind (basics, none-pass, (value n x is).2, p.handles.2)) q in
+      grind basics
 
   pub whole-so : IsPagerWhole sample (machine w vs no_work).pager
   whole-so =
@@ -219,28 +219,28 @@ module _ (w : Core) (vs : List (Option Sample)) (few : Few w) (p : Passes w vs) 
         whole = record {
           handles = record {
             ordered = (ordered 0 w.rows p.handles.1).0;
-            numbered = λ h among. let (a, b, c) = row h among in (grind (arith, nat_tests), grind (arith, nat_tests));
-            nodes_numbered = grind (arith, nat_tests, number, and_parts);
-            within = grind (arith, nat_tests);
+            numbered = λ h among. let (a, b, c) = row h among in (grind basics, grind basics);
+            nodes_numbered = grind (basics, number, and_parts);
+            within = grind basics;
             live = λ n. (number n).1;
             uniform = λ n. inl (unshared w.rows p.handles.0 n);
             unkeyed = λ n some. absurd (omega (arith, unshared w.rows p.handles.0 n));
-            places = (grind (arith, nat_tests), let e : length w.list ≡ 0 = ap length p.stands.list in omega arith);
+            places = (grind basics, let e : length w.list ≡ 0 = ap length p.stands.list in omega arith);
           };
           owners_there = record {
             listed = λ q. subst (λ hs. times (λ h. h.0 == q) hs ≡ times (λ h. is_handle q h && is_owned_by Owner.List h) w.rows) (sym p.stands.list)
-                (sym (grind (arith, nat_tests, none-pass, low)));
+                (sym (grind (basics, none-pass, low)));
             waiting = λ h among is. absurd (subst (λ o. OwnerLow o) is (low h among).2);
             loads = λ h l among is. subst (λ o. OwnerThere w o) is (row h among).2;
             workers = λ h v among is. subst (λ o. OwnerThere w o) is (row h among).2;
           };
           loads = record {
-            numbered = λ l some. grind (arith, nat_tests);
+            numbered = λ l some. grind basics;
             owned = λ l x is. subst (λ o. MayOwnLoad w o) (sym (load l x is).2) tt;
-            roots = λ l x node t h is root. grind (arith, nat_tests, of-some, subst (λ r. RootFits w r) root (load l x is).3);
+            roots = λ l x node t h is root. grind (basics, of-some, subst (λ r. RootFits w r) root (load l x is).3);
           };
-          cache = λ kind key n is. let known = few.3 kind key n is in let third = p.stands.third in grind (arith, nat_tests, low);
-          workers_numbered = grind (arith, nat_tests);
+          cache = λ kind key n is. grind (basics, low, few.3 kind key n is, p.stands.third);
+          workers_numbered = grind basics;
           shut = λ closed. absurd (cc);
         };
         counted = λ n. refl;

@@ -28,10 +28,10 @@ use Rattle.pagable_theorems.proofs.{
   Words.{Action, Alike, Among, ArcRef, AreMoments, Blob, Bool, Call, Change, Core, Error, Event, EventReply, Frame, FramesFit, GetsKnown, HandleNumber},
   Words.{HandleRow, HandlesAreWhole, Happens, IsLawful, IsMachineWhole, IsPagerWhole, IsReadableType, IsReference, IsWellAsked, KeepsOpen, Kind, Last, List},
   Words.{LoadAnswer, LoadNumber, MachineState, Moment, NodeNumber, None, Ok, OpenLoad, Option, OptionalDataKey, Owner, PagerStandsFor, PagerState, Reading},
-  Words.{ReadingFeels, ReadsRoot, ReadsTree, Result, Seen, Some, Tree, Types, Values, WorkerAnswer, WorkerState, World, adopted, and_parts, ap, arith, false},
-  Words.{find_row, first_key, held, inl, inr, is_eager, is_handle, is_in, is_owned_by, length, mode_of, moved, nat_tests, next_in, next_node, not},
-  Words.{nothing_felt, one, owner_worker, refl, root_frame, rules, slice_get_within, state_after, step_of, subst, suc, sum_by-cons, sym, times, true, type_of},
-  Words.{with_handle, world_of, zero, ℕ, [], ◌&&◌, ◌*◌, ◌++◌, ◌+◌, ◌<◌, ◌==◌, ◌∙◌, ◌∷◌, ◌≡◌, ◌≤◌, ◌⊎◌},
+  Words.{ReadingFeels, ReadsRoot, ReadsTree, Result, Seen, Some, Tree, Types, Values, WorkerAnswer, WorkerState, World, adopted, and_parts, ap, arith, basics},
+  Words.{false, find_row, first_key, held, inl, inr, is_eager, is_handle, is_in, is_owned_by, length, mode_of, moved, next_in, next_node, not, nothing_felt},
+  Words.{one, owner_worker, refl, root_frame, rules, slice_get_within, state_after, step_of, subst, suc, sum_by-cons, sym, times, true, type_of, with_handle},
+  Words.{world_of, zero, ℕ, [], ◌&&◌, ◌*◌, ◌++◌, ◌+◌, ◌<◌, ◌==◌, ◌∙◌, ◌∷◌, ◌≡◌, ◌≤◌, ◌⊎◌},
 }
 use Rattle.pagable_theorems.specs.{
   SmallWorlds.LoadsAloneFillCache,
@@ -47,19 +47,19 @@ pub use Rattle.pagable_theorems.proofs.Effects.{IsEntered, Spares, both-none as 
 
 in-numbers : (rs : List ArcRef) (r : ArcRef) → Among rs r → is_in (numbers_of (handles_of rs)) r.handle.0 ≡ true
 unfolding is_in
-in-numbers (x ∷ rs) r (suc i, is) = grind (arith, nat_tests, in-numbers rs r)
-in-numbers x0 r x2 = grind (arith, nat_tests, self-number)
+in-numbers (x ∷ rs) r (suc i, is) = grind (basics, in-numbers rs r)
+in-numbers x0 r x2 = grind (basics, self-number)
 
 pub hands : {w w' : Core} (l : LoadNumber) (references : List ArcRef) → HandlesAreWhole w → HandOverCall w Owner.Caller l (handles_of references) (Ok tt) w'
     → HandsOver w l references w'
 hands {w} {w'} l references whole c r among =
     let hs = handles_of references in let numbered = in-numbers references r among in
-    let n = named w (Owner.Load l) [] hs (grind (arith, nat_tests, neither)) r.handle numbered in
+    let n = named w (Owner.Load l) [] hs (grind (basics, neither)) r.handle numbered in
     let stood = stands-changed (λ (row : HandleRow). is_in (numbers_of hs) row.number.0) (λ row. record row { owner = Owner.Caller }) (λ h. refl)
     (stands-whole whole r.handle.0 n.row n.live) in
     let moves : is_in (numbers_of hs) n.row.number.0 ≡ true = ap (is_in (numbers_of hs)) (found-number r.handle.0 w.rows n.row n.live) ∙ numbered in
     let now : Stands w.last.handle (moved (is_in (numbers_of hs)) Owner.Caller w.rows) r.handle.0 (record n.row { owner = Owner.Caller }) = rw moves at stood in
-    let stays : (is_owned_in w (Owner.Load l) r.handle.0 && not (is_in (numbers_of hs) r.handle.0)) ≡ false = grind (arith, nat_tests) in
+    let stays : (is_owned_in w (Owner.Load l) r.handle.0 && not (is_in (numbers_of hs) r.handle.0)) ≡ false = grind basics in
     let after = stands-fell c.hands.1.falls (λ n e. cc) stays now in (n.row, n.live, n.own, after.live)
 
 -- A value that a load of a key answers stands for the tree that the key reads as, and the caller has its references.
@@ -131,7 +131,7 @@ takes : {types : Types} {store : ℕ → Option Blob} {t many longest : ℕ} {bl
     → after_kinds types t blob kinds ≡ asks kind key → (rest deepest : ℕ) × UnfoldsFrom types store t blob (kinds ++ kind.0 ∷ []) rest deepest
     × (rest + 1 ≤ many)
     × (is_eager kind.0 ≡ true → (below deep : ℕ) × Unfolds types store (type_of kind.0) key below deep × (many ≡ 1 + below + rest))
-takes x0 kind key asked_is = grind (arith, nat_tests)
+takes x0 kind key asked_is = grind basics
 
 -- a blob of which references of these kinds were got, and what waits below it
 pub record Owing (types : Types) (store : ℕ → Option Blob) (frame : Frame) (kinds : List ℕ) (Below : ℕ → Type 0) (owed : ℕ) : Type 0 where
@@ -152,8 +152,8 @@ abbrev pub Owes : Types → (ℕ → Option Blob) → ℕ → List Frame → ℕ
 Owes types store many [] owed = owed ≡ 2 * many + 2
 Owes types store many (frame ∷ below) owed = Owing types store frame (kinds_of frame.got) (λ more. Waits types store frame.kind below more) owed
 
-pub owes-some : (types : Types) (store : ℕ → Option Blob) (many : ℕ) (frames : List Frame) (owed : ℕ) → Owes types store many frames owed → 1 ≤ owed
-owes-some types store many x3 owed x5 = grind (arith, nat_tests)
+owes-some : (types : Types) (store : ℕ → Option Blob) (many : ℕ) (frames : List Frame) (owed : ℕ) → Owes types store many frames owed → 1 ≤ owed
+owes-some types store many x3 owed x5 = grind basics
 
 -- it needs less afterwards
 pub record OwesLess (types : Types) (store : ℕ → Option Blob) (many : ℕ) (frames : List Frame) (owed : ℕ) : Type 0 where
@@ -195,7 +195,7 @@ module _ (types : Types) (store : ℕ → Option Blob) (many : ℕ) where
 
   owes-got : (frames : List Frame) (kind : Kind) (key owed : ℕ) (row : HandleRow) → Needs types frames kind key → Owes types store many frames owed
       → OwesLess types store many (with_got kind row frames) owed
-  owes-got [] kind key owed row needs o = grind (arith, nat_tests)
+  owes-got [] kind key owed row needs o = grind basics
   owes-got (top ∷ below) kind key owed row needs o =
       let t = takes o.from kind key (asks-by-kinds types top.node_type top.blob top.got kind key (asked below (next_in types top) kind key needs)) in
       let s = o.sum in let f = t.3 in
@@ -210,7 +210,7 @@ module _ (types : Types) (store : ℕ → Option Blob) (many : ℕ) where
   owes-made : (top : Frame) (below : List Frame) (owed : ℕ) (row : HandleRow) → need_of types (top ∷ below) ≡ to_adopt
       → Owes types store many (top ∷ below) owed
       → OwesLess types store many (with_got top.kind row below) owed
-  owes-made top x1 owed row needs o = grind (arith, nat_tests, adopted-over, kinds-pushed)
+  owes-made top x1 owed row needs o = grind (basics, adopted-over, kinds-pushed)
 
 -- a load's step, where what was stored is still
 module _ {N : Type 0} {v : Values N} {w w' : Core} (store : ℕ → Option Blob) (kept : KeepsStored w.stored store) (reading : Reading) (load : OpenLoad)
@@ -219,7 +219,7 @@ module _ {N : Type 0} {v : Values N} {w w' : Core} (store : ℕ → Option Blob)
     (o : Owes v.types store many reading.frames owed) where
   owes-less : {c : Change} → ReadingFeels v w reading None frames w' c → OwesLess v.types store many frames owed
   owes-less (reads-root l blob none_read at stored answer is) = search (rules, reads-root, owes-root)
-  owes-less (reads-blob kind key blob needs stored answer is) = grind (arith, nat_tests, owes-blob)
+  owes-less (reads-blob kind key blob needs stored answer is) = grind (basics, owes-blob)
   owes-less (gets-known kind key n row needs known got answer is) = subst (λ fs. OwesLess v.types store many fs owed) (sym is)
       (owes-got v.types store many reading.frames kind key owed row needs o)
   owes-less (gets-lazy kind key row needs got answer is) = subst (λ fs. OwesLess v.types store many fs owed) (sym is)
@@ -270,9 +270,8 @@ module _ {N E B W : Type 0} (m : Seen N B W) (s s' : MachineState N E) (whole : 
 
   kept-bounded : {c : Change} → Goes c s.pager.core s'.pager.core → (reading : Reading) → IsBounded m.values.types (world_of s) reading
       → IsBounded m.values.types (world_of s') reading
-  kept-bounded goes reading b = grind (arith, nat_tests, was-open)
+  kept-bounded goes reading b = grind (basics, was-open)
 
-  -- all loads go on so
   all-on : {event : Event N B W} {reply : EventReply N B W} {c : Change} → Goes c s.pager.core s'.pager.core → AllBounded m.values.types (world_of s)
       → EventFeels m.values (world_of s) event reply (world_of s') c → AllBounded m.values.types (world_of s')
   all-on goes all = readings-on (λ r. IsBounded m.values.types (world_of s') r) (λ r is. kept-bounded goes r (all r is))
@@ -283,8 +282,8 @@ module _ {N E B W : Type 0} (m : Seen N B W) (s s' : MachineState N E) (whole : 
   pub event-on : (event : Event N B W) (reply : EventReply N B W) → Happens m (world_of s) event reply (world_of s') → AllWaitWell (world_of s)
       → LoadsStand m.values.types (world_of s)
       → LoadsStand m.values.types (world_of s')
-  event-on event reply h waits stands = let cases : KeepsOpen event ⊎ (event ≡ Event.Call Call.Close) = grind (arith, nat_tests) in elim cases [
-    | inr closes ↦ inl (let c = subst (λ e. Happens m (world_of s) e reply (world_of s')) closes h in grind (arith, nat_tests))
+  event-on event reply h waits stands = let cases : KeepsOpen event ⊎ (event ≡ Event.Call Call.Close) = grind basics in elim cases [
+    | inr closes ↦ inl (let c = subst (λ e. Happens m (world_of s) e reply (world_of s')) closes h in grind basics)
     | inl keeps ↦
         let g = event-goes m (world_of s) (world_of s') event reply keeps h in
         elim stands [ inl shut ↦ inl (g.goes.shut shut) | inr all ↦ inr (all-on g.goes all (g.feels whole.pager.whole waits)) ]
@@ -317,8 +316,8 @@ pub event-spares : {N B W : Type 0} (m : Seen N B W) (v : ℕ) (u u' : World) �
     → Happens m u event reply u' → Spares (owner_worker v) u.core u'.core
 event-spares m v u u' there event reply others still h = (event-goes m u u' event reply still h).spares v there others
 
-pub keeps-open : {N B W : Type 0} (event : Event N B W) → LeavesCache event → KeepsOpen event
-keeps-open x0 leaves = grind (arith, nat_tests)
+keeps-open : {N B W : Type 0} (event : Event N B W) → LeavesCache event → KeepsOpen event
+keeps-open x0 leaves = grind basics
 
 -- the list isn't who steps, and no entry of it is taken
 listed : {me : Owner} (w : Core) → (me ≡ Owner.List → ⊥) → IsOther me false w Owner.List
@@ -332,7 +331,6 @@ walk-spares-list m u s s' w' step answer does ends =
     ends-spare Owner.List list-apart u (λ is. absurd (cc)) answer ends ((walk-goes m u s s' s.todo step does.does).does.spares Owner.List
     (listed s.core (λ is. absurd (cc))))
 
--- and so does a handle of the caller's that is released
 pub release-spares-list : {w w' : Core} {h : HandleNumber} (r : Result (Unit {0}) Error) → ReleaseCall w Owner.Caller h r w' → Spares Owner.List w w'
 release-spares-list {w} {w'} {h} r c = let e : Effect Owner.Caller false (Unit {0}) (Unit {0}) false nothing_felt w w' =
     releases h r c in e.spares Owner.List (listed w (λ is. absurd (cc)))
@@ -346,13 +344,12 @@ has q h = h.0 == q
 fewer : (xs ys : List HandleNumber) → ((q : ℕ) → times (has q) xs ≤ times (has q) ys) → length xs ≤ length ys
 fewer [] ys le = omega arith
 fewer (x ∷ xs) ys le =
-    let y = counted (λ h. one (has x.0 h)) ys (let first = le x.0 in let sum = sum_by-cons (λ h. one (has x.0 h)) x xs in
-    grind (arith, nat_tests, self-number)) in
+    let y = counted (λ h. one (has x.0 h)) ys (grind (basics, self-number, le x.0, sum_by-cons (λ h. one (has x.0 h)) x xs)) in
     let lt = slice_get_within ys y.1.0 y.0 y.1.1 in
     let same : (get_or ys y.1.0 y.0).0 ≡ x.0 = ap (λ (h : HandleNumber). h.0) (get_or_from_slice_get ys y.1.0 y.0 y.0 y.1.1)
     ∙ same-number _ _ (one-true _ y.2) in
-    let rest = fewer xs (remove ys y.1.0) (λ q. let a = le q in let b = sum_by-cons (λ h. one (has q h)) x xs in
-    let c = sum_by-remove (λ h. one (has q h)) ys y.1.0 y.0 lt in grind (arith, nat_tests)) in
+    let rest = fewer xs (remove ys y.1.0)
+    (λ q. grind (basics, le q, sum_by-cons (λ h. one (has q h)) x xs, sum_by-remove (λ h. one (has q h)) ys y.1.0 y.0 lt)) in
     omega (arith, length-remove ys y.1.0 lt)
 
 pub found : {w : Core} → HandlesAreWhole w → (q : ℕ) (x : HandleRow) → Among w.rows x → x.number.0 ≡ q → find_row q w.rows ≡ Some x
@@ -392,10 +389,9 @@ held-by {w' = w'} {row = row} kind key g = record {
   row = row;
   live = among-found row.number.0 w'.rows row g.live;
   at = g.at;
-  pins_it = λ is. grind (arith, nat_tests);
+  pins_it = λ is. grind basics;
 }
 
--- what is got, with its row
 record Gotten (w : Core) (kind : Kind) (key n : ℕ) (w' : Core) : Type 0 where
   held : IsHeldFor kind.0 key n w'.rows
   from : Got w kind key n w'
@@ -468,17 +464,18 @@ module _ {N B W E : Type 0} (m : Seen N B W) (kind : Kind) (key n : ℕ) where
               row = a.row;
               live = a.live;
               at = a.at;
-              pins_it = λ is. grind (arith, nat_tests);
+              pins_it = λ is. grind basics;
             } in
             used alive ((g.lasts kept kind.0 key n).lasts e h h') h',
       )
 
 known-twice : (c : Change) (w : Core) (kind key k q n : ℕ) → Knows c w kind key n → Knows c w k q n → (k ≡ kind) × (q ≡ key)
-known-twice x0 w kind key k q n a b = grind (arith, nat_tests)
+known-twice x0 w kind key k q n a b = grind basics
 
 filled-goes : {c : Change} {w w' : Core} → IsWhole w → Goes c w w' → KnowsNext c w → IsFilledByReading w → IsFilledByReading w'
 filled-goes {c} {w} whole g next filled kind key k q n a b =
-    let old : (kind key : ℕ) → w.cache kind key ≡ Some n → (k q : ℕ) → Knows c w k q n → ⊥ = λ kind key was k q new. omega (arith, (whole.cache kind key n was).given, next k q n new) in
+    let old : (kind key : ℕ) → w.cache kind key ≡ Some n → (k q : ℕ) → Knows c w k q n → ⊥ =
+    λ kind key was k q new. omega (arith, (whole.cache kind key n was).given, next k q n new) in
     elim (g.cache kind key n a) [
       | inl was ↦ elim (g.cache k q n b) [ inl too ↦ filled kind key k q n was too | inr new ↦ absurd (old kind key was k q new) ]
       | inr new ↦ elim (g.cache k q n b) [ inl was ↦ absurd (old k q was kind key new) | inr too ↦ known-twice c w kind key k q n new too ]
@@ -499,7 +496,7 @@ loads_alone_fill_cache E m = record { new = λ s new kind key k q n a b. absurd 
 
 same : {u last : Core} (kind other_kind : Kind) (key other_key n other_n : ℕ) → Got u other_kind other_key other_n last
     → (IsKnownOnce kind.0 key n u → other_n ≡ n → other_key ≡ key) × (usable u kind.0 key ≡ Some n → other_kind ≡ kind → other_key ≡ key → other_n ≡ n)
-same {u} {last} kind other_kind key other_key n other_n got = grind (arith, nat_tests, is-cached)
+same {u} {last} kind other_kind key other_key n other_n got = grind (basics, is-cached)
 
 pub one_identity_law : {N B W : Type 0} (E : Type 0) (m : Seen N B W) → OneIdentityLaw E m
 one_identity_law E m w first between last kind other_kind key other_key n other_n whole filled opened gets whole' chain leaves gets' =
@@ -510,5 +507,5 @@ one_identity_law E m w first between last kind other_kind key other_key n other_
     record {
       differ = λ same_kind. differs s.1;
       same = λ same_kind same_key alive. equals
-          (s.2 alive (grind (arith, nat_tests, stays-alike, self-number)) a.held) same_kind same_key;
+          (s.2 alive (grind (basics, stays-alike, self-number)) a.held) same_kind same_key;
     }

@@ -17,9 +17,9 @@ use Rattle.pagable_theorems.proofs.{
   Trees.{followed-all, same-number},
   Words.{Action, Among, ArcRef, Blob, Bool, Claim, Event, EventReply, FollowsTo, HandleNumber, HoldsSettled, Identity, IsLawful, IsMachineWhole, IsPublished},
   Words.{IsReadableType, IsWellAsked, List, MachineState, None, Ok, Option, PagerStandsFor, Seen, Shelf, Slot, Some, Task, Todo, Tree, Types, Values, Walking},
-  Words.{WorkDoes, WorkFits, WorkerReply, WorkerState, Written, above, answer_after, ap, arith, blob_of, cases_Bool, drop, give, identity_of, if◌then◌else◌},
-  Words.{inl, inr, is_eager, length, max, nat_eq, nat_tests, no_result, of_entry, of_item, refl, rules, step_of, subst, suc, sym, to_fail, to_finish, to_item},
-  Words.{to_release, to_set, to_start, to_write, true, type_of, world_of, zero, ℕ, [], ◌++◌, ◌+◌, ◌==◌, ◌∙◌, ◌∷◌, ◌≡◌, ◌≤◌},
+  Words.{WorkDoes, WorkFits, WorkerReply, WorkerState, Written, above, answer_after, ap, arith, basics, blob_of, cases_Bool, drop, give, identity_of},
+  Words.{if◌then◌else◌, inl, inr, is_eager, length, max, nat_eq, no_result, of_entry, of_item, refl, rules, step_of, subst, suc, sym, to_fail, to_finish},
+  Words.{to_item, to_release, to_set, to_start, to_write, true, type_of, world_of, zero, ℕ, [], ◌++◌, ◌+◌, ◌==◌, ◌∙◌, ◌∷◌, ◌≡◌, ◌≤◌},
 }
 use Rattle.pagable_theorems.specs.{
   TreeSteps.{Above, AllLow, AllWrote, BlobStands, Expects, Ground, HasBlob, HasRoom, IsAttained, IsDone, IsLow, KeyStands, KeysSoFar, Placed, SlotFits},
@@ -36,9 +36,9 @@ pub record GroundGoes (g g' : Ground) : Type 0 where
 module _ {shelf shelf' : Shelf} (keys : KeepsKeys shelf shelf') where
   pub keys-on : (rs : List ArcRef) (ks : List ℕ) → AreKeysOf shelf rs ks → AreKeysOf shelf' rs ks
   keys-on (r ∷ rs) (k ∷ ks) ((h, p), known) = ((h, keys (identity_of r) k h p), keys-on rs ks known)
-  keys-on x0 x1 x2 = grind (arith, nat_tests)
+  keys-on x0 x1 x2 = grind basics
 
-  pub so-far-on : (height : ℕ) (rs : List ArcRef) (ks : List ℕ) → KeysSoFar shelf height rs ks → KeysSoFar shelf' height rs ks
+  so-far-on : (height : ℕ) (rs : List ArcRef) (ks : List ℕ) → KeysSoFar shelf height rs ks → KeysSoFar shelf' height rs ks
   so-far-on height rs [] known = tt
   so-far-on height [] (k ∷ ks) known = absurd known
   so-far-on height (r ∷ rs) (k ∷ ks) ((h, p, le), known) = ((h, keys (identity_of r) k h p, le), so-far-on height rs ks known)
@@ -47,7 +47,7 @@ module _ {shelf shelf' : Shelf} (keys : KeepsKeys shelf shelf') where
   low-on {height} {r} low = record { key = low.key; below = low.below; known = keys (identity_of r) low.key low.below low.known; within = low.within }
 
   attained-on : (height : ℕ) (rs : List ArcRef) → IsAttained shelf height rs → IsAttained shelf' height rs
-  attained-on x0 rs x2 = grind (arith, nat_tests)
+  attained-on x0 rs x2 = grind basics
 
   pub done-on : {N : Type 0} (v : Values N) (task : Task) (key : ℕ) → IsDone v shelf task key → IsDone v shelf' task key
   done-on v (of_item written) key (ks, known, is, low) = (ks, keys-on written.references ks known, is, λ r among. low-on (low r among))
@@ -68,7 +68,7 @@ module _ {N : Type 0} (v : Values N) {g g' : Ground} (goes : GroundGoes g g') wh
       search (ap (λ (t : Tree). v.types.nodes t.type) same ∙ w.is, can, w.form, inside, follows, w.once)
 
   module _ {shelf shelf' : Shelf} (keys : KeepsKeys shelf shelf') where
-    pub blob-on : {n key height : ℕ} {written : Written} → n ≤ g.last → BlobStands v g shelf n written key height → BlobStands v g' shelf' n written key height
+    blob-on : {n key height : ℕ} {written : Written} → n ≤ g.last → BlobStands v g shelf n written key height → BlobStands v g' shelf' n written key height
     blob-on {n} {key} {height} {written} given b =
         let right : KeyStands v g'.stored (g'.trees n) key = subst (λ t. KeyStands v g'.stored t key) (sym (goes.trees n given)) (stands-on b.right) in
         search (
@@ -82,7 +82,7 @@ module _ {N : Type 0} (v : Values N) {g g' : Ground} (goes : GroundGoes g g') wh
           attained-on keys height written.references b.attained,
         )
 
-    pub slot-on : {i : Identity} {slot : Slot} → SlotFits v g shelf i slot → SlotFits v g' shelf' i slot
+    slot-on : {i : Identity} {slot : Slot} → SlotFits v g shelf i slot → SlotFits v g' shelf' i slot
     slot-on {i} {slot} fits = record {
       given = omega arith;
       typed = ap (λ (t : Tree). t.type) (goes.trees i.node.0 fits.given) ∙ fits.typed;
@@ -93,24 +93,24 @@ module _ {N : Type 0} (v : Values N) {g g' : Ground} (goes : GroundGoes g g') wh
 module _ {N : Type 0} (v : Values N) {g g' : Ground} (goes : GroundGoes g g') where
   first-wrote-on : (x : Todo) → Wrote v.types g x → Wrote v.types g' x
   first-wrote-on (to_finish o) (given, w) = (omega arith, wrote-on v goes given w)
-  first-wrote-on x0 w = grind (arith, nat_tests)
+  first-wrote-on x0 w = grind basics
 
-  pub all-wrote-on : (todo : List Todo) → AllWrote v.types g todo → AllWrote v.types g' todo
+  all-wrote-on : (todo : List Todo) → AllWrote v.types g todo → AllWrote v.types g' todo
   all-wrote-on [] all = tt
   all-wrote-on (x ∷ below) (w, all) = (first-wrote-on x w, all-wrote-on below all)
 
 module _ (types : Types) (g : Ground) where
-  pub wrote-start : (place : ℕ) (rs : List ArcRef) (todo : List Todo) → AllWrote types g todo → AllWrote types g (next_start place rs ++ todo)
+  wrote-start : (place : ℕ) (rs : List ArcRef) (todo : List Todo) → AllWrote types g todo → AllWrote types g (next_start place rs ++ todo)
   wrote-start place [] todo all = all
   wrote-start place (r ∷ rs) todo all = (tt, all)
 
-  pub wrote-give : (r : ArcRef) (key height : ℕ) (todo : List Todo) → AllWrote types g todo → AllWrote types g (give r key height todo)
+  wrote-give : (r : ArcRef) (key height : ℕ) (todo : List Todo) → AllWrote types g todo → AllWrote types g (give r key height todo)
   wrote-give r key height (to_finish o ∷ below) all =
       wrote-start o.place _ (to_finish (record o { keys = o.keys ++ key ∷ []; height = max o.height (above r.kind.0 height) }) ∷ below) all
   wrote-give r key height (to_item written keys ∷ below) all = wrote-start 0 _ (to_item written (keys ++ key ∷ []) ∷ below) all
-  wrote-give r key height x3 all = grind (arith, nat_tests)
+  wrote-give r key height x3 all = grind basics
 
-  pub wrote-known : (r : ArcRef) (key height : ℕ) (todo : List Todo) → AllWrote types g todo → AllWrote types g (give_known r key height todo)
+  wrote-known : (r : ArcRef) (key height : ℕ) (todo : List Todo) → AllWrote types g todo → AllWrote types g (give_known r key height todo)
   wrote-known r key height [] all = (tt, tt)
   wrote-known r key height (x ∷ below) all = wrote-give r key height (x ∷ below) all
 
@@ -120,18 +120,18 @@ keys-same same i key height p = record { slot = p.slot; claimed = same i ∙ p.c
 -- ---- to-do lists, where a table grows
 
 module _ (shelf shelf' : Shelf) (more : ShelfGrows shelf shelf') where
-  pub wait-on : (task : Task) (todo : List Todo) → Waits shelf task todo → Waits shelf' task todo
+  wait-on : (task : Task) (todo : List Todo) → Waits shelf task todo → Waits shelf' task todo
   unfolding Waits
   wait-on task (to_finish o ∷ below) (known, attained, place, reach, expects, waits) =
-      grind (arith, nat_tests, so-far-on, keys-grow, attained-on, wait-on task below waits)
-  wait-on task x1 x2 = grind (arith, nat_tests, so-far-on, keys-grow, longest_path)
+      grind (basics, so-far-on, keys-grow, attained-on, wait-on task below waits)
+  wait-on task x1 x2 = grind (basics, so-far-on, keys-grow, longest_path)
 
-  pub above-on : (task : Task) (r : ArcRef) (below : List Todo) → Above shelf task r below → Above shelf' task r below
+  above-on : (task : Task) (r : ArcRef) (below : List Todo) → Above shelf task r below → Above shelf' task r below
   above-on task r below (expects, waits) = (expects, wait-on task below waits)
 
 module _ {N : Type 0} {v : Values N} {g g' : Ground} {shelf shelf' : Shelf} (goes : GroundGoes g g') (more : ShelfGrows shelf shelf')
     (fits : SlotsFit v g shelf) where
-  pub has-blob-on : {r : ArcRef} {key height : ℕ} → HasBlob v g shelf r key height → HasBlob v g' shelf' r key height
+  has-blob-on : {r : ArcRef} {key height : ℕ} → HasBlob v g shelf r key height → HasBlob v g' shelf' r key height
   has-blob-on {r} b =
       let a = more (identity_of r) b.slot b.claimed in
       let given = (fits (identity_of r) b.slot b.claimed).given in
@@ -145,26 +145,26 @@ module _ {N : Type 0} {v : Values N} {g g' : Ground} {shelf shelf' : Shelf} (goe
 
   -- ---- slots: all stay, one is put in, or the worker's claims without a result have failed
 
-  pub slots-on : ((i : Identity) → shelf'.slots i ≡ shelf.slots i) → SlotsFit v g' shelf'
+  slots-on : ((i : Identity) → shelf'.slots i ≡ shelf.slots i) → SlotsFit v g' shelf'
   slots-on same i slot is = slot-on v goes (keys-grow more) (fits i slot (sym (same i) ∙ is))
 
-  pub slots-but : {i : Identity} {new : Slot} → PutsSlot shelf.slots shelf'.slots i new → SlotFits v g' shelf' i new → SlotsFit v g' shelf'
+  slots-but : {i : Identity} {new : Slot} → PutsSlot shelf.slots shelf'.slots i new → SlotFits v g' shelf' i new → SlotsFit v g' shelf'
   slots-but {i} {new} puts fits_new j slot now =
       elim (put-cases shelf.slots shelf'.slots i new puts j slot now) [
         | inl e ↦ rw (e.1, e.0) fits_new
         | inr e ↦ slot-on v goes (keys-grow more) (fits j slot e.1)
       ]
 
-  pub slots-failed : (n : ℕ) → ((i : Identity) → shelf'.slots i ≡ (with_failed shelf n).slots i) → SlotsFit v g' shelf'
+  slots-failed : (n : ℕ) → ((i : Identity) → shelf'.slots i ≡ (with_failed shelf n).slots i) → SlotsFit v g' shelf'
   slots-failed n same i slot' now =
       let is = sym (same i) ∙ now in
-      let c : (old : Slot) × (shelf.slots i ≡ Some old) × ((if nat_eq old.worker n then with_outcome failed old else old) ≡ slot') = grind (arith, nat_tests) in
+      let c : (old : Slot) × (shelf.slots i ≡ Some old) × ((if nat_eq old.worker n then with_outcome failed old else old) ≡ slot') = grind basics in
       let fit : SlotFits v g' shelf' i c.0 = slot-on v goes (keys-grow more) (fits i c.0 c.1) in
-      subst (λ (z : Slot). SlotFits v g' shelf' i z) c.2 (grind (arith, nat_tests, fit.given, fit.typed, fit.writes, fit.publishes))
+      subst (λ (z : Slot). SlotFits v g' shelf' i z) c.2 (grind (basics, fit.given, fit.typed, fit.writes, fit.publishes))
 
 module _ {N : Type 0} {v : Values N} {g g' : Ground} {shelf : Shelf} (shelf' : Shelf) (goes : GroundGoes g g') (more : ShelfGrows shelf shelf')
     (fits : SlotsFit v g shelf) where
-  pub walks-on : (task : Task) (todo : List Todo) → Walks v g shelf task todo → Walks v g' shelf' task todo
+  walks-on : (task : Task) (todo : List Todo) → Walks v g shelf task todo → Walks v g' shelf' task todo
   walks-on task [] walks = tt
   walks-on task (to_start r place ∷ below) (at, rest) = (at, above-on shelf shelf' more task r below rest)
   walks-on task (to_pin r place ∷ below) (at, few, rest) = (at, few, above-on shelf shelf' more task r below rest)
@@ -188,32 +188,32 @@ module _ (shelf : Shelf) where
   so-far-more h k [] (x ∷ ks) r more key below le new e known p = absurd known
   so-far-more h k (x ∷ rs) (y ∷ ks) r more key below le new e ((b, q, few), known) p =
       ((b, q, omega arith), so-far-more h k rs ks r more key below le new e known p)
-  so-far-more h k x2 x3 r more key below le new e x11 p = grind (arith, nat_tests, identity_of, above)
+  so-far-more h k x2 x3 r more key below le new e x11 p = grind (basics, identity_of, above)
 
   pub all-known : (h : ℕ) (rs : List ArcRef) (ks : List ℕ) → length ks ≡ length rs → KeysSoFar shelf h rs ks → AreKeysOf shelf rs ks
   all-known h (r ∷ rs) (k ∷ ks) e ((b, q, few), known) = ((b, q), all-known h rs ks (omega arith) known)
-  all-known h x0 x1 e x3 = grind (arith, nat_tests)
+  all-known h x0 x1 e x3 = grind basics
 
   pub all-low : (h : ℕ) (rs : List ArcRef) (ks : List ℕ) → length ks ≡ length rs → KeysSoFar shelf h rs ks → AllLow shelf h rs
   all-low h (y ∷ rs) (k ∷ ks) e (one, low) r (suc i, there) = all-low h rs ks (omega arith) low r (i, there)
-  all-low h x1 x2 e x4 r x6 = grind (arith, nat_tests)
+  all-low h x1 x2 e x4 r x6 = grind basics
 
   pub next-among : (rs : List ArcRef) (ks : List ℕ) (r : ArcRef) (more : List ArcRef) → drop (length ks) rs ≡ r ∷ more → Among rs r
   next-among rs ks r more e = among-drop (length ks) rs r (subst (λ (xs : List ArcRef). Among xs r) (sym e) (zero, refl))
 
 -- what a reference adds is within the place's reach
 adds : (b : Bool) (place height limit : ℕ) → (if b then place + 1 else 0) + height ≤ limit → place ≤ limit → place + (if b then height + 1 else 0) ≤ limit
-adds x0 place height limit le few = grind (arith, nat_tests)
+adds x0 place height limit le few = grind basics
 
 module _ {N : Type 0} (v : Values N) (g : Ground) (shelf : Shelf) (task : Task) where
-  pub started-node : (o : Open) (below : List Todo) (rs : List ArcRef) → drop (length o.keys) o.written.references ≡ rs → Waits shelf task (to_finish o ∷ below)
+  started-node : (o : Open) (below : List Todo) (rs : List ArcRef) → drop (length o.keys) o.written.references ≡ rs → Waits shelf task (to_finish o ∷ below)
       → Walks v g shelf task (next_start o.place rs ++ to_finish o ∷ below)
-  started-node o below x2 e waits = grind (arith, nat_tests)
+  started-node o below x2 e waits = grind basics
 
-  pub started-item : (written : Written) (ks : List ℕ) (below : List Todo) (rs : List ArcRef) → drop (length ks) written.references ≡ rs
+  started-item : (written : Written) (ks : List ℕ) (below : List Todo) (rs : List ArcRef) → drop (length ks) written.references ≡ rs
       → Waits shelf task (to_item written ks ∷ below)
       → Walks v g shelf task (next_start 0 rs ++ to_item written ks ∷ below)
-  started-item written ks below x3 e waits = grind (arith, nat_tests)
+  started-item written ks below x3 e waits = grind basics
 
   -- a key goes to what waits for it
   pub given : (r : ArcRef) (key height : ℕ) → IsPublished shelf (identity_of r) key height → (below : List Todo) → HasRoom r height below → Expects task r below
@@ -240,7 +240,7 @@ module _ {N : Type 0} (v : Values N) (g : Ground) (shelf : Shelf) (task : Task) 
       started-item written _ below _ refl (is, so-far-more shelf longest_path longest_path _ _ r more key height (omega arith) (omega arith) e known p)
   given r key height p (_ ∷ below) reach expects waits = absurd expects
 
-  pub given-known : (r : ArcRef) (key height : ℕ) → IsPublished shelf (identity_of r) key height → (below : List Todo) → HasRoom r height below
+  given-known : (r : ArcRef) (key height : ℕ) → IsPublished shelf (identity_of r) key height → (below : List Todo) → HasRoom r height below
       → Expects task r below → Waits shelf task below
       → Walks v g shelf task (give_known r key height below)
   given-known r key height p [] reach expects waits = (p, reach, (expects, waits))
@@ -314,7 +314,7 @@ module _ {N B W : Type 0} (m : Seen N B W) (n : ℕ) {g g' : Ground} (task : Tas
   listed e all = subst (λ t. AllWrote m.values.types g' t) (sym e) all
 
   stored-so : (key : ℕ) (b : Blob) → Stores s.core key b s'.core → s'.core.stored key ≡ Some b
-  stored-so key b h = let e : (key == key) ≡ true = grind (arith, nat_tests) in h.adds.each key ∙ ap (λ t. if t then Some b else s.core.stored key) e
+  stored-so key b h = let e : (key == key) ≡ true = grind basics in h.adds.each key ∙ ap (λ t. if t then Some b else s.core.stored key) e
 
   module _ (step : Action W) (wrote : (i : Identity) (out : W) → step ≡ Action.Write i (Ok out) → IsReadableType m.values.types (g.trees i.node.0).type
       → WroteTree m.values.types g i.node.0 (m.written_of out))
@@ -328,7 +328,7 @@ module _ {N B W : Type 0} (m : Seen N B W) (n : ℕ) {g g' : Ground} (task : Tas
         let ok = claimable r c.finds.0 in
         let new : Slot = record { worker = n; references = None; outcome = no_result } in let more_last = goes.last in
         let typed : (g'.trees r.node.0).type ≡ type_of r.kind.0 = ap (λ (t : Tree). t.type) (goes.trees r.node.0 ok.0) ∙ ok.1 in
-        let fits_new : SlotFits m.values g' s'.shelf (identity_of r) new = grind (arith, nat_tests) in
+        let fits_new : SlotFits m.values g' s'.shelf (identity_of r) new = grind basics in
         did (slots-but goes more fits (puts-slot (with_wait s.shelf n None) s'.shelf (identity_of r) new t.table_is) fits_new) t.list_is
         (at, c.finds.1.0, still r below above)
     stepped (to_start r place ∷ below) e written (Action.Claim i (Ok (Claim.Known key height))) st (is, c) all (at, above) =
@@ -380,8 +380,7 @@ module _ {N B W : Type 0} (m : Seen N B W) (n : ℕ) {g g' : Ground} (task : Tas
         did (kept t.table_stays.slots) t.list_is (finishes t.table_stays.slots o below key stands.1 (wrote-on m.values goes given w) walks p.all b.0
         (ends none key _ (stored-so key _ b.1)))
     stepped _ e written step st does all walks = grind (
-      arith,
-      nat_tests,
+      basics,
       fails,
       did,
       kept,
@@ -409,7 +408,7 @@ module _ {N B W : Type 0} (m : Seen N B W) (n : ℕ) {g g' : Ground} (task : Tas
         ((omega arith, wrote-on m.values goes given w), all-wrote-on m.values goes below written.1))
     wrote-stepped (to_release r key height ∷ below) (Action.Release i) st (is, falls, t) all e written =
         listed t.list_is (wrote-give m.values.types g' r key height below (all-wrote-on m.values goes below written.1))
-    wrote-stepped todo action st does all e written = grind (arith, nat_tests, listed, all-wrote-on m.values goes)
+    wrote-stepped todo action st does all e written = grind (basics, listed, all-wrote-on m.values goes)
 
 -- Page-outs by trees: what tables and workers hold fits at first and after each event.
 
@@ -431,9 +430,9 @@ module _ {N B W E : Type 0} (m : Seen N B W) (s s' : MachineState N E) (trees tr
       → (walking : Walking) → s.work.walkings v ≡ Some walking → TodoAsksWell m.values s.pager walking.todo
   walker-asked v (Event.WorkerStep n) (EventReply.WorkerMoved (Ok reply)) r one asked walking there = elim (cases_Bool (n.0 == v)) [
     | inl e ↦ asked walking (ap s.work.walkings (same-number n.0 v e) ∙ there)
-    | inr e ↦ absurd (grind (arith, nat_tests))
+    | inr e ↦ absurd (grind basics)
   ]
-  walker-asked v x0 x1 r one asked walking there = absurd (grind (arith, nat_tests))
+  walker-asked v x0 x1 r one asked walking there = absurd (grind basics)
 
   wrote-first : (task : Task) → AllWrote m.values.types g' (first_todo task)
   wrote-first (of_item written) = wrote-start m.values.types g' 0 _ (to_item written [] ∷ []) (tt, tt)
@@ -455,11 +454,11 @@ module _ {N B W E : Type 0} (m : Seen N B W) (s s' : MachineState N E) (trees tr
       let ends : answer_after w.walking.todo r.action ≡ None → (key : ℕ) (b : Blob) → w.after.core.stored key ≡ Some b → s'.pager.core.stored key ≡ Some b =
       λ none key b is. (let e = subst (λ a. Ends a k.0 w.after.core s'.pager.core) (w.answers ∙ none) w.ends in e.stored key ∙ is) in
       let claimable : (r : ArcRef) → claim_fault s.pager.core r ≡ None → (r.node.0 ≤ s.pager.core.last.node) × ((trees r.node.0).type ≡ type_of r.kind.0) =
-      λ r may. grind (arith, nat_tests) in
+      λ r may. grind basics in
       let writes_so : (i : Identity) (out : W) → r.action ≡ Action.Write i (Ok out) → IsReadableType m.values.types (trees i.node.0).type
       → WroteTree m.values.types (ground_of s trees) i.node.0 (m.written_of out) =
       λ i out is can. wrote represents whole.pager settled lawful i.node.0 (m.written_of out) can
-      (subst (λ (t : Action W). TookWrites m.values m.written_of s.pager t) is (grind (arith, nat_tests))) in
+      (subst (λ (t : Action W). TookWrites m.values m.written_of s.pager t) is (grind basics)) in
       let readable : (q : ArcRef) (place : ℕ) (through : HandleNumber) (below : List Todo) → w.walking.todo ≡ to_write q place through ∷ below
       → IsReadableType m.values.types (type_of q.kind.0) =
       λ q place through below front. subst (TodoAsksWell m.values s.pager) front

@@ -17,9 +17,9 @@ use Rattle.pagable_theorems.proofs.{
   Trees.{one_tree, same_some, tree_is},
   Words.{Among, ArcRef, Blob, Bool, Call, Change, Core, Frame, FramesFit, HoldsSettled, IsLawful, IsPagerWhole, IsReadableType, IsReference, List, LoadAnswer},
   Words.{Meaning, None, OpenLoad, Option, OptionalDataKey, Owner, PagerStandsFor, PagerState, Reading, ReadingFeels, ReadingFits, ReadsRoot, ReadsTree, Reply},
-  Words.{Some, Tree, Types, Values, ap, arith, bears_known, cases_lt, false, first_key, followed, held, if◌then◌else◌, inl, inr, integer-leads, is_some},
-  Words.{key_at, nat_tests, none, nothing_felt, pair, reference, references_in, refl, rules, subst, sym, tree, true, type_of, updated, variant, zero, ℕ, []},
-  Words.{◌+◌, ◌<◌, ◌==◌, ◌∙◌, ◌∷◌, ◌≡◌, ◌≤◌, ◌⊎◌},
+  Words.{Some, Tree, Types, Values, ap, arith, basics, bears_known, cases_lt, false, first_key, followed, held, if◌then◌else◌, inl, inr, integer-leads},
+  Words.{is_some, key_at, none, nothing_felt, pair, reference, references_in, refl, rules, subst, sym, tree, true, type_of, updated, variant, zero, ℕ, [], ◌+◌},
+  Words.{◌<◌, ◌==◌, ◌∙◌, ◌∷◌, ◌≡◌, ◌≤◌, ◌⊎◌},
 }
 use Rattle.pagable_theorems.specs.{
   TreeSteps.{CallFeels, ChangeFits, CoreGoes, Decoded, LeadsTo, NodeLeads, SameNode, StaysAway, ValueLeads, bears_node, feels-adopted, feels-away, feels-birth},
@@ -29,7 +29,7 @@ use Rattle.pagable_theorems.specs.{
 use Rattle.pagable_value_spec.specs.Meaning.{integer, number, pattern, text}
 
 pub adopted-over : (below : List Frame) (next : Next) → need_at below next ≡ to_adopt → (frame : Frame) × (rest : List Frame) × (below ≡ frame ∷ rest)
-adopted-over x0 x1 is = grind (arith, nat_tests)
+adopted-over x0 x1 is = grind basics
 
 pub root-key : (types : Types) (stored : ℕ → Option Blob) (trees : ℕ → Tree) (k t : ℕ) (frame : Frame) → FramesFit types stored trees k t (frame ∷ [])
     → frame.key ≡ k
@@ -38,11 +38,11 @@ root-key types stored trees k t frame h = h.1
 
 module _ {N : Type 0} {v : Values N} (lawful : IsLawful v) where
   -- what becomes a node leads to a tree of its kind's type, as which its key reads
-  pub node-decoded : (stored : ℕ → Option Blob) (trees : ℕ → Tree) (k t : ℕ) (reading : Reading) (x : N) (r : ReadsNode v reading x)
+  node-decoded : (stored : ℕ → Option Blob) (trees : ℕ → Tree) (k t : ℕ) (reading : Reading) (x : N) (r : ReadsNode v reading x)
       → IsReadableType v.types r.top.node_type → FramesFit v.types stored trees k t reading.frames
       → Decoded v stored trees r.top x × (r.top.node_type ≡ type_of r.top.kind.0)
   unfolding FramesFit
-  node-decoded stored trees k t reading x r readable fit = grind (arith, nat_tests, adopted-over, decodes, first-fits)
+  node-decoded stored trees k t reading x r readable fit = grind (basics, adopted-over, decodes, first-fits)
 
 -- a meaning whose references' nodes have trees of their kinds' types leads to one
 pub led : {trees : ℕ → Tree} (x : Meaning ArcRef) → ((r : ArcRef) → Among (references_in x) r → (trees r.node.0).type ≡ type_of r.kind.0) → (a : Meaning ⊥)
@@ -65,12 +65,12 @@ led (followed kind x) h = let l = led x h in (followed kind l.0, followed-leads 
 -- ---- from what the pager stands for to what its values lead to
 
 -- the references of a value's meaning are its own
-pub own-refs : {N : Type 0} {v : Values N} → IsLawful v → (x : N) (own : Meaning ArcRef) → v.means x own → (r : ArcRef) → Among (references_in own) r
+own-refs : {N : Type 0} {v : Values N} → IsLawful v → (x : N) (own : Meaning ArcRef) → v.means x own → (r : ArcRef) → Among (references_in own) r
     → Among (v.references x) r
 own-refs lawful x own means r among = meant-refs _ _ (λ is. sym (lawful.refers x own means is)) r among
 
 -- a value whose references were given leads to its tree where those nodes keep their trees
-pub value-on : {N : Type 0} {v : Values N} → IsLawful v → (last : ℕ) {trees trees' : ℕ → Tree} {x : N} {t : Tree} → SameTrees last trees trees'
+value-on : {N : Type 0} {v : Values N} → IsLawful v → (last : ℕ) {trees trees' : ℕ → Tree} {x : N} {t : Tree} → SameTrees last trees trees'
     → ((r : ArcRef) → Among (v.references x) r → r.node.0 ≤ last) → ValueLeads v trees x t → ValueLeads v trees' x t
 value-on lawful last {trees' = trees'} {x = x} {t = t} same few l =
     let leads : LeadsTo trees' l.own t.meaning = leads-on l.leads
@@ -80,19 +80,18 @@ value-on lawful last {trees' = trees'} {x = x} {t = t} same few l =
 module _ {N E : Type 0} {v : Values N} {s : PagerState N E} {trees : ℕ → Tree} (lawful : IsLawful v) where
   module _ (settled : HoldsSettled v s) (well : IsPagerWhole v s) (stands : PagerStandsFor v s trees) where
     -- a value whose references are good, and which stands for a tree, leads to it
-    pub value-leads : (x : N) (own : Meaning ArcRef) (t : Tree) (owner : _) → v.node_type x ≡ t.type → v.means x own → MeaningStands v s own t.meaning
+    value-leads : (x : N) (own : Meaning ArcRef) (t : Tree) (owner : _) → v.node_type x ≡ t.type → v.means x own → MeaningStands v s own t.meaning
         → ((r : ArcRef) → Among (v.references x) r → IsReference s.core owner r) → ValueLeads v trees x t
     value-leads x own t owner typed means meant good =
         let leads : LeadsTo trees own t.meaning = stands-leads meant (along-rename (λ r. r) own)
-        (λ r among c same b node. let is = good r (own-refs lawful x own means r among) in grind (arith, nat_tests, given-of, same_some, one-node)) in
+        (λ r among c same b node. grind (basics, given-of, same_some, one-node, good r (own-refs lawful x own means r among))) in
         search
 
     -- so does each value in memory; and each key reads as its node's tree
     node-leads : {n : ℕ} {t : Tree} → NodeStands v s n t → t ≡ trees n → NodeLeads v s trees n
     node-leads (here n x own t is typed means meant fits) e =
-        let leads = value-leads x own t _ typed means meant (λ r among. well.references n x r is among) in
-        grind (arith, nat_tests, key_at, same_some)
-    node-leads (away n key t nothing_there keyed fits) e = grind (arith, nat_tests)
+        grind (basics, key_at, same_some, value-leads x own t _ typed means meant (λ r among. well.references n x r is among))
+    node-leads (away n key t nothing_there keyed fits) e = grind basics
 
 abbrev pub AreLive : Core → Meaning ArcRef → Type 0
 AreLive w x = (r : ArcRef) → Among (references_in x) r → 0 < held r.node.0 w.rows
@@ -109,7 +108,7 @@ module _ {N E : Type 0} {v : Values N} {s : PagerState N E} {trees : ℕ → Tre
       here n x l.own (trees n) is l.typed l.means (follow l.own l.leads refs) (all n live).keyed
   -- what has no value in memory has a key
   node-by n None is live follow =
-      let k : (k : ℕ) × (key_at s.core n ≡ OptionalDataKey.Some k) = grind (arith, nat_tests, cell-of well.whole.handles n live, well.valued n) in
+      let k : (k : ℕ) × (key_at s.core n ≡ OptionalDataKey.Some k) = grind (basics, cell-of well.whole.handles n live, well.valued n) in
       away n k.0 (trees n) is k.1 (all n live).keyed
 
   stand : (m : Meaning ⊥) {own : Meaning ArcRef} {a : Meaning ⊥} → LeadsTo trees own a → m ≡ a → AreLive s.core own → MeaningStands v s own a
@@ -123,7 +122,7 @@ module _ {N E : Type 0} {v : Values N} {s : PagerState N E} {trees : ℕ → Tre
   stand (followed j c) (followed-leads kind x a n f) e h = let same : c ≡ a = cc in followed-stands kind x a (stand c f same h)
   stand (followed j c) (reference-leads r a typed meant) e h =
       let same : c ≡ (trees r.node.0).meaning = (let f : c ≡ a = cc in f ∙ sym meant) in
-      reference-stands r a (subst (λ (t : Tree). NodeStands v s r.node.0 t) (tree_is _ _ _ _ typed meant)
+      reference-stands r a (subst (λ (t : Tree). NodeStands v s r.node.0 t) (tree_is typed meant)
       (node-by r.node.0 _ refl (h r (zero, refl)) (λ z l k. stand c l same k)))
   stand m (number-leads i) e h = number-stands i
   stand m l e h = first_of (search (integer-stands, text-stands, pattern-stands, none-stands), cc)
@@ -150,12 +149,12 @@ module _ {N E : Type 0} {v : Values N} {c : Change} {comes : ℕ → N → Type 
   ]
 
   leads-again : (n : ℕ) → 0 < held n s'.core.rows → NodeLeads v s' trees' n
-  leads-again n live = search (rules, cell-of, cases_lt, keyed-old, old-node goes, new-node goes well.whole.handles, arith, nat_tests, moved-value)
+  leads-again n live = search (rules, cell-of, cases_lt, keyed-old, old-node goes, new-node goes well.whole.handles, basics, moved-value)
 
   pub trees-go-on : PagerStandsFor v s' trees'
   trees-go-on = record {
     stands = λ n live. node-by lawful well' leads-again n _ refl live (λ z l k. stand lawful well' leads-again (trees' n).meaning l refl k);
-    typed = λ n live. grind (arith, nat_tests, old-node goes, new-node goes well.whole.handles);
+    typed = λ n live. grind (basics, old-node goes, new-node goes well.whole.handles);
     loads = λ l load node t h is root. elim (goes.loads l load is) [
       | inl stays ↦ node-stays goes.stored (fits.same node.0 (well.whole.loads.roots l load node t h stays root).given.1)
           (stands.loads l load node t h stays root)
@@ -172,11 +171,11 @@ module _ {N E : Type 0} {v : Values N} {c : Change} {comes : ℕ → N → Type 
     ];
   }
 
-pub with-below : (last : ℕ) (t : Tree) (trees : ℕ → Tree) → SameTrees last trees (updated (last + 1) t trees)
-with-below last t trees n within = let e : (n == last + 1) ≡ false = grind (arith, nat_tests) in rw e refl
+with-below : (last : ℕ) (t : Tree) (trees : ℕ → Tree) → SameTrees last trees (updated (last + 1) t trees)
+with-below last t trees n within = let e : (n == last + 1) ≡ false = grind basics in rw e refl
 
-pub first-of : (b : Bool) (key k : ℕ) → (if b then OptionalDataKey.Some key else OptionalDataKey.None) ≡ OptionalDataKey.Some k → k ≡ key
-first-of x0 key k e = grind (arith, nat_tests)
+first-of : (b : Bool) (key k : ℕ) → (if b then OptionalDataKey.Some key else OptionalDataKey.None) ≡ OptionalDataKey.Some k → k ≡ key
+first-of x0 key k e = grind basics
 
 module _ {N E : Type 0} {v : Values N} {s s' : PagerState N E} {trees : ℕ → Tree} (lawful : IsLawful v) (settled : HoldsSettled v s) (well : IsPagerWhole v s)
     (well' : IsPagerWhole v s')
@@ -185,18 +184,18 @@ module _ {N E : Type 0} {v : Values N} {s s' : PagerState N E} {trees : ℕ → 
   last = s.core.last.node
 
   -- a value came to a live node
-  pub live-after : (n : ℕ) (x : N) → s'.values n ≡ Some x → is_some (s'.core.cells n) ≡ true
+  live-after : (n : ℕ) (x : N) → s'.values n ≡ Some x → is_some (s'.core.cells n) ≡ true
   live-after n x is = cell-of well'.whole.handles n (given-of well'.whole.handles n (well'.typed n x is)).0
 
   -- where nothing is born and no value can come to an old node, none comes
   pub none-comes : (n : ℕ) (x : N) → CoreGoes nothing_felt s.core s'.core → s.values n ≡ None → s'.values n ≡ Some x → IsNewNode s.core n
       ⊎ StaysAway s.core s'.core n → ⊥
-  none-comes n x goes x3 is x5 = grind (arith, nat_tests, live-after, cases_lt, old-node goes, new-node goes well.whole.handles)
+  none-comes n x goes x3 is x5 = grind (basics, live-after, cases_lt, old-node goes, new-node goes well.whole.handles)
 
   -- nothing is felt, and what comes to an old node fits
   pub fits-nothing : (comes : ℕ → N → Type 0) → ((n : ℕ) (x : N) → comes n x → s.values n ≡ None → s'.values n ≡ Some x → ValueLeads v trees x (trees n))
       → ChangeFits v nothing_felt comes s s' trees trees
-  fits-nothing comes fit = grind (arith, nat_tests)
+  fits-nothing comes fit = grind basics
 
   pub fits-key : (comes : ℕ → N → Type 0) (m k : ℕ) → ((n : ℕ) (x : N) → comes n x → ⊥) → ReadsTree s'.core.stored v.types k (trees m)
       → ChangeFits v (sets_key m k) comes s s' trees trees
@@ -207,21 +206,21 @@ module _ {N E : Type 0} {v : Values N} {s s' : PagerState N E} {trees : ℕ → 
     more = updated (last + 1) t0 trees
 
     -- a node is born of this type and key, of a tree as which the key reads if it has one
-    pub fits-born : (comes : ℕ → N → Type 0) (t : ℕ) (own : OptionalDataKey) → t0.type ≡ t
+    fits-born : (comes : ℕ → N → Type 0) (t : ℕ) (own : OptionalDataKey) → t0.type ≡ t
         → ((key : ℕ) → own ≡ OptionalDataKey.Some key → ReadsTree s'.core.stored v.types key t0)
         → ((n : ℕ) (x : N) → comes n x → s.values n ≡ None → s'.values n ≡ Some x → ValueLeads v more x (more n))
         → ChangeFits v (bears_node t own) comes s s' trees more
-    fits-born comes t own typed reads fit = grind (arith, nat_tests, with-below, updated-at)
+    fits-born comes t own typed reads fit = grind (basics, with-below, updated-at)
 
-    pub fits-born-known : (comes : ℕ → N → Type 0) (k q : ℕ) (own : OptionalDataKey) → t0.type ≡ type_of k
+    fits-born-known : (comes : ℕ → N → Type 0) (k q : ℕ) (own : OptionalDataKey) → t0.type ≡ type_of k
         → ((key : ℕ) → own ≡ OptionalDataKey.Some key → key ≡ q)
         → ReadsTree s'.core.stored v.types q t0
         → ((n : ℕ) (x : N) → comes n x → s.values n ≡ None → s'.values n ≡ Some x → ValueLeads v more x (more n))
         → ChangeFits v (bears_known k q own) comes s s' trees more
-    fits-born-known comes k q own typed same_key reads fit = grind (arith, nat_tests, with-below, updated-at)
+    fits-born-known comes k q own typed same_key reads fit = grind (basics, with-below, updated-at)
 
     -- the value of the node that is born leads to that tree
-    pub value-born : (c : Change) (n : ℕ) (x y : N) → CoreGoes c s.core s'.core → s'.values n ≡ Some x → x ≡ y → IsNewNode s.core n
+    value-born : (c : Change) (n : ℕ) (x y : N) → CoreGoes c s.core s'.core → s'.values n ≡ Some x → x ≡ y → IsNewNode s.core n
         → ((r : ArcRef) → Among (v.references y) r → r.node.0 ≤ last) → ValueLeads v trees y t0 → ValueLeads v more x (more n)
     value-born c n x y goes is same new few l =
         rw (same, (new-node goes well.whole.handles n new (live-after n x is)).next, updated-at (last + 1) t0 trees)
@@ -304,7 +303,7 @@ module _ {N E : Type 0} {v : Values N} {s s' : PagerState N E} {trees : ℕ → 
           (within, subst (λ z. ValueLeads v trees x z) same d.leads, λ r among. given root.root r (rw root.frames (zero, refl)) (d.got r among))
 
       quiet : (n : ℕ) (x : N) → c ≡ nothing_felt → ReadingBrings v s.core reading n x → s'.values n ≡ Some x → ValueLeads v trees x (trees n)
-      quiet n x nothing x3 is = grind (arith, nat_tests, live-after, root-leads, new-node goes well.whole.handles)
+      quiet n x nothing x3 is = grind (basics, live-after, root-leads, new-node goes well.whole.handles)
 
       -- a node is born, and the root's value comes to an old one
       root-on : (t0 : Tree) (n : ℕ) (x : N) → s'.values n ≡ Some x → ReadsRoot v reading x → IsCellOf s.core reading.load n

@@ -1,8 +1,9 @@
--- Sums over the elements of a list, and what they count. And meanings that differ only in what stands for their references: they have the same forms.
+-- Sums over the elements of a list, and what they count. And meanings that differ only in what stands for their references: the bytes of a form of the one are
+-- a form of the other. So the entries of a hash map may stand in any order; and chains join.
 use Rattle.pagable_pager_spec.specs.Order.{Follows}
 use Rattle.pagable_theorems.proofs.{
   Words.{Action, Among, AreMoments, Blob, Bool, Entries, Entry, Form, Forms, List, MachineState, Meaning, Moment, None, Option, ReadsTree, Seen, Shape, Tree},
-  Words.{Types, WalkDoes, WorkerState, ap, arith, code, cond, false, followed, inl, inr, length, map, nat_tests, none, one, pair, put_all, reference},
+  Words.{Types, WalkDoes, WorkerState, ap, arith, basics, code, cond, false, followed, inl, inr, length, map, none, one, pair, put_all, reference},
   Words.{reference-form, references_in, refl, rename, rest, rules, run-form, state_after, subst, suc, sum_by-cons, sym, tree, true, type_of, variant, zero, ℕ},
   Words.{ℤ, [], ◌++◌, ◌+◌, ◌<◌, ◌==◌, ◌∙◌, ◌∷◌, ◌≡◌, ◌≤◌, ◌⊎◌},
 }
@@ -34,39 +35,33 @@ use Rattle.pagable_value_spec.specs.Meaning as meanings
 pub use Rattle.pagable_pager_spec.proofs.Elements.{at-most-sum, counted, sum-none as sum-zero}
 pub use Rattle.std.proofs.lemmas.{Bool.eqb-true as same-number, Option.same_Some as same_some}
 
--- A form goes along: where each reference is replaced by one of the same kind, the bytes are a form of what results.
--- JSON numbers that have no form, and the entries of a hash map in whatever order they come.
--- Chains join, and a new machine is whole; a blob asks for one thing, and a worker's steps follow its list.
-
 pub self-number : (a : ℕ) → (a == a) ≡ true
-self-number a = grind (arith, nat_tests)
+self-number a = grind basics
 
 pub one-true : (b : Bool) → 0 < one b → b ≡ true
-one-true x0 p = grind (arith, nat_tests)
+one-true x0 p = grind basics
 
 pub one-small : (b : Bool) → one b ≤ 1
-one-small x0 = grind (arith, nat_tests)
+one-small x0 = grind basics
 
--- smaller at each element, so in sum
 pub sum-le : {X : Type 0} (f g : X → ℕ) (xs : List X) → ((x : X) → Among xs x → f x ≤ g x) → sum_by f xs ≤ sum_by g xs
 sum-le f g [] h = omega arith
-sum-le f g (x ∷ xs) h = grind (arith, nat_tests, sum_by-cons, sum-le f g xs (λ y among. h y (suc among.0, among.1)))
+sum-le f g (x ∷ xs) h = grind (basics, sum_by-cons, sum-le f g xs (λ y among. h y (suc among.0, among.1)))
 
--- a sum is the one of two functions
 pub sum-plus : {X : Type 0} (f g : X → ℕ) (xs : List X) → sum_by (λ x. f x + g x) xs ≡ sum_by f xs + sum_by g xs
 sum-plus f g [] = refl
 sum-plus f g (x ∷ xs) = search (rules, sum_by-cons, sum-plus f g xs)
 
-pub tree_is : (x y : ℕ) (a b : Meaning ⊥) → x ≡ y → a ≡ b → tree x a ≡ tree y b
-tree_is x y a b e1 e2 = rw (e1, e2) refl
+pub tree_is : {x y : ℕ} {a b : Meaning ⊥} → x ≡ y → a ≡ b → tree x a ≡ tree y b
+tree_is e1 e2 = rw (e1, e2) refl
 
 -- P of all types is so of each type in a tree
-pub each-type : {P : ℕ → Type 0} → ((t : ℕ) → P t) → (m : Meaning ⊥) → EachType P m
+each-type : {P : ℕ → Type 0} → ((t : ℕ) → P t) → (m : Meaning ⊥) → EachType P m
 unfolding EachType
 each-type all (pair a b) = (each-type all a, each-type all b)
 each-type all (variant n a) = each-type all a
 each-type all (followed kind a) = (all (type_of kind), each-type all a)
-each-type all x1 = grind (arith, nat_tests)
+each-type all x1 = grind basics
 
 -- where a key stands for one meaning by both P and Q, one meaning leads to one tree
 module _ {P Q : ℕ → ℕ → Meaning KeyRef → Type 0} (C : ℕ → Type 0) (same : (t key : ℕ) (m n : Meaning KeyRef) → C t → P t key m → Q t key n → m ≡ n) where
@@ -90,14 +85,13 @@ module _ {P Q : ℕ → ℕ → Meaning KeyRef → Type 0} (C : ℕ → Type 0) 
   followed-on c (reference-followed r x a p h) = reference-followed r x a (on (type_of r.kind) r.key x c.0 p) (followed-on c.1 h)
   followed-on c h = search (number-followed, integer-followed, text-followed, pattern-followed, none-followed)
 
--- so it is where it says so of all
 pub followed-all : {P Q : ℕ → ℕ → Meaning KeyRef → Type 0} → ((t key : ℕ) (m : Meaning KeyRef) → P t key m → Q t key m) → {m : Meaning KeyRef} {a : Meaning ⊥}
     → IsFollowed P m a → IsFollowed Q m a
 followed-all on {a = a} h = followed-on (λ t. Unit {0}) (λ t key m all p. on t key m p) (each-type (λ t. tt) a) h
 
 module _ {store : ℕ → Option Blob} {types : Types} where
   same-reading : {type key : ℕ} {m n : Meaning KeyRef} → ReadsAs store types type key m → ReadsAs store types type key n → m ≡ n
-  same-reading {type} {key} {m} {n} h g = grind (arith, nat_tests)
+  same-reading {type} {key} {m} {n} h g = grind basics
 
   same-followed : {m n : Meaning KeyRef} {a b : Meaning ⊥} → IsFollowed (ReadsAs store types) m a → IsFollowed (ReadsAs store types) n b → m ≡ n → a ≡ b
   same-followed {a = a} h g e = one-followed (λ t. Unit {0}) (λ t key m n u p q. same-reading p q) (each-type (λ t. tt) a) h g e
@@ -123,15 +117,14 @@ pub data AllTwo {X Y : Type 0} (R : X → Y → Type 0) : List X → List Y → 
   no-two : AllTwo R [] []
   more-two : (x : X) (y : Y) (xs : List X) (ys : List Y) → R x y → AllTwo R xs ys → AllTwo R (x ∷ xs) (y ∷ ys)
 
-pub length-two : {X Y : Type 0} {R : X → Y → Type 0} {xs : List X} {ys : List Y} → AllTwo R xs ys → length xs ≡ length ys
+length-two : {X Y : Type 0} {R : X → Y → Type 0} {xs : List X} {ys : List Y} → AllTwo R xs ys → length xs ≡ length ys
 length-two no-two = refl
 length-two (more-two x y xs ys r h) = omega (arith, length-two h)
 
-pub append-two : {X Y : Type 0} {R : X → Y → Type 0} {xs us : List X} {ys vs : List Y} → AllTwo R xs ys → AllTwo R us vs → AllTwo R (xs ++ us) (ys ++ vs)
+append-two : {X Y : Type 0} {R : X → Y → Type 0} {xs us : List X} {ys vs : List Y} → AllTwo R xs ys → AllTwo R us vs → AllTwo R (xs ++ us) (ys ++ vs)
 append-two no-two g = g
 append-two (more-two x y xs ys r h) g = more-two x y _ _ r (append-two h g)
 
--- each has its other
 pub each-two : {X Y : Type 0} {R : X → Y → Type 0} {xs : List X} {ys : List Y} → AllTwo R xs ys → (x : X) → Among xs x → (y : Y) × R x y
 each-two no-two x (i, e) = absurd (cc)
 each-two {R = R} (more-two a b xs ys h g) x (zero, e) = let same : a ≡ x = cc in (b, subst (λ z. R z b) same h)
@@ -151,7 +144,7 @@ refs-two (followed-along kind x a n h) = absurd n
 refs-two _ = no-two
 
 -- a relation of items goes over to those that they are along with
-pub apart-two : {X Y : Type 0} {V : X → Y → Type 0} (R : X → X → Type 0) (S : Y → Y → Type 0) → ((x x2 : X) (y y2 : Y) → V x y → V x2 y2 → R x x2 → S y y2)
+apart-two : {X Y : Type 0} {V : X → Y → Type 0} (R : X → X → Type 0) (S : Y → Y → Type 0) → ((x x2 : X) (y y2 : Y) → V x y → V x2 y2 → R x x2 → S y y2)
     → {xs : List X} {ys : List Y}
     → AllTwo V xs ys → Apart R xs → Apart S ys
 unfolding Apart AllAfter
@@ -183,7 +176,7 @@ Differs acc x = Each (apart x) acc
 -- what differs from all that is there, and from what is put in, differs from all that is there then
 after_put : {A : Type 0} (x e : Entry A) (acc : List (Entry A)) → Differs acc x → apart x e → Differs (put_sorted code_order acc e) x
 after_put x e [] h d = (d, tt)
-after_put {A} x e (f ∷ acc) h d = grind (arith, nat_tests, ordered, after_put x e acc h.1 d)
+after_put {A} x e (f ∷ acc) h d = grind (basics, ordered, after_put x e acc h.1 d)
 
 those_put : {A : Type 0} (e : Entry A) (acc es : List (Entry A)) → Each (Differs acc) es → AllAfter apart e es → Each (Differs (put_sorted code_order acc e)) es
 unfolding AllAfter
@@ -246,7 +239,7 @@ module _ {A B : Type 0} {F : Type 0} {R : A → B → Type 0} where
 
   pub lifted-along : (m : Meaning ⊥) → F ⊎ HasNoReference m → Along F R (lifted m) (lifted m)
   unfolding rename HasNoReference
-  lifted-along (pair a b) h = pair-along _ _ _ _ (lifted-along a (grind (arith, nat_tests))) (lifted-along b (grind (arith, nat_tests)))
+  lifted-along (pair a b) h = pair-along _ _ _ _ (lifted-along a (grind basics)) (lifted-along b (grind basics))
   lifted-along (variant n a) h = variant-along _ _ _ (lifted-along a h)
   lifted-along (reference a) h = absurd a
   lifted-along (followed kind a) (inl f) = followed-along _ _ _ f (lifted-along a (inl f))
@@ -266,15 +259,15 @@ module _ {A B : Type 0} {F : Type 0} {R : A → B → Type 0} where
   sorted-two order h = entries-two (put_all-two _ _ one-two (λ x u y w acc acc2 v g k l. search (rules, more-two, plain-along)) h no-two)
 
   pub flag-same : (b : Bool) → Along F R (meanings.flag b) (meanings.flag b)
-  flag-same x0 = grind (arith, nat_tests, variant-along, none-along)
+  flag-same x0 = grind (basics, variant-along, none-along)
 
-  pub sequence-along : (ms : List (Meaning A)) {n : Meaning B} → Along F R (sequence ms) n → Made (Along F R) sequence ms n
+  sequence-along : (ms : List (Meaning A)) {n : Meaning B} → Along F R (sequence ms) n → Made (Along F R) sequence ms n
   sequence-along [] none-along = record { items = []; each = no-two; whole = refl }
   sequence-along (m ∷ ms) (pair-along x y a b h g) =
       let rest = sequence-along ms g in
       record { items = a ∷ rest.items; each = more-two m a ms rest.items h rest.each; whole = ap (λ (z : Meaning B). pair a z) rest.whole }
 
-  pub entries-along : (es : List (Entry A)) {n : Meaning B} → Along F R (of_entries es) n → Made (EntryAlong F R) of_entries es n
+  entries-along : (es : List (Entry A)) {n : Meaning B} → Along F R (of_entries es) n → Made (EntryAlong F R) of_entries es n
   entries-along [] none-along = record { items = []; each = no-two; whole = refl }
   entries-along (e ∷ es) (pair-along x y a b (pair-along u v c d h k) g) =
       let rest = entries-along es g in
@@ -326,20 +319,20 @@ module _ {A B : Type 0} {F : Type 0} {R : A → B → Type 0} where
       let put = ap (λ (z : List (Entry B)). put_all (put_sorted code_order) z rest.1) one.put ∙ rest.4 in
       (one.before, one.entry ∷ rest.1, one.each, more-two e one.entry es rest.1 one.one rest.3, put)
 
-  pub hash_map-along : (es : List (Entry A)) {n : Meaning B} → Differ es → Along F R (of_hash_map es) n → Made (EntryAlong F R) of_hash_map es n
+  hash_map-along : (es : List (Entry A)) {n : Meaning B} → Differ es → Along F R (of_hash_map es) n → Made (EntryAlong F R) of_hash_map es n
   hash_map-along es d a =
       let sorted = entries-along _ a in let back = unput_all es [] (none_there es) d sorted.each in
-      record { items = back.1; each = back.3; whole = sorted.whole ∙ ap of_entries (sym (grind (arith, nat_tests))) }
+      record { items = back.1; each = back.3; whole = sorted.whole ∙ ap of_entries (sym (grind basics)) }
 
   -- what is said of plain keys or items goes over
-  pub ascend-two : (order : KeyOrder) {es : List (Entry A)} {fs : List (Entry B)} → AllTwo (EntryAlong F R) es fs → Ascends order es → Ascends order fs
+  ascend-two : (order : KeyOrder) {es : List (Entry A)} {fs : List (Entry B)} → AllTwo (EntryAlong F R) es fs → Ascends order es → Ascends order fs
   ascend-two order h a = apart-two _ _ (λ x x2 y y2 v w r. rw (← plain-along v.key, ← plain-along w.key) r) h a
 
-  pub differ-two : {es : List (Entry A)} {fs : List (Entry B)} → AllTwo (EntryAlong F R) es fs → Differ es → Differ fs
+  differ-two : {es : List (Entry A)} {fs : List (Entry B)} → AllTwo (EntryAlong F R) es fs → Differ es → Differ fs
   differ-two h a = apart-two _ _ (λ x x2 y y2 v w r. rw (← plain-along v.key, ← plain-along w.key) r) h a
 
   flag-along : (b : Bool) {n : Meaning B} → Along F R (meanings.flag b) n → n ≡ meanings.flag b
-  flag-along x0 x1 = grind (arith, nat_tests)
+  flag-along x0 x1 = grind basics
 
   lifted-same : (m : Meaning ⊥) {n : Meaning B} → Along F R (lifted m) n → n ≡ lifted m
   unfolding rename
@@ -424,14 +417,14 @@ module _ {A B : Type 0} {F : Type 0} {R : A → B → Type 0} {kind_of : A → �
     form-along (letter-form left c u) (number-along x) = to_nothing (letter-form left c u)
     form-along (pattern-form left t u h) (pattern-along x) = to_nothing (pattern-form left t u h)
 
-    pub forms-along : {left : ℕ} {s : Shape} {ms : List (Meaning A)} {ns : List (Meaning B)} {b : List ℕ} {k : List A} → Forms A kind_of parts left s ms b k
+    forms-along : {left : ℕ} {s : Shape} {ms : List (Meaning A)} {ns : List (Meaning B)} {b : List ℕ} {k : List A} → Forms A kind_of parts left s ms b k
         → AllTwo (Along F R) ms ns
         → To R k (λ refs. Forms B kind_of2 parts left s ns b refs)
     forms-along (no-forms left s) no-two = record { refs = []; each = no-two; form = no-forms left s }
     forms-along (more-forms left s m ms b c k l h g) (more-two x y xs ys a d) =
         two_to (form-along h a) (forms-along g d) (λ refs more f e. more-forms left s y ys b c refs more f e)
 
-    pub entries_form-along : {left : ℕ} {s t : Shape} {es : List (Entry A)} {fs : List (Entry B)} {b : List ℕ} {k : List A}
+    entries_form-along : {left : ℕ} {s t : Shape} {es : List (Entry A)} {fs : List (Entry B)} {b : List ℕ} {k : List A}
         → Entries A kind_of parts left s t es b k
         → AllTwo (EntryAlong F R) es fs → To R k (λ refs. Entries B kind_of2 parts left s t fs b refs)
     entries_form-along (no-entries left s t) no-two = record { refs = []; each = no-two; form = no-entries left s t }
@@ -465,8 +458,7 @@ module _ {X : Type 0} where
   all_found q acc [] = refl
   all_found q acc (e ∷ es) =
       grind (
-        arith,
-        nat_tests,
+        basics,
         put,
         code_order,
         option_or,
@@ -495,7 +487,7 @@ module _ {A : Type 0} where
   put_along : (acc : List (Meaning ⊥ × Meaning A)) (e : Meaning ⊥ × Meaning A) → put_sorted code_order (map lift_key acc) (lift_key e)
       ≡ map lift_key (put_in acc e)
   put_along [] e = refl
-  put_along (x ∷ acc) e = rw (plain_lifted A e.0, plain_lifted A x.0, put_along acc e) (grind (arith, nat_tests))
+  put_along (x ∷ acc) e = rw (plain_lifted A e.0, plain_lifted A x.0, put_along acc e) (grind basics)
 
 pub any_order : {A : Type 0} → HashMapHasAnyOrder A
 any_order {A} es fs h =
@@ -522,4 +514,4 @@ chains_join E m = record { joins = joins m; ends = ends }
 -- whatever a worker does is a step of the automaton of its order
 pub steps_follow : {N B W : Type 0} (m : Seen N B W) (v : ℕ) (s s' : WorkerState) (step : Action W) → WalkDoes m v s step s'
     → Follows m.written_of s.todo step s'.todo
-steps_follow m v s s' step does = let d = does.does in grind (arith, nat_tests)
+steps_follow m v s s' step does = grind (basics, does.does)

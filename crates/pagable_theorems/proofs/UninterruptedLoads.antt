@@ -22,8 +22,8 @@ use Rattle.pagable_theorems.proofs.{
   Trees.same_some,
   Words.{Alike, Among, ArcRef, Beginning, Bool, Call, Core, Err, Error, Event, EventReply, Frame, FramesFit, GetsKnown, HandleNumber, HandleRow},
   Words.{HandlesAreWhole, Happens, IsLawful, IsMachineWhole, IsReadableType, IsReference, IsWellAsked, Kind, List, LoadAnswer, LoadNumber, MachineState, Mode},
-  Words.{Moment, NodeNumber, None, Ok, OpenLoad, Option, OptionalDataKey, Owner, Reading, Reply, Seen, Some, Tree, Values, above, adopted, ap, arith, false},
-  Words.{false_from_ne_true, find_row, held, if_there, inl, inr, is_in, is_named_by, is_some, mode_of, nat_tests, next_node, of_cell, owner_value},
+  Words.{Moment, NodeNumber, None, Ok, OpenLoad, Option, OptionalDataKey, Owner, Reading, Reply, Seen, Some, Tree, Values, above, adopted, ap, arith, basics},
+  Words.{false, false_from_ne_true, find_row, held, if_there, inl, inr, is_in, is_named_by, is_some, mode_of, next_node, of_cell, owner_value},
   Words.{references_fault, refl, root_frame, row_at, rules, slice_get, subst, suc, sym, type_of, with_handle, world_of, zero, ℕ, [], ◌+◌, ◌<◌, ◌==◌, ◌∙◌, ◌∷◌},
   Words.{◌≡◌, ◌⊎◌},
 }
@@ -62,7 +62,7 @@ module _ (w w' : Core) (l : LoadNumber) (kind : Kind) (key : ℕ) (own : Optiona
 
   to-known : {q : ℕ} {row : HandleRow} → let m = with_handle born (next_node w) (mode_of kind.0) (Owner.Load l) in
       Stands m.last.handle m.rows q row → Stands known.last.handle known.rows q row
-  to-known {q} {row} s = grind (arith, nat_tests, cached-rows)
+  to-known {q} {row} s = grind (basics, cached-rows)
 
   adopted-keeps : {q : ℕ} {row : HandleRow} → Alike known w' → is_named_by references q ≡ false → Stands w.last.handle w.rows q row
       → Stands w'.last.handle w'.rows q row
@@ -76,7 +76,7 @@ module _ (w w' : Core) (l : LoadNumber) (kind : Kind) (key : ℕ) (own : Optiona
       (low-changed w.last.handle w.rows (λ h. is_named_by references h.number.0) (λ h. record h { owner = owner_value (w.last.node + 1) }) (λ h. refl)
       (low-whole whole))))
 
-pub not-named : (rs : List ArcRef) (q : ℕ) → ((g : ArcRef) → Among rs g → g.handle.0 ≡ q → ⊥) → is_named_by rs q ≡ false
+not-named : (rs : List ArcRef) (q : ℕ) → ((g : ArcRef) → Among rs g → g.handle.0 ≡ q → ⊥) → is_named_by rs q ≡ false
 not-named rs q none = false_from_ne_true (is_named_by rs q) (λ e. let (r, among, same) = named-among rs q e in none r among same)
 
 -- The load's handles are its own, each got once; and the handle that began it is the caller's.
@@ -185,7 +185,7 @@ module _ {N : Type 0} (v : Values N) (lawful : IsLawful v) (w w' : Core) (readin
       let once : GotOnce (frame ∷ reading.frames) = rw none (λ j l r q at. absurd (cc), λ r (j, at). absurd (cc), still.once) in
       search (still.begun, all-new (λ r. Has w' (Owner.Load l) r.handle) frame reading.frames none still.live, once)
 
-  pub goes-ready : (frames : List Frame) → GoesOn v w Owner.Caller reading frames w' → LoadReady w' l load frames
+  goes-ready : (frames : List Frame) → GoesOn v w Owner.Caller reading frames w' → LoadReady w' l load frames
   unfolding is_named_by
   goes-ready frames (inl g) = rw g.goes (rw g.first at (asked-ready g.asked.gives.2.asked (root_frame g.load.key reading.node_type g.blob) refl))
   goes-ready frames (inr (inl g)) = subst (λ fs. LoadReady w' l load fs) (sym g.goes) (known-ready g.kind g.key g.k g.row g.asked.gives.2 g.made)
@@ -199,7 +199,7 @@ module _ {N : Type 0} (v : Values N) (lawful : IsLawful v) (w w' : Core) (readin
   goes-ready frames (inr (inr (inr (inr g)))) = subst (λ fs. LoadReady w' l load fs) (sym g.goes) (node-ready frames g)
 
 begin-turn : {N B W : Type 0} (n : ℕ) (event : Event N B W) (reply : EventReply N B W) → IsBeginOf n event reply → turn_of event reply ≡ of_load n
-begin-turn n x1 x2 is = grind (arith, nat_tests)
+begin-turn n x1 x2 is = grind basics
 
 -- the load, if it is open and read, is ready
 abbrev Ready : {N E : Type 0} → MachineState N E → LoadNumber → Type 0
@@ -211,15 +211,15 @@ module _ {N B W E : Type 0} (m : Seen N B W) (s s' : MachineState N E) (whole : 
       → ReadingsAre s.work.readings (world_of s')
       → k.0 ≡ l.0 → Ready s' l
   by-call h k l key b are same = λ reading load at open_load.
-      let g = b.begins in let row : HandleRow = g.0 in let next = g.2.2.above in let a = g.2.4.2 in
+      let g = b.begins in let row = g.0 in let next = g.2.2.above in let a = g.2.4.2 in
       let there : s'.pager.core.loads l.0 ≡ Some (record { owner = Owner.Caller; key = key; root = of_cell row.node g.2.4.0 h }) =
-      grind (arith, nat_tests, updated-at) in
+      grind (basics, updated-at) in
       let is : record { owner = Owner.Caller; key = key; root = of_cell row.node g.2.4.0 h } ≡ load = same_some _ _ (sym there ∙ open_load) in
       let st = stands-alike a (with-one s.pager.core row.node Mode.LooseUnpinned (Owner.Load k) (stands-whole whole.pager.whole.handles h.0 row g.1.live)) in
       -- a load of a number that wasn't given yet isn't read
       let unread : (r : Reading) → s.work.readings l.0 ≡ Some r → r.frames ≡ [] = λ r e.
       absurd (omega (arith, (whole.pager.whole.loads.numbered l.0 (ap is_some (whole.readings l.0 r e).open_load)).1)) in
-      let empty : reading.frames ≡ [] = grind (arith, nat_tests, unread) in
+      let empty : reading.frames ≡ [] = grind (basics, unread) in
       rw empty (record {
         begun = λ node t q root. let hs : h ≡ q = cc in record {
           row = row;
@@ -235,7 +235,7 @@ module _ {N B W E : Type 0} (m : Seen N B W) (s s' : MachineState N E) (whole : 
   begin-ready l (Event.LoadStart h) (EventReply.Started (Ok (Beginning.Load k key))) is x = by-call h k l key x.step x.readings is
   begin-ready l (Event.Call (Call.LoadBegin h)) (EventReply.CallReply (Reply.Begun (Ok (Beginning.Load k key)))) is x =
       by-call h k l key x.step.does x.readings is
-  begin-ready l event reply is x = grind (arith, nat_tests)
+  begin-ready l event reply is x = grind basics
 
 -- a load's own step, where the chain goes on
 module _ {N B W E : Type 0} (m : Seen N B W) (lawful : IsLawful m.values) (s s' : MachineState N E) (trees : ℕ → Tree)
@@ -249,10 +249,10 @@ module _ {N B W E : Type 0} (m : Seen N B W) (lawful : IsLawful m.values) (s s' 
 
   step-ready : (l : LoadNumber) (reply : LoadReply N) (answer : Option (LoadAnswer N)) → reply.ended ≡ answer
       → LoadSteps m.values (world_of s) l reply (world_of s') → LoadAsked l → Ready s l → Ready s' l
-  step-ready l reply (Some end) e x asks ready reading load at open_load = grind (arith, nat_tests, updated-at, reading-number s on.whole l x.reading x.at)
+  step-ready l reply (Some end) e x asks ready reading load at open_load = grind (basics, updated-at, reading-number s on.whole l x.reading x.at)
   step-ready l reply None e x asks ready reading load at open_load =
       let number = reading-number s on.whole l x.reading x.at in
-      let was : core.loads l.0 ≡ Some load = grind (arith, nat_tests) in let a =
+      let was : core.loads l.0 ≡ Some load = grind basics in let a =
       going-of s trees on.readings x.reading (reading-stands (world_of s) on.whole.pager.whole l x.reading x.at) in
       let before = subst (λ k. LoadReady core k load x.reading.frames) (sym number) (ready x.reading load x.at was) in
       let go = subst (λ o. LoadDoes m.values core Owner.Caller x.reading o x.frames s'.pager.core) e x.does.does in
@@ -271,7 +271,7 @@ module _ {N B W E : Type 0} (m : Seen N B W) (lawful : IsLawful m.values) (s s' 
       let a = going-of s trees on.readings reading (reading-stands (world_of s) on.whole.pager.whole l reading at) in
       let fits = first-fits m.values.types load.key reading.node_type core.stored trees frame below
       (rw is at (a.fits load (reading-open s on.whole l reading at open_load))) in
-      let front : Among reading.frames frame = subst (λ fs. Among fs frame) (sym is) (zero, refl) in
+      let front = subst (λ fs. Among fs frame) (sym is) (zero, refl) in
       let good-one : (r : ArcRef) → Among (m.values.references x) r → IsReference core (Owner.Load reading.load) r = λ r among.
       let got = (decodes lawful frame x ((asks reading at).types frame front) fits decoded).got r among in let b = ready.live frame r front got in
       let own : b.row.owner ≡ Owner.Load reading.load = b.own ∙ ap (λ (k : LoadNumber). Owner.Load k) (sym (reading-number s on.whole l reading at)) in
@@ -299,7 +299,7 @@ module _ {N B W E : Type 0} (m : Seen N B W) (lawful : IsLawful m.values) (s s' 
         | by-chance chance ↦ chance
         | by-references frame below y frames decoded form fault ↦ absurd
             (cc (references-fine l x.reading load asks x.at open_load r frame below y frames decoded form))
-        | by-handle node t h root fault ↦ absurd (let b = r.begun node t h root in grind (arith, nat_tests))
+        | by-handle node t h root fault ↦ absurd (grind (basics, r.begun node t h root))
       ]
 
   load-step-ready : (l : LoadNumber) (reply : EventReply N B W) → Happens m (world_of s) (Event.LoadStep l) reply (world_of s') → LoadAsked l → Ready s l
@@ -318,7 +318,7 @@ module _ {N B W E : Type 0} (m : Seen N B W) (lawful : IsLawful m.values) (s s' 
   turn-ready : (l : LoadNumber) (event : Event N B W) (reply : EventReply N B W) → Happens m (world_of s) event reply (world_of s')
       → IsWellAsked m.values s trees event reply → turn_of event reply ≡ of_load l.0 → Ready s l → Ready s' l
   turn-ready l event reply is asks turn ready =
-      let cases : IsBeginOf l.0 event reply ⊎ ((k : LoadNumber) × (k.0 ≡ l.0) × (event ≡ Event.LoadStep k)) = grind (arith, nat_tests) in
+      let cases : IsBeginOf l.0 event reply ⊎ ((k : LoadNumber) × (k.0 ≡ l.0) × (event ≡ Event.LoadStep k)) = grind basics in
       elim cases [
         | inl begins ↦ begin-ready m s s' on.whole whole' l event reply begins is
         | inr (k, same, e) ↦

@@ -19,11 +19,12 @@ use Rattle.pagable_theorems.proofs.{
   LoadProgress.row-pins,
   StepBounds.{entered-of, found},
   Trees.{at-most-sum, counted, one-true, same-number, self-number, sum-zero},
+  Words.basics,
 }
 use Rattle.std.proofs.{
   Common.{Bool, Err, List, None, Ok, Option, Some, ap, arith, false, if◌then◌else◌, length, map, refl, subst, suc, sum_by, sym, true, ℕ, [], ◌&&◌, ◌+◌, ◌<◌},
   Common.{◌==◌, ◌∙◌, ◌∷◌, ◌≡◌, ◌≤◌},
-  lemmas.{Bool.{Decides.nat_tests, and_parts, false_from_ne_true}, List.Sums.{sum_by-cons, sum_by_push}, Option.slice_get_within},
+  lemmas.{Bool.{and_parts, false_from_ne_true}, List.Sums.{sum_by-cons, sum_by_push}, Option.slice_get_within},
 }
 use Rattle.std.specs.Prelude.{Result, is_some, nat_lt, not, slice_get}
 use Rattle.pagable_theorems.proofs.Effects as effects
@@ -54,12 +55,12 @@ same-value {n} {m} o a b = same-number m n (sym (ap (is_owner (owner_value n)) b
 
 pub among-named : (rs : List ArcRef) (r : ArcRef) → Among rs r → is_named_by rs r.handle.0 ≡ true
 unfolding is_named_by
-among-named (x ∷ xs) r (suc i, is) = grind (arith, nat_tests, among-named xs r)
-among-named x0 r x2 = grind (arith, nat_tests)
+among-named (x ∷ xs) r (suc i, is) = grind (basics, among-named xs r)
+among-named x0 r x2 = grind basics
 
 -- what is counted is there, and what isn't there isn't counted
 some-there : {X : Type 0} (test : X → Bool) (xs : List X) (x : X) → Among xs x → test x ≡ true → 0 < times test xs
-some-there test xs x among is = let a = at-most-sum (λ y. one (test y)) xs x among in grind (arith, nat_tests)
+some-there test xs x among is = grind (basics, at-most-sum (λ y. one (test y)) xs x among)
 
 there-some : {X : Type 0} (test : X → Bool) (xs : List X) → 0 < times test xs → (x : X) × Among xs x × (test x ≡ true)
 there-some test xs some = let c = counted (λ y. one (test y)) xs some in (c.0, c.1, one-true _ c.2)
@@ -81,7 +82,8 @@ module _ {N E : Type 0} {v : Values N} {s : PagerState N E} (is : IsPagerWhole v
   sits n = at (s.values n) refl
     where
       at : (o : Option N) → s.values n ≡ o → At v s.core n o
-      at None e = λ h among own. absurd (omega (arith, is.owns_nothing n e, some-there (is_owned_by (owner_value n)) s.core.rows h among (owned-test n h.owner own)))
+      at None e = λ h among own.
+          absurd (omega (arith, is.owns_nothing n e, some-there (is_owned_by (owner_value n)) s.core.rows h among (owned-test n h.owner own)))
       at (Some x) e = record {
         typed = is.typed n x e;
         names = λ r among. let a = is.references n x r e among in record { is = a; stands = stands-whole is.whole.handles r.handle.0 a.row a.live };
@@ -93,7 +95,6 @@ module _ {N E : Type 0} {v : Values N} {s : PagerState N E} (is : IsPagerWhole v
             (c.0, c.1, same-number _ _ c.2);
       }
 
--- and nothing else of values
 pub settled : {N E : Type 0} {v : Values N} (s : PagerState N E) → ((n : ℕ) → At v s.core n (s.values n))
     → ((n : ℕ) → is_some (s.values n) ≡ holds_value s.core n)
     → ((n : ℕ) → s.counts n ≡ pins n s.core.rows) → IsWhole s.core → IsPagerWhole v s
@@ -167,7 +168,7 @@ module _ {n : ℕ} where
   owns-then a b = let spares = effects.spares-then (owner_value n) a.spares b.spares in search (a.typed, b.typed, spares, a.owned, b.owned)
 
   pub owns-same : {w m : Core} → m.rows ≡ w.rows → m.last.handle ≡ w.last.handle → ((p t : ℕ) → type_at w p ≡ Some t → type_at m p ≡ Some t) → OwnsAlike n w m
-  owns-same {w} {m} rows last typed = grind (arith, nat_tests)
+  owns-same {w} {m} rows last typed = grind basics
 
   pub sits-on : {N : Type 0} (v : Values N) {w m : Core} → OwnsAlike n w m → (o : Option N) → At v w n o → At v m n o
   sits-on v k None a = λ h among own. a h (k.owned h among own) own
@@ -185,14 +186,13 @@ pub spares-then : {w m w' : Core} → Spares w m → Spares m w' → Spares w w'
 spares-then a b = record { owns = λ n. owns-then (a.owns n) (b.owns n); holds = λ n. b.holds n ∙ a.holds n }
 
 pub spares-same : {w w' : Core} → w'.rows ≡ w.rows → SameAt w.cells w'.cells → w'.last.handle ≡ w.last.handle → Spares w w'
-spares-same {w} {w'} rows cells last = grind (arith, nat_tests, owns-same)
+spares-same {w} {w'} rows cells last = grind (basics, owns-same)
 
 -- ---- nothing comes to the list or the cache once the storage is closed
 
 pub shut-alike : {w w' : Core} → Alike w w' → IsShut w → IsShut w'
-shut-alike {w} {w'} a shut closed = grind (arith, nat_tests)
+shut-alike {w} {w'} a shut closed = grind basics
 
--- no value comes or goes either
 pub record Rests (w w' : Core) : Type 0 where
   pub spares : Spares w w'
   pub shut : IsShut w'
@@ -206,7 +206,7 @@ unmoved a shut = rests-then (spares-same refl (λ n. refl) refl) a shut
 -- the cache may learn a node
 pub rests-cached : {m w' : Core} (kind : Kind) (key : ℕ) (n : NodeNumber) (b : Bool) → Alike (if b then m else with_cached m kind key n) w' → m.closed ≡ b
     → IsShut m → Rests m w'
-rests-cached kind key n x3 a e shut = grind (arith, nat_tests, unmoved, rests-then, spares-same)
+rests-cached kind key n x3 a e shut = grind (basics, unmoved, rests-then, spares-same)
 
 pub spared : {N E : Type 0} {v : Values N} {s s' : PagerState N E} → IsPagerWhole v s → Rests s.core s'.core → ((n : ℕ) → s'.values n ≡ s.values n) → IsRight s'
     → IsPagerWhole v s'
@@ -216,29 +216,29 @@ spared {v = v} {s} {s'} is rests same right =
     right.counted (right.whole rests.shut)
 
 pub stayed : {N E : Type 0} {v : Values N} {s s' : PagerState N E} → IsPagerWhole v s → Rests s.core s'.core → Leaves s.values s' → IsPagerWhole v s'
-stayed {N} {v = v} {s} {s'} is rests left = spared is rests (λ n. left.swept n ∙ (let e = is.valued n ∙ sym (rests.spares.holds n) in grind (arith, nat_tests)))
+stayed {N} {v = v} {s} {s'} is rests left = spared is rests (λ n. left.swept n ∙ (grind (basics, is.valued n ∙ sym (rests.spares.holds n))))
     left.right
 
-pub sum-mapped : {X : Type 0} (f : X → X) (g h : X → ℕ) (xs : List X) → ((x : X) → Among xs x → g (f x) ≡ h x) → sum_by g (map f xs) ≡ sum_by h xs
+sum-mapped : {X : Type 0} (f : X → X) (g h : X → ℕ) (xs : List X) → ((x : X) → Among xs x → g (f x) ≡ h x) → sum_by g (map f xs) ≡ sum_by h xs
 sum-mapped f g h [] each = refl
-sum-mapped f g h (x ∷ xs) each = grind (arith, nat_tests, sum_by-cons, map, sum-mapped f g h xs (λ y among. each y (suc among.0, among.1)))
+sum-mapped f g h (x ∷ xs) each = grind (basics, sum_by-cons, map, sum-mapped f g h xs (λ y among. each y (suc among.0, among.1)))
 
 pub pinned-here : (w : Core) (n : ℕ) → 0 < pins n w.rows → is_here w n ≡ true
-pinned-here w n pinned = let some : nat_lt 0 (pins n w.rows) ≡ true = grind (arith, nat_tests) in rw some refl
+pinned-here w n pinned = let some : nat_lt 0 (pins n w.rows) ≡ true = grind basics in rw some refl
 
 pub row-here : (w : Core) (h : HandleNumber) (row : HandleRow) → row_at w h ≡ Some row → is_pinning row.mode ≡ true → is_here w row.node.0 ≡ true
 row-here w h row live pinning = pinned-here w row.node.0 (row-pins w h row live pinning)
 
 module _ (w : Core) (node : NodeNumber) (mode : Mode) (me : Owner) (free : NotValues me) where
   pub owns-handle : (n : ℕ) → OwnsAlike n w (with_handle w node mode me)
-  owns-handle n = grind (arith, nat_tests, effects.spares-handle, among-either, only-one)
+  owns-handle n = grind (basics, effects.spares-handle, among-either, only-one)
 
   pub spares-handle : (is_pinning mode ≡ true → is_here w node.0 ≡ true) → Spares w (with_handle w node mode me)
   spares-handle may = record {
     owns = owns-handle;
     holds = λ n. ap (λ p. is_some (w.cells n) && is_in_memory p (key_at w n))
         (sum_by_push (λ h. one (is_pin n h)) w.rows (row_of (w.last.handle + 1) node mode me))
-        ∙ (let f = same-number node.0 n in grind (arith, nat_tests));
+        ∙ (grind (basics, same-number node.0 n));
   }
 
 -- those that change aren't this value's, before or afterwards
@@ -254,12 +254,12 @@ module _ (w : Core) (test : HandleRow → Bool) (f : HandleRow → HandleRow) (n
     owned = λ h among own.
         let a = among-changed (λ x. if test x then f x else x) w.rows h among in
         let no = free a.0 a.1 in
-        let e : a.0 ≡ h = grind (arith, nat_tests) in
+        let e : a.0 ≡ h = grind basics in
         subst (Among w.rows) e a.1;
   }
 
 pub moved-pins : (rows : List HandleRow) (set : ℕ → Bool) (owner : Owner) (n : ℕ) → pins n (moved set owner rows) ≡ pins n rows
-moved-pins rows set owner n = grind (arith, nat_tests, sum-mapped)
+moved-pins rows set owner n = grind (basics, sum-mapped)
 
 -- handles that aren't values' move to another who is none
 pub spares-moved : (w : Core) (set : ℕ → Bool) (owner : Owner) {list : List HandleNumber} → NotValues owner → AreFree w set
@@ -280,7 +280,7 @@ module _ (w : Core) (h : HandleNumber) (mode : Mode) (row : HandleRow) (stands :
 
   pub mode-others : (n : ℕ) → (row.node.0 == n) ≡ false → pins n (with_mode w h mode).rows ≡ pins n w.rows
   mode-others n other = sum-mapped (λ x. if is_handle h.0 x then to x else x) (λ x. one (is_pin n x)) (λ x. one (is_pin n x)) w.rows
-      (λ x among. (let r = is-row x among in grind (arith, nat_tests)))
+      (λ x among. (grind (basics, is-row x among)))
 
   pub mode-here : is_pinning mode ≡ true → is_here (with_mode w h mode) row.node.0 ≡ true
   mode-here pinning =
@@ -288,10 +288,10 @@ module _ (w : Core) (h : HandleNumber) (mode : Mode) (row : HandleRow) (stands :
       row-here (with_mode w h mode) h (to row) (found-after (is_handle h.0) to (λ x. refl) h.0 w.rows row stands.live
       ∙ ap (λ b. Some (if b then to row else row)) number) pinning
 
-  pub spares-mode : NotValues row.owner → is_pinning mode ≡ true → is_here w row.node.0 ≡ true → Spares w (with_mode w h mode)
+  spares-mode : NotValues row.owner → is_pinning mode ≡ true → is_here w row.node.0 ≡ true → Spares w (with_mode w h mode)
   spares-mode free pinning here = record {
     owns = mode-owns free;
-    holds = λ n. (let m = mode-here pinning in let o = mode-others n in let s = same-number row.node.0 n in grind (arith, nat_tests));
+    holds = λ n. (grind (basics, mode-here pinning, mode-others n, same-number row.node.0 n));
   }
 
 -- ---- calls by which no value comes or goes
@@ -305,13 +305,13 @@ asked a = spares-same a.leaves.rows a.leaves.cells (ap (λ (l : Last). l.handle)
 module _ {w : Core} (whole : IsWhole w) where
   pub begins : {w' : Core} {me : Owner} {h : HandleNumber} (r : Result Beginning Error) → BeginCall w me h r w' → Rests w w'
   begins (Ok (Beginning.Load l key)) c =
-      let row : HandleRow = c.begins.0 in
+      let row = c.begins.0 in
       let clone = spares-handle w row.node Mode.LooseUnpinned (Owner.Load l) (not-load l) (λ is. absurd (cc)) in
       rests-then (spares-then clone (spares-same refl (λ n. refl) refl)) c.begins.2.4.2 whole.shut
-  begins x0 c = grind (arith, nat_tests, unmoved)
+  begins x0 c = grind (basics, unmoved)
 
   pub begins-key : {w' : Core} {me : Owner} {key : ℕ} (r : Result Beginning Error) → BeginKeyCall w me key r w' → Rests w w'
-  begins-key x0 c = grind (arith, nat_tests, rests-then, spares-same, unmoved)
+  begins-key x0 c = grind (basics, rests-then, spares-same, unmoved)
 
   pub rowed : (given : ℕ → Bool) → ((n : NodeNumber) → effects.Free (Owner.Value n) w given) → AreFree w given
   rowed given free h among is n own = let no = (free n).each h.number.0 h own
@@ -345,7 +345,7 @@ module _ {w : Core} (whole : IsWhole w) where
 
   module _ {me : Owner} (free : NotValues me) where
     pub clones : {w' : Core} {h : HandleNumber} (r : Result HandleNumber Error) → CloneCall w me h r w' → Rests w w'
-    clones {h = h} (Ok k) c = let row : HandleRow = c.made.0 in rests-then (spares-handle w row.node row.mode me free (row-here w h row c.made.1)) c.made.3
+    clones {h = h} (Ok k) c = let row = c.made.0 in rests-then (spares-handle w row.node row.mode me free (row-here w h row c.made.1)) c.made.3
         whole.shut
     clones (Err e) c = unmoved c.refused.stays whole.shut
 
@@ -356,17 +356,17 @@ module _ {w : Core} (whole : IsWhole w) where
 
     pub pins-it : {w' : Core} {h : HandleNumber} (r : Result Pinning Error) → PinCall w me h r w' → Rests w w'
     pins-it {h = h} (Ok (Pinning.Pinned k)) c =
-        let row : HandleRow = c.pins.0 in
+        let row = c.pins.0 in
         let owns = c.pins.1 in
         let here = mode-here w h Mode.LoosePinned row (stands-whole whole.handles h.0 row owns.live) refl in
         rests-then (spares-then (turned h row owns c.pins.2.0) (spares-handle _ row.node Mode.Pinned me free (λ is. here))) c.pins.2.2 whole.shut
-    pins-it x0 c = grind (arith, nat_tests, unmoved)
+    pins-it x0 c = grind (basics, unmoved)
 
     pub loosens : {w' : Core} {h : HandleNumber} (r : Result HandleNumber Error) → LoosenCall w me h r w' → Rests w w'
     loosens {h = h} (Ok k) c =
-        let row : HandleRow = c.turned.0 in
+        let row = c.turned.0 in
         let owns = c.turned.1 in
-        rests-then (turned h row owns (row-here w h row owns.live (let m = owns.as_asked in grind (arith, nat_tests)))) c.turned.3 whole.shut
+        rests-then (turned h row owns (row-here w h row owns.live (grind (basics, owns.as_asked)))) c.turned.3 whole.shut
     loosens (Err e) c = unmoved c.refused.1 whole.shut
 
   pub takes : {w' : Core} {me : Owner} (i : ℕ) → NotValues me → (h : Option HandleNumber) → TakeCall w me i h w' → Rests w w'
@@ -383,8 +383,8 @@ module _ {w : Core} (whole : IsWhole w) where
       let one_share : one (is_share n holds.0) ≡ 1 = rw (at, shares) refl in
       let le = at-most-sum (λ h. one (is_share n h)) w.rows holds.0 holds.1 in
       let unkeyed = whole.handles.unkeyed n (omega arith) in
-      grind (arith, nat_tests) in
-      grind (arith, nat_tests, not, is_some, is_here)
+      grind basics in
+      grind (basics, not, is_some, is_here)
 
   pub spares-known : {owner : Owner} (kind : Kind) (key n : ℕ) → NotValues owner → usable w kind.0 key ≡ Some n → Spares w (with_known w kind n owner)
   spares-known {owner} kind key n free known = spares-handle w (record { 0 = n }) (mode_of kind.0) owner free (known-here kind.0 key n known)
@@ -392,4 +392,4 @@ module _ {w : Core} (whole : IsWhole w) where
   pub recalls : {w' : Core} {me : Owner} {kind : Kind} {key : ℕ} → NotValues me → (r : Result (Option HandleNumber) Error) → RecallCall w me kind key r w'
       → Rests w w'
   recalls {kind = kind} {key} free (Ok (Some k)) c = rests-then (spares-known kind key c.answers.0 free c.answers.1) c.answers.3 whole.shut
-  recalls free x0 c = grind (arith, nat_tests, unmoved)
+  recalls free x0 c = grind (basics, unmoved)

@@ -26,11 +26,12 @@ use Rattle.pagable_theorems.proofs.{
   ValueRows.{AreFree, At, Has, Keeps, OwnsAlike, among-named, by-row, holds_value, listed-free, load-free, mode-here, mode-others, mode-owns, moved-pins},
   ValueRows.{own-free, owned-test, owns-changed, owns-handle, owns-same, owns-then, rests-cached, row-here, rowed, same-value, settled, shut-alike, sits},
   ValueRows.{sits-on, spares-handle, spares-keeps, spares-known, spares-moved, spares-then, turned},
+  Words.basics,
 }
 use Rattle.std.proofs.{
   Common.{Bool, Err, List, None, Ok, Option, Some, ap, arith, false, if◌then◌else◌, inl, inr, map, refl, subst, suc, sym, true, ℕ, [], ◌&&◌, ◌++◌, ◌+◌, ◌<◌},
   Common.{◌==◌, ◌||◌, ◌∙◌, ◌∷◌, ◌≡◌, ◌≤◌},
-  lemmas.{Bool.{Decides.nat_tests, and_parts, cases_Bool, false_from_ne_true}, List.Sums.{sum_by-append, sum_by-cons, sum_by_push}},
+  lemmas.{Bool.{and_parts, cases_Bool, false_from_ne_true}, List.Sums.{sum_by-append, sum_by-cons, sum_by_push}},
 }
 use Rattle.std.specs.Prelude.{Result, filter, is_some, nat_lt, not, slice_get}
 use Rattle.pagable_theorems.proofs.Effects as effects
@@ -39,13 +40,13 @@ pub use Rattle.pagable_theorems.proofs.{
   ValueRows.{rests-then, spared, spares-same, starts-listed, stayed, takes, unmoved},
 }
 
--- ---- calls by which values go: they go with a cascade. Where a call has done what it does directly, a value stays exactly where its node is in memory afterwards, and owns what it did
+-- ---- calls by which values go: they go with a cascade. Where a call has done what it does directly, a value stays exactly where its node is in memory
+-- afterwards, and owns what it did
 
 times-left : (t : HandleRow → Bool) (gone : ℕ → Bool) (rows : List HandleRow) → times t (left_rows gone rows) ≡ times (λ h. t h && is_outside gone h) rows
 times-left t gone [] = refl
 times-left t gone (x ∷ xs) = grind (
-  arith,
-  nat_tests,
+  basics,
   sum_by-cons (λ h. one (t h)) x (left_rows gone xs),
   sum_by-cons (λ h. one (t h && is_outside gone h)) x xs,
   times-left t gone xs,
@@ -53,15 +54,15 @@ times-left t gone (x ∷ xs) = grind (
 
 listed : (last : ℕ) (entries : List HandleRow) → AreNewEntries last entries → (h : HandleRow) → Among entries h → h.owner ≡ Owner.List
 listed last (x ∷ xs) (number, mode, owner, new) h (suc i, is) = listed (last + 1) xs new h (i, is)
-listed last x1 x2 h x4 = grind (arith, nat_tests)
+listed last x1 x2 h x4 = grind basics
 
 -- none is there where no node has one
 no-entries : (es : List HandleRow) → ((n : ℕ) → 0 < held n es → ⊥) → es ≡ []
 no-entries [] none = refl
-no-entries (h ∷ hs) none = absurd (none h.node.0 (let a = sum_by-cons (λ x. one (is_at h.node.0 x)) h hs in grind (arith, nat_tests)))
+no-entries (h ∷ hs) none = absurd (none h.node.0 (grind (basics, sum_by-cons (λ x. one (is_at h.node.0 x)) h hs)))
 
 typed-cell : (w : Core) (n t : ℕ) → type_at w n ≡ Some t → (cell : Cell) × (w.cells n ≡ Some cell)
-typed-cell w n t is = grind (arith, nat_tests)
+typed-cell w n t is = grind basics
 
 module _ {before w w' : Core} {given : ℕ → Bool} {r : _} (f : Falls before w given r w') where
   -- a node has lost its value exactly where it isn't in memory any more
@@ -74,24 +75,24 @@ module _ {before w w' : Core} {given : ℕ → Bool} {r : _} (f : Falls before w
       let p = counts (is_pin n) in
       let none = no-pins n w.last.handle f.entries f.new in
       let fewer = sum-le (λ h. one (is_pin n h && is_outside f.gone h)) (λ h. one (is_at n h && is_outside f.gone h)) w.rows
-      (λ h among. grind (arith, nat_tests)) in
+      (λ h among. grind basics) in
       let cells : w'.cells n ≡ (if nat_lt 0 (held n w'.rows) then Some cell else None) = f.leaves.cells n ∙ rw (f.leaves.rows, live) refl in
-      grind (arith, nat_tests)
+      grind basics
 
   -- a row that a value owns was there, and isn't gone
   was : (n : ℕ) (h : HandleRow) → Among w'.rows h → h.owner ≡ owner_value n → Among w.rows h × (f.gone h.number.0 ≡ false)
   was n h (i, at) own = elim (among-either (left_rows f.gone w.rows) f.entries i h (subst (λ rows. slice_get rows i ≡ Some h) f.leaves.rows at)) [
-    | inl left ↦ (let (there, passes) = among-left _ w.rows h left in (there, grind (arith, nat_tests)))
+    | inl left ↦ (let (there, passes) = among-left _ w.rows h left in (there, grind basics))
     | inr new ↦ absurd (cc (sym (listed w.last.handle f.entries f.new h new) ∙ own))
   ]
 
   same-cell : (n : ℕ) → is_some (w'.cells n) ≡ true → w'.cells n ≡ w.cells n
-  same-cell n is = grind (arith, nat_tests)
+  same-cell n is = grind basics
 
   same-type : (n : ℕ) → is_some (w'.cells n) ≡ true → type_at w' n ≡ type_at w n
   same-type n is = ap (λ o. if_there (λ (cell : Cell). Some cell.node_type) None o) (same-cell n is)
 
-  pub shut-fell : IsShut w → IsShut w'
+  shut-fell : IsShut w → IsShut w'
   shut-fell shut closed =
       let e : w.closed ≡ true = sym f.leaves.closed ∙ closed in
       let none : f.entries ≡ [] = no-entries f.entries (λ n some. let open_still = (f.only n some).0.stands_open in
@@ -124,7 +125,7 @@ module _ {before w w' : Core} {given : ℕ → Bool} {r : _} (f : Falls before w
         cc (ap (loses_value w.rows (is_keyed w) f.entries f.gone) (sym same) ∙ lost, loses-it n x e)))
         a.row (among-found r.handle.0 w.rows a.row a.live) (ap (is_named_by (v.references x)) number ∙ among-named (v.references x) r among)
 
-    pub at-left : (n : ℕ) → At v w' n (if holds_value w' n then values n else None)
+    at-left : (n : ℕ) → At v w' n (if holds_value w' n then values n else None)
     at-left n = by (values n) refl (holds_value w' n) refl
       where
         by : (o : Option N) → values n ≡ o → (b : Bool) → holds_value w' n ≡ b → At v w' n (if b then o else None)
@@ -137,7 +138,7 @@ module _ {before w w' : Core} {given : ℕ → Bool} {r : _} (f : Falls before w
                   let s = stands-left f (kept n x e still r among) (a.names r among).stands in
                   let c = typed-cell w r.node.0 _ is.typed in let some =
                   subst (λ (k : _). 0 < held k w'.rows) (ap (λ k. k.0) is.at) (row-held w' r.handle is.row s.live) in
-                  let there : is_some (w'.cells r.node.0) ≡ true = grind (arith, nat_tests, held, nat_lt, left_rows, is_some) in
+                  let there : is_some (w'.cells r.node.0) ≡ true = grind (basics, held, nat_lt, left_rows, is_some) in
                   record {
                     is = record {
                       row = is.row;
@@ -162,15 +163,15 @@ module _ {before w w' : Core} {given : ℕ → Bool} {r : _} (f : Falls before w
         by None e false goes = λ h among own. subst (At v w n) e (at n) h (was n h among own).0 own
 
 -- Where values stand in the world between, and each node in memory there has one, a pager is in step after the cascade.
-pub fell-from : {N E : Type 0} {v : Values N} {m : Core} {values : ℕ → Option N} → ((n : ℕ) → At v m n (values n))
+fell-from : {N E : Type 0} {v : Values N} {m : Core} {values : ℕ → Option N} → ((n : ℕ) → At v m n (values n))
     → ((n : ℕ) → holds_value m n ≡ true → is_some (values n) ≡ true)
     → {before : Core} {given : ℕ → Bool} {r : _} (s' : PagerState N E) → Falls before m given r s'.core → IsShut m → AreFree m given → Leaves values s'
     → IsPagerWhole v s'
 fell-from {N} {v = v} {m} {values} at there s' f shut free l = settled s' (λ n. subst (At v s'.core n) (sym (l.swept n)) (at-left f v values at free n))
     (λ n.
     let was : holds_value s'.core n ≡ true → holds_value m n ≡ true = λ is.
-    (let c = same-cell f n (and_parts (is_some (s'.core.cells n)) (is_here s'.core n) is).0 in let g = fell-away f n in grind (arith, nat_tests)) in
-    ap is_some (l.swept n) ∙ (let t = there n in grind (arith, nat_tests))) l.right.counted (l.right.whole (shut-fell f shut))
+    (grind (basics, same-cell f n (and_parts (is_some (s'.core.cells n)) (is_here s'.core n) is).0, fell-away f n)) in
+    ap is_some (l.swept n) ∙ (grind (basics, there n))) l.right.counted (l.right.whole (shut-fell f shut))
 
 -- The handles go from a world where values stand as they stood, and none of them is a value's.
 pub fell : {N E : Type 0} {v : Values N} {s s' : PagerState N E} {before m : Core} {given : ℕ → Bool} {r : _} → IsPagerWhole v s → Keeps s.core m
@@ -204,7 +205,7 @@ module _ {N E : Type 0} {v : Values N} {s s' : PagerState N E} (is : IsPagerWhol
 
   pub closed : {r : Result (Unit {0}) Error} → CloseCall s.core r s'.core → IsPagerWhole v s'
   closed c = fell is (spares-keeps (spares-same refl (λ n. refl) refl)) c.falls.falls (λ e. (refl, λ kind key. refl))
-      (grind (arith, nat_tests, counted, listed-free)) left
+      (grind (basics, counted, listed-free)) left
 
   -- a worker releases the node that it has walked
   pub worker_released : (u n : ℕ) → FallsAnyhow s.core s.core (is_workers_at s.core u n) s'.core → IsPagerWhole v s'
@@ -233,8 +234,8 @@ module _ {N E : Type 0} {v : Values N} {s s' : PagerState N E} (is : IsPagerWhol
           let stood = stands-whole is.whole.handles h.0 row owns.live in
           let keeps : Keeps s.core (with_mode s.core h Mode.LooseUnpinned) = record {
             owns = mode-owns s.core h Mode.LooseUnpinned row stood (subst NotValues (sym owns.own) none);
-            held = λ n e. (let here = row-here s.core h row owns.live (ap is_pinning mode) in let other = mode-others s.core h Mode.LooseUnpinned row stood n in
-                grind (arith, nat_tests, same-number));
+            held = λ n e. (grind (basics, same-number, row-here s.core h row owns.live (ap is_pinning mode),
+                mode-others s.core h Mode.LooseUnpinned row stood n));
           } in
           fell is keeps f is.whole.shut (λ x among e. absurd (cc)) left
     ]
@@ -245,8 +246,8 @@ module _ {N E : Type 0} {v : Values N} {s s' : PagerState N E} (is : IsPagerWhol
       | inr (row, owns, inl (mode, told, a)) ↦ stays a
       | inr (row, owns, inr (loose, f)) ↦
           let keeps : Keeps s.core (with_key s.core row.node key) = record {
-            owns = λ n. owns-same refl refl (λ p t e. grind (arith, nat_tests));
-            held = λ n e. grind (arith, nat_tests);
+            owns = λ n. owns-same refl refl (λ p t e. grind basics);
+            held = λ n e. grind basics;
           } in
           fell is keeps f is.whole.shut (λ x among e. absurd (cc)) left
     ]
@@ -289,9 +290,7 @@ unfolding references_fault is_in
 named-once w owner seen [] q none = omega arith
 named-once w owner seen (r ∷ rs) q none =
     let (first, others) = or-none _ _ none in
-    let rest = named-once w owner (r.handle.0 ∷ seen) rs q others in
-    let sum = sum_by-cons (λ (x : ArcRef). one (x.handle.0 == q)) r rs in
-    grind (arith, nat_tests, same-number)
+    grind (basics, same-number, named-once w owner (r.handle.0 ∷ seen) rs q others, sum_by-cons (λ (x : ArcRef). one (x.handle.0 == q)) r rs)
 
 -- What names handles may come as a value to the node p, to which they moved.
 pub record Receives {N : Type 0} (v : Values N) (w given : Core) (values : ℕ → Option N) (references : List ArcRef) (p : ℕ) : Type 0 where
@@ -324,8 +323,7 @@ module _ {N E : Type 0} {v : Values N} {s : PagerState N E} (is : IsPagerWhole v
 
   others : (n : ℕ) → (n == p) ≡ false → OwnsAlike n s.core given
   others n other =
-      let apart : owner_value p ≡ owner_value n → ⊥ = λ own. let same = same-value (owner_value p) refl own in let e =
-      self-number p in grind (arith, nat_tests) in
+      let apart : owner_value p ≡ owner_value n → ⊥ = λ own. grind (basics, same-value (owner_value p) refl own, self-number p) in
       let before = rowed is.whole (is_named_by references) (λ m. effects.named-free (Owner.Value m) s.core me references (free m)
       (good s.core me [] references fine)) in
       owns-then (owns-changed s.core named given_row (λ h. refl) n (λ h among is. (before h among is (record { 0 = n }), apart)) {list = s.core.list})
@@ -333,7 +331,7 @@ module _ {N E : Type 0} {v : Values N} {s : PagerState N E} (is : IsPagerWhole v
 
   owned : (h : HandleRow) → Among given.rows h → h.owner ≡ owner_value p → named h ≡ true
   owned h among own = let a = among-changed (λ x. if named x then given_row x else x) s.core.rows h among in let none =
-      subst (At v s.core p) no_value (sits is p) a.0 a.1 in grind (arith, nat_tests)
+      subst (At v s.core p) no_value (sits is p) a.0 a.1 in grind basics
 
   new : (x : N) → v.references x ≡ references → type_at given p ≡ Some (v.node_type x) → Has v given p x
   unfolding is_in
@@ -353,7 +351,7 @@ module _ {N E : Type 0} {v : Values N} {s : PagerState N E} (is : IsPagerWhole v
     owned = λ h among own. named-among (v.references x) h.number.0 (ap (λ rs. is_named_by rs h.number.0) same ∙ owned h among own);
   }
 
-  pub receives : Receives v s.core given s.values references p
+  receives : Receives v s.core given s.values references p
   receives = record {
     all = λ o here n. elim (cases_Bool (n == p)) [
       | inl e ↦ rw e (subst (λ k. At v given k o) (sym (same-number n p e)) here)
@@ -379,13 +377,13 @@ module _ {N E : Type 0} {v : Values N} {s : PagerState N E} (s' : PagerState N E
   made = with_handle bearing (next_node s.core) mode me
 
   no-cell : s.core.cells next ≡ None
-  no-cell = grind (arith, nat_tests)
+  no-cell = grind basics
 
   no-value : s.values next ≡ None
-  no-value = grind (arith, nat_tests)
+  no-value = grind basics
 
   receives-it : Receives v s.core bearing s.values references next
-  receives-it = receives is free references fine next bearing.cells s.core.loads next (λ n u has. grind (arith, nat_tests, no-cell)) no-value
+  receives-it = receives is free references fine next bearing.cells s.core.loads next (λ n u has. grind (basics, no-cell)) no-value
 
   pins-made : (n : ℕ) → pins n made.rows ≡ pins n s.core.rows + one ((next == n) && is_pinning mode)
   pins-made n = sum_by_push (λ h. one (is_pin n h)) bearing.rows (row_of (s.core.last.handle + 1) (next_node s.core) mode me)
@@ -400,22 +398,21 @@ module _ {N E : Type 0} {v : Values N} {s : PagerState N E} (s' : PagerState N E
       settled s' (λ n. subst (At v s'.core n) (sym (values n)) (sits-on v
       (owns-then (owns-handle bearing (next_node s.core) mode me free n) (like.spares.owns n)) _ (receives-it.all o new n)))
       (λ n.
-      let valued : is_some (if n == next then o else s.values n) ≡ holds_value made n = let v = is.valued n in let h = new-cell in let p =
-      pins-made n in grind (arith, nat_tests, same-number) in
+      let valued : is_some (if n == next then o else s.values n) ≡ holds_value made n = grind (basics, same-number, is.valued n, new-cell, pins-made n) in
       ap is_some (values n) ∙ (valued ∙ sym (like.spares.holds n))) right.counted (right.whole like.shut)
 
   comes-with : (x : N) → v.node_type x ≡ t → v.references x ≡ references → is_pinning mode ≡ true
       → ((n : ℕ) → s'.values n ≡ (if n == next then Some x else s.values n)) → IsRight s' → IsPagerWhole v s'
-  comes-with x is_typed named pinning = grind (arith, nat_tests, comes, receives-it, new-cell, pinned-here, pins-made, self-number)
+  comes-with x is_typed named pinning = grind (basics, comes, receives-it, new-cell, pinned-here, pins-made, self-number)
 
   comes-away : (key : ℕ) → own ≡ OptionalDataKey.Some key → references ≡ [] → is_pinning mode ≡ false → ((n : ℕ) → s'.values n ≡ s.values n) → IsRight s'
       → IsPagerWhole v s'
   unfolding is_named_by
   comes-away key keyed nothing unpinned same =
-      let no-pins : pins next s.core.rows ≡ 0 = grind (arith, nat_tests, sum-le, one-less, no-cell) in
-      let away : is_here made next ≡ false = let p = pins-made next in let q = self-number next in grind (arith, nat_tests) in
+      let no-pins : pins next s.core.rows ≡ 0 = grind (basics, sum-le, one-less, no-cell) in
+      let away : is_here made next ≡ false = grind (basics, pins-made next, self-number next) in
       comes None (λ h among mine. absurd (cc (ap (λ rs. is_named_by rs h.number.0) (sym nothing) ∙ receives-it.named h among mine))) (sym away)
-      (λ n. let a = same n in grind (arith, nat_tests, no-value))
+      (λ n. grind (basics, no-value, same n))
 
 module _ {N E : Type 0} {v : Values N} {s s' : PagerState N E} (is : IsPagerWhole v s) where
   pub born : {me : Owner} {x : N} {mode : Mode} {k : HandleNumber} → NotValues me → is_pinning mode ≡ true
@@ -431,7 +428,7 @@ module _ {N E : Type 0} {v : Values N} {s s' : PagerState N E} (is : IsPagerWhol
   adopts-new {l = l} {kind} {key} {x} a unknown = elim a.makes [
     | inl (n, known, f) ↦ absurd (cc (sym unknown ∙ known))
     | inr (none, few, alike) ↦ comes-with s' is (not-load l) (type_of kind.0) _ (v.references x) (mode_of kind.0) a.good
-        (rests-cached kind key (next_node s.core) s.core.closed alike refl is.whole.shut) x a.typed refl (let eager = a.eager in grind (arith, nat_tests))
+        (rests-cached kind key (next_node s.core) s.core.closed alike refl is.whole.shut) x a.typed refl (grind (basics, a.eager))
   ]
 
   pub born-away : {me : Owner} {t key : ℕ} (r : Result HandleNumber Error) → NotValues me → InsertPagedOutCall s.core me t key r s'.core
@@ -448,7 +445,7 @@ module _ {N E : Type 0} {v : Values N} {s s' : PagerState N E} (is : IsPagerWhol
     | inl g ↦ spared is (rests-then (spares-known is.whole kind key g.n (not-load l) g.known) g.leaves is.whole.shut)
     | inr (none, few, is_next, a) ↦
         comes-away s' is (not-load l) (type_of kind.0) (OptionalDataKey.Some key) [] (mode_of kind.0) refl
-        (rests-cached kind key (next_node s.core) s.core.closed a refl is.whole.shut) key refl refl (let loose = c.makes.2 in grind (arith, nat_tests))
+        (rests-cached kind key (next_node s.core) s.core.closed a refl is.whole.shut) key refl refl (grind (basics, c.makes.2))
   ]
   lazily (Err e) c = spared is (unmoved c.refused.stays is.whole.shut)
 
@@ -457,7 +454,7 @@ module _ {N E : Type 0} {v : Values N} {s s' : PagerState N E} (is : IsPagerWhol
 module _ {N E : Type 0} {v : Values N} {s : PagerState N E} (is : IsPagerWhole v s) {me : Owner} {l : LoadNumber} {node : NodeNumber} {h : HandleNumber} {x : N}
     (may : MayEnd s.core me l node h (v.node_type x) (v.references x)) (row : HandleRow) (own : Owns s.core me h is_loose row) (at_node : row.node ≡ node) where
   free : NotValues me × NotLoads me
-  free = (grind (arith, nat_tests))
+  free = (grind basics)
 
   stands : Stands s.core.last.handle s.core.rows h.0 row
   stands = stands-whole is.whole.handles h.0 row own.live
@@ -491,21 +488,21 @@ module _ {N E : Type 0} {v : Values N} {s : PagerState N E} (is : IsPagerWhole v
 
     takes-it : Receives v s.core closed-given s.values (v.references x) node.0
     takes-it = receives is (not-load l) (v.references x) may.good node.0 s.core.cells closed-given.loads s.core.last.node (λ n t e. e)
-        (grind (arith, nat_tests))
+        (grind basics)
 
     sits-all : (n : ℕ) → At v (with_pin closed-given h node me) n (values n)
-    sits-all n = sits-on v (after n) (values n) (takes-it.all (Some x) (takes-it.value x refl (grind (arith, nat_tests, row-held))) n)
+    sits-all n = sits-on v (after n) (values n) (takes-it.all (Some x) (takes-it.value x refl (grind (basics, row-held))) n)
 
     there : (n : ℕ) → holds_value (with_pin closed-given h node me) n ≡ true → is_some (values n) ≡ true
     there n holds =
         let same-pins : (n == node.0) ≡ false → pins n (with_pin closed-given h node me).rows ≡ pins n s.core.rows = λ e.
-        let apart : (node.0 == n) ≡ false = grind (arith, nat_tests) in
+        let apart : (node.0 == n) ≡ false = grind basics in
         let a = sum_by_push (λ r. one (is_pin n r)) (with_mode closed-given h Mode.LoosePinned).rows (row_of (s.core.last.handle + 1) node Mode.Pinned me) in
         let b = mode-others closed-given h Mode.LoosePinned row stands-still n (ap (λ (m : NodeNumber). m.0 == n) at_node ∙ apart) in
         let c = takes-it.pins n in
         let d : one (is_pin n (row_of (s.core.last.handle + 1) node Mode.Pinned me)) ≡ 0 = rw apart refl in
         omega arith in
-        let v = is.valued n in grind (arith, nat_tests)
+        grind (basics, is.valued n)
 
     none-goes : AreFree (with_pin closed-given h node me) (λ q. is_owned_in s.core (Owner.Load l) q && not (is_named_by (v.references x) q))
     none-goes q among goes n mine =

@@ -20,8 +20,8 @@ use Rattle.pagable_theorems.proofs.{
   Trees.same_some,
   Words.{AreMoments, Beginning, Blob, CloneCall, Core, Event, EventReply, HandleRow, Happens, IsLawful, IsMachineWhole, IsReadable, IsReadableType},
   Words.{IsWellAsked, KeepsOpen, Kind, LiesIn, List, LoadAnswer, MachineState, Mode, None, Ok, OpenLoad, Option, Owner, PagerState, Reading, ReadsRoot, Shelf},
-  Words.{Some, Todo, Tree, WalkDoes, Walking, WorkerAnswer, Written, arith, blob_of, false, find_row, identity_of, if_there, inl, inr, is_in, is_named_by},
-  Words.{is_some, length, nat_tests, owner_worker, reference-form, references_fault, references_in, refl, row_at, state_after, subst, suc, sym, to_finish},
+  Words.{Some, Todo, Tree, WalkDoes, Walking, WorkerAnswer, Written, arith, basics, blob_of, false, find_row, identity_of, if_there, inl, inr, is_in},
+  Words.{is_named_by, is_some, length, owner_worker, reference-form, references_fault, references_in, refl, row_at, state_after, subst, suc, sym, to_finish},
   Words.{to_item, to_pin, to_release, to_set, to_start, to_write, tree, true, type_of, updated, world_of, zero, ℕ, [], ◌++◌, ◌+◌, ◌==◌, ◌∙◌, ◌∷◌, ◌≡◌, ◌≤◌},
   Words.◌⊎◌,
 }
@@ -72,18 +72,18 @@ Asks w s todo = ⊥
 does-so : (w : Core) (s : Shelf) (todo : List Todo) → Asks w s todo → let a = two.next_step w s todo in
     WalkDoes two.sample_seen 1 (record { core = w; shelf = s; todo = todo }) a.0 (record { core = a.1; shelf = a.2; todo = a.3 })
 does-so w s (to_pin r place ∷ below) (live, clone_live, here, few) =
-    let left : w.last.handle ≤ 6 = grind (arith, nat_tests) in
+    let left : w.last.handle ≤ 6 = grind basics in
     let next : IsNext (two.handle (w.last.handle + 1)) w = record { above = refl; is_left = omega arith } in
     let cloned : CloneCall w (owner_worker 1) r.handle (Ok (two.handle (w.last.handle + 1))) (two.cloned w r.node) = search (live, next, alike-self) in
-    grind (arith, nat_tests, cloned, alike-self, same-shelf)
+    grind (basics, cloned, alike-self, same-shelf)
 does-so w s (to_set r through key height ∷ below) (loose, live, alone) = let f =
-    falls-alone w (with_key w r.node key) nobody alone in grind (arith, nat_tests, f, same-shelf)
+    falls-alone w (with_key w r.node key) nobody alone in grind (basics, f, same-shelf)
 does-so w s (to_release r key height ∷ below) alone = search (same-shelf, falls-alone w w (is_workers_at w 1 r.node.0) alone)
-does-so w s todo ok = grind (arith, nat_tests, alike-self, same-shelf)
+does-so w s todo ok = grind (basics, alike-self, same-shelf)
 
 -- the pager has few of each after the step, and after its answer
 few-next : (w : Core) (s : Shelf) (todo : List Todo) (answer : Option WorkerAnswer) → Few w → let a = two.next_step w s todo in Few (two.ended answer a.1)
-few-next w s x2 x3 few = grind (arith, nat_tests, updated-past)
+few-next w s x2 x3 few = grind (basics, updated-past)
 
 writes-so : (w : Core) (s : Shelf) (work : _) (todo : List Todo) → Asks w s todo → let a =
     two.next_step w s todo in TookWrites two.sample (λ w. w) (two.machine w two.two_values work).pager a.0
@@ -115,11 +115,11 @@ AllAsk (suc n) x =
     × Passes y.core two.two_values
     × (y.core.workers 1 ≡ is_none y.answer) × AllAsk n y
 
-pub none-there : {X Y : Type 0} (found : Option Y) (x : Option X) → x ≡ None → x ≡ if_there (λ (y : Y). x) None found
-none-there x0 x is = grind (arith, nat_tests)
+none-there : {X Y : Type 0} (found : Option Y) (x : Option X) → x ≡ None → x ≡ if_there (λ (y : Y). x) None found
+none-there x0 x is = grind basics
 
 pub again : {X : Type 0} (n : ℕ) (x y : X) (f : ℕ → X) (q : ℕ) → updated n y f q ≡ updated n y (updated n x f) q
-again n x y f q = grind (arith, nat_tests)
+again n x y f q = grind basics
 
 -- what happens, what values come, and that the machine is good afterwards
 does : (s : MachineState two.Sample (Unit {0})) (event : Event two.Sample Blob Written) (reply : EventReply two.Sample Blob Written) (w : Core)
@@ -132,7 +132,7 @@ does : (s : MachineState two.Sample (Unit {0})) (event : Event two.Sample Blob W
     → EventDoes two.sample_seen s event reply s'
 does s event reply w vs shelf walking reading happens come writes (few, p) walks reads =
     let whole : IsMachineWhole two.sample (two.machine w vs (two.work_of shelf walking reading)) =
-    record { pager = whole-so w vs few p; readings = grind (arith, nat_tests); walkings = grind (arith, nat_tests); each_walks = grind (arith, nat_tests) } in
+    record { pager = whole-so w vs few p; readings = grind basics; walkings = grind basics; each_walks = grind basics } in
     let holds : Moves (λ n x. EventHolds two.sample s.pager event x) s.pager (two.machine w vs (two.work_of shelf walking reading)).pager =
     record {
       each = λ n x is. elim (come n x is) [
@@ -157,10 +157,9 @@ asked s x open_still well trees = record {
 -- each type of the sample is read back
 reads-types : (n : ℕ) → IsReadableType two.sample_types n
 unfolding IsReadable LiesIn
-reads-types n s is = grind (arith, nat_tests, throughout-alone)
+reads-types n s is = grind (basics, throughout-alone)
 
 infixr 3 ◌⨾◌
--- one moment, and those after it
 ◌⨾◌ : {A B : Type 0} → A → B → A × B
 a ⨾ b = (a, b)
 
@@ -177,14 +176,14 @@ pages (suc n) x xs few (works, asks, counts, ends, passes, at_work, ok) rest =
           (λ n x is. inl is)
           (writes-so x.core x.shelf (two.work_of x.shelf (Some (two.walking x)) None) x.todo asks) (few_then, passes) (refl, at_work) tt ⨾ moments,
       asked _ _ tt (λ trees w is. subst (λ (w : Walking). TodoAsksWell two.sample (two.at_work x).pager w.todo) (same_some _ _ is)
-          (grind (arith, nat_tests, reads-types))) ⨾ premised,
+          (grind (basics, reads-types))) ⨾ premised,
     )
 
-pub begun-asks : AllAsk 15 two.begun
+begun-asks : AllAsk 15 two.begun
 unfolding AllAsk is_named_by find_row preimage references_fault is_in
 begun-asks = search arith
 
-pub births-good : Good two.new_core [] × Good two.child_born (None ∷ Some None ∷ []) × Good two.both_born two.two_values × Good two.begun.core two.two_values
+births-good : Good two.new_core [] × Good two.child_born (None ∷ Some None ∷ []) × Good two.both_born two.two_values × Good two.begun.core two.two_values
 unfolding is_named_by find_row references_fault is_in
 births-good = (search (arith, none-cached), search (arith, none-cached), search (arith, none-cached), search (arith, none-cached))
 
@@ -208,16 +207,16 @@ same-work shelf walking reading reading' = record { shelves = λ t. same-shelf _
 reads-on : (w : Core) (r : Reading) (before : ℕ → Option Reading) → is_some (w.loads r.load.0) ≡ true → ((l : ℕ) → (l == r.load.0) ≡ false → before l ≡ None)
     → (l : ℕ)
     → two.reads (Some r) l ≡ if_there (λ (load : OpenLoad). updated r.load.0 (Some r) before l) None (w.loads l)
-reads-on w r before there other l = grind (arith, nat_tests, none-there)
+reads-on w r before there other l = grind (basics, none-there)
 
-pub births-do : (xs : List two.Happening) → AreMoments two.sample_seen (two.at_work two.begun) xs → AreMoments two.sample_seen two.new_one (two.births ++ xs)
+births-do : (xs : List two.Happening) → AreMoments two.sample_seen (two.at_work two.begun) xs → AreMoments two.sample_seen two.new_one (two.births ++ xs)
 unfolding find_row is_named_by is_in references_fault
-births-do xs rest = does _ _ _ two.new_core [] no_shelf None None (grind (arith, nat_tests, alike-self, same-shelf)) (λ n x is. inl is) tt births-good.0 refl tt
-    ⨾ does _ _ _ two.child_born _ no_shelf None None (grind (arith, nat_tests, alike-self, same-work, none-there)) (grind (arith, nat_tests)) tt births-good.1
+births-do xs rest = does _ _ _ two.new_core [] no_shelf None None (grind (basics, alike-self, same-shelf)) (λ n x is. inl is) tt births-good.0 refl tt
+    ⨾ does _ _ _ two.child_born _ no_shelf None None (grind (basics, alike-self, same-work, none-there)) (grind basics) tt births-good.1
     refl tt
-    ⨾ does _ _ _ two.both_born _ no_shelf None None (grind (arith, nat_tests, alike-self, same-work, none-there))
-    (λ n x is. grind (arith, nat_tests)) tt births-good.2 refl tt
-    ⨾ does _ _ _ two.begun.core _ no_shelf (Some (two.walking two.begun)) None (grind (arith, nat_tests, alike-self, same-shelf, none-there, again))
+    ⨾ does _ _ _ two.both_born _ no_shelf None None (grind (basics, alike-self, same-work, none-there))
+    (λ n x is. grind basics) tt births-good.2 refl tt
+    ⨾ does _ _ _ two.begun.core _ no_shelf (Some (two.walking two.begun)) None (grind (basics, alike-self, same-shelf, none-there, again))
     (λ n x is. inl is) tt births-good.3 (refl, refl) tt
     ⨾ rest
 
@@ -244,7 +243,7 @@ gets-child : ReadingDoes two.sample two.loading Owner.Caller two.parent_fetched 
 unfolding two.walked is_named_by find_row preimage grammar.read grammar.read_with answers_from
 gets-child =
     let asked : LazyCall two.loading Owner.Caller (two.load_number 1) (record { 0 = 4 }) 8 (Ok (two.handle 8)) two.child_got =
-    grind (arith, nat_tests, alike-self) in
+    grind (basics, alike-self) in
     let row = row_of 8 (two.node 3) Mode.LooseUnpinned (Owner.Load (two.load_number 1)) in
     record {
       does = inr (inr (inr (inl (record {
@@ -280,7 +279,7 @@ unfolding two.walked is_named_by find_row preimage is_in named_fault grammar.rea
 reads-out = let falls = falls-alone two.key_loading (two.handed two.key_loading) (two.left_over two.key_loading 2 (is_in [])) (search arith) in
     search (arith, falls)
 
-pub loads-do : AreMoments two.sample_seen (two.at_work two.answered) (two.loads ++ two.counts 2)
+loads-do : AreMoments two.sample_seen (two.at_work two.answered) (two.loads ++ two.counts 2)
 unfolding two.walked is_named_by find_row preimage is_in references_fault grammar.read grammar.read_with answers_from
 loads-do =
     let done = Some (two.walking two.answered) in
@@ -291,7 +290,7 @@ loads-do =
     search (arith, b, same-work, none-there)) (λ n x is. inl is) tt loads-good.1 (refl, refl) tt
     ⨾ does _ _ _ two.loading [] _ done (Some two.parent_fetched)
     (let d : ReadingDoes two.sample two.loading Owner.Caller (fresh (two.load_number 1) 0) None two.parent_fetched.frames two.loading =
-    grind (arith, nat_tests, alike-self) in
+    grind (basics, alike-self) in
     let r = reads-on two.loading two.parent_fetched (λ l. None) refl (λ l e. refl) in search (arith, d, r, same-work)) (λ n x is. inl is) tt loads-good.1
     (refl, refl) (search arith)
     ⨾ does _ _ _ two.child_got [] _ done (Some two.parent_read)
@@ -299,19 +298,19 @@ loads-do =
     (λ n x is. inl is) tt loads-good.2 (refl, refl) (search arith)
     ⨾ does _ _ _ two.loaded two.last_values _ done None
     (let r : ReadingsAre (updated 1 None (two.reads (Some two.parent_read))) (world_of (two.afterwards two.loaded two.last_values None)) =
-    grind (arith, nat_tests, none-there) in
+    grind (basics, none-there) in
     search (arith, ends-pinned, r, same-work)) parent-comes tt loads-good.3 (refl, refl) tt
-    ⨾ does _ _ _ two.key_loading _ _ done (Some (fresh (two.load_number 2) 1)) (grind (arith, nat_tests, alike-self, same-work, reads-on))
+    ⨾ does _ _ _ two.key_loading _ _ done (Some (fresh (two.load_number 2) 1)) (grind (basics, alike-self, same-work, reads-on))
     (λ n x is. inl is) tt loads-good.4 (refl, refl)
     (search arith)
     ⨾ does _ _ _ two.key_loading two.last_values _ done (Some two.child_fetched)
     (let d : ReadingDoes two.sample two.key_loading Owner.Caller (fresh (two.load_number 2) 1) None two.child_fetched.frames two.key_loading =
-    grind (arith, nat_tests, alike-self) in
+    grind (basics, alike-self) in
     let r = reads-on two.key_loading two.child_fetched (two.reads (Some (fresh (two.load_number 2) 1))) refl (λ l e. rw e refl) in
     search (arith, d, r, same-work)) (λ n x is. inl is) tt loads-good.4 (refl, refl) (search arith)
     ⨾ does _ _ _ two.read_back two.last_values _ done None
     (let r : ReadingsAre (updated 2 None (two.reads (Some two.child_fetched))) (world_of (two.afterwards two.read_back two.last_values None)) =
-    grind (arith, nat_tests, none-there) in
+    grind (basics, none-there) in
     search (arith, reads-out, r, same-work)) (λ n x is. inl is) tt loads-good.5 (refl, refl) tt
     ⨾ does _ _ _ two.read_back _ _ done None
     (let c : CountCall two.read_back (two.handle 2) (Ok 2) = record {
@@ -325,9 +324,9 @@ loads-do =
         × ((r : Reading) × (reading_at (world_of (two.afterwards two.child_got [] (Some two.parent_read))) (two.load_number 1) ≡ Some r)
         × ReadingBrings two.sample two.child_got r n x))
     parent-comes n x is =
-        let b : (n ≡ 2) × (x ≡ Some (two.to_leaf 3 8)) = grind (arith, nat_tests) in
+        let b : (n ≡ 2) × (x ≡ Some (two.to_leaf 3 8)) = grind basics in
         let cell : IsCellOf two.child_got (two.load_number 1) n = record { load = _; node = _; t = _; h = _; open_load = refl; root = refl; is = sym b.0 } in
-        inr (refl, (two.parent_read, refl, inr (subst (λ y. ReadsRoot two.sample two.parent_read y) (sym b.1) (grind (arith, nat_tests)), cell)))
+        inr (refl, (two.parent_read, refl, inr (subst (λ y. ReadsRoot two.sample two.parent_read y) (sym b.1) (grind basics), cell)))
 
 shaped : (x : two.Sample) → (shape : shapes.Shape) × (two.sample_types.nodes (two.sample.node_type x) ≡ Some shape)
 shaped None = (shapes.nothing, refl)
@@ -335,7 +334,7 @@ shaped (Some r) = (shapes.reference 4, refl)
 
 pub lawful : IsLawful two.sample
 unfolding references_in
-lawful = grind (arith, nat_tests, shaped)
+lawful = grind (basics, shaped)
 
 child-reads : (s : PagerState two.Sample (Unit {0})) → s.core.stored 8 ≡ Some (blob_of [] []) → ReadsAsType two.sample s 1 8
 unfolding grammar.read grammar.read_with
@@ -358,12 +357,12 @@ loads-asked : ArePremised (two.at_work two.answered) (two.loads ++ two.counts 2)
 unfolding two.walked preimage find_row is_named_by grammar.read grammar.read_with answers_from
 loads-asked =
     asked _ _ tt (λ trees. tt) ⨾ asked _ _ tt (λ trees. tt)
-    ⨾ asked _ _ tt (λ trees reading is. takes-well _ reading (grind (arith, nat_tests, child-reads)))
-    ⨾ asked _ _ tt (λ trees reading is. takes-well _ reading (grind (arith, nat_tests, child-reads)))
-    ⨾ asked _ _ tt (λ trees reading is. takes-well _ reading (grind (arith, nat_tests, child-reads)))
+    ⨾ asked _ _ tt (λ trees reading is. takes-well _ reading (grind (basics, child-reads)))
+    ⨾ asked _ _ tt (λ trees reading is. takes-well _ reading (grind (basics, child-reads)))
+    ⨾ asked _ _ tt (λ trees reading is. takes-well _ reading (grind (basics, child-reads)))
     ⨾ asked _ _ tt (λ trees. tt)
-    ⨾ asked _ _ tt (λ trees reading is. takes-well _ reading (grind (arith, nat_tests, child-reads)))
-    ⨾ asked _ _ tt (λ trees reading is. takes-well _ reading (grind (arith, nat_tests, child-reads)))
+    ⨾ asked _ _ tt (λ trees reading is. takes-well _ reading (grind (basics, child-reads)))
+    ⨾ asked _ _ tt (λ trees reading is. takes-well _ reading (grind (basics, child-reads)))
     ⨾ asked _ _ tt (λ trees. tt) ⨾ tt
 
 later : (s : MachineState two.Sample (Unit {0})) (xs ys : List two.Happening) → AreMoments two.sample_seen s (xs ++ ys)
@@ -378,23 +377,22 @@ no-other n all =
     let worked = later (two.at_work two.begun) (two.page_out 15 two.begun) (two.loads ++ two.counts n)
     (later two.new_one two.births (two.page_out 15 two.begun ++ (two.loads ++ two.counts n)) all) in
     let counted = later (two.at_work two.answered) two.loads (two.counts n) worked in
-    let (row, is, told) = counted.0.step.happens.step.does.0.found in (grind (arith, nat_tests))
+    let (row, is, told) = counted.0.step.happens.step.does.0.found in (grind basics)
 
 pub headline_met : TwoLevelsMeetTheHeadline
 headline_met =
     let new = new_whole (Unit {0}) two.sample in let worked = pages 15 two.begun (two.loads ++ two.counts 2) births-good.3.0 begun-asks
     (loads-do, loads-asked) in
-    let start : StartsWell two.sample two.new_one = new.starts two.new_one (new.new _ _ tt) (new.idle _ _ tt) lawful in
-    let whole = start.whole in let idle = start.idle in let stands = start.stands in let settled = start.settled in
+    let start = new.starts two.new_one (new.new _ _ tt) (new.idle _ _ tt) lawful in
     let premised : ArePremised two.new_one (two.moments 2) =
     asked _ _ tt (λ trees. tt) ⨾ asked _ _ tt (λ trees. tt) ⨾ asked _ _ tt (λ trees. tt) ⨾ asked _ _ tt (λ trees. tt) ⨾ worked.1 in
     assumption (
       lawful,
-      whole,
-      idle,
-      stands,
-      settled,
+      start.whole,
+      start.idle,
+      start.stands,
+      start.settled,
       premised,
-      headline_law (Unit {0}) two.sample_seen two.new_one (two.moments 2) whole idle (births-do _ worked.0),
+      headline_law (Unit {0}) two.sample_seen two.new_one (two.moments 2) start.whole start.idle (births-do _ worked.0),
       no-other,
     )

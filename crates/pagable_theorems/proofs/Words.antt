@@ -1,4 +1,5 @@
--- The names that most proofs here use, re-exported from one place. Declares nothing itself.
+-- The names that most proofs here use, re-exported from one place; and what nearly all of them prove by.
+use Rattle.std.proofs.lemmas.Bool.Decides.{nat_tests}
 pub use Rattle.pagable_pager_spec.specs.{
   Basics.{Among, ArcRef, Blob, Error, HandleNumber, Identity, Kind, LoadNumber, NodeNumber, OptionalDataKey, ReadsTree, Tree, Types, WorkerNumber, above},
   Basics.{if_there, is_eager, one, times, tree, type_of, updated},
@@ -30,9 +31,12 @@ pub use Rattle.pagable_value_spec.specs.{
 pub use Rattle.std.proofs.{
   Common.{Bool, Err, List, None, Ok, Option, Result, Some, ap, append_assoc, arith, cond, false, if◌then◌else◌, inl, inr, le_trans, length, map, not, refl},
   Common.{rules, subst, suc, sym, true, zero, ℕ, ℤ, [], ◌&&◌, ◌*◌, ◌++◌, ◌+◌, ◌<◌, ◌==◌, ◌||◌, ◌∙◌, ◌∷◌, ◌≡◌, ◌≤◌, ◌⊎◌},
-  lemmas.{Bool.{Decides.nat_tests, and_parts, cases_Bool, cases_lt, false_from_ne_true}, List.{Sums.sum_by-cons, append-nil, length-append}},
+  lemmas.{Bool.{and_parts, cases_Bool, cases_lt, false_from_ne_true}, List.{Sums.sum_by-cons, append-nil, length-append}},
   lemmas.Option.slice_get_within,
 }
 pub use Rattle.std.specs.Prelude.{drop, filter, is_some, max, nat_eq, slice_get}
 unfoldable pub use Rattle.pagable_pager_spec.specs.{Kinds.find_row, Pager.FramesFit, Basics.is_in, Refusals.references_fault, Runs.state_after}
 unfoldable pub use Rattle.{pagable_value_spec.specs.{Canonical.{IsReadable, LiesIn}, Keys.{code, put_all}, Meaning.rename, Reading.read, References.references_in}, pagable_pager_spec.specs.Calls.is_named_by}
+
+-- arithmetic, and what tests of numbers tell
+pub ruleset basics = (arith, nat_tests)
