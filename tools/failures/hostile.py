@@ -1,13 +1,13 @@
 """Hostile input: cut bytes, blobs that are no value's, giant lengths, with each request above a MiB refused."""
 
-import pathlib
+import functools
 import re
 
 from naming import Unlike
-from rows import Rows, is_of_values
+from rows import DATA, Rows, is_of_values
+from sweeps import MOST, in_turn
 
 MIB = 1 << 20
-DATA = pathlib.Path(__file__).resolve().parent.parent.parent / "crates/vectors/data"
 # What a reading comes to: how much was taken, and what is written again if it is other bytes; or the number of a
 # refusal.
 READ = re.compile(r"free (ok \d+( -| [0-9a-f]+| refused \d+)?( = .*)?|refused ([1-9]|1[0-5]|22|26))$", re.S)
@@ -59,14 +59,9 @@ def table(server, tally):
         if wanted.startswith("refused") and not answer.startswith(f"free {wanted} | {wanted} "):
             tally.fault(f"{name} of {spelled} without memory", f"`{answer}` in the place of `{wanted}`")
         tally.places["hostile", "rows"] += 1
-    for blob, node_type, wanted in BLOBS:
-        key = Rows().call(f"store {blob}").split()[1]
-        server.ask("machine")
-        answer = server.ask(f"ask {MIB} store {blob}; read {key} {node_type}; step 1 {wanted.split()[1]}")
-        if not answer.startswith("free ") or answer.split("; ")[-1] != wanted:
-            tally.fault(f"blob {blob} as {node_type}", f"`{answer}`")
-        if wanted.startswith("refused") and server.ask("look 400") != "pending 0":
-            tally.fault(f"blob {blob} as {node_type}", "a handle is left of its load")
+    for blob, node_type, end in BLOBS:
+        if (found := read_blob(server, tally, blob, node_type, end.split()[1])) != end:
+            tally.fault(f"blob {blob} as {node_type}", f"`{found}` in the place of `{end}`")
         tally.places["hostile", "blobs"] += 1
 
 
@@ -110,20 +105,22 @@ def cut_blobs(server, tally, rows):
         fronts = {(data[:end], len(keys)) for end in range(0, len(data) + 1, 2)}
         for front, many in sorted(fronts | {(data, many) for many in range(len(keys))}):
             for node_type in range(9):
-                read_cut(server, tally, (front or "-") + ":" * (many > 0) + ",".join(keys[:many]), node_type)
+                read_blob(server, tally, (front or "-") + ":" * (many > 0) + ",".join(keys[:many]), node_type)
+                tally.places["hostile", "cut blobs"] += 1
 
 
-def read_cut(server, tally, blob, node_type):
+def read_blob(server, tally, blob, node_type, steps=140):
+    """Reads a blob as a type, by so many steps, to what the plain pager reads: the last answer."""
     plain = Rows()
     key = plain.call(f"store {blob}").split()[1]
-    wanted = "; ".join(plain.answers(f"read {key} {node_type}") + plain.answers("step 1 140"))
+    wanted = "; ".join(plain.answers(f"read {key} {node_type}") + plain.answers(f"step 1 {steps}"))
     server.ask("machine")
-    answer = server.ask(f"ask {MIB} store {blob}; read {key} {node_type}; step 1 140")
+    answer = server.ask(f"ask {MIB} store {blob}; read {key} {node_type}; step 1 {steps}")
     if answer != f"free ok {key}; {wanted}":
         tally.fault(f"blob {blob} as {node_type}", f"`{answer}` in the place of `{wanted}`")
     if "read" not in wanted.partition("; ")[2] and server.ask("look 400") != "pending 0":
         tally.fault(f"blob {blob} as {node_type}", "a handle is left of its load")
-    tally.places["hostile", "cut blobs"] += 1
+    return answer.rpartition("; ")[2]
 
 
 def each_request(server, tally, values):
@@ -138,24 +135,15 @@ def each_request(server, tally, values):
             if verb != "read":
                 continue
             for one, answer in zip(spelled, wanted.split("; "), strict=True):
-                value_requests(server, tally, f"row {number}", name, one, answer)
+                is_met = functools.partial(is_tried, server, tally, name, one, answer)
+                in_turn(tally, f"row {number}", f"{name} {one}", "requests", range(1, MOST), is_met)
 
 
-def value_requests(server, tally, row, name, spelled, wanted):
-    place, met = 1, True
-    while met:
-        answer = server.ask(f"value {place} {name} {spelled}")
-        try:
-            met = is_tried(tally, answer, wanted)
-            tally.places[row, "requests"] += met
-        except (Unlike, ValueError) as why:
-            tally.fault(f"{row}, {name} {spelled}, request {place}", why)
-            return
-        place += 1
-
-
-def is_tried(tally, answer, wanted):
-    """Whether a request was refused, of the reading or of the writing."""
+def is_tried(server, tally, name, spelled, wanted, place):
+    """Whether a request was refused at this place, of the reading or of the writing."""
+    answer = server.ask(f"value {place} {name} {spelled}")
+    if answer.count(" | ") != 3:
+        raise Unlike(f"`{answer}` in the place of `{wanted}`")
     read, again, wrote, wrote_again = answer.split(" | ")
     end = " ".join(wanted.split(" ")[:2])
     for told, same, call in ((read, end, "value-read"), (wrote, "", "value-write")):

@@ -1,12 +1,14 @@
 """Scripts of `pagectl` while a request for memory is refused, a reading or a writing fails, or a line is malformed."""
 
 import contextlib
+import functools
 import struct
 import subprocess
 import tempfile
 
 from driver import Server
 from naming import Unlike
+from sweeps import MOST, in_turn
 
 # Lines and their answers; behind a `!` the name of a loose handle of the cell that the line may leave unlisted.
 LINES = """
@@ -51,6 +53,8 @@ def script_lines():
 
 
 SCRIPT = list(script_lines())
+
+
 class Counts:
     """A file in which the library counts: requests, refused ones, readings and writings."""
 
@@ -77,14 +81,8 @@ def answered(program, library, script, **env):
 def each_request(program, library, tally):
     """Refuses each request in turn: the line's answer is `error 22`, or the program ends with 1; the same line again
     has its answer."""
-    place, met = 1, True
-    while met and place < 5000:
-        try:
-            met = one_request(program, library, tally, place)
-            tally.places["pagectl", "requests"] += met
-        except Unlike as why:
-            tally.fault(f"pagectl, request {place}", why)
-        place += 1
+    is_met = functools.partial(one_request, program, library, tally)
+    in_turn(tally, "pagectl", "the script", "requests", range(1, MOST), is_met)
 
 
 def one_request(program, library, tally, place):

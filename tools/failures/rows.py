@@ -37,6 +37,14 @@ class Row:
     calls: int = 0
     last: int = 0
 
+    def events(self):
+        """The steps that aren't looks, each with its place."""
+        return [(place, step) for place, step in enumerate(self.steps) if step.name != "look"]
+
+    def stride(self):
+        """Of how many places one is tried, since a long row has more than 2,000."""
+        return 17 if len(self.steps) > 100 else 1
+
     def look(self):
         return f"look {2 * self.last + 400}"
 

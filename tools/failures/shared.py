@@ -1,14 +1,15 @@
 """Rows of calls on a storage that threads share, while a request for memory or a call of the storage fails."""
 
+import functools
 import re
 
 from driver import GIVING, MEMORY, NUMBERS, STORAGE, does_refuse, pending_in
 from naming import Unlike
+from sweeps import MOST, in_turn, short_of
 
 NAME = re.compile(r"\$(\w+)")
 # These may do a part before they are refused: keys are set, entries are worked off.
 PARTLY = ("page_out_pending", "page_out_item", "page_out_all")
-LAST = 120
 # These are counted by a name of their own, since a pager's call of the name does something else.
 SHARED = {"pin": "pin_shared", "read": "read_shared"}
 
@@ -30,7 +31,7 @@ class SharedRun:
     """One run of such a row on a new storage."""
 
     # how rows of this sort are called, and the words to the program for a new storage, a call and a look
-    SORT, OVER, CALL, PEEK = "shared", "over", "lock", f"peek {LAST}"
+    SORT, OVER, CALL, PEEK = "shared", "over", "lock", "peek"
 
     def __init__(self, server, tally, number, storage=""):
         self.server, self.tally, self.number, self.names = server, tally, number, {}
@@ -65,7 +66,7 @@ class SharedRun:
         self.names.update(found.groupdict())
 
     def peek(self):
-        return self.server.ask(f"{self.CALL} 0 {self.PEEK}")
+        return self.server.ask(self.PEEK)
 
     def step(self, call, loose, wanted, place=0):
         """A call, and what has to follow it where it is refused: whether a request was refused, and whether it was
@@ -130,7 +131,7 @@ def whole(server, tally, row, run_of):
     return after
 
 
-def disturbed(server, tally, row, after, at, place, run_of, number=MEMORY):
+def disturbed(server, tally, row, after, at, run_of, number, place):
     """A row of which one call has a request refused, or too few numbers: whether it was refused."""
     run = run_of(server, tally, number)
     for step in row[1][:at]:
@@ -154,23 +155,11 @@ def stands(run, after):
         raise Unlike(f"`{found}` at the end, and `{wanted}` without a refusal")
 
 
-def places(server, tally, row, after, at, words, run_of, number=MEMORY):
-    """Disturbs a call in each of these ways in turn, as long as something is refused."""
-    name, sort = f"{run_of.SORT}, {row[0]}", "requests" if number == MEMORY else "numbers"
-    for word in words:
-        try:
-            if not disturbed(server, tally, row, after, at, word, run_of, number):
-                break
-            tally.places[name, sort] += 1
-        except Unlike as why:
-            tally.fault(f"{name}, `{row[1][at][0]}`, {sort} {word}", why)
-            break
-
-
 def each_request(server, tally, row, after, run_of):
     """Refuses each request of each call in turn."""
-    for at in range(len(row[1])):
-        places(server, tally, row, after, at, range(1, 2000), run_of)
+    for at, (call, _, _) in enumerate(row[1]):
+        is_met = functools.partial(disturbed, server, tally, row, after, at, run_of, MEMORY)
+        in_turn(tally, f"{run_of.SORT}, {row[0]}", call, "requests", range(1, MOST), is_met)
 
 
 def each_call(server, tally, row, after, run_of):
@@ -191,9 +180,7 @@ def each_call(server, tally, row, after, run_of):
 
 def each_number(server, tally, row, after, run_of):
     """Leaves no number, then one, and so on, of each sort, at each call."""
-    for at, step in enumerate(row[1]):
-        for word in ("{},-,-,-", "-,0,-,-", "-,-,{},-", "-,-,-,{}"):
-            # (a number near the end that stays in use would stand before those that come once the counters are back)
-            is_single = "{" not in word or step[0].startswith(GIVING)
-            words = map(word.format, range(1 if is_single else 1000))
-            places(server, tally, row, after, at, words, run_of, NUMBERS)
+    for at, (call, _, _) in enumerate(row[1]):
+        is_met = functools.partial(disturbed, server, tally, row, after, at, run_of, NUMBERS)
+        for words in short_of(call.partition(" ")[0]):
+            in_turn(tally, f"{run_of.SORT}, {row[0]}", call, "numbers", words, is_met)

@@ -1,16 +1,15 @@
 """Refuses every request for memory of a row in turn, fails every call of its storage in turn, and lets its numbers run
-out.
-"""
+out."""
 
+import functools
 import re
 from collections import Counter
 
 from driver import GIVING, MEMORY, NUMBERS, STORAGE, Run
 from naming import Unlike
 
-# Rows of more than 2,000 places take each of so many.
-STRIDE, MANY_STEPS = 17, 100
-BIRTHS = ("new_loose", "new_pinned", "new_shared", "new_paged_out")
+# More places than any step has.
+MOST = 5000
 
 
 class Tally:
@@ -46,6 +45,26 @@ def singly(server, row, tally):
     run.end()
 
 
+def in_turn(tally, name, event, sort, words, is_met):
+    """Disturbs an event of a row in each of these ways in turn, as long as something is refused."""
+    for word in words:
+        try:
+            if not is_met(word):
+                return
+            tally.places[name, sort] += 1
+        except Unlike as why:
+            tally.fault(f"{name}, `{event}`, {word}", why)
+            return
+
+
+def short_of(name, first=0, stride=1):
+    """The ways in which no number of one sort is left to a call, then one, and so on: those of each sort."""
+    for word in ("{},-,-,-", "-,0,-,-", "-,-,{},-", "-,-,-,{}"):
+        # A number near the end that stays in use would stand before those that come once the counters are back.
+        is_single = "{" not in word or name in GIVING
+        yield map(word.format, range(first, first + 1 if is_single else MOST, stride))
+
+
 def tried(server, row, number, tally, at, words):
     """One place of a row, at this step: whether a request was refused there, or a refusal told."""
     run = Run(server, row, number, tally)
@@ -61,40 +80,26 @@ def tried(server, row, number, tally, at, words):
 
 def each_request(server, row, tally):
     """Refuses each request of each step in turn, and then each with all that follow it in that step."""
-    for at, step in enumerate(row.steps):
-        if step.name != "look":
-            requests_of(server, row, tally, at, "")
-            requests_of(server, row, tally, at, "-")
-
-
-def requests_of(server, row, tally, at, sign):
-    stride = STRIDE if len(row.steps) > MANY_STEPS else 1
-    place = at % stride + 1
-    while place < 5000 and attempt(server, row, MEMORY, tally, at, f"ask {sign}{place}"):
-        tally.places[row.name, "requests and all after" if sign else "requests"] += 1
-        place += stride
+    stride = row.stride()
+    for at, step in row.events():
+        is_met = functools.partial(tried, server, row, MEMORY, tally, at)
+        for sort, sign in (("requests", ""), ("requests and all after", "-")):
+            words = (f"ask {sign}{place}" for place in range(at % stride + 1, MOST, stride))
+            in_turn(tally, row.name, step.event, sort, words, is_met)
 
 
 def each_number(server, row, tally):
     """Leaves no number, then one, and so on, of each sort, at each step."""
-    stride = STRIDE if len(row.steps) > MANY_STEPS else 1
-    for at, step in enumerate(row.steps):
-        if step.name == "look":
-            continue
-        for word in ("{},-,-,-", "-,0,-,-", "-,-,{},-", "-,-,-,{}"):
-            left = at % stride
-            while left < 5000 and attempt(server, row, NUMBERS, tally, at, "short " + word.format(left)):
-                tally.places[row.name, "numbers"] += 1
-                left += stride
-                # A number near the end that stays in use would stand before those that come once the counters are back.
-                if "{" not in word or step.name in GIVING:
-                    break
+    stride = row.stride()
+    for at, step in row.events():
+        is_met = functools.partial(tried, server, row, NUMBERS, tally, at)
+        for lefts in short_of(step.name, at % stride, stride):
+            in_turn(tally, row.name, step.event, "numbers", (f"short {left}" for left in lefts), is_met)
 
 
 def each_call(server, row, tally):
     """Fails each call of the row's storage in turn."""
-    stride = STRIDE if len(row.steps) > MANY_STEPS else 1
-    for call in range(0, row.calls, stride):
+    for call in range(0, row.calls, row.stride()):
         try:
             run = Run(server, row, STORAGE, tally, f"{row.storage} {call}".strip())
             told = [run.step(at)[1] for at in range(len(row.steps))]
@@ -104,11 +109,3 @@ def each_call(server, row, tally):
             tally.places[row.name, "calls"] += 1
         except Unlike as why:
             tally.fault(f"{row.name}, call {call + 1} of the storage", why)
-
-
-def attempt(server, row, number, tally, at, words):
-    try:
-        return tried(server, row, number, tally, at, words)
-    except Unlike as why:
-        tally.fault(f"{row.name}, `{row.steps[at].event}`, {words}", why)
-        return True

@@ -6,7 +6,7 @@ from shared import SharedRun
 class TypedRun(SharedRun):
     """One run of such a row on a new storage, whose polled fetch is pending once."""
 
-    SORT, OVER, CALL, PEEK = "typed", "typed-over", "typed", "peek"
+    SORT, OVER, CALL, PEEK = "typed", "typed-over", "typed", "typed-peek"
 
     def counted_as(self, name):
         return f"typed-{name}"
