@@ -1,5 +1,4 @@
-use Rattle.pagable.proofs.Keeping.{told-both}
-use Rattle.pagable_load.proofs.LoadSteps.{lender-is}
+use Rattle.pagable.proofs.Keeping.{lender-is, told-both}
 
 pub returns : Rattle.pagable.proofs.paging.page_out_item_lent.Goals.returns
 returns g c =
