@@ -6,7 +6,7 @@ use Rattle.pagable.specs.{
   declared.workers.{LoadsAndWorkers.LoadsAndWorkers, WorkerProgress.WorkerProgress},
 }
 use Rattle.pagable_codec.specs.declared.{env.Env.Ghosts as Environments, hash.KeyHash.Ghosts as Hashes, nodes.NodeSet.Ghosts as Nodes}
-use Rattle.pagable_load.specs.{AccessView.Acting, Frames.reading_of, declared.reading.Reading.Reading as Own}
+use Rattle.pagable_load.{proofs.LoadSteps.none_comes, specs.{Frames.reading_of, declared.reading.Reading.Reading as Own}}
 use Rattle.pagable_pageout.specs.{Joint.both, Turns.{IsOfKind, LeavesFit, TaskFits}, declared.{lent_table.LentTable.LentTable, tasks.{Task.Task, Turn.Turn}}}
 use Rattle.pagable_pager.specs.View.{PagerView, Telling, pager_core, pager_state}
 use Rattle.pagable_pager_spec.specs.{
@@ -44,19 +44,7 @@ use Rattle.std.specs.{
   declared.cmp.{Ord.Ghosts as Orders, PartialEq.Ghosts as Equalities, PartialOrd.Ghosts as PartialOrders},
 }
 
--- an access lends what it lent before
-pub lender-is : {E : Type 0} {a b : Acting E} → a ≡ b → a.lender ≡ b.lender
-lender-is {E} e = ap (λ (a : Acting E). a.lender) e
-
--- what is told afterwards was told before
-pub told-so : {A : Type 0} {R : A → A → Type 0} (b b' : Bool) (s t : A) → IfBothKnown (if b then Some s else None) (if b' then Some t else None) R → IsTrue b'
-    → IsTrue b × R s t
-told-so true true s t told is = (refl, told.holds)
-told-so false true s t told is = absurd told.holds
-told-so true false s t told is = absurd (cc)
-told-so false false s t told is = absurd (cc)
-
--- and so of what is told of an access and of a table together
+-- what is told of an access and of a table together afterwards was told before
 pub told-both : {A T : Type 0} {R : A × T → A × T → Type 0} (b b' : Bool) (s t : A) (q q' : T)
     → IfBothKnown (both (if b then Some s else None) (Some q)) (both (if b' then Some t else None) (Some q')) R → IsTrue b' → IsTrue b × R (s, q) (t, q')
 told-both true true s t q q' told is = (refl, told.holds)
@@ -372,9 +360,7 @@ module _ {X XN XH XK XV : Type 0} {g : Environments X XN XH XK XV} {gh : Hashes 
   refused event reply none happens writes =
       makes m s s' serving was done.whole (let e : length h'.tables ≡ length h.tables = ap length tables in omega (arith, e)) walks on event reply none
       (happens stays)
-      (record { each = λ n x is. elim (done.moves.each n x is) [ inl there ↦ inl there | inr came ↦ absurd came.1 ]; environment = done.moves.environment })
-      (record { each = λ n x is. elim (done.moves.each n x is) [ inl there ↦ inl there | inr came ↦ absurd came.1 ]; environment = done.moves.environment })
-      writes
+      (none_comes done.moves) (none_comes done.moves) writes
       (kept-on serving.readings on (λ l own is. inl (sym (readings l) ∙ is)))
 
 -- nothing is done to the pager

@@ -1,4 +1,5 @@
-use Rattle.pagable.proofs.Keeping.{lender-is, told-both}
+use Rattle.pagable.proofs.Keeping.{told-both}
+use Rattle.pagable_load.proofs.LoadSteps.{lender-is}
 
 pub returns : Rattle.pagable.proofs.paging.page_out_item_lent.Goals.returns
 returns g c =

@@ -1,4 +1,4 @@
-use Rattle.pagable.proofs.Keeping.{lender-is, told-so}
+use Rattle.pagable_load.proofs.LoadSteps.{lender-is, told-so}
 
 pub returns : Rattle.pagable.proofs.paging.page_out_pending_lent.Goals.returns
 returns g c =

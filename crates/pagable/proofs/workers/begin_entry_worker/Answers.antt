@@ -1,8 +1,8 @@
 use Rattle.pagable.proofs.{
   Driven.{begun-on, entry-refused, keeps-after, listed-started},
-  Keeping.{drives, lender-is, nothing-done, one-on, refused, refuses, stay-on, told-so},
+  Keeping.{drives, nothing-done, one-on, refused, refuses, stay-on},
 }
-use Rattle.pagable_load.specs.AccessView.{values_at}
+use Rattle.pagable_load.{proofs.LoadSteps.{lender-is, told-so}, specs.AccessView.values_at}
 use Rattle.pagable_tables.proofs.SameViews.{failed}
 use Rattle.std.proofs.Common.{arith, inl, inr, refl, sym, ◌∙◌, ◌≡◌}
 use Rattle.pagable.proofs.workers.begin_entry_worker.Goals as goal

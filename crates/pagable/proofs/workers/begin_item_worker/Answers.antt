@@ -1,8 +1,8 @@
 use Rattle.pagable.proofs.{
   Driven.{begun-on, item-started, keeps-after},
-  Keeping.{as-made, drives, lender-is, nothing-done, one-on, refused, refuses, stay-on, told-so},
+  Keeping.{as-made, drives, nothing-done, one-on, refused, refuses, stay-on},
 }
-use Rattle.pagable_load.specs.AccessView.{values_at}
+use Rattle.pagable_load.{proofs.LoadSteps.{lender-is, told-so}, specs.AccessView.values_at}
 use Rattle.pagable_tables.proofs.SameViews.{failed}
 use Rattle.std.proofs.Common.{arith, inl, inr, refl, sym, ◌∙◌, ◌≡◌}
 use Rattle.pagable.proofs.workers.begin_item_worker.Goals as goal
