@@ -10,7 +10,7 @@ use Rattle.pagable_pager_spec.specs.{
   Kinds.{is_pin, pins},
   LoadCalls.{BeginCall, EndCall, LoadCloses, with_load},
   Loads.{ReadsRoot, gone_on, root_frame},
-  Pager.{HoldsItsNodes, IsCellOf, IsPagerWhole, PagerState},
+  Pager.{HoldsItsNodes, IsCellOf, IsPagerWhole, Moves, PagerState},
   Workers.fresh,
   World.{Core, Frame, OpenLoad, Reading, Root, Values, of_cell, usable},
   declared.{events.LoadAnswer.LoadAnswer, handle_row.Owner.Owner, mode.Mode.Mode, pinning.Beginning.Beginning},
@@ -262,6 +262,12 @@ module _ {N E : Type 0} (v : Values N) (s s1 mid1 : PagerState N E) (leaf : Leaf
 
   -- the storage refuses the blob
   module _ (e : Error) (u : PagerState N E) (of_error : r ≡ Err e) (closes : MakesCall v (λ w'. LoadCloses mid1.core l (Ok tt) w') mid1 u) where
+    brings-none : {comes : ℕ → N → Type 0} → Moves comes before u
+    brings-none = record {
+      each = λ n y some. elim (closes.moves.each n y some) [ inl was ↦ inl was | inr (none, never) ↦ absurd never ];
+      environment = closes.moves.environment;
+    }
+
     step-refused : ReadingStep v Owner.Caller (fresh l leaf.node_type) before (Some (LoadAnswer.Refused e)) [] u
     step-refused = record {
       does = record {
@@ -285,8 +291,8 @@ module _ {N E : Type 0} (v : Values N) (s s1 mid1 : PagerState N E) (leaf : Leaf
           refl,
         );
       };
-      moves = none_comes closes.moves;
-      holds = λ well. none_comes closes.moves;
+      moves = brings-none;
+      holds = λ well. brings-none;
       answers = tt;
       whole = closes.whole;
     }

@@ -343,8 +343,9 @@ impl<'a, E: Env<Node: NodeSet<E>>, S: PagableStorage<E>> WorkerAccess<E> for Len
     }
 
     fn set_key_and_release(&mut self, at: WorkerNode, key: DataKey) -> Result<(), Error> {
-        if let Some(handle) = at.loose {
-            self.set_data_key(handle, key)?;
+        match at.loose {
+            Some(handle) => self.set_data_key(handle, key)?,
+            None => {}
         }
         self.release_worker_node(at.worker, at.node);
         Ok(())
