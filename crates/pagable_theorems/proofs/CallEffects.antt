@@ -98,7 +98,7 @@ module _ {me : Owner} {lists : Bool} {Asks Leaves : Type 0} {c : Change} where
         → Effect me lists Asks Leaves false c w w'
     ends-load {w = w} {w'} {references = references} l (Ok k) e =
         let (p, h, may, i) = e.installs in
-        let closed = shuts (none w) l (λ own. owned-mine may.owned) in
+        let closed : Effect me lists Asks Leaves true c w (without_load w l) = shuts (none w) l (λ own. owned-mine may.owned) in
         let own-free : (r : HandleRow) → find_row h.0 w.rows ≡ Some r → NotLoads r.owner =
         λ r found. subst NotLoads (sym (ap (λ (x : HandleRow). x.owner) (same_some _ _ (sym found ∙ i.owned.live)) ∙ i.owned.own)) free in
         let pinned-free : (r : HandleRow) → find_row h.0 (moved (is_named_by references) (owner_value p.0) w.rows) ≡ Some r → NotLoads r.owner = λ r found l is.
@@ -132,8 +132,6 @@ module _ {me : Owner} {lists : Bool} {Asks Leaves : Type 0} where
   begins x0 x = grind (basics, stays {me = me} {lists = lists} {Asks = Asks} {Leaves = Leaves} {c = nothing_felt})
 
   pub begins-key : {w w' : Core} {key : ℕ} (r : Result Beginning Error) → BeginKeyCall w me key r w' → Effect me lists Asks Leaves false nothing_felt w w'
-  begins-key {w} {key = key} (Ok (Beginning.Load l k)) x = like (opens (none w) key of_key (begun nothing_felt w key of_key me (λ node t h is. absurd (cc))))
-      x.begins.2
   begins-key x0 x = grind (basics, stays {me = me} {lists = lists} {Asks = Asks} {Leaves = Leaves} {c = nothing_felt})
 
   -- a node that a load adopts, which the cache gets to know while the storage is open

@@ -311,9 +311,6 @@ module _ {N B W : Type 0} (m : Seen N B W) (u u' : World) where
       (λ whole leaves. reading-knows (f.feels whole.handles))
   event-goes (Event.LoadStart h) (EventReply.Started r) open_still is = event-rests (λ n x b. absurd b) (keeps-all is.readings is.work.walkings)
       (begins r is.step)
-  event-goes (Event.LoadKey key t) (EventReply.Started (Err e)) open_still is =
-      event-rests (λ n x b. absurd b) (keeps-all is.refused is.work.walkings) (begins-key (Err e) is.step)
-  event-goes (Event.LoadKey key t) (EventReply.Started (Ok Beginning.InMemory)) open_still is = absurd is.step.begins
   event-goes (Event.LoadKey key t) (EventReply.Started (Ok (Beginning.Load l k))) open_still is =
       let next = is.step.begins.1.above in let last = ap (λ (x : Last). x.load) is.step.begins.2.last in
       event-rests (λ n x b. absurd b) (read-after u u' (λ r. IsFresh u'.core r) is.begun is.work.walkings

@@ -290,8 +290,6 @@ module _ {N B W : Type 0} (m : Seen N B W) (n : ℕ) (g : Ground) (task : Task) 
       let done = subst (λ t. IsDone m.values s.shelf t key) (sym of_it)
       (ks, all-known s.shelf longest_path written.references ks p.all known, sym to ∙ b.0, all-low s.shelf longest_path written.references ks p.all known) in
       let t = p.goes in search (done, t.table_stays.slots)
-  answered (to_release r k h ∷ []) (Action.Release i) (is, falls, t) (p, reach, (expects, waits)) key e = let to : k ≡ key =
-      cc in (grind basics, t.table_stays.slots)
   answered x0 x1 x2 x3 key e = grind basics
 
 module _ {N E : Type 0} (v : Values N) (s : MachineState N E) (trees : ℕ → Tree) (fit : WorkFits v s trees) (t : ℕ) where

@@ -138,7 +138,7 @@ module _ {N B W : Type 0} (m : Seen N B W) (u u' : World) (work : StandsIn u) wh
         let turned = is-started u.work.shelves u'.work.shelves u.work.walkings u'.work.walkings u.core.last.worker work (λ q i. (s.work.same_shelves q).slots i)
         v.0 (new_walking t task) above refl refl new (λ n other. s.work.same_walkings n
         ∙ updated-off v.0 (Some (new_walking t task)) u.work.walkings n other) in
-        let own = begins t task (no_step v.0) (λ q i. (s.work.same_shelves q).slots i)
+        let own : OwnTurn m u v.0 (step_of v.0 event reply) u' = begins t task (no_step v.0) (λ q i. (s.work.same_shelves q).slots i)
         (grind basics) new in
         record { who = v.0; turned = turned; last = last-on; small = omega (arith, s.next); others = λ n other. no_step n; own = own }
 
@@ -279,8 +279,6 @@ pays : {W : Type 0} (f : W → Written) (todo : List Todo) (step : Action W) (ne
     → one (is_counted todo step) + all-due next ≤ 8 * one (is_claim step) + references_written f step + all-due todo
 pays f (to_start r place ∷ x ∷ xs) (Action.Claim j (Ok (Claim.Known key height))) next (is, e) =
     rw e (omega (arith, given-due r key height (x ∷ xs)))
-pays f (to_write r place through ∷ below) (Action.Write j (Ok out)) next (is, e) = grind (arith, started-due, length-drop)
-pays f (to_release r key height ∷ below) (Action.Release j) next (is, e) = rw e (omega (arith, given-due r key height below))
 pays f _ step next follows = grind (basics, given-due)
 
 -- ---- what a worker fails with: a refusal that a step of its own met, or that another's claim has failed where its walk came

@@ -45,52 +45,17 @@ only-birth w = only-earlier _ _ (only-spent w.last.node) (only-spent w.last.hand
 only-live : (found : Option HandleRow) → Only Quiet (live_fault found)
 only-live found e is = grind basics
 
-by-listing : {before w w' : Core} {given : ℕ → Bool} (e : Error) → Falls before w given (Err e) w' → Quiet e
-by-listing e f = grind (basics, f.tells.not_all)
-
-by-refused : {cause : Option Error} {w w' : Core} (e : Error) → IsRefused cause w (Err e) w' → Only Quiet cause → Quiet e
-by-refused e r only = let told = r.told in let same : r.e ≡ e = cc in subst Quiet same (only r.e r.why)
-
--- ---- the calls by which handles, nodes and loads are touched
+-- ---- calls that may be refused for several reasons
 
 module _ (w : Core) (me : Owner) (w' : Core) where
   of-birth : {N : Type 0} (x y : N) (t : ℕ) (references : List ArcRef) (mode : Mode) (e : Error) → InsertCall w me x t references mode (Err (e, y)) w' → Quiet e
   of-birth x y t references mode e c = only-refused {P = Quiet} e c.refused.1 (only-earlier _ _ (only-all w me references) (only-birth w)) tt
-
-  of-away : (t key : ℕ) (e : Error) → InsertPagedOutCall w me t key (Err e) w' → Quiet e
-  of-away t key e c = only-refused {P = Quiet} e c.refused (only-birth w) tt
 
   of-clone : (h : HandleNumber) (e : Error) → CloneCall w me h (Err e) w' → Quiet e
   of-clone h e c = only-refused {P = Quiet} e c.refused (only-earlier _ _ (only-live (row_at w h)) (only-spent w.last.handle)) tt
 
   of-pin : (h : HandleNumber) (e : Error) → PinCall w me h (Err e) w' → Quiet e
   of-pin h e c = only-refused {P = Quiet} e c.refused (only-earlier _ _ (only-handle w me h is_loose) (only-where _ _ (only-spent w.last.handle))) tt
-
-  of-unpin : (h : HandleNumber) (e : Error) → UnpinCall w me h (Err e) w' → Quiet e
-  of-unpin h e c = elim c.does [
-    | inl refused ↦ by-refused e refused (only-handle w me h is_loose)
-    | inr (row, owns, inl (mode, told, a)) ↦ absurd (cc)
-    | inr (row, owns, inr (mode, f)) ↦ by-listing e f
-  ]
-
-  of-release : (h : HandleNumber) (e : Error) → ReleaseCall w me h (Err e) w' → Quiet e
-  of-release h e c = elim c.does [ inl refused ↦ by-refused e refused (only-handle w me h any_mode) | inr (row, owns, f) ↦ by-listing e f ]
-
-  of-key : (h : HandleNumber) (key : ℕ) (e : Error) → SetKeyCall w me h key (Err e) w' → Quiet e
-  of-key h key e c = elim c.does [
-    | inl refused ↦ by-refused e refused (only-handle w me h any_mode)
-    | inr (row, owns, inl (mode, told, a)) ↦ absurd (cc)
-    | inr (row, owns, inr (mode, f)) ↦ by-listing e f
-  ]
-
-  of-look : {X : Type 0} (h : HandleNumber) (holds : X → HandleRow → Type 0) (e : Error) → Looks w h holds (Err e) → Quiet e
-  of-look h holds e c = only-live (row_at w h) e c.refused
-
-  of-schedule : (h : HandleNumber) (e : Error) → ScheduleCall w me h (Err e) w' → Quiet e
-  of-schedule h e c = only-refused {P = Quiet} e c.refused (only-handle w me h is_unpinned) tt
-
-  of-recall : (kind : Kind) (key : ℕ) (e : Error) → RecallCall w me kind key (Err e) w' → Quiet e
-  of-recall kind key e c = only-refused {P = Quiet} e c.refused (only-where _ _ (only-spent w.last.handle)) tt
 
   of-offer : (kind : Kind) (key : ℕ) (h : HandleNumber) (e : Error) → OfferCall w me kind key h (Err e) w' → Quiet e
   of-offer kind key h e c = only-refused {P = Quiet} e c.refused
@@ -101,28 +66,7 @@ module _ (w : Core) (me : Owner) (w' : Core) where
   of-begin h e c = only-refused {P = Quiet} e c.refused
       (only-earlier _ _ (only-handle w me h is_loose) (only-where _ _ (only-earlier _ _ (only-spent w.last.load) (only-spent w.last.handle)))) tt
 
-  of-begin-key : (key : ℕ) (e : Error) → BeginKeyCall w me key (Err e) w' → Quiet e
-  of-begin-key key e c = only-refused {P = Quiet} e c.refused (only-spent w.last.load) tt
-
-  of-drop : (l : LoadNumber) (e : Error) → DropCall w me l (Err e) w' → Quiet e
-  of-drop l e c = elim c.does [ inl refused ↦ by-refused e refused (only-load w me l) | inr (load, owned, f) ↦ by-listing e f ]
-
--- ---- the calls by which the storage is asked
-
--- what a storage may say when it is written to
-data Says (w w' : Core) : Error → Type 0 where
-  has-failed : (code : ℕ) → HasFailed w.failures w'.failures → Says w w' (Error.Storage code)
-  says-else : (e : Error) → Silent e → Says w w' e
-
-said : (w w' : Core) (e : Error) → Says w w' e → TellsOfStorage w w' e
-said w w' _ (has-failed code failed) = record { failed = λ c is. failed; absent = λ k is. absurd (cc) }
-said w w' _ (says-else e says) = silent w w' e says
-
-of-store : (w w' : Core) (blob : Blob) (found : Option Blob) (closed : Bool) (e : Error) → RefusesStore blob found closed w.failures w'.failures e → Says w w' e
-of-store w w' blob found closed e h = grind (basics, has-failed, says-else)
-
-of-flush : (w w' : Core) (e : Error) → IsMemoryOrFailure w.failures w'.failures e → Says w w' e
-of-flush w w' e h = grind (basics, has-failed, says-else)
+-- ---- a call
 
 module _ {N B W : Type 0} (m : Seen N B W) (lawful : IsLawful m.values) (w : Core) (me : Owner) (w' : Core) where
   abbrev Tells : Error → Type 0
@@ -138,41 +82,16 @@ module _ {N B W : Type 0} (m : Seen N B W) (lawful : IsLawful m.values) (w : Cor
   calls (Call.NewPinned x) (Reply.Made (Err (f, y))) e is c = quiet-so f e is (of-birth w me w' x y _ _ _ f c)
   calls (Call.NewLoose x) (Reply.Made (Err (f, y))) e is c = quiet-so f e is (of-birth w me w' x y _ _ _ f c)
   calls (Call.NewShared x) (Reply.Made (Err (f, y))) e is c = quiet-so f e is (of-birth w me w' x y _ _ _ f c)
-  calls (Call.NewPagedOut t key) (Reply.Handle (Err f)) e is c = quiet-so f e is (of-away w me w' t key f c)
-  calls (Call.Clone h) (Reply.Handle (Err f)) e is c = quiet-so f e is (of-clone w me w' h f c)
   calls (Call.Pin h) (Reply.Pin (Err f)) e is c = quiet-so f e is (of-pin w me w' h f c)
-  calls (Call.Unpin h) (Reply.Done (Err f)) e is c = quiet-so f e is (of-unpin w me w' h f c)
-  calls (Call.Release h) (Reply.Done (Err f)) e is c = quiet-so f e is (of-release w me w' h f c)
-  calls (Call.IntoPagable h) (Reply.Handle (Err f)) e is c = quiet-so f e is (only-handle w me h is_pinned f c.refused.0)
-  calls (Call.SetDataKey h key) (Reply.Done (Err f)) e is c = quiet-so f e is (of-key w me w' h key f c)
-  calls (Call.Count h) (Reply.Count (Err f)) e is c = quiet-so f e is (of-look w me w' h _ f c.0)
-  calls (Call.Key h) (Reply.KeyFound (Err f)) e is c = quiet-so f e is (of-look w me w' h _ f c.0)
-  calls (Call.IsPagedOut h) (Reply.PagedOut (Err f)) e is c = quiet-so f e is (of-look w me w' h _ f c.0)
-  calls (Call.NodeOf h) (Reply.Node (Err f)) e is c = quiet-so f e is (of-look w me w' h _ f c.0)
-  calls (Call.ScheduleForPaging h) (Reply.Done (Err f)) e is c = quiet-so f e is (of-schedule w me w' h f c)
-  calls (Call.CacheGet kind key) (Reply.FromCache (Err f)) e is c = quiet-so f e is (of-recall w me w' kind key f c)
   calls (Call.OnArcDeserialized kind key h) (Reply.FromCache (Err f)) e is c = quiet-so f e is (of-offer w me w' kind key h f c)
-  calls Call.CacheClear (Reply.Done (Err f)) e is c = absurd (cc (c.told))
-  calls (Call.Fetch key) (Reply.Fetched (Err f)) e is c = so f e is (fetched w w' key f c.refused).tells
-  calls (Call.Store b) (Reply.Stored (Err f)) e is c = so f e is (said w w' f (of-store w w' _ _ _ f c.refused.1))
-  calls Call.Flush (Reply.Done (Err f)) e is c = so f e is (said w w' f (of-flush w w' f c.refused))
   calls (Call.LoadBegin h) (Reply.Begun (Err f)) e is c = quiet-so f e is (of-begin w me w' h f c)
-  calls (Call.LoadKey key) (Reply.Begun (Err f)) e is c = quiet-so f e is (of-begin-key w me w' key f c)
-  calls (Call.LoadFetch l want) (Reply.LoadFound (Err f)) e is c =
-      so f e is (asked m.values lawful w me (record { load = l; node_type = 0; frames = []; steps = 0 }) want f w' c).tells
   calls (Call.LoadAdopt l kind key x) (Reply.Made (Err (f, y))) e is c = quiet-so f e is (of-adopt w me w' l kind key x y _ _ f c)
   calls (Call.LoadLazy l kind key) (Reply.Handle (Err f)) e is c = quiet-so f e is (of-lazy w me w' l kind key f c)
   calls (Call.LoadEnd l x) (Reply.LoadEnded (Err (f, given))) e is c = quiet-so f e is (of-end w me w' l x _ _ f given c)
   calls (Call.LoadTake l hs) (Reply.Done (Err f)) e is c = quiet-so f e is (of-hand-over w me w' l hs.items f c)
-  calls (Call.LoadDrop l) (Reply.Done (Err f)) e is c = quiet-so f e is (of-drop w me w' l f c)
-  calls (Call.Reserve n) (Reply.Done (Err f)) e is c = quiet-so f e is (subst Quiet (sym c.wanting.0) tt)
-  calls Call.Close (Reply.Done (Err f)) e is c = absurd (cc (c.told))
   calls _ reply e is c = grind basics
 
 -- ---- a worker's step
-
-only-claim : (w : Core) (r : ArcRef) → Only Quiet (claim_fault w r)
-only-claim w r e is = grind basics
 
 module _ {N B W : Type 0} (m : Seen N B W) (lawful : IsLawful m.values) (v : ℕ) (s after : WorkerState) where
   abbrev WorkTells : Error → Type 0
@@ -181,39 +100,16 @@ module _ {N B W : Type 0} (m : Seen N B W) (lawful : IsLawful m.values) (v : ℕ
   work-so : (f e : Error) → Some f ≡ Some e → WorkTells f → WorkTells e
   work-so f e is t = subst WorkTells (same_some _ _ is) t
 
-  of-claim : (r : ArcRef) (place : ℕ) (below : List Todo) (e : Error) → ClaimStep v s r place below (Err e) after → Silent e
-  of-claim r place below e c = elim c.refused.0 [
-    | inl is ↦ quiet-silent e (only-claim s.core r e is)
-    | inr (inl (none, is, deep)) ↦ subst Silent (sym is) tt
-    | inr (inr (inl is)) ↦ subst Silent (sym is) tt
-    | inr (inr (inr is)) ↦ subst Silent (sym is) tt
-  ]
-
   of-first-pin : (r : ArcRef) (e : Error) → PinRefused s.core (owner_worker v) r e after.core → Quiet e
   of-first-pin r e (inl c) = of-clone s.core (owner_worker v) after.core r.handle e c
   of-first-pin r e (inr (row, (mid, through, cloned, inl c))) = of-pin mid (owner_worker v) after.core through e c
   of-first-pin r e (inr (row, (mid, through, cloned, inr c))) = of-begin mid (owner_worker v) after.core through e c
 
-  of-write : (t : ℕ) (e : Error) → m.values.write_causes t e ⊎ (e ≡ Error.OutOfMemory) → Silent e
-  of-write t e h = grind (basics, lawful)
-
-  of-set : (r : ArcRef) (through : HandleNumber) (key : ℕ) (e : Error) → KeySetFor s.core (owner_worker v) r through key (Err e) after.core → Quiet e
-  of-set r through key e c = elim c.does [ inl (loose, set) ↦ of-key s.core (owner_worker v) after.core through key e set | inr (loose, told, a) ↦ absurd (cc) ]
-
   works : (todo : List Todo) (action : Action W) (e : Error) → refusal_of_step action ≡ Some e → WorkDoes m v s todo action after
       → WorkTells e × (answer_after todo action ≡ None)
-  works (to_start r place ∷ below) (Action.Claim i (Err f)) e is (same, c) = (work-so f e is (silent s.core after.core f (of-claim r place below f c)), refl)
   works (to_pin r place ∷ below) (Action.Pin i (Err f)) e is (same, c) = (work-so f e is (quiet s.core after.core f (of-first-pin r f c.refused.0)), refl)
   works (to_load r place through reading ∷ below) (Action.Pin i (Err f)) e is (same, c) =
       (work-so f e is (fails m.values lawful s.core (owner_worker v) reading f after.core c.refused.0.does.0).tells, refl)
-  works (to_write r place through ∷ below) (Action.Write i (Err f)) e is (same, c) =
-      (work-so f e is (silent s.core after.core f (of-write _ f c.refused.0)), refl)
-  works (to_finish o ∷ below) (Action.Store i (Err f)) e is (same, c) =
-      (work-so f e is (said s.core after.core f (of-store s.core after.core _ _ _ f c.stored.refused.1)), refl)
-  works (to_item written keys ∷ below) (Action.Store i (Err f)) e is (same, c) =
-      (work-so f e is (said s.core after.core f (of-store s.core after.core _ _ _ f c.stored.refused.1)), refl)
-  works (to_set r through key height ∷ below) (Action.SetKey i (Err f)) e is (same, c) =
-      (work-so f e is (quiet s.core after.core f (of-set r through key f c.sets)), refl)
   works todo action e is c = grind basics
 
 -- ---- an event
@@ -221,9 +117,6 @@ module _ {N B W : Type 0} (m : Seen N B W) (lawful : IsLawful m.values) (v : ℕ
 module _ {N B W : Type 0} (m : Seen N B W) (lawful : IsLawful m.values) (u u' : World) where
   abbrev EventTells : Error → Type 0
   EventTells e = TellsOfStorage u.core u'.core e
-
-  event-so : (f e : Error) → Some f ≡ Some e → Quiet f → EventTells e
-  event-so f e is q = subst EventTells (same_some _ _ is) (quiet u.core u'.core f q)
 
   of-load-step : (reading : Reading) (ended : Option (LoadAnswer N)) (frames : List Frame) (e : Error) → refusal_of_end ended ≡ Some e
       → LoadDoes m.values u.core Owner.Caller reading ended frames u'.core
@@ -241,24 +134,10 @@ module _ {N B W : Type 0} (m : Seen N B W) (lawful : IsLawful m.values) (u u' : 
       let a = subst (λ answer. Ends answer v.0 x.after.core u'.core) (x.answers ∙ none) x.ends in
       record { failed = λ code same. subst (HasFailed u.core.failures) (sym a.failures) (told.failed code same); absent = told.absent }
 
-  of-item : (t : TableNumber) (task : Task) (e : Error) → StartedItem u t task (Err e) u' → Quiet e
-  of-item t task e c = grind (basics, only-spent, c.refused.0)
-
-  of-listed : (t : TableNumber) (i : ℕ) (e : Error) → StartedListed u t i (Err e) u' → Quiet e
-  of-listed t i e c = grind (basics, only-spent, c.refused.0)
-
   of-event : (event : Event N B W) (reply : EventReply N B W) (e : Error) → refusal_of reply ≡ Some e → Happens m u event reply u' → EventTells e
   of-event (Event.Call call) (EventReply.CallReply r) e is x = calls m lawful u.core Owner.Caller u'.core call r e is x.step.does
-  of-event (Event.LoadStart h) (EventReply.Started (Err f)) e is x = event-so f e is (of-begin u.core Owner.Caller u'.core h f x.step)
-  of-event (Event.LoadKey key t) (EventReply.Started (Err f)) e is x = event-so f e is (of-begin-key u.core Owner.Caller u'.core key f x.step)
   of-event (Event.LoadStep l) (EventReply.LoadMoved (Ok reply)) e is x = of-load-step x.moves.reading reply.ended x.moves.frames e is x.moves.does.does
-  of-event (Event.LoadStep l) (EventReply.LoadMoved (Err f)) e is x =
-      event-so f e is (only-earlier {P = Quiet} _ _ (only-load u.core Owner.Caller l) (only-if Quiet _ Error.WrongMode tt) f x.refused.0)
-  of-event Event.TableNew (EventReply.TableMade (Err f)) e is x = event-so f e is (subst Quiet (sym x.refused.0) tt)
-  of-event (Event.WorkerItem t item) (EventReply.WorkerMade (Err f)) e is x = event-so f e is (of-item t _ f x)
-  of-event (Event.WorkerListed t i) (EventReply.WorkerMade (Err f)) e is x = event-so f e is (of-listed t i f x)
   of-event (Event.WorkerStep v) (EventReply.WorkerMoved (Ok reply)) e is x = of-worker-step v reply e is x.moves
-  of-event (Event.WorkerStep v) (EventReply.WorkerMoved (Err f)) e is x = event-so f e is (subst Quiet (sym x.refused.0) tt)
   of-event event reply e is x = grind basics
 
 pub storage-told : {N B W : Type 0} (m : Seen N B W) → StorageErrorsAreTrue m

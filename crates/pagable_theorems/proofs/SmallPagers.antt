@@ -175,7 +175,6 @@ past-end (x ∷ xs) (suc n) few = past-end xs n (omega arith)
 past-end x0 x1 few = grind basics
 
 pub loose-at : (vs : List (Option Sample)) (n : ℕ) (x : Sample) → Each (λ (o : Option Sample). IfSome o IsLoose) vs → value_at vs n ≡ Some x → IsLoose x
-loose-at (o ∷ os) zero x (own, rest) is = of-some IsLoose own is
 loose-at (o ∷ os) (suc n) x (own, rest) is = loose-at os n x rest is
 loose-at x0 x1 x2 x3 x4 = grind basics
 

@@ -104,16 +104,6 @@ module _ (types : Types) (g : Ground) where
   wrote-start place [] todo all = all
   wrote-start place (r ∷ rs) todo all = (tt, all)
 
-  wrote-give : (r : ArcRef) (key height : ℕ) (todo : List Todo) → AllWrote types g todo → AllWrote types g (give r key height todo)
-  wrote-give r key height (to_finish o ∷ below) all =
-      wrote-start o.place _ (to_finish (record o { keys = o.keys ++ key ∷ []; height = max o.height (above r.kind.0 height) }) ∷ below) all
-  wrote-give r key height (to_item written keys ∷ below) all = wrote-start 0 _ (to_item written (keys ++ key ∷ []) ∷ below) all
-  wrote-give r key height x3 all = grind basics
-
-  wrote-known : (r : ArcRef) (key height : ℕ) (todo : List Todo) → AllWrote types g todo → AllWrote types g (give_known r key height todo)
-  wrote-known r key height [] all = (tt, tt)
-  wrote-known r key height (x ∷ below) all = wrote-give r key height (x ∷ below) all
-
 pub keys-same : {shelf shelf' : Shelf} → ((i : Identity) → shelf'.slots i ≡ shelf.slots i) → KeepsKeys shelf shelf'
 keys-same same i key height p = record { slot = p.slot; claimed = same i ∙ p.claimed; known = p.known }
 
@@ -396,8 +386,6 @@ module _ {N B W : Type 0} (m : Seen N B W) (n : ℕ) {g g' : Ground} (task : Tas
     -- and what waits is still a form of its node's tree
     wrote-stepped : (todo : List Todo) → (action : Action W) → step ≡ action → WorkDoes m n s todo action s' → AllStand s.shelf n task todo → s.todo ≡ todo
         → AllWrote m.values.types g todo → AllWrote m.values.types g' s'.todo
-    wrote-stepped (to_start r place ∷ below) (Action.Claim i (Ok (Claim.Known key height))) st (is, c) all e written =
-        listed c.finds.1.2.list_is (wrote-known m.values.types g' r key height below (all-wrote-on m.values goes below written.1))
     wrote-stepped (to_write r place through ∷ below) (Action.Write i (Ok out)) st (is, p) (stands, apart, all) e written =
         let claim = stands.1 in let given = (fits (identity_of r) claim.slot claim.claimed).given in let few = goes.last in
         let can = subst (IsReadableType m.values.types) (sym (fits (identity_of r) claim.slot claim.claimed).typed) (readable r place through below e) in
@@ -406,8 +394,6 @@ module _ {N B W : Type 0} (m : Seen N B W) (n : ℕ) {g g' : Ground} (task : Tas
         listed p.writes.list_is (wrote-start m.values.types g' place _ (to_finish
         (record { reference = r; place = place; through = through; written = m.written_of out; keys = []; height = 0 }) ∷ below)
         ((omega arith, wrote-on m.values goes given w), all-wrote-on m.values goes below written.1))
-    wrote-stepped (to_release r key height ∷ below) (Action.Release i) st (is, falls, t) all e written =
-        listed t.list_is (wrote-give m.values.types g' r key height below (all-wrote-on m.values goes below written.1))
     wrote-stepped todo action st does all e written = grind (basics, listed, all-wrote-on m.values goes)
 
 -- Page-outs by trees: what tables and workers hold fits at first and after each event.
