@@ -4,9 +4,10 @@ that one run saves and the next one opens.
 
     tools/file_blobs/check.py [PROGRAM [KILLS [STEP]]]
 
-PROGRAM is the built `blobctl`; without one it is built here, unproved. It is killed at KILLS drawn moments (20), and
-nothing that a flush had answered may be lost. Each STEP-th byte (50) of a file is changed in turn: then the file isn't
-opened, `fsck` names the damage, or nothing that was kept has changed. The status is 0 if all holds.
+PROGRAM is the built `blobctl`; without one it is built here, unproved, as tools/speed/build.py says. It is killed at
+KILLS drawn moments (20), and nothing that a flush had answered may be lost. Each STEP-th byte (50) of a file is changed
+in turn: then the file isn't opened, `fsck` names the damage, or nothing that was kept has changed. The status is 0 if
+all holds.
 """
 import hashlib
 import pathlib
@@ -19,21 +20,11 @@ import sys
 import tempfile
 import time
 
-TOP = pathlib.Path(__file__).resolve().parent.parent.parent
-sys.path.insert(0, str(TOP / "tools" / "speed"))
-from build import compiled_in
+sys.dont_write_bytecode = True
+sys.path.insert(0, str(pathlib.Path(__file__).resolve().parent.parent / "speed"))
+from build import built_crate  # noqa: E402
 
 DRAWN = random.Random(5)
-
-
-def built(work):
-    """Builds `blobctl` unproved, as fast as a proved one (tools/speed/build.py tells how), and gives its path."""
-    copy = work / "repository"
-    shutil.copytree(TOP / "crates", copy / "crates", ignore=shutil.ignore_patterns("out", "stdin", "stdout", "args"))
-    for name in ("HANDLES", "crates.txt"):
-        shutil.copy(TOP / name, copy / name)
-    subprocess.run(["git", "init", "-q"], cwd=copy, check=True)
-    return compiled_in(work, copy / "crates" / "blobctl" / "src")
 
 
 def run(program, file, *words, text="", **more):
@@ -272,7 +263,7 @@ def main():
     step = int(sys.argv[3]) if len(sys.argv) > 3 else 50
     with tempfile.TemporaryDirectory() as folder:
         folder = pathlib.Path(folder)
-        program = pathlib.Path(sys.argv[1]).resolve() if len(sys.argv) > 1 else built(folder / "build")
+        program = pathlib.Path(sys.argv[1]).resolve() if len(sys.argv) > 1 else built_crate(folder / "build", "blobctl")
         faults = [kills(program, folder, rounds), full_disk(program, folder), two_writers(program, folder),
                   damage(program, folder, step), shell(program, folder), texts(program, folder)]
     if any(faults):

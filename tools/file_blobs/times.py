@@ -14,12 +14,13 @@ import sys
 import tempfile
 
 HERE = pathlib.Path(__file__).resolve().parent
-TOP = HERE.parent.parent
-sys.path.insert(0, str(TOP / "tools" / "speed"))
-from build import compiled_in, source_in
+sys.path.insert(0, str(HERE.parent / "speed"))
+from build import TOP, compiled_in, source_in
 
-USES = ("times: pagable_value_spec pagable_flavors pagable_codec pagable_core pagable_file sqlite sqlite_disk sqlite_store"
-        " sqlite_trees sqlite_value sqlite_wal anyhow\n")
+USES = (
+    "pagable_value_spec pagable_flavors pagable_codec pagable_core pagable_file sqlite sqlite_disk sqlite_store"
+    " sqlite_trees sqlite_value sqlite_wal anyhow"
+)
 SIZES = [(300, 300), (100, 10_000)]
 TIME = re.compile(r"(stored|fetched|opened) in (\d+) ms")
 
@@ -27,7 +28,8 @@ TIME = re.compile(r"(stored|fetched|opened) in (\d+) ms")
 def built(work):
     """Builds both programs."""
     with tempfile.TemporaryDirectory() as folder:
-        folder = pathlib.Path(folder)
+        folder = pathlib.Path(folder) / "times"
+        folder.mkdir()
         shutil.copy(HERE / "times.rattle", folder / "main.rattle")
         program = compiled_in(work, source_in(work, TOP, folder, USES))
     subprocess.run(["gcc", "-O2", HERE / "times.c", "-lsqlite3", "-o", work / "times_c"], check=True)

@@ -21,16 +21,6 @@ import build  # noqa: E402
 import models  # noqa: E402
 
 
-def built(folder, name):
-    """Builds a program, and gives its path."""
-    copy = folder / "repository"
-    shutil.copytree(TOP / "crates", copy / "crates", ignore=shutil.ignore_patterns("out"))
-    shutil.copy(TOP / "HANDLES", copy / "HANDLES")
-    shutil.copy(TOP / "crates.txt", copy / "crates.txt")
-    subprocess.run(["git", "init", "-q"], cwd=copy, check=True)
-    return build.compiled_in(folder, copy / "crates" / name / "src")
-
-
 def run(program, words, text=""):
     """Runs a program with these words and this input: its status, and what it said."""
     how = {"encoding": "utf-8", "errors": "surrogateescape", "capture_output": True, "timeout": 120}
@@ -192,7 +182,7 @@ def main():
         random.seed(name)
         with tempfile.TemporaryDirectory() as folder:
             folder = pathlib.Path(folder)
-            program = built(folder, name)
+            program = build.built_crate(folder, name)
             work = folder / "work"
             work.mkdir()
             print(f"{name}: {globals()[name](program, work)} runs as they should be", flush=True)

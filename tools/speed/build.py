@@ -7,7 +7,8 @@ own.
 A proved program is compiled by `rt run`, which proves it first. `rt try` compiles without a proof, but puts checks of
 its own into the code, fills each new variable, and links a sanitizer. So here the compiler that `rt try` calls is this
 script: it takes all that out of the code, and compiles as `rt run` does, at -O3 for x86-64-v2. The result is as fast as
-the proved program, within what one can measure. Other tools copy crates, and run tests that aren't proved, by it.
+the proved program, within what one can measure. Other tools copy crates, build programs, and run tests that aren't
+proved, by it.
 
 The files are named X.rattle, since the gate stops at a file X.rt that it doesn't check.
 """
@@ -85,15 +86,22 @@ def built(work, repository=TOP):
     return compiled_in(work, source_in(work, repository, HERE, USES))
 
 
-def copied(work, crate, uses, repository=TOP):
-    """Copies the crates of a repository, with one that is new or uses these others too: the folder of its files."""
+def built_crate(work, crate):
+    """Builds the program of a crate of this repository, and gives its path."""
+    return compiled_in(work, copied(work, crate))
+
+
+def copied(work, crate, uses="", repository=TOP):
+    """Copies the crates of a repository, with one that is new or uses these others too: the folder of its files. A
+    program's words and input stay behind."""
     work.mkdir(parents=True, exist_ok=True)
     copy = work / "repository"
     shutil.rmtree(copy, ignore_errors=True)
-    shutil.copytree(repository / "crates", copy / "crates", ignore=shutil.ignore_patterns("out"))
+    left_behind = shutil.ignore_patterns("out", "stdin", "stdout", "args")
+    shutil.copytree(repository / "crates", copy / "crates", ignore=left_behind)
     shutil.copy(repository / "HANDLES", copy / "HANDLES")
     line, crates = re.compile(rf"(?m)^{crate}\b.*"), (repository / "crates.txt").read_text(encoding="utf-8")
-    crates = line.sub(rf"\g<0> {uses}", crates) if line.search(crates) else f"{crates}{crate}: {uses}\n"
+    crates = line.sub(rf"\g<0> {uses}".rstrip(), crates) if line.search(crates) else f"{crates}{crate}: {uses}\n"
     (copy / "crates.txt").write_text(crates, encoding="utf-8")
     subprocess.run(["git", "init", "-q"], cwd=copy, check=True)
     return copy / "crates" / crate / "src"
