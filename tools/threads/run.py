@@ -8,12 +8,10 @@ They run unproved, by `rt try`, in a copy of the repository's crates, as modules
 of a test says no more than that it ends, and these tests would take as long to prove as the calls that they run. The
 files are named X.rattle, since the gate stops at a file X.rt that it doesn't check.
 
-A wrong body is one that no contract refuses, and that a test has to find. In wrong.edits a line 'NAME: TEXT' stands
-below the line 'file: PATH' of its file, as in tools/wrong_bodies: for '⟦OLD ⇒ NEW⟧' the file has OLD, and gets NEW; a
-line 'and: TEXT' does more of the same edit. Below it a line 'test: MODULE::TEST' stands for each test that has to fail.
-Only their modules run, on a copy with that edit, or with several whose names are joined by '+', if none bears on
-another's tests: that saves minutes. Each edit is 'found', or the line says why it isn't, and the last line is 'N found,
-M not'; the status is 1 if one isn't.
+A wrong body is one that no contract refuses, and that a test has to find: each test that is named with it has to fail
+(tools/edits.py tells how it is spelled). Only the modules of these tests run, on a copy with that edit, or with several
+whose names are joined by '+', if none bears on another's tests: that saves minutes. Each edit is 'found', or the line
+says why it isn't, and the last line is 'N found, M not'; the status is 1 if one isn't.
 """
 import pathlib
 import re
@@ -24,13 +22,13 @@ import tempfile
 
 HERE = pathlib.Path(__file__).resolve().parent
 sys.dont_write_bytecode = True
-sys.path.insert(0, str(HERE.parent / "speed"))
+sys.path[:0] = [str(HERE.parent / "speed"), str(HERE.parent)]
 import build  # noqa: E402
+from edits import edits_in  # noqa: E402
 
 CRATE = "pagable_locked_examples"
 # What the tests use beside what the crate does.
 USES = "pagable_examples pagable_value_rows indexmap smallvec"
-CHANGE = re.compile(r"⟦(.*?) ⇒ (.*?)⟧")
 
 
 def used(names):
@@ -75,45 +73,16 @@ def check_sums():
         sys.exit(f"tests of threads: no test wants {' '.join(missing)}")
 
 
-class Edit:
-    """A wrong body: its name, of each line the file, the old text and the new one, and the tests that find it."""
-
-    def __init__(self, name):
-        self.name, self.pairs, self.tests = name, [], []
-
-    def apply(self, folder):
-        """Makes the edit in this folder; answers why it can't, or None."""
-        for file, old, new in self.pairs:
-            text = (folder / file).read_text(encoding="utf-8")
-            if text.count(old) != 1:
-                return f"an old text stands {text.count(old)} times in {file}"
-            (folder / file).write_text(text.replace(old, new), encoding="utf-8")
-        return None
-
-
-def edits():
-    """The wrong bodies."""
-    found = []
-    for line in (HERE / "wrong.edits").read_text(encoding="utf-8").splitlines():
-        word, _, text = line.partition(": ")
-        if word == "file":
-            file = text
-        elif word == "test":
-            found[-1].tests.append(text)
-        else:
-            if word != "and":
-                found.append(Edit(word))
-            found[-1].pairs.append((file, CHANGE.sub(r"\1", text), CHANGE.sub(r"\2", text)))
-    return found
-
-
 def told(together):
     """What is told of each of these edits, which are tried together: 'found' where each of its tests fails."""
     with tempfile.TemporaryDirectory() as folder:
         source = copied(pathlib.Path(folder), {test for edit in together for test in edit.tests})
+        top, texts = source.parent.parent.parent, {}
         for edit in together:
-            if why := edit.apply(source.parent.parent.parent):
+            if why := edit.apply(texts, top):
                 return [f"{edit.name}: {why}" for _ in together]
+        for file, text in texts.items():
+            (top / file).write_text(text, encoding="utf-8")
         said = build.said_by_tests(source)
     if not build.RESULT.search(said):
         return [f"no tests ran: {said[-1000:]}" for _ in together]
@@ -123,7 +92,7 @@ def told(together):
 
 def try_wrong(groups):
     """Tries the wrong bodies of these names, or all; answers whether each was found."""
-    every = edits()
+    every = edits_in(HERE / "wrong.edits")
     named = [[edit for edit in every if edit.name in group.split("+")] for group in groups]
     chosen = named or [[edit] for edit in every]
     verdicts = []
