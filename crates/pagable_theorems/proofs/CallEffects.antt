@@ -6,7 +6,7 @@ use Rattle.pagable_pager_spec.specs.{
   LoadCalls.{BeginCall, BeginKeyCall, EndCall, Given, HandOverCall, LoadCloses, LoadFetchCall, is_owned_in, numbers_of, without_load},
   Pager.{CallBrings, IsNewNode},
   WorkerClaims.LeavesCache,
-  World.{of_key, usable},
+  World.usable,
   declared.{calls.FetchTarget.FetchTarget, pinning.Pinning.Pinning},
 }
 use Rattle.pagable_theorems.proofs.{

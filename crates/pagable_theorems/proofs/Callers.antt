@@ -1,8 +1,7 @@
 -- Each operation of a caller keeps trees: a call or a page-out since it is a chain of moments of a machine, a pin or a read since its load is.
 use Rattle.pagable_pager_spec.specs.{
-  Access.{IsValueOf, LoadAsksWell, LoadRun, MakesCall, PinRun, ReadRun, ReadingStep, load-ends, load-fails, load-goes-on, load-is-refused, load-pins},
-  Access.{load-reads, pin-is-refused, pins-at-once, reading-fails, reading-is-refused},
-  Events.CallStep,
+  Access.{IsValueOf, LoadAsksWell, LoadRun, PinRun, ReadRun, load-ends, load-fails, load-goes-on, load-is-refused, load-pins, load-reads, pin-is-refused},
+  Access.{pins-at-once, reading-fails, reading-is-refused},
   LoadCalls.BeginCall,
   Loads.LoadDoes,
   Rightness.GivesTree,
@@ -14,15 +13,14 @@ use Rattle.pagable_theorems.proofs.{
   LoadProgress.{pin_stands, row-held, was-open},
   LoadResults.{After, after-then, caller-feels, pin-after, read-after},
   Operations.{Stands, Stays, call-nobody, call-stays, item-stays, list-stays, plain-stays, plainly, stays-same, stays-then},
-  ReadingSteps.{caller-free, reading-feels},
   Trees.same_some,
-  Words.{Beginning, Blob, Call, Core, Err, Error, Frame, HandleNumber, HandleRow, HoldsSettled, IsLawful, IsPagerWhole, Last, List, LoadAnswer, LoadNumber},
-  Words.{NodeNumber, None, Ok, OpenLoad, Option, Owner, PagerState, Reading, Reply, Result, Seen, Some, Tree, ValueStands, Values, Written, ap, arith, of_cell},
-  Words.{refl, row_at, subst, sym, updated, ℕ, [], ◌+◌, ◌∙◌, ◌≡◌, ◌≤◌},
+  Words.{Beginning, Call, Core, Err, Error, HandleNumber, HandleRow, HoldsSettled, IsLawful, IsPagerWhole, Last, LoadAnswer, LoadNumber, NodeNumber, Ok},
+  Words.{OpenLoad, Owner, PagerState, Reading, Reply, Result, Seen, Some, Tree, ValueStands, Values, ap, arith, of_cell, refl, row_at, subst, sym, updated, ℕ},
+  Words.{[], ◌+◌, ◌∙◌, ◌≡◌, ◌≤◌},
 }
 use Rattle.pagable_theorems.specs.{
-  CallerLaws.{AreRight, AskWell, CallerLaw, IsCall, Operation, OperationAsksWell, OperationIsRight, Operations, PinAsksWell, PinIsRight, PinnedAgainLaw},
-  CallerLaws.{ReadAsksWell, ReadingIsRight, calls, goes-on, is-done, pages-item, pages-list, pins, reads-key},
+  CallerLaws.{AreRight, AskWell, CallerLaw, Operation, OperationAsksWell, OperationIsRight, Operations, PinAsksWell, PinIsRight, PinnedAgainLaw, ReadAsksWell},
+  CallerLaws.{ReadingIsRight, calls, goes-on, is-done, pages-item, pages-list, pins, reads-key},
   PageOutLaws.NobodyWorks,
 }
 

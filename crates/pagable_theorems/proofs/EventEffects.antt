@@ -28,7 +28,7 @@ use Rattle.pagable_theorems.proofs.{
   Words.{◌∙◌, ◌∷◌, ◌≡◌, ◌≤◌, ◌⊎◌},
 }
 use Rattle.pagable_theorems.specs.{
-  TreeSteps.{EventFeels, IsFresh, KeepsReadings, NewNode, SameNode, StaysAway, StepsReading, by-call, by-key, by-nothing, by-reading, sets_key},
+  TreeSteps.{EventFeels, IsFresh, KeepsReadings, NewNode, SameNode, StaysAway, by-call, by-key, by-nothing, by-reading, sets_key},
 }
 
 -- where a worker stands before its step

@@ -3,12 +3,12 @@
 use Rattle.pagable_pager_spec.specs.{
   Basics.longest_path,
   Kinds.{is_loose, is_owner},
-  LoadCalls.{AdoptCall, AsksInVain, EndCall, HandOverCall, LazyCall, LoadCloses, LoadFetchCall, cell_fault, is_known, root_fault},
+  LoadCalls.{AdoptCall, AsksInVain, EndCall, HandOverCall, LazyCall, LoadCloses, LoadFetchCall, cell_fault, root_fault},
   Loads.{Fails, Meets, RefusesBlob, RefusesNested, RefusesNode, RefusesRoot, answer_of, answers_from, asks, handles_of, is_faulty, need_of, needs_nested},
   Loads.{next_by, next_of, read_with},
   Order.{LeadsDown, ReadsTooDeep, after_kinds, goes-down, is-there},
   Pager.{IsReadingOf, of_worker},
-  Refusals.{earlier, handle_fault, load_fault, named_fault, refused_if, spent},
+  Refusals.{handle_fault, load_fault, named_fault, refused_if, spent},
   World.{Root, of_cell, of_key, row_at},
   declared.calls.FetchTarget.FetchTarget,
 }

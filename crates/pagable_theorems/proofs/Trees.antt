@@ -4,8 +4,8 @@ use Rattle.pagable_pager_spec.specs.Order.{Follows}
 use Rattle.pagable_theorems.proofs.{
   Words.{Action, Among, AreMoments, Blob, Bool, Entries, Entry, Form, Forms, List, MachineState, Meaning, Moment, None, Option, ReadsTree, Seen, Shape, Tree},
   Words.{Types, WalkDoes, WorkerState, ap, arith, basics, code, cond, false, followed, inl, inr, length, map, none, one, pair, put_all, reference},
-  Words.{reference-form, references_in, refl, rename, rest, rules, run-form, state_after, subst, suc, sum_by-cons, sym, tree, true, type_of, variant, zero, ℕ},
-  Words.{ℤ, [], ◌++◌, ◌+◌, ◌<◌, ◌==◌, ◌∙◌, ◌∷◌, ◌≡◌, ◌≤◌, ◌⊎◌},
+  Words.{reference-form, references_in, refl, rename, rules, run-form, state_after, subst, suc, sum_by-cons, sym, tree, true, type_of, variant, zero, ℕ, ℤ, []},
+  Words.{◌++◌, ◌+◌, ◌<◌, ◌==◌, ◌∙◌, ◌∷◌, ◌≡◌, ◌≤◌, ◌⊎◌},
 }
 use Rattle.pagable_theorems.specs.{FormLaws.HashMapHasAnyOrder, SmallWorlds.ChainsJoin}
 use Rattle.pagable_value_spec.specs.{

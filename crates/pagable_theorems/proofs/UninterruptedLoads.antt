@@ -5,9 +5,8 @@ use Rattle.pagable_pager_spec.specs.{
   Events.{LoadSteps, ReadingsAre, reading_at},
   LoadCalls.BeginCall,
   Loads.{GoesOn, IsDecoded, LoadDoes, MakesNode, gone_on, with_got},
-  Refusals.Refused,
   Runs.TakesWell,
-  WorkerClaims.{IsLoadOfPagedOut, IsOfChance, LoadIsSound, StandTogether, of_load, of_nobody, turn_of},
+  WorkerClaims.{IsLoadOfPagedOut, IsOfChance, LoadIsSound, StandTogether, of_load, turn_of},
   declared.events.LoadReply.LoadReply,
 }
 use Rattle.pagable_theorems.proofs.{
@@ -22,10 +21,9 @@ use Rattle.pagable_theorems.proofs.{
   Trees.same_some,
   Words.{Alike, Among, ArcRef, Beginning, Bool, Call, Core, Err, Error, Event, EventReply, Frame, FramesFit, GetsKnown, HandleNumber, HandleRow},
   Words.{HandlesAreWhole, Happens, IsLawful, IsMachineWhole, IsReadableType, IsReference, IsWellAsked, Kind, List, LoadAnswer, LoadNumber, MachineState, Mode},
-  Words.{Moment, NodeNumber, None, Ok, OpenLoad, Option, OptionalDataKey, Owner, Reading, Reply, Seen, Some, Tree, Values, above, adopted, ap, arith, basics},
-  Words.{false, false_from_ne_true, find_row, held, if_there, inl, inr, is_in, is_named_by, is_some, mode_of, next_node, of_cell, owner_value},
-  Words.{references_fault, refl, root_frame, row_at, rules, slice_get, subst, suc, sym, type_of, with_handle, world_of, zero, ℕ, [], ◌+◌, ◌<◌, ◌==◌, ◌∙◌, ◌∷◌},
-  Words.{◌≡◌, ◌⊎◌},
+  Words.{Moment, NodeNumber, None, Ok, OpenLoad, Option, OptionalDataKey, Owner, Reading, Reply, Seen, Some, Tree, Values, adopted, ap, arith, basics, false},
+  Words.{false_from_ne_true, find_row, held, if_there, inl, inr, is_in, is_named_by, is_some, mode_of, next_node, of_cell, owner_value, references_fault, refl},
+  Words.{root_frame, row_at, rules, slice_get, subst, suc, sym, type_of, with_handle, world_of, zero, ℕ, [], ◌+◌, ◌<◌, ◌==◌, ◌∙◌, ◌∷◌, ◌≡◌, ◌⊎◌},
 }
 use Rattle.pagable_theorems.specs.{DepthLaws.{HasBegun, IsBeginOf, UninterruptedLoadsAreSound}, TreeSteps.FramesHeld}
 

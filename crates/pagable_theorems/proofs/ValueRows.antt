@@ -5,7 +5,7 @@ use Rattle.pagable_pager_spec.specs.{
   Calls.{Asked, CloneCall, LoosenCall, PinCall, RecallCall, TakeCall, is_named_by, moved, row_of, with_cached, with_handle, with_known, with_mode},
   Cascade.only_handle,
   Events.{with_entry_taken, with_worker},
-  Kinds.{find_row, held, is_at, is_handle, is_in_memory, is_owned_by, is_owner, is_pin, is_pinning, is_share, is_shared, mode_of, owner_value, pins},
+  Kinds.{find_row, is_at, is_handle, is_in_memory, is_owned_by, is_owner, is_pin, is_pinning, is_share, is_shared, mode_of, owner_value, pins},
   LoadCalls.{BeginCall, BeginKeyCall, is_owned_in},
   Pager.{IsPagerWhole, IsWhole, PagerState},
   Refusals.{IsReference, Owns},

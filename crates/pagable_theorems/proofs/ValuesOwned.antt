@@ -234,8 +234,12 @@ module _ {N E : Type 0} {v : Values N} {s s' : PagerState N E} (is : IsPagerWhol
           let stood = stands-whole is.whole.handles h.0 row owns.live in
           let keeps : Keeps s.core (with_mode s.core h Mode.LooseUnpinned) = record {
             owns = mode-owns s.core h Mode.LooseUnpinned row stood (subst NotValues (sym owns.own) none);
-            held = λ n e. (grind (basics, same-number, row-here s.core h row owns.live (ap is_pinning mode),
-                mode-others s.core h Mode.LooseUnpinned row stood n));
+            held = λ n e. (grind (
+              basics,
+              same-number,
+              row-here s.core h row owns.live (ap is_pinning mode),
+              mode-others s.core h Mode.LooseUnpinned row stood n,
+            ));
           } in
           fell is keeps f is.whole.shut (λ x among e. absurd (cc)) left
     ]

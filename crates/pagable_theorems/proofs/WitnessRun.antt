@@ -25,7 +25,7 @@ use Rattle.pagable_theorems.proofs.{
   Words.{to_item, to_pin, to_release, to_set, to_start, to_write, tree, true, type_of, updated, world_of, zero, ℕ, [], ◌++◌, ◌+◌, ◌==◌, ◌∙◌, ◌∷◌, ◌≡◌, ◌≤◌},
   Words.◌⊎◌,
 }
-use Rattle.pagable_theorems.specs.{SmallWorlds.{StartsWell, outer}, Witness.{ArePremised, TwoLevelsMeetTheHeadline, value_at}}
+use Rattle.pagable_theorems.specs.{SmallWorlds.{outer}, Witness.{ArePremised, TwoLevelsMeetTheHeadline, value_at}}
 use Rattle.pagable_value_spec.specs.{Blob.preimage, Form.nothing-form, Keyed.throughout-alone, Trees.{none-followed, rest_of}}
 use Rattle.std.specs.Prelude.{IfSome, is_none, nat_le}
 use Rattle.pagable_theorems.specs.Witness as two
