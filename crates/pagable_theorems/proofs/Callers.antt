@@ -99,7 +99,6 @@ pin-of {s = s} {s'} {h} {k} (load-pins k2 reading mid s2 starts run) well =
     let b = load-begun s.core mid.core h reading.load starts.key starts.begins.step in
     let p = pinned-at run starts.begins.whole b.few k refl in
     let loads : p.load ≡ b.load = same_some _ _ (sym p.open_load ∙ b.open_load) in
-    let roots : of_cell p.node p.t p.h ≡ of_cell b.row.node b.t h = sym p.root ∙ ap (λ (x : OpenLoad). x.root) loads ∙ b.root in
     let nodes : p.node ≡ b.row.node = cc in
     (b.row, b.live, subst (λ n. PinOf s'.core Owner.Caller n k) nodes p.pin)
 
@@ -185,7 +184,6 @@ pinned_again_law E m s mid later s' trees h k l x y first between again well nob
     let at2 : gives_again.row.node ≡ row.node = ap (λ (r : HandleRow). r.node) (same_some _ _ (sym gives_again.live ∙ pin2.pin.live)) ∙ pin2.at ∙ nodes in
     let given : gives.row.node.0 ≤ mid.core.last.node = (p.now.well.whole.handles.nodes_numbered gives.row.node.0
     (cell-of p.now.well.whole.handles gives.row.node.0 (row-held mid.core k gives.row gives.live))).1 in
-    let later_given = o.after.nodes in
     let tree : q.trees' gives_again.row.node.0 ≡ p.trees' gives.row.node.0 =
     ap (λ (n : NodeNumber). q.trees' n.0) (at2 ∙ sym at) ∙ q.after.same gives.row.node.0 (omega arith)
     ∙ o.after.same gives.row.node.0 given in

@@ -308,7 +308,6 @@ module _ {N E B W : Type 0} (m : Seen N B W) (lawful : IsLawful m.values) where
       (λ n others. g.spares n on.whole.pager.whole.owners_there others) in
       let pins = pins-hold m (world_of s) (world_of x.after) x.event x.reply on.whole.pager.whole.handles does.step.happens in
       let keys = keys-right m s x.after trees f.0 on.fits fits on.whole does.whole stands on.held held x.event x.reply does.step.happens in
-      let asked = premised.well in
       let so : IsRight m.values s trees x.event x.reply x.after f.0 = search (rules, pin-gives, reads-give) in
       (f.0, record { keeps = f.1.same; stands = stands; so = so }, assumption (does.whole, work, premised.settled, stands, readings, fits, held))
 

@@ -201,8 +201,6 @@ module _ {store : ℕ → Option Blob} {types : Types} where
         | is-read own is ↦ absurd (cc (sym is ∙ subst (λ (b : Blob). after_kinds types t b kinds ≡ asks kind child) same next))
         | was-another is ↦ absurd (cc (sym is ∙ subst (λ (b : Blob). after_kinds types t b kinds ≡ asks kind child) same next))
         | is-asked q among is ↦
-            let f : asks (record { 0 = q.kind }) q.key ≡ asks kind child = sym is ∙ subst (λ
-            (b : Blob). after_kinds types t b kinds ≡ asks kind child) same next in
             let kinds_are : q.kind ≡ kind.0 = cc in
             let keys_are : q.key ≡ child = cc in
             let (k, below) = below-of s can q among in

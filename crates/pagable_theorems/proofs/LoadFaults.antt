@@ -90,7 +90,7 @@ module _ {N E : Type 0} (v : Values N) (s : MachineState N E) (trees : ℕ → T
   asked-known frame height k (all-done own is all) kind key next = absurd (cc (sym is ∙ next))
   asked-known frame height k (one-left done left r q split same there is) kind key next =
       let at : slice_get k.refs (length done) ≡ Some r = ap (λ (rs : List ArcRef). slice_get rs (length done)) split ∙ at-place done r left in
-      let e : asks r.kind q ≡ asks kind key = sym is ∙ next in let kinds : r.kind ≡ kind = cc in
+      let kinds : r.kind ≡ kind = cc in
       let keys : q ≡ key = cc in let g = known-of shelf k.refs frame.blob.keys k.keys r (length done, at) in
       let p = subst (λ x. (h : ℕ) × IsPublished shelf (identity_of r) x h) (same_some _ _ (sym g.2 ∙ there) ∙ keys) g.1 in let l = k.lows r (length done, at) in
       let h : l.below ≡ p.0 = let k = l.known in grind (arith, same_some) in

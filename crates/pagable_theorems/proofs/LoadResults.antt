@@ -357,7 +357,7 @@ module _ {N B W E : Type 0} (m : Seen N B W) (s s' : MachineState N E) (trees tr
         search (p.claimed, b.1, p, b.2.is_stored, b.2.known, w.is, tree-form w);
     cells = λ i meets kind live.
         let p = met m.values s' trees' after t task key done i meets in let k = key-known s'.pager.core i.node.0 (held.slots t i p.0 p.1.0 p.1.1 kind) live in
-        let handles = whole.pager.whole.handles in let represents = stands.pager in record { key = k.0; set = k.1; reads = (grind basics) };
+        let handles = whole.pager.whole.handles in record { key = k.0; set = k.1; reads = (grind basics) };
   }
 
   -- each key that is published is its tree's, and a cell had one by then; each that is answered is its task's, and what was met then is left paged out, with
@@ -398,8 +398,7 @@ module _ {N E B W : Type 0} (m : Seen N B W) (n : ℕ) (task : Task) (C : Type 0
   at-answer (worker-ends todo next step answer s s' w is) past all covers met =
       let g = went w all covers in let grown = grows n s.shelf s'.shelf g.changes in (
         λ i slot there own.
-            let none : (slot.outcome ≡ no_result → false ≡ true) = λ still. subst (λ t. Covers s'.shelf n t) (g.done answer is) g.covers i slot there own
-            still in grind basics,
+            grind basics,
         λ i slot there other. grind (basics, some-same),
         λ c. was-answered n s'.shelf (past ++ step ∷ []) todo step answer is
             (fails-stay n s.shelf s'.shelf past _ todo grown (λ x (i, at). among-left past (step ∷ []) i x at) (met c).1),

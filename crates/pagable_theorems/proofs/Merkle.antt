@@ -252,7 +252,7 @@ module _ {store other : ℕ → Option Blob} {types : Types} (shares : SharesNoK
   same-stored : {type key : ℕ} {m n : Meaning KeyRef} → IsReadableType types type → StoredAs store types type key m → StoredAs other types type key n → m ≡ n
   same-stored {type} {key} {m} {n} can h g =
       let first = stored-reads store types type key m can h in let second = stored-reads other types type key n can g in
-      let blobs : first.blob ≡ second.blob = shares key _ _ first.stored second.stored in grind basics
+      grind basics
 
 pub tree_laws : TreeLaws
 tree_laws = record {

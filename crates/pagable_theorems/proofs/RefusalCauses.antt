@@ -284,7 +284,7 @@ module _ (types : Types) (stored : ℕ → Option Blob) where
         let u = down-to under rest more more_asked in
         let step = asks-by-kinds types under.node_type under.blob under.got frame.kind frame.key next in
         let d = goes-further under.blob (kinds_of under.got) frame.kind frame.key u.0 u.1 step eager in
-        let long : length rest + 1 ≡ length (under ∷ rest) = omega arith in grind basics
+        grind basics
 
     of-path : (frames : List Frame) → FramesFit types stored trees root_key root_type frames → FramesAsked types frames → (kind : Kind) (key : ℕ) (blob : Blob)
         → need_of types frames ≡ needs_nested kind key → stored key ≡ Some blob → longest_path < length frames → ReadsTooDeep types stored root_type root_key

@@ -313,7 +313,6 @@ pub prefix_free : {A : Type 0} (parts : ℕ → Shape) (s : Shape) → Throughou
 prefix_free {A} parts s t kind_of left m n b c x y k l u v f g e h =
     let first = form-again x f (looked-by u (looks-itself {look = λ kind a. Ok a} (λ a. refl) k)) t in
     let second = form-again y g (looked-by v (looks-itself {look = λ kind a. Ok a} (λ a. refl) l)) t in
-    let inputs : rest (b ++ x) (k ++ u) ≡ rest (c ++ y) (l ++ v) = rw (e, h) refl in
     let both : (m, rest x u) ≡ (n, rest y v) = cc in
     let same_bytes : x ≡ y = ap (λ (p : Meaning A × Rest A). p.1.bytes) both in
     let same_refs : u ≡ v = ap (λ (p : Meaning A × Rest A). p.1.refs) both in (

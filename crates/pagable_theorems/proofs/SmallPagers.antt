@@ -80,7 +80,7 @@ falls-so before w given gone low few none least =
     let is_none = by-number 3 (lists_none before w gone) (λ n. false) none (λ n lt.
     let a = none-pass RowLow (is_pin n) before.rows low (λ h ok. grind (basics, ok.0)) in rw a refl) n in
     grind (basics, must.pinned, must.unpinned, must.unkeyed) in
-    let few_left : w.last.handle ≤ 9 = grind basics in search (arith, least, no-must, alike-self)
+    search (arith, least, no-must, alike-self)
 
 -- the given handles fall alone, if no value that goes owns another
 abbrev pub AreAlone : Core → Core → (ℕ → Bool) → Type 0

@@ -382,7 +382,6 @@ module _ {w : Core} (whole : IsWhole w) where
       let shares : is_shared holds.0.mode ≡ true = (whole.cache kind key n entered.entry).shares holds.0 holds.1 (same-number _ _ at) ∙ is in
       let one_share : one (is_share n holds.0) ≡ 1 = rw (at, shares) refl in
       let le = at-most-sum (λ h. one (is_share n h)) w.rows holds.0 holds.1 in
-      let unkeyed = whole.handles.unkeyed n (omega arith) in
       grind basics in
       grind (basics, not, is_some, is_here)
 
