@@ -36,9 +36,9 @@ use Rattle.pagable_theorems.proofs.{
   Words.{IsMachineWhole, IsPagerWhole, IsPublished, Last, List, LoadAnswer, LoadNumber, MachineState, Mode, None, Ok, OpenLoad, Option, OptionalDataKey, Owner},
   Words.{PagerStandsFor, PagerState, Reading, ReadingFeels, Seen, Shelf, Slot, Some, Task, Todo, Tree, Values, Walking, WorkDoes, WorkFits, WorkerAnswer},
   Words.{WorkerNumber, WorkerReply, WorkerState, WorkerSteps, Written, answer_after, ap, append_assoc, arith, basics, cases_Bool, false, give, held},
-  Words.{identity_of, if_there, inl, inr, is_some, key_at, nat_eq, no_result, nothing_felt, of_cell, of_entry, of_item, one, refl, subst, sum_by-cons, sym},
-  Words.{times, to_fail, to_finish, to_item, to_load, to_pin, to_release, to_set, to_start, to_write, true, with_handle, world_of, ℕ, [], ◌&&◌, ◌++◌, ◌+◌},
-  Words.{◌==◌, ◌∙◌, ◌∷◌, ◌≡◌, ◌≤◌},
+  Words.{identity_of, if_there, inl, inr, is_some, key_at, nat_eq, nothing_felt, of_cell, of_entry, of_item, one, refl, subst, sum_by-cons, sym, times},
+  Words.{to_fail, to_finish, to_item, to_load, to_pin, to_release, to_set, to_start, to_write, true, with_handle, world_of, ℕ, [], ◌&&◌, ◌++◌, ◌+◌, ◌==◌, ◌∙◌},
+  Words.{◌∷◌, ◌≡◌, ◌≤◌},
 }
 use Rattle.pagable_theorems.specs.TreeSteps.{AllHold, Ground, HasHandle, IsDone, KeyIsSet, KeysHeld, RowsGo, Waits, Walks, ground_of}
 use Rattle.pagable_value_spec.specs.Merkle.{KeyOfItem}
