@@ -6,7 +6,7 @@ use Rattle.pagable_pager_spec.specs.{
   LoadCalls.{BeginCall, BeginKeyCall, EndCall, Given, HandOverCall, LoadCloses, LoadFetchCall, is_owned_in, numbers_of, without_load},
   Pager.{CallBrings, IsNewNode},
   WorkerClaims.LeavesCache,
-  World.{of_key, usable},
+  World.usable,
   declared.{calls.FetchTarget.FetchTarget, pinning.Pinning.Pinning},
 }
 use Rattle.pagable_theorems.proofs.{
@@ -102,8 +102,6 @@ module _ {me : Owner} {lists : Bool} {Asks Leaves : Type 0} {c : Change} where
         let own-free : (r : HandleRow) → find_row h.0 w.rows ≡ Some r → NotLoads r.owner =
         λ r found. subst NotLoads (sym (ap (λ (x : HandleRow). x.owner) (same_some _ _ (sym found ∙ i.owned.live)) ∙ i.owned.own)) free in
         let pinned-free : (r : HandleRow) → find_row h.0 (moved (is_named_by references) (owner_value p.0) w.rows) ≡ Some r → NotLoads r.owner = λ r found l is.
-        let c = found-changed (λ (r : HandleRow). is_named_by references r.number.0) (λ row. record row { owner = owner_value p.0 })
-        (λ r. refl) h.0 w.rows r found in
         grind (basics, found-changed, same_some, own-free) in
         elim i.falls [
           | inl (away, f) ↦ fell

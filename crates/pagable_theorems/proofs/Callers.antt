@@ -1,8 +1,7 @@
 -- Each operation of a caller keeps trees: a call or a page-out since it is a chain of moments of a machine, a pin or a read since its load is.
 use Rattle.pagable_pager_spec.specs.{
-  Access.{IsValueOf, LoadAsksWell, LoadRun, MakesCall, PinRun, ReadRun, ReadingStep, load-ends, load-fails, load-goes-on, load-is-refused, load-pins},
-  Access.{load-reads, pin-is-refused, pins-at-once, reading-fails, reading-is-refused},
-  Events.CallStep,
+  Access.{IsValueOf, LoadAsksWell, LoadRun, PinRun, ReadRun, load-ends, load-fails, load-goes-on, load-is-refused, load-pins, load-reads, pin-is-refused},
+  Access.{pins-at-once, reading-fails, reading-is-refused},
   LoadCalls.BeginCall,
   Loads.LoadDoes,
   Rightness.GivesTree,
@@ -14,15 +13,14 @@ use Rattle.pagable_theorems.proofs.{
   LoadProgress.{pin_stands, row-held, was-open},
   LoadResults.{After, after-then, caller-feels, pin-after, read-after},
   Operations.{Stands, Stays, call-nobody, call-stays, item-stays, list-stays, plain-stays, plainly, stays-same, stays-then},
-  ReadingSteps.{caller-free, reading-feels},
   Trees.same_some,
-  Words.{Beginning, Blob, Call, Core, Err, Error, Frame, HandleNumber, HandleRow, HoldsSettled, IsLawful, IsPagerWhole, Last, List, LoadAnswer, LoadNumber},
-  Words.{NodeNumber, None, Ok, OpenLoad, Option, Owner, PagerState, Reading, Reply, Result, Seen, Some, Tree, ValueStands, Values, Written, ap, arith, of_cell},
-  Words.{refl, row_at, subst, sym, updated, ℕ, [], ◌+◌, ◌∙◌, ◌≡◌, ◌≤◌},
+  Words.{Beginning, Call, Core, Err, Error, HandleNumber, HandleRow, HoldsSettled, IsLawful, IsPagerWhole, Last, LoadAnswer, LoadNumber, NodeNumber, Ok},
+  Words.{OpenLoad, Owner, PagerState, Reading, Reply, Result, Seen, Some, Tree, ValueStands, Values, ap, arith, of_cell, refl, row_at, subst, sym, updated, ℕ},
+  Words.{[], ◌+◌, ◌∙◌, ◌≡◌, ◌≤◌},
 }
 use Rattle.pagable_theorems.specs.{
-  CallerLaws.{AreRight, AskWell, CallerLaw, IsCall, Operation, OperationAsksWell, OperationIsRight, Operations, PinAsksWell, PinIsRight, PinnedAgainLaw},
-  CallerLaws.{ReadAsksWell, ReadingIsRight, calls, goes-on, is-done, pages-item, pages-list, pins, reads-key},
+  CallerLaws.{AreRight, AskWell, CallerLaw, Operation, OperationAsksWell, OperationIsRight, Operations, PinAsksWell, PinIsRight, PinnedAgainLaw, ReadAsksWell},
+  CallerLaws.{ReadingIsRight, calls, goes-on, is-done, pages-item, pages-list, pins, reads-key},
   PageOutLaws.NobodyWorks,
 }
 
@@ -101,7 +99,6 @@ pin-of {s = s} {s'} {h} {k} (load-pins k2 reading mid s2 starts run) well =
     let b = load-begun s.core mid.core h reading.load starts.key starts.begins.step in
     let p = pinned-at run starts.begins.whole b.few k refl in
     let loads : p.load ≡ b.load = same_some _ _ (sym p.open_load ∙ b.open_load) in
-    let roots : of_cell p.node p.t p.h ≡ of_cell b.row.node b.t h = sym p.root ∙ ap (λ (x : OpenLoad). x.root) loads ∙ b.root in
     let nodes : p.node ≡ b.row.node = cc in
     (b.row, b.live, subst (λ n. PinOf s'.core Owner.Caller n k) nodes p.pin)
 
@@ -187,7 +184,6 @@ pinned_again_law E m s mid later s' trees h k l x y first between again well nob
     let at2 : gives_again.row.node ≡ row.node = ap (λ (r : HandleRow). r.node) (same_some _ _ (sym gives_again.live ∙ pin2.pin.live)) ∙ pin2.at ∙ nodes in
     let given : gives.row.node.0 ≤ mid.core.last.node = (p.now.well.whole.handles.nodes_numbered gives.row.node.0
     (cell-of p.now.well.whole.handles gives.row.node.0 (row-held mid.core k gives.row gives.live))).1 in
-    let later_given = o.after.nodes in
     let tree : q.trees' gives_again.row.node.0 ≡ p.trees' gives.row.node.0 =
     ap (λ (n : NodeNumber). q.trees' n.0) (at2 ∙ sym at) ∙ q.after.same gives.row.node.0 (omega arith)
     ∙ o.after.same gives.row.node.0 given in

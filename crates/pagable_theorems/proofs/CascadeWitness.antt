@@ -83,7 +83,7 @@ module _ (rows : List HandleRow) (keyed : ℕ → Bool) (entries : List HandleRo
         (λ h among. grind (basics, inside given gone h least.holds among, free h among)) in
         let closed : IsClosed rows keyed entries but = λ n goes.
         let lost_too = wider but gone n (sum-zero (only_in but gone) rows (λ h among. grind basics)) goes in
-        let none = least.closed n lost_too in sum-zero (owned_out but n) rows (λ h among.
+        sum-zero (owned_out but n) rows (λ h among.
         let f : is_owner (owner_value n) h.owner ≡ true → stay h.number.0 ≡ false = λ e. apart n h among e lost_too in
         grind (basics, f, at-most-sum (owned_out gone n) rows h among)) in
         false_from_ne_true (gone h.number.0) (λ e. grind (basics, inside gone but h (least.least but holds closed) among e))

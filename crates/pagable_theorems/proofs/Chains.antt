@@ -2,7 +2,7 @@
 -- afterwards, as do all readings.
 use Rattle.pagable_pager_spec.specs.{
   Basics.is_loose_kind,
-  Calls.{SetKeyCall, row_of, with_key},
+  Calls.{SetKeyCall, row_of},
   Events.Ends,
   Kinds.{fits_mode, is_loose},
   Order.{InOrder, OnceEach, is_claim_of, steps_of},
@@ -11,7 +11,7 @@ use Rattle.pagable_pager_spec.specs.{
   Rightness.{HasLetGo, IsRight, PinGives, StepsAreWithin, WorkerIsRight, claims_made, is_on_table},
   Runs.{EventDoes, Fact, IsPremised, TakesWell, TreesAfter, TreesAlong, events_of, replies_of},
   Theorem.HeadlineLaw,
-  Workers.{claim_fault, give_known, next_start, with_changed_slot, with_outcome},
+  Workers.{claim_fault, give_known, next_start, with_changed_slot},
   World.{SameShelf, published, to_publish, type_at},
   declared.{events.PinStep.PinStep, pinning.Pinning.Pinning},
 }
@@ -187,9 +187,6 @@ module _ {N B W : Type 0} (m : Seen N B W) (v : ℕ) (s s' : WorkerState) (whole
         ],
         waits-on f below waits,
       )
-  stepped (to_publish r key height ∷ below) (Action.Publish i k q) e (is, same_key, same_height, t) f (h, waits) = leaves t.list_is (tt, waits-on f below waits)
-      (changed-reveals s.shelf s'.shelf KeyThere (identity_of r) (with_outcome (published key height)) t.table_is
-      (λ old k2 h2 known. inr (λ kind. key-on f (h kind).0)))
   stepped _ step e does f all = grind (basics, stays, leaves, same_some, known, waits-on f, given)
 
 module _ {N B W : Type 0} (m : Seen N B W) (u u' : World) {c : Change} (goes : CoreGoes c u.core u'.core) (held : KeysHeld u)
@@ -311,7 +308,6 @@ module _ {N E B W : Type 0} (m : Seen N B W) (lawful : IsLawful m.values) where
       (λ n others. g.spares n on.whole.pager.whole.owners_there others) in
       let pins = pins-hold m (world_of s) (world_of x.after) x.event x.reply on.whole.pager.whole.handles does.step.happens in
       let keys = keys-right m s x.after trees f.0 on.fits fits on.whole does.whole stands on.held held x.event x.reply does.step.happens in
-      let asked = premised.well in
       let so : IsRight m.values s trees x.event x.reply x.after f.0 = search (rules, pin-gives, reads-give) in
       (f.0, record { keeps = f.1.same; stands = stands; so = so }, assumption (does.whole, work, premised.settled, stands, readings, fits, held))
 

@@ -290,7 +290,7 @@ fine w owner seen (r ∷ rs) good new once =
       | inr e ↦ rw (e, n) refl
     ])
     (λ q. omega (arith, once q, sum_by-cons (λ (x : ArcRef). one (x.handle.0 == q)) r rs)) in
-    let first : reference_fault w owner seen r ≡ None = let is = good r (zero, refl) in let isnt = new r (zero, refl) in grind (arith, self-number) in
+    let first : reference_fault w owner seen r ≡ None = let is = good r (zero, refl) in grind (arith, self-number) in
     rw first rest
 
 read-gives : (key : Option ℕ) (r : Result (Meaning ArcRef × Rest Answer) Error) (own : Meaning ArcRef) → next_by key r ≡ reads own → (after : Rest Answer)

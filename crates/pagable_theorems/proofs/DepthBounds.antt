@@ -173,7 +173,6 @@ module _ {N E : Type 0} (v : Values N) (s : MachineState N E) (trees : ℕ → T
   shallow limit rs le lows (reference-leads r a among is) (followed kind c) e =
       let l = lows r among in
       let k = known (identity_of r) l.key l.below l.known in
-      let kinds : kind ≡ r.kind.0 = cc in
       let meanings : a ≡ c = cc in
       grind (basics, shallow l.below k.written.references k.stands.within k.stands.low k.stands.wrote.follows c (is ∙ meanings))
   shallow limit rs le lows (followed-leads kind x a none h) m e = absurd none

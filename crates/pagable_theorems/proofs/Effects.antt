@@ -379,6 +379,6 @@ one-then up asks a b = record {
   spares = λ mine o. spares-then mine (a.spares mine o) (b.spares mine (record { apart = o.apart; other = o.other; listing_error = λ f. absurd (cc) }));
   lasts = λ k kind key n e h still. b.lasts k kind key n (a.lasts k kind key n e h (λ f. up kind key n h)) (up kind key n h) still;
   workers = λ v. b.workers v ∙ a.workers v;
-  others = λ own l load is few other. let more = a.goes.loads_last in b.others (asks own) l load (a.others own l load is few other)
+  others = λ own l load is few other. b.others (asks own) l load (a.others own l load is few other)
       (omega arith) other;
 }

@@ -28,7 +28,7 @@ use Rattle.pagable_theorems.proofs.{
   Words.{◌∙◌, ◌∷◌, ◌≡◌, ◌≤◌, ◌⊎◌},
 }
 use Rattle.pagable_theorems.specs.{
-  TreeSteps.{EventFeels, IsFresh, KeepsReadings, NewNode, SameNode, StaysAway, StepsReading, by-call, by-key, by-nothing, by-reading, sets_key},
+  TreeSteps.{EventFeels, IsFresh, KeepsReadings, NewNode, SameNode, StaysAway, by-call, by-key, by-nothing, by-reading, sets_key},
 }
 
 -- where a worker stands before its step
@@ -135,7 +135,7 @@ module _ {N B W : Type 0} (m : Seen N B W) (v : ℕ) (s s' : WorkerState) where
   ])
   walk-goes (to_pin r place ∷ below) (Action.Pin i (Ok (PinStep.LoadBegun l))) (is, p) =
       let (mid, key, clone, begin) = p.pins.1.1 in let list = p.pins.2.list_is in
-      let next = begin.begins.2.2.above in let last = ap (λ (x : Last). x.load) begin.begins.2.4.2.last in
+      let next = begin.begins.2.2.above in
       quiet (λ n x b. b) (λ front well reading e. grind basics) (then-clone v clone (begins (Ok (Beginning.Load l key)) begin))
   walk-goes (to_pin r place ∷ below) (Action.Pin i (Err f)) (is, p) = rests _ (λ n x b. b) p.refused.1.list_is (λ well. refl) (elim p.refused.0 [
     | inl clone ↦ clones (Err f) clone

@@ -72,7 +72,7 @@ module _ {N E : Type 0} {v : Values N} {s : PagerState N E} (settled : HoldsSett
 
 module _ {w : Core} (whole : HandlesAreWhole w) (n : ℕ) where
   pub held-of : is_some (w.cells n) ≡ true → 0 < held n w.rows
-  held-of is = let f : nat_lt 0 (held n w.rows) ≡ true = sym (whole.live n) ∙ is in grind basics
+  held-of is = grind basics
 
   pub cell-of : 0 < held n w.rows → is_some (w.cells n) ≡ true
   cell-of some = let f : nat_lt 0 (held n w.rows) ≡ true = grind basics in whole.live n ∙ f

@@ -10,12 +10,12 @@ use Rattle.pagable_theorems.proofs.{
   FormsOfTrees.references-among,
   Merkle.longest_path,
   Naturality.{keeps_forms, renamed},
-  RoundTrip.{Looked, all-looked, form-again, not-looked, one-looked},
-  Trees.{Along, each-two, form-along, integer-along, none-along, number-along, pair-along, pattern-along, reference-along, same-number, same_some, self-number},
-  Trees.{text-along, variant-along},
-  Words.{Among, ArcRef, Blob, Err, Error, IsReadableType, List, Meaning, Ok, Option, Result, Some, Types, above, ap, append-nil, append_assoc, arith, basics},
-  Words.{cases_Bool, false, inl, inr, is_eager, length, length-append, map, read, refl, rename, rest, slice_get, subst, suc, sym, tree, true, type_of, zero, ℕ},
-  Words.{[], ◌++◌, ◌+◌, ◌==◌, ◌∙◌, ◌∷◌, ◌≡◌, ◌≤◌},
+  RoundTrip.{all-looked, form-again, not-looked},
+  Trees.{Along, each-two, form-along, integer-along, none-along, number-along, pair-along, pattern-along, reference-along, same-number, same_some, text-along},
+  Trees.variant-along,
+  Words.{Among, ArcRef, Blob, Err, Error, IsReadableType, List, Meaning, Ok, Option, Result, Some, Types, above, ap, append-nil, arith, basics, cases_Bool},
+  Words.{false, inl, inr, is_eager, length, map, read, refl, rename, rest, slice_get, subst, suc, sym, tree, true, type_of, zero, ℕ, [], ◌++◌, ◌+◌, ◌==◌, ◌∙◌},
+  Words.{◌∷◌, ◌≡◌, ◌≤◌},
 }
 use Rattle.pagable_theorems.specs.{DepthLaws.DepthIsHeight, FormLaws.at}
 use Rattle.pagable_value_spec.specs.{
@@ -28,7 +28,7 @@ use Rattle.pagable_value_spec.specs.{
   Trees.{IsFollowed, KeyRef, pair-followed, reference-followed, variant-followed},
   Writing.kind_of_arc,
 }
-use Rattle.std.proofs.lemmas.{List.length-map, Option.slice_get_past}
+use Rattle.std.proofs.lemmas.{List.length-map}
 
 -- ---- what a blob asks for that is a form of a stored value: its references one after another
 
@@ -201,8 +201,6 @@ module _ {store : ℕ → Option Blob} {types : Types} where
         | is-read own is ↦ absurd (cc (sym is ∙ subst (λ (b : Blob). after_kinds types t b kinds ≡ asks kind child) same next))
         | was-another is ↦ absurd (cc (sym is ∙ subst (λ (b : Blob). after_kinds types t b kinds ≡ asks kind child) same next))
         | is-asked q among is ↦
-            let f : asks (record { 0 = q.kind }) q.key ≡ asks kind child = sym is ∙ subst (λ
-            (b : Blob). after_kinds types t b kinds ≡ asks kind child) same next in
             let kinds_are : q.kind ≡ kind.0 = cc in
             let keys_are : q.key ≡ child = cc in
             let (k, below) = below-of s can q among in

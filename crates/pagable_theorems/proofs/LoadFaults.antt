@@ -3,17 +3,15 @@ use Rattle.pagable_pager_spec.specs.{
   Basics.longest_path,
   Events.{LoadSteps, reading_at},
   LoadCalls.{LazyCall, LoadFetchCall, ask_fault, is_known, node_fault},
-  Loads.{Fails, IsDecoded, IsOfKey, LoadDoes, RefusesNested, RefusesNode, RefusesRoot, asks, handles_of, is_broken, need_of, needs_lazy, needs_nested, reads},
-  Order.{LeadsDown, ReadsTooDeep, after_kinds, goes-down, is-there},
-  Pager.{IsReadingOf, of_worker},
-  Refusals.{AreHandlesFull, Refused, earlier, handle_fault, load_fault, named_fault, reference_fault, refused_if, row_fault, where_so},
+  Loads.{Fails, IsDecoded, IsOfKey, LoadDoes, RefusesNode, RefusesRoot, asks, is_broken, need_of, needs_lazy, needs_nested, reads},
+  Refusals.{AreHandlesFull, Refused, earlier, handle_fault, load_fault, reference_fault, refused_if, row_fault, where_so},
   Rightness.AreKeysOf,
   WorkerClaims.{IsLoadOfPagedOut, IsOfChance, IsPagedOutAs},
   declared.{calls.FetchTarget.FetchTarget, events.LoadReply.LoadReply},
 }
 use Rattle.pagable_theorems.proofs.{
   Chains.IsGoingOn,
-  Decoding.{Ahead, FramesAsked, GotAsked, IsFormOf, all-done, asks-by-kinds, at-place, comes-to, faulty-by-kinds, kinds_of, one-left},
+  Decoding.{Ahead, FramesAsked, GotAsked, IsFormOf, all-done, at-place, comes-to, kinds_of, one-left},
   FormsOfTrees.known-of,
   LoadProgress.{Going, asked, eager-nested, going-of},
   ReadingSteps.{reading-number, reading-open, reading-stands},
@@ -21,11 +19,10 @@ use Rattle.pagable_theorems.proofs.{
   Trees.{same_some, self-number},
   Words.{ArcRef, Blob, Bool, Core, Err, Error, Event, EventReply, Frame, FramesFit, HandleNumber, HandleRow, Happens, Identity, IsLawful, IsPublished},
   Words.{IsReadableType, Kind, List, LoadAnswer, LoadNumber, MachineState, Meaning, Mode, NodeNumber, None, Ok, OpenLoad, Option, Owner, Reading, Seen, Shelf},
-  Words.{Some, Tree, Types, Values, WorkFits, Written, above, adopted, any_mode, ap, arith, basics, blob_of, false, identity_of, inl, inr, is_eager, length},
-  Words.{next_in, not, of_cell, owner_worker, references_fault, refl, rules, slice_get, subst, sym, true, type_of, world_of, ℕ, [], ◌+◌, ◌<◌, ◌==◌, ◌∙◌, ◌∷◌},
-  Words.{◌≡◌, ◌≤◌, ◌⊎◌},
+  Words.{Some, Tree, Values, WorkFits, above, any_mode, ap, arith, basics, blob_of, false, identity_of, inl, inr, is_eager, length, next_in, not, of_cell},
+  Words.{references_fault, slice_get, subst, sym, true, type_of, world_of, ℕ, [], ◌+◌, ◌==◌, ◌∙◌, ◌∷◌, ◌≡◌, ◌≤◌, ◌⊎◌},
 }
-use Rattle.pagable_theorems.specs.{DepthLaws.{IsOfHandles, LoadIsDeep, LoadOfPagedOutIsFaultless}, TreeSteps.{AllLow, IsFresh, Needs}}
+use Rattle.pagable_theorems.specs.{DepthLaws.{IsOfHandles, LoadOfPagedOutIsFaultless}, TreeSteps.{AllLow, Needs}}
 
 -- ---- what a load reads of a key that a page-out has published: each blob is a form of a tree, asks for references whose keys are known, and lies within the
 -- path's limit
@@ -93,7 +90,7 @@ module _ {N E : Type 0} (v : Values N) (s : MachineState N E) (trees : ℕ → T
   asked-known frame height k (all-done own is all) kind key next = absurd (cc (sym is ∙ next))
   asked-known frame height k (one-left done left r q split same there is) kind key next =
       let at : slice_get k.refs (length done) ≡ Some r = ap (λ (rs : List ArcRef). slice_get rs (length done)) split ∙ at-place done r left in
-      let e : asks r.kind q ≡ asks kind key = sym is ∙ next in let kinds : r.kind ≡ kind = cc in
+      let kinds : r.kind ≡ kind = cc in
       let keys : q ≡ key = cc in let g = known-of shelf k.refs frame.blob.keys k.keys r (length done, at) in
       let p = subst (λ x. (h : ℕ) × IsPublished shelf (identity_of r) x h) (same_some _ _ (sym g.2 ∙ there) ∙ keys) g.1 in let l = k.lows r (length done, at) in
       let h : l.below ≡ p.0 = let k = l.known in grind (arith, same_some) in

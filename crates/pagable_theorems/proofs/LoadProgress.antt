@@ -135,8 +135,7 @@ pub pin_stands : {N E : Type 0} {v : Values N} (s : PagerState N E) (trees : ℕ
     → is_pinning row.mode ≡ true → GivesTree v s trees k
 pin_stands {N} s trees k row whole represents live pinning =
     let held_there = row-held s.core k row live in
-    let p = row-pins s.core k row live pinning in let valued = whole.valued row.node.0 in let cell = cell-of whole.whole.handles row.node.0 held_there in
-    let x : (x : N) × (s.values row.node.0 ≡ Some x) = grind basics in
+    let p = row-pins s.core k row live pinning in let valued = whole.valued row.node.0 in let x : (x : N) × (s.values row.node.0 ≡ Some x) = grind basics in
     record { row = row; x = x.0; live = live; held = x.1; stands = stands-here (represents.stands row.node.0 held_there) x.1 }
 
 -- ---- what a load has got is what its blobs asked for, and goes on to be so

@@ -32,13 +32,13 @@ use Rattle.pagable_theorems.proofs.{
   TablesKept.{all-known, all-low, done-on, keys-same, stands-for},
   TreeProgress.{fits-nothing, reading-fits, trees-go-on},
   Trees.{same-number, same_some, steps_follow},
-  Words.{Action, Alike, ArcRef, Blob, Bool, Claim, Core, Event, EventReply, Frame, FramesFit, HandleNumber, HandleRow, Happens, HoldsSettled, Identity},
-  Words.{IsLawful, IsMachineWhole, IsPagerWhole, IsPublished, Last, List, LoadAnswer, LoadNumber, MachineState, Mode, None, Ok, OpenLoad, Option},
-  Words.{OptionalDataKey, Owner, PagerStandsFor, PagerState, Reading, ReadingFeels, Seen, Shelf, Slot, Some, Task, Todo, Tree, Values, Walking, WorkDoes},
-  Words.{WorkFits, WorkerAnswer, WorkerNumber, WorkerReply, WorkerState, WorkerSteps, Written, answer_after, ap, append_assoc, arith, basics, cases_Bool},
-  Words.{false, give, held, identity_of, if_there, inl, inr, is_some, key_at, nat_eq, no_result, nothing_felt, of_cell, of_entry, of_item, one, refl, subst},
-  Words.{sum_by-cons, sym, times, to_fail, to_finish, to_item, to_load, to_pin, to_release, to_set, to_start, to_write, true, with_handle, world_of, ℕ, []},
-  Words.{◌&&◌, ◌++◌, ◌+◌, ◌==◌, ◌∙◌, ◌∷◌, ◌≡◌, ◌≤◌},
+  Words.{Action, Alike, ArcRef, Blob, Bool, Claim, Core, Event, EventReply, Frame, FramesFit, HandleNumber, Happens, HoldsSettled, Identity, IsLawful},
+  Words.{IsMachineWhole, IsPagerWhole, IsPublished, Last, List, LoadAnswer, LoadNumber, MachineState, Mode, None, Ok, OpenLoad, Option, OptionalDataKey, Owner},
+  Words.{PagerStandsFor, PagerState, Reading, ReadingFeels, Seen, Shelf, Slot, Some, Task, Todo, Tree, Values, Walking, WorkDoes, WorkFits, WorkerAnswer},
+  Words.{WorkerNumber, WorkerReply, WorkerState, WorkerSteps, Written, answer_after, ap, append_assoc, arith, basics, cases_Bool, false, give, held},
+  Words.{identity_of, if_there, inl, inr, is_some, key_at, nat_eq, nothing_felt, of_cell, of_entry, of_item, one, refl, subst, sum_by-cons, sym, times},
+  Words.{to_fail, to_finish, to_item, to_load, to_pin, to_release, to_set, to_start, to_write, true, with_handle, world_of, ℕ, [], ◌&&◌, ◌++◌, ◌+◌, ◌==◌, ◌∙◌},
+  Words.{◌∷◌, ◌≡◌, ◌≤◌},
 }
 use Rattle.pagable_theorems.specs.TreeSteps.{AllHold, Ground, HasHandle, IsDone, KeyIsSet, KeysHeld, RowsGo, Waits, Walks, ground_of}
 use Rattle.pagable_value_spec.specs.Merkle.{KeyOfItem}
@@ -357,7 +357,7 @@ module _ {N B W E : Type 0} (m : Seen N B W) (s s' : MachineState N E) (trees tr
         search (p.claimed, b.1, p, b.2.is_stored, b.2.known, w.is, tree-form w);
     cells = λ i meets kind live.
         let p = met m.values s' trees' after t task key done i meets in let k = key-known s'.pager.core i.node.0 (held.slots t i p.0 p.1.0 p.1.1 kind) live in
-        let handles = whole.pager.whole.handles in let represents = stands.pager in record { key = k.0; set = k.1; reads = (grind basics) };
+        let handles = whole.pager.whole.handles in record { key = k.0; set = k.1; reads = (grind basics) };
   }
 
   -- each key that is published is its tree's, and a cell had one by then; each that is answered is its task's, and what was met then is left paged out, with
@@ -398,8 +398,7 @@ module _ {N E B W : Type 0} (m : Seen N B W) (n : ℕ) (task : Task) (C : Type 0
   at-answer (worker-ends todo next step answer s s' w is) past all covers met =
       let g = went w all covers in let grown = grows n s.shelf s'.shelf g.changes in (
         λ i slot there own.
-            let none : (slot.outcome ≡ no_result → false ≡ true) = λ still. subst (λ t. Covers s'.shelf n t) (g.done answer is) g.covers i slot there own
-            still in grind basics,
+            grind basics,
         λ i slot there other. grind (basics, some-same),
         λ c. was-answered n s'.shelf (past ++ step ∷ []) todo step answer is
             (fails-stay n s.shelf s'.shelf past _ todo grown (λ x (i, at). among-left past (step ∷ []) i x at) (met c).1),

@@ -5,8 +5,8 @@ use Rattle.pagable_theorems.proofs.{
   Trees.{AllTwo, Along, EntryAlong, entries-two, flag-same, followed-on, form-along, integer-along, lifted-along, more-two, no-two, none-along, number-along},
   Trees.{one-followed, one_tree, pair-along, pattern-along, reference-along, same_some, sequence-two, sorted-two, text-along, tree_is, variant-along},
   Words.{Blob, Entries, Entry, Form, Forms, LiesIn, List, Meaning, Ok, Option, ReadsTree, Shape, Throughout, Tree, Types, ap, append-nil, arith, basics},
-  Words.{blob_of, followed, inl, is_eager, length, length-append, map, one, pair, read, reference-form, refl, rest, rules, run-form, subst, suc, sym, tree},
-  Words.{true, type_of, variant, zero, ℕ, [], ◌*◌, ◌++◌, ◌<◌, ◌∙◌, ◌∷◌, ◌≡◌, ◌≤◌},
+  Words.{blob_of, followed, inl, is_eager, length, length-append, map, pair, read, reference-form, refl, rest, rules, run-form, subst, suc, sym, tree, true},
+  Words.{type_of, variant, zero, ℕ, [], ◌*◌, ◌++◌, ◌<◌, ◌∙◌, ◌∷◌, ◌≡◌, ◌≤◌},
 }
 use Rattle.pagable_theorems.specs.FormLaws.{IsOneItemKey, TreeLaws}
 use Rattle.pagable_value_spec.specs.{
@@ -252,7 +252,7 @@ module _ {store other : ℕ → Option Blob} {types : Types} (shares : SharesNoK
   same-stored : {type key : ℕ} {m n : Meaning KeyRef} → IsReadableType types type → StoredAs store types type key m → StoredAs other types type key n → m ≡ n
   same-stored {type} {key} {m} {n} can h g =
       let first = stored-reads store types type key m can h in let second = stored-reads other types type key n can g in
-      let blobs : first.blob ≡ second.blob = shares key _ _ first.stored second.stored in grind basics
+      grind basics
 
 pub tree_laws : TreeLaws
 tree_laws = record {

@@ -118,7 +118,7 @@ module _ {N B W : Type 0} (m : Seen N B W) (u u' : World) (work : StandsIn u) wh
     last-on : u.core.last.worker ≤ u'.core.last.worker
     last-on = let cases : KeepsOpen event ⊎ (event ≡ Event.Call Call.Close) = grind basics in elim cases [
       | inl keeps ↦ (event-goes m u u' event reply keeps h).goes.workers_last
-      | inr closes ↦ (let c = subst (λ e. Happens m u e reply u') closes h in grind (basics, le-of))
+      | inr closes ↦ (grind (basics, le-of))
     ]
 
     quiet : ((n : ℕ) → step_of n event reply ≡ []) → SameSlots u.work.shelves u'.work.shelves → ((v : ℕ) → u'.work.walkings v ≡ u.work.walkings v)

@@ -2,7 +2,7 @@
 use Rattle.pagable_pager_spec.specs.{Kinds.{is_at, is_pin, is_share}, Pager.{IsNew, IsReadingOf, OwnersAreThere, of_caller, of_worker}}
 use Rattle.pagable_theorems.proofs.{
   Words.{Among, Bool, HandleNumber, HandleRow, HandlesAreWhole, IsIdle, IsLawful, IsPagerWhole, MachineState, Owner, PagerStandsFor, PagerState, Reading, Tree},
-  Words.{Values, ap, arith, basics, false, held, inl, is_handle, is_owned_by, is_some, owner_value, pins, refl, sym, times, ℕ, ◌&&◌, ◌==◌, ◌∙◌, ◌≡◌},
+  Words.{Values, ap, arith, basics, false, inl, is_handle, is_owned_by, is_some, owner_value, refl, sym, times, ℕ, ◌&&◌, ◌==◌, ◌∙◌, ◌≡◌},
 }
 use Rattle.pagable_theorems.specs.SmallWorlds.{NewMachineIsWhole, StartsWell}
 

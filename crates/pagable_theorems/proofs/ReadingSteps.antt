@@ -33,7 +33,6 @@ module _ {w w' : Core} (whole : HandlesAreWhole w) (kind : Kind) (k : HandleNumb
   gets rows node owner low few found =
       let new = row_of (w.last.handle + 1) node (mode_of kind.0) owner in
       let s = stands-new w.last.handle rows new low refl in
-      let e : new ≡ row = same_some _ _ (sym s.live ∙ sym (ap (λ n. find_row n (rows ++ new ∷ [])) next) ∙ found) in
       grind basics
 
   pub got-known : (n : ℕ) (owner : Owner) → Alike (with_known w kind n owner) w' → GetsRow w w' kind n row

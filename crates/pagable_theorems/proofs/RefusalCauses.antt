@@ -3,12 +3,12 @@
 use Rattle.pagable_pager_spec.specs.{
   Basics.longest_path,
   Kinds.{is_loose, is_owner},
-  LoadCalls.{AdoptCall, AsksInVain, EndCall, HandOverCall, LazyCall, LoadCloses, LoadFetchCall, cell_fault, is_known, root_fault},
+  LoadCalls.{AdoptCall, AsksInVain, EndCall, HandOverCall, LazyCall, LoadCloses, LoadFetchCall, cell_fault, root_fault},
   Loads.{Fails, Meets, RefusesBlob, RefusesNested, RefusesNode, RefusesRoot, answer_of, answers_from, asks, handles_of, is_faulty, need_of, needs_nested},
   Loads.{next_by, next_of, read_with},
   Order.{LeadsDown, ReadsTooDeep, after_kinds, goes-down, is-there},
   Pager.{IsReadingOf, of_worker},
-  Refusals.{earlier, handle_fault, load_fault, named_fault, refused_if, spent},
+  Refusals.{handle_fault, load_fault, named_fault, refused_if, spent},
   World.{Root, of_cell, of_key, row_at},
   declared.calls.FetchTarget.FetchTarget,
 }
@@ -284,7 +284,7 @@ module _ (types : Types) (stored : ℕ → Option Blob) where
         let u = down-to under rest more more_asked in
         let step = asks-by-kinds types under.node_type under.blob under.got frame.kind frame.key next in
         let d = goes-further under.blob (kinds_of under.got) frame.kind frame.key u.0 u.1 step eager in
-        let long : length rest + 1 ≡ length (under ∷ rest) = omega arith in grind basics
+        grind basics
 
     of-path : (frames : List Frame) → FramesFit types stored trees root_key root_type frames → FramesAsked types frames → (kind : Kind) (key : ℕ) (blob : Blob)
         → need_of types frames ≡ needs_nested kind key → stored key ≡ Some blob → longest_path < length frames → ReadsTooDeep types stored root_type root_key

@@ -1,26 +1,23 @@
 -- What an error says about the storage, for each call and each step of a load or of a worker.
 use Rattle.pagable_pager_spec.specs.{
-  Calls.{InsertCall, InsertPagedOutCall, IsRefused, Looks, OfferCall, RecallCall, ReleaseCall, ScheduleCall, SetKeyCall, UnpinCall, insert_fault},
-  Cascade.Falls,
-  Events.{CallDoes, Ends, StartedItem, StartedListed},
-  Kinds.{fits_mode, is_loose, is_pinned, is_unpinned},
-  LoadCalls.{AdoptCall, BeginCall, BeginKeyCall, DropCall, EndCall, HandOverCall, LazyCall, cell_fault, root_fault},
+  Calls.{InsertCall, OfferCall, insert_fault},
+  Events.{CallDoes, Ends},
+  Kinds.{fits_mode, is_loose},
+  LoadCalls.BeginCall,
   Loads.LoadDoes,
-  Refusals.{handle_fault, live_fault, spent, where_so},
-  Workers.{ClaimStep, KeySetFor, PinRefused, WorkDoes, claim_fault},
-  declared.events.TableNumber.TableNumber,
+  Refusals.live_fault,
+  Workers.{PinRefused, WorkDoes},
 }
 use Rattle.pagable_theorems.proofs.{
-  LoadFaults.{Only, by-handle-row, only-earlier, only-if, only-node, only-refused, only-where},
-  RefusalCauses.{Quiet, asked, fails, fetched, handles-quiet, of-adopt, of-end, of-hand-over, of-lazy, only-all, only-handle, only-load, only-spent},
+  LoadFaults.{Only, only-earlier, only-if, only-refused, only-where},
+  RefusalCauses.{Quiet, fails, of-adopt, of-end, of-hand-over, of-lazy, only-all, only-handle, only-spent},
   Trees.same_some,
-  Words.{Action, Alike, ArcRef, Blob, Bool, Call, CloneCall, Core, Err, Error, Event, EventReply, Frame, HandleNumber, HandleRow, Happens, IsLawful, Kind},
-  Words.{List, LoadAnswer, LoadNumber, Mode, None, Ok, OpenLoad, Option, Owner, PinCall, Reading, Reply, Seen, Some, Task, Todo, WorkerNumber, WorkerReply},
-  Words.{WorkerState, WorkerSteps, World, answer_after, any_mode, basics, false, inl, inr, owner_worker, refl, row_at, subst, sym, to_finish, to_item, to_load},
-  Words.{to_pin, to_set, to_start, to_write, true, ℕ, [], ◌∙◌, ◌∷◌, ◌≡◌, ◌⊎◌},
+  Words.{Action, ArcRef, Call, CloneCall, Core, Err, Error, Event, EventReply, Frame, HandleNumber, HandleRow, Happens, IsLawful, Kind, List, LoadAnswer, Mode},
+  Words.{None, Ok, Option, Owner, PinCall, Reading, Reply, Seen, Some, Todo, WorkerNumber, WorkerReply, WorkerState, WorkerSteps, World, answer_after, basics},
+  Words.{inl, inr, owner_worker, refl, row_at, subst, sym, to_load, to_pin, ℕ, ◌∙◌, ◌∷◌, ◌≡◌},
 }
 use Rattle.pagable_theorems.specs.RefusalLaws.{StorageErrorsAreTrue, TellsOfStorage, refusal_of, refusal_of_end, refusal_of_reply, refusal_of_step}
-use Rattle.pagable_value_spec.specs.Stored.{HasFailed, IsMemoryOrFailure, RefusesStore}
+use Rattle.pagable_value_spec.specs.Stored.{HasFailed}
 
 -- neither that the storage failed, nor that nothing stands there
 abbrev Silent : Error → Type 0

@@ -1,8 +1,8 @@
 -- A form is read back, whatever follows it; and reading it fails if the look-up of one of its references fails.
 use Rattle.pagable_theorems.proofs.{
   Words.{Bool, Entries, Entry, Err, Error, Form, Forms, IsReadable, LiesIn, List, Meaning, Ok, Result, Shape, Throughout, ap, append-nil, append_assoc, arith},
-  Words.{basics, false, inl, inr, length, length-append, one, put_all, read, reference-form, refl, rest, run-form, subst, suc, sym, zero, ℕ, ℤ, [], ◌++◌, ◌+◌},
-  Words.{◌<◌, ◌∙◌, ◌∷◌, ◌≡◌, ◌≤◌, ◌⊎◌},
+  Words.{basics, false, inl, inr, length, length-append, put_all, read, reference-form, refl, rest, run-form, subst, suc, sym, zero, ℕ, ℤ, [], ◌++◌, ◌+◌, ◌<◌},
+  Words.{◌∙◌, ◌∷◌, ◌≡◌, ◌≤◌, ◌⊎◌},
 }
 use Rattle.pagable_theorems.specs.FormLaws.{FormIsReadBack, IsPrefixFree, LooksUp, more-references, no-references}
 use Rattle.pagable_value_spec.specs.{
@@ -25,7 +25,7 @@ use Rattle.std.proofs.{
   Common.{ltb, ◌%◌, ◌/◌, ◌^◌, ◌⊎◌},
   lemmas.{Bool.{le-leb, le-ltb, lt-ltb}, List.{append_cancel_right, drop_at, take_at}, Str.{IsUtf8-encode, chars-encodes, is_utf8-from_IsUtf8, length-encode}},
 }
-use Rattle.std.specs.{Char.{IsScalar, encode_utf8, len_utf8}, FinMap.Entries.put, Int.{Width, w32, w64}, Str.{IsUtf8, chars}, declared.cmp.Ordering.Ordering}
+use Rattle.std.specs.{Char.{IsScalar, encode_utf8, len_utf8}, Int.{Width, w32, w64}, Str.{IsUtf8, chars}, declared.cmp.Ordering.Ordering}
 pub use Rattle.pagable_pager_spec.proofs.Elements.{at-most-sum, counted, sum-none as sum-zero}
 pub use Rattle.std.proofs.lemmas.{Bool.eqb-true as same-number, Option.same_Some as same_some}
 
@@ -313,7 +313,6 @@ pub prefix_free : {A : Type 0} (parts : ℕ → Shape) (s : Shape) → Throughou
 prefix_free {A} parts s t kind_of left m n b c x y k l u v f g e h =
     let first = form-again x f (looked-by u (looks-itself {look = λ kind a. Ok a} (λ a. refl) k)) t in
     let second = form-again y g (looked-by v (looks-itself {look = λ kind a. Ok a} (λ a. refl) l)) t in
-    let inputs : rest (b ++ x) (k ++ u) ≡ rest (c ++ y) (l ++ v) = rw (e, h) refl in
     let both : (m, rest x u) ≡ (n, rest y v) = cc in
     let same_bytes : x ≡ y = ap (λ (p : Meaning A × Rest A). p.1.bytes) both in
     let same_refs : u ≡ v = ap (λ (p : Meaning A × Rest A). p.1.refs) both in (

@@ -12,7 +12,7 @@ use Rattle.pagable_theorems.proofs.{
   Trees.sum-zero,
   Words.{Alike, Among, ArcRef, Blob, Bool, Core, Event, HandleRow, IsPagerWhole, List, None, Ok, OpenLoad, Option, Owner, PagerState, Some, Written, and_parts},
   Words.{ap, arith, basics, cases_lt, false, held, inl, inr, is_handle, is_owned_by, is_owner, is_some, length, nat_eq, not, of_cell, one, owner_value, pins},
-  Words.{references_fault, refl, row_at, rules, subst, suc, sym, times, true, updated, zero, ℕ, [], ◌&&◌, ◌<◌, ◌==◌, ◌∷◌, ◌≡◌, ◌≤◌},
+  Words.{references_fault, refl, row_at, rules, subst, suc, sym, times, true, updated, ℕ, [], ◌&&◌, ◌<◌, ◌==◌, ◌∷◌, ◌≡◌, ◌≤◌},
 }
 use Rattle.pagable_theorems.specs.{SmallWorlds.no_work, Witness.{Sample, machine, sample, value_at}}
 use Rattle.std.proofs.{Common.All, lemmas.{Bool.{agree_below, agree_below_at}, List.Kept.AllPairs-cons}}
@@ -80,7 +80,7 @@ falls-so before w given gone low few none least =
     let is_none = by-number 3 (lists_none before w gone) (λ n. false) none (λ n lt.
     let a = none-pass RowLow (is_pin n) before.rows low (λ h ok. grind (basics, ok.0)) in rw a refl) n in
     grind (basics, must.pinned, must.unpinned, must.unkeyed) in
-    let few_left : w.last.handle ≤ 9 = grind basics in search (arith, least, no-must, alike-self)
+    search (arith, least, no-must, alike-self)
 
 -- the given handles fall alone, if no value that goes owns another
 abbrev pub AreAlone : Core → Core → (ℕ → Bool) → Type 0

@@ -283,7 +283,7 @@ module _ {N E B W : Type 0} (m : Seen N B W) (s s' : MachineState N E) (whole : 
       → LoadsStand m.values.types (world_of s)
       → LoadsStand m.values.types (world_of s')
   event-on event reply h waits stands = let cases : KeepsOpen event ⊎ (event ≡ Event.Call Call.Close) = grind basics in elim cases [
-    | inr closes ↦ inl (let c = subst (λ e. Happens m (world_of s) e reply (world_of s')) closes h in grind basics)
+    | inr closes ↦ inl (grind basics)
     | inl keeps ↦
         let g = event-goes m (world_of s) (world_of s') event reply keeps h in
         elim stands [ inl shut ↦ inl (g.goes.shut shut) | inr all ↦ inr (all-on g.goes all (g.feels whole.pager.whole waits)) ]

@@ -317,7 +317,6 @@ module _ {N B W : Type 0} (m : Seen N B W) (n : ℕ) {g g' : Ground} (task : Tas
         let t = c.finds.1.2 in
         let ok = claimable r c.finds.0 in
         let new : Slot = record { worker = n; references = None; outcome = no_result } in let more_last = goes.last in
-        let typed : (g'.trees r.node.0).type ≡ type_of r.kind.0 = ap (λ (t : Tree). t.type) (goes.trees r.node.0 ok.0) ∙ ok.1 in
         let fits_new : SlotFits m.values g' s'.shelf (identity_of r) new = grind basics in
         did (slots-but goes more fits (puts-slot (with_wait s.shelf n None) s'.shelf (identity_of r) new t.table_is) fits_new) t.list_is
         (at, c.finds.1.0, still r below above)

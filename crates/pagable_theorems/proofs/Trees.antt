@@ -4,8 +4,8 @@ use Rattle.pagable_pager_spec.specs.Order.{Follows}
 use Rattle.pagable_theorems.proofs.{
   Words.{Action, Among, AreMoments, Blob, Bool, Entries, Entry, Form, Forms, List, MachineState, Meaning, Moment, None, Option, ReadsTree, Seen, Shape, Tree},
   Words.{Types, WalkDoes, WorkerState, ap, arith, basics, code, cond, false, followed, inl, inr, length, map, none, one, pair, put_all, reference},
-  Words.{reference-form, references_in, refl, rename, rest, rules, run-form, state_after, subst, suc, sum_by-cons, sym, tree, true, type_of, variant, zero, ℕ},
-  Words.{ℤ, [], ◌++◌, ◌+◌, ◌<◌, ◌==◌, ◌∙◌, ◌∷◌, ◌≡◌, ◌≤◌, ◌⊎◌},
+  Words.{reference-form, references_in, refl, rename, rules, run-form, state_after, subst, suc, sum_by-cons, sym, tree, true, type_of, variant, zero, ℕ, ℤ, []},
+  Words.{◌++◌, ◌+◌, ◌<◌, ◌==◌, ◌∙◌, ◌∷◌, ◌≡◌, ◌≤◌, ◌⊎◌},
 }
 use Rattle.pagable_theorems.specs.{FormLaws.HashMapHasAnyOrder, SmallWorlds.ChainsJoin}
 use Rattle.pagable_value_spec.specs.{
@@ -294,8 +294,7 @@ module _ {A B : Type 0} {F : Type 0} {R : A → B → Type 0} where
           → Unput F R (x ∷ acc) e fs
       at back Ordering.Less q (more-two u f us vs r (more-two w y ws ys s g)) =
           record { before = y ∷ ys; entry = f; each = more-two x y acc ys s g; one = r; put = rw (same_order r s q) refl }
-      at back Ordering.Equal q b = absurd ((let test : eq_by_cmp code_order (plain e.0) (plain x.0) ≡ true = rw q refl in
-          cc (is_eq-slice_cmp (code (plain e.0)) (code (plain x.0)))))
+      at back Ordering.Equal q b = absurd ((cc (is_eq-slice_cmp (code (plain e.0)) (code (plain x.0)))))
       at back Ordering.Greater q (more-two u y us ys s g) =
           let r = back ys g in
           record {

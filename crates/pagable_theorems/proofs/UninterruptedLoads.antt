@@ -5,9 +5,8 @@ use Rattle.pagable_pager_spec.specs.{
   Events.{LoadSteps, ReadingsAre, reading_at},
   LoadCalls.BeginCall,
   Loads.{GoesOn, IsDecoded, LoadDoes, MakesNode, gone_on, with_got},
-  Refusals.Refused,
   Runs.TakesWell,
-  WorkerClaims.{IsLoadOfPagedOut, IsOfChance, LoadIsSound, StandTogether, of_load, of_nobody, turn_of},
+  WorkerClaims.{IsLoadOfPagedOut, IsOfChance, LoadIsSound, StandTogether, of_load, turn_of},
   declared.events.LoadReply.LoadReply,
 }
 use Rattle.pagable_theorems.proofs.{
@@ -22,10 +21,9 @@ use Rattle.pagable_theorems.proofs.{
   Trees.same_some,
   Words.{Alike, Among, ArcRef, Beginning, Bool, Call, Core, Err, Error, Event, EventReply, Frame, FramesFit, GetsKnown, HandleNumber, HandleRow},
   Words.{HandlesAreWhole, Happens, IsLawful, IsMachineWhole, IsReadableType, IsReference, IsWellAsked, Kind, List, LoadAnswer, LoadNumber, MachineState, Mode},
-  Words.{Moment, NodeNumber, None, Ok, OpenLoad, Option, OptionalDataKey, Owner, Reading, Reply, Seen, Some, Tree, Values, above, adopted, ap, arith, basics},
-  Words.{false, false_from_ne_true, find_row, held, if_there, inl, inr, is_in, is_named_by, is_some, mode_of, next_node, of_cell, owner_value},
-  Words.{references_fault, refl, root_frame, row_at, rules, slice_get, subst, suc, sym, type_of, with_handle, world_of, zero, ℕ, [], ◌+◌, ◌<◌, ◌==◌, ◌∙◌, ◌∷◌},
-  Words.{◌≡◌, ◌⊎◌},
+  Words.{Moment, NodeNumber, None, Ok, OpenLoad, Option, OptionalDataKey, Owner, Reading, Reply, Seen, Some, Tree, Values, adopted, ap, arith, basics, false},
+  Words.{false_from_ne_true, find_row, held, if_there, inl, inr, is_in, is_named_by, is_some, mode_of, next_node, of_cell, owner_value, references_fault, refl},
+  Words.{root_frame, row_at, rules, slice_get, subst, suc, sym, type_of, with_handle, world_of, zero, ℕ, [], ◌+◌, ◌<◌, ◌==◌, ◌∙◌, ◌∷◌, ◌≡◌, ◌⊎◌},
 }
 use Rattle.pagable_theorems.specs.{DepthLaws.{HasBegun, IsBeginOf, UninterruptedLoadsAreSound}, TreeSteps.FramesHeld}
 
@@ -160,7 +158,7 @@ module _ {N : Type 0} (v : Values N) (lawful : IsLawful v) (w w' : Core) (readin
       let was_got = (decodes lawful top g.x (takes top (subst (λ fs. Among fs top) (sym is) (zero, refl)))
       (first-fits v.types root_key root_type w.stored trees top below here) g.reads_node.decoded).got in
       let caller-free : (h : HandleNumber) → Has w Owner.Caller h → is_named_by refs h.0 ≡ false = λ h has. not-named refs h.0 (λ x named same.
-      let a = good w (Owner.Load l) [] refs c.good x named in let e : Owner.Load l ≡ Owner.Caller = cc (same, a.live, a.owned, has.live, has.own) in cc) in
+      let a = good w (Owner.Load l) [] refs c.good x named in cc) in
       -- no reference names the handle that comes
       let new-free : is_named_by refs (w.last.handle + 1) ≡ false = not-named refs (w.last.handle + 1)
       (λ x named same. omega (arith, small_all top x (zero, refl) (was_got x named))) in
@@ -214,7 +212,6 @@ module _ {N B W E : Type 0} (m : Seen N B W) (s s' : MachineState N E) (whole : 
       let g = b.begins in let row = g.0 in let next = g.2.2.above in let a = g.2.4.2 in
       let there : s'.pager.core.loads l.0 ≡ Some (record { owner = Owner.Caller; key = key; root = of_cell row.node g.2.4.0 h }) =
       grind (basics, updated-at) in
-      let is : record { owner = Owner.Caller; key = key; root = of_cell row.node g.2.4.0 h } ≡ load = same_some _ _ (sym there ∙ open_load) in
       let st = stands-alike a (with-one s.pager.core row.node Mode.LooseUnpinned (Owner.Load k) (stands-whole whole.pager.whole.handles h.0 row g.1.live)) in
       -- a load of a number that wasn't given yet isn't read
       let unread : (r : Reading) → s.work.readings l.0 ≡ Some r → r.frames ≡ [] = λ r e.

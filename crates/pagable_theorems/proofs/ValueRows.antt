@@ -5,7 +5,7 @@ use Rattle.pagable_pager_spec.specs.{
   Calls.{Asked, CloneCall, LoosenCall, PinCall, RecallCall, TakeCall, is_named_by, moved, row_of, with_cached, with_handle, with_known, with_mode},
   Cascade.only_handle,
   Events.{with_entry_taken, with_worker},
-  Kinds.{find_row, held, is_at, is_handle, is_in_memory, is_owned_by, is_owner, is_pin, is_pinning, is_share, is_shared, mode_of, owner_value, pins},
+  Kinds.{find_row, is_at, is_handle, is_in_memory, is_owned_by, is_owner, is_pin, is_pinning, is_share, is_shared, mode_of, owner_value, pins},
   LoadCalls.{BeginCall, BeginKeyCall, is_owned_in},
   Pager.{IsPagerWhole, IsWhole, PagerState},
   Refusals.{IsReference, Owns},
@@ -382,7 +382,6 @@ module _ {w : Core} (whole : IsWhole w) where
       let shares : is_shared holds.0.mode ≡ true = (whole.cache kind key n entered.entry).shares holds.0 holds.1 (same-number _ _ at) ∙ is in
       let one_share : one (is_share n holds.0) ≡ 1 = rw (at, shares) refl in
       let le = at-most-sum (λ h. one (is_share n h)) w.rows holds.0 holds.1 in
-      let unkeyed = whole.handles.unkeyed n (omega arith) in
       grind basics in
       grind (basics, not, is_some, is_here)
 

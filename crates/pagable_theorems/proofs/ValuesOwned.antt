@@ -136,7 +136,7 @@ module _ {before w w' : Core} {given : ℕ → Bool} {r : _} (f : Falls before w
               names = λ r among.
                   let is = (a.names r among).is in
                   let s = stands-left f (kept n x e still r among) (a.names r among).stands in
-                  let c = typed-cell w r.node.0 _ is.typed in let some =
+                  let some =
                   subst (λ (k : _). 0 < held k w'.rows) (ap (λ k. k.0) is.at) (row-held w' r.handle is.row s.live) in
                   let there : is_some (w'.cells r.node.0) ≡ true = grind (basics, held, nat_lt, left_rows, is_some) in
                   record {
@@ -234,8 +234,12 @@ module _ {N E : Type 0} {v : Values N} {s s' : PagerState N E} (is : IsPagerWhol
           let stood = stands-whole is.whole.handles h.0 row owns.live in
           let keeps : Keeps s.core (with_mode s.core h Mode.LooseUnpinned) = record {
             owns = mode-owns s.core h Mode.LooseUnpinned row stood (subst NotValues (sym owns.own) none);
-            held = λ n e. (grind (basics, same-number, row-here s.core h row owns.live (ap is_pinning mode),
-                mode-others s.core h Mode.LooseUnpinned row stood n));
+            held = λ n e. (grind (
+              basics,
+              same-number,
+              row-here s.core h row owns.live (ap is_pinning mode),
+              mode-others s.core h Mode.LooseUnpinned row stood n,
+            ));
           } in
           fell is keeps f is.whole.shut (λ x among e. absurd (cc)) left
     ]

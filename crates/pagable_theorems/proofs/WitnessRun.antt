@@ -25,7 +25,7 @@ use Rattle.pagable_theorems.proofs.{
   Words.{to_item, to_pin, to_release, to_set, to_start, to_write, tree, true, type_of, updated, world_of, zero, ℕ, [], ◌++◌, ◌+◌, ◌==◌, ◌∙◌, ◌∷◌, ◌≡◌, ◌≤◌},
   Words.◌⊎◌,
 }
-use Rattle.pagable_theorems.specs.{SmallWorlds.{StartsWell, outer}, Witness.{ArePremised, TwoLevelsMeetTheHeadline, value_at}}
+use Rattle.pagable_theorems.specs.{SmallWorlds.{outer}, Witness.{ArePremised, TwoLevelsMeetTheHeadline, value_at}}
 use Rattle.pagable_value_spec.specs.{Blob.preimage, Form.nothing-form, Keyed.throughout-alone, Trees.{none-followed, rest_of}}
 use Rattle.std.specs.Prelude.{IfSome, is_none, nat_le}
 use Rattle.pagable_theorems.specs.Witness as two
@@ -169,7 +169,7 @@ pages : (n : ℕ) (x : two.Working) (xs : List two.Happening) → Few x.core →
 unfolding two.page_out two.walked AllAsk
 pages zero x xs few ok rest = rest
 pages (suc n) x xs few (works, asks, counts, ends, passes, at_work, ok) rest =
-    let a = two.next_step x.core x.shelf x.todo in let y = two.next x in let few_then = few-next x.core x.shelf x.todo y.answer few in
+    let y = two.next x in let few_then = few-next x.core x.shelf x.todo y.answer few in
     let (moments, premised) = pages n y xs few_then ok rest in (
       does _ _ _ y.core two.two_values y.shelf (Some (two.walking y)) None
           (let d = does-so x.core x.shelf x.todo asks in let e = ends-so _ _ ends in search (arith, d, e, works, counts, none-there, again, same-shelf))
