@@ -13,7 +13,6 @@ rows-init g c =
       λ clean. listing_starts first now (order_of (first.shape c.args.table)) c.clear.new.self (first.trees c.args.table) c.new-places.result.items
           c.clear.ensures c.new-places.ensures.items (c.in_ok-seek.ensures.ok clean),
       c.seek.ensures.quiet.clean,
-      λ db h. c.seek.ensures.quiet.outcomes db h,
     )
 
 pub rows-preserved : goal.rows-preserved
@@ -32,5 +31,4 @@ rows-preserved g c =
           listing_goes_on first now next (first.trees c.args.table) l.places.items c.push.new.self.items c.next.new.row c.in-Int.place
           (l.invariant.1 (omega (arith, c.next.ensures.quiet.clean, clean))) there id pushed,
       omega (arith, l.invariant.2, c.next.ensures.quiet.clean),
-      λ db h. l.invariant.3 db (c.next.ensures.quiet.outcomes db h),
     )
