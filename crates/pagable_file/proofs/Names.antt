@@ -2,7 +2,7 @@
 use Rattle.pagable_core.specs.Roots.{ListsAll, is_among}
 use Rattle.pagable_file.specs.{
   Blobs.{WaitingRoots, before_root, roots_unless, roots_with},
-  Names.{IsListed, IsWaitingListed, KeepsNames},
+  Names.{IsListed, IsNameListed, IsWaitingListed, KeepsNames},
   Rows.{root_in, root_of_row, roots_in, row_at, rowid_of_name},
   declared.pending.PendingRoot.PendingRoot,
 }
@@ -48,15 +48,18 @@ waits_there waiting rows names place there none = absurd (true≢false (sym ther
 -- the table has no row there
 pub not_there : {A : Type 0} (waiting : WaitingRoots) (rows : List Row) (names : List (String A)) (place : ℤ) → row_at rows place ≡ None
     → IsListed waiting rows names place
-not_there waiting rows names place no none row at = let clash : None ≡ Some row = sym no ∙ at in absurd (cc)
+not_there waiting rows names place away none row at = let clash : None ≡ Some row = sym away ∙ at in absurd (cc)
 
--- the row at the place has no text, or one that is among the names
+-- the row there has no text, or one that is among the names
+pub not_text : {A : Type 0} (names : List (String A)) (row : Row) → ¬ (IsUtf8 (bytes (column row 2))) → IsNameListed names row
+not_text names row isn't text = absurd (isn't text)
+
 pub row_listed : {A : Type 0} (waiting : WaitingRoots) (rows : List Row) (names : List (String A)) (place : ℤ) (row : Row) → row_at rows place ≡ Some row
-    → (IsUtf8 (bytes (column row 2)) → IsTrue (is_among (bytes (column row 2)) names)) → IsListed waiting rows names place
-row_listed waiting rows names place row at listed none other there = let same : row ≡ other = cc in subst TextIsListed same listed
-  where
-    TextIsListed : Row → Type 0
-    TextIsListed r = IsUtf8 (bytes (column r 2)) → IsTrue (is_among (bytes (column r 2)) names)
+    → IsNameListed names row → IsListed waiting rows names place
+row_listed waiting rows names place row at listed none other there =
+    let both : Some row ≡ Some other = sym at ∙ there in
+    let same : row ≡ other = cc in
+    subst (IsNameListed names) same listed
 
 all_with : {X : Type 0} (P Q : X → Type 0) (x : X) → ((y : X) → P y → Q y) → Q x → (xs : List X) → AllByRecursion P xs → AllByRecursion Q (xs ++ x ∷ [])
 all_with P Q x goes here [] all = (here, tt)
@@ -149,4 +152,4 @@ pub lists_all_if : {A B : Type 0} (waiting : WaitingRoots) (rows : List Row) (fi
 lists_all_if waiting rows first closed (Ok all) listed keeps held = lists_all waiting rows first all.items closed listed keeps held
 lists_all_if waiting rows first closed (Err e) listed keeps held = tt
 
-pub ruleset adding = (pushed_keeps, pushed_lists, waits_there, row_listed, not_there)
+pub ruleset adding = (pushed_keeps, pushed_lists, not_text)

@@ -13,10 +13,14 @@ use Rattle.std.specs.{
 abbrev pub KeepsNames : {A : Type 0} → List (String A) → List (String A) → Type 0
 KeepsNames old new = (name : List ℕ) → IsTrue (is_among name old) → IsTrue (is_among name new)
 
--- the name of the row at a place, if there is one, is listed, if it is a text, and nothing waits at the place
+-- a row's name is listed, if it is a text
+abbrev pub IsNameListed : {A : Type 0} → List (String A) → Row → Type 0
+IsNameListed names row = IsUtf8 (bytes (column row 2)) → IsTrue (is_among (bytes (column row 2)) names)
+
+-- so is the name of the row at a place, if there is one, and nothing waits at the place
 abbrev pub IsListed : {A : Type 0} → WaitingRoots → List Row → List (String A) → ℤ → Type 0
 IsListed waiting rows names place = get int_eq waiting place ≡ None → (row : Row) → row_at rows place ≡ Some row
-    → IsUtf8 (bytes (column row 2)) → IsTrue (is_among (bytes (column row 2)) names)
+    → IsNameListed names row
 
 -- a name that waits is listed, if it is to stand for a key
 abbrev pub IsWaitingListed : {A : Type 0} → List (String A) → PendingRoot → Type 0

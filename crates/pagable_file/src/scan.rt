@@ -2,7 +2,7 @@
 
 ghost use Rattle.pagable_file.specs.{
   Blobs.{LeavesCommitted, MovesOnlyCursors, Settled, is_honest_view},
-  Names.{IsListed, KeepsNames},
+  Names.{IsListed, IsNameListed, KeepsNames},
   Rows.root_tree,
 };
 ghost use Rattle.sqlite_trees.specs.{
@@ -21,7 +21,7 @@ use sqlite_trees::sound::bytes_of;
 use sqlite_trees::store::{Direction, Store};
 use sqlite_value::row::Row;
 use sqlite_value::value::ValueRef;
-use std::alloc::Global;
+use std::alloc::{AllocError, Global};
 
 /// The number of the database's cursor that the scan uses.
 const CURSOR: u16 = 0;
@@ -82,10 +82,22 @@ pub fn all_places<S: Store>(
     }
 }
 
-/// Appends to `names` the name in the row at `place` of the table of roots, unless an entry waits
-/// for a flush there, or the table has no row there, or the name isn't UTF-8.
-#[tactic(auto, using(crate::proofs::Names::adding, crate::proofs::Settling::stays_self))]
-fn push_name<S: Store>(
+/// Appends the name in a row of the table of roots to `names`, unless it isn't UTF-8.
+#[tactic(auto, using(crate::proofs::Names::adding))]
+fn push_name(alloc: Global, row: &Row, names: &mut Vec<String>) -> Result<(), AllocError>
+    ensures keeps { KeepsNames names.old.items names.new.items }
+    ensures listed { OnOk result (IsNameListed names.new.items row.now) }
+{
+    if let Ok(name) = str::from_utf8(bytes_of(row.get(2))) {
+        names.push(String::from_str(alloc, name)?)?;
+    }
+    Ok(())
+}
+
+/// Appends the name in the row at `place` of the table of roots to `names`, unless an entry waits
+/// for a flush there, or the name isn't UTF-8.
+#[tactic(auto, using(crate::proofs::Settling::stays_self))]
+fn push_name_at<S: Store>(
     alloc: Global,
     store: &mut S,
     row: &mut Row,
@@ -105,9 +117,7 @@ fn push_name<S: Store>(
     if !read_row_at(store, ROOTS, place, row)? {
         return Ok(());
     }
-    if let Ok(name) = str::from_utf8(bytes_of(row.get(2))) {
-        names.push(String::from_str(alloc, name)?)?;
-    }
+    push_name(alloc, row, names)?;
     Ok(())
 }
 
@@ -128,7 +138,7 @@ pub fn committed_names<S: Store>(
     let places = all_places(alloc, store, row, ROOTS)?;
     let mut names = Vec::new(alloc);
     for place in &places {
-        push_name(alloc, store, row, waiting, &mut names, *place)?;
+        push_name_at(alloc, store, row, waiting, &mut names, *place)?;
     }
     Ok(names)
 }

@@ -17,20 +17,20 @@ loop-place-preserved g c =
     let l = c.loop-place in
     let first = g.S.Store.view c.args.store.now in
     let now = g.S.Store.view l.store in
-    let next = g.S.Store.view c.push_name.new.store in
+    let next = g.S.Store.view c.push_name_at.new.store in
     let waiting = c.args.waiting.now in
-    let names = c.push_name.new.names.items in
+    let names = c.push_name_at.new.names.items in
     let places = c.deref-place-items.result.now in
     let place : ℤ = get_or places l.place-index (pos 0) in
     let fits : SFits w64 place = search rules in (
-      stays_then first now next l.invariant.0 c.push_name.ensures.stays,
+      stays_then first now next l.invariant.0 c.push_name_at.ensures.stays,
       λ sure.
-          let early = c.push_name.ensures.stays.sure sure in
+          let early = c.push_name_at.ensures.stays.sure sure in
           let was = l.invariant.1 early in
-          let here = subst (λ (p : ℤ). IsListed waiting (now.committed root_tree) names p) (to_z-of_z fits) (c.in_ok-push_name.ensures.listed sure) in (
+          let here = subst (λ (p : ℤ). IsListed waiting (now.committed root_tree) names p) (to_z-of_z fits) (c.in_ok-push_name_at.ensures.listed sure) in (
             was.0,
             listed_next waiting (first.committed root_tree) l.names.items names places l.place-index place c.loop-place-test.true
-                (read_once places l.place-index (pos 0) place c.loop-place-test.true) c.push_name.ensures.keeps was.1
+                (read_once places l.place-index (pos 0) place c.loop-place-test.true) c.push_name_at.ensures.keeps was.1
                 (subst (λ (db : Trees). IsListed waiting (db root_tree) names place) (l.invariant.0.same early) here),
           ),
     )
