@@ -1,5 +1,5 @@
 -- Which flaws a test of a file of blobs adds.
-use Rattle.pagable_file.proofs.{Named.{none_there, stays_then}, Settling.stays_self}
+use Rattle.pagable_file.proofs.{Named.{none_there, stays_then}, Names.all_with, Settling.stays_self}
 use Rattle.pagable_file.specs.{
   Blobs.{LeavesCommitted, Settled, is_honest_view},
   Flaws.{AddsFlawsUnless, IsFlaw, IsNameAt, IsNamed, IsSoundAt, IsSoundBlob, IsSoundBlobRow, IsSoundRootRow, IsSoundRow, IsThere, IsWhole},
@@ -25,10 +25,6 @@ use Rattle.std.specs.{
 }
 use Rattle.pagable_file.specs.declared.fsck.Flaw.TheVariants as flaw
 
-each_more : {A : Type 0} (P : A → Type 0) (xs : List A) (x : A) → Each P xs → P x → Each P (xs ++ x ∷ [])
-each_more P [] x h p = (p, tt)
-each_more P (y ∷ xs) x h p = (h.0, each_more P xs x h.1 p)
-
 never_empty : {A : Type 0} (xs : List A) (x : A) → xs ++ x ∷ [] ≡ [] → ⊥
 never_empty [] x e = absurd (cc)
 never_empty (y ∷ xs) x e = absurd (cc)
@@ -36,7 +32,7 @@ never_empty (y ∷ xs) x e = absurd (cc)
 -- a flaw was added
 pub flawed : (P : Flaw → Type 0) (old new : List Flaw) (x : Flaw) (Q : Type 0) → new ≡ old ++ x ∷ [] → P x → AddsFlawsUnless P old new Q
 flawed P old new x Q is here = record {
-  real = λ h. subst (Each P) (sym is) (each_more P old x h here);
+  real = λ h. subst (Each P) (sym is) (all_with P P x (λ y holds. holds) here old h);
   clear = λ none. absurd (never_empty old x (sym is ∙ none));
 }
 
@@ -234,7 +230,7 @@ pub each_next : {A : Type 0} (P : Flaw → Type 0) (T : A → Type 0) (a b c : L
     → AddsFlawsUnless P a b (Each T (take i xs)) → AddsFlawsUnless P b c (T x) → AddsFlawsUnless P a c (Each T (take (i + 1) xs))
 each_next P T a b c xs i x h is f g =
     let more : take (i + 1) xs ≡ take i xs ++ x ∷ [] = take_more xs i x h ∙ ap (λ y. take i xs ++ y ∷ []) (sym is) in
-    tested_as P a c (Each T (take i xs) × T x) (Each T (take (i + 1) xs)) (λ all. subst (Each T) (sym more) (each_more T (take i xs) x all.0 all.1))
+    tested_as P a c (Each T (take i xs) × T x) (Each T (take (i + 1) xs)) (λ all. subst (Each T) (sym more) (all_with T T x (λ y holds. holds) all.1 (take i xs) all.0))
     (tested_then P a b c (Each T (take i xs)) (T x) f g)
 
 pub each_tested : {A : Type 0} (P : Flaw → Type 0) (T : A → Type 0) (a b : List Flaw) (xs : List A) (n : ℕ) → length xs ≤ n
@@ -355,5 +351,3 @@ pub ruleset testing = (
 )
 
 pub ruleset looping = (each_next, each_tested, passed, stays_then, table_there)
-
-pub ruleset finding = (exactly, all_real)

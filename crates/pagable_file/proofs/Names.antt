@@ -9,7 +9,7 @@ use Rattle.pagable_file.specs.{
 use Rattle.pagable_value_spec.specs.declared.error.Error.{Error}
 use Rattle.sqlite_value.specs.Order.{Row, bytes, column}
 use Rattle.std.proofs.{
-  Common.{Bool, IsSome, IsTrue, List, None, Option, Some, ap, append-nil, append_assoc, false, get_or, length, refl, subst, sym, take, true, true≢false, ℕ, ℤ},
+  Common.{Bool, IsSome, IsTrue, List, None, Option, Some, ap, append_assoc, false, get_or, length, refl, subst, sym, take, true, true≢false, ℕ, ℤ},
   Common.{[], ◌++◌, ◌+◌, ◌<◌, ◌∙◌, ◌∷◌, ◌≡◌},
   lemmas.{List.{Folds.list_any-append, take_more}, Slice.Eq.bytes_eq-Decides},
 }
@@ -61,7 +61,8 @@ row_listed waiting rows names place row at listed none other there =
     let same : row ≡ other = cc in
     subst (IsNameListed names) same listed
 
-all_with : {X : Type 0} (P Q : X → Type 0) (x : X) → ((y : X) → P y → Q y) → Q x → (xs : List X) → AllByRecursion P xs → AllByRecursion Q (xs ++ x ∷ [])
+-- what holds of each item and of one more
+pub all_with : {X : Type 0} (P Q : X → Type 0) (x : X) → ((y : X) → P y → Q y) → Q x → (xs : List X) → AllByRecursion P xs → AllByRecursion Q (xs ++ x ∷ [])
 all_with P Q x goes here [] all = (here, tt)
 all_with P Q x goes here (y ∷ ys) all = (goes y all.0, all_with P Q x goes here ys all.1)
 
@@ -81,9 +82,6 @@ pub record Passed {X : Type 0} (P : X → Type 0) (left all : List X) : Type 0 w
   pub rest : passed ++ left ≡ all
   pub holds : AllByRecursion P passed
 
-pub passed_none : {X : Type 0} (P : X → Type 0) (all : List X) → Passed P all all
-passed_none P all = record { passed = []; rest = refl; holds = tt }
-
 pub passed_more : {X : Type 0} (P Q : X → Type 0) (x : X) (before left all : List X) → Passed P before all → before ≡ x ∷ left → ((y : X) → P y → Q y) → Q x
     → Passed Q left all
 passed_more P Q x before left all was is goes here = record {
@@ -91,9 +89,6 @@ passed_more P Q x before left all was is goes here = record {
   rest = append_assoc was.passed (x ∷ []) left ∙ ap (λ r. was.passed ++ r) (sym is) ∙ was.rest;
   holds = all_with P Q x goes here was.passed was.holds;
 }
-
-pub passed_all : {X : Type 0} (P : X → Type 0) (left all : List X) → Passed P left all → left ≡ [] → AllByRecursion P all
-passed_all P left all was none = subst (AllByRecursion P) (sym (append-nil was.passed) ∙ ap (λ r. was.passed ++ r) (sym none) ∙ was.rest) was.holds
 
 -- what holds of each entry holds of one that is found
 found_entry : (P : PendingRoot → Type 0) (test : ℤ → Bool) (entries : List (ℤ × PendingRoot)) (it : PendingRoot) → AllByRecursion (λ e. P e.1) entries

@@ -328,7 +328,7 @@ impl<E: Env, S: Store> FileBlobs<E, S> {
     ///
     /// - `OutOfMemory`.
     /// - `Storage` only if the call raised the count of failures.
-    #[tactic(auto, using(crate::proofs::Flawed::finding))]
+    #[tactic(auto, using(crate::proofs::Flawed::all_real))]
     pub fn fsck<W: Watch>(&mut self, alloc: Global, watch: &mut W) -> Result<Vec<Flaw>, Error>
         ensures exact { IsTrue (is_honest_view (S.view self.new.store))
             → IfOk result (λ flaws. (flaws.items ≡ [])
