@@ -1,32 +1,29 @@
 -- Which flaws a test of a file of blobs adds.
-use Rattle.pagable_file.proofs.{Named.stays_then, Places.has_place}
+use Rattle.pagable_file.proofs.{Named.{none_there, stays_then}, Names.all_with, Settling.stays_self}
 use Rattle.pagable_file.specs.{
-  Blobs.{LeavesCommitted, is_honest_view},
-  Flaws.{AddsFlawsUnless, IsChild, IsFlaw, IsNameAt, IsNamed, IsSoundBlob, IsSoundPlace, IsSoundRoot, IsThere, IsWhole, blob_at, keyed, keyed_at},
+  Blobs.{LeavesCommitted, Settled, is_honest_view},
+  Flaws.{AddsFlawsUnless, IsFlaw, IsNameAt, IsNamed, IsSoundAt, IsSoundBlob, IsSoundBlobRow, IsSoundRootRow, IsSoundRow, IsThere, IsWhole},
+  Flaws.{blob_at, keyed, keyed_at},
   Rows.{blob_in, blob_tree, blobs_in, is_key, key_in, root_in, root_tree, roots_in, row_at, rowid_of, rowid_of_name},
   declared.fsck.Flaw.Flaw,
 }
 use Rattle.pagable_value_spec.specs.Blob.{Blob}
-use Rattle.sqlite_trees.specs.{Tree.{Trees, has_rowid, rowid}, View.View}
-use Rattle.sqlite_value.specs.{Order.{Row, bytes, column}, declared.value.Value.TheVariants.Int}
+use Rattle.sqlite_trees.specs.{Tree.Trees, View.View, declared.store.Shape.TheVariants.Table}
+use Rattle.sqlite_value.specs.Order.{Row, bytes, column}
 use Rattle.std.proofs.{
-  Common.{Bool, IsSome, IsTrue, List, None, Option, Some, String, ap, arith, false, get_or, length, map, refl, string_bytes, subst, suc, sym, take, true},
+  Common.{Bool, IsSome, IsTrue, List, None, Option, Some, String, ap, arith, false, get_or, length, refl, string_bytes, subst, suc, sym, take, true},
   Common.{true≢false, zero, ℕ, ℤ, [], ◌++◌, ◌+◌, ◌<◌, ◌∙◌, ◌∷◌, ◌≡◌, ◌≢◌, ◌≤◌},
-  lemmas.{Bool.Decides.nat_tests, List.{Elements.All-contains_itself, take_all, take_more}, Slice.Eq.bytes_eq-Decides, Str.IsUtf8-string_bytes},
+  lemmas.{Bool.Decides.nat_tests, List.{take_all, take_more}, Slice.Eq.bytes_eq-Decides, Str.IsUtf8-string_bytes},
 }
 use Rattle.std.specs.{
   Cmp.signed_Decides,
-  List.{All, AllByRecursion as Each, Contains},
+  List.{AllByRecursion as Each, Contains},
   Ordering.int_eq,
   Prelude.{if◌then◌else◌, is_some, option_map, slice_index_or, ◌↔◌},
   Str.{IsUtf8, bytes_eq},
   declared.alloc.Global.Global,
 }
 use Rattle.pagable_file.specs.declared.fsck.Flaw.TheVariants as flaw
-
-each_more : {A : Type 0} (P : A → Type 0) (xs : List A) (x : A) → Each P xs → P x → Each P (xs ++ x ∷ [])
-each_more P [] x h p = (p, tt)
-each_more P (y ∷ xs) x h p = (h.0, each_more P xs x h.1 p)
 
 never_empty : {A : Type 0} (xs : List A) (x : A) → xs ++ x ∷ [] ≡ [] → ⊥
 never_empty [] x e = absurd (cc)
@@ -35,7 +32,7 @@ never_empty (y ∷ xs) x e = absurd (cc)
 -- a flaw was added
 pub flawed : (P : Flaw → Type 0) (old new : List Flaw) (x : Flaw) (Q : Type 0) → new ≡ old ++ x ∷ [] → P x → AddsFlawsUnless P old new Q
 flawed P old new x Q is here = record {
-  real = λ h. subst (Each P) (sym is) (each_more P old x h here);
+  real = λ h. subst (Each P) (sym is) (all_with P P x (λ y holds. holds) here old h);
   clear = λ none. absurd (never_empty old x (sym is ∙ none));
 }
 
@@ -52,39 +49,20 @@ tested_then P a b c Q R f g = record {
 pub tested_as : (P : Flaw → Type 0) (a b : List Flaw) (Q R : Type 0) → (Q → R) → AddsFlawsUnless P a b Q → AddsFlawsUnless P a b R
 tested_as P a b Q R f t = record { real = t.real; clear = λ none. let it = t.clear none in (it.0, f it.1) }
 
--- one more element passed
-pub tested_more : {A : Type 0} (P : Flaw → Type 0) (T : A → Type 0) (a b c : List Flaw) (xs next : List A) (x : A) → next ≡ xs ++ x ∷ []
-    → AddsFlawsUnless P a b (Each T xs) → AddsFlawsUnless P b c (T x) → AddsFlawsUnless P a c (Each T next)
-tested_more P T a b c xs next x is f g = tested_as P a c (Each T xs × T x) (Each T next) (λ h. subst (Each T) (sym is) (each_more T xs x h.0 h.1))
-    (tested_then P a b c (Each T xs) (T x) f g)
-
-none_of : {A : Type 0} (o : Option A) (b : Bool) → b ≡ is_some o → b ≡ false → o ≡ None
-none_of None b e f = refl
-none_of (Some x) b e f = absurd (true≢false (sym e ∙ f))
-
 some_of : {A : Type 0} (o : Option A) (b : Bool) → b ≡ is_some o → b ≡ true → IsSome o
 some_of (Some x) b e f = refl
 some_of None b e f = absurd (true≢false (sym f ∙ e))
 
--- a child was looked for
-pub child_tested : (of : Blob → ℕ) (rows roots : List Row) (child : ℕ) (old : List Flaw) (there : Bool) → there ≡ is_some (blobs_in rows child) → there ≡ true
-    → AddsFlawsUnless (IsFlaw of rows roots) old old (IsThere rows child)
-child_tested of rows roots child old there e is = passed (IsFlaw of rows roots) old (IsThere rows child) (some_of (blobs_in rows child) there e is)
+-- a blob was looked for
+pub there_tested : (of : Blob → ℕ) (rows roots : List Row) (key : ℕ) (old : List Flaw) (there : Bool) → there ≡ is_some (blobs_in rows key) → there ≡ true
+    → AddsFlawsUnless (IsFlaw of rows roots) old old (IsThere rows key)
+there_tested of rows roots key old there e is = passed (IsFlaw of rows roots) old (IsThere rows key) (some_of (blobs_in rows key) there e is)
 
-pub missing : (rows : List Row) (child : ℕ) (there : Bool) → there ≡ is_some (blobs_in rows child) → there ≡ false → blobs_in rows child ≡ None
-missing rows child there e is = none_of (blobs_in rows child) there e is
-
-pub child_flaw : (of : Blob → ℕ) (rows roots : List Row) (key child : ℕ) (old new : List Flaw) (there : Bool) → new ≡ old ++ flaw.MissingChild key child ∷ []
-    → IsChild rows key child → there ≡ is_some (blobs_in rows child) → there ≡ false
-    → AddsFlawsUnless (IsFlaw of rows roots) old new (IsThere rows child)
-child_flaw of rows roots key child old new there is own e none = flawed (IsFlaw of rows roots) old new (flaw.MissingChild key child) (IsThere rows child) is
-    (own, missing rows child there e none)
-
-pub root_flaw : (of : Blob → ℕ) (rows roots : List Row) (name : String Global) (key : ℕ) (old new : List Flaw) (there : Bool) → new ≡ old
-    ++ flaw.MissingRoot name key ∷ [] → roots_in roots (string_bytes name) ≡ Some key → there ≡ is_some (blobs_in rows key)
-    → there ≡ false → AddsFlawsUnless (IsFlaw of rows roots) old new (IsThere rows key)
-root_flaw of rows roots name key old new there is own e none = flawed (IsFlaw of rows roots) old new (flaw.MissingRoot name key) (IsThere rows key) is
-    (own, missing rows key there e none)
+pub lack_flaw : (of : Blob → ℕ) (rows roots : List Row) (key : ℕ) (it : Flaw) (old new : List Flaw) (there : Bool) → new ≡ old ++ it ∷ []
+    → (blobs_in rows key ≡ None → IsFlaw of rows roots it) → there ≡ is_some (blobs_in rows key) → there ≡ false
+    → AddsFlawsUnless (IsFlaw of rows roots) old new (IsThere rows key)
+lack_flaw of rows roots key it old new there is own e none = flawed (IsFlaw of rows roots) old new it (IsThere rows key) is
+    (own (none_there (blobs_in rows key) there e none))
 
 pub key_flaw : (of : Blob → ℕ) (rows roots : List Row) (key : ℕ) (blob : Blob) (old new : List Flaw) → new ≡ old ++ flaw.WrongKey key ∷ [] → blobs_in rows key
     ≡ Some blob → of blob ≢ key → AddsFlawsUnless (IsFlaw of rows roots) old new (of blob ≡ key)
@@ -97,14 +75,6 @@ stray_blob of rows roots place row old new Q is at none = flawed (IsFlaw of rows
 pub stray_root : (of : Blob → ℕ) (rows roots : List Row) (place : ℤ) (row : Row) (old new : List Flaw) (Q : Type 0) → new ≡ old ++ flaw.StrayRoot place ∷ []
     → row_at roots place ≡ Some row → IsNameAt place row None → AddsFlawsUnless (IsFlaw of rows roots) old new Q
 stray_root of rows roots place row old new Q is at none = flawed (IsFlaw of rows roots) old new (flaw.StrayRoot place) Q is (row, at, none)
-
--- the children of a blob that stands under a key are children of the key's
-each_from : {A : Type 0} (P Q : A → Type 0) (xs : List A) → ((x : A) → P x → Q x) → All P xs → Each Q xs
-each_from P Q [] f h = tt
-each_from P Q (x ∷ xs) f h = (f x (h 0 x (omega arith)), each_from P Q xs f (λ k d le. h (suc k) d (omega (arith, le))))
-
-pub are_children : (rows : List Row) (key : ℕ) (blob : Blob) → blobs_in rows key ≡ Some blob → Each (IsChild rows key) blob.keys
-are_children rows key blob is = each_from (Contains blob.keys) (IsChild rows key) blob.keys (λ child h. (blob, is, h)) (All-contains_itself blob.keys)
 
 -- the key of a row's blob
 row_key : (key found : ℕ) → is_key key (Some found) ≡ true → found ≡ key
@@ -168,36 +138,19 @@ in_is_at place row key blob h p =
     let t : int_eq (rowid_of key) place ≡ true = (signed_Decides (rowid_of key) place).1 p in
     rw (k, t, h) refl
 
--- the row at a place is among the rows, so its place is among theirs
-found_step : (P : ℤ → Type 0) (id : ℤ) (row r : Row) (rows : List Row) (p : ℤ) → rowid r ≡ Int p → P p → (row_at rows id ≡ Some row → P id) → (b : Bool)
-    → has_rowid id r ≡ b → row_at (r ∷ rows) id ≡ Some row → P id
-unfolding row_at
-found_step P id row r rows p first here more true f at = subst P ((signed_Decides p id).0 (sym (has_place r p id first) ∙ f)) here
-found_step P id row r rows p first here more false f at = more (rw f at at)
-
-found_place : (P : ℤ → Type 0) (id : ℤ) (row : Row) (rows : List Row) (places : List ℤ) → map Int places ≡ map rowid rows → row_at rows id ≡ Some row
-    → Each P places → P id
-unfolding row_at
-found_place P id row [] places e at all = absurd (cc)
-found_place P id row (r ∷ rows) [] e at all = absurd (cc)
-found_place P id row (r ∷ rows) (p ∷ places) e at all =
-    let first : rowid r ≡ Int p = cc in
-    let rest : map Int places ≡ map rowid rows = cc in
-    found_step P id row r rows p first all.0 (λ h. found_place P id row rows places rest h all.1) (has_rowid id r) refl at
-
--- where each place is sound, each blob that stands under a key is
-pub all_sound : (of : Blob → ℕ) (rows : List Row) (places : List ℤ) → map Int places ≡ map rowid rows → Each (IsSoundPlace of rows) places
-    → (key : ℕ) (blob : Blob) → blobs_in rows key ≡ Some blob → IsSoundBlob of rows key blob
+-- where each row is sound, each blob that stands under a key is
+all_sound : (of : Blob → ℕ) (db : Trees) → ((place : ℤ) → IsSoundAt of db blob_tree place) → (key : ℕ) (blob : Blob) → blobs_in (db blob_tree) key ≡ Some blob
+    → IsSoundBlob of (db blob_tree) key blob
 unfolding blobs_in
-all_sound of rows places e all key blob is = go (row_at rows (rowid_of key)) refl
+all_sound of db sound key blob is = go (row_at (db blob_tree) (rowid_of key)) refl
   where
-    go : (o : Option Row) → row_at rows (rowid_of key) ≡ o → IsSoundBlob of rows key blob
+    go : (o : Option Row) → row_at (db blob_tree) (rowid_of key) ≡ o → IsSoundBlob of (db blob_tree) key blob
     go None f = let no : None ≡ Some blob = rw f at is in absurd (cc)
     go (Some row) f =
         let here : blob_in key row ≡ Some blob = rw f at is in
-        let it = found_place (IsSoundPlace of rows) (rowid_of key) row rows places e f all row f in
+        let it = sound (rowid_of key) row f in
         let same = some_pair it.0 key it.1 blob (sym it.2 ∙ in_is_at (rowid_of key) row key blob here refl) in
-        subst (λ (b : Blob). IsSoundBlob of rows key b) same.1 (subst (λ (k : ℕ). IsSoundBlob of rows k it.1) same.0 it.3)
+        subst (λ (b : Blob). IsSoundBlob of (db blob_tree) key b) same.1 (subst (λ (k : ℕ). IsSoundBlob of (db blob_tree) k it.1) same.0 it.3)
 
 -- the key of a root's row
 root_key : (name : List ℕ) (row : Row) (key : ℕ) → root_in name row ≡ Some key → key_in (bytes (column row 3)) ≡ Some key
@@ -208,36 +161,30 @@ root_key name row key h = go (bytes_eq (bytes (column row 2)) name) refl
     go true e = rw e at h
     go false e = let no : None ≡ Some key = rw e at h in absurd (cc)
 
-pub all_named : (rows roots : List Row) (places : List ℤ) → map Int places ≡ map rowid roots → Each (IsSoundRoot rows roots) places → (name : List ℕ) (key : ℕ)
-    → roots_in roots name ≡ Some key → IsThere rows key
+all_named : (of : Blob → ℕ) (db : Trees) → ((place : ℤ) → IsSoundAt of db root_tree place) → (name : List ℕ) (key : ℕ) → roots_in (db root_tree) name ≡ Some key
+    → IsThere (db blob_tree) key
 unfolding roots_in
-all_named rows roots places e all name key is = go (row_at roots (rowid_of_name name)) refl
+all_named of db sound name key is = go (row_at (db root_tree) (rowid_of_name name)) refl
   where
-    go : (o : Option Row) → row_at roots (rowid_of_name name) ≡ o → IsThere rows key
+    go : (o : Option Row) → row_at (db root_tree) (rowid_of_name name) ≡ o → IsThere (db blob_tree) key
     go None f = let no : None ≡ Some key = rw f at is in absurd (cc)
-    go (Some row) f =
-        let here : root_in name row ≡ Some key = rw f at is in
-        (found_place (IsSoundRoot rows roots) (rowid_of_name name) row roots places e f all row f).1 key (root_key name row key here)
+    go (Some row) f = let here : root_in name row ≡ Some key = rw f at is in (sound (rowid_of_name name) row f).1 key (root_key name row key here)
 
--- the whole file, by its places
-pub is_whole : (of : Blob → ℕ) (rows roots : List Row) (places names : List ℤ) → map Int places ≡ map rowid rows → map Int names ≡ map rowid roots
-    → Each (IsSoundPlace of rows) places → Each (IsSoundRoot rows roots) names → IsWhole of rows roots
-is_whole of rows roots places names e f blobs named = record {
-  placed = λ place row at. let it = found_place (IsSoundPlace of rows) place row rows places e at blobs row at in subst IsSome (sym it.2) refl;
-  keyed = λ key blob is. (all_sound of rows places e blobs key blob is).keyed;
-  children = λ key blob is. (all_sound of rows places e blobs key blob is).children;
-  names_placed = λ place row at. (found_place (IsSoundRoot rows roots) place row roots names f at named row at).0;
-  named = all_named rows roots names f named;
+-- the whole file, by the rows of its two tables
+is_whole : (of : Blob → ℕ) (db : Trees) → ((place : ℤ) → IsSoundAt of db blob_tree place) → ((place : ℤ) → IsSoundAt of db root_tree place)
+    → IsWhole of (db blob_tree) (db root_tree)
+is_whole of db blobs roots = record {
+  placed = λ place row at. let it = blobs place row at in subst IsSome (sym it.2) refl;
+  keyed = λ key blob is. (all_sound of db blobs key blob is).keyed;
+  children = λ key blob is. (all_sound of db blobs key blob is).children;
+  names_placed = λ place row at. (roots place row at).0;
+  named = all_named of db roots;
 }
 
 -- where a whole file has a key, it isn't none
-none_is_no_blob : (o : Option Blob) → o ≡ None → IsSome o → ⊥
-none_is_no_blob None e h = absurd (cc)
-none_is_no_blob (Some x) e h = absurd (cc)
-
-none_is_no_pair : (o : Option (ℕ × Blob)) → o ≡ None → IsSome o → ⊥
-none_is_no_pair None e h = absurd (cc)
-none_is_no_pair (Some x) e h = absurd (cc)
+none_isnt_some : {A : Type 0} (o : Option A) → o ≡ None → IsSome o → ⊥
+none_isnt_some None e h = absurd (cc)
+none_isnt_some (Some x) e h = absurd (cc)
 
 each_at : (P : ℕ → Type 0) (keys : List ℕ) (child : ℕ) → Contains keys child → Each P keys → P child
 each_at P keys child h all = each_of P keys h.0 child h.1 h.2 all
@@ -249,13 +196,13 @@ each_at P keys child h all = each_of P keys h.0 child h.1 h.2 all
 
 -- a whole file has no flaw
 no_flaw : (of : Blob → ℕ) (rows roots : List Row) (it : Flaw) → IsWhole of rows roots → IsFlaw of rows roots it → ⊥
-no_flaw of rows roots (flaw.StrayBlob place) w h = none_is_no_pair (blob_at place h.0) h.2 (w.placed place h.0 h.1)
+no_flaw of rows roots (flaw.StrayBlob place) w h = none_isnt_some (blob_at place h.0) h.2 (w.placed place h.0 h.1)
 no_flaw of rows roots (flaw.WrongKey key) w h = h.2 (w.keyed key h.0 h.1)
 no_flaw of rows roots (flaw.MissingChild key child) w h =
     let it = h.0 in
-    none_is_no_blob (blobs_in rows child) h.1 (each_at (IsThere rows) it.0.keys child it.2 (w.children key it.0 it.1))
+    none_isnt_some (blobs_in rows child) h.1 (each_at (IsThere rows) it.0.keys child it.2 (w.children key it.0 it.1))
 no_flaw of rows roots (flaw.StrayRoot place) w h = let it = w.names_placed place h.0 h.1 in h.2 it.0 it.1
-no_flaw of rows roots (flaw.MissingRoot name key) w h = none_is_no_blob (blobs_in rows key) h.1 (w.named (string_bytes name) key h.0)
+no_flaw of rows roots (flaw.MissingRoot name key) w h = none_isnt_some (blobs_in rows key) h.1 (w.named (string_bytes name) key h.0)
 
 no_flaws : (of : Blob → ℕ) (rows roots : List Row) (all : List Flaw) → IsWhole of rows roots → Each (IsFlaw of rows roots) all → all ≡ []
 no_flaws of rows roots [] w h = refl
@@ -265,6 +212,9 @@ no_flaws of rows roots (it ∷ all) w h = absurd (no_flaw of rows roots it w h.0
 pub exactly : (of : Blob → ℕ) (rows roots : List Row) (all : List Flaw) → AddsFlawsUnless (IsFlaw of rows roots) [] all (IsWhole of rows roots) → (all ≡ [])
     ↔ IsWhole of rows roots
 exactly of rows roots all t = (λ none. (t.clear none).1, λ w. no_flaws of rows roots all w (t.real tt))
+
+pub all_real : (P : Flaw → Type 0) (all : List Flaw) (Q : Type 0) → AddsFlawsUnless P [] all Q → Each P all
+all_real P all Q t = t.real tt
 
 -- what the row of a name that stands at its place says of it
 pub name_is_in : (roots : List Row) (place : ℤ) (row : Row) (name : List ℕ) (key : ℕ) → row_at roots place ≡ Some row → name ≡ bytes (column row 2)
@@ -278,22 +228,10 @@ name_is_in roots place row name key at own p is =
 -- one more element of a list was tested
 pub each_next : {A : Type 0} (P : Flaw → Type 0) (T : A → Type 0) (a b c : List Flaw) (xs : List A) (i : ℕ) (x : A) → i < length xs → x ≡ get_or xs i x
     → AddsFlawsUnless P a b (Each T (take i xs)) → AddsFlawsUnless P b c (T x) → AddsFlawsUnless P a c (Each T (take (i + 1) xs))
-each_next P T a b c xs i x h is f g = tested_more P T a b c (take i xs) (take (i + 1) xs) x (take_more xs i x h ∙ ap (λ y. take i xs ++ y ∷ []) (sym is)) f g
-
-each_front : {A : Type 0} (P : A → Type 0) (xs : List A) (x : A) → Each P (xs ++ x ∷ []) → Each P xs
-each_front P [] x h = tt
-each_front P (y ∷ xs) x h = (h.0, each_front P xs x h.1)
-
-each_last : {A : Type 0} (P : A → Type 0) (xs : List A) (x : A) → Each P (xs ++ x ∷ []) → P x
-each_last P [] x h = h.0
-each_last P (y ∷ xs) x h = each_last P xs x h.1
-
-pub child_next : (P : Flaw → Type 0) (S T : ℕ → Type 0) (a b c : List Flaw) (xs : List ℕ) (i x : ℕ) → i < length xs → x ≡ get_or xs i x
-    → (Each S (take i xs) → AddsFlawsUnless P a b (Each T (take i xs))) → (S x → AddsFlawsUnless P b c (T x)) → Each S (take (i + 1) xs)
-    → AddsFlawsUnless P a c (Each T (take (i + 1) xs))
-child_next P S T a b c xs i x h is f g all =
-    let split : Each S (take i xs ++ x ∷ []) = subst (Each S) (take_more xs i x h ∙ ap (λ (y : ℕ). take i xs ++ y ∷ []) (sym is)) all in
-    each_next P T a b c xs i x h is (f (each_front S (take i xs) x split)) (g (each_last S (take i xs) x split))
+each_next P T a b c xs i x h is f g =
+    let more : take (i + 1) xs ≡ take i xs ++ x ∷ [] = take_more xs i x h ∙ ap (λ y. take i xs ++ y ∷ []) (sym is) in
+    tested_as P a c (Each T (take i xs) × T x) (Each T (take (i + 1) xs)) (λ all. subst (Each T) (sym more) (all_with T T x (λ y holds. holds) all.1 (take i xs) all.0))
+    (tested_then P a b c (Each T (take i xs)) (T x) f g)
 
 pub each_tested : {A : Type 0} (P : Flaw → Type 0) (T : A → Type 0) (a b : List Flaw) (xs : List A) (n : ℕ) → length xs ≤ n
     → AddsFlawsUnless P a b (Each T (take n xs))
@@ -314,187 +252,102 @@ pub no_row : (o : Option Row) (row : Row) (found : Bool) → o ≡ (if found the
 no_row o row false e h = e
 no_row o row true e h = absurd (true≢false h)
 
-pub place_empty : (of : Blob → ℕ) (rows : List Row) (place : ℤ) → row_at rows place ≡ None → IsSoundPlace of rows place
-place_empty of rows place none row at = let no : None ≡ Some row = sym none ∙ at in absurd (cc)
+pub none_at : (of : Blob → ℕ) (db : Trees) (table : ℕ) (place : ℤ) → row_at (db table) place ≡ None → IsSoundAt of db table place
+none_at of db table place none row at = let no : None ≡ Some row = sym none ∙ at in absurd (cc)
 
-pub root_empty : (rows roots : List Row) (place : ℤ) → row_at roots place ≡ None → IsSoundRoot rows roots place
-root_empty rows roots place none row at = let no : None ≡ Some row = sym none ∙ at in absurd (cc)
-
--- the one row at a place
-one_row : (rows : List Row) (place : ℤ) (a b : Row) → row_at rows place ≡ Some a → row_at rows place ≡ Some b → a ≡ b
-one_row rows place a b e f = let same : Some a ≡ Some b = sym e ∙ f in cc
-
-pub place_sound : (of : Blob → ℕ) (rows : List Row) (place : ℤ) (row : Row) (key : ℕ) (blob : Blob) → row_at rows place ≡ Some row → blob_at place row
-    ≡ Some (key, blob) → IsSoundBlob of rows key blob → IsSoundPlace of rows place
-place_sound of rows place row key blob at is sound other there = (
-  key,
-  blob,
-  subst (λ (r : Row). blob_at place r ≡ Some (key, blob)) (one_row rows place row other at there) is,
-  sound,
-)
+pub blob_row_tested : (of : Blob → ℕ) (rows roots : List Row) (old new : List Flaw) (place : ℤ) (row : Row) (key : ℕ) (blob : Blob)
+    → blob_at place row ≡ Some (keyed key blob) → AddsFlawsUnless (IsFlaw of rows roots) old new (IsSoundBlob of rows key blob)
+    → AddsFlawsUnless (IsFlaw of rows roots) old new (IsSoundBlobRow of rows place row)
+blob_row_tested of rows roots old new place row key blob is =
+    tested_as (IsFlaw of rows roots) old new (IsSoundBlob of rows key blob) (IsSoundBlobRow of rows place row) (λ sound. (key, blob, is, sound))
 
 name_at : (place : ℤ) (row : Row) (name : String Global) → IsNameAt place row (Some name) → IsNamed place row
 name_at place row name own = (subst IsUtf8 own.0 (IsUtf8-string_bytes name), ap rowid_of_name (sym own.0) ∙ own.1)
 
-one_name : (roots : List Row) (place : ℤ) (row other : Row) (name : String Global) → row_at roots place ≡ Some row → row_at roots place ≡ Some other
-    → IsNameAt place row (Some name) → IsNamed place other
-one_name roots place row other name at here own = subst (IsNamed place) (one_row roots place row other at here) (name_at place row name own)
-
-pub root_sound : (rows roots : List Row) (place : ℤ) (row : Row) (name : String Global) (key : ℕ) → row_at roots place ≡ Some row
-    → IsNameAt place row (Some name) → key_in (bytes (column row 3)) ≡ Some key → IsThere rows key → IsSoundRoot rows roots place
-root_sound rows roots place row name key at own is there other here = (one_name roots place row other name at here own, own_key)
+pub root_row_tested : (of : Blob → ℕ) (rows roots : List Row) (old new : List Flaw) (place : ℤ) (row : Row) (name : String Global) (key : ℕ)
+    → IsNameAt place row (Some name) → key_in (bytes (column row 3)) ≡ Some key → AddsFlawsUnless (IsFlaw of rows roots) old new (IsThere rows key)
+    → AddsFlawsUnless (IsFlaw of rows roots) old new (IsSoundRootRow rows place row)
+root_row_tested of rows roots old new place row name key own is =
+    tested_as (IsFlaw of rows roots) old new (IsThere rows key) (IsSoundRootRow rows place row) (λ there. (name_at place row name own, own_key there))
   where
-    own_key : (k : ℕ) → key_in (bytes (column other 3)) ≡ Some k → IsThere rows k
-    own_key k e =
-        let same = one_row roots place row other at here in
-        let one : Some key ≡ Some k = sym is ∙ ap (λ (r : Row). key_in (bytes (column r 3))) same ∙ e in
+    own_key : IsThere rows key → (k : ℕ) → key_in (bytes (column row 3)) ≡ Some k → IsThere rows k
+    own_key there k e =
+        let one : Some key ≡ Some k = sym is ∙ e in
         let found : key ≡ k = cc in
         subst (IsThere rows) found there
 
-pub root_none : (rows roots : List Row) (place : ℤ) (row : Row) (name : String Global) → row_at roots place ≡ Some row → IsNameAt place row (Some name)
-    → key_in (bytes (column row 3)) ≡ None → IsSoundRoot rows roots place
-root_none rows roots place row name at own is other here = (one_name roots place row other name at here own, no_key)
-  where
-    no_key : (k : ℕ) → key_in (bytes (column other 3)) ≡ Some k → IsThere rows k
-    no_key k e =
-        let same = one_row roots place row other at here in
-        let no : None ≡ Some k = sym is ∙ ap (λ (r : Row). key_in (bytes (column r 3))) same ∙ e in
-        absurd (cc)
+pub keyless_root_row : (rows : List Row) (place : ℤ) (row : Row) (name : String Global) → IsNameAt place row (Some name) → key_in (bytes (column row 3)) ≡ None
+    → IsSoundRootRow rows place row
+keyless_root_row rows place row name own is = (name_at place row name own, λ k e. let no : None ≡ Some k = sym is ∙ e in absurd (cc))
 
--- the row at a place was read, and its blob tested
-pub row_found : (of : Blob → ℕ) (a b e : View) (place : ℤ) (row : Row) (key : ℕ) (blob : Blob) (old new : List Flaw) → LeavesCommitted a b → LeavesCommitted b e
-    → IsTrue (is_honest_view e) → (IsTrue (is_honest_view b) → row_at (a.committed blob_tree) place ≡ Some row)
-    → blob_at place row ≡ Some (keyed key blob)
-    → (IsTrue (is_honest_view e) → blobs_in (b.committed blob_tree) key ≡ Some blob
-    → AddsFlawsUnless (IsFlaw of (b.committed blob_tree) (b.committed root_tree)) old new (IsSoundBlob of (b.committed blob_tree) key blob))
-    → AddsFlawsUnless (IsFlaw of (a.committed blob_tree) (a.committed root_tree)) old new (IsSoundPlace of (a.committed blob_tree) place)
-row_found of a b e place row key blob old new first next sure found is test =
+-- the row at a place was read, and then tested
+pub place_tested : (of : Blob → ℕ) (a b e : View) (table : ℕ) (place : ℤ) (row : Row) (old new : List Flaw) → LeavesCommitted a b → LeavesCommitted b e
+    → IsTrue (is_honest_view e) → (IsTrue (is_honest_view b) → row_at (a.committed table) place ≡ Some row)
+    → (row_at (b.committed table) place ≡ Some row
+    → AddsFlawsUnless (IsFlaw of (b.committed blob_tree) (b.committed root_tree)) old new (IsSoundRow of b.committed table place row))
+    → AddsFlawsUnless (IsFlaw of (a.committed blob_tree) (a.committed root_tree)) old new (IsSoundAt of a.committed table place)
+place_tested of a b e table place row old new first next sure found test =
     let early = next.sure sure in
-    let same : b.committed ≡ a.committed = first.same early in
     let at = found early in
-    let here : blobs_in (a.committed blob_tree) key ≡ Some blob = at_is_in (a.committed blob_tree) place row key blob at is in
-    let there : blobs_in (b.committed blob_tree) key ≡ Some blob = ap (λ (t : Trees). blobs_in (t blob_tree) key) same ∙ here in
-    let moved = subst (λ (t : Trees). AddsFlawsUnless (IsFlaw of (t blob_tree) (t root_tree)) old new (IsSoundBlob of (t blob_tree) key blob)) same
-    (test sure there) in
-    tested_as (IsFlaw of (a.committed blob_tree) (a.committed root_tree)) old new (IsSoundBlob of (a.committed blob_tree) key blob)
-    (IsSoundPlace of (a.committed blob_tree) place) (place_sound of (a.committed blob_tree) place row key blob at is) moved
-
--- the row of a root was read, and what it stands for looked for
-pub root_found : (of : Blob → ℕ) (a b e : View) (place : ℤ) (row : Row) (name : String Global) (key : ℕ) (old new : List Flaw) → LeavesCommitted a b
-    → LeavesCommitted b e
-    → IsTrue (is_honest_view e) → (IsTrue (is_honest_view b) → row_at (a.committed root_tree) place ≡ Some row)
-    → IsNameAt place row (Some name) → key_in (bytes (column row 3)) ≡ Some key
-    → (IsTrue (is_honest_view e) → roots_in (b.committed root_tree) (string_bytes name) ≡ Some key
-    → AddsFlawsUnless (IsFlaw of (b.committed blob_tree) (b.committed root_tree)) old new (IsThere (b.committed blob_tree) key))
-    → AddsFlawsUnless (IsFlaw of (a.committed blob_tree) (a.committed root_tree)) old new (IsSoundRoot (a.committed blob_tree) (a.committed root_tree) place)
-root_found of a b e place row name key old new first next sure found own is test =
-    let early = next.sure sure in
-    let same : b.committed ≡ a.committed = first.same early in
-    let at = found early in
-    let here : roots_in (a.committed root_tree) (string_bytes name) ≡ Some key =
-    name_is_in (a.committed root_tree) place row (string_bytes name) key at own.0 own.1 is in
-    let there : roots_in (b.committed root_tree) (string_bytes name) ≡ Some key = ap (λ (t : Trees). roots_in (t root_tree) (string_bytes name)) same ∙ here in
-    let moved = subst (λ (t : Trees). AddsFlawsUnless (IsFlaw of (t blob_tree) (t root_tree)) old new (IsThere (t blob_tree) key)) same (test sure there) in
-    tested_as (IsFlaw of (a.committed blob_tree) (a.committed root_tree)) old new (IsThere (a.committed blob_tree) key)
-    (IsSoundRoot (a.committed blob_tree) (a.committed root_tree) place)
-    (root_sound (a.committed blob_tree) (a.committed root_tree) place row name key at own is) moved
+    let tested = subst (λ (db : Trees). row_at (db table) place ≡ Some row → AddsFlawsUnless (IsFlaw of (db blob_tree) (db root_tree)) old new
+    (IsSoundRow of db table place row)) (first.same early) test at in
+    tested_as (IsFlaw of (a.committed blob_tree) (a.committed root_tree)) old new (IsSoundRow of a.committed table place row) (IsSoundAt of a.committed table place)
+    (λ sound other there. let same : Some row ≡ Some other = sym at ∙ there in let one : row ≡ other = cc in
+    subst (IsSoundRow of a.committed table place) one sound) tested
 
 -- one more element was tested, by a call behind others
-pub next_found : {A : Type 0} (of : Blob → ℕ) (T : List Row → List Row → A → Type 0) (a b e : View) (old mid new : List Flaw) (xs : List A) (i : ℕ) (x : A)
+pub next_found : {A : Type 0} (of : Blob → ℕ) (T : Trees → A → Type 0) (a b e : View) (old mid new : List Flaw) (xs : List A) (i : ℕ) (x : A)
     → i < length xs → x ≡ get_or xs i x → LeavesCommitted a b → LeavesCommitted b e → IsTrue (is_honest_view e)
-    → (IsTrue (is_honest_view b) → AddsFlawsUnless (IsFlaw of (a.committed blob_tree) (a.committed root_tree)) old mid
-    (Each (T (a.committed blob_tree) (a.committed root_tree)) (take i xs)))
-    → (IsTrue (is_honest_view e) → AddsFlawsUnless (IsFlaw of (b.committed blob_tree) (b.committed root_tree)) mid new
-    (T (b.committed blob_tree) (b.committed root_tree) x))
-    → AddsFlawsUnless (IsFlaw of (a.committed blob_tree) (a.committed root_tree)) old new
-    (Each (T (a.committed blob_tree) (a.committed root_tree)) (take (i + 1) xs))
+    → (IsTrue (is_honest_view b) → AddsFlawsUnless (IsFlaw of (a.committed blob_tree) (a.committed root_tree)) old mid (Each (T a.committed) (take i xs)))
+    → (b.committed ≡ a.committed → AddsFlawsUnless (IsFlaw of (b.committed blob_tree) (b.committed root_tree)) mid new (T b.committed x))
+    → AddsFlawsUnless (IsFlaw of (a.committed blob_tree) (a.committed root_tree)) old new (Each (T a.committed) (take (i + 1) xs))
 next_found of T a b e old mid new xs i x h is first next sure so_far test =
     let early = next.sure sure in
     let same : b.committed ≡ a.committed = first.same early in
-    let moved = subst (λ (t : Trees). AddsFlawsUnless (IsFlaw of (t blob_tree) (t root_tree)) mid new (T (t blob_tree) (t root_tree) x)) same (test sure) in
-    each_next (IsFlaw of (a.committed blob_tree) (a.committed root_tree)) (T (a.committed blob_tree) (a.committed root_tree)) old mid new xs i x h is
-    (so_far early) moved
+    let moved = subst (λ (db : Trees). AddsFlawsUnless (IsFlaw of (db blob_tree) (db root_tree)) mid new (T db x)) same (test same) in
+    each_next (IsFlaw of (a.committed blob_tree) (a.committed root_tree)) (T a.committed) old mid new xs i x h is (so_far early) moved
 
-pub child_found : (of : Blob → ℕ) (a b e : View) (key : ℕ) (old mid new : List Flaw) (xs : List ℕ) (i x : ℕ) → i < length xs → x ≡ get_or xs i x
-    → LeavesCommitted a b
-    → LeavesCommitted b e → IsTrue (is_honest_view e)
-    → (IsTrue (is_honest_view b) → Each (IsChild (a.committed blob_tree) key) (take i xs)
-    → AddsFlawsUnless (IsFlaw of (a.committed blob_tree) (a.committed root_tree)) old mid (Each (IsThere (a.committed blob_tree)) (take i xs)))
-    → (IsTrue (is_honest_view e) → IsChild (b.committed blob_tree) key x → AddsFlawsUnless (IsFlaw of (b.committed blob_tree) (b.committed root_tree)) mid new
-    (IsThere (b.committed blob_tree) x))
-    → Each (IsChild (a.committed blob_tree) key) (take (i + 1) xs) → AddsFlawsUnless (IsFlaw of (a.committed blob_tree) (a.committed root_tree)) old new
-    (Each (IsThere (a.committed blob_tree)) (take (i + 1) xs))
-child_found of a b e key old mid new xs i x h is first next sure so_far test all =
-    let early = next.sure sure in
-    let same : b.committed ≡ a.committed = first.same early in
-    let test_here : (IsChild (a.committed blob_tree) key x → AddsFlawsUnless (IsFlaw of (a.committed blob_tree) (a.committed root_tree)) mid new
-    (IsThere (a.committed blob_tree) x)) =
-    subst (λ (t : Trees). IsChild (t blob_tree) key x → AddsFlawsUnless (IsFlaw of (t blob_tree) (t root_tree)) mid new (IsThere (t blob_tree) x)) same
-    (test sure) in
-    child_next (IsFlaw of (a.committed blob_tree) (a.committed root_tree)) (IsChild (a.committed blob_tree) key) (IsThere (a.committed blob_tree)) old mid new
-    xs i x h is (so_far early) test_here all
-
--- all places of the two tables were tested
-pub whole_found : (of : Blob → ℕ) (a b c d e : View) (places names : List ℤ) (start mid end : List Flaw) → start ≡ [] → LeavesCommitted a b
-    → LeavesCommitted b c
-    → LeavesCommitted c d → LeavesCommitted d e → IsTrue (is_honest_view e)
-    → (IsTrue (is_honest_view b) → map Int places ≡ map rowid (a.committed blob_tree))
-    → (IsTrue (is_honest_view c) → AddsFlawsUnless (IsFlaw of (b.committed blob_tree) (b.committed root_tree)) start mid
-    (Each (IsSoundPlace of (b.committed blob_tree)) places))
-    → (IsTrue (is_honest_view d) → map Int names ≡ map rowid (c.committed root_tree))
-    → (IsTrue (is_honest_view e) → AddsFlawsUnless (IsFlaw of (d.committed blob_tree) (d.committed root_tree)) mid end
-    (Each (IsSoundRoot (d.committed blob_tree) (d.committed root_tree)) names))
+-- both tables were tested
+pub whole_found : (of : Blob → ℕ) (a b e : View) (start mid end : List Flaw) → start ≡ [] → LeavesCommitted a b → LeavesCommitted b e
+    → IsTrue (is_honest_view e)
+    → (IsTrue (is_honest_view b) → AddsFlawsUnless (IsFlaw of (a.committed blob_tree) (a.committed root_tree)) start mid
+    ((place : ℤ) → IsSoundAt of a.committed blob_tree place))
+    → AddsFlawsUnless (IsFlaw of (b.committed blob_tree) (b.committed root_tree)) mid end ((place : ℤ) → IsSoundAt of b.committed root_tree place)
     → AddsFlawsUnless (IsFlaw of (a.committed blob_tree) (a.committed root_tree)) [] end (IsWhole of (a.committed blob_tree) (a.committed root_tree))
-whole_found of a b c d e places names start mid end empty ab bc cd de sure found_blobs test_blobs found_names test_names =
-    let sure_d = de.sure sure in
-    let sure_c = cd.sure sure_d in
-    let sure_b = bc.sure sure_c in
-    let same_b : b.committed ≡ a.committed = ab.same sure_b in
-    let same_c : c.committed ≡ a.committed = bc.same sure_c ∙ same_b in
-    let same_d : d.committed ≡ a.committed = cd.same sure_d ∙ same_c in
-    let rows = a.committed blob_tree in
-    let roots = a.committed root_tree in
-    let blobs : AddsFlawsUnless (IsFlaw of rows roots) start mid (Each (IsSoundPlace of rows) places) =
-    subst (λ (t : Trees). AddsFlawsUnless (IsFlaw of (t blob_tree) (t root_tree)) start mid (Each (IsSoundPlace of (t blob_tree)) places)) same_b
-    (test_blobs sure_c) in
-    let named : AddsFlawsUnless (IsFlaw of rows roots) mid end (Each (IsSoundRoot rows roots) names) =
-    subst (λ (t : Trees). AddsFlawsUnless (IsFlaw of (t blob_tree) (t root_tree)) mid end (Each (IsSoundRoot (t blob_tree) (t root_tree)) names)) same_d
-    (test_names sure) in
-    let both = tested_then (IsFlaw of rows roots) start mid end (Each (IsSoundPlace of rows) places) (Each (IsSoundRoot rows roots) names) blobs named in
-    let whole = tested_as (IsFlaw of rows roots) start end (Each (IsSoundPlace of rows) places × Each (IsSoundRoot rows roots) names) (IsWhole of rows roots)
-    (λ h. is_whole of rows roots places names (found_blobs sure_b) (found_names sure_d ∙ ap (λ (t : Trees). map rowid (t root_tree)) same_c) h.0 h.1) both in
-    subst (λ (l : List Flaw). AddsFlawsUnless (IsFlaw of rows roots) l end (IsWhole of rows roots)) empty whole
+whole_found of a b e start mid end empty first next sure blobs roots =
+    let early = next.sure sure in
+    let db = a.committed in
+    let named = subst (λ (t : Trees). AddsFlawsUnless (IsFlaw of (t blob_tree) (t root_tree)) mid end ((place : ℤ) → IsSoundAt of t root_tree place))
+    (first.same early) roots in
+    let both = tested_then (IsFlaw of (db blob_tree) (db root_tree)) start mid end ((place : ℤ) → IsSoundAt of db blob_tree place)
+    ((place : ℤ) → IsSoundAt of db root_tree place) (blobs early) named in
+    let whole = tested_as (IsFlaw of (db blob_tree) (db root_tree)) start end
+    (((place : ℤ) → IsSoundAt of db blob_tree place) × ((place : ℤ) → IsSoundAt of db root_tree place)) (IsWhole of (db blob_tree) (db root_tree))
+    (λ h. is_whole of db h.0 h.1) both in
+    subst (λ (l : List Flaw). AddsFlawsUnless (IsFlaw of (db blob_tree) (db root_tree)) l end (IsWhole of (db blob_tree) (db root_tree))) empty whole
 
--- what an index within a list reads
-pub read_once : {A : Type 0} (xs : List A) (i : ℕ) (d e : A) → i < length xs → get_or xs i d ≡ get_or xs i e
-read_once [] i d e h = absurd (omega (arith, h))
-read_once (x ∷ xs) zero d e h = refl
-read_once (x ∷ xs) (suc i) d e h = read_once xs i d e (omega (arith, h))
+-- both tables are there
+pub table_there : (v : View) (table : ℕ) → table ≤ root_tree → Settled v → IsTrue (is_honest_view v) → v.shape table ≡ Table
+table_there v zero h was sure = (was sure).blobs
+table_there v (suc zero) h was sure = (was sure).roots
+table_there v (suc (suc more)) h was sure = absurd (omega (arith, h))
 
 pub ruleset testing = (
   flawed,
   passed,
-  child_tested,
-  missing,
-  are_children,
-  at_is_in,
-  stays_then,
-  blob_tested,
-  place_empty,
-  root_empty,
-  child_flaw,
-  root_flaw,
+  there_tested,
+  lack_flaw,
   key_flaw,
   stray_blob,
   stray_root,
-  name_is_in,
+  stays_self,
+  stays_then,
+  table_there,
+  blob_tested,
+  none_at,
   row_there,
   no_row,
-  place_sound,
-  root_sound,
-  root_none,
+  keyless_root_row,
 )
 
-pub ruleset looping = (each_next, child_next, each_tested, passed, stays_then)
-
-pub ruleset finding = (is_whole, stays_then)
+pub ruleset looping = (each_next, each_tested, passed, stays_then, table_there)

@@ -1,22 +1,19 @@
 -- Lists of names: which names they have, and that they leave none out.
 use Rattle.pagable_core.specs.Roots.{ListsAll, is_among}
-use Rattle.pagable_file.proofs.Places.{has_place}
 use Rattle.pagable_file.specs.{
   Blobs.{WaitingRoots, before_root, roots_unless, roots_with},
-  Names.{IsListed, IsWaitingListed, KeepsNames},
+  Names.{IsListed, IsNameListed, IsWaitingListed, KeepsNames},
   Rows.{root_in, root_of_row, roots_in, row_at, rowid_of_name},
   declared.pending.PendingRoot.PendingRoot,
 }
 use Rattle.pagable_value_spec.specs.declared.error.Error.{Error}
-use Rattle.sqlite_trees.specs.Tree.{has_rowid, rowid}
-use Rattle.sqlite_value.specs.{Order.{Row, bytes, column}, declared.value.Value.TheVariants.Int}
+use Rattle.sqlite_value.specs.Order.{Row, bytes, column}
 use Rattle.std.proofs.{
-  Common.{Bool, IsSome, IsTrue, List, None, Option, Some, ap, append-nil, append_assoc, false, refl, subst, sym, true, true≢false, ℕ, ℤ, [], ◌++◌, ◌∙◌, ◌∷◌},
-  Common.◌≡◌,
-  lemmas.{List.Folds.list_any-append, Slice.Eq.bytes_eq-Decides},
+  Common.{Bool, IsSome, IsTrue, List, None, Option, Some, ap, append_assoc, false, get_or, length, refl, subst, sym, take, true, true≢false, ℕ, ℤ},
+  Common.{[], ◌++◌, ◌+◌, ◌<◌, ◌∙◌, ◌∷◌, ◌≡◌},
+  lemmas.{List.{Folds.list_any-append, take_more}, Slice.Eq.bytes_eq-Decides},
 }
 use Rattle.std.specs.{
-  Cmp.signed_Decides,
   HashMap.get,
   List.AllByRecursion,
   Map.lookup,
@@ -43,34 +40,47 @@ pushed_lists old new it name is same =
     rw (is, list_any-append (λ n. bytes_eq name (string_bytes n)) old (it ∷ []))
     (or_right (is_among name old) _ (or_left (bytes_eq name (string_bytes it)) false ((bytes_eq-Decides name (string_bytes it)).1 (sym same))))
 
--- a row at whose place an entry waits
-pub waits_there : {A : Type 0} (waiting : WaitingRoots) (names : List (String A)) (row : Row) (place : ℤ) → Int place ≡ rowid row
-    → is_some (get int_eq waiting place) ≡ true → IsListed waiting names row
-waits_there waiting names row place at there other has none text =
-    let same : place ≡ other = (signed_Decides place other).0 (sym (has_place row place other (sym at)) ∙ has) in
-    absurd (true≢false (sym there ∙ ap (λ p. is_some (get int_eq waiting p)) same ∙ ap is_some none))
+-- an entry waits at the place
+pub waits_there : {A : Type 0} (waiting : WaitingRoots) (rows : List Row) (names : List (String A)) (place : ℤ) → is_some (get int_eq waiting place) ≡ true
+    → IsListed waiting rows names place
+waits_there waiting rows names place there none = absurd (true≢false (sym there ∙ ap is_some none))
 
--- a row whose name isn't a text
-pub not_text : {A : Type 0} (waiting : WaitingRoots) (names : List (String A)) (row : Row) → ¬ (IsUtf8 (bytes (column row 2))) → IsListed waiting names row
-not_text waiting names row isn't place has none text = absurd (isn't text)
+-- the table has no row there
+pub not_there : {A : Type 0} (waiting : WaitingRoots) (rows : List Row) (names : List (String A)) (place : ℤ) → row_at rows place ≡ None
+    → IsListed waiting rows names place
+not_there waiting rows names place away none row at = let clash : None ≡ Some row = sym away ∙ at in absurd (cc)
 
--- what is listed stays so with more names
-pub listed_more : {A : Type 0} (waiting : WaitingRoots) (old new : List (String A)) → KeepsNames old new → (row : Row) → IsListed waiting old row
-    → IsListed waiting new row
-listed_more waiting old new keeps row listed place has none text = keeps (bytes (column row 2)) (listed place has none text)
+-- the row there has no text, or one that is among the names
+pub not_text : {A : Type 0} (names : List (String A)) (row : Row) → ¬ (IsUtf8 (bytes (column row 2))) → IsNameListed names row
+not_text names row isn't text = absurd (isn't text)
+
+pub row_listed : {A : Type 0} (waiting : WaitingRoots) (rows : List Row) (names : List (String A)) (place : ℤ) (row : Row) → row_at rows place ≡ Some row
+    → IsNameListed names row → IsListed waiting rows names place
+row_listed waiting rows names place row at listed none other there =
+    let both : Some row ≡ Some other = sym at ∙ there in
+    let same : row ≡ other = cc in
+    subst (IsNameListed names) same listed
+
+-- what holds of each item and of one more
+pub all_with : {X : Type 0} (P Q : X → Type 0) (x : X) → ((y : X) → P y → Q y) → Q x → (xs : List X) → AllByRecursion P xs → AllByRecursion Q (xs ++ x ∷ [])
+all_with P Q x goes here [] all = (here, tt)
+all_with P Q x goes here (y ∷ ys) all = (goes y all.0, all_with P Q x goes here ys all.1)
+
+-- the names of one more row are listed
+pub listed_next : {A : Type 0} (waiting : WaitingRoots) (rows : List Row) (old new : List (String A)) (places : List ℤ) (i : ℕ) (place : ℤ) → i < length places
+    → place ≡ get_or places i place → KeepsNames old new → AllByRecursion (IsListed waiting rows old) (take i places) → IsListed waiting rows new place
+    → AllByRecursion (IsListed waiting rows new) (take (i + 1) places)
+listed_next waiting rows old new places i place h is keeps listed here =
+    let more : take (i + 1) places ≡ take i places ++ place ∷ [] = take_more places i place h ∙ ap (λ p. take i places ++ p ∷ []) (sym is) in
+    subst (AllByRecursion (IsListed waiting rows new)) (sym more)
+    (all_with (IsListed waiting rows old) (IsListed waiting rows new) place (λ p was none row at text. keeps (bytes (column row 2)) (was none row at text)) here
+    (take i places) listed)
 
 -- what holds of each item that a loop has passed, if these are left
 pub record Passed {X : Type 0} (P : X → Type 0) (left all : List X) : Type 0 where
   pub passed : List X
   pub rest : passed ++ left ≡ all
   pub holds : AllByRecursion P passed
-
-pub passed_none : {X : Type 0} (P : X → Type 0) (all : List X) → Passed P all all
-passed_none P all = record { passed = []; rest = refl; holds = tt }
-
-all_with : {X : Type 0} (P Q : X → Type 0) (x : X) → ((y : X) → P y → Q y) → Q x → (xs : List X) → AllByRecursion P xs → AllByRecursion Q (xs ++ x ∷ [])
-all_with P Q x goes here [] all = (here, tt)
-all_with P Q x goes here (y ∷ ys) all = (goes y all.0, all_with P Q x goes here ys all.1)
 
 pub passed_more : {X : Type 0} (P Q : X → Type 0) (x : X) (before left all : List X) → Passed P before all → before ≡ x ∷ left → ((y : X) → P y → Q y) → Q x
     → Passed Q left all
@@ -79,9 +89,6 @@ passed_more P Q x before left all was is goes here = record {
   rest = append_assoc was.passed (x ∷ []) left ∙ ap (λ r. was.passed ++ r) (sym is) ∙ was.rest;
   holds = all_with P Q x goes here was.passed was.holds;
 }
-
-pub passed_all : {X : Type 0} (P : X → Type 0) (left all : List X) → Passed P left all → left ≡ [] → AllByRecursion P all
-passed_all P left all was none = subst (AllByRecursion P) (sym (append-nil was.passed) ∙ ap (λ r. was.passed ++ r) (sym none) ∙ was.rest) was.holds
 
 -- what holds of each entry holds of one that is found
 found_entry : (P : PendingRoot → Type 0) (test : ℤ → Bool) (entries : List (ℤ × PendingRoot)) (it : PendingRoot) → AllByRecursion (λ e. P e.1) entries
@@ -92,17 +99,6 @@ found_entry P test ((k, x) ∷ entries) it all at = go (test k) refl (found_entr
     go : (b : Bool) → test k ≡ b → (lookup test entries ≡ Some it → P it) → P it
     go true t more = subst P (cc) all.0
     go false t more = more (cc)
-
--- the row that is found at a place is one of the rows
-found_row : (P : Row → Type 0) (place : ℤ) (rows : List Row) (row : Row) → AllByRecursion P rows → row_at rows place ≡ Some row
-    → P row × (has_rowid place row ≡ true)
-unfolding row_at
-found_row P place [] row all at = absurd (cc)
-found_row P place (r ∷ rows) row all at = go (has_rowid place r) refl (found_row P place rows row all.1)
-  where
-    go : (b : Bool) → has_rowid place r ≡ b → (row_at rows place ≡ Some row → P row × (has_rowid place row ≡ true)) → P row × (has_rowid place row ≡ true)
-    go true t more = let same : r ≡ row = cc in (subst P same all.0, ap (has_rowid place) (sym same) ∙ t)
-    go false t more = more (rw t at at)
 
 -- the name of a row that is found for it
 row_stands : (name : List ℕ) (row : Row) → IsSome (root_in name row) → bytes (column row 2) ≡ name
@@ -126,16 +122,15 @@ module _ {A : Type 0} (waiting : WaitingRoots) (rows : List Row) (first all : Li
       go false is = absurd (true≢false (sym (rw is at stands)))
 
   -- a name in the table
-  row_listed : (name : List ℕ) (found : Option Row) → row_at rows (rowid_of_name name) ≡ found → get int_eq waiting (rowid_of_name name) ≡ None
-      → AllByRecursion (IsListed waiting first) rows → KeepsNames first all → IsUtf8 name → IsSome (root_of_row name found) → IsTrue (is_among name all)
-  row_listed name None at none listed keeps text stands = absurd (true≢false (sym stands))
-  row_listed name (Some row) at none listed keeps text stands =
+  stored_listed : (name : List ℕ) (found : Option Row) → row_at rows (rowid_of_name name) ≡ found → get int_eq waiting (rowid_of_name name) ≡ None
+      → IsListed waiting rows first (rowid_of_name name) → KeepsNames first all → IsUtf8 name → IsSome (root_of_row name found) → IsTrue (is_among name all)
+  stored_listed name None at none listed keeps text stands = absurd (true≢false (sym stands))
+  stored_listed name (Some row) at none listed keeps text stands =
       let is : bytes (column row 2) ≡ name = row_stands name row stands in
-      let found = found_row (IsListed waiting first) (rowid_of_name name) rows row listed at in
-      keeps name (subst (λ n. IsTrue (is_among n first)) is (found.0 (rowid_of_name name) found.1 none (subst IsUtf8 (sym is) text)))
+      keeps name (subst (λ n. IsTrue (is_among n first)) is (listed none row at (subst IsUtf8 (sym is) text)))
 
   -- the names in the table and those that wait are all that stand for a key
-  pub lists_all : (closed : Bool) → AllByRecursion (IsListed waiting first) rows → KeepsNames first all
+  pub lists_all : (closed : Bool) → ((place : ℤ) → IsListed waiting rows first place) → KeepsNames first all
       → AllByRecursion (λ e. IsWaitingListed all e.1) waiting.entries → ListsAll (roots_unless closed (roots_with waiting rows)) all
   unfolding roots_with roots_in
   lists_all true listed keeps held name text stands = absurd (true≢false (sym stands))
@@ -143,13 +138,13 @@ module _ {A : Type 0} (waiting : WaitingRoots) (rows : List Row) (first all : Li
     where
       go : (o : Option PendingRoot) → get int_eq waiting (rowid_of_name name) ≡ o → IsTrue (is_among name all)
       go (Some it) at = held_listed name it (found_entry (IsWaitingListed all) (int_eq (rowid_of_name name)) waiting.entries it held at) (rw at at stands)
-      go None at = row_listed name (row_at rows (rowid_of_name name)) refl at listed keeps text (rw at at stands)
+      go None at = stored_listed name (row_at rows (rowid_of_name name)) refl at (listed (rowid_of_name name)) keeps text (rw at at stands)
 
 pub lists_all_if : {A B : Type 0} (waiting : WaitingRoots) (rows : List Row) (first : List (String A)) (closed : Bool) (r : Result (Vec (String A) B) Error)
-    → AllByRecursion (IsListed waiting first) rows → IfOk r (λ all. KeepsNames first all.items)
+    → ((place : ℤ) → IsListed waiting rows first place) → IfOk r (λ all. KeepsNames first all.items)
     → IfOk r (λ all. AllByRecursion (λ e. IsWaitingListed all.items e.1) waiting.entries)
     → IfOk r (λ all. ListsAll (roots_unless closed (roots_with waiting rows)) all.items)
 lists_all_if waiting rows first closed (Ok all) listed keeps held = lists_all waiting rows first all.items closed listed keeps held
 lists_all_if waiting rows first closed (Err e) listed keeps held = tt
 
-pub ruleset adding = (pushed_keeps, pushed_lists, waits_there, not_text)
+pub ruleset adding = (pushed_keeps, pushed_lists, not_text)

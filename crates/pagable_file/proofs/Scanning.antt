@@ -1,10 +1,10 @@
 -- Going over all rows of a table.
-use Rattle.pagable_file.proofs.{Names.{Passed, listed_more, passed_all, passed_more, passed_none}, Settling.moved_then}
-use Rattle.pagable_file.specs.{Blobs.{MovesOnlyCursors, WaitingRoots}, Names.{IsListed, KeepsNames}}
-use Rattle.sqlite_trees.specs.{Tree.{from_key, rowid, sought}, View.{Advances, View, with_cursor}, declared.store.Direction.TheVariants.Forward}
+use Rattle.pagable_file.proofs.{Places.has_place, Settling.moved_then}
+use Rattle.pagable_file.specs.{Blobs.MovesOnlyCursors, Rows.row_at}
+use Rattle.sqlite_trees.specs.{Tree.{from_key, has_rowid, rowid, sought}, View.{Advances, View, with_cursor}, declared.store.Direction.TheVariants.Forward}
 use Rattle.sqlite_value.specs.{Order.Row, declared.{keys.Order.Order, value.Value.{TheVariants.Int, Value}}}
-use Rattle.std.proofs.Common.{List, Some, ap, false, map, refl, sym, true, ℤ, [], ◌++◌, ◌∙◌, ◌∷◌, ◌≡◌}
-use Rattle.std.specs.{List.AllByRecursion, Prelude.String}
+use Rattle.std.proofs.Common.{Bool, List, Some, ap, arith, false, get_or, length, map, refl, subst, suc, sym, true, zero, ℕ, ℤ, [], ◌++◌, ◌<◌, ◌∙◌, ◌∷◌, ◌≡◌}
+use Rattle.std.specs.{Cmp.signed_Decides, List.AllByRecursion as Each}
 
 -- the places so far go before those of the rows that the cursor has left
 pub record Listing (first now : View) (rows : List Row) (places : List ℤ) : Type 0 where
@@ -51,35 +51,25 @@ listing_goes_on first now next rows places after row place l (left, here, is) id
       rest = ap (λ (p : List ℤ). map Int p ++ map rowid left) all ∙ rest;
     }
 
--- the names of the rows that the cursor has passed are listed
-pub record Naming {A : Type 0} (first now : View) (rows : List Row) (waiting : WaitingRoots) (names : List (String A)) : Type 0 where
-  pub left : List Row
-  pub moved : MovesOnlyCursors first now
-  pub at : now.cursors 0 ≡ Some left
-  pub passed : Passed (IsListed waiting names) left rows
+-- the row at a place is among the rows, so its place is among theirs
+found_step : (P : ℤ → Type 0) (id : ℤ) (row r : Row) (rows : List Row) (p : ℤ) → rowid r ≡ Int p → P p → (row_at rows id ≡ Some row → P id) → (b : Bool)
+    → has_rowid id r ≡ b → row_at (r ∷ rows) id ≡ Some row → P id
+unfolding row_at
+found_step P id row r rows p first here more true f at = subst P ((signed_Decides p id).0 (sym (has_place r p id first) ∙ f)) here
+found_step P id row r rows p first here more false f at = more (rw f at at)
 
-pub naming_starts : {A : Type 0} (first now : View) (o : Order) (key : Row) (rows : List Row) (waiting : WaitingRoots) (names : List (String A)) → key ≡ []
-    → now ≡ with_cursor first 0 (sought o Forward key rows) → Naming first now rows waiting names
-naming_starts first now o key rows waiting names none is = record {
-  left = rows;
-  moved = is ∙ ap (λ (v : View). record first { cursors = v.cursors }) (sym is);
-  at = ap (λ (v : View). v.cursors 0) is ∙ ap Some (ap (λ (k : Row). from_key o k rows) none ∙ all_sought o rows);
-  passed = passed_none (IsListed waiting names) rows;
-}
+pub found_place : (P : ℤ → Type 0) (id : ℤ) (row : Row) (rows : List Row) (places : List ℤ) → map Int places ≡ map rowid rows → row_at rows id ≡ Some row
+    → Each P places → P id
+unfolding row_at
+found_place P id row [] places e at all = absurd (cc)
+found_place P id row (r ∷ rows) [] e at all = absurd (cc)
+found_place P id row (r ∷ rows) (p ∷ places) e at all =
+    let first : rowid r ≡ Int p = cc in
+    let rest : map Int places ≡ map rowid rows = cc in
+    found_step P id row r rows p first all.0 (λ h. found_place P id row rows places rest h all.1) (has_rowid id r) refl at
 
-pub naming_goes_on : {A : Type 0} (first now next : View) (rows : List Row) (waiting : WaitingRoots) (old new : List (String A)) (row : Row)
-    → Naming first now rows waiting old → Advances now next 0 row true → KeepsNames old new → IsListed waiting new row → Naming first next rows waiting new
-naming_goes_on first now next rows waiting old new row n (left, here, is) keeps listed = record {
-  left = left;
-  moved = moved_then first now next n.moved (is ∙ ap (λ (v : View). record now { cursors = v.cursors }) (sym is));
-  at = ap (λ (v : View). v.cursors 0) is;
-  passed = passed_more (IsListed waiting old) (IsListed waiting new) row n.left left rows n.passed (some_same n.left (row ∷ left) (sym n.at ∙ here))
-      (listed_more waiting old new keeps) listed;
-}
-
-pub naming_ends : {A : Type 0} (first now next : View) (rows : List Row) (waiting : WaitingRoots) (names : List (String A)) (row : Row)
-    → Naming first now rows waiting names → Advances now next 0 row false → AllByRecursion (IsListed waiting names) rows × MovesOnlyCursors first next
-naming_ends first now next rows waiting names row n (here, is) = (
-  passed_all (IsListed waiting names) n.left rows n.passed (some_same n.left [] (sym n.at ∙ here)),
-  moved_then first now next n.moved (is ∙ ap (λ (v : View). record now { cursors = v.cursors }) (sym is)),
-)
+-- what an index within a list reads
+pub read_once : {A : Type 0} (xs : List A) (i : ℕ) (d e : A) → i < length xs → get_or xs i d ≡ get_or xs i e
+read_once [] i d e h = absurd (omega (arith, h))
+read_once (x ∷ xs) zero d e h = refl
+read_once (x ∷ xs) (suc i) d e h = read_once xs i d e (omega (arith, h))

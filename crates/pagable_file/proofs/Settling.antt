@@ -186,16 +186,7 @@ moved old new falls only = record {
         (subst (λ b. IsTrue b) (ap (λ (v : View). v.is_open) (only clean)) (sure_open new h))
 
 pub moved_keeps : (old new : View) → MovesOnlyCursors old new → KeepsCommitted old new
-moved_keeps old new is = record {
-  shape = ap (λ (v : View). v.shape) is;
-  reals = ap (λ (v : View). v.reals) is;
-  committed_shape = ap (λ (v : View). v.committed_shape) is;
-  committed_reals = ap (λ (v : View). v.committed_reals) is;
-  numbered = ap (λ (v : View). v.is_numbered) is;
-  was_open = λ h. subst (λ b. IsTrue b) (ap (λ (v : View). v.is_open) is) h;
-  committed = λ _. ap (λ (v : View). v.committed) is;
-  marks = λ _. ap (λ (v : View). v.marks) is;
-}
+moved_keeps old new is = only_keeps old new (is ∙ ap (λ t. record old { trees = t; cursors = new.cursors }) (sym (ap (λ (v : View). v.trees) is)))
 
 pub moved_then : (a b c : View) → MovesOnlyCursors a b → MovesOnlyCursors b c → MovesOnlyCursors a c
 moved_then a b c f g = g ∙ ap (λ (v : View). record v { cursors = c.cursors }) f

@@ -1,14 +1,17 @@
 -- The flaws of a file of blobs.
 use Rattle.pagable_file.specs.{
-  Rows.{blob_in, blobs_in, key_in, roots_in, row_at, rowid_of, rowid_of_name},
+  Blobs.is_honest_view,
+  Rows.{blob_in, blob_tree, blobs_in, key_in, root_tree, roots_in, row_at, rowid_of, rowid_of_name},
   declared.fsck.Flaw.Flaw,
 }
 use Rattle.pagable_value_spec.specs.Blob.{Blob}
+use Rattle.sqlite_trees.specs.{Tree.Trees, View.View, declared.error.StoreError.StoreError}
 use Rattle.sqlite_value.specs.Order.{Row, bytes, column}
 use Rattle.std.specs.{
   List.{AllByRecursion, Contains},
   Ordering.int_eq,
-  Prelude.{IsSome, List, None, Option, Some, String, if◌then◌else◌, option_map, ℕ, ℤ, [], ◌≡◌, ◌≢◌},
+  Prelude.{IsSome, IsTrue, List, None, OnOk, Option, Result, Some, String, if◌then◌else◌, option_map, suc, zero, ℕ, ℤ, []},
+  Prelude.{◌≡◌, ◌≢◌},
   Str.IsUtf8,
   String.string_bytes,
   declared.alloc.Global.Global,
@@ -75,12 +78,26 @@ pub record IsSoundBlob (key_of : Blob → ℕ) (rows : List Row) (key : ℕ) (bl
   pub keyed : key_of blob ≡ key
   pub children : AllByRecursion (IsThere rows) blob.keys
 
--- the row at a place, if there is one, is a sound blob's
-abbrev pub IsSoundPlace : (Blob → ℕ) → List Row → ℤ → Type 0
-IsSoundPlace key_of rows place = (row : Row) → row_at rows place ≡ Some row → (key : ℕ) × (blob : Blob)
-    × (blob_at place row ≡ Some (key, blob)) × IsSoundBlob key_of rows key blob
+-- the row is its place's, of a sound blob
+abbrev pub IsSoundBlobRow : (Blob → ℕ) → List Row → ℤ → Row → Type 0
+IsSoundBlobRow key_of rows place row = (key : ℕ) × (blob : Blob) × (blob_at place row ≡ Some (key, blob))
+    × IsSoundBlob key_of rows key blob
 
--- the row at a place, if there is one, is a name's, and the table has the blob of the name's key
-abbrev pub IsSoundRoot : List Row → List Row → ℤ → Type 0
-IsSoundRoot rows roots place = (row : Row) → row_at roots place ≡ Some row → IsNamed place row
-    × ((key : ℕ) → key_in (bytes (column row 3)) ≡ Some key → IsThere rows key)
+-- the row is its place's, of a name; and the table of blobs has the blob of the name's key
+abbrev pub IsSoundRootRow : List Row → ℤ → Row → Type 0
+IsSoundRootRow rows place row = IsNamed place row × ((key : ℕ) → key_in (bytes (column row 3)) ≡ Some key
+    → IsThere rows key)
+
+-- a row of one of the two tables is sound
+abbrev pub IsSoundRow : (Blob → ℕ) → Trees → ℕ → ℤ → Row → Type 0
+IsSoundRow key_of db zero place row = IsSoundBlobRow key_of (db blob_tree) place row
+IsSoundRow key_of db (suc more) place row = IsSoundRootRow (db blob_tree) place row
+
+-- the row at a place of a table, if there is one, is sound
+abbrev pub IsSoundAt : (Blob → ℕ) → Trees → ℕ → ℤ → Type 0
+IsSoundAt key_of db table place = (row : Row) → row_at (db table) place ≡ Some row → IsSoundRow key_of db table place row
+
+-- what a test of an honest file says of the flaws that it added, and, if there are none at all, of the file
+abbrev pub Tested : (Blob → ℕ) → View → View → Result (Unit {0}) StoreError → List Flaw → List Flaw → Type 0 → Type 0
+Tested key_of old new result flaws flaws' Q = IsTrue (is_honest_view new)
+    → OnOk result (AddsFlawsUnless (IsFlaw key_of (old.committed blob_tree) (old.committed root_tree)) flaws flaws' Q)

@@ -3,16 +3,15 @@
 ghost use Rattle.pagable_core.specs.Data.{blob_of};
 ghost use Rattle.pagable_file.specs.{
   Blobs.{LeavesCommitted, Settled, is_honest_view},
-  Flaws.{AddsFlawsUnless, IsChild, IsFlaw, IsNameAt, IsSoundBlob, IsSoundPlace, IsSoundRoot, IsThere, IsWhole, blob_at},
-  Flaws.keyed,
-  Rows.{blob_tree, blobs_in, root_tree, roots_in},
+  Flaws.{AddsFlawsUnless, IsChild, IsFlaw, IsNameAt, IsSoundAt, IsSoundBlob, IsSoundBlobRow, IsSoundRootRow, IsThere},
+  Flaws.{IsWhole, Tested, blob_at, keyed},
+  Rows.{blob_tree, blobs_in, root_tree, row_at},
 };
 ghost use Rattle.pagable_value_spec.specs.{Blob.{Blob, key_of}, Stored.IsMemoryOrFailure};
 ghost use Rattle.sqlite_value.specs.Order.{Row as SqlRow};
 ghost use Rattle.std.specs.{
-  List.AllByRecursion,
-  Prelude.{IfErr, IfOk, IsTrue, List, OnOk, Some, is_some, option_map, ℕ, [], ◌↔◌, ◌≡◌, ◌≤◌},
-  String.string_bytes,
+  List.{AllByRecursion, Contains},
+  Prelude.{IfErr, IfOk, IsTrue, List, None, OnOk, Some, is_some, option_map, ℕ, ℤ, [], ◌↔◌, ◌≡◌, ◌≤◌},
 };
 
 use crate::file_blobs::FileBlobs;
@@ -88,28 +87,27 @@ fn is_there<S: Store>(
     Ok(is_blob(&found))
 }
 
-/// Adds a flaw if the table has no blob under `child`, to which the blob under `key` refers.
+/// Adds `flaw` if the table has no blob under `key`.
 #[tactic(auto, using(crate::proofs::Flawed::testing))]
-fn test_child<S: Store>(
+fn test_there<S: Store>(
     alloc: Global,
     store: &mut S,
     row: &mut Row,
     flaws: &mut Vec<Flaw>,
     key: DataKey,
-    child: DataKey,
+    flaw: Flaw,
 ) -> Result<(), StoreError>
     requires settled { Settled (S.view store.old) }
-    ensures tested { (of : Blob → ℕ) → IsTrue (is_honest_view (S.view store.new))
-        → IsChild ((S.view store.old).committed blob_tree) key child
-        → OnOk result (AddsFlawsUnless (IsFlaw of ((S.view store.old).committed blob_tree)
-        ((S.view store.old).committed root_tree)) flaws.old.items flaws.new.items
-        (IsThere ((S.view store.old).committed blob_tree) child)) }
+    ensures tested { (of : Blob → ℕ) → (blobs_in ((S.view store.old).committed blob_tree) key ≡ None
+        → IsFlaw of ((S.view store.old).committed blob_tree) ((S.view store.old).committed root_tree) flaw)
+        → Tested of (S.view store.old) (S.view store.new) result flaws.old.items flaws.new.items
+        (IsThere ((S.view store.old).committed blob_tree) key) }
     ensures stays { LeavesCommitted (S.view store.old) (S.view store.new) }
 {
-    if is_there(alloc, store, row, child)? {
+    if is_there(alloc, store, row, key)? {
         return Ok(());
     }
-    flaws.push(Flaw::MissingChild(key, child))?;
+    flaws.push(flaw)?;
     Ok(())
 }
 
@@ -124,15 +122,15 @@ fn test_children<S: Store>(
     children: &[DataKey],
 ) -> Result<(), StoreError>
     requires settled { Settled (S.view store.old) }
-    ensures tested { (of : Blob → ℕ) → IsTrue (is_honest_view (S.view store.new))
-        → AllByRecursion (IsChild ((S.view store.old).committed blob_tree) key) children.now
-        → OnOk result (AddsFlawsUnless (IsFlaw of ((S.view store.old).committed blob_tree)
-        ((S.view store.old).committed root_tree)) flaws.old.items flaws.new.items
-        (AllByRecursion (IsThere ((S.view store.old).committed blob_tree)) children.now)) }
+    ensures tested { (of : Blob → ℕ) → ((child : ℕ) → Contains children.now child
+        → IsChild ((S.view store.old).committed blob_tree) key child)
+        → Tested of (S.view store.old) (S.view store.new) result flaws.old.items flaws.new.items
+        (AllByRecursion (IsThere ((S.view store.old).committed blob_tree)) children.now) }
     ensures stays { LeavesCommitted (S.view store.old) (S.view store.new) }
 {
     for child in children {
-        test_child(alloc, store, row, flaws, key, *child)?;
+        let flaw = Flaw::MissingChild(key, *child);
+        test_there(alloc, store, row, flaws, *child, flaw)?;
     }
     Ok(())
 }
@@ -167,11 +165,9 @@ fn test_blob<H: KeyHash, S: Store>(
     blob: &PagableData,
 ) -> Result<(), StoreError>
     requires settled { Settled (S.view store.old) }
-    ensures tested { IsTrue (is_honest_view (S.view store.new)) → blobs_in ((S.view store.old).committed blob_tree) key
-        ≡ Some (blob_of blob.now)
-        → OnOk result (AddsFlawsUnless (IsFlaw (key_of H.digest) ((S.view store.old).committed blob_tree)
-        ((S.view store.old).committed root_tree)) flaws.old.items flaws.new.items
-        (IsSoundBlob (key_of H.digest) ((S.view store.old).committed blob_tree) key (blob_of blob.now))) }
+    ensures tested { blobs_in ((S.view store.old).committed blob_tree) key ≡ Some (blob_of blob.now)
+        → Tested (key_of H.digest) (S.view store.old) (S.view store.new) result flaws.old.items flaws.new.items
+        (IsSoundBlob (key_of H.digest) ((S.view store.old).committed blob_tree) key (blob_of blob.now)) }
     ensures stays { LeavesCommitted (S.view store.old) (S.view store.new) }
 {
     test_key::<H>(flaws, key, blob)?;
@@ -179,9 +175,9 @@ fn test_blob<H: KeyHash, S: Store>(
     Ok(())
 }
 
-/// Tests the row with the rowid `place` in the table of blobs, and adds its flaws.
+/// Tests `row`, which stands at `place` in the table of blobs, and adds its flaws.
 #[tactic(auto, using(crate::proofs::Flawed::testing))]
-fn test_row<H: KeyHash, S: Store>(
+fn test_blob_row<H: KeyHash, S: Store>(
     alloc: Global,
     store: &mut S,
     row: &mut Row,
@@ -189,15 +185,11 @@ fn test_row<H: KeyHash, S: Store>(
     place: i64,
 ) -> Result<(), StoreError>
     requires settled { Settled (S.view store.old) }
-    ensures tested { IsTrue (is_honest_view (S.view store.new))
-        → OnOk result (AddsFlawsUnless (IsFlaw (key_of H.digest) ((S.view store.old).committed blob_tree)
-        ((S.view store.old).committed root_tree)) flaws.old.items flaws.new.items
-        (IsSoundPlace (key_of H.digest) ((S.view store.old).committed blob_tree) place)) }
+    ensures tested { row_at ((S.view store.old).committed blob_tree) place ≡ Some row.old
+        → Tested (key_of H.digest) (S.view store.old) (S.view store.new) result flaws.old.items flaws.new.items
+        (IsSoundBlobRow (key_of H.digest) ((S.view store.old).committed blob_tree) place row.old) }
     ensures stays { LeavesCommitted (S.view store.old) (S.view store.new) }
 {
-    if !read_row_at(store, BLOBS, place, row)? {
-        return Ok(());
-    }
     match read_at(alloc, row, place)? {
         Some(found) => {
             test_blob::<H, S>(alloc, store, row, flaws, found.0, &found.1)?;
@@ -208,30 +200,6 @@ fn test_row<H: KeyHash, S: Store>(
             Ok(())
         }
     }
-}
-
-/// Tests the rows at these places of the table of blobs.
-#[tactic(auto, using(crate::proofs::Flawed::looping))]
-fn test_rows<H: KeyHash, S: Store, W: Watch>(
-    alloc: Global,
-    store: &mut S,
-    row: &mut Row,
-    flaws: &mut Vec<Flaw>,
-    places: &[i64],
-    watch: &mut W,
-) -> Result<(), StoreError>
-    requires settled { Settled (S.view store.old) }
-    ensures tested { IsTrue (is_honest_view (S.view store.new))
-        → OnOk result (AddsFlawsUnless (IsFlaw (key_of H.digest) ((S.view store.old).committed blob_tree)
-        ((S.view store.old).committed root_tree)) flaws.old.items flaws.new.items
-        (AllByRecursion (IsSoundPlace (key_of H.digest) ((S.view store.old).committed blob_tree)) places.now)) }
-    ensures stays { LeavesCommitted (S.view store.old) (S.view store.new) }
-{
-    for place in places {
-        watch.note();
-        test_row::<H, S>(alloc, store, row, flaws, *place)?;
-    }
-    Ok(())
 }
 
 /// Reads the name in `row`, a root's row whose rowid is `place`. Returns None if the name isn't
@@ -249,34 +217,9 @@ fn read_name_at(alloc: Global, row: &Row, place: i64) -> Result<Option<String>, 
     Ok(Some(name))
 }
 
-/// Adds a flaw if the table has no blob under `key`, for which `name` stands.
+/// Tests `row`, which stands at `place` in the table of roots, and adds its flaw.
 #[tactic(auto, using(crate::proofs::Flawed::testing))]
-fn test_named<S: Store>(
-    alloc: Global,
-    store: &mut S,
-    row: &mut Row,
-    flaws: &mut Vec<Flaw>,
-    name: String,
-    key: DataKey,
-) -> Result<(), StoreError>
-    requires settled { Settled (S.view store.old) }
-    ensures tested { (of : Blob → ℕ) → IsTrue (is_honest_view (S.view store.new))
-        → roots_in ((S.view store.old).committed root_tree) (string_bytes name) ≡ Some key
-        → OnOk result (AddsFlawsUnless (IsFlaw of ((S.view store.old).committed blob_tree)
-        ((S.view store.old).committed root_tree)) flaws.old.items flaws.new.items
-        (IsThere ((S.view store.old).committed blob_tree) key)) }
-    ensures stays { LeavesCommitted (S.view store.old) (S.view store.new) }
-{
-    if is_there(alloc, store, row, key)? {
-        return Ok(());
-    }
-    flaws.push(Flaw::MissingRoot(name, key))?;
-    Ok(())
-}
-
-/// Tests the row at a place of the table of roots.
-#[tactic(auto, using(crate::proofs::Flawed::testing))]
-fn test_root<S: Store>(
+fn test_root_row<S: Store>(
     alloc: Global,
     store: &mut S,
     row: &mut Row,
@@ -284,15 +227,11 @@ fn test_root<S: Store>(
     place: i64,
 ) -> Result<(), StoreError>
     requires settled { Settled (S.view store.old) }
-    ensures tested { (of : Blob → ℕ) → IsTrue (is_honest_view (S.view store.new))
-        → OnOk result (AddsFlawsUnless (IsFlaw of ((S.view store.old).committed blob_tree)
-        ((S.view store.old).committed root_tree)) flaws.old.items flaws.new.items
-        (IsSoundRoot ((S.view store.old).committed blob_tree) ((S.view store.old).committed root_tree) place)) }
+    ensures tested { (of : Blob → ℕ) → row_at ((S.view store.old).committed root_tree) place ≡ Some row.old
+        → Tested of (S.view store.old) (S.view store.new) result flaws.old.items flaws.new.items
+        (IsSoundRootRow ((S.view store.old).committed blob_tree) place row.old) }
     ensures stays { LeavesCommitted (S.view store.old) (S.view store.new) }
 {
-    if !read_row_at(store, ROOTS, place, row)? {
-        return Ok(());
-    }
     let Some(name) = read_name_at(alloc, row, place)? else {
         flaws.push(Flaw::StrayRoot(place))?;
         return Ok(());
@@ -300,35 +239,65 @@ fn test_root<S: Store>(
     let Some(key) = key_at(row, 3) else {
         return Ok(());
     };
-    test_named(alloc, store, row, flaws, name, key)?;
+    test_there(alloc, store, row, flaws, key, Flaw::MissingRoot(name, key))?;
     Ok(())
 }
 
-/// Tests the rows at these places of the table of roots.
-#[tactic(auto, using(crate::proofs::Flawed::looping))]
-fn test_roots<S: Store>(
+/// Tests the row at a place of one of the two tables, and adds its flaws.
+#[tactic(auto, using(crate::proofs::Flawed::testing))]
+fn test_place<H: KeyHash, S: Store, W: Watch>(
     alloc: Global,
     store: &mut S,
     row: &mut Row,
     flaws: &mut Vec<Flaw>,
-    places: &[i64],
+    watch: &mut W,
+    table: u32,
+    place: i64,
 ) -> Result<(), StoreError>
     requires settled { Settled (S.view store.old) }
-    ensures tested { (of : Blob → ℕ) → IsTrue (is_honest_view (S.view store.new))
-        → OnOk result (AddsFlawsUnless (IsFlaw of ((S.view store.old).committed blob_tree)
-        ((S.view store.old).committed root_tree)) flaws.old.items flaws.new.items
-        (AllByRecursion (IsSoundRoot ((S.view store.old).committed blob_tree)
-        ((S.view store.old).committed root_tree)) places.now)) }
+    requires table { table ≤ root_tree }
+    ensures tested { Tested (key_of H.digest) (S.view store.old) (S.view store.new) result
+        flaws.old.items flaws.new.items (IsSoundAt (key_of H.digest) (S.view store.old).committed table place) }
     ensures stays { LeavesCommitted (S.view store.old) (S.view store.new) }
 {
-    for place in places {
-        test_root(alloc, store, row, flaws, *place)?;
+    if !read_row_at(store, table, place, row)? {
+        return Ok(());
+    }
+    if table == BLOBS {
+        watch.note();
+        test_blob_row::<H, S>(alloc, store, row, flaws, place)?;
+        return Ok(());
+    }
+    test_root_row(alloc, store, row, flaws, place)?;
+    Ok(())
+}
+
+/// Tests all rows of one of the two tables, and adds their flaws.
+#[tactic(auto, using(crate::proofs::Flawed::looping))]
+fn test_table<H: KeyHash, S: Store, W: Watch>(
+    alloc: Global,
+    store: &mut S,
+    row: &mut Row,
+    flaws: &mut Vec<Flaw>,
+    watch: &mut W,
+    table: u32,
+) -> Result<(), StoreError>
+    requires settled { Settled (S.view store.old) }
+    requires table { table ≤ root_tree }
+    ensures tested { Tested (key_of H.digest) (S.view store.old) (S.view store.new) result
+        flaws.old.items flaws.new.items
+        ((place : ℤ) → IsSoundAt (key_of H.digest) (S.view store.old).committed table place) }
+    ensures stays { LeavesCommitted (S.view store.old) (S.view store.new) }
+{
+    let places = all_places(alloc, store, row, table)?;
+    for place in &places {
+        test_place::<H, S, W>(alloc, store, row, flaws, watch, table, *place)?;
     }
     Ok(())
 }
 
 /// Finds all flaws of the two tables.
-#[tactic(auto, using(crate::proofs::Flawed::finding))]
+#[tactic(auto, using(crate::proofs::Flawed::looping))]
 fn find_flaws<H: KeyHash, S: Store, W: Watch>(
     alloc: Global,
     store: &mut S,
@@ -336,19 +305,16 @@ fn find_flaws<H: KeyHash, S: Store, W: Watch>(
     watch: &mut W,
 ) -> Result<Vec<Flaw>, StoreError>
     requires settled { Settled (S.view store.old) }
-    ensures exact { IsTrue (is_honest_view (S.view store.new))
-        → IfOk result (λ flaws. (flaws.items ≡ []) ↔ IsWhole (key_of H.digest) ((S.view store.old).committed blob_tree)
-        ((S.view store.old).committed root_tree)) }
-    ensures real { IsTrue (is_honest_view (S.view store.new))
-        → IfOk result (λ flaws. AllByRecursion (IsFlaw (key_of H.digest) ((S.view store.old).committed blob_tree)
-        ((S.view store.old).committed root_tree)) flaws.items) }
+    ensures tested { IsTrue (is_honest_view (S.view store.new)) → IfOk result
+        (λ flaws. AddsFlawsUnless (IsFlaw (key_of H.digest) ((S.view store.old).committed blob_tree)
+        ((S.view store.old).committed root_tree)) [] flaws.items
+        (IsWhole (key_of H.digest) ((S.view store.old).committed blob_tree)
+        ((S.view store.old).committed root_tree))) }
     ensures stays { LeavesCommitted (S.view store.old) (S.view store.new) }
 {
     let mut flaws = Vec::new(alloc);
-    let places = all_places(alloc, store, row, BLOBS)?;
-    test_rows::<H, S, W>(alloc, store, row, &mut flaws, places.as_slice(), watch)?;
-    let places = all_places(alloc, store, row, ROOTS)?;
-    test_roots(alloc, store, row, &mut flaws, places.as_slice())?;
+    test_table::<H, S, W>(alloc, store, row, &mut flaws, watch, BLOBS)?;
+    test_table::<H, S, W>(alloc, store, row, &mut flaws, watch, ROOTS)?;
     Ok(flaws)
 }
 
@@ -362,6 +328,7 @@ impl<E: Env, S: Store> FileBlobs<E, S> {
     ///
     /// - `OutOfMemory`.
     /// - `Storage` only if the call raised the count of failures.
+    #[tactic(auto, using(crate::proofs::Flawed::all_real))]
     pub fn fsck<W: Watch>(&mut self, alloc: Global, watch: &mut W) -> Result<Vec<Flaw>, Error>
         ensures exact { IsTrue (is_honest_view (S.view self.new.store))
             → IfOk result (λ flaws. (flaws.items ≡ [])

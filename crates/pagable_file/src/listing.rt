@@ -54,26 +54,6 @@ fn list_row<S: Store>(
     }))
 }
 
-/// Reads the list entries of the rows at these places.
-#[tactic(auto, using(crate::proofs::Named::stays_then))]
-fn list_rows<S: Store>(
-    alloc: Global,
-    store: &mut S,
-    row: &mut Row,
-    places: &[i64],
-) -> Result<Vec<ListedBlob>, StoreError>
-    requires settled { Settled (S.view store.old) }
-    ensures stays { LeavesCommitted (S.view store.old) (S.view store.new) }
-{
-    let mut all = Vec::new(alloc);
-    for place in places {
-        if let Some(listed) = list_row(store, row, *place)? {
-            all.push(listed)?;
-        }
-    }
-    Ok(all)
-}
-
 /// Reads the list entries of all rows.
 #[tactic(auto, using(crate::proofs::Named::stays_then))]
 fn list_all<S: Store>(
@@ -85,7 +65,12 @@ fn list_all<S: Store>(
     ensures stays { LeavesCommitted (S.view store.old) (S.view store.new) }
 {
     let places = all_places(alloc, store, row, BLOBS)?;
-    let all = list_rows(alloc, store, row, places.as_slice())?;
+    let mut all = Vec::new(alloc);
+    for place in &places {
+        if let Some(listed) = list_row(store, row, *place)? {
+            all.push(listed)?;
+        }
+    }
     Ok(all)
 }
 

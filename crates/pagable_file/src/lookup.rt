@@ -4,7 +4,7 @@ ghost use Rattle.pagable_file.specs.{
   Blobs.{IsFoundAs, IsNamedAs, LeavesCommitted, Settled, is_honest_view},
   Rows.{blob_tree, root_tree, row_at},
 };
-ghost use Rattle.sqlite_trees.specs.{Tree.Trees, declared.store.Shape.TheVariants.Table};
+ghost use Rattle.sqlite_trees.specs.declared.store.Shape.TheVariants.{Table};
 ghost use Rattle.std.specs.Prelude.{IfOk, IsTrue, None, Some, if◌then◌else◌, ◌≡◌};
 
 use crate::rows::{Naming, Reading, read_blob, read_root, rowid_of, rowid_of_name};
@@ -30,7 +30,6 @@ pub fn read_row_at<S: Store>(
         → IfOk result (λ found. row_at ((S.view store.old).committed table) place
         ≡ (if found then Some row.new else None)) }
     ensures stays { LeavesCommitted (S.view store.old) (S.view store.new) }
-    ensures crash { (db : Trees) → S.recovers store.new db → S.recovers store.old db }
 {
     if store.is_broken() {
         return Err(StoreError::Broken);
@@ -56,7 +55,6 @@ pub fn read<S: Store>(
     ensures found { IsTrue (is_honest_view (S.view store.new))
         → IfOk result (IsFoundAs ((S.view store.old).committed blob_tree) key) }
     ensures stays { LeavesCommitted (S.view store.old) (S.view store.new) }
-    ensures crash { (db : Trees) → S.recovers store.new db → S.recovers store.old db }
 {
     if read_row_at(store, BLOBS, rowid_of(key), row)? {
         Ok(Some(read_blob(alloc, row, key)?))
@@ -76,7 +74,6 @@ pub fn read_root_of_name<S: Store>(
     ensures found { IsTrue (is_honest_view (S.view store.new))
         → IfOk result (IsNamedAs ((S.view store.old).committed root_tree) name.now) }
     ensures stays { LeavesCommitted (S.view store.old) (S.view store.new) }
-    ensures crash { (db : Trees) → S.recovers store.new db → S.recovers store.old db }
 {
     if read_row_at(store, ROOTS, rowid_of_name(name), row)? {
         Ok(Some(read_root(row, name)))

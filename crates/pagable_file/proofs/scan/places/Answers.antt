@@ -1,7 +1,7 @@
 use Rattle.pagable_file.proofs.Scanning.{listing_goes_on, listing_starts}
 use Rattle.sqlite_trees.specs.{Tree.{order_of, rowid}, View.Advances}
 use Rattle.sqlite_value.specs.declared.value.Value.TheVariants.{Int}
-use Rattle.std.proofs.Common.{SFits, ap, arith, rules, sym, to_z-of_z, true, ℤ, [], ◌++◌, ◌∙◌, ◌∷◌, ◌≡◌}
+use Rattle.std.proofs.Common.{SFits, arith, rules, subst, sym, to_z-of_z, true, ℤ, [], ◌++◌, ◌∷◌, ◌≡◌}
 use Rattle.std.specs.Int.{w64}
 use Rattle.pagable_file.proofs.scan.places.Goals as goal
 
@@ -13,7 +13,6 @@ rows-init g c =
       λ clean. listing_starts first now (order_of (first.shape c.args.table)) c.clear.new.self (first.trees c.args.table) c.new-places.result.items
           c.clear.ensures c.new-places.ensures.items (c.in_ok-seek.ensures.ok clean),
       c.seek.ensures.quiet.clean,
-      λ db h. c.seek.ensures.quiet.outcomes db h,
     )
 
 pub rows-preserved : goal.rows-preserved
@@ -23,8 +22,7 @@ rows-preserved g c =
     let now = g.S.Store.view l.store in
     let next = g.S.Store.view c.next.new.self in
     let fits : SFits w64 c.in-Int.place = search rules in
-    let pushed : c.push.new.self.items ≡ l.places.items ++ c.in-Int.place ∷ [] =
-    c.in_ok-push.ensures.items ∙ ap (λ (p : ℤ). l.places.items ++ p ∷ []) (to_z-of_z fits) in
+    let pushed = subst (λ (p : ℤ). c.push.new.self.items ≡ l.places.items ++ p ∷ []) (to_z-of_z fits) c.in_ok-push.ensures.items in
     let id : rowid c.next.new.row ≡ Int c.in-Int.place = sym c.in-Int.ensures in (
       c.in_ok-next.ensures.stay 0 l.invariant.0,
       λ clean.
@@ -32,5 +30,4 @@ rows-preserved g c =
           listing_goes_on first now next (first.trees c.args.table) l.places.items c.push.new.self.items c.next.new.row c.in-Int.place
           (l.invariant.1 (omega (arith, c.next.ensures.quiet.clean, clean))) there id pushed,
       omega (arith, l.invariant.2, c.next.ensures.quiet.clean),
-      λ db h. l.invariant.3 db (c.next.ensures.quiet.outcomes db h),
     )

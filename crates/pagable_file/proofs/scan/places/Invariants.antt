@@ -1,5 +1,5 @@
 use Rattle.pagable_file.proofs.Scanning.{Listing}
-use Rattle.sqlite_trees.specs.{Tree.Trees, View.{IsClean, doubt}}
+use Rattle.sqlite_trees.specs.View.{IsClean, doubt}
 use Rattle.std.proofs.Common.{IsSome, ◌≤◌}
 use Rattle.pagable_file.proofs.scan.places.Given as goal
 
@@ -9,4 +9,3 @@ invariant-rows g l =
     let first = g.S.Store.view l.fn.store in
     let now = g.S.Store.view l.store in
     IsSome (now.cursors 0) × (IsClean now → Listing first now (first.trees l.table) l.places.items) × (doubt first.is_clean ≤ doubt now.is_clean)
-    × ((db : Trees) → g.S.Store.recovers l.store db → g.S.Store.recovers l.fn.store db)

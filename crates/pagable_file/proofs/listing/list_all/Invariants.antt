@@ -1,5 +1,5 @@
 use Rattle.pagable_file.specs.Blobs.{LeavesCommitted}
-use Rattle.pagable_file.proofs.listing.list_rows.Given as goal
+use Rattle.pagable_file.proofs.listing.list_all.Given as goal
 
 -- the rows so far changed nothing
 abbrev pub invariant-loop-place : goal.invariant-loop-place
