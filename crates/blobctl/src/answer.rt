@@ -34,7 +34,7 @@ fn blob_of(alloc: Global, words: &str) -> Result<PagableData, Refusal> {
     }
 }
 
-/// Stores the blob that words spell, and shows its key.
+/// Stores the blob that words spell, and returns its key's line.
 fn put<B: Blobs>(alloc: Global, blobs: &mut B, words: &str) -> Result<String, Refusal> {
     let blob = blob_of(alloc, words)?;
     let key = digits(blobs.store(alloc, blob)?);
@@ -83,7 +83,7 @@ fn fsck<B: Blobs>(rt: &HostRuntime, blobs: &mut B) -> Result<(String, bool), Err
     Ok((text, flaws.is_empty()))
 }
 
-/// Copies what the roots of one file reach into another, and returns how many blobs these are.
+/// Copies into one file what the roots of another reach, and returns how many blobs these are.
 fn copy_roots<B: Blobs>(rt: &HostRuntime, from: &mut B, to: &mut B) -> Result<usize, Error> {
     let names = from.root_names(rt.alloc())?;
     let mut progress = Progress::new(rt);
@@ -92,8 +92,8 @@ fn copy_roots<B: Blobs>(rt: &HostRuntime, from: &mut B, to: &mut B) -> Result<us
     Ok(count)
 }
 
-/// Copies what the roots reach into the file of a path, closes that, and returns how many blobs these
-/// are.
+/// Copies into the file of a path what the roots reach, closes that, and returns how many blobs
+/// these are.
 ///
 /// # Errors
 ///
@@ -110,7 +110,7 @@ pub fn copy_to<B: BlobsInFile>(
     Ok(count)
 }
 
-/// Copies what the roots reach into the file of a path, and says how many blobs these are.
+/// Copies into the file of a path what the roots reach, and says how many blobs these are.
 fn copy<B: BlobsInFile>(rt: &HostRuntime, blobs: &mut B, path: &str) -> Result<String, Refusal> {
     let count = copy_to(rt, blobs, path)?;
     Ok(format!(in rt.alloc(); "{count} blobs copied\n")?)

@@ -10,10 +10,10 @@ use sqlite_trees::store::Store;
 use std::alloc::Global;
 use std::sync::Arc;
 
-/// An open file of blobs. Each call makes the call on a `FileBlobs` that does the same, and fails
-/// as that does.
+/// An open file of blobs. Each call makes the call of `FileBlobs` that does the same, and has its
+/// errors.
 pub trait Blobs: Drop {
-    /// Lists all blobs.
+    /// Lists all blobs but those that wait for a flush.
     fn list(&mut self, alloc: Global) -> Result<Vec<ListedBlob>, Error>;
 
     /// Lists all names that stand for a key, also those not yet flushed, and maybe some that once
@@ -38,7 +38,7 @@ pub trait Blobs: Drop {
     /// Tests the whole file, and returns its flaws.
     fn fsck<W: Watch>(&mut self, alloc: Global, watch: &mut W) -> Result<Vec<Flaw>, Error>;
 
-    /// Copies what names reach into another file, and returns how many blobs these are.
+    /// Copies into another file what the roots of names reach, and returns how many blobs that is.
     fn copy<W: Watch>(
         &mut self,
         alloc: Global,

@@ -32,7 +32,7 @@ fn replace(rt: &HostRuntime, path: &str, new: &str) -> io::Result<()> {
     fs::rename(rt, new, path)
 }
 
-/// Copies what the roots reach into a new file, closes that, and returns how many blobs these are.
+/// Copies into a new file what the roots reach, closes it, and returns how many blobs these are.
 fn copy_beside<B: BlobsInFile>(
     rt: &HostRuntime,
     blobs: &mut B,

@@ -6,9 +6,9 @@ use pagable_flavors::DataKey;
 /// What a line asks of a file of blobs, by its first word.
 #[derive(Clone, Copy)]
 pub enum Verb {
-    /// `stat`: how many blobs, bytes and names there are.
+    /// `stat`: counts of the flushed blobs, their bytes, and the names.
     Stat,
-    /// `list`: the keys of all blobs.
+    /// `list`: all flushed blobs.
     List,
     /// `roots`: the names, with the keys that they stand for.
     Roots,
@@ -46,7 +46,7 @@ impl Verb {
 ///
 /// # Errors
 ///
-/// - `BadLine` if the word is anything else.
+/// - `BadLine` if the word is anything else, or all digits are 0.
 pub fn key_of(word: &str) -> Result<DataKey, Refusal> {
     let mut bytes = [0; 16];
     if hex::decode_to_slice(word, &mut bytes).is_err() {

@@ -24,7 +24,7 @@ fn count_roots<B: Blobs>(alloc: Global, blobs: &mut B) -> Result<u64, Error> {
     Ok(count)
 }
 
-/// Counts the blobs, their bytes, and the names that stand for keys.
+/// Counts the flushed blobs, their bytes, and the names that stand for keys.
 pub fn stat<B: Blobs>(alloc: Global, blobs: &mut B) -> Result<String, Error> {
     let all = blobs.list(alloc)?;
     let names = count_roots(alloc, blobs)?;
@@ -32,7 +32,7 @@ pub fn stat<B: Blobs>(alloc: Global, blobs: &mut B) -> Result<String, Error> {
     Ok(format!(in alloc; "{count} blobs, {bytes} bytes, {names} names\n")?)
 }
 
-/// Shows each blob on a line.
+/// Shows each flushed blob on a line.
 pub fn list<B: Blobs>(alloc: Global, blobs: &mut B) -> Result<String, Error> {
     let mut text = String::new(alloc);
     for blob in &blobs.list(alloc)? {
@@ -41,7 +41,7 @@ pub fn list<B: Blobs>(alloc: Global, blobs: &mut B) -> Result<String, Error> {
     Ok(text)
 }
 
-/// Shows each name that stands for a key on a line.
+/// Shows the names that stand for keys, each on a line with its key.
 pub fn roots<B: Blobs>(alloc: Global, blobs: &mut B) -> Result<String, Error> {
     let mut text = String::new(alloc);
     for name in &blobs.root_names(alloc)? {
@@ -52,7 +52,7 @@ pub fn roots<B: Blobs>(alloc: Global, blobs: &mut B) -> Result<String, Error> {
     Ok(text)
 }
 
-/// Shows each blob that a key reaches on a line.
+/// Shows the blobs that a key reaches, each on a line.
 pub fn tree<B: Blobs>(alloc: Global, blobs: &mut B, key: DataKey) -> Result<String, Error> {
     let mut text = String::new(alloc);
     for reached in &walk_from(alloc, blobs, key)? {
@@ -61,7 +61,7 @@ pub fn tree<B: Blobs>(alloc: Global, blobs: &mut B, key: DataKey) -> Result<Stri
     Ok(text)
 }
 
-/// Shows what a key reaches as a graph.
+/// Shows as a graph what a key reaches.
 pub fn graph<B: Blobs>(alloc: Global, blobs: &mut B, key: DataKey) -> Result<String, Error> {
     let mut text = String::from_str(alloc, "digraph blobs {\n")?;
     for reached in &walk_from(alloc, blobs, key)? {

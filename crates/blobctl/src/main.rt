@@ -49,8 +49,8 @@ fn words(rt: &HostRuntime) -> io::Result<Option<(String, String)>> {
     Ok(Some((path, line)))
 }
 
-/// Serves what the words after the program's name ask for. Returns false if that fails, and None if the
-/// words are none of the usage.
+/// Serves what the words after the program's name ask for. Returns false if that fails or finds a
+/// flaw, and None if the words are none of the usage.
 fn answer_words<W: Wait>(rt: &HostRuntime, waits: &W) -> io::Result<Option<bool>> {
     let Some((path, line)) = words(rt)? else {
         return Ok(None);

@@ -23,8 +23,8 @@ struct Walk {
     found: Vec<ReachedBlob>,
 }
 
-/// Fetches the blob under a key and notes it as reached, unless the walk has seen the key, and
-/// plans to visit its children.
+/// Visits a key unless the walk has seen it: fetches its blob, notes the blob as reached, and
+/// plans to visit the children.
 fn visit<B: Blobs>(
     alloc: Global,
     blobs: &mut B,

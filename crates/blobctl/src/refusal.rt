@@ -9,7 +9,7 @@ use std::{fmt, io};
 /// Why a command fails.
 #[derive(Clone, Copy)]
 pub enum Refusal {
-    /// The line is no command.
+    /// The line is no command, or its words are wrong.
     BadLine,
     /// `gc` came as a line of the input.
     GcAmongLines,

@@ -30,7 +30,7 @@ pub fn write_point(text: &mut String, reached: &ReachedBlob) -> Result<(), Alloc
     Ok(())
 }
 
-/// Appends a line that tells a flaw.
+/// Appends a line that describes a flaw.
 pub fn write_flaw(text: &mut String, flaw: &Flaw) -> Result<(), AllocError> {
     match flaw {
         Flaw::StrayBlob(place) => writeln!(text, "the row of blobs at {place} is no key's"),

@@ -1,5 +1,5 @@
-//! The pager's calls that a page-out makes. Each function here makes one call (`release_both` two), and
-//! states after it that the pager's invariant holds.
+//! The pager's calls that a page-out makes. After each call that may change the pager, the function
+//! states that the pager's invariant holds.
 
 ghost use Rattle.pagable_changes.specs.{Changes.ReleasesBoth, Keeping.KeepsStorage};
 ghost use Rattle.pagable_core.specs.Data.{blob_of};

@@ -1,5 +1,4 @@
-//! Page-out at the cost of what changed: it takes the key of a cell that has one, and doesn't walk
-//! that cell.
+//! Page-out at the cost of what changed: a cell that has a key isn't walked, its key is used.
 #![tactic(auto)]
 
 mod calls;

@@ -1,5 +1,5 @@
-//! Nodes that a page-out is writing: it pins each, writes its value, and keeps both until the blob
-//! is stored.
+//! Nodes that a page-out is writing: it pins each, and keeps the pin and the written value until
+//! the blob is stored.
 
 ghost use Rattle.pagable_changes.specs.{
   Changes.{IsFormOf, OpenNodeFails, OpensNode, PinNodeFails, PinsLoosely, PinsNode, Writes, WritesNode, written_of},

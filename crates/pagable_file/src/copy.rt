@@ -19,10 +19,10 @@ use std::collections::HashMap;
 /// How many blobs the copy stores between two flushes.
 const BATCH: usize = 1_000;
 
-/// The keys whose blobs were copied with all that they reach.
+/// A set of keys.
 pub type KeySet = HashMap<DataKey, ()>;
 
-/// A task of the copy. It copies a blob's children before the blob itself.
+/// A task of the copy, which copies a blob's children before the blob itself.
 #[derive(Drop)]
 enum CopyTask {
     /// Plan the copy of the key's children, and then of its blob.
@@ -104,7 +104,7 @@ fn plan_copy<E: Env, S: PagableStorage<E>>(
     push_children(due, blob.arcs.as_slice())
 }
 
-/// Pushes a task for each of these keys that plans its copy.
+/// Pushes for each of these keys a task that plans its copy.
 fn push_children(due: &mut Vec<CopyTask>, children: &[DataKey]) -> Result<(), Error> {
     for child in children {
         due.push(CopyTask::Plan(*child))?;
@@ -215,7 +215,7 @@ fn read_roots<E: Env, S: Roots<E>>(
     Ok(keys)
 }
 
-/// Returns a task for each of these keys that plans its copy.
+/// Returns for each key that isn't None a task that plans its copy.
 fn first_tasks(alloc: Global, keys: &[Option<DataKey>]) -> Result<Vec<CopyTask>, Error> {
     let mut due = Vec::new(alloc);
     for key in keys {

@@ -1,8 +1,8 @@
 //! A durable storage for a pager: blobs and names of roots in a file that SQLite reads, or in
 //! memory.
 //!
-//! The file has two tables, `blobs` and `roots`, written by the kit's `sqlite`. The storage holds
-//! new blobs and names back in memory until `flush` writes them all in one transaction.
+//! The file has two tables, `blobs` and `roots`, written by the toolchain's `sqlite`. The storage
+//! holds new blobs and names back in memory until `flush` writes them all in one transaction.
 #![tactic(auto)]
 
 pub mod blob_env;

@@ -91,8 +91,8 @@ fn test_key<S: Store>(
     }
 }
 
-/// Returns the key that `name` stands for by `held`, the entry that waits for a flush at the name's
-/// place; None if the entry is another name's, or says that the name stands for no key any more.
+/// Returns the key that `name` stands for according to `held`, the entry that waits for a flush at
+/// the name's place; None if it is another name's, or says that `name` stands for no key any more.
 pub fn held_root(held: &PendingRoot, name: &str) -> Option<DataKey>
     ensures { result ≡ (if bytes_eq (string_bytes held.now.name) name.now then held.now.key else None) }
 {
@@ -103,8 +103,8 @@ pub fn held_root(held: &PendingRoot, name: &str) -> Option<DataKey>
     }
 }
 
-/// Returns the key that a name stands for by `found`, the row that was read at the name's rowid;
-/// None if there is no row, or it is another name's.
+/// Returns the key that a name stands for according to `found`, the row at the name's rowid; None
+/// if there is no row, it is another name's, or the name stands for no key any more.
 pub fn read_key_of(found: Option<Naming>) -> Option<DataKey>
     ensures { result ≡ found_root found }
 {

@@ -98,7 +98,7 @@ pub fn key_at(row: &Row, at: usize) -> Option<DataKey>
 /// What a row says of a key.
 #[derive(Drop)]
 pub enum Reading {
-    /// The row is another key's.
+    /// The row is another key's, or has no key.
     Other,
     /// The row is the key's, but the bytes in its column of child keys aren't a list of keys.
     Damaged,

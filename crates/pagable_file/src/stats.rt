@@ -11,9 +11,9 @@ use sqlite_trees::error::StoreError;
 /// What was asked of a file of blobs since it was opened. Each count stops at 2^64 - 1.
 #[derive(Clone, Copy, Debug, PartialEq, Eq)]
 pub struct Stats {
-    /// Fetched blobs.
+    /// Fetched blobs, without those that waited for a flush.
     pub fetches: u64,
-    /// The bytes of the fetched blobs, without their child keys.
+    /// The bytes of these blobs, without their child keys.
     pub fetched_bytes: u64,
     /// Stored blobs that were new.
     pub stores: u64,

@@ -79,7 +79,7 @@ pub trait RecordCalls {
     fn release(&mut self, handles: &[HandleNumber]) -> Result<(), StoreError>;
 
     /// Releases the handles of the pending list. A record to which nothing else refers is dropped
-    /// and never written; another record is written together with a record that refers to it.
+    /// and never written; any other is written when it, or a record that reaches it, is paged out.
     ///
     /// # Errors
     ///
@@ -102,8 +102,8 @@ pub trait RecordCalls {
     /// - `TooLong`, `OutOfMemory`.
     fn key_of_text(&self, text: &str) -> Result<DataKey, StoreError>;
 
-    /// Pages out a handle's record with what changed of all that it reaches, sets the root's name
-    /// to its key, and flushes both together. The store stays open.
+    /// Pages out a handle's record with what changed of all that it reaches, makes the root's name
+    /// stand for its key, and flushes blobs and name together. The store stays open.
     ///
     /// # Errors
     ///

@@ -12,7 +12,7 @@ pub trait Job {
     /// The name of the root under which `run` saves its record.
     const ROOT: &'static str;
 
-    /// How many records stay in memory beside the new ones.
+    /// How many records stay in memory besides the new ones.
     const KEPT_RECORDS: u64;
 
     /// Does the work of a run, and saves its record under `ROOT`. `last` is the handle of the record

@@ -130,9 +130,9 @@ impl<S: Roots<Records>> RecordCalls for RecordStore<S> {
 }
 
 impl<S: Roots<Records> + Drop> RecordStore<S> {
-    /// Opens the records of a storage, with a budget that keeps `kept` records in memory. If a key
-    /// stands under the root's name, also returns a handle of that record, which pins nothing; the
-    /// call doesn't read the record.
+    /// Opens the records of a storage, with a budget that keeps `kept` records in memory. If the
+    /// root's name stands for a key, also returns a handle of the key's record, which pins nothing;
+    /// the call doesn't read the record.
     ///
     /// # Errors
     ///
