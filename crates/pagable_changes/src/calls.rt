@@ -1,17 +1,14 @@
 //! The pager's calls that a page-out makes. After each call that may change the pager, the function
 //! states that the pager's invariant holds.
 
-ghost use Rattle.pagable_changes.specs.{Changes.ReleasesBoth, Keeping.KeepsStorage};
-ghost use Rattle.pagable_core.specs.Data.{blob_of};
-ghost use Rattle.pagable_load.specs.AccessView.{values_at};
-ghost use Rattle.pagable_pager.specs.View.{pager_core, pager_state, storage_view};
-ghost use Rattle.pagable_pager_spec.specs.{
-  Access.MakesCall,
-  Calls.{CloneCall, LoosenCall, NodeCall, PinCall, ReleaseCall, SetKeyCall, StoreCall},
+ghost use Rattle.pagable_changes.specs.{
+  Changes.{Clones, Loosens, Pins, Releases, ReleasesBoth, SetsKey, StoresBlob},
+  Keeping.{Between, BetweenIfHonest, KeepsStorage},
 };
-ghost use Rattle.pagable_value_spec.specs.Blob.{key_of};
+ghost use Rattle.pagable_core.specs.Data.{blob_of};
+ghost use Rattle.pagable_pager.specs.View.{pager_core, storage_view};
+ghost use Rattle.pagable_pager_spec.specs.Calls.{NodeCall};
 ghost use Rattle.std.specs.Prelude.{IsTrue, Ok, true, ◌≡◌};
-ghost use Rattle.pagable_pager_spec.specs.declared.handle_row.Owner.TheVariants as owners;
 
 use pagable_codec::{Env, NodeSet};
 use pagable_core::{PagableData, PagableStorage};
@@ -38,10 +35,8 @@ pub(crate) fn clone<E: Env<Node: NodeSet<E>>, S: PagableStorage<E>>(
     pager: &mut Pager<E, S>,
     handle: HandleNumber,
 ) -> Result<HandleNumber, Error>
-    ensures called { MakesCall (values_at E.Node.NodeSet E.Env E.Hash.KeyHash pager.old.environment)
-        (λ w'. CloneCall (pager_core (storage_view S.PagableStorage) pager.old) owners.Caller handle result w')
-        (pager_state (storage_view S.PagableStorage) pager.old)
-        (pager_state (storage_view S.PagableStorage) pager.new) }
+    ensures called { Between E.Node.NodeSet E.Env E.Hash.KeyHash S.PagableStorage pager.old pager.new
+        (λ v s s'. Clones v s handle result s') }
     ensures keeps { KeepsStorage pager.old pager.new }
 {
     let cloned = pager.clone(handle);
@@ -53,10 +48,8 @@ pub(crate) fn loosen<E: Env<Node: NodeSet<E>>, S: PagableStorage<E>>(
     pager: &mut Pager<E, S>,
     handle: HandleNumber,
 ) -> Result<HandleNumber, Error>
-    ensures called { MakesCall (values_at E.Node.NodeSet E.Env E.Hash.KeyHash pager.old.environment)
-        (λ w'. LoosenCall (pager_core (storage_view S.PagableStorage) pager.old) owners.Caller handle result w')
-        (pager_state (storage_view S.PagableStorage) pager.old)
-        (pager_state (storage_view S.PagableStorage) pager.new) }
+    ensures called { Between E.Node.NodeSet E.Env E.Hash.KeyHash S.PagableStorage pager.old pager.new
+        (λ v s s'. Loosens v s handle result s') }
     ensures keeps { KeepsStorage pager.old pager.new }
 {
     let turned = pager.into_pagable(handle);
@@ -68,10 +61,8 @@ pub(crate) fn pin<E: Env<Node: NodeSet<E>>, S: PagableStorage<E>>(
     pager: &mut Pager<E, S>,
     handle: HandleNumber,
 ) -> Result<Pinning, Error>
-    ensures called { MakesCall (values_at E.Node.NodeSet E.Env E.Hash.KeyHash pager.old.environment)
-        (λ w'. PinCall (pager_core (storage_view S.PagableStorage) pager.old) owners.Caller handle result w')
-        (pager_state (storage_view S.PagableStorage) pager.old)
-        (pager_state (storage_view S.PagableStorage) pager.new) }
+    ensures called { Between E.Node.NodeSet E.Env E.Hash.KeyHash S.PagableStorage pager.old pager.new
+        (λ v s s'. Pins v s handle result s') }
     ensures keeps { KeepsStorage pager.old pager.new }
 {
     let pinned = pager.pin(handle);
@@ -83,10 +74,8 @@ pub(crate) fn release<E: Env<Node: NodeSet<E>>, S: PagableStorage<E>>(
     pager: &mut Pager<E, S>,
     handle: HandleNumber,
 ) -> Result<(), Error>
-    ensures called { MakesCall (values_at E.Node.NodeSet E.Env E.Hash.KeyHash pager.old.environment)
-        (λ w'. ReleaseCall (pager_core (storage_view S.PagableStorage) pager.old) owners.Caller handle result w')
-        (pager_state (storage_view S.PagableStorage) pager.old)
-        (pager_state (storage_view S.PagableStorage) pager.new) }
+    ensures called { Between E.Node.NodeSet E.Env E.Hash.KeyHash S.PagableStorage pager.old pager.new
+        (λ v s s'. Releases v s handle result s') }
     ensures keeps { KeepsStorage pager.old pager.new }
 {
     let released = pager.release(handle);
@@ -99,10 +88,8 @@ pub(crate) fn set_key<E: Env<Node: NodeSet<E>>, S: PagableStorage<E>>(
     handle: HandleNumber,
     key: DataKey,
 ) -> Result<(), Error>
-    ensures called { MakesCall (values_at E.Node.NodeSet E.Env E.Hash.KeyHash pager.old.environment)
-        (λ w'. SetKeyCall (pager_core (storage_view S.PagableStorage) pager.old) owners.Caller handle key result w')
-        (pager_state (storage_view S.PagableStorage) pager.old)
-        (pager_state (storage_view S.PagableStorage) pager.new) }
+    ensures called { Between E.Node.NodeSet E.Env E.Hash.KeyHash S.PagableStorage pager.old pager.new
+        (λ v s s'. SetsKey v s handle key result s') }
     ensures keeps { KeepsStorage pager.old pager.new }
 {
     let set = pager.set_data_key(handle, key);
@@ -115,12 +102,8 @@ pub(crate) fn store<E: Env<Node: NodeSet<E>>, S: PagableStorage<E>>(
     pager: &mut Pager<E, S>,
     blob: PagableData,
 ) -> Result<DataKey, Error>
-    ensures called { IsTrue (S.is_honest pager.new.storage)
-        → MakesCall (values_at E.Node.NodeSet E.Env E.Hash.KeyHash pager.old.environment)
-        (λ w'. StoreCall (key_of E.Hash.digest) (pager_core (storage_view S.PagableStorage) pager.old)
-        (blob_of blob) result w')
-        (pager_state (storage_view S.PagableStorage) pager.old)
-        (pager_state (storage_view S.PagableStorage) pager.new) }
+    ensures called { BetweenIfHonest E.Node.NodeSet E.Env E.Hash.KeyHash S.PagableStorage pager.old pager.new
+        (λ v s s'. StoresBlob v s (blob_of blob) result s') }
     ensures honest { IsTrue (S.is_honest pager.new.storage) → IsTrue (S.is_honest pager.old.storage) }
     ensures environment { pager.new.environment ≡ pager.old.environment }
 {
@@ -136,9 +119,8 @@ pub(crate) fn release_both<E: Env<Node: NodeSet<E>>, S: PagableStorage<E>>(
     cloned: HandleNumber,
     pin: HandleNumber,
 )
-    ensures releases { ReleasesBoth (values_at E.Node.NodeSet E.Env E.Hash.KeyHash pager.old.environment) cloned pin
-        (pager_state (storage_view S.PagableStorage) pager.old)
-        (pager_state (storage_view S.PagableStorage) pager.new) }
+    ensures releases { Between E.Node.NodeSet E.Env E.Hash.KeyHash S.PagableStorage pager.old pager.new
+        (λ v s s'. ReleasesBoth v cloned pin s s') }
     ensures keeps { KeepsStorage pager.old pager.new }
 {
     let _unpinned = release(pager, pin);

@@ -2,10 +2,10 @@
 
 ghost use Rattle.pagable_changes.specs.{
   Changes.{IsReferenceToCellOf, PagesOutChanged, PagesOutKeyless},
+  Keeping.BetweenIfHonest,
   Keys.KeepsTrees,
 };
-ghost use Rattle.pagable_load.specs.AccessView.{values_at};
-ghost use Rattle.pagable_pager.specs.View.{pager_core, pager_state, storage_view};
+ghost use Rattle.pagable_pager.specs.View.{pager_core, storage_view};
 ghost use Rattle.std.specs.Prelude.{IfOk, IsTrue, ◌≡◌};
 
 use crate::nodes::open_node;
@@ -39,10 +39,8 @@ fn page_out_keyless<E: Env<Node: NodeSet<E>>, S: PagableStorage<E>>(
     pager: &mut Pager<E, S>,
     handle: HandleNumber,
 ) -> Result<DataKey, Error>
-    ensures pages { IsTrue (S.is_honest pager.new.storage)
-        → PagesOutKeyless (values_at E.Node.NodeSet E.Env E.Hash.KeyHash pager.old.environment)
-        (pager_state (storage_view S.PagableStorage) pager.old) handle result
-        (pager_state (storage_view S.PagableStorage) pager.new) }
+    ensures pages { BetweenIfHonest E.Node.NodeSet E.Env E.Hash.KeyHash S.PagableStorage pager.old pager.new
+        (λ v s s'. PagesOutKeyless v s handle result s') }
     ensures honest { IsTrue (S.is_honest pager.new.storage) → IsTrue (S.is_honest pager.old.storage) }
     ensures environment { pager.new.environment ≡ pager.old.environment }
 {
@@ -63,10 +61,8 @@ fn page_out_root<E: Env<Node: NodeSet<E>>, S: PagableStorage<E>>(
     pager: &mut Pager<E, S>,
     handle: HandleNumber,
 ) -> Result<DataKey, Error>
-    ensures pages { IsTrue (S.is_honest pager.new.storage)
-        → PagesOutChanged (values_at E.Node.NodeSet E.Env E.Hash.KeyHash pager.old.environment)
-        (pager_state (storage_view S.PagableStorage) pager.old) handle result
-        (pager_state (storage_view S.PagableStorage) pager.new) }
+    ensures pages { BetweenIfHonest E.Node.NodeSet E.Env E.Hash.KeyHash S.PagableStorage pager.old pager.new
+        (λ v s s'. PagesOutChanged v s handle result s') }
     ensures honest { IsTrue (S.is_honest pager.new.storage) → IsTrue (S.is_honest pager.old.storage) }
     ensures environment { pager.new.environment ≡ pager.old.environment }
 {
@@ -101,14 +97,10 @@ pub fn page_out_changed<E: Env<Node: NodeSet<E>>, S: PagableStorage<E>>(
     pager: &mut Pager<E, S>,
     handle: HandleNumber,
 ) -> Result<DataKey, Error>
-    ensures pages { IsTrue (S.is_honest pager.new.storage)
-        → PagesOutChanged (values_at E.Node.NodeSet E.Env E.Hash.KeyHash pager.old.environment)
-        (pager_state (storage_view S.PagableStorage) pager.old) handle result
-        (pager_state (storage_view S.PagableStorage) pager.new) }
-    ensures keeps_trees { IsTrue (S.is_honest pager.new.storage)
-        → KeepsTrees (values_at E.Node.NodeSet E.Env E.Hash.KeyHash pager.old.environment)
-        (pager_state (storage_view S.PagableStorage) pager.old) handle result
-        (pager_state (storage_view S.PagableStorage) pager.new) }
+    ensures pages { BetweenIfHonest E.Node.NodeSet E.Env E.Hash.KeyHash S.PagableStorage pager.old pager.new
+        (λ v s s'. PagesOutChanged v s handle result s') }
+    ensures keeps_trees { BetweenIfHonest E.Node.NodeSet E.Env E.Hash.KeyHash S.PagableStorage pager.old pager.new
+        (λ v s s'. KeepsTrees v s handle result s') }
     ensures honest { IsTrue (S.is_honest pager.new.storage) → IsTrue (S.is_honest pager.old.storage) }
     ensures environment { pager.new.environment ≡ pager.old.environment }
 {

@@ -3,7 +3,7 @@
 
 ghost use Rattle.pagable_changes.specs.{
   Changes.{IsFormOf, OpenNodeFails, OpensNode, PinNodeFails, PinsLoosely, PinsNode, Writes, WritesNode, written_of},
-  Keeping.KeepsStorage,
+  Keeping.{Between, KeepsStorage},
 };
 ghost use Rattle.pagable_load.specs.AccessView.{values_at};
 ghost use Rattle.pagable_pager.specs.View.{pager_state, storage_view};
@@ -42,9 +42,8 @@ fn pin_loosely<E: Env<Node: NodeSet<E>>, S: PagableStorage<E>>(
     pager: &mut Pager<E, S>,
     handle: HandleNumber,
 ) -> Result<HandleNumber, Error>
-    ensures pins { PinsLoosely (values_at E.Node.NodeSet E.Env E.Hash.KeyHash pager.old.environment) handle
-        (pager_state (storage_view S.PagableStorage) pager.old) result
-        (pager_state (storage_view S.PagableStorage) pager.new) }
+    ensures pins { Between E.Node.NodeSet E.Env E.Hash.KeyHash S.PagableStorage pager.old pager.new
+        (λ v s s'. PinsLoosely v handle s result s') }
     ensures keeps { KeepsStorage pager.old pager.new }
 {
     match pin(pager, handle) {
@@ -61,15 +60,10 @@ fn pin_loose_node<E: Env<Node: NodeSet<E>>, S: PagableStorage<E>>(
     reference: ArcRef,
 ) -> Result<(HandleNumber, HandleNumber), Error>
     requires loose { is_loose_kind reference.kind.0 ≡ true }
-    ensures pins { IfOk result (λ t. PinsNode (values_at E.Node.NodeSet E.Env E.Hash.KeyHash pager.old.environment)
-        reference
-        (pager_state (storage_view S.PagableStorage) pager.old) t.0 t.1
-        (pager_state (storage_view S.PagableStorage) pager.new)) }
-    ensures fails { IfErr result (λ e. PinNodeFails (values_at E.Node.NodeSet E.Env E.Hash.KeyHash
-        pager.old.environment)
-        reference
-        (pager_state (storage_view S.PagableStorage) pager.old) e
-        (pager_state (storage_view S.PagableStorage) pager.new)) }
+    ensures pins { Between E.Node.NodeSet E.Env E.Hash.KeyHash S.PagableStorage pager.old pager.new
+        (λ v s s'. IfOk result (λ t. PinsNode v reference s t.0 t.1 s')) }
+    ensures fails { Between E.Node.NodeSet E.Env E.Hash.KeyHash S.PagableStorage pager.old pager.new
+        (λ v s s'. IfErr result (λ e. PinNodeFails v reference s e s')) }
     ensures keeps { KeepsStorage pager.old pager.new }
 {
     let cloned = clone(pager, reference.handle)?;
@@ -89,15 +83,10 @@ fn pin_node<E: Env<Node: NodeSet<E>>, S: PagableStorage<E>>(
     pager: &mut Pager<E, S>,
     reference: ArcRef,
 ) -> Result<(HandleNumber, HandleNumber), Error>
-    ensures pins { IfOk result (λ t. PinsNode (values_at E.Node.NodeSet E.Env E.Hash.KeyHash pager.old.environment)
-        reference
-        (pager_state (storage_view S.PagableStorage) pager.old) t.0 t.1
-        (pager_state (storage_view S.PagableStorage) pager.new)) }
-    ensures fails { IfErr result (λ e. PinNodeFails (values_at E.Node.NodeSet E.Env E.Hash.KeyHash
-        pager.old.environment)
-        reference
-        (pager_state (storage_view S.PagableStorage) pager.old) e
-        (pager_state (storage_view S.PagableStorage) pager.new)) }
+    ensures pins { Between E.Node.NodeSet E.Env E.Hash.KeyHash S.PagableStorage pager.old pager.new
+        (λ v s s'. IfOk result (λ t. PinsNode v reference s t.0 t.1 s')) }
+    ensures fails { Between E.Node.NodeSet E.Env E.Hash.KeyHash S.PagableStorage pager.old pager.new
+        (λ v s s'. IfErr result (λ e. PinNodeFails v reference s e s')) }
     ensures keeps { KeepsStorage pager.old pager.new }
 {
     if reference.kind.is_loose() {
@@ -176,15 +165,10 @@ pub(crate) fn open_node<E: Env<Node: NodeSet<E>>, S: PagableStorage<E>>(
     reference: ArcRef,
     depth: u64,
 ) -> Result<OpenNode, Error>
-    ensures opens { IfOk result (λ o. OpensNode (values_at E.Node.NodeSet E.Env E.Hash.KeyHash pager.old.environment)
-        reference
-        (pager_state (storage_view S.PagableStorage) pager.old) o
-        (pager_state (storage_view S.PagableStorage) pager.new)) }
-    ensures fails { IfErr result (λ e. OpenNodeFails (values_at E.Node.NodeSet E.Env E.Hash.KeyHash
-        pager.old.environment)
-        reference
-        (pager_state (storage_view S.PagableStorage) pager.old) e
-        (pager_state (storage_view S.PagableStorage) pager.new)) }
+    ensures opens { Between E.Node.NodeSet E.Env E.Hash.KeyHash S.PagableStorage pager.old pager.new
+        (λ v s s'. IfOk result (λ o. OpensNode v reference s o s')) }
+    ensures fails { Between E.Node.NodeSet E.Env E.Hash.KeyHash S.PagableStorage pager.old pager.new
+        (λ v s s'. IfErr result (λ e. OpenNodeFails v reference s e s')) }
     ensures keeps { KeepsStorage pager.old pager.new }
 {
     let (cloned, pin) = match pin_node(pager, reference) {

@@ -3,11 +3,10 @@
 ghost use Rattle.pagable_changes.specs.{
   Changes.{FinishFails, FinishesOpenNode, IsBlobOfNode, MakesTurn, OpenChildFails, OpensChild, RecordsKey},
   Changes.{ReleasesPath, SetKeyFails, Turn, TurnFails, TurnsFail, TurnsUntilKey, Walks, stage},
-  Keeping.KeepsStorage,
+  Keeping.{Between, BetweenIfHonest, KeepsStorage},
 };
 ghost use Rattle.pagable_core.specs.Data.{blob_of};
-ghost use Rattle.pagable_load.specs.AccessView.{values_at};
-ghost use Rattle.pagable_pager.specs.View.{pager_core, pager_state, storage_view};
+ghost use Rattle.pagable_pager.specs.View.{pager_core, storage_view};
 ghost use Rattle.pagable_tables.specs.NumberTable.{place_at, row_by};
 ghost use Rattle.std.specs.{
   Prelude.{IfErr, IfNone, IfOk, IfSome, IsSome, IsTrue, OnErr, OnOk, Some, slice_get, [], ◌++◌, ◌∷◌, ◌≡◌},
@@ -53,14 +52,11 @@ fn record_key<E: Env<Node: NodeSet<E>>, S: PagableStorage<E>>(
     known: FoundKey,
 ) -> Result<(), Error>
     requires ready { IsSome (place_at found.old node.now.reference.node.0) }
-    ensures sets { OnOk result (RecordsKey (values_at E.Node.NodeSet E.Env E.Hash.KeyHash pager.old.environment)
-        (λ n. row_by found.old n) node.now known.key
-        (pager_state (storage_view S.PagableStorage) pager.old) (λ n. row_by found.new n)
-        (pager_state (storage_view S.PagableStorage) pager.new)) }
-    ensures refused { IfErr result (λ e. SetKeyFails (values_at E.Node.NodeSet E.Env E.Hash.KeyHash
-        pager.old.environment)
-        node.now known.key (pager_state (storage_view S.PagableStorage) pager.old) e
-        (pager_state (storage_view S.PagableStorage) pager.new)) }
+    ensures sets { Between E.Node.NodeSet E.Env E.Hash.KeyHash S.PagableStorage pager.old pager.new
+        (λ v s s'. OnOk result (RecordsKey v (λ n. row_by found.old n) node.now known.key s (λ n. row_by found.new n)
+        s')) }
+    ensures refused { Between E.Node.NodeSet E.Env E.Hash.KeyHash S.PagableStorage pager.old pager.new
+        (λ v s s'. IfErr result (λ e. SetKeyFails v node.now known.key s e s')) }
     ensures keeps { KeepsStorage pager.old pager.new }
 {
     if node.reference.kind.is_loose() {
@@ -77,16 +73,11 @@ fn finish_open_node<E: Env<Node: NodeSet<E>>, S: PagableStorage<E>>(
     found: &mut FoundKeys,
     node: &OpenNode,
 ) -> Result<DataKey, Error>
-    ensures finishes { IsTrue (S.is_honest pager.new.storage)
-        → IfOk result (λ key. FinishesOpenNode (values_at E.Node.NodeSet E.Env E.Hash.KeyHash pager.old.environment)
-        (λ n. row_by found.old n)
-        (pager_state (storage_view S.PagableStorage) pager.old) node.now key (λ n. row_by found.new n)
-        (pager_state (storage_view S.PagableStorage) pager.new)) }
-    ensures fails { IsTrue (S.is_honest pager.new.storage)
-        → IfErr result (λ e. FinishFails (values_at E.Node.NodeSet E.Env E.Hash.KeyHash pager.old.environment)
-        (λ n. row_by found.old n)
-        (pager_state (storage_view S.PagableStorage) pager.old) node.now e
-        (pager_state (storage_view S.PagableStorage) pager.new)) }
+    ensures finishes { BetweenIfHonest E.Node.NodeSet E.Env E.Hash.KeyHash S.PagableStorage pager.old pager.new
+        (λ v s s'. IfOk result (λ key. FinishesOpenNode v (λ n. row_by found.old n) s node.now key (λ n. row_by
+        found.new n) s')) }
+    ensures fails { BetweenIfHonest E.Node.NodeSet E.Env E.Hash.KeyHash S.PagableStorage pager.old pager.new
+        (λ v s s'. IfErr result (λ e. FinishFails v (λ n. row_by found.old n) s node.now e s')) }
     ensures honest { IsTrue (S.is_honest pager.new.storage) → IsTrue (S.is_honest pager.old.storage) }
     ensures environment { pager.new.environment ≡ pager.old.environment }
 {
@@ -136,14 +127,10 @@ fn open_child<E: Env<Node: NodeSet<E>>, S: PagableStorage<E>>(
     node: &mut OpenNode,
     reference: ArcRef,
 ) -> Result<(), Error>
-    ensures opens { OnOk result (OpensChild (values_at E.Node.NodeSet E.Env E.Hash.KeyHash
-        pager.old.environment) reference
-        path.old.items node.old (pager_state (storage_view S.PagableStorage) pager.old) path.new.items node.new
-        (pager_state (storage_view S.PagableStorage) pager.new)) }
-    ensures fails { IfErr result (λ e. OpenChildFails (values_at E.Node.NodeSet E.Env E.Hash.KeyHash
-        pager.old.environment)
-        reference (pager_state (storage_view S.PagableStorage) pager.old) e
-        (pager_state (storage_view S.PagableStorage) pager.new)) }
+    ensures opens { Between E.Node.NodeSet E.Env E.Hash.KeyHash S.PagableStorage pager.old pager.new
+        (λ v s s'. OnOk result (OpensChild v reference path.old.items node.old s path.new.items node.new s')) }
+    ensures fails { Between E.Node.NodeSet E.Env E.Hash.KeyHash S.PagableStorage pager.old pager.new
+        (λ v s s'. IfErr result (λ e. OpenChildFails v reference s e s')) }
     ensures stays { OnErr result ((path.new.items ≡ path.old.items) × (node.new ≡ node.old)) }
     ensures keeps { KeepsStorage pager.old pager.new }
 {
@@ -178,15 +165,11 @@ fn process_reference<E: Env<Node: NodeSet<E>>, S: PagableStorage<E>>(
     reference: ArcRef,
 ) -> Result<(), Error>
     requires next { Some reference ≡ slice_get node.old.written.arcs.items node.old.keyed }
-    ensures turns { OnOk result (Turn (values_at E.Node.NodeSet E.Env E.Hash.KeyHash pager.old.environment)
-        (stage path.old.items node.old (λ n. row_by found.now n)
-        (pager_state (storage_view S.PagableStorage) pager.old))
-        (stage path.new.items node.new (λ n. row_by found.now n)
-        (pager_state (storage_view S.PagableStorage) pager.new))) }
-    ensures fails { IfErr result (λ e. TurnFails (values_at E.Node.NodeSet E.Env E.Hash.KeyHash pager.old.environment)
-        (stage path.old.items node.old (λ n. row_by found.now n)
-        (pager_state (storage_view S.PagableStorage) pager.old))
-        e (pager_state (storage_view S.PagableStorage) pager.new)) }
+    ensures turns { Between E.Node.NodeSet E.Env E.Hash.KeyHash S.PagableStorage pager.old pager.new
+        (λ v s s'. OnOk result (Turn v (stage path.old.items node.old (λ n. row_by found.now n) s) (stage
+        path.new.items node.new (λ n. row_by found.now n) s'))) }
+    ensures fails { Between E.Node.NodeSet E.Env E.Hash.KeyHash S.PagableStorage pager.old pager.new
+        (λ v s s'. IfErr result (λ e. TurnFails v (stage path.old.items node.old (λ n. row_by found.now n) s) e s')) }
     ensures stays { OnErr result ((path.new.items ≡ path.old.items) × (node.new ≡ node.old)) }
     ensures keeps { KeepsStorage pager.old pager.new }
 {
@@ -224,17 +207,11 @@ fn finish_and_pop<E: Env<Node: NodeSet<E>>, S: PagableStorage<E>>(
     path: &mut Vec<OpenNode>,
     node: &mut OpenNode,
 ) -> Result<Option<DataKey>, Error>
-    ensures turns { IsTrue (S.is_honest pager.new.storage)
-        → IfOk result (λ key. MakesTurn (values_at E.Node.NodeSet E.Env E.Hash.KeyHash pager.old.environment)
-        (stage path.old.items node.old (λ n. row_by found.old n)
-        (pager_state (storage_view S.PagableStorage) pager.old))
-        key (stage path.new.items node.new (λ n. row_by found.new n)
-        (pager_state (storage_view S.PagableStorage) pager.new))) }
-    ensures fails { IsTrue (S.is_honest pager.new.storage)
-        → IfErr result (λ e. TurnFails (values_at E.Node.NodeSet E.Env E.Hash.KeyHash pager.old.environment)
-        (stage path.old.items node.old (λ n. row_by found.old n)
-        (pager_state (storage_view S.PagableStorage) pager.old))
-        e (pager_state (storage_view S.PagableStorage) pager.new)) }
+    ensures turns { BetweenIfHonest E.Node.NodeSet E.Env E.Hash.KeyHash S.PagableStorage pager.old pager.new
+        (λ v s s'. IfOk result (λ key. MakesTurn v (stage path.old.items node.old (λ n. row_by found.old n) s) key
+        (stage path.new.items node.new (λ n. row_by found.new n) s'))) }
+    ensures fails { BetweenIfHonest E.Node.NodeSet E.Env E.Hash.KeyHash S.PagableStorage pager.old pager.new
+        (λ v s s'. IfErr result (λ e. TurnFails v (stage path.old.items node.old (λ n. row_by found.old n) s) e s')) }
     ensures stays { OnErr result ((path.new.items ≡ path.old.items) × (node.new ≡ node.old)) }
     ensures honest { IsTrue (S.is_honest pager.new.storage) → IsTrue (S.is_honest pager.old.storage) }
     ensures environment { pager.new.environment ≡ pager.old.environment }
@@ -261,17 +238,11 @@ fn make_turn<E: Env<Node: NodeSet<E>>, S: PagableStorage<E>>(
     path: &mut Vec<OpenNode>,
     node: &mut OpenNode,
 ) -> Result<Option<DataKey>, Error>
-    ensures turns { IsTrue (S.is_honest pager.new.storage)
-        → IfOk result (λ key. MakesTurn (values_at E.Node.NodeSet E.Env E.Hash.KeyHash pager.old.environment)
-        (stage path.old.items node.old (λ n. row_by found.old n)
-        (pager_state (storage_view S.PagableStorage) pager.old))
-        key (stage path.new.items node.new (λ n. row_by found.new n)
-        (pager_state (storage_view S.PagableStorage) pager.new))) }
-    ensures fails { IsTrue (S.is_honest pager.new.storage)
-        → IfErr result (λ e. TurnFails (values_at E.Node.NodeSet E.Env E.Hash.KeyHash pager.old.environment)
-        (stage path.old.items node.old (λ n. row_by found.old n)
-        (pager_state (storage_view S.PagableStorage) pager.old))
-        e (pager_state (storage_view S.PagableStorage) pager.new)) }
+    ensures turns { BetweenIfHonest E.Node.NodeSet E.Env E.Hash.KeyHash S.PagableStorage pager.old pager.new
+        (λ v s s'. IfOk result (λ key. MakesTurn v (stage path.old.items node.old (λ n. row_by found.old n) s) key
+        (stage path.new.items node.new (λ n. row_by found.new n) s'))) }
+    ensures fails { BetweenIfHonest E.Node.NodeSet E.Env E.Hash.KeyHash S.PagableStorage pager.old pager.new
+        (λ v s s'. IfErr result (λ e. TurnFails v (stage path.old.items node.old (λ n. row_by found.old n) s) e s')) }
     ensures stays { OnErr result ((path.new.items ≡ path.old.items) × (node.new ≡ node.old)) }
     ensures honest { IsTrue (S.is_honest pager.new.storage) → IsTrue (S.is_honest pager.old.storage) }
     ensures environment { pager.new.environment ≡ pager.old.environment }
@@ -293,17 +264,12 @@ fn make_turns<E: Env<Node: NodeSet<E>>, S: PagableStorage<E>>(
     path: &mut Vec<OpenNode>,
     node: &mut OpenNode,
 ) -> Result<DataKey, Error>
-    ensures turns { IsTrue (S.is_honest pager.new.storage)
-        → IfOk result (λ key. TurnsUntilKey (values_at E.Node.NodeSet E.Env E.Hash.KeyHash pager.old.environment)
-        (stage path.old.items node.old (λ n. row_by found.old n)
-        (pager_state (storage_view S.PagableStorage) pager.old))
-        key (stage path.new.items node.new (λ n. row_by found.new n)
-        (pager_state (storage_view S.PagableStorage) pager.new))) }
-    ensures fails { IsTrue (S.is_honest pager.new.storage)
-        → IfErr result (λ e. TurnsFail (values_at E.Node.NodeSet E.Env E.Hash.KeyHash pager.old.environment)
-        (stage path.old.items node.old (λ n. row_by found.old n)
-        (pager_state (storage_view S.PagableStorage) pager.old))
-        e path.new.items node.new (pager_state (storage_view S.PagableStorage) pager.new)) }
+    ensures turns { BetweenIfHonest E.Node.NodeSet E.Env E.Hash.KeyHash S.PagableStorage pager.old pager.new
+        (λ v s s'. IfOk result (λ key. TurnsUntilKey v (stage path.old.items node.old (λ n. row_by found.old n) s) key
+        (stage path.new.items node.new (λ n. row_by found.new n) s'))) }
+    ensures fails { BetweenIfHonest E.Node.NodeSet E.Env E.Hash.KeyHash S.PagableStorage pager.old pager.new
+        (λ v s s'. IfErr result (λ e. TurnsFail v (stage path.old.items node.old (λ n. row_by found.old n) s) e
+        path.new.items node.new s')) }
     ensures honest { IsTrue (S.is_honest pager.new.storage) → IsTrue (S.is_honest pager.old.storage) }
     ensures environment { pager.new.environment ≡ pager.old.environment }
 {
@@ -327,9 +293,8 @@ fn release_path<E: Env<Node: NodeSet<E>>, S: PagableStorage<E>>(
     pager: &mut Pager<E, S>,
     path: &mut Vec<OpenNode>,
 )
-    ensures releases { ReleasesPath (values_at E.Node.NodeSet E.Env E.Hash.KeyHash pager.old.environment) path.old.items
-        (pager_state (storage_view S.PagableStorage) pager.old)
-        (pager_state (storage_view S.PagableStorage) pager.new) }
+    ensures releases { Between E.Node.NodeSet E.Env E.Hash.KeyHash S.PagableStorage pager.old pager.new
+        (λ v s s'. ReleasesPath v path.old.items s s') }
     ensures keeps { KeepsStorage pager.old pager.new }
 {
     while let Some(node) = pop_node(path) {
@@ -344,10 +309,8 @@ pub(crate) fn walk<E: Env<Node: NodeSet<E>>, S: PagableStorage<E>>(
     pager: &mut Pager<E, S>,
     first: OpenNode,
 ) -> Result<DataKey, Error>
-    ensures walks { IsTrue (S.is_honest pager.new.storage)
-        → Walks (values_at E.Node.NodeSet E.Env E.Hash.KeyHash pager.old.environment) first
-        (pager_state (storage_view S.PagableStorage) pager.old) result
-        (pager_state (storage_view S.PagableStorage) pager.new) }
+    ensures walks { BetweenIfHonest E.Node.NodeSet E.Env E.Hash.KeyHash S.PagableStorage pager.old pager.new
+        (λ v s s'. Walks v first s result s') }
     ensures honest { IsTrue (S.is_honest pager.new.storage) → IsTrue (S.is_honest pager.old.storage) }
     ensures environment { pager.new.environment ≡ pager.old.environment }
 {
