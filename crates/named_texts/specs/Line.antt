@@ -14,7 +14,7 @@ use Rattle.std.specs.{
 abbrev pub IsName : List ℕ → Type 0
 IsName word = (1 ≤ length word) × (length word ≤ 16) × (list_all is_ascii_alphanumeric word ≡ true)
 
--- the word that asks it of a name
+-- the word of a verb in a line
 abbrev pub word_of : Verb → List ℕ
 word_of Unpin = codes "unpin"
 word_of Loose = codes "loose"

@@ -19,7 +19,7 @@ abbrev pub SameNames : Names → Names → Type 0
 SameNames old new = (name : String Global) → get_by_text new.handles (string_bytes name)
     ≡ get_by_text old.handles (string_bytes name)
 
--- the same of each name but this one
+-- each name but this one has the handle that it had
 abbrev pub KeepsOtherNames : List ℕ → Names → Names → Type 0
 KeepsOtherNames name old new = (other : String Global) → string_bytes other ≢ name
     → get_by_text new.handles (string_bytes other) ≡ get_by_text old.handles (string_bytes other)

@@ -58,7 +58,7 @@ task_of (PageOutTarget.Entry r) = of_entry r.handle (identity_of r)
 
 module _ {X XN XH XK XV : Type 0} {g : Environments X XN XH XK XV} {gh : Hashes XH} {go : Orders XK}
     {gq : Equalities XK} {gp : PartialOrders XK} {gn : Nodes XN X XN XH XK XV} where
-  -- tables, the first of number 1
+  -- the table of this number, from 1 on
   abbrev pub shelf_at : List (LentTable X XN XH XK XV g gh go gq gp gn) → ℕ → Shelf
   shelf_at tables zero = no_shelf
   shelf_at tables (suc t) = if_there shelf_of no_shelf (slice_get tables t)
@@ -72,12 +72,12 @@ module _ {X XN XH XK XV : Type 0} {g : Environments X XN XH XK XV} {gh : Hashes 
     answer = answer_in k.turn;
   }
 
-  -- Its table exists, and its list of tasks is in order.
+  -- The worker's table exists, and its list of tasks is in order.
   pub record IsOnTable (last : ℕ) (k : WorkerProgress X XN XH XK XV g gh go gq gp gn) : Type 0 where
     pub table : (0 < k.table) × (k.table ≤ last)
     pub way : EachIsAwaited (todos_after k.turn k.path.items)
 
-  -- It is on its table, it is running until it has answered, and its task fits.
+  -- The worker is on its table, runs until it has answered, and its task fits.
   pub record IsWalkKept (w : Core) (last v : ℕ) (k : WorkerProgress X XN XH XK XV g gh go gq gp gn) : Type 0 where
     pub stands : IsOnTable last k
     pub at_work : w.workers v ≡ is_none (answer_in k.turn)
@@ -166,7 +166,7 @@ pub record ReadsFor (load : OpenLoad) (own : Own) : Type 0 where
   pub sort : is_cell load.root ≡ own.for_cell
   pub typed : FitsRoot load.root (reading_of own)
 
--- It is the progress of a load that was begun, and fits that load as long as it is open.
+-- The progress is that of a load that was begun, and fits the load while that is open.
 pub record IsKept (w : Core) (l : ℕ) (own : Own) : Type 0 where
   pub number : own.load.0 ≡ l
   pub given : l ≤ w.last.load

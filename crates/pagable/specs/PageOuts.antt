@@ -18,7 +18,7 @@ pub data PagesLastEntry {N E : Type 0} (v : Values N) (s : PagerState N E) : Res
   entry-is-last : (place : ℕ) (r : Result (Option ℕ) PageOutError) (s' : PagerState N E) → length s.core.list
       ≡ place + 1 → PagesEntryIfThere v place r s s' → PagesLastEntry v s r s'
 
--- the same, with the key of the entry
+-- the last entry is paged out, and its key returned; `Closed` if there is none
 pub data PagesLast {N E : Type 0} (v : Values N) (s : PagerState N E) : Result ℕ PageOutError → PagerState N E
     → Type 0 where
   none-is-last : (s' : PagerState N E) → PagesLastEntry v s (Ok None) s'

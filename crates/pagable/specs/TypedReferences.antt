@@ -33,7 +33,7 @@ pub record IsHeldBy {N T E : Type 0} (s : PagerState N E) (h : HandleNumber) (he
   pub pins : ValueCall s h (Ok (Some x))
   pub holds : held x ≡ Some y
 
--- the same, or the handle pins nothing, or its node's value holds none of the type, or memory is lacking
+-- no such handle is live, it pins nothing, its node is of another type or holds none of the type, or memory is lacking
 abbrev pub RefusesHolding : {N T E : Type 0} → PagerState N E → HandleNumber → ℕ → (N → Option T) → Error → Type 0
 RefusesHolding s h t held Error.NoSuchHandle = row_at s.core h ≡ None
 RefusesHolding s h t held Error.WrongMode = ValueCall s h (Ok None)

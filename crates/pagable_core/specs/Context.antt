@@ -18,7 +18,7 @@ nothing = record { bytes = []; refs = [] }
 abbrev pub out_of : SerializedData → Out
 out_of d = record { bytes = d.bytes.items; refs = d.arcs.items }
 
--- the answers for keys in their order, the first of which is at this place
+-- the answers for these keys, in their order; the first key is at this place
 abbrev pub answers_from : (ℕ → ℕ → ℕ → Result ArcRef Error) → ℕ → List ℕ → List Answer
 answers_from answer place [] = []
 answers_from answer place (key ∷ keys) = (λ kind. answer place key kind) ∷ answers_from answer (place + 1) keys
@@ -52,10 +52,10 @@ moves_of answer lent keys old new g = record {
   within = λ w. record { bytes = g.within; refs = w.refs };
 }
 
--- what a pair of bytes and references says that was written
+-- what was written, as a pair of bytes and references
 abbrev pub pair_out : Vec ℕ Global × Vec ArcRef Global → Out
 pair_out p = record { bytes = p.0.items; refs = p.1.items }
 
--- what a serializer's fields say that was written
+-- what was written, in a serializer's fields
 abbrev pub written : {E S : Type 0} → SerializerOver E S → Out
 written s = record { bytes = s.writer; refs = s.arcs.items }

@@ -13,7 +13,7 @@ use Rattle.std.specs.{
 abbrev pub blob_of : PagableData → Blob
 blob_of d = record { bytes = d.bytes.items; keys = d.arcs.items }
 
--- the blob under a key of a map in memory
+-- a map of blobs in memory; below: its blob under a key
 abbrev pub Blobs : Type 0
 Blobs = HashMap ℕ (Arc PagableData Global) (BuildHasherDefault FoldHasher)
 

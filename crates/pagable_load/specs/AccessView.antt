@@ -59,7 +59,7 @@ values_at n e h environment = record {
 pub record IfKnown {S : Type 0} (s : Option S) (P : S → Type 0) : Type 0 where
   pub holds : IfSome s P
 
--- A call that may bring a value into memory: what it does to the core, and which value it may bring where.
+-- A call that may bring a value into memory: its step in the core, which value it may bring where, and a whole pager.
 pub record MakesCallBringing {N E : Type 0} (v : Values N) (does : Core → Type 0) (comes : ℕ → N → Type 0)
     (s s' : PagerState N E) : Type 0 where
   pub step : does s'.core

@@ -31,7 +31,7 @@ pub record IsReadAs {N : Type 0} (v : Values N) (t : ℕ) (blob : Blob) (got : L
   pub typed : v.node_type x ≡ t
   pub means : v.means x own
 
--- Decoding returns what the blob asks for next, or fails with a cause of the type's own.
+-- Decoding returns the value, what the blob asks for next, the blob's fault, or a cause of the type's own.
 abbrev pub Answers : {N : Type 0} → Values N → ℕ → Blob → List ArcRef → Decoded N → Type 0
 Answers v t blob got (Decoded.Read x) = IsReadAs v t blob got x
 Answers v t blob got (Decoded.Wants kind key) = next_of v.types t blob got ≡ asks kind key
@@ -99,11 +99,11 @@ pub record Foresees (types : Types) (f : Frame) (kinds : List ℕ) : Type 0 wher
 abbrev pub RowFitsFrame : Types → Frame → List ArcRef → Type 0
 RowFitsFrame types f row = (row ≡ []) ⊎ Foresees types f (kinds_of row)
 
--- so it is for the innermost blob, if there is one
+-- the row fits the innermost frame, if there is one
 pub record RowFits (types : Types) (frames : List Frame) (row : List ArcRef) : Type 0 where
   pub is : (f : Frame) (fs : List Frame) → frames ≡ f ∷ fs → RowFitsFrame types f row
 
--- and so it is for each blob that has a row
+-- each frame's row fits it, as far as there are rows
 abbrev pub EachRowFits : Types → List Frame → List (List ArcRef) → Type 0
 EachRowFits types [] rows = Unit {0}
 EachRowFits types (f ∷ fs) [] = Unit {0}
@@ -112,8 +112,7 @@ EachRowFits types (f ∷ fs) (row ∷ rows) = RowFitsFrame types f row × EachRo
 pub record RowsFit (types : Types) (frames : List Frame) (rows : List (List ArcRef)) : Type 0 where
   pub are : EachRowFits types frames rows
 
--- the rows of the vectors, the last vector's first, before these rows; below: the rows of all blobs, the innermost
--- first
+-- the rows of the vectors, the last vector's first, before these rows; below: all rows, the innermost's first
 unfoldable pub stacked : List (List ArcRef) → List (Vec ArcRef Global) → List (List ArcRef)
 stacked rows [] = rows
 stacked rows (x ∷ xs) = stacked (x.items ∷ rows) xs
@@ -130,7 +129,7 @@ abbrev pub KeptIfKindAt : ℕ → Kind → List ArcRef → List ArcRef → Type 
 KeptIfKindAt place kind old new = (new ≡ []) ⊎ ((new ≡ old) × ((r : ArcRef) × (slice_get old place ≡ Some r)
     × (kind.0 ≡ r.kind.0)))
 
--- the innermost blob's row is removed, if the blob was read; if it was the only row, an empty one is left
+-- if the blob was read, its row, the innermost, is removed, or a single empty one is left
 abbrev pub RemovedIf : Bool → List (List ArcRef) → List (List ArcRef) → Type 0
 RemovedIf false old new = new ≡ old
 RemovedIf true old new = ((row : List ArcRef) × (old ≡ row ∷ new)) ⊎ (new ≡ [] ∷ [])

@@ -23,7 +23,7 @@ pub record Met {N E : Type 0} (v : Values N) (me : Owner) (reading : Reading) (s
   pub moves : Moves (ReadingBrings v s.core reading) s t
   pub holds : IsPagerWhole v s → Moves (λ n x. HoldsItsNodes v s x) s t
 
--- A step, up to its failure if it fails; otherwise a whole one. It is asked that the load is open and is as `own` says.
+-- A whole step, or one up to its failure, if the load is open and is as `own` says.
 pub record TriesStep {N E : Type 0} (v : Values N) (me : Owner) (own : Own) (s : PagerState N E)
     (r : Result (Option (LoadAnswer N)) Error) (frames : List Frame) (t : PagerState N E) : Type 0 where
   pub does : IsLoadOf s.core me own → IfOk r (λ answer. ReadingStep v me (reading_of own) s answer frames t)
@@ -34,7 +34,7 @@ pub record Drops {N E : Type 0} (v : Values N) (me : Owner) (l : LoadNumber) (s 
   pub told : Result (Unit {0}) Error
   pub call : MakesCall v (λ w'. DropCall s.core me l told w') s t
 
--- it is the same load, after `count` steps
+-- the same load, after `count` steps
 pub record IsSameLoad (old new : Own) (count : ℕ) : Type 0 where
   pub load : new.load ≡ old.load
   pub key : new.key ≡ old.key

@@ -53,7 +53,7 @@ pub record PinsWithLoad {N E : Type 0} (v : Values N) (s : PagerState N E) (h : 
   pub pinned : IfOk r (λ a. PinRun v s h (Ok a.0) s' × (a.1 ≡ is_unpinned_at s.core h))
   pub refused : IfErr r (λ e. PinRun v s h (Err e) s')
 
--- the loose handle is unpinned, if it was before; below: and the new handle is released
+-- the loose handle is unpinned, if it was unpinned before; below: and the new handle is released
 abbrev pub Unpins : {N E : Type 0} → Values N → Bool → HandleNumber → PagerState N E → PagerState N E → Type 0
 Unpins v true h s low = (told : Result (Unit {0}) Error)
     × MakesCall v (λ w'. UnpinCall s.core Owner.Caller h told w') s low

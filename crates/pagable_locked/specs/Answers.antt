@@ -8,8 +8,7 @@ use Rattle.std.specs.{
   declared.{alloc.Global.Global, sync.Arc.Arc},
 }
 
--- the items of one of `workers` workers: of these items, of which the first has this number, each whose number mod
--- `workers` is the worker's own
+-- the items of one of `workers` workers: those whose number mod `workers` is the worker's; the first has number i
 abbrev pub items_of : {X : Type 0} → ℕ → ℕ → ℕ → List X → List X
 items_of workers worker i [] = []
 items_of workers worker i (x ∷ xs) = if i % workers == worker then x

@@ -25,8 +25,8 @@ use Rattle.pagable_value_spec.specs.Meaning as meanings
 use Rattle.pagable_value_spec.specs.Shape as shapes
 
 -- What the impls of a type say of its values: their shape, their one meaning each, all errors of writing them, and the
--- errors of reading them other than faults of the input and of references; and, in every environment, that each form
--- lists the references in their order, that no meaning has two forms, and that forms are read back.
+-- errors of reading them other than faults of the input and of references; and, in every environment: each form lists
+-- the references in order, no meaning has two forms, and forms are read back.
 pub record Encoding (T : Type 0) : Type 1 where
   pub shape : Shape
   pub means : Meanings T

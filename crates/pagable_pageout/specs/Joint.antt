@@ -16,7 +16,7 @@ both None q = None
 both (Some s) None = None
 both (Some s) (Some q) = Some (s, q)
 
--- What is done to the state of an access and to that of a table, if both are told; and as whom the access acts afterwards.
+-- What is done to the states of an access and of a table, if both are told; and as whom the access acts afterwards.
 pub record ActsBoth {A T S Q E : Type 0} (told : A → Option S) (by : A → Acting E) (shelf : T → Option Q) (a : A)
     (t : T) (a' : A) (t' : T) (after : Acting E → Acting E) (does : Acting E → S → Q → S → Q → Type 0) : Type 0 where
   pub step : IfBothKnown (both (told a) (shelf t)) (both (told a') (shelf t'))

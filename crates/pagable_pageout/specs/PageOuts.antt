@@ -34,7 +34,7 @@ pub record EntryPaged {N E : Type 0} (v : Values N) (s : PagerState N E) (place 
     (t : PagerState N E) : Type 0 where
   pub run : EntryRun (plain v) s place answer t
   pub whole : IsPagerWhole v t
-  -- the entries before it stay
+  -- at least as many entries are left
   pub long : place ≤ length t.core.list
   pub unfailed : answer ≡ WorkerAnswer.AlreadyFailed → ⊥
 
@@ -54,7 +54,7 @@ PagesEntryIfThere v place (Ok None) s t = length s.core.list ≤ place
 PagesEntryIfThere v place (Ok (Some key)) s t = PagesEntry v place (WorkerAnswer.Key key) s t
 PagesEntryIfThere v place (Err why) s t = PagesEntry v place (answer_of (Err why)) s t
 
--- a run of the entries below this place continues from here as one from this place, or it ends here with a failure
+-- a run of the entries up to this place continues as one of those before it, or ends here with a failure
 pub record PlaceDone {N E : Type 0} (v : Values N) (s : PagerState N E) (place : ℕ)
     (result : Result (Unit {0}) PageOutError) (t : PagerState N E) : Type 0 where
   pub whole : IsPagerWhole v t

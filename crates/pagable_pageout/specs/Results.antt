@@ -17,8 +17,7 @@ pub record HasFormOf {N E : Type 0} (values : E → Values N) (i : Identity) (wr
 
 mutual
   -- A finite tree of results stands below the identity and its key: some value of the identity's type has a form, and
-  -- the key is that of the form over the keys of one result for each of its references. So a table needs no value in
-  -- memory.
+  -- the key is that of the form over the keys of one result for each of its references.
   pub data ResultStands {N E : Type 0} (hash : List ℕ → List ℕ) (values : E → Values N) : Identity → ℕ → Type 0 where
     stands-over : (i : Identity) (written : Written) (keys : List ℕ) → HasFormOf values i written
         → ResultsStand hash values written.references keys

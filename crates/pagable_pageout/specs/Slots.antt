@@ -103,7 +103,7 @@ module _ {E EN EH EK EV : Type 0} {g : Environments E EN EH EK EV} {gh : Hashes 
 abbrev pub SlotIs : (Identity → Option Slot) → Identity → Option Slot → (Identity → Option Slot) → Type 0
 SlotIs old i slot new = (j : Identity) → new j ≡ (if is_identity i j then slot else old j)
 
--- the worker of a slot that has no result yet
+-- the worker of a slot that is open
 abbrev pub open_worker : Option Slot → Option ℕ
 open_worker slot = if_there (λ (s : Slot). if is_open_outcome s.outcome then Some s.worker else None) None slot
 

@@ -41,7 +41,7 @@ pub record StoresAndReleasesNode {N E : Type 0} (v : Values N) (me : Owner) (n :
 
 module _ {X XN XH XK XV : Type 0} {g : Environments X XN XH XK XV} {gh : Hashes XH} {go : Orders XK}
     {gq : Equalities XK} {gp : PartialOrders XK} {gn : Nodes XN X XN XH XK XV} where
-  -- Steps from a task on, of which the last leads to this.
+  -- Steps from a task on, of which the last leads to this turn.
   pub record WalksTo {N E : Type 0} (v : Values N) (me : Owner) (n : ℕ) (shelf : Shelf)
       (task : Task X XN XH XK XV g gh go gq gp gn) (below : List Todo) (shelf' : Shelf)
       (turn : Turn X XN XH XK XV g gh go gq gp gn) (after : List Todo) (s t : PagerState N E) : Type 0 where

@@ -78,8 +78,8 @@ module _ {E EN EH EK EV : Type 0} {g : Environments E EN EH EK EV} {gh : Hashes 
   unfoldable pub todos : List (WaitingValue E EN EH EK EV g gh go gq gp gn) → List Todo
   todos ws = map waiting_todo (reverse ws)
 
--- The list waits for this reference at this place: it is the next one of the first node on the list, which the rest of
--- the list waits for in the same way.
+-- The list waits for this reference: it is the next one of the first entry, a node for which the rest waits, or the
+-- item at the end, and is at the place below that entry. An empty list waits for any at place 0.
 unfoldable pub Awaits : List Todo → ArcRef → ℕ → Type 0
 Awaits [] r place = place ≡ 0
 Awaits (to_finish o ∷ below) r place =
@@ -193,7 +193,7 @@ module _ {X XN XH XK XV : Type 0} {g : Environments X XN XH XK XV} {gh : Hashes 
     pub over : (w : Written) → EndsWithItem w todo → IfKey turn
         (λ key. ∥ IsKeyOverResults gh.digest (values_at gn g gh) w key ∥₁)
 
-  -- each entry is still what the list below it waits for, and less is left to do
+  -- each entry is what the list below it waits for, and less is left to do; after a claim, a bounded amount
   pub record LeavesLess (todo : List Todo) (turn : Turn X XN XH XK XV g gh go gq gp gn)
       (after : List Todo) : Type 0 where
     pub way : EachIsAwaited after

@@ -151,14 +151,14 @@ module _ {X XN XH XK XV : Type 0} {g : Environments X XN XH XK XV} {gh : Hashes 
     pub whole : IsPagerWhole v t
     pub fits : LeavesFit n t.core moved.turn
 
-  -- Performing a task is a step of the worker, if the task fits, and counts as one.
+  -- Performing a task is a step of the worker, if the task fits, and counts if such a step does.
   pub record PerformsTask {N E : Type 0} (v : Values N) (me : Owner) (n : ℕ) (shelf : Shelf)
       (task : Task X XN XH XK XV g gh go gq gp gn) (below : List Todo) (shelf' : Shelf)
       (moved : StepResult X XN XH XK XV g gh go gq gp gn) (after : List Todo) (s t : PagerState N E) : Type 0 where
     pub turns : Fits v me n task s → Turned v n shelf (todo_of task ∷ below) s shelf' moved after t
     pub counts : moved.counted ≡ is_counted (todo_of task ∷ below) (plain_took moved.action)
 
-  -- with an answer the worker ends
+  -- on an answer the worker ends, else nothing is done
   pub record EndsIfAnswered {N E : Type 0} (v : Values N) (n : ℕ) (turn : Turn X XN XH XK XV g gh go gq gp gn)
       (s s' : PagerState N E) : Type 0 where
     pub closes : MatchOption (answer_in turn) (s' ≡ s) (λ a. MakesCall v (λ w'. WorkerEnds s.core n w') s s')
@@ -176,7 +176,7 @@ module _ {X XN XH XK XV : Type 0} {g : Environments X XN XH XK XV} {gh : Hashes 
     pub answers : answer_after todo (plain_took moved.action) ≡ answer_in moved.turn
     pub fits : LeavesFit n t.core moved.turn
 
-  -- It is a step of the worker with its end, if the task fits, and counts as one.
+  -- Performing a task is a step of the worker with its end, if the task fits, and counts if such a step does.
   pub record PerformsStep {N E : Type 0} (v : Values N) (me : Owner) (n : ℕ) (shelf : Shelf)
       (task : Task X XN XH XK XV g gh go gq gp gn) (below : List Todo) (shelf' : Shelf)
       (moved : StepResult X XN XH XK XV g gh go gq gp gn) (after : List Todo) (s t : PagerState N E) : Type 0 where
@@ -185,7 +185,7 @@ module _ {X XN XH XK XV : Type 0} {g : Environments X XN XH XK XV} {gh : Hashes 
 
 -- ---- a worker's walk from a task to its answer
 
--- no worker but this one is at work on the table
+-- each open slot of the table is this worker's
 abbrev pub IsAlone : ℕ → Shelf → Type 0
 IsAlone n shelf = (i : Identity) (slot : Slot) → IsOpenSlot shelf i slot → slot.worker ≡ n
 
@@ -198,13 +198,13 @@ pub record Walked {N E : Type 0} (v : Values N) (n : ℕ) (todo : List Todo) (s 
 
 module _ {X XN XH XK XV : Type 0} {g : Environments X XN XH XK XV} {gh : Hashes XH} {go : Orders XK}
     {gq : Equalities XK} {gp : PartialOrders XK} {gn : Nodes XN X XN XH XK XV} where
-  -- It is a step of the worker, where it is alone.
+  -- A task is performed as `PerformsStep` says, if the worker is alone.
   pub record StepsAlone {N E : Type 0} (v : Values N) (me : Owner) (n : ℕ) (shelf : Shelf)
       (task : Task X XN XH XK XV g gh go gq gp gn) (below : List Todo) (shelf' : Shelf)
       (moved : StepResult X XN XH XK XV g gh go gq gp gn) (after : List Todo) (s t : PagerState N E) : Type 0 where
     pub steps : IsAlone n shelf → PerformsStep v me n shelf task below shelf' moved after s t
 
-  -- The answer is that of a run of the worker, where the task fits and it is alone.
+  -- The answer is that of a run of the worker, where the task fits and the worker is alone.
   pub record RunsToAnswer {N E : Type 0} (v : Values N) (me : Owner) (n : ℕ) (shelf : Shelf)
       (task : Task X XN XH XK XV g gh go gq gp gn) (below : List Todo) (shelf' : Shelf) (answer : WorkerAnswer)
       (s t : PagerState N E) : Type 0 where
@@ -265,7 +265,7 @@ pub record Stores {N E : Type 0} (v : Values N) (s : PagerState N E) (blob : Blo
   pub moves : Moves (λ n x. ⊥) s t
   pub whole : IsPagerWhole v s → IsPagerWhole v t
 
--- what a blob names, unless it is an item's
+-- the identity of a claimed node, none for an item
 abbrev pub identity_of_node : Option ClaimedNode → Option Identity
 identity_of_node None = None
 identity_of_node (Some n) = Some (identity_of n.reference)
@@ -285,7 +285,7 @@ pub record SetsKeyThrough {N E : Type 0} (v : Values N) (me : Owner) (r : ArcRef
   pub moves : Moves (λ n x. ⊥) s t
   pub whole : IsPagerWhole v s → IsPagerWhole v t
 
--- the entry is put back on the list, if there is one
+-- putting the entry, if there is one, back on the list
 pub record GoesBackOnList {N E : Type 0} (v : Values N) (me : Owner) (back : Option HandleNumber)
     (s t : PagerState N E) : Type 0 where
   pub goes : MatchOption back (Alike s.core t.core) (λ h. (r : Result (Unit {0}) Error)

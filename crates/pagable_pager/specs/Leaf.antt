@@ -68,7 +68,7 @@ pub record LeafUnbegun {N E : Type 0} (v : Values N) (s : PagerState N E) (leaf 
 abbrev pub rooted_reading : LoadNumber → ℕ → ℕ → Blob → Reading
 rooted_reading l key t blob = record { load = l; node_type = t; frames = root_frame key t blob ∷ []; steps = 1 }
 
--- how a cell's load ends, from there
+-- the load runs to its end, with a pin or an error
 pub record EndsCellLoad {N E : Type 0} (v : Values N) (me : Owner) (own : Own) (s : PagerState N E)
     (r : Result HandleNumber Error) (t : PagerState N E) : Type 0 where
   pub pinned : IfOk r (λ k. RunsLoad v me own s (LoadAnswer.Pinned k) t)

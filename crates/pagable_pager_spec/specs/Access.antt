@@ -231,8 +231,8 @@ pub data ListRun {N E B W : Type 0} (m : Seen N B W) : ℕ → PagerState N E �
       → EntryHas s.core place h OptionalDataKey.None → EntryRun m s place (WorkerAnswer.Failed e) s'
       → ListRun m i s (Err (WorkerAnswer.Failed e)) s'
 
--- whatever trees the pager stood for before, it stands for some trees now, which are the same for the nodes that
--- existed before, and P holds of both
+-- with lawful types and settled values, whatever trees the pager stood for, it stands for some trees now, which are
+-- the same for old nodes, and P holds of both
 abbrev pub LeadsToTrees : {N E : Type 0} → Values N → PagerState N E → PagerState N E
     → ((ℕ → Tree) → (ℕ → Tree) → Type 0) → Type 0
 LeadsToTrees v s s' P = IsLawful v → HoldsSettled v s → (trees : ℕ → Tree) → PagerStandsFor v s trees → (trees' : ℕ

@@ -276,7 +276,7 @@ pub record StoreCall (digest : Blob → ℕ) (w : Core) (blob : Blob) (r : Resul
   pub stores : IfOk r (λ key. (key ≡ digest blob) × Stores w key blob w')
   pub refused : IfErr r (λ e. Asked w w' × RefusesStore blob (w.stored (digest blob)) w.closed w.failures w'.failures e)
 
--- the storage writes what it has held back
+-- the storage is asked to write what it has held back
 pub record FlushCall (w : Core) (r : Result (Unit {0}) Error) (w' : Core) : Type 0 where
   pub asked : Asked w w'
   pub refused : IfErr r (λ e. IsMemoryOrFailure w.failures w'.failures e)

@@ -47,7 +47,7 @@ pub record IsLeast (rows : List HandleRow) (keyed : ℕ → Bool) (entries : Lis
   pub closed : IsClosed rows keyed entries s
   pub least : (t : ℕ → Bool) → IsWithin rows given t → IsClosed rows keyed entries t → IsWithin rows s t
 
--- new list entries: unpinned handles with consecutive numbers above the last one given out
+-- new list entries: the list's unpinned handles, numbered on from the last one given out
 abbrev pub AreNewEntries : ℕ → List HandleRow → Type 0
 AreNewEntries last [] = Unit {0}
 AreNewEntries last (h ∷ hs) = (h.number.0 ≡ last + 1) × (h.mode ≡ Mode.LooseUnpinned) × (h.owner ≡ Owner.List)

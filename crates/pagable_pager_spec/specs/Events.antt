@@ -137,7 +137,7 @@ abbrev pub begun_readings : Beginning → ℕ → (ℕ → Option Reading) → �
 begun_readings Beginning.InMemory t readings = readings
 begun_readings (Beginning.Load l key) t readings = updated l.0 (Some (fresh l t)) readings
 
--- a load of a key begins, which is to be read as a value of this type
+-- a load begins for a key that is to be read as a value of this type
 pub record KeyStarted (u : World) (key t : ℕ) (r : Result Beginning Error) (u' : World) : Type 0 where
   pub step : BeginKeyCall u.core Owner.Caller key r u'.core
   pub begun : IfOk r (λ b. ReadingsAre (begun_readings b t u.work.readings) u')
@@ -152,7 +152,7 @@ pub record WorkIs (shelves : ℕ → Shelf) (last : ℕ) (walkings : ℕ → Opt
   pub last_is : work.last_table ≡ last
   pub same_walkings : SameAt walkings work.walkings
 
--- a new table, under the next number; numbers of tables never run out
+-- a new table, under the next number; only memory can run out
 pub record Tabled (u : World) (r : Result TableNumber Error) (u' : World) : Type 0 where
   pub made : IfOk r (λ t. (t.0 ≡ u.work.last_table + 1) × Alike u.core u'.core × ReadingsAre u.work.readings u'
       × WorkIs (updated t.0 no_shelf u.work.shelves) t.0 u.work.walkings u'.work)

@@ -107,7 +107,7 @@ pub record GetsRoot (w : Core) (me : Owner) (reading : Reading) (frames : List F
   pub asked : LoadFetchCall w me reading.load FetchTarget.Root (Ok (from_store blob)) w'
   pub goes : frames ≡ root_frame load.key reading.node_type blob ∷ []
 
--- the load has got a handle by this call, where this was needed
+-- the load needed a reference, and has got its handle by this call
 pub record GetsHandle (types : Types) (reading : Reading) (needed : Kind → ℕ → Need)
     (call : Kind → ℕ → HandleNumber → Type 0) (frames : List Frame) (w' : Core) : Type 0 where
   pub kind : Kind
@@ -253,7 +253,7 @@ pub record ClosesAfterFailure {N : Type 0} (v : Values N) (w : Core) (me : Owner
   pub told : Result (Unit {0}) Error
   pub closes : LoadCloses mid reading.load told w'
 
--- the call that ends the load found that the caller's handle is gone, and closed the load
+-- the call that ends the load found the caller's handle gone or another's, and closed the load
 pub record EndsClosed {N : Type 0} (v : Values N) (w : Core) (me : Owner) (reading : Reading) (e : Error)
     (w' : Core) : Type 0 where
   pub x : N

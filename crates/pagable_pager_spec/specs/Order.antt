@@ -24,7 +24,7 @@ steps_of v (event ∷ more) (reply ∷ rest) = step_of v event reply ++ steps_of
 steps_of v [] rest = []
 steps_of v (event ∷ more) [] = []
 
--- the action may happen if the list is the first one, and makes it the second
+-- the action may happen if the worker's list is the first, and turns it into the second
 abbrev pub Follows : {W : Type 0} → (W → Written) → List Todo → Action W → List Todo → Type 0
 Follows f (to_start r place ∷ below) (Action.Claim i (Ok Claim.Claimed)) next =
     (i ≡ identity_of r) × (next ≡ to_pin r place ∷ below)
@@ -123,7 +123,7 @@ abbrev pub own_references : Task → ℕ
 own_references (of_item written) = length written.references
 own_references (of_entry h i) = 0
 
--- the number of a worker's steps is bounded by its claims and by the references that it has written
+-- a worker counts at most 8 steps for each claim, one for each reference of its item or that it wrote, and 4
 abbrev pub IsBounded : {W : Type 0} → (W → Written) → Walking → List (Action W) → Type 0
 IsBounded f walking steps = walking.steps ≤ 8 * times is_claim steps +
     (own_references walking.task + sum_by (references_written f) steps) + 4
@@ -180,7 +180,7 @@ pub record ReadsTooDeep (types : Types) (store : ℕ → Option Blob) (t key : �
   pub deep : (longest_path < n) ⊎ ((kinds : List ℕ) × (after_kinds types last_type blob kinds
       ≡ is_faulty Error.TooDeep))
 
--- a load's step is within the bound; if it reaches the bound, it ends the load
+-- a load of n references makes at most 2n + 2 steps; the step with that number ends it
 abbrev pub IsWithinBound : {N : Type 0} → Types → (ℕ → Option Blob) → ℕ → ℕ → LoadReply N → Type 0
 IsWithinBound types store t key reply = (many longest : ℕ) → Unfolds types store t key many longest
     → (reply.steps ≤ 2 * many + 2) × (reply.steps ≡ 2 * many + 2 → IsSome reply.ended)

@@ -1,6 +1,6 @@
 -- The pager and the machine as contracts see them: the core, a count for each node, the values in memory and the
--- environment; their invariants; and what a step does to values. What nodes stand for, by recursion on trees that never
--- leave memory; and when a pager stands for its nodes' trees.
+-- environment; their invariants; and what a step does to values. Which trees nodes stand for, and when a pager stands
+-- for its nodes' trees.
 use Rattle.pagable_pager_spec.specs.{
   Basics.{Action, Among, ArcRef, Blob, Call, Error, Event, EventReply, HandleNumber, HandleRow, Identity, LoadNumber},
   Basics.{Meaning, Mode, NodeNumber, Owner, ReadsTree, Shape, Tree, Types, is_eager, is_shared_kind, times, tree},
@@ -44,8 +44,8 @@ abbrev pub IsHandleBefore : HandleRow → HandleRow → Type 0
 IsHandleBefore a b = a.number.0 < b.number.0
 
 pub record HandlesAreWhole (w : Core) : Type 0 where
-  -- Handles are in the order of their numbers, which begin at 1 and don't exceed the last one given out; so are the
-  -- numbers of nodes.
+  -- Handles are in the order of their numbers. Handles and nodes have numbers from 1 to the last one given out, which
+  -- is at most `greatest`, as the last load's is.
   pub ordered : AllPairs IsHandleBefore w.rows
   pub numbered : (h : HandleRow) → Among w.rows h → (0 < h.number.0) × (h.number.0 ≤ w.last.handle)
   pub nodes_numbered : (n : ℕ) → is_some (w.cells n) ≡ true → (0 < n) × (n ≤ w.last.node)
@@ -59,7 +59,7 @@ pub record HandlesAreWhole (w : Core) : Type 0 where
   pub places : (length w.rows ≤ w.places.handles) × (length w.list ≤ w.places.entries)
 
 pub record OwnersAreThere (w : Core) : Type 0 where
-  -- the list contains each handle that it owns exactly once, and all of these are loose and unpinned
+  -- the list contains just the handles that it owns, each once, and all are loose and unpinned
   pub listed : (q : ℕ) → times (λ (h : HandleNumber). h.0 == q) w.list
       ≡ times (λ h. is_handle q h && is_owned_by Owner.List h) w.rows
   pub waiting : (h : HandleRow) → Among w.rows h → h.owner ≡ Owner.List → h.mode ≡ Mode.LooseUnpinned
@@ -108,11 +108,11 @@ pub record IsPagerWhole {N E : Type 0} (v : Values N) (s : PagerState N E) : Typ
   pub whole : IsWhole s.core
   -- the kept count of a node is the number of handles that pin it
   pub counted : (n : ℕ) → s.counts n ≡ pins n s.core.rows
-  -- a live node has its value, which is of its type, exactly if it is pinned or has no key
+  -- a node has a value, which is of its type, exactly if it is live, and pinned or without a key
   pub valued : (n : ℕ) → is_some (s.values n) ≡ (is_some (s.core.cells n) && is_here s.core n)
   pub typed : (n : ℕ) (x : N) → s.values n ≡ Some x → type_at s.core n ≡ Some (v.node_type x)
-  -- the handles that a value owns are exactly its references: each fits its kind's mode, and is a handle of the node
-  -- that it names
+  -- the handles that a value owns are exactly its references' (none without a value): each is of the named node, and
+  -- its mode and the node's type fit the kind
   pub owns_references : (n : ℕ) (x : N) (q : ℕ) → s.values n ≡ Some x
       → times (λ (r : ArcRef). r.handle.0 == q) (v.references x)
       ≡ times (λ h. is_handle q h && is_owned_by (owner_value n) h) s.core.rows
@@ -126,15 +126,15 @@ pub record HoldsNode {N E : Type 0} (v : Values N) (s : PagerState N E) (x : N) 
   pub there : s.values r.node.0 ≡ Some y
   pub beside : v.beside x r y
 
--- for each reference that is loaded with the value
+-- `HoldsNode` for each reference loaded with x
 abbrev pub HoldsItsNodes : {N E : Type 0} → Values N → PagerState N E → N → Type 0
 HoldsItsNodes v s x = (r : ArcRef) → Among (v.references x) r → is_eager r.kind.0 ≡ true → HoldsNode v s x r
 
--- each value in memory holds the values of its nodes beside its references
+-- each value in memory holds the values of the nodes that are loaded with it
 pub record HoldsItsValues {N E : Type 0} (v : Values N) (s : PagerState N E) : Type 0 where
   pub each : (n : ℕ) (x : N) → s.values n ≡ Some x → HoldsItsNodes v s x
 
--- a reading is of an open load that the caller began, and has the type of the load's root
+-- a load of a cell is read as the cell's type; below: and it is the caller's open load l
 abbrev pub FitsRoot : Root → Reading → Type 0
 FitsRoot (of_cell node t h) reading = reading.node_type ≡ t
 FitsRoot of_key reading = Unit {0}
@@ -246,7 +246,7 @@ pub record IsFormless {N : Type 0} (v : Values N) (x : N) : Type 0 where
   pub is : v.types.nodes (v.node_type x) ≡ Some shape
   pub formless : NoFormOfSome (v.means x) (nesting 0 v.types.parts) shape
 
--- if writing a node's value fails with an error that says that a value has no form, then the node's value has none
+-- if writing a node's value fails with an error that says that a value has no form, one of its meanings has none
 abbrev pub RefusesWriting : {N E : Type 0} → Values N → PagerState N E → ℕ → Error → Type 0
 RefusesWriting {N} v s n e = is_writing_fault e ≡ true → (x : N) × (s.values n ≡ Some x) × IsFormless v x
 
@@ -276,8 +276,8 @@ abbrev pub KeyFits : {N E : Type 0} → Values N → PagerState N E → ℕ → 
 KeyFits v s n t = (key : ℕ) → key_at s.core n ≡ OptionalDataKey.Some key → ReadsTree s.core.stored v.types key t
 
 mutual
-  -- The node stands for the tree: its value is in memory, and its meaning, followed through the nodes that it refers
-  -- to, is the tree's; or its value isn't in memory. Either way the node's key, if any, reads as the tree.
+  -- The node stands for the tree: its value is in memory, and the value's type and meaning, followed through its
+  -- references, are the tree's; or the node has a key and no value. Either way its key, if any, reads as the tree.
   pub data NodeStands {N E : Type 0} (v : Values N) (s : PagerState N E) : ℕ → Tree → Type 0 where
     here : (n : ℕ) (x : N) (own : Meaning ArcRef) (t : Tree) → s.values n ≡ Some x → v.node_type x ≡ t.type
         → v.means x own → MeaningStands v s own t.meaning → KeyFits v s n t → NodeStands v s n t
@@ -285,7 +285,7 @@ mutual
         → NodeStands v s n t
 
   -- A meaning whose references are handles stands for the meaning in which each is followed to what its node stands
-  -- for. What is followed already stands for itself.
+  -- for. What is followed already stays followed.
   pub data MeaningStands {N E : Type 0} (v : Values N) (s : PagerState N E) : Meaning ArcRef → Meaning ⊥ → Type 0 where
     number-stands : (i : ℕ) → MeaningStands v s (number i) (number i)
     integer-stands : (z : ℤ) → MeaningStands v s (integer z) (integer z)
@@ -313,8 +313,8 @@ pub record ReadsNodeTree (types : Types) (stored : ℕ → Option Blob) (trees :
   pub typed : (trees n).type ≡ t
   pub reads : ReadsTree stored types key (trees n)
 
--- A load's frame holds the blob that is stored under the frame's key. Each reference that the load has got for one of
--- the blob's keys is of a node, live or gone, whose tree that key reads as.
+-- A load's frame holds the blob that is stored under the frame's key. The load has got references for the blob's first
+-- keys, and each of these keys reads as the tree of its reference's node, live or gone.
 pub record FrameFits (types : Types) (stored : ℕ → Option Blob) (trees : ℕ → Tree) (frame : Frame) : Type 0 where
   pub is : stored frame.key ≡ Some frame.blob
   pub few : length frame.got ≤ length frame.blob.keys
@@ -336,9 +336,8 @@ abbrev pub ReadingFits : {N E : Type 0} → Values N → PagerState N E → (ℕ
 ReadingFits v s trees reading = (load : OpenLoad) → s.core.loads reading.load.0 ≡ Some load
     → FramesFit v.types s.core.stored trees load.key reading.node_type reading.frames
 
--- The pager stands for its nodes' trees, which each node keeps for ever: each live node stands for its tree, which is
--- of its type; the key of a load of a cell reads as the cell's tree; and the key of an entry of the cache reads as its
--- node's tree.
+-- The pager stands for its nodes' trees: each live node stands for its tree, which is of its type; the key of a load of
+-- a cell reads as the cell's tree; and the key of an entry of the cache reads as its node's tree.
 pub record PagerStandsFor {N E : Type 0} (v : Values N) (s : PagerState N E) (trees : ℕ → Tree) : Type 0 where
   pub stands : (n : ℕ) → 0 < held n s.core.rows → NodeStands v s n (trees n)
   pub typed : (n : ℕ) → 0 < held n s.core.rows → type_at s.core n ≡ Some (trees n).type

@@ -1,5 +1,5 @@
--- What is right of one event in terms of trees: what pins, loads and page-outs return and leave. And what is right of workers,
--- claims and steps, without trees.
+-- What holds of one event in terms of trees: what pins, loads and page-outs return and leave. And what holds of
+-- workers, claims and steps, without trees.
 use Rattle.pagable_pager_spec.specs.{
   Basics.{Action, Among, ArcRef, Blob, Call, Claim, Event, EventReply, HandleNumber, HandleRow, Identity, LoadAnswer},
   Basics.{Owner, PinStep, Pinning, ReadsTree, Reply, Shape, Tree, WorkerAnswer, if_there, is_loose_kind, one, times},
@@ -22,7 +22,7 @@ use Rattle.std.specs.{
   Prelude.{Bool, List, Ok, Option, Some, false, is_some, true, ℕ, [], ◌&&◌, ◌*◌, ◌+◌, ◌==◌, ◌∷◌, ◌≡◌, ◌≢◌, ◌≤◌},
 }
 
--- the handle's node has a value in memory, and it stands for the tree that the node was made with
+-- the handle is live, and its node has a value in memory, which stands for the node's tree
 pub record GivesTree {N E : Type 0} (v : Values N) (s : PagerState N E) (trees : ℕ → Tree)
     (k : HandleNumber) : Type 0 where
   pub row : HandleRow
@@ -57,7 +57,7 @@ ReadGives {N} v s trees (Event.LoadStep l) (EventReply.LoadMoved (Ok reply)) s' 
 ReadGives v s trees event reply s' trees' = Unit {0}
 
 -- What a task meets: the references of its item, or its listed cell; and the references that were written of what it
--- meets. It is the least such set, being an inductive definition.
+-- meets; and nothing else.
 pub data Meets (shelf : Shelf) (task : Task) : Identity → Type 0 where
   meets-of-item : (written : Written) (r : ArcRef) → task ≡ of_item written → Among written.references r
       → Meets shelf task (identity_of r)
@@ -103,15 +103,15 @@ pub record HasKeyOf {N E : Type 0} (v : Values N) (s : PagerState N E) (trees : 
   pub set : key_at s.core n ≡ OptionalDataKey.Some key
   pub reads : ReadsTree s.core.stored v.types key (trees n)
 
--- what a worker leaves when it returns a key: all that it met is paged out, and the live cells among it that it met
--- through a loose reference have a key
+-- what a worker leaves when it returns a key: all that it met is paged out, and each live cell that it met through a
+-- loose reference has a key of its tree
 pub record LeavesAll {N E : Type 0} (v : Values N) (s : PagerState N E) (shelf : Shelf) (trees : ℕ → Tree)
     (task : Task) : Type 0 where
   pub blobs : (i : Identity) → Meets shelf task i → IsLeftPagedOut v s shelf trees i
   pub cells : (i : Identity) → Meets shelf task i → is_loose_kind i.kind.0 ≡ true → is_some (s.core.cells i.node.0)
       ≡ true → HasKeyOf v s trees i.node.0
 
--- P holds of a worker whose step returns this key as the worker's result
+-- if a worker's step returns a key as the worker's result, P holds of worker and key
 abbrev pub AnswersKey : {N E B W : Type 0} → (MachineState N E → (ℕ → Tree) → Walking → ℕ → Type 0) → Fact N E B W
 AnswersKey P s trees (Event.WorkerStep n) (EventReply.WorkerMoved (Ok reply)) s' trees' =
     (walking : Walking) (key : ℕ) → s'.work.walkings n.0 ≡ Some walking → reply.answer ≡ Some (WorkerAnswer.Key key)
@@ -123,7 +123,7 @@ abbrev pub AnswerLeavesAll : {N E B W : Type 0} → Values N → Fact N E B W
 AnswerLeavesAll v = AnswersKey (λ s trees walking key. LeavesAll v s.pager (s.work.shelves walking.table) trees
     walking.task)
 
--- The key is a key of the item or of the listed cell; and if that is canonical, its only one.
+-- The key is a key of the item or of the listed cell, and its only one if item or cell is canonical.
 abbrev pub IsKeyOfTask : {N : Type 0} → Values N → (ℕ → Tree) → Task → ℕ → Type 0
 IsKeyOfTask v trees (of_item written) key = KeyOfItem v.hash v.types written.bytes (kids_of trees written.references)
     key
@@ -136,7 +136,7 @@ IsKeyOfTask v trees (of_entry h i) key =
 abbrev pub AnswerIsKey : {N E B W : Type 0} → Values N → Fact N E B W
 AnswerIsKey v = AnswersKey (λ s trees walking key. IsKeyOfTask v trees walking.task key)
 
--- a published key is the key of the node's tree; and if the kind is loose, the cell had a key by then
+-- a published key is a key of the node's tree; and if the kind is loose, the cell had a key by then
 abbrev pub PublishIsKey : {N E B W : Type 0} → Values N → Fact N E B W
 PublishIsKey v s trees (Event.WorkerStep n) (EventReply.WorkerMoved (Ok reply)) s' trees' =
     (i : Identity) (key height : ℕ) → reply.action ≡ Action.Publish i key height
@@ -178,22 +178,21 @@ pub record FailedElsewhere (shelf : Shelf) (n : ℕ) (i : Identity) : Type 0 whe
   pub of_another : (slot.worker == n) ≡ false
   pub is_failed : slot.outcome ≡ failed
 
--- a worker failed with an error of one of its own steps, or since another worker had failed at an identity that it
--- needed
+-- if the worker failed, one of its steps met the error, or one of its claims found that another worker had failed
 abbrev pub IsMetFailure : {W : Type 0} → Shelf → ℕ → List (Action W) → WorkerAnswer → Type 0
 IsMetFailure shelf n steps (WorkerAnswer.Key key) = Unit {0}
 IsMetFailure {W} shelf n steps (WorkerAnswer.Failed e) = (step : Action W) × Among steps step × MetError step e
 IsMetFailure shelf n steps WorkerAnswer.AlreadyFailed =
     (i : Identity) × Among steps (Action.Claim i (Ok Claim.AlreadyFailed)) × FailedElsewhere shelf n i
 
--- a worker that has its result has a result in each slot that it claimed, owns no handle and has no open load
+-- each of the worker's claims has a result, and the worker owns no handle and no open load
 pub record HasLetGo (u : World) (n : ℕ) (shelf : Shelf) : Type 0 where
   pub results : (i : Identity) (slot : Slot) → shelf.slots i ≡ Some slot → slot.worker ≡ n → slot.outcome ≢ no_result
   pub handles : times (is_owned_by (owner_worker n)) u.core.rows ≡ 0
   pub loads : (l : ℕ) → is_workers_load n (u.core.loads l) ≡ false
 
 -- About one worker and all its actions: they are in order, each stage at most once for an identity, and within the
--- bound; and its result is one that they led to.
+-- bound; they met the cause if it failed; with its result it has let go.
 pub record WorkerIsRight {W : Type 0} (f : W → Written) (u : World) (n : ℕ) (walking : Walking)
     (steps : List (Action W)) : Type 0 where
   pub order : InOrder f walking.task steps
@@ -210,7 +209,7 @@ LoadsHaveStepsLeft v u = (reading : Reading) (load : OpenLoad) → IsReadingOf u
     → (many longest : ℕ) → Unfolds v.types u.core.stored reading.node_type load.key many longest
     → reading.steps ≤ 2 * many + 1
 
--- what all steps so far amount to, without trees
+-- what holds of claims, workers and open loads, without trees
 pub record WorkIsRight {N E B W : Type 0} (m : Seen N B W) (s : MachineState N E) (happened : List (Event N B W))
     (replied : List (EventReply N B W)) : Type 0 where
   pub claims_right : ClaimsAreRight (world_of s) happened replied

@@ -1,6 +1,6 @@
 -- Chains of moments: what events do to a machine, one after another; the trees along them; and what they ask of values
 -- and callers. Nothing here asks that the storage returns what was stored, loses nothing and keeps no two blobs under
--- one key: these are laws of every storage, so the steps have them already.
+-- one key: that is part of the steps' definitions.
 use Rattle.pagable_pager_spec.specs.{
   Basics.{Among, Call, Event, EventReply, HandleRow, Kind, LoadAnswer, Owner, ReadsTree, Reply, Tree, type_of},
   Events.{Step, reading_at},
@@ -14,7 +14,7 @@ use Rattle.pagable_pager_spec.specs.{
 use Rattle.pagable_value_spec.specs.Canonical.{IsReadableType}
 use Rattle.std.specs.Prelude.{List, None, Ok, Option, Some, map, ℕ, [], ◌∷◌, ◌≡◌}
 
--- no value in memory holds anything that can be written after the value was made
+-- each value in memory has at most one meaning
 abbrev pub HoldsSettled : {N E : Type 0} → Values N → PagerState N E → Type 0
 HoldsSettled {N} v s = (n : ℕ) (x : N) → s.values n ≡ Some x → IsSettled v x
 
@@ -45,8 +45,8 @@ pub record ReadsAsValue {N E : Type 0} (v : Values N) (s : PagerState N E) (x : 
   pub reads : ReadsTree s.core.stored v.types key read
 
 -- What is asked of a caller: the keys that it sets or hands in, the references that it puts into the cache and the
--- values that it gives to a load itself agree with the store. It is asked only of calls that change something, and of a
--- key only by a loose handle.
+-- values that it makes a load's nodes agree with the store, and a value that ends a load agrees with its cell's tree.
+-- It is asked only of calls that change something.
 abbrev pub AsksWell : {N E B : Type 0} → Values N → PagerState N E → (ℕ → Tree) → Call N B → Reply N B → Type 0
 AsksWell v s trees (Call.NewPagedOut t key) (Reply.Handle (Ok k)) = ReadsAsType v s t key
 AsksWell v s trees (Call.SetDataKey h key) reply = (row : HandleRow) → Owns s.core Owner.Caller h is_loose row
@@ -85,7 +85,7 @@ IsWellAsked v s trees event reply = Unit {0}
 -- all that is asked of an event, of the state before it and of the state after it
 pub record IsPremised {N E B W : Type 0} (v : Values N) (s : MachineState N E) (trees : ℕ → Tree) (event : Event N B W)
     (reply : EventReply N B W) (s' : MachineState N E) : Type 0 where
-  -- no value in memory, and none that a load returns, changes later
+  -- no value in memory, and none that a load returns, has two meanings
   pub settled : HoldsSettled v s'.pager
   pub reads_settled : (x : N) → read_out reply ≡ Some x → IsSettled v x
   pub stays_open : KeepsOpen event
@@ -140,7 +140,7 @@ pub record TreesAfter {N E B W : Type 0} (m : Seen N B W) (P : Fact N E B W) (s 
   pub stands : StandsFor m.values s' trees'
   pub so : P s trees event reply s' trees'
 
--- trees after each event of the chain, and P of each, as long as the events satisfy what is asked of them
+-- trees after each event of the chain, and P of each, as long as the premises hold of it and of all before it
 abbrev pub TreesAlong : {N E B W : Type 0} → Seen N B W → Fact N E B W → MachineState N E → (ℕ → Tree)
     → List (Moment N E B W) → Type 0
 TreesAlong m P s trees [] = Unit {0}

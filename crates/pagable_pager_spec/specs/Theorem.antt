@@ -21,23 +21,24 @@ pub record Headline {N E B W : Type 0} (m : Seen N B W) (start : MachineState N 
     (moments : List (Moment N E B W)) : Type 0 where
   -- Each event is a step of the world (`Step`, Events) and leaves the machine whole: so each count is the number of
   -- pinning handles, and a cell holds its value exactly while it is pinned or has no key. This is the premise again:
-  -- each call owes it. Read next: `EventDoes` (Runs), `IsMachineWhole` (Pager), `IsWhole` (World).
+  -- each call owes it. Read next: `EventDoes` (Runs), `IsMachineWhole` and `IsPagerWhole` (Pager).
   pub chain : AreMoments m start moments
-  -- Workers take their steps in order, no identity is claimed twice on a table, a failure is one that somebody met, and
-  -- who has answered has let everything go. Read next: `ClaimsAreRight`, `WorkerIsRight` (Rightness).
+  -- Workers make steps in order and within a bound, claim only what is met and unclaimed, fail only if they met an
+  -- error or a failed claim, and own nothing once they have a result; open loads have steps left. Read next:
+  -- `WorkIsRight` (Rightness).
   pub work : WorkIsRight m (state_after start moments) (events_of moments) (replies_of moments)
-  -- No load takes more than two steps for each reference, and two. Read next: `IsWithinBound` (Order).
+  -- A caller's load of n references ends within 2n + 2 steps. Read next: `IsWithinBound` (Order).
   pub loads : StepsAreWithin m.values start moments
   -- And by trees: if the machine stands for these trees (`StandsFor`, Pager), the value types are lawful (`IsLawful`,
-  -- World) and no value is written to later (`HoldsSettled`, Runs), then every event that was asked well (`IsPremised`,
-  -- Runs) is right: each pin gives its tree, each page-out leaves all that it met stored and answers its key. Read
-  -- next: `IsRight` (Rightness).
+  -- World) and no value is written to later (`HoldsSettled`, Runs), then each event is right, if it and all before it
+  -- are asked well (`IsPremised`, Runs): each pin gives its tree, each page-out leaves all that it met stored and
+  -- answers its key. Read next: `IsRight` (Rightness).
   pub trees : (trees : ℕ → Tree) → StandsFor m.values start trees → IsLawful m.values
       → HoldsSettled m.values start.pager
       → TreesAlong m (IsRight m.values) start trees moments
 
--- The law: it holds of every chain that begins at a whole machine (`IsMachineWhole`) for which nobody works yet
--- (`IsIdle`).
+-- The law: `Headline` holds of every chain (`AreMoments`) that begins at a whole machine (`IsMachineWhole`) on which
+-- nobody works (`IsIdle`).
 abbrev pub HeadlineLaw : {N B W : Type 0} → (E : Type 0) → Seen N B W → Type 0
 HeadlineLaw {N} {B} {W} E m = (start : MachineState N E) (moments : List (Moment N E B W))
     → IsMachineWhole m.values start → IsIdle start → AreMoments m start moments → Headline m start moments

@@ -43,7 +43,7 @@ pub data Reaches : Meaning ⊥ → Tree → Type 0 where
   in-rest : (a b : Meaning ⊥) (t : Tree) → Reaches b t → Reaches (pair a b) t
   in-part : (n : ℕ) (a : Meaning ⊥) (t : Tree) → Reaches a t → Reaches (variant n a) t
 
--- no bytes are a form of the tree's own value: it would need too many levels, or has another fault
+-- no bytes are a form of the tree's own value
 pub record HasNoForm (types : Types) (t : Tree) : Type 0 where
   pub shape : Shape
   pub is : types.nodes t.type ≡ Some shape

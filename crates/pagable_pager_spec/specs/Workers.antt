@@ -29,7 +29,7 @@ abbrev pub next_start : ℕ → List ArcRef → List Todo
 next_start place [] = []
 next_start place (r ∷ rs) = to_start r (place_below place r.kind.0) ∷ []
 
--- the front of the list waits for its next reference, if one is left
+-- the claim of the next reference of the list's front, if one is left, is put before it
 abbrev pub advance : List Todo → List Todo
 advance (to_finish o ∷ below) = next_start o.place (drop (length o.keys) o.written.references) ++ to_finish o ∷ below
 advance (to_item written keys ∷ below) = next_start 0 (drop (length keys) written.references) ++ to_item written keys
@@ -113,13 +113,13 @@ is_open_outcome _ = false
 abbrev pub is_open_slot : Option Slot → Bool
 is_open_slot slot = if_there (λ (s : Slot). is_open_outcome s.outcome) false slot
 
--- the worker u is v; or it waits for a worker that waits, and so on, for v
+-- the worker u is v, or waits for v, directly or through others
 pub data ComesBack (s : Shelf) (v : ℕ) : ℕ → Type 0 where
   is-asker : (u : ℕ) → u ≡ v → ComesBack s v u
   waits-back : (u : ℕ) (i : Identity) (slot : Slot) → s.waits u ≡ Some i → IsOpenSlot s i slot
       → ComesBack s v slot.worker → ComesBack s v u
 
--- the worker u works, or waits for a worker that waits, and so on, for one that works; and none of them is v
+-- the worker u, or one for which it waits, directly or through others, works or may go on; and none of them is v
 pub data ComesToEnd (s : Shelf) (v : ℕ) : ℕ → Type 0 where
   works : (u : ℕ) → nat_eq u v ≡ false → s.waits u ≡ None → ComesToEnd s v u
   may-go-on : (u : ℕ) (i : Identity) → nat_eq u v ≡ false → s.waits u ≡ Some i → is_open_slot (s.slots i) ≡ false
@@ -133,8 +133,8 @@ pub record IsPublished (s : Shelf) (i : Identity) (key height : ℕ) : Type 0 wh
   pub claimed : s.slots i ≡ Some slot
   pub known : slot.outcome ≡ published key height
 
--- A claim is too deep: at its own depth; with the published height added; or since the worker that has the identity
--- waits for this one (or is this one).
+-- A claim is too deep: at its own depth; with the published height added; or since the identity's worker is this one,
+-- or waits for it, directly or through others.
 abbrev pub IsTooDeep : Shelf → ℕ → Identity → ℕ → Type 0
 IsTooDeep s v i place = (longest_path < place) ⊎ ((key height : ℕ) × IsPublished s i key height
     × (longest_path < place + height)) ⊎ ((slot : Slot) × IsOpenSlot s i slot × ComesBack s v slot.worker)
@@ -169,8 +169,7 @@ pub record RowIs (w : Core) (h : HandleNumber) (loose : Bool) : Type 0 where
   pub live : row_at w h ≡ Some row
   pub sort : is_loose row.mode ≡ loose
 
--- A reference by a Pinned or Shared handle is cloned, and the clone pins. By a loose handle it is cloned, and the clone
--- is pinned.
+-- The reference's handle is cloned. A clone of a Pinned or Shared handle pins; a clone of a loose one is pinned.
 abbrev pub PinsAtOnce : Core → Owner → ArcRef → HandleNumber → HandleNumber → Core → Type 0
 PinsAtOnce w me r through k w' = (RowIs w r.handle false × (through ≡ k) × CloneCall w me r.handle (Ok k) w')
     ⊎ (RowIs w r.handle true × ((mid : Core) × CloneCall w me r.handle (Ok through) mid
@@ -247,8 +246,8 @@ pub record StoresBlob {N : Type 0} (m : Values N) (s : WorkerState) (written : W
   pub goes : IfOk result (λ key. GoesTo s (next key) s')
   pub refused : IfErr result (λ e. GoesTo s (failing_by e s.todo) s')
 
--- A cell that the reference reaches by a loose kind gets the key, by the worker's handle. For any other kind no key is
--- set, even if the reference's handle is gone by now.
+-- If the reference's kind is loose, its cell gets the key, by the worker's handle. For any other kind no key is set,
+-- even if the reference's handle is gone by now.
 pub record KeySetFor (w : Core) (me : Owner) (r : ArcRef) (through : HandleNumber) (key : ℕ)
     (result : Result (Unit {0}) Error) (w' : Core) : Type 0 where
   pub does : ((is_loose_kind r.kind.0 ≡ true) × SetKeyCall w me through key result w')
@@ -261,7 +260,7 @@ pub record SetsKey (v : ℕ) (s : WorkerState) (r : ArcRef) (through : HandleNum
   pub goes : IfOk result (λ u. GoesTo s (to_publish r key height ∷ below) s')
   pub refused : IfErr result (λ e. GoesTo s (failing_by e s.todo) s')
 
--- a claim keeps its first result
+-- the slot with this outcome, unless it has a result already
 abbrev pub with_outcome : Outcome → Slot → Slot
 with_outcome outcome slot = if is_open_outcome slot.outcome then record slot { outcome = outcome } else slot
 
@@ -298,7 +297,7 @@ with_failed shelf v = record shelf {
       (λ (slot : Slot). Some (if nat_eq slot.worker v then with_outcome failed slot else slot)) None (shelf.slots i);
 }
 
--- an entry that the worker never pinned is listed again, at the end, if the list has room
+-- an entry that the worker never pinned is scheduled again; whether that succeeds doesn't matter
 abbrev pub GivesBack : Core → ℕ → Option HandleNumber → Core → Type 0
 GivesBack w v None w' = Alike w w'
 GivesBack w v (Some h) w' = (r : Result (Unit {0}) Error) × ScheduleCall w (owner_worker v) h r w'

@@ -1,5 +1,5 @@
--- The core: handles, cells, list, cache, store, loads, claims and workers, without values and counts. And the
--- description of the caller's types: the members of their traits, and what is asked of them.
+-- The world: the core (handles, cells, list, cache, store and loads) and the work (tables, readings and workers). And
+-- the description of the caller's types: the members of their traits, and what is asked of them.
 use Rattle.pagable_pager_spec.specs.{
   Basics.{ArcRef, Blob, Error, HandleNumber, HandleRow, Identity, Kind, LoadNumber, Meaning, NodeNumber},
   Basics.{OptionalDataKey, Owner, SameAt, Shape, Types, WorkerAnswer, if_there, is_pinned_kind},
@@ -139,7 +139,7 @@ pub data Todo : Type 0 where
   -- set the key; below: publish it, release the node; all with key and height
   to_set : ArcRef → HandleNumber → ℕ → ℕ → Todo
   to_publish to_release : ArcRef → ℕ → ℕ → Todo
-  -- end the failed walk, and list this entry again
+  -- end the failed walk, and list this entry, if any, again
   to_fail : Fault → Option HandleNumber → Todo
 
 -- what a worker pages out: an item, or the cell of a list entry, by the entry's handle
@@ -256,7 +256,7 @@ result_map f (Ok x) = Ok (f x)
 result_map f (Err e) = Err e
 
 -- The laws that are asked of the caller's types: a value means something, its references are those of its meaning, and
--- its type exists; a reader has no cause of its own that concerns references, and a writer none that concerns reading.
+-- its type exists; readers add no error that they may not (`is_own_reading`), nor writers (`may_refuse_writing`).
 pub record IsLawful {N : Type 0} (v : Values N) : Type 0 where
   pub has_meaning : (x : N) → (own : Meaning ArcRef) × v.means x own
   pub refers : (x : N) (own : Meaning ArcRef) → v.means x own → SameReferences (v.references x) (references_in own)
@@ -264,7 +264,7 @@ pub record IsLawful {N : Type 0} (v : Values N) : Type 0 where
   pub own_reading : (t : ℕ) (e : Error) → v.read_causes t e → is_own_reading e ≡ true
   pub own_writing : (t : ℕ) (e : Error) → v.write_causes t e → may_refuse_writing e ≡ true
 
--- a value to which the clauses on trees apply: it has only one meaning, whatever is written later
+-- the value has at most one meaning, whatever is written later
 abbrev pub IsSettled : {N : Type 0} → Values N → N → Type 0
 IsSettled v x = (a b : Meaning ArcRef) → v.means x a → v.means x b → b ≡ a
 

@@ -68,7 +68,7 @@ pub record Fits (at : ℕ → Option Counts) (refs : ℕ → List ArcRef) (rows 
   pub right : (n : ℕ) → Right (at n) (refs n)
   pub from_one : at 0 ≡ None
 
--- whether a worker owns a handle, and it is a handle of the node
+-- whether an owner is a worker; below: whether a worker owns a handle of the node
 abbrev pub is_worker : Owner → Bool
 is_worker (Owner.Worker v) = true
 is_worker o = false

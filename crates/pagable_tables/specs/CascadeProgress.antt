@@ -40,7 +40,7 @@ is_plain_pin n h = is_pin n h && not (is_shared h.mode)
 pub record Begins (before w : Core) (lists : Bool) : Type 0 where
   -- cells are listed while the storage is open
   pub open_storage : lists ≡ not w.closed
-  -- no node has more pins or Shared handles than before, and its pins are Shared or not as before
+  -- no node has more pins or Shared handles than before, or a plain pin if it had Shared ones
   pub fewer : (n : ℕ) → pins n w.rows ≤ pins n before.rows
   pub shared : (n : ℕ) → sharing n w.rows ≤ sharing n before.rows
   pub uniform : (n : ℕ) → (sharing n before.rows ≡ 0) ⊎ (times (is_plain_pin n) w.rows ≡ 0)
@@ -73,7 +73,7 @@ pub record ReleasedSoFar (before w : Core) (given : ℕ → Bool) (lists : Bool)
   -- while a node is dying, there are no more rows than at first
   pub few : t.top ≢ 0 → length (live t.handles.places.items) ≤ length w.rows
 
--- A handle can be removed beside the list: no entry that was added has its number, and what is left of the list is the
+-- A handle can be removed without the list: no entry that was added has its number, and what is left of the list is the
 -- same without it.
 pub record IsApart (before w : Core) (given : ℕ → Bool) (lists : Bool) (t : RefCounts)
     (f : ReleasedSoFar before w given lists t) (q : ℕ) : Type 0 where

@@ -66,8 +66,7 @@ pub record AddsEntryIf (old : RefCounts) (node : NodeNumber) (listed : Bool) (ne
   pub nodes : new.nodes ≡ old.nodes
   pub top : new.top ≡ old.top
 
--- If an entry is wanted, it is added, or there is an error, of which the first is kept; if none is wanted nothing
--- changes.
+-- A wanted entry is added, or there is an error, and the first error is kept; if none is wanted nothing changes.
 pub record AddsWantedEntry (old : RefCounts) (node : NodeNumber) (wanted listed : Bool) (new : RefCounts) : Type 0 where
   pub comes : AddsEntryIf old node listed new
   pub only : listed ≡ true → wanted ≡ true
@@ -124,7 +123,7 @@ abbrev pub HasFallen : (ℕ → Option Counts) → List HandleRow → ℕ → Ty
 HasFallen at rows n = (held n rows ≡ 0) ⊎ ((if_there (λ (c : Counts). nat_lt 0 c.key) false (at n) ≡ true)
     × (pins n rows ≡ 0))
 
--- the handle of the row x is released, which the value of the dying node n owned
+-- the handle of the row x, which the value of the dying node n owned, is released
 pub record FallsBy (old : RefCounts) (x : HandleRow) (n : ℕ) (lists : Bool) (new : RefCounts) : Type 0 where
   pub owner : x.owner ≡ owner_value n
   pub fallen : HasFallen (counts_at old.nodes) (live old.handles.places.items) n
@@ -158,7 +157,7 @@ is_node (Some m) n = n == m.0
 abbrev pub keyed : Counts → ℕ → ℕ → Counts
 keyed c key top = record c { key = key; is_dying = c.pins == 0; next = if c.pins == 0 then top else c.next }
 
--- the cells, with this key at one
+-- this node's cell gets the key, and others stay
 abbrev pub GetsKey : (ℕ → Option Counts) → (ℕ → Option Counts) → ℕ → ℕ → Type 0
 GetsKey old new n key = SameAt (updated n (if_there (λ (cell : Cell). Some
     (record cell { key = OptionalDataKey.Some key })) None (cell_in (old n))) (λ m. cell_in (old m)))

@@ -83,7 +83,7 @@ pub record IsWhole (t : Tables) : Type 0 where
   pub steady : IsSoundInCascade t.ref_counts [] owns_nothing
   pub core : pager.IsWhole (core_alone t)
 
--- rows and entries of the list are in their places
+-- there are places for the rows and for the list's entries
 pub record ArePlaced (w : Core) : Type 0 where
   pub rows : length w.rows ≤ w.places.handles
   pub list : length w.list ≤ w.places.entries
@@ -96,7 +96,7 @@ MayOwnHandle w (Owner.Load l) = is_some (w.loads l.0) ≡ true
 MayOwnHandle w (Owner.Value n) = ⊥
 MayOwnHandle w Owner.List = ⊥
 
--- A handle of this mode can be added to those of the node: all of them are Shared, or none is.
+-- The node has a handle that is Shared exactly if the mode is.
 pub record Suits (w : Core) (node : NodeNumber) (mode : Mode) : Type 0 where
   pub row : HandleRow
   pub there : Among w.rows row
@@ -144,7 +144,7 @@ pub record IsLast {S : Type 0} (places : List Place) (loads : IndexMap ℕ LoadR
   pub last : (w : Core) (q : ℕ) → LoadsAre loads w → IsAsked q → at.row.number.0 < q → q ≤ left
       → passes_in (contains_row w giving) (live places) q ≡ false
 
--- the rows of loads without those of the worker
+-- a load's row, unless the worker owns the load
 abbrev pub left_load : ℕ → Option LoadRow → Option LoadRow
 left_load v None = None
 left_load v (Some row) = if is_owner (owner_worker v) row.owner then None else Some row
@@ -177,19 +177,19 @@ pub record OwnLaterHandles (t : Tables) : Type 0 where
   pub reach : (v q : ℕ) → is_owned_in (core_alone t) (owner_worker v) q ≡ true → InReach (reach_at t.workers v) q
   pub loads : (v l : ℕ) (load : LoadRow) → load_at t.loads l ≡ Some load → is_owner (owner_worker v) load.owner ≡ true
       → (reach_at t.workers v).since ≤ load.since
-  -- each open load's row tells the last handle that it owns among those up to `noted`
+  -- `last` of an open load's row is at least each handle that it owns up to `noted`
   pub noted : t.noted ≤ t.ref_counts.last_handle
   pub until : (l : ℕ) (load : LoadRow) (q : ℕ) → load_at t.loads l ≡ Some load
       → is_owned_in (core_alone t) (Owner.Load (record { 0 = l })) q ≡ true → q ≤ t.noted → q ≤ load.last
 
--- all handles that a load owns have numbers up to this one; and above this one
+-- all handles that a load owns have numbers up to this one; below: above this one
 abbrev pub IsOwnedUpTo : Tables → LoadNumber → ℕ → Type 0
 IsOwnedUpTo t l until = (q : ℕ) → is_owned_in (core_alone t) (Owner.Load l) q ≡ true → q ≤ until
 
 abbrev pub IsOwnedAbove : Tables → LoadNumber → ℕ → Type 0
 IsOwnedAbove t l since = (q : ℕ) → is_owned_in (core_alone t) (Owner.Load l) q ≡ true → since < q
 
--- each load's row tells the last handle that it owns among those above a number at the first `count` places
+-- `last` of a load's row is at least each handle that it owns, above a number, at the first `count` places
 abbrev pub AreNoted : {S : Type 0} → IndexMap ℕ LoadRow S → List Place → (number count : ℕ) → Type 0
 AreNoted loads places number count = (l : LoadNumber) (row : LoadRow) (k : ℕ) (d : Place) → load_at loads l.0 ≡ Some row
     → k < count → number < (get_or places k d).row.number.0
@@ -221,7 +221,7 @@ pub record Does (old : Tables) (step : Core → Core → Type 0) (new : Tables) 
   pub whole : IsWhole new
   pub later : OwnLaterHandles old → OwnLaterHandles new
 
--- The same, where `lists` is set exactly while the storage is open; and the value of each node is dropped when it has
+-- As `Does`, where `lists` is set exactly while the storage is open; and the value of each node is dropped when it has
 -- to be.
 pub record DoesAndDropsValues {X : Type 0} (lists : Bool) (old : Tables) (values : NumberTable X)
     (step : Core → Core → Type 0)

@@ -70,7 +70,7 @@ FailsToEnd w me l node_type references (EndFailure.Refused e) w' =
 FailsToEnd w me l node_type references (EndFailure.HandleLost e) w' =
     HasLostHandle w me l node_type references e × (w' ≡ w)
 
--- whether a node has its value, where this node has just got one
+-- whether a node has its value, once this node has got one
 abbrev pub has_value_once_loaded : (ℕ → Option Counts) → NodeNumber → ℕ → Bool
 has_value_once_loaded at node n = if n == node.0 then true else has_value (at n)
 

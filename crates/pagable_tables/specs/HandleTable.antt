@@ -29,7 +29,7 @@ pub record AreCounted (h : Handles) : Type 0 where
   pub ordered : AllPairs IsBefore h.places.items
   pub counted : length (live h.places.items) + h.dead ≡ length h.places.items
 
--- So they are, and at most half of the rows are dead: the table takes at most twice the places of its live rows.
+-- The places are in order, the dead are counted, and at most half of the places are dead.
 pub record AreSound (h : Handles) : Type 0 where
   pub ordered : AllPairs IsBefore h.places.items
   pub counted : length (live h.places.items) + h.dead ≡ length h.places.items

@@ -16,7 +16,7 @@ use Rattle.std.specs.{
   Prelude.{Bool, List, None, Option, Some, count_by, false, is_some, nat_le, not, suc, true, zero, ℕ, ◌&&◌, ◌==◌, ◌||◌},
 }
 
--- whether a place is live and of a node; pins it; is a Shared one of it; and is of a handle that this owner has
+-- whether a place is live and has a handle of the node; a pin of it; a Shared one of it; this owner's handle
 abbrev pub at_node : ℕ → Place → Bool
 at_node n p = p.is_live && is_at n p.row
 
@@ -29,12 +29,12 @@ shares_node n p = p.is_live && is_share n p.row
 abbrev pub owned_at : ℕ → Owner → Place → Bool
 owned_at q owner p = p.is_live && (is_handle q p.row && is_owned_by owner p.row)
 
--- the handle is live, once, and this one owns it
+-- exactly one live place has this handle and owner
 abbrev pub is_owned_once : List Place → Owner → ℕ → Bool
 is_owned_once places owner q = count_by (owned_at q owner) places == 1
 
--- the owner of the handle has it: a value names it once in its references, the list once in its entries; a load is
--- open, a worker runs
+-- the owner of the handle has it: a value names it once in its references, the list once in its entries, unpinned; a
+-- load is open, a worker runs
 abbrev pub is_known_to_owner : Tables → HandleRow → Owner → Bool
 is_known_to_owner t h Owner.Caller = true
 is_known_to_owner t h (Owner.Value n) = count_by (λ (r : ArcRef). r.handle.0 == h.number.0)
@@ -71,7 +71,7 @@ unfoldable pub are_references_owned : Tables → ℕ → Bool
 are_references_owned t n = list_all (λ (r : ArcRef). is_owned_once t.ref_counts.handles.places.items
     (owner_value n) r.handle.0) (refs_at t.ref_counts.nodes n)
 
--- both; a node that doesn't exist has no value
+-- counts and references are sound; a node that doesn't exist has no value
 abbrev pub is_node_sound : Tables → ℕ → Bool → Option Counts → Bool
 is_node_sound t n here (Some c) = are_counts_sound t.ref_counts.handles.places.items n here c
     && are_references_owned t n
@@ -109,7 +109,7 @@ is_list_sound t = list_all (λ (q : HandleNumber). is_owned_once t.ref_counts.ha
 unfoldable pub is_cache_sound : Tables → Bool
 is_cache_sound t = list_all (is_entry_sound t) t.cache.entries
 
--- all of them, and no node is dying
+-- handles, list, cache and nodes are sound, none is dying
 unfoldable pub is_sound : {X : Type 0} → Tables → NumberTable X → Bool
 is_sound t values = (are_handles_sound t && (is_list_sound t && is_cache_sound t))
     && (t.ref_counts.top == 0 && are_nodes_sound t values t.last_node)

@@ -63,7 +63,7 @@ OperationAsksWell trees (reads-key key t r s s' run) = ReadAsksWell run
 OperationAsksWell trees (pages-item item answer s s' new run) = ItemAsksWell run
 OperationAsksWell trees (pages-list i answer s s' run) = ListAsksWell run
 
--- what a pin by one call gives; below: what a read of a key gives
+-- what a pin as one operation gives; below: a read of a key
 abbrev pub PinIsRight : {N E : Type 0} → Values N → PagerState N E → (ℕ → Tree) → Result HandleNumber Error → Type 0
 PinIsRight v s trees (Ok k) = GivesTree v s trees k
 PinIsRight v s trees (Err e) = Unit {0}
@@ -88,7 +88,7 @@ OperationIsRight {m = m} trees trees' (pages-item item answer s s' new run) =
     (of_item (m.written_of item)) key
 OperationIsRight trees trees' (pages-list i answer s s' run) = EachIsPagedOut run trees
 
--- trees after each operation, which each node keeps, as long as the operations satisfy what is asked of them
+-- trees after each operation, which each node keeps and for which it is right, as long as all were asked well
 unfoldable pub AreRight : {N E B W : Type 0} {m : Seen N B W} {s s' : PagerState N E} → (ℕ → Tree) → Operations m s s'
     → Type 0
 AreRight trees (is-done s) = Unit {0}

@@ -15,8 +15,8 @@ use Rattle.pagable_pager_spec.specs.{
 use Rattle.pagable_value_spec.specs.{Canonical.IsReadableTree, Merkle.StoredTree}
 use Rattle.std.specs.Prelude.{Err, List, Ok, Option, Some, slice_get, ℕ, ◌<◌, ◌↔◌, ◌∷◌, ◌≡◌, ◌≢◌, ◌⊎◌}
 
--- P holds of each event along the chain, if the chain begins at a machine that satisfies its invariant and on which
--- nobody works yet.
+-- P holds of each event along the chain, under the premises of the headline's clause `trees` on the chain, its
+-- beginning, types, values and events.
 abbrev pub HoldsOf : {N E B W : Type 0} → (m : Seen N B W) → Fact N E B W → MachineState N E → List (Moment N E B W)
     → Type 0
 HoldsOf m P start moments =
@@ -52,8 +52,8 @@ IsOfHandles Error.WrongMode = Unit {0}
 IsOfHandles Error.WrongKind = Unit {0}
 IsOfHandles e = ⊥
 
--- A load of a cell whose key a page-out has set fails only by chance (IsOfChance), or if a handle of the load or of the
--- caller has changed: never by a blob, a key or a path.
+-- A caller's load of a cell whose key a page-out has set fails only by chance (IsOfChance), or with an error about a
+-- handle (IsOfHandles).
 abbrev pub LoadOfPagedOutIsFaultless : {N E B W : Type 0} → Fact N E B W
 LoadOfPagedOutIsFaultless s trees (Event.LoadStep l) (EventReply.LoadMoved (Ok reply)) s' trees' =
     (load : OpenLoad) (e : Error) → s.pager.core.loads l.0 ≡ Some load → IsLoadOfPagedOut s load → reply.ended
@@ -75,8 +75,8 @@ LoadIsDeep v s trees (Event.WorkerStep n) (EventReply.WorkerMoved (Ok reply)) s'
     → ReadsTooDeep v.types s.pager.core.stored reading.node_type load.key
 LoadIsDeep v s trees event reply s' trees' = Unit {0}
 
--- For a key under which a tree is stored, reading the key goes too deep exactly if a path of too many references leads
--- down from the tree's root.
+-- For a key under which a readable tree is stored, reading the key goes too deep exactly if a path of too many
+-- references leads down from the tree's root.
 abbrev pub DepthIsHeight : Type 0
 DepthIsHeight = (types : Types) (store : ℕ → Option Blob) (t : Tree) (key : ℕ) → IsReadableTree types t
     → StoredTree store types key t
@@ -115,7 +115,7 @@ pub record HasBegun {N E B W : Type 0} (moments : List (Moment N E B W)) (n k : 
   pub begins : IsBeginOf n a.event a.reply
 
 -- A load of a cell whose key a page-out has set fails only by chance (IsOfChance), if each load that makes a step has
--- begun earlier in the chain and no load is interrupted.
+-- begun earlier in the chain, and no load and no worker is interrupted.
 abbrev pub UninterruptedLoadsAreSound : {N B W : Type 0} → (E : Type 0) → Seen N B W → Type 0
 UninterruptedLoadsAreSound {N} {B} {W} E m = (start : MachineState N E) (moments : List (Moment N E B W))
     → StandTogether moments

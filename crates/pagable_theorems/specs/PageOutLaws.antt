@@ -33,7 +33,7 @@ abbrev pub ItemAsksWell : {N E B W : Type 0} {m : Seen N B W} {s s' : AccessStat
 ItemAsksWell (item-is-walked n steps answer mid s' starts run) = WorkerAsksWell run
 ItemAsksWell run = Unit {0}
 
--- what a page-out leaves that returns this key: all that its task met is stored and has keys; and the key is the task's
+-- what a page-out that returns this key leaves: all that its task met is paged out, and the key is the task's
 pub record LeavesPagedOut {N E : Type 0} (v : Values N) (s : PagerState N E) (shelf : Shelf) (trees : ℕ → Tree)
     (task : Task) (key : ℕ) : Type 0 where
   pub leaves : LeavesAll v s shelf trees task

@@ -143,8 +143,8 @@ pub record NewMachineIsWhole {N : Type 0} (E : Type 0) (v : Values N) : Type 0 w
       → IsIdle (let s : MachineState N E = new_machine stored places env in s)
   pub starts : (s : MachineState N E) → IsNew s.pager → IsIdle s → IsLawful v → StartsWell v s
 
--- The cache of a new pager has no node twice, since it is empty. It stays so along chains in which no event clears it,
--- puts a caller's reference into it or closes the storage.
+-- The cache of a new pager is empty, so it has no node twice; nor does it get one twice along chains in which no event
+-- clears it, puts a caller's reference into it or closes the storage.
 pub record LoadsAloneFillCache {N B W : Type 0} (E : Type 0) (m : Seen N B W) : Type 0 where
   pub new : (s : PagerState N E) → IsNew s → IsFilledByReading s.core
   pub stays : (s : MachineState N E) (moments : List (Moment N E B W)) → IsMachineWhole m.values s

@@ -156,7 +156,7 @@ pub record Was (rows : List HandleRow) (q : ℕ) (row : HandleRow) : Type 0 wher
   pub mine : (l : LoadNumber) → row.owner ≡ Owner.Load l → was ≡ row
   pub loose : is_loose was.mode ≡ true → is_loose row.mode ≡ true
 
--- each live handle with a number up to `last` was live before
+-- `Was` for each live handle with a number up to `last`
 abbrev pub RowsGo : ℕ → List HandleRow → List HandleRow → Type 0
 RowsGo last rows rows' = (q : ℕ) (row : HandleRow) → find_row q rows' ≡ Some row → q ≤ last → Was rows q row
 
@@ -386,7 +386,7 @@ WaitsHeld w (to_finish o ∷ below) = StandsAt w o.reference o.through × WaitsH
 WaitsHeld w (to_item written keys ∷ below) = WaitsHeld w below
 WaitsHeld w (x ∷ below) = ⊥
 
--- for all that is to be done
+-- `Holds` for what is next, `WaitsHeld` for the rest
 abbrev pub AllHold : Core → ℕ → List Todo → Type 0
 AllHold w v [] = Unit {0}
 AllHold w v (x ∷ below) = Holds w v x × WaitsHeld w below
@@ -449,7 +449,7 @@ pub record AddsSo (shelf : Shelf) (height : ℕ) (rs : List ArcRef) : Type 0 whe
   pub known : IsPublished shelf (identity_of r) key below
   pub least : height ≤ above r.kind.0 below
 
--- the height is 0, or one of the references gives it
+-- the height is 0, or a reference gives at least it
 abbrev pub IsAttained : Shelf → ℕ → List ArcRef → Type 0
 IsAttained shelf height rs = (height ≡ 0) ⊎ AddsSo shelf height rs
 

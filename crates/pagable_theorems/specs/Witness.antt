@@ -344,8 +344,8 @@ ArePremised s [] = Unit {0}
 ArePremised s (x ∷ xs) = ((trees : ℕ → Tree) → IsPremised sample s trees x.event x.reply x.after)
     × ArePremised x.after xs
 
--- The chain satisfies the headline, from a new machine that stands for any trees; and so is all that the headline asks
--- of values, of the chain's beginning and of its moments. With any other count at its end it would be no chain.
+-- The headline holds of the chain, and all that it asks of values, of the chain's beginning (a new machine, for any
+-- trees) and of its moments is met. With any other count at its end it would be no chain.
 pub record TwoLevelsMeetTheHeadline : Type 0 where
   pub lawful : IsLawful sample
   pub whole : IsMachineWhole sample new_one

@@ -23,8 +23,7 @@ pub record IsBuiltFrom (text : List ℕ) (built : Regex) : Type 0 where
   pub config : regex_config built ≡ default_config
   pub read : IsReadFromSource built
 
--- `regex` may refuse the text for another cause than memory: its grammar doesn't read it, or it nests too deep; or it
--- is a pattern that takes too much room when it is built
+-- `regex` may refuse the text, for a cause that fits it and is neither memory nor an internal fault
 pub record IsNoPattern (text : List ℕ) : Type 0 where
   pub cause : Cause
   pub no_memory : cause ≢ causes.OutOfMemory

@@ -34,7 +34,7 @@ abbrev pub SetsKey : Bool → (Result (Unit {0}) Error → Type 0) → Result (U
 SetsKey true sets result = sets result
 SetsKey false sets result = result ≡ Ok tt
 
--- an error of the value that a reference holds, or of one that had to be pinned first
+-- any error, if the value had to be pinned first; else what the error says of the value
 abbrev pub LacksForm : {X : Type 0} → Bool → (X → Type 0) → (X → Error → Type 0) → Error → Type 0
 LacksForm true IsReferred lacks e = Unit {0}
 LacksForm {X} false IsReferred lacks e = (x : X) × IsReferred x × lacks x e

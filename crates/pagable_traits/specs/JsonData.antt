@@ -47,7 +47,6 @@ of_value v = of_data (view v)
 abbrev pub of_key : String Global → Meaning ArcRef
 of_key k = meanings.text (string_bytes k)
 
--- `TooLong` only if the length is above the greatest, and else `OutOfMemory`, by which the case may fail before the
--- length
+-- `TooLong` if the length is above the greatest; or `OutOfMemory`, by which the case may fail before the length
 abbrev pub long_or_no_memory : ℕ → Error → Type 0
 long_or_no_memory len e = ((longest < len) × (e ≡ errors.TooLong)) ⊎ IsOutOfMemory e

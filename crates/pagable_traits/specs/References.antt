@@ -23,14 +23,14 @@ use Rattle.pagable_value_spec.specs.declared.error.Error.TheVariants as errors
 abbrev pub loose_kind : ℕ → ℕ
 loose_kind t = 3 * t + 1
 
--- the reference of a loose one
+-- the `ArcRef` of a `PagableArc`
 abbrev pub loose_reference : {T : Type 0} → ℕ → PagableArc T → ArcRef
 loose_reference t a = record { kind = record { 0 = loose_kind t }; node = a.node; handle = a.handle }
 
 abbrev pub loose_means : {T : Type 0} → ℕ → PagableArc T → Meaning ArcRef
 loose_means t a = meanings.reference (loose_reference t a)
 
--- the reference of a raw one
+-- the `ArcRef` of a `RawRef`
 abbrev pub raw_reference : (kind : ℕ) → RawRef kind → ArcRef
 raw_reference kind a = record { kind = record { 0 = kind }; node = a.node; handle = a.handle }
 

@@ -24,7 +24,7 @@ pub record WritesCounted {W T : Type 0} (next : W → Option T → W → Type 0)
   pub within : count ≤ longest
   pub each : WritesEach next M walk n s (added old (length_form count) []) new
 
--- an item that the iterator yielded after these fails
+-- writing an item that the iterator yields fails
 pub record RefusedAmong {W T : Type 0} (next : W → Option T → W → Type 0) (M : T → Meaning ArcRef → Type 0) (walk : W)
     (n : Nesting) (s : Shape) (e : Error) : Type 0 where
   pub before : List T

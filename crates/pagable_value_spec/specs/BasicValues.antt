@@ -32,7 +32,7 @@ longest = 4294967295
 abbrev pub length_form : ℕ → List ℕ
 length_form n = unsigned_form w64 n
 
--- a length: TooLong is reported before UnexpectedEnd of the items
+-- reads a length; TooLong if it is above the greatest
 unfoldable pub length_at : List ℕ → Read ℕ
 length_at bytes = unsigned_at w64 bytes >>= λ n. if nat_le n.0 longest then Ok n else Err Error.TooLong
 
@@ -59,13 +59,13 @@ byte_array_at bytes = length_at bytes >>= λ n. bytes_at n.0 n.1
 abbrev pub char_form : ℕ → List ℕ
 char_form c = text_form (encode_utf8 c)
 
--- the character that the text consists of, if it is exactly one
+-- the only character of a list; BadChar for none or several
 abbrev pub one_char : List ℕ → List ℕ → Read ℕ
 one_char [] rest = Err Error.BadChar
 one_char (c ∷ []) rest = Ok (c, rest)
 one_char (c ∷ d ∷ cs) rest = Err Error.BadChar
 
--- a character is written as the text of that character: its text's faults first, then BadChar for none or several
+-- a character is read as a text: the text's faults come first, then BadChar if it isn't one character
 unfoldable pub char_at : List ℕ → Read ℕ
 char_at bytes = text_at bytes >>= λ t. one_char (chars t.0) t.1
 
@@ -75,7 +75,7 @@ nanos_of_second = 1000000000
 abbrev pub duration_form : ℕ → ℕ → List ℕ
 duration_form seconds nanos = unsigned_form w64 seconds ++ unsigned_form w32 nanos
 
--- seconds and nanoseconds: whole seconds among the nanoseconds are added to the seconds
+-- whole seconds among the nanoseconds are added to the seconds; BadDuration if 64 bits don't hold the sum
 abbrev pub carried : ℕ → ℕ → List ℕ → Read (ℕ × ℕ)
 carried seconds nanos rest = let total = seconds + nanos / nanos_of_second in
     if nat_lt total (2 ^ 64) then Ok ((total, nanos % nanos_of_second), rest) else Err Error.BadDuration

@@ -9,7 +9,7 @@ use Rattle.pagable_value_spec.specs.{
 use Rattle.std.specs.{Int.w8, List.AllByRecursion, Prelude.{List, Some, false, suc, true, zero, ℕ, ◌≡◌, ◌⊎◌}}
 use Rattle.pagable_value_spec.specs.Meaning as meanings
 
--- no meaning of the shape has two forms, provided that this holds of its numbered parts
+-- apart from its numbered parts, the shape has no hash map and no static value, which may give a meaning two forms
 unfoldable pub IsCanonical : Shape → Type 0
 IsCanonical (optional s) = IsCanonical s
 IsCanonical (outcome s t) = IsCanonical s × IsCanonical t
@@ -45,8 +45,8 @@ HasNoReference (meanings.reference a) = absurd a
 HasNoReference (followed kind a) = ⊥
 HasNoReference _ = Unit {0}
 
--- Each form of the shape can be read, provided that this holds of its numbered parts. Each tag under which anything is
--- written has to be registered with a reader of what is written.
+-- Each form of the shape can be read, if this holds of its numbered parts: there is no run, static values hold no
+-- reference, and each tag under which anything is written is registered with a reader of that.
 unfoldable pub IsReadable : Shape → Type 0
 IsReadable (optional s) = IsReadable s
 IsReadable (outcome s t) = IsReadable s × IsReadable t
@@ -99,11 +99,11 @@ abbrev pub HasOneForm : {A : Type 0} → (A → ℕ) → (ℕ → Shape) → Sha
 HasOneForm {A} kind_of parts s = (left : ℕ) (m : Meaning A) (b c : List ℕ) (k l : List A)
     → Form A kind_of parts left s m b k → Form A kind_of parts left s m c l → (b ≡ c) × (k ≡ l)
 
--- no value of this node type of the environment has two forms
+-- the shape of this node type, if it exists, is canonical throughout
 abbrev pub IsCanonicalType : Types → ℕ → Type 0
 IsCanonicalType types n = (s : Shape) → types.nodes n ≡ Some s → Throughout IsCanonical types.parts s
 
--- each form of this node type of the environment can be read
+-- the shape of this node type, if it exists, is readable throughout
 abbrev pub IsReadableType : Types → ℕ → Type 0
 IsReadableType types n = (s : Shape) → types.nodes n ≡ Some s → Throughout IsReadable types.parts s
 
@@ -122,8 +122,7 @@ IsCanonicalTree types t = IsCanonicalType types t.type × EachType (IsCanonicalT
 abbrev pub IsReadableTree : Types → Tree → Type 0
 IsReadableTree types t = IsReadableType types t.type × EachType (IsReadableType types) t.meaning
 
--- A set of node types that no reference leads out of: the references in a value of each of them lead to types of the
--- set.
+-- The references in values of these node types lead to values of these types.
 abbrev pub IsClosed : Types → (ℕ → Type 0) → Type 0
 IsClosed types nodes = (n : ℕ) (s : Shape) → nodes n → types.nodes n ≡ Some s
     → Throughout (LiesIn nodes (λ part. Unit {0})) types.parts s

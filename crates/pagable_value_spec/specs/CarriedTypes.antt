@@ -21,7 +21,7 @@ use Rattle.pagable_value_spec.specs.Meaning as meanings
 abbrev pub path_text : Shape
 path_text = text
 
--- `Vec<T>`, `SmallVec<T>`, `[T]` and `Box<[T]>` are lists; this one is a header and then a list
+-- `Vec<T>`, `SmallVec<T>`, `[T]` and `Box<[T]>` are lists; a thin one is a header and then a list
 abbrev pub thin : Shape → Shape → Shape
 thin header item = both header (list item)
 
@@ -35,7 +35,7 @@ once_lock s = optional s
 abbrev pub triple : Shape → Shape → Shape → Shape
 triple a b c = both a (both b c)
 
--- if a tag is registered more than once, its last registration counts
+-- whether a tag is registered; below: what its last registration reads
 abbrev pub is_registered : List (List ℕ × Shape) → List ℕ → Bool
 is_registered [] tag = false
 is_registered (r ∷ rs) tag = cond (is_registered rs tag) (is_registered rs tag) (bytes_eq tag r.0)
@@ -76,7 +76,7 @@ of_span d = of_duration (seconds_of d) (nanos_of d)
 abbrev pub of_entries : {A : Type 0} → List (Entry A) → Meaning A
 of_entries es = sequence (map meanings.entry es)
 
--- a hash map, whatever the order of its entries
+-- a hash map: a sequence of entries by their keys' codes, the last value of each key
 abbrev pub of_hash_map : {A : Type 0} → List (Entry A) → Meaning A
 of_hash_map es = of_entries (put_all (put_sorted code_order) [] es)
 

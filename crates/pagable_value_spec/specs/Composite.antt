@@ -9,12 +9,12 @@ use Rattle.pagable_value_spec.specs.{
 use Rattle.std.proofs.Common.{arith}
 use Rattle.std.specs.{Int.w64, Prelude.{Err, List, None, Ok, Option, Result, Some, map, pos, refl, ℤ, [], ◌∷◌, ◌≡◌}}
 
--- None means absent, and Some what its value means
+-- None means absent, and Some means present, with a meaning of its value
 pub data MeansOption {T : Type 0} (M : T → Meaning ArcRef → Type 0) : Option T → Meaning ArcRef → Type 0 where
   means-none : MeansOption M None absent
   means-some : (x : T) (m : Meaning ArcRef) → M x m → MeansOption M (Some x) (present m)
 
--- Ok means what the success means, and Err what the failure means
+-- Ok means success, and Err means failure, with a meaning of its value
 pub data MeansResult {T X : Type 0} (M : T → Meaning ArcRef → Type 0) (N : X → Meaning ArcRef → Type 0) : Result T X
     → Meaning ArcRef → Type 0 where
   means-ok : (x : T) (m : Meaning ArcRef) → M x m → MeansResult M N (Ok x) (success m)
@@ -41,20 +41,19 @@ pub record MeansPair {A B : Type 0} (M : A → Meaning ArcRef → Type 0) (N : B
   pub is_second : N p.1 second
   pub is : m ≡ pair first second
 
--- What a cell (an atomic, a lock) holds may change at any time, and no contract of the kit tells what it is: so what a
--- read of it returns, and what it is made with, is something that it may hold. The definition stays folded, so that
--- nothing can be said of any other value.
+-- The cell (an atomic, a lock) may hold this value. No contract tells what a cell holds, only that it may hold what it
+-- is made with and what a read of it returns. The definition stays folded, so that this can be shown of no other value.
 unfoldable pub MayHold : {C X : Type 0} → C → X → Type 0
 MayHold cell held = Unit {0}
 
--- an atomic number means any integer of 64 bits with a sign that it may hold
+-- an atomic number means any signed integer of 64 bits that it may hold
 pub record MeansAtomic {C : Type 0} (cell : C) (m : Meaning ArcRef) : Type 0 where
   pub held : ℤ
   pub may : MayHold cell held
   pub fits : IsSigned w64 held
   pub is : m ≡ integer held
 
--- a value that is written once means absent, or what a value means that it may hold
+-- a cell that is written once means what some option means that it may hold
 pub record MeansOnce {C T : Type 0} (M : T → Meaning ArcRef → Type 0) (cell : C) (m : Meaning ArcRef) : Type 0 where
   pub held : Option T
   pub may : MayHold cell held

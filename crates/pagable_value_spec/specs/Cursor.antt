@@ -33,7 +33,7 @@ pub record IsWithin (whole : Rest Answer) (cursor : PagableCursor) : Type 0 wher
   pub bytes : cursor.byte_pos ≤ length whole.bytes
   pub refs : cursor.arc_index ≤ length whole.refs
 
--- The input is the same, the position is not before the old one, and it is past no end if the old one wasn't.
+-- Input and lent nodes are the same; the position isn't before the old one, nor past an end if the old one wasn't.
 pub record MovesOn {N : Type 0} (old new : InputState N) : Type 0 where
   pub whole : new.whole ≡ old.whole
   pub lent : new.lent ≡ old.lent
@@ -48,7 +48,7 @@ IsLent s r y = (place : ℕ) × (s.lent place ≡ Some (r, y))
 abbrev pub IsOnlyLent : {N : Type 0} → InputState N → ArcRef → N → Type 0
 IsOnlyLent {N} s r y = (place : ℕ) (z : N) → s.lent place ≡ Some (r, z) → z ≡ y
 
--- beside each reference the value holds the value of the node that was lent with it
+-- if no node but y was lent with a reference, the value holds y's value beside the reference
 pub record HoldsLentValues {X N : Type 0} (s : InputState N) (beside : X → ArcRef → N → Type 0) (x : X) : Type 0 where
   pub each : (r : ArcRef) (y : N) → IsOnlyLent s r y → beside x r y
 
@@ -58,8 +58,8 @@ pub record Gave {Y R : Type 0} (M : Y → Type 0) (after : R) (read : Result (Y 
   pub is : M m
   pub gave : read ≡ Ok (m, after)
 
--- The function returned a value with the meaning that reading gives. If it failed, the error is the first fault that
--- reading meets (an error of a reference's look-up included), or one of the causes of the type's own.
+-- The function returned a value with the meaning that reading gives, and reading leaves `after`. Or its error is the
+-- first fault that reading meets (also of a reference's look-up), or one of the type's own causes.
 abbrev pub GivesSome : {X Y R : Type 0} → (Error → Type 0) → (X → Y → Type 0) → R → Result X Error
     → Result (Y × R) Error → Type 0
 GivesSome own means after (Ok x) read = Gave (means x) after read

@@ -13,8 +13,8 @@ use Rattle.std.specs.{
   Prelude.{Bool, IsPermutation, List, MatchOption, map, refl, [], ◌∷◌, ◌≡◌},
 }
 
--- The map after an entry was put in, no key twice: the value of a key that was there is replaced, and a new key may be
--- anywhere.
+-- The map after an entry was put in, no key twice: the value of a key that was there is replaced; with a new key, all
+-- entries may be in any order.
 abbrev pub PutsAnywhere : {K V : Type 0} → (K → K → Bool) → List (K × V) → K × V → List (K × V) → Type 0
 PutsAnywhere eq old e new = IsDistinct eq (keys_of new)
     × MatchOption (lookup (eq e.0) old) (IsPermutation (e ∷ old) new) (λ _. new ≡ set_value (eq e.0) old e.1)

@@ -12,7 +12,7 @@ is_loose_kind kind = kind % 3 == 1
 abbrev pub is_pinned_kind : ℕ → Bool
 is_pinned_kind kind = kind % 3 == 2
 
--- Whether a load of a value loads what this reference leads to as well. It does unless the reference is loose.
+-- Whether a load of a value also loads what a reference of this kind leads to. It does unless the kind is loose.
 abbrev pub is_eager : ℕ → Bool
 is_eager kind = not (is_loose_kind kind)
 
@@ -38,7 +38,7 @@ longest_path = 128
 abbrev pub above : ℕ → ℕ → ℕ
 above kind height = if is_eager kind then height + 1 else 0
 
--- how many references the longest path down from the tree's root has, where a loose reference ends a path
+-- how many references the longest path down from the tree's root has; a path has no loose reference
 unfoldable pub height : Meaning ⊥ → ℕ
 height (pair a b) = max (height a) (height b)
 height (variant n a) = height a
@@ -53,7 +53,7 @@ HasPath zero (followed kind a) = Unit {0}
 HasPath (suc n) (followed kind a) = (is_eager kind ≡ true) × HasPath n a
 HasPath n _ = n ≡ 0
 
--- the longest path in the tree, from its root or from the target of a loose reference in it
+-- how long the longest path in the tree is, from its root or from the target of a loose reference
 unfoldable pub deepest_path : Meaning ⊥ → ℕ
 deepest_path (pair a b) = max (deepest_path a) (deepest_path b)
 deepest_path (variant n a) = deepest_path a

@@ -18,7 +18,7 @@ mutual
     no_items : Items
     item : Json → Items → Items
 
-  -- the members of an object, in the order of their keys
+  -- the members of an object: keys and values, one after another
   pub data Members : Type 0 where
     no_members : Members
     member : List ℕ → Json → Members → Members

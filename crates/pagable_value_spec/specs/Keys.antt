@@ -63,7 +63,7 @@ abbrev pub flag_order : KeyOrder
 flag_order (variant m a) (variant n b) = nat_cmp m n
 flag_order a b = Ordering.Equal
 
--- none before some, and two that are there by what they hold
+-- absent before present, and two present ones by what they hold
 abbrev pub optional_order : KeyOrder → KeyOrder
 optional_order order (variant zero a) (variant zero b) = Ordering.Equal
 optional_order order (variant zero a) (variant (suc n) b) = Ordering.Less

@@ -56,7 +56,7 @@ rename f (variant n a) = variant n (rename f a)
 rename f (reference a) = reference (f a)
 rename f (followed kind a) = followed kind (rename f a)
 
--- the meaning with each reference replaced by none
+-- the meaning with each reference that isn't followed replaced by none
 unfoldable pub plain : {A : Type 0} → Meaning A → Meaning ⊥
 plain (number n) = number n
 plain (integer z) = integer z

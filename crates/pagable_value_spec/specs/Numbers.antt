@@ -34,11 +34,11 @@ unfoldable pub varint_limit : ℕ → ℕ → ℕ
 varint_limit zero last = last + 1
 varint_limit (suc more) last = 128 * varint_limit more last
 
--- new is old followed by the varint of the number, whatever `more`, if the number fits it
+-- new is old followed by the number's varint, for any `more` that is enough for the number
 pub record AppendsVarint (old new : List ℕ) (number : ℕ) : Type 0 where
   pub appends : (more : ℕ) → number < varint_limit more 127 → new ≡ old ++ varint more number
 
--- how many bytes with the top bit set a varint may have, by the width: 2, 4, 9 or 18
+-- how many bytes with the top bit set a varint may have, by the width
 abbrev pub more_of : Width → ℕ
 more_of w8 = 0
 more_of w16 = 2

@@ -9,7 +9,7 @@ use Rattle.pagable_value_spec.specs.{
 use Rattle.std.proofs.Common.{arith}
 use Rattle.std.specs.Prelude.{ℕ, ◌≡◌}
 
--- made of no other shape, and no reference
+-- made of no other shape, and no reference, numbered part or static value
 abbrev pub IsBasic : Shape → Type 0
 IsBasic nothing = Unit {0}
 IsBasic (unsigned w) = Unit {0}
@@ -22,7 +22,7 @@ IsBasic pattern = Unit {0}
 IsBasic json = Unit {0}
 IsBasic _ = ⊥
 
--- made of this one
+-- an optional value, list, array or set over this shape
 abbrev pub IsOver : Shape → Shape → Type 0
 IsOver s (optional t) = t ≡ s
 IsOver s (list t) = t ≡ s
@@ -31,7 +31,7 @@ IsOver s (sorted_set order t) = t ≡ s
 IsOver s (placed_set t) = t ≡ s
 IsOver s _ = ⊥
 
--- made of these two
+-- an outcome, a pair or a map, but no hash map, over these two
 abbrev pub IsOfTwo : Shape → Shape → Shape → Type 0
 IsOfTwo s t (outcome u v) = (u ≡ s) × (v ≡ t)
 IsOfTwo s t (both u v) = (u ≡ s) × (v ≡ t)
@@ -39,7 +39,7 @@ IsOfTwo s t (sorted_map order u v) = (u ≡ s) × (v ≡ t)
 IsOfTwo s t (placed_map u v) = (u ≡ s) × (v ≡ t)
 IsOfTwo s t _ = ⊥
 
--- what a shape has if the shapes that it is made of have it: being canonical, being readable, and lying in the sets
+-- A holds of each of these: being canonical, being readable, and lying in the sets
 pub record Follows (A : (Shape → Type 0) → Type 0) (nodes parts : ℕ → Type 0) : Type 0 where
   pub canonical : A IsCanonical
   pub readable : A IsReadable

@@ -163,7 +163,7 @@ below look parts (suc left) = Some (read_with look parts (below look parts left)
 unfoldable pub read : {A B : Type 0} → Context A B → Shape → Gets A (Meaning B)
 read context s = read_with context.look context.parts (below context.look context.parts (deepest - context.levels)) s
 
--- reads a value of a node type, which may not exist
+-- reads a value of a node type; WrongKind if there is none
 abbrev pub read_typed : {A B : Type 0} → Context A B → Option Shape → Gets A (Meaning B)
 read_typed context None rest = Err Error.WrongKind
 read_typed context (Some s) rest = read context s rest

@@ -13,8 +13,7 @@ references_in (reference a) = a ∷ []
 references_in (followed kind a) = references_in a
 references_in _ = []
 
--- The same references, each equally often, in any order (a hash map's entries are written in no fixed order): every
--- test holds of equally many references in both lists.
+-- The same references, each equally often, in any order: every test holds of equally many in both lists.
 abbrev pub SameReferences : List ArcRef → List ArcRef → Type 0
 SameReferences rs ss = (is : ArcRef → Bool) → sum_by (λ (r : ArcRef). if is r then 1 else 0) rs
     ≡ sum_by (λ (r : ArcRef). if is r then 1 else 0) ss

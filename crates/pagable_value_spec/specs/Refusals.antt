@@ -49,17 +49,15 @@ is_reading_fault Error.BadStaticIndex = true
 is_reading_fault Error.NoMoreKeys = true
 is_reading_fault _ = false
 
--- The errors that a reader may add of its own: a pattern that can't be built, OutOfMemory, and a reason in words. It
--- may not return an error that belongs to a pager, a storage or a writer.
+-- The errors that a reader may add of its own: RegexRefused, OutOfMemory, and a reason in words.
 abbrev pub is_own_reading : Error → Bool
 is_own_reading Error.RegexRefused = true
 is_own_reading Error.OutOfMemory = true
 is_own_reading (Error.Custom text) = true
 is_own_reading _ = false
 
--- The errors with which resolving a reference may fail: those of the pager and of the storage about its key, and those
--- of reading its blob. Not Unregistered, which only writers return, and not KeyTaken or Closed, which only storing
--- returns.
+-- The errors with which resolving a reference may fail: all but Unregistered, which only writers return, and KeyTaken
+-- and Closed, which only storing returns.
 abbrev pub may_refuse_reference : Error → Bool
 may_refuse_reference Error.Unregistered = false
 may_refuse_reference Error.KeyTaken = false
@@ -73,8 +71,7 @@ is_writing_fault Error.TooDeep = true
 is_writing_fault Error.JsonNumber = true
 is_writing_fault _ = false
 
--- All errors that a writer may return: these three, Unregistered, OutOfMemory, and a reason in words. It may not return
--- an error that belongs to a pager, a storage or a reader.
+-- All errors that a writer may return: TooLong, TooDeep, JsonNumber, Unregistered, OutOfMemory, and a reason in words.
 abbrev pub may_refuse_writing : Error → Bool
 may_refuse_writing Error.TooLong = true
 may_refuse_writing Error.TooDeep = true

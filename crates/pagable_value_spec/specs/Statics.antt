@@ -20,7 +20,7 @@ abbrev pub NoEqualBelow : {T : Type 0} → (T → T → Bool) → T → List T �
 NoEqualBelow {T} same value registry i = (j : ℕ) (known : T) → j < i → slice_get registry j ≡ Some known
     → same value known ≡ false
 
--- the registry has a value of this meaning under this index
+-- the registry has a value of the same meaning under this index
 abbrev pub StandsAt : {T : Type 0} → (T → Meaning ⊥) → List T → T → ℕ → Type 0
 StandsAt plain registry value i = registered (meanings_of plain registry) i ≡ Ok (plain value)
 

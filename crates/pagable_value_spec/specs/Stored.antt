@@ -19,7 +19,7 @@ AreNamed key_of stored = (key : ℕ) (blob : Blob) → stored key ≡ Some blob 
 abbrev pub Keeps : (ℕ → Option Blob) → (ℕ → Option Blob) → Type 0
 Keeps old new = (key : ℕ) (blob : Blob) → old key ≡ Some blob → new key ≡ Some blob
 
--- the storage failed: its count of failures rose, or was at its greatest already
+-- the storage failed: its count of failures rose, or stayed at its greatest
 abbrev pub HasFailed : ℕ → ℕ → Type 0
 HasFailed before after = (before < after) ⊎ ((before ≡ 2 ^ 64 - 1) × (after ≡ before))
 

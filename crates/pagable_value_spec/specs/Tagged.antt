@@ -32,8 +32,8 @@ abbrev pub HasDistinctTags : List (List ℕ × Shape) → Type 0
 HasDistinctTags registrations = (i j : ℕ) (r s : List ℕ × Shape) → slice_get registrations i ≡ Some r
     → slice_get registrations j ≡ Some s → bytes_eq r.0 s.0 ≡ true → i ≡ j
 
--- Each tag under which a body has a form is registered; and each registered reader reads what is written under its tag,
--- and all of its forms can be read.
+-- Each tag is registered with what is written under it, unless that has no case; and each registered reader reads what
+-- is written under its tag, of which each form can be read.
 pub record ReadsWhatIsWritten (parts : ℕ → Shape) (written : List ℕ → Shape)
     (registrations : List (List ℕ × Shape)) : Type 0 where
   pub each : (i : ℕ) (tag : List ℕ) (s : Shape) → slice_get registrations i ≡ Some (tag, s) → (s ≡ written tag)

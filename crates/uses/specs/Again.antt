@@ -10,7 +10,8 @@ use Rattle.pagable_pager_spec.specs.{
 use Rattle.pagable_theorems.specs.{CallerLaws.{AskWell, Operations, PinAsksWell}, PageOutLaws.NobodyWorks}
 use Rattle.std.specs.Prelude.{Ok, ℕ}
 
--- What the two pins gave, with what was done between them. Where nobody was at work at first, and all that is done asks what is so, both values stand for one tree.
+-- What the two pins gave, with what was done between. If nobody works at first, no value can be written to later, each
+-- node has its tree, and all calls ask well, both values stand for one tree.
 pub record ShowsSame {N E : Type 0} (v : Values N) (s : PagerState N E) (h : HandleNumber) (x : N) (l : HandleNumber)
     (y : N) (s' : PagerState N E) : Type 0 where
   pub k : HandleNumber
