@@ -1,12 +1,9 @@
--- The theorem on one page.
---
--- For every hash, every registry of distinct tags and every list of steps of callers, loads and workers, each pin that
--- succeeds gives the tree its handle was made with, each count is the number of handles that pin, a cell holds its
--- value exactly while it is pinned or keyless, and each page-out that succeeds claims every node at most once, by each
--- kind of reference, and answers a canonical value's Merkle key.
---
--- It is proved as the law `headline` of `pagable_theorems`, and `Machine::run` of `pagable` has it as its contract.
--- That its premises can be met is the law `two_levels_meet_the_headline`.
+-- The theorem on one page: for every hash, every registry of distinct tags and every list of steps of callers, loads
+-- and workers, each pin that succeeds gives the tree its handle was made with, each count is the number of handles that
+-- pin, a cell holds its value exactly while it is pinned or keyless, and each page-out that succeeds claims every node
+-- at most once, by each kind of reference, and answers a canonical value's Merkle key.
+-- The law `headline` of `pagable_theorems` proves it, `Machine::run` of `pagable` has it as its contract, and the law
+-- `two_levels_meet_the_headline` shows that its premises can be met.
 use Rattle.pagable_pager_spec.specs.{
   Basics.Tree,
   Pager.{IsIdle, IsMachineWhole, MachineState, StandsFor},
@@ -23,9 +20,8 @@ pub record Headline {N E B W : Type 0} (m : Seen N B W) (start : MachineState N 
   -- pinning handles, and a cell holds its value exactly while it is pinned or has no key. This is the premise again:
   -- each call owes it. Read next: `EventDoes` (Runs), `IsMachineWhole` and `IsPagerWhole` (Pager).
   pub chain : AreMoments m start moments
-  -- Workers make steps in order and within a bound, claim only what is met and unclaimed, fail only if they met an
-  -- error or a failed claim, and own nothing once they have a result; open loads have steps left. Read next:
-  -- `WorkIsRight` (Rightness).
+  -- Workers step in order and within a bound, claim only what is met and unclaimed, fail only if they met an error or a
+  -- failed claim, and own nothing once they have a result; open loads have steps left. Read next: Rightness.
   pub work : WorkIsRight m (state_after start moments) (events_of moments) (replies_of moments)
   -- A caller's load of n references ends within 2n + 2 steps. Read next: `IsWithinBound` (Order).
   pub loads : StepsAreWithin m.values start moments
