@@ -10,11 +10,11 @@ use Rattle.pagable_tables.proofs.{
   Views.{newer-falls, newer-moved, newer-then, not-list, opened, own-of, pin-comes, roomy, roomy-whole, settled, settles, stays-on, then-on},
   Words.{Alike, AllPairs, Among, ArcRef, ArePlaced, BeginCall, Beginning, Bool, CloseCall, Core, Error, Falls, HandOverCall, HandleNumber, HandleRow, Installs},
   Words.{IsEntryWhole, IsHandleBefore, IsRootWhole, IsWhole, Kind, List, LoadNumber, MayEnd, MayOwnHandle, MayOwnLoad, Mode, NodeNumber, None, Ok, OpenLoad},
-  Words.{OptionalDataKey, Owner, Owns, Result, Root, ScheduleCall, Some, Suits, TakeCall, adopted, ap, arith, cases_eq, cell_fault, earlier, false, fits_mode},
-  Words.{get_or_from_slice_get, greatest, hand_over_fault, has_key, if_there, if◌then◌else◌, inl, inr, is_handle, is_in, is_loose, is_named_by, is_owned_by},
-  Words.{is_owned_in, is_owner, is_shared, is_shared_kind, is_workers, load_fault, mode_of, moved, named_fault, nat_tests, next_node, not, numbers_of, of_cell},
-  Words.{one, only_handle, owner_value, owner_worker, references_fault, refl, row_of, shut, slice_get_within, subst, sum_by-remove, sum_by_push, sym, times},
-  Words.{true, type_at, type_of, usable, with_cached, with_handle, with_key, with_load, with_mode, with_node, with_pin, with_worker, without_load},
+  Words.{OptionalDataKey, Owner, Owns, Result, Root, ScheduleCall, Some, Suits, TakeCall, adopted, ap, arith, basics, cases_eq, cell_fault, earlier, false},
+  Words.{fits_mode, get_or_from_slice_get, greatest, hand_over_fault, has_key, if_there, if◌then◌else◌, inl, inr, is_handle, is_in, is_loose, is_named_by},
+  Words.{is_owned_by, is_owned_in, is_owner, is_shared, is_shared_kind, is_workers, load_fault, mode_of, moved, named_fault, next_node, not, numbers_of},
+  Words.{of_cell, one, only_handle, owner_value, owner_worker, references_fault, refl, row_of, shut, slice_get_within, subst, sum_by-remove, sum_by_push, sym},
+  Words.{times, true, type_at, type_of, usable, with_cached, with_handle, with_key, with_load, with_mode, with_node, with_pin, with_worker, without_load},
   Words.{without_worker, ℕ, [], ◌&&◌, ◌++◌, ◌+◌, ◌<◌, ◌==◌, ◌||◌, ◌∙◌, ◌∷◌, ◌≡◌},
 }
 use Rattle.std.specs.List.{remove}
@@ -25,24 +25,26 @@ lists-moved : {w : Core} → IsWhole w → (h : HandleNumber) (row : HandleRow) 
     ≡ times (of_list q) w.rows + one (h.0 == q && is_owner Owner.List owner)
 lists-moved {w} whole h row owner among number q =
     let to = λ (x : HandleRow). if only_handle h x.number.0 then record x { owner = owner } else x in
-    let a = apart-sum (λ x. one (of_list q (to x))) (λ x. one (of_list q x)) w.rows row whole.handles.ordered among (λ x other. grind (arith, nat_tests)) in
-    grind (arith, nat_tests, sum-map (λ x. one (of_list q x)) (λ x. one (of_list q (to x))) to w.rows (λ x there. refl))
+    grind (
+      basics,
+      sum-map (λ x. one (of_list q x)) (λ x. one (of_list q (to x))) to w.rows (λ x there. refl),
+      apart-sum (λ x. one (of_list q (to x))) (λ x. one (of_list q x)) w.rows row whole.handles.ordered among (λ x other. grind basics),
+    )
 
 pub schedule-goes : {w w' : Core} (me : Owner) (h : HandleNumber) → IsWhole (opened w) → MayOwnHandle w me → ScheduleCall w me h (Ok tt) w' → Goes w w'
 schedule-goes {w} me h whole holder call = let (row, owns, does) = call.moves in elim does [
   | inl (stands_open, alike) ↦
       let (among, number) = found-among h.0 w.rows row owns.live in
-      let mine : is_owned_by Owner.List row ≡ false = ap (is_owner Owner.List) owns.own ∙ not-list w me holder in
-      let mode : row.mode ≡ Mode.LooseUnpinned = grind (arith, nat_tests, owns.as_asked) in
+      let mine = ap (is_owner Owner.List) owns.own ∙ not-list w me holder in
+      let mode : row.mode ≡ Mode.LooseUnpinned = grind (basics, owns.as_asked) in
       settled alike (moved-so {w = opened w} whole (only_handle h) Owner.List (w.list ++ h ∷ [])
       (λ q. grind (
-        arith,
-        nat_tests,
+        basics,
         sum_by_push (λ (k : HandleNumber). one (k.0 == q)) w.list h,
         lists-moved {w = opened w} whole h row Owner.List among number q,
         whole.owners_there.listed q,
       ))
-      (λ x there e. ap (λ (y : HandleRow). y.mode) (once w.rows whole.handles.ordered x row there among (grind (arith, nat_tests))) ∙ mode))
+      (λ x there e. ap (λ (y : HandleRow). y.mode) (once w.rows whole.handles.ordered x row there among (grind basics)) ∙ mode))
       (newer-moved w (only_handle h) Owner.List refl)
   | inr (closed, falls) ↦ lone-falling whole falls.falls
 ]
@@ -55,8 +57,7 @@ take-whole {w} w' me i h whole holder call placed = settles (moved-so whole (onl
   where
     less : (q : ℕ) → times (λ (k : HandleNumber). k.0 == q) (remove w.list i) + one (h.0 == q) ≡ times (λ (k : HandleNumber). k.0 == q) w.list
     less q = grind (
-      arith,
-      nat_tests,
+      basics,
       sum_by-remove (λ (k : HandleNumber). one (k.0 == q)) w.list i h (slice_get_within w.list i h call.0),
       slice_get_within,
       get_or_from_slice_get,
@@ -64,10 +65,10 @@ take-whole {w} w' me i h whole holder call placed = settles (moved-so whole (onl
 
     still : (q : ℕ) → times (λ (k : HandleNumber). k.0 == q) (remove w.list i) ≡ times (of_list q) (moved (only_handle h) me w.rows)
     still q =
-        let entry : (x : HandleRow) × Among w.rows x × (0 < one (of_list h.0 x)) = grind (arith, nat_tests, less h.0, whole.owners_there.listed h.0, counted) in
+        let entry : (x : HandleRow) × Among w.rows x × (0 < one (of_list h.0 x)) = grind (basics, less h.0, whole.owners_there.listed h.0, counted) in
         let (row, among, counts) = entry in
-        let number : row.number.0 ≡ h.0 = grind (arith, nat_tests) in let owned : is_owned_by Owner.List row ≡ true = grind (arith, nat_tests) in
-        grind (arith, nat_tests, less q, lists-moved whole h row me among number q, whole.owners_there.listed q)
+        let number : row.number.0 ≡ h.0 = grind basics in let owned : is_owned_by Owner.List row ≡ true = grind basics in
+        grind (basics, less q, lists-moved whole h row me among number q, whole.owners_there.listed q)
 
 -- ---- a key
 
@@ -75,7 +76,7 @@ take-whole {w} w' me i h whole holder call placed = settles (moved-so whole (onl
 pub keyed-whole : {w : Core} → IsWhole w → (row : HandleRow) → Among w.rows row → (key : ℕ) → is_shared row.mode ≡ false
     → IsWhole (roomy (with_key w row.node key))
 keyed-whole {w} whole row there key unshared = keeps-whole whole (record {
-  on = grind (arith, nat_tests, stays-old, alike-rows whole);
+  on = grind (basics, stays-old, alike-rows whole);
   within = whole.handles.within;
   places = (omega arith, omega arith);
   listed = whole.owners_there.listed;
@@ -89,18 +90,18 @@ keyed-whole {w} whole row there key unshared = keeps-whole whole (record {
 -- ---- what the cache gives
 
 pub mode-shared : (kind : ℕ) → is_shared (mode_of kind) ≡ is_shared_kind kind
-mode-shared kind = grind (arith, nat_tests)
+mode-shared kind = grind basics
 
 -- so the mode of its kind suits the node
 pub known-suits : {w : Core} → IsWhole w → (kind key n : ℕ) → usable w kind key ≡ Some n → Suits w (record { 0 = n }) (mode_of kind)
-known-suits {w} whole kind key n is = grind (arith, nat_tests, counted, mode-shared)
+known-suits {w} whole kind key n is = grind (basics, counted, mode-shared)
 
 -- ---- what the cache learns
 
 pub cached-whole : {w : Core} (kind : Kind) (key : ℕ) (n : NodeNumber) → IsWhole w → IsEntryWhole w kind.0 n.0 → IsWhole (roomy (with_cached w kind key n))
 cached-whole {w} kind key n whole entry =
-    let known : (k q m : ℕ) → (with_cached w kind key n).cache k q ≡ Some m → IsEntryWhole w k m = λ k q m is. grind (arith, nat_tests, whole.cache k q m) in
-    keeps-whole whole (grind (arith, nat_tests, same-rows, is-in whole, loads-stay))
+    let known : (k q m : ℕ) → (with_cached w kind key n).cache k q ≡ Some m → IsEntryWhole w k m = λ k q m is. grind (basics, whole.cache k q m) in
+    keeps-whole whole (grind (basics, same-rows, is-in whole, loads-stay))
 
 -- the cache learns the node of an own handle
 pub learns-whole : {w w' : Core} (me : Owner) (kind : Kind) (key : ℕ) (h : HandleNumber) (row : HandleRow) → IsWhole w → Owns w me h (fits_mode kind.0) row
@@ -108,8 +109,8 @@ pub learns-whole : {w w' : Core} (me : Owner) (kind : Kind) (key : ℕ) (h : Han
 learns-whole {w} me kind key h row whole owns typed leaves placed =
     let there = (found-among h.0 w.rows row owns.live).0 in
     let given = (whole.handles.nodes_numbered row.node.0 (there-then whole row there)).1 in
-    let fits : is_shared row.mode ≡ is_shared_kind kind.0 = grind (arith, nat_tests, owns.as_asked) in
-    let entry : IsEntryWhole w kind.0 row.node.0 = grind (arith, nat_tests, alike-rows) in
+    let fits : is_shared row.mode ≡ is_shared_kind kind.0 = grind (basics, owns.as_asked) in
+    let entry : IsEntryWhole w kind.0 row.node.0 = grind (basics, alike-rows) in
     settles (cached-whole kind key row.node whole entry) leaves placed
 
 -- ---- calls on loads keep the world whole: one load more
@@ -118,11 +119,11 @@ pub loaded-whole : {w : Core} (key : ℕ) (root : Root) (me : Owner) → IsWhole
     → ((node : NodeNumber) (t : ℕ) (h : HandleNumber) → root ≡ of_cell node t h → IsRootWhole w node t h) → IsWhole (roomy (with_load w key root me))
 loaded-whole {w} key root me whole may left good =
     let after = roomy (with_load w key root me) in
-    let owners : (h : HandleRow) → Among w.rows h → IsIn after h.mode h.owner = λ h among. let i = is-in whole h among in grind (arith, nat_tests) in
-    keeps-whole whole (grind (arith, nat_tests, same-rows, loads-stay, may-own))
+    let owners : (h : HandleRow) → Among w.rows h → IsIn after h.mode h.owner = λ h among. grind (basics, is-in whole h among) in
+    keeps-whole whole (grind (basics, same-rows, loads-stay, may-own))
 
 pub may-hold : (w : Core) (o : Owner) → MayOwnLoad w o → MayOwnHandle w o
-may-hold w x1 may = grind (arith, nat_tests)
+may-hold w x1 may = grind basics
 
 pub begin-whole : {w w' : Core} {l : LoadNumber} {key : ℕ} (me : Owner) (h : HandleNumber) → IsWhole w → MayOwnLoad w me
     → BeginCall w me h (Ok (Beginning.Load l key)) w' → ArePlaced (opened w') → IsWhole (opened w')
@@ -131,12 +132,12 @@ begin-whole {w} {w'} {l} {key} me h whole may call placed =
     let (away, keyed, next, left, rest) = begins in
     let (t, typed, leaves) = rest in
     let found = found-among h.0 w.rows row owns.live in
-    let root : IsRootWhole w row.node t h = grind (arith, nat_tests, there-then, owns.live, owns.as_asked, whole.handles.numbered row found.0) in
+    let root : IsRootWhole w row.node t h = grind (basics, there-then, owns.live, owns.as_asked, whole.handles.numbered row found.0) in
     let named : (node : NodeNumber) (t2 : ℕ) (k : HandleNumber) → of_cell row.node t h ≡ of_cell node t2 k → IsRootWhole w node t2 k =
-    λ node t2 k is. grind (arith, nat_tests) in
+    λ node t2 k is. grind basics in
     settles (beside (loaded-whole key (of_cell row.node t h) me whole may next.is_left named) row.node Mode.LooseUnpinned (Owner.Load l)
     (record { row = row; there = found.0; at = refl; same = loose-unshared row.mode owns.as_asked })
-    (let above = next.above in grind (arith, nat_tests)) left).0 leaves placed
+    (grind (basics, next.above)) left).0 leaves placed
 
 -- ---- calls by which a load goes on or ends, and the close of the storage, keep the world whole: a load closes
 
@@ -146,8 +147,8 @@ pub closes : {before u w' : Core} {r : Result (Unit {0}) Error} (l : LoadNumber)
     → IsWhole (opened w')
 closes {before} {u} l given whole on gives falls placed = falls-lost u (without_load u l) whole on (record {
   listed = λ q. inl (whole.owners_there.listed q);
-  owners = λ h among. let i = is-in whole h among in grind (arith, nat_tests, gives);
-  loads = λ k load is. let was : u.loads k ≡ Some load = grind (arith, nat_tests) in (was, whole.loads.owned k load was);
+  owners = λ h among. grind (basics, gives, is-in whole h among);
+  loads = λ k load is. let was : u.loads k ≡ Some load = grind basics in (was, whole.loads.owned k load was);
   cache = λ kind key n is. is;
   workers = λ v is. is;
 }) falls placed
@@ -167,8 +168,14 @@ module _ (before m : Core) (whole : IsWhole (roomy m)) (on : GoesOn before m) (m
     (gives : (x : HandleRow) → Among m.rows x → x.owner ≡ Owner.Load l → given x.number.0 ≡ true) where
   pinned-gives : (x : HandleRow) → Among (with_pin m h row.node me).rows x → x.owner ≡ Owner.Load l → given x.number.0 ≡ true
   pinned-gives x among own =
-      let old = among-map (λ y. if is_handle h.0 y then record y { mode = Mode.LoosePinned } else y) m.rows x in
-      grind (arith, nat_tests, among-both (with_mode m h Mode.LoosePinned).rows _ x among, among-one, gives, no-load m me l may)
+      grind (
+        basics,
+        among-both (with_mode m h Mode.LoosePinned).rows _ x among,
+        among-one,
+        gives,
+        no-load m me l may,
+        among-map (λ y. if is_handle h.0 y then record y { mode = Mode.LoosePinned } else y) m.rows x,
+      )
 
   pub ends-goes : {w' : Core} {r : Result (Unit {0}) Error} (node : NodeNumber) → row.node ≡ node
       → Falls before (without_load (with_pin m h node me) l) given r w' → Goes m w'
@@ -183,13 +190,13 @@ left-given : {w : Core} → IsWhole w → (l : LoadNumber) (s : ℕ → Bool) (o
     → (is_owned_in w (Owner.Load l) y.number.0 && not (s y.number.0)) ≡ true
 left-given {w} whole l s o other y among own =
     let (z, there, is) = among-map (λ z. if s z.number.0 then record z { owner = o } else z) w.rows y among in
-    grind (arith, nat_tests, owned-in whole l z there, other)
+    grind (basics, owned-in whole l z there, other)
 
-pub installs-goes : {w w' : Core} (me : Owner) (l : LoadNumber) (node : NodeNumber) (h k : HandleNumber) (node_type : ℕ) (refs : List ArcRef)
+pub installs-goes : {w w' : Core} {me : Owner} {l : LoadNumber} {node : NodeNumber} {h k : HandleNumber} {node_type : ℕ} {refs : List ArcRef}
     → IsWhole (opened w)
     → MayEnd w me l node h node_type refs → Installs w me l node h k refs w' → Goes w w'
-installs-goes {w} me l node h k node_type refs whole ends i =
-    let may : MayOwnLoad w me = subst (MayOwnLoad w) ends.owned.own (whole.loads.owned l.0 ends.load ends.owned.stands_open) in
+installs-goes {w} {me = me} {l} {node} {h} {refs = refs} whole ends i =
+    let may : MayOwnLoad w me = rw ends.owned.own at (whole.loads.owned l.0 ends.load ends.owned.stands_open) in
     elim i.falls [
       | inl (away, falls) ↦
           let s = is_named_by refs in
@@ -212,12 +219,11 @@ installs-goes {w} me l node h k node_type refs whole ends i =
         let owns = i.owned in
         let mine = named-own w whole.handles.ordered (Owner.Load l) refs ends.good row (found-among h.0 w.rows row owns.live).0 in
         let none = no-load w me l may in
-        let spared : is_named_by refs row.number.0 ≡ false = grind (arith, nat_tests) in
+        let spared : is_named_by refs row.number.0 ≡ false = grind basics in
         grind (
-          arith,
-          nat_tests,
+          basics,
           found-map (λ y. if is_named_by refs y.number.0 then record y { owner = owner_value node.0 } else y)
-              (λ y. grind (arith, nat_tests)) h.0 w.rows,
+              (λ y. grind basics) h.0 w.rows,
           owns.live,
         )
 
@@ -229,7 +235,7 @@ unfolding named_fault is_in
 handed-mine w owner seen [] good q named = absurd (cc)
 handed-mine w owner seen (h ∷ hs) good q named =
     let parts = both-none (one-fault w owner seen h) (named_fault w owner (h.0 ∷ seen) hs) good in
-    let a = parts.0 in grind (arith, nat_tests, cases_eq h.0 q, handed-mine w owner (h.0 ∷ seen) hs parts.1 q)
+    grind (basics, cases_eq h.0 q, handed-mine w owner (h.0 ∷ seen) hs parts.1 q, parts.0)
 
 pub handed-own : (w : Core) → AllPairs IsHandleBefore w.rows → (l : LoadNumber) (hs : List HandleNumber) → named_fault w (Owner.Load l) [] hs ≡ None
     → (x : HandleRow) → Among w.rows x
@@ -247,7 +253,7 @@ may-hand {w} whole me l hs good =
     let cell = if_there (λ (load : OpenLoad). cell_fault load.root) None (w.loads l.0) in
     let named = named_fault w (Owner.Load l) [] hs in
     let parts = both-none (load_fault w me l) (earlier cell named) good in
-    let owner : MayOwnLoad w me = (let own = parts.0 in grind (arith, nat_tests, whole.loads.owned)) in
+    let owner : MayOwnLoad w me = (grind (basics, whole.loads.owned, parts.0)) in
     record { own = parts.0; may = owner; named = (both-none cell named parts.1).1 }
 
 pub handed-whole : {w : Core} → IsWhole (opened w) → (me : Owner) (l : LoadNumber) (hs : List HandleNumber) → MayHand w me l hs
@@ -261,7 +267,7 @@ pub hand-over-whole : {w w' : Core} (me : Owner) (l : LoadNumber) (hs : List Han
     → ArePlaced (opened w') → IsWhole (opened w')
 hand-over-whole {w} me l hs whole call placed =
     let (good, falls) = call.hands in
-    let can : MayHand w me l hs = may-hand whole me l hs good in
+    let can = may-hand whole me l hs good in
     let s = is_in (numbers_of hs) in
     let m : Core = record w { rows = moved s me w.rows } in
     closes {u = m} l (λ (q : ℕ). is_owned_in w (Owner.Load l) q && not (s q)) (handed-whole whole me l hs can) (moved-on whole s me)
@@ -271,7 +277,7 @@ hand-over-whole {w} me l hs whole call placed =
 
 pub close-whole : {w w' : Core} (r : Result (Unit {0}) Error) → IsWhole (opened w) → CloseCall w r w' → ArePlaced (opened w') → IsWhole (opened w')
 close-whole {w} {w'} r whole call placed = falls-lost w (shut w w'.failures) (roomy-whole whole) (stays-on w) (record {
-  listed = λ q. let a = whole.owners_there.listed q in grind (arith, nat_tests);
+  listed = λ q. grind (basics, whole.owners_there.listed q);
   owners = λ h among. inl (is-in whole h among);
   loads = λ l load is. (is, whole.loads.owned l load is);
   cache = λ kind key n is. absurd (cc);
@@ -297,7 +303,7 @@ module _ (w : Core) (whole : IsWhole (opened w)) (l : LoadNumber) (kind : Kind) 
       at true = now-whole
       at false = cached-whole {w = roomy made} kind key (next_node w) now-whole (record {
         given = omega arith;
-        typed = λ t is. grind (arith, nat_tests);
+        typed = λ t is. grind basics;
         shares = λ h among at.
             alike-rows now-whole h (row_of (w.last.handle + 1) (next_node w) (mode_of kind.0) (Owner.Load l)) among
             (among-last (moved (is_named_by refs) (owner_value (w.last.node + 1)) w.rows) _) at
@@ -308,9 +314,8 @@ module _ (w : Core) (whole : IsWhole (opened w)) (l : LoadNumber) (kind : Kind) 
 
 pub worker-whole : {w : Core} → IsWhole w → IsWhole (roomy (with_worker w))
 worker-whole {w} whole =
-    let owners : (h : HandleRow) → Among w.rows h → IsIn (roomy (with_worker w)) h.mode h.owner = λ h among. let i =
-    is-in whole h among in grind (arith, nat_tests) in
-    keeps-whole whole (grind (arith, nat_tests, same-rows, whole.workers_numbered, loads-stay))
+    let owners : (h : HandleRow) → Among w.rows h → IsIn (roomy (with_worker w)) h.mode h.owner = λ h among. grind (basics, is-in whole h among) in
+    keeps-whole whole (grind (basics, same-rows, whole.workers_numbered, loads-stay))
 
 -- ---- a worker ends
 
@@ -321,8 +326,8 @@ worker-end-whole {w} {w'} v whole ends placed =
     (found-so h.number.0 w.rows h whole.handles.ordered among refl) in
     falls-lost w (without_worker w v) (roomy-whole whole) (stays-on w) (record {
       listed = λ q. inl (whole.owners_there.listed q);
-      owners = λ h among. let i = is-in whole h among in let f = found h among in grind (arith, nat_tests);
-      loads = λ l load is. let o = whole.loads.owned l in grind (arith, nat_tests);
+      owners = λ h among. grind (basics, is-in whole h among, found h among);
+      loads = λ l load is. grind (basics, whole.loads.owned l);
       cache = λ kind key n is. is;
-      workers = λ v is. grind (arith, nat_tests);
+      workers = λ v is. grind basics;
     }) ends.falls placed

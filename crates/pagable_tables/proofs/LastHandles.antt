@@ -3,9 +3,9 @@ use Rattle.pagable_tables.proofs.{
   HandleTable.le_or_lt,
   OwnedByLoad.none-passes,
   SameViews.owner-same,
-  Words.{Bool, Core, DropsValues, HandleRow, IndexMap, List, LoadNumber, LoadRow, None, NumberTable, Option, OwnLaterHandles, Owner, Place, RefCounts, Some},
-  Words.{Tables, ap, arith, cases_Bool, cases_eq, core_alone, core_of, counts_at, false, get_or, inl, inr, is_owned_by, is_owned_in, is_owner, length, live},
-  Words.{load_at, load_in, nat_tests, option_map, owner_worker, passes_in, refl, row_by, subst, sym, true, ℕ, ◌+◌, ◌<◌, ◌∙◌, ◌≡◌, ◌≤◌},
+  Words.{Bool, Core, HandleRow, IndexMap, List, LoadNumber, LoadRow, None, NumberTable, Option, OwnLaterHandles, Owner, Place, Some, Tables, ap, arith, basics},
+  Words.{cases_Bool, cases_eq, core_alone, core_of, false, get_or, inl, inr, is_owned_by, is_owned_in, is_owner, length, live, load_at, load_in, option_map},
+  Words.{owner_worker, passes_in, refl, subst, sym, true, ℕ, ◌+◌, ◌<◌, ◌∙◌, ◌≡◌, ◌≤◌},
 }
 use Rattle.pagable_tables.specs.Core.{AreNoted, AreRaised, Does, DoesAndDropsValues, IsOwnedAbove, Notes, Raised, StorageView}
 
@@ -14,7 +14,7 @@ raised-same None = tt
 raised-same (Some row) = (refl, omega arith)
 
 pub raised-then : (a b c : Option LoadRow) → Raised a b → Raised b c → Raised a c
-raised-then a b c one two = grind (arith, nat_tests)
+raised-then a b c one two = grind basics
 
 -- what stands there stood there before
 pub raised-from : (o o' : Option LoadRow) (row : LoadRow) → Raised o o' → o' ≡ Some row → (old : LoadRow) × (o ≡ Some old)
@@ -23,7 +23,7 @@ raised-from None None row r is = absurd (cc)
 raised-from None (Some new) row r is = absurd r
 raised-from (Some old) None row r is = absurd r
 raised-from (Some old) (Some new) row r is = let same : new ≡ row = cc in
-    (old, refl, subst (λ (x : LoadRow). x ≡ record old { last = x.last }) same r.0, subst (λ (x : LoadRow). old.last ≤ x.last) same r.1)
+    (old, refl, rw same at r.0, rw same at r.1)
 
 raised-load : (o o' : Option LoadRow) → Raised o o' → option_map load_in o' ≡ option_map load_in o
 raised-load None None r = refl
@@ -44,7 +44,7 @@ module _ {S : Type 0} (old new : IndexMap ℕ LoadRow S) (places : List Place) (
   told-on i told here l row k d at less above own =
       let (was, is, same, more) = raised-from (load_at old l.0) (load_at new l.0) row (raised l.0) at in
       let before = λ (lt : k < i). told l was k d is lt above own in
-      grind (arith, nat_tests, cases_eq k i, here l row d at)
+      grind (basics, cases_eq k i, here l row d at)
 
 -- the last handle that a load owns above a number is told by its row
 noted-last : (places : List Place) (l : LoadNumber) (row : LoadRow) (q number : ℕ)
@@ -57,7 +57,7 @@ noted-last places l row q number told above own = elim (le_or_lt q row.last) [
       ≡ false = none-passes (is_owned_by (Owner.Load l)) q places (λ k d within is lives.
       let x : HandleRow = (get_or places k d).row in
       elim (cases_Bool (is_owned_by (Owner.Load l) x)) [
-        | inl mine ↦ absurd (let le = told k d within (omega arith) (owner-same (Owner.Load l) x.owner mine) in omega arith)
+        | inl mine ↦ absurd (omega (arith, told k d within (omega arith) (owner-same (Owner.Load l) x.owner mine)))
         | inr other ↦ other
       ]) in cc)
 ]
@@ -67,21 +67,19 @@ pub noted-later : (t t' : Tables) → t' ≡ record t { loads = t'.loads; noted 
 noted-later t t' same raised noted told later =
     let from = λ (l : ℕ) (load : LoadRow) (at : load_at t'.loads l ≡ Some load). raised-from (load_at t.loads l) (load_at t'.loads l) load (raised l) at in
     let after : OwnLaterHandles (record t { loads = t'.loads; noted = t'.noted }) = record {
-      given = λ l load at. let (old, was, is, more) = from l load at in let since = ap (λ (x : LoadRow). x.since) is in let g =
-          later.given l old was in omega arith;
-      since = λ l load q at own. let (old, was, is, more) = from l load at in let since = ap (λ (x : LoadRow). x.since) is in let g =
-          later.since l old q was own in omega arith;
+      given = λ l load at. let (old, was, is, more) = from l load at in omega (arith, ap (λ (x : LoadRow). x.since) is, later.given l old was);
+      since = λ l load q at own. let (old, was, is, more) = from l load at in let since = ap (λ (x : LoadRow). x.since) is in
+          omega (arith, later.since l old q was own);
       begun = later.begun;
       reach = later.reach;
       loads = λ v l load at mine.
           let (old, was, is, more) = from l load at in
-          let since = ap (λ (x : LoadRow). x.since) is in
-          let g = later.loads v l old was (sym (ap (λ (x : LoadRow). is_owner (owner_worker v) x.owner) is) ∙ mine) in omega arith;
-      noted = omega (arith, noted);
+          omega (arith, ap (λ (x : LoadRow). x.since) is, later.loads v l old was (sym (ap (λ (x : LoadRow). is_owner (owner_worker v) x.owner) is) ∙ mine));
+      noted = omega arith;
       until = λ l load q at own le.
           let (old, was, is, more) = from l load at in
           elim (le_or_lt q t.noted) [
-            | inl low ↦ (let g = later.until l old q was own low in omega arith)
+            | inl low ↦ (omega (arith, later.until l old q was own low))
             | inr high ↦ noted-last t.ref_counts.handles.places.items (record { 0 = l }) load q t.noted
                 (λ k d within above owner. told (record { 0 = l }) load k d at within above owner) high own
           ];
@@ -95,7 +93,7 @@ above-noted l since n above q own = above q (sym (ap (λ (u : Tables). is_owned_
 -- what is done to the tables that tell more is done to those that tell less
 pub noted-does : {t t1 t2 : Tables} {step : Core → Core → Type 0} → Notes t t1 → Does t1 step t2 → Does t step t2
 noted-does {t} {t1} {t2} {step} n d = record {
-  does = λ storage. subst (λ (w : Core). step w (core_of t2 storage)) (core-same t t1 n.same n.rows storage) (d.does storage);
+  does = λ storage. rw (core-same t t1 n.same n.rows storage) at (d.does storage);
   whole = d.whole;
   later = λ later. d.later n.later;
 }
@@ -103,9 +101,8 @@ noted-does {t} {t1} {t2} {step} n d = record {
 pub noted-release_at : {X : Type 0} {lists : Bool} {t t1 t2 : Tables} {values values' : NumberTable X} {step : Core → Core → Type 0} → Notes t t1
     → DoesAndDropsValues lists t1 values step t2 values' → DoesAndDropsValues lists t values step t2 values'
 noted-release_at {lists = lists} {t} {t1} {t2} {values} {values'} {step} n d = record {
-  does = λ storage open_still. subst (λ (w : Core). step w (core_of t2 storage)) (core-same t t1 n.same n.rows storage) (d.does storage open_still);
+  does = λ storage open_still. rw (core-same t t1 n.same n.rows storage) at (d.does storage open_still);
   whole = d.whole;
   later = λ later. d.later n.later;
-  drops = subst (λ (h : RefCounts). DropsValues (counts_at h.nodes) (row_by values) (counts_at t2.ref_counts.nodes) (row_by values'))
-      (ap (λ (u : Tables). u.ref_counts) n.same) d.drops;
+  drops = rw (ap (λ (u : Tables). u.ref_counts) n.same) at d.drops;
 }

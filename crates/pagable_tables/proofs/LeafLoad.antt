@@ -11,25 +11,19 @@ use Rattle.pagable_tables.proofs.{
   SameViews.{alike, alike-on, moved-nobody, named-none, same-cache, still},
   Views.none-named,
   Words.{Alike, ArePlaced, BeginCall, Beginning, Bool, Core, Falls, HandleNumber, HandleRow, HasRoom, Installs, Last, List, LoadNumber, MayEnd, Mode, None, Ok},
-  Words.{Option, Owner, Owns, RefCounts, ReleasedSoFar, Some, Tables, ap, append-nil, arith, cases_Bool, cases_eq, changed, core_alone, core_of, false},
+  Words.{Option, Owner, Owns, RefCounts, ReleasedSoFar, Some, Tables, ap, append-nil, arith, basics, cases_Bool, cases_eq, changed, core_alone, core_of, false},
   Words.{filter-append, find_row, if◌then◌else◌, inl, inr, is_handle, is_here, is_loose, is_named_by, is_owned_by, is_owned_in, is_pin, is_plain_pin, is_share},
-  Words.{left_rows, length, length-append, length-map, moved, nat_tests, nobody, not, of_cell, one, or_else, owner_value, owns_nothing, pins, refl, row_of},
-  Words.{sharing, subst, sum_by-append, sum_by-cons, sum_by-le-sum_by, sum_by_push, sym, times, with_handle, with_load, with_mode, with_tables},
-  Words.{without_load, ℕ, [], ◌&&◌, ◌++◌, ◌+◌, ◌==◌, ◌∙◌, ◌∷◌, ◌≡◌, ◌≤◌},
+  Words.{left_rows, length, length-append, length-map, moved, nobody, not, of_cell, one, or_else, owner_value, owns_nothing, pins, refl, row_of, sharing},
+  Words.{subst, sum_by-append, sum_by-cons, sum_by-le-sum_by, sum_by_push, sym, times, with_handle, with_load, with_mode, with_tables, without_load, ℕ, []},
+  Words.{◌&&◌, ◌++◌, ◌+◌, ◌==◌, ◌∙◌, ◌∷◌, ◌≡◌, ◌≤◌},
 }
-use Rattle.pagable_tables.specs.{
-  Core.{IsWhole, StorageView},
-  HandleTable.room,
-  Leaf.{DropsLeaf, IsLeaf, PinsLeaf, with_numbers},
-  declared.leaf.Leaf.Leaf,
-}
+use Rattle.pagable_tables.specs.{Core.{IsWhole, StorageView}, HandleTable.room, Leaf.{DropsLeaf, IsLeaf, PinsLeaf, with_numbers}, declared.leaf.Leaf.Leaf}
 
 turned-more : (n q : ℕ) (rows : List HandleRow) → pins n rows ≤ pins n (changed (is_handle q) turned rows)
 turned-more n q [] = omega arith
 turned-more n q (x ∷ xs) =
     grind (
-      arith,
-      nat_tests,
+      basics,
       sum_by-cons (λ h. one (is_pin n h)) x xs,
       sum_by-cons (λ h. one (is_pin n h)) (if is_handle q x then turned x else x)
           (changed (is_handle q) turned xs),
@@ -37,11 +31,11 @@ turned-more n q (x ∷ xs) =
     )
 
 shared-pins : (n : ℕ) (rows : List HandleRow) → sharing n rows ≤ pins n rows
-shared-pins n rows = sum_by-le-sum_by (λ h. one (is_share n h)) (λ h. one (is_pin n h)) rows (λ h. grind (arith, nat_tests))
+shared-pins n rows = sum_by-le-sum_by (λ h. one (is_share n h)) (λ h. one (is_pin n h)) rows (λ h. grind basics)
 
 -- the same has fallen where the state afterwards is told alike
 falls-as : {b u v w' : Core} {given : ℕ → Bool} → Falls b u given (Ok tt) v → Alike v w' → Falls b u given (Ok tt) w'
-falls-as falls a = let leaves = alike-on falls.leaves a in grind (arith, nat_tests)
+falls-as falls a = grind (basics, alike-on falls.leaves a)
 
 module _ (t t1 : Tables) (storage : StorageView) (was : IsWhole t) (whole : IsWhole t1) (me : Owner) (leaf : Leaf) (is : IsLeaf (core_alone t) me leaf) where
   abbrev w : Core
@@ -82,32 +76,32 @@ module _ (t t1 : Tables) (storage : StorageView) (was : IsWhole t) (whole : IsWh
       }
 
   opened : begun.loads (w.last.load + 1) ≡ Some (record { owner = me; key = leaf.key; root = of_cell row.node leaf.node_type row.number })
-  opened = grind (arith, nat_tests)
+  opened = grind basics
 
   -- ---- its guard falls
 
   none-yet : times (is_handle g) w.rows ≡ 0
-  none-yet = sum-none (λ h. one (is_handle g h)) w.rows (λ h among. let n = was.core.handles.numbered h among in grind (arith, nat_tests))
+  none-yet = sum-none (λ h. one (is_handle g h)) w.rows (λ h among. grind (basics, was.core.handles.numbered h among))
 
   own-none : (q : ℕ) → is_owned_in w (Owner.Load l) q ≡ false
   own-none q = elim (cases_Bool (is_owned_in w (Owner.Load l) q)) [
     | inl own ↦ absurd (none-owned w (Owner.Load l) q
-        (λ h among of. absurd (let n = was.core.loads.numbered l.0 (was.core.owners_there.loads h l among of) in omega arith)) own)
+        (λ h among of. absurd (omega (arith, was.core.loads.numbered l.0 (was.core.owners_there.loads h l among of)))) own)
     | inr other ↦ other
   ]
 
   none-at : (o : Option HandleRow) → find_row g w.rows ≡ o → o ≡ None
   none-at None found = refl
-  none-at (Some y) found = absurd (let f = found-among g w.rows y found in let n = was.core.handles.numbered y f.0 in let m = f.1 in omega arith)
+  none-at (Some y) found = absurd (let f = found-among g w.rows y found in omega (arith, was.core.handles.numbered y f.0))
 
   guard-owned : (q : ℕ) → (q == g) ≡ is_owned_in begun (Owner.Load l) q
   unfolding find_row
   guard-owned q =
-      let f : find_row q begun.rows ≡ or_else (find_row q w.rows) (find_row q (guard ∷ [])) = found-append q w.rows (guard ∷ []) in
+      let f = found-append q w.rows (guard ∷ []) in
       let s : find_row q (guard ∷ []) ≡ (if is_handle q guard then Some guard else None) = refl in
-      let o : is_owned_in w (Owner.Load l) q ≡ false = own-none q in
+      let o = own-none q in
       let n : q ≡ g → find_row q w.rows ≡ None = λ same. ap (λ k. find_row k w.rows) same ∙ none-at (find_row g w.rows) refl in
-      grind (arith, nat_tests, cases_eq q g, f, s, o, n)
+      grind (basics, cases_eq q g, f, s, o, n)
 
   -- the rows as the load closes have the guard between what else there is afterwards
   module _ (front beside rows : List HandleRow) (last : ℕ) (between : rows ≡ (front ++ guard ∷ []) ++ beside)
@@ -125,15 +119,14 @@ module _ (t t1 : Tables) (storage : StorageView) (was : IsWhole t) (whole : IsWh
     left-u : left_rows only rows ≡ w'.rows
     left-u =
         let apart : times (is_handle g) front + times (is_handle g) beside ≡ 0 =
-        omega (arith, sum_by-append (λ h. one (is_handle g h)) front beside, ap (times (is_handle g)) a.rows, none) in
+        omega (arith, sum_by-append (λ h. one (is_handle g h)) front beside, ap (times (is_handle g)) a.rows) in
         ap (left_rows only) between
-        ∙ grind (arith, nat_tests, filter-append, append-nil, left-none g front (omega arith), left-none g beside (omega arith), a.rows)
+        ∙ grind (basics, filter-append, append-nil, left-none g front (omega arith), left-none g beside (omega arith), a.rows)
 
     -- what the guard isn't is as often there as afterwards
     as-after : (p : HandleRow → Bool) → p guard ≡ false → times p rows ≡ times p w'.rows
     as-after p other = ap (times p) between ∙ grind (
-      arith,
-      nat_tests,
+      basics,
       sum_by-append (λ h. one (p h)) (front ++ guard ∷ []) beside,
       sum_by_push (λ h. one (p h)) front guard,
       sum_by-append (λ h. one (p h)) front beside,
@@ -142,7 +135,7 @@ module _ (t t1 : Tables) (storage : StorageView) (was : IsWhole t) (whole : IsWh
 
     none-listed : times (λ (h : HandleNumber). h.0 == g) w.list ≡ 0
     none-listed = was.core.owners_there.listed g ∙ sum-none (λ h. one (is_handle g h && is_owned_by Owner.List h)) w.rows
-        (λ h among. let n = was.core.handles.numbered h among in grind (arith, nat_tests))
+        (λ h among. grind (basics, was.core.handles.numbered h among))
 
     so-far : ReleasedSoFar u u only (not u.closed) after
     so-far = record {
@@ -150,25 +143,24 @@ module _ (t t1 : Tables) (storage : StorageView) (was : IsWhole t) (whole : IsWh
         open_storage = refl;
         fewer = λ n. omega arith;
         shared = λ n. omega arith;
-        uniform = λ n. let m = unmixed t1 whole n in let p = as-after (is_share n) (grind (arith, nat_tests)) in let q =
-            as-after (is_plain_pin n) (grind (arith, nat_tests)) in grind (arith, nat_tests);
-        listed = λ q. let m = whole.core.owners_there.listed q in let p = as-after (of_list q) (grind (arith, nat_tests)) in let s =
-            ap (times (λ (h : HandleNumber). h.0 == q)) a.list in omega arith;
+        uniform = λ n. let m = unmixed t1 whole n in let p = as-after (is_share n) (grind basics) in grind (basics, as-after (is_plain_pin n) (grind basics));
+        listed = λ q. let m = whole.core.owners_there.listed q in let s =
+            ap (times (λ (h : HandleNumber). h.0 == q)) a.list in omega (arith, as-after (of_list q) (grind basics));
       };
       gone = only;
       entries = [];
       rows = sym (append-nil _ ∙ left-u);
       list = a.list ∙ sym (append-nil _ ∙ kept-more nobody g w.list none-listed ∙ all-kept w.list);
-      last = let s = ap (λ (v : Last). v.handle) a.last in omega arith;
+      last = omega (arith, ap (λ (v : Last). v.handle) a.last);
       within = whole.core.handles.within.0;
       places = record { handles = omega arith; entries = omega arith };
       cells = λ n there. a.cells n;
-      holds = sum-none (λ (h : HandleRow). one (only h.number.0 && not (only h.number.0))) rows (λ h among. grind (arith, nat_tests));
+      holds = sum-none (λ (h : HandleRow). one (only h.number.0 && not (only h.number.0))) rows (λ h among. grind basics);
       least = λ s final bare has closed. has;
       new = tt;
       only = λ n some. absurd (omega arith);
       tells = record {
-        all = λ n must. (let p = as-after (is_pin n) (grind (arith, nat_tests)) in let m = must.pinned in let k = must.unpinned in
+        all = λ n must. (let p = as-after (is_pin n) (grind basics) in let m = must.pinned in let k = must.unpinned in
             absurd (omega arith));
         not_all = tt;
       };
@@ -184,7 +176,7 @@ module _ (t t1 : Tables) (storage : StorageView) (was : IsWhole t) (whole : IsWh
       stored = a.stored;
       closed = a.closed;
       failures = a.failures;
-      loads = λ q. grind (arith, nat_tests, cases_eq q (t.last_load + 1), a.loads q, was.core.loads.numbered);
+      loads = λ q. grind (basics, cases_eq q (t.last_load + 1), a.loads q, was.core.loads.numbered);
       workers = a.workers;
       last = a.last ∙ ap (λ h. record u.last { handle = h }) (sym (ap (λ (v : Last). v.handle) a.last));
       places = record { handles = omega arith; entries = omega arith };
@@ -193,9 +185,9 @@ module _ (t t1 : Tables) (storage : StorageView) (was : IsWhole t) (whole : IsWh
     -- what pins nothing afterwards pinned nothing before
     before-is : (n : ℕ) → pins n w'.rows ≡ 0 → (pins n rows ≡ pins n begun.rows) × (sharing n rows ≡ sharing n begun.rows)
     before-is n unpinned =
-        let p = as-after (is_pin n) (grind (arith, nat_tests)) in
+        let p = as-after (is_pin n) (grind basics) in
         let b : pins n begun.rows ≡ pins n w.rows + one (is_pin n guard) = sum_by_push (λ h. one (is_pin n h)) w.rows guard in
-        let z : one (is_pin n guard) ≡ 0 = grind (arith, nat_tests) in
+        let z : one (is_pin n guard) ≡ 0 = grind basics in
         let m = more n in
         let s = shared-pins n rows in
         let d = shared-pins n begun.rows in
@@ -204,7 +196,7 @@ module _ (t t1 : Tables) (storage : StorageView) (was : IsWhole t) (whole : IsWh
     guard-falls : (given : ℕ → Bool) → ((q : ℕ) → is_owned_in begun (Owner.Load l) q ≡ given q) → Falls begun u given (Ok tt) w'
     guard-falls given own = subst (λ s. Falls begun u s (Ok tt) w') (λ i q. (guard-owned q ∙ own q) i)
         (seen-before {b = u} {w = begun} {u = u} u.places (record { handles = omega arith; entries = omega arith }) before-is
-        (falls-as (ended u u only (not u.closed) after so-far (aside t1.ref_counts None [] owns_nothing whole.steady)) alike-after))
+        (falls-as (ended so-far (aside t1.ref_counts None [] owns_nothing whole.steady)) alike-after))
 
   -- ---- it is dropped: only its number and that of its guard are taken
 
@@ -217,7 +209,7 @@ module _ (t t1 : Tables) (storage : StorageView) (was : IsWhole t) (whole : IsWh
         let places = was.core.handles.places in
         let counted = was.steady.sound.counted in
         let more = length-append w.rows (guard ∷ []) in
-        subst (λ p. ArePlaced (record begun { places = p })) (sym places-stay) (record { rows = omega arith; list = places.1 })
+        rw places-stay (record { rows = omega arith; list = places.1 })
 
     pub drops-leaf : DropsLeaf w me row leaf.key leaf.node_type w'
     drops-leaf = record {
@@ -251,15 +243,15 @@ module _ (t t1 : Tables) (storage : StorageView) (was : IsWhole t) (whole : IsWh
         let more = length-append w.rows (guard ∷ []) in
         let places = whole.core.handles.places in
         let list = ap length a.list in
-        record { rows = grind (arith, nat_tests); list = omega arith }
+        record { rows = grind basics; list = omega arith }
 
     away-still : is_here begun row.node.0 ≡ false
-    away-still = let b = sum_by_push (λ h. one (is_pin row.node.0 h)) w.rows guard in let away = is.away in grind (arith, nat_tests)
+    away-still = grind (basics, sum_by_push (λ h. one (is_pin row.node.0 h)) w.rows guard, is.away)
 
     may : MayEnd begun me l row.node row.number leaf.node_type []
     may = record {
       load = record { owner = me; key = leaf.key; root = of_cell row.node leaf.node_type row.number };
-      owned = record { stands_open = grind (arith, nat_tests); own = refl };
+      owned = record { stands_open = grind basics; own = refl };
       of_node = refl;
       good = none-named begun (Owner.Load l) [] refl;
     }
@@ -267,12 +259,11 @@ module _ (t t1 : Tables) (storage : StorageView) (was : IsWhole t) (whole : IsWh
     between : ended-rows ≡ (turned-rows ++ guard ∷ []) ++ x ∷ []
     between = ap (λ rs. changed (is_handle row.number.0) turned rs ++ x ∷ []) (moved-nobody (owner_value row.node.0) begun.rows)
         ∙ ap (λ rs. rs ++ x ∷ []) (changed-push row.number.0 turned w.rows guard
-        (let here = was.core.handles.numbered row (found-among row.number.0 w.rows row owned.live).0 in omega arith))
+        (omega (arith, was.core.handles.numbered row (found-among row.number.0 w.rows row owned.live).0)))
 
     none-pinned : times (is_handle g) w'.rows ≡ 0
     none-pinned = ap (times (is_handle g)) a.rows ∙ grind (
-      arith,
-      nat_tests,
+      basics,
       sum_by_push (λ h. one (is_handle g h)) turned-rows x,
       turned-sum (λ h. one (is_handle g h)) row.number.0 w.rows (λ y. refl),
       none-yet,
@@ -294,7 +285,7 @@ module _ (t t1 : Tables) (storage : StorageView) (was : IsWhole t) (whole : IsWh
           told = Ok tt;
           falls = guard-falls turned-rows (x ∷ []) ended-rows (g + 1) between a cache none-pinned more-pins
               (λ q. is_owned_in begun (Owner.Load l) q && not (is_named_by [] q))
-              (λ q. let none = named-none q in grind (arith, nat_tests));
+              (λ q. grind (basics, named-none q));
         },
       );
     }

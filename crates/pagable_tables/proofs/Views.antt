@@ -9,9 +9,9 @@ use Rattle.pagable_tables.proofs.{
   SameViews.{found-map, owner-same},
   Words.{Alike, AllPairs, AllPairs-filter, Among, ArcRef, ArePlaced, Bool, Cell, Core, Err, Error, Falls, HandleNumber, HandleRow, IsEntryWhole},
   Words.{IsHandleBefore, IsWhole, Last, List, MakesHandle, MayOwnHandle, MayOwnLoad, Mode, NodeNumber, None, Ok, OpenLoad, Option, OptionalDataKey, Owner},
-  Words.{Owns, Result, SameAt, Some, Suits, ap, arith, cases_eq, changed, fallen, false, filter, find_row, greatest, has_key, held, if_there, if◌then◌else◌},
-  Words.{inl, inr, is_at, is_handle, is_loose, is_named_by, is_owned_by, is_owned_in, is_owner, is_pin, is_share, is_shared, is_some, is_value_owner},
-  Words.{left_rows, length, map, moved, nat_lt, nat_tests, next_node, not, one, option_map, or_else, owner_value, reference_fault, references_fault, refl},
+  Words.{Owns, Result, SameAt, Some, Suits, ap, arith, basics, cases_eq, changed, fallen, false, filter, find_row, greatest, has_key, held, if_there},
+  Words.{if◌then◌else◌, inl, inr, is_at, is_handle, is_loose, is_named_by, is_owned_by, is_owned_in, is_owner, is_pin, is_share, is_shared, is_some},
+  Words.{is_value_owner, left_rows, length, map, moved, nat_lt, next_node, not, one, option_map, or_else, owner_value, reference_fault, references_fault, refl},
   Words.{row_at, row_of, subst, sum_by-append, sum_by_push, sym, times, true, updated, with_handle, with_mode, with_node, with_pin, ℕ, [], ◌&&◌, ◌++◌, ◌+◌},
   Words.{◌<◌, ◌==◌, ◌∙◌, ◌∷◌, ◌≡◌, ◌≢◌, ◌≤◌, ◌⊎◌},
 }
@@ -21,8 +21,12 @@ use Rattle.std.proofs.lemmas.{Bool.not-true, Option.slice_get-map}
 
 pub owned-moved : (s : ℕ → Bool) (o a : Owner) (q : ℕ) (rows : List HandleRow) → is_owner a o ≡ false → owned a q (moved s o rows)
     ≡ (owned a q rows && not (s q))
-owned-moved s o a q rows other = let is = found-map (λ x. if s x.number.0 then record x { owner = o } else x) (λ x. grind (arith, nat_tests)) q rows in
-    grind (arith, nat_tests, found-among q rows)
+owned-moved s o a q rows other = grind (
+  basics,
+  found-among q rows,
+  found-map (λ x. if s x.number.0 then record x { owner = o } else x) (λ x. grind basics) q
+      rows,
+)
 
 -- loads and workers give up what they have together
 abbrev pub is_giver : Owner → Bool
@@ -39,27 +43,26 @@ OnlyNewer w w' = IsNewer w.rows w'.rows w.last.handle w'.last.handle
 
 pub newer-alike : {w w' : Core} → Alike w w' → OnlyNewer w w'
 newer-alike {w} {w'} a = record {
-  last = (let e = ap (λ (l : Last). l.handle) a.last in omega arith);
+  last = (omega (arith, ap (λ (l : Last). l.handle) a.last));
   kept = λ o q gives own. inl (sym (ap (owned o q) a.rows) ∙ own);
 }
 
 pub newer-then : {r s t : List HandleRow} {i j k : ℕ} → IsNewer r s i j → IsNewer s t j k → IsNewer r t i k
-newer-then p q = grind (arith, nat_tests)
+newer-then p q = grind basics
 
 pub newer-handle : (w : Core) (node : NodeNumber) (mode : Mode) (owner : Owner) → OnlyNewer w (with_handle w node mode owner)
 unfolding find_row
-newer-handle w node mode owner = record { last = omega arith; kept = λ o q gives own. grind (arith, nat_tests, found-append, found-among) }
+newer-handle w node mode owner = record { last = omega arith; kept = λ o q gives own. grind (basics, found-append, found-among) }
 
 pub newer-moved : (w : Core) (s : ℕ → Bool) (o : Owner) → is_giver o ≡ false → OnlyNewer w (record w { rows = moved s o w.rows })
-newer-moved w s o other = grind (arith, nat_tests, and-left, owned-moved)
+newer-moved w s o other = grind (basics, and-left, owned-moved)
 
 pub owned-mode : (o : Owner) (q : ℕ) (test : HandleRow → Bool) (mode : Mode) (rows : List HandleRow)
     → owned o q (changed test (λ row. record row { mode = mode }) rows) ≡ owned o q rows
-owned-mode o q test mode rows = let is = found-map (λ x. if test x then record x { mode = mode } else x) (λ x. grind (arith, nat_tests)) q rows in
-    grind (arith, nat_tests)
+owned-mode o q test mode rows = grind (basics, found-map (λ x. if test x then record x { mode = mode } else x) (λ x. grind basics) q rows)
 
 pub newer-falls : {before u w' : Core} {given : ℕ → Bool} {r : Result (Unit {0}) Error} → Falls before u given r w' → OnlyNewer u w'
-newer-falls {before} {u} {w'} falls = grind (arith, nat_tests, passes-left, no-entry, unlisting)
+newer-falls {before} {u} {w'} falls = grind (basics, passes-left, no-entry, unlisting)
 
 -- ---- a world that is told alike
 
@@ -86,9 +89,9 @@ module _ {m : Core} (w' : Core) (whole : IsWhole m) (rows : w'.rows ≡ m.rows) 
         last = last i;
       } in
       let places : (length m.rows ≤ w'.places.handles) × (length m.list ≤ w'.places.entries) =
-      (omega (arith, placed.rows, ap length rows), omega (arith, placed.list, ap length list)) in
+      (omega (arith, ap length rows), omega (arith, ap length list)) in
       let known : (kind key n : ℕ) → w'.cache kind key ≡ Some n → IsEntryWhole m kind n = λ kind key n is. whole.cache kind key n (cache kind key n is) in
-      subst IsWhole (sym same) (keeps-whole whole (grind (arith, nat_tests, same-rows, whole, is-in whole, loads-stay)))
+      subst IsWhole (sym same) (keeps-whole whole (grind (basics, same-rows, whole, is-in whole, loads-stay)))
 
 pub roomy-whole : {w : Core} → IsWhole w → IsWhole (roomy w)
 roomy-whole {w} whole = told-whole (roomy w) whole refl (λ n. refl) refl (λ kind key n is. is) (λ l. refl) (λ v. refl) refl
@@ -158,7 +161,7 @@ module _ {w : Core} (whole : IsWhole w) (test : HandleRow → Bool) (f : HandleR
       let turned = roomy (record w { rows = changed test f w.rows; list = list }) in
       let on : GoOn w turned = record {
         last = (omega arith, omega arith, omega arith);
-        ordered = ordered-map to w.rows (λ x. grind (arith, nat_tests, number x)) whole.handles.ordered;
+        ordered = ordered-map to w.rows (λ x. grind (basics, number x)) whole.handles.ordered;
         fresh = false;
         rows = λ h among. inl (among-changed test f (IsOld w.rows) w.rows h among
             (λ x there e. record {
@@ -176,7 +179,7 @@ module _ {w : Core} (whole : IsWhole w) (test : HandleRow → Bool) (f : HandleR
       } in
       let there : (h : HandleRow) → Among turned.rows h → IsIn w h.mode h.owner =
       λ h among. among-changed test f (λ y. IsIn w y.mode y.owner) w.rows h among owners (λ x there e. is-in whole x there) in
-      keeps-whole whole (grind (arith, nat_tests, listed, loads-stay))
+      keeps-whole whole (grind (basics, listed, loads-stay))
 
   -- where no handle comes to the list or from it
   pub turned-still : ((x : HandleRow) → Among w.rows x → test x ≡ true → is_owned_by Owner.List (f x) ≡ is_owned_by Owner.List x)
@@ -192,13 +195,13 @@ pub moded : {w : Core} → IsWhole w → (h : HandleNumber) (row : HandleRow) (m
     → (is_loose row.mode ≡ true → is_loose mode ≡ true) → (row.owner ≡ Owner.List → mode ≡ Mode.LooseUnpinned) → Turns w (with_mode w h mode)
 moded {w} whole h row mode live shared loose waits =
     let the-row : (x : HandleRow) → Among w.rows x → is_handle h.0 x ≡ true → x ≡ row =
-    λ x among is. let a = found-among h.0 w.rows row live in once w.rows whole.handles.ordered x row among a.0 (let b = a.1 in grind (arith, nat_tests)) in
+    λ x among is. let a = found-among h.0 w.rows row live in once w.rows whole.handles.ordered x row among a.0 (grind (basics, a.1)) in
     let same : (x : HandleRow) → Among w.rows x → is_handle h.0 x ≡ true → is_shared mode ≡ is_shared x.mode =
     λ x among e. shared ∙ ap (λ (y : HandleRow). is_shared y.mode) (sym (the-row x among e)) in
     let loosely : (x : HandleRow) → Among w.rows x → is_handle h.0 x ≡ true → is_loose x.mode ≡ true → is_loose mode ≡ true =
     λ x among e was. loose (ap (λ (y : HandleRow). is_loose y.mode) (sym (the-row x among e)) ∙ was) in (
       turned-still whole (is_handle h.0) (λ x. record x { mode = mode }) (λ x. refl) (λ x. refl) same loosely (λ x among e. refl)
-          (λ x among e. let i = is-in whole x among in let r = the-row x among e in grind (arith, nat_tests, waits)),
+          (λ x among e. grind (basics, waits, is-in whole x among, the-row x among e)),
       turned-on whole (is_handle h.0) (λ x. record x { mode = mode }) (λ x. refl) (λ x. refl) same loosely,
       record { last = omega arith; kept = λ o q gives own. inl (sym (owned-mode o q (is_handle h.0) mode w.rows) ∙ own) },
     )
@@ -207,10 +210,10 @@ moded {w} whole h row mode live shared loose waits =
 
 -- who may hold is neither the list nor a value
 pub not-list : (w : Core) (o : Owner) → MayOwnHandle w o → is_owner Owner.List o ≡ false
-not-list w o may = grind (arith, nat_tests)
+not-list w o may = grind basics
 
 pub not-a-value : (w : Core) (o : Owner) → MayOwnHandle w o → is_value_owner o ≡ false
-not-a-value w o may = grind (arith, nat_tests)
+not-a-value w o may = grind basics
 
 -- Of a node that is there, or of a new one.
 module _ {w : Core} (whole : IsWhole w) (x : HandleRow) (cells : ℕ → Option Cell) (last : ℕ) (number : x.number.0 ≡ w.last.handle + 1)
@@ -232,21 +235,21 @@ module _ {w : Core} (whole : IsWhole w) (x : HandleRow) (cells : ℕ → Option 
       } in
       let on : GoOn w grown = record {
         last = (omega arith, more, omega arith);
-        ordered = ordered-push w.rows x (λ y among. let a = whole.handles.numbered y among in omega arith) whole.handles.ordered;
+        ordered = ordered-push w.rows x (λ y among. omega (arith, whole.handles.numbered y among)) whole.handles.ordered;
         fresh = is_shared x.mode;
         rows = λ h among. elim (among-both w.rows (x ∷ []) h among) [
           | inl old ↦ inl (stays-old old)
-          | inr new ↦ inr (subst (IsNew w grown (is_shared x.mode)) (sym (among-one x h new)) come)
+          | inr new ↦ inr (rw (among-one x h new) come)
         ];
-        live = λ n. grind (arith, nat_tests, sum_by_push (λ h. one (is_at n h)) w.rows x, same n);
+        live = λ n. grind (basics, sum_by_push (λ h. one (is_at n h)) w.rows x, same n);
         typed = λ n t given is. sym (ap type_in (same n (inr given))) ∙ is;
         keyed = λ n like given none. ap keyed_in (same n (inr given)) ∙ none;
       } in
       let listed : (q : ℕ) → times (λ (h : HandleNumber). h.0 == q) w.list ≡ times (of_list q) grown.rows = λ q.
-      grind (arith, nat_tests, sum_by_push (λ h. one (of_list q h)) w.rows x, whole.owners_there.listed q, not-list w x.owner holder) in
+      grind (basics, sum_by_push (λ h. one (of_list q h)) w.rows x, whole.owners_there.listed q, not-list w x.owner holder) in
       let owners : (h : HandleRow) → Among grown.rows h → IsIn w h.mode h.owner = λ h among.
-      grind (arith, nat_tests, among-both w.rows (x ∷ []) h among, among-one x h, is-in whole h, holder-in w x.mode x.owner holder) in
-      keeps-whole whole (grind (arith, nat_tests, loads-stay))
+      grind (basics, among-both w.rows (x ∷ []) h among, among-one x h, is-in whole h, holder-in w x.mode x.owner holder) in
+      keeps-whole whole (grind (basics, loads-stay))
 
 -- beside the handles that its node has
 pub beside : {w : Core} → IsWhole w → (node : NodeNumber) (mode : Mode) (owner : Owner) → HasLike w.rows node.0 (is_shared mode) → MayOwnHandle w owner
@@ -254,7 +257,7 @@ pub beside : {w : Core} → IsWhole w → (node : NodeNumber) (mode : Mode) (own
     → Turns w (with_handle w node mode owner)
 beside {w} whole node mode owner like holder left = (
   grown-whole whole (row_of (w.last.handle + 1) node mode owner) w.cells w.last.node refl left (omega arith) whole.handles.within.1
-      (subst (λ n. is_some (w.cells n) ≡ true) like.at (there-then whole like.row like.there)) (λ n d. refl) (inl like) holder,
+      (rw like.at at (there-then whole like.row like.there)) (λ n d. refl) (inl like) holder,
   record { like = λ x among. record { row = x; there = among-more w.rows _ x among; at = refl; same = refl } },
   newer-handle w node mode owner,
 )
@@ -287,7 +290,7 @@ module _ {before : Core} (m u : Core) {w' : Core} {given : ℕ → Bool} {r : Re
   entered n some =
       let must = (f.only n some).0 in
       let (x, among, counts) = counted (λ h. one (is_pin n h)) before.rows must.pinned in
-      grind (arith, nat_tests, must.unshared, at-most-sum (λ h. one (is_share n h)) before.rows x among, on.like x among)
+      grind (basics, must.unshared, at-most-sum (λ h. one (is_share n h)) before.rows x among, on.like x among)
 
   -- what is true of each row that is left, and of each entry
   each-row : (P : HandleRow → Type 0) → ((h : HandleRow) → Among m.rows h → f.gone h.number.0 ≡ false → P h)
@@ -300,20 +303,26 @@ module _ {before : Core} (m u : Core) {w' : Core} {given : ℕ → Bool} {r : Re
   there : (n : ℕ) → 0 < held n after.rows → is_some (m.cells n) ≡ true
   there n some =
       let found = counted (λ h. one (is_at n h)) after.rows some in
-      subst (λ k. is_some (m.cells k) ≡ true) (at-then n found.0 found.2)
+      rw (at-then n found.0 found.2) at
       (each-row (λ h. is_some (m.cells h.node.0) ≡ true) (λ h old kept. there-then whole h old)
-      (λ h like e. subst (λ k. is_some (m.cells k) ≡ true) like.at (there-then whole like.row like.there)) found.0 found.1)
+      (λ h like e. rw like.at at (there-then whole like.row like.there)) found.0 found.1)
 
   still-listed : (q : ℕ) → times (λ (h : HandleNumber). h.0 == q) after.list ≡ times (of_list q) after.rows
   still-listed q =
       let none : given q ≡ true → f.gone q ≡ false → times (of_list q) m.rows ≡ 0 = λ is stays. sum-none (λ h. one (of_list q h)) m.rows (λ h among.
       let g = within-goes m.rows given f.gone h f.set.holds among in let o : of_list q h ≡ true → h.number.0 ≡ q =
-      λ is. grind (arith, nat_tests) in grind (arith, nat_tests)) in
-      let kept = one-left (λ (h : HandleNumber). h.0) (λ h. h.0 == q) q (λ h is. grind (arith, nat_tests)) f.gone (f.gone q) refl u.list in
-      let rows = one-left (λ (h : HandleRow). h.number.0) (of_list q) q (λ h is. grind (arith, nat_tests)) f.gone (f.gone q) refl m.rows in
+      λ is. grind basics in grind basics) in
+      let kept = one-left (λ (h : HandleNumber). h.0) (λ h. h.0 == q) q (λ h is. grind basics) f.gone (f.gone q) refl u.list in
       let list = sum_by-append (λ (h : HandleNumber). one (h.0 == q)) (filter (λ (h : HandleNumber). not (f.gone h.0)) u.list)
       (map (λ (h : HandleRow). h.number) f.entries) in
-      grind (arith, nat_tests, lost.listed q, none, entries-listed q m.last.handle f.entries f.new, sum_by-append (λ h. one (of_list q h)) left f.entries)
+      grind (
+        basics,
+        lost.listed q,
+        none,
+        entries-listed q m.last.handle f.entries f.new,
+        sum_by-append (λ h. one (of_list q h)) left f.entries,
+        one-left (λ (h : HandleRow). h.number.0) (of_list q) q (λ h is. grind basics) f.gone (f.gone q) refl m.rows,
+      )
 
   fallen-whole : IsWhole after
   fallen-whole =
@@ -323,10 +332,10 @@ module _ {before : Core} (m u : Core) {w' : Core} {given : ℕ → Bool} {r : Re
             (AllPairs-filter IsHandleBefore (λ (x : HandleRow). not (f.gone x.number.0)) m.rows whole.handles.ordered);
         fresh = false;
         rows = each-row (λ h. IsOld m.rows h ⊎ IsNew (roomy m) after false h) (λ h old kept. inl (stays-old old))
-            (λ h like e. inr (grind (arith, nat_tests, e.above, e.number, e.mode)));
-        live = λ n. grind (arith, nat_tests, there);
-        typed = λ n t given is. grind (arith, nat_tests);
-        keyed = λ n like given none. grind (arith, nat_tests);
+            (λ h like e. inr (grind (basics, e.above, e.number, e.mode)));
+        live = λ n. grind (basics, there);
+        typed = λ n t given is. grind basics;
+        keyed = λ n like given none. grind basics;
       } in
       keeps-whole whole (record {
         on = on;
@@ -336,10 +345,9 @@ module _ {before : Core} (m u : Core) {w' : Core} {given : ℕ → Bool} {r : Re
         owners = each-row (λ h. IsIn after h.mode h.owner)
             (λ h old kept. elim (lost.owners h old) [
               | inl there ↦ there
-              | inr gives ↦ let g : true
-                  ≡ false = sym (within-goes m.rows given f.gone h f.set.holds old gives) ∙ kept in absurd (cc)
+              | inr gives ↦ let g = sym (within-goes m.rows given f.gone h f.set.holds old gives) ∙ kept in absurd (cc)
             ])
-            (λ h like e. subst (IsIn after h.mode) (sym e.owner) e.mode);
+            (λ h like e. rw e.owner e.mode);
         loads = λ l load is. let a = lost.loads l load is in (a.1, inl a.0);
         cache = λ kind key n is. whole.cache kind key n (lost.cache kind key n is);
         workers = λ v is. whole.workers_numbered v (lost.workers v is);
@@ -402,17 +410,17 @@ makes-goes {w} node mode owner (Ok k) whole suits holder makes =
 makes-goes node mode owner (Err e) whole suits holder makes = alike-goes whole makes.refused.stays
 
 pub loose-unshared : (mode : Mode) → is_loose mode ≡ true → is_shared mode ≡ false
-loose-unshared mode is = grind (arith, nat_tests)
+loose-unshared mode is = grind basics
 
 -- a loose handle of one who may hold is pinned, and a Pinned one is made
 pub pin-comes : {w : Core} (h : HandleNumber) (row : HandleRow) (me : Owner) → IsWhole w → MayOwnHandle w me → Owns w me h is_loose row
     → w.last.handle < greatest
     → Turns w (with_pin w h row.node me)
 pin-comes {w} h row me whole holder owns left =
-    let loosely : is_shared Mode.LoosePinned ≡ is_shared row.mode = sym (loose-unshared row.mode owns.as_asked) in
+    let loosely = sym (loose-unshared row.mode owns.as_asked) in
     let (loose, on, newer) = moded whole h row Mode.LoosePinned owns.live loosely (λ loose. refl)
-    (λ is. absurd (let f : true ≡ false = ap (is_owner Owner.List) (sym is ∙ owns.own) ∙ not-list w me holder in cc)) in
-    let like = subst (HasLike (with_mode w h Mode.LoosePinned).rows row.node.0) (sym loosely) (on.like row (found-among h.0 w.rows row owns.live).0) in
+    (λ is. absurd (let f = ap (is_owner Owner.List) (sym is ∙ owns.own) ∙ not-list w me holder in cc)) in
+    let like = rw (← loosely) at (on.like row (found-among h.0 w.rows row owns.live).0) in
     let (pinned, more, last) = beside loose row.node Mode.Pinned me like holder left in (pinned, then-on on more, newer-then newer last)
 
 -- ---- references that are good
@@ -423,7 +431,7 @@ own-of w ordered owner x among own = owner-same owner x.owner (sym (ap (if_there
     ∙ own)
 
 pub or-none : {X : Type 0} (a b : Option X) → or_else a b ≡ None → (a ≡ None) × (b ≡ None)
-or-none x0 b e = grind (arith, nat_tests)
+or-none x0 b e = grind basics
 
 pub named-mine : (w : Core) (owner : Owner) (seen : List ℕ) (refs : List ArcRef) → references_fault w owner seen refs ≡ None → (q : ℕ) → is_named_by refs q
     ≡ true → is_owned_in w owner q ≡ true
@@ -431,7 +439,7 @@ unfolding references_fault is_named_by
 named-mine w owner seen [] good q named = absurd (cc)
 named-mine w owner seen (r ∷ rs) good q named =
     let parts = or-none (reference_fault w owner seen r) (references_fault w owner (r.handle.0 ∷ seen) rs) good in
-    let a = parts.0 in grind (arith, nat_tests, cases_eq r.handle.0 q, named-mine w owner (r.handle.0 ∷ seen) rs parts.1 q)
+    grind (basics, cases_eq r.handle.0 q, named-mine w owner (r.handle.0 ∷ seen) rs parts.1 q, parts.0)
 
 -- what is named is the owner's, so it isn't the list's
 pub named-own : (w : Core) → AllPairs IsHandleBefore w.rows → (owner : Owner) (refs : List ArcRef) → references_fault w owner [] refs ≡ None → (x : HandleRow)
@@ -456,8 +464,8 @@ module _ {w : Core} (whole : IsWhole w) (node_type : ℕ) (key : OptionalDataKey
   born-whole = grown-whole (moved-to-value whole (is_named_by refs) (named-unlisted whole from refs other good) (w.last.node + 1))
       (row_of (w.last.handle + 1) (next_node w) mode me)
       (updated (w.last.node + 1) (Some (record { node_type = node_type; key = key })) w.cells) (w.last.node + 1)
-      refl left (omega arith) (omega arith) (grind (arith, nat_tests)) (λ n old. grind (arith, nat_tests))
-      (inr (omega arith, omega arith, λ is. grind (arith, nat_tests, unkeyed is))) holder
+      refl left (omega arith) (omega arith) (grind basics) (λ n old. grind basics)
+      (inr (omega arith, omega arith, λ is. grind (basics, unkeyed is))) holder
 
 pub none-named : (w : Core) (owner : Owner) (refs : List ArcRef) → refs ≡ [] → references_fault w owner [] refs ≡ None
 unfolding references_fault

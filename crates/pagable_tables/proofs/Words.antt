@@ -1,4 +1,5 @@
--- The names that most proofs here cite, passed on from one place. Declares nothing.
+-- The names that most proofs here cite, passed on from one place; and what most of them prove by.
+use Rattle.std.proofs.lemmas.Bool.Decides.{nat_tests}
 pub use Rattle.indexmap.specs.IndexMap.{IndexMap, get}
 pub use Rattle.pagable_pager_spec.specs.{
   Basics.{Among, Blob, SameAt, changed, if_there, is_loose_kind, is_pinned_kind, is_shared_kind, one, or_else, times, type_of, updated},
@@ -26,7 +27,7 @@ pub use Rattle.pagable_tables.specs.{
   Core.{ArePlaced, AreRangesWider, InReach, InsertsNode, LoadsAre, MakesHandle, MayOwnHandle, OnlyRoom, OwnLaterHandles, Suits, contains_row, core_alone},
   Core.{core_of, left_load, load_in, named_at, passes_in, root_in},
   EndingLoads.{IsReady, adopt_check_fault, has_value_once_loaded},
-  HandleTable.{AreSound, Becomes, IsBefore, IsNext, alive, is_live_place, live},
+  HandleTable.{AreSound, Becomes, IsBefore, IsNext, alive, is_live_place, live, rows_of},
   Indexes.{cached_at, is_same, load_at, reach_at, worker_at},
   Nodes.{cell_in, counts_at, falls_in, has_value, holds_in, key_in, next_in, pins_in, refs_at},
   NumberTable.row_by,
@@ -45,7 +46,7 @@ pub use Rattle.std.proofs.{
   Common.{not, refl, rules, set, slice_get, subst, suc, sum_by, sym, take, take_all, true, vec_capacity, zero, ℕ, [], ◌&&◌, ◌*◌, ◌++◌, ◌+◌, ◌-◌, ◌/◌, ◌<◌},
   Common.{◌==◌, ◌||◌, ◌∙◌, ◌∷◌, ◌≡◌, ◌≤◌, ◌⊎◌},
   Math.{Bool.and-true, Seq.take-suc},
-  lemmas.{Bool.{Decides.nat_tests, and_parts, cases_Bool, cases_eq}, Grind.get_or-set_at},
+  lemmas.{Bool.{and_parts, cases_Bool, cases_eq}, Grind.get_or-set_at},
   lemmas.List.{Elements.{All-filter, All-push, All-set, filter-append, filter_from_retain}, Kept.AllPairs-filter, Quantifiers.all_pairs_push},
   lemmas.List.{Sums.{get_or-le-sum_by, sum_by-append, sum_by-cons, sum_by-le-sum_by, sum_by-remove, sum_by-set, sum_by_push}, append-nil, append_assoc},
   lemmas.List.{at_drop_all, at_drop_more, drop_all, get_or-map, get_or-set_other, get_or_default, length-append, length-map, length-set, map-append},
@@ -53,3 +54,6 @@ pub use Rattle.std.proofs.{
 }
 pub use Rattle.std.specs.{List.AllPairs, Option.option_map, Prelude.{IfSome, IsSome, Result, is_some, nat_lt, ◌≢◌}}
 unfoldable pub use Rattle.{pagable_tables.specs.Core.seen, pagable_pager_spec.specs.{Calls.is_named_by, Kinds.find_row, Basics.is_in, Refusals.{named_fault, references_fault}}}
+
+-- arithmetic, and what tests of numbers tell
+pub ruleset basics = (arith, nat_tests)

@@ -3,27 +3,18 @@ use Rattle.pagable_tables.proofs.{
   Counting.{one-le, ones},
   RowCounts.{at-most-sum, counted, found-among, found-so, sum-map},
   Words.{AllPairs, Bool, Core, HandleNumber, HandleRow, IsHandleBefore, List, NodeNumber, NodeRow, None, NumberTable, Option, Owner, ReleaseSet, Some, ap},
-  Words.{arith, cases_eq, contains_row, false, find_row, held, if◌then◌else◌, inl, inr, is_at, is_in, length, moved, nat_tests, numbers_of, one, passes_in},
-  Words.{refl, subst, suc, sum_by-cons, sum_by-le-sum_by, sum_by_push, sym, take, times, true, zero, ℕ, [], ◌&&◌, ◌++◌, ◌+◌, ◌∷◌, ◌≡◌, ◌≤◌},
+  Words.{arith, basics, cases_eq, contains_row, false, find_row, held, if◌then◌else◌, inl, inr, is_at, is_in, length, moved, numbers_of, one, passes_in, refl},
+  Words.{suc, sum_by-cons, sum_by-le-sum_by, sum_by_push, take, times, true, zero, ℕ, [], ◌&&◌, ◌++◌, ◌+◌, ◌∷◌, ◌≡◌, ◌≤◌},
 }
 use Rattle.pagable_tables.specs.{CascadeInvariant.{BoundsWorkerHandles, is_work, is_worker}, Nodes.most_worker_handles_at}
 use Rattle.pagable_value_spec.specs.declared.numbers.WorkerNumber.{WorkerNumber}
-
-pub work-told : (nodes : NumberTable NodeRow) (rows rows' : List HandleRow) → rows' ≡ rows → BoundsWorkerHandles rows nodes → BoundsWorkerHandles rows' nodes
-work-told nodes rows rows' e w = subst (λ r. BoundsWorkerHandles r nodes) (sym e) w
-
-pub work-more : (rows : List HandleRow) (nodes nodes' : NumberTable NodeRow) → ((n : ℕ) → most_worker_handles_at nodes n ≤ most_worker_handles_at nodes' n)
-    → BoundsWorkerHandles rows nodes
-    → BoundsWorkerHandles rows nodes'
-work-more rows nodes nodes' more w n = omega (arith, more n, w n)
 
 -- those that moved count where they are a worker's from now on
 moves : (n : ℕ) (s : ℕ → Bool) (o : Owner) (rows : List HandleRow) → times (is_work n) (moved s o rows) ≤ times (is_work n) rows + times
     (λ h. s h.number.0 && (is_at n h && is_worker o)) rows
 moves n s o [] = omega arith
 moves n s o (x ∷ xs) = grind (
-  arith,
-  nat_tests,
+  basics,
   sum_by-cons (λ h. one (is_work n h)) x xs,
   sum_by-cons (λ h. one (s h.number.0 && (is_at n h && is_worker o))) x xs,
   moves n s o xs,
@@ -32,7 +23,7 @@ moves n s o (x ∷ xs) = grind (
 
 none-to : (n : ℕ) (s : ℕ → Bool) (o : Owner) (rows : List HandleRow) → is_worker o ≡ false → times (λ h. s h.number.0 && (is_at n h && is_worker o)) rows ≡ 0
 none-to n s o [] e = refl
-none-to n s o (x ∷ xs) e = grind (arith, nat_tests, sum_by-cons (λ h. one (s h.number.0 && (is_at n h && is_worker o))) x xs, none-to n s o xs e)
+none-to n s o (x ∷ xs) e = grind (basics, sum_by-cons (λ h. one (s h.number.0 && (is_at n h && is_worker o))) x xs, none-to n s o xs e)
 
 pub work-moved : (nodes : NumberTable NodeRow) (s : ℕ → Bool) (o : Owner) (rows : List HandleRow) → is_worker o ≡ false → BoundsWorkerHandles rows nodes
     → BoundsWorkerHandles (moved s o rows) nodes
@@ -49,19 +40,19 @@ work-comes nodes nodes' s o rows ordered w more here n = at (times (λ h. s h.nu
     at : (many : ℕ) → times (λ h. s h.number.0 && is_at n h) rows ≡ many → times (is_work n) (moved s o rows) ≤ most_worker_handles_at nodes' n
     at zero e =
         let fewer = sum_by-le-sum_by (λ (h : HandleRow). one (s h.number.0 && (is_at n h && is_worker o))) (λ h. one (s h.number.0 && is_at n h)) rows
-        (λ h. grind (arith, nat_tests)) in
-        omega (arith, moves n s o rows, fewer, e, more n, w n)
+        (λ h. grind basics) in
+        omega (arith, moves n s o rows, more n, w n)
     at (suc many) e =
         let (x, among, some) = counted (λ (h : HandleRow). one (s h.number.0 && is_at n h)) rows (omega arith) in
-        let is : (s x.number.0 ≡ true) × (x.node.0 ≡ n) = grind (arith, nat_tests) in
+        let is : (s x.number.0 ≡ true) × (x.node.0 ≡ n) = grind basics in
         let all = here x.number.0 x is.0 (found-so x.number.0 rows x ordered among refl) in
-        let less = sum_by-le-sum_by (λ (h : HandleRow). one (is_work n h)) (λ h. one (is_at n h)) (moved s o rows) (λ h. grind (arith, nat_tests)) in
+        let less = sum_by-le-sum_by (λ (h : HandleRow). one (is_work n h)) (λ h. one (is_at n h)) (moved s o rows) (λ h. grind basics) in
         let same = sum-map (λ h. one (is_at n h)) (λ h. one (is_at n h)) (λ (h : HandleRow). if s h.number.0 then record h { owner = o } else h) rows
-        (λ h among. grind (arith, nat_tests)) in
-        omega (arith, all, less, same, ap (λ m. held m rows) is.1, ap (most_worker_handles_at nodes') is.1)
+        (λ h among. grind basics) in
+        omega (arith, ap (λ m. held m rows) is.1, ap (most_worker_handles_at nodes') is.1)
 
 one-work : (x : HandleRow) → one (is_work x.node.0 x) ≡ one (is_worker x.owner)
-one-work x = grind (arith, nat_tests)
+one-work x = grind basics
 
 -- a handle more
 pub work-push : (rows : List HandleRow) (x : HandleRow) (nodes nodes' : NumberTable NodeRow) → BoundsWorkerHandles rows nodes
@@ -70,16 +61,9 @@ pub work-push : (rows : List HandleRow) (x : HandleRow) (nodes nodes' : NumberTa
 work-push rows x nodes nodes' w more here n =
     let push = sum_by_push (λ (h : HandleRow). one (is_work n h)) rows x in
     elim (cases_eq n x.node.0) [
-      | inl same ↦ let worked = one-work x in omega (
-        arith,
-        push,
-        here,
-        ap (λ m. times (is_work m) rows) same,
-        ap (λ m. one (is_work m x)) same,
-        ap (most_worker_handles_at nodes') same,
-        worked,
-      )
-      | inr other ↦ let none : one (is_work n x) ≡ 0 = grind (arith, nat_tests) in omega (arith, push, none, w n, more n)
+      | inl same ↦ let worked = one-work x in
+          omega (arith, ap (λ m. times (is_work m) rows) same, ap (λ m. one (is_work m x)) same, ap (most_worker_handles_at nodes') same)
+      | inr other ↦ let none : one (is_work n x) ≡ 0 = grind basics in omega (arith, w n, more n)
     ]
 
 pub work-few : (n : ℕ) (rows : List HandleRow) → times (is_work n) rows ≤ length rows
@@ -94,10 +78,8 @@ none-at-work v m w rows nodes worked none q = at (find_row q rows) refl
     at : (found : Option HandleRow) → find_row q rows ≡ found → passes_in (contains_row w (ReleaseSet.AtNode v m)) rows q ≡ false
     at (Some x) e =
         let a = found-among q rows x e in
-        let less = at-most-sum (λ h. one (is_work m.0 h)) rows x a.0 in
-        let b = worked m.0 in
-        grind (arith, nat_tests)
-    at None e = grind (arith, nat_tests)
+        grind (basics, at-most-sum (λ h. one (is_work m.0 h)) rows x a.0, worked m.0)
+    at None e = grind basics
 
 pub none-taken : (hs : List HandleNumber) (q : ℕ) → is_in (numbers_of (take 0 hs)) q ≡ false
 unfolding is_in

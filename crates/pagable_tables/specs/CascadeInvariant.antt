@@ -6,7 +6,7 @@ use Rattle.pagable_pager_spec.specs.{
   declared.{handle_row.{HandleRow.HandleRow, Owner.Owner}, mode.Mode.Mode},
 }
 use Rattle.pagable_tables.specs.{
-  HandleTable.{AreSound, IsNext, live},
+  HandleTable.{AreSound, IsNext, rows_of},
   Nodes.{counts_at, falls_in, holds_in, most_worker_handles_at, next_in, pins_in, refs_at},
   declared.{cascade.RefCounts.RefCounts, nodes.{Counts.Counts, NodeRow.NodeRow}, number_table.NumberTable.NumberTable},
 }
@@ -83,8 +83,8 @@ BoundsWorkerHandles rows nodes = (n : ℕ) → times (is_work n) rows ≤ most_w
 pub record IsSoundInCascade (t : RefCounts) (stack : List ℕ) (extra : ℕ → ℕ → ℕ) : Type 0 where
   pub sound : AreSound t.handles
   pub next : IsNext (t.last_handle + 1) t.handles.places.items
-  pub fits : Fits (counts_at t.nodes) (refs_at t.nodes) (live t.handles.places.items) t.top stack extra
-  pub worked : BoundsWorkerHandles (live t.handles.places.items) t.nodes
+  pub fits : Fits (counts_at t.nodes) (refs_at t.nodes) (rows_of t) t.top stack extra
+  pub worked : BoundsWorkerHandles (rows_of t) t.nodes
 
 -- whether a value is the owner, and how many handles values own
 abbrev pub is_value_owner : Owner → Bool

@@ -7,7 +7,7 @@ use Rattle.pagable_pager_spec.specs.{
   World.{Core, HasRoom, greatest},
   declared.handle_row.{HandleRow.HandleRow, Owner.Owner},
 }
-use Rattle.pagable_tables.specs.{HandleTable.live, Nodes.{cell_in, counts_at}, declared.cascade.RefCounts.RefCounts}
+use Rattle.pagable_tables.specs.{HandleTable.rows_of, Nodes.{cell_in, counts_at}, declared.cascade.RefCounts.RefCounts}
 use Rattle.pagable_value_spec.specs.declared.{error.Error.Error, numbers.HandleNumber.HandleNumber}
 use Rattle.std.specs.{
   Prelude.{Bool, Err, List, None, Ok, Option, Result, Some, filter, is_some, length, map, not, true, vec_capacity, ℕ},
@@ -20,7 +20,7 @@ use Rattle.std.specs.{
 -- the world with the handles, nodes and list of the tables
 abbrev pub with_tables : Core → RefCounts → Core
 with_tables w t = record w {
-  rows = live t.handles.places.items;
+  rows = rows_of t;
   cells = λ n. cell_in (counts_at t.nodes n);
   list = t.list.items;
   last = record w.last { handle = t.last_handle };
@@ -54,7 +54,7 @@ pub record ReleasedSoFar (before w : Core) (given : ℕ → Bool) (lists : Bool)
   pub begins : Begins before w lists
   pub gone : ℕ → Bool
   pub entries : List HandleRow
-  pub rows : live t.handles.places.items ≡ left_rows gone w.rows ++ entries
+  pub rows : rows_of t ≡ left_rows gone w.rows ++ entries
   pub list : t.list.items ≡ filter (λ (q : HandleNumber). not (gone q.0)) w.list
       ++ map (λ (h : HandleRow). h.number) entries
   pub last : t.last_handle ≡ w.last.handle + length entries
@@ -64,14 +64,14 @@ pub record ReleasedSoFar (before w : Core) (given : ℕ → Bool) (lists : Bool)
   pub holds : IsWithin w.rows given gone
   -- each closed set that contains the given handles contains all that were removed, whatever entries are still added to
   -- nodes with handles
-  pub least : (s : ℕ → Bool) (final : List HandleRow) → ((n : ℕ) → held n (live t.handles.places.items) ≡ 0
+  pub least : (s : ℕ → Bool) (final : List HandleRow) → ((n : ℕ) → held n (rows_of t) ≡ 0
       → held n final ≡ 0) → IsWithin w.rows given s
       → IsClosed w.rows (is_keyed w) final s → IsWithin w.rows gone s
   pub new : AreNewEntries w.last.handle entries
   pub only : (n : ℕ) → 0 < held n entries → MustList before w (with_tables w t) n × (held n entries ≡ 1)
   pub tells : TellsListing before w entries (result_of_listing t.listing_error) (with_tables w t)
   -- while a node is dying, there are no more rows than at first
-  pub few : t.top ≢ 0 → length (live t.handles.places.items) ≤ length w.rows
+  pub few : t.top ≢ 0 → length (rows_of t) ≤ length w.rows
 
 -- A handle can be removed without the list: no entry that was added has its number, and what is left of the list is the
 -- same without it.

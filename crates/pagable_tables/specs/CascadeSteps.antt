@@ -8,7 +8,7 @@ use Rattle.pagable_pager_spec.specs.{
 }
 use Rattle.pagable_tables.specs.{
   CascadeInvariant.{IsSoundInCascade, entries_of, owns_nothing, valued},
-  HandleTable.{AreSound, Becomes, IsNext, live},
+  HandleTable.{AreSound, Becomes, IsNext, live, rows_of},
   Nodes.{cell_in, counts_at, falls_in, has_value},
   declared.{cascade.RefCounts.RefCounts, handle_table.Handles.Handles, nodes.Counts.Counts},
 }
@@ -44,7 +44,7 @@ counts_after_release c pinning stays listed top =
 abbrev pub CantList : RefCounts → Error → Type 0
 CantList t Error.NumbersSpent = greatest ≤ t.last_handle
 CantList t Error.OutOfMemory = (t.last_handle < greatest)
-    × ((vec_capacity t.handles.places ≤ length (live t.handles.places.items))
+    × ((vec_capacity t.handles.places ≤ length (rows_of t))
     ⊎ (deque_capacity t.list ≤ length t.list.items))
 CantList t e = ⊥
 
@@ -57,7 +57,7 @@ pub record HasPlaces (old new : RefCounts) : Type 0 where
 pub record AddsEntryIf (old : RefCounts) (node : NodeNumber) (listed : Bool) (new : RefCounts) : Type 0 where
   pub sound : AreSound new.handles
   pub next : IsNext (new.last_handle + 1) new.handles.places.items
-  pub rows : live new.handles.places.items ≡ live old.handles.places.items
+  pub rows : rows_of new ≡ rows_of old
       ++ entries_of listed (old.last_handle + 1) node
   pub list : new.list.items ≡ old.list.items ++ (if listed then record { 0 = old.last_handle + 1 } ∷ [] else [])
   pub last : new.last_handle ≡ old.last_handle + one listed
@@ -126,7 +126,7 @@ HasFallen at rows n = (held n rows ≡ 0) ⊎ ((if_there (λ (c : Counts). nat_l
 -- the handle of the row x, which the value of the dying node n owned, is released
 pub record FallsBy (old : RefCounts) (x : HandleRow) (n : ℕ) (lists : Bool) (new : RefCounts) : Type 0 where
   pub owner : x.owner ≡ owner_value n
-  pub fallen : HasFallen (counts_at old.nodes) (live old.handles.places.items) n
+  pub fallen : HasFallen (counts_at old.nodes) (rows_of old) n
   pub popped : RefCounts
   pub same : popped ≡ record old { nodes = popped.nodes }
   pub counts : (m : ℕ) → counts_at popped.nodes m ≡ counts_at old.nodes m
@@ -138,12 +138,12 @@ pub record Steps (old : RefCounts) (stack : List ℕ) (lists : Bool) (r : Option
     (new : RefCounts) : Type 0 where
   pub rest : List ℕ
   pub falling : IsSoundInCascade new rest owns_nothing
-  pub less : 2 * valued (live new.handles.places.items) + length rest < 2 * valued (live old.handles.places.items) +
+  pub less : 2 * valued (rows_of new) + length rest < 2 * valued (rows_of old) +
       length stack
   pub cells : CellsStay (counts_at old.nodes) (counts_at new.nodes)
   pub values : (n : ℕ) → r ≢ Some (record { 0 = n }) → ValueStays (counts_at old.nodes n) (counts_at new.nodes n)
   pub gone : IfSome r (λ n. has_value (counts_at new.nodes n.0) ≡ false)
-  pub fewer : length (live new.handles.places.items) ≤ length (live old.handles.places.items)
+  pub fewer : length (rows_of new) ≤ length (rows_of old)
   pub unlisting : lists ≡ false → new.list.items ≡ old.list.items
   pub what : ((r ≡ Some (record { 0 = old.top })) × (new ≡ record old { nodes = new.nodes; top = new.top }))
       ⊎ ((x : HandleRow) × (n : ℕ) × (r ≡ None) × FallsBy old x n lists new)

@@ -13,7 +13,7 @@ use Rattle.pagable_pager_spec.specs.{
 }
 use Rattle.pagable_tables.specs.{
   CascadeInvariant.{IsSoundInCascade, is_value_owner, owns_nothing},
-  HandleTable.{alive, live, room},
+  HandleTable.{alive, live, room, rows_of},
   Indexes.{cached_at, load_at, reach_at, worker_at},
   Nodes.{cell_in, counts_at, key_in},
   NumberTable.{place_at, row_by},
@@ -61,7 +61,7 @@ shut_view failures = record { stored = λ key. None; closed = true; failures = f
 -- the core of these tables over a storage
 abbrev pub core_of : Tables → StorageView → Core
 core_of t storage = record {
-  rows = live t.ref_counts.handles.places.items;
+  rows = rows_of t.ref_counts;
   cells = λ n. cell_in (counts_at t.ref_counts.nodes n);
   list = t.ref_counts.list.items;
   cache = λ kind key. option_map (λ (n : NodeNumber). n.0) (cached_at t.cache kind key);

@@ -1,6 +1,6 @@
 -- Live handles in the order of their numbers, and what they become as a call changes them.
 use Rattle.pagable_pager_spec.specs.declared.handle_row.HandleRow.{HandleRow}
-use Rattle.pagable_tables.specs.declared.{handle_table.Handles.Handles, place.Place.Place}
+use Rattle.pagable_tables.specs.declared.{cascade.RefCounts.RefCounts, handle_table.Handles.Handles, place.Place.Place}
 use Rattle.std.specs.{
   List.AllPairs,
   Prelude.{All, Bool, List, if◌then◌else◌, length, true, vec_capacity, vec_len, ℕ, [], ◌+◌, ◌-◌, ◌<◌, ◌∷◌, ◌≡◌, ◌≤◌},
@@ -10,6 +10,9 @@ use Rattle.std.specs.{
 abbrev pub live : List Place → List HandleRow
 live [] = []
 live (p ∷ ps) = if p.is_live then p.row ∷ live ps else live ps
+
+abbrev pub rows_of : RefCounts → List HandleRow
+rows_of t = live t.handles.places.items
 
 abbrev pub alive : HandleRow → Place
 alive row = record { row = row; is_live = true }

@@ -187,14 +187,6 @@ fn has_value<N: Drop>(values: &NodeValues<N>, node: u64) -> bool
     values.get(node).is_some()
 }
 
-// Says whether the node of this number is sound, with the value that `values` has for it.
-fn is_number_sound<N: Drop>(t: &Tables, values: &NodeValues<N>, node: u64) -> bool
-    ensures { result ≡ is_node_sound t.now node (is_some (row_by values.now node))
-        (counts_at t.now.ref_counts.nodes node) }
-{
-    is_node_sound(t, node, has_value(values, node))
-}
-
 // Says whether the nodes of all numbers that were given out are sound.
 #[tactic(auto, using(crate::proofs::NodesSound::stepping))]
 fn are_nodes_sound<N: Drop>(t: &Tables, values: &NodeValues<N>) -> bool
@@ -202,7 +194,7 @@ fn are_nodes_sound<N: Drop>(t: &Tables, values: &NodeValues<N>) -> bool
 {
     let mut left = t.last_node;
     while left > 0 {
-        if !is_number_sound(t, values, left) {
+        if !is_node_sound(t, left, has_value(values, left)) {
             return false;
         }
         left -= 1;

@@ -8,8 +8,8 @@ make_handle-requires-clause-suits c = rw c.mode_of.ensures (known-suits c.requir
 
 pub returns-clause-does : goal.returns-clause-does
 returns-clause-does c = does-as c.in_ok-make_handle.ensures.does
-    (λ storage. recalls _ c.args.me c.args.kind c.args.key c.in-Some.node c.mode_of.result _ (sym (c.in-Some.ensures storage)) c.mode_of.ensures _)
+    (λ storage. recalls (sym (c.in-Some.ensures storage)) c.mode_of.ensures _)
 
 pub returns-in_err-make_handle-clause-does : goal.returns-in_err-make_handle-clause-does
 returns-in_err-make_handle-clause-does c = rw (failed c.from_residual.result c.from_residual.ensures.1) (does-as c.in_err-make_handle.ensures.does
-    (λ storage. not-recalled _ c.args.me c.args.kind c.args.key c.in-Some.node c.mode_of.result _ (sym (c.in-Some.ensures storage)) c.mode_of.ensures _))
+    (λ storage. not-recalled (sym (c.in-Some.ensures storage)) c.mode_of.ensures _))

@@ -1,18 +1,18 @@
 use Rattle.indexmap.proofs.CallerLemmas.{filter-RetainsPairs}
-use Rattle.pagable_tables.proofs.Words.{Counts, NodeNumber, Option, ap, arith, counts_at, filter, is_same, is_some, nat_tests, rules, ℕ, ◌∙◌, ◌≡◌}
+use Rattle.pagable_tables.proofs.Words.{Counts, NodeNumber, Option, ap, counts_at, filter, is_same, is_some, rules, ℕ, ◌∙◌, ◌≡◌, basics}
 use Rattle.pagable_tables.specs.Nodes.{living}
 use Rattle.std.proofs.lemmas.Map.Entries.{lookup-filter-values, option_filter}
 use Rattle.std.specs.{Cmp.IsEquivalence, Map.lookup}
 
 same-equiv : IsEquivalence is_same
 same-equiv = record {
-  refl = λ x. grind (arith, nat_tests);
-  symm = λ x y. grind (arith, nat_tests);
-  congr = λ x y z e. grind (arith, nat_tests);
+  refl = λ x. grind basics;
+  symm = λ x y. grind basics;
+  congr = λ x y z e. grind basics;
 }
 
 filtered : (at : ℕ → Option Counts) (known : Option NodeNumber) → option_filter (λ (n : NodeNumber). is_some (at n.0)) known ≡ living at known
-filtered at known = grind (arith, nat_tests)
+filtered at known = grind basics
 
 pub returns : Rattle.pagable_tables.proofs.cache.keep_living.Goals.returns
 returns c kind key =

@@ -7,9 +7,9 @@ use Rattle.pagable_tables.proofs.{
   SameViews.{alike-on, failed, not-recalled, owner-same, owner-self, same-cache},
   Views.{lone-falling, not-a-value, not-list, told-whole},
   Wholeness.whole-so,
-  Words.{Alike, NodeNumber, Owner, Owns, any_mode, ap, arith, core_alone, core_of, counts_at, false, fits_mode, has_value, inl, inr, is_owner, is_pinning},
-  Words.{is_value_owner, length, mode_of, nat_tests, not, offer_fault, only_handle, option_map, recall_fault, refl, sym, true, with_cached, with_known, ℕ, ◌+◌},
-  Words.{◌∙◌, ◌≡◌},
+  Words.{Alike, NodeNumber, Owner, Owns, any_mode, ap, arith, basics, core_alone, core_of, counts_at, false, fits_mode, has_value, inl, inr, is_owner},
+  Words.{is_pinning, is_value_owner, length, mode_of, not, offer_fault, only_handle, option_map, recall_fault, refl, sym, with_cached, with_known, ℕ, ◌+◌, ◌∙◌},
+  Words.◌≡◌,
 }
 use Rattle.pagable_tables.specs.Core.{StorageView, no_blobs}
 use Rattle.pagable_tables.proofs.cache.offer.Goals as goal
@@ -21,8 +21,8 @@ make_handle-requires-clause-suits g c = rw c.mode_of.ensures (known-suits c.requ
 pub unreachable-requires : goal.unreachable-requires
 unreachable-requires g c =
     let came = (c.in_ok-known.ensures.does.does no_blobs).made.1.rows in
-    let again = found-again c.args.handle.0 _ _ _ c.in_ok-row.row _ c.in_ok-row.ensures.owns.live came refl in
-    grind (arith, nat_tests, again, owner-self, c.in_ok-row.ensures.owns.own, c.in_default-find_owned.ensures.fault no_blobs any_mode)
+    let again = found-again c.args.handle.0 _ _ c.in_ok-row.ensures.owns.live came refl in
+    grind (basics, again, owner-self, c.in_ok-row.ensures.owns.own, c.in_default-find_owned.ensures.fault no_blobs any_mode)
 
 pub try_release_at-requires-clause-not_a_value : goal.try_release_at-requires-clause-not_a_value
 try_release_at-requires-clause-not_a_value g c = ap is_value_owner (owner-same c.args.me c.in-Ok.at.row.owner c.in-Ok.ensures.owner)
@@ -39,25 +39,25 @@ returns g c =
     let node = c.in-Some.node in
     let made = c.in_ok-known.ensures.does in
     let went = lone-falling {w = core_alone t1} made.whole.core (c.try_release_at.ensures.falls (core_alone t1) (core_alone t1)
-    (begun-whole t1 no_blobs true made.whole refl) (omega arith)) in
+    (begun-whole t1 no_blobs _ made.whole refl) (omega arith)) in
     record {
       offered = λ storage e.
           (let o : StorageView = record storage { closed = false } in
           let w = core_of t o in
           let u = with_known w c.args.kind node.0 c.args.me in
-          let owns : Owns w c.args.me c.args.handle (fits_mode c.args.kind.0) c.in_ok-row.row = grind (arith, nat_tests, c.in_ok-row.ensures.owns) in
+          let owns : Owns w c.args.me c.args.handle (fits_mode c.args.kind.0) c.in_ok-row.row = grind (basics, c.in_ok-row.ensures.owns) in
           let m = (made.does o).made in
           let alike : Alike u (core_of t1 o) = rw c.mode_of.ensures at m.1 in
-          let begun = begun-made t t1 o node (mode_of c.args.kind.0) c.args.me made.whole alike true refl in
+          let begun = begun-made t t1 o node (mode_of c.args.kind.0) c.args.me made.whole alike _ refl in
           let given = found-among c.args.handle.0 w.rows c.in_ok-row.row owns.live in
           let spared : only_handle c.args.handle (w.last.handle + 1) ≡ false =
-          let a = (c.requires.whole.core.handles.numbered c.in_ok-row.row given.0).1 in let b = given.1 in grind (arith, nat_tests) in
+          let a = (c.requires.whole.core.handles.numbered c.in_ok-row.row given.0).1 in grind (basics, given.1) in
           let falls = falls-made t t1 o node (mode_of c.args.kind.0) c.args.me made.whole alike c.in_ok-known.ensures.same
           (not-a-value (core_alone t) c.args.me c.requires.holder)
-          c.try_release_at.new.t (rw c.in-Ok.ensures.number at (c.try_release_at.ensures.falls u u begun (let a = ap length alike.rows in omega arith)))
+          c.try_release_at.new.t (rw c.in-Ok.ensures.number at (c.try_release_at.ensures.falls u u begun (omega (arith, ap length alike.rows))))
           spared in
           let is = sym (c.in-Some.ensures o) in
-          rw (opened-view storage (closed-is c.args.lists storage.closed e ∙ ap not c.if-not-lists.false))
+          rw (opened-view storage (closed-is e ∙ ap not c.if-not-lists.false))
           (record {
             answers = (
               c.in_ok-row.row,
@@ -77,20 +77,20 @@ returns g c =
 pub forget_gone-requires : goal.forget_gone-requires
 forget_gone-requires g c =
     let w = core_alone c.args.t.now in
-    let owns : Owns w c.args.me c.args.handle (fits_mode c.args.kind.0) c.in_ok-row.row = grind (arith, nat_tests, c.in_ok-row.ensures.owns) in
+    let owns : Owns w c.args.me c.args.handle (fits_mode c.args.kind.0) c.in_ok-row.row = grind (basics, c.in_ok-row.ensures.owns) in
     let alike : Alike (with_cached w c.args.kind c.args.key c.in_ok-row.row.node) (core_alone (record c.args.t.now { cache = c.put.new.cache })) =
-    grind (arith, nat_tests, same-cache, c.in_ok-put.ensures.here, c.in_ok-put.ensures.others) in
-    whole-so c.requires.whole.steady (learns-whole c.args.me c.args.kind c.args.key c.args.handle c.in_ok-row.row c.requires.whole.core owns
+    grind (basics, same-cache, c.in_ok-put.ensures.here, c.in_ok-put.ensures.others) in
+    whole-so c.requires.whole.steady (learns-whole _ c.args.kind c.args.key _ _ c.requires.whole.core owns
     c.in_ok-row.ensures.typed alike)
 
 pub returns-in_default-clause-offered : goal.returns-in_default-clause-offered
 returns-in_default-clause-offered g c storage e =
     let o : StorageView = record storage { closed = false } in
     let w = core_of c.args.t.now o in
-    let owns : Owns w c.args.me c.args.handle (fits_mode c.args.kind.0) c.in_ok-row.row = grind (arith, nat_tests, c.in_ok-row.ensures.owns) in
+    let owns : Owns w c.args.me c.args.handle (fits_mode c.args.kind.0) c.in_ok-row.row = grind (basics, c.in_ok-row.ensures.owns) in
     let alike : Alike (with_cached w c.args.kind c.args.key c.in_ok-row.row.node) (core_of (record c.args.t.now { cache = c.put.new.cache }) o) =
-    grind (arith, nat_tests, same-cache, c.in_ok-put.ensures.here, c.in_ok-put.ensures.others) in
-    rw (opened-view storage (closed-is c.args.lists storage.closed e ∙ ap not c.if-not-lists.false))
+    grind (basics, same-cache, c.in_ok-put.ensures.here, c.in_ok-put.ensures.others) in
+    rw (opened-view storage (closed-is e ∙ ap not c.if-not-lists.false))
     (record {
       answers = (
         c.in_ok-row.row,
@@ -114,13 +114,13 @@ pub returns-in_err-known-clause-offered : goal.returns-in_err-known-clause-offer
 returns-in_err-known-clause-offered g c storage e =
     let o : StorageView = record storage { closed = false } in
     let w = core_of c.args.t.now o in
-    let owns : Owns w c.args.me c.args.handle (fits_mode c.args.kind.0) c.in_ok-row.row = grind (arith, nat_tests, c.in_ok-row.ensures.owns) in
+    let owns : Owns w c.args.me c.args.handle (fits_mode c.args.kind.0) c.in_ok-row.row = grind (basics, c.in_ok-row.ensures.owns) in
     let is = sym (c.in-Some.ensures o) in
-    let call = not-recalled w c.args.me c.args.kind c.args.key c.in-Some.node c.mode_of.result _ is c.mode_of.ensures _
+    let call = not-recalled {kind = c.args.kind} {key = c.args.key} is c.mode_of.ensures _
     (c.in_err-known.ensures.does.does o) in
     let cause : offer_fault w c.args.me c.args.kind c.args.key c.args.handle ≡ recall_fault w c.args.kind c.args.key =
-    grind (arith, nat_tests, c.in_ok-row.ensures.typed) in
-    rw (opened-view storage (closed-is c.args.lists storage.closed e ∙ ap not c.if-not-lists.false))
+    grind (basics, c.in_ok-row.ensures.typed) in
+    rw (opened-view storage (closed-is e ∙ ap not c.if-not-lists.false))
     (rw (failed c.from_residual-in_err-known.result c.from_residual-in_err-known.ensures.1)
     record {
       answers = tt;
@@ -134,4 +134,4 @@ pub returns-in_err-known-clause-drops : goal.returns-in_err-known-clause-drops
 returns-in_err-known-clause-drops g c there = stays-first (λ n. c.in_err-known.ensures.values n
     (λ eq pins. ap (λ k. has_value (counts_at c.args.t.now.ref_counts.nodes k)) eq
     ∙ there c.in-Some.node.0 (sym (c.in-Some.ensures no_blobs)) (ap is_pinning (sym c.mode_of.ensures) ∙ pins)))
-    (drops-still c.make_handle.new.t.ref_counts _ c.in_err-known.ensures.does.whole.steady)
+    (drops-still _ _ c.in_err-known.ensures.does.whole.steady)

@@ -2,8 +2,8 @@ use Rattle.pagable_tables.proofs.{
   CascadeStep.{given-fits, held-here, owned-by-none, pin-here},
   Counting.with-entry,
   HandleTable.row-le-live,
-  Words.{AddsWantedEntry, Fits, HandleRow, RefCounts, Some, ap, arith, cases_eq, counts_after_release, counts_at, entry, if◌then◌else◌, is_fallen_by, is_pin},
-  Words.{is_pinning, live, nat_tests, one, owns_nothing, pins_in, refl, refs_at, subst, sum_by, sym, true, unpinned, ℕ, ◌+◌, ◌-◌, ◌∙◌, ◌∷◌, ◌≡◌, ◌≢◌, ◌≤◌},
+  Words.{HandleRow, RefCounts, Some, ap, arith, basics, cases_eq, counts_after_release, counts_at, entry, if◌then◌else◌, is_fallen_by, is_pin, is_pinning},
+  Words.{live, one, pins_in, refl, refs_at, rows_of, sum_by, sym, true, unpinned, ℕ, ◌+◌, ◌-◌, ◌∙◌, ◌∷◌, ◌≡◌, ◌≢◌, ◌≤◌},
 }
 use Rattle.pagable_tables.specs.{CascadeInvariant.is_work, Nodes.most_worker_handles_at}
 
@@ -18,12 +18,12 @@ returns c stack w =
     let counts = c.unwrap-counts.result in
     let listed = c.push_pending_if-listed.result in
     let e = c.push_pending_if-listed.ensures.comes in
-    let is : counts_at old.nodes n ≡ Some counts = sym c.counts_of.ensures ∙ c.unwrap-counts.ensures in
+    let is = sym c.counts_of.ensures ∙ c.unwrap-counts.ensures in
     let left : c.counts_after-left.result ≡ counts_after_release counts (is_pinning x.mode) stays listed old.top =
-    grind (arith, nat_tests, c.counts_after-left.ensures) in
+    grind (basics, c.counts_after-left.ensures) in
     let b = is_fallen_by counts (is_pinning x.mode) (counts.pins - one (is_pinning x.mode)) ((if stays then counts.holds else counts.holds - 1) + one listed) in
     let k = c.lower_bound_for.ensures in
-    let here : counts_at c.lower_bound_for.new.nodes n ≡ Some (counts_after_release counts (is_pinning x.mode) stays listed old.top) =
+    let here =
     k.counts n ∙ c.set_counts.ensures.here ∙ ap Some left in
     let others : (m : ℕ) → m ≢ n → counts_at c.lower_bound_for.new.nodes m ≡ counts_at old.nodes m =
     λ m ne. k.counts m ∙ c.set_counts.ensures.others m ne ∙ ap (λ s. counts_at s m) e.nodes in
@@ -37,15 +37,15 @@ returns c stack w =
       row-le-live (λ h. one (is_pin n h)) old.handles.places.items c.args.at.place x c.requires.place,
       pin-here x,
     ) in
-    let live' : 1 ≤ counts.holds = grind (arith, nat_tests, row-le-live, held-here, c.requires.place) in
-    let top : c.first_dying_after-t.result ≡ (if b then n else old.top) = grind (arith, nat_tests, c.first_dying_after-t.ensures) in
+    let live' : 1 ≤ counts.holds = grind (basics, row-le-live, held-here, c.requires.place) in
+    let top : c.first_dying_after-t.result ≡ (if b then n else old.top) = grind (basics, c.first_dying_after-t.ensures) in
     let at' = counts_at c.lower_bound_for.new.nodes in
     let refs' = refs_at c.lower_bound_for.new.nodes in
-    let rows' = live mid.handles.places.items in
-    let sums : (f : HandleRow → ℕ) → sum_by f rows' + f x ≡ sum_by f (live old.handles.places.items) + (if stays then f (unpinned x) else 0) +
+    let rows' = rows_of mid in
+    let sums : (f : HandleRow → ℕ) → sum_by f rows' + f x ≡ sum_by f (rows_of old) + (if stays then f (unpinned x) else 0) +
     (if listed then f (entry (old.last_handle + 1) x.node) else 0) =
-    λ f. let a = c.remove_or_unpin.ensures.sums f in let d = ap (sum_by f) e.rows in let g =
-    with-entry f (live c.remove_or_unpin.new.handles.places.items) listed (old.last_handle + 1) x.node in omega arith in
+    λ f. omega (arith, c.remove_or_unpin.ensures.sums f, ap (sum_by f) e.rows, with-entry f (live c.remove_or_unpin.new.handles.places.items) listed (old.last_handle + 1) x.node)
+    in
     let plain = λ (so : stays ≡ true) (m q : ℕ). owned-by-none m q x (c.requires.not_a_value so) in
     record {
       left = c.remove_or_unpin.new.handles;
@@ -54,22 +54,22 @@ returns c stack w =
       is = is;
       listed = listed;
       between = mid;
-      comes = subst (λ w. AddsWantedEntry gap x.node w listed mid) c.wants_entry-wanted.ensures c.push_pending_if-listed.ensures;
+      comes = rw c.wants_entry-wanted.ensures at c.push_pending_if-listed.ensures;
       same = refl;
-      cells = λ m there. grind (arith, nat_tests, cases_eq m n, is, here, others m);
-      values = λ m. grind (arith, nat_tests, cases_eq m n, is, here, others m, some);
+      cells = λ m there. grind (basics, cases_eq m n, is, here, others m);
+      values = λ m. grind (basics, cases_eq m n, is, here, others m, some);
       more = if b then n ∷ stack else stack;
       falling = record {
         sound = e.sound;
         next = e.next;
-        fits = subst (λ t. Fits at' refs' rows' t (if b then n ∷ stack else stack) owns_nothing) (sym top)
-            (given-fits _ at' _ refs' _ rows' old.top stack x counts stays listed (old.last_handle + 1) w.fits is plain sums here others same some live' b
+        fits = rw top
+            (given-fits rows' x counts stays listed (old.last_handle + 1) w.fits is plain sums here others same some live' b
             refl);
         worked = λ m.
             let was = c.set_counts.ensures.worker_bound m ∙ ap (λ s. most_worker_handles_at s m) e.nodes in
             let sum = sums (λ h. one (is_work m h)) in
-            grind (arith, nat_tests, cases_eq m n, w.worked m, was, sum, k.here, k.others m);
+            grind (basics, cases_eq m n, w.worked m, was, sum, k.here, k.others m);
       };
-      long = grind (arith, nat_tests);
-      keyed = λ so none some. grind (arith, nat_tests, top, live');
+      long = grind basics;
+      keyed = λ so none some. grind (basics, top, live');
     }

@@ -1,4 +1,4 @@
-use Rattle.pagable_tables.proofs.{HandleTable.{changed-known, row-le-live}, Words.{Becomes, subst, unpinned}}
+use Rattle.pagable_tables.proofs.{HandleTable.{changed-known, row-le-live}, Words.unpinned}
 
 pub returns-then-stays : Rattle.pagable_tables.proofs.cascade.remove_or_unpin.Goals.returns-then-stays
 returns-then-stays c =
@@ -6,7 +6,7 @@ returns-then-stays c =
     let at = c.args.at in
     let changes = changed-known old.places.items at.place at.row c.requires.sound.ordered c.requires.place unpinned in
     rw c.if-stays.true (record {
-      becomes = subst (λ rows. Becomes old rows c.replace_row.new.handles) changes c.replace_row.ensures.becomes;
+      becomes = rw changes at c.replace_row.ensures.becomes;
       sums = c.replace_row.ensures.sums;
       there = λ f. row-le-live f old.places.items at.place at.row c.requires.place;
     })

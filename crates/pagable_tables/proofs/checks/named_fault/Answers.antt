@@ -5,8 +5,8 @@ loop-i-preserved c =
     let l = c.loop-i in
     let hs = c.args.named.now in
     record {
-      lowest = λ q below. in-other hs l.i q (omega (arith, c.min-lowest.ensures)) (l.invariant.lowest q (omega (arith, c.min-lowest.ensures)));
-      highest = λ q above. in-other hs l.i q (omega (arith, c.max-highest.ensures)) (l.invariant.highest q (omega (arith, c.max-highest.ensures)));
+      lowest = λ q below. in-other hs l.i q (omega arith) (l.invariant.lowest q (omega arith));
+      highest = λ q above. in-other hs l.i q (omega arith) (l.invariant.highest q (omega arith));
       rest = λ w is. ap (λ x. earlier x (named_fault w c.args.owner (seen hs (l.i + 1)) (drop (l.i + 1) hs))) c.earlier-fault.ensures
           ∙ earlier-each l.fault c.hand_over_one_fault.result _
           ∙ ap (earlier l.fault) (one-named w c.args.owner hs l.i c.hand_over_one_fault.result _ (omega arith)

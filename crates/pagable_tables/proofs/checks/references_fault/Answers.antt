@@ -13,10 +13,10 @@ loop-i-preserved c =
     record {
       seen = (get_or rs l.i blank).handle.0 ∷ l.invariant.seen;
       same = seen-more l.invariant.seen rs l.i blank (omega arith) l.invariant.same;
-      lowest = λ q below. named-other rs l.i blank q (omega (arith, c.min-lowest.ensures)) (omega arith)
-          (l.invariant.lowest q (omega (arith, c.min-lowest.ensures)));
-      highest = λ q above. named-other rs l.i blank q (omega (arith, c.max-highest.ensures)) (omega arith)
-          (l.invariant.highest q (omega (arith, c.max-highest.ensures)));
+      lowest = λ q below. named-other rs l.i blank q (omega arith) (omega arith)
+          (l.invariant.lowest q (omega arith));
+      highest = λ q above. named-other rs l.i blank q (omega arith) (omega arith)
+          (l.invariant.highest q (omega arith));
       rest = λ storage. l.invariant.rest storage ∙ fault-at (core_of c.args.t.now storage) c.args.me l.invariant.seen rs l.i blank None (omega arith)
           (none storage);
     }

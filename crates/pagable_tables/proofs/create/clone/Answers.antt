@@ -1,7 +1,7 @@
-use Rattle.pagable_tables.proofs.{OwnedByLoad.does-as, RowCounts.found-among, Words.{arith, nat_tests}}
+use Rattle.pagable_tables.proofs.{OwnedByLoad.does-as, RowCounts.found-among, Words.{basics}}
 
 pub make_handle-requires-clause-suits : Rattle.pagable_tables.proofs.create.clone.Goals.make_handle-requires-clause-suits
-make_handle-requires-clause-suits c = grind (arith, nat_tests, found-among, c.in-Some.ensures.found)
+make_handle-requires-clause-suits c = grind (basics, found-among, c.in-Some.ensures.found)
 
 pub returns : Rattle.pagable_tables.proofs.create.clone.Goals.returns
-returns c = does-as c.make_handle.ensures.does (λ storage made. grind (arith, nat_tests, c.in-Some.ensures.found))
+returns c = does-as c.make_handle.ensures.does (λ storage made. grind (basics, c.in-Some.ensures.found))

@@ -6,7 +6,7 @@ insert_node-requires-clause-fit c = none-named _ c.args.me _ c.new.ensures.items
 
 pub returns : goal.returns
 returns c = does-then c.make_room_for_node.ensures.does c.insert_node.ensures.does
-    (λ storage room born. away-born c.args.me c.args.node_type c.args.key c.get.result _ c.insert_node.result room
+    (λ storage room born. away-born _ _ _ _ _ _ room
     c.in_ok-make_room_for_node.ensures.ready.node_left c.get.ensures.value (omega arith) c.new.ensures.items born)
 
 pub returns-in_err-make_room_for_node : goal.returns-in_err-make_room_for_node

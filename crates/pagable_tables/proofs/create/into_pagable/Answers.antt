@@ -2,7 +2,7 @@ use Rattle.pagable_tables.proofs.{
   OwnedByLoad.{does-as, nothing-does},
   RowCounts.found-among,
   SameViews.{failed, owner-same, still},
-  Words.{arith, is_pinned, nat_tests, rules, true, ◌≡◌},
+  Words.{basics, is_pinned, rules, true, ◌≡◌},
 }
 use Rattle.pagable_tables.proofs.create.into_pagable.Goals as goal
 
@@ -28,8 +28,7 @@ pub set_loose_pinned-requires-clause-unlisted : goal.set_loose_pinned-requires-c
 set_loose_pinned-requires-clause-unlisted c =
     let pinned : is_pinned c.in_ok-at.at.row.mode ≡ true = search rules in
     grind (
-      arith,
-      nat_tests,
+      basics,
       c.requires.core.owners_there.waiting c.in_ok-at.at.row
           (found-among c.args.handle.0 _ c.in_ok-at.at.row c.in_ok-at.ensures.found).0,
     )

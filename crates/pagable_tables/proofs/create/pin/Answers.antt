@@ -1,7 +1,7 @@
 use Rattle.pagable_tables.proofs.{
   OwnedByLoad.{does-as, nothing-does},
   SameViews.{failed, handle-first, owner-same, spent-late, still},
-  Words.{HandleRow, Owns, ap, arith, core_of, false, if_there, inl, inr, is_handle_here, is_here, is_loose, nat_tests, pin_fault, rules, spent, true, ◌∙◌, ◌≡◌},
+  Words.{HandleRow, Owns, ap, arith, basics, core_of, false, if_there, inl, inr, is_here, is_loose, pin_fault, rules, spent, true, ◌∙◌, ◌≡◌},
 }
 use Rattle.pagable_tables.proofs.create.pin.Goals as goal
 
@@ -34,13 +34,13 @@ returns-in_err-pin_in_memory c =
     (λ storage m.
     let w = core_of c.args.t.now storage in
     let here : is_here w row.node.0 ≡ true = search rules in
-    let so : is_handle_here w c.args.handle ≡ true = ap (if_there (λ (row : HandleRow). is_here w row.node.0) false) c.in_ok-at.ensures.found ∙ here in
+    let so = ap (if_there (λ (row : HandleRow). is_here w row.node.0) false) c.in_ok-at.ensures.found ∙ here in
     let owns : Owns w c.args.me c.args.handle is_loose row = record {
       live = c.in_ok-at.ensures.found;
       own = owner-same c.args.me row.owner c.in_ok-at.ensures.owner;
       as_asked = search rules;
     } in
-    let cause : pin_fault w c.args.me c.args.handle ≡ spent w.last.handle = grind (arith, nat_tests) in
+    let cause : pin_fault w c.args.me c.args.handle ≡ spent w.last.handle = grind basics in
     record {
       pins = tt;
       refused = record {

@@ -1,6 +1,6 @@
 use Rattle.pagable_tables.proofs.{
   SameViews.{earlier-first, failed, late, references-low, room-fault, spent-late, still, weaker},
-  Words.{None, Refused, arith, core_of, earlier, inl, insert_fault, nat_tests, subst, sym, ◌∙◌},
+  Words.{None, Refused, basics, core_of, earlier, inl, insert_fault, subst, sym, ◌∙◌},
 }
 use Rattle.pagable_tables.specs.Core.{no_blobs}
 use Rattle.pagable_tables.proofs.create.prepare_insert.Goals as goal
@@ -8,8 +8,7 @@ use Rattle.pagable_tables.proofs.create.prepare_insert.Goals as goal
 pub returns-in-Some-clause-refused : goal.returns-in-Some-clause-refused
 returns-in-Some-clause-refused c storage =
     record {
-      why = inl (let e = sym (c.references_fault.ensures storage) ∙ c.in-Some.is in
-          grind (arith, nat_tests, earlier-first, references-low, late, spent-late));
+      why = inl (grind (basics, earlier-first, references-low, late, spent-late, sym (c.references_fault.ensures storage) ∙ c.in-Some.is));
       stays = still _;
     }
 

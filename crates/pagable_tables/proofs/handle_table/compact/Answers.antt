@@ -1,7 +1,6 @@
 use Rattle.pagable_tables.proofs.{
   HandleTable.{length-live-filter, live-filter},
-  Words.{All-filter, AllPairs, AllPairs-filter, IsBefore, IsNext, Place, ap, arith, filter, filter_from_retain, is_live_place, length, live, rules, subst, sym},
-  Words.{◌<◌, ◌∙◌, ◌≡◌},
+  Words.{All-filter, AllPairs-filter, IsBefore, Place, ap, arith, filter, filter_from_retain, is_live_place, length, live, rules, ◌<◌, ◌∙◌, ◌≡◌},
 }
 
 pub returns-clause-becomes : Rattle.pagable_tables.proofs.handle_table.compact.Goals.returns-clause-becomes
@@ -11,11 +10,11 @@ returns-clause-becomes c =
     (λ p x b q called. search rules) _ old c.retain.new.self.items c.retain.ensures.filtered in
     record {
       sound = record {
-        ordered = subst (AllPairs IsBefore) (sym e) (AllPairs-filter IsBefore is_live_place old c.requires.ordered);
-        counted = omega (arith, c.requires.counted, length-live-filter old, ap length e, ap (λ l. length (live l)) e, ap length (live-filter old));
+        ordered = rw e (AllPairs-filter IsBefore is_live_place old c.requires.ordered);
+        counted = omega (arith, length-live-filter old, ap length e, ap (λ l. length (live l)) e, ap length (live-filter old));
         few = omega arith;
       };
       rows = ap live e ∙ live-filter old;
       capacity = search rules;
-      next = λ q next. subst (IsNext q) (sym e) (All-filter is_live_place (λ (s : Place). s.row.number.0 < q) old next);
+      next = λ q next. rw e (All-filter is_live_place (λ (s : Place). s.row.number.0 < q) old next);
     }

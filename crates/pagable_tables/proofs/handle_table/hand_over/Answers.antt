@@ -3,7 +3,7 @@ use Rattle.pagable_tables.proofs.{
   HandleTable.{changed-known, only-row},
   OwnedByLoad.moved-stands,
   RowCounts.at-most-sum,
-  Words.{arith, is_handle, is_value_owner, nat_tests, one, only_handle, ◌&&◌},
+  Words.{basics, is_handle, is_value_owner, one, only_handle, ◌&&◌},
 }
 use Rattle.pagable_tables.proofs.handle_table.hand_over.Goals as goal
 
@@ -16,7 +16,7 @@ returns-clause-keeps_sound c t plain owner work w =
     let x = c.args.at.row in
     let ss = c.args.handles.now.places.items in
     let valued = only-row (λ h. one (is_handle x.number.0 h && is_value_owner h.owner)) ss c.args.at.place x c.requires.sound.ordered c.requires.place
-    (λ h. grind (arith, nat_tests)) in
-    moved-stands (record t { handles = c.args.handles.now }) c.replace_row.new.handles (only_handle x.number) c.args.owner w owner
-    (λ y among is. let less = at-most-sum (λ h. one (is_handle x.number.0 h && is_value_owner h.owner)) _ y among in grind (arith, nat_tests)) work
+    (λ h. grind basics) in
+    moved-stands _ _ (only_handle x.number) c.args.owner w owner
+    (λ y among is. let less = at-most-sum (λ h. one (is_handle x.number.0 h && is_value_owner h.owner)) _ y among in grind basics) work
     (returns-clause-becomes c)

@@ -3,7 +3,7 @@ use Rattle.pagable_tables.proofs.{HandleTable.{at-place, next-set, sound-set}, W
 pub remove_dead_rows-requires : Rattle.pagable_tables.proofs.handle_table.mark_dead.Goals.remove_dead_rows-requires
 remove_dead_rows-requires c =
     let lives = ap (λ (p : Place). one p.is_live) c.new.ensures in
-    sound-set c.args.handles.now _ c.args.at.place c.args.at.row c.new.result c.requires.sound c.requires.place
+    sound-set _ _ c.args.at.place c.args.at.row c.new.result c.requires.sound c.requires.place
     (ap (λ (p : Place). p.row.number.0) c.new.ensures) refl (omega arith)
 
 pub returns-clause-becomes : Rattle.pagable_tables.proofs.handle_table.mark_dead.Goals.returns-clause-becomes

@@ -1,7 +1,7 @@
 use Rattle.pagable_tables.proofs.{
   LeafLoad.pins-leaf,
   LoadEnd.has-come,
-  Words.{Alike, Core, Mode, Tables, ap, arith, core_of, counts_at, find_row, has_value_once_loaded, live, nat_tests, subst, with_handle, with_mode, ◌+◌, ◌∙◌},
+  Words.{Alike, Core, Mode, Tables, ap, basics, core_of, counts_at, find_row, has_value_once_loaded, live, rows_of, subst, with_handle, with_mode, ◌+◌, ◌∙◌},
 }
 use Rattle.pagable_tables.specs.Core.{no_blobs}
 use Rattle.pagable_tables.proofs.leaf.pin_loaded_leaf.Goals as goal
@@ -10,24 +10,24 @@ pub unreachable-requires : goal.unreachable-requires
 unreachable-requires c =
     let left = c.requires.leaf.handles_left in
     let why = (c.in_default.ensures.does.does no_blobs).refused.why in
-    grind (arith, nat_tests, c.requires.place, c.requires.whole.steady.sound, left, why)
+    grind (basics, c.requires.place, c.requires.whole.steady.sound, left, why)
 
 pub returns-clause-pins : goal.returns-clause-pins
 returns-clause-pins c storage =
     let row = c.args.leaf.row in
     let pinned = (c.in-Ok.ensures.does.does storage).pinned in
     let taken = c.take_numbers.ensures.does.does storage in
-    pins-leaf c.args.t.now c.pin_in_memory.new.t storage c.requires.whole c.in-Ok.ensures.does.whole c.args.me c.args.leaf c.requires.leaf
+    pins-leaf _ _ storage c.requires.whole c.in-Ok.ensures.does.whole _ _ c.requires.leaf
     (subst (λ (w : Core). Alike (with_handle (with_mode w row.number Mode.LoosePinned) row.node Mode.Pinned c.args.me) (core_of c.pin_in_memory.new.t storage))
     taken pinned.1)
     (λ kind k. ap (λ (t : Tables). (core_of t storage).cache kind k) (c.in-Ok.ensures.same)
     ∙ ap (λ (t : Tables). (core_of t storage).cache kind k) c.take_numbers.ensures.same)
-    c.in-Ok.handle (pinned.0.above ∙ ap (λ (w : Core). w.last.handle + 1) taken)
+    _ (pinned.0.above ∙ ap (λ (w : Core). w.last.handle + 1) taken)
 
 pub returns-clause-values : goal.returns-clause-values
 returns-clause-values c n =
     let same = c.take_numbers.ensures.same in
     let row = c.args.leaf.row in
     has-come c.take_numbers.new.t c.pin_in_memory.new.t no_blobs row c.args.me (c.in-Ok.ensures.does.does no_blobs).pinned.1 c.take_numbers.ensures.does.whole
-    c.in-Ok.ensures.does.whole (ap (λ (u : Tables). find_row row.number.0 (live u.ref_counts.handles.places.items)) same ∙ c.requires.leaf.owned.live) n
+    c.in-Ok.ensures.does.whole (ap (λ (u : Tables). find_row row.number.0 (rows_of u.ref_counts)) same ∙ c.requires.leaf.owned.live) n
     ∙ ap (λ (u : Tables). has_value_once_loaded (counts_at u.ref_counts.nodes) row.node n) same

@@ -1,8 +1,4 @@
-use Rattle.pagable_tables.proofs.{
-  OwnedByLoad.{does-by, later-on},
-  RowCounts.{is-in, keeps-whole, loads-stay, stays-old},
-  Words.{arith, false, inl, refl},
-}
+use Rattle.pagable_tables.proofs.{OwnedByLoad.{does-by, later-on}, RowCounts.{is-in, keeps-whole, loads-stay, stays-old}, Words.{arith, false, inl, refl}}
 use Rattle.pagable_tables.proofs.leaf.take_numbers.Goals as goal
 
 pub returns-clause-does : goal.returns-clause-does
@@ -10,7 +6,7 @@ returns-clause-does c =
     let s = c.requires.whole.steady in
     let w = c.requires.whole.core in
     does-by (λ storage. refl)
-    (record { sound = s.sound; next = λ i d within. (let n = s.next i d within in omega arith); fits = s.fits; worked = s.worked })
+    (record { sound = s.sound; next = λ i d within. (omega (arith, s.next i d within)); fits = s.fits; worked = s.worked })
     (λ plain placed. keeps-whole w (record {
       on = record {
         last = (omega arith, omega arith, omega arith);

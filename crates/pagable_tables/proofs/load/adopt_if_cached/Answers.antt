@@ -6,19 +6,18 @@ use Rattle.pagable_tables.proofs.{
   SameViews.{adopts-known, eager, failed, fitting, not-adopted, owner-of, refused-known},
   Views.{lone-falling, named-mine},
   Wholeness.whole-so,
-  Words.{Alike, Mode, Owner, Suits, ap, arith, core_alone, core_of, counts_at, has_value, is_some, length, mode_of, not, refl, subst, sym, with_handle, []},
-  Words.{◌+◌, ◌∙◌},
+  Words.{Alike, Owner, ap, arith, core_alone, core_of, counts_at, has_value, is_some, length, mode_of, not, refl, sym, with_handle, [], ◌+◌, ◌∙◌},
 }
 use Rattle.pagable_tables.specs.Core.{no_blobs, no_blobs_of}
 use Rattle.pagable_tables.proofs.load.adopt_if_cached.Goals as goal
 
 pub returns-in-Some-clause-refused : goal.returns-in-Some-clause-refused
 returns-in-Some-clause-refused g c storage =
-    not-adopted (core_of c.args.t.now storage) c.args.me c.args.load c.args.kind c.args.key c.args.node_type c.args.references.now c.in-Some.e
+    not-adopted _ c.args.me c.args.load c.args.kind c.args.key c.args.node_type c.args.references.now _
     (sym (c.adopt_fault.ensures storage) ∙ c.in-Some.is)
 
 pub make_handle-requires-clause-suits : goal.make_handle-requires-clause-suits
-make_handle-requires-clause-suits g c = subst (Suits (core_alone c.args.t.now) c.in-Some-usable_of.node) (sym c.mode_of.ensures)
+make_handle-requires-clause-suits g c = rw c.mode_of.ensures
     (known-suits c.requires.whole.core c.args.kind.0 c.args.key c.in-Some-usable_of.node.0 (sym (c.in-Some-usable_of.ensures no_blobs)))
 
 pub make_handle-requires-clause-holder : goal.make_handle-requires-clause-holder
@@ -42,7 +41,7 @@ returns g c =
     let fit = fitting p me l kind c.args.key c.args.node_type rs free in
     let valued = c.requires.valued node.0 (sym (c.in-Some-usable_of.ensures no_blobs)) (eager p me l kind c.args.key c.args.node_type rs free) in
     let fell = c.release_named.ensures.falls (listing c.args.lists t1) (listing c.args.lists t1)
-    (begun-whole t1 (no_blobs_of c.args.lists) c.args.lists made.whole (closed-is (not c.args.lists) c.args.lists refl)) (omega arith)
+    (begun-whole t1 (no_blobs_of c.args.lists) _ made.whole (closed-is {lists = not c.args.lists} refl)) (omega arith)
     (λ q named. ap (owned owner q) (made.does (no_blobs_of c.args.lists)).made.1.rows ∙ loaded-append l q p.rows _ (named-mine p owner [] rs fit q named)) in
     let went = lone-falling {w = listing c.args.lists t1} made.whole.core fell.falls in
     record {
@@ -51,9 +50,9 @@ returns g c =
           let u = with_handle w node (mode_of kind.0) owner in
           let good = sym (c.adopt_fault.ensures storage) ∙ c.in_default.is in
           let m = (made.does storage).made in
-          let a : Alike u (core_of t1 storage) = subst (λ (mode : Mode). Alike (with_handle w node mode owner) (core_of t1 storage)) c.mode_of.ensures m.1 in
-          let some = c.release_named.ensures.falls u u (begun-made t t1 storage node (mode_of kind.0) owner made.whole a c.args.lists e)
-          (let b = ap length a.rows in omega arith)
+          let a : Alike u (core_of t1 storage) = rw c.mode_of.ensures at m.1 in
+          let some = c.release_named.ensures.falls u u (begun-made t t1 storage node (mode_of kind.0) owner made.whole a _ e)
+          (omega (arith, ap length a.rows))
           (λ q named. loaded-append l q w.rows _ (named-mine w owner [] rs (fitting w me l kind c.args.key c.args.node_type rs good) q named)) in
           let kept = not-named p l rs c.requires.whole.core.handles fit (t.ref_counts.last_handle + 1) (omega arith) in
           let falls = falls-made t t1 storage node (mode_of kind.0) owner made.whole a c.in_ok-handle.ensures.same refl c.release_named.new.t some.falls
@@ -84,7 +83,7 @@ returns-in_err-handle-clause-drops g c =
     (eager (core_alone c.args.t.now) c.args.me c.args.load c.args.kind c.args.key c.args.node_type c.args.references.now
     (sym (c.adopt_fault.ensures no_blobs) ∙ c.in_default.is)) in
     stays-first (λ n. c.in_err-handle.ensures.values n (λ eq pins. ap (λ k. has_value (counts_at c.args.t.now.ref_counts.nodes k)) eq ∙ valued))
-    (drops-still c.make_handle.new.t.ref_counts _ c.in_err-handle.ensures.does.whole.steady)
+    (drops-still _ _ c.in_err-handle.ensures.does.whole.steady)
 
 pub returns-in_default-usable_of-clause-unknown : goal.returns-in_default-usable_of-clause-unknown
 returns-in_default-usable_of-clause-unknown g c = sym (c.in_default-usable_of.ensures no_blobs)

@@ -5,8 +5,8 @@ use Rattle.pagable_tables.proofs.{
   SameViews.{if-open, learned, still},
   Views.{newer-alike, settles},
   Wholeness.whole-so,
-  Words.{Alike, IndexMap, Last, NodeNumber, Option, Owner, Some, adopted, ap, core_alone, core_of, false, has_key, inl, inr, is_shared, key_in, mode_of, next_node},
-  Words.{not, option_map, refl, subst, sym, true, with_handle, with_node, ℕ, ◌+◌, ◌/◌, ◌∙◌, ◌≡◌},
+  Words.{Alike, Last, NodeNumber, Option, Owner, Some, adopted, ap, core_alone, core_of, false, has_key, inl, inr, is_shared, key_in, mode_of, next_node, not},
+  Words.{option_map, refl, sym, true, with_handle, with_node, ℕ, ◌/◌, ◌∙◌, ◌≡◌},
 }
 use Rattle.pagable_tables.specs.Core.{StorageView, no_blobs_of}
 
@@ -29,13 +29,10 @@ returns c =
     let w' = core_of t1 storage in
     let cache = (core_of (record t1 { cache = c.cache_if.new.cache }) storage).cache in
     let b = born.does storage in
-    let a : Alike u w' = subst (λ q. Alike (with_handle (with_node w q (key_in c.args.own_key) rs) (next_node w) (mode_of c.args.kind.0) owner) w')
-    c.node_type.ensures (subst (λ m. Alike (with_handle (with_node w c.node_type.result (key_in c.args.own_key) rs) (next_node w) m owner) w')
-    c.mode_of.ensures b.leaves) in
-    let node : t1.last_node ≡ t.last_node + 1 = ap (λ (l : Last). l.node) a.last in
+    let a : Alike u w' = rw c.node_type.ensures at (rw c.mode_of.ensures at b.leaves) in
+    let node = ap (λ (l : Last). l.node) a.last in
     if-open storage.closed u (record w' { cache = cache }) c.args.kind c.args.key (next_node w)
-    (λ shut. subst (λ (m : IndexMap (ℕ × ℕ) NodeNumber _). Alike u (core_of (record t1 { cache = m }) storage))
-    (sym (c.cache_if.ensures.same (e ∙ ap not shut))) a)
+    (λ shut. rw (sym (c.cache_if.ensures.same (e ∙ ap not shut))) at a)
     (λ stands. learned u w' c.args.kind c.args.key (next_node w) cache a (ap number (c.cache_if.ensures.here (e ∙ ap not stands)) ∙ ap Some node)
     (λ k q other. ap number (c.cache_if.ensures.others k q other)))) in
     let r = c.requires in
@@ -45,6 +42,6 @@ returns c =
       does = λ storage. let n = (born.does storage).next in (record { above = n.above; is_left = n.is_left }, new storage);
       whole = whole-so born.whole.steady (settles (adopted-whole (core_of t (no_blobs_of c.args.lists)) r.whole.core c.args.load c.args.kind c.args.key
           (key_in c.args.own_key) rs r.holder r.fit
-          r.ready.node_left r.ready.handle_left unkeyed) (new (no_blobs_of c.args.lists) (closed-is (not c.args.lists) c.args.lists refl)));
+          r.ready.node_left r.ready.handle_left unkeyed) (new (no_blobs_of c.args.lists) (closed-is {lists = not c.args.lists} refl)));
       later = λ later. later-on (born.later later) (newer-alike (still (core_alone t1))) refl refl refl;
     }

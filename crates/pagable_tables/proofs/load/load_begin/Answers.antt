@@ -4,9 +4,9 @@ use Rattle.pagable_tables.proofs.{
   OwnedByLoad.{closed-still, does-by, later-less, later-opened, nothing-does, still-reaches},
   SameViews.{failed, handle-first, owner-same, same-cache, still},
   Views.{newer-alike, newer-handle, newer-then, roomy-whole, settles},
-  Words.{Alike, BeginCall, Core, Err, Error, HandleNumber, HandleRow, Mode, None, OptionalDataKey, Owner, Owns, Some, ap, arith, core_alone, core_of, false},
-  Words.{find_row, greatest, if_there, inl, inr, is_here, is_loose, is_owner, load_at, nat_tests, of_cell, refl, rules, sym, true, type_at, with_handle},
-  Words.{with_load, ◌+◌, ◌<◌, ◌∙◌, ◌≡◌},
+  Words.{Alike, BeginCall, Core, Err, Error, HandleNumber, HandleRow, Mode, None, OptionalDataKey, Owner, Owns, Some, ap, arith, basics, core_alone, core_of},
+  Words.{false, find_row, greatest, if_there, inl, inr, is_here, is_loose, is_owner, of_cell, refl, rules, sym, true, type_at, with_handle, with_load, ◌+◌},
+  Words.{◌<◌, ◌∙◌, ◌≡◌},
 }
 use Rattle.pagable_tables.proofs.load.load_begin.Goals as goal
 
@@ -18,7 +18,7 @@ returns-in_err-at c = rw (failed c.from_residual.result c.from_residual.ensures.
       begins = tt;
       refused = record {
         why = inl (handle-first w c.args.me c.args.handle is_loose _ _ (c.in_err-at.ensures.fault storage is_loose)
-            (λ f is. grind (arith, nat_tests)));
+            (λ f is. grind basics));
         stays = still w;
       };
     }))
@@ -27,7 +27,7 @@ unbegun : {w w' : Core} (me : Owner) (h : HandleNumber) (row : HandleRow) → fi
     ≡ true → is_here w row.node.0 ≡ false
     → w.last.load < greatest → w.last.handle < greatest → Alike w w' → BeginCall w me h (Err Error.OutOfMemory) w'
 unbegun {w} me h row found own loose here loads handles stays =
-    let before : begin_fault w me h ≡ None = grind (arith, nat_tests) in
+    let before : begin_fault w me h ≡ None = grind basics in
     record {
       begins = tt;
       refused = record { why = inr (refl, before, ap (if_there (λ (r : HandleRow). is_here w r.node.0) false) found ∙ here); stays = stays };
@@ -37,7 +37,7 @@ pub returns-in_err-add_row : goal.returns-in_err-add_row
 returns-in_err-add_row c = rw (failed c.from_residual-in_err-add_row.result c.from_residual-in_err-add_row.ensures.1) (does-by
     (λ storage. unbegun c.args.me c.args.handle c.in_ok-at.at.row c.in_ok-at.ensures.found c.in_ok-at.ensures.owner (search rules) (search rules) (omega arith)
     (omega arith)
-    (grind (arith, nat_tests, same-cache, c.in_err-add_row.ensures.err)))
+    (grind (basics, same-cache, c.in_err-add_row.ensures.err)))
     c.requires.whole.steady (λ begins. settles (roomy-whole c.requires.whole.core) begins.refused.stays)
     (λ begins later. later-less later (newer-alike begins.refused.stays) refl (λ l load is. sym (c.in_err-add_row.ensures.err l) ∙ is) (still-reaches refl)))
 
@@ -45,15 +45,15 @@ pub returns-in-Err : goal.returns-in-Err
 returns-in-Err c =
     let t = c.args.t.now in
     let left : t.ref_counts.last_handle < greatest = omega arith in
-    let memory : c.in-Err.e ≡ Error.OutOfMemory = (let why = (c.in-Err.ensures.made (core_alone t)).refused.why in grind (arith, nat_tests, left)) in
+    let memory : c.in-Err.e ≡ Error.OutOfMemory = (let why = (c.in-Err.ensures.made (core_alone t)).refused.why in grind (basics, left)) in
     rw memory (does-by
     (λ storage.
     let a = (c.in-Err.ensures.made (core_of (record t { ref_counts = c.add_handle.new.t; loads = c.remove_row.new.rows }) storage)).refused.stays in
     unbegun c.args.me c.args.handle c.in_ok-at.at.row c.in_ok-at.ensures.found c.in_ok-at.ensures.owner (search rules) (search rules) (omega arith) left
-    (grind (arith, nat_tests, c.requires.whole.core.loads.numbered, c.in_ok-add_row.ensures.others, c.remove_row.ensures.gone, c.remove_row.ensures.others)))
+    (grind (basics, c.requires.whole.core.loads.numbered, c.in_ok-add_row.ensures.others, c.remove_row.ensures.gone, c.remove_row.ensures.others)))
     c.add_handle.ensures.steady (λ begins. settles (roomy-whole c.requires.whole.core) begins.refused.stays)
     (λ begins later. later-less later (newer-alike begins.refused.stays) refl
-    (closed-still (load_at t.loads) (load_at c.remove_row.new.rows) (t.last_load + 1) c.remove_row.ensures.gone
+    (closed-still c.remove_row.ensures.gone
     (λ q other. c.remove_row.ensures.others q other ∙ c.in_ok-add_row.ensures.others q other)) (still-reaches refl)))
 
 pub returns : goal.returns
@@ -71,12 +71,12 @@ returns c =
       as_asked = search rules;
     } in
     let away : is_here w row.node.0 ≡ false = search rules in
-    let key : key_at w row.node.0 ≡ OptionalDataKey.Some c.unwrap-key.result = grind (arith, nat_tests, c.key_in.ensures, c.unwrap-key.ensures) in
-    let typed : type_at w row.node.0 ≡ Some c.unwrap.result.node_type = grind (arith, nat_tests) in
+    let key : key_at w row.node.0 ≡ OptionalDataKey.Some c.unwrap-key.result = grind (basics, c.key_in.ensures, c.unwrap-key.ensures) in
+    let typed : type_at w row.node.0 ≡ Some c.unwrap.result.node_type = grind basics in
     let a = (c.in_default.ensures.made w').made.1 in
     let opened : Alike (with_load (with_handle w row.node Mode.LooseUnpinned (Owner.Load (record { 0 = l }))) c.unwrap-key.result
     (of_cell row.node c.unwrap.result.node_type row.number) c.args.me) w' =
-    grind (arith, nat_tests, c.in_ok-add_row.ensures.here, c.in_ok-add_row.ensures.others) in
+    grind (basics, c.in_ok-add_row.ensures.here, c.in_ok-add_row.ensures.others) in
     record {
       begins = (
         row,
@@ -94,5 +94,5 @@ returns c =
     c.add_handle.ensures.steady (begin-whole c.args.me c.args.handle c.requires.whole.core c.requires.owner)
     (λ begins later. let n = newer-then (newer-handle (core_alone t) begins.begins.0.node Mode.LooseUnpinned (Owner.Load (record { 0 = l })))
     (newer-alike begins.begins.2.4.2) in
-    later-opened c.requires.whole.core later n l _ (grind (arith, nat_tests))
+    later-opened c.requires.whole.core later n l _ (grind basics)
     c.in_ok-add_row.ensures.here refl c.in_ok-add_row.ensures.others refl refl)

@@ -1,7 +1,7 @@
 use Rattle.pagable_tables.proofs.{
   OwnedByLoad.{does-as, nothing-does},
   SameViews.{failed, no-load-fault, not-own, spent-late},
-  Words.{arith, core_of, is_usable, nat_tests, spent, where_so},
+  Words.{arith, basics, core_of, is_usable, spent, where_so},
 }
 
 pub returns-in_err-_row-clause-does : Rattle.pagable_tables.proofs.load.load_cached.Goals.returns-in_err-_row-clause-does
@@ -9,8 +9,8 @@ returns-in_err-_row-clause-does c =
     rw (failed c.from_residual.result c.from_residual.ensures.1) (nothing-does c.requires.whole (λ storage. let w = core_of c.args.t.now storage in record {
       gives = tt;
       refused = not-own w c.args.me c.args.load (where_so (is_usable w c.args.kind c.args.key) (spent w.last.handle)) _ (c.in_err-_row.ensures.fault storage)
-          (λ f so. let b = spent-late w.last.handle (is_usable w c.args.kind c.args.key) f so in omega arith);
+          (λ f so. omega (arith, spent-late w.last.handle (is_usable w c.args.kind c.args.key) f so));
     }))
 
 pub returns-clause-does : Rattle.pagable_tables.proofs.load.load_cached.Goals.returns-clause-does
-returns-clause-does c = does-as c.cache_get.ensures.does (λ storage call. let own = c.in_ok-_row.ensures.own storage in grind (arith, nat_tests, no-load-fault))
+returns-clause-does c = does-as c.cache_get.ensures.does (λ storage call. grind (basics, no-load-fault, c.in_ok-_row.ensures.own storage))

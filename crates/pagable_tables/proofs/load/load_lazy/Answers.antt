@@ -3,7 +3,7 @@ use Rattle.pagable_tables.proofs.{
   OwnedByLoad.{does-as, does-then, key-is, nothing-does},
   SameViews.{adopted-past, failed, late, lazy-known, lazy-new, lazy-not-loose, lazy-not-new, next-past, node-late, not-own},
   Views.none-named,
-  Words.{Alike, Core, OptionalDataKey, Owner, Suits, adopted, ap, arith, core_alone, core_of, greatest, key_in, load_in, nat_tests, subst, sym, [], ◌<◌, ◌∙◌},
+  Words.{Core, OptionalDataKey, Owner, ap, arith, basics, core_alone, core_of, greatest, key_in, subst, sym, [], ◌<◌, ◌∙◌},
 }
 use Rattle.pagable_tables.specs.Core.{no_blobs}
 use Rattle.pagable_tables.proofs.load.load_lazy.Goals as goal
@@ -13,23 +13,23 @@ returns-in_err-_row c =
     rw (failed c.from_residual.result c.from_residual.ensures.1) (nothing-does c.requires.whole (λ storage e. let w = core_of c.args.t.now storage in record {
       makes = tt;
       refused = not-own w c.args.me c.args.load _ _ (c.in_err-_row.ensures.fault storage)
-          (late _ _ 3 (grind (arith, nat_tests)) (λ f is. let a = node-late w c.args.kind c.args.key f is in omega arith));
+          (late _ _ 3 (grind basics) (λ f is. let a = node-late w c.args.kind c.args.key f is in omega arith));
     }))
 
 pub returns-then-not-is_loose : goal.returns-then-not-is_loose
 returns-then-not-is_loose c =
-    nothing-does c.requires.whole (λ storage e. lazy-not-loose _ c.args.me c.args.load (load_in c.in_ok-_row._row) c.args.kind c.args.key
+    nothing-does c.requires.whole (λ storage e. lazy-not-loose c.args.kind c.args.key
     (c.in_ok-_row.ensures.own storage) (sym c.if-not-is_loose.ensures))
 
 pub make_handle-requires-clause-suits : goal.make_handle-requires-clause-suits
 make_handle-requires-clause-suits c =
     let is = sym (c.in-Some.ensures no_blobs) in
-    subst (Suits (core_alone c.args.t.now) c.in-Some.node) (sym c.mode_of.ensures)
+    rw c.mode_of.ensures
     (known-suits c.requires.whole.core c.args.kind.0 c.args.key c.in-Some.node.0 is)
 
 pub returns-in-Some : goal.returns-in-Some
 returns-in-Some c = does-as c.make_handle.ensures.does
-    (λ storage made e. lazy-known _ c.args.me c.args.load (load_in c.in_ok-_row._row) c.args.kind c.args.key (c.in_ok-_row.ensures.own storage)
+    (λ storage made e. lazy-known c.args.kind c.args.key (c.in_ok-_row.ensures.own storage)
     (sym c.if-not-is_loose.ensures) c.in-Some.node c.mode_of.result c.make_handle.result _ (sym (c.in-Some.ensures storage)) c.mode_of.ensures made)
 
 pub insert_and_prune_cache-requires-clause-fit : goal.insert_and_prune_cache-requires-clause-fit
@@ -42,10 +42,9 @@ returns c =
     (λ storage room made e.
     let w1 = core_of c.make_room_for_node.new.t storage in
     let w' = core_of c.insert_and_prune_cache.new.t storage in
-    let one = subst (λ rs. Alike (adopted w1 l c.args.kind c.args.key (key_in c.get.result) rs) w') c.new.ensures.items (made.1 e) in
-    let two = subst (λ o. Alike (adopted w1 l c.args.kind c.args.key o []) w')
-    (ap key_in c.get.ensures.value ∙ key-is c.args.key (let a = c.get.ensures.value in let b = c.get.ensures.above in omega arith)) one in
-    lazy-new (core_of c.args.t.now storage) c.args.me l (load_in c.in_ok-_row._row) c.args.kind c.args.key (c.in_ok-_row.ensures.own storage)
+    let one = rw c.new.ensures.items at (made.1 e) in
+    let two = rw (ap key_in c.get.ensures.value ∙ key-is c.args.key (omega arith)) at one in
+    lazy-new c.args.kind c.args.key (c.in_ok-_row.ensures.own storage)
     (sym c.if-not-is_loose.ensures) (sym (c.in_default.ensures storage))
     c.insert_and_prune_cache.result (subst (λ (u : Core). u.last.node < greatest) room.same c.in_ok-make_room_for_node.ensures.ready.node_left)
     (next-past room made.0)
@@ -54,6 +53,6 @@ returns c =
 pub returns-in_err-make_room_for_node : goal.returns-in_err-make_room_for_node
 returns-in_err-make_room_for_node c = rw (failed c.from_residual-in_err-make_room_for_node.result c.from_residual-in_err-make_room_for_node.ensures.1)
     (does-as c.make_room_for_node.ensures.does
-    (λ storage room e. lazy-not-new (core_of c.args.t.now storage) c.args.me c.args.load (load_in c.in_ok-_row._row) c.args.kind c.args.key
+    (λ storage room e. lazy-not-new c.args.kind c.args.key
     (c.in_ok-_row.ensures.own storage) (sym c.if-not-is_loose.ensures) (sym (c.in_default.ensures storage))
     (c.in_err-make_room_for_node.ensures.refused storage)))

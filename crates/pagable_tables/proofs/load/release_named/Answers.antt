@@ -2,17 +2,17 @@ use Rattle.pagable_tables.proofs.{
   CascadeEnd.{drops-still, drops-then},
   CascadeStep.aside,
   OwnedByLoad.{all-given, none-given, one-given},
-  Words.{None, arith, owns_nothing, take_all, []},
+  Words.{None, arith, take_all, []},
 }
 use Rattle.pagable_tables.proofs.load.release_named.Goals as goal
 
 pub loop-reference-init : goal.loop-reference-init
 loop-reference-init g c =
     let t = record c.args.t.now { listing_error = None } in (
-      aside c.args.t.now None [] owns_nothing c.requires,
+      aside _ None [] _ c.requires,
       omega arith,
-      λ before w f few. none-given before w c.args.lists t c.args.load c.args.references.now f,
-      drops-still c.args.t.now _ c.requires,
+      λ before w f few. none-given c.args.load c.args.references.now f,
+      drops-still _ _ c.requires,
     )
 
 pub loop-reference-preserved : goal.loop-reference-preserved
@@ -20,7 +20,7 @@ loop-reference-preserved g c =
     let i = c.loop-reference.invariant in (
       c.release_if_owned.ensures.steady,
       omega arith,
-      λ before w f few. one-given before w c.args.lists c.release_if_owned.new.t c.args.load c.args.references.now c.loop-reference.reference-index _
+      λ before w f few. one-given c.args.load c.args.references.now c.loop-reference.reference-index _
           c.loop-reference-test.true (c.release_if_owned.ensures.so_far before w _ (i.2 before w f few) (omega arith)),
       drops-then i.3 c.release_if_owned.ensures.drops,
     )
@@ -31,6 +31,6 @@ returns-clause-falls g c before w f few owned =
     let k = c.loop-reference.reference-index in
     record {
       told = c.finish_cascade.result;
-      falls = c.finish_cascade.ensures.falls before w _ (all-given before w c.args.lists c.loop-reference.t c.args.load c.args.references.now k
+      falls = c.finish_cascade.ensures.falls before w _ (all-given c.args.load c.args.references.now k
           (take_all k c.args.references.now (omega arith)) owned (i.2 before w f few));
     }

@@ -3,7 +3,7 @@ use Rattle.pagable_tables.proofs.{
   CascadeStep.begun-less,
   OwnedByLoad.{closed-still, does-as, drops-with, later-less, lazily-by, listing, loads-anew, still-reaches, updated-by},
   Views.{newer-falls, roomy-whole, stays-on},
-  Words.{LoadCloses, None, Owner, arith, core_of, inl, inr, is_owned_in, load_at, load_in, option_map, refl, with_tables, without_load},
+  Words.{LoadCloses, Owner, arith, core_of, inl, inr, is_owned_in, load_at, load_in, option_map, refl, without_load},
 }
 
 pub returns : Rattle.pagable_tables.proofs.load_end.drop_until.Goals.returns
@@ -16,12 +16,12 @@ returns g c =
     let w = core_of t storage in
     let u = without_load w l in
     let falls = c.release_owned.ensures.falls w u (record u { loads = λ m. option_map load_in (load_at c.remove_row.new.rows m) }) (λ m. refl)
-    (begun-less t u.loads w.workers storage c.args.lists c.requires.whole e) (omega arith)
+    (begun-less t u.loads w.workers storage _ c.requires.whole e) (omega arith)
     (λ q own. let after = c.requires.above q own in ((omega arith, inl after), c.requires.up_to q own)) in
-    loads-anew w u (with_tables u c.release_owned.new.t) (is_owned_in w (Owner.Load l)) c.release_owned.result _
-    (updated-by (option_map load_in) (load_at t.loads) (load_at c.remove_row.new.rows) l.0 None c.remove_row.ensures.gone c.remove_row.ensures.others) falls)
+    loads-anew
+    (updated-by (option_map load_in) c.remove_row.ensures.gone c.remove_row.ensures.others) falls)
     c.release_owned.ensures.steady (let w = listing c.args.lists t in closes {u = w} l (is_owned_in w (Owner.Load l)) (roomy-whole c.requires.whole.core)
     (stays-on w) (owned-in c.requires.whole.core l))
-    (λ fell later. later-less later (newer-falls fell) refl (closed-still (load_at t.loads) (load_at c.remove_row.new.rows) l.0 c.remove_row.ensures.gone
+    (λ fell later. later-less later (newer-falls fell) refl (closed-still c.remove_row.ensures.gone
     c.remove_row.ensures.others) (still-reaches refl)))
     (λ storage fell e. record { does = inr (load_in c.args.row, c.requires.own storage, fell e) })) c.release_owned.ensures.drops

@@ -1,9 +1,8 @@
-use Rattle.pagable_pager_spec.specs.Refusals.{OwnsLoad}
 use Rattle.pagable_tables.proofs.{
   LastHandles.{above-noted, core-same, noted-release_at},
   OwnedByLoad.nothing-release_at,
   SameViews.{failed, still},
-  Words.{Core, inl, load_in, refl, subst, sym},
+  Words.{inl, refl},
 }
 
 pub returns-in_err-row : Rattle.pagable_tables.proofs.load_end.load_drop.Goals.returns-in_err-row
@@ -16,8 +15,7 @@ returns-in_err-row g c = rw (failed c.from_residual.result c.from_residual.ensur
 pub drop_until-requires-clause-own : Rattle.pagable_tables.proofs.load_end.load_drop.Goals.drop_until-requires-clause-own
 drop_until-requires-clause-own g c storage =
     let n = c.handle_bound_of-until.ensures.notes in
-    subst (λ (w : Core). OwnsLoad w c.args.me c.args.load (load_in c.in_ok-row.row))
-    (sym (core-same c.args.t.now c.handle_bound_of-until.new.t n.same n.rows storage))
+    rw (core-same c.args.t.now c.handle_bound_of-until.new.t n.same n.rows storage)
     (c.in_ok-row.ensures.own storage)
 
 pub drop_until-requires-clause-above : Rattle.pagable_tables.proofs.load_end.load_drop.Goals.drop_until-requires-clause-above

@@ -1,17 +1,13 @@
 use Rattle.pagable_pager_spec.specs.LoadCalls.{hand_over_fault}
-use Rattle.pagable_tables.proofs.{
-  CallsKeepWhole.{MayHand, may-hand},
-  LastHandles.{core-same, noted-release_at},
-  Words.{Core, ap, arith, core_alone, nat_tests, sym, ◌∙◌},
-}
+use Rattle.pagable_tables.proofs.{CallsKeepWhole.{MayHand, may-hand}, LastHandles.{core-same, noted-release_at}, Words.{Core, ap, core_alone, sym, ◌∙◌, basics}}
 use Rattle.pagable_tables.specs.Core.{no_blobs}
 use Rattle.pagable_tables.proofs.load_end.load_take.Goals as goal
 
 pub unwrap-row-requires : goal.unwrap-row-requires
 unwrap-row-requires g c =
-    let can : MayHand (core_alone c.args.t.now) c.args.me c.args.load c.args.named.now = may-hand c.requires.whole.core c.args.me c.args.load c.args.named.now
+    let can : MayHand (core_alone c.args.t.now) c.args.me c.args.load c.args.named.now = may-hand c.requires.whole.core _ _ _
     (sym (c.hand_over_fault.ensures no_blobs) ∙ c.in_default.is) in
-    let own = can.own in grind (arith, nat_tests, c.load_of.ensures)
+    grind (basics, c.load_of.ensures, can.own)
 
 pub take_until-requires-clause-no_fault : goal.take_until-requires-clause-no_fault
 take_until-requires-clause-no_fault g c storage =

@@ -1,6 +1,6 @@
 use Rattle.pagable_tables.proofs.{
   SameViews.in-take,
-  Words.{ap, arith, false, is_in, live, nat_tests, numbers_of, refl, take, take_all, true, ◌∙◌, ◌≡◌},
+  Words.{ap, arith, basics, false, is_in, live, numbers_of, refl, take, take_all, true, ◌∙◌, ◌≡◌},
   WorkCounts.{none-taken, work-comes, work-moved},
 }
 use Rattle.pagable_tables.specs.CascadeInvariant.{is_worker}
@@ -8,7 +8,7 @@ use Rattle.pagable_tables.proofs.load_end.raise_worker_bounds.Goals as goal
 
 pub returns-then-not-is_worker-clause-worked : goal.returns-then-not-is_worker-clause-worked
 returns-then-not-is_worker-clause-worked c =
-    let none : is_worker c.args.me ≡ false = grind (arith, nat_tests, c.is_worker.ensures) in
+    let none : is_worker c.args.me ≡ false = grind (basics, c.is_worker.ensures) in
     work-moved c.args.nodes.now (is_in (numbers_of c.args.named.now)) c.args.me (live c.args.handles.now.places.items) none c.requires.worked
 
 pub loop-handle-init : goal.loop-handle-init
@@ -27,13 +27,12 @@ loop-handle-preserved c =
     record {
       counts = λ n. k.counts n ∙ i.counts n;
       refs = λ n. k.refs n ∙ i.refs n;
-      worker_bound = λ n. let a = k.worker_bound n in let b = i.worker_bound n in omega arith;
+      worker_bound = λ n. omega (arith, k.worker_bound n, i.worker_bound n);
       here = λ q row is found.
-          let all = in-take c.args.named.now at (record { 0 = 0 }) q (omega arith) in
           let more = k.worker_bound row.node.0 in
           let before = λ (had : is_in (numbers_of (take at c.args.named.now)) q ≡ true). i.here q row had found in
           let here = k.here in
-          grind (arith, nat_tests);
+          grind (basics, in-take c.args.named.now at (record { 0 = 0 }) q (omega arith));
     }
 
 pub returns-clause-worked : goal.returns-clause-worked

@@ -5,37 +5,35 @@ use Rattle.pagable_tables.proofs.{
   Counting.and-left,
   OwnedByLoad.{closed-still, drops-with, later-handed, lazily-by, loads-anew, moved-stands, moved-times, no-load, updated-by},
   Views.{newer-falls, not-a-value, owned-moved},
-  Words.{Core, Falls, IsSoundInCascade, None, Owner, Some, ap, arith, core_alone, core_of, counts_at, inl, is_in, is_owned_in, is_value_owner, length, live},
-  Words.{load_at, load_in, moved, nat_tests, not, numbers_of, option_map, owns_nothing, refl, refs_at, subst, sym, with_tables, without_load, ℕ, [], ◌&&◌, ◌∙◌},
-  Words.◌≡◌,
-  WorkCounts.work-more,
+  Words.{Core, Falls, IsSoundInCascade, None, Owner, ap, arith, basics, core_alone, core_of, inl, is_in, is_owned_in, is_value_owner, length, load_at, load_in},
+  Words.{moved, not, numbers_of, option_map, owns_nothing, refl, rows_of, subst, sym, with_tables, without_load, ℕ, [], ◌&&◌, ◌∙◌, ◌≡◌},
 }
 use Rattle.pagable_tables.specs.Core.{no_blobs}
 use Rattle.pagable_tables.proofs.load_end.take_until.Goals as goal
 
 pub unwrap-row-requires : goal.unwrap-row-requires
 unwrap-row-requires g c =
-    let can : MayHand (core_alone c.args.t.now) c.args.me c.args.load c.args.named.now = may-hand c.requires.whole.core c.args.me c.args.load c.args.named.now
+    let can : MayHand (core_alone c.args.t.now) c.args.me c.args.load c.args.named.now = may-hand c.requires.whole.core _ _ _
     (c.requires.no_fault no_blobs) in
-    let own = can.own in grind (arith, nat_tests, c.load_of.ensures)
+    grind (basics, c.load_of.ensures, can.own)
 
 pub release_owned-requires-clause-steady : goal.release_owned-requires-clause-steady
 release_owned-requires-clause-steady g c =
     let w = core_alone c.args.t.now in
     let hs = c.args.named.now in
-    let can : MayHand w c.args.me c.args.load hs = may-hand c.requires.whole.core c.args.me c.args.load hs (c.requires.no_fault no_blobs) in
+    let can : MayHand w c.args.me c.args.load hs = may-hand c.requires.whole.core _ _ hs (c.requires.no_fault no_blobs) in
     let t = c.args.t.now.ref_counts in
-    let rows = live t.handles.places.items in
+    let rows = rows_of t in
     let s = c.requires.whole.steady in
     let k = c.raise_worker_bounds.ensures in
     let nodes = c.raise_worker_bounds.new.nodes in
     let steady : IsSoundInCascade (record t { nodes = nodes }) [] owns_nothing = record {
       sound = s.sound;
       next = s.next;
-      fits = fits-same (counts_at t.nodes) (counts_at nodes) (refs_at t.nodes) (refs_at nodes) rows t.top [] s.fits k.counts k.refs;
-      worked = work-more rows t.nodes nodes k.worker_bound s.worked;
+      fits = fits-same s.fits k.counts k.refs;
+      worked = λ n. omega (arith, k.worker_bound n, s.worked n);
     } in
-    moved-stands (record t { nodes = nodes }) c.hand_over_each.new.handles (is_in (numbers_of hs)) c.args.me steady
+    moved-stands _ _ (is_in (numbers_of hs)) c.args.me steady
     (not-a-value w c.args.me (may-hold w c.args.me can.may))
     (λ x among named. ap is_value_owner (handed-own w c.requires.whole.core.handles.ordered c.args.load hs can.named x among named)) k.worked
     c.hand_over_each.ensures
@@ -48,8 +46,8 @@ returns g c =
     let hs = c.args.named.now in
     let s = is_in (numbers_of hs) in
     let p = core_alone t in
-    let can : MayHand p me l hs = may-hand c.requires.whole.core me l hs (c.requires.no_fault no_blobs) in
-    let row : load_at t.loads l.0 ≡ Some c.unwrap-row.result = sym c.load_of.ensures ∙ c.unwrap-row.ensures in
+    let can = may-hand c.requires.whole.core me l hs (c.requires.no_fault no_blobs) in
+    let row = sym c.load_of.ensures ∙ c.unwrap-row.ensures in
     drops-with (lazily-by
     (λ storage e.
     let w = core_of t storage in
@@ -62,10 +60,10 @@ returns g c =
     (λ p own. moved-times p s me w.rows (λ x. own x me)) (unmixed t c.requires.whole)
     (λ q. let a = (handed-whole c.requires.whole.core me l hs can).owners_there.listed q in omega arith) c.hand_over_each.ensures.rows refl refl
     c.requires.whole.core.handles.within.0
-    (record { handles = let a = c.hand_over_each.ensures.capacity in omega arith; entries = omega arith })
+    (record { handles = omega arith; entries = omega arith })
     (λ n. rw (c.raise_worker_bounds.ensures.counts n) refl) refl in
     let falls = c.release_owned.ensures.falls w u (record u { loads = λ m. option_map load_in (load_at c.remove_row.new.rows m) }) (λ m. refl) so-far
-    (let a = ap length c.hand_over_each.ensures.rows in omega arith)
+    (omega (arith, ap length c.hand_over_each.ensures.rows))
     (λ q own. let mine = and-left (is_owned_in w (Owner.Load l) q) (not (s q)) (sym (left q) ∙ own) in
     let after = c.requires.later.since l.0 c.unwrap-row.result q row mine in ((omega arith, inl after), c.requires.up_to q mine)) in
     record {
@@ -73,8 +71,8 @@ returns g c =
         c.requires.no_fault storage,
         record {
           told = c.release_owned.result;
-          falls = loads-anew w u (with_tables u c.release_owned.new.t) (λ q. is_owned_in w (Owner.Load l) q && not (s q)) c.release_owned.result w'.loads
-              (updated-by (option_map load_in) (load_at t.loads) (load_at c.remove_row.new.rows) l.0 None c.remove_row.ensures.gone c.remove_row.ensures.others)
+          falls = loads-anew
+              (updated-by (option_map load_in) c.remove_row.ensures.gone c.remove_row.ensures.others)
               (subst (λ given. Falls w u given c.release_owned.result (with_tables u c.release_owned.new.t)) (λ i q. left q i) falls);
         },
       );
@@ -82,7 +80,7 @@ returns g c =
     })
     c.release_owned.ensures.steady (hand-over-whole me l hs c.requires.whole.core)
     (λ hands later. later-handed t later s me (λ m. no-load p me m can.may) _ refl l c.unwrap-row.result row
-    (let own = can.own in grind (arith, nat_tests, row))
+    (grind (basics, row, can.own))
     (handed-mine p (Owner.Load l) [] hs can.named) (newer-falls hands.hands.1.falls)
-    (closed-still (load_at t.loads) (load_at c.remove_row.new.rows) l.0 c.remove_row.ensures.gone c.remove_row.ensures.others) refl refl))
+    (closed-still c.remove_row.ensures.gone c.remove_row.ensures.others) refl refl))
     (stays-first (λ m. rw (c.raise_worker_bounds.ensures.counts m) (λ falls. (falls, refl))) c.release_owned.ensures.drops)

@@ -1,11 +1,10 @@
-use Rattle.pagable_tables.proofs.{LastHandles.{raised-same, raised-then, told-on}, Words.{HandleRow, Place, ap, arith, get_or, get_or_default, ◌∙◌, ◌≡◌}}
+use Rattle.pagable_tables.proofs.{LastHandles.{raised-same, raised-then, told-on}, Words.{HandleRow, Place, ap, arith, get_or_default, ◌∙◌}}
 use Rattle.pagable_tables.proofs.load_handles.note_above.Goals as goal
 
 pub loop-place-init : goal.loop-place-init
 loop-place-init c = record {
   rows = λ l. raised-same _;
-  noted = λ l row k d at within above own. absurd (let low = c.place_above-start.ensures k d within in
-      omega arith);
+  noted = λ l row k d at within above own. absurd (omega (arith, c.place_above-start.ensures k d within));
 }
 
 pub loop-place-preserved : goal.loop-place-preserved
@@ -17,9 +16,12 @@ loop-place-preserved c =
     record {
       rows = λ l. raised-then _ _ _ (i.rows l) (c.note.ensures.rows l);
       noted = told-on c.loop-place.loads c.note.new.loads places c.args.number c.note.ensures.rows n i.noted (λ l row d at own.
-          let e : p ≡ get_or places n d = c.index-found.ensures ∙ get_or_default places n p d (omega arith) in
+          let e = c.index-found.ensures ∙ get_or_default places n p d (omega arith) in
           let number = ap (λ (x : Place). x.row.number.0) e in
-          let same = ap (λ (x : HandleRow). x.number.0) c.row.ensures in
-          let le = c.note.ensures.last l row (ap (λ (x : HandleRow). x.owner) c.row.ensures ∙ ap (λ (x : Place). x.row.owner) e ∙ own) at in
-          omega arith);
+          omega (
+            arith,
+            ap (λ (x : HandleRow). x.number.0) c.row.ensures,
+            c.note.ensures.last l row
+                (ap (λ (x : HandleRow). x.owner) c.row.ensures ∙ ap (λ (x : Place). x.row.owner) e ∙ own) at,
+          ));
     }

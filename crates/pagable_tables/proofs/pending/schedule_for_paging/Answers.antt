@@ -5,8 +5,8 @@ use Rattle.pagable_tables.proofs.{
   OwnedByLoad.{drops-with, lazily-so, nothing-release_at},
   SameViews.{alike, failed, owner-same, still},
   Views.{alike-goes, not-a-value},
-  Words.{Err, Error, Ok, Owner, Owns, ScheduleCall, ap, arith, core_alone, core_of, inl, inr, is_unpinned, is_value_owner, live, nat_tests, not, only_handle},
-  Words.{refl, rules, ◌∙◌},
+  Words.{Err, Error, Ok, Owner, Owns, ScheduleCall, ap, arith, basics, core_alone, core_of, inl, inr, is_unpinned, is_value_owner, live, not, only_handle},
+  Words.{refl, rows_of, rules, ◌∙◌},
   WorkCounts.work-moved,
 }
 use Rattle.pagable_tables.proofs.pending.schedule_for_paging.Goals as goal
@@ -24,7 +24,7 @@ returns-then-not-lists g c =
     {step = λ w w'. ScheduleCall w c.args.me c.args.handle (Ok tt) w'}
     (λ storage e.
     let w = core_of t storage in
-    let falls = rw c.in_ok-at.ensures.number at (c.try_release_at.ensures.falls w w (begun-whole t storage c.args.lists c.requires.whole e) (omega arith)) in
+    let falls = rw c.in_ok-at.ensures.number at (c.try_release_at.ensures.falls w w (begun-whole t storage _ c.requires.whole e) (omega arith)) in
     let own : Owns w c.args.me c.args.handle is_unpinned row =
     record { live = c.in_ok-at.ensures.found; own = owner-same c.args.me row.owner c.in_ok-at.ensures.owner; as_asked = search rules } in
     record {
@@ -32,7 +32,7 @@ returns-then-not-lists g c =
         row,
         own,
         inr (
-          closed-is c.args.lists storage.closed e ∙ ap not c.if-not-lists.true,
+          closed-is e ∙ ap not c.if-not-lists.true,
           record { told = c.try_release_at.result; falls = falls },
         ),
       );
@@ -47,7 +47,7 @@ returns g c =
     let unvalued = ap is_value_owner (owner-same c.args.me c.in_ok-at.at.row.owner c.in_ok-at.ensures.owner)
     ∙ not-a-value (core_alone c.args.t.now) c.args.me c.requires.holder in
     let steady = c.hand_over.ensures.keeps_sound (record c.args.t.now.ref_counts { list = c.push_back.new.self }) unvalued refl
-    (work-moved c.args.t.now.ref_counts.nodes (only_handle c.in_ok-at.at.row.number) Owner.List (live c.args.t.now.ref_counts.handles.places.items) refl
+    (work-moved c.args.t.now.ref_counts.nodes (only_handle c.in_ok-at.at.row.number) Owner.List (rows_of c.args.t.now.ref_counts) refl
     w.worked)
     (record { sound = w.sound; next = w.next; fits = w.fits; worked = w.worked }) in
     let t = c.args.t.now in
@@ -55,8 +55,7 @@ returns g c =
     drops-with (lazily-so {lists = c.args.lists} {old = t} {new = new} {step = λ w w'. ScheduleCall w c.args.me c.args.handle (Ok tt) w'}
     (λ storage e.
     grind (
-      arith,
-      nat_tests,
+      basics,
       owner-same,
       closed-is,
       alike,
@@ -67,7 +66,7 @@ returns g c =
       c.in_ok-at.ensures.number,
     ))
     steady (schedule-goes c.args.me c.args.handle c.requires.whole.core c.requires.holder) refl refl refl)
-    (drops-still c.args.t.now.ref_counts _ c.requires.whole.steady)
+    (drops-still _ _ c.requires.whole.steady)
 
 pub returns-in_err-reserve : goal.returns-in_err-reserve
 returns-in_err-reserve g c =
@@ -78,8 +77,7 @@ returns-in_err-reserve g c =
     rw (failed c.from_residual-in_err-reserve.result c.from_residual-in_err-reserve.ensures.1) (drops-with
     (lazily-so {lists = c.args.lists} {old = t} {new = new} {step = λ w w'. ScheduleCall w c.args.me c.args.handle (Err Error.OutOfMemory) w'}
     (λ storage e1. grind (
-      arith,
-      nat_tests,
+      basics,
       closed-is,
       alike,
       c.in_ok-at.ensures.found,
@@ -90,4 +88,4 @@ returns-in_err-reserve g c =
       e.capacity,
     ))
     (record { sound = w.sound; next = w.next; fits = w.fits; worked = w.worked }) (λ call. alike-goes c.requires.whole.core call.refused.stays) refl refl refl)
-    (drops-still t.ref_counts _ w))
+    (drops-still _ _ w))

@@ -7,9 +7,9 @@ use Rattle.pagable_tables.proofs.{
   SameViews.{alike, at-work-still},
   Views.not-a-value,
   Wholeness.whole-so,
-  Words.{InReach, Some, TakeCall, ap, arith, cases_eq, core_alone, core_of, counts_at, inl, inr, is_at, live, moved, nat_tests, one, only_handle, reach_at},
-  Words.{refl, refs_at, rules, slice_get_read, subst, times, [], ◌<◌, ◌∙◌, ◌≡◌},
-  WorkCounts.{work-few, work-more},
+  Words.{InReach, Some, TakeCall, ap, arith, basics, cases_eq, core_alone, core_of, counts_at, inl, inr, is_at, live, moved, one, only_handle, reach_at, refl},
+  Words.{rows_of, rules, slice_get_read, subst, times, ◌<◌, ◌∙◌, ◌≡◌},
+  WorkCounts.work-few,
 }
 use Rattle.pagable_tables.specs.{CascadeInvariant.{BoundsWorkerHandles, is_work}, Core.{StorageView, no_blobs}}
 
@@ -24,7 +24,7 @@ raise_bound_for-requires c =
     let x = c.in-Some-find_live.at.row in
     let t = c.args.t.now.ref_counts in
     let there = row-le-live (λ h. one (is_at x.node.0 h)) t.handles.places.items c.in-Some-find_live.at.place x c.in-Some-find_live.ensures.place in
-    some-held (counts_at t.nodes x.node.0) (omega (arith, there, held-here x, c.requires.whole.steady.fits.holding x.node.0))
+    some-held (counts_at t.nodes x.node.0) (omega (arith, held-here x, c.requires.whole.steady.fits.holding x.node.0))
 
 pub returns : Rattle.pagable_tables.proofs.pending.take_pending.Goals.returns
 returns c =
@@ -32,7 +32,7 @@ returns c =
     let t = u.ref_counts in
     let h = c.in-Some.handle in
     let w = c.requires.whole in
-    let given = c.hand_over.ensures.becomes.rows ∙ ap (λ q. moved (only_handle q) c.args.me (live t.handles.places.items)) c.in-Some-find_live.ensures.number in
+    let given = c.hand_over.ensures.becomes.rows ∙ ap (λ q. moved (only_handle q) c.args.me (rows_of t)) c.in-Some-find_live.ensures.number in
     let taken : (storage : StorageView) → TakeCall (core_of u storage) c.args.me c.args.place (Some h)
     (core_of (record u {
       ref_counts = record t { handles = c.hand_over.new.handles; list = c.remove.new.self; nodes = c.raise_bound_for.new.nodes };
@@ -50,37 +50,39 @@ returns c =
     c.in-Some-find_live.ensures.number in
     let k = c.raise_bound_for.ensures in
     let x = c.in-Some-find_live.at.row in
-    let rows = live t.handles.places.items in
+    let rows = rows_of t in
     let new = live c.hand_over.new.handles.places.items in
     let worked : BoundsWorkerHandles new c.raise_bound_for.new.nodes = λ n.
-    let sum = c.hand_over.ensures.sums (λ h. one (is_work n h)) in
-    let was = w.steady.worked n in
-    let more = k.others n in
-    let few = work-few n new in
-    let long = length-live-le c.hand_over.new.handles.places.items in
     let here = λ (same : n ≡ x.node.0). k.here (times (is_work n) new) in
-    grind (arith, nat_tests, cases_eq n x.node.0) in
+    grind (
+      basics,
+      cases_eq n x.node.0,
+      c.hand_over.ensures.sums (λ h. one (is_work n h)),
+      w.steady.worked n,
+      k.others n,
+      work-few n new,
+      length-live-le c.hand_over.new.handles.places.items,
+    ) in
     let steady = c.hand_over.ensures.keeps_sound (record t { list = c.remove.new.self; nodes = c.raise_bound_for.new.nodes }) unvalued
     (not-a-value (core_alone u) c.args.me c.requires.holder)
-    (subst (λ r. BoundsWorkerHandles r c.raise_bound_for.new.nodes) c.hand_over.ensures.becomes.rows worked)
+    (rw c.hand_over.ensures.becomes.rows at worked)
     (record {
       sound = w.steady.sound;
       next = w.steady.next;
-      fits = fits-same (counts_at t.nodes) (counts_at c.raise_bound_for.new.nodes) (refs_at t.nodes) (refs_at c.raise_bound_for.new.nodes) rows t.top
-          [] w.steady.fits k.counts k.refs;
-      worked = work-more rows t.nodes c.raise_bound_for.new.nodes k.others w.steady.worked;
+      fits = fits-same w.steady.fits k.counts k.refs;
+      worked = λ n. omega (arith, k.others n, w.steady.worked n);
     }) in
     record {
       taken = taken;
       whole = whole-so steady (take-whole _ c.args.me c.args.place h w.core c.requires.holder (taken no_blobs));
       later = λ other later.
-          (let row = found-among h.0 (live t.handles.places.items) c.in-Some-find_live.at.row c.in-Some-find_live.ensures.found in
-          let numbered : 0 < h.0 = (let n = w.core.handles.numbered c.in-Some-find_live.at.row row.0 in let a = n.0 in let is = row.1 in omega arith) in
+          (let row = found-among h.0 (rows_of t) c.in-Some-find_live.at.row c.in-Some-find_live.ensures.found in
+          let numbered : 0 < h.0 = (let n = w.core.handles.numbered c.in-Some-find_live.at.row row.0 in omega arith) in
           later-by later (omega arith) refl (λ l load is. is) c.widen_range.ensures.wider
           (λ l q own. inl (load-kept u later (only_handle h) c.args.me other _ given l q own))
           (λ v q own. elim (worker-kept u later (only_handle h) c.args.me other _ given v q own) [
             | inl had ↦ inl had
-            | inr (mine, is) ↦ inr (inr (subst (λ n. InReach (reach_at c.widen_range.new.workers v) n) (grind (arith, nat_tests))
+            | inr (mine, is) ↦ inr (inr (subst (λ n. InReach (reach_at c.widen_range.new.workers v) n) (grind basics)
                 (c.widen_range.ensures.here v numbered mine)))
           ]));
     }

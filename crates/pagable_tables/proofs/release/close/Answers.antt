@@ -4,8 +4,8 @@ use Rattle.pagable_tables.proofs.{
   OwnedByLoad.{later-on, passes-given},
   Views.newer-falls,
   Wholeness.whole-so,
-  Words.{Falls, FallsAnyhow, NodeNumber, None, Ok, Owner, RefCounts, ap, arith, cached_at, core_alone, core_of, false, inl, is_listed, is_owned_by, option_map},
-  Words.{refl, shut, subst, sym, with_tables, ℕ, ◌≡◌},
+  Words.{Falls, FallsAnyhow, NodeNumber, None, Owner, RefCounts, ap, arith, cached_at, core_of, false, inl, is_listed, is_owned_by, option_map, refl, shut},
+  Words.{subst, sym, with_tables, ℕ, ◌≡◌},
 }
 use Rattle.pagable_tables.specs.Core.{no_blobs}
 use Rattle.pagable_tables.proofs.release.close.Goals as goal
@@ -21,7 +21,7 @@ returns-clause-closed g c storage failures' le =
     let so-far = begun w u false left refl (λ p own. refl) (unmixed t whole) (λ q. omega arith) refl c.clear-2.ensures.items refl whole.core.handles.within.0
     (record { handles = omega arith; entries = omega arith }) (λ n. refl) refl in
     let falls = c.release_owned.ensures.falls w u w (λ l. refl) so-far (omega arith)
-    (λ q is. let given = passes-given (is_owned_by Owner.List) (core_alone t) q whole.core.handles is in ((given.0, inl given.0), given.1)) in
+    (λ q is. let given = passes-given (is_owned_by Owner.List) q whole.core.handles is in ((given.0, inl given.0), given.1)) in
     let listed : FallsAnyhow w u (is_listed w) (with_tables u c.release_owned.new.t) =
     record {
       told = c.release_owned.result;
@@ -36,7 +36,7 @@ returns-clause-closed g c storage failures' le =
     }
 
 pub returns-clause-whole : goal.returns-clause-whole
-returns-clause-whole g c = whole-so c.release_owned.ensures.steady (close-whole (Ok tt) c.requires.whole.core
+returns-clause-whole g c = whole-so c.release_owned.ensures.steady (close-whole _ c.requires.whole.core
     (returns-clause-closed g c no_blobs 0 (omega arith)))
 
 pub returns-clause-later : goal.returns-clause-later

@@ -1,4 +1,4 @@
-use Rattle.pagable_tables.proofs.{OwnedByLoad.{below-to, none-from, places}, Words.{HandleRow, ap, arith, contains_row, nat_tests, ◌-◌}}
+use Rattle.pagable_tables.proofs.{OwnedByLoad.{below-to, none-from, places}, Words.{HandleRow, ap, arith, contains_row, ◌-◌, basics}}
 use Rattle.pagable_tables.proofs.release.find_last_handle.Goals as goal
 
 pub returns-then-number-since-clause-none : goal.returns-then-number-since-clause-none
@@ -18,8 +18,8 @@ returns-then-is_in_release_set-clause-last c =
       place = grind (arith, places);
       found = grind (arith, places);
       between = (omega arith, omega arith);
-      contains = λ w loads. grind (arith, nat_tests, c.is_in_release_set.ensures.contains w loads);
-      not_a_value = grind (arith, nat_tests, c.is_in_release_set.ensures.not_a_value);
+      contains = λ w loads. grind (basics, c.is_in_release_set.ensures.contains w loads);
+      not_a_value = grind (basics, c.is_in_release_set.ensures.not_a_value);
       last = λ w q loads asked above below. none-from (contains_row w c.args.giving) ss c.loop-place.place q c.args.left
           (λ k d lt. below-to ss (c.loop-place.place - 1) p (omega arith) c.index-found.ensures p.row.number.0 q c.requires.ordered (omega arith)
           (omega arith) k d (omega arith)) below

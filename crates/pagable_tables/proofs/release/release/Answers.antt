@@ -17,7 +17,7 @@ pub returns : Rattle.pagable_tables.proofs.release.release.Goals.returns
 returns g c =
     let row = c.in_ok-at.at.row in
     drops-with (does-as (lazily-so {lists = c.args.lists} {step = λ w w'. Falls w w (only_handle c.args.handle) c.try_release_at.result w'}
-    (λ storage e. rw c.in_ok-at.ensures.number at (c.try_release_at.ensures.falls _ _ (begun-whole c.args.t.now storage c.args.lists c.requires.whole e)
+    (λ storage e. rw c.in_ok-at.ensures.number at (c.try_release_at.ensures.falls _ _ (begun-whole _ storage _ c.requires.whole e)
     (omega arith)))
     c.try_release_at.ensures.steady (lone-falling c.requires.whole.core) refl refl refl)
     (λ storage fell e. record {

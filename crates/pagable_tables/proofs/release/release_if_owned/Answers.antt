@@ -1,26 +1,25 @@
 use Rattle.pagable_tables.proofs.{
   CascadeEnd.{given-none, given-one},
-  Counting.and_one,
   SameViews.owner-same,
-  Words.{HandleNumber, Owner, ReleasedSoFar, ap, false, if_there, inl, is_owned_by, is_owner, subst, sym, ◌∙◌, ◌≡◌},
+  Words.{Owner, ap, false, if_there, inl, is_owned_by, is_owner, sym, ◌∙◌},
 }
 use Rattle.pagable_tables.proofs.release.release_if_owned.Goals as goal
 
 pub returns-in_default-clause-so_far : goal.returns-in_default-clause-so_far
 returns-in_default-clause-so_far g c before w given f few =
-    given-none before w given c.args.lists c.args.t.now c.args.load c.args.handle.0 f
+    given-none c.args.load c.args.handle.0 f
     (ap (if_there (is_owned_by (Owner.Load c.args.load)) false) (c.in_default.ensures.none))
 
 pub returns-else-is_owner-clause-so_far : goal.returns-else-is_owner-clause-so_far
 returns-else-is_owner-clause-so_far g c before w given f few =
-    given-none before w given c.args.lists c.args.t.now c.args.load c.args.handle.0 f
+    given-none c.args.load c.args.handle.0 f
     (ap (if_there (is_owned_by (Owner.Load c.args.load)) false) c.in-Some.ensures.found ∙ sym c.if-is_owner.ensures)
 
 pub returns-then-is_owner-clause-so_far : goal.returns-then-is_owner-clause-so_far
 returns-then-is_owner-clause-so_far g c before w given f few =
     let load = c.args.load in
-    let own : c.in-Some.at.row.owner ≡ Owner.Load load = owner-same (Owner.Load load) c.in-Some.at.row.owner (sym c.if-is_owner.ensures) in
+    let own = owner-same (Owner.Load load) c.in-Some.at.row.owner (sym c.if-is_owner.ensures) in
     let some = ap (if_there (is_owned_by (Owner.Load load)) false) c.in-Some.ensures.found ∙ sym c.if-is_owner.ensures in
     let on = c.release_at.ensures.so_far before w given f few (inl (ap (is_owner Owner.List) own)) in
-    let here = subst (λ (q : HandleNumber). ReleasedSoFar before w (and_one given q.0) c.args.lists c.release_at.new.t) c.in-Some.ensures.number on in
-    given-one before w given c.args.lists c.args.t.now c.release_at.new.t load c.args.handle.0 f some here
+    let here = rw c.in-Some.ensures.number at on in
+    given-one load c.args.handle.0 f some here

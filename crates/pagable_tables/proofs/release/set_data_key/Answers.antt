@@ -6,9 +6,8 @@ use Rattle.pagable_tables.proofs.{
   RowCounts.found-among,
   SameViews.{failed, owner-same, still},
   Views.{falling, loose-unshared, unturned},
-  Words.{Falls, GetsKey, Some, any_mode, arith, cases_eq, core_alone, counts_at, if◌then◌else◌, inl, inr, keyed, live, nat_tests, nobody, refl, sym, with_key},
-  Words.{[], ◌==◌, ◌∙◌, ◌∷◌, ◌≡◌},
-  WorkCounts.work-more,
+  Words.{Falls, GetsKey, Some, any_mode, basics, cases_eq, core_alone, counts_at, if◌then◌else◌, inl, inr, keyed, live, nobody, refl, sym, with_key, [], ◌==◌},
+  Words.{◌∙◌, ◌∷◌, ◌≡◌},
 }
 use Rattle.pagable_tables.proofs.release.set_data_key.Goals as goal
 
@@ -27,12 +26,17 @@ finish_cascade-requires g c =
     let b = y.pins == 0 in
     let w = c.requires.whole.steady in
     let e = c.set_counts.ensures in
-    let is : counts_at t.nodes n ≡ Some y = sym c.counts_of.ensures ∙ c.unwrap-counts.ensures in
-    let here : counts_at c.set_counts.new.nodes n ≡ Some (keyed y c.get.result t.top) = grind (arith, nat_tests, e.here, c.first_dying_after.ensures) in
-    let top : c.first_dying_after-t.result ≡ (if b then n else t.top) = grind (arith, nat_tests, c.first_dying_after-t.ensures) in
-    let fits = key-fits _ _ _ _ _ _ n y c.get.result w.fits is c.get.ensures.above here e.others e.refs b refl in
-    let worked = work-more (live t.handles.places.items) t.nodes c.set_counts.new.nodes (λ m. rw (e.worker_bound m) (omega arith)) w.worked in
-    record { falling = (if b then n ∷ [] else [], record { sound = w.sound; next = w.next; fits = rw top fits; worked = worked }, grind (arith, nat_tests)) }
+    let is = sym c.counts_of.ensures ∙ c.unwrap-counts.ensures in
+    let here : counts_at c.set_counts.new.nodes n ≡ Some (keyed y c.get.result t.top) = grind (basics, e.here, c.first_dying_after.ensures) in
+    let top : c.first_dying_after-t.result ≡ (if b then n else t.top) = grind (basics, c.first_dying_after-t.ensures) in
+    let fits = key-fits n y c.get.result w.fits is c.get.ensures.above here e.others e.refs b refl in
+    record {
+      falling = (
+        if b then n ∷ [] else [],
+        record { sound = w.sound; next = w.next; fits = rw top fits; worked = λ m. rw (e.worker_bound m) (w.worked m) },
+        grind basics,
+      );
+    }
 
 pub returns : goal.returns
 returns g c =
@@ -40,16 +44,16 @@ returns g c =
     let t = c.args.t.now in
     let loose = sym c.is_loose_mode.ensures ∙ c.if-not-is_loose_mode.false in
     let here : counts_at c.set_counts.new.nodes row.node.0 ≡ Some (keyed c.unwrap-counts.result c.args.key t.ref_counts.top) =
-    grind (arith, nat_tests, c.set_counts.ensures.here, c.first_dying_after.ensures, c.get.ensures.value) in
-    let is : counts_at t.ref_counts.nodes row.node.0 ≡ Some c.unwrap-counts.result = sym c.counts_of.ensures ∙ c.unwrap-counts.ensures in
+    grind (basics, c.set_counts.ensures.here, c.first_dying_after.ensures, c.get.ensures.value) in
+    let is = sym c.counts_of.ensures ∙ c.unwrap-counts.ensures in
     let cells : GetsKey (counts_at t.ref_counts.nodes) (counts_at c.set_counts.new.nodes) row.node.0 c.args.key =
-    λ m. grind (arith, nat_tests, cases_eq m row.node.0, here, is, c.set_counts.ensures.others m, c.get.ensures.above, c.get.ensures.value) in
+    λ m. grind (basics, cases_eq m row.node.0, here, is, c.set_counts.ensures.others m, c.get.ensures.above, c.get.ensures.value) in
     let there = (found-among c.args.handle.0 (core_alone t).rows row c.in_ok-at.ensures.found).0 in
     let stands = unturned (with_key (core_alone t) row.node c.args.key) (keyed-whole c.requires.whole.core row there c.args.key (loose-unshared row.mode loose))
     in
     let own = owner-same c.args.me row.owner c.in_ok-at.ensures.owner in
     drops-with (does-as (lazily-so {lists = c.args.lists} {step = λ w w'. Falls w (with_key w row.node c.args.key) nobody c.finish_cascade.result w'}
-    (λ storage e. c.finish_cascade.ensures.falls _ _ nobody (keyed-on t storage c.args.lists c.requires.whole e row.node c.args.key _ refl cells))
+    (λ storage e. c.finish_cascade.ensures.falls _ _ nobody (keyed-on t storage _ c.requires.whole e row.node c.args.key _ refl cells))
     c.finish_cascade.ensures.steady (λ fell. falling fell stands) refl refl refl)
     (λ storage fell e. record { does = inr (row, record { live = c.in_ok-at.ensures.found; own = own; as_asked = refl }, inr (loose, fell e)) }))
-    (stays-first (λ m. grind (arith, nat_tests, cases_eq m row.node.0, here, is, c.set_counts.ensures.others m)) c.finish_cascade.ensures.drops)
+    (stays-first (λ m. grind (basics, cases_eq m row.node.0, here, is, c.set_counts.ensures.others m)) c.finish_cascade.ensures.drops)

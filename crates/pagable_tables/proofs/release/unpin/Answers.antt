@@ -6,8 +6,8 @@ use Rattle.pagable_tables.proofs.{
   SameViews.{failed, owner-same, still},
   Views.{falling, moded},
   Words.{Begins, Bool, Falls, HandleRow, IsSoundInCascade, Mode, None, Owner, RefCounts, ReleasedSoFar, ReleasesWithoutCascade, Tables, ap, append-nil, arith},
-  Words.{core_of, false, if◌then◌else◌, inl, inr, is_handle, is_loose, is_owner, is_pin, is_plain_pin, is_share, is_shared, is_value_owner, length, length-map},
-  Words.{live, nat_tests, nobody, not, one, owns, owns_nothing, refl, sym, times, true, unpinned, with_mode, [], ◌∙◌, ◌≡◌, ◌≢◌, ◌≤◌},
+  Words.{basics, core_of, false, if◌then◌else◌, inl, inr, is_handle, is_loose, is_owner, is_pin, is_plain_pin, is_share, is_shared, is_value_owner, length},
+  Words.{length-map, live, nobody, not, one, owns, owns_nothing, refl, rows_of, sym, times, true, unpinned, with_mode, [], ◌∙◌, ◌≡◌, ◌≢◌, ◌≤◌},
 }
 use Rattle.pagable_tables.specs.Core.{IsWhole, StorageView}
 use Rattle.pagable_tables.proofs.release.unpin.Goals as goal
@@ -19,23 +19,22 @@ lowered-on : (T : Tables) (storage : StorageView) (lists : Bool) → IsWhole T �
 lowered-on T storage lists whole opened x new g =
     let old = core_of T storage in
     let now = with_mode old x.number Mode.LooseUnpinned in
-    let f : ReleasedSoFar old old nobody lists (record T.ref_counts { listing_error = None }) = begun-whole T storage lists whole opened in
+    let f : ReleasedSoFar old old nobody lists (record T.ref_counts { listing_error = None }) = begun-whole T storage _ whole opened in
     let less : (p : HandleRow → Bool) → one (p (unpinned x)) ≤ one (p x) → times p now.rows ≤ times p old.rows =
     λ p le. omega (arith, g.leaves.sums (λ h. one (p h)), ap (times p) g.leaves.becomes.rows) in
     let begins : Begins old now lists =
     record {
       open_storage = opened;
-      fewer = λ n. less (is_pin n) (grind (arith, nat_tests));
-      shared = λ n. less (is_share n) (grind (arith, nat_tests));
-      uniform = λ n. let a = less (is_plain_pin n) (grind (arith, nat_tests)) in grind (arith, nat_tests, f.begins.uniform n);
+      fewer = λ n. less (is_pin n) (grind basics);
+      shared = λ n. less (is_share n) (grind basics);
+      uniform = λ n. grind (basics, f.begins.uniform n, less (is_plain_pin n) (grind basics));
       listed = λ q. omega (arith, g.leaves.sums (λ h. one (of_list q h)), ap (times (of_list q)) g.leaves.becomes.rows, f.begins.listed q);
     } in
-    let few : new.top ≢ 0 → length (live new.handles.places.items) ≤ length old.rows = λ falls.
+    let few : new.top ≢ 0 → length (rows_of new) ≤ length old.rows = λ falls.
     grind (
-      arith,
-      nat_tests,
+      basics,
       gives-sums g (λ h. 1),
-      ones (live new.handles.places.items),
+      ones (rows_of new),
       ones old.rows,
       g.keyed refl whole.steady.fits.chain falls,
       g.comes.only,
@@ -44,12 +43,12 @@ lowered-on T storage lists whole opened x new g =
     let long = length-map old.rows (λ y. if is_handle x.number.0 y then unpinned y else y) in
     entered-on f g (λ n. refl) (λ n. whole.steady.fits.pinned n) (omega arith) now.rows long nobody nobody begins
     (g.leaves.becomes.rows ∙ sym (append-nil _ ∙ all-kept now.rows)) refl
-    (none-within nobody now.rows) (λ s final bare has closed. none-within s now.rows) (λ falls. let a = few falls in omega (arith, long))
+    (none-within nobody now.rows) (λ s final bare has closed. none-within s now.rows) (λ falls. omega (arith, few falls))
 
 mine : (t : RefCounts) (me : Owner) (x : HandleRow) → IsSoundInCascade t [] owns_nothing → is_value_owner me ≡ false → is_owner me x.owner ≡ true
     → IsSoundInCascade (record t { listing_error = None }) [] (owns x)
 mine t me x w plain own =
-    unowned (record t { listing_error = None }) x [] (ap is_value_owner (owner-same me x.owner own) ∙ plain) (aside t None [] owns_nothing w)
+    unowned _ x [] (ap is_value_owner (owner-same me x.owner own) ∙ plain) (aside t None [] _ w)
 
 pub returns-in_err-at : goal.returns-in_err-at
 returns-in_err-at g c =
@@ -69,7 +68,7 @@ pub finish_cascade-requires : goal.finish_cascade-requires
 finish_cascade-requires g c =
     let e = c.release_without_cascade.ensures [] (mine c.args.t.now.ref_counts c.args.me c.in_ok-at.at.row c.requires.whole.steady c.requires.not_a_value
     c.in_ok-at.ensures.owner) in
-    record { falling = (e.more, e.falling, omega (arith, e.long)) }
+    record { falling = (e.more, e.falling, omega arith) }
 
 pub returns-in-LoosePinned : goal.returns-in-LoosePinned
 returns-in-LoosePinned g c =

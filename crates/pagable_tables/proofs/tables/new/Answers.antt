@@ -1,6 +1,6 @@
 use Rattle.pagable_tables.proofs.{
   CascadeEnd.passes-none,
-  Words.{None, OwnLaterHandles, Tables, ap, arith, cached_at, live, load_at, nat_tests, refl, row_by, worker_at, ℕ, [], ◌≡◌},
+  Words.{None, OwnLaterHandles, Tables, ap, basics, cached_at, live, load_at, refl, row_by, rows_of, worker_at, ℕ, [], ◌≡◌},
 }
 use Rattle.pagable_tables.specs.Core.{IsWhole}
 
@@ -8,11 +8,11 @@ nothing-whole : (t : Tables) → t.ref_counts.handles.dead ≡ 0 → t.ref_count
     → t.ref_counts.list.items ≡ []
     → ((kind key : ℕ) → cached_at t.cache kind key ≡ None) → ((l : ℕ) → load_at t.loads l ≡ None) → ((v : ℕ) → worker_at t.workers v ≡ None)
     → (t.ref_counts.top ≡ 0) × (t.ref_counts.last_handle ≡ 0) × (t.last_node ≡ 0) × (t.last_load ≡ 0) → IsWhole t
-nothing-whole t dead rows found list cache loads workers last = grind (arith, nat_tests)
+nothing-whole t dead rows found list cache loads workers last = grind basics
 
-nothing-later : (t : Tables) → live t.ref_counts.handles.places.items ≡ [] → ((l : ℕ) → load_at t.loads l ≡ None) → ((v : ℕ) → worker_at t.workers v ≡ None)
+nothing-later : (t : Tables) → rows_of t.ref_counts ≡ [] → ((l : ℕ) → load_at t.loads l ≡ None) → ((v : ℕ) → worker_at t.workers v ≡ None)
     → t.noted ≡ 0 → OwnLaterHandles t
-nothing-later t none loads workers noted = grind (arith, nat_tests, passes-none)
+nothing-later t none loads workers noted = grind (basics, passes-none)
 
 pub returns-clause-later : Rattle.pagable_tables.proofs.tables.new.Goals.returns-clause-later
 returns-clause-later c = nothing-later _ (ap live c.new.ensures.items) (λ l. rw c.new-5.ensures.empty refl) (λ v. rw c.new-6.ensures.empty refl) refl

@@ -1,10 +1,10 @@
 use Rattle.indexmap.proofs.CallerLemmas.{filter-RetainsPairs}
-use Rattle.pagable_tables.proofs.Words.{LoadRow, Option, ap, arith, filter, is_owner, left_load, nat_eq, nat_tests, not, owner_worker, rules, ◌∙◌, ◌≡◌}
+use Rattle.pagable_tables.proofs.Words.{LoadRow, Option, ap, filter, is_owner, left_load, nat_eq, not, owner_worker, rules, ◌∙◌, ◌≡◌, basics}
 use Rattle.std.proofs.lemmas.{Cmp.nat_eq_equiv, Map.Entries.{lookup-filter-values, option_filter}}
 use Rattle.std.specs.Map.{lookup}
 
 filtered : (v : _) (row : Option LoadRow) → option_filter (λ (row : LoadRow). not (is_owner (owner_worker v) row.owner)) row ≡ left_load v row
-filtered v row = grind (arith, nat_tests)
+filtered v row = grind basics
 
 pub returns : Rattle.pagable_tables.proofs.workers.close_loads.Goals.returns
 returns c l =

@@ -3,7 +3,7 @@ use Rattle.pagable_tables.proofs.{
   Counting.and-left,
   OwnedByLoad.{drops-with, lazily-so, passes-given},
   Views.lone-falling,
-  Words.{InReach, ReleaseSet, arith, contains_row, core_alone, core_of, nat_tests, refl, subst, sym},
+  Words.{ReleaseSet, arith, basics, contains_row, core_of, refl},
 }
 
 pub returns : Rattle.pagable_tables.proofs.workers.release_node.Goals.returns
@@ -14,10 +14,10 @@ returns g c =
     let w = core_of t storage in
     record {
       told = c.release_owned.result;
-      falls = c.release_owned.ensures.falls w w w (λ l. refl) (begun-whole t storage c.args.lists c.requires.whole e) (omega arith)
+      falls = c.release_owned.ensures.falls w w w (λ l. refl) (begun-whole t storage _ c.requires.whole e) (omega arith)
           (λ q gives. (
-            subst (λ r. InReach r q) (sym c.reach_of-reach.ensures) (c.requires.later.reach c.args.worker.0 q (grind (arith, nat_tests, and-left))),
-            (passes-given (contains_row w (ReleaseSet.AtNode c.args.worker c.args.node)) (core_alone t) q c.requires.whole.core.handles gives).1,
+            rw c.reach_of-reach.ensures (c.requires.later.reach c.args.worker.0 q (grind (basics, and-left))),
+            (passes-given (contains_row w (ReleaseSet.AtNode c.args.worker c.args.node)) q c.requires.whole.core.handles gives).1,
           ));
     })
     c.release_owned.ensures.steady

@@ -1,4 +1,4 @@
-use Rattle.pagable_tables.proofs.{OwnedByLoad.takes-worker, Words.{arith, core_of, nat_tests, refl}}
+use Rattle.pagable_tables.proofs.{OwnedByLoad.takes-worker, Words.{core_of, refl, basics}}
 
 pub returns : Rattle.pagable_tables.proofs.workers.worker_begin_with_entry.Goals.returns
 returns c =
@@ -7,7 +7,7 @@ returns c =
     let taken = c.take_pending.ensures in
     record {
       does = λ storage. takes-worker (core_of c.args.t.now storage) (core_of t1 storage) _ c.args.place c.in_ok-worker.worker c.take_pending.result
-          (let same = c.worker_begin.ensures.same in let more = e.more in let last = e.number.1 in grind (arith, nat_tests)) e.number.0 c.requires.within
+          (grind (basics, c.worker_begin.ensures.same, e.more, e.number.1)) e.number.0 c.requires.within
           (taken.taken storage);
       whole = taken.whole;
       later = λ later. taken.later (λ m. refl) (c.worker_begin.ensures.does.later later);

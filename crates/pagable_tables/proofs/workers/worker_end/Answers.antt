@@ -3,8 +3,7 @@ use Rattle.pagable_tables.proofs.{
   CascadeStep.begun-less,
   OwnedByLoad.{drops-with, in-reach, later-less, lazily-by, loads-anew, passes-given, updated-by},
   Views.newer-falls,
-  Words.{Falls, InReach, None, ReleaseSet, Some, arith, cases_eq, contains_row, core_alone, core_of, is_some, is_workers, left_load, load_at, nat_tests, refl},
-  Words.{subst, sym, with_tables, without_worker, worker_at, ◌∙◌, ◌≡◌},
+  Words.{Falls, ReleaseSet, arith, basics, cases_eq, contains_row, core_of, is_some, is_workers, refl, subst, sym, with_tables, without_worker, ◌∙◌},
 }
 
 pub returns : Rattle.pagable_tables.proofs.workers.worker_end.Goals.returns
@@ -18,20 +17,19 @@ returns g c =
     let h = c.release_owned.new.t in
     let r = c.release_owned.result in
     let w' = core_of (record t { ref_counts = h; loads = c.close_loads.new.loads; workers = c.remove_row.new.rows }) storage in
-    let falls = c.release_owned.ensures.falls w u w (λ l. refl) (begun-less t u.loads u.workers storage c.args.lists c.requires.whole e) (omega arith)
+    let falls = c.release_owned.ensures.falls w u w (λ l. refl) (begun-less t u.loads u.workers storage _ c.requires.whole e) (omega arith)
     (λ q is. (
-      subst (λ r. InReach r q) (sym c.reach_of-reach.ensures) (in-reach t c.requires.whole c.requires.later c.args.worker q is),
-      (passes-given (contains_row w (ReleaseSet.Worker c.args.worker)) (core_alone t) q c.requires.whole.core.handles is).1,
+      rw c.reach_of-reach.ensures (in-reach t c.requires.whole c.requires.later c.args.worker q is),
+      (passes-given (contains_row w (ReleaseSet.Worker c.args.worker)) q c.requires.whole.core.handles is).1,
     )) in
-    let loads = loads-anew w u (with_tables u h) (is_workers w v) r w'.loads (λ l. let left = c.close_loads.ensures l in grind (arith, nat_tests)) falls in
+    let loads = loads-anew (λ l. grind (basics, c.close_loads.ensures l)) falls in
     record {
       told = r;
       falls = subst (λ s. Falls w u (is_workers w v) r (record (with_tables u h) { loads = w'.loads; workers = s }))
-          (λ i q. updated-by is_some (worker_at t.workers) (worker_at c.remove_row.new.rows) v None c.remove_row.ensures.gone c.remove_row.ensures.others q i)
+          (λ i q. updated-by is_some c.remove_row.ensures.gone c.remove_row.ensures.others q i)
           loads;
     })
     c.release_owned.ensures.steady (worker-end-whole v c.requires.whole.core)
-    (λ ends later. later-less later (newer-falls ends.falls) refl (λ l load is. let left : left_load v (load_at t.loads l)
-    ≡ Some load = sym (c.close_loads.ensures l) ∙ is in grind (arith, nat_tests))
-    (grind (arith, nat_tests, cases_eq, c.remove_row.ensures.gone, c.remove_row.ensures.others))))
+    (λ ends later. later-less later (newer-falls ends.falls) refl (λ l load is. let left = sym (c.close_loads.ensures l) ∙ is in grind basics)
+    (grind (basics, cases_eq, c.remove_row.ensures.gone, c.remove_row.ensures.others))))
     c.release_owned.ensures.drops
