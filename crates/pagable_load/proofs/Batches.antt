@@ -1,7 +1,7 @@
 -- What a blob asks for depends on kinds alone: two readings with references of the same kinds run in parallel, up to where one of them asks for a reference
 -- that wasn't got.
 use Rattle.pagable_load.specs.{
-  Decoding.{AsksNext, EachRowFits, Foresees, FramesChange, FramesChangeFor, GotMore, KeptIfKindAt, NeedsNext, RemovedIf, RowFits, RowFitsFrame, RowsFit},
+  Decoding.{AsksNext, EachRowFits, Foresees, FramesChange, FramesChangeFor, GotMore, InnermostRemovedIf, KeptIfKindAt, NeedsNext, RowFits, RowFitsFrame, RowsFit},
   Decoding.{RowsStayFit, is_adoption, kinds_of, stacked},
   LoadEnd.{EndsOrLeavesLess, left_behind, left_in, many, to_do, weight, weight_on},
   declared.reading.Need.Need as Needed,
@@ -218,7 +218,7 @@ got_on types f r row row' place kind at of_kind (inr h) (inr (same, (s, there, i
     inr (subst (λ xs. Foresees types (record f { got = f.got ++ r ∷ [] }) (kinds_of xs)) (sym same) (still_ahead types f row s r h here (sym of_kind ∙ is)))
 
 -- what is known of the blobs before the innermost was read, and then of those below it
-left_on : (types : Types) (top : Frame) (below : List Frame) (rows mid : List (List ArcRef)) → RemovedIf true rows mid → EachRowFits types (top ∷ below) rows
+left_on : (types : Types) (top : Frame) (below : List Frame) (rows mid : List (List ArcRef)) → InnermostRemovedIf true rows mid → EachRowFits types (top ∷ below) rows
     → EachRowFits types below mid
 left_on types top below rows mid (inl (row, is)) a = (subst (EachRowFits types (top ∷ below)) is a).1
 left_on types top below rows mid (inr is) a = (none_ahead types below mid is).are
@@ -250,7 +250,7 @@ some_got old new r f fs g is =
 
 module _ (types : Types) (new : List Frame) (rows mid rows' : List (List ArcRef)) (f : Frame) (fs : List Frame) (is : new ≡ f ∷ fs) where
   -- a blob came, of which nothing was got
-  came : (b : Bool) (old : List Frame) → f.got ≡ [] → (rows' ≡ [] ∷ mid) ⊎ (rows' ≡ [] ∷ []) → RemovedIf b rows mid → FramesChange b old new
+  came : (b : Bool) (old : List Frame) → f.got ≡ [] → (rows' ≡ [] ∷ mid) ⊎ (rows' ≡ [] ∷ []) → InnermostRemovedIf b rows mid → FramesChange b old new
       → EachRowFits types old rows
       → EachRowFits types new rows'
   came true old none after left go a = absurd (let some = some_got go.below new go.r f fs go.more is in omega (arith, some, ap length none))
@@ -262,7 +262,7 @@ module _ (types : Types) (new : List Frame) (rows mid rows' : List (List ArcRef)
   -- a reference was got
   grew : (b : Bool) (old : List Frame) (row row' : List ArcRef) (rest : List (List ArcRef)) (place : ℕ) (kind : Kind) (last : ArcRef) → mid ≡ row ∷ rest → rows'
       ≡ row' ∷ rest
-      → place + 1 ≡ length f.got → slice_get f.got place ≡ Some last → kind ≡ last.kind → KeptIfKindAt place kind row row' → RemovedIf b rows mid
+      → place + 1 ≡ length f.got → slice_get f.got place ≡ Some last → kind ≡ last.kind → KeptIfKindAt place kind row row' → InnermostRemovedIf b rows mid
       → FramesChange b old new
       → EachRowFits types old rows → EachRowFits types new rows'
   grew true old row row' rest place kind last has after count at of kept left go a =
@@ -278,7 +278,7 @@ module _ (types : Types) (new : List Frame) (rows mid rows' : List (List ArcRef)
 
 pub follows_new : (b : Bool) (new : List Frame) (rows mid : List (List ArcRef)) (f : Frame) (fs : List Frame) (top top' : Vec ArcRef Global)
     (below below' : Vec (Vec ArcRef Global) Global) → new ≡ f ∷ fs → f.got ≡ []
-    → mid ≡ top.items ∷ stacked [] below.items → RemovedIf b rows mid → top'.items ≡ [] → (below'.items ≡ below.items ++ top ∷ []) ⊎ (below'.items ≡ [])
+    → mid ≡ top.items ∷ stacked [] below.items → InnermostRemovedIf b rows mid → top'.items ≡ [] → (below'.items ≡ below.items ++ top ∷ []) ⊎ (below'.items ≡ [])
     → RowsStayFit b new rows (top'.items ∷ stacked [] below'.items)
 follows_new b new rows mid f fs top top' below below' is none has left bare below_is =
     let after : (top'.items ∷ stacked [] below'.items ≡ [] ∷ mid) ⊎ (top'.items ∷ stacked [] below'.items ≡ [] ∷ []) =
@@ -293,7 +293,7 @@ follows_new b new rows mid f fs top top' below below' is none has left bare belo
 
 pub follows_got : (b : Bool) (new : List Frame) (rows mid : List (List ArcRef)) (f : Frame) (fs : List Frame) (row row' : List ArcRef)
     (rest : List (List ArcRef)) (place : ℕ) (last : ArcRef) → new ≡ f ∷ fs
-    → mid ≡ row ∷ rest → RemovedIf b rows mid → place + 1 ≡ length f.got → slice_get f.got place ≡ Some last → KeptIfKindAt place last.kind row row'
+    → mid ≡ row ∷ rest → InnermostRemovedIf b rows mid → place + 1 ≡ length f.got → slice_get f.got place ≡ Some last → KeptIfKindAt place last.kind row row'
     → RowsStayFit b new rows (row' ∷ rest)
 follows_got b new rows mid f fs row row' rest place last is has left count at kept =
     record {

@@ -130,9 +130,9 @@ KeptIfKindAt place kind old new = (new ≡ []) ⊎ ((new ≡ old) × ((r : ArcRe
     × (kind.0 ≡ r.kind.0)))
 
 -- if the blob was read, its row, the innermost, is removed, or a single empty one is left
-abbrev pub RemovedIf : Bool → List (List ArcRef) → List (List ArcRef) → Type 0
-RemovedIf false old new = new ≡ old
-RemovedIf true old new = ((row : List ArcRef) × (old ≡ row ∷ new)) ⊎ (new ≡ [] ∷ [])
+abbrev pub InnermostRemovedIf : Bool → List (List ArcRef) → List (List ArcRef) → Type 0
+InnermostRemovedIf false old new = new ≡ old
+InnermostRemovedIf true old new = ((row : List ArcRef) × (old ≡ row ∷ new)) ⊎ (new ≡ [] ∷ [])
 
 -- ---- what a load's step does to its frames, if it doesn't end the load
 

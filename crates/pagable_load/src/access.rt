@@ -360,8 +360,8 @@ pub trait WorkerAccess<E: Env<Node: NodeSet<E>>>: Access<E> {
             (λ a s t. MakesCall (values_at E.Node.NodeSet E.Env E.Hash.KeyHash a.environment)
             (λ w'. TakesReference s.core a.me reference result w') s t) };
 
-    /// Does what `pin_or_load_reference` does, and shares the value that is pinned then. If the value
-    /// can't be shared, the worker has the handles all the same.
+    /// Does what `pin_or_load_reference` does. If the node is pinned then, also returns an `Arc` of
+    /// its value, or the error of making it: the worker keeps the handles that it got in any case.
     ///
     /// # Errors
     ///

@@ -4,7 +4,7 @@
 
 ghost use Rattle.pagable_load.specs.{
   AccessView.{IfKnown, values_at},
-  Decoding.{IfValue, KeptIfKindAt, Needs, NeedsNext, RemovedIf, RowFits, RowsStayFit, rows_of},
+  Decoding.{IfValue, InnermostRemovedIf, KeptIfKindAt, Needs, NeedsNext, RowFits, RowsStayFit, rows_of},
   Frames.frames_of,
   ResolvedReferences.AreStandIns,
 };
@@ -57,8 +57,8 @@ impl Lookahead {
 
     // Removes the innermost blob's row if that blob was read.
     #[tactic(auto, using(crate::proofs::Batches::leaving))]
-    fn remove_row_if(&mut self, alloc: Global, was_read: bool)
-        ensures { RemovedIf was_read (rows_of self.old) (rows_of self.new) }
+    fn remove_innermost_row_if(&mut self, alloc: Global, was_read: bool)
+        ensures { InnermostRemovedIf was_read (rows_of self.old) (rows_of self.new) }
     {
         if !was_read {
             return;
@@ -72,7 +72,7 @@ impl Lookahead {
 
     // Keeps the innermost blob's row if it has this kind at this place, and empties it otherwise.
     // The blob has just got a reference of the kind there.
-    fn keep_row_if(&mut self, place: usize, kind: Kind)
+    fn keep_row_if_kind_at(&mut self, place: usize, kind: Kind)
         ensures top { KeptIfKindAt place kind self.old.top.items self.new.top.items }
         ensures below { self.new.below ≡ self.old.below }
     {
@@ -233,7 +233,7 @@ impl Reading {
         ensures { RowsStayFit was_read (frames_of self.now.top self.now.below.items) (rows_of ahead.old)
             (rows_of ahead.new) }
     {
-        ahead.remove_row_if(alloc, was_read);
+        ahead.remove_innermost_row_if(alloc, was_read);
         let Some(top) = &self.top else {
             return;
         };
@@ -243,6 +243,6 @@ impl Reading {
             return;
         }
         let last = got.len() - 1;
-        ahead.keep_row_if(last, got[last].kind);
+        ahead.keep_row_if_kind_at(last, got[last].kind);
     }
 }

@@ -254,7 +254,7 @@ seen hs (suc place) = named_at hs place ∷ seen hs place
 -- ---- nodes that are inserted
 
 -- numbers are left for a node and a handle, and there is room for both
-pub record IsReady (t : Tables) : Type 0 where
+pub record HasRoomForNode (t : Tables) : Type 0 where
   pub node_left : t.last_node < greatest
   pub handle_left : t.ref_counts.last_handle < greatest
   pub handle_room : 0 < room t.ref_counts.handles

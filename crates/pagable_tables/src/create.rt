@@ -12,7 +12,7 @@ ghost use Rattle.pagable_tables.specs.{
   CascadeInvariant.{IsSoundInCascade, is_value_owner, is_worker, owns, owns_nothing},
   CascadeProgress.with_tables,
   CascadeSteps.ValueStays,
-  Core.{Does, InsertsNode, IsReady, IsWhole, MakesHandle, MayOwnHandle, OnlyRoom, PinsInMemory, StorageView, Suits},
+  Core.{Does, HasRoomForNode, InsertsNode, IsWhole, MakesHandle, MayOwnHandle, OnlyRoom, PinsInMemory, StorageView, Suits},
   Core.{core_alone, core_of},
   HandleTable.{alive, live},
   Nodes.{counts_at, has_value, key_in},
@@ -45,7 +45,7 @@ use std::alloc::Global;
 /// - `OutOfMemory` if a table can't grow: at most some have more room.
 pub fn make_room_for_node(t: &mut Tables) -> Result<(), Error>
     requires { IsWhole t.old }
-    ensures ready { OnOk result (IsReady t.new) }
+    ensures ready { OnOk result (HasRoomForNode t.new) }
     ensures cache_room { OnOk result (0 < spare t.new.cache) }
     ensures does { Does t.old OnlyRoom t.new }
     ensures refused { (storage : StorageView) → IfErr result
@@ -152,7 +152,7 @@ pub fn clone(t: &mut Tables, me: Owner, handle: HandleNumber) -> Result<HandleNu
 /// - `OutOfMemory` if a table can't grow: at most some have more room.
 pub fn prepare_insert(t: &mut Tables, me: Owner, references: &[ArcRef]) -> Result<(), Error>
     requires { IsWhole t.old }
-    ensures ready { OnOk result (IsReady t.new) }
+    ensures ready { OnOk result (HasRoomForNode t.new) }
     ensures fit { OnOk result (references_fault (core_alone t.new) me [] references.now ≡ None) }
     ensures does { Does t.old OnlyRoom t.new }
     ensures refused { (storage : StorageView) → IfErr result
@@ -178,7 +178,7 @@ pub fn insert_node(
     mode: Mode,
 ) -> HandleNumber
     requires whole { IsWhole t.old }
-    requires ready { IsReady t.old }
+    requires ready { HasRoomForNode t.old }
     requires holder { MayOwnHandle (core_alone t.old) me }
     requires fit { references_fault (core_alone t.old) me [] references.items ≡ None }
     requires keyed { (key ≡ 0) ⊎ ((is_shared mode ≡ false) × ((references.items ≡ []) ⊎ (is_pinning mode ≡ true))) }

@@ -15,7 +15,7 @@ ghost use Rattle.pagable_pager_spec.specs.{
 ghost use Rattle.pagable_tables.specs.{
   CascadeInvariant.{IsSoundInCascade, owns_nothing},
   CascadeProgress.{ReleasedSoFar, with_tables},
-  Core.{Does, IsReady, IsWhole, MayOwnHandle, OwnLaterHandles, StorageView, core_alone, core_of},
+  Core.{Does, HasRoomForNode, IsWhole, MayOwnHandle, OwnLaterHandles, StorageView, core_alone, core_of},
   EndingLoads.{AsksCache, adopt_check_fault},
   HandleTable.live,
   Nodes.{counts_at, has_value, key_in},
@@ -160,7 +160,7 @@ fn insert_and_cache(
     lists: bool,
 ) -> HandleNumber
     requires whole { IsWhole t.old }
-    requires ready { IsReady t.old }
+    requires ready { HasRoomForNode t.old }
     requires cache_room { 0 < spare t.old.cache }
     requires holder { MayOwnHandle (core_alone t.old) (owners.Load load) }
     requires fit { references_fault (core_alone t.old) (owners.Load load) [] references.items ≡ None }
@@ -186,7 +186,7 @@ fn insert_and_prune_cache(
     lists: bool,
 ) -> HandleNumber
     requires whole { IsWhole t.old }
-    requires ready { IsReady t.old }
+    requires ready { HasRoomForNode t.old }
     requires cache_room { 0 < spare t.old.cache }
     requires holder { MayOwnHandle (core_alone t.old) (owners.Load load) }
     requires fit { references_fault (core_alone t.old) (owners.Load load) [] references.items ≡ None }
@@ -353,7 +353,7 @@ pub fn adopt(
 ) -> HandleNumber
     requires whole { IsWhole t.old }
     requires later { OwnLaterHandles t.old }
-    requires ready { IsReady t.old }
+    requires ready { HasRoomForNode t.old }
     requires cache_room { 0 < spare t.old.cache }
     requires asked { (me : Owner) × (node_type : ℕ) × (adopt_check_fault (core_alone t.old) me load kind node_type
         references.items ≡ None) }

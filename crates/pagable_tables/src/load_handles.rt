@@ -40,7 +40,8 @@ fn place_above(handles: &Handles, number: u64) -> usize
     handle_table::count_up_to(&handles.places, number)
 }
 
-/// Raises `last` in the rows of loads, as `note` does, for all handles of numbers above `number`.
+/// Raises `last` in each load's row to at least the numbers of those of the load's handles that are
+/// above `number`.
 fn note_above(loads: &mut Loads, handles: &Handles, number: u64)
     requires { AreSound handles.now }
     ensures rows { AreRaised loads.old loads.new }

@@ -169,7 +169,7 @@ pub trait PagableEagerSerialize<E: Env>: EagerlyCarried<E> {
         ensures no_references { (S.out serializer.new).refs ≡ (S.out serializer.old).refs };
 }
 
-/// A type whose values can be read eagerly.
+/// A type whose values can be read eagerly: from an encoding that holds no reference.
 pub trait PagableEagerDeserialize<'de, E: Env>: EagerlyCarried<E> + Sized {
     // The errors of reading other than faults of the input.
     ghost eager_read_causes: { ReadCauses };
