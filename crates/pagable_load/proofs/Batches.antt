@@ -1,8 +1,8 @@
 -- What a blob asks for depends on kinds alone: two readings with references of the same kinds run in parallel, up to where one of them asks for a reference
 -- that wasn't got.
 use Rattle.pagable_load.specs.{
-  Decoding.{AsksNext, EachRowFits, Foresees, FramesChange, FramesChangeFor, GotMore, InnermostRemovedIf, KeptIfKindAt, NeedsNext, RowFits, RowFitsFrame, RowsFit},
-  Decoding.{RowsStayFit, is_adoption, kinds_of, stacked},
+  Decoding.{AsksNext, EachRowFits, Foresees, FramesChange, FramesChangeFor, GotMore, InnermostRemovedIf, KeptIfKindAt, NeedsNext, RowFits, RowFitsFrame},
+  Decoding.{RowsFit, RowsStayFit, is_adoption, kinds_of, stacked},
   LoadEnd.{EndsOrLeavesLess, left_behind, left_in, many, to_do, weight, weight_on},
   declared.reading.Need.Need as Needed,
 }
@@ -218,8 +218,8 @@ got_on types f r row row' place kind at of_kind (inr h) (inr (same, (s, there, i
     inr (subst (λ xs. Foresees types (record f { got = f.got ++ r ∷ [] }) (kinds_of xs)) (sym same) (still_ahead types f row s r h here (sym of_kind ∙ is)))
 
 -- what is known of the blobs before the innermost was read, and then of those below it
-left_on : (types : Types) (top : Frame) (below : List Frame) (rows mid : List (List ArcRef)) → InnermostRemovedIf true rows mid → EachRowFits types (top ∷ below) rows
-    → EachRowFits types below mid
+left_on : (types : Types) (top : Frame) (below : List Frame) (rows mid : List (List ArcRef)) → InnermostRemovedIf true rows mid
+    → EachRowFits types (top ∷ below) rows → EachRowFits types below mid
 left_on types top below rows mid (inl (row, is)) a = (subst (EachRowFits types (top ∷ below)) is a).1
 left_on types top below rows mid (inr is) a = (none_ahead types below mid is).are
 
@@ -278,7 +278,8 @@ module _ (types : Types) (new : List Frame) (rows mid rows' : List (List ArcRef)
 
 pub follows_new : (b : Bool) (new : List Frame) (rows mid : List (List ArcRef)) (f : Frame) (fs : List Frame) (top top' : Vec ArcRef Global)
     (below below' : Vec (Vec ArcRef Global) Global) → new ≡ f ∷ fs → f.got ≡ []
-    → mid ≡ top.items ∷ stacked [] below.items → InnermostRemovedIf b rows mid → top'.items ≡ [] → (below'.items ≡ below.items ++ top ∷ []) ⊎ (below'.items ≡ [])
+    → mid ≡ top.items ∷ stacked [] below.items → InnermostRemovedIf b rows mid → top'.items ≡ []
+    → (below'.items ≡ below.items ++ top ∷ []) ⊎ (below'.items ≡ [])
     → RowsStayFit b new rows (top'.items ∷ stacked [] below'.items)
 follows_new b new rows mid f fs top top' below below' is none has left bare below_is =
     let after : (top'.items ∷ stacked [] below'.items ≡ [] ∷ mid) ⊎ (top'.items ∷ stacked [] below'.items ≡ [] ∷ []) =

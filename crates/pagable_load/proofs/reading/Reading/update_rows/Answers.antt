@@ -18,7 +18,8 @@ pub returns : goal.returns
 returns c =
     let got = c.as_slice-got.result.now in
     let last = slice_get-get_or got (length got - 1) (stand_in 0) (search rules) in
-    follows_got c.args.was_read (frames_of c.args.self.now.top c.args.self.now.below.items) (rows_of c.args.ahead.now) (rows_of c.remove_innermost_row_if.new.self)
+    follows_got c.args.was_read (frames_of c.args.self.now.top c.args.self.now.below.items) (rows_of c.args.ahead.now)
+    (rows_of c.remove_innermost_row_if.new.self)
     (frame_of c.in-Some.top)
     (frames_onto [] c.args.self.now.below.items) c.remove_innermost_row_if.new.self.top.items c.keep_row_if_kind_at.new.self.top.items
     (stacked [] c.keep_row_if_kind_at.new.self.below.items)
