@@ -253,7 +253,7 @@ module _ {before w : Core} {given : ℕ → Bool} {lists stays : Bool} {t new : 
     list = grind (basics, map-append, added, append_assoc);
     last = grind (basics, last, length-append);
     within = grind (basics, last, g.comes.comes.left, f.within);
-    places = let p : HasPlaces t new = grind basics in let q = f.places in record { handles = omega arith; entries = omega arith };
+    places = let p : HasPlaces t new = grind basics in let q = f.places in grind arith;
     cells = λ n there. let s = g.cells n there in s.1 ∙ ap cell_in (counts n) ∙ f.cells n (sym (ap is_some (counts n)) ∙ s.0);
     holds = holds;
     least = least;

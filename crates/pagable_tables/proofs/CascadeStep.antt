@@ -280,7 +280,7 @@ abbrev pub begun-less : (t : Tables) (loads : ℕ → Option OpenLoad) (workers 
 begun-less t loads workers storage lists w e =
     begun (core_of t storage) (record (core_of t storage) { loads = loads; workers = workers }) lists (record t.ref_counts { listing_error = None })
     e (λ p own. refl) (unmixed t w) (λ q. omega (arith, w.core.owners_there.listed q)) refl refl refl w.core.handles.within.0
-    (record { handles = omega arith; entries = omega arith }) (λ n. refl) refl
+    (grind arith) (λ n. refl) refl
 
 abbrev pub begun-whole : (t : Tables) (storage : StorageView) (lists : Bool) → IsWhole t → lists ≡ not storage.closed
     → ReleasedSoFar (core_of t storage) (core_of t storage) nobody lists (record t.ref_counts { listing_error = None })
@@ -395,4 +395,4 @@ module _ (T : Tables) (storage : StorageView) (lists : Bool) (whole : IsWhole T)
       (begun old (with_key old node key) lists (record T.ref_counts { listing_error = None; nodes = new.nodes; top = new.top }) opened (λ p own. refl)
       (unmixed T whole)
       (λ q. omega (arith, whole.core.owners_there.listed q)) refl refl refl whole.core.handles.within.0
-      (record { handles = omega arith; entries = omega arith }) cells refl)
+      (grind arith) cells refl)

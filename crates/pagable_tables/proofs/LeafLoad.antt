@@ -153,7 +153,7 @@ module _ (t t1 : Tables) (storage : StorageView) (was : IsWhole t) (whole : IsWh
       list = a.list ∙ sym (append-nil _ ∙ kept-more nobody g w.list none-listed ∙ all-kept w.list);
       last = omega (arith, ap (λ (v : Last). v.handle) a.last);
       within = whole.core.handles.within.0;
-      places = record { handles = omega arith; entries = omega arith };
+      places = grind arith;
       cells = λ n there. a.cells n;
       holds = sum-none (λ (h : HandleRow). one (only h.number.0 && not (only h.number.0))) rows (λ h among. grind basics);
       least = λ s final bare has closed. has;
@@ -179,7 +179,7 @@ module _ (t t1 : Tables) (storage : StorageView) (was : IsWhole t) (whole : IsWh
       loads = λ q. grind (basics, cases_eq q (t.last_load + 1), a.loads q, was.core.loads.numbered);
       workers = a.workers;
       last = a.last ∙ ap (λ h. record u.last { handle = h }) (sym (ap (λ (v : Last). v.handle) a.last));
-      places = record { handles = omega arith; entries = omega arith };
+      places = grind arith;
     }
 
     -- what pins nothing afterwards pinned nothing before
@@ -195,7 +195,7 @@ module _ (t t1 : Tables) (storage : StorageView) (was : IsWhole t) (whole : IsWh
 
     guard-falls : (given : ℕ → Bool) → ((q : ℕ) → is_owned_in begun (Owner.Load l) q ≡ given q) → Falls begun u given (Ok tt) w'
     guard-falls given own = subst (λ s. Falls begun u s (Ok tt) w') (λ i q. (guard-owned q ∙ own q) i)
-        (seen-before {b = u} {w = begun} {u = u} u.places (record { handles = omega arith; entries = omega arith }) before-is
+        (seen-before {b = u} {w = begun} {u = u} u.places (grind arith) before-is
         (falls-as (ended so-far (aside t1.ref_counts None [] owns_nothing whole.steady)) alike-after))
 
   -- ---- it is dropped: only its number and that of its guard are taken
@@ -214,7 +214,7 @@ module _ (t t1 : Tables) (storage : StorageView) (was : IsWhole t) (whole : IsWh
     pub drops-leaf : DropsLeaf w me row leaf.key leaf.node_type w'
     drops-leaf = record {
       begun = begun;
-      begins = begins (subst (HasRoom w.places) (sym places-stay) (record { handles = omega arith; entries = omega arith }));
+      begins = begins (subst (HasRoom w.places) (sym places-stay) (grind arith));
       opened = opened;
       placed = placed-guard;
       closes = guard-falls w.rows [] begun.rows g (sym (append-nil _))

@@ -236,7 +236,7 @@ module _ (t t1 : Tables) (storage : StorageView) (lists : Bool) (was : IsWhole t
     ordered = grind (basics, come, ordered-map)
 
     as-before : {w' : Core} {r : Result (Unit {0}) Error} → Falls u u given r w' → Falls w u given r w'
-    as-before {w'} {r} falls = seen-before {b = u} {w = w} {u = u} u.places (record { handles = omega arith; entries = omega arith }) (λ n none.
+    as-before {w'} {r} falls = seen-before {b = u} {w = w} {u = u} u.places (grind arith) (λ n none.
         let kept = owned-given (Owner.Load l) (t.ref_counts.last_handle + 1) was.core.handles in
         let plain = not-a-value (core_alone t) me (may-hold (core_alone t) me may) in let stays =
         stays-pinned (record w { rows = mid }) x refl ordered plain (grind (basics, and-left)) falls n none in

@@ -34,7 +34,7 @@ alike-on a b = record {
   loads = λ l. b.loads l ∙ a.loads l;
   workers = λ v. b.workers v ∙ a.workers v;
   last = b.last ∙ a.last;
-  places = record { handles = omega arith; entries = omega arith };
+  places = grind arith;
 }
 
 -- the cache forgets entries whose cells are gone
@@ -54,7 +54,7 @@ forgets-gone w cache is = record {
   loads = λ l. refl;
   workers = λ v. refl;
   last = refl;
-  places = record { handles = omega arith; entries = omega arith };
+  places = grind arith;
 } where
   gives : (kind key : ℕ) (known : Option ℕ) → cache kind key ≡ if_there (λ n. if is_some (w.cells n) then Some n else None) None known → w.cache kind key
       ≡ known

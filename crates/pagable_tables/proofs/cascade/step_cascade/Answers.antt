@@ -20,7 +20,7 @@ module _ (t mid : RefCounts) (ns : List ℕ) (p : ArcRef) (i : ℕ) (x : HandleR
   taken =
       let a = taken-owned p w.fits popped
       others same in
-      let b = only-row (is_owned t.top p.handle.0) t.handles.places.items i x w.sound.ordered at (λ h. grind basics) in
+      let b = only-row (is_owned t.top p.handle.0) _ i x w.sound.ordered at (λ h. grind basics) in
       let its : is_owned t.top p.handle.0 x ≡ 1 = grind basics in
       let o : (x.owner ≡ owner_value t.top) × ((m r : ℕ) → is_owned m r x ≡ one (t.top == m && p.handle.0 == r)) = grind basics in
       let fits = taken-fits p w.fits
@@ -125,7 +125,7 @@ returns-in-None c stack w =
     let l = c.finish_node.ensures in
     let s = top-stands _ _ c.requires.some (untouched t mid stack w e.here e.others e.counts e.worker_bound) in
     let is = sym c.counts_of.ensures ∙ c.unwrap-counts.ensures in
-    let done = done-fits c.unwrap-counts.result s.2.fits is l.here e.none l.others
+    let done = done-fits _ s.2.fits is l.here e.none l.others
     l.refs c.requires.some in
     record {
       rest = s.0;
@@ -142,7 +142,7 @@ returns-in-None c stack w =
       cells = λ m some. grind (basics, cases_eq m t.top, is, l.here, l.others m, e.counts m);
       values = λ m ne. let other = l.others m (λ eq. ne (ap (λ k. Some (record { 0 = k })) (sym eq))) in
           subst (λ o. ValueStays o (new m)) (other ∙ e.counts m) (λ falls. (falls, refl));
-      gone = done-gone c.unwrap-counts.result s.2.fits is l.here e.none l.others l.refs
+      gone = done-gone _ s.2.fits is l.here e.none l.others l.refs
           c.requires.some;
       fewer = omega arith;
       unlisting = λ none. refl;

@@ -4,7 +4,7 @@ pub returns-in_default : Rattle.pagable_tables.proofs.handle_table.hand_over_liv
 returns-in_default c =
     record {
       sound = c.requires;
-      rows = sym (moved-none c.args.handle c.args.owner (live c.args.handles.now.places.items) c.in_default.ensures.none);
+      rows = sym (moved-none _ _ _ c.in_default.ensures.none);
       capacity = refl;
       next = λ q next. next;
     }

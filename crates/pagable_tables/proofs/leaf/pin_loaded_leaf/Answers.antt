@@ -28,6 +28,6 @@ pub returns-clause-values : goal.returns-clause-values
 returns-clause-values c n =
     let same = c.take_numbers.ensures.same in
     let row = c.args.leaf.row in
-    has-come c.take_numbers.new.t c.pin_in_memory.new.t no_blobs row c.args.me (c.in-Ok.ensures.does.does no_blobs).pinned.1 c.take_numbers.ensures.does.whole
+    has-come _ _ _ row _ (c.in-Ok.ensures.does.does no_blobs).pinned.1 c.take_numbers.ensures.does.whole
     c.in-Ok.ensures.does.whole (ap (λ (u : Tables). find_row row.number.0 (rows_of u.ref_counts)) same ∙ c.requires.leaf.owned.live) n
     ∙ ap (λ (u : Tables). has_value_once_loaded (counts_at u.ref_counts.nodes) row.node n) same

@@ -13,7 +13,7 @@ install_until-requires-clause-place g c =
 
 pub install_until-requires-clause-above : goal.install_until-requires-clause-above
 install_until-requires-clause-above g c =
-    above-noted c.args.load c.args.ending.load.since c.handle_bound_of-until.ensures.notes
+    above-noted _ _ c.handle_bound_of-until.ensures.notes
     (λ q own. c.requires.later.since c.args.load.0 c.args.ending.load q c.requires.place.load own)
 
 pub returns-clause-does : goal.returns-clause-does

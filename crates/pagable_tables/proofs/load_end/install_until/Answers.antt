@@ -45,7 +45,7 @@ bare-away (Some c) (r ∷ rs) pinned right still same away = absurd (grind (basi
 pub pin_in_memory-requires : goal.pin_in_memory-requires
 pin_in_memory-requires g c =
     let r = c.requires.ready no_blobs in
-    let holder = may-hold (core_alone c.args.t.now) c.args.me (ready-owner c.requires.whole r) in
+    let holder = may-hold (core_alone c.args.t.now) _ (ready-owner c.requires.whole r) in
     record { whole = c.requires.whole; holder = holder; owns = r.owned }
 
 pub unreachable-requires : goal.unreachable-requires
@@ -161,7 +161,7 @@ pub returns-clause-drops : goal.returns-clause-drops
 returns-clause-drops g c = record {
   left = λ kept. c.release_owned.ensures.drops.left (λ n falls. kept n
       ∙ sym (ap has_value (c.set_references_if.ensures.counts n)
-      ∙ has-come c.args.t.now c.pin_in_memory.new.t (no_blobs_of c.args.lists) c.args.ending.row c.args.me
+      ∙ has-come _ _ _ _ _
       (c.in-Ok.ensures.does.does (no_blobs_of c.args.lists)).pinned.1 c.requires.whole c.in-Ok.ensures.does.whole
       (c.requires.ready (no_blobs_of c.args.lists)).owned.live n));
 }

@@ -15,7 +15,7 @@ loop-place-preserved c =
     let p = c.index-found.result.now in
     record {
       rows = λ l. raised-then _ _ _ (i.rows l) (c.note.ensures.rows l);
-      noted = told-on c.loop-place.loads c.note.new.loads places c.args.number c.note.ensures.rows n i.noted (λ l row d at own.
+      noted = told-on c.loop-place.loads c.note.new.loads places _ c.note.ensures.rows n i.noted (λ l row d at own.
           let e = c.index-found.ensures ∙ get_or_default places n p d (omega arith) in
           let number = ap (λ (x : Place). x.row.number.0) e in
           omega (

@@ -12,7 +12,7 @@ returns-clause-notes c =
       rows = c.note_above.ensures.rows;
       whole = record {
         steady = c.requires.whole.steady;
-        core = subst pager.IsWhole (sym (core-same t t1 refl c.note_above.ensures.rows no_blobs))
+        core = subst pager.IsWhole (sym (core-same t t1 refl c.note_above.ensures.rows _))
             c.requires.whole.core;
       };
       later = noted-later t t1 refl c.note_above.ensures.rows refl c.note_above.ensures.noted c.requires.later;

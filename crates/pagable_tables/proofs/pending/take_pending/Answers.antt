@@ -43,7 +43,7 @@ returns c =
     storage in (
       slice_get_read t.list.items _ c.args.place h refl (omega arith) c.in-Some.ensures.value,
       at-work-still (alike _ w' given (λ n. rw (c.raise_bound_for.ensures.counts n) refl) c.in-Some.ensures.items
-          (record { handles = omega arith; entries = omega arith }) refl) c.widen_range.ensures.same_workers,
+          (grind arith) refl) c.widen_range.ensures.same_workers,
     )) in
     let none = entry-unvalued t.list.items t.handles.places.items c.args.place h (omega arith) c.in-Some.ensures.value (w.core.owners_there.listed h.0) in
     let unvalued = none c.in-Some-find_live.at.place c.in-Some-find_live.at.row w.steady.sound.ordered c.in-Some-find_live.ensures.place

@@ -19,7 +19,7 @@ returns-clause-closed g c storage failures' le =
     let whole = c.requires.whole in
     let left : RefCounts = record t.ref_counts { list = c.clear-2.new.self; listing_error = None } in
     let so-far = begun w u false left refl (λ p own. refl) (unmixed t whole) (λ q. omega arith) refl c.clear-2.ensures.items refl whole.core.handles.within.0
-    (record { handles = omega arith; entries = omega arith }) (λ n. refl) refl in
+    (grind arith) (λ n. refl) refl in
     let falls = c.release_owned.ensures.falls w u w (λ l. refl) so-far (omega arith)
     (λ q is. let given = passes-given (is_owned_by Owner.List) q whole.core.handles is in ((given.0, inl given.0), given.1)) in
     let listed : FallsAnyhow w u (is_listed w) (with_tables u c.release_owned.new.t) =
