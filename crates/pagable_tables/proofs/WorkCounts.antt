@@ -59,7 +59,7 @@ pub work-push : (rows : List HandleRow) (x : HandleRow) (nodes nodes' : NumberTa
     → ((n : ℕ) → most_worker_handles_at nodes n ≤ most_worker_handles_at nodes' n)
     → (times (is_work x.node.0) rows + one (is_worker x.owner) ≤ most_worker_handles_at nodes' x.node.0) → BoundsWorkerHandles (rows ++ x ∷ []) nodes'
 work-push rows x nodes nodes' w more here n =
-    let push = sum_by_push (λ (h : HandleRow). one (is_work n h)) rows x in
+    let push = sum_by_push (λ h. one (is_work n h)) rows x in
     elim (cases_eq n x.node.0) [
       | inl same ↦ let worked = one-work x in
           omega (arith, ap (λ m. times (is_work m) rows) same, ap (λ m. one (is_work m x)) same, ap (most_worker_handles_at nodes') same)

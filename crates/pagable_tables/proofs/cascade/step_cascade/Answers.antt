@@ -40,7 +40,7 @@ release_without_cascade-requires-clause-falling c =
     let s = top-stands t _ c.requires.some c.requires.falling.1 in
     let e = c.in-Some.ensures in
     let f = c.in-Some-find_live.ensures in
-    let number = ap (λ (n : HandleNumber). n.0) f.number in (
+    let number = ap (λ n. n.0) f.number in (
       t.top ∷ s.0,
       (taken t (record t { nodes = c.pop_reference.new.nodes }) s.0 c.in-Some.reference c.in-Some-find_live.at.place c.in-Some-find_live.at.row s.2 e.here
           e.others e.counts e.worker_bound f.place number).1,
@@ -87,7 +87,7 @@ returns-in-Some-find_live c stack w =
     let x = c.in-Some-find_live.at.row in
     let mid : RefCounts = record t { nodes = c.pop_reference.new.nodes } in
     let o = taken t mid s.0 c.in-Some.reference c.in-Some-find_live.at.place x s.2 e.here e.others e.counts e.worker_bound
-    c.in-Some-find_live.ensures.place (ap (λ (n : HandleNumber). n.0) c.in-Some-find_live.ensures.number) in
+    c.in-Some-find_live.ensures.place (ap (λ n. n.0) c.in-Some-find_live.ensures.number) in
     let g =
     c.release_without_cascade.ensures (t.top ∷ s.0) o.1 in
     record {

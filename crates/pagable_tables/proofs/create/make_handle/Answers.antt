@@ -10,7 +10,7 @@ pub add_handle-requires-clause-live : Rattle.pagable_tables.proofs.create.make_h
 add_handle-requires-clause-live c =
     let d = c.requires.whole.steady.fits.holding c.args.node.0 in
     let e = held-some _ _ _ c.requires.suits.there
-    (ap (λ (k : NodeNumber). k.0) c.requires.suits.at) in
+    (ap (λ k. k.0) c.requires.suits.at) in
     some-held _ (omega arith)
 
 pub returns-clause-does : Rattle.pagable_tables.proofs.create.make_handle.Goals.returns-clause-does

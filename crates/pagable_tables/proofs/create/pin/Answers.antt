@@ -34,7 +34,7 @@ returns-in_err-pin_in_memory c =
     (λ storage m.
     let w = core_of c.args.t.now storage in
     let here : is_here w row.node.0 ≡ true = search rules in
-    let so = ap (if_there (λ (row : HandleRow). is_here w row.node.0) false) c.in_ok-at.ensures.found ∙ here in
+    let so = ap (if_there (λ row. is_here w row.node.0) false) c.in_ok-at.ensures.found ∙ here in
     let owns : Owns w c.args.me c.args.handle is_loose row = record {
       live = c.in_ok-at.ensures.found;
       own = owner-same _ _ c.in_ok-at.ensures.owner;

@@ -39,7 +39,7 @@ returns-clause-does c =
     let w' = core_of c.set_loose_pinned.new.t storage in
     let turned = rw c.in-Some.ensures.number at turns in
     let same = λ (kind key : ℕ). ap (λ (u : Tables). cache u kind key) c.set_loose_pinned.ensures.same
-    ∙ ap (λ (u : Tables). cache u kind key) c.in_ok-handle.ensures.same in
+    ∙ ap (λ u. cache u kind key) c.in_ok-handle.ensures.same in
     let w = core_of c.args.t.now storage in
     record {
       pinned = (

@@ -16,5 +16,5 @@ returns-clause-becomes c =
       };
       rows = ap live e ∙ live-filter old;
       capacity = search rules;
-      next = λ q next. rw e (All-filter is_live_place (λ (s : Place). s.row.number.0 < q) old next);
+      next = λ q next. rw e (All-filter is_live_place (λ s. s.row.number.0 < q) old next);
     }

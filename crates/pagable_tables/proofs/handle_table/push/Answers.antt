@@ -5,4 +5,4 @@ returns-clause-sound c =
     let widens = c.make_room.ensures.widens in
     sound-push _ _ _ widens.sound (widens.next c.args.row.number.0 c.requires.next)
     (ok-then _ _ (c.push.ensures.succeeds c.in_ok-make_room.ensures.ok) c.push.ensures.items
-    ∙ ap (λ (p : Place). c.make_room.new.handles.places.items ++ p ∷ []) c.new.ensures) refl
+    ∙ ap (λ p. c.make_room.new.handles.places.items ++ p ∷ []) c.new.ensures) refl

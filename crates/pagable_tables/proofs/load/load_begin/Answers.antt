@@ -30,7 +30,7 @@ unbegun {w} me h row found own loose here loads handles stays =
     let before : begin_fault w me h ≡ None = grind basics in
     record {
       begins = tt;
-      refused = record { why = inr (refl, before, ap (if_there (λ (r : HandleRow). is_here w r.node.0) false) found ∙ here); stays = stays };
+      refused = record { why = inr (refl, before, ap (if_there (λ r. is_here w r.node.0) false) found ∙ here); stays = stays };
     }
 
 pub returns-in_err-add_row : goal.returns-in_err-add_row

@@ -46,7 +46,7 @@ returns c =
     let two = rw (ap key_in c.get.ensures.value ∙ key-is c.args.key (omega arith)) at one in
     lazy-new _ _ (c.in_ok-_row.ensures.own storage)
     (sym c.if-not-is_loose.ensures) (sym (c.in_default.ensures storage))
-    _ (subst (λ (u : Core). u.last.node < greatest) room.same c.in_ok-make_room_for_node.ensures.ready.node_left)
+    _ (subst (λ u. u.last.node < greatest) room.same c.in_ok-make_room_for_node.ensures.ready.node_left)
     (next-past room made.0)
     (adopted-past l c.args.kind c.args.key (OptionalDataKey.Some c.args.key) [] room two))
 

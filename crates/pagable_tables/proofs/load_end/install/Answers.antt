@@ -9,7 +9,7 @@ install_until-requires-clause-ready g c storage =
 
 pub install_until-requires-clause-place : goal.install_until-requires-clause-place
 install_until-requires-clause-place g c =
-    rw (ap (λ (u : Tables). u.ref_counts) c.handle_bound_of-until.ensures.notes.same) c.requires.place.place
+    rw (ap (λ u. u.ref_counts) c.handle_bound_of-until.ensures.notes.same) c.requires.place.place
 
 pub install_until-requires-clause-above : goal.install_until-requires-clause-above
 install_until-requires-clause-above g c =
@@ -21,4 +21,4 @@ returns-clause-does g c = noted-does c.handle_bound_of-until.ensures.notes c.ins
 
 pub returns-clause-drops : goal.returns-clause-drops
 returns-clause-drops g c =
-    rw (ap (λ (u : Tables). u.ref_counts) c.handle_bound_of-until.ensures.notes.same) at c.install_until.ensures.drops
+    rw (ap (λ u. u.ref_counts) c.handle_bound_of-until.ensures.notes.same) at c.install_until.ensures.drops

@@ -92,7 +92,7 @@ release_owned-requires-clause-steady g c =
           let still = stands at (was.steady.fits.marked n) in
           let bare : refs_at t.ref_counts.nodes n ≡ [] = bare-away at _ _ (was.steady.fits.right n) still (was.steady.fits.pinned n) away in
           let none : (q : ℕ) → sum_by (λ h. owns h n q) (rows_of t.ref_counts) ≡ 0 =
-          λ q. sym (was.steady.fits.owned n q) ∙ ap (λ (refs : List ArcRef). named q refs + owns_nothing n q) bare in
+          λ q. sym (was.steady.fits.owned n q) ∙ ap (λ refs. named q refs + owns_nothing n q) bare in
           let unvalued = not-a-value p me (may-hold p me (ready-owner was r)) in
           let spared = not-named p l rs was.core.handles r.may.good (t.ref_counts.last_handle + 1) (omega arith) in
           let before = changed (is_handle row.number.0) turned (rows_of t.ref_counts) ++ x ∷ [] in
@@ -106,9 +106,9 @@ release_owned-requires-clause-steady g c =
           ∙ ap (moved (is_named_by rs) (owner_value n)) a.rows in
           record {
             sound = j.handles.sound;
-            next = j.handles.next (k.last_handle + 1) (grind (arith, whole.steady.next, ap (λ (h : RefCounts). h.last_handle) j.same));
+            next = j.handles.next (k.last_handle + 1) (grind (arith, whole.steady.next, ap (λ h. h.last_handle) j.same));
             fits = rw rows
-                (grind (arith, told, ap (λ (h : RefCounts). h.top) j.same));
+                (grind (arith, told, ap (λ h. h.top) j.same));
             worked = rw j.handles.rows
                 (work-moved k.nodes (is_named_by (coming c.args.ending.lacks_value rs)) (owner_value n) (rows_of t1.ref_counts) refl
                 (λ m. rw (j.worker_bound m) (whole.steady.worked m)));
@@ -141,8 +141,8 @@ returns-clause-does g c =
       falls = falls-so b (core_of t storage) me l row rs c.release_owned.result _ r.away
           (ended t t1 storage c.args.lists c.requires.whole c.in-Ok.ensures.does.whole e row p.owned.live me
           (ready-owner c.requires.whole p) l (coming b rs)
-          good (c.in-Ok.ensures.does.does storage).pinned.1 same c.set_references_if.new.t j.handles.rows (ap (λ (h : RefCounts). h.list) j.same)
-          (ap (λ (h : RefCounts). h.last_handle) j.same)
+          good (c.in-Ok.ensures.does.does storage).pinned.1 same c.set_references_if.new.t j.handles.rows (ap (λ h. h.list) j.same)
+          (ap (λ h. h.last_handle) j.same)
           j.handles.capacity (λ m. ap cell_in (j.counts m)) c.args.ending.load.since c.args.until c.release_owned.new.t (load_at c.remove_row.new.rows)
           c.release_owned.result (λ before v f few between. c.release_owned.ensures.falls before v
           (record v { loads = λ m. option_map load_in (load_at c.remove_row.new.rows m) }) (λ m. refl) f few
@@ -152,10 +152,10 @@ returns-clause-does g c =
     c.release_owned.ensures.steady
     (λ i. (installs-goes c.requires.whole.core may i).whole)
     (λ i later. later-less later (installs-goes c.requires.whole.core may i).newer
-    (ap (λ (u : Tables). u.noted) same)
+    (ap (λ u. u.noted) same)
     (λ m load is. closed-still c.remove_row.ensures.gone
-    (λ q other. c.remove_row.ensures.others q other ∙ ap (λ (u : Tables). load_at u.loads q) same) m load is)
-    (still-reaches (ap (λ (u : Tables). u.workers) same)))
+    (λ q other. c.remove_row.ensures.others q other ∙ ap (λ u. load_at u.loads q) same) m load is)
+    (still-reaches (ap (λ u. u.workers) same)))
 
 pub returns-clause-drops : goal.returns-clause-drops
 returns-clause-drops g c = record {

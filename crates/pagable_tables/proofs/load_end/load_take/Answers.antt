@@ -12,7 +12,7 @@ unwrap-row-requires g c =
 pub take_until-requires-clause-no_fault : goal.take_until-requires-clause-no_fault
 take_until-requires-clause-no_fault g c storage =
     let n = c.handle_bound_of-until.ensures.notes in
-    ap (λ (w : Core). hand_over_fault w c.args.me c.args.load c.args.named.now) (core-same c.args.t.now _ n.same n.rows storage)
+    ap (λ w. hand_over_fault w c.args.me c.args.load c.args.named.now) (core-same c.args.t.now _ n.same n.rows storage)
     ∙ sym (c.hand_over_fault.ensures storage) ∙ c.in_default.is
 
 pub returns : goal.returns

@@ -17,11 +17,11 @@ loop-place-preserved c =
       rows = λ l. raised-then _ _ _ (i.rows l) (c.note.ensures.rows l);
       noted = told-on c.loop-place.loads c.note.new.loads places _ c.note.ensures.rows n i.noted (λ l row d at own.
           let e = c.index-found.ensures ∙ get_or_default places n p d (omega arith) in
-          let number = ap (λ (x : Place). x.row.number.0) e in
+          let number = ap (λ x. x.row.number.0) e in
           omega (
             arith,
-            ap (λ (x : HandleRow). x.number.0) c.row.ensures,
+            ap (λ x. x.number.0) c.row.ensures,
             c.note.ensures.last l row
-                (ap (λ (x : HandleRow). x.owner) c.row.ensures ∙ ap (λ (x : Place). x.row.owner) e ∙ own) at,
+                (ap (λ x. x.owner) c.row.ensures ∙ ap (λ x. x.row.owner) e ∙ own) at,
           ));
     }

@@ -32,7 +32,7 @@ returns-clause-closed g c storage failures' le =
       told = refl;
       fails = le;
       falls = subst (λ known. FallsAnyhow w u (is_listed w) (record (with_tables u c.release_owned.new.t) { cache = known }))
-          (λ i kind key. sym (ap (option_map (λ (n : NodeNumber). n.0)) (none kind key)) i) listed;
+          (λ i kind key. sym (ap (option_map (λ n. n.0)) (none kind key)) i) listed;
     }
 
 pub returns-clause-whole : goal.returns-clause-whole

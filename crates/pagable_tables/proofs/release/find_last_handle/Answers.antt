@@ -13,7 +13,7 @@ pub returns-then-is_in_release_set-clause-last : goal.returns-then-is_in_release
 returns-then-is_in_release_set-clause-last c =
     let ss = c.args.handles.now.places.items in
     let p = c.index-found.result.now in
-    let same = ap (λ (x : HandleRow). x.number.0) c.row-row.ensures in
+    let same = ap (λ x. x.number.0) c.row-row.ensures in
     record {
       place = grind (arith, places);
       found = grind (arith, places);
