@@ -9,13 +9,13 @@ use Rattle.pagable_tables.proofs.{
   Views.{Goes, GoesOn, beside, born-whole, falls-lost, lone-falling, loose-unshared, moved-free, moved-on, moved-so, moved-to-value, named-own, named-unlisted},
   Views.{newer-falls, newer-moved, newer-then, not-list, opened, own-of, pin-comes, roomy, roomy-whole, settled, settles, stays-on, then-on},
   Words.{Alike, AllPairs, Among, ArcRef, ArePlaced, BeginCall, Beginning, Bool, CloseCall, Core, Error, Falls, HandOverCall, HandleNumber, HandleRow, Installs},
-  Words.{IsEntryWhole, IsHandleBefore, IsRootWhole, IsWhole, Kind, List, LoadNumber, MayEnd, MayOwnHandle, MayOwnLoad, Mode, NodeNumber, None, Ok, OpenLoad},
-  Words.{OptionalDataKey, Owner, Owns, Result, Root, ScheduleCall, Some, Suits, TakeCall, adopted, ap, arith, basics, cases_eq, cell_fault, earlier, false},
-  Words.{fits_mode, get_or_from_slice_get, greatest, hand_over_fault, has_key, if_there, if◌then◌else◌, inl, inr, is_handle, is_in, is_loose, is_named_by},
-  Words.{is_owned_by, is_owned_in, is_owner, is_shared, is_shared_kind, is_workers, load_fault, mode_of, moved, named_fault, next_node, not, numbers_of},
-  Words.{of_cell, one, only_handle, owner_value, owner_worker, references_fault, refl, row_of, shut, slice_get_within, subst, sum_by-remove, sum_by_push, sym},
-  Words.{times, true, type_at, type_of, usable, with_cached, with_handle, with_key, with_load, with_mode, with_node, with_pin, with_worker, without_load},
-  Words.{without_worker, ℕ, [], ◌&&◌, ◌++◌, ◌+◌, ◌<◌, ◌==◌, ◌||◌, ◌∙◌, ◌∷◌, ◌≡◌},
+  Words.{IsEntryWhole, IsHandleBefore, IsRootWhole, IsWhole, Kind, List, LoadNumber, MayEnd, MayOwnHandle, MayOwnLoad, Mode, NodeNumber, None, Ok},
+  Words.{OptionalDataKey, Owner, Owns, Result, Root, ScheduleCall, Some, Suits, TakeCall, adopted, ap, arith, basics, cases_eq, cell_fault, false, fits_mode},
+  Words.{get_or_from_slice_get, greatest, hand_over_fault, has_key, if_there, if◌then◌else◌, inl, inr, is_handle, is_in, is_loose, is_named_by, is_owned_by},
+  Words.{is_owned_in, is_owner, is_shared, is_shared_kind, is_workers, load_fault, mode_of, moved, named_fault, next_node, not, numbers_of, of_cell, one},
+  Words.{only_handle, owner_value, owner_worker, references_fault, refl, row_of, shut, slice_get_within, subst, sum_by-remove, sum_by_push, sym, times, true},
+  Words.{type_at, type_of, usable, with_cached, with_handle, with_key, with_load, with_mode, with_node, with_pin, with_worker, without_load, without_worker, ℕ},
+  Words.{[], ◌&&◌, ◌+◌, ◌<◌, ◌==◌, ◌||◌, ◌∙◌, ◌∷◌, ◌≡◌},
 }
 use Rattle.std.specs.List.{remove}
 

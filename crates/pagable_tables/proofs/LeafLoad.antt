@@ -10,12 +10,12 @@ use Rattle.pagable_tables.proofs.{
   RowCounts.{found-among, sum-none},
   SameViews.{alike, alike-on, moved-nobody, named-none, same-cache, still},
   Views.none-named,
-  Words.{Alike, ArePlaced, BeginCall, Beginning, Bool, Core, Falls, HandleNumber, HandleRow, HasRoom, Installs, Last, List, LoadNumber, MayEnd, Mode, None, Ok},
+  Words.{Alike, ArePlaced, BeginCall, Beginning, Bool, Core, Falls, HandleNumber, HandleRow, HasRoom, Installs, List, LoadNumber, MayEnd, Mode, None, Ok},
   Words.{Option, Owner, Owns, RefCounts, ReleasedSoFar, Some, Tables, ap, append-nil, arith, basics, cases_Bool, cases_eq, changed, core_alone, core_of, false},
   Words.{filter-append, find_row, if◌then◌else◌, inl, inr, is_handle, is_here, is_loose, is_named_by, is_owned_by, is_owned_in, is_pin, is_plain_pin, is_share},
-  Words.{left_rows, length, length-append, length-map, moved, nobody, not, of_cell, one, or_else, owner_value, owns_nothing, pins, refl, row_of, sharing},
-  Words.{subst, sum_by-append, sum_by-cons, sum_by-le-sum_by, sum_by_push, sym, times, with_handle, with_load, with_mode, with_tables, without_load, ℕ, []},
-  Words.{◌&&◌, ◌++◌, ◌+◌, ◌==◌, ◌∙◌, ◌∷◌, ◌≡◌, ◌≤◌},
+  Words.{left_rows, length, length-append, length-map, moved, nobody, not, of_cell, one, or_else, owner_value, pins, refl, row_of, sharing, subst},
+  Words.{sum_by-append, sum_by-cons, sum_by-le-sum_by, sum_by_push, sym, times, with_handle, with_load, with_mode, with_tables, without_load, ℕ, [], ◌&&◌},
+  Words.{◌++◌, ◌+◌, ◌==◌, ◌∙◌, ◌∷◌, ◌≡◌, ◌≤◌},
 }
 use Rattle.pagable_tables.specs.{Core.{IsWhole, StorageView}, HandleTable.room, Leaf.{DropsLeaf, IsLeaf, PinsLeaf, with_numbers}, declared.leaf.Leaf.Leaf}
 

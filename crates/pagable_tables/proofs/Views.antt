@@ -8,12 +8,12 @@ use Rattle.pagable_tables.proofs.{
   RowCounts.{ordered-entries, ordered-map, ordered-push, same-rows, stays-old, sum-map, sum-none, there-then, type_in, within-goes},
   SameViews.{found-map, owner-same},
   Words.{Alike, AllPairs, AllPairs-filter, Among, ArcRef, ArePlaced, Bool, Cell, Core, Err, Error, Falls, HandleNumber, HandleRow, IsEntryWhole},
-  Words.{IsHandleBefore, IsWhole, Last, List, MakesHandle, MayOwnHandle, MayOwnLoad, Mode, NodeNumber, None, Ok, OpenLoad, Option, OptionalDataKey, Owner},
-  Words.{Owns, Result, SameAt, Some, Suits, ap, arith, basics, cases_eq, changed, fallen, false, filter, find_row, greatest, has_key, held, if_there},
-  Words.{if◌then◌else◌, inl, inr, is_at, is_handle, is_loose, is_named_by, is_owned_by, is_owned_in, is_owner, is_pin, is_share, is_shared, is_some},
-  Words.{is_value_owner, left_rows, length, map, moved, nat_lt, next_node, not, one, option_map, or_else, owner_value, reference_fault, references_fault, refl},
-  Words.{row_at, row_of, subst, sum_by-append, sum_by_push, sym, times, true, updated, with_handle, with_mode, with_node, with_pin, ℕ, [], ◌&&◌, ◌++◌, ◌+◌},
-  Words.{◌<◌, ◌==◌, ◌∙◌, ◌∷◌, ◌≡◌, ◌≢◌, ◌≤◌, ◌⊎◌},
+  Words.{IsHandleBefore, IsWhole, List, MakesHandle, MayOwnHandle, MayOwnLoad, Mode, NodeNumber, None, Ok, OpenLoad, Option, OptionalDataKey, Owner, Owns},
+  Words.{Result, SameAt, Some, Suits, ap, arith, basics, cases_eq, changed, fallen, false, filter, find_row, greatest, has_key, held, if_there, if◌then◌else◌},
+  Words.{inl, inr, is_at, is_handle, is_loose, is_named_by, is_owned_by, is_owned_in, is_owner, is_pin, is_share, is_shared, is_some, is_value_owner},
+  Words.{left_rows, length, map, moved, nat_lt, next_node, not, one, option_map, or_else, owner_value, reference_fault, references_fault, refl, row_at, subst},
+  Words.{sum_by-append, sum_by_push, sym, times, true, with_handle, with_mode, with_node, with_pin, ℕ, [], ◌&&◌, ◌++◌, ◌+◌, ◌<◌, ◌==◌, ◌∙◌, ◌∷◌, ◌≡◌, ◌≢◌, ◌≤◌},
+  Words.◌⊎◌,
 }
 use Rattle.std.proofs.lemmas.{Bool.not-true, Option.slice_get-map}
 

@@ -3,9 +3,9 @@ use Rattle.pagable_tables.proofs.{
   CascadeStep.{done-fits, done-gone, fallen, fits-same, is_owned, taken-fits, taken-owned, taken-there, top-stands, top-there},
   Counting.gives-sums,
   HandleTable.{none-found, only-row},
-  Words.{ArcRef, HandleNumber, HandleRow, IsSoundInCascade, List, RefCounts, Some, ValueStays, alive, ap, append-nil, arith, basics, cases_eq, counts_at, inl},
-  Words.{inr, is_at, is_value_owner, length, one, owner_value, owns, owns_nothing, refl, refs_at, rows_of, slice_get, subst, sum_by-le-sum_by, sym, ℕ, []},
-  Words.{◌&&◌, ◌++◌, ◌==◌, ◌∙◌, ◌∷◌, ◌≡◌, ◌≢◌},
+  Words.{ArcRef, HandleRow, IsSoundInCascade, List, RefCounts, Some, ValueStays, alive, ap, append-nil, arith, basics, cases_eq, counts_at, inl, inr, is_at},
+  Words.{is_value_owner, length, one, owner_value, owns, owns_nothing, refl, refs_at, rows_of, slice_get, subst, sum_by-le-sum_by, sym, ℕ, [], ◌&&◌, ◌++◌},
+  Words.{◌==◌, ◌∙◌, ◌∷◌, ◌≡◌, ◌≢◌},
 }
 use Rattle.pagable_tables.specs.{CascadeInvariant.is_work, Nodes.most_worker_handles_at}
 use Rattle.pagable_tables.proofs.cascade.step_cascade.Goals as goal

@@ -1,4 +1,4 @@
-use Rattle.pagable_tables.proofs.{SameViews.{fault-at, named-other, seen-more}, Words.{ArcRef, None, Some, arith, core_of, get_or, sym, ◌∙◌, ◌∷◌}}
+use Rattle.pagable_tables.proofs.{SameViews.{fault-at, named-other, seen-more}, Words.{ArcRef, None, arith, get_or, sym, ◌∙◌, ◌∷◌}}
 use Rattle.pagable_tables.specs.Core.{StorageView}
 
 abbrev blank : ArcRef

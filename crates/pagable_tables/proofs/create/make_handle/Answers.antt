@@ -1,10 +1,4 @@
-use Rattle.pagable_tables.proofs.{
-  CascadeStep.some-held,
-  OwnedByLoad.does-so,
-  RowCounts.held-some,
-  Views.makes-goes,
-  Words.{NodeNumber, ap, arith, core_alone, core_of, counts_at, refl},
-}
+use Rattle.pagable_tables.proofs.{CascadeStep.some-held, OwnedByLoad.does-so, RowCounts.held-some, Views.makes-goes, Words.{ap, arith, core_of, refl}}
 
 pub add_handle-requires-clause-live : Rattle.pagable_tables.proofs.create.make_handle.Goals.add_handle-requires-clause-live
 add_handle-requires-clause-live c =

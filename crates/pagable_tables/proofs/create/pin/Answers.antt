@@ -1,7 +1,7 @@
 use Rattle.pagable_tables.proofs.{
   OwnedByLoad.{does-as, nothing-does},
   SameViews.{failed, handle-first, owner-same, spent-late, still},
-  Words.{HandleRow, Owns, ap, arith, basics, core_of, false, if_there, inl, inr, is_here, is_loose, pin_fault, rules, spent, true, ◌∙◌, ◌≡◌},
+  Words.{Owns, ap, arith, basics, core_of, false, if_there, inl, inr, is_here, is_loose, pin_fault, rules, spent, true, ◌∙◌, ◌≡◌},
 }
 use Rattle.pagable_tables.proofs.create.pin.Goals as goal
 

@@ -4,7 +4,7 @@ use Rattle.pagable_tables.proofs.{
   OwnedByLoad.does-so,
   SameViews.alike,
   Views.{moded, settled},
-  Words.{Counts, Mode, Some, ap, arith, basics, cases_eq, not, one, refl, sym, ◌+◌, ◌∙◌},
+  Words.{Counts, Some, ap, arith, basics, cases_eq, not, one, refl, sym, ◌+◌, ◌∙◌},
 }
 use Rattle.pagable_tables.specs.CascadeInvariant.{is_work}
 

@@ -1,6 +1,6 @@
 use Rattle.pagable_tables.proofs.{
   HandleTable.{length-live-filter, live-filter},
-  Words.{All-filter, AllPairs-filter, IsBefore, Place, ap, arith, filter, filter_from_retain, is_live_place, length, live, rules, ◌<◌, ◌∙◌, ◌≡◌},
+  Words.{All-filter, AllPairs-filter, IsBefore, ap, arith, filter, filter_from_retain, is_live_place, length, live, rules, ◌<◌, ◌∙◌, ◌≡◌},
 }
 
 pub returns-clause-becomes : Rattle.pagable_tables.proofs.handle_table.compact.Goals.returns-clause-becomes

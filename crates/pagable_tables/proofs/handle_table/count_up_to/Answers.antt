@@ -1,4 +1,4 @@
-use Rattle.pagable_tables.proofs.Words.{Place, cases_eq, basics}
+use Rattle.pagable_tables.proofs.Words.{basics, cases_eq}
 use Rattle.std.proofs.{Common.{leb, leb-false, leb-true, rules}, lemmas.List.Sorted.{IsPartitionPoint-from_clause, IsPartitionedBy-leb}}
 
 pub returns-clause-point : Rattle.pagable_tables.proofs.handle_table.count_up_to.Goals.returns-clause-point

@@ -1,4 +1,4 @@
-use Rattle.pagable_tables.proofs.{SameViews.moved-none, Words.{live, refl, sym}}
+use Rattle.pagable_tables.proofs.{SameViews.moved-none, Words.{refl, sym}}
 
 pub returns-in_default : Rattle.pagable_tables.proofs.handle_table.hand_over_live.Goals.returns-in_default
 returns-in_default c =

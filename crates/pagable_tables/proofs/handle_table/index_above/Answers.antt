@@ -1,4 +1,4 @@
-use Rattle.pagable_tables.proofs.{HandleTable.above-from, Words.{Place, ap, arith}}
+use Rattle.pagable_tables.proofs.{HandleTable.above-from, Words.{ap, arith}}
 
 pub returns-clause-above : Rattle.pagable_tables.proofs.handle_table.index_above.Goals.returns-clause-above
 returns-clause-above c k d low within =

@@ -1,4 +1,4 @@
-use Rattle.pagable_tables.proofs.{HandleTable.{at-place, next-set, sound-set}, Words.{Place, ap, arith, live, one, refl, set, ◌∙◌}}
+use Rattle.pagable_tables.proofs.{HandleTable.{at-place, next-set, sound-set}, Words.{ap, arith, live, one, refl, set, ◌∙◌}}
 
 pub remove_dead_rows-requires : Rattle.pagable_tables.proofs.handle_table.mark_dead.Goals.remove_dead_rows-requires
 remove_dead_rows-requires c =

@@ -1,4 +1,4 @@
-use Rattle.pagable_tables.proofs.{HandleTable.{ok-then, sound-push}, Words.{Place, ap, refl, [], ◌++◌, ◌∙◌, ◌∷◌}}
+use Rattle.pagable_tables.proofs.{HandleTable.{ok-then, sound-push}, Words.{ap, refl, [], ◌++◌, ◌∙◌, ◌∷◌}}
 
 pub returns-clause-sound : Rattle.pagable_tables.proofs.handle_table.push.Goals.returns-clause-sound
 returns-clause-sound c =

@@ -1,4 +1,4 @@
-use Rattle.pagable_tables.proofs.{HandleTable.{at-place, next-set, sound-kept}, Words.{HandleNumber, Place, ap, live, refl, set, ◌∙◌}}
+use Rattle.pagable_tables.proofs.{HandleTable.{at-place, next-set, sound-kept}, Words.{ap, live, refl, set, ◌∙◌}}
 
 pub returns-clause-becomes : Rattle.pagable_tables.proofs.handle_table.replace_row.Goals.returns-clause-becomes
 returns-clause-becomes c =

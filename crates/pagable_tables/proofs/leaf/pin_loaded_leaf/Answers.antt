@@ -1,7 +1,7 @@
 use Rattle.pagable_tables.proofs.{
   LeafLoad.pins-leaf,
   LoadEnd.has-come,
-  Words.{Alike, Core, Mode, Tables, ap, basics, core_of, counts_at, find_row, has_value_once_loaded, live, rows_of, subst, with_handle, with_mode, ◌+◌, ◌∙◌},
+  Words.{Alike, Mode, ap, basics, core_of, counts_at, find_row, has_value_once_loaded, live, rows_of, subst, with_handle, with_mode, ◌+◌, ◌∙◌},
 }
 use Rattle.pagable_tables.specs.Core.{no_blobs}
 use Rattle.pagable_tables.proofs.leaf.pin_loaded_leaf.Goals as goal

@@ -1,4 +1,4 @@
-use Rattle.pagable_tables.proofs.{SameViews.fitting, Words.{core_alone, first_key, key_in, ◌≡◌, basics}}
+use Rattle.pagable_tables.proofs.{SameViews.fitting, Words.{basics, first_key, key_in, ◌≡◌}}
 
 pub insert_and_prune_cache-requires-clause-fit : Rattle.pagable_tables.proofs.load.adopt.Goals.insert_and_prune_cache-requires-clause-fit
 insert_and_prune_cache-requires-clause-fit c = fitting _ _ _ c.args.kind c.args.key c.requires.asked.1

@@ -5,7 +5,7 @@ use Rattle.pagable_tables.proofs.{
   SameViews.{if-open, learned, still},
   Views.{newer-alike, settles},
   Wholeness.whole-so,
-  Words.{Alike, Last, NodeNumber, Option, Owner, Some, adopted, ap, core_alone, core_of, false, has_key, inl, inr, is_shared, key_in, mode_of, next_node, not},
+  Words.{Alike, NodeNumber, Option, Owner, Some, adopted, ap, core_alone, core_of, false, has_key, inl, inr, is_shared, key_in, mode_of, next_node, not},
   Words.{option_map, refl, sym, true, with_handle, with_node, ℕ, ◌/◌, ◌∙◌, ◌≡◌},
 }
 use Rattle.pagable_tables.specs.Core.{StorageView, no_blobs_of}

@@ -1,7 +1,7 @@
 use Rattle.pagable_tables.proofs.{
   OwnedByLoad.{does-as, nothing-does},
   SameViews.{failed, no-load-fault, not-own, spent-late},
-  Words.{arith, basics, core_of, is_usable, spent, where_so},
+  Words.{arith, basics, core_of, is_usable},
 }
 
 pub returns-in_err-_row-clause-does : Rattle.pagable_tables.proofs.load.load_cached.Goals.returns-in_err-_row-clause-does

@@ -3,7 +3,7 @@ use Rattle.pagable_tables.proofs.{
   OwnedByLoad.{does-as, does-then, key-is, nothing-does},
   SameViews.{adopted-past, failed, late, lazy-known, lazy-new, lazy-not-loose, lazy-not-new, next-past, node-late, not-own},
   Views.none-named,
-  Words.{Core, OptionalDataKey, Owner, ap, arith, basics, core_alone, core_of, greatest, key_in, subst, sym, [], ◌<◌, ◌∙◌},
+  Words.{OptionalDataKey, ap, arith, basics, core_of, greatest, key_in, subst, sym, [], ◌<◌, ◌∙◌},
 }
 use Rattle.pagable_tables.specs.Core.{no_blobs}
 use Rattle.pagable_tables.proofs.load.load_lazy.Goals as goal

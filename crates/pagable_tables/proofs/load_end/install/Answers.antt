@@ -1,4 +1,4 @@
-use Rattle.pagable_tables.proofs.{LastHandles.{above-noted, core-same, noted-does}, Words.{Tables, ap}}
+use Rattle.pagable_tables.proofs.{LastHandles.{above-noted, core-same, noted-does}, Words.ap}
 use Rattle.pagable_tables.proofs.load_end.install.Goals as goal
 
 pub install_until-requires-clause-ready : goal.install_until-requires-clause-ready

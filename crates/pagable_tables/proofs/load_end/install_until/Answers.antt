@@ -5,11 +5,11 @@ use Rattle.pagable_tables.proofs.{
   OwnedByLoad.{closed-still, later-less, lazily-by, not-named, still-reaches},
   SameViews.named-none,
   Views.{none-named, not-a-value},
-  Words.{ArcRef, Bool, Cell, Core, Counts, Error, Falls, FallsAnyhow, HandleRow, List, LoadNumber, Mode, None, Option, OptionalDataKey, Owner, RefCounts},
-  Words.{Result, Right, Some, Tables, and-true, ap, arith, basics, cases_Bool, cell_in, changed, core_alone, core_of, counts_at, falls_in, false, has_key},
-  Words.{has_value, if_there, inl, inr, is_handle, is_here, is_in_memory, is_named_by, is_owned_in, is_pin, key_in, live, load_at, load_in, moved, named},
-  Words.{nat_lt, not, one, option_map, owner_value, owns, owns_nothing, pins_in, references_fault, refl, refs_at, row_of, rows_of, sum_by, sym, true, with_pin},
-  Words.{without_load, ℕ, [], ◌&&◌, ◌++◌, ◌+◌, ◌<◌, ◌∙◌, ◌∷◌, ◌≡◌, ◌⊎◌},
+  Words.{ArcRef, Bool, Cell, Core, Counts, Error, Falls, FallsAnyhow, HandleRow, List, LoadNumber, Mode, None, Option, OptionalDataKey, Owner, Result, Right},
+  Words.{Some, and-true, ap, arith, basics, cases_Bool, cell_in, changed, core_alone, core_of, counts_at, falls_in, false, has_key, has_value, if_there, inl},
+  Words.{inr, is_handle, is_here, is_in_memory, is_named_by, is_owned_in, is_pin, key_in, live, load_at, load_in, moved, named, nat_lt, not, one, option_map},
+  Words.{owner_value, owns, owns_nothing, pins_in, references_fault, refl, refs_at, row_of, rows_of, sum_by, sym, true, with_pin, without_load, ℕ, [], ◌&&◌},
+  Words.{◌++◌, ◌+◌, ◌<◌, ◌∙◌, ◌∷◌, ◌≡◌, ◌⊎◌},
   WorkCounts.work-moved,
 }
 use Rattle.pagable_tables.specs.{Core.{no_blobs, no_blobs_of}, Nodes.coming}

@@ -1,5 +1,5 @@
 use Rattle.pagable_pager_spec.specs.LoadCalls.{hand_over_fault}
-use Rattle.pagable_tables.proofs.{CallsKeepWhole.{MayHand, may-hand}, LastHandles.{core-same, noted-release_at}, Words.{Core, ap, core_alone, sym, ◌∙◌, basics}}
+use Rattle.pagable_tables.proofs.{CallsKeepWhole.{MayHand, may-hand}, LastHandles.{core-same, noted-release_at}, Words.{ap, basics, core_alone, sym, ◌∙◌}}
 use Rattle.pagable_tables.specs.Core.{no_blobs}
 use Rattle.pagable_tables.proofs.load_end.load_take.Goals as goal
 

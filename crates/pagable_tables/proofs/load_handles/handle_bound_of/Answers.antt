@@ -1,4 +1,4 @@
-use Rattle.pagable_tables.proofs.{OwnedByLoad.owned-given, Words.{Owner, Tables, ap, arith, core_alone, is_owned_in, sym, ◌∙◌}}
+use Rattle.pagable_tables.proofs.{OwnedByLoad.owned-given, Words.{Owner, ap, arith, core_alone, is_owned_in, sym, ◌∙◌}}
 use Rattle.pagable_tables.proofs.load_handles.handle_bound_of.Goals as goal
 
 pub returns-then-saturating_sub-lt16-clause-last : goal.returns-then-saturating_sub-lt16-clause-last

@@ -1,4 +1,4 @@
-use Rattle.pagable_tables.proofs.{LastHandles.{raised-same, raised-then, told-on}, Words.{HandleRow, Place, ap, arith, get_or_default, ◌∙◌}}
+use Rattle.pagable_tables.proofs.{LastHandles.{raised-same, raised-then, told-on}, Words.{ap, arith, get_or_default, ◌∙◌}}
 use Rattle.pagable_tables.proofs.load_handles.note_above.Goals as goal
 
 pub loop-place-init : goal.loop-place-init

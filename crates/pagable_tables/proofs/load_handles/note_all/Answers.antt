@@ -1,5 +1,4 @@
 use Rattle.pagable_tables.proofs.{LastHandles.{core-same, noted-later}, Words.{refl, subst, sym}}
-use Rattle.pagable_tables.specs.Core.{no_blobs}
 use Rattle.pagable_pager_spec.specs.Pager as pager
 use Rattle.pagable_tables.proofs.load_handles.note_all.Goals as goal
 

@@ -4,8 +4,8 @@ use Rattle.pagable_tables.proofs.{
   OwnedByLoad.{later-on, passes-given},
   Views.newer-falls,
   Wholeness.whole-so,
-  Words.{Falls, FallsAnyhow, NodeNumber, None, Owner, RefCounts, ap, arith, cached_at, core_of, false, inl, is_listed, is_owned_by, option_map, refl, shut},
-  Words.{subst, sym, with_tables, ℕ, ◌≡◌},
+  Words.{Falls, FallsAnyhow, None, Owner, RefCounts, ap, arith, cached_at, core_of, false, inl, is_listed, is_owned_by, option_map, refl, shut, subst, sym},
+  Words.{with_tables, ℕ, ◌≡◌},
 }
 use Rattle.pagable_tables.specs.Core.{no_blobs}
 use Rattle.pagable_tables.proofs.release.close.Goals as goal

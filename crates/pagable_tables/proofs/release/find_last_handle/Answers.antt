@@ -1,4 +1,4 @@
-use Rattle.pagable_tables.proofs.{OwnedByLoad.{below-to, none-from, places}, Words.{HandleRow, ap, arith, contains_row, ◌-◌, basics}}
+use Rattle.pagable_tables.proofs.{OwnedByLoad.{below-to, none-from, places}, Words.{ap, arith, basics, contains_row, ◌-◌}}
 use Rattle.pagable_tables.proofs.release.find_last_handle.Goals as goal
 
 pub returns-then-number-since-clause-none : goal.returns-then-number-since-clause-none

@@ -3,7 +3,7 @@ use Rattle.pagable_tables.proofs.{
   OwnedByLoad.{does-by, later-begun, later-less, one-more-works},
   SameViews.{failed, same-cache},
   Views.{newer-alike, roomy-whole, settles},
-  Words.{basics, refl, ◌+◌},
+  Words.{basics, refl},
 }
 
 pub returns-in_err-add_row-clause-does : Rattle.pagable_tables.proofs.workers.worker_begin.Goals.returns-in_err-add_row-clause-does

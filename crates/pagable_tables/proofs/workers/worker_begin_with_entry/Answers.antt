@@ -1,4 +1,4 @@
-use Rattle.pagable_tables.proofs.{OwnedByLoad.takes-worker, Words.{core_of, refl, basics}}
+use Rattle.pagable_tables.proofs.{OwnedByLoad.takes-worker, Words.{basics, refl}}
 
 pub returns : Rattle.pagable_tables.proofs.workers.worker_begin_with_entry.Goals.returns
 returns c =
