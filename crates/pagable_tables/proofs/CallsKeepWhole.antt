@@ -253,7 +253,7 @@ may-hand {w} whole me l hs good =
     let cell = if_there (λ load. cell_fault load.root) None (w.loads l.0) in
     let named = named_fault w (Owner.Load l) [] hs in
     let parts = both-none _ _ good in
-    let owner : MayOwnLoad w me = (grind (basics, whole.loads.owned, parts.0)) in
+    let owner : MayOwnLoad w me = grind (basics, whole.loads.owned, parts.0) in
     record { own = parts.0; may = owner; named = (both-none _ _ parts.1).1 }
 
 pub handed-whole : {w : Core} → IsWhole (opened w) → (me : Owner) (l : LoadNumber) (hs : List HandleNumber) → MayHand w me l hs

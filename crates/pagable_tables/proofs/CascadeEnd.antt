@@ -172,7 +172,7 @@ module _ {before w : Core} {given : ℕ → Bool} {lists stays : Bool} {t new : 
         must.unshared,
         must.unpinned,
         is,
-        no-more f (is_share n) (λ h mode owner. let m = ap is_shared mode in grind basics),
+        no-more f (is_share n) (λ h mode owner. grind (basics, ap is_shared mode)),
       )
 
   must-kept : (n : ℕ) → MustList before w (with_tables w t) n → MustList before w (with_tables w new) n
@@ -248,12 +248,12 @@ module _ {before w : Core} {given : ℕ → Bool} {lists stays : Bool} {t new : 
     begins = begins;
     gone = gone;
     entries = entries;
-    rows = ap (λ h. rows_of h) g.same ∙ g.comes.comes.rows ∙ ap (λ r. r ++ entries_of g.listed (t.last_handle + 1) x.node) rest
+    rows = ap rows_of g.same ∙ g.comes.comes.rows ∙ ap (λ r. r ++ entries_of g.listed (t.last_handle + 1) x.node) rest
         ∙ append_assoc (left_rows gone rows) f.entries (entries_of g.listed (t.last_handle + 1) x.node);
     list = grind (basics, map-append, added, append_assoc);
     last = grind (basics, last, length-append);
     within = grind (basics, last, g.comes.comes.left, f.within);
-    places = let p : HasPlaces t new = grind basics in let q = f.places in grind arith;
+    places = let p : HasPlaces t new = grind basics in grind (arith, f.places);
     cells = λ n there. let s = g.cells n there in s.1 ∙ ap cell_in (counts n) ∙ f.cells n (sym (ap is_some (counts n)) ∙ s.0);
     holds = holds;
     least = least;

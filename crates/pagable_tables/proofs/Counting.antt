@@ -95,7 +95,7 @@ pub none-entered : (q last : ℕ) (rows left entries : List HandleRow) → rows 
     → times (is_handle q) entries ≡ 0
 none-entered q last rows left entries is new none =
     let other = λ (h : HandleRow). is_handle q h && not (is_owned_by Owner.List h) in
-    let e = entries-none other (λ h mode owner. let l = ap (is_owner Owner.List) owner in grind basics) _
+    let e = entries-none other (λ h mode owner. grind (basics, ap (is_owner Owner.List) owner)) _
     _ new in
     omega (
       arith,

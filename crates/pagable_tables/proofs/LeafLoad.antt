@@ -220,7 +220,7 @@ module _ (t t1 : Tables) (storage : StorageView) (was : IsWhole t) (whole : IsWh
       closes = guard-falls w.rows [] begun.rows g (sym (append-nil _))
           (subst (λ rs. Alike (record (with_numbers w) { rows = rs }) w') (sym (append-nil w.rows)) (subst (λ v. Alike v w') taken (still w')))
           (λ kind k. ap (λ v. v.cache kind k) taken) (ap (λ v. times (is_handle g) v.rows) taken ∙ none-yet)
-          (λ n. let same = ap (λ v. pins n v.rows) taken in omega arith) (is_owned_in begun (Owner.Load l)) (λ q. refl);
+          (λ n. omega (arith, ap (λ v. pins n v.rows) taken)) (is_owned_in begun (Owner.Load l)) (λ q. refl);
     }
 
   -- ---- it ends with a pin

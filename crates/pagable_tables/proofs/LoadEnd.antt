@@ -115,7 +115,7 @@ module _ (w : Core) (me : Owner) (rs : List ArcRef) (ordered : AllPairs IsHandle
       owned = λ m q. let free = owned-by-none m q x (ap is_value_owner owner ∙ unvalued) in
           grind (basics, cases_eq, owned-here q, sum_by_push (is_owned m q) given-rows x, free, same m, others-own n m q);
       chain = fits.chain;
-      marked = λ m. let k = ap (λ d. d.is_dying) new in grind (basics, cases_eq);
+      marked = λ m. grind (basics, cases_eq, ap (λ d. d.is_dying) new);
       right = λ m. grind (basics, cases_eq m n, new, bare, fits.right m);
       from_one = others 0 (λ z. absurd (omega arith)) ∙ fits.from_one;
     }

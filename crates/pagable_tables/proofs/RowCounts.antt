@@ -102,7 +102,7 @@ pub found-so : (q : ℕ) (rows : List HandleRow) (row : HandleRow) → AllPairs 
 found-so q rows row ordered among number = at (find_row q rows) refl
   where
     at : (found : Option HandleRow) → find_row q rows ≡ found → find_row q rows ≡ Some row
-    at (Some y) e = let a = found-among q rows y e in e ∙ ap (λ x. Some x) (once rows ordered y row a.0 among (a.1 ∙ sym number))
+    at (Some y) e = let a = found-among q rows y e in e ∙ ap Some (once rows ordered y row a.0 among (a.1 ∙ sym number))
     at None e = absurd (grind (basics, none-found q rows e, at-most-sum (λ h. one (is_handle q h)) rows row among))
 
 -- ---- what is left

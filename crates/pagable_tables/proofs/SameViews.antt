@@ -72,7 +72,7 @@ alike w w' rows cells list places same = grind (basics, same-cache)
 
 -- what is answered where a call within was refused
 pub failed : {T E : Type 0} {e : E} (r : Result T E) → IsErrAnd r (λ y. y ≡ e) → r ≡ Err e
-failed (Err e) is = ap (λ y. Err y) is
+failed (Err e) is = ap Err is
 failed (Ok x) is = absurd is
 
 pub owner-same : (a b : Owner) → is_owner a b ≡ true → b ≡ a

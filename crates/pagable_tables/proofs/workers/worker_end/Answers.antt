@@ -30,6 +30,6 @@ returns g c =
           loads;
     })
     c.release_owned.ensures.steady (worker-end-whole v c.requires.whole.core)
-    (λ ends later. later-less later (newer-falls ends.falls) refl (λ l load is. let left = sym (c.close_loads.ensures l) ∙ is in grind basics)
+    (λ ends later. later-less later (newer-falls ends.falls) refl (λ l load is. grind (basics, sym (c.close_loads.ensures l) ∙ is))
     (grind (basics, cases_eq, c.remove_row.ensures.gone, c.remove_row.ensures.others))))
     c.release_owned.ensures.drops
