@@ -9,13 +9,13 @@ use Rattle.pagable_tables.proofs.{
   Views.{Goes, GoesOn, beside, born-whole, falls-lost, lone-falling, loose-unshared, moved-free, moved-on, moved-so, moved-to-value, named-own, named-unlisted},
   Views.{newer-falls, newer-moved, newer-then, not-list, opened, own-of, pin-comes, roomy, roomy-whole, settled, settles, stays-on, then-on},
   Words.{Alike, AllPairs, Among, ArcRef, ArePlaced, BeginCall, Beginning, Bool, CloseCall, Core, Error, Falls, HandOverCall, HandleNumber, HandleRow, Installs},
-  Words.{IsEntryWhole, IsHandleBefore, IsRootWhole, IsWhole, Kind, List, LoadNumber, MayEnd, MayOwnHandle, MayOwnLoad, Mode, NodeNumber, None, Ok, OpenLoad},
-  Words.{OptionalDataKey, Owner, Owns, Result, Root, ScheduleCall, Some, Suits, TakeCall, adopted, ap, arith, basics, cases_eq, cell_fault, earlier, false},
-  Words.{fits_mode, get_or_from_slice_get, greatest, hand_over_fault, has_key, if_there, if◌then◌else◌, inl, inr, is_handle, is_in, is_loose, is_named_by},
-  Words.{is_owned_by, is_owned_in, is_owner, is_shared, is_shared_kind, is_workers, load_fault, mode_of, moved, named_fault, next_node, not, numbers_of},
-  Words.{of_cell, one, only_handle, owner_value, owner_worker, references_fault, refl, row_of, shut, slice_get_within, subst, sum_by-remove, sum_by_push, sym},
-  Words.{times, true, type_at, type_of, usable, with_cached, with_handle, with_key, with_load, with_mode, with_node, with_pin, with_worker, without_load},
-  Words.{without_worker, ℕ, [], ◌&&◌, ◌++◌, ◌+◌, ◌<◌, ◌==◌, ◌||◌, ◌∙◌, ◌∷◌, ◌≡◌},
+  Words.{IsEntryWhole, IsHandleBefore, IsRootWhole, IsWhole, Kind, List, LoadNumber, MayEnd, MayOwnHandle, MayOwnLoad, Mode, NodeNumber, None, Ok},
+  Words.{OptionalDataKey, Owner, Owns, Result, Root, ScheduleCall, Some, Suits, TakeCall, adopted, ap, arith, basics, cases_eq, cell_fault, false, fits_mode},
+  Words.{get_or_from_slice_get, greatest, hand_over_fault, has_key, if_there, if◌then◌else◌, inl, inr, is_handle, is_in, is_loose, is_named_by, is_owned_by},
+  Words.{is_owned_in, is_owner, is_shared, is_shared_kind, is_workers, load_fault, mode_of, moved, named_fault, next_node, not, numbers_of, of_cell, one},
+  Words.{only_handle, owner_value, owner_worker, references_fault, refl, row_of, shut, slice_get_within, subst, sum_by-remove, sum_by_push, sym, times, true},
+  Words.{type_at, type_of, usable, with_cached, with_handle, with_key, with_load, with_mode, with_node, with_pin, with_worker, without_load, without_worker, ℕ},
+  Words.{[], ◌&&◌, ◌+◌, ◌<◌, ◌==◌, ◌||◌, ◌∙◌, ◌∷◌, ◌≡◌},
 }
 use Rattle.std.specs.List.{remove}
 
@@ -37,28 +37,28 @@ schedule-goes {w} me h whole holder call = let (row, owns, does) = call.moves in
       let (among, number) = found-among h.0 w.rows row owns.live in
       let mine = ap (is_owner Owner.List) owns.own ∙ not-list w me holder in
       let mode : row.mode ≡ Mode.LooseUnpinned = grind (basics, owns.as_asked) in
-      settled alike (moved-so {w = opened w} whole (only_handle h) Owner.List (w.list ++ h ∷ [])
+      settled alike (moved-so {w = opened w} whole (only_handle h) _ _
       (λ q. grind (
         basics,
-        sum_by_push (λ (k : HandleNumber). one (k.0 == q)) w.list h,
+        sum_by_push (λ k. one (k.0 == q)) w.list h,
         lists-moved {w = opened w} whole h row Owner.List among number q,
         whole.owners_there.listed q,
       ))
-      (λ x there e. ap (λ (y : HandleRow). y.mode) (once w.rows whole.handles.ordered x row there among (grind basics)) ∙ mode))
-      (newer-moved w (only_handle h) Owner.List refl)
+      (λ x there e. ap (λ y. y.mode) (once w.rows whole.handles.ordered x row there among (grind basics)) ∙ mode))
+      (newer-moved w (only_handle h) _ refl)
   | inr (closed, falls) ↦ lone-falling whole falls.falls
 ]
 
 pub take-whole : {w : Core} (w' : Core) (me : Owner) (i : ℕ) (h : HandleNumber) → IsWhole w → MayOwnHandle w me → TakeCall w me i (Some h) w'
     → ArePlaced (opened w')
     → IsWhole (opened w')
-take-whole {w} w' me i h whole holder call placed = settles (moved-so whole (only_handle h) me (remove w.list i) still
-    (λ x there e. holder-in w x.mode me holder)) call.1 placed
+take-whole {w} w' me i h whole holder call placed = settles (moved-so whole (only_handle h) me _ still
+    (λ x there e. holder-in w _ me holder)) call.1 placed
   where
     less : (q : ℕ) → times (λ (k : HandleNumber). k.0 == q) (remove w.list i) + one (h.0 == q) ≡ times (λ (k : HandleNumber). k.0 == q) w.list
     less q = grind (
       basics,
-      sum_by-remove (λ (k : HandleNumber). one (k.0 == q)) w.list i h (slice_get_within w.list i h call.0),
+      sum_by-remove (λ k. one (k.0 == q)) w.list i h (slice_get_within w.list i h call.0),
       slice_get_within,
       get_or_from_slice_get,
     )
@@ -111,7 +111,7 @@ learns-whole {w} me kind key h row whole owns typed leaves placed =
     let given = (whole.handles.nodes_numbered row.node.0 (there-then whole row there)).1 in
     let fits : is_shared row.mode ≡ is_shared_kind kind.0 = grind (basics, owns.as_asked) in
     let entry : IsEntryWhole w kind.0 row.node.0 = grind (basics, alike-rows) in
-    settles (cached-whole kind key row.node whole entry) leaves placed
+    settles (cached-whole _ key _ whole entry) leaves placed
 
 -- ---- calls on loads keep the world whole: one load more
 
@@ -135,8 +135,8 @@ begin-whole {w} {w'} {l} {key} me h whole may call placed =
     let root : IsRootWhole w row.node t h = grind (basics, there-then, owns.live, owns.as_asked, whole.handles.numbered row found.0) in
     let named : (node : NodeNumber) (t2 : ℕ) (k : HandleNumber) → of_cell row.node t h ≡ of_cell node t2 k → IsRootWhole w node t2 k =
     λ node t2 k is. grind basics in
-    settles (beside (loaded-whole key (of_cell row.node t h) me whole may next.is_left named) row.node Mode.LooseUnpinned (Owner.Load l)
-    (record { row = row; there = found.0; at = refl; same = loose-unshared row.mode owns.as_asked })
+    settles (beside (loaded-whole key _ me whole may next.is_left named) _ _ _
+    (record { row = row; there = found.0; at = refl; same = loose-unshared _ owns.as_asked })
     (grind (basics, next.above)) left).0 leaves placed
 
 -- ---- calls by which a load goes on or ends, and the close of the storage, keep the world whole: a load closes
@@ -156,7 +156,7 @@ closes {before} {u} l given whole on gives falls placed = falls-lost u (without_
 pub owned-in : {w : Core} → IsWhole w → (l : LoadNumber) (x : HandleRow) → Among w.rows x → x.owner ≡ Owner.Load l → is_owned_in w (Owner.Load l) x.number.0
     ≡ true
 owned-in {w} whole l x among own =
-    ap (if_there (is_owned_by (Owner.Load l)) false) (found-so x.number.0 w.rows x whole.handles.ordered among refl) ∙ ap (is_owner (Owner.Load l)) own
+    ap (if_there (is_owned_by (Owner.Load l)) false) (found-so _ _ x whole.handles.ordered among refl) ∙ ap (is_owner (Owner.Load l)) own
     ∙ owner-self (Owner.Load l)
 
 -- ---- a load ends
@@ -201,15 +201,15 @@ installs-goes {w} {me = me} {l} {node} {h} {refs = refs} whole ends i =
       | inl (away, falls) ↦
           let s = is_named_by refs in
           let m : Core = record w { rows = moved s (owner_value node.0) w.rows } in
-          let goes = ends-goes w m (moved-to-value whole s (named-unlisted whole (Owner.Load l) refs refl
-          (fault-by w (opened w) (Owner.Load l) [] refs ∙ ends.good)) node.0)
-          (moved-on whole s (owner_value node.0)) me (may-own w m (λ v at. at) me may) l h i.row (kept-own may) i.next.is_left
-          (λ q. is_owned_in w (Owner.Load l) q && not (is_named_by refs q)) (left-given whole l s (owner_value node.0) refl) node i.at falls.falls in
-          record { whole = goes.whole; newer = newer-then (newer-moved w s (owner_value node.0) refl) goes.newer }
+          let goes = ends-goes w m (moved-to-value whole s (named-unlisted whole _ _ refl
+          (fault-by w (opened w) _ [] _ ∙ ends.good)) _)
+          (moved-on whole s _) me (may-own w m (λ v at. at) me may) l h _ (kept-own may) i.next.is_left
+          (λ q. is_owned_in w (Owner.Load l) q && not (is_named_by refs q)) (left-given whole l s _ refl) _ i.at falls.falls in
+          record { whole = goes.whole; newer = newer-then (newer-moved w s _ refl) goes.newer }
       | inr (here, falls) ↦
-          ends-goes w w (roomy-whole whole) (stays-on w) me may l h i.row (record { live = i.owned.live; own = i.owned.own; as_asked = i.owned.as_asked })
+          ends-goes w w (roomy-whole whole) (stays-on w) me may l h _ (record { live = i.owned.live; own = i.owned.own; as_asked = i.owned.as_asked })
           i.next.is_left
-          (is_owned_in w (Owner.Load l)) (owned-in whole l) node i.at falls.falls
+          (is_owned_in w (Owner.Load l)) (owned-in whole l) _ i.at falls.falls
     ]
   where
     -- the handle that began the load isn't one of the value's references
@@ -217,7 +217,7 @@ installs-goes {w} {me = me} {l} {node} {h} {refs = refs} whole ends i =
     kept-own may =
         let row = i.row in
         let owns = i.owned in
-        let mine = named-own w whole.handles.ordered (Owner.Load l) refs ends.good row (found-among h.0 w.rows row owns.live).0 in
+        let mine = named-own w whole.handles.ordered _ _ ends.good row (found-among h.0 w.rows row owns.live).0 in
         let none = no-load w me l may in
         let spared : is_named_by refs row.number.0 ≡ false = grind basics in
         grind (
@@ -240,7 +240,7 @@ handed-mine w owner seen (h ∷ hs) good q named =
 pub handed-own : (w : Core) → AllPairs IsHandleBefore w.rows → (l : LoadNumber) (hs : List HandleNumber) → named_fault w (Owner.Load l) [] hs ≡ None
     → (x : HandleRow) → Among w.rows x
     → is_in (numbers_of hs) x.number.0 ≡ true → x.owner ≡ Owner.Load l
-handed-own w ordered l hs good x among named = own-of w ordered (Owner.Load l) x among (handed-mine w (Owner.Load l) [] hs good x.number.0 named)
+handed-own w ordered l hs good x among named = own-of w ordered _ x among (handed-mine w _ [] hs good _ named)
 
 -- what is true where a load may hand over
 pub record MayHand (w : Core) (me : Owner) (l : LoadNumber) (hs : List HandleNumber) : Type 0 where
@@ -250,18 +250,18 @@ pub record MayHand (w : Core) (me : Owner) (l : LoadNumber) (hs : List HandleNum
 
 pub may-hand : {w : Core} → IsWhole (opened w) → (me : Owner) (l : LoadNumber) (hs : List HandleNumber) → hand_over_fault w me l hs ≡ None → MayHand w me l hs
 may-hand {w} whole me l hs good =
-    let cell = if_there (λ (load : OpenLoad). cell_fault load.root) None (w.loads l.0) in
+    let cell = if_there (λ load. cell_fault load.root) None (w.loads l.0) in
     let named = named_fault w (Owner.Load l) [] hs in
-    let parts = both-none (load_fault w me l) (earlier cell named) good in
-    let owner : MayOwnLoad w me = (grind (basics, whole.loads.owned, parts.0)) in
-    record { own = parts.0; may = owner; named = (both-none cell named parts.1).1 }
+    let parts = both-none _ _ good in
+    let owner : MayOwnLoad w me = grind (basics, whole.loads.owned, parts.0) in
+    record { own = parts.0; may = owner; named = (both-none _ _ parts.1).1 }
 
 pub handed-whole : {w : Core} → IsWhole (opened w) → (me : Owner) (l : LoadNumber) (hs : List HandleNumber) → MayHand w me l hs
     → IsWhole (roomy (record w { rows = moved (is_in (numbers_of hs)) me w.rows }))
 handed-whole {w} whole me l hs can =
     let holder = may-hold w me can.may in
     moved-free whole (is_in (numbers_of hs)) (λ x among named. ap (is_owner Owner.List) (handed-own w whole.handles.ordered l hs can.named x among named))
-    me (not-list w me holder) (λ mode. holder-in w mode me holder)
+    me (not-list w me holder) (λ mode. holder-in w _ me holder)
 
 pub hand-over-whole : {w w' : Core} (me : Owner) (l : LoadNumber) (hs : List HandleNumber) → IsWhole (opened w) → HandOverCall w me l hs (Ok tt) w'
     → ArePlaced (opened w') → IsWhole (opened w')
@@ -270,7 +270,7 @@ hand-over-whole {w} me l hs whole call placed =
     let can = may-hand whole me l hs good in
     let s = is_in (numbers_of hs) in
     let m : Core = record w { rows = moved s me w.rows } in
-    closes {u = m} l (λ (q : ℕ). is_owned_in w (Owner.Load l) q && not (s q)) (handed-whole whole me l hs can) (moved-on whole s me)
+    closes {u = m} l (λ q. is_owned_in w (Owner.Load l) q && not (s q)) (handed-whole whole me l hs can) (moved-on whole s me)
     (left-given whole l s me (no-load w me l can.may)) falls.falls placed
 
 -- ---- the close of the storage
@@ -294,20 +294,20 @@ module _ (w : Core) (whole : IsWhole (opened w)) (l : LoadNumber) (kind : Kind) 
   made = with_handle (with_node w (type_of kind.0) own refs) (next_node w) (mode_of kind.0) (Owner.Load l)
 
   now-whole : IsWhole (roomy made)
-  now-whole = born-whole whole (type_of kind.0) own refs (mode_of kind.0) (Owner.Load l) (Owner.Load l) refl good holder node_left left unkeyed
+  now-whole = born-whole whole _ own _ _ _ _ refl good holder node_left left unkeyed
 
   pub adopted-whole : IsWhole (roomy (adopted w l kind key own refs))
   adopted-whole = at w.closed
     where
       at : (b : Bool) → IsWhole (roomy (if b then made else with_cached made kind key (next_node w)))
       at true = now-whole
-      at false = cached-whole {w = roomy made} kind key (next_node w) now-whole (record {
+      at false = cached-whole {w = roomy made} _ key _ now-whole (record {
         given = omega arith;
         typed = λ t is. grind basics;
         shares = λ h among at.
             alike-rows now-whole h (row_of (w.last.handle + 1) (next_node w) (mode_of kind.0) (Owner.Load l)) among
             (among-last (moved (is_named_by refs) (owner_value (w.last.node + 1)) w.rows) _) at
-            ∙ mode-shared kind.0;
+            ∙ mode-shared _;
       })
 
 -- ---- a worker that begins or ends keeps the world whole: one worker more

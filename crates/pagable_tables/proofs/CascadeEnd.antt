@@ -46,7 +46,7 @@ module _ {before w : Core} {given : ℕ → Bool} {lists : Bool} {t : RefCounts}
 
 pub valued-le : (rows : List HandleRow) → valued rows ≤ length rows
 valued-le rows = omega
-    (arith, ones rows, sum_by-le-sum_by (λ (h : HandleRow). one (is_value_owner h.owner)) (λ h. 1) rows (λ h. one-le (is_value_owner h.owner)))
+    (arith, ones rows, sum_by-le-sum_by (λ h. one (is_value_owner h.owner)) (λ h. 1) rows (λ h. one-le (is_value_owner h.owner)))
 
 pub none-falls : (t : RefCounts) (stack : List ℕ) → IsSoundInCascade t stack owns_nothing → t.top ≡ 0 → IsSoundInCascade t [] owns_nothing
 none-falls t [] w z = w
@@ -130,16 +130,16 @@ module _ {before w : Core} {given : ℕ → Bool} {lists stays : Bool} {t new : 
   here p = g.leaves.there (λ h. one (p h))
 
   last : new.last_handle ≡ t.last_handle + one g.listed
-  last = omega (arith, ap (λ (h : RefCounts). h.last_handle) g.same)
+  last = omega (arith, ap (λ h. h.last_handle) g.same)
 
   added : new.list.items ≡ t.list.items ++ (if g.listed then record { 0 = t.last_handle + 1 } ∷ [] else [])
-  added = ap (λ (h : RefCounts). h.list.items) g.same ∙ g.comes.comes.list
+  added = ap (λ h. h.list.items) g.same ∙ g.comes.comes.list
 
   abbrev wanted : Bool
   wanted = lists && is_last_pin_without_key g.counts x.mode
 
   one-pin : wanted ≡ true → pins x.node.0 (rows_of t) ≡ 1
-  one-pin want = sym (pinned x.node.0) ∙ ap pins_in is ∙ (listing-is g.counts x.mode (and_parts lists (is_last_pin_without_key g.counts x.mode) want).1).2
+  one-pin want = sym (pinned x.node.0) ∙ ap pins_in is ∙ (listing-is g.counts _ (and_parts lists (is_last_pin_without_key g.counts x.mode) want).1).2
 
   none-held : wanted ≡ true → held x.node.0 f.entries ≡ 0
   none-held want = grind (basics, one-pin)
@@ -172,7 +172,7 @@ module _ {before w : Core} {given : ℕ → Bool} {lists stays : Bool} {t new : 
         must.unshared,
         must.unpinned,
         is,
-        no-more f (is_share n) (λ h mode owner. let m = ap is_shared mode in grind basics),
+        no-more f (is_share n) (λ h mode owner. grind (basics, ap is_shared mode)),
       )
 
   must-kept : (n : ℕ) → MustList before w (with_tables w t) n → MustList before w (with_tables w new) n
@@ -198,7 +198,7 @@ module _ {before w : Core} {given : ℕ → Bool} {lists stays : Bool} {t new : 
   told = by t.listing_error refl f.tells
     where
       kept : (u : Option Error) → t.listing_error ≡ u → (g.listed ≡ true) ⊎ (wanted ≡ false) → new.listing_error ≡ u
-      kept u is s = ap (λ (h : RefCounts). h.listing_error) g.same ∙ g.comes.told s ∙ is
+      kept u is s = ap (λ h. h.listing_error) g.same ∙ g.comes.told s ∙ is
 
       late : (u : Option Error) → t.listing_error ≡ u → g.listed ≡ false → wanted ≡ true → (e : Error)
           × CantList (record t { handles = g.left; nodes = nodes }) e
@@ -206,7 +206,7 @@ module _ {before w : Core} {given : ℕ → Bool} {lists stays : Bool} {t new : 
       late u is none want = let y = g.comes.why none want in (
         y.0,
         y.1,
-        ap (λ (h : RefCounts). h.listing_error) g.same ∙ y.2
+        ap (λ h. h.listing_error) g.same ∙ y.2
             ∙ ap (λ u. or_else u (Some y.0)) is,
       )
 
@@ -214,7 +214,7 @@ module _ {before w : Core} {given : ℕ → Bool} {lists stays : Bool} {t new : 
           → TellsListing before w entries (result_of_listing new.listing_error) (with_tables w new)
       by (Some e) is tells =
           let a = tells.not_all in
-          let so : new.listing_error ≡ Some e = elim (which g.listed wanted) [ inl s ↦ kept (Some e) is s | inr n ↦ (late (Some e) is n.0 n.1).2 ] in
+          let so : new.listing_error ≡ Some e = elim (which _ _) [ inl s ↦ kept (Some e) is s | inr n ↦ (late (Some e) is n.0 n.1).2 ] in
           rw so (record {
             all = tt;
             not_all = (
@@ -224,7 +224,7 @@ module _ {before w : Core} {given : ℕ → Bool} {lists stays : Bool} {t new : 
               grind (basics, a.3, last, added, length-append),
             );
           })
-      by None is tells = elim (which g.listed wanted) [
+      by None is tells = elim (which _ _) [
         | inl s ↦ rw (kept None is s) (record {
           all = λ n must. grind (basics, tells.all n, held-more, must-before, other, cases_Bool g.listed, entry, none-held);
           not_all = tt;
@@ -248,18 +248,18 @@ module _ {before w : Core} {given : ℕ → Bool} {lists stays : Bool} {t new : 
     begins = begins;
     gone = gone;
     entries = entries;
-    rows = ap (λ (h : RefCounts). rows_of h) g.same ∙ g.comes.comes.rows ∙ ap (λ r. r ++ entries_of g.listed (t.last_handle + 1) x.node) rest
+    rows = ap rows_of g.same ∙ g.comes.comes.rows ∙ ap (λ r. r ++ entries_of g.listed (t.last_handle + 1) x.node) rest
         ∙ append_assoc (left_rows gone rows) f.entries (entries_of g.listed (t.last_handle + 1) x.node);
     list = grind (basics, map-append, added, append_assoc);
     last = grind (basics, last, length-append);
     within = grind (basics, last, g.comes.comes.left, f.within);
-    places = let p : HasPlaces t new = grind basics in let q = f.places in record { handles = omega arith; entries = omega arith };
+    places = let p : HasPlaces t new = grind basics in grind (arith, f.places);
     cells = λ n there. let s = g.cells n there in s.1 ∙ ap cell_in (counts n) ∙ f.cells n (sym (ap is_some (counts n)) ∙ s.0);
     holds = holds;
     least = least;
     new = grind (basics, entries-more, append-nil, f.last, f.new);
-    only = λ n some. let o = only-more n some in (must-as rows (λ n. cell_in (counts_at new.nodes n)) o.0, o.1);
-    tells = tells-as rows (λ n. cell_in (counts_at new.nodes n)) long (result_of_listing new.listing_error) told;
+    only = λ n some. let o = only-more n some in (must-as _ (λ n. cell_in (counts_at new.nodes n)) o.0, o.1);
+    tells = tells-as _ (λ n. cell_in (counts_at new.nodes n)) long _ told;
     few = few';
   }
 
@@ -271,7 +271,7 @@ module _ {before w : Core} {given : ℕ → Bool} {lists : Bool} {t new : RefCou
   one-goes : IsWithin w.rows given' (and_one f.gone x.number.0) → ((s : ℕ → Bool) (final : List HandleRow)
       → ((n : ℕ) → held n (rows_of new) ≡ 0 → held n final ≡ 0) → IsWithin w.rows given' s → IsClosed w.rows (is_keyed w) final s
       → IsWithin w.rows (and_one f.gone x.number.0) s) → ReleasedSoFar before w given' lists new
-  one-goes holds least = entered-on f g counts pinned few w.rows refl given' (and_one f.gone x.number.0) f.begins
+  one-goes holds least = entered-on f g counts pinned few _ refl _ _ f.begins
       (grind (
         basics,
         filter-append,
@@ -392,7 +392,7 @@ pub passes-so-far : {before w : Core} {given : ℕ → Bool} {lists : Bool} {t :
     → ((h : HandleRow) → h.owner ≡ Owner.List → test h ≡ false) → (q : ℕ)
     → passes_in test (rows_of t) q ≡ (not (f.gone q) && passes_in test w.rows q)
 passes-so-far {w = w} f test none q = ap (λ rows. passes_in test rows q) f.rows
-    ∙ passes-left test q f.gone f.entries w.rows (no-entry test q none w.last.handle f.entries f.new)
+    ∙ passes-left test q f.gone _ w.rows (no-entry test q none _ _ f.new)
 
 -- what was given and this handle, if the load owned it
 abbrev pub and_owned : Core → LoadNumber → (ℕ → Bool) → ℕ → ℕ → Bool

@@ -80,7 +80,7 @@ top-stands t [] some w = absurd (some w.fits.chain)
 top-stands t (n ∷ ns) some w = let top = sym w.fits.chain.0 in (ns, ap (λ m. m ∷ ns) top, rw top at w)
 
 pub top-there : (t : RefCounts) (stack : List ℕ) → t.top ≢ 0 → IsSoundInCascade t stack owns_nothing → counts_at t.nodes t.top ≡ None → ⊥
-top-there t stack some w none = let waits = first-waits (top-stands t stack some w).2.fits in let a = ap falls_in none in absurd (cc)
+top-there t stack some w none = let waits = first-waits (top-stands t _ some w).2.fits in let a = ap falls_in none in absurd (cc)
 
 pub pins-le-held : (n : ℕ) (rows : List HandleRow) → pins n rows ≤ held n rows
 pins-le-held n rows = sum_by-le-sum_by (λ h. one (is_pin n h)) (λ h. one (is_at n h)) rows (λ h. grind basics)
@@ -106,7 +106,7 @@ module _ {at at' : ℕ → Option Counts} {refs refs' : ℕ → List ArcRef} {ro
     (fits : Fits at refs rows n (n ∷ ns) owns_nothing) (popped : refs n ≡ refs' n ++ p ∷ []) (others : (m : ℕ) → m ≢ n → refs' m ≡ refs m)
     (same : (m : ℕ) → at' m ≡ at m) where
   times-popped : (r : ℕ) → named r (refs n) ≡ named r (refs' n) + one (p.handle.0 == r)
-  times-popped r = ap (named r) popped ∙ sum_by_push (λ (y : ArcRef). one (y.handle.0 == r)) (refs' n) p
+  times-popped r = ap (named r) popped ∙ sum_by_push (λ y. one (y.handle.0 == r)) (refs' n) p
 
   pub taken-owned : 1 ≤ sum_by (is_owned n p.handle.0) rows
   taken-owned = grind (basics, fits.owned n p.handle.0, times-popped p.handle.0)
@@ -280,7 +280,7 @@ abbrev pub begun-less : (t : Tables) (loads : ℕ → Option OpenLoad) (workers 
 begun-less t loads workers storage lists w e =
     begun (core_of t storage) (record (core_of t storage) { loads = loads; workers = workers }) lists (record t.ref_counts { listing_error = None })
     e (λ p own. refl) (unmixed t w) (λ q. omega (arith, w.core.owners_there.listed q)) refl refl refl w.core.handles.within.0
-    (record { handles = omega arith; entries = omega arith }) (λ n. refl) refl
+    (grind arith) (λ n. refl) refl
 
 abbrev pub begun-whole : (t : Tables) (storage : StorageView) (lists : Bool) → IsWhole t → lists ≡ not storage.closed
     → ReleasedSoFar (core_of t storage) (core_of t storage) nobody lists (record t.ref_counts { listing_error = None })
@@ -288,7 +288,7 @@ begun-whole t storage lists w e = let c = core_of t storage in begun-less t c.lo
 
 -- cells are listed exactly while the storage is open
 pub opened-view : (s : StorageView) → s.closed ≡ false → s ≡ record s { closed = false }
-opened-view s is = ap (λ (c : Bool). record s { closed = c }) is
+opened-view s is = ap (λ c. record s { closed = c }) is
 
 pub closed-is : {lists closed : Bool} → lists ≡ not closed → closed ≡ not lists
 closed-is {lists} {closed} e = grind basics
@@ -329,8 +329,8 @@ module _ {before w : Core} {given : ℕ → Bool} {lists : Bool} {t : RefCounts}
         f.cells n,
       )) in
       let a = counted f (λ h. is_owned_by (owner_value n) h && is_outside s h) in
-      let b = entries-none (λ h. is_owned_by (owner_value n) h && is_outside s h) (λ h mode owner. grind (basics, pins-le-held)) w.last.handle
-      f.entries f.new in
+      let b = entries-none (λ h. is_owned_by (owner_value n) h && is_outside s h) (λ h mode owner. grind (basics, pins-le-held)) _
+      _ f.new in
       omega (
         arith,
         sum_by-le-sum_by (λ h. one ((is_owned_by (owner_value n) h && is_outside s h) && not (f.gone h.number.0)))
@@ -358,18 +358,18 @@ none-kept gone q (x ∷ xs) none = grind (basics, none-kept gone q xs)
 
 module _ {before w : Core} {given : ℕ → Bool} {lists : Bool} {t : RefCounts} (f : ReleasedSoFar before w given lists t) (shut : lists ≡ false) where
   pub none-came : f.entries ≡ []
-  none-came = no-entries f.entries (λ n some. let a = closed-is f.begins.open_storage ∙ ap not shut in
+  none-came = no-entries _ (λ n some. let a = closed-is f.begins.open_storage ∙ ap not shut in
       let b = (f.only n some).0.stands_open in absurd (cc))
 
   -- a handle goes apart from a list that has no entry
   pub entry-apart : (q : ℕ) → t.list.items ≡ [] → IsApart before w given lists t f q
   entry-apart q empty =
-      let list = f.list ∙ ap (λ es. filter (λ (h : HandleNumber). not (f.gone h.0)) w.list ++ map (λ (h : HandleRow). h.number) es) none-came ∙ append-nil _ in
+      let list = f.list ∙ ap (λ es. filter (λ h. not (f.gone h.0)) w.list ++ map (λ h. h.number) es) none-came ∙ append-nil _ in
       record { unentered = ap (times (is_handle q)) none-came; kept = none-kept f.gone q w.list (sym list ∙ empty) }
 
 pub owned-listed : {w : Core} → pager.IsWhole w → (q : ℕ) → is_owned_in w Owner.List q ≡ is_listed w q
 owned-listed {w} whole q =
-    let its = λ (h : HandleRow) (there : Among w.rows h). only-at (λ y. one (of_list q y)) w.rows h whole.handles.ordered there in
+    let its = λ (h : HandleRow) (there : Among w.rows h). only-at (λ y. one (of_list q y)) _ h whole.handles.ordered there in
     grind (basics, sum_by-le-sum_by, none-found q w.rows, found-among q w.rows, whole.owners_there.listed q)
 
 -- ---- a node gets a key: handles and nodes fit again, and nothing else has gone or come so far
@@ -395,4 +395,4 @@ module _ (T : Tables) (storage : StorageView) (lists : Bool) (whole : IsWhole T)
       (begun old (with_key old node key) lists (record T.ref_counts { listing_error = None; nodes = new.nodes; top = new.top }) opened (λ p own. refl)
       (unmixed T whole)
       (λ q. omega (arith, whole.core.owners_there.listed q)) refl refl refl whole.core.handles.within.0
-      (record { handles = omega arith; entries = omega arith }) cells refl)
+      (grind arith) cells refl)

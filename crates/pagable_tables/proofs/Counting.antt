@@ -47,7 +47,7 @@ left-none q (x ∷ xs) none = let a = sum_by-cons (λ h. one (is_handle q h)) x 
 
 pub ones : (rows : List HandleRow) → sum_by (λ (h : HandleRow). 1) rows ≡ length rows
 ones [] = refl
-ones (x ∷ xs) = omega (arith, sum_by-cons (λ (h : HandleRow). 1) x xs, ones xs)
+ones (x ∷ xs) = omega (arith, sum_by-cons (λ h. 1) x xs, ones xs)
 
 pub all-kept : {X : Type 0} (list : List X) → filter (λ (x : X). true) list ≡ list
 all-kept [] = refl
@@ -57,7 +57,7 @@ all-kept (x ∷ xs) = ap (λ r. x ∷ r) (all-kept xs)
 pub kept-more : (gone : ℕ → Bool) (q : ℕ) (list : List HandleNumber) → times (λ (h : HandleNumber). h.0 == q) list ≡ 0
     → filter (λ (h : HandleNumber). not (and_one gone q h.0)) list ≡ filter (λ (h : HandleNumber). not (gone h.0)) list
 kept-more gone q [] none = refl
-kept-more gone q (x ∷ xs) none = let a = sum_by-cons (λ (h : HandleNumber). one (h.0 == q)) x xs in grind (basics, kept-more gone q xs (omega arith))
+kept-more gone q (x ∷ xs) none = let a = sum_by-cons (λ h. one (h.0 == q)) x xs in grind (basics, kept-more gone q xs (omega arith))
 
 -- new entries pin nothing, and only the list owns them
 pub entries-none : (f : HandleRow → Bool) → ((h : HandleRow) → h.mode ≡ Mode.LooseUnpinned → h.owner ≡ Owner.List → f h ≡ false)
@@ -88,15 +88,15 @@ of_list q h = is_handle q h && is_owned_by Owner.List h
 pub none-listed : {old new : Handles} {x : HandleRow} → RemovesOrUnpins old x false new → is_owned_by Owner.List x ≡ false
     → times (of_list x.number.0) (live old.places.items) ≡ 0
 none-listed {old} {x = x} leaves owner =
-    let left = ap (times (of_list x.number.0)) leaves.becomes.rows ∙ times-left (of_list x.number.0) (only_handle x.number) (live old.places.items) in
+    let left = ap (times (of_list x.number.0)) leaves.becomes.rows ∙ times-left (of_list x.number.0) (only_handle x.number) _ in
     grind (basics, sum-none, leaves.sums (λ h. one (of_list x.number.0 h)), left)
 
 pub none-entered : (q last : ℕ) (rows left entries : List HandleRow) → rows ≡ left ++ entries → AreNewEntries last entries → times (of_list q) rows ≡ 0
     → times (is_handle q) entries ≡ 0
 none-entered q last rows left entries is new none =
     let other = λ (h : HandleRow). is_handle q h && not (is_owned_by Owner.List h) in
-    let e = entries-none other (λ h mode owner. let l = ap (is_owner Owner.List) owner in grind basics) last
-    entries new in
+    let e = entries-none other (λ h mode owner. grind (basics, ap (is_owner Owner.List) owner)) _
+    _ new in
     omega (
       arith,
       ap (times (of_list q)) is,

@@ -115,17 +115,17 @@ pub above-from : (ss : List Place) (i number k : ℕ) (d e : Place) → AllPairs
     → number < (get_or ss k d).row.number.0
 above-from ss i number k d e ordered at low within =
     let next = ordered i k d in
-    grind (basics, cases_eq i k, ap (λ (x : Place). x.row.number.0) (get_or_default ss i e d (omega arith)))
+    grind (basics, cases_eq i k, ap (λ x. x.row.number.0) (get_or_default ss i e d (omega arith)))
 
 pub row-got : (ss : List Place) (i : ℕ) (p : Place) (q : ℕ) → AllPairs IsBefore ss → slice_get ss i ≡ Some p → p.is_live ≡ true → p.row.number.0 ≡ q
     → find_row q (live ss) ≡ Some p.row
 row-got ss i p q ordered at is number = subst (λ n. find_row n (live ss) ≡ Some p.row) number
-    (at-place ss i p.row ordered (at ∙ ap (λ b. Some (record { row = p.row; is_live = b })) is)).2
+    (at-place ss i _ ordered (at ∙ ap (λ b. Some (record { row = p.row; is_live = b })) is)).2
 
 pub next-set : (q : ℕ) (ss : List Place) (i : ℕ) (row : HandleRow) (new : Place) → slice_get ss i ≡ Some (alive row) → new.row.number.0 ≡ row.number.0
     → IsNext q ss → IsNext q (set ss i new)
 next-set q ss i row new at same next =
-    All-set (λ (s : Place). s.row.number.0 < q) ss i new (grind (
+    All-set (λ s. s.row.number.0 < q) ss i new (grind (
       arith,
       slice_get_within ss i (alive row) at,
       get_or_from_slice_get ss i (alive row) new at,
@@ -180,7 +180,7 @@ pub ordered-push : (ss : List Place) (row : HandleRow) → AllPairs IsBefore ss 
 ordered-push ss row ordered next = all_pairs_push IsBefore ss (alive row) ordered next
 
 pub next-push : (ss : List Place) (row : HandleRow) → IsNext row.number.0 ss → IsNext (row.number.0 + 1) (ss ++ alive row ∷ [])
-next-push ss row next = All-push (λ (s : Place). s.row.number.0 < row.number.0 + 1) ss (alive row) (λ k d lt. omega (arith, next k d lt)) (omega arith)
+next-push ss row next = All-push (λ s. s.row.number.0 < row.number.0 + 1) ss (alive row) (λ k d lt. omega (arith, next k d lt)) (omega arith)
 
 pub sound-push : (old new : Handles) (row : HandleRow) → AreSound old → IsNext row.number.0 old.places.items → new.places.items ≡ old.places.items ++ alive row
     ∷ [] → new.dead ≡ old.dead → AreSound new
@@ -189,7 +189,7 @@ sound-push old new row sound next is dead =
     ap (λ ps. length (live ps)) is ∙ ap length (live-append old.places.items (alive row ∷ [])) ∙ length-append (live old.places.items) (row ∷ []) in
     let places = ap length is ∙ length-append old.places.items (alive row ∷ []) in
     record {
-      ordered = rw is (ordered-push old.places.items row sound.ordered next);
+      ordered = rw is (ordered-push _ row sound.ordered next);
       counted = omega arith;
       few = omega arith;
     }

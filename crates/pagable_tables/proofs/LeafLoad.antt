@@ -10,12 +10,12 @@ use Rattle.pagable_tables.proofs.{
   RowCounts.{found-among, sum-none},
   SameViews.{alike, alike-on, moved-nobody, named-none, same-cache, still},
   Views.none-named,
-  Words.{Alike, ArePlaced, BeginCall, Beginning, Bool, Core, Falls, HandleNumber, HandleRow, HasRoom, Installs, Last, List, LoadNumber, MayEnd, Mode, None, Ok},
+  Words.{Alike, ArePlaced, BeginCall, Beginning, Bool, Core, Falls, HandleNumber, HandleRow, HasRoom, Installs, List, LoadNumber, MayEnd, Mode, None, Ok},
   Words.{Option, Owner, Owns, RefCounts, ReleasedSoFar, Some, Tables, ap, append-nil, arith, basics, cases_Bool, cases_eq, changed, core_alone, core_of, false},
   Words.{filter-append, find_row, if◌then◌else◌, inl, inr, is_handle, is_here, is_loose, is_named_by, is_owned_by, is_owned_in, is_pin, is_plain_pin, is_share},
-  Words.{left_rows, length, length-append, length-map, moved, nobody, not, of_cell, one, or_else, owner_value, owns_nothing, pins, refl, row_of, sharing},
-  Words.{subst, sum_by-append, sum_by-cons, sum_by-le-sum_by, sum_by_push, sym, times, with_handle, with_load, with_mode, with_tables, without_load, ℕ, []},
-  Words.{◌&&◌, ◌++◌, ◌+◌, ◌==◌, ◌∙◌, ◌∷◌, ◌≡◌, ◌≤◌},
+  Words.{left_rows, length, length-append, length-map, moved, nobody, not, of_cell, one, or_else, owner_value, pins, refl, row_of, sharing, subst},
+  Words.{sum_by-append, sum_by-cons, sum_by-le-sum_by, sum_by_push, sym, times, with_handle, with_load, with_mode, with_tables, without_load, ℕ, [], ◌&&◌},
+  Words.{◌++◌, ◌+◌, ◌==◌, ◌∙◌, ◌∷◌, ◌≡◌, ◌≤◌},
 }
 use Rattle.pagable_tables.specs.{Core.{IsWhole, StorageView}, HandleTable.room, Leaf.{DropsLeaf, IsLeaf, PinsLeaf, with_numbers}, declared.leaf.Leaf.Leaf}
 
@@ -69,7 +69,7 @@ module _ (t t1 : Tables) (storage : StorageView) (was : IsWhole t) (whole : IsWh
 
   begins : HasRoom w.places w'.places → BeginCall w me row.number (Ok (Beginning.Load l leaf.key)) begun
   begins room =
-      let same = alike (record begun { places = w.places }) begun refl (λ n. refl) refl room refl in
+      let same = alike (record begun { places = w.places }) _ refl (λ n. refl) refl room refl in
       record {
         begins = (row, owned, (is.away, is.keyed, record { above = refl; is_left = is.load_left }, omega arith, (leaf.node_type, is.typed, same)));
         refused = tt;
@@ -85,7 +85,7 @@ module _ (t t1 : Tables) (storage : StorageView) (was : IsWhole t) (whole : IsWh
 
   own-none : (q : ℕ) → is_owned_in w (Owner.Load l) q ≡ false
   own-none q = elim (cases_Bool (is_owned_in w (Owner.Load l) q)) [
-    | inl own ↦ absurd (none-owned w (Owner.Load l) q
+    | inl own ↦ absurd (none-owned w _ q
         (λ h among of. absurd (omega (arith, was.core.loads.numbered l.0 (was.core.owners_there.loads h l among of)))) own)
     | inr other ↦ other
   ]
@@ -145,17 +145,17 @@ module _ (t t1 : Tables) (storage : StorageView) (was : IsWhole t) (whole : IsWh
         shared = λ n. omega arith;
         uniform = λ n. let m = unmixed t1 whole n in let p = as-after (is_share n) (grind basics) in grind (basics, as-after (is_plain_pin n) (grind basics));
         listed = λ q. let m = whole.core.owners_there.listed q in let s =
-            ap (times (λ (h : HandleNumber). h.0 == q)) a.list in omega (arith, as-after (of_list q) (grind basics));
+            ap (times (λ h. h.0 == q)) a.list in omega (arith, as-after (of_list q) (grind basics));
       };
       gone = only;
       entries = [];
       rows = sym (append-nil _ ∙ left-u);
-      list = a.list ∙ sym (append-nil _ ∙ kept-more nobody g w.list none-listed ∙ all-kept w.list);
-      last = omega (arith, ap (λ (v : Last). v.handle) a.last);
+      list = a.list ∙ sym (append-nil _ ∙ kept-more nobody g _ none-listed ∙ all-kept _);
+      last = omega (arith, ap (λ v. v.handle) a.last);
       within = whole.core.handles.within.0;
-      places = record { handles = omega arith; entries = omega arith };
+      places = grind arith;
       cells = λ n there. a.cells n;
-      holds = sum-none (λ (h : HandleRow). one (only h.number.0 && not (only h.number.0))) rows (λ h among. grind basics);
+      holds = sum-none (λ h. one (only h.number.0 && not (only h.number.0))) rows (λ h among. grind basics);
       least = λ s final bare has closed. has;
       new = tt;
       only = λ n some. absurd (omega arith);
@@ -172,14 +172,14 @@ module _ (t t1 : Tables) (storage : StorageView) (was : IsWhole t) (whole : IsWh
       rows = refl;
       cells = λ n. refl;
       list = refl;
-      cache = same-cache (with_tables u after) w' refl (λ n. refl) cache;
+      cache = same-cache _ w' refl (λ n. refl) cache;
       stored = a.stored;
       closed = a.closed;
       failures = a.failures;
       loads = λ q. grind (basics, cases_eq q (t.last_load + 1), a.loads q, was.core.loads.numbered);
       workers = a.workers;
-      last = a.last ∙ ap (λ h. record u.last { handle = h }) (sym (ap (λ (v : Last). v.handle) a.last));
-      places = record { handles = omega arith; entries = omega arith };
+      last = a.last ∙ ap (λ h. record u.last { handle = h }) (sym (ap (λ v. v.handle) a.last));
+      places = grind arith;
     }
 
     -- what pins nothing afterwards pinned nothing before
@@ -195,14 +195,14 @@ module _ (t t1 : Tables) (storage : StorageView) (was : IsWhole t) (whole : IsWh
 
     guard-falls : (given : ℕ → Bool) → ((q : ℕ) → is_owned_in begun (Owner.Load l) q ≡ given q) → Falls begun u given (Ok tt) w'
     guard-falls given own = subst (λ s. Falls begun u s (Ok tt) w') (λ i q. (guard-owned q ∙ own q) i)
-        (seen-before {b = u} {w = begun} {u = u} u.places (record { handles = omega arith; entries = omega arith }) before-is
-        (falls-as (ended so-far (aside t1.ref_counts None [] owns_nothing whole.steady)) alike-after))
+        (seen-before {b = u} {w = begun} {u = u} _ (grind arith) before-is
+        (falls-as (ended so-far (aside _ _ [] _ whole.steady)) alike-after))
 
   -- ---- it is dropped: only its number and that of its guard are taken
 
   module _ (taken : w' ≡ with_numbers w) (place : 1 ≤ room t.ref_counts.handles) where
     places-stay : w'.places ≡ w.places
-    places-stay = ap (λ (v : Core). v.places) taken
+    places-stay = ap (λ v. v.places) taken
 
     placed-guard : ArePlaced begun
     placed-guard =
@@ -214,13 +214,13 @@ module _ (t t1 : Tables) (storage : StorageView) (was : IsWhole t) (whole : IsWh
     pub drops-leaf : DropsLeaf w me row leaf.key leaf.node_type w'
     drops-leaf = record {
       begun = begun;
-      begins = begins (subst (HasRoom w.places) (sym places-stay) (record { handles = omega arith; entries = omega arith }));
+      begins = begins (subst (HasRoom w.places) (sym places-stay) (grind arith));
       opened = opened;
       placed = placed-guard;
       closes = guard-falls w.rows [] begun.rows g (sym (append-nil _))
           (subst (λ rs. Alike (record (with_numbers w) { rows = rs }) w') (sym (append-nil w.rows)) (subst (λ v. Alike v w') taken (still w')))
-          (λ kind k. ap (λ (v : Core). v.cache kind k) taken) (ap (λ (v : Core). times (is_handle g) v.rows) taken ∙ none-yet)
-          (λ n. let same = ap (λ (v : Core). pins n v.rows) taken in omega arith) (is_owned_in begun (Owner.Load l)) (λ q. refl);
+          (λ kind k. ap (λ v. v.cache kind k) taken) (ap (λ v. times (is_handle g) v.rows) taken ∙ none-yet)
+          (λ n. omega (arith, ap (λ v. pins n v.rows) taken)) (is_owned_in begun (Owner.Load l)) (λ q. refl);
     }
 
   -- ---- it ends with a pin
@@ -253,12 +253,12 @@ module _ (t t1 : Tables) (storage : StorageView) (was : IsWhole t) (whole : IsWh
       load = record { owner = me; key = leaf.key; root = of_cell row.node leaf.node_type row.number };
       owned = record { stands_open = grind basics; own = refl };
       of_node = refl;
-      good = none-named begun (Owner.Load l) [] refl;
+      good = none-named _ _ [] refl;
     }
 
     between : ended-rows ≡ (turned-rows ++ guard ∷ []) ++ x ∷ []
-    between = ap (λ rs. changed (is_handle row.number.0) turned rs ++ x ∷ []) (moved-nobody (owner_value row.node.0) begun.rows)
-        ∙ ap (λ rs. rs ++ x ∷ []) (changed-push row.number.0 turned w.rows guard
+    between = ap (λ rs. changed (is_handle row.number.0) turned rs ++ x ∷ []) (moved-nobody _ _)
+        ∙ ap (λ rs. rs ++ x ∷ []) (changed-push _ turned _ _
         (omega (arith, was.core.handles.numbered row (found-among row.number.0 w.rows row owned.live).0)))
 
     none-pinned : times (is_handle g) w'.rows ≡ 0
@@ -291,7 +291,7 @@ module _ (t t1 : Tables) (storage : StorageView) (was : IsWhole t) (whole : IsWh
     }
       where
         live-still : find_row row.number.0 begun.rows ≡ Some row
-        live-still = found-append row.number.0 w.rows (guard ∷ []) ∙ ap (λ o. or_else o (find_row row.number.0 (guard ∷ []))) owned.live
+        live-still = found-append _ _ _ ∙ ap (λ o. or_else o (find_row row.number.0 (guard ∷ []))) owned.live
 
     pub pins-leaf : (k : HandleNumber) → k.0 ≡ g + 1 → PinsLeaf w me row leaf.key leaf.node_type k w'
     pins-leaf k next = record {

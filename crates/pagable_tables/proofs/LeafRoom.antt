@@ -21,7 +21,7 @@ begin-wants {me = me} {leaf = leaf} is call = elim call.refused.why [
 pub begin-refused : {w w' : Core} {me : Owner} {leaf : Leaf} (h : HandleNumber) → leaf.row.number ≡ h → OnlyRoom w w' → IsLeaf w me leaf
     → BeginCall w me h (Err Error.OutOfMemory) w'
 begin-refused {w} {w'} {me} {leaf} h same room is =
-    let away : is_handle_here w leaf.row.number ≡ false = (grind (basics, is.owned.live, is.away)) in
+    let away : is_handle_here w leaf.row.number ≡ false = grind (basics, is.owned.live, is.away) in
     subst (λ q. BeginCall w me q (Err Error.OutOfMemory) w') same (record {
       begins = tt;
       refused = record { why = inr (refl, no-fault is, away); stays = room-alike room };

@@ -29,10 +29,10 @@ once-named : (w : Core) (me : Owner) (seen : List ℕ) (rs : List ArcRef) → re
 unfolding references_fault is_named_by is_in
 once-named w me seen [] fit q = refl
 once-named w me seen (r ∷ rs) fit q =
-    let rest = (or-none (reference_fault w me seen r) _ fit).1 in
+    let rest = (or-none _ _ fit).1 in
     grind (
       basics,
-      sum_by-cons (λ (x : ArcRef). one (x.handle.0 == q)) r rs,
+      sum_by-cons (λ x. one (x.handle.0 == q)) r rs,
       once-named w me (r.handle.0 ∷ seen) rs rest q,
       unseen w me (r.handle.0 ∷ seen) rs rest q,
     )
@@ -64,14 +64,14 @@ module _ (w : Core) (me : Owner) (rs : List ArcRef) (ordered : AllPairs IsHandle
 
     sum-both : (q : ℕ) (b : Bool) → is_named_by rs q ≡ b → sum_by (both q) w.rows ≡ one b
     sum-both q true is =
-        let (row, live, own) = there-is (is_owned_by me) (find_row q w.rows) (named-mine w me [] rs fit q is) in
+        let (row, live, own) = there-is (is_owned_by me) _ (named-mine w me [] rs fit q is) in
         let (there, number) = found-among q w.rows row live in
         grind (basics, only-at (both q) w.rows row ordered there (λ x other. grind basics))
     sum-both q false is = sum-none (both q) w.rows (λ h among. grind basics)
 
     pub own-own : (q : ℕ) → sum_by (is_owned n q) w.rows ≡ 0 → sum_by (is_owned n q) (map to w.rows) ≡ named q rs
     own-own q before =
-        sum-map (is_owned n q) (both q) to w.rows (λ h among. grind (basics, at-most-sum (is_owned n q) w.rows h among))
+        sum-map (is_owned n q) (both q) to _ (λ h among. grind (basics, at-most-sum (is_owned n q) w.rows h among))
         ∙ sum-both q (is_named_by rs q) refl ∙ sym (once-named w me [] rs fit q)
 
   module _ {at at' : ℕ → Option Counts} {refs refs' : ℕ → List ArcRef} {top : ℕ} (x : HandleRow) (c : Counts) (fits : Fits at refs w.rows top [] owns_nothing)
@@ -115,7 +115,7 @@ module _ (w : Core) (me : Owner) (rs : List ArcRef) (ordered : AllPairs IsHandle
       owned = λ m q. let free = owned-by-none m q x (ap is_value_owner owner ∙ unvalued) in
           grind (basics, cases_eq, owned-here q, sum_by_push (is_owned m q) given-rows x, free, same m, others-own n m q);
       chain = fits.chain;
-      marked = λ m. let k = ap (λ (d : Counts). d.is_dying) new in grind (basics, cases_eq);
+      marked = λ m. grind (basics, cases_eq, ap (λ d. d.is_dying) new);
       right = λ m. grind (basics, cases_eq m n, new, bare, fits.right m);
       from_one = others 0 (λ z. absurd (omega arith)) ∙ fits.from_one;
     }
@@ -200,10 +200,10 @@ module _ (t t1 : Tables) (storage : StorageView) (lists : Bool) (was : IsWhole t
   given q = is_owned_in w (Owner.Load l) q && not (s q)
 
   of : (y : HandleRow) → Among rows0 y → is_handle row.number.0 y ≡ true → y.node ≡ row.node
-  of y among is = grind (basics, row-of, among-map (λ (z : HandleRow). if s z.number.0 then record z { owner = o } else z) w.rows y among)
+  of y among is = grind (basics, row-of, among-map (λ z. if s z.number.0 then record z { owner = o } else z) w.rows y among)
 
   come : moved s o (rows_of t1.ref_counts) ≡ u.rows
-  come = ap (moved s o) a.rows ∙ moved-turned s o row.number.0 x w.rows (not-named (core_alone t) l rs was.core.handles good (t.ref_counts.last_handle + 1)
+  come = ap (moved s o) a.rows ∙ moved-turned s o _ x _ (not-named _ l rs was.core.handles good _
       (omega arith))
 
   as-moved : (f : HandleRow → Bool) → ((y : HandleRow) → f (record y { owner = o }) ≡ f y) → times f u.rows ≡ times f (rows_of t1.ref_counts)
@@ -236,7 +236,7 @@ module _ (t t1 : Tables) (storage : StorageView) (lists : Bool) (was : IsWhole t
     ordered = grind (basics, come, ordered-map)
 
     as-before : {w' : Core} {r : Result (Unit {0}) Error} → Falls u u given r w' → Falls w u given r w'
-    as-before {w'} {r} falls = seen-before {b = u} {w = w} {u = u} u.places (record { handles = omega arith; entries = omega arith }) (λ n none.
+    as-before {w'} {r} falls = seen-before {b = u} {w = w} {u = u} u.places (grind arith) (λ n none.
         let kept = owned-given (Owner.Load l) (t.ref_counts.last_handle + 1) was.core.handles in
         let plain = not-a-value (core_alone t) me (may-hold (core_alone t) me may) in let stays =
         stays-pinned (record w { rows = mid }) x refl ordered plain (grind (basics, and-left)) falls n none in
@@ -255,13 +255,13 @@ module _ (t t1 : Tables) (storage : StorageView) (lists : Bool) (was : IsWhole t
         → Falls w u given r (record (core_of (record t1 { ref_counts = new }) storage) { loads = λ q. option_map load_in (loads q) })
     ended since until new loads r gives within gone others =
         let falls = gives u u begun-pinned (omega (arith, ap length (rows ∙ come)))
-        (λ q own. within q (and-left (is_owned_in w (Owner.Load l) q) (not (s q)) (sym (owned-pinned q) ∙ own))) in
+        (λ q own. within q (and-left (is_owned_in w (Owner.Load l) q) _ (sym (owned-pinned q) ∙ own))) in
         grind (
           basics,
           cases_eq,
           as-before (subst (λ g. Falls u u g r (with_tables u new)) (λ i q. owned-pinned q i) falls),
           updated-by (option_map load_in) gone
-              (λ q other. others q other ∙ ap (λ (v : Tables). load_at v.loads q) same),
+              (λ q other. others q other ∙ ap (λ v. load_at v.loads q) same),
         )
 
 -- t1 is t with the pins
@@ -275,7 +275,7 @@ module _ (t t1 : Tables) (storage : StorageView) (row : HandleRow) (me : Owner)
       → has_value (counts_at t1.ref_counts.nodes n) ≡ has_value_once_loaded (counts_at t.ref_counts.nodes) row.node n
   has-come was whole found n =
       let rows = rows_of t.ref_counts in
-      let same = λ (other : (row.node.0 == n) ≡ false). (other-same row.number row.node rows (row-of rows was.core.handles.ordered row found) n other).0 in
+      let same = λ (other : (row.node.0 == n) ≡ false). (other-same _ _ _ (row-of _ was.core.handles.ordered row found) n other).0 in
       grind (basics, cases_eq n row.node.0, pins-here, sum_by_push, same, a.rows, a.cells n, was.steady.fits.pinned n, whole.steady.fits.pinned n)
 
 -- what is true with more places is true without them
@@ -299,7 +299,7 @@ installs-wider {w} {v} {w'} {me} {l} {node} {h} {k} {refs} wider installs =
           away,
           record {
             told = f.told;
-            falls = seen-before {b = before} {w = w} {u = with_pin given h node me} v.places wider.more
+            falls = seen-before {b = before} {w = w} {u = with_pin given h node me} _ wider.more
                 (λ n none. (refl, refl)) f.falls;
           },
         )
@@ -307,7 +307,7 @@ installs-wider {w} {v} {w'} {me} {l} {node} {h} {k} {refs} wider installs =
           here,
           record {
             told = f.told;
-            falls = seen-before {b = before} {w = w} {u = with_pin (without_load w l) h node me} v.places
+            falls = seen-before {b = before} {w = w} {u = with_pin (without_load w l) h node me} _
                 wider.more (λ n none. (refl, refl)) f.falls;
           },
         )

@@ -10,16 +10,16 @@ use Rattle.pagable_tables.proofs.{
   Views.{Goes, IsNewer, OnlyNewer, alike-goes, born-whole, named-mine, newer-handle, newer-moved, newer-then, not-list, owned-moved, settled},
   Wholeness.whole-so,
   Words.{Alike, AllPairs, Among, ArcRef, ArePlaced, AreRangesWider, Bool, Core, DropsValues, Error, Falls, Fits, HandleNumber, HandleRange, HandleRow, Handles},
-  Words.{HandlesAreWhole, HasRoom, InReach, IndexMap, InsertPagedOutCall, InsertsNode, IsBefore, IsClosed, IsHandleBefore, IsLeast, IsSoundInCascade, Last},
-  Words.{List, LoadNumber, LoadRow, MayOwnHandle, MayOwnLoad, Mode, NodeNumber, NodeRow, None, NumberTable, Ok, OnlyRoom, OpenLoad, Option, OptionalDataKey},
+  Words.{HandlesAreWhole, HasRoom, InReach, IndexMap, InsertPagedOutCall, InsertsNode, IsBefore, IsClosed, IsHandleBefore, IsLeast, IsSoundInCascade, List},
+  Words.{LoadNumber, LoadRow, MayOwnHandle, MayOwnLoad, Mode, NodeNumber, NodeRow, None, NumberTable, Ok, OnlyRoom, OpenLoad, Option, OptionalDataKey},
   Words.{OwnLaterHandles, Owner, Place, Places, RefCounts, ReleaseSet, ReleasedSoFar, Result, Some, Tables, TakeCall, alive, and_parts, ap, arith, basics},
   Words.{cached_at, cases_Bool, cases_eq, changed, contains_row, core_alone, core_of, counts_at, false, find_row, get_or, get_or_default, greatest, has_key},
   Words.{held, if_there, if◌then◌else◌, inl, inr, is_at, is_handle, is_keyed, is_loose_kind, is_named_by, is_outside, is_owned_by, is_owned_in, is_owner},
   Words.{is_pin, is_pinning, is_shared, is_some, is_value_owner, key_in, left_rows, length, live, load_at, load_in, loses_value, mode_of, moved, nat_lt},
-  Words.{next_node, nobody, not, one, only_handle, option_map, or_else, owner_value, owner_worker, owns_nothing, passes_in, pins, reach_at, references_fault},
-  Words.{refl, refs_at, row_by, row_of, rows_of, sharing, slice_get, slice_get-get_or, subst, suc, sum_by, sum_by-append, sum_by-le-sum_by, sum_by_push, sym},
-  Words.{take, times, true, updated, with_handle, with_mode, with_node, with_tables, with_worker, ℕ, [], ◌&&◌, ◌++◌, ◌+◌, ◌-◌, ◌<◌, ◌==◌, ◌||◌, ◌∙◌, ◌∷◌, ◌≡◌},
-  Words.{◌≢◌, ◌≤◌, ◌⊎◌},
+  Words.{nobody, not, one, only_handle, option_map, or_else, owner_value, owner_worker, owns_nothing, passes_in, pins, reach_at, references_fault, refl},
+  Words.{refs_at, row_by, row_of, rows_of, sharing, slice_get, slice_get-get_or, subst, suc, sum_by, sum_by-append, sum_by-le-sum_by, sum_by_push, sym, take},
+  Words.{times, true, updated, with_handle, with_mode, with_node, with_tables, with_worker, ℕ, [], ◌&&◌, ◌++◌, ◌+◌, ◌-◌, ◌<◌, ◌==◌, ◌||◌, ◌∙◌, ◌∷◌, ◌≡◌, ◌≢◌},
+  Words.{◌≤◌, ◌⊎◌},
 }
 use Rattle.pagable_tables.specs.{
   CascadeInvariant.BoundsWorkerHandles,
@@ -47,7 +47,7 @@ moved-stands t h s o w plain free work is =
     let pinned : (n : ℕ) → pins n (moved s o rows) ≡ pins n rows = λ n. moved-times (is_pin n) s o rows (λ x. refl) in
     let holding : (n : ℕ) → held n (moved s o rows) ≡ held n rows = λ n. moved-times (is_at n) s o rows (λ x. refl) in
     let own : (n q : ℕ) → sum_by (is_owned n q) (moved s o rows) ≡ sum_by (is_owned n q) rows =
-    λ n q. sum-map (is_owned n q) (is_owned n q) (λ x. if s x.number.0 then record x { owner = o } else x) rows
+    λ n q. sum-map (is_owned n q) (is_owned n q) (λ x. if s x.number.0 then record x { owner = o } else x) _
     (λ x among. grind (basics, owned-by-none n q (record x { owner = o }) plain, owned-by-none n q x, free x among)) in
     let fits : Fits (counts_at t.nodes) (refs_at t.nodes) (moved s o rows) t.top [] owns_nothing = grind (basics, w.fits, pinned, holding, own) in
     record {
@@ -65,7 +65,7 @@ updated-by f here others q = grind basics
 -- a handle whose row passes a test was given
 pub passes-given : {w : Core} (test : HandleRow → Bool) (q : ℕ) → pager.HandlesAreWhole w → passes_in test w.rows q ≡ true → (0 < q) × (q ≤ w.last.handle)
 passes-given {w} test q whole passes =
-    let (h, e, is) = there-is test (find_row q w.rows) passes in
+    let (h, e, is) = there-is test _ passes in
     let f = found-among q w.rows h e in let n = whole.numbered h f.0 in let (n0, n1) = n in let same = f.1 in (omega arith, omega arith)
 
 pub owned-given : {w : Core} (o : Owner) (q : ℕ) → pager.HandlesAreWhole w → is_owned_in w o q ≡ true → q ≤ w.last.handle
@@ -75,10 +75,10 @@ owned-given o q whole own = (passes-given (is_owned_by o) q whole own).1
 pub in-reach : (t : Tables) → IsWhole t → OwnLaterHandles t → (v : WorkerNumber) (q : ℕ)
     → passes_in (contains_row (core_alone t) (ReleaseSet.Worker v)) (core_alone t).rows q
     ≡ true → InReach (reach_at t.workers v.0) q
-in-reach t whole later v q is = let (row, e, passes) = there-is (contains_row w (ReleaseSet.Worker v)) (find_row q w.rows) is in
+in-reach t whole later v q is = let (row, e, passes) = there-is (contains_row w (ReleaseSet.Worker v)) _ is in
     elim (cases_Bool (is_owner (Owner.Worker v) row.owner)) [
       | inl own ↦ later.reach v.0 q (ap (if_there (is_owned_by (Owner.Worker v)) false) e ∙ own)
-      | inr other ↦ of-load row.owner (ap (if_there (is_owned_by row.owner) false) e ∙ owner-self row.owner)
+      | inr other ↦ of-load _ (ap (if_there (is_owned_by row.owner) false) e ∙ owner-self row.owner)
           (sym (ap (λ b. b || is_load_of w v.0 row.owner) other) ∙ passes)
     ]
   where
@@ -137,15 +137,15 @@ pub closed-still : {at at' : ℕ → Option LoadRow} {m : ℕ} → at' m ≡ Non
 closed-still gone others l load is = grind basics
 
 pub none-owned : (w : Core) (o : Owner) (q : ℕ) → ((h : HandleRow) → Among w.rows h → h.owner ≡ o → ⊥) → is_owned_in w o q ≡ true → ⊥
-none-owned w o q nobody own = let (row, e, is) = there-is (is_owned_by o) (find_row q w.rows) own in
-    nobody row (found-among q w.rows row e).0 (owner-same o row.owner is)
+none-owned w o q nobody own = let (row, e, is) = there-is (is_owned_by o) _ own in
+    nobody row (found-among q w.rows row e).0 (owner-same o _ is)
 
 pub later-opened : {t t' : Tables} → pager.IsWhole (core_alone t) → OwnLaterHandles t → OnlyNewer (core_alone t) (core_alone t') → (m : ℕ) (row : LoadRow)
     → load_at t.loads m ≡ None → load_at t'.loads m ≡ Some row → row.since ≡ t.ref_counts.last_handle
     → ((q : ℕ) → q ≢ m → load_at t'.loads q ≡ load_at t.loads q) → t'.workers ≡ t.workers → t'.noted ≡ t.noted → OwnLaterHandles t'
 later-opened {t} {t'} whole later newer m row none here since others same noted =
     let new-owns : (q : ℕ) → owned (Owner.Load (record { 0 = m })) q (core_alone t).rows ≡ true → ⊥ = λ q own.
-    none-owned (core_alone t) (Owner.Load (record { 0 = m })) q (λ h among of. absurd (let a = whole.owners_there.loads h (record { 0 = m }) among of in
+    none-owned (core_alone t) _ q (λ h among of. absurd (let a = whole.owners_there.loads h (record { 0 = m }) among of in
     let b : is_some ((core_alone t).loads m) ≡ false = ap (λ o. is_some (option_map load_in o)) none in cc)) own in
     grind (basics, cases_eq, here, since, others, later, noted, newer, new-owns)
 
@@ -160,7 +160,7 @@ later-begun {t} {t'} whole later same v new here others =
     let working : (m : ℕ) (o : Owner) → is_owner (owner_worker m) o ≡ true → pager.MayOwnLoad (core_alone t) o → (core_alone t).workers m ≡ true =
     λ m o owns may. grind basics in
     let nobody : (q : ℕ) → owned (owner_worker v) q (core_alone t).rows ≡ true → ⊥ =
-    λ q own. none-owned (core_alone t) (owner_worker v) q (λ h among of. at-rest v refl (whole.owners_there.workers h v among of)) own in
+    λ q own. none-owned (core_alone t) _ q (λ h among of. at-rest v refl (whole.owners_there.workers h v among of)) own in
     subst OwnLaterHandles (sym same) (grind (basics, cases_eq, here, others, nobody, later))
 
 -- ---- handles that come to a worker
@@ -169,8 +169,8 @@ module _ (t : Tables) (later : OwnLaterHandles t) (s : ℕ → Bool) (me : Owner
     (rows : List HandleRow)
     (are : rows ≡ moved s me (core_alone t).rows) where
   pub load-kept : (l q : ℕ) → owned (Owner.Load (record { 0 = l })) q rows ≡ true → owned (Owner.Load (record { 0 = l })) q (core_alone t).rows ≡ true
-  load-kept l q own = let o = Owner.Load (record { 0 = l }) in and-left (owned o q (core_alone t).rows) (not (s q))
-      (sym (ap (owned o q) are ∙ owned-moved s me o q (core_alone t).rows (other (record { 0 = l }))) ∙ own)
+  load-kept l q own = let o = Owner.Load (record { 0 = l }) in and-left _ _
+      (sym (ap (owned o q) are ∙ owned-moved s me o q _ (other (record { 0 = l }))) ∙ own)
 
   pub worker-kept : (v q : ℕ) → owned (owner_worker v) q rows ≡ true → (owned (owner_worker v) q (core_alone t).rows ≡ true)
       ⊎ ((is_owner (owner_worker v) me ≡ true) × (s q ≡ true))
@@ -240,7 +240,7 @@ pub stays-pinned : {u w' : Core} {given : ℕ → Bool} {r : Result (Unit {0}) E
     → is_value_owner x.owner ≡ false → given x.number.0 ≡ false → Falls u u given r w'
     → (n : ℕ) → pins n w'.rows ≡ 0 → (pins n u.rows ≡ pins n w.rows) × (sharing n u.rows ≡ sharing n w.rows)
 stays-pinned {u} {given = given} w x rows ordered plain kept falls n none =
-    let among : Among u.rows x = rw rows (among-last w.rows x) in
+    let among : Among u.rows x = rw rows (among-last _ x) in
     grind (
       basics,
       ap (pins n) falls.leaves.rows,
@@ -271,10 +271,10 @@ module _ (t t1 : Tables) (storage : StorageView) (node : NodeNumber) (mode : Mod
   made = with_handle before node mode me
 
   pub begun-made : (lists : Bool) → lists ≡ not storage.closed → ReleasedSoFar made made nobody lists (record t1.ref_counts { listing_error = None })
-  begun-made lists e = begun made made lists (record t1.ref_counts { listing_error = None }) e (λ p own. refl)
+  begun-made lists e = begun _ _ _ (record t1.ref_counts { listing_error = None }) e (λ p own. refl)
       (λ n. rw a.rows at (unmixed t1 after n))
-      (λ q. omega (arith, ap (times (λ (h : HandleNumber). h.0 == q)) a.list, ap (times (of_list q)) a.rows, after.core.owners_there.listed q))
-      a.rows a.list (ap (λ (l : Last). l.handle) a.last) after.core.handles.within.0 (record { handles = a.places.handles; entries = a.places.entries }) a.cells
+      (λ q. omega (arith, ap (times (λ h. h.0 == q)) a.list, ap (times (of_list q)) a.rows, after.core.owners_there.listed q))
+      a.rows a.list (ap (λ l. l.handle) a.last) after.core.handles.within.0 (record { handles = a.places.handles; entries = a.places.entries }) a.cells
       refl
 
   -- others fall then, as seen from before it came
@@ -300,7 +300,7 @@ pinned-alike w u w' h node me given cache a b = grind (basics, changed-push, sam
 pub found-again : {rows' : List HandleRow} {row : HandleRow} {o : Option HandleRow} (q : ℕ) (rows more : List HandleRow) → find_row q rows ≡ Some row
     → rows' ≡ rows ++ more
     → find_row q rows' ≡ o → o ≡ Some row
-found-again q rows more is came again = sym again ∙ ap (find_row q) came ∙ found-append q rows more ∙ ap (λ o. or_else o (find_row q more)) is
+found-again q rows more is came again = sym again ∙ ap (find_row q) came ∙ found-append q _ _ ∙ ap (λ o. or_else o (find_row q more)) is
 
 -- ---- a birth, by what it is made of
 
@@ -317,9 +317,9 @@ pub bears-goes : {w w' : Core} (me : Owner) (node_type key : ℕ) (rs : List Arc
     → references_fault w me [] rs ≡ None
     → w.last.node < greatest → (is_shared mode ≡ true → has_key (key_in key) ≡ false) → InsertsNode w me node_type key rs mode k w' → Goes w w'
 bears-goes {w} me node_type key rs mode k whole holder fit left unkeyed b =
-    settled b.leaves (born-whole whole node_type (key_in key) rs mode me me (not-list w me holder) fit holder left b.next.is_left unkeyed)
-    (newer-then (newer-moved w (is_named_by rs) (owner_value (w.last.node + 1)) refl)
-    (newer-handle (with_node w node_type (key_in key) rs) (next_node w) mode me))
+    settled b.leaves (born-whole whole _ _ rs _ me me (not-list w me holder) fit holder left b.next.is_left unkeyed)
+    (newer-then (newer-moved w (is_named_by rs) _ refl)
+    (newer-handle (with_node w node_type (key_in key) rs) _ _ me))
 
 -- ---- handles are given up together, those that pass a test or that references name
 
@@ -346,9 +346,9 @@ module _ (before u w : Core) (lists : Bool) (giving : ReleaseSet) (shut : giving
       ≡ (not (f.gone q) && passes q)
   told t given f q =
       let listed : (giving ≡ ReleaseSet.Listed) ⊎ (giving ≢ ReleaseSet.Listed) = grind basics in
-      ap (λ rows. passes_in (contains_row w giving) rows q) f.rows ∙ passes-left (contains_row w giving) q f.gone f.entries u.rows (elim listed [
+      ap (λ rows. passes_in (contains_row w giving) rows q) f.rows ∙ passes-left (contains_row w giving) q f.gone _ u.rows (elim listed [
         | inl is ↦ ap (λ es. passes_in (contains_row w giving) es q) (none-came f (shut is)) ∙ passes-none (contains_row w giving) q
-        | inr other ↦ no-entry (contains_row w giving) q (λ h is. grind basics) u.last.handle f.entries f.new
+        | inr other ↦ no-entry (contains_row w giving) q (λ h is. grind basics) _ _ f.new
       ])
 
   -- what is given of the numbers that are left and isn't there has gone
@@ -388,13 +388,13 @@ none-from test ss p q left below within above = grind (basics, none-passes, le_o
 module _ (ss : List Place) (m : ℕ) (p : Place) (within : m < length ss) (is : p ≡ get_or ss m p) where
   -- all places up to one that isn't above a number are below each greater one
   pub below-to : (since q : ℕ) → AllPairs IsBefore ss → p.row.number.0 ≤ since → since < q → (k : ℕ) (d : Place) → k < m + 1 → (get_or ss k d).row.number.0 < q
-  below-to since q ordered up over k d h = grind (basics, cases_eq, ap (λ (x : Place). x.row.number.0) (is ∙ get_or_default ss m p d within))
+  below-to since q ordered up over k d h = grind (basics, cases_eq, ap (λ x. x.row.number.0) (is ∙ get_or_default ss m p d within))
 
   pub place-got : p.is_live ≡ true → slice_get ss m ≡ Some (alive p.row)
   place-got lives = slice_get-get_or ss m p within ∙ ap Some (sym is) ∙ ap (λ b. Some (record { row = p.row; is_live = b })) lives
 
   pub row-there : AllPairs IsBefore ss → p.is_live ≡ true → find_row p.row.number.0 (live ss) ≡ Some p.row
-  row-there ordered lives = (at-place ss m p.row ordered (place-got lives)).2
+  row-there ordered lives = (at-place ss m _ ordered (place-got lives)).2
 
 -- what the load owns of the handles that so many references name
 abbrev pub named_owned : Core → LoadNumber → List ArcRef → ℕ → ℕ → Bool
@@ -420,7 +420,7 @@ pub moved-then : {old mid new : Handles} (s s' : ℕ → Bool) (h : HandleNumber
     → Becomes mid (moved (only_handle h) o (live mid.places.items)) new → ((q : ℕ) → (h.0 == q || s q) ≡ s' q) → Becomes old (moved s' o rows) new
 moved-then s s' h o rows a b next = record {
   sound = b.sound;
-  rows = b.rows ∙ ap (moved (only_handle h) o) a.rows ∙ moved-twice s h o rows ∙ ap (λ (u : ℕ → Bool). moved u o rows) (λ i q. next q i);
+  rows = b.rows ∙ ap (moved (only_handle h) o) a.rows ∙ moved-twice s h o _ ∙ ap (λ (u : ℕ → Bool). moved u o rows) (λ i q. next q i);
   capacity = b.capacity ∙ a.capacity;
   next = λ q next. b.next q (a.next q next);
 }
@@ -484,7 +484,7 @@ drops-with does drops = record { does = does.does; whole = does.whole; later = d
 pub nothing-release_at : {X : Type 0} {lists : Bool} {t : Tables} {values : NumberTable X} {step : Core → Core → Type 0} → IsWhole t
     → Each t (λ w w'. lists ≡ not w.closed → step w w') t
     → DoesAndDropsValues lists t values step t values
-nothing-release_at {t = t} whole does = record { does = does; whole = whole; later = λ later. later; drops = drops-still t.ref_counts _ whole.steady }
+nothing-release_at {t = t} whole does = record { does = does; whole = whole; later = λ later. later; drops = drops-still _ _ whole.steady }
 
 -- handles widen, and nodes and the cache are told as they were
 pub widens-does : {t : Tables} {h : Handles} {nodes : NumberTable NodeRow} {cache : IndexMap (ℕ × ℕ) NodeNumber _} → IsWhole t → Widens t.ref_counts.handles h

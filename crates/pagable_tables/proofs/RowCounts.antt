@@ -96,13 +96,13 @@ apart-sum f g (x ∷ xs) row ordered (suc i, is) same =
 pub only-at : (f : HandleRow → ℕ) (rows : List HandleRow) (row : HandleRow) → AllPairs IsHandleBefore rows → Among rows row
     → ((x : HandleRow) → (x.number.0 == row.number.0) ≡ false → f x ≡ 0)
     → sum_by f rows ≡ f row
-only-at f rows row ordered among none = omega (arith, sum-none (λ (x : HandleRow). 0) rows (λ x there. refl), apart-sum f (λ x. 0) rows row ordered among none)
+only-at f rows row ordered among none = omega (arith, sum-none (λ x. 0) rows (λ x there. refl), apart-sum f (λ x. 0) rows row ordered among none)
 
 pub found-so : (q : ℕ) (rows : List HandleRow) (row : HandleRow) → AllPairs IsHandleBefore rows → Among rows row → row.number.0 ≡ q → find_row q rows ≡ Some row
 found-so q rows row ordered among number = at (find_row q rows) refl
   where
     at : (found : Option HandleRow) → find_row q rows ≡ found → find_row q rows ≡ Some row
-    at (Some y) e = let a = found-among q rows y e in e ∙ ap (λ (x : HandleRow). Some x) (once rows ordered y row a.0 among (a.1 ∙ sym number))
+    at (Some y) e = let a = found-among q rows y e in e ∙ ap Some (once rows ordered y row a.0 among (a.1 ∙ sym number))
     at None e = absurd (grind (basics, none-found q rows e, at-most-sum (λ h. one (is_handle q h)) rows row among))
 
 -- ---- what is left
@@ -144,7 +144,7 @@ entries-listed q last (x ∷ xs) new =
       entries-listed q (last + 1) xs new.3,
       sum_by-cons (λ h. one (is_handle q h && is_owned_by Owner.List h)) x xs,
       and-true,
-      sum_by-cons (λ (h : HandleNumber). one (h.0 == q)) x.number (map (λ (h : HandleRow). h.number) xs),
+      sum_by-cons (λ h. one (h.0 == q)) x.number (map (λ h. h.number) xs),
     )
 
 pub ordered-entries : (last : ℕ) (rows entries : List HandleRow) → ((h : HandleRow) → Among rows h → h.number.0 ≤ last) → AreNewEntries last entries
@@ -153,7 +153,7 @@ pub ordered-entries : (last : ℕ) (rows entries : List HandleRow) → ((h : Han
 ordered-entries last rows [] few new ordered = rw (append-nil rows) ordered
 ordered-entries last rows (x ∷ xs) few new ordered = rw (append_assoc rows (x ∷ []) xs) at
     (ordered-entries (last + 1) (rows ++ x ∷ []) xs (λ h among. grind (basics, among-both rows (x ∷ []) h among, among-one x h, few h, new.0)) new.3
-    (ordered-push rows x (λ h among. omega (arith, few h among)) ordered))
+    (ordered-push _ x (λ h among. omega (arith, few h among)) ordered))
 
 -- ---- a change of a whole world, as small as a row, an entry or a load: what has to be shown of it, and that the world is whole then
 
@@ -235,7 +235,7 @@ may-own w w' stay h may = grind basics
 -- a load that is open then, and was: who owns it still may
 pub loads-stay : {w u : Core} → IsWhole w → ((v : ℕ) → w.workers v ≡ true → u.workers v ≡ true) → (l : ℕ) (load : OpenLoad) → w.loads l ≡ Some load
     → MayOwnLoad u load.owner × ((w.loads l ≡ Some load) ⊎ IsNewLoad w u l load)
-loads-stay {w} {u} whole stay l load is = (may-own w u stay load.owner (whole.loads.owned l load is), inl is)
+loads-stay {w} {u} whole stay l load is = (may-own w u stay _ (whole.loads.owned l load is), inl is)
 
 -- ---- the whole
 
@@ -261,7 +261,7 @@ pub held-some : (n : ℕ) (rows : List HandleRow) (h : HandleRow) → Among rows
 held-some n rows h among e = grind (basics, at-most-sum (λ x. one (is_at n x)) rows h among)
 
 pub there-then : {w : Core} → IsWhole w → (h : HandleRow) → Among w.rows h → is_some (w.cells h.node.0) ≡ true
-there-then {w} whole h among = let a = held-some h.node.0 w.rows h among refl in let b : nat_lt 0 (held h.node.0 w.rows) ≡ true =
+there-then {w} whole h among = let a = held-some _ _ h among refl in let b : nat_lt 0 (held h.node.0 w.rows) ≡ true =
     grind basics in whole.handles.live h.node.0 ∙ b
 
 -- rows of one node are all Shared, or none is
@@ -285,7 +285,7 @@ uniform-rows n rows alike x4 is = grind (basics, counted, share-then, same-sum, 
 
 module _ {w u : Core} (whole : IsWhole w) (k : Keeps w u) where
   given : (n : ℕ) (shared : Bool) → HasLike w.rows n shared → (0 < n) × (n ≤ w.last.node)
-  given n shared like = rw like.at at (whole.handles.nodes_numbered like.row.node.0 (there-then whole like.row like.there))
+  given n shared like = rw like.at at (whole.handles.nodes_numbered like.row.node.0 (there-then whole _ like.there))
 
   like : (h : HandleRow) → Among u.rows h → HasLike w.rows h.node.0 (is_shared h.mode)
       ⊎ ((w.last.node < h.node.0) × (h.node.0 ≤ u.last.node) × (is_shared h.mode ≡ k.on.fresh) × (k.on.fresh ≡ true → keyed_in (u.cells h.node.0) ≡ false))
@@ -317,7 +317,7 @@ module _ {w u : Core} (whole : IsWhole w) (k : Keeps w u) where
 
   root : (node : NodeNumber) (t : ℕ) (h : HandleNumber) → IsRootWhole w node t h → IsRootWhole u node t h
   root node t h r =
-      let so = λ (x : HandleRow) (there : Among w.rows x) (same : x.number.0 ≡ h.0). r.begun x (found-so h.0 w.rows x whole.handles.ordered there same) in
+      let so = λ (x : HandleRow) (there : Among w.rows x) (same : x.number.0 ≡ h.0). r.begun x (found-so h.0 _ x whole.handles.ordered there same) in
       record {
         typed = λ type is. r.typed type (k.on.typed node.0 type r.given.1 is);
         begun = λ row is. let found = found-among h.0 u.rows row is in grind (basics, so, k.on.rows row found.0);

@@ -34,7 +34,7 @@ alike-on a b = record {
   loads = λ l. b.loads l ∙ a.loads l;
   workers = λ v. b.workers v ∙ a.workers v;
   last = b.last ∙ a.last;
-  places = record { handles = omega arith; entries = omega arith };
+  places = grind arith;
 }
 
 -- the cache forgets entries whose cells are gone
@@ -54,7 +54,7 @@ forgets-gone w cache is = record {
   loads = λ l. refl;
   workers = λ v. refl;
   last = refl;
-  places = record { handles = omega arith; entries = omega arith };
+  places = grind arith;
 } where
   gives : (kind key : ℕ) (known : Option ℕ) → cache kind key ≡ if_there (λ n. if is_some (w.cells n) then Some n else None) None known → w.cache kind key
       ≡ known
@@ -72,7 +72,7 @@ alike w w' rows cells list places same = grind (basics, same-cache)
 
 -- what is answered where a call within was refused
 pub failed : {T E : Type 0} {e : E} (r : Result T E) → IsErrAnd r (λ y. y ≡ e) → r ≡ Err e
-failed (Err e) is = ap (λ y. Err y) is
+failed (Err e) is = ap Err is
 failed (Ok x) is = absurd is
 
 pub owner-same : (a b : Owner) → is_owner a b ≡ true → b ≡ a
@@ -108,8 +108,8 @@ is-least (Some e) None = refl
 is-least (Some e) (Some f) = refl
 
 pub earlier-each : (a b c : Option Error) → earlier (earlier a b) c ≡ earlier a (earlier b c)
-earlier-each a b c = is-least (earlier a b) c ∙ ap (λ x. least rank x c) (is-least a b) ∙ least-each rank a b c
-    ∙ sym (is-least a (earlier b c) ∙ ap (least rank a) (is-least b c))
+earlier-each a b c = is-least _ c ∙ ap (λ x. least rank x c) (is-least a b) ∙ least-each rank a b c
+    ∙ sym (is-least a _ ∙ ap (least rank a) (is-least b c))
 
 pub earlier-none : (a : Option Error) → earlier a None ≡ a
 earlier-none a = grind basics
@@ -185,7 +185,7 @@ pub born-past : {w w1 w' : Core} (node_type : ℕ) (key : OptionalDataKey) (rs :
 born-past {w} {w1} {w'} node_type key rs mode me o a = grind basics
 
 pub room-fault : {w w' : Core} (me : Owner) (rs : List ArcRef) → OnlyRoom w w' → references_fault w' me [] rs ≡ references_fault w me [] rs
-room-fault {w} {w'} me rs o = ap (λ (u : Core). references_fault u me [] rs) o.same ∙ fault-by w (record w { places = w'.places }) me [] rs
+room-fault {w} {w'} me rs o = ap (λ u. references_fault u me [] rs) o.same ∙ fault-by w (record w { places = w'.places }) me [] rs
 
 -- a new node that the cache knows from now on
 pub adopted-past : {w w1 w' : Core} (l : LoadNumber) (kind : Kind) (key : ℕ) (own : OptionalDataKey) (rs : List ArcRef) → OnlyRoom w w1
@@ -260,7 +260,7 @@ in-push (x ∷ xs) h q = grind (basics, in-push xs h q)
 
 pub in-take : (hs : List HandleNumber) (i : ℕ) (d : HandleNumber) (q : ℕ) → i < length hs → is_in (numbers_of (take (i + 1) hs)) q
     ≡ ((get_or hs i d).0 == q || is_in (numbers_of (take i hs)) q)
-in-take hs i d q lt = ap (λ l. is_in (numbers_of l) q) (ap (λ n. take n hs) (add-one i) ∙ take-suc hs i d lt) ∙ in-push (take i hs) (get_or hs i d) q
+in-take hs i d q lt = ap (λ l. is_in (numbers_of l) q) (ap (λ n. take n hs) (add-one i) ∙ take-suc hs i d lt) ∙ in-push _ _ q
 
 pub found-map : (f : HandleRow → HandleRow) → ((h : HandleRow) → (f h).number.0 ≡ h.number.0) → (q : ℕ) (rows : List HandleRow) → find_row q (map f rows)
     ≡ option_map f (find_row q rows)
@@ -298,7 +298,7 @@ named-in (r ∷ rs) (suc i) d q lt is = grind (basics, named-in rs i d q (omega 
 
 pub named-take : (rs : List ArcRef) (i : ℕ) (d : ArcRef) (q : ℕ) → i < length rs → is_named_by (take (i + 1) rs) q ≡ ((get_or rs i d).handle.0 == q)
     || is_named_by (take i rs) q
-named-take rs i d q lt = ap (λ l. is_named_by l q) (ap (λ n. take n rs) (add-one i) ∙ take-suc rs i d lt) ∙ named-push (take i rs) (get_or rs i d) q
+named-take rs i d q lt = ap (λ l. is_named_by l q) (ap (λ n. take n rs) (add-one i) ∙ take-suc rs i d lt) ∙ named-push _ (get_or rs i d) q
 
 pub named-other : (rs : List ArcRef) (i : ℕ) (d : ArcRef) (q : ℕ) → (get_or rs i d).handle.0 ≢ q → i < length rs → is_named_by (take i rs) q ≡ false
     → is_named_by (take (i + 1) rs) q ≡ false
@@ -339,7 +339,7 @@ node-late w kind key f is = grind basics
 pub not-own : {before : Option Error} {wanting : Type 0} (w : Core) (me : Owner) (l : LoadNumber) (rest : Option Error) (e : Error) → load_fault w me l ≡ Some e
     → ((f : Error) → rest ≡ Some f → 3 ≤ rank f) → Refused (earlier (load_fault w me l) rest) before wanting w e w
 not-own w me l rest e is late = record {
-  why = inl (earlier-first (load_fault w me l) rest e is (λ f g. omega (arith, load-low w me l e is, late f g)));
+  why = inl (earlier-first _ _ e is (λ f g. omega (arith, load-low w me l e is, late f g)));
   stays = still w;
 }
 
@@ -452,10 +452,10 @@ module _ (w : Core) (me : Owner) (l : LoadNumber) (kind : Kind) (key node_type :
 -- room is nothing to the causes that come first
 pub early-past : {w w' : Core} (me : Owner) (l : LoadNumber) (kind : Kind) (node_type : ℕ) (refs : List ArcRef) → OnlyRoom w w'
     → adopt_check_fault w' me l kind node_type refs ≡ adopt_check_fault w me l kind node_type refs
-early-past {w} {w'} me l kind node_type refs o = ap (λ (u : Core). adopt_check_fault u me l kind node_type refs) o.same
+early-past {w} {w'} me l kind node_type refs o = ap (λ u. adopt_check_fault u me l kind node_type refs) o.same
     ∙ ap (λ x. earlier (load_fault w me l) (earlier (refused_if (is_loose_kind kind.0) Error.WrongMode)
     (earlier (refused_if (not (node_type == type_of kind.0)) Error.WrongKind) x)))
-    (fault-by w (record w { places = w'.places }) (Owner.Load l) [] refs)
+    (fault-by w (record w { places = w'.places }) _ [] _)
 
 -- the cache of the second world learns what that of the first does
 module _ (w w' : Core) (kind : Kind) (key : ℕ) (n : NodeNumber) (cache : ℕ → ℕ → Option ℕ) (a : Alike w w') (here : cache kind.0 key ≡ Some n.0)

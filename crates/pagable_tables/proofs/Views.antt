@@ -8,12 +8,12 @@ use Rattle.pagable_tables.proofs.{
   RowCounts.{ordered-entries, ordered-map, ordered-push, same-rows, stays-old, sum-map, sum-none, there-then, type_in, within-goes},
   SameViews.{found-map, owner-same},
   Words.{Alike, AllPairs, AllPairs-filter, Among, ArcRef, ArePlaced, Bool, Cell, Core, Err, Error, Falls, HandleNumber, HandleRow, IsEntryWhole},
-  Words.{IsHandleBefore, IsWhole, Last, List, MakesHandle, MayOwnHandle, MayOwnLoad, Mode, NodeNumber, None, Ok, OpenLoad, Option, OptionalDataKey, Owner},
-  Words.{Owns, Result, SameAt, Some, Suits, ap, arith, basics, cases_eq, changed, fallen, false, filter, find_row, greatest, has_key, held, if_there},
-  Words.{if◌then◌else◌, inl, inr, is_at, is_handle, is_loose, is_named_by, is_owned_by, is_owned_in, is_owner, is_pin, is_share, is_shared, is_some},
-  Words.{is_value_owner, left_rows, length, map, moved, nat_lt, next_node, not, one, option_map, or_else, owner_value, reference_fault, references_fault, refl},
-  Words.{row_at, row_of, subst, sum_by-append, sum_by_push, sym, times, true, updated, with_handle, with_mode, with_node, with_pin, ℕ, [], ◌&&◌, ◌++◌, ◌+◌},
-  Words.{◌<◌, ◌==◌, ◌∙◌, ◌∷◌, ◌≡◌, ◌≢◌, ◌≤◌, ◌⊎◌},
+  Words.{IsHandleBefore, IsWhole, List, MakesHandle, MayOwnHandle, MayOwnLoad, Mode, NodeNumber, None, Ok, OpenLoad, Option, OptionalDataKey, Owner, Owns},
+  Words.{Result, SameAt, Some, Suits, ap, arith, basics, cases_eq, changed, fallen, false, filter, find_row, greatest, has_key, held, if_there, if◌then◌else◌},
+  Words.{inl, inr, is_at, is_handle, is_loose, is_named_by, is_owned_by, is_owned_in, is_owner, is_pin, is_share, is_shared, is_some, is_value_owner},
+  Words.{left_rows, length, map, moved, nat_lt, next_node, not, one, option_map, or_else, owner_value, reference_fault, references_fault, refl, row_at, subst},
+  Words.{sum_by-append, sum_by_push, sym, times, true, with_handle, with_mode, with_node, with_pin, ℕ, [], ◌&&◌, ◌++◌, ◌+◌, ◌<◌, ◌==◌, ◌∙◌, ◌∷◌, ◌≡◌, ◌≢◌, ◌≤◌},
+  Words.◌⊎◌,
 }
 use Rattle.std.proofs.lemmas.{Bool.not-true, Option.slice_get-map}
 
@@ -43,7 +43,7 @@ OnlyNewer w w' = IsNewer w.rows w'.rows w.last.handle w'.last.handle
 
 pub newer-alike : {w w' : Core} → Alike w w' → OnlyNewer w w'
 newer-alike {w} {w'} a = record {
-  last = (omega (arith, ap (λ (l : Last). l.handle) a.last));
+  last = (omega (arith, ap (λ l. l.handle) a.last));
   kept = λ o q gives own. inl (sym (ap (owned o q) a.rows) ∙ own);
 }
 
@@ -149,7 +149,7 @@ module _ {w : Core} (whole : IsWhole w) (test : HandleRow → Bool) (f : HandleR
     like = λ x among. record {
       row = to x;
       there = (among.0, slice_get-map to w.rows among.0 ∙ ap (option_map to) among.1);
-      at = ap (λ (n : NodeNumber). n.0) (to-node x);
+      at = ap (λ n. n.0) (to-node x);
       same = each-changed test f (λ y. is_shared y.mode ≡ is_shared x.mode) x (λ e. shared x among e) (λ e. refl);
     };
   }
@@ -161,9 +161,9 @@ module _ {w : Core} (whole : IsWhole w) (test : HandleRow → Bool) (f : HandleR
       let turned = roomy (record w { rows = changed test f w.rows; list = list }) in
       let on : GoOn w turned = record {
         last = (omega arith, omega arith, omega arith);
-        ordered = ordered-map to w.rows (λ x. grind (basics, number x)) whole.handles.ordered;
+        ordered = ordered-map to _ (λ x. grind (basics, number x)) whole.handles.ordered;
         fresh = false;
-        rows = λ h among. inl (among-changed test f (IsOld w.rows) w.rows h among
+        rows = λ h among. inl (among-changed test f (IsOld w.rows) _ h among
             (λ x there e. record {
               row = x;
               there = there;
@@ -173,19 +173,19 @@ module _ {w : Core} (whole : IsWhole w) (test : HandleRow → Bool) (f : HandleR
               loose = loose x there e;
             }) (λ x there e. stays-old there));
         live = λ n. whole.handles.live n ∙ ap (nat_lt 0) (sym (sum-map (λ h. one (is_at n h)) (λ h. one (is_at n h)) to w.rows
-            (λ h among. ap (λ (k : NodeNumber). one (k.0 == n)) (to-node h))));
+            (λ h among. ap (λ k. one (k.0 == n)) (to-node h))));
         typed = λ n t few is. is;
         keyed = λ n like few none. none;
       } in
       let there : (h : HandleRow) → Among turned.rows h → IsIn w h.mode h.owner =
-      λ h among. among-changed test f (λ y. IsIn w y.mode y.owner) w.rows h among owners (λ x there e. is-in whole x there) in
+      λ h among. among-changed test f (λ y. IsIn w y.mode y.owner) _ h among owners (λ x there e. is-in whole x there) in
       keeps-whole whole (grind (basics, listed, loads-stay))
 
   -- where no handle comes to the list or from it
   pub turned-still : ((x : HandleRow) → Among w.rows x → test x ≡ true → is_owned_by Owner.List (f x) ≡ is_owned_by Owner.List x)
       → ((x : HandleRow) → Among w.rows x → test x ≡ true → IsIn w (f x).mode (f x).owner) → IsWhole (roomy (record w { rows = changed test f w.rows }))
   turned-still same owners = turned-whole w.list (λ q. whole.owners_there.listed q
-      ∙ sym (sum-map (λ x. one (of_list q x)) (λ x. one (of_list q x)) to w.rows (λ x among.
+      ∙ sym (sum-map (λ x. one (of_list q x)) (λ x. one (of_list q x)) to _ (λ x among.
       each-changed test f (λ y. one (of_list q y) ≡ one (of_list q x)) x
       (λ e. ap (λ k. one (k == q && is_owned_by Owner.List (f x))) (number x) ∙ ap (λ b. one (is_handle q x && b)) (same x among e)) (λ e. refl)))) owners
 
@@ -197,13 +197,13 @@ moded {w} whole h row mode live shared loose waits =
     let the-row : (x : HandleRow) → Among w.rows x → is_handle h.0 x ≡ true → x ≡ row =
     λ x among is. let a = found-among h.0 w.rows row live in once w.rows whole.handles.ordered x row among a.0 (grind (basics, a.1)) in
     let same : (x : HandleRow) → Among w.rows x → is_handle h.0 x ≡ true → is_shared mode ≡ is_shared x.mode =
-    λ x among e. shared ∙ ap (λ (y : HandleRow). is_shared y.mode) (sym (the-row x among e)) in
+    λ x among e. shared ∙ ap (λ y. is_shared y.mode) (sym (the-row x among e)) in
     let loosely : (x : HandleRow) → Among w.rows x → is_handle h.0 x ≡ true → is_loose x.mode ≡ true → is_loose mode ≡ true =
-    λ x among e was. loose (ap (λ (y : HandleRow). is_loose y.mode) (sym (the-row x among e)) ∙ was) in (
+    λ x among e was. loose (ap (λ y. is_loose y.mode) (sym (the-row x among e)) ∙ was) in (
       turned-still whole (is_handle h.0) (λ x. record x { mode = mode }) (λ x. refl) (λ x. refl) same loosely (λ x among e. refl)
           (λ x among e. grind (basics, waits, is-in whole x among, the-row x among e)),
       turned-on whole (is_handle h.0) (λ x. record x { mode = mode }) (λ x. refl) (λ x. refl) same loosely,
-      record { last = omega arith; kept = λ o q gives own. inl (sym (owned-mode o q (is_handle h.0) mode w.rows) ∙ own) },
+      record { last = omega arith; kept = λ o q gives own. inl (sym (owned-mode o q (is_handle h.0) _ _) ∙ own) },
     )
 
 -- ---- a handle comes, under the next number
@@ -235,9 +235,9 @@ module _ {w : Core} (whole : IsWhole w) (x : HandleRow) (cells : ℕ → Option 
       } in
       let on : GoOn w grown = record {
         last = (omega arith, more, omega arith);
-        ordered = ordered-push w.rows x (λ y among. omega (arith, whole.handles.numbered y among)) whole.handles.ordered;
+        ordered = ordered-push _ x (λ y among. omega (arith, whole.handles.numbered y among)) whole.handles.ordered;
         fresh = is_shared x.mode;
-        rows = λ h among. elim (among-both w.rows (x ∷ []) h among) [
+        rows = λ h among. elim (among-both _ _ h among) [
           | inl old ↦ inl (stays-old old)
           | inr new ↦ inr (rw (among-one x h new) come)
         ];
@@ -245,7 +245,7 @@ module _ {w : Core} (whole : IsWhole w) (x : HandleRow) (cells : ℕ → Option 
         typed = λ n t given is. sym (ap type_in (same n (inr given))) ∙ is;
         keyed = λ n like given none. ap keyed_in (same n (inr given)) ∙ none;
       } in
-      let listed : (q : ℕ) → times (λ (h : HandleNumber). h.0 == q) w.list ≡ times (of_list q) grown.rows = λ q.
+      let listed : (q : ℕ) → times (λ h. h.0 == q) w.list ≡ times (of_list q) grown.rows = λ q.
       grind (basics, sum_by_push (λ h. one (of_list q h)) w.rows x, whole.owners_there.listed q, not-list w x.owner holder) in
       let owners : (h : HandleRow) → Among grown.rows h → IsIn w h.mode h.owner = λ h among.
       grind (basics, among-both w.rows (x ∷ []) h among, among-one x h, is-in whole h, holder-in w x.mode x.owner holder) in
@@ -256,10 +256,10 @@ pub beside : {w : Core} → IsWhole w → (node : NodeNumber) (mode : Mode) (own
     → w.last.handle < greatest
     → Turns w (with_handle w node mode owner)
 beside {w} whole node mode owner like holder left = (
-  grown-whole whole (row_of (w.last.handle + 1) node mode owner) w.cells w.last.node refl left (omega arith) whole.handles.within.1
-      (rw like.at at (there-then whole like.row like.there)) (λ n d. refl) (inl like) holder,
-  record { like = λ x among. record { row = x; there = among-more w.rows _ x among; at = refl; same = refl } },
-  newer-handle w node mode owner,
+  grown-whole whole _ _ _ refl left (omega arith) whole.handles.within.1
+      (rw like.at at (there-then whole _ like.there)) (λ n d. refl) (inl like) holder,
+  record { like = λ x among. record { row = x; there = among-more _ _ x among; at = refl; same = refl } },
+  newer-handle w _ _ _,
 )
 
 -- ---- the world is whole once handles have fallen, but for what a closed storage has lost
@@ -283,7 +283,7 @@ module _ {before : Core} (m u : Core) {w' : Core} {given : ℕ → Bool} {r : Re
   left = left_rows f.gone m.rows
 
   was : (h : HandleRow) → Among left h → Among m.rows h × (f.gone h.number.0 ≡ false)
-  was h among = let a = among-left (λ (x : HandleRow). not (f.gone x.number.0)) m.rows h among in (a.0, not-true (f.gone h.number.0) a.1)
+  was h among = let a = among-left (λ x. not (f.gone x.number.0)) m.rows h among in (a.0, not-true (f.gone h.number.0) a.1)
 
   -- a cell with an entry has a handle that isn't Shared
   entered : (n : ℕ) → 0 < held n f.entries → HasLike m.rows n false
@@ -295,9 +295,9 @@ module _ {before : Core} (m u : Core) {w' : Core} {given : ℕ → Bool} {r : Re
   -- what is true of each row that is left, and of each entry
   each-row : (P : HandleRow → Type 0) → ((h : HandleRow) → Among m.rows h → f.gone h.number.0 ≡ false → P h)
       → ((h : HandleRow) → HasLike m.rows h.node.0 false → IsEntry m.last.handle (length f.entries) h → P h) → (h : HandleRow) → Among after.rows h → P h
-  each-row P old come h among = elim (among-both left f.entries h among) [
+  each-row P old come h among = elim (among-both _ _ h among) [
     | inl a ↦ let b = was h a in old h b.0 b.1
-    | inr a ↦ come h (entered h.node.0 (held-some h.node.0 f.entries h a refl)) (entry-is m.last.handle f.entries h f.new a)
+    | inr a ↦ come h (entered h.node.0 (held-some _ _ h a refl)) (entry-is _ _ h f.new a)
   ]
 
   there : (n : ℕ) → 0 < held n after.rows → is_some (m.cells n) ≡ true
@@ -305,7 +305,7 @@ module _ {before : Core} (m u : Core) {w' : Core} {given : ℕ → Bool} {r : Re
       let found = counted (λ h. one (is_at n h)) after.rows some in
       rw (at-then n found.0 found.2) at
       (each-row (λ h. is_some (m.cells h.node.0) ≡ true) (λ h old kept. there-then whole h old)
-      (λ h like e. rw like.at at (there-then whole like.row like.there)) found.0 found.1)
+      (λ h like e. rw like.at at (there-then whole _ like.there)) found.0 found.1)
 
   still-listed : (q : ℕ) → times (λ (h : HandleNumber). h.0 == q) after.list ≡ times (of_list q) after.rows
   still-listed q =
@@ -328,8 +328,8 @@ module _ {before : Core} (m u : Core) {w' : Core} {given : ℕ → Bool} {r : Re
   fallen-whole =
       let on : GoOn (roomy m) after = record {
         last = (omega arith, omega arith, omega arith);
-        ordered = ordered-entries m.last.handle left f.entries (λ x among. (whole.handles.numbered x (was x among).0).1) f.new
-            (AllPairs-filter IsHandleBefore (λ (x : HandleRow). not (f.gone x.number.0)) m.rows whole.handles.ordered);
+        ordered = ordered-entries _ _ _ (λ x among. (whole.handles.numbered x (was x among).0).1) f.new
+            (AllPairs-filter IsHandleBefore (λ x. not (f.gone x.number.0)) m.rows whole.handles.ordered);
         fresh = false;
         rows = each-row (λ h. IsOld m.rows h ⊎ IsNew (roomy m) after false h) (λ h old kept. inl (stays-old old))
             (λ h like e. inr (grind (basics, e.above, e.number, e.mode)));
@@ -345,7 +345,7 @@ module _ {before : Core} (m u : Core) {w' : Core} {given : ℕ → Bool} {r : Re
         owners = each-row (λ h. IsIn after h.mode h.owner)
             (λ h old kept. elim (lost.owners h old) [
               | inl there ↦ there
-              | inr gives ↦ let g = sym (within-goes m.rows given f.gone h f.set.holds old gives) ∙ kept in absurd (cc)
+              | inr gives ↦ let g = sym (within-goes _ given f.gone h f.set.holds old gives) ∙ kept in absurd (cc)
             ])
             (λ h like e. rw e.owner e.mode);
         loads = λ l load is. let a = lost.loads l load is in (a.1, inl a.0);
@@ -403,7 +403,7 @@ makes-goes {w} node mode owner (Ok k) whole suits holder makes =
     let like : HasLike w.rows node.0 (is_shared mode) = record {
       row = suits.row;
       there = suits.there;
-      at = ap (λ (k : NodeNumber). k.0) suits.at;
+      at = ap (λ k. k.0) suits.at;
       same = suits.shared;
     } in
     let made = beside whole node mode owner like holder makes.made.0.is_left in settled makes.made.1 made.0 made.2
@@ -417,7 +417,7 @@ pub pin-comes : {w : Core} (h : HandleNumber) (row : HandleRow) (me : Owner) →
     → w.last.handle < greatest
     → Turns w (with_pin w h row.node me)
 pin-comes {w} h row me whole holder owns left =
-    let loosely = sym (loose-unshared row.mode owns.as_asked) in
+    let loosely = sym (loose-unshared _ owns.as_asked) in
     let (loose, on, newer) = moded whole h row Mode.LoosePinned owns.live loosely (λ loose. refl)
     (λ is. absurd (let f = ap (is_owner Owner.List) (sym is ∙ owns.own) ∙ not-list w me holder in cc)) in
     let like = rw (← loosely) at (on.like row (found-among h.0 w.rows row owns.live).0) in
@@ -427,7 +427,7 @@ pin-comes {w} h row me whole holder owns left =
 
 pub own-of : (w : Core) → AllPairs IsHandleBefore w.rows → (owner : Owner) (x : HandleRow) → Among w.rows x → is_owned_in w owner x.number.0 ≡ true → x.owner
     ≡ owner
-own-of w ordered owner x among own = owner-same owner x.owner (sym (ap (if_there (is_owned_by owner) false) (found-so x.number.0 w.rows x ordered among refl))
+own-of w ordered owner x among own = owner-same _ _ (sym (ap (if_there (is_owned_by owner) false) (found-so _ _ x ordered among refl))
     ∙ own)
 
 pub or-none : {X : Type 0} (a b : Option X) → or_else a b ≡ None → (a ≡ None) × (b ≡ None)
@@ -445,12 +445,12 @@ named-mine w owner seen (r ∷ rs) good q named =
 pub named-own : (w : Core) → AllPairs IsHandleBefore w.rows → (owner : Owner) (refs : List ArcRef) → references_fault w owner [] refs ≡ None → (x : HandleRow)
     → Among w.rows x
     → is_named_by refs x.number.0 ≡ true → x.owner ≡ owner
-named-own w ordered owner refs good x among named = own-of w ordered owner x among (named-mine w owner [] refs good x.number.0 named)
+named-own w ordered owner refs good x among named = own-of w ordered _ x among (named-mine w _ [] _ good _ named)
 
 pub named-unlisted : {w : Core} → IsWhole w → (owner : Owner) (refs : List ArcRef) → is_owner Owner.List owner ≡ false → references_fault w owner [] refs ≡ None
     → (x : HandleRow)
     → Among w.rows x → is_named_by refs x.number.0 ≡ true → is_owned_by Owner.List x ≡ false
-named-unlisted {w} whole owner refs other good x among named = ap (is_owner Owner.List) (named-own w whole.handles.ordered owner refs good x among named)
+named-unlisted {w} whole owner refs other good x among named = ap (is_owner Owner.List) (named-own w whole.handles.ordered _ _ good x among named)
     ∙ other
 
 -- ---- the node
@@ -461,9 +461,9 @@ module _ {w : Core} (whole : IsWhole w) (node_type : ℕ) (key : OptionalDataKey
     (holder : MayOwnHandle w me) (node_left : w.last.node < greatest) (left : w.last.handle < greatest)
     (unkeyed : is_shared mode ≡ true → has_key key ≡ false) where
   pub born-whole : IsWhole (roomy (with_handle (with_node w node_type key refs) (next_node w) mode me))
-  born-whole = grown-whole (moved-to-value whole (is_named_by refs) (named-unlisted whole from refs other good) (w.last.node + 1))
-      (row_of (w.last.handle + 1) (next_node w) mode me)
-      (updated (w.last.node + 1) (Some (record { node_type = node_type; key = key })) w.cells) (w.last.node + 1)
+  born-whole = grown-whole (moved-to-value whole (is_named_by refs) (named-unlisted whole _ _ other good) _)
+      _
+      _ _
       refl left (omega arith) (omega arith) (grind basics) (λ n old. grind basics)
       (inr (omega arith, omega arith, λ is. grind (basics, unkeyed is))) holder
 

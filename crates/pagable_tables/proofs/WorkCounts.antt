@@ -39,17 +39,27 @@ work-comes nodes nodes' s o rows ordered w more here n = at (times (λ h. s h.nu
   where
     at : (many : ℕ) → times (λ h. s h.number.0 && is_at n h) rows ≡ many → times (is_work n) (moved s o rows) ≤ most_worker_handles_at nodes' n
     at zero e =
-        let fewer = sum_by-le-sum_by (λ (h : HandleRow). one (s h.number.0 && (is_at n h && is_worker o))) (λ h. one (s h.number.0 && is_at n h)) rows
-        (λ h. grind basics) in
-        omega (arith, moves n s o rows, more n, w n)
+        omega (
+          arith,
+          moves n s o rows,
+          more n,
+          w n,
+          sum_by-le-sum_by (λ (h : HandleRow). one (s h.number.0 && (is_at n h && is_worker o)))
+              (λ h. one (s h.number.0 && is_at n h)) rows
+              (λ h. grind basics),
+        )
     at (suc many) e =
         let (x, among, some) = counted (λ (h : HandleRow). one (s h.number.0 && is_at n h)) rows (omega arith) in
         let is : (s x.number.0 ≡ true) × (x.node.0 ≡ n) = grind basics in
         let all = here x.number.0 x is.0 (found-so x.number.0 rows x ordered among refl) in
         let less = sum_by-le-sum_by (λ (h : HandleRow). one (is_work n h)) (λ h. one (is_at n h)) (moved s o rows) (λ h. grind basics) in
-        let same = sum-map (λ h. one (is_at n h)) (λ h. one (is_at n h)) (λ (h : HandleRow). if s h.number.0 then record h { owner = o } else h) rows
-        (λ h among. grind basics) in
-        omega (arith, ap (λ m. held m rows) is.1, ap (most_worker_handles_at nodes') is.1)
+        omega (
+          arith,
+          ap (λ m. held m rows) is.1,
+          ap (most_worker_handles_at nodes') is.1,
+          sum-map (λ h. one (is_at n h)) (λ h. one (is_at n h)) (λ (h : HandleRow). if s h.number.0 then record h { owner = o } else h) rows
+              (λ h among. grind basics),
+        )
 
 one-work : (x : HandleRow) → one (is_work x.node.0 x) ≡ one (is_worker x.owner)
 one-work x = grind basics
@@ -59,10 +69,9 @@ pub work-push : (rows : List HandleRow) (x : HandleRow) (nodes nodes' : NumberTa
     → ((n : ℕ) → most_worker_handles_at nodes n ≤ most_worker_handles_at nodes' n)
     → (times (is_work x.node.0) rows + one (is_worker x.owner) ≤ most_worker_handles_at nodes' x.node.0) → BoundsWorkerHandles (rows ++ x ∷ []) nodes'
 work-push rows x nodes nodes' w more here n =
-    let push = sum_by_push (λ (h : HandleRow). one (is_work n h)) rows x in
+    let push = sum_by_push (λ h. one (is_work n h)) rows x in
     elim (cases_eq n x.node.0) [
-      | inl same ↦ let worked = one-work x in
-          omega (arith, ap (λ m. times (is_work m) rows) same, ap (λ m. one (is_work m x)) same, ap (most_worker_handles_at nodes') same)
+      | inl same ↦ omega (arith, ap (λ m. times (is_work m) rows) same, ap (λ m. one (is_work m x)) same, ap (most_worker_handles_at nodes') same, one-work x)
       | inr other ↦ let none : one (is_work n x) ≡ 0 = grind basics in omega (arith, w n, more n)
     ]
 

@@ -8,7 +8,7 @@ use Rattle.pagable_tables.specs.Nodes.{cell_in, living}
 use Rattle.pagable_tables.proofs.cache.forget_gone.Goals as goal
 
 abbrev number : Option NodeNumber → Option ℕ
-number o = option_map (λ (n : NodeNumber). n.0) o
+number o = option_map (λ n. n.0) o
 
 left : (at : ℕ → Option Counts) (known : Option NodeNumber) → number (living at known)
     ≡ if_there (λ n. if is_some (cell_in (at n)) then Some n else None) None (number known)

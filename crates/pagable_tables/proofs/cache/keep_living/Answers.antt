@@ -20,5 +20,5 @@ returns c kind key =
     let at = counts_at c.args.nodes.now in
     let e : c.retain.new.self.entries ≡ filter (λ p. is_some (at p.1.0)) old =
     filter-RetainsPairs _ _ _ (λ k v b w g call. search rules) _ _ c.retain.ensures.filtered in
-    ap (lookup (is_same (kind, key))) e ∙ lookup-filter-values same-equiv (λ (n : NodeNumber). is_some (at n.0)) (kind, key) old c.len-many.ensures.unique
+    ap (lookup (is_same (kind, key))) e ∙ lookup-filter-values same-equiv (λ n. is_some (at n.0)) (kind, key) old c.len-many.ensures.unique
     ∙ filtered at (lookup (is_same (kind, key)) old)

@@ -15,22 +15,22 @@ use Rattle.pagable_tables.specs.Core.{StorageView, no_blobs}
 use Rattle.pagable_tables.proofs.cache.offer.Goals as goal
 
 pub make_handle-requires-clause-suits : goal.make_handle-requires-clause-suits
-make_handle-requires-clause-suits g c = rw c.mode_of.ensures (known-suits c.requires.whole.core c.args.kind.0 c.args.key c.in-Some.node.0
+make_handle-requires-clause-suits g c = rw c.mode_of.ensures (known-suits c.requires.whole.core _ _ _
     (sym (c.in-Some.ensures no_blobs)))
 
 pub unreachable-requires : goal.unreachable-requires
 unreachable-requires g c =
     let came = (c.in_ok-known.ensures.does.does no_blobs).made.1.rows in
-    let again = found-again c.args.handle.0 _ _ c.in_ok-row.ensures.owns.live came refl in
+    let again = found-again _ _ _ c.in_ok-row.ensures.owns.live came refl in
     grind (basics, again, owner-self, c.in_ok-row.ensures.owns.own, c.in_default-find_owned.ensures.fault no_blobs any_mode)
 
 pub try_release_at-requires-clause-not_a_value : goal.try_release_at-requires-clause-not_a_value
-try_release_at-requires-clause-not_a_value g c = ap is_value_owner (owner-same c.args.me c.in-Ok.at.row.owner c.in-Ok.ensures.owner)
-    ∙ not-a-value (core_alone c.args.t.now) c.args.me c.requires.holder
+try_release_at-requires-clause-not_a_value g c = ap is_value_owner (owner-same _ _ c.in-Ok.ensures.owner)
+    ∙ not-a-value (core_alone c.args.t.now) _ c.requires.holder
 
 pub try_release_at-requires-clause-not_the_list : goal.try_release_at-requires-clause-not_the_list
-try_release_at-requires-clause-not_the_list g c = ap (is_owner Owner.List) (owner-same c.args.me c.in-Ok.at.row.owner c.in-Ok.ensures.owner)
-    ∙ not-list (core_alone c.args.t.now) c.args.me c.requires.holder
+try_release_at-requires-clause-not_the_list g c = ap (is_owner Owner.List) (owner-same _ _ c.in-Ok.ensures.owner)
+    ∙ not-list (core_alone c.args.t.now) _ c.requires.holder
 
 pub returns : goal.returns
 returns g c =
@@ -39,7 +39,7 @@ returns g c =
     let node = c.in-Some.node in
     let made = c.in_ok-known.ensures.does in
     let went = lone-falling {w = core_alone t1} made.whole.core (c.try_release_at.ensures.falls (core_alone t1) (core_alone t1)
-    (begun-whole t1 no_blobs _ made.whole refl) (omega arith)) in
+    (begun-whole t1 _ _ made.whole refl) (omega arith)) in
     record {
       offered = λ storage e.
           (let o : StorageView = record storage { closed = false } in
@@ -48,12 +48,12 @@ returns g c =
           let owns : Owns w c.args.me c.args.handle (fits_mode c.args.kind.0) c.in_ok-row.row = grind (basics, c.in_ok-row.ensures.owns) in
           let m = (made.does o).made in
           let alike : Alike u (core_of t1 o) = rw c.mode_of.ensures at m.1 in
-          let begun = begun-made t t1 o node (mode_of c.args.kind.0) c.args.me made.whole alike _ refl in
+          let begun = begun-made t t1 o node _ _ made.whole alike _ refl in
           let given = found-among c.args.handle.0 w.rows c.in_ok-row.row owns.live in
           let spared : only_handle c.args.handle (w.last.handle + 1) ≡ false =
           let a = (c.requires.whole.core.handles.numbered c.in_ok-row.row given.0).1 in grind (basics, given.1) in
-          let falls = falls-made t t1 o node (mode_of c.args.kind.0) c.args.me made.whole alike c.in_ok-known.ensures.same
-          (not-a-value (core_alone t) c.args.me c.requires.holder)
+          let falls = falls-made t t1 o node _ _ made.whole alike c.in_ok-known.ensures.same
+          (not-a-value (core_alone t) _ c.requires.holder)
           c.try_release_at.new.t (rw c.in-Ok.ensures.number at (c.try_release_at.ensures.falls u u begun (omega (arith, ap length alike.rows))))
           spared in
           let is = sym (c.in-Some.ensures o) in
@@ -80,7 +80,7 @@ forget_gone-requires g c =
     let owns : Owns w c.args.me c.args.handle (fits_mode c.args.kind.0) c.in_ok-row.row = grind (basics, c.in_ok-row.ensures.owns) in
     let alike : Alike (with_cached w c.args.kind c.args.key c.in_ok-row.row.node) (core_alone (record c.args.t.now { cache = c.put.new.cache })) =
     grind (basics, same-cache, c.in_ok-put.ensures.here, c.in_ok-put.ensures.others) in
-    whole-so c.requires.whole.steady (learns-whole _ c.args.kind c.args.key _ _ c.requires.whole.core owns
+    whole-so c.requires.whole.steady (learns-whole _ _ _ _ _ c.requires.whole.core owns
     c.in_ok-row.ensures.typed alike)
 
 pub returns-in_default-clause-offered : goal.returns-in_default-clause-offered
@@ -121,7 +121,7 @@ returns-in_err-known-clause-offered g c storage e =
     let cause : offer_fault w c.args.me c.args.kind c.args.key c.args.handle ≡ recall_fault w c.args.kind c.args.key =
     grind (basics, c.in_ok-row.ensures.typed) in
     rw (opened-view storage (closed-is e ∙ ap not c.if-not-lists.false))
-    (rw (failed c.from_residual-in_err-known.result c.from_residual-in_err-known.ensures.1)
+    (rw (failed _ c.from_residual-in_err-known.ensures.1)
     record {
       answers = tt;
       refused = record {

@@ -10,5 +10,5 @@ offer-first w me kind key h e is = search (arith, handle-first, late, spent-late
 
 pub returns-in_err-at-clause-fault : Rattle.pagable_tables.proofs.cache.offered_row.Goals.returns-in_err-at-clause-fault
 returns-in_err-at-clause-fault c =
-    rw (failed c.from_residual.result c.from_residual.ensures.1) (λ storage key. offer-first (core_of c.args.t.now storage) c.args.me c.args.kind key
+    rw (failed _ c.from_residual.ensures.1) (λ storage key. offer-first (core_of c.args.t.now storage) c.args.me c.args.kind key
     c.args.handle _ (c.in_err-at.ensures.fault storage (fits_mode c.args.kind.0)))

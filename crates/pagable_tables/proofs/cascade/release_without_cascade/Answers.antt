@@ -63,7 +63,7 @@ returns c stack w =
         sound = e.sound;
         next = e.next;
         fits = rw top
-            (given-fits rows' x counts stays listed (old.last_handle + 1) w.fits is plain sums here others same some live' b
+            (given-fits rows' x counts stays listed _ w.fits is plain sums here others same some live' b
             refl);
         worked = λ m.
             let was = c.set_counts.ensures.worker_bound m ∙ ap (λ s. most_worker_handles_at s m) e.nodes in

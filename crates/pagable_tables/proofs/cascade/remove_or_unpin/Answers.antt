@@ -4,7 +4,7 @@ pub returns-then-stays : Rattle.pagable_tables.proofs.cascade.remove_or_unpin.Go
 returns-then-stays c =
     let old = c.args.handles.now in
     let at = c.args.at in
-    let changes = changed-known old.places.items at.place at.row c.requires.sound.ordered c.requires.place unpinned in
+    let changes = changed-known _ _ at.row c.requires.sound.ordered c.requires.place unpinned in
     rw c.if-stays.true (record {
       becomes = rw changes at c.replace_row.ensures.becomes;
       sums = c.replace_row.ensures.sums;

@@ -3,9 +3,9 @@ use Rattle.pagable_tables.proofs.{
   CascadeStep.{done-fits, done-gone, fallen, fits-same, is_owned, taken-fits, taken-owned, taken-there, top-stands, top-there},
   Counting.gives-sums,
   HandleTable.{none-found, only-row},
-  Words.{ArcRef, HandleNumber, HandleRow, IsSoundInCascade, List, RefCounts, Some, ValueStays, alive, ap, append-nil, arith, basics, cases_eq, counts_at, inl},
-  Words.{inr, is_at, is_value_owner, length, one, owner_value, owns, owns_nothing, refl, refs_at, rows_of, slice_get, subst, sum_by-le-sum_by, sym, ℕ, []},
-  Words.{◌&&◌, ◌++◌, ◌==◌, ◌∙◌, ◌∷◌, ◌≡◌, ◌≢◌},
+  Words.{ArcRef, HandleRow, IsSoundInCascade, List, RefCounts, Some, ValueStays, alive, ap, append-nil, arith, basics, cases_eq, counts_at, inl, inr, is_at},
+  Words.{is_value_owner, length, one, owner_value, owns, owns_nothing, refl, refs_at, rows_of, slice_get, subst, sum_by-le-sum_by, sym, ℕ, [], ◌&&◌, ◌++◌},
+  Words.{◌==◌, ◌∙◌, ◌∷◌, ◌≡◌, ◌≢◌},
 }
 use Rattle.pagable_tables.specs.{CascadeInvariant.is_work, Nodes.most_worker_handles_at}
 use Rattle.pagable_tables.proofs.cascade.step_cascade.Goals as goal
@@ -20,7 +20,7 @@ module _ (t mid : RefCounts) (ns : List ℕ) (p : ArcRef) (i : ℕ) (x : HandleR
   taken =
       let a = taken-owned p w.fits popped
       others same in
-      let b = only-row (is_owned t.top p.handle.0) t.handles.places.items i x w.sound.ordered at (λ h. grind basics) in
+      let b = only-row (is_owned t.top p.handle.0) _ i x w.sound.ordered at (λ h. grind basics) in
       let its : is_owned t.top p.handle.0 x ≡ 1 = grind basics in
       let o : (x.owner ≡ owner_value t.top) × ((m r : ℕ) → is_owned m r x ≡ one (t.top == m && p.handle.0 == r)) = grind basics in
       let fits = taken-fits p w.fits
@@ -40,7 +40,7 @@ release_without_cascade-requires-clause-falling c =
     let s = top-stands t _ c.requires.some c.requires.falling.1 in
     let e = c.in-Some.ensures in
     let f = c.in-Some-find_live.ensures in
-    let number = ap (λ (n : HandleNumber). n.0) f.number in (
+    let number = ap (λ n. n.0) f.number in (
       t.top ∷ s.0,
       (taken t (record t { nodes = c.pop_reference.new.nodes }) s.0 c.in-Some.reference c.in-Some-find_live.at.place c.in-Some-find_live.at.row s.2 e.here
           e.others e.counts e.worker_bound f.place number).1,
@@ -87,7 +87,7 @@ returns-in-Some-find_live c stack w =
     let x = c.in-Some-find_live.at.row in
     let mid : RefCounts = record t { nodes = c.pop_reference.new.nodes } in
     let o = taken t mid s.0 c.in-Some.reference c.in-Some-find_live.at.place x s.2 e.here e.others e.counts e.worker_bound
-    c.in-Some-find_live.ensures.place (ap (λ (n : HandleNumber). n.0) c.in-Some-find_live.ensures.number) in
+    c.in-Some-find_live.ensures.place (ap (λ n. n.0) c.in-Some-find_live.ensures.number) in
     let g =
     c.release_without_cascade.ensures (t.top ∷ s.0) o.1 in
     record {
@@ -125,7 +125,7 @@ returns-in-None c stack w =
     let l = c.finish_node.ensures in
     let s = top-stands _ _ c.requires.some (untouched t mid stack w e.here e.others e.counts e.worker_bound) in
     let is = sym c.counts_of.ensures ∙ c.unwrap-counts.ensures in
-    let done = done-fits c.unwrap-counts.result s.2.fits is l.here e.none l.others
+    let done = done-fits _ s.2.fits is l.here e.none l.others
     l.refs c.requires.some in
     record {
       rest = s.0;
@@ -142,7 +142,7 @@ returns-in-None c stack w =
       cells = λ m some. grind (basics, cases_eq m t.top, is, l.here, l.others m, e.counts m);
       values = λ m ne. let other = l.others m (λ eq. ne (ap (λ k. Some (record { 0 = k })) (sym eq))) in
           subst (λ o. ValueStays o (new m)) (other ∙ e.counts m) (λ falls. (falls, refl));
-      gone = done-gone c.unwrap-counts.result s.2.fits is l.here e.none l.others l.refs
+      gone = done-gone _ s.2.fits is l.here e.none l.others l.refs
           c.requires.some;
       fewer = omega arith;
       unlisting = λ none. refl;

@@ -8,7 +8,7 @@ loop-i-preserved c =
       lowest = λ q below. in-other hs l.i q (omega arith) (l.invariant.lowest q (omega arith));
       highest = λ q above. in-other hs l.i q (omega arith) (l.invariant.highest q (omega arith));
       rest = λ w is. ap (λ x. earlier x (named_fault w c.args.owner (seen hs (l.i + 1)) (drop (l.i + 1) hs))) c.earlier-fault.ensures
-          ∙ earlier-each l.fault c.hand_over_one_fault.result _
-          ∙ ap (earlier l.fault) (one-named w c.args.owner hs l.i c.hand_over_one_fault.result _ (omega arith)
+          ∙ earlier-each l.fault _ _
+          ∙ ap (earlier l.fault) (one-named w _ hs l.i _ _ (omega arith)
           (rw (is, sym c.is_among_first-is_seen.ensures) c.hand_over_one_fault.ensures) refl) ∙ l.invariant.rest w is;
     }

@@ -35,7 +35,7 @@ returns c =
         fits = rw c.in_ok-push.ensures.rows (come-fits x y fits is here (λ q ne. k.counts q ∙ e.others q ne)
             (λ q. k.refs q ∙ e.refs q) c.requires.owner);
         worked = rw c.in_ok-push.ensures.rows
-            (work-push rows x t.nodes c.raise_bound_for.new.nodes c.requires.steady.worked (λ n. omega (arith, k.others n, e.worker_bound n))
+            (work-push rows x t.nodes _ c.requires.steady.worked (λ n. omega (arith, k.others n, e.worker_bound n))
             (k.here _ (grind (basics, work-few m rows, length-live-le t.handles.places.items))
             (omega (arith, c.requires.steady.worked m, e.worker_bound m))));
       };

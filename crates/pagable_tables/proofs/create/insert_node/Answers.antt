@@ -21,9 +21,9 @@ returns-clause-does c =
     let n = u.last_node + 1 in
     let x : HandleRow = record { number = record { 0 = t.last_handle + 1 }; node = record { 0 = n }; mode = c.args.mode; owner = me } in
     let is : Counts = record { node_type = c.args.node_type; key = c.args.key; pins = one (is_pinning c.args.mode); holds = 1; is_dying = false; next = 0 } in
-    let came = ap (option_map (λ (r : NodeRow). r.counts)) c.put.ensures.here in
+    let came = ap (option_map (λ r. r.counts)) c.put.ensures.here in
     let here : counts_at c.put.new.self n ≡ Some is = grind (basics, came, c.pins.ensures) in
-    let others : (q : ℕ) → q ≢ n → counts_at c.put.new.self q ≡ at q = λ q ne. ap (option_map (λ (r : NodeRow). r.counts)) (c.put.ensures.others q ne) in
+    let others : (q : ℕ) → q ≢ n → counts_at c.put.new.self q ≡ at q = λ q ne. ap (option_map (λ r. r.counts)) (c.put.ensures.others q ne) in
     let refers = λ (o : Option NodeRow). option_map_or (λ (r : NodeRow). r.references.items) o [] in
     let free : at n ≡ None = grind (basics, w.core.handles.nodes_numbered n) in
     let rows = c.in-Ok.ensures.rows ∙ ap (λ l. l ++ x ∷ []) (c.hand_over_all.ensures.rows

@@ -7,7 +7,7 @@ use Rattle.pagable_tables.proofs.{
 use Rattle.pagable_tables.proofs.create.into_pagable.Goals as goal
 
 pub returns-in_err-at : goal.returns-in_err-at
-returns-in_err-at c = rw (failed c.from_residual.result c.from_residual.ensures.1)
+returns-in_err-at c = rw (failed _ c.from_residual.ensures.1)
     (nothing-does c.requires (λ storage. record { turned = tt; refused = (c.in_err-at.ensures.fault storage is_pinned, still _) }))
 
 pub returns : goal.returns
@@ -17,7 +17,7 @@ returns c =
     does-as c.set_loose_pinned.ensures.does (λ storage turned. record {
       turned = (
         row,
-        record { live = c.in_ok-at.ensures.found; own = owner-same c.args.me row.owner c.in_ok-at.ensures.owner; as_asked = search rules },
+        record { live = c.in_ok-at.ensures.found; own = owner-same _ _ c.in_ok-at.ensures.owner; as_asked = search rules },
         number,
         rw number at turned,
       );

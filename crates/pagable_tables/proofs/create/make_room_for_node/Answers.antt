@@ -7,7 +7,7 @@ returns-in_err-and-clause-does c = widens-does c.requires c.reserve-handles.ensu
     (λ kind key. rw c.reserve-cache.ensures.entries refl)
 
 pub returns-in_err-and-clause-refused : goal.returns-in_err-and-clause-refused
-returns-in_err-and-clause-refused c storage = rw (failed c.from_residual.result c.from_residual.ensures.1)
+returns-in_err-and-clause-refused c storage = rw (failed _ c.from_residual.ensures.1)
     (record { why = inr (refl, grind basics, tt); stays = room-alike ((returns-in_err-and-clause-does c).does storage) })
 
 pub returns-clause-does : goal.returns-clause-does

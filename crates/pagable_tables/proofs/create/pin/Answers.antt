@@ -1,12 +1,12 @@
 use Rattle.pagable_tables.proofs.{
   OwnedByLoad.{does-as, nothing-does},
   SameViews.{failed, handle-first, owner-same, spent-late, still},
-  Words.{HandleRow, Owns, ap, arith, basics, core_of, false, if_there, inl, inr, is_here, is_loose, pin_fault, rules, spent, true, ◌∙◌, ◌≡◌},
+  Words.{Owns, ap, arith, basics, core_of, false, if_there, inl, inr, is_here, is_loose, pin_fault, rules, spent, true, ◌∙◌, ◌≡◌},
 }
 use Rattle.pagable_tables.proofs.create.pin.Goals as goal
 
 pub returns-in_err-at : goal.returns-in_err-at
-returns-in_err-at c = rw (failed c.from_residual.result c.from_residual.ensures.1) (nothing-does c.requires.whole
+returns-in_err-at c = rw (failed _ c.from_residual.ensures.1) (nothing-does c.requires.whole
     (λ storage.
     let w = core_of c.args.t.now storage in
     let why = handle-first w c.args.me c.args.handle is_loose c.in_err-at.field-0.0 _ (c.in_err-at.ensures.fault storage is_loose)
@@ -22,7 +22,7 @@ returns c =
     let here : is_here w row.node.0 ≡ true = search rules in
     let owns : Owns w c.args.me c.args.handle is_loose row = record {
       live = c.in_ok-at.ensures.found;
-      own = owner-same c.args.me row.owner c.in_ok-at.ensures.owner;
+      own = owner-same _ _ c.in_ok-at.ensures.owner;
       as_asked = search rules;
     } in
     record { pins = (row, owns, (here, m.pinned.0, rw c.in_ok-at.ensures.number at m.pinned.1)); refused = tt })
@@ -30,14 +30,14 @@ returns c =
 pub returns-in_err-pin_in_memory : goal.returns-in_err-pin_in_memory
 returns-in_err-pin_in_memory c =
     let row = c.in_ok-at.at.row in
-    rw (failed c.from_residual-in_err-pin_in_memory.result c.from_residual-in_err-pin_in_memory.ensures.1) (does-as c.in_err-pin_in_memory.ensures.does
+    rw (failed _ c.from_residual-in_err-pin_in_memory.ensures.1) (does-as c.in_err-pin_in_memory.ensures.does
     (λ storage m.
     let w = core_of c.args.t.now storage in
     let here : is_here w row.node.0 ≡ true = search rules in
-    let so = ap (if_there (λ (row : HandleRow). is_here w row.node.0) false) c.in_ok-at.ensures.found ∙ here in
+    let so = ap (if_there (λ row. is_here w row.node.0) false) c.in_ok-at.ensures.found ∙ here in
     let owns : Owns w c.args.me c.args.handle is_loose row = record {
       live = c.in_ok-at.ensures.found;
-      own = owner-same c.args.me row.owner c.in_ok-at.ensures.owner;
+      own = owner-same _ _ c.in_ok-at.ensures.owner;
       as_asked = search rules;
     } in
     let cause : pin_fault w c.args.me c.args.handle ≡ spent w.last.handle = grind basics in

@@ -12,19 +12,19 @@ make_handle-requires-clause-suits c = grind (basics, found-among, loose-unshared
 
 pub unreachable-requires : goal.unreachable-requires
 unreachable-requires c =
-    let again = found-again c.args.row.number.0 _ _ c.requires.owns.live ((c.in_ok-handle.ensures.does.does no_blobs).made.1.rows)
+    let again = found-again _ _ _ c.requires.owns.live ((c.in_ok-handle.ensures.does.does no_blobs).made.1.rows)
     c.in_default.ensures.none in
     absurd (cc)
 
 pub set_loose_pinned-requires-clause-unshared : goal.set_loose_pinned-requires-clause-unshared
 set_loose_pinned-requires-clause-unshared c =
-    let again = found-again c.args.row.number.0 _ _ c.requires.owns.live
+    let again = found-again _ _ _ c.requires.owns.live
     ((c.in_ok-handle.ensures.does.does no_blobs).made.1.rows) c.in-Some.ensures.found in
     grind (basics, loose-unshared, c.requires.owns.as_asked)
 
 pub set_loose_pinned-requires-clause-unlisted : goal.set_loose_pinned-requires-clause-unlisted
 set_loose_pinned-requires-clause-unlisted c =
-    let again = found-again c.args.row.number.0 _ _ c.requires.owns.live
+    let again = found-again _ _ _ c.requires.owns.live
     ((c.in_ok-handle.ensures.does.does no_blobs).made.1.rows) c.in-Some.ensures.found in
     grind (basics, not-list (core_alone c.args.t.now) c.args.me c.requires.holder, c.requires.owns.own)
 
@@ -39,12 +39,12 @@ returns-clause-does c =
     let w' = core_of c.set_loose_pinned.new.t storage in
     let turned = rw c.in-Some.ensures.number at turns in
     let same = λ (kind key : ℕ). ap (λ (u : Tables). cache u kind key) c.set_loose_pinned.ensures.same
-    ∙ ap (λ (u : Tables). cache u kind key) c.in_ok-handle.ensures.same in
+    ∙ ap (λ u. cache u kind key) c.in_ok-handle.ensures.same in
     let w = core_of c.args.t.now storage in
     record {
       pinned = (
         record { above = m.made.0.above; is_left = m.made.0.is_left },
-        pinned-alike w u w' row.number row.node c.args.me numbered.1 same m.made.1 turned,
+        pinned-alike w u w' _ _ _ numbered.1 same m.made.1 turned,
       );
       refused = tt;
     })

@@ -4,7 +4,7 @@ use Rattle.pagable_tables.proofs.{
   OwnedByLoad.does-so,
   SameViews.alike,
   Views.{moded, settled},
-  Words.{Counts, Mode, Some, ap, arith, basics, cases_eq, not, one, refl, sym, ◌+◌, ◌∙◌},
+  Words.{Counts, Some, ap, arith, basics, cases_eq, not, one, refl, sym, ◌+◌, ◌∙◌},
 }
 use Rattle.pagable_tables.specs.CascadeInvariant.{is_work}
 
@@ -20,8 +20,8 @@ returns-clause-does c =
     ∙ ap (λ p. record y { pins = y.pins + one (not p); holds = y.holds + 1 }) c.pins.ensures) in
     does-so
     (λ storage. alike _ _
-    (c.replace_row.ensures.becomes.rows ∙ changed-known t.handles.places.items c.args.at.place x w.steady.sound.ordered c.requires.place turned)
-    (λ q. grind (basics, cases_eq q x.node.0, is, here, e.others q)) refl (record { handles = omega arith; entries = omega arith }) refl)
+    (c.replace_row.ensures.becomes.rows ∙ changed-known _ _ x w.steady.sound.ordered c.requires.place turned)
+    (λ q. grind (basics, cases_eq q x.node.0, is, here, e.others q)) refl (grind arith) refl)
     (record {
       sound = c.replace_row.ensures.becomes.sound;
       next = c.replace_row.ensures.becomes.next (t.last_handle + 1) w.steady.next;
@@ -29,7 +29,7 @@ returns-clause-does c =
       worked = λ n. grind (basics, c.replace_row.ensures.sums (λ h. one (is_work n h)), w.steady.worked n, e.worker_bound n);
     })
     (λ pins.
-    let found = (at-place t.handles.places.items c.args.at.place x w.steady.sound.ordered c.requires.place).2 in
-    let turns = moded w.core x.number x Mode.LoosePinned found (sym c.requires.unshared) (λ loose. refl)
+    let found = (at-place _ _ x w.steady.sound.ordered c.requires.place).2 in
+    let turns = moded w.core _ x _ found (sym c.requires.unshared) (λ loose. refl)
     (λ is. grind (basics, c.requires.unlisted)) in
     settled pins turns.0 turns.2) refl refl refl

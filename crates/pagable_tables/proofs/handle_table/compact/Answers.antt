@@ -1,6 +1,6 @@
 use Rattle.pagable_tables.proofs.{
   HandleTable.{length-live-filter, live-filter},
-  Words.{All-filter, AllPairs-filter, IsBefore, Place, ap, arith, filter, filter_from_retain, is_live_place, length, live, rules, ◌<◌, ◌∙◌, ◌≡◌},
+  Words.{All-filter, AllPairs-filter, IsBefore, ap, arith, filter, filter_from_retain, is_live_place, length, live, rules, ◌<◌, ◌∙◌, ◌≡◌},
 }
 
 pub returns-clause-becomes : Rattle.pagable_tables.proofs.handle_table.compact.Goals.returns-clause-becomes
@@ -16,5 +16,5 @@ returns-clause-becomes c =
       };
       rows = ap live e ∙ live-filter old;
       capacity = search rules;
-      next = λ q next. rw e (All-filter is_live_place (λ (s : Place). s.row.number.0 < q) old next);
+      next = λ q next. rw e (All-filter is_live_place (λ s. s.row.number.0 < q) old next);
     }

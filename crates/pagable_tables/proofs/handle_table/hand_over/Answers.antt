@@ -15,8 +15,8 @@ pub returns-clause-keeps_sound : goal.returns-clause-keeps_sound
 returns-clause-keeps_sound c t plain owner work w =
     let x = c.args.at.row in
     let ss = c.args.handles.now.places.items in
-    let valued = only-row (λ h. one (is_handle x.number.0 h && is_value_owner h.owner)) ss c.args.at.place x c.requires.sound.ordered c.requires.place
+    let valued = only-row (λ h. one (is_handle x.number.0 h && is_value_owner h.owner)) ss _ x c.requires.sound.ordered c.requires.place
     (λ h. grind basics) in
-    moved-stands _ _ (only_handle x.number) c.args.owner w owner
+    moved-stands _ _ (only_handle x.number) _ w owner
     (λ y among is. let less = at-most-sum (λ h. one (is_handle x.number.0 h && is_value_owner h.owner)) _ y among in grind basics) work
     (returns-clause-becomes c)

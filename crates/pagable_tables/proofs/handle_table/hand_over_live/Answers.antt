@@ -1,10 +1,10 @@
-use Rattle.pagable_tables.proofs.{SameViews.moved-none, Words.{live, refl, sym}}
+use Rattle.pagable_tables.proofs.{SameViews.moved-none, Words.{refl, sym}}
 
 pub returns-in_default : Rattle.pagable_tables.proofs.handle_table.hand_over_live.Goals.returns-in_default
 returns-in_default c =
     record {
       sound = c.requires;
-      rows = sym (moved-none c.args.handle c.args.owner (live c.args.handles.now.places.items) c.in_default.ensures.none);
+      rows = sym (moved-none _ _ _ c.in_default.ensures.none);
       capacity = refl;
       next = λ q next. next;
     }

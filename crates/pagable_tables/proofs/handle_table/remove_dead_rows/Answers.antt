@@ -8,6 +8,6 @@ loop-end-preserved c =
     let lives : (get_or places end c.index.result.now).is_live ≡ false = grind (basics, c.index.ensures, c.is_live.ensures, c.if-not-is_live.true) in
     record {
       within = omega arith;
-      rows = sym (take-dead places end c.index.result.now (omega arith) lives) ∙ ap (λ n. live (take n places)) (sym is)
+      rows = sym (take-dead places end _ (omega arith) lives) ∙ ap (λ n. live (take n places)) (sym is)
           ∙ c.loop-end.invariant.rows;
     }

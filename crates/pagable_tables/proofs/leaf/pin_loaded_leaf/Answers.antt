@@ -1,7 +1,7 @@
 use Rattle.pagable_tables.proofs.{
   LeafLoad.pins-leaf,
   LoadEnd.has-come,
-  Words.{Alike, Core, Mode, Tables, ap, basics, core_of, counts_at, find_row, has_value_once_loaded, live, rows_of, subst, with_handle, with_mode, ◌+◌, ◌∙◌},
+  Words.{Alike, Mode, ap, basics, core_of, counts_at, find_row, has_value_once_loaded, live, rows_of, subst, with_handle, with_mode, ◌+◌, ◌∙◌},
 }
 use Rattle.pagable_tables.specs.Core.{no_blobs}
 use Rattle.pagable_tables.proofs.leaf.pin_loaded_leaf.Goals as goal
@@ -18,16 +18,16 @@ returns-clause-pins c storage =
     let pinned = (c.in-Ok.ensures.does.does storage).pinned in
     let taken = c.take_numbers.ensures.does.does storage in
     pins-leaf _ _ storage c.requires.whole c.in-Ok.ensures.does.whole _ _ c.requires.leaf
-    (subst (λ (w : Core). Alike (with_handle (with_mode w row.number Mode.LoosePinned) row.node Mode.Pinned c.args.me) (core_of c.pin_in_memory.new.t storage))
+    (subst (λ w. Alike (with_handle (with_mode w row.number Mode.LoosePinned) row.node Mode.Pinned c.args.me) (core_of c.pin_in_memory.new.t storage))
     taken pinned.1)
-    (λ kind k. ap (λ (t : Tables). (core_of t storage).cache kind k) (c.in-Ok.ensures.same)
-    ∙ ap (λ (t : Tables). (core_of t storage).cache kind k) c.take_numbers.ensures.same)
-    _ (pinned.0.above ∙ ap (λ (w : Core). w.last.handle + 1) taken)
+    (λ kind k. ap (λ t. (core_of t storage).cache kind k) (c.in-Ok.ensures.same)
+    ∙ ap (λ t. (core_of t storage).cache kind k) c.take_numbers.ensures.same)
+    _ (pinned.0.above ∙ ap (λ w. w.last.handle + 1) taken)
 
 pub returns-clause-values : goal.returns-clause-values
 returns-clause-values c n =
     let same = c.take_numbers.ensures.same in
     let row = c.args.leaf.row in
-    has-come c.take_numbers.new.t c.pin_in_memory.new.t no_blobs row c.args.me (c.in-Ok.ensures.does.does no_blobs).pinned.1 c.take_numbers.ensures.does.whole
-    c.in-Ok.ensures.does.whole (ap (λ (u : Tables). find_row row.number.0 (rows_of u.ref_counts)) same ∙ c.requires.leaf.owned.live) n
-    ∙ ap (λ (u : Tables). has_value_once_loaded (counts_at u.ref_counts.nodes) row.node n) same
+    has-come _ _ _ row _ (c.in-Ok.ensures.does.does no_blobs).pinned.1 c.take_numbers.ensures.does.whole
+    c.in-Ok.ensures.does.whole (ap (λ u. find_row row.number.0 (rows_of u.ref_counts)) same ∙ c.requires.leaf.owned.live) n
+    ∙ ap (λ u. has_value_once_loaded (counts_at u.ref_counts.nodes) row.node n) same

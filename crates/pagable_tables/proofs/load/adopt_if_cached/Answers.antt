@@ -13,12 +13,12 @@ use Rattle.pagable_tables.proofs.load.adopt_if_cached.Goals as goal
 
 pub returns-in-Some-clause-refused : goal.returns-in-Some-clause-refused
 returns-in-Some-clause-refused g c storage =
-    not-adopted _ c.args.me c.args.load c.args.kind c.args.key c.args.node_type c.args.references.now _
+    not-adopted _ _ _ c.args.kind c.args.key c.args.node_type c.args.references.now _
     (sym (c.adopt_fault.ensures storage) ∙ c.in-Some.is)
 
 pub make_handle-requires-clause-suits : goal.make_handle-requires-clause-suits
 make_handle-requires-clause-suits g c = rw c.mode_of.ensures
-    (known-suits c.requires.whole.core c.args.kind.0 c.args.key c.in-Some-usable_of.node.0 (sym (c.in-Some-usable_of.ensures no_blobs)))
+    (known-suits c.requires.whole.core _ _ _ (sym (c.in-Some-usable_of.ensures no_blobs)))
 
 pub make_handle-requires-clause-holder : goal.make_handle-requires-clause-holder
 make_handle-requires-clause-holder g c =
@@ -73,14 +73,14 @@ returns g c =
 
 pub returns-in_err-handle-clause-refused : goal.returns-in_err-handle-clause-refused
 returns-in_err-handle-clause-refused g c storage =
-    rw (failed c.from_residual.result c.from_residual.ensures.1) (refused-known (core_of c.args.t.now storage) c.args.me c.args.load c.args.kind c.args.key
-    c.args.node_type c.args.references.now (sym (c.adopt_fault.ensures storage) ∙ c.in_default.is)
-    c.in-Some-usable_of.node.0 (sym (c.in-Some-usable_of.ensures storage)) (c.in_err-handle.ensures.does.does storage).refused)
+    rw (failed _ c.from_residual.ensures.1) (refused-known _ _ _ _ _
+    _ _ (sym (c.adopt_fault.ensures storage) ∙ c.in_default.is)
+    _ (sym (c.in-Some-usable_of.ensures storage)) (c.in_err-handle.ensures.does.does storage).refused)
 
 pub returns-in_err-handle-clause-drops : goal.returns-in_err-handle-clause-drops
 returns-in_err-handle-clause-drops g c =
     let valued = c.requires.valued c.in-Some-usable_of.node.0 (sym (c.in-Some-usable_of.ensures no_blobs))
-    (eager (core_alone c.args.t.now) c.args.me c.args.load c.args.kind c.args.key c.args.node_type c.args.references.now
+    (eager (core_alone c.args.t.now) c.args.me c.args.load _ c.args.key c.args.node_type c.args.references.now
     (sym (c.adopt_fault.ensures no_blobs) ∙ c.in_default.is)) in
     stays-first (λ n. c.in_err-handle.ensures.values n (λ eq pins. ap (λ k. has_value (counts_at c.args.t.now.ref_counts.nodes k)) eq ∙ valued))
     (drops-still _ _ c.in_err-handle.ensures.does.whole.steady)

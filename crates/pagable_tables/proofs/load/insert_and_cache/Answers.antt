@@ -5,13 +5,13 @@ use Rattle.pagable_tables.proofs.{
   SameViews.{if-open, learned, still},
   Views.{newer-alike, settles},
   Wholeness.whole-so,
-  Words.{Alike, Last, NodeNumber, Option, Owner, Some, adopted, ap, core_alone, core_of, false, has_key, inl, inr, is_shared, key_in, mode_of, next_node, not},
+  Words.{Alike, NodeNumber, Option, Owner, Some, adopted, ap, core_alone, core_of, false, has_key, inl, inr, is_shared, key_in, mode_of, next_node, not},
   Words.{option_map, refl, sym, true, with_handle, with_node, ℕ, ◌/◌, ◌∙◌, ◌≡◌},
 }
 use Rattle.pagable_tables.specs.Core.{StorageView, no_blobs_of}
 
 abbrev number : Option NodeNumber → Option ℕ
-number o = option_map (λ (n : NodeNumber). n.0) o
+number o = option_map (λ n. n.0) o
 
 pub returns : Rattle.pagable_tables.proofs.load.insert_and_cache.Goals.returns
 returns c =
@@ -30,7 +30,7 @@ returns c =
     let cache = (core_of (record t1 { cache = c.cache_if.new.cache }) storage).cache in
     let b = born.does storage in
     let a : Alike u w' = rw c.node_type.ensures at (rw c.mode_of.ensures at b.leaves) in
-    let node = ap (λ (l : Last). l.node) a.last in
+    let node = ap (λ l. l.node) a.last in
     if-open storage.closed u (record w' { cache = cache }) c.args.kind c.args.key (next_node w)
     (λ shut. rw (sym (c.cache_if.ensures.same (e ∙ ap not shut))) at a)
     (λ stands. learned u w' c.args.kind c.args.key (next_node w) cache a (ap number (c.cache_if.ensures.here (e ∙ ap not stands)) ∙ ap Some node)

@@ -11,13 +11,13 @@ use Rattle.pagable_tables.proofs.{
 use Rattle.pagable_tables.proofs.load.load_begin.Goals as goal
 
 pub returns-in_err-at : goal.returns-in_err-at
-returns-in_err-at c = rw (failed c.from_residual.result c.from_residual.ensures.1) (nothing-does c.requires.whole
+returns-in_err-at c = rw (failed _ c.from_residual.ensures.1) (nothing-does c.requires.whole
     (λ storage.
     let w = core_of c.args.t.now storage in
     record {
       begins = tt;
       refused = record {
-        why = inl (handle-first w c.args.me c.args.handle is_loose _ _ (c.in_err-at.ensures.fault storage is_loose)
+        why = inl (handle-first w _ _ is_loose _ _ (c.in_err-at.ensures.fault storage is_loose)
             (λ f is. grind basics));
         stays = still w;
       };
@@ -30,11 +30,11 @@ unbegun {w} me h row found own loose here loads handles stays =
     let before : begin_fault w me h ≡ None = grind basics in
     record {
       begins = tt;
-      refused = record { why = inr (refl, before, ap (if_there (λ (r : HandleRow). is_here w r.node.0) false) found ∙ here); stays = stays };
+      refused = record { why = inr (refl, before, ap (if_there (λ r. is_here w r.node.0) false) found ∙ here); stays = stays };
     }
 
 pub returns-in_err-add_row : goal.returns-in_err-add_row
-returns-in_err-add_row c = rw (failed c.from_residual-in_err-add_row.result c.from_residual-in_err-add_row.ensures.1) (does-by
+returns-in_err-add_row c = rw (failed _ c.from_residual-in_err-add_row.ensures.1) (does-by
     (λ storage. unbegun c.args.me c.args.handle c.in_ok-at.at.row c.in_ok-at.ensures.found c.in_ok-at.ensures.owner (search rules) (search rules) (omega arith)
     (omega arith)
     (grind (basics, same-cache, c.in_err-add_row.ensures.err)))
@@ -67,7 +67,7 @@ returns c =
     let w' = core_of (record t { ref_counts = c.add_handle.new.t; loads = c.add_row.new.rows; last_load = l }) storage in
     let own : Owns w c.args.me c.args.handle is_loose row = record {
       live = c.in_ok-at.ensures.found;
-      own = owner-same c.args.me row.owner c.in_ok-at.ensures.owner;
+      own = owner-same _ _ c.in_ok-at.ensures.owner;
       as_asked = search rules;
     } in
     let away : is_here w row.node.0 ≡ false = search rules in
@@ -91,8 +91,8 @@ returns c =
       );
       refused = tt;
     })
-    c.add_handle.ensures.steady (begin-whole c.args.me c.args.handle c.requires.whole.core c.requires.owner)
-    (λ begins later. let n = newer-then (newer-handle (core_alone t) begins.begins.0.node Mode.LooseUnpinned (Owner.Load (record { 0 = l })))
+    c.add_handle.ensures.steady (begin-whole _ _ c.requires.whole.core c.requires.owner)
+    (λ begins later. let n = newer-then (newer-handle (core_alone t) _ _ _)
     (newer-alike begins.begins.2.4.2) in
     later-opened c.requires.whole.core later n l _ (grind basics)
     c.in_ok-add_row.ensures.here refl c.in_ok-add_row.ensures.others refl refl)

@@ -1,14 +1,14 @@
 use Rattle.pagable_tables.proofs.{
   OwnedByLoad.{does-as, nothing-does},
   SameViews.{failed, no-load-fault, not-own, spent-late},
-  Words.{arith, basics, core_of, is_usable, spent, where_so},
+  Words.{arith, basics, core_of, is_usable},
 }
 
 pub returns-in_err-_row-clause-does : Rattle.pagable_tables.proofs.load.load_cached.Goals.returns-in_err-_row-clause-does
 returns-in_err-_row-clause-does c =
-    rw (failed c.from_residual.result c.from_residual.ensures.1) (nothing-does c.requires.whole (λ storage. let w = core_of c.args.t.now storage in record {
+    rw (failed _ c.from_residual.ensures.1) (nothing-does c.requires.whole (λ storage. let w = core_of c.args.t.now storage in record {
       gives = tt;
-      refused = not-own w c.args.me c.args.load (where_so (is_usable w c.args.kind c.args.key) (spent w.last.handle)) _ (c.in_err-_row.ensures.fault storage)
+      refused = not-own w _ _ _ _ (c.in_err-_row.ensures.fault storage)
           (λ f so. omega (arith, spent-late w.last.handle (is_usable w c.args.kind c.args.key) f so));
     }))
 

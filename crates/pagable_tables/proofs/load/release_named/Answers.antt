@@ -11,7 +11,7 @@ loop-reference-init g c =
     let t = record c.args.t.now { listing_error = None } in (
       aside _ None [] _ c.requires,
       omega arith,
-      λ before w f few. none-given c.args.load c.args.references.now f,
+      λ before w f few. none-given _ c.args.references.now f,
       drops-still _ _ c.requires,
     )
 
@@ -20,7 +20,7 @@ loop-reference-preserved g c =
     let i = c.loop-reference.invariant in (
       c.release_if_owned.ensures.steady,
       omega arith,
-      λ before w f few. one-given c.args.load c.args.references.now c.loop-reference.reference-index _
+      λ before w f few. one-given _ _ _ _
           c.loop-reference-test.true (c.release_if_owned.ensures.so_far before w _ (i.2 before w f few) (omega arith)),
       drops-then i.3 c.release_if_owned.ensures.drops,
     )
@@ -31,6 +31,6 @@ returns-clause-falls g c before w f few owned =
     let k = c.loop-reference.reference-index in
     record {
       told = c.finish_cascade.result;
-      falls = c.finish_cascade.ensures.falls before w _ (all-given c.args.load c.args.references.now k
+      falls = c.finish_cascade.ensures.falls before w _ (all-given _ _ k
           (take_all k c.args.references.now (omega arith)) owned (i.2 before w f few));
     }

@@ -16,7 +16,7 @@ returns g c =
     let w = core_of t storage in
     let u = without_load w l in
     let falls = c.release_owned.ensures.falls w u (record u { loads = λ m. option_map load_in (load_at c.remove_row.new.rows m) }) (λ m. refl)
-    (begun-less t u.loads w.workers storage _ c.requires.whole e) (omega arith)
+    (begun-less t u.loads _ storage _ c.requires.whole e) (omega arith)
     (λ q own. let after = c.requires.above q own in ((omega arith, inl after), c.requires.up_to q own)) in
     loads-anew
     (updated-by (option_map load_in) c.remove_row.ensures.gone c.remove_row.ensures.others) falls)

@@ -1,4 +1,4 @@
-use Rattle.pagable_tables.proofs.{LastHandles.{above-noted, core-same, noted-does}, Words.{Tables, ap}}
+use Rattle.pagable_tables.proofs.{LastHandles.{above-noted, core-same, noted-does}, Words.ap}
 use Rattle.pagable_tables.proofs.load_end.install.Goals as goal
 
 pub install_until-requires-clause-ready : goal.install_until-requires-clause-ready
@@ -9,11 +9,11 @@ install_until-requires-clause-ready g c storage =
 
 pub install_until-requires-clause-place : goal.install_until-requires-clause-place
 install_until-requires-clause-place g c =
-    rw (ap (λ (u : Tables). u.ref_counts) c.handle_bound_of-until.ensures.notes.same) c.requires.place.place
+    rw (ap (λ u. u.ref_counts) c.handle_bound_of-until.ensures.notes.same) c.requires.place.place
 
 pub install_until-requires-clause-above : goal.install_until-requires-clause-above
 install_until-requires-clause-above g c =
-    above-noted c.args.load c.args.ending.load.since c.handle_bound_of-until.ensures.notes
+    above-noted _ _ c.handle_bound_of-until.ensures.notes
     (λ q own. c.requires.later.since c.args.load.0 c.args.ending.load q c.requires.place.load own)
 
 pub returns-clause-does : goal.returns-clause-does
@@ -21,4 +21,4 @@ returns-clause-does g c = noted-does c.handle_bound_of-until.ensures.notes c.ins
 
 pub returns-clause-drops : goal.returns-clause-drops
 returns-clause-drops g c =
-    rw (ap (λ (u : Tables). u.ref_counts) c.handle_bound_of-until.ensures.notes.same) at c.install_until.ensures.drops
+    rw (ap (λ u. u.ref_counts) c.handle_bound_of-until.ensures.notes.same) at c.install_until.ensures.drops

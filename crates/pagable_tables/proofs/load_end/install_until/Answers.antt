@@ -5,11 +5,11 @@ use Rattle.pagable_tables.proofs.{
   OwnedByLoad.{closed-still, later-less, lazily-by, not-named, still-reaches},
   SameViews.named-none,
   Views.{none-named, not-a-value},
-  Words.{ArcRef, Bool, Cell, Core, Counts, Error, Falls, FallsAnyhow, HandleRow, List, LoadNumber, Mode, None, Option, OptionalDataKey, Owner, RefCounts},
-  Words.{Result, Right, Some, Tables, and-true, ap, arith, basics, cases_Bool, cell_in, changed, core_alone, core_of, counts_at, falls_in, false, has_key},
-  Words.{has_value, if_there, inl, inr, is_handle, is_here, is_in_memory, is_named_by, is_owned_in, is_pin, key_in, live, load_at, load_in, moved, named},
-  Words.{nat_lt, not, one, option_map, owner_value, owns, owns_nothing, pins_in, references_fault, refl, refs_at, row_of, rows_of, sum_by, sym, true, with_pin},
-  Words.{without_load, ℕ, [], ◌&&◌, ◌++◌, ◌+◌, ◌<◌, ◌∙◌, ◌∷◌, ◌≡◌, ◌⊎◌},
+  Words.{ArcRef, Bool, Cell, Core, Counts, Error, Falls, FallsAnyhow, HandleRow, List, LoadNumber, Mode, None, Option, OptionalDataKey, Owner, Result, Right},
+  Words.{Some, and-true, ap, arith, basics, cases_Bool, cell_in, changed, core_alone, core_of, counts_at, falls_in, false, has_key, has_value, if_there, inl},
+  Words.{inr, is_handle, is_here, is_in_memory, is_named_by, is_owned_in, is_pin, key_in, live, load_at, load_in, moved, named, nat_lt, not, one, option_map},
+  Words.{owner_value, owns, owns_nothing, pins_in, references_fault, refl, refs_at, row_of, rows_of, sum_by, sym, true, with_pin, without_load, ℕ, [], ◌&&◌},
+  Words.{◌++◌, ◌+◌, ◌<◌, ◌∙◌, ◌∷◌, ◌≡◌, ◌⊎◌},
   WorkCounts.work-moved,
 }
 use Rattle.pagable_tables.specs.{Core.{no_blobs, no_blobs_of}, Nodes.coming}
@@ -45,7 +45,7 @@ bare-away (Some c) (r ∷ rs) pinned right still same away = absurd (grind (basi
 pub pin_in_memory-requires : goal.pin_in_memory-requires
 pin_in_memory-requires g c =
     let r = c.requires.ready no_blobs in
-    let holder = may-hold (core_alone c.args.t.now) c.args.me (ready-owner c.requires.whole r) in
+    let holder = may-hold (core_alone c.args.t.now) _ (ready-owner c.requires.whole r) in
     record { whole = c.requires.whole; holder = holder; owns = r.owned }
 
 pub unreachable-requires : goal.unreachable-requires
@@ -92,7 +92,7 @@ release_owned-requires-clause-steady g c =
           let still = stands at (was.steady.fits.marked n) in
           let bare : refs_at t.ref_counts.nodes n ≡ [] = bare-away at _ _ (was.steady.fits.right n) still (was.steady.fits.pinned n) away in
           let none : (q : ℕ) → sum_by (λ h. owns h n q) (rows_of t.ref_counts) ≡ 0 =
-          λ q. sym (was.steady.fits.owned n q) ∙ ap (λ (refs : List ArcRef). named q refs + owns_nothing n q) bare in
+          λ q. sym (was.steady.fits.owned n q) ∙ ap (λ refs. named q refs + owns_nothing n q) bare in
           let unvalued = not-a-value p me (may-hold p me (ready-owner was r)) in
           let spared = not-named p l rs was.core.handles r.may.good (t.ref_counts.last_handle + 1) (omega arith) in
           let before = changed (is_handle row.number.0) turned (rows_of t.ref_counts) ++ x ∷ [] in
@@ -106,9 +106,9 @@ release_owned-requires-clause-steady g c =
           ∙ ap (moved (is_named_by rs) (owner_value n)) a.rows in
           record {
             sound = j.handles.sound;
-            next = j.handles.next (k.last_handle + 1) (grind (arith, whole.steady.next, ap (λ (h : RefCounts). h.last_handle) j.same));
+            next = j.handles.next (k.last_handle + 1) (grind (arith, whole.steady.next, ap (λ h. h.last_handle) j.same));
             fits = rw rows
-                (grind (arith, told, ap (λ (h : RefCounts). h.top) j.same));
+                (grind (arith, told, ap (λ h. h.top) j.same));
             worked = rw j.handles.rows
                 (work-moved k.nodes (is_named_by (coming c.args.ending.lacks_value rs)) (owner_value n) (rows_of t1.ref_counts) refl
                 (λ m. rw (j.worker_bound m) (whole.steady.worked m)));
@@ -141,8 +141,8 @@ returns-clause-does g c =
       falls = falls-so b (core_of t storage) me l row rs c.release_owned.result _ r.away
           (ended t t1 storage c.args.lists c.requires.whole c.in-Ok.ensures.does.whole e row p.owned.live me
           (ready-owner c.requires.whole p) l (coming b rs)
-          good (c.in-Ok.ensures.does.does storage).pinned.1 same c.set_references_if.new.t j.handles.rows (ap (λ (h : RefCounts). h.list) j.same)
-          (ap (λ (h : RefCounts). h.last_handle) j.same)
+          good (c.in-Ok.ensures.does.does storage).pinned.1 same c.set_references_if.new.t j.handles.rows (ap (λ h. h.list) j.same)
+          (ap (λ h. h.last_handle) j.same)
           j.handles.capacity (λ m. ap cell_in (j.counts m)) c.args.ending.load.since c.args.until c.release_owned.new.t (load_at c.remove_row.new.rows)
           c.release_owned.result (λ before v f few between. c.release_owned.ensures.falls before v
           (record v { loads = λ m. option_map load_in (load_at c.remove_row.new.rows m) }) (λ m. refl) f few
@@ -152,16 +152,16 @@ returns-clause-does g c =
     c.release_owned.ensures.steady
     (λ i. (installs-goes c.requires.whole.core may i).whole)
     (λ i later. later-less later (installs-goes c.requires.whole.core may i).newer
-    (ap (λ (u : Tables). u.noted) same)
+    (ap (λ u. u.noted) same)
     (λ m load is. closed-still c.remove_row.ensures.gone
-    (λ q other. c.remove_row.ensures.others q other ∙ ap (λ (u : Tables). load_at u.loads q) same) m load is)
-    (still-reaches (ap (λ (u : Tables). u.workers) same)))
+    (λ q other. c.remove_row.ensures.others q other ∙ ap (λ u. load_at u.loads q) same) m load is)
+    (still-reaches (ap (λ u. u.workers) same)))
 
 pub returns-clause-drops : goal.returns-clause-drops
 returns-clause-drops g c = record {
   left = λ kept. c.release_owned.ensures.drops.left (λ n falls. kept n
       ∙ sym (ap has_value (c.set_references_if.ensures.counts n)
-      ∙ has-come c.args.t.now c.pin_in_memory.new.t (no_blobs_of c.args.lists) c.args.ending.row c.args.me
+      ∙ has-come _ _ _ _ _
       (c.in-Ok.ensures.does.does (no_blobs_of c.args.lists)).pinned.1 c.requires.whole c.in-Ok.ensures.does.whole
       (c.requires.ready (no_blobs_of c.args.lists)).owned.live n));
 }

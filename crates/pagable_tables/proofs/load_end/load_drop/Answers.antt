@@ -6,7 +6,7 @@ use Rattle.pagable_tables.proofs.{
 }
 
 pub returns-in_err-row : Rattle.pagable_tables.proofs.load_end.load_drop.Goals.returns-in_err-row
-returns-in_err-row g c = rw (failed c.from_residual.result c.from_residual.ensures.1)
+returns-in_err-row g c = rw (failed _ c.from_residual.ensures.1)
     (nothing-release_at c.requires.whole (λ storage e. record {
       does = inl
           (record { e = c.in_err-row.field-0.0; why = c.in_err-row.ensures.fault storage; told = refl; stays = still _ });
@@ -20,7 +20,7 @@ drop_until-requires-clause-own g c storage =
 
 pub drop_until-requires-clause-above : Rattle.pagable_tables.proofs.load_end.load_drop.Goals.drop_until-requires-clause-above
 drop_until-requires-clause-above g c =
-    above-noted c.args.load c.in_ok-row.row.since c.handle_bound_of-until.ensures.notes
+    above-noted _ _ c.handle_bound_of-until.ensures.notes
     (λ q own. c.requires.later.since c.args.load.0 c.in_ok-row.row q c.in_ok-row.ensures.row own)
 
 pub returns : Rattle.pagable_tables.proofs.load_end.load_drop.Goals.returns

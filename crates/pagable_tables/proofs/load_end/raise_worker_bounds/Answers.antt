@@ -9,7 +9,7 @@ use Rattle.pagable_tables.proofs.load_end.raise_worker_bounds.Goals as goal
 pub returns-then-not-is_worker-clause-worked : goal.returns-then-not-is_worker-clause-worked
 returns-then-not-is_worker-clause-worked c =
     let none : is_worker c.args.me ≡ false = grind (basics, c.is_worker.ensures) in
-    work-moved c.args.nodes.now (is_in (numbers_of c.args.named.now)) c.args.me (live c.args.handles.now.places.items) none c.requires.worked
+    work-moved _ (is_in (numbers_of c.args.named.now)) _ (live c.args.handles.now.places.items) none c.requires.worked
 
 pub loop-handle-init : goal.loop-handle-init
 loop-handle-init c = record {
@@ -40,6 +40,6 @@ returns-clause-worked c =
     let i = c.loop-handle.invariant in
     let hs = c.args.named.now in
     let all = take_all c.loop-handle.handle-index hs (omega arith) in
-    work-comes c.args.nodes.now c.loop-handle.nodes (is_in (numbers_of hs)) c.args.me (live c.args.handles.now.places.items) c.requires.ordered
+    work-comes _ _ (is_in (numbers_of hs)) _ _ c.requires.ordered
     c.requires.worked i.worker_bound
     (λ q row is found. i.here q row (ap (λ l. is_in (numbers_of l) q) all ∙ is) found)

@@ -33,9 +33,9 @@ release_owned-requires-clause-steady g c =
       fits = fits-same s.fits k.counts k.refs;
       worked = λ n. omega (arith, k.worker_bound n, s.worked n);
     } in
-    moved-stands _ _ (is_in (numbers_of hs)) c.args.me steady
-    (not-a-value w c.args.me (may-hold w c.args.me can.may))
-    (λ x among named. ap is_value_owner (handed-own w c.requires.whole.core.handles.ordered c.args.load hs can.named x among named)) k.worked
+    moved-stands _ _ (is_in (numbers_of hs)) _ steady
+    (not-a-value w _ (may-hold w _ can.may))
+    (λ x among named. ap is_value_owner (handed-own w c.requires.whole.core.handles.ordered _ hs can.named x among named)) k.worked
     c.hand_over_each.ensures
 
 pub returns : goal.returns
@@ -55,16 +55,16 @@ returns g c =
     let u : Core = record (without_load w l) { rows = moved s me w.rows } in
     let left : (q : ℕ) → is_owned_in u (Owner.Load l) q ≡ (is_owned_in w (Owner.Load l) q && not (s q)) =
     λ q. owned-moved s me (Owner.Load l) q w.rows (no-load p me l can.may) in
-    let so-far = begun w u c.args.lists
+    let so-far = begun w u _
     (record t.ref_counts { handles = c.hand_over_each.new.handles; nodes = c.raise_worker_bounds.new.nodes; listing_error = None }) e
     (λ p own. moved-times p s me w.rows (λ x. own x me)) (unmixed t c.requires.whole)
     (λ q. let a = (handed-whole c.requires.whole.core me l hs can).owners_there.listed q in omega arith) c.hand_over_each.ensures.rows refl refl
     c.requires.whole.core.handles.within.0
-    (record { handles = omega arith; entries = omega arith })
+    (grind arith)
     (λ n. rw (c.raise_worker_bounds.ensures.counts n) refl) refl in
     let falls = c.release_owned.ensures.falls w u (record u { loads = λ m. option_map load_in (load_at c.remove_row.new.rows m) }) (λ m. refl) so-far
     (omega (arith, ap length c.hand_over_each.ensures.rows))
-    (λ q own. let mine = and-left (is_owned_in w (Owner.Load l) q) (not (s q)) (sym (left q) ∙ own) in
+    (λ q own. let mine = and-left (is_owned_in w (Owner.Load l) q) _ (sym (left q) ∙ own) in
     let after = c.requires.later.since l.0 c.unwrap-row.result q row mine in ((omega arith, inl after), c.requires.up_to q mine)) in
     record {
       hands = (
@@ -79,8 +79,8 @@ returns g c =
       refused = tt;
     })
     c.release_owned.ensures.steady (hand-over-whole me l hs c.requires.whole.core)
-    (λ hands later. later-handed t later s me (λ m. no-load p me m can.may) _ refl l c.unwrap-row.result row
+    (λ hands later. later-handed t later s me (λ m. no-load p me m can.may) _ refl l _ row
     (grind (basics, row, can.own))
-    (handed-mine p (Owner.Load l) [] hs can.named) (newer-falls hands.hands.1.falls)
+    (handed-mine p _ [] hs can.named) (newer-falls hands.hands.1.falls)
     (closed-still c.remove_row.ensures.gone c.remove_row.ensures.others) refl refl))
     (stays-first (λ m. rw (c.raise_worker_bounds.ensures.counts m) (λ falls. (falls, refl))) c.release_owned.ensures.drops)

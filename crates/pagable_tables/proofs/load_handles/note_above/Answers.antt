@@ -1,4 +1,4 @@
-use Rattle.pagable_tables.proofs.{LastHandles.{raised-same, raised-then, told-on}, Words.{HandleRow, Place, ap, arith, get_or_default, ◌∙◌}}
+use Rattle.pagable_tables.proofs.{LastHandles.{raised-same, raised-then, told-on}, Words.{ap, arith, get_or_default, ◌∙◌}}
 use Rattle.pagable_tables.proofs.load_handles.note_above.Goals as goal
 
 pub loop-place-init : goal.loop-place-init
@@ -15,13 +15,13 @@ loop-place-preserved c =
     let p = c.index-found.result.now in
     record {
       rows = λ l. raised-then _ _ _ (i.rows l) (c.note.ensures.rows l);
-      noted = told-on c.loop-place.loads c.note.new.loads places c.args.number c.note.ensures.rows n i.noted (λ l row d at own.
+      noted = told-on c.loop-place.loads c.note.new.loads places _ c.note.ensures.rows n i.noted (λ l row d at own.
           let e = c.index-found.ensures ∙ get_or_default places n p d (omega arith) in
-          let number = ap (λ (x : Place). x.row.number.0) e in
+          let number = ap (λ x. x.row.number.0) e in
           omega (
             arith,
-            ap (λ (x : HandleRow). x.number.0) c.row.ensures,
+            ap (λ x. x.number.0) c.row.ensures,
             c.note.ensures.last l row
-                (ap (λ (x : HandleRow). x.owner) c.row.ensures ∙ ap (λ (x : Place). x.row.owner) e ∙ own) at,
+                (ap (λ x. x.owner) c.row.ensures ∙ ap (λ x. x.row.owner) e ∙ own) at,
           ));
     }

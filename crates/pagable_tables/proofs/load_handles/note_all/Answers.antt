@@ -1,5 +1,4 @@
 use Rattle.pagable_tables.proofs.{LastHandles.{core-same, noted-later}, Words.{refl, subst, sym}}
-use Rattle.pagable_tables.specs.Core.{no_blobs}
 use Rattle.pagable_pager_spec.specs.Pager as pager
 use Rattle.pagable_tables.proofs.load_handles.note_all.Goals as goal
 
@@ -12,7 +11,7 @@ returns-clause-notes c =
       rows = c.note_above.ensures.rows;
       whole = record {
         steady = c.requires.whole.steady;
-        core = subst pager.IsWhole (sym (core-same t t1 refl c.note_above.ensures.rows no_blobs))
+        core = subst pager.IsWhole (sym (core-same t t1 refl c.note_above.ensures.rows _))
             c.requires.whole.core;
       };
       later = noted-later t t1 refl c.note_above.ensures.rows refl c.note_above.ensures.noted c.requires.later;

@@ -13,7 +13,7 @@ use Rattle.pagable_tables.proofs.pending.schedule_for_paging.Goals as goal
 
 pub returns-in_err-at : goal.returns-in_err-at
 returns-in_err-at g c =
-    rw (failed c.from_residual.result c.from_residual.ensures.1) (nothing-release_at c.requires.whole
+    rw (failed _ c.from_residual.ensures.1) (nothing-release_at c.requires.whole
     (λ storage e. record { moves = tt; refused = record { why = inl (c.in_err-at.ensures.fault storage is_unpinned); stays = still _ } }))
 
 pub returns-then-not-lists : goal.returns-then-not-lists
@@ -26,7 +26,7 @@ returns-then-not-lists g c =
     let w = core_of t storage in
     let falls = rw c.in_ok-at.ensures.number at (c.try_release_at.ensures.falls w w (begun-whole t storage _ c.requires.whole e) (omega arith)) in
     let own : Owns w c.args.me c.args.handle is_unpinned row =
-    record { live = c.in_ok-at.ensures.found; own = owner-same c.args.me row.owner c.in_ok-at.ensures.owner; as_asked = search rules } in
+    record { live = c.in_ok-at.ensures.found; own = owner-same _ _ c.in_ok-at.ensures.owner; as_asked = search rules } in
     record {
       moves = (
         row,
@@ -38,16 +38,16 @@ returns-then-not-lists g c =
       );
       refused = tt;
     })
-    c.try_release_at.ensures.steady (schedule-goes c.args.me c.args.handle c.requires.whole.core c.requires.holder) refl refl refl)
+    c.try_release_at.ensures.steady (schedule-goes _ _ c.requires.whole.core c.requires.holder) refl refl refl)
     c.try_release_at.ensures.drops
 
 pub returns : goal.returns
 returns g c =
     let w = c.requires.whole.steady in
-    let unvalued = ap is_value_owner (owner-same c.args.me c.in_ok-at.at.row.owner c.in_ok-at.ensures.owner)
-    ∙ not-a-value (core_alone c.args.t.now) c.args.me c.requires.holder in
+    let unvalued = ap is_value_owner (owner-same _ _ c.in_ok-at.ensures.owner)
+    ∙ not-a-value (core_alone c.args.t.now) _ c.requires.holder in
     let steady = c.hand_over.ensures.keeps_sound (record c.args.t.now.ref_counts { list = c.push_back.new.self }) unvalued refl
-    (work-moved c.args.t.now.ref_counts.nodes (only_handle c.in_ok-at.at.row.number) Owner.List (rows_of c.args.t.now.ref_counts) refl
+    (work-moved _ (only_handle c.in_ok-at.at.row.number) Owner.List (rows_of c.args.t.now.ref_counts) refl
     w.worked)
     (record { sound = w.sound; next = w.next; fits = w.fits; worked = w.worked }) in
     let t = c.args.t.now in
@@ -65,7 +65,7 @@ returns g c =
       c.hand_over.ensures.becomes.rows,
       c.in_ok-at.ensures.number,
     ))
-    steady (schedule-goes c.args.me c.args.handle c.requires.whole.core c.requires.holder) refl refl refl)
+    steady (schedule-goes _ _ c.requires.whole.core c.requires.holder) refl refl refl)
     (drops-still _ _ c.requires.whole.steady)
 
 pub returns-in_err-reserve : goal.returns-in_err-reserve
@@ -74,7 +74,7 @@ returns-in_err-reserve g c =
     let w = c.requires.whole.steady in
     let e = c.reserve.ensures in
     let new = record t { ref_counts = record t.ref_counts { list = c.reserve.new.self } } in
-    rw (failed c.from_residual-in_err-reserve.result c.from_residual-in_err-reserve.ensures.1) (drops-with
+    rw (failed _ c.from_residual-in_err-reserve.ensures.1) (drops-with
     (lazily-so {lists = c.args.lists} {old = t} {new = new} {step = λ w w'. ScheduleCall w c.args.me c.args.handle (Err Error.OutOfMemory) w'}
     (λ storage e1. grind (
       basics,

@@ -43,7 +43,7 @@ returns c =
     storage in (
       slice_get_read t.list.items _ c.args.place h refl (omega arith) c.in-Some.ensures.value,
       at-work-still (alike _ w' given (λ n. rw (c.raise_bound_for.ensures.counts n) refl) c.in-Some.ensures.items
-          (record { handles = omega arith; entries = omega arith }) refl) c.widen_range.ensures.same_workers,
+          (grind arith) refl) c.widen_range.ensures.same_workers,
     )) in
     let none = entry-unvalued t.list.items t.handles.places.items c.args.place h (omega arith) c.in-Some.ensures.value (w.core.owners_there.listed h.0) in
     let unvalued = none c.in-Some-find_live.at.place c.in-Some-find_live.at.row w.steady.sound.ordered c.in-Some-find_live.ensures.place
@@ -77,7 +77,7 @@ returns c =
       whole = whole-so steady (take-whole _ c.args.me c.args.place h w.core c.requires.holder (taken no_blobs));
       later = λ other later.
           (let row = found-among h.0 (rows_of t) c.in-Some-find_live.at.row c.in-Some-find_live.ensures.found in
-          let numbered : 0 < h.0 = (let n = w.core.handles.numbered c.in-Some-find_live.at.row row.0 in omega arith) in
+          let numbered : 0 < h.0 = omega (arith, w.core.handles.numbered c.in-Some-find_live.at.row row.0) in
           later-by later (omega arith) refl (λ l load is. is) c.widen_range.ensures.wider
           (λ l q own. inl (load-kept u later (only_handle h) c.args.me other _ given l q own))
           (λ v q own. elim (worker-kept u later (only_handle h) c.args.me other _ given v q own) [

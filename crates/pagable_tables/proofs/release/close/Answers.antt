@@ -4,8 +4,8 @@ use Rattle.pagable_tables.proofs.{
   OwnedByLoad.{later-on, passes-given},
   Views.newer-falls,
   Wholeness.whole-so,
-  Words.{Falls, FallsAnyhow, NodeNumber, None, Owner, RefCounts, ap, arith, cached_at, core_of, false, inl, is_listed, is_owned_by, option_map, refl, shut},
-  Words.{subst, sym, with_tables, ℕ, ◌≡◌},
+  Words.{Falls, FallsAnyhow, None, Owner, RefCounts, ap, arith, cached_at, core_of, false, inl, is_listed, is_owned_by, option_map, refl, shut, subst, sym},
+  Words.{with_tables, ℕ, ◌≡◌},
 }
 use Rattle.pagable_tables.specs.Core.{no_blobs}
 use Rattle.pagable_tables.proofs.release.close.Goals as goal
@@ -19,7 +19,7 @@ returns-clause-closed g c storage failures' le =
     let whole = c.requires.whole in
     let left : RefCounts = record t.ref_counts { list = c.clear-2.new.self; listing_error = None } in
     let so-far = begun w u false left refl (λ p own. refl) (unmixed t whole) (λ q. omega arith) refl c.clear-2.ensures.items refl whole.core.handles.within.0
-    (record { handles = omega arith; entries = omega arith }) (λ n. refl) refl in
+    (grind arith) (λ n. refl) refl in
     let falls = c.release_owned.ensures.falls w u w (λ l. refl) so-far (omega arith)
     (λ q is. let given = passes-given (is_owned_by Owner.List) q whole.core.handles is in ((given.0, inl given.0), given.1)) in
     let listed : FallsAnyhow w u (is_listed w) (with_tables u c.release_owned.new.t) =
@@ -32,7 +32,7 @@ returns-clause-closed g c storage failures' le =
       told = refl;
       fails = le;
       falls = subst (λ known. FallsAnyhow w u (is_listed w) (record (with_tables u c.release_owned.new.t) { cache = known }))
-          (λ i kind key. sym (ap (option_map (λ (n : NodeNumber). n.0)) (none kind key)) i) listed;
+          (λ i kind key. sym (ap (option_map (λ n. n.0)) (none kind key)) i) listed;
     }
 
 pub returns-clause-whole : goal.returns-clause-whole

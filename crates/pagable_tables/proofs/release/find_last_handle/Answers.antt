@@ -1,11 +1,11 @@
-use Rattle.pagable_tables.proofs.{OwnedByLoad.{below-to, none-from, places}, Words.{HandleRow, ap, arith, contains_row, ◌-◌, basics}}
+use Rattle.pagable_tables.proofs.{OwnedByLoad.{below-to, none-from, places}, Words.{ap, arith, basics, contains_row, ◌-◌}}
 use Rattle.pagable_tables.proofs.release.find_last_handle.Goals as goal
 
 pub returns-then-number-since-clause-none : goal.returns-then-number-since-clause-none
 returns-then-number-since-clause-none c w q loads above below =
     let ss = c.args.handles.now.places.items in
-    none-from (contains_row w c.args.giving) ss c.loop-place.place q c.args.left
-    (λ k d lt. below-to ss (c.loop-place.place - 1) c.index-found.result.now (omega arith) c.index-found.ensures c.args.since q c.requires.ordered
+    none-from (contains_row w c.args.giving) ss _ q _
+    (λ k d lt. below-to ss _ _ (omega arith) c.index-found.ensures _ q c.requires.ordered
     (omega arith) above k d (omega arith)) below
     (λ k d. c.loop-place.invariant.passed w k d loads)
 
@@ -13,7 +13,7 @@ pub returns-then-is_in_release_set-clause-last : goal.returns-then-is_in_release
 returns-then-is_in_release_set-clause-last c =
     let ss = c.args.handles.now.places.items in
     let p = c.index-found.result.now in
-    let same = ap (λ (x : HandleRow). x.number.0) c.row-row.ensures in
+    let same = ap (λ x. x.number.0) c.row-row.ensures in
     record {
       place = grind (arith, places);
       found = grind (arith, places);
@@ -28,5 +28,5 @@ returns-then-is_in_release_set-clause-last c =
 
 pub returns-clause-none : goal.returns-clause-none
 returns-clause-none c w q loads above below =
-    none-from (contains_row w c.args.giving) c.args.handles.now.places.items c.loop-place.place q c.args.left (λ k d lt. absurd (omega arith)) below
+    none-from (contains_row w c.args.giving) _ _ q _ (λ k d lt. absurd (omega arith)) below
     (λ k d. c.loop-place.invariant.passed w k d loads)

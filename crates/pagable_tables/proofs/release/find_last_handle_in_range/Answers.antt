@@ -5,4 +5,4 @@ pub returns-then-is_known_empty-clause-none : goal.returns-then-is_known_empty-c
 returns-then-is_known_empty-clause-none c w q loads above below =
     let rows = live c.args.handles.now.places.items in
     let (v, n, is, none) = c.is_known_empty.ensures c.if-is_known_empty.true in
-    rw is (none-at-work v n w rows c.args.nodes.now c.requires.worked none q)
+    rw is (none-at-work v n w rows _ c.requires.worked none q)

@@ -8,7 +8,7 @@ use Rattle.pagable_tables.proofs.{
 
 pub returns-in_err-at : Rattle.pagable_tables.proofs.release.release.Goals.returns-in_err-at
 returns-in_err-at g c =
-    rw (failed c.from_residual.result c.from_residual.ensures.1) (nothing-release_at c.requires.whole
+    rw (failed _ c.from_residual.ensures.1) (nothing-release_at c.requires.whole
     (λ storage e. record {
       does = inl (record { e = c.in_err-at.field-0.0; why = c.in_err-at.ensures.fault storage any_mode; told = refl; stays = still _ });
     }))
@@ -25,7 +25,7 @@ returns g c =
         row,
         record {
           live = c.in_ok-at.ensures.found;
-          own = owner-same c.args.me row.owner c.in_ok-at.ensures.owner;
+          own = owner-same _ _ c.in_ok-at.ensures.owner;
           as_asked = refl;
         },
         fell e,

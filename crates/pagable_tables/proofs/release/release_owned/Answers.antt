@@ -25,11 +25,11 @@ loop-at-preserved g c =
       c.release_at.ensures.steady,
       omega arith,
       λ before u w loads f few between.
-          one-past before u w c.args.lists c.args.giving (λ is. (c.requires.listed is).0) c.args.reach (λ q e. (between q e).0) c.loop-at.t c.release_at.new.t
-          c.loop-at.left x b.0.0 b.1 c.in-Some.ensures.last.found (c.in-Some.ensures.last.contains w loads)
+          one-past before u w _ _ (λ is. (c.requires.listed is).0) _ (λ q e. (between q e).0) _ _
+          _ x b.0.0 b.1 c.in-Some.ensures.last.found (c.in-Some.ensures.last.contains w loads)
           (λ q in-reach above below. c.in-Some.ensures.last.last w q loads in-reach above below)
           (λ given s. c.release_at.ensures.so_far before u given s (omega arith)
-          (elim (given-plain w c.args.giving x.owner x.node (c.in-Some.ensures.last.contains w loads)) [
+          (elim (given-plain w _ x.owner x.node (c.in-Some.ensures.last.contains w loads)) [
             | inl free ↦ inl free
             | inr is ↦ let l = c.requires.listed is in inr (entry-apart s l.0 _ (i.4 l.0 ∙ l.1))
           ])) (i.2 before u w loads f few between),

@@ -13,7 +13,7 @@ use Rattle.pagable_tables.proofs.release.set_data_key.Goals as goal
 
 pub returns-in_err-at : goal.returns-in_err-at
 returns-in_err-at g c =
-    rw (failed c.from_residual.result c.from_residual.ensures.1) (nothing-release_at c.requires.whole
+    rw (failed _ c.from_residual.ensures.1) (nothing-release_at c.requires.whole
     (λ storage e. record {
       does = inl (record { e = c.in_err-at.field-0.0; why = c.in_err-at.ensures.fault storage any_mode; told = refl; stays = still _ });
     }))
@@ -29,7 +29,7 @@ finish_cascade-requires g c =
     let is = sym c.counts_of.ensures ∙ c.unwrap-counts.ensures in
     let here : counts_at c.set_counts.new.nodes n ≡ Some (keyed y c.get.result t.top) = grind (basics, e.here, c.first_dying_after.ensures) in
     let top : c.first_dying_after-t.result ≡ (if b then n else t.top) = grind (basics, c.first_dying_after-t.ensures) in
-    let fits = key-fits n y c.get.result w.fits is c.get.ensures.above here e.others e.refs b refl in
+    let fits = key-fits n y _ w.fits is c.get.ensures.above here e.others e.refs b refl in
     record {
       falling = (
         if b then n ∷ [] else [],

@@ -41,8 +41,8 @@ lowered-on T storage lists whole opened x new g =
       listing-is g.counts x.mode,
     ) in
     let long = length-map old.rows (λ y. if is_handle x.number.0 y then unpinned y else y) in
-    entered-on f g (λ n. refl) (λ n. whole.steady.fits.pinned n) (omega arith) now.rows long nobody nobody begins
-    (g.leaves.becomes.rows ∙ sym (append-nil _ ∙ all-kept now.rows)) refl
+    entered-on f g (λ n. refl) (λ n. whole.steady.fits.pinned n) (omega arith) _ long nobody nobody begins
+    (g.leaves.becomes.rows ∙ sym (append-nil _ ∙ all-kept _)) refl
     (none-within nobody now.rows) (λ s final bare has closed. none-within s now.rows) (λ falls. omega (arith, few falls))
 
 mine : (t : RefCounts) (me : Owner) (x : HandleRow) → IsSoundInCascade t [] owns_nothing → is_value_owner me ≡ false → is_owner me x.owner ≡ true
@@ -52,7 +52,7 @@ mine t me x w plain own =
 
 pub returns-in_err-at : goal.returns-in_err-at
 returns-in_err-at g c =
-    rw (failed c.from_residual.result c.from_residual.ensures.1) (nothing-release_at c.requires.whole
+    rw (failed _ c.from_residual.ensures.1) (nothing-release_at c.requires.whole
     (λ storage e. record {
       does = inl (record { e = c.in_err-at.field-0.0; why = c.in_err-at.ensures.fault storage is_loose; told = refl; stays = still _ });
     }))
@@ -75,9 +75,9 @@ returns-in-LoosePinned g c =
     let t = c.args.t.now in
     let row = c.in_ok-at.at.row in
     let up = c.release_without_cascade.ensures [] (mine t.ref_counts c.args.me row c.requires.whole.steady c.requires.not_a_value c.in_ok-at.ensures.owner) in
-    let turns = moded c.requires.whole.core c.args.handle row Mode.LooseUnpinned c.in_ok-at.ensures.found (ap is_shared (sym c.in-LoosePinned.is))
+    let turns = moded c.requires.whole.core _ row _ c.in_ok-at.ensures.found (ap is_shared (sym c.in-LoosePinned.is))
     (λ loose. refl) (λ is. refl) in
-    let own = owner-same c.args.me row.owner c.in_ok-at.ensures.owner in
+    let own = owner-same _ _ c.in_ok-at.ensures.owner in
     drops-with (does-as (lazily-so {lists = c.args.lists} {step = λ w w'. Falls w (with_mode w c.args.handle Mode.LooseUnpinned) nobody c.finish_cascade.result
     w'}
     (λ storage e.

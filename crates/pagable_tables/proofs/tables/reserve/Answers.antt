@@ -22,12 +22,12 @@ grown t u w e items capacity = does-so (λ storage. grind (basics, same-cache, e
     (alike-goes w.core) refl refl refl
 
 pub returns-in_err-reserve : goal.returns-in_err-reserve
-returns-in_err-reserve c = rw (failed c.from_residual.result c.from_residual.ensures.1)
+returns-in_err-reserve c = rw (failed _ c.from_residual.ensures.1)
     (does-as (grown c.args.t.now (record c.args.t.now.ref_counts { handles = c.reserve.new.handles }) c.requires c.reserve.ensures.widens refl (omega arith))
     (λ storage grown. record { stays = grown; enough = tt; wanting = (refl, grind (basics, c.in_err-reserve.ensures.err)) }))
 
 pub returns-in_err-reserve_entries : goal.returns-in_err-reserve_entries
-returns-in_err-reserve_entries c = rw (failed c.from_residual-in_err-reserve_entries.result c.from_residual-in_err-reserve_entries.ensures.1)
+returns-in_err-reserve_entries c = rw (failed _ c.from_residual-in_err-reserve_entries.ensures.1)
     (does-as (grown c.args.t.now (record c.args.t.now.ref_counts { handles = c.reserve.new.handles; list = c.reserve_entries.new.list }) c.requires
     c.reserve.ensures.widens c.reserve_entries.ensures.items c.reserve_entries.ensures.capacity)
     (λ storage grown. record { stays = grown; enough = tt; wanting = (refl, grind (basics, c.in_err-reserve_entries.ensures.err)) }))

@@ -11,5 +11,5 @@ returns c l =
     let old = c.args.loads.now.entries in
     let e : c.retain.new.self.entries ≡ filter (λ p. not (is_owner (owner_worker c.args.worker.0) p.1.owner)) old =
     filter-RetainsPairs _ _ _ (λ k v b w g call. search rules) _ _ c.retain.ensures.filtered in
-    ap (lookup (nat_eq l)) e ∙ lookup-filter-values nat_eq_equiv (λ (row : LoadRow). not (is_owner (owner_worker c.args.worker.0) row.owner)) l old
+    ap (lookup (nat_eq l)) e ∙ lookup-filter-values nat_eq_equiv (λ row. not (is_owner (owner_worker c.args.worker.0) row.owner)) l old
     c.len-many.ensures.unique ∙ filtered c.args.worker.0 (lookup (nat_eq l) old)

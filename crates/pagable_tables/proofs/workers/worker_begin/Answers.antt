@@ -3,11 +3,11 @@ use Rattle.pagable_tables.proofs.{
   OwnedByLoad.{does-by, later-begun, later-less, one-more-works},
   SameViews.{failed, same-cache},
   Views.{newer-alike, roomy-whole, settles},
-  Words.{basics, refl, ◌+◌},
+  Words.{basics, refl},
 }
 
 pub returns-in_err-add_row-clause-does : Rattle.pagable_tables.proofs.workers.worker_begin.Goals.returns-in_err-add_row-clause-does
-returns-in_err-add_row-clause-does c = rw (failed c.from_residual.result c.from_residual.ensures.1)
+returns-in_err-add_row-clause-does c = rw (failed _ c.from_residual.ensures.1)
     (does-by (λ storage. grind (basics, same-cache, c.in_err-add_row.ensures.err)) c.requires.steady
     (λ begun. settles (roomy-whole c.requires.core) begun.refused.1)
     (λ begun later. later-less later (newer-alike begun.refused.1) refl (λ l load is. is)
@@ -20,5 +20,5 @@ pub returns-clause-does : Rattle.pagable_tables.proofs.workers.worker_begin.Goal
 returns-clause-does c = does-by (λ storage. grind (basics, same-cache, one-more-works, c.in_ok-add_row.ensures.here, c.in_ok-add_row.ensures.others))
     c.requires.steady
     (λ begun. settles (worker-whole c.requires.core) begun.begun.1)
-    (λ begun later. later-begun c.requires.core later refl (c.args.t.now.last_worker + 1) refl (grind (basics, c.in_ok-add_row.ensures.here))
+    (λ begun later. later-begun c.requires.core later refl _ refl (grind (basics, c.in_ok-add_row.ensures.here))
     (λ u other. grind (basics, c.in_ok-add_row.ensures.others)))

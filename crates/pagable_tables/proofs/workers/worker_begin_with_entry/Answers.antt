@@ -1,4 +1,4 @@
-use Rattle.pagable_tables.proofs.{OwnedByLoad.takes-worker, Words.{core_of, refl, basics}}
+use Rattle.pagable_tables.proofs.{OwnedByLoad.takes-worker, Words.{basics, refl}}
 
 pub returns : Rattle.pagable_tables.proofs.workers.worker_begin_with_entry.Goals.returns
 returns c =
@@ -6,7 +6,7 @@ returns c =
     let e = c.in_ok-worker.ensures in
     let taken = c.take_pending.ensures in
     record {
-      does = λ storage. takes-worker (core_of c.args.t.now storage) (core_of t1 storage) _ c.args.place c.in_ok-worker.worker c.take_pending.result
+      does = λ storage. takes-worker _ _ _ _ _ _
           (grind (basics, c.worker_begin.ensures.same, e.more, e.number.1)) e.number.0 c.requires.within
           (taken.taken storage);
       whole = taken.whole;

@@ -17,9 +17,9 @@ returns g c =
     let h = c.release_owned.new.t in
     let r = c.release_owned.result in
     let w' = core_of (record t { ref_counts = h; loads = c.close_loads.new.loads; workers = c.remove_row.new.rows }) storage in
-    let falls = c.release_owned.ensures.falls w u w (λ l. refl) (begun-less t u.loads u.workers storage _ c.requires.whole e) (omega arith)
+    let falls = c.release_owned.ensures.falls w u w (λ l. refl) (begun-less t u.loads _ storage _ c.requires.whole e) (omega arith)
     (λ q is. (
-      rw c.reach_of-reach.ensures (in-reach t c.requires.whole c.requires.later c.args.worker q is),
+      rw c.reach_of-reach.ensures (in-reach t c.requires.whole c.requires.later _ q is),
       (passes-given (contains_row w (ReleaseSet.Worker c.args.worker)) q c.requires.whole.core.handles is).1,
     )) in
     let loads = loads-anew (λ l. grind (basics, c.close_loads.ensures l)) falls in
@@ -30,6 +30,6 @@ returns g c =
           loads;
     })
     c.release_owned.ensures.steady (worker-end-whole v c.requires.whole.core)
-    (λ ends later. later-less later (newer-falls ends.falls) refl (λ l load is. let left = sym (c.close_loads.ensures l) ∙ is in grind basics)
+    (λ ends later. later-less later (newer-falls ends.falls) refl (λ l load is. grind (basics, sym (c.close_loads.ensures l) ∙ is))
     (grind (basics, cases_eq, c.remove_row.ensures.gone, c.remove_row.ensures.others))))
     c.release_owned.ensures.drops
