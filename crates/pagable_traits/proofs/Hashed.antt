@@ -6,10 +6,10 @@ use Rattle.pagable_traits.proofs.{
   Maps.{Alike, EntriesMean, EntryMeans, IsSameOf, alike-more, alike-none, differ, entries-mean, entries-of-pairs, entries-written, entry-more},
   Maps.{forms-of-entries, pairs-of-entries, reads-entries, same-entries},
   Words.{AllAfter, Apart, ArcRef, Bool, Collected, Context, Differ, Entries, Entry, Error, FormAt, FormsAt, GivesSome, IsDistinct, IsPermutation, IsTotalOrder},
-  Words.{List, Meaning, MeansPair, Nesting, None, Option, Ordering, PutInTurn, Rest, Result, Shape, Some, ap, arith, both, counted, entry, false, get_or},
-  Words.{insert_entry, is_eq, is_some, keys_of, kind_of_arc, length, length-map, length_form, longest, lookup, map, match_ordering, more-entries, of_entries},
-  Words.{ordered, ordering_reverse, put_all, put_sorted, read, read_with, refl, same_key, set_value, subst, suc, sym, true, zero, ℕ, [], ◌++◌, ◌<◌, ◌∙◌, ◌∷◌},
-  Words.{◌≡◌, ◌≤◌},
+  Words.{List, Meaning, Means, MeansPair, Nesting, None, Option, Ordering, PutInTurn, Rest, Result, Shape, Some, ap, arith, both, counted, entry, false},
+  Words.{get_or, insert_entry, is_eq, is_some, keys_of, kind_of_arc, length, length-map, length_form, longest, lookup, map, match_ordering, more-entries},
+  Words.{of_entries, ordered, ordering_reverse, put_all, put_sorted, read, read_with, refl, same_key, set_value, subst, suc, sym, true, zero, ℕ, [], ◌++◌, ◌<◌, ◌∙◌},
+  Words.{◌∷◌, ◌≡◌, ◌≤◌},
 }
 use Rattle.pagable_value_spec.specs.{
   CarriedTypes.of_hash_map,
@@ -64,7 +64,7 @@ two-set d (y ∷ ys) (suc i) (suc j) p q = same-front y ys _ (two-set d ys i j (
 
 two-swapped : {X : Type 0} (xs : List X) (i j : ℕ) → i < length xs → j < length xs → Reordered xs (swap xs i j)
 two-swapped [] i j p q = absurd (omega arith)
-two-swapped {X} (d ∷ ys) i j p q = let P : List X → Type 0 = λ zs. Reordered (d ∷ ys) zs in subst P (swap_is (d ∷ ys) i j d p q) (two-set d (d ∷ ys) i j p q)
+two-swapped (d ∷ ys) i j p q = rw (← swap_is (d ∷ ys) i j d p q) (two-set d (d ∷ ys) i j p q)
 
 pub reordered : {X : Type 0} (xs ys : List X) → IsPermutation xs ys → Reordered xs ys
 reordered xs ys = IsPermutation-keeps xs (λ zs. Reordered xs zs) (reordered-same xs) (λ l i j p q h. and-then xs l (swap l i j) h (two-swapped l i j p q)) ys
@@ -156,8 +156,7 @@ module _ {K V : Type 0} (cmp : K → K → Ordering) (total : IsTotalOrder cmp) 
       let rest = in-order-reordered es h.1 in
       let moved : Reordered (e ∷ es) (put_key (in_order es) e) = and-then _ (e ∷ in_order es) _ (same-front e _ _ rest)
       (put-reordered (in_order es) e (after-reordered OtherKey e rest h.0)) in
-      let P : List (K × V) → Type 0 = λ zs. Reordered (e ∷ es) zs in
-      subst P (sym (put-late [] e es h.0)) moved
+      rw (put-late [] e es h.0) moved
 
   -- ---- a value that is replaced
 
@@ -215,22 +214,6 @@ entries-reordered (two-turned x y xs) (more-entries d s t m n es b1 b2 c j1 j2 l
     (_, _, more-entries d s t p q _ b3 b4 _ j3 j4 _ h i (more-entries d s t m n fs b1 b2 c2 j1 j2 l2 f g rest))
 entries-reordered (and-then xs ys zs h k) f = let r = entries-reordered h f in entries-reordered k r.2
 
-pub hash_maps_mean_alike : {K V : Type 0} (M : K → Meaning ArcRef → Type 0) (N : V → Meaning ArcRef → Type 0) (eq : K → K → Bool) → IsSameOf M eq
-    → (xs ys : List (K × V)) (m : Meaning ArcRef) → IsDistinct eq (keys_of xs) → IsPermutation xs ys → MeansHashMap M N xs m → MeansHashMap M N ys m
-hash_maps_mean_alike M N eq is xs ys m distinct moved means =
-    let es = entries-of-pairs M N means.each in
-    let same : means.es ≡ es.0 = same-entries means.es es.0 es.1 in
-    let r = alike-reordered (EntryMeans M N) (reordered xs ys moved) es.2 in
-    let apart = differ M N eq is xs es.0 es.2 distinct in
-    record {
-      es = r.0;
-      each = pairs-of-entries M N r.1;
-      is = means.is ∙ ap of_hash_map same
-          ∙ ap of_entries (any-order of_keys total same_key ties-alike r.2 [] apart);
-    }
-
--- ---- writing
-
 -- a form of a map has a form of each entry, whatever their order
 hash-map-parts : (n : Nesting) {s t : Shape} {m : Meaning ArcRef} {b : List ℕ} {k : List ArcRef} (es : List (Entry ArcRef)) → Differ es
     → FormAt n (hash_map s t) m b k → m ≡ of_hash_map es
@@ -239,44 +222,9 @@ hash-map-parts n es differs (hash-map-form l s t ds b k le apart f) e =
     let same : put_all (put_sorted code_order) [] ds ≡ put_all (put_sorted code_order) [] es = same-entries _ _ (sequence-same _ _ e) in
     let there = in-order-reordered of_keys total same_key ties-alike ds apart in
     let back = reordered-back (in-order-reordered of_keys total same_key ties-alike es differs) in
-    let P : List (Entry ArcRef) → Type 0 = λ zs. Reordered ds zs in
-    let moved : Reordered ds es = and-then _ _ _ (subst P same there) back in
+    let moved : Reordered ds es = and-then _ _ _ (rw same at there) back in
     let g = entries-reordered moved f in
-    let short : length es ≤ longest = rw (← reordered-length moved) le in
-    (short, (g.0, g.1, forms-of-entries g.2))
-
-pub wraps_hash_map : {K V : Type 0} (M : K → Meaning ArcRef → Type 0) (N : V → Meaning ArcRef → Type 0) (eq : K → K → Bool) → IsSameOf M eq
-    → (xs : List (K × V)) (n : Nesting) (s t : Shape) → IsDistinct eq (keys_of xs) → Wraps (MeansPair M N) xs (MeansHashMap M N xs) n (hash_map s t) (both s t)
-wraps_hash_map M N eq is xs n s t distinct = record {
-  joins = λ ms b k each le f.
-      let w = entries-written M N each f in
-      let form : FormAt n (hash_map s t) (of_hash_map w.es) (length_form (length ms) ++ b) k =
-      rw w.long (hash-map-form _ s t w.es b k (rw (← w.long) le) (differ M N eq is xs w.es w.mean distinct) w.form) in
-      (of_hash_map w.es, record { es = w.es; each = rw w.is at each; is = refl }, form);
-  splits = λ ms each.
-      let es = entries-of-pairs M N each in (
-        of_hash_map es.0,
-        record { es = es.0; each = rw es.1 at each; is = refl },
-        λ b k f.
-            let p = hash-map-parts n es.0 (differ M N eq is xs es.0 es.2 distinct) f refl in
-            let same : length ms ≡ length es.0 = ap (λ (xs : List (Meaning ArcRef)). length xs) es.1 ∙ length-map es.0 entry in
-            (rw same p.0, (p.1.0, p.1.1, let Q : List (Meaning ArcRef) → Type 0 = λ xs. FormsAt n (both s t) xs p.1.0 p.1.1 in subst Q (sym es.1) p.1.2)),
-      );
-}
-
--- ---- putting in
-
-set-means : {K V : Type 0} (M : K → Meaning ArcRef → Type 0) (N : V → Meaning ArcRef → Type 0) (eq : K → K → Bool) → IsSameOf M eq
-    → (x : K × V) (e : Entry ArcRef) → M x.0 e.0 → N x.1 e.1 → {xs : List (K × V)} {es : List (Entry ArcRef)} → EntriesMean M N xs es
-    → EntriesMean M N (set_value (eq x.0) xs x.1) (set_value (same_key e.0) es e.1)
-set-means M N eq is x e first second alike-none = alike-none
-set-means M N eq is x e first second (alike-more y f xs es g t) = grind (arith, entry-more M N, set-means M N eq is x e first second t)
-
-found-alike : {K V : Type 0} (M : K → Meaning ArcRef → Type 0) (N : V → Meaning ArcRef → Type 0) (eq : K → K → Bool) → IsSameOf M eq
-    → (x : K) (e : Meaning ArcRef) → M x e → {xs : List (K × V)} {es : List (Entry ArcRef)} → EntriesMean M N xs es
-    → is_some (lookup (same_key e) es) ≡ is_some (lookup (eq x) xs)
-found-alike M N eq is x e first alike-none = refl
-found-alike M N eq is x e first (alike-more y f xs es g t) = grind (arith, found-alike M N eq is x e first t)
+    (rw (← reordered-length moved) le, (g.0, g.1, forms-of-entries g.2))
 
 none-apart : (e : Entry ArcRef) (es : List (Entry ArcRef)) → is_some (lookup (same_key e.0) es) ≡ false
     → AllAfter (λ (d f : Entry ArcRef). same_key d.0 f.0 ≡ false) e es
@@ -285,71 +233,105 @@ none-apart e [] h = tt
 none-apart e (f ∷ es) h = let back = other-back of_keys total same_key ties-alike e f in grind (arith, back, none-apart e es)
 
 -- entries whose meaning, put in order, is this
-record InOrder {K V : Type 0} (M : K → Meaning ArcRef → Type 0) (N : V → Meaning ArcRef → Type 0) (now : List (K × V)) (es : List (Entry ArcRef)) : Type 0 where
+record InOrder {K V : Type 0} (M : Means K) (N : Means V) (now : List (K × V)) (es : List (Entry ArcRef)) : Type 0 where
   fs : List (Entry ArcRef)
   mean : EntriesMean M N now fs
   is : put_all (put_sorted code_order) [] fs ≡ es
 
--- one more entry is put in wherever it stands
-one-more : {K V : Type 0} (M : K → Meaning ArcRef → Type 0) (N : V → Meaning ArcRef → Type 0) (eq : K → K → Bool) → IsSameOf M eq
-    → (xs ys : List (K × V)) (es : List (Entry ArcRef)) (x : K × V) (e : Entry ArcRef) → IsDistinct eq (keys_of xs) → EntriesMean M N xs es → M x.0 e.0
-    → N x.1 e.1
-    → PutsAnywhere eq xs x ys → InOrder M N ys (put_sorted code_order (put_all (put_sorted code_order) [] es) e)
-unfolding Apart put_all
-one-more {K} {V} M N eq is xs ys es x e distinct mean first second puts = by_case (lookup (eq x.0) xs) refl puts.1
-  where
-    by_case : (o : Option V) → lookup (eq x.0) xs ≡ o → MatchOption o (IsPermutation (x ∷ xs) ys) (λ _. ys ≡ set_value (eq x.0) xs x.1)
-        → InOrder M N ys (put_sorted code_order (put_all (put_sorted code_order) [] es) e)
-    by_case None p moved =
-        let r = alike-reordered (EntryMeans M N) (reordered (x ∷ xs) ys moved) (entry-more M N x e xs es first second mean) in
-        let none : is_some (lookup (same_key e.0) es) ≡ false = found-alike M N eq is x.0 e.0 first mean ∙ ap is_some p in
-        let apart : Differ (e ∷ es) = (none-apart e es none, differ M N eq is xs es mean distinct) in
-        record {
-          fs = r.0;
-          mean = r.1;
-          is = sym (any-order of_keys total same_key ties-alike r.2 [] apart)
-              ∙ put-late of_keys total same_key ties-alike [] e es apart.0;
-        }
-    by_case (Some v) p set =
-        let found : is_some (lookup (same_key e.0) es) ≡ true = found-alike M N eq is x.0 e.0 first mean ∙ ap is_some p in
-        let apart = differ M N eq is xs es mean distinct in
-        let there : EntriesMean M N ys (set_value (same_key e.0) es e.1) = rw set (set-means M N eq is x e first second mean) in
-        record {
-          fs = set_value (same_key e.0) es e.1;
-          mean = there;
-          is = put-value of_keys total same_key ties-alike (same_key e.0) e.0 e.1
-              (λ q. ties-alike e.0 q) [] es apart found;
-        }
+module _ {K V : Type 0} {M : Means K} (N : Means V) {eq : K → K → Bool} (like : IsSameOf M eq) where
+  pub hash_maps_mean_alike : (xs ys : List (K × V)) (m : Meaning ArcRef) → IsDistinct eq (keys_of xs) → IsPermutation xs ys → MeansHashMap M N xs m
+      → MeansHashMap M N ys m
+  hash_maps_mean_alike xs ys m distinct moved means =
+      let es = entries-of-pairs M N means.each in
+      let r = alike-reordered (EntryMeans M N) (reordered xs ys moved) es.2 in
+      record {
+        es = r.0;
+        each = pairs-of-entries M N r.1;
+        is = means.is ∙ ap of_hash_map (same-entries means.es es.0 es.1)
+            ∙ ap of_entries (any-order of_keys total same_key ties-alike r.2 [] (differ N like es.2 distinct));
+      }
 
--- and so are all
-all-more : {K V : Type 0} (M : K → Meaning ArcRef → Type 0) (N : V → Meaning ArcRef → Type 0) (eq : K → K → Bool) → IsSameOf M eq
-    → (acc now : List (K × V)) (ds : List (Entry ArcRef)) {xs : List (K × V)} {es : List (Entry ArcRef)} → IsDistinct eq (keys_of acc) → EntriesMean M N acc ds
-    → EntriesMean M N xs es
-    → PutInTurn (λ old x new. PutsAnywhere eq old x new) acc xs now → InOrder M N now
-    (put_all (put_sorted code_order) (put_all (put_sorted code_order) [] ds) es)
-unfolding PutInTurn put_all
-all-more M N eq is acc now ds distinct mean alike-none same = record { fs = ds; mean = rw same mean; is = refl }
-all-more {K} {V} M N eq is acc now ds distinct mean (alike-more x e xs es h t) turn =
-    let one = one-more M N eq is acc turn.0 ds x e distinct mean h.0 h.1 turn.1 in
-    let rest = all-more M N eq is turn.0 now one.fs turn.1.0 one.mean t turn.2 in
-    let P : List (Entry ArcRef) → Type 0 = λ zs. InOrder M N now (put_all (put_sorted code_order) zs es) in
-    subst P one.is rest
+  -- ---- writing
 
--- ---- reading
+  pub wraps_hash_map : {xs : List (K × V)} {n : Nesting} {s t : Shape} → IsDistinct eq (keys_of xs)
+      → Wraps (MeansPair M N) xs (MeansHashMap M N xs) n (hash_map s t) (both s t)
+  wraps_hash_map {xs} {n} {s} {t} distinct = record {
+    joins = λ ms b k each le f.
+        let w = entries-written M N each f in
+        let form : FormAt n (hash_map s t) (of_hash_map w.es) (length_form (length ms) ++ b) k =
+        rw w.long (hash-map-form _ s t w.es b k (rw (← w.long) le) (differ N like w.mean distinct) w.form) in
+        (of_hash_map w.es, record { es = w.es; each = rw w.is at each; is = refl }, form);
+    splits = λ ms each.
+        let es = entries-of-pairs M N each in (
+          of_hash_map es.0,
+          record { es = es.0; each = rw es.1 at each; is = refl },
+          λ b k f.
+              let p = hash-map-parts n es.0 (differ N like es.2 distinct) f refl in
+              let same : length ms ≡ length es.0 = ap (λ (xs : List (Meaning ArcRef)). length xs) es.1 ∙ length-map es.0 entry in
+              (rw same p.0, (p.1.0, p.1.1, let Q : List (Meaning ArcRef) → Type 0 = λ xs. FormsAt n (both s t) xs p.1.0 p.1.1 in subst Q (sym es.1) p.1.2)),
+        );
+  }
 
-hash-map-put : {K V : Type 0} (M : K → Meaning ArcRef → Type 0) (N : V → Meaning ArcRef → Type 0) (eq : K → K → Bool) → IsSameOf M eq
-    → (now : List (K × V)) (es : List (Entry ArcRef)) → Collected (MeansPair M N) (λ old x new. PutsAnywhere eq old x new) now (map entry es)
-    → MeansHashMap M N now (of_hash_map es)
-unfolding IsDistinct put_all
-hash-map-put M N eq is now es c =
-    let put = all-more M N eq is [] now [] tt alike-none (entries-mean M N es c.each) c.is in
-    record { es = put.fs; each = pairs-of-entries M N put.mean; is = ap of_entries (sym put.is) }
+  -- ---- putting in
 
-pub reads_hash_map : {X K V A : Type 0} (own : Error → Type 0) (M : K → Meaning ArcRef → Type 0) (N : V → Meaning ArcRef → Type 0) (eq : K → K → Bool)
-    → IsSameOf M eq → (r : Result X Error) (held : X → List (K × V)) (context : Context A ArcRef) (s t : Shape) (rest last : Rest A)
-    → GivesSome own (λ x. Collected (MeansPair M N) (λ old y new. PutsAnywhere eq old y new) (held x)) last r (counted (read context (both s t)) rest)
-    → GivesSome own (λ x. MeansHashMap M N (held x)) last r (read context (hash_map s t) rest)
-unfolding read read_with
-reads_hash_map own M N eq is r held context s t rest last h =
-    reads-entries own (λ x. Collected (MeansPair M N) (λ old y new. PutsAnywhere eq old y new) (held x)) (λ x. MeansHashMap M N (held x)) of_hash_map
-    (λ x es p. hash-map-put M N eq is (held x) es p) r context s t rest last h
+  set-means : (x : K × V) (e : Entry ArcRef) → M x.0 e.0 → N x.1 e.1 → {xs : List (K × V)} {es : List (Entry ArcRef)} → EntriesMean M N xs es
+      → EntriesMean M N (set_value (eq x.0) xs x.1) (set_value (same_key e.0) es e.1)
+  set-means x e first second alike-none = alike-none
+  set-means x e first second (alike-more y f xs es g t) = grind (arith, entry-more M N, set-means x e first second t)
+
+  found-alike : (x : K) (e : Meaning ArcRef) → M x e → {xs : List (K × V)} {es : List (Entry ArcRef)} → EntriesMean M N xs es
+      → is_some (lookup (same_key e) es) ≡ is_some (lookup (eq x) xs)
+  found-alike x e first alike-none = refl
+  found-alike x e first (alike-more y f xs es g t) = grind (arith, found-alike x e first t)
+
+  -- one more entry is put in wherever it stands
+  one-more : (xs ys : List (K × V)) (es : List (Entry ArcRef)) (x : K × V) (e : Entry ArcRef) → IsDistinct eq (keys_of xs) → EntriesMean M N xs es
+      → M x.0 e.0 → N x.1 e.1 → PutsAnywhere eq xs x ys → InOrder M N ys (put_sorted code_order (put_all (put_sorted code_order) [] es) e)
+  unfolding Apart put_all
+  one-more xs ys es x e distinct mean first second puts = by_case (lookup (eq x.0) xs) refl puts.1
+    where
+      by_case : (o : Option V) → lookup (eq x.0) xs ≡ o → MatchOption o (IsPermutation (x ∷ xs) ys) (λ _. ys ≡ set_value (eq x.0) xs x.1)
+          → InOrder M N ys (put_sorted code_order (put_all (put_sorted code_order) [] es) e)
+      by_case None p moved =
+          let r = alike-reordered (EntryMeans M N) (reordered (x ∷ xs) ys moved) (entry-more M N x e xs es first second mean) in
+          let none : is_some (lookup (same_key e.0) es) ≡ false = found-alike x.0 e.0 first mean ∙ ap is_some p in
+          let apart : Differ (e ∷ es) = (none-apart e es none, differ N like mean distinct) in
+          record {
+            fs = r.0;
+            mean = r.1;
+            is = sym (any-order of_keys total same_key ties-alike r.2 [] apart)
+                ∙ put-late of_keys total same_key ties-alike [] e es apart.0;
+          }
+      by_case (Some v) p set =
+          let found : is_some (lookup (same_key e.0) es) ≡ true = found-alike x.0 e.0 first mean ∙ ap is_some p in
+          record {
+            fs = set_value (same_key e.0) es e.1;
+            mean = rw set (set-means x e first second mean);
+            is = put-value of_keys total same_key ties-alike (same_key e.0) e.0 e.1 (λ q. ties-alike e.0 q) [] es (differ N like mean distinct) found;
+          }
+
+  -- and so are all
+  all-more : (acc now : List (K × V)) (ds : List (Entry ArcRef)) {xs : List (K × V)} {es : List (Entry ArcRef)} → IsDistinct eq (keys_of acc)
+      → EntriesMean M N acc ds → EntriesMean M N xs es → PutInTurn (λ old x new. PutsAnywhere eq old x new) acc xs now
+      → InOrder M N now (put_all (put_sorted code_order) (put_all (put_sorted code_order) [] ds) es)
+  unfolding PutInTurn put_all
+  all-more acc now ds distinct mean alike-none same = record { fs = ds; mean = rw same mean; is = refl }
+  all-more acc now ds distinct mean (alike-more x e xs es h t) turn =
+      let one = one-more acc turn.0 ds x e distinct mean h.0 h.1 turn.1 in
+      rw (← one.is) (all-more turn.0 now one.fs turn.1.0 one.mean t turn.2)
+
+  -- ---- reading
+
+  hash-map-put : (now : List (K × V)) (es : List (Entry ArcRef)) → Collected (MeansPair M N) (λ old x new. PutsAnywhere eq old x new) now (map entry es)
+      → MeansHashMap M N now (of_hash_map es)
+  unfolding IsDistinct put_all
+  hash-map-put now es c =
+      let put = all-more [] now [] tt alike-none (entries-mean M N es c.each) c.is in
+      record { es = put.fs; each = pairs-of-entries M N put.mean; is = ap of_entries (sym put.is) }
+
+  pub reads_hash_map : {X A : Type 0} (own : Error → Type 0) (r : Result X Error) (held : X → List (K × V)) (context : Context A ArcRef) (s t : Shape)
+      (rest last : Rest A)
+      → GivesSome own (λ x. Collected (MeansPair M N) (λ old y new. PutsAnywhere eq old y new) (held x)) last r (counted (read context (both s t)) rest)
+      → GivesSome own (λ x. MeansHashMap M N (held x)) last r (read context (hash_map s t) rest)
+  unfolding read read_with
+  reads_hash_map own r held context s t rest last h = reads-entries own _ _ of_hash_map (λ x es p. hash-map-put (held x) es p) r context s t rest last h

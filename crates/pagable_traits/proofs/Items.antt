@@ -4,12 +4,12 @@
 use Rattle.pagable_codec.proofs.Writing.{out_is}
 use Rattle.pagable_traits.proofs.{
   Parts.{err_along, ok_along, only-count, only-part},
-  Words.{ArcRef, Bor, Collected, Context, Err, Error, FormAt, Forms, FormsAt, Gave, Gets, GivesSome, IfErr, List, MeanAll, Meaning, Meanings, MeansList},
+  Words.{ArcRef, Bor, Collected, Err, Error, FormAt, Forms, FormsAt, Gave, Gets, GivesSome, IfErr, List, MeanAll, Meaning, Meanings, Means, MeansList},
   Words.{MeansPair, Nesting, NoForm, NoFormOfSome, NoForms, NoFormsOfSome, Ok, Option, Out, PutInTurn, Refused, RefusedAll, RefusedAmong, RefusedCounted, Rest},
   Words.{Result, Shape, Some, SomeMeaning, WritesEach, WritesSome, WritesSomeAll, added, ap, append-nil, append_assoc, arith, counted, get_or, grows_trans},
-  Words.{inl, items, items_have_meanings, kind_of_arc, length, length_form, list, list-form, long_or, longest, map, mean-more, mean-none, memory_or},
-  Words.{memory_refuses, more-forms, moves_trans, no-forms, put_all, read, read_with, refl, sequence, some, subst, suc, sym, take, then, zero, ℕ, [], ◌++◌},
-  Words.{◌+◌, ◌-◌, ◌<◌, ◌>>=◌, ◌∙◌, ◌∷◌, ◌≡◌, ◌≤◌, ◌⊎◌},
+  Words.{inl, items, items_have_meanings, kind_of_arc, length, length_form, list, long_or, longest, map, mean-more, mean-none, memory_or, memory_refuses},
+  Words.{more-forms, moves_trans, no-forms, put_all, read, refl, sequence, some, subst, suc, sym, take, then, zero, ℕ, [], ◌++◌, ◌+◌, ◌-◌, ◌<◌, ◌>>=◌, ◌∙◌},
+  Words.{◌∷◌, ◌≡◌, ◌≤◌, ◌⊎◌},
 }
 use Rattle.pagable_value_spec.specs.{Form.{Form, array-form, run-form}, Shape.{array, run}}
 use Rattle.std.proofs.{
@@ -28,18 +28,18 @@ use Rattle.std.specs.{
 
 -- ---- what items mean
 
-pub mean_last : {T : Type 0} (M : T → Meaning ArcRef → Type 0) (xs : List T) (ms : List (Meaning ArcRef)) (x : T) (m : Meaning ArcRef) → MeanAll M xs ms → M x m
+pub mean_last : {T : Type 0} (M : Means T) (xs : List T) (ms : List (Meaning ArcRef)) (x : T) (m : Meaning ArcRef) → MeanAll M xs ms → M x m
     → MeanAll M (xs ++ x ∷ []) (ms ++ m ∷ [])
 mean_last M _ _ x m mean-none h = mean-more x m [] [] h mean-none
 mean_last M _ _ x m (mean-more y n xs ms g t) h = mean-more y n _ _ g (mean_last M xs ms x m t h)
 
-pub mean-length : {T : Type 0} {M : T → Meaning ArcRef → Type 0} {xs : List T} {ms : List (Meaning ArcRef)} → MeanAll M xs ms → length ms ≡ length xs
+pub mean-length : {T : Type 0} {M : Means T} {xs : List T} {ms : List (Meaning ArcRef)} → MeanAll M xs ms → length ms ≡ length xs
 mean-length mean-none = refl
 mean-length (mean-more x m xs ms h t) = ap (λ (n : ℕ). suc n) (mean-length t)
 
 -- ---- writing
 
-pub writes_no_items : {T : Type 0} (M : T → Meaning ArcRef → Type 0) (n : Nesting) (s : Shape) (old : Out) → WritesSomeAll (MeanAll M []) n s old old
+pub writes_no_items : {T : Type 0} (M : Means T) (n : Nesting) (s : Shape) (old : Out) → WritesSomeAll (MeanAll M []) n s old old
 writes_no_items M n s old = record {
   ms = [];
   is = mean-none;
@@ -59,7 +59,7 @@ forms-last m c l (no-forms d s) f = rw (← append-nil c, ← append-nil l) (mor
 forms-last m c l (more-forms d s x xs b e k j h g) f = rw (append_assoc b e c, append_assoc k j l)
     (more-forms d s x (xs ++ m ∷ []) b (e ++ c) k (j ++ l) h (forms-last m c l g f))
 
-pub writes-next : {T : Type 0} (M : T → Meaning ArcRef → Type 0) (front : List T) (x : T) (n : Nesting) (s : Shape) (a b c : Out)
+pub writes-next : {T : Type 0} (M : Means T) (front : List T) (x : T) (n : Nesting) (s : Shape) (a b c : Out)
     → WritesSomeAll (MeanAll M front) n s a b
     → WritesSome (M x) n s b c → WritesSomeAll (MeanAll M (front ++ x ∷ [])) n s a c
 writes-next M front x n s a b c v w = record {
@@ -73,7 +73,7 @@ writes-next M front x n s a b c v w = record {
   };
 }
 
-pub writes_item : {T : Type 0} (M : T → Meaning ArcRef → Type 0) (xs : List T) (i : ℕ) (x : T) (n : Nesting) (s : Shape) (a b c : Out) → i < length xs → x
+pub writes_item : {T : Type 0} (M : Means T) (xs : List T) (i : ℕ) (x : T) (n : Nesting) (s : Shape) (a b c : Out) → i < length xs → x
     ≡ get_or xs i x
     → WritesSomeAll (MeanAll M (take i xs)) n s a b → WritesSome (M x) n s b c → WritesSomeAll (MeanAll M (take (i + 1) xs)) n s a c
 writes_item M xs i x n s a b c lt e v w = let last : take (i + 1) xs ≡ take i xs ++ x ∷ [] =
@@ -96,10 +96,6 @@ sequence-same _ _ e = cc
 pub split-same : (n : Nesting) {s : Shape} {xs ms : List (Meaning ArcRef)} {c : List ℕ} {k : List ArcRef} → sequence xs ≡ sequence ms → length xs ≤ longest
     → FormsAt n s xs c k → (length ms ≤ longest) × ((c : List ℕ) × FormsAt n s ms c k)
 split-same n {s} {xs} {ms} {c} {k} e le f = let same : xs ≡ ms = sequence-same xs ms e in rw (← same) (le, (c, f))
-
-pub list-parts : (n : Nesting) {s : Shape} {m : Meaning ArcRef} {b : List ℕ} {k : List ArcRef} (ms : List (Meaning ArcRef)) → FormAt n (list s) m b k → m
-    ≡ sequence ms → (length ms ≤ longest) × ((c : List ℕ) × FormsAt n s ms c k)
-list-parts n ms (list-form l s xs c k le f) e = split-same n e le f
 
 -- ---- reading
 
@@ -137,7 +133,7 @@ is_done get front count i rest total le so_far = let k : count - i ≡ 0 = omega
 
 -- ---- a shape whose forms are those of the items
 
-module _ {T : Type 0} (M : T → Meaning ArcRef → Type 0) (xs : List T) (n : Nesting) (whole s : Shape) where
+module _ {T : Type 0} (M : Means T) (xs : List T) (n : Nesting) (whole s : Shape) where
   writes-row : (old new : Out) → ((ms : List (Meaning ArcRef)) (b : List ℕ) (k : List ArcRef) → length ms ≡ length xs → FormsAt n s ms b k
       → FormAt n whole (sequence ms) b k)
       → WritesSomeAll (MeanAll M xs) n s old new → WritesSome (MeansList M xs) n whole old new
@@ -161,19 +157,19 @@ array-parts : (n : Nesting) {count : ℕ} {s : Shape} {m : Meaning ArcRef} {b : 
 array-parts n ms (array-form l count s' xs b' k' le f) e = let Q : List (Meaning ArcRef) → Type 0 =
     λ x. FormsAt n s' x b' k' in subst Q (sequence-same xs ms e) f
 
-pub writes_array : {T : Type 0} (M : T → Meaning ArcRef → Type 0) (xs : List T) (count : ℕ) (n : Nesting) (s : Shape) (old new : Out) → length xs ≡ count
+pub writes_array : {T : Type 0} (M : Means T) (xs : List T) (count : ℕ) (n : Nesting) (s : Shape) (old new : Out) → length xs ≡ count
     → WritesSomeAll (MeanAll M xs) n s old new
     → WritesSome (MeansList M xs) n (array count s) old new
 writes_array M xs count n s old new e v = writes-row M xs n (array count s) s old new (λ ms b k same f. array-form _ count s ms b k (same ∙ e) f) v
 
-pub refused_array : {Z T : Type 0} (r : Result Z Error) (M : T → Meaning ArcRef → Type 0) (xs : List T) (count : ℕ) (n : Nesting) (s : Shape)
+pub refused_array : {Z T : Type 0} (r : Result Z Error) (M : Means T) (xs : List T) (count : ℕ) (n : Nesting) (s : Shape)
     → IfErr r (RefusedAll (MeanAll M xs) n s)
     → IfErr r (Refused (MeansList M xs) n (array count s))
 refused_array r M xs count n s h = refused-row M xs n (array count s) s r (λ ms b k f. array-parts n ms f refl) h
 
 -- ---- runs
 
-pub writes_run : {T : Type 0} (M : T → Meaning ArcRef → Type 0) (xs : List T) (n : Nesting) (s : Shape) (old new : Out) → length xs ≤ longest
+pub writes_run : {T : Type 0} (M : Means T) (xs : List T) (n : Nesting) (s : Shape) (old new : Out) → length xs ≤ longest
     → WritesSomeAll (MeanAll M xs) n s old new → WritesSome (MeansList M xs) n (run s) old new
 writes_run M xs n s old new le v = writes-row M xs n (run s) s old new (λ ms b k same f. run-form _ s ms b k (rw same le) f) v
 
@@ -182,7 +178,7 @@ run-parts : (n : Nesting) {s : Shape} {m : Meaning ArcRef} {b : List ℕ} {k : L
 run-parts n {s} {m} {b} {k} ms (run-form l s' xs b' k' le f) e = let P : List (Meaning ArcRef) → Type 0 =
     λ x. (length x ≤ longest) × FormsAt n s' x b' k' in subst P (sequence-same xs ms e) (le, f)
 
-pub refused_run : {Z T : Type 0} (r : Result Z Error) (M : T → Meaning ArcRef → Type 0) (xs : List T) (n : Nesting) (s : Shape)
+pub refused_run : {Z T : Type 0} (r : Result Z Error) (M : Means T) (xs : List T) (n : Nesting) (s : Shape)
     → IfErr r (RefusedAll (MeanAll M xs) n s)
     → IfErr r (Refused (MeansList M xs) n (run s))
 refused_run r M xs n s h = refused-row M xs n (run s) s r (λ ms b k f. (run-parts n ms f refl).1) h
@@ -201,7 +197,7 @@ pub ruleset arrays = (ok_along, err_along, writes_array, refused_array)
 
 pub ruleset runs = (ok_along, err_along, writes_run, refused_run, no_long_run, long_refuses)
 
-pub collected_none : {T : Type 0} (M : T → Meaning ArcRef → Type 0) (puts : List T → T → List T → Type 0) (now : List T) → now ≡ [] → Collected M puts now []
+pub collected_none : {T : Type 0} (M : Means T) (puts : List T → T → List T → Type 0) (now : List T) → now ≡ [] → Collected M puts now []
 unfolding PutInTurn
 collected_none M puts now e = record { xs = []; each = mean-none; is = e }
 
@@ -211,7 +207,7 @@ unfolding PutInTurn
 puts-last {T} puts acc [] x old new e h = let P : List T → Type 0 = λ ys. puts ys x new in (new, subst P e h, refl)
 puts-last puts acc (y ∷ ys) x old new before h = (before.0, before.1, puts-last puts before.0 ys x old new before.2 h)
 
-pub collected_more : {T : Type 0} (M : T → Meaning ArcRef → Type 0) (puts : List T → T → List T → Type 0) (old new : List T) (ms : List (Meaning ArcRef))
+pub collected_more : {T : Type 0} (M : Means T) (puts : List T → T → List T → Type 0) (old new : List T) (ms : List (Meaning ArcRef))
     (x : T) (m : Meaning ArcRef) → Collected M puts old ms → M x m → puts old x new → Collected M puts new (ms ++ m ∷ [])
 collected_more M puts old new ms x m c is h = record {
   xs = c.xs ++ x ∷ [];
@@ -231,7 +227,7 @@ unfolding put_all
 put-at-end acc [] = sym (append-nil acc)
 put-at-end acc (x ∷ xs) = put-at-end (acc ++ x ∷ []) xs ∙ append_assoc acc (x ∷ []) xs
 
-pub collected_list : {T : Type 0} (M : T → Meaning ArcRef → Type 0) (now : List T) (ms : List (Meaning ArcRef))
+pub collected_list : {T : Type 0} (M : Means T) (now : List T) (ms : List (Meaning ArcRef))
     → Collected M (λ ys y zs. zs ≡ ys ++ y ∷ []) now ms → MeanAll M now ms
 collected_list M now ms c = rw (put-in-turn (λ ys y. ys ++ y ∷ []) [] c.xs now c.is, put-at-end [] c.xs) c.each
 
@@ -242,16 +238,6 @@ pub gives-seen : {X Y Z R : Type 0} (own : Error → Type 0) (P : X → Y → Ty
     → ((x : X) (y : Y) → P x y → Q x (view y)) → GivesSome own P last r part → GivesSome own Q last r (part >>= λ y. Ok (view y.0, y.1))
 gives-seen own P Q view last r part f g = grind arith
 
--- items that were collected in their order are a list
-pub reads_list : {X T A : Type 0} (own : Error → Type 0) (M : T → Meaning ArcRef → Type 0) (r : Result X Error) (held : X → List T) (context : Context A ArcRef)
-    (s : Shape) (rest last : Rest A)
-    → GivesSome own (λ x. Collected M (λ ys y zs. zs ≡ ys ++ y ∷ []) (held x)) last r (counted (read context s) rest)
-    → GivesSome own (λ x. MeansList M (held x)) last r (read context (list s) rest)
-unfolding read read_with
-reads_list own M r held context s rest last h = gives-seen own (λ x. Collected M (λ ys y zs. zs ≡ ys ++ y ∷ []) (held x))
-    (λ x. MeansList M (held x)) sequence last r (counted (read context s) rest)
-    (λ x ms c. record { ms = ms; each = collected_list M (held x) ms c; is = refl }) h
-
 -- there are as many as were asked for
 items-length : {A X : Type 0} (get : Gets A X) (n : ℕ) (rest after : Rest A) (xs : List X) → items get n rest ≡ Ok (xs, after) → length xs ≡ n
 unfolding items
@@ -259,7 +245,7 @@ items-length get zero rest after xs e = grind arith
 items-length get (suc n) rest after xs e = grind (arith, items-length get n)
 
 -- where so many items were collected, an array of so many is made of them
-pub array_made : {T Z A X Y : Type 0} (P : X → Type 0) (Q : Y → Type 0) (M : T → Meaning ArcRef → Type 0) (v : Vec T Z) (get : Gets A (Meaning ArcRef))
+pub array_made : {T Z A X Y : Type 0} (P : X → Type 0) (Q : Y → Type 0) (M : Means T) (v : Vec T Z) (get : Gets A (Meaning ArcRef))
     (count : ℕ) (rest last : Rest A)
     (r : Result X Y) → Gave (Collected M (λ ys y zs. zs ≡ ys ++ y ∷ []) v.items) last (items get count rest)
     → MatchResult r (λ x. P x × (vec_len v ≡ count)) (λ y. Q y × (vec_len v ≢ count)) → IsOk r
@@ -272,27 +258,27 @@ pub ruleset lists = (collected_list, moves_trans)
 -- ---- what a walk shows
 
 -- a walk yields items that show these, and they mean what those mean
-pub record Shows {W T X : Type 0} (next : W → Option T → W → Type 0) (M : T → Meaning ArcRef → Type 0) (walk : W) (N : X → Meaning ArcRef → Type 0)
+pub record Shows {W T X : Type 0} (next : W → Option T → W → Type 0) (M : Means T) (walk : W) (N : Means X)
     (ys : List X) : Type 0 where
   pub view : T → X
   pub road : YieldsList next view walk ys
   pub means : (x : T) (m : Meaning ArcRef) → M x m → N (view x) m
 
-pub shows_slice : {X : Type 0} (N : X → Meaning ArcRef → Type 0) {walk : _} (ys : List X) → iter_rest walk ≡ ys → Shows iter_steps (λ r. N r.now) walk N ys
-shows_slice N ys e = record { view = λ r. r.now; road = YieldsList-from_slice ys e; means = λ x m h. h }
+pub shows_slice : {X : Type 0} {N : Means X} {walk : _} {ys : List X} → iter_rest walk ≡ ys → Shows iter_steps (λ r. N r.now) walk N ys
+shows_slice {ys = ys} e = record { view = λ r. r.now; road = YieldsList-from_slice ys e; means = λ x m h. h }
 
-pub shows_items : {X : Type 0} (N : X → Meaning ArcRef → Type 0) {walk : List X} (ys : List X) → walk ≡ ys → Shows (TakesFirst deref) (λ r. N r.now) walk N ys
-shows_items N ys e = record { view = deref; road = YieldsList-from_rest ys e; means = λ x m h. h }
+pub shows_items : {X : Type 0} {N : Means X} {walk ys : List X} → walk ≡ ys → Shows (TakesFirst deref) (λ r. N r.now) walk N ys
+shows_items {ys = ys} e = record { view = deref; road = YieldsList-from_rest ys e; means = λ x m h. h }
 
-pub shows_entries : {K V : Type 0} (M : K → Meaning ArcRef → Type 0) (N : V → Meaning ArcRef → Type 0) {walk : List (K × V)} (ys : List (K × V)) → walk ≡ ys
+pub shows_entries : {K V : Type 0} {M : Means K} {N : Means V} {walk ys : List (K × V)} → walk ≡ ys
     → Shows (TakesFirst deref_pair) (MeansPair (λ (r : Bor K). M r.now) (λ (r : Bor V). N r.now)) walk (MeansPair M N) ys
-shows_entries M N ys e = record {
+shows_entries {ys = ys} e = record {
   view = deref_pair;
   road = YieldsList-from_rest ys e;
   means = λ x m h. record { first = h.first; second = h.second; is_first = h.is_first; is_second = h.is_second; is = h.is };
 }
 
-mean-shown : {T X : Type 0} (M : T → Meaning ArcRef → Type 0) (N : X → Meaning ArcRef → Type 0) (view : T → X)
+mean-shown : {T X : Type 0} (M : Means T) (N : Means X) (view : T → X)
     → ((x : T) (m : Meaning ArcRef) → M x m → N (view x) m) → {xs : List T} {ms : List (Meaning ArcRef)} → MeanAll M xs ms → MeanAll N (map view xs) ms
 mean-shown M N view means mean-none = mean-none
 mean-shown M N view means (mean-more x m xs ms h t) = mean-more (view x) m (map view xs) ms (means x m h) (mean-shown M N view means t)
@@ -308,7 +294,7 @@ cut-at {W} {T} {X} next view s t u (z ∷ zs) (a ∷ xs) x road y step = let p =
 
 -- ---- items without their count
 
-lacks-among : {T : Type 0} (M : T → Meaning ArcRef → Type 0) (has : (x : T) → SomeMeaning (M x)) (front : List T) (x : T) (rest : List T) (n : Nesting)
+lacks-among : {T : Type 0} (M : Means T) (has : (x : T) → SomeMeaning (M x)) (front : List T) (x : T) (rest : List T) (n : Nesting)
     (s : Shape) → NoFormOfSome (M x) n s → NoFormsOfSome (MeanAll M (front ++ x ∷ rest)) n s
 lacks-among M has [] x rest n s lacks =
     let others = items_have_meanings M has rest in
@@ -321,12 +307,12 @@ lacks-among M has (y ∷ front) x rest n s lacks =
       no_forms = no-tail n s (has y).0 others.ms others.no_forms;
     }
 
-pub refuses-among : {T : Type 0} (M : T → Meaning ArcRef → Type 0) (has : (x : T) → SomeMeaning (M x)) (front : List T) (x : T) (rest : List T) (n : Nesting)
+pub refuses-among : {T : Type 0} (M : Means T) (has : (x : T) → SomeMeaning (M x)) (front : List T) (x : T) (rest : List T) (n : Nesting)
     (s : Shape) (e : Error) → Refused (M x) n s e → RefusedAll (MeanAll M (front ++ x ∷ rest)) n s e
 refuses-among M has front x rest n s e h = λ fault. lacks-among M has front x rest n s (h fault)
 
 -- an item of a list, by its place
-pub refuses_item : {T : Type 0} (M : T → Meaning ArcRef → Type 0) (has : (x : T) → SomeMeaning (M x)) (xs : List T) (i : ℕ) (x : T) (n : Nesting) (s : Shape)
+pub refuses_item : {T : Type 0} (M : Means T) (has : (x : T) → SomeMeaning (M x)) (xs : List T) (i : ℕ) (x : T) (n : Nesting) (s : Shape)
     (e : Error) → i < length xs
     → x ≡ get_or xs i x
     → Refused (M x) n s e → RefusedAll (MeanAll M xs) n s e
@@ -335,14 +321,14 @@ refuses_item {T} M has xs i x n s e lt is h =
     let Q : T → Type 0 = λ y. Refused (M y) n s e in
     subst P (sym (split_at xs i x lt)) (refuses-among M has (take i xs) (get_or xs i x) (drop (suc i) xs) n s e (subst Q is h))
 
-pub each-written : {W T X : Type 0} {next : W → Option T → W → Type 0} {M : T → Meaning ArcRef → Type 0} {walk : W} {N : X → Meaning ArcRef → Type 0}
+pub each-written : {W T X : Type 0} {next : W → Option T → W → Type 0} {M : Means T} {walk : W} {N : Means X}
     {ys : List X} → Shows next M walk N ys → (n : Nesting) (s : Shape) (old new : Out) → WritesEach next M walk n s old new
     → WritesSomeAll (MeanAll N ys) n s old new
 each-written {M = M} {N = N} {ys = ys} shows n s old new w =
     let all : map shows.view w.xs ≡ ys = items_from_drains w.xs (w.all.1.0, w.all.1.1, λ _. (w.all.0, w.all.1.2)) shows.road in
     record { ms = w.wrote.ms; is = rw all at (mean-shown M N shows.view shows.means w.wrote.is); wrote = w.wrote.wrote }
 
-pub each-refused : {W T X : Type 0} {next : W → Option T → W → Type 0} {M : T → Meaning ArcRef → Type 0} {walk : W} {N : X → Meaning ArcRef → Type 0}
+pub each-refused : {W T X : Type 0} {next : W → Option T → W → Type 0} {M : Means T} {walk : W} {N : Means X}
     {ys : List X} → Shows next M walk N ys → ((y : X) → SomeMeaning (N y)) → (n : Nesting) (s : Shape) (e : Error) → RefusedAmong next M walk n s e
     → RefusedAll (MeanAll N ys) n s e
 each-refused {next = next} {walk = walk} {N = N} {ys = ys} shows has n s e h =
@@ -354,25 +340,14 @@ each-refused {next = next} {walk = walk} {N = N} {ys = ys} shows has n s e h =
 -- ---- items after their count
 
 -- A count and forms of items are a form of the whole that holds the items, and each form of it is made so.
-pub record Wraps {X : Type 0} (N : X → Meaning ArcRef → Type 0) (ys : List X) (Whole : Meaning ArcRef → Type 0) (n : Nesting)
+pub record Wraps {X : Type 0} (N : Means X) (ys : List X) (Whole : Meaning ArcRef → Type 0) (n : Nesting)
     (whole item : Shape) : Type 0 where
   pub joins : (ms : List (Meaning ArcRef)) (b : List ℕ) (k : List ArcRef) → MeanAll N ys ms → length ms ≤ longest → FormsAt n item ms b k → (m : Meaning ArcRef)
       × Whole m × FormAt n whole m (length_form (length ms) ++ b) k
   pub splits : (ms : List (Meaning ArcRef)) → MeanAll N ys ms → (m : Meaning ArcRef) × Whole m
       × ((b : List ℕ) (k : List ArcRef) → FormAt n whole m b k → (length ms ≤ longest) × ((c : List ℕ) × (j : List ArcRef) × FormsAt n item ms c j))
 
--- the meaning of the whole is the sequence of those of its items
-pub wraps-sequence : {X : Type 0} (N : X → Meaning ArcRef → Type 0) (ys : List X) (n : Nesting) (whole item : Shape)
-    → ((ms : List (Meaning ArcRef)) (b : List ℕ) (k : List ArcRef) → FormAt n whole (sequence ms) b k → (length ms ≤ longest)
-    × ((c : List ℕ) × FormsAt n item ms c k))
-    → ((ms : List (Meaning ArcRef)) (b : List ℕ) (k : List ArcRef) → MeanAll N ys ms → length ms ≤ longest → FormsAt n item ms b k
-    → FormAt n whole (sequence ms) (length_form (length ms) ++ b) k) → Wraps N ys (MeansList N ys) n whole item
-wraps-sequence N ys n whole item split join = record {
-  joins = λ ms b k each le f. (sequence ms, record { ms = ms; each = each; is = refl }, join ms b k each le f);
-  splits = λ ms each. (sequence ms, record { ms = ms; each = each; is = refl }, λ b k f. let p = split ms b k f in (p.0, (p.1.0, k, p.1.1)));
-}
-
-pub writes-counted : {X : Type 0} {N : X → Meaning ArcRef → Type 0} {ys : List X} {Whole : Meaning ArcRef → Type 0} {n : Nesting} {whole item : Shape}
+pub writes-counted : {X : Type 0} {N : Means X} {ys : List X} {Whole : Meaning ArcRef → Type 0} {n : Nesting} {whole item : Shape}
     → Wraps N ys Whole n whole item → (old mid new : Out) (count : ℕ) → count ≡ length ys → mid ≡ added old (length_form count) [] → count ≤ longest
     → WritesSomeAll (MeanAll N ys) n item mid new → WritesSome Whole n whole old new
 writes-counted wraps old mid new count all counted le v =
@@ -390,7 +365,7 @@ writes-counted wraps old mid new count all counted le v =
       };
     }
 
-pub refuses-long : {X : Type 0} {N : X → Meaning ArcRef → Type 0} {ys : List X} {Whole : Meaning ArcRef → Type 0} {n : Nesting} {whole item : Shape}
+pub refuses-long : {X : Type 0} {N : Means X} {ys : List X} {Whole : Meaning ArcRef → Type 0} {n : Nesting} {whole item : Shape}
     → Wraps N ys Whole n whole item
     → ((y : X) → SomeMeaning (N y))
     → (count : ℕ) → count ≡ length ys → (e : Error) → longest < count → Refused Whole n whole e
@@ -400,20 +375,16 @@ refuses-long {N = N} {ys = ys} wraps has count all e more = λ fault.
     let long : longest < length each.0 = rw (mean-length each.1, ← all) more in
     record { m = p.0; is = p.1; no_form = λ b k f. omega (arith, long, (p.2 b k f).0) }
 
-pub refuses-items : {X : Type 0} {N : X → Meaning ArcRef → Type 0} {ys : List X} {Whole : Meaning ArcRef → Type 0} {n : Nesting} {whole item : Shape}
+pub refuses-items : {X : Type 0} {N : Means X} {ys : List X} {Whole : Meaning ArcRef → Type 0} {n : Nesting} {whole item : Shape}
     → Wraps N ys Whole n whole item → (e : Error)
     → RefusedAll (MeanAll N ys) n item e → Refused Whole n whole e
 refuses-items wraps e h = λ fault. let lacks = h fault in let p = wraps.splits lacks.ms lacks.is in
     record { m = p.0; is = p.1; no_form = λ b k f. let q = (p.2 b k f).1 in lacks.no_forms q.0 q.1 q.2 }
 
-pub refused_counted : {W T X Y : Type 0} (r : Result Y Error) {next : W → Option T → W → Type 0} {M : T → Meaning ArcRef → Type 0} {walk : W}
-    {N : X → Meaning ArcRef → Type 0} {ys : List X} {Whole : Meaning ArcRef → Type 0} {n : Nesting} {whole item : Shape} (count : ℕ)
+pub refused_counted : {W T X Y : Type 0} (r : Result Y Error) {next : W → Option T → W → Type 0} {M : Means T} {walk : W}
+    {N : Means X} {ys : List X} {Whole : Meaning ArcRef → Type 0} {n : Nesting} {whole item : Shape} (count : ℕ)
     → Shows next M walk N ys → Wraps N ys Whole n whole item → ((y : X) → SomeMeaning (N y)) → count ≡ length ys
     → IfErr r (RefusedCounted next M walk count n item) → IfErr r (Refused Whole n whole)
 refused_counted r count shows wraps has all h = grind (arith, refuses-long wraps has count all, memory_refuses, refuses-items wraps, each-refused shows has)
-
--- a list
-pub wraps_list : {X : Type 0} (N : X → Meaning ArcRef → Type 0) (ys : List X) (n : Nesting) (s : Shape) → Wraps N ys (MeansList N ys) n (list s) s
-wraps_list N ys n s = wraps-sequence N ys n (list s) s (λ ms b k f. list-parts n ms f refl) (λ ms b k each le f. list-form _ s ms b k le f)
 
 pub ruleset writes = (ok_along, err_along, grows_trans, only-count, only-part)

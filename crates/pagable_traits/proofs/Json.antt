@@ -2,22 +2,23 @@
 -- What reading a JSON value gives: its case, and then its part.
 use Rattle.pagable_codec.specs.declared.{env.Env.Ghosts as Environments, serializer.PagableSerializer.Ghosts as Serializers}
 use Rattle.pagable_traits.proofs.{
-  Items.{Wraps, gives-seen, refuses-items, refuses-long, wraps_list, writes-counted},
-  JsonSteps.{below as one_down, deeper, wrote-err},
-  Maps.{IsOrderOf, Written, key_like, reads-entries, sorted-map-put, viewed, wraps_sorted_map},
+  Items.{Wraps, gives-seen, refuses-items, refuses-long, writes-counted},
+  JsonSteps.{below as one_down, deeper, wrote-as, wrote-err},
+  Maps.{IsOrderOf, Written, order-of, reads-entries, sorted-map-put, viewed, wraps_list, wraps_sorted_map},
   Parts.{refuses_whole, writes_whole},
-  Words.{Answer, ArcRef, Bool, Entry, Err, Error, FormAt, Gave, GivesSome, Global, Grows, IfErr, Is, IsErrAnd, IsOutOfMemory, IsStrictlySortedBy, List},
-  Words.{MeanAll, Meaning, MeansList, MeansPair, Nesting, NoForm, None, Ok, OnOk, Option, Out, Piece, Read, Refused, Rest, Result, Shape, Some, SomeMeaning},
-  Words.{String, Value, Vec, WritesSome, Wrote, added, ap, arith, array_case, as_i64, bool_at, bool_form, both, bytes, bytes_of, deepest, entry, false, flag},
-  Words.{flag-form, get_or, grows_trans, handles_at, inl, inr, integer, item_forms, items, items_have_meanings, json, json_causes, keys_of, length, length_at},
-  Words.{length_form, list, list-form, long_or, long_or_memory, longest, map, memory_refuses, moves_trans, none, number_view, object_case, of_data, of_entries},
-  Words.{of_key, of_value, ordered, ordering_reverse, pair, pair_has_meaning, pos, put_all, put_sorted, read, read_with, refl, rules, seen, sequence, signed},
-  Words.{signed-form, sorted-map-form, sorted_map, string_bytes, string_cmp, subst, suc, sym, take, text, text-form, text_at, text_order, then, to_z-of_z},
-  Words.{true, unsigned_at, variant, view, w64, ℕ, ℤ, [], ◌++◌, ◌+◌, ◌-◌, ◌<◌, ◌^◌, ◌∙◌, ◌∷◌, ◌≡◌, ◌≤◌},
+  Words.{Answer, ArcRef, Bool, Entry, Err, Error, FormAt, Gave, GivesSome, Global, Is, IsErrAnd, IsOutOfMemory, IsStrictlySortedBy, List, MeanAll, Meaning},
+  Words.{Means, MeansList, MeansPair, Nesting, NoForm, None, Ok, Option, Out, Piece, Read, Refused, Rest, Result, Shape, Some, SomeMeaning, String, Value, Vec},
+  Words.{WritesSome, Wrote, added, ap, arith, array_case, as_i64, bool_at, bool_form, both, bytes, bytes_of, deepest, entry, false, flag, flag-form, get_or},
+  Words.{grows_trans, handles_at, inl, inr, integer, item_forms, items, items_have_meanings, json, json_causes, keys_of, length, length_at, list, list-form},
+  Words.{long_or, long_or_memory, longest, map, memory_refuses, moves_trans, none, number_view, object_case, of_data, of_entries, of_key, of_value, pair},
+  Words.{pair_has_meaning, pos, put_all, put_sorted, read, read_with, refl, rules, seen, sequence, signed, signed-form, sorted-map-form, sorted_map},
+  Words.{string_bytes, string_cmp, subst, suc, sym, take, text, text-form, text_at, text_order, then, to_z-of_z, true, unsigned_at, variant, view, w64, ℕ, ℤ},
+  Words.{[], ◌+◌, ◌-◌, ◌<◌, ◌^◌, ◌∙◌, ◌∷◌, ◌≡◌, ◌≤◌},
 }
 use Rattle.pagable_traits.specs.{
   Clauses.{ObjectOf, case_and_length, value_after_case},
   JsonData.long_or_no_memory,
+  Meanings.exactly,
   JsonFaults.{EntryFault, Fault, ItemFault, MemberFault, item-fault, json_of_value, member-fault},
 }
 use Rattle.pagable_value_spec.specs.{
@@ -36,7 +37,7 @@ use Rattle.serde_json.specs.{
   View.{items_view, members_view},
   declared.{number.Number.Number, value.Value.the_lemmas},
 }
-use Rattle.std.proofs.{Common.{BTreeMap, drop}, Math.Seq.split_at, lemmas.Bool.{lt-ltb, ne_eqb}}
+use Rattle.std.proofs.{Common.drop, Math.Seq.split_at, lemmas.Bool.{Decides.nat_tests, lt-ltb}}
 use Rattle.std.specs.{Prelude.{IsTrue, nat_lt, negsuc}, String.string_cmp_total}
 use Rattle.serde_json.specs.Data as kit
 use Rattle.serde_json.specs.declared.value.Value as values
@@ -50,13 +51,13 @@ case-byte case small = rw small refl
 -- ---- a value is its case and a value of another shape
 
 module _ (n : Nesting) where
-  flag-up : {m : Meaning ArcRef} {b : List ℕ} {k : List ArcRef} → FormAt n flag m b k → FormAt n json (variant 1 m) (1 ∷ b) k
+  pub flag-up : {m : Meaning ArcRef} {b : List ℕ} {k : List ArcRef} → FormAt n flag m b k → FormAt n json (variant 1 m) (1 ∷ b) k
   flag-up (flag-form l x) = json-flag-form _ x
 
-  number-up : {m : Meaning ArcRef} {b : List ℕ} {k : List ArcRef} → FormAt n (signed w64) m b k → FormAt n json (variant 2 m) (2 ∷ 0 ∷ b) k
+  pub number-up : {m : Meaning ArcRef} {b : List ℕ} {k : List ArcRef} → FormAt n (signed w64) m b k → FormAt n json (variant 2 m) (2 ∷ 0 ∷ b) k
   number-up (signed-form l w z within) = json-number-form _ z within
 
-  text-up : {m : Meaning ArcRef} {b : List ℕ} {k : List ArcRef} → FormAt n text m b k → FormAt n json (variant 3 m) (3 ∷ b) k
+  pub text-up : {m : Meaning ArcRef} {b : List ℕ} {k : List ArcRef} → FormAt n text m b k → FormAt n json (variant 3 m) (3 ∷ b) k
   text-up (text-form l t u le) = json-text-form _ t u le
 
   array-up : n.levels < deepest → {m : Meaning ArcRef} {b : List ℕ} {k : List ArcRef} → FormAt (deeper n) (list json) m b k
@@ -67,7 +68,7 @@ module _ (n : Nesting) where
       → FormAt n json (variant 5 m) (5 ∷ b) k
   object-up lt (sorted-map-form l o s t es b k le up f) = json-object-form _ _ es b k (omega arith) le up f
 
-  no-text : (m : Meaning ArcRef) → NoForm n text m → NoForm n json (variant 3 m)
+  pub no-text : (m : Meaning ArcRef) → NoForm n text m → NoForm n json (variant 3 m)
   no-text m lack b k (json-text-form l t u le) = lack _ [] (text-form _ t u le)
 
   no-array : (m : Meaning ArcRef) → NoForm (deeper n) (list json) m → NoForm n json (variant 4 m)
@@ -120,36 +121,32 @@ json-deep e h = inr (inl h)
 pub no_fault : {F : Type 0} (e : Error) → IsOutOfMemory e → IsTrue (is_writing_fault e) → F
 no_fault e h = λ fault. let none : is_writing_fault e ≡ false = rw h refl in absurd cc
 
-pub no_json_fault : {X : Type 0} (r : Result X Error) (v : Value) (d : Data) (n : Nesting) → IfErr r IsOutOfMemory → IfErr r ((json_of_value v d).lacks n)
-no_json_fault (Ok x) v d n h = tt
-no_json_fault (Err e) v d n h = (memory_refuses e _ n json h, no_fault e h)
+pub no_json_fault : (v : Value) (d : Data) (n : Nesting) (e : Error) → IsOutOfMemory e → (json_of_value v d).lacks n e
+no_json_fault v d n e h = (memory_refuses e _ n json h, no_fault e h)
 
 pub text_faults : (F : Error → Type 0) (t : String Global) (n : Nesting) (e : Error) → (NoFormOfSome (Is of_key t) n text → F Error.TooLong)
     → Refused (Is of_key t) n text e → long_or IsOutOfMemory e → IsTrue (is_writing_fault e) → F e
-text_faults F t n e is l (inl h) = λ fault. subst F (sym h) (is (l fault))
+text_faults F t n e is l (inl h) = λ fault. rw h (is (l fault))
 text_faults F t n e is l (inr h) = no_fault e h
 
 pub long_faults : (F : Error → Type 0) (count len : ℕ) (e : Error) → count ≡ len → (longest < len → F Error.TooLong) → long_or_no_memory count e
     → IsTrue (is_writing_fault e) → F e
-long_faults F count len e same is (inl h) = λ fault. subst F (sym h.1) (is (rw same at h.0))
+long_faults F count len e same is (inl h) = λ fault. rw h.1 (is (rw same at h.0))
 long_faults F count len e same is (inr h) = no_fault e h
 
 pub deep_faults : (F : Error → Type 0) (count len : ℕ) (e : Error) → count ≡ len → count ≤ longest → (len ≤ longest → F Error.TooDeep) → e ≡ Error.TooDeep → F e
-deep_faults F count len e same le is h = subst F (sym h) (is (rw same at le))
+deep_faults F count len e same le is h = rw h (is (rw same at le))
 
 pub item_faults : (xs : List Value) (i : ℕ) (x : Value) (n : Nesting) (old mid : Out) (e : Error)
     → WritesSomeAll (MeanAll (Is of_value) (take i xs)) n json old mid → i < length xs → x ≡ get_or xs i x → Fault n x e → ItemFault n xs e
 item_faults xs i x n old mid e v lt is fault =
     let P : List Value → Type 0 = λ ys. ItemFault n ys e in
-    let Q : Value → Type 0 = λ y. Fault n y e in
-    subst P (sym (split_at xs i x lt)) (item-fault n (take i xs) (get_or xs i x) (drop (suc i) xs) e (old, mid, v) (subst Q is fault))
+    subst P (sym (split_at xs i x lt)) (item-fault n (take i xs) (get_or xs i x) (drop (suc i) xs) e (old, mid, v) (rw (← is) fault))
 
 pub member_faults : (all left rest : List (String Global × Value)) (k : String Global) (x : Value) (n : Nesting) (old mid : Out) (e : Error)
     → Written (MeansPair (Is of_key) (Is of_value)) n (both text json) all left old mid → left ≡ (k, x) ∷ rest → EntryFault n k x e → MemberFault n all e
 member_faults all left rest k x n old mid e v f fault =
-    let P : List (String Global × Value) → Type 0 = λ ys. MemberFault n ys e in
-    let same : all ≡ v.front ++ (k, x) ∷ rest = v.is ∙ ap (λ (ys : List (String Global × Value)). v.front ++ ys) f in
-    subst P (sym same) (member-fault n v.front k x rest e (old, mid, v.wrote) fault)
+    rw (v.is, f) (member-fault n v.front k x rest e (old, mid, v.wrote) fault)
 
 -- a count is refused as its length is, or by OutOfMemory
 pub counts : (len : ℕ) (e : Error) → long_or_memory len e → long_or_no_memory len e
@@ -176,30 +173,23 @@ members-are es m h =
 
 -- ---- what a value holds
 
-pub seen-null : (v : Value) → v ≡ values.Null → view v ≡ null
-seen-null v is = rw is (search (rules, the_lemmas))
+pub seen-null : view values.Null ≡ null
+seen-null = search (rules, the_lemmas)
 
-pub seen-flag : (v : Value) (b : Bool) → v ≡ values.Bool b → view v ≡ boolean b
-seen-flag v b is = rw is (search (rules, the_lemmas))
+pub seen-flag : (b : Bool) → view (values.Bool b) ≡ boolean b
+seen-flag b = search (rules, the_lemmas)
 
-pub seen-number : (v : Value) (x : Number) → v ≡ values.Number x → view v ≡ number (number_view x)
-seen-number v x is = rw is (search (rules, the_lemmas))
+pub seen-number : (x : Number) → view (values.Number x) ≡ number (number_view x)
+seen-number x = search (rules, the_lemmas)
 
-pub seen-text : (v : Value) (t : String Global) (b : List ℕ) → v ≡ values.String t → b ≡ string_bytes t → view v ≡ string b
-seen-text v t b is same = rw (is, same) (search (rules, the_lemmas))
-
-pub seen-array : (v : Value) (items : Vec Value Global) → v ≡ values.Array items → view v ≡ array (items_view items.items)
-seen-array v items is = rw is (view-Array items)
-
-pub seen-object : (v : Value) (members : BTreeMap (String Global) Value) → v ≡ values.Object members → view v ≡ object (members_view members.entries)
-seen-object v members is = rw is (view-Object members)
+pub seen-text : (t : String Global) → view (values.String t) ≡ string (string_bytes t)
+seen-text t = search (rules, the_lemmas)
 
 -- ---- arrays and objects
 
 -- the order of the keys is that of their bytes
 pub keys-in-order : IsOrderOf (Is of_key) string_cmp text_order
-keys-in-order = key_like (Is of_key) of_key (λ k m is. is) string_cmp (ordered text_order) ordering_reverse
-    (λ x y. text_is_ordered (string_bytes x) (string_bytes y)) string_cmp_total.antisymm
+keys-in-order = order-of (exactly of_key) text_order (λ k m is. is) (λ x y. text_is_ordered (string_bytes x) (string_bytes y)) string_cmp_total.antisymm
 
 pub value-has : (v : Value) → SomeMeaning (Is of_value v)
 value-has v = (of_value v, refl)
@@ -219,7 +209,7 @@ pub record HoldsBelow (case count : ℕ) (P : Piece) (d : Data) : Type 0 where
   pub long : (n : Nesting) (e : Error) → long_or_no_memory count e → Refused (Is of_data d) n json e
   pub deep : (n : Nesting) (e : Error) → deepest ≤ n.levels → Refused (Is of_data d) n json e
 
-module _ {X : Type 0} (M : X → Meaning ArcRef → Type 0) (has : (x : X) → SomeMeaning (M x)) (ys : List X) (case count : ℕ) (whole item : Shape) (d : Data)
+module _ {X : Type 0} (M : Means X) (has : (x : X) → SomeMeaning (M x)) (ys : List X) (case count : ℕ) (whole item : Shape) (d : Data)
     (is : (m : Meaning ArcRef) → MeansList M ys m → variant case m ≡ of_data d) where
   holds-below : nat_lt case 128 ≡ true → count ≡ length ys → ((n : Nesting) → Wraps M ys (MeansList M ys) n whole item)
       → ((n : Nesting) → n.levels < deepest → (m : Meaning ArcRef) (b : List ℕ) (k : List ArcRef) → FormAt (deeper n) whole m b k
@@ -241,7 +231,7 @@ module _ {X : Type 0} (M : X → Meaning ArcRef → Type 0) (has : (x : X) → S
 
 pub arrays : (vs : List Value) (count : ℕ) → count ≡ length vs → HoldsBelow 4 count (item_forms (MeanAll (Is of_value) vs) json) (array (items_view vs))
 arrays vs count counted = holds-below (Is of_value) value-has vs 4 count (list json) json (array (items_view vs)) (items-are vs) refl counted
-    (λ n. wraps_list (Is of_value) vs n json)
+    (λ n. wraps_list)
     (λ n lt m b k f. array-up n lt f) no-array (λ n m le b k f. grind arith)
 
 pub objects : (es : List (String Global × Value)) (count : ℕ) → count ≡ length es → IsStrictlySortedBy string_cmp (keys_of es)
@@ -249,89 +239,42 @@ pub objects : (es : List (String Global × Value)) (count : ℕ) → count ≡ l
 objects es count counted sorted =
     holds-below (MeansPair (Is of_key) (Is of_value)) member-has es 5 count (sorted_map text_order text json) (both text json) (object (members_view es))
     (members-are es) refl counted
-    (λ n. wraps_sorted_map (Is of_key) (Is of_value) string_cmp text_order keys-in-order es n text json sorted) (λ n lt m b k f. object-up n lt f) no-object
+    (λ n. wraps_sorted_map _ _ keys-in-order sorted) (λ n lt m b k f. object-up n lt f) no-object
     (λ n m le b k f. grind arith)
 
--- ---- a case, and then a value of another shape
+-- ---- a case, and then a number
 
 module _ (n : Nesting) (old mid new : Out) where
-  pub flag_written : (b : Bool) → mid ≡ added old (unsigned_form w64 1) [] → WritesSome (Is meanings.flag b) n flag mid new
-      → WritesSome (Is of_data (boolean b)) n json old new
-  flag_written b e w =
-      writes_whole n n (λ m. variant 1 m) flag json (Is meanings.flag b) (Is of_data (boolean b)) (λ m is. rw is refl) (1 ∷ []) old mid new
-      (λ m b k f. flag-up n f) (rw (case-byte 1 refl) at e) w
-
   pub number_written : (first : Out) (a : Num) (i : ℤ) → as_i64 a ≡ Some i → first ≡ added old (unsigned_form w64 2) [] → mid ≡ added first (bool_form false) []
       → WritesSome (Is integer i) n (signed w64) mid new → WritesSome (Is of_data (number a)) n json old new
   number_written first a i some e f w = writes_whole n n (λ m. variant 2 m) (signed w64) json (Is integer i) (Is of_data (number a))
       (λ m is. rw is (sym (whole_number a i some)))
       (2 ∷ 0 ∷ []) old mid new (λ m b k f. number-up n f) ((then) old first mid _ _ _ _ (rw (case-byte 2 refl) at e) f) w
 
-  pub text_written : (t : String Global) → mid ≡ added old (unsigned_form w64 3) [] → WritesSome (Is of_key t) n text mid new
-      → WritesSome (Is of_data (string (string_bytes t))) n json old new
-  text_written t e w =
-      writes_whole n n (λ m. variant 3 m) text json (Is of_key t) (Is of_data (string (string_bytes t))) (λ m is. rw is refl) (3 ∷ []) old mid new
-      (λ m b k f. text-up n f) (rw (case-byte 3 refl) at e) w
-
-pub refuses-string : (t : String Global) (n : Nesting) (e : Error) → Refused (Is of_key t) n text e → Refused (Is of_data (string (string_bytes t))) n json e
-refuses-string t n e l = refuses_whole n n (λ m. variant 3 m) text json (Is of_key t) (Is of_data (string (string_bytes t))) (λ m is. rw is refl) e
-    (no-text n) l
-
 -- ---- steps of the code
 
-module _ {S E N H K V : Type 0} (env : Environments E N H K V) (s : Serializers S E N H K V) where
+module _ {S E N H K V : Type 0} {env : Environments E N H K V} {s : Serializers S E N H K V} where
   -- a case is refused with OutOfMemory
-  pub case-err : {X Y : Type 0} {x y : S} {front : List ℕ} {e : Error} (v : Value) (d : Data) (r : Result Y Error) → IsErrAnd r (λ f. f ≡ e)
+  pub case-err : {X Y : Type 0} {x y : S} {front : List ℕ} {e : Error} {v : Value} (d : Data) {r : Result Y Error} → IsErrAnd r (λ f. f ≡ e)
       → Wrote env s (bytes front) IsOutOfMemory x y (let p : Result X Error = Err e in p)
       → Wrote env s (json_of_value v d) json_causes x y r
-  case-err v d r is p = wrote-err env s r is p (λ n l h. (memory_refuses _ _ n json h, no_fault _ h)) (λ h. json-memory _ h)
+  case-err {v = v} d is p = wrote-err is p (λ n l h. no_json_fault v d n _ h) (λ h. json-memory _ h)
 
   -- a value is what its data is
-  pub as-value : {Y : Type 0} {x y : S} (v w : Value) (d : Data) (r : Result Y Error) → v ≡ w → view v ≡ d → Wrote env s (json_of_value w d) json_causes x y r
+  pub as-value : {Y : Type 0} {x y : S} {v w : Value} {d : Data} {r : Result Y Error} → v ≡ w → view w ≡ d → Wrote env s (json_of_value w d) json_causes x y r
       → Wrote env s (json_of_value v (view v)) json_causes x y r
-  as-value {x = x} {y = y} v w d r is e h = let P : Value → Data → Type 0 =
-      λ u z. Wrote env s (json_of_value u z) json_causes x y r in subst (λ u. P u (view v)) (sym is) (subst (λ z. P w z) (sym e) h)
+  as-value is e h = rw (is, e) h
 
-  pub null-value : {Y : Type 0} {x y : S} (v : Value) (r : Result Y Error) → v ≡ values.Null → Wrote env s (bytes (unsigned_form w64 0)) IsOutOfMemory x y r
+  pub null-value : {Y : Type 0} {x y : S} {v : Value} {r : Result Y Error} → v ≡ values.Null → Wrote env s (bytes (unsigned_form w64 0)) IsOutOfMemory x y r
       → Wrote env s (json_of_value v (view v)) json_causes x y r
-  null-value v (Ok u) is p =
-      record {
-        ok = record {
-          m = variant 0 none;
-          is = ap of_data (sym (seen-null v is));
-          wrote = record { bytes = 0 ∷ []; refs = []; form = json-null-form _; grown = rw (case-byte 0 refl) at p.ok };
-        };
-        refused = tt;
-        only = tt;
-        grows = p.grows;
-        same_env = p.same_env;
-        same_levels = p.same_levels;
-      }
-  null-value v (Err e) is p =
-      record {
-        ok = tt;
-        refused = (memory_refuses e _ _ json p.only, no_fault e p.only);
-        only = json-memory e p.only;
-        grows = p.grows;
-        same_env = p.same_env;
-        same_levels = p.same_levels;
-      }
-
-  pub count-wrote : {X Y : Type 0} {x y z : S} {u : X} (case count : ℕ) (r : Result Y Error)
-      → Wrote env s (bytes (unsigned_form w64 case)) IsOutOfMemory x y (Ok u)
-      → OnOk r (s.out z ≡ added (s.out y) (length_form count) []) → OnOk r (count ≤ longest) → IfErr r (long_or_memory count) → Grows (s.out y) (s.out z)
-      → s.environment z ≡ s.environment y → s.levels z ≡ s.levels y → Wrote env s (case_and_length case count) (long_or_no_memory count) x z r
-  count-wrote case count r p ok within only err same_env same_levels = grind (arith, grows_trans, counts)
+  null-value is p = as-value is seen-null (wrote-as p (λ n old new w. record {
+    m = variant 0 none;
+    is = refl;
+    wrote = record { bytes = 0 ∷ []; refs = []; form = json-null-form _; grown = rw (case-byte 0 refl) at w };
+  }) (λ n e l h. no_json_fault values.Null null n e h) json-memory)
 
 pub no-case : (n : ℕ) → 5 < n → json_case n ≡ Err Error.JsonCase
-no-case n lt = rw (
-  ne_eqb n 0 (λ e. omega arith),
-  ne_eqb n 1 (λ e. omega arith),
-  ne_eqb n 2 (λ e. omega arith),
-  ne_eqb n 3 (λ e. omega arith),
-  ne_eqb n 4 (λ e. omega arith),
-  ne_eqb n 5 (λ e. omega arith),
-) refl
+no-case n lt = grind (arith, nat_tests)
 
 whole-means : (z : ℤ) → of_data (number (of_integer z)) ≡ variant 2 (integer z)
 whole-means (pos n) = refl
@@ -339,26 +282,26 @@ whole-means (negsuc n) = refl
 
 -- what the values mean
 pub is-flag : (b : Bool) (m : Meaning ArcRef) → Is meanings.flag b m → Is of_value (values.Bool b) (variant 1 m)
-is-flag b m is = rw is (ap of_data (sym (seen-flag (values.Bool b) b refl)))
+is-flag b m is = rw (is, seen-flag b) refl
 
 pub is-text : (t : String Global) (m : Meaning ArcRef) → Is of_key t m → Is of_value (values.String t) (variant 3 m)
-is-text t m is = rw is (ap of_data (sym (seen-text (values.String t) t (string_bytes t) refl refl)))
+is-text t m is = rw (is, seen-text t) refl
 
 pub is-whole : (v : Value) (z : ℤ) (m : Meaning ArcRef) → view v ≡ number (of_integer z) → Is integer z m → Is of_value v (variant 2 m)
 is-whole v z m seen is = rw is (sym (ap of_data seen ∙ whole-means z))
 
 pub is-array : (v : Vec Value Global) (ms : List (Meaning ArcRef)) → MeanAll (Is of_value) v.items ms → Is of_value (values.Array v) (variant 4 (sequence ms))
-is-array v ms each = items-are v.items (sequence ms) (record { ms = ms; each = each; is = refl }) ∙ ap of_data (sym (seen-array (values.Array v) v refl))
+is-array v ms each = items-are v.items (sequence ms) (record { ms = ms; each = each; is = refl }) ∙ ap of_data (sym (view-Array v))
 
 bytes-viewed : {X : Type 0} (at : List ℕ → Read X) (f : X → Meaning ArcRef) (view : Meaning ArcRef → Meaning ArcRef) (rest : Rest Answer)
     → bytes_of at (λ x. view (f x)) rest ≡ viewed view (bytes_of at f rest)
 bytes-viewed at f view rest = grind arith
 
 -- after its case
-module _ (levels : ℕ) (parts : ℕ → Shape) (rest mid : Rest Answer) (n : ℕ) (told : bytes_of (unsigned_at w64) (λ n. n) rest ≡ Ok (n, mid)) where
+module _ (levels : ℕ) (parts : ℕ → Shape) (rest : Rest Answer) {mid : Rest Answer} {n : ℕ} (told : bytes_of (unsigned_at w64) (λ n. n) rest ≡ Ok (n, mid)) where
   pub null-part : n ≡ 0 → Gave (Is of_value values.Null) mid (read (handles_at levels parts) json rest)
   unfolding read read_with
-  null-part zero = record { m = variant 0 none; is = ap of_data (sym (seen-null values.Null refl)); gave = rw (told, zero) refl }
+  null-part zero = record { m = variant 0 none; is = rw seen-null refl; gave = rw (told, zero) refl }
 
   pub flag-part : n ≡ 1 → read (handles_at levels parts) json rest ≡ viewed (λ m. variant 1 m) (read (handles_at levels parts) flag mid)
   unfolding read read_with
@@ -406,9 +349,11 @@ module _ (levels : ℕ) (parts : ℕ → Shape) (rest : Rest Answer) where
       where
         means : (v : Value) (es : List (Entry ArcRef)) → ObjectOf v (map entry es)
             → Is of_value v (variant 5 (of_entries (put_all (put_sorted text_order) [] es)))
-        means v es o = members-are o.members.entries _ (sorted-map-put (Is of_key) (Is of_value) string_cmp text_order keys-in-order o.members.entries es
-            o.each) ∙ ap of_data (sym (seen-object v o.members o.is))
+        means v es o = rw (o.is, view-Object o.members) (members-are o.members.entries (of_entries (put_all (put_sorted text_order) [] es))
+            (sorted-map-put (Is of_value) text_order keys-in-order o.members.entries es o.each))
 
 pub ruleset read_parts = (array-deep, array-seen, object-deep, object-gives, moves_trans)
 
 pub ruleset read_cases = (moves_trans, no-case, is-whole, to_z-of_z)
+
+pub ruleset counting = (counts, grows_trans)

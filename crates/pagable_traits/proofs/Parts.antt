@@ -5,13 +5,107 @@ use Rattle.pagable_codec.specs.{
   declared.{deserializer.PagableDeserializer.Ghosts as Deserializers, env.Env.Ghosts as Environments, serializer.PagableSerializer.Ghosts as Serializers},
 }
 use Rattle.pagable_flavors.specs.Calls.{Appends}
-use Rattle.pagable_traits.proofs.{
-  Words.{Answer, ArcRef, Bool, Context, Err, Error, FormAt, Gets, GivesSome, IfErr, Is, IsOutOfMemory, List, MatchesReading, Meaning, MeansOption, MeansPair},
-  Words.{MovesOn, Nesting, NoForm, None, Ok, OnOk, Option, Out, Read, Reads, Refused, Rest, Result, Shape, SomeMeaning, String, WritesSome, Wrote, absent},
-  Words.{added, ap, arith, bool_at, bool_form, both, both-form, bytes_of, char_at, context_in, err-form, failure, false, grows_bytes, inr, integer, length},
-  Words.{long_or, long_or_memory, longest, means-none, means-some, memory_or, memory_refuses, moves_trans, nested_in, no_own_causes, number, ok-form, optional},
-  Words.{outcome, pair, present, read, read_with, refl, refused_memory, signed, signed_at, some-form, string_bytes, success, text-form, text_form, then},
-  Words.{to_z-of_z, true, unsigned_at, w32, w64, writes_bytes, writes_is, ℕ, ℤ, [], ◌*◌, ◌++◌, ◌+◌, ◌^◌, ◌∙◌, ◌∷◌, ◌≡◌, ◌≤◌},
+use Rattle.pagable_traits.proofs.Words.{
+  Answer,
+  ArcRef,
+  Bool,
+  Context,
+  Err,
+  Error,
+  FormAt,
+  Gets,
+  GivesSome,
+  IfErr,
+  Is,
+  IsOutOfMemory,
+  List,
+  MatchesReading,
+  Meaning,
+  Means,
+  MeansOption,
+  MeansPair,
+  MovesOn,
+  Nesting,
+  NoForm,
+  None,
+  Ok,
+  OnOk,
+  Option,
+  Out,
+  Read,
+  Reads,
+  Refused,
+  Rest,
+  Result,
+  Shape,
+  SomeMeaning,
+  String,
+  WritesSome,
+  Wrote,
+  absent,
+  added,
+  ap,
+  arith,
+  bool_at,
+  bool_form,
+  both,
+  both-form,
+  bytes_of,
+  char_at,
+  context_in,
+  err-form,
+  failure,
+  false,
+  grows_bytes,
+  inr,
+  integer,
+  length,
+  long_or,
+  long_or_memory,
+  longest,
+  means-none,
+  means-some,
+  memory_or,
+  memory_refuses,
+  moves_trans,
+  nested_in,
+  no_own_causes,
+  number,
+  ok-form,
+  optional,
+  outcome,
+  pair,
+  present,
+  read,
+  read_with,
+  refl,
+  refused_memory,
+  signed,
+  signed_at,
+  some-form,
+  string_bytes,
+  success,
+  text-form,
+  text_form,
+  then,
+  to_z-of_z,
+  true,
+  unsigned_at,
+  w32,
+  w64,
+  writes_bytes,
+  writes_is,
+  ℕ,
+  ℤ,
+  [],
+  ◌*◌,
+  ◌++◌,
+  ◌+◌,
+  ◌^◌,
+  ◌∙◌,
+  ◌∷◌,
+  ◌≡◌,
+  ◌≤◌,
 }
 use Rattle.pagable_traits.specs.Clauses.{value}
 use Rattle.pagable_value_spec.specs.{
@@ -63,7 +157,7 @@ only-count len part e h = grind arith
 
 -- ---- a value that may be absent
 
-pub writes_absent : {T : Type 0} (M : T → Meaning ArcRef → Type 0) (n : Nesting) (s : Shape) (old new : Out) → new ≡ added old (bool_form false) []
+pub writes_absent : {T : Type 0} (M : Means T) (n : Nesting) (s : Shape) (old new : Out) → new ≡ added old (bool_form false) []
     → WritesSome (MeansOption M None) n (optional s) old new
 writes_absent M n s old new e = record { m = absent; is = means-none; wrote = record { bytes = 0 ∷ []; refs = []; form = none-form _ s; grown = e } }
 
@@ -85,47 +179,47 @@ module _ (n inner : Nesting) (whole : Meaning ArcRef → Meaning ArcRef) (s t : 
 
 -- ---- two values, one after the other
 
-pub writes_pair : {A B : Type 0} (M : A → Meaning ArcRef → Type 0) (N : B → Meaning ArcRef → Type 0) (p : A × B) (n : Nesting) (s t : Shape) (old mid new : Out)
-    → WritesSome (M p.0) n s old mid → WritesSome (N p.1) n t mid new → WritesSome (MeansPair M N p) n (both s t) old new
-writes_pair M N p n s t old mid new v w = record {
-  m = pair v.m w.m;
-  is = record { first = v.m; second = w.m; is_first = v.is; is_second = w.is; is = refl };
-  wrote = record {
-    bytes = v.wrote.bytes ++ w.wrote.bytes;
-    refs = v.wrote.refs ++ w.wrote.refs;
-    form = both-form _ s t v.m w.m _ _ _ _ v.wrote.form w.wrote.form;
-    grown = then old mid new _ _ _ _ v.wrote.grown w.wrote.grown;
-  };
-}
-
 no-first : (n : Nesting) (s t : Shape) (x y : Meaning ArcRef) → NoForm n s x → NoForm n (both s t) (pair x y)
 no-first n s t x y h b k (both-form l s' t' x' y' c d j i f g) = h c j f
 
 no-second : (n : Nesting) (s t : Shape) (x y : Meaning ArcRef) → NoForm n t y → NoForm n (both s t) (pair x y)
 no-second n s t x y h b k (both-form l s' t' x' y' c d j i f g) = h d i g
 
-pub refuses_first : {A B : Type 0} (M : A → Meaning ArcRef → Type 0) (N : B → Meaning ArcRef → Type 0) (has : (y : B) → SomeMeaning (N y)) (p : A × B)
-    (n : Nesting) (s t : Shape) (e : Error) → Refused (M p.0) n s e → Refused (MeansPair M N p) n (both s t) e
-refuses_first M N has p n s t e h = λ fault.
-    let no = h fault in
-    let other = has p.1 in
-    record {
-      m = pair no.m other.0;
-      is = record { first = no.m; second = other.0; is_first = no.is; is_second = other.1; is = refl };
-      no_form = no-first n s t no.m other.0 no.no_form;
-    }
+module _ {A B : Type 0} (M : Means A) (N : Means B) where
+  pub writes_pair : (p : A × B) (n : Nesting) (s t : Shape) (old mid new : Out)
+      → WritesSome (M p.0) n s old mid → WritesSome (N p.1) n t mid new → WritesSome (MeansPair M N p) n (both s t) old new
+  writes_pair p n s t old mid new v w = record {
+    m = pair v.m w.m;
+    is = record { first = v.m; second = w.m; is_first = v.is; is_second = w.is; is = refl };
+    wrote = record {
+      bytes = v.wrote.bytes ++ w.wrote.bytes;
+      refs = v.wrote.refs ++ w.wrote.refs;
+      form = both-form _ s t v.m w.m _ _ _ _ v.wrote.form w.wrote.form;
+      grown = then old mid new _ _ _ _ v.wrote.grown w.wrote.grown;
+    };
+  }
 
-pub refused_second : {X A B : Type 0} (r : Result X Error) (M : A → Meaning ArcRef → Type 0) (N : B → Meaning ArcRef → Type 0)
-    (has : (x : A) → SomeMeaning (M x)) (p : A × B) (n : Nesting) (s t : Shape)
-    → IfErr r (Refused (N p.1) n t) → IfErr r (Refused (MeansPair M N p) n (both s t))
-refused_second r M N has p n s t h = err_along r h (λ e k fault.
-    let no = k fault in
-    let other = has p.0 in
-    record {
-      m = pair other.0 no.m;
-      is = record { first = other.0; second = no.m; is_first = other.1; is_second = no.is; is = refl };
-      no_form = no-second n s t other.0 no.m no.no_form;
-    })
+  pub refuses_first : (has : (y : B) → SomeMeaning (N y)) (p : A × B) (n : Nesting) (s t : Shape) (e : Error) → Refused (M p.0) n s e
+      → Refused (MeansPair M N p) n (both s t) e
+  refuses_first has p n s t e h = λ fault.
+      let no = h fault in
+      let other = has p.1 in
+      record {
+        m = pair no.m other.0;
+        is = record { first = no.m; second = other.0; is_first = no.is; is_second = other.1; is = refl };
+        no_form = no-first n s t no.m other.0 no.no_form;
+      }
+
+  pub refuses_second : (has : (x : A) → SomeMeaning (M x)) (p : A × B) (n : Nesting) (s t : Shape) (e : Error) → Refused (N p.1) n t e
+      → Refused (MeansPair M N p) n (both s t) e
+  refuses_second has p n s t e h = λ fault.
+      let no = h fault in
+      let other = has p.0 in
+      record {
+        m = pair other.0 no.m;
+        is = record { first = other.0; second = no.m; is_first = other.1; is_second = no.is; is = refl };
+        no_form = no-second n s t other.0 no.m no.no_form;
+      }
 
 -- ---- a text that is lent
 
@@ -150,20 +244,20 @@ no-failure n s t m h b k (err-form l s' t' m' c k' f) = h c k' f
 -- ---- tuples
 
 -- what one thing means, another means too
-pub pair_along : {A B C D : Type 0} (M : A → Meaning ArcRef → Type 0) (N : B → Meaning ArcRef → Type 0) (M' : C → Meaning ArcRef → Type 0)
-    (N' : D → Meaning ArcRef → Type 0) (p : A × B) (q : C × D)
+pub pair_along : {A B C D : Type 0} (M : Means A) (N : Means B) (M' : Means C)
+    (N' : Means D) (p : A × B) (q : C × D)
     → ((m : Meaning ArcRef) → M p.0 m → M' q.0 m) → ((m : Meaning ArcRef) → N p.1 m → N' q.1 m) → (m : Meaning ArcRef) → MeansPair M N p m → MeansPair M' N' q m
 pair_along M N M' N' p q f g m h = record { first = h.first; second = h.second; is_first = f h.first h.is_first; is_second = g h.second h.is_second; is = h.is }
 
 -- ---- cells: what is written of what one was seen to hold is written of the cell, whatever else it may hold
 
 -- what lent values mean, they mean themselves
-held-values : {T : Type 0} (M : T → Meaning ArcRef → Type 0) (held : Option (Bor T)) (m : Meaning ArcRef) → MeansOption (λ x. M x.now) held m
+held-values : {T : Type 0} (M : Means T) (held : Option (Bor T)) (m : Meaning ArcRef) → MeansOption (λ x. M x.now) held m
     → MeansOption M (option_copied held) m
 held-values M _ _ means-none = means-none
 held-values M _ _ (means-some x m is) = means-some x.now m is
 
-pub held_means : {C T : Type 0} (M : T → Meaning ArcRef → Type 0) (cell : C) (held : Option (Bor T)) → MayHold cell (option_copied held) → (m : Meaning ArcRef)
+pub held_means : {C T : Type 0} (M : Means T) (cell : C) (held : Option (Bor T)) → MayHold cell (option_copied held) → (m : Meaning ArcRef)
     → MeansOption (λ x. M x.now) held m → MeansOnce M cell m
 held_means M cell held may m means = record { held = option_copied held; may = may; means = held-values M held m means }
 

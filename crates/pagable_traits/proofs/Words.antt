@@ -6,7 +6,8 @@ pub use Rattle.pagable_codec.proofs.{
 pub use Rattle.pagable_traits.specs.{
   Clauses.{Piece, Reads, Wrote, bytes, context_in, item_forms, nested_in},
   JsonData.{of_data, of_key, of_value},
-  Meanings.{Meanings, pairs, some},
+  KeyLaws.IsKey,
+  Meanings.{AreSingle, Meanings, Means, pairs, some},
   Walks.{RefusedAmong, RefusedCounted, WritesEach},
 }
 pub use Rattle.pagable_value_spec.specs.{

@@ -4,17 +4,19 @@ use Rattle.pagable_value_spec.specs.{
   Keyed.{RefersToNothing, list_is_same, number_is_same, option_is_same, pair_is_same, result_is_same, text_is_same},
   Keys.same_key,
   Meaning.{number, text},
-  OneForm.{IsOfTwo, IsOver, basic_refers_to_nothing, over_refers_to_nothing, two_refers_to_nothing},
+  OneForm.{IsBasic, IsOfTwo, IsOver, basic_refers_to_nothing, over_refers_to_nothing, two_refers_to_nothing},
   Shape.{Shape, both, optional, outcome, unsigned},
 }
-use Rattle.std.proofs.Common.{◌∙◌}
+use Rattle.std.proofs.Common.{sym, ◌∙◌}
 use Rattle.std.specs.{
-  Cmp.Lexicographic.pointwise,
+  Cmp.{Derive.then_next, Lexicographic.pointwise},
   Int.Width,
   Option.option_eq,
+  Ordering.ordering_then,
   Prelude.{Bool, nat_eq, refl, ℕ, ◌&&◌, ◌≡◌},
   Result.result_eq,
   Str.bytes_eq,
+  declared.cmp.Ordering.Ordering,
 }
 use Rattle.pagable_value_spec.specs.Shape as shapes
 
@@ -73,11 +75,19 @@ module _ {X E : Type 0} {M : Meanings X} {eq : X → X → Bool} {parts : E → 
       refers_to_nothing = λ e. two_refers_to_nothing (over e) (k.refers_to_nothing e) (l.refers_to_nothing e);
     }
 
+-- for values of a shape that is made of no other
+abbrev pub basic_key : {X E : Type 0} {M : Meanings X} {eq : X → X → Bool} {parts : E → ℕ → Shape} {s : Shape}
+    → ((x y : X) → eq x y ≡ same_key (M.meaning x) (M.meaning y)) → IsBasic s → IsKey M eq parts (λ (e : E). s)
+basic_key same is = record { same = same; refers_to_nothing = λ e. basic_refers_to_nothing is }
+
 -- for whole numbers, and for texts
 abbrev pub number_key : {E : Type 0} {parts : E → ℕ → Shape} {w : Width}
     → IsKey (exactly number) nat_eq parts (λ (e : E). unsigned w)
-number_key = record { same = number_is_same; refers_to_nothing = λ e. basic_refers_to_nothing tt }
+number_key = basic_key number_is_same tt
 
 abbrev pub text_key : {E : Type 0} {parts : E → ℕ → Shape}
     → IsKey (exactly text) bytes_eq parts (λ (e : E). shapes.text)
-text_key = record { same = text_is_same; refers_to_nothing = λ e. basic_refers_to_nothing tt }
+text_key = basic_key text_is_same tt
+
+pub then_assoc : (o p q : Ordering) → ordering_then (ordering_then o p) q ≡ ordering_then o (ordering_then p q)
+then_assoc o p q = sym (then_next o p q refl refl)

@@ -10,9 +10,13 @@ use Rattle.pagable_value_spec.specs.{
 }
 use Rattle.std.specs.Prelude.{List, Option, Result, map, refl, ◌≡◌}
 
+-- what each value of the type may mean
+abbrev pub Means : Type 0 → Type 1
+Means X = X → Meaning ArcRef → Type 0
+
 -- the meanings that a value may have, and one of them: the only one, or any if no contract knows its content
 pub record Meanings (X : Type 0) : Type 1 where
-  pub of : X → Meaning ArcRef → Type 0
+  pub of : Means X
   pub meaning : X → Meaning ArcRef
   pub is : (x : X) → of x (meaning x)
 

@@ -5,7 +5,8 @@
 //! order.
 
 ghost use Rattle.pagable_traits.specs.{
-  KeyLaws.{IsKey, entries_key, key_alike, key_seen, list_key, number_key, option_key, pair_key, result_key, text_key},
+  KeyLaws.{IsKey, basic_key, entries_key, key_alike, key_seen, list_key, number_key, option_key, pair_key},
+  KeyLaws.{result_key, text_key},
 };
 ghost use Rattle.pagable_value_spec.specs.{
   Keyed.{flag_is_ordered, flag_is_same, integer_is_ordered, integer_is_same, list_is_ordered, nothing_is_same},
@@ -14,7 +15,6 @@ ghost use Rattle.pagable_value_spec.specs.{
   Keys.{KeyOrder, flag_order, integer_order, list_order, nothing_order, number_order, optional_order, ordered},
   Keys.{outcome_order, pair_order, text_order},
   Meaning.{pair, sequence},
-  OneForm.basic_refers_to_nothing,
 };
 ghost use Rattle.std.proofs.{Common.◌∙◌, Math.Bool.and_assoc};
 ghost use Rattle.std.specs.{
@@ -110,7 +110,7 @@ impl<E: Env> PagableOrdKey<E> for usize {
 }
 
 impl<E: Env> PagableKey<E> for i8 {
-    ghost key = { record { same = integer_is_same; refers_to_nothing = λ e. basic_refers_to_nothing tt } };
+    ghost key = { basic_key integer_is_same tt };
 }
 
 impl<E: Env> PagableOrdKey<E> for i8 {
@@ -120,7 +120,7 @@ impl<E: Env> PagableOrdKey<E> for i8 {
 }
 
 impl<E: Env> PagableKey<E> for i16 {
-    ghost key = { record { same = integer_is_same; refers_to_nothing = λ e. basic_refers_to_nothing tt } };
+    ghost key = { basic_key integer_is_same tt };
 }
 
 impl<E: Env> PagableOrdKey<E> for i16 {
@@ -130,7 +130,7 @@ impl<E: Env> PagableOrdKey<E> for i16 {
 }
 
 impl<E: Env> PagableKey<E> for i32 {
-    ghost key = { record { same = integer_is_same; refers_to_nothing = λ e. basic_refers_to_nothing tt } };
+    ghost key = { basic_key integer_is_same tt };
 }
 
 impl<E: Env> PagableOrdKey<E> for i32 {
@@ -140,7 +140,7 @@ impl<E: Env> PagableOrdKey<E> for i32 {
 }
 
 impl<E: Env> PagableKey<E> for i64 {
-    ghost key = { record { same = integer_is_same; refers_to_nothing = λ e. basic_refers_to_nothing tt } };
+    ghost key = { basic_key integer_is_same tt };
 }
 
 impl<E: Env> PagableOrdKey<E> for i64 {
@@ -150,7 +150,7 @@ impl<E: Env> PagableOrdKey<E> for i64 {
 }
 
 impl<E: Env> PagableKey<E> for i128 {
-    ghost key = { record { same = integer_is_same; refers_to_nothing = λ e. basic_refers_to_nothing tt } };
+    ghost key = { basic_key integer_is_same tt };
 }
 
 impl<E: Env> PagableOrdKey<E> for i128 {
@@ -160,7 +160,7 @@ impl<E: Env> PagableOrdKey<E> for i128 {
 }
 
 impl<E: Env> PagableKey<E> for char {
-    ghost key = { record { same = number_is_same; refers_to_nothing = λ e. basic_refers_to_nothing tt } };
+    ghost key = { basic_key number_is_same tt };
 }
 
 impl<E: Env> PagableOrdKey<E> for char {
@@ -170,7 +170,7 @@ impl<E: Env> PagableOrdKey<E> for char {
 }
 
 impl<E: Env> PagableKey<E> for bool {
-    ghost key = { record { same = flag_is_same; refers_to_nothing = λ e. basic_refers_to_nothing tt } };
+    ghost key = { basic_key flag_is_same tt };
 }
 
 /// `false` is less than `true`.
@@ -181,7 +181,7 @@ impl<E: Env> PagableOrdKey<E> for bool {
 }
 
 impl<E: Env> PagableKey<E> for () {
-    ghost key = { record { same = λ x y. nothing_is_same; refers_to_nothing = λ e. basic_refers_to_nothing tt } };
+    ghost key = { basic_key (λ x y. nothing_is_same) tt };
 }
 
 impl<E: Env> PagableOrdKey<E> for () {
@@ -191,7 +191,7 @@ impl<E: Env> PagableOrdKey<E> for () {
 }
 
 impl<E: Env, T> PagableKey<E> for PhantomData<T> {
-    ghost key = { record { same = λ x y. nothing_is_same; refers_to_nothing = λ e. basic_refers_to_nothing tt } };
+    ghost key = { basic_key (λ x y. nothing_is_same) tt };
 }
 
 impl<E: Env, T> PagableOrdKey<E> for PhantomData<T> {
@@ -361,7 +361,7 @@ impl<E: Env, K: PagableKey<E>> PagableKey<E> for Vec<K> {
 impl<E: Env, K: PagableOrdKey<E>> PagableOrdKey<E> for Vec<K> {
     ghost order = { list_order K.order };
 
-    ghost is_order = { λ x y. list_is_ordered K.order K.cmp K.means.meaning K.is_order x.items y.items };
+    ghost is_order = { λ x y. list_is_ordered _ _ _ K.is_order _ _ };
 }
 
 impl<E: Env, K: PagableKey<E>> PagableKey<E> for BoxedSlice<K> {
@@ -371,8 +371,7 @@ impl<E: Env, K: PagableKey<E>> PagableKey<E> for BoxedSlice<K> {
 impl<E: Env, K: PagableOrdKey<E>> PagableOrdKey<E> for BoxedSlice<K> {
     ghost order = { list_order K.order };
 
-    ghost is_order = { λ x y. list_is_ordered K.order K.cmp K.means.meaning K.is_order (boxed_slice_items x)
-        (boxed_slice_items y) };
+    ghost is_order = { λ x y. list_is_ordered _ _ _ K.is_order _ _ };
 }
 
 impl<E: Env, K: PagableKey<E>, const N: usize> PagableKey<E> for [K; N] {
@@ -382,7 +381,7 @@ impl<E: Env, K: PagableKey<E>, const N: usize> PagableKey<E> for [K; N] {
 impl<E: Env, K: PagableOrdKey<E>, const N: usize> PagableOrdKey<E> for [K; N] {
     ghost order = { list_order K.order };
 
-    ghost is_order = { λ x y. list_is_ordered K.order K.cmp K.means.meaning K.is_order x y };
+    ghost is_order = { λ x y. list_is_ordered _ _ _ K.is_order _ _ };
 }
 
 impl<E: Env, K: PagableKey<E>, const N: usize> PagableKey<E> for SmallVec<K, N> {
@@ -392,7 +391,7 @@ impl<E: Env, K: PagableKey<E>, const N: usize> PagableKey<E> for SmallVec<K, N> 
 impl<E: Env, K: PagableOrdKey<E>, const N: usize> PagableOrdKey<E> for SmallVec<K, N> {
     ghost order = { list_order K.order };
 
-    ghost is_order = { λ x y. list_is_ordered K.order K.cmp K.means.meaning K.is_order x.items y.items };
+    ghost is_order = { λ x y. list_is_ordered _ _ _ K.is_order _ _ };
 }
 
 impl<E: Env, K: PagableOrdKey<E>> PagableKey<E> for BTreeSet<K> {
@@ -402,7 +401,7 @@ impl<E: Env, K: PagableOrdKey<E>> PagableKey<E> for BTreeSet<K> {
 impl<E: Env, K: PagableOrdKey<E>> PagableOrdKey<E> for BTreeSet<K> {
     ghost order = { list_order K.order };
 
-    ghost is_order = { λ x y. list_is_ordered K.order K.cmp K.means.meaning K.is_order x.keys y.keys };
+    ghost is_order = { λ x y. list_is_ordered _ _ _ K.is_order _ _ };
 }
 
 impl<E: Env, K: PagableOrdKey<E>, V: PagableKey<E>> PagableKey<E> for BTreeMap<K, V> {

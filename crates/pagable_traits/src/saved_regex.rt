@@ -3,6 +3,7 @@
 ghost use Rattle.pagable_traits.specs.{
   Building.{IsBuildError, IsBuiltFrom, ReadsRefusedPattern, pattern_causes, reads_pattern, refusal_of},
   Clauses.{Reads, Wrote, value as form},
+  KeyLaws.basic_key,
   Meanings.exactly,
   OwnCauses.{writes_long_or, writes_memory},
 };
@@ -10,7 +11,7 @@ ghost use Rattle.pagable_value_spec.specs.{
   Cursor.{HoldsLentValues, Is, handles_at},
   Keyed.pattern_is_same,
   Meaning.pattern,
-  OneForm.{basic_has_one_form, basic_refers_to_nothing},
+  OneForm.basic_has_one_form,
   Outcomes.{IsOutOfMemory, long_or},
   Reading.read,
   declared.error.Error.TheVariants.RegexRefused,
@@ -146,7 +147,7 @@ impl<E: Env> Canonical<E> for SavedRegex {
 }
 
 impl<E: Env> PagableKey<E> for SavedRegex {
-    ghost key = { record { same = pattern_is_same; refers_to_nothing = λ e. basic_refers_to_nothing tt } };
+    ghost key = { basic_key pattern_is_same tt };
 }
 
 /// Writes the text of a pattern: its length in bytes, and its bytes. Fails with `TooLong` above

@@ -1,6 +1,7 @@
 //! Values that hold others: `Option`, `Result`, `Box`, tuples (those of three to five values are
 //! encoded as their first value and the tuple of the others), borrowed values, a header with a
 //! list, type markers (which write nothing), and cells.
+#![tactic(auto, unfolding(pagable_value_spec::specs::Reading::read, pagable_value_spec::specs::Reading::read_with), using(crate::proofs::Parts::reads, crate::proofs::Lent::lent))]
 
 ghost use Rattle.pagable_traits.specs.{
   HeldValues.{lists_beside, options_beside, pairs_beside, results_beside},
@@ -54,7 +55,6 @@ impl<E: Env, T: PagableSerialize<E>> PagableSerialize<E> for Option<T> {
 impl<'de, E: Env, T: PagableDeserialize<'de, E>> PagableDeserialize<'de, E> for Option<T> {
     ghost read_causes = { T.read_causes };
 
-    #[tactic(auto, unfolding(pagable_value_spec::specs::Reading::read, pagable_value_spec::specs::Reading::read_with), using(crate::proofs::Parts::reads, crate::proofs::Lent::lent))]
     fn pagable_deserialize<D: PagableDeserializer<E>>(
         alloc: Global,
         deserializer: &mut D,
@@ -84,7 +84,6 @@ impl<E: Env, T: PagableSerialize<E>> PagableSerialize<E> for Box<T> {
 impl<'de, E: Env, T: PagableDeserialize<'de, E> + Drop> PagableDeserialize<'de, E> for Box<T> {
     ghost read_causes = { reads_memory_or T.read_causes };
 
-    #[tactic(auto, using(crate::proofs::Parts::reads, crate::proofs::Lent::lent))]
     fn pagable_deserialize<D: PagableDeserializer<E>>(
         alloc: Global,
         deserializer: &mut D,
@@ -122,7 +121,6 @@ impl<
 > PagableDeserialize<'de, E> for (A, B) {
     ghost read_causes = { reads_either A.read_causes B.read_causes };
 
-    #[tactic(auto, unfolding(pagable_value_spec::specs::Reading::read, pagable_value_spec::specs::Reading::read_with), using(crate::proofs::Parts::reads, crate::proofs::Lent::lent))]
     fn pagable_deserialize<D: PagableDeserializer<E>>(
         alloc: Global,
         deserializer: &mut D,
@@ -165,7 +163,6 @@ impl<'de, E: Env, T: PagableDeserialize<'de, E>, X: PagableDeserialize<'de, E>> 
 > for Result<T, X> {
     ghost read_causes = { reads_either T.read_causes X.read_causes };
 
-    #[tactic(auto, using(crate::proofs::Lent::lent))]
     fn pagable_deserialize<D: PagableDeserializer<E>>(
         alloc: Global,
         deserializer: &mut D,
@@ -253,7 +250,6 @@ impl<
 > PagableDeserialize<'de, E> for Thin<H, T> {
     ghost read_causes = { reads_either H.read_causes (reads_memory_or T.read_causes) };
 
-    #[tactic(auto, using(crate::proofs::Lent::seen_holds))]
     fn pagable_deserialize<D: PagableDeserializer<E>>(
         alloc: Global,
         deserializer: &mut D,

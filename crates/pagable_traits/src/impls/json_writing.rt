@@ -55,6 +55,7 @@ fn write_case<E: Env, S: PagableSerializer<E>>(case: usize, serializer: &mut S) 
 
 // Writes the case of an array or an object, and its length. Fails with `TooLong` above
 // 4,294,967,295 items or members.
+#[tactic(auto, using(crate::proofs::Json::counting))]
 fn write_case_and_length<E: Env, S: PagableSerializer<E>>(
     case: usize,
     count: usize,

@@ -1,44 +1,40 @@
 use Rattle.pagable_traits.proofs.{
   Items.{refuses_item, writes_item, writes_no_items},
-  Json.{arrays, as-value, deep_faults, item_faults, json-deep, json-long, json-text, long_faults, member-has, member_faults, null-value, objects, seen-array},
-  Json.{seen-flag, seen-number, seen-object, seen-text, text_faults, value-has},
+  Json.{arrays, as-value, deep_faults, item_faults, json-deep, json-long, json-text, long_faults, member-has, member_faults, null-value, objects, seen-flag},
+  Json.{seen-number, seen-text, text_faults, value-has},
   JsonSteps.{wrote-below, wrote-deep, wrote-err, wrote-is, wrote-more, wrote-nothing, wrote-then, wrote-then-err},
   Maps.{written-all, written-fewer, written-more, written-none, written-refused},
-  Parts.{refused_second, refuses_first, writes_pair},
-  Words.{Err, Is, MeansPair, both, json, length, of_key, of_value, refl, rules, sym, text, ◌∙◌},
+  Parts.{refuses_second, refuses_first, writes_pair},
+  Words.{Is, MeansPair, both, json, length, of_key, of_value, refl, rules, sym, text, ◌∙◌},
 }
 use Rattle.pagable_traits.specs.{
   JsonFaults.{EntryFault, Fault, array-deep, array-long, array-part, key-fault, object-deep, object-long, object-part, value-fault},
 }
+use Rattle.serde_json.proofs.Views.{view-Array, view-Object}
 use Rattle.serde_json.specs.declared.value.Value as values
 use Rattle.pagable_traits.proofs.impls.json_writing.+writing_json.Goals as goal
 
 pub write_value-returns-in-Null : goal.write_value-returns-in-Null
-write_value-returns-in-Null g t c = null-value g.E.Env g.S.PagableSerializer c.args.value.now c.write_case.result c.in-Null.is c.write_case.ensures
+write_value-returns-in-Null g t c = null-value c.in-Null.is c.write_case.ensures
 
 pub write_value-returns-in-Bool : goal.write_value-returns-in-Bool
-write_value-returns-in-Bool g t c = as-value g.E.Env g.S.PagableSerializer c.args.value.now (values.Bool _) _ c.write_flag.result c.in-Bool.is
-    (seen-flag c.args.value.now _ c.in-Bool.is) c.write_flag.ensures
+write_value-returns-in-Bool g t c = as-value c.in-Bool.is (seen-flag _) c.write_flag.ensures
 
 pub write_value-returns-in-Number : goal.write_value-returns-in-Number
-write_value-returns-in-Number g t c = as-value g.E.Env g.S.PagableSerializer c.args.value.now (values.Number _) _ c.write_number.result c.in-Number.is
-    (seen-number c.args.value.now _ c.in-Number.is) c.write_number.ensures
+write_value-returns-in-Number g t c = as-value c.in-Number.is (seen-number _) c.write_number.ensures
 
 pub write_value-returns-in-String : goal.write_value-returns-in-String
-write_value-returns-in-String g t c = as-value g.E.Env g.S.PagableSerializer c.args.value.now (values.String _) _ c.write_text.result c.in-String.is
-    (seen-text c.args.value.now _ _ c.in-String.is refl) c.write_text.ensures
+write_value-returns-in-String g t c = as-value c.in-String.is (seen-text _) c.write_text.ensures
 
 pub write_value-returns-in-Array : goal.write_value-returns-in-Array
-write_value-returns-in-Array g t c = as-value g.E.Env g.S.PagableSerializer c.args.value.now (values.Array _) _ c.write_array.result c.in-Array.is
-    (seen-array c.args.value.now _ c.in-Array.is) c.write_array.ensures
+write_value-returns-in-Array g t c = as-value c.in-Array.is (view-Array _) c.write_array.ensures
 
 pub write_value-returns-in-Object : goal.write_value-returns-in-Object
-write_value-returns-in-Object g t c = as-value g.E.Env g.S.PagableSerializer c.args.value.now (values.Object c.in-Object.members) _ c.write_object.result
-    c.in-Object.is (seen-object c.args.value.now c.in-Object.members c.in-Object.is) c.write_object.ensures
+write_value-returns-in-Object g t c = as-value c.in-Object.is (view-Object _) c.write_object.ensures
 
 pub write_array-returns-in_err-write_case_and_length : goal.write_array-returns-in_err-write_case_and_length
 write_array-returns-in_err-write_case_and_length g t c =
-    wrote-err g.E.Env g.S.PagableSerializer c.from_residual.result c.from_residual.ensures.1 c.in_err-write_case_and_length.ensures
+    wrote-err c.from_residual.ensures.1 c.in_err-write_case_and_length.ensures
     (λ n l h. (
       (arrays c.args.items.now.items c.len.result (search rules)).long n _ h,
       long_faults (Fault n (values.Array c.args.items.now)) c.len.result (length c.args.items.now.items) _ (search rules) (array-long n c.args.items.now) h,
@@ -48,7 +44,7 @@ write_array-returns-in_err-write_case_and_length g t c =
 pub write_array-returns-in_err-enter : goal.write_array-returns-in_err-enter
 write_array-returns-in_err-enter g t c =
     let down = c.in_err-enter.ensures in
-    wrote-deep g.E.Env g.S.PagableSerializer c.from_residual-in_err-enter.result c.from_residual-in_err-enter.ensures.1
+    wrote-deep c.from_residual-in_err-enter.ensures.1
     c.in_ok-write_case_and_length.ensures down.err
     down.same_out down.same_env (λ n le. (
       (arrays c.args.items.now.items _ refl).deep n _ le,
@@ -61,21 +57,21 @@ write_array-returns g t c =
     let down = c.in_ok-enter.ensures in
     let up = c.leave.ensures in
     let made = arrays c.args.items.now.items c.len.result (search rules) in
-    wrote-then g.E.Env g.S.PagableSerializer c.write_items-done.result c.in_ok-write_case_and_length.ensures
-    (wrote-below g.E.Env g.S.PagableSerializer c.write_items-done.result down.ok down.same_out down.same_env c.write_items-done.ensures up.up up.same_out
+    wrote-then c.in_ok-write_case_and_length.ensures
+    (wrote-below down.ok down.same_out down.same_env c.write_items-done.ensures up.up up.same_out
     up.same_env)
     made.joins (λ n e l h. (made.lacks n e (l.0, l.1.0), λ fault. array-part n c.args.items.now e l.0 (l.1.1 fault))) (λ e h. h)
 
 pub write_items-loop-item-init : goal.write_items-loop-item-init
-write_items-loop-item-init g t c = wrote-nothing g.E.Env g.S.PagableSerializer (writes_no_items _ _ _ _)
+write_items-loop-item-init g t c = wrote-nothing (writes_no_items _ _ _ _)
 
 pub write_items-loop-item-preserved : goal.write_items-loop-item-preserved
-write_items-loop-item-preserved g t c = wrote-more g.E.Env g.S.PagableSerializer c.loop-item.invariant c.in_ok-write_value.ensures
+write_items-loop-item-preserved g t c = wrote-more c.loop-item.invariant c.in_ok-write_value.ensures
     (λ n old mid new v w. writes_item (Is of_value) c.deref-item-items.result.now c.loop-item.item-index _ n json old mid new c.loop-item-test.true
     c.item-item.is v w)
 
 pub write_items-returns-in_err-write_value : goal.write_items-returns-in_err-write_value
-write_items-returns-in_err-write_value g t c = wrote-then-err g.E.Env g.S.PagableSerializer c.from_residual.result c.from_residual.ensures.1
+write_items-returns-in_err-write_value g t c = wrote-then-err c.from_residual.ensures.1
     c.loop-item.invariant c.in_err-write_value.ensures
     (λ n old mid v l h. (
       rw c.deref-item-items.ensures.value at (refuses_item (Is of_value) value-has c.deref-item-items.result.now c.loop-item.item-index _ n json _
@@ -86,7 +82,7 @@ write_items-returns-in_err-write_value g t c = wrote-then-err g.E.Env g.S.Pagabl
 
 pub write_object-returns-in_err-write_case_and_length : goal.write_object-returns-in_err-write_case_and_length
 write_object-returns-in_err-write_case_and_length g t c =
-    wrote-err g.E.Env g.S.PagableSerializer c.from_residual.result c.from_residual.ensures.1 c.in_err-write_case_and_length.ensures
+    wrote-err c.from_residual.ensures.1 c.in_err-write_case_and_length.ensures
     (λ n l h. (
       (objects c.args.members.now.entries c.len.result c.len.ensures.len c.len.ensures.ordered).long n _ h,
       long_faults (Fault n (values.Object c.args.members.now)) _ _ _ c.len.ensures.len (object-long n c.args.members.now) h,
@@ -95,7 +91,7 @@ write_object-returns-in_err-write_case_and_length g t c =
 pub write_object-returns-in_err-enter : goal.write_object-returns-in_err-enter
 write_object-returns-in_err-enter g t c =
     let down = c.in_err-enter.ensures in
-    wrote-deep g.E.Env g.S.PagableSerializer c.from_residual-in_err-enter.result c.from_residual-in_err-enter.ensures.1
+    wrote-deep c.from_residual-in_err-enter.ensures.1
     c.in_ok-write_case_and_length.ensures down.err
     down.same_out down.same_env (λ n le. (
       (objects c.args.members.now.entries c.len.result c.len.ensures.len c.len.ensures.ordered).deep n _ le,
@@ -108,24 +104,24 @@ write_object-returns g t c =
     let made = objects c.args.members.now.entries c.len.result c.len.ensures.len c.len.ensures.ordered in
     let down = c.in_ok-enter.ensures in
     let up = c.leave.ensures in
-    wrote-then g.E.Env g.S.PagableSerializer c.write_members-done.result c.in_ok-write_case_and_length.ensures
-    (wrote-below g.E.Env g.S.PagableSerializer c.write_members-done.result down.ok down.same_out down.same_env c.write_members-done.ensures up.up up.same_out
+    wrote-then c.in_ok-write_case_and_length.ensures
+    (wrote-below down.ok down.same_out down.same_env c.write_members-done.ensures up.up up.same_out
     up.same_env)
     made.joins (λ n e l h. (made.lacks n e (l.0, l.1.0), λ fault. object-part n c.args.members.now e l.0 (l.1.1 fault))) (λ e h. h)
 
 pub write_members-loop-key-init : goal.write_members-loop-key-init
-write_members-loop-key-init g t c = wrote-nothing g.E.Env g.S.PagableSerializer
+write_members-loop-key-init g t c = wrote-nothing
     (written-none _ _ _ _ _ _ (sym c.iter-key-items.ensures.rest ∙ sym c.into_iter-key-iterator.ensures.into_iter_gives))
 
 pub write_members-loop-key-smaller : goal.write_members-loop-key-smaller
 write_members-loop-key-smaller g t c = written-fewer _ _ _ c.in-Some.ensures.steps
 
 pub write_members-loop-key-preserved : goal.write_members-loop-key-preserved
-write_members-loop-key-preserved g t c = wrote-more g.E.Env g.S.PagableSerializer c.loop-key.invariant c.in_ok-write_member.ensures
+write_members-loop-key-preserved g t c = wrote-more c.loop-key.invariant c.in_ok-write_member.ensures
     (λ n old mid new v w. written-more (MeansPair (Is of_key) (Is of_value)) n (both text json) _ _ _ _ old mid new v c.in-Some.ensures.steps w)
 
 pub write_members-returns-in_err-write_member : goal.write_members-returns-in_err-write_member
-write_members-returns-in_err-write_member g t c = wrote-then-err g.E.Env g.S.PagableSerializer c.from_residual.result c.from_residual.ensures.1
+write_members-returns-in_err-write_member g t c = wrote-then-err c.from_residual.ensures.1
     c.loop-key.invariant c.in_err-write_member.ensures
     (λ n old mid v l h. (
       written-refused (MeansPair (Is of_key) (Is of_value)) member-has n (both text json) _ _ _ _ old mid _ v c.in-Some.ensures.steps l.0,
@@ -133,10 +129,10 @@ write_members-returns-in_err-write_member g t c = wrote-then-err g.E.Env g.S.Pag
     )) (λ h. h)
 
 pub write_members-returns : goal.write_members-returns
-write_members-returns g t c = wrote-is g.E.Env g.S.PagableSerializer c.loop-key.invariant (λ n old new v. written-all _ _ _ _ _ _ _ v c.in-None.ensures.steps.0)
+write_members-returns g t c = wrote-is c.loop-key.invariant (λ n old new v. written-all _ _ _ _ _ _ _ v c.in-None.ensures.steps.0)
 
 pub write_member-returns-in_err-pagable_serialize : goal.write_member-returns-in_err-pagable_serialize
-write_member-returns-in_err-pagable_serialize g t c = wrote-err g.E.Env g.S.PagableSerializer c.from_residual.result c.from_residual.ensures.1
+write_member-returns-in_err-pagable_serialize g t c = wrote-err c.from_residual.ensures.1
     c.in_err-pagable_serialize.ensures
     (λ n l h. (
       refuses_first (Is of_key) (Is of_value) value-has (c.args.key.now, c.args.value.now) n text json _ l,
@@ -144,9 +140,9 @@ write_member-returns-in_err-pagable_serialize g t c = wrote-err g.E.Env g.S.Paga
     )) (λ h. json-text _ h)
 
 pub write_member-returns : goal.write_member-returns
-write_member-returns g t c = wrote-then g.E.Env g.S.PagableSerializer c.write_value.result c.in_ok-pagable_serialize.ensures c.write_value.ensures
+write_member-returns g t c = wrote-then c.in_ok-pagable_serialize.ensures c.write_value.ensures
     (λ n old mid new f w. writes_pair (Is of_key) (Is of_value) (c.args.key.now, c.args.value.now) n text json old mid new f w)
     (λ n e l h. (
-      refused_second {X = Unit {0}} (Err e) (Is of_key) (Is of_value) (λ k. (of_key k, refl)) (c.args.key.now, c.args.value.now) n text json l.0,
+      refuses_second (Is of_key) (Is of_value) (λ k. (of_key k, refl)) (c.args.key.now, c.args.value.now) n text json e l.0,
       λ fault. value-fault n c.args.key.now c.args.value.now e (l.1 fault),
     )) (λ e h. h)

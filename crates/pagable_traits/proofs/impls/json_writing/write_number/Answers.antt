@@ -1,9 +1,9 @@
 use Rattle.pagable_traits.proofs.{
-  Json.{case-err, json-memory, no_fault, no_json_fault, number_written, refuses-number},
+  Json.{case-err, json-memory, no_json_fault, number_written, refuses-number},
   JsonSteps.wrote-then-err,
   Parts.{err_along, ok_along},
-  Words.{Error, IsOutOfMemory, None, Option, Some, as_i64, bytes, grows_refl, grows_trans, inl, inr, json, memory_refuses, nested_in, number_view, refl, rules},
-  Words.{to_z-of_z, w64, ℤ, [], ◌∙◌, ◌≡◌},
+  Words.{Error, IsOutOfMemory, None, Option, Some, as_i64, bytes, grows_refl, grows_trans, inl, inr, nested_in, number_view, refl, rules, to_z-of_z, w64, ℤ},
+  Words.{[], ◌∙◌, ◌≡◌},
 }
 use Rattle.pagable_traits.specs.JsonFaults.{number-fault}
 use Rattle.serde_json.specs.Data.{number}
@@ -23,16 +23,14 @@ returns-in_default g c =
     }
 
 pub returns-in_err-write_case : goal.returns-in_err-write_case
-returns-in_err-write_case g c = case-err g.E.Env g.S.PagableSerializer (values.Number c.args.value.now)
-    (number (number_view c.args.value.now)) c.from_residual.result c.from_residual.ensures.1 c.in_err-write_case.ensures
+returns-in_err-write_case g c = case-err (number (number_view c.args.value.now)) c.from_residual.ensures.1 c.in_err-write_case.ensures
 
 pub returns-in_err-write_flag : goal.returns-in_err-write_flag
 returns-in_err-write_flag g c =
     let flag = c.in_err-write_flag.ensures in
-    let left = c.from_residual-in_err-write_flag in
-    wrote-then-err g.E.Env g.S.PagableSerializer {Z = Unit {0}} {Q = bytes []} {second = IsOutOfMemory} left.result left.ensures.1 c.in_ok-write_case.ensures
+    wrote-then-err {Z = Unit {0}} {Q = bytes []} {second = IsOutOfMemory} c.from_residual-in_err-write_flag.ensures.1 c.in_ok-write_case.ensures
     (record { ok = tt; refused = tt; only = flag.only; grows = flag.grows; same_env = flag.same_env; same_levels = flag.same_levels })
-    (λ n old mid e l h. (memory_refuses _ _ n json h, no_fault _ h)) (λ h. json-memory _ h)
+    (λ n old mid e l h. no_json_fault (values.Number c.args.value.now) (number (number_view c.args.value.now)) n _ h) (λ h. json-memory _ h)
 
 pub returns : goal.returns
 returns g c =
@@ -43,8 +41,8 @@ returns g c =
     let form = rw (to_z-of_z w64 c.in-Some.whole (search rules), flag.same_levels, flag.same_env, first.same_levels, first.same_env) at w.ok in
     record {
       ok = ok_along _ form (λ v. number_written _ _ _ _ _ _ _ whole first.ok flag.ok v);
-      refused = no_json_fault c.pagable_serialize.result (values.Number c.args.value.now) (number (number_view c.args.value.now))
-          (nested_in g.E.Env g.S.PagableSerializer c.args.serializer.now) w.only;
+      refused = err_along _ w.only (no_json_fault (values.Number c.args.value.now) (number (number_view c.args.value.now))
+          (nested_in g.E.Env g.S.PagableSerializer c.args.serializer.now));
       only = err_along _ w.only json-memory;
       grows = grows_trans _ _ _ (grows_trans _ _ _ first.grows flag.grows) w.grows;
       same_env = w.same_env ∙ flag.same_env ∙ first.same_env;

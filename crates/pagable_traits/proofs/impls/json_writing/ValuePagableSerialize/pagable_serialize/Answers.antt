@@ -4,6 +4,6 @@ pub returns : Rattle.pagable_traits.proofs.impls.json_writing.ValuePagableSerial
 returns g c =
     let told = c.write_value.ensures in
     record {
-      wrote = wrote-as g.E.Env g.S.PagableSerializer c.write_value.result told (λ n old new w. w) (λ n e l. l.0);
+      wrote = wrote-as told (λ n old new w. w) (λ n e l h. l.0) (λ e h. h);
       first_fault = err_along c.write_value.result told.refused (λ e l. l.1);
     }

@@ -16,6 +16,5 @@ pub returns-clause-holds : Rattle.pagable_traits.proofs.impls.lists.ArrayPagable
 returns-clause-holds g c =
     let values = c.in_ok-values.values in
     let made = rw c.unwrap.ensures at c.try_from.ensures in
-    let held = list_holds g.T.Carried.beside (g.D.PagableDeserializer.input_state c.args.deserializer.now) (λ v. v.items)
-    (Ok values) c.in_ok-values.ensures.holds in
+    let held = list_holds g.T.Carried.beside _ (λ v. v.items) (Ok values) c.in_ok-values.ensures.holds in
     items_hold g.T.Carried.beside (λ v. v.items) (λ xs. xs) made.0 held

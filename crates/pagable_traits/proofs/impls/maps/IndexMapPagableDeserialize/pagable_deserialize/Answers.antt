@@ -1,12 +1,8 @@
-use Rattle.pagable_traits.proofs.{JsonSteps.reads-as, Lent.placed_map_holds, Maps.{key_like, reads_placed_map}, Words.same_key}
+use Rattle.pagable_traits.proofs.{JsonSteps.reads-as, Lent.placed_map_holds, Maps.{same-of, reads_placed_map}}
 
 pub returns-clause-reads : Rattle.pagable_traits.proofs.impls.maps.IndexMapPagableDeserialize.pagable_deserialize.Goals.returns-clause-reads
-returns-clause-reads g c =
-    let same = key_like g.K.Carried.means.of g.K.Carried.means.meaning g.met.K.OneMeaning.single g.K.PartialEq.eq same_key
-    (λ b. b) g.met.K.PagableKey.key.same g.met.K.Eq.laws.symm in
-    reads-as g.E.Env g.D.PagableDeserializer c.read_collected.result c.read_collected.ensures.reads
-    (λ h. reads_placed_map _ g.K.Carried.means.of g.V.Carried.means.of g.K.PartialEq.eq same c.read_collected.result (λ x. x.entries) _ _ _ _ _ h)
+returns-clause-reads g c = reads-as c.read_collected.ensures.reads
+    (λ h. reads_placed_map _ _ _ _ _ _ _ _ _ (same-of g.met.K.PagableKey.key g.met.K.OneMeaning.single g.met.K.Eq.laws.symm) h)
 
 pub returns-clause-holds : Rattle.pagable_traits.proofs.impls.maps.IndexMapPagableDeserialize.pagable_deserialize.Goals.returns-clause-holds
-returns-clause-holds g c = placed_map_holds g.K.Carried.beside g.V.Carried.beside (g.D.PagableDeserializer.input_state c.args.deserializer.now)
-    (λ m. m.entries) c.read_collected.result g.K.PartialEq.eq c.read_collected.ensures.holds
+returns-clause-holds g c = placed_map_holds _ _ _ _ c.read_collected.result _ c.read_collected.ensures.holds
