@@ -132,14 +132,7 @@ impl Filling {
     fn items(&self, items: Vec<Vec<Arc<String>>>) -> Parts {
         let store = self.storage.handle();
         let context = store.session_context();
-        let written: Vec<_> = items
-            .into_iter()
-            .map(|item| {
-                let mut serializer = SerializerForPaging::new(context);
-                item.pagable_serialize(&mut serializer).unwrap();
-                serializer.finish()
-            })
-            .collect();
+        let written = self.written(items);
         let table = DashMap::new();
         let paged_out = |(data, arcs)| store.page_out_item(data, arcs, &table, context).unwrap_or_else(|_| panic!("an item isn't paged out"));
         let (keys, out) = timed(|| written.into_iter().map(paged_out).collect::<Vec<_>>());

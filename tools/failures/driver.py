@@ -77,24 +77,24 @@ class Run:
     def looked(self):
         return self.server.ask(self.row.look())
 
+    def at_once(self, steps):
+        """What is wanted of these steps, and what is answered to them as one list, without looks."""
+        steps = [step for step in steps if step.name != "look"]
+        wanted = "; ".join(step.wanted for step in steps)
+        return wanted, self.told("; ".join(step.event for step in steps), is_renamed=True)[1] if steps else ""
+
     def prefix(self, place):
         """The events before a step, as one list."""
-        events = [step.event for step in self.row.steps[:place] if not step.event.startswith("look ")]
-        if events:
-            _, answer = self.told("; ".join(events), is_renamed=True)
-            wanted = "; ".join(step.wanted for step in self.row.steps[:place] if not step.event.startswith("look "))
-            if answer != wanted:
-                raise Unlike(f"undisturbed: `{answer}` in the place of `{wanted}`")
+        wanted, answer = self.at_once(self.row.steps[:place])
+        if answer != wanted:
+            raise Unlike(f"undisturbed: `{answer}` in the place of `{wanted}`")
 
     def rest(self, place):
         """The steps from this place on: as one list as long as no number differs."""
         if self.names.are_same() and not self.redone and not self.is_shifted:
-            events = [step for step in self.row.steps[place:] if not step.event.startswith("look ")]
-            if not events:
-                return
-            _, answer = self.told("; ".join(step.event for step in events), is_renamed=True)
-            if answer != "; ".join(step.wanted for step in events):
-                self.names.compare("", "; ".join(step.wanted for step in events), answer)
+            wanted, answer = self.at_once(self.row.steps[place:])
+            if answer != wanted:
+                self.names.compare("", wanted, answer)
             return
         for at in range(place, len(self.row.steps)):
             self.step(at)
@@ -103,7 +103,7 @@ class Run:
         """One step and what has to follow it where it is refused: whether a request was refused, and whether it was
         told."""
         step = self.row.steps[at]
-        if step.event.startswith("look "):
+        if step.name == "look":
             self.names.compare_looks(step.look, self.looked())
             return False, False
         met, answer = self.told(step.event, words)

@@ -21,8 +21,16 @@ TAKEN = {
     **dict.fromkeys(OF_HANDLE.split(), "h"), **dict.fromkeys(OF_LOAD.split(), "l"),
 }
 SORTS = {"h": "handle", "n": "node", "l": "load", "t": "table", "w": "worker"}
-REFERENCE = re.compile(r"\b(\d+):(\d+):(\d+)\b")
-IDENTITY = re.compile(r"(claim|pin|write|store|set|publish|release) (\d+):(\d+)(?![:\d])")
+REFERENCE = re.compile(r"\b(\d+):(?P<node>\d+):(?P<handle>\d+)\b")
+# The numbers in an answer, and those in what a look tells of a handle.
+IN_ANSWER = (
+    re.compile(r"\bload (?P<load>\d+)"),
+    re.compile(r"\bheld (?P<handle>\d+)"),
+    re.compile(r"\bpinned \d+ (?P<handle>\d+)"),
+    re.compile(r"(claim|pin|write|store|set|publish|release) \d+:(?P<node>\d+)(?![:\d])"),
+    REFERENCE,
+)
+IN_LOOK = (re.compile(r"^(?P<handle>\d+): (?P<node>\d+)"), REFERENCE)
 
 
 class Unlike(Exception):
@@ -89,11 +97,11 @@ class Names:
             if other is None:
                 raise Unlike(f"nothing stands for `{part}` in `{found}`")
             others.remove(other)
-            self.same_marks(look_marks(part), look_marks(other), part, other)
+            self.same_marks(without_numbers(part, IN_LOOK), without_numbers(other, IN_LOOK), part, other)
 
     def may_be(self, part, other):
         """Whether what a look tells of one handle may be what it tells of another."""
-        (plain, numbers), (found, others) = look_marks(part), look_marks(other)
+        (plain, numbers), (found, others) = without_numbers(part, IN_LOOK), without_numbers(other, IN_LOOK)
         pairs = [(sort, number, given) for (sort, number), (_, given) in zip(numbers, others)]
         there = all(self.there[sort].get(number, given) == given for sort, number, given in pairs)
         back = all(self.back[sort].get(given, number) == number for sort, number, given in pairs)
@@ -105,32 +113,25 @@ def handle_in(part):
     return int(part.partition(":")[0])
 
 
+def without_numbers(text, patterns):
+    """A text without the numbers that these patterns find, and these with their sorts, in order."""
+    numbers = []
+
+    def without(match):
+        kept, end = "", match.start()
+        for sort, number in match.groupdict().items():
+            numbers.append((sort, int(number)))
+            kept += text[end:match.start(sort)] + "#"
+            end = match.end(sort)
+        return kept + text[end:match.end()]
+
+    for pattern in patterns:
+        text = pattern.sub(without, text)
+    return text, numbers
+
+
 def marks(event, answer):
-    """An answer without its numbers, and these with their sorts, in order."""
-    name, numbers = event.split(" ")[0], []
-
-    def take(sort, number):
-        numbers.append((sort, int(number)))
-        return "#"
-
-    if name in GIVEN:
-        answer = re.sub(r"^ok (\d+)$", lambda m: "ok " + take(GIVEN[name], m[1]), answer)
-    answer = re.sub(r"\bload (\d+)", lambda m: "load " + take("load", m[1]), answer)
-    answer = re.sub(r"\bheld (\d+)", lambda m: "held " + take("handle", m[1]), answer)
-    answer = re.sub(r"\bpinned (\d+) (\d+)", lambda m: f"pinned {m[1]} " + take("handle", m[2]), answer)
-    answer = IDENTITY.sub(lambda m: f"{m[1]} {m[2]}:" + take("node", m[3]), answer)
-    return REFERENCE.sub(lambda m: f"{m[1]}:" + take("node", m[2]) + ":" + take("handle", m[3]), answer), numbers
-
-
-def look_marks(look):
-    """The same of a look: the list's length, and each live handle."""
-    numbers, words = [], []
-
-    def take(sort, number):
-        numbers.append((sort, int(number)))
-        return "#"
-
-    for part in look.split("; "):
-        part = re.sub(r"^(\d+): (\d+)", lambda m: take("handle", m[1]) + ": " + take("node", m[2]), part)
-        words.append(REFERENCE.sub(lambda m: f"{m[1]}:" + take("node", m[2]) + ":" + take("handle", m[3]), part))
-    return "; ".join(words), numbers
+    """An answer without its numbers, and these."""
+    given = GIVEN.get(event.split(" ")[0])
+    own = [re.compile(rf"^ok (?P<{given}>\d+)$")] if given else []
+    return without_numbers(answer, [*own, *IN_ANSWER])

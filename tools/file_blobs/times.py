@@ -3,12 +3,11 @@
 
     tools/file_blobs/times.py WORK [ROUNDS]        # builds both programs in the folder WORK
 
-times.rattle and times.c store and fetch the same 100,000 blobs, of 308 bytes and of 108 to 10,008, with a flush after
+main.rattle and times.c store and fetch the same 100,000 blobs, of 308 bytes and of 108 to 10,008, with a flush after
 each 1,000, and both compute and test the SHA-256 of each. The first is built unproved, as tools/speed is.
 """
 import pathlib
 import re
-import shutil
 import subprocess
 import sys
 import tempfile
@@ -27,11 +26,7 @@ TIME = re.compile(r"(stored|fetched|opened) in (\d+) ms")
 
 def built(work):
     """Builds both programs."""
-    with tempfile.TemporaryDirectory() as folder:
-        folder = pathlib.Path(folder) / "times"
-        folder.mkdir()
-        shutil.copy(HERE / "times.rattle", folder / "main.rattle")
-        program = compiled_in(work, source_in(work, TOP, folder, USES))
+    program = compiled_in(work, source_in(work, TOP, HERE, USES))
     subprocess.run(["gcc", "-O2", HERE / "times.c", "-lsqlite3", "-o", work / "times_c"], check=True)
     return {"file of blobs": program, "libsqlite3": work / "times_c"}
 

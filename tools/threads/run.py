@@ -54,11 +54,6 @@ def copied(folder, tests=None):
     modules = used(file.stem for file in HERE.glob("*.rattle") if tests is None or any_of(file.stem, tests))
     for module in modules:
         shutil.copy(HERE / f"{module}.rattle", source / f"{module}.rt")
-    if "values" in modules:
-        specs = source.parent / "specs"
-        specs.mkdir()
-        shutil.copy(HERE / "values.specs", specs / "Values.antt")
-        (specs / "Lib.antt").write_text("pub mod Values\n", encoding="utf-8")
     with open(source / "lib.rt", "a", encoding="utf-8") as root:
         root.writelines(f"#[cfg(test)]\nmod {module};\n" for module in modules)
     return source
