@@ -22,7 +22,7 @@ use Rattle.pagable_pageout.specs.{
   declared.{lent_table.LentTable.LentTable, tasks.{Task.Task, Turn.Turn}},
 }
 use Rattle.pagable_pager.proofs.Invariant.{less-moves}
-use Rattle.pagable_pager.specs.View.{AddsNoValue, ChangesOnlyTables, PagerView, ReadsAs, Telling, pager_core, pager_state, type_of_root, value_in}
+use Rattle.pagable_pager.specs.View.{AddsNoValue, ChangesOnlyTables, PagerView, ReadsAs, Storages, pager_core, pager_state, type_of_root, value_in}
 use Rattle.pagable_pager_spec.specs.{
   Access.{ReadingStep, WorkerStarts},
   Basics.{or_else, updated},
@@ -196,7 +196,8 @@ module _ {X XN XH XK XV : Type 0} {g : Environments X XN XH XK XV} {gh : Hashes 
       (λ l load is own. on.others l load is (was.whole.loads.numbered l (ap is_some is)).1 (ap (is_owner Owner.Caller) own))) at-work new-walk)
 
 -- a call by which values come, one by which they only go, and one by which they stay
-module _ {N S E : Type 0} {v : Values N} {tells : Telling S} {old new : PagerView N S E} {call : Call N PagableData} {r : Reply N (Arc PagableData Global)}
+module _ {N S E H K V : Type 0} {v : Values N} {tells : Storages S E N H K V} {old new : PagerView N S E} {call : Call N PagableData}
+    {r : Reply N (Arc PagableData Global)}
     (does : CallDoes (plainly v) (pager_core tells old) Owner.Caller call (plain_reply r) (pager_core tells new)) where
   pub serves : Moves (CallBrings (pager_core tells old) call) (pager_state tells old) (pager_state tells new) → Serves v tells old call r new
   serves moves = record { step = record { does = does }; moves = moves }
@@ -221,7 +222,7 @@ pub keeps-after : {Y : Type 0} {k mid kept' : ℕ → Option Y} {l : ℕ} {own :
 keeps-after as_was keeps = record { here = keeps.here; others = λ q other. keeps.others q other ∙ as_was q }
 
 module _ {X XN XH XK XV : Type 0} {g : Environments X XN XH XK XV} {gh : Hashes XH} {go : Orders XK} {gq : Equalities XK} {gp : PartialOrders XK}
-    {gn : Nodes XN X XN XH XK XV} {N S E : Type 0} (v : E → Values N) (tells : Telling S) (old new : PagerView N S E)
+    {gn : Nodes XN X XN XH XK XV} {N S E H K V : Type 0} (v : E → Values N) (tells : Storages S E N H K V) (old new : PagerView N S E)
     (held : LoadsAndWorkers X XN XH XK XV g gh go gq gp gn) (serving : IsServing (pager_core tells old) (holding held))
     (was : IsPagerWhole (v old.environment) (pager_state tells old)) where
   abbrev m : Seen N PagableData Written

@@ -8,7 +8,7 @@ use Rattle.pagable.specs.{
 use Rattle.pagable_codec.specs.declared.{env.Env.Ghosts as Environments, hash.KeyHash.Ghosts as Hashes, nodes.NodeSet.Ghosts as Nodes}
 use Rattle.pagable_load.{proofs.LoadSteps.none_comes, specs.{Frames.reading_of, declared.reading.Reading.Reading as Own}}
 use Rattle.pagable_pageout.specs.{Joint.both, Turns.{IsOfKind, LeavesFit, TaskFits}, declared.{lent_table.LentTable.LentTable, tasks.{Task.Task, Turn.Turn}}}
-use Rattle.pagable_pager.specs.View.{PagerView, Telling, pager_core, pager_state}
+use Rattle.pagable_pager.specs.View.{PagerView, Storages, pager_core, pager_state}
 use Rattle.pagable_pager_spec.specs.{
   Access.{IfBothKnown, MakesCall},
   Basics.{SameAt, if_there, one, times, updated},
@@ -399,39 +399,39 @@ module _ {X XN XH XK XV : Type 0} {g : Environments X XN XH XK XV} {gh : Hashes 
 
 -- what a machine over a pager does, made of both
 pub record Served {X XN XH XK XV : Type 0} {g : Environments X XN XH XK XV} {gh : Hashes XH} {go : Orders XK} {gq : Equalities XK} {gp : PartialOrders XK}
-    {gn : Nodes XN X XN XH XK XV} {N S E : Type 0} (v : Values N) (tells : Telling S) (old : PagerView N S E)
+    {gn : Nodes XN X XN XH XK XV} {N S E H K V : Type 0} (v : Values N) (tells : Storages S E N H K V) (old : PagerView N S E)
     (held : LoadsAndWorkers X XN XH XK XV g gh go gq gp gn)
     (event : Given N)
     (reply : Answer N) (new : PagerView N S E) (held' : LoadsAndWorkers X XN XH XK XV g gh go gq gp gn) : Type 0 where
   pub made : Makes (plainly v) (pager_state tells old) (holding held) (plain_event event) (plain_answer reply) (pager_state tells new) (holding held')
 
 pub as-made : {X XN XH XK XV : Type 0} {g : Environments X XN XH XK XV} {gh : Hashes XH} {go : Orders XK} {gq : Equalities XK} {gp : PartialOrders XK}
-    {gn : Nodes XN X XN XH XK XV} {N S E : Type 0} {v : Values N} {tells : Telling S} {old new : PagerView N S E}
+    {gn : Nodes XN X XN XH XK XV} {N S E H K V : Type 0} {v : Values N} {tells : Storages S E N H K V} {old new : PagerView N S E}
     {held held' : LoadsAndWorkers X XN XH XK XV g gh go gq gp gn} {event : Given N} {reply : Answer N}
     → Makes (plainly v) (pager_state tells old) (holding held) (plain_event event) (plain_answer reply) (pager_state tells new) (holding held')
     → Served v tells old held event reply new held'
 as-made makes = record { made = makes }
 
 module _ {X XN XH XK XV : Type 0} {g : Environments X XN XH XK XV} {gh : Hashes XH} {go : Orders XK} {gq : Equalities XK} {gp : PartialOrders XK}
-    {gn : Nodes XN X XN XH XK XV} {N S E : Type 0} {honest : S → Bool} {v : Values N} {tells : Telling S} {old new : PagerView N S E}
+    {gn : Nodes XN X XN XH XK XV} {N S E H K V : Type 0} {v : Values N} {tells : Storages S E N H K V} {old new : PagerView N S E}
     {held held' : LoadsAndWorkers X XN XH XK XV g gh go gq gp gn}
-    {event : Given N} {reply : Answer N} (was : HeldFitsPager honest tells old held) where
+    {event : Given N} {reply : Answer N} (was : HeldFitsPager tells old held) where
   -- a machine over a pager does what is made of both, as long as the storage is honest
-  pub drives : (IsTrue (honest new.storage) → IsTrue (honest old.storage)) → AllOnTables held'.tables.items (kept_at held'.walks)
-      → (IsTrue (honest new.storage) → IsServing (pager_core tells old) (holding held) → Served v tells old held event reply new held')
-      → Drives honest v tells old held event reply new held'
+  pub drives : (IsTrue (tells.is_honest new.storage) → IsTrue (tells.is_honest old.storage)) → AllOnTables held'.tables.items (kept_at held'.walks)
+      → (IsTrue (tells.is_honest new.storage) → IsServing (pager_core tells old) (holding held) → Served v tells old held event reply new held')
+      → Drives v tells old held event reply new held'
   drives keeps on_tables does = record { makes = λ is. (does is (was.serving (keeps is))).made; honest = keeps; on_tables = on_tables }
 
   -- the storage isn't asked, and no other worker is kept
   pub drives-beside : new.storage ≡ old.storage → length held.tables.items ≤ length held'.tables.items
       → ((q : ℕ) → kept_at held'.walks q ≡ kept_at held.walks q) → (IsServing (pager_core tells old) (holding held)
       → Served v tells old held event reply new held')
-      → Drives honest v tells old held event reply new held'
-  drives-beside same more walks does = drives (λ is. ap honest (sym same) ∙ is) (stay-on was.on_tables walks more) (λ is serving. does serving)
+      → Drives v tells old held event reply new held'
+  drives-beside same more walks does = drives (λ is. ap tells.is_honest (sym same) ∙ is) (stay-on was.on_tables walks more) (λ is serving. does serving)
 
   -- and nothing is done
   pub refuses : new.storage ≡ old.storage → length held.tables.items ≤ length held'.tables.items → ((q : ℕ) → kept_at held'.walks q ≡ kept_at held.walks q)
       → (IsServing (pager_core tells old) (holding held) → Makes (plainly v) (pager_state tells old) (holding held) (plain_event event) (plain_answer reply)
       (pager_state tells new) (holding held'))
-      → Drives honest v tells old held event reply new held'
+      → Drives v tells old held event reply new held'
   refuses same more walks does = drives-beside same more walks (λ serving. as-made (does serving))

@@ -16,7 +16,7 @@ use Rattle.pagable_pageout.specs.{
   Turns.{LeavesFit, Stepped, TaskFits, answer_in, plain, plain_took, todos_after},
   declared.{lent_table.LentTable.LentTable, tasks.{Task.Task, Turn.Turn}},
 }
-use Rattle.pagable_pager.specs.View.{PagerView, Telling, pager_state}
+use Rattle.pagable_pager.specs.View.{PagerView, Storages, pager_state}
 use Rattle.pagable_pager_spec.specs.{
   Basics.{if_there, updated},
   Events.{Ends, Happens, WorkerSteps, no_shelf, steps_after},
@@ -226,7 +226,7 @@ module _ {X XN XH XK XV : Type 0} {g : Environments X XN XH XK XV} {gh : Hashes 
       by None = refl
       by (Some t) = claims-are t
 
-  module _ {N S E : Type 0} (tells : Telling S) (p : PagerView N S E) (h : LoadsAndWorkers X XN XH XK XV g gh go gq gp gn) where
+  module _ {N S E H K V : Type 0} (tells : Storages S E N H K V) (p : PagerView N S E) (h : LoadsAndWorkers X XN XH XK XV g gh go gq gp gn) where
     -- the machine by what it keeps
     abbrev pub raw_in : MachineState N E
     raw_in = machine_of (pager_state tells p) (holding h)
@@ -254,21 +254,22 @@ module _ {N E B W : Type 0} (m : Seen N B W) where
         chain = (chains_join E m).joins old run.moments (x ∷ []) run.chain (subst (λ s. EventDoes m s event reply new) (sym run.ends) does, tt);
       }
 
-module _ {N S E : Type 0} {X XN XH XK XV : Type 0} {g : Environments X XN XH XK XV} {gh : Hashes XH} {go : Orders XK} {gq : Equalities XK}
-    {gp : PartialOrders XK} {gn : Nodes XN X XN XH XK XV} (honest : S → Bool) (tells : Telling S) (v : E → Values N) (old : MachineView N S E) where
+module _ {N S E H K V : Type 0} {X XN XH XK XV : Type 0} {g : Environments X XN XH XK XV} {gh : Hashes XH} {go : Orders XK} {gq : Equalities XK}
+    {gp : PartialOrders XK} {gn : Nodes XN X XN XH XK XV} (tells : Storages S E N H K V) (v : E → Values N) (old : MachineView N S E) where
   -- the events so far have happened, as long as the storage is honest, and the others are left
   pub record SoFar (all rest : List (Given N)) (replies : List (Answer N)) (p : PagerView N S E)
       (h : LoadsAndWorkers X XN XH XK XV g gh go gq gp gn) : Type 0 where
     pub done : List (Given N)
     pub left : done ++ rest ≡ all
-    pub run : IsTrue (honest p.storage) → HasRun (plainly (v old.pager.environment)) (machine_in tells old) (map plain_event done) (map plain_answer replies)
+    pub run : IsTrue (tells.is_honest p.storage) → HasRun (plainly (v old.pager.environment)) (machine_in tells old) (map plain_event done)
+        (map plain_answer replies)
         (raw_in tells p h)
-    pub environment : IsTrue (honest p.storage) → p.environment ≡ old.pager.environment
-    pub faithful : IsTrue (honest p.storage) → IsTrue (honest old.pager.storage)
-    pub in_step : HeldFitsPager honest tells p h
+    pub environment : IsTrue (tells.is_honest p.storage) → p.environment ≡ old.pager.environment
+    pub faithful : IsTrue (tells.is_honest p.storage) → IsTrue (tells.is_honest old.pager.storage)
+    pub in_step : HeldFitsPager tells p h
 
   pub at-first : (all : List (Given N)) (p : PagerView N S E) (h : LoadsAndWorkers X XN XH XK XV g gh go gq gp gn) → old ≡ view_of p h
-      → HeldFitsPager honest tells p h
+      → HeldFitsPager tells p h
       → SoFar all all [] p h
   unfolding state_after
   at-first all p h is in_step = record {
@@ -277,13 +278,13 @@ module _ {N S E : Type 0} {X XN XH XK XV : Type 0} {g : Environments X XN XH XK 
     run = λ is_true. subst (λ x. HasRun (plainly (v old.pager.environment)) (machine_in tells old) [] [] x) (ap (machine_in tells) is ∙ view-is tells p h)
         (record { moments = []; events_are = refl; replies_are = refl; ends = refl; chain = tt });
     environment = λ is_true. ap (λ (x : MachineView N S E). x.pager.environment) (sym is);
-    faithful = λ is_true. ap (λ (x : MachineView N S E). honest x.pager.storage) is ∙ is_true;
+    faithful = λ is_true. ap (λ (x : MachineView N S E). tells.is_honest x.pager.storage) is ∙ is_true;
     in_step = in_step;
   }
 
   pub one-more : (all rest : List (Given N)) (event : Given N) (replies : List (Answer N)) (reply : Answer N) (p q : PagerView N S E)
       (h h' : LoadsAndWorkers X XN XH XK XV g gh go gq gp gn)
-      → SoFar all (event ∷ rest) replies p h → Drives honest (v p.environment) tells p h event reply q h' → SoFar all rest (replies ++ reply ∷ []) q h'
+      → SoFar all (event ∷ rest) replies p h → Drives (v p.environment) tells p h event reply q h' → SoFar all rest (replies ++ reply ∷ []) q h'
   one-more all rest event replies reply p q h h' so made =
       record {
         done = so.done ++ event ∷ [];
@@ -300,7 +301,7 @@ module _ {N S E : Type 0} {X XN XH XK XV : Type 0} {g : Environments X XN XH XK 
       }
 
   pub all-ran : (all rest : List (Given N)) (replies : List (Answer N)) (p : PagerView N S E) (h : LoadsAndWorkers X XN XH XK XV g gh go gq gp gn)
-      → length rest ≡ 0 → SoFar all rest replies p h → IsTrue (honest p.storage) → Runs (v old.pager.environment) tells old all replies (view_of p h)
+      → length rest ≡ 0 → SoFar all rest replies p h → IsTrue (tells.is_honest p.storage) → Runs (v old.pager.environment) tells old all replies (view_of p h)
   all-ran all rest replies p h none so is_true =
       let is : so.done ≡ all = sym (append-nil so.done) ∙ ap (λ xs. so.done ++ xs) (sym (nil_from_length rest none)) ∙ so.left in
       let m = plainly (v old.pager.environment) in

@@ -1,6 +1,7 @@
 -- Calls on one cell that consist of a few calls of the pager.
 use Rattle.either.specs.declared.Either.{Either}
-use Rattle.pagable_pager.specs.View.{AddsNoValue, Calls, ChangesOnlyTables, PagerView, Telling, pager_core, pager_state}
+use Rattle.pagable_pager.specs.View.{AddsNoValue, Calls, ChangesOnlyTables, PagerView, Storages, pager_core,
+    pager_state}
 use Rattle.pagable_pager_spec.specs.{
   Access.PinsOver,
   Basics.{Error, HandleNumber, Kind},
@@ -18,7 +19,7 @@ pub record AsksWhetherStored (w : Core) (key : ℕ) (r : Result Bool Error) (w' 
   pub told : IfOk r (λ b. is_some (w.stored key) ≡ b)
   pub refused : IfErr r (RefusesFetch key (w.stored key) w.failures w'.failures)
 
-module _ {N S E : Type 0} (tells : Telling S) where
+module _ {N S E H K V : Type 0} (tells : Storages S E N H K V) where
   -- a new cell of the value, with a loose handle that pins; or the value is returned
   pub record IsBorn (v : Values N) (old : PagerView N S E) (x : N) (r : Result HandleNumber (Error × N))
       (new : PagerView N S E) : Type 0 where

@@ -22,7 +22,7 @@ use Rattle.pagable_pageout.specs.{
   Turns.{LeavesFit, PerformsStep, answer_in, plain_took, todos_after},
   declared.{lent_table.LentTable.LentTable, tasks.{StepResult.StepResult, Task.Task, Turn.Turn}},
 }
-use Rattle.pagable_pager.specs.View.{PagerView, Telling, pager_core, pager_state}
+use Rattle.pagable_pager.specs.View.{PagerView, Storages, pager_core, pager_state}
 use Rattle.pagable_pager_spec.specs.{
   Access.ReadingStep,
   Basics.{Identity, if_there},
@@ -285,7 +285,7 @@ plain_answer (EventReply.WorkerMade r) = EventReply.WorkerMade r
 plain_answer (EventReply.WorkerMoved r) = EventReply.WorkerMoved (result_map plain_moved r)
 
 -- The caller's call does this step, and inserts no value but its own.
-pub record Serves {N S E : Type 0} (v : Values N) (tells : Telling S) (old : PagerView N S E)
+pub record Serves {N S E H K V : Type 0} (v : Values N) (tells : Storages S E N H K V) (old : PagerView N S E)
     (call : Call N PagableData) (r : Reply N (Arc PagableData Global)) (new : PagerView N S E) : Type 0 where
   pub step : CallStep (plainly v) (pager_core tells old) Owner.Caller call (plain_reply r) (pager_core tells new)
   pub moves : Moves (CallBrings (pager_core tells old) call) (pager_state tells old) (pager_state tells new)
@@ -321,7 +321,7 @@ abbrev pub claims_at : List TableView → ℕ → Shelf
 claims_at tables zero = no_shelf
 claims_at tables (suc t) = if_there claims_of no_shelf (slice_get tables t)
 
-abbrev pub machine_in : {N S E : Type 0} → Telling S → MachineView N S E → MachineState N E
+abbrev pub machine_in : {N S E H K V : Type 0} → Storages S E N H K V → MachineView N S E → MachineState N E
 machine_in tells s = record {
   pager = pager_state tells s.pager;
   work = record {
@@ -356,27 +356,28 @@ module _ {X XN XH XK XV : Type 0} {g : Environments X XN XH XK XV} {gh : Hashes 
   abbrev pub holding : LoadsAndWorkers X XN XH XK XV g gh go gq gp gn → Holding g gh go gq gp gn
   holding h = record { readings = kept_at h.readings; tables = h.tables.items; walks = kept_at h.walks }
 
-module _ {N S E : Type 0} {X XN XH XK XV : Type 0} {g : Environments X XN XH XK XV} {gh : Hashes XH} {go : Orders XK}
+module _ {N S E H K V : Type 0} {X XN XH XK XV : Type 0} {g : Environments X XN XH XK XV} {gh : Hashes XH}
+    {go : Orders XK}
     {gq : Equalities XK} {gp : PartialOrders XK} {gn : Nodes XN X XN XH XK XV} where
   -- what holds of each machine: whatever its storage answered, and as long as that is honest
-  pub record HeldFitsPager (is_honest : S → Bool) (tells : Telling S) (p : PagerView N S E)
+  pub record HeldFitsPager (tells : Storages S E N H K V) (p : PagerView N S E)
       (h : LoadsAndWorkers X XN XH XK XV g gh go gq gp gn) : Type 0 where
     pub on_tables : AllOnTables h.tables.items (kept_at h.walks)
-    pub serving : IsTrue (is_honest p.storage) → IsServing (pager_core tells p) (holding h)
+    pub serving : IsTrue (tells.is_honest p.storage) → IsServing (pager_core tells p) (holding h)
 
   -- One event, as long as the storage is honest afterwards. A storage that is honest afterwards was honest before.
-  pub record Drives (is_honest : S → Bool) (v : Values N) (tells : Telling S) (old : PagerView N S E)
+  pub record Drives (v : Values N) (tells : Storages S E N H K V) (old : PagerView N S E)
       (held : LoadsAndWorkers X XN XH XK XV g gh go gq gp gn) (event : Given N) (reply : Answer N)
       (new : PagerView N S E)
       (held' : LoadsAndWorkers X XN XH XK XV g gh go gq gp gn) : Type 0 where
-    pub makes : IsTrue (is_honest new.storage) → Makes (plainly v) (pager_state tells old) (holding held)
+    pub makes : IsTrue (tells.is_honest new.storage) → Makes (plainly v) (pager_state tells old) (holding held)
         (plain_event event) (plain_answer reply) (pager_state tells new) (holding held')
-    pub honest : IsTrue (is_honest new.storage) → IsTrue (is_honest old.storage)
+    pub honest : IsTrue (tells.is_honest new.storage) → IsTrue (tells.is_honest old.storage)
     pub on_tables : AllOnTables held'.tables.items (kept_at held'.walks)
 
 -- These events, with these replies, lead from the old machine to the new one; and the headline holds of them after any
 -- events that led from an idle machine to the old one.
-pub record Runs {N S E : Type 0} (v : Values N) (tells : Telling S) (old : MachineView N S E)
+pub record Runs {N S E H K V : Type 0} (v : Values N) (tells : Storages S E N H K V) (old : MachineView N S E)
     (happened : List (Given N)) (replied : List (Answer N)) (new : MachineView N S E) : Type 0 where
   pub run : HasRun (plainly v) (machine_in tells old) (map plain_event happened) (map plain_answer replied)
       (machine_in tells new)

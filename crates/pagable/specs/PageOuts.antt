@@ -1,7 +1,8 @@
 -- Page-out of one cell: the calls that list a clone of its handle, and the page-out of that entry.
 use Rattle.pagable.specs.Cells.{Releases, Unpins}
 use Rattle.pagable_pageout.specs.{PageOuts.PagesEntryIfThere, declared.tasks.PageOutError.PageOutError}
-use Rattle.pagable_pager.specs.View.{AddsNoValue, Calls, ChangesOnlyTables, PagerView, Telling, pager_core, pager_state}
+use Rattle.pagable_pager.specs.View.{AddsNoValue, Calls, ChangesOnlyTables, PagerView, Storages, pager_core,
+    pager_state}
 use Rattle.pagable_pager_spec.specs.{
   Basics.{Error, HandleNumber, OptionalDataKey},
   Calls.{CloneCall, KeyCall, LoosenCall, ScheduleCall},
@@ -26,7 +27,7 @@ pub data PagesLast {N E : Type 0} (v : Values N) (s : PagerState N E) : Result �
   last-has-key : (key : ℕ) (s' : PagerState N E) → PagesLastEntry v s (Ok (Some key)) s' → PagesLast v s (Ok key) s'
   last-fails : (why : PageOutError) (s' : PagerState N E) → PagesLastEntry v s (Err why) s' → PagesLast v s (Err why) s'
 
-module _ {N S E : Type 0} (tells : Telling S) where
+module _ {N S E H K V : Type 0} (tells : Storages S E N H K V) where
   abbrev pub Clones : PagerView N S E → HandleNumber → Result HandleNumber Error → PagerView N S E → Type 0
   Clones old h r new = Calls ChangesOnlyTables tells old (λ w w'. CloneCall w Owner.Caller h r w') new
 

@@ -3,7 +3,7 @@
 ghost use Rattle.pagable.specs.PageOuts.{ListsClone, PagesLast, PagesLastEntry, PagesOutCell, PagesOutClone};
 ghost use Rattle.pagable_load.specs.AccessView.{values_at};
 ghost use Rattle.pagable_pageout.specs.PageOuts.{PagesEntryIfThere};
-ghost use Rattle.pagable_pager.specs.View.{pager_state, storage_view};
+ghost use Rattle.pagable_pager.specs.View.{BetweenIfHonest};
 ghost use Rattle.std.specs.Prelude.{IsTrue, ◌≡◌};
 ghost use Rattle.pagable_pager_spec.specs.declared.handle_row.Owner.TheVariants as owners;
 
@@ -20,10 +20,8 @@ fn page_out_entry_lent<'a, E: Env<Node: NodeSet<E>>, S: PagableStorage<E>>(
     place: usize,
 ) -> Result<Option<DataKey>, PageOutError>
     requires caller { lent.old.me ≡ owners.Caller }
-    ensures pages { IsTrue (S.is_honest lent.new.pager.now.storage)
-        → PagesEntryIfThere (values_at E.Node.NodeSet E.Env E.Hash.KeyHash lent.old.pager.now.environment) place result
-        (pager_state (storage_view S.PagableStorage) lent.old.pager.now)
-        (pager_state (storage_view S.PagableStorage) lent.new.pager.now) }
+    ensures pages { BetweenIfHonest E.Node.NodeSet E.Env E.Hash.KeyHash S.PagableStorage lent.old.pager.now
+        lent.new.pager.now (λ v s s'. PagesEntryIfThere v place result s s') }
     ensures honest { IsTrue (S.is_honest lent.new.pager.now.storage) → IsTrue (S.is_honest lent.old.pager.now.storage) }
     ensures lender { lent.new.pager.ghost_name ≡ lent.old.pager.ghost_name }
 {
@@ -37,10 +35,8 @@ fn page_out_last_if_there<E: Env<Node: NodeSet<E>>, S: PagableStorage<E>>(
     alloc: Global,
     pager: &mut Pager<E, S>,
 ) -> Result<Option<DataKey>, PageOutError>
-    ensures pages { IsTrue (S.is_honest pager.new.storage)
-        → PagesLastEntry (values_at E.Node.NodeSet E.Env E.Hash.KeyHash pager.old.environment)
-        (pager_state (storage_view S.PagableStorage) pager.old) result
-        (pager_state (storage_view S.PagableStorage) pager.new) }
+    ensures pages { BetweenIfHonest E.Node.NodeSet E.Env E.Hash.KeyHash S.PagableStorage pager.old pager.new
+        (λ v s s'. PagesLastEntry v s result s') }
     ensures honest { IsTrue (S.is_honest pager.new.storage) → IsTrue (S.is_honest pager.old.storage) }
 {
     let pending = pager.pending();
@@ -57,10 +53,8 @@ fn page_out_last<E: Env<Node: NodeSet<E>>, S: PagableStorage<E>>(
     alloc: Global,
     pager: &mut Pager<E, S>,
 ) -> Result<DataKey, PageOutError>
-    ensures pages { IsTrue (S.is_honest pager.new.storage)
-        → PagesLast (values_at E.Node.NodeSet E.Env E.Hash.KeyHash pager.old.environment)
-        (pager_state (storage_view S.PagableStorage) pager.old) result
-        (pager_state (storage_view S.PagableStorage) pager.new) }
+    ensures pages { BetweenIfHonest E.Node.NodeSet E.Env E.Hash.KeyHash S.PagableStorage pager.old pager.new
+        (λ v s s'. PagesLast v s result s') }
     ensures honest { IsTrue (S.is_honest pager.new.storage) → IsTrue (S.is_honest pager.old.storage) }
 {
     match page_out_last_if_there(alloc, pager) {
@@ -76,7 +70,7 @@ fn list_clone<E: Env<Node: NodeSet<E>>, S: PagableStorage<E>>(
     pager: &mut Pager<E, S>,
     handle: HandleNumber,
 ) -> Result<(), Error>
-    ensures { ListsClone (storage_view S.PagableStorage) pager.old handle result pager.new }
+    ensures { ListsClone S.PagableStorage pager.old handle result pager.new }
 {
     let clone = pager.clone(handle)?;
     let _loosened = pager.into_pagable(clone);
@@ -102,9 +96,8 @@ fn page_out_clone<E: Env<Node: NodeSet<E>>, S: PagableStorage<E>>(
     pager: &mut Pager<E, S>,
     handle: HandleNumber,
 ) -> Result<DataKey, PageOutError>
-    ensures pages { IsTrue (S.is_honest pager.new.storage)
-        → PagesOutClone (storage_view S.PagableStorage) (values_at E.Node.NodeSet E.Env E.Hash.KeyHash) pager.old
-        handle result pager.new }
+    ensures pages { IsTrue (S.is_honest pager.new.storage) → PagesOutClone S.PagableStorage
+        (values_at E.Node.NodeSet E.Env E.Hash.KeyHash) pager.old handle result pager.new }
     ensures honest { IsTrue (S.is_honest pager.new.storage) → IsTrue (S.is_honest pager.old.storage) }
 {
     match list_clone(pager, handle) {
@@ -127,9 +120,8 @@ pub fn page_out<E: Env<Node: NodeSet<E>>, S: PagableStorage<E>>(
     pager: &mut Pager<E, S>,
     handle: HandleNumber,
 ) -> Result<DataKey, PageOutError>
-    ensures pages { IsTrue (S.is_honest pager.new.storage)
-        → PagesOutCell (storage_view S.PagableStorage) (values_at E.Node.NodeSet E.Env E.Hash.KeyHash) pager.old
-        handle result pager.new }
+    ensures pages { IsTrue (S.is_honest pager.new.storage) → PagesOutCell S.PagableStorage
+        (values_at E.Node.NodeSet E.Env E.Hash.KeyHash) pager.old handle result pager.new }
     ensures honest { IsTrue (S.is_honest pager.new.storage) → IsTrue (S.is_honest pager.old.storage) }
 {
     let keyed = match pager.key(handle) {

@@ -2,7 +2,7 @@
 
 ghost use Rattle.pagable.specs.Cells.{AsksWhetherStored, Follows, InsertsCell, Looks, LooksByPin, OpensCell};
 ghost use Rattle.pagable_load.specs.AccessView.{values_at};
-ghost use Rattle.pagable_pager.specs.View.{AsksStorage, storage_view};
+ghost use Rattle.pagable_pager.specs.View.{AsksStorage};
 ghost use Rattle.pagable_pager_spec.specs.World.{result_map};
 ghost use Rattle.pagable_traits.specs.References.{loose_kind};
 ghost use Rattle.pagable_value_spec.specs.Stored.{RefusesFetch};
@@ -31,8 +31,8 @@ pub fn insert<E: Env<Node: NodeSet<E>>, S: PagableStorage<E>>(
     pager: &mut Pager<E, S>,
     node: E::Node,
 ) -> Result<HandleNumber, (Error, Either<E::Node, HandleNumber>)>
-    ensures { InsertsCell (storage_view S.PagableStorage)
-        (values_at E.Node.NodeSet E.Env E.Hash.KeyHash pager.old.environment) pager.old node result pager.new }
+    ensures { InsertsCell S.PagableStorage (values_at E.Node.NodeSet E.Env E.Hash.KeyHash pager.old.environment)
+        pager.old node result pager.new }
 {
     let handle = match pager.new_loose(alloc, node) {
         Ok(handle) => handle,
@@ -55,7 +55,7 @@ pub fn cell_of<T: OfNode<E>, E: Env<Node: NodeSet<E>>, S: PagableStorage<E>>(
     pager: &mut Pager<E, S>,
     key: DataKey,
 ) -> Result<HandleNumber, Error>
-    ensures { OpensCell (storage_view S.PagableStorage) pager.old (loose_kind T.TYPE) T.TYPE key result pager.new }
+    ensures { OpensCell S.PagableStorage pager.old (loose_kind T.TYPE) T.TYPE key result pager.new }
 {
     let kind = <PagableArc<T> as ArcErase<E>>::kind();
     match pager.cache_get(kind, key)? {
@@ -74,8 +74,7 @@ pub fn contains<E: Env<Node: NodeSet<E>>, S: PagableStorage<E>>(
     pager: &mut Pager<E, S>,
     key: DataKey,
 ) -> Result<bool, Error>
-    ensures asks { AsksStorage S.is_honest (storage_view S.PagableStorage) pager.old
-        (λ w w'. AsksWhetherStored w key result w') pager.new }
+    ensures asks { AsksStorage S.PagableStorage pager.old (λ w w'. AsksWhetherStored w key result w') pager.new }
     ensures refused { IfErr result (RefusesFetch key None (S.failed pager.old.storage) (S.failed pager.new.storage)) }
 {
     match pager.fetch(alloc, key).err() {
@@ -99,9 +98,9 @@ pub fn follow<E: Env<Node: NodeSet<E>>, S: PagableStorage<E>>(
     pager: &mut Pager<E, S>,
     handle: HandleNumber,
 ) -> Result<(HandleNumber, Arc<E::Node>), Error>
-    ensures follows { IsTrue (S.is_honest pager.new.storage)
-        → Follows (storage_view S.PagableStorage) (values_at E.Node.NodeSet E.Env E.Hash.KeyHash) pager.old
-        handle (result_map (λ a. (a.0, arc_value a.1)) result) pager.new }
+    ensures follows { IsTrue (S.is_honest pager.new.storage) → Follows S.PagableStorage
+        (values_at E.Node.NodeSet E.Env E.Hash.KeyHash) pager.old handle (result_map (λ a. (a.0, arc_value a.1)) result)
+        pager.new }
     ensures honest { IsTrue (S.is_honest pager.new.storage) → IsTrue (S.is_honest pager.old.storage) }
 {
     let clone = pager.clone(handle)?;
@@ -128,9 +127,9 @@ fn look_by_pin<E: Env<Node: NodeSet<E>>, S: PagableStorage<E>, Y: Drop, F: FnOnc
 where
     F: Drop,
     requires { F.IsAlwaysCallable show }
-    ensures looks { IsTrue (S.is_honest pager.new.storage)
-        → LooksByPin (storage_view S.PagableStorage) (values_at E.Node.NodeSet E.Env E.Hash.KeyHash) pager.old
-        handle (FnOnceReturnsAt F.FnOnce show) result pager.new }
+    ensures looks { IsTrue (S.is_honest pager.new.storage) → LooksByPin S.PagableStorage
+        (values_at E.Node.NodeSet E.Env E.Hash.KeyHash) pager.old handle (FnOnceReturnsAt F.FnOnce show) result
+        pager.new }
     ensures honest { IsTrue (S.is_honest pager.new.storage) → IsTrue (S.is_honest pager.old.storage) }
 {
     let (pinned, value) = pin(alloc, pager, handle)?;
@@ -160,9 +159,9 @@ pub fn look<E: Env<Node: NodeSet<E>>, S: PagableStorage<E>, Y: Drop, F: FnOnce(&
 where
     F: Drop,
     requires { F.IsAlwaysCallable show }
-    ensures looks { IsTrue (S.is_honest pager.new.storage)
-        → Looks (storage_view S.PagableStorage) (values_at E.Node.NodeSet E.Env E.Hash.KeyHash) pager.old
-        handle (FnOnceReturnsAt F.FnOnce show) result pager.new }
+    ensures looks { IsTrue (S.is_honest pager.new.storage) → Looks S.PagableStorage
+        (values_at E.Node.NodeSet E.Env E.Hash.KeyHash) pager.old handle (FnOnceReturnsAt F.FnOnce show) result
+        pager.new }
     ensures honest { IsTrue (S.is_honest pager.new.storage) → IsTrue (S.is_honest pager.old.storage) }
 {
     match pager.value(handle)? {

@@ -7,7 +7,7 @@ ghost use Rattle.pagable.specs.{
 };
 ghost use Rattle.pagable_core.specs.Data.{blob_of};
 ghost use Rattle.pagable_load.specs.AccessView.{values_at};
-ghost use Rattle.pagable_pager.specs.View.{from_cache_or_store, pager_core, pager_state, storage_view};
+ghost use Rattle.pagable_pager.specs.View.{BetweenIfHonest, from_cache_or_store, pager_core};
 ghost use Rattle.pagable_pager_spec.specs.{Events.given_of, World.result_map, declared.handle_row.Owner.Owner};
 ghost use Rattle.std.specs.{Arc.arc_value, Prelude.{IfErr, IsTrue, None, OnOk, false, is_none, true, ◌*◌, ◌≡◌}};
 
@@ -46,9 +46,9 @@ fn make_call<E: Env<Node: NodeSet<E>>, S: PagableStorage<E>>(
     alloc: Global,
     call: Call<E::Node, PagableData>,
 ) -> Reply<E::Node, Arc<PagableData>>
-    ensures serves { IsTrue (S.is_honest pager.new.storage)
-        → Serves (values_at E.Node.NodeSet E.Env E.Hash.KeyHash pager.old.environment) (storage_view S.PagableStorage)
-        pager.old call result pager.new }
+    ensures serves { IsTrue (S.is_honest pager.new.storage) → Serves
+        (values_at E.Node.NodeSet E.Env E.Hash.KeyHash pager.old.environment) S.PagableStorage pager.old call result
+        pager.new }
     ensures honest { IsTrue (S.is_honest pager.new.storage) → IsTrue (S.is_honest pager.old.storage) }
 {
     match call {
@@ -148,11 +148,8 @@ fn step_lent<'a, E: Env<Node: NodeSet<E>>, S: PagableStorage<E>>(
     own: &mut Reading,
 ) -> LoadReply<E::Node>
     requires { lent.old.me ≡ Owner.Caller }
-    ensures step { IsTrue (S.is_honest lent.new.pager.now.storage)
-        → StepsLoad (values_at E.Node.NodeSet E.Env E.Hash.KeyHash lent.old.pager.now.environment) Owner.Caller own.old
-        result own.new
-        (pager_state (storage_view S.PagableStorage) lent.old.pager.now)
-        (pager_state (storage_view S.PagableStorage) lent.new.pager.now) }
+    ensures step { BetweenIfHonest E.Node.NodeSet E.Env E.Hash.KeyHash S.PagableStorage lent.old.pager.now
+        lent.new.pager.now (λ v s s'. StepsLoad v Owner.Caller own.old result own.new s s') }
     ensures honest { IsTrue (S.is_honest lent.new.pager.now.storage) → IsTrue (S.is_honest lent.old.pager.now.storage) }
     ensures lender { lent.new.pager.ghost_name ≡ lent.old.pager.ghost_name }
 {
@@ -170,10 +167,9 @@ fn load_step<E: Env<Node: NodeSet<E>>, S: PagableStorage<E>>(
     alloc: Global,
     load: LoadNumber,
 ) -> Result<LoadReply<E::Node>, Error>
-    requires { HeldFitsPager S.is_honest (storage_view S.PagableStorage) pager.old held.old }
-    ensures { Drives S.is_honest (values_at E.Node.NodeSet E.Env E.Hash.KeyHash pager.old.environment)
-        (storage_view S.PagableStorage)
-        pager.old held.old (Event.LoadStep load) (EventReply.LoadMoved result) pager.new held.new }
+    requires { HeldFitsPager S.PagableStorage pager.old held.old }
+    ensures { Drives (values_at E.Node.NodeSet E.Env E.Hash.KeyHash pager.old.environment) S.PagableStorage pager.old
+        held.old (Event.LoadStep load) (EventReply.LoadMoved result) pager.new held.new }
 {
     pager.assert_invariant();
     let (key, cell_type) = pager.load_key_and_type(load)?;
@@ -211,8 +207,7 @@ fn forget_if_closed<E: Env<Node: NodeSet<E>>, S: PagableStorage<E>>(
     readings: &mut IndexMap<u64, Reading>,
     load: Option<LoadNumber>,
 )
-    ensures { Forgets (pager_core (storage_view S.PagableStorage) pager.now) (kept_at readings.old)
-        (kept_at readings.new) }
+    ensures { Forgets (pager_core S.PagableStorage pager.now) (kept_at readings.old) (kept_at readings.new) }
 {
     let Some(load) = load else {
         return;
@@ -229,10 +224,9 @@ fn load_key<E: Env<Node: NodeSet<E>>, S: PagableStorage<E>>(
     key: DataKey,
     node_type: u32,
 ) -> Result<Beginning, Error>
-    requires { HeldFitsPager S.is_honest (storage_view S.PagableStorage) pager.old held.old }
-    ensures { Drives S.is_honest (values_at E.Node.NodeSet E.Env E.Hash.KeyHash pager.old.environment)
-        (storage_view S.PagableStorage)
-        pager.old held.old (Event.LoadKey key node_type) (EventReply.Started result) pager.new held.new }
+    requires { HeldFitsPager S.PagableStorage pager.old held.old }
+    ensures { Drives (values_at E.Node.NodeSet E.Env E.Hash.KeyHash pager.old.environment) S.PagableStorage pager.old
+        held.old (Event.LoadKey key node_type) (EventReply.Started result) pager.new held.new }
 {
     pager.assert_invariant();
     if !pager.has_load_number() {
@@ -261,10 +255,9 @@ pub fn run_event<E: Env<Node: NodeSet<E>>, S: PagableStorage<E>>(
     alloc: Global,
     event: Event<E::Node, PagableData, SerializedData>,
 ) -> EventReply<E::Node, Arc<PagableData>, Arc<SerializedData>>
-    requires { HeldFitsPager S.is_honest (storage_view S.PagableStorage) pager.old held.old }
-    ensures { Drives S.is_honest (values_at E.Node.NodeSet E.Env E.Hash.KeyHash pager.old.environment)
-        (storage_view S.PagableStorage)
-        pager.old held.old event result pager.new held.new }
+    requires { HeldFitsPager S.PagableStorage pager.old held.old }
+    ensures { Drives (values_at E.Node.NodeSet E.Env E.Hash.KeyHash pager.old.environment) S.PagableStorage pager.old
+        held.old event result pager.new held.new }
 {
     pager.assert_invariant();
     match event {

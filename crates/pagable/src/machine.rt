@@ -2,7 +2,7 @@
 
 ghost use Rattle.pagable.specs.Driving.{Runs, machine_in};
 ghost use Rattle.pagable_load.specs.AccessView.{values_at};
-ghost use Rattle.pagable_pager.specs.View.{pager_core, pager_state, storage_view};
+ghost use Rattle.pagable_pager.specs.View.{pager_core, pager_state};
 ghost use Rattle.pagable_pager_spec.specs.Pager.{IsIdle, IsNew};
 ghost use Rattle.pagable_theorems.specs.{PageOutLaws.NobodyWorks, SmallWorlds.StartsWell};
 ghost use Rattle.std.specs.Prelude.{IfErr, IfOk, IsTrue, OnErr, ◌≡◌};
@@ -30,7 +30,7 @@ pub struct Machine<E: Env<Node: NodeSet<E>>, S: PagableStorage<E>> {
 
 impl<E: Env<Node: NodeSet<E>>, S: PagableStorage<E>> Model for Machine<E, S> {
     ghost use Rattle.std.specs.Coded.{codes};
-    ghost use Rattle.{pagable_pager.specs.View.storage_view, pagable.specs.Driving.{HeldFitsPager, MachineView, view_of}, indexmap.specs.Layout.hash_map_code};
+    ghost use Rattle.{pagable.specs.Driving.{HeldFitsPager, MachineView, view_of}, indexmap.specs.Layout.hash_map_code};
 
     ghost Value = { MachineView E.Node S E };
 
@@ -38,7 +38,7 @@ impl<E: Env<Node: NodeSet<E>>, S: PagableStorage<E>> Model for Machine<E, S> {
 
     ghost view = { λ m. view_of m.pager m.held };
 
-    ghost invariant = { λ m. HeldFitsPager S.is_honest (storage_view S.PagableStorage) m.pager m.held };
+    ghost invariant = { λ m. HeldFitsPager S.PagableStorage m.pager m.held };
 }
 
 impl<E: Env<Node: NodeSet<E>>, S: PagableStorage<E>> Machine<E, S> {
@@ -46,9 +46,9 @@ impl<E: Env<Node: NodeSet<E>>, S: PagableStorage<E>> Machine<E, S> {
     /// running between two calls, since a page-out by one call ends its workers. The call takes no
     /// memory.
     pub fn new(alloc: Global, pager: Pager<E, S>) -> Machine<E, S>
-        requires nobody { NobodyWorks (pager_core (storage_view S.PagableStorage) pager) }
+        requires nobody { NobodyWorks (pager_core S.PagableStorage pager) }
         ensures pager { result.pager ≡ pager }
-        ensures idle { IsIdle (machine_in (storage_view S.PagableStorage) result) }
+        ensures idle { IsIdle (machine_in S.PagableStorage result) }
     {
         Machine {
             pager,
@@ -63,9 +63,9 @@ impl<E: Env<Node: NodeSet<E>>, S: PagableStorage<E>> Machine<E, S> {
     /// Makes a machine over a new pager, over a storage as it is. It takes no memory. Runs that
     /// begin at this machine meet what the main theorem (`Headline`) asks of their start.
     pub fn over(alloc: Global, storage: S, env: E) -> Machine<E, S>
-        ensures empty { IsNew (pager_state (storage_view S.PagableStorage) result.pager) }
+        ensures empty { IsNew (pager_state S.PagableStorage result.pager) }
         ensures starts { StartsWell (values_at E.Node.NodeSet E.Env E.Hash.KeyHash env)
-            (machine_in (storage_view S.PagableStorage) result) }
+            (machine_in S.PagableStorage result) }
         ensures storage { result.pager.storage ≡ storage }
         ensures environment { result.pager.environment ≡ env }
     {
@@ -99,9 +99,9 @@ impl<E: Env<Node: NodeSet<E>>, S: PagableStorage<E>> Machine<E, S> {
         Vec<EventReply<E::Node, Arc<PagableData>, Arc<SerializedData>>>,
         (Error, Vec<Event<E::Node, PagableData, SerializedData>>),
     >
-        ensures run { IsTrue (S.is_honest self.new.pager.storage) → IfOk result (λ replies.
-            Runs (values_at E.Node.NodeSet E.Env E.Hash.KeyHash self.old.pager.environment)
-            (storage_view S.PagableStorage) self.old events.items replies.items self.new) }
+        ensures run { IsTrue (S.is_honest self.new.pager.storage) → IfOk result (λ replies. Runs
+            (values_at E.Node.NodeSet E.Env E.Hash.KeyHash self.old.pager.environment) S.PagableStorage self.old
+            events.items replies.items self.new) }
         ensures honest { IsTrue (S.is_honest self.new.pager.storage) → IsTrue (S.is_honest self.old.pager.storage) }
         ensures nothing { OnErr result (self.new ≡ self.old) }
         ensures back { IfErr result (λ e. (e.0 ≡ Error.OutOfMemory) × (e.1 ≡ events)) }

@@ -2,9 +2,8 @@
 //! is honest afterwards.
 
 ghost use Rattle.pagable.specs.Paged.{IsFailed, PagesOutItem, PagesOutList, ReadsValue};
-ghost use Rattle.pagable_load.specs.AccessView.{values_at};
 ghost use Rattle.pagable_pageout.specs.{PageOuts.{PagesItem, PagesList, answer_of}, Slots.written_of, Table.shelf_of};
-ghost use Rattle.pagable_pager.specs.View.{pager_state, storage_view};
+ghost use Rattle.pagable_pager.specs.View.{BetweenIfHonest};
 ghost use Rattle.pagable_pager_spec.specs.Access.{ReadsOver};
 ghost use Rattle.std.specs.{Arc.arc_value, Prelude.{IfErr, IsTrue, ◌≡◌}};
 ghost use Rattle.pagable_pager_spec.specs.declared.handle_row.Owner.TheVariants as owners;
@@ -26,10 +25,8 @@ fn read_lent<'a, E: Env<Node: NodeSet<E>>, S: PagableStorage<E>>(
     node_type: u32,
 ) -> Result<E::Node, Error>
     requires caller { lent.old.me ≡ owners.Caller }
-    ensures reads { IsTrue (S.is_honest lent.new.pager.now.storage)
-        → ReadsOver (values_at E.Node.NodeSet E.Env E.Hash.KeyHash lent.old.pager.now.environment)
-        (pager_state (storage_view S.PagableStorage) lent.old.pager.now)
-        key node_type result (pager_state (storage_view S.PagableStorage) lent.new.pager.now) }
+    ensures reads { BetweenIfHonest E.Node.NodeSet E.Env E.Hash.KeyHash S.PagableStorage lent.old.pager.now
+        lent.new.pager.now (λ v s s'. ReadsOver v s key node_type result s') }
     ensures honest { IsTrue (S.is_honest lent.new.pager.now.storage) → IsTrue (S.is_honest lent.old.pager.now.storage) }
     ensures lender { lent.new.pager.ghost_name ≡ lent.old.pager.ghost_name }
 {
@@ -49,10 +46,8 @@ pub fn read<E: Env<Node: NodeSet<E>>, S: PagableStorage<E>>(
     key: DataKey,
     node_type: u32,
 ) -> Result<E::Node, Error>
-    ensures reads { IsTrue (S.is_honest pager.new.storage)
-        → ReadsOver (values_at E.Node.NodeSet E.Env E.Hash.KeyHash pager.old.environment)
-        (pager_state (storage_view S.PagableStorage) pager.old)
-        key node_type result (pager_state (storage_view S.PagableStorage) pager.new) }
+    ensures reads { BetweenIfHonest E.Node.NodeSet E.Env E.Hash.KeyHash S.PagableStorage pager.old pager.new
+        (λ v s s'. ReadsOver v s key node_type result s') }
     ensures honest { IsTrue (S.is_honest pager.new.storage) → IsTrue (S.is_honest pager.old.storage) }
 {
     let mut lent = Lent::new(pager);
@@ -72,10 +67,8 @@ pub fn deserialize_pagable_data<E: Env<Node: NodeSet<E>>, S: PagableStorage<E>, 
     pager: &mut Pager<E, S>,
     key: DataKey,
 ) -> Result<Arc<T>, (Error, Option<E::Node>)>
-    ensures reads { IsTrue (S.is_honest pager.new.storage)
-        → ReadsValue (values_at E.Node.NodeSet E.Env E.Hash.KeyHash pager.old.environment) arc_value T.held
-        (pager_state (storage_view S.PagableStorage) pager.old)
-        key T.TYPE result (pager_state (storage_view S.PagableStorage) pager.new) }
+    ensures reads { BetweenIfHonest E.Node.NodeSet E.Env E.Hash.KeyHash S.PagableStorage pager.old pager.new
+        (λ v s s'. ReadsValue v arc_value T.held s key T.TYPE result s') }
     ensures honest { IsTrue (S.is_honest pager.new.storage) → IsTrue (S.is_honest pager.old.storage) }
 {
     match read(alloc, pager, key, T::TYPE) {
@@ -95,11 +88,9 @@ fn page_out_item_lent<'a, E: Env<Node: NodeSet<E>>, S: PagableStorage<E>>(
     item: Arc<SerializedData>,
 ) -> Result<DataKey, PageOutError>
     requires caller { lent.old.me ≡ owners.Caller }
-    ensures pages { IsTrue (S.is_honest lent.new.pager.now.storage)
-        → PagesItem (values_at E.Node.NodeSet E.Env E.Hash.KeyHash lent.old.pager.now.environment) (shelf_of table.old)
-        (written_of (arc_value item)) (shelf_of table.new) (answer_of result)
-        (pager_state (storage_view S.PagableStorage) lent.old.pager.now)
-        (pager_state (storage_view S.PagableStorage) lent.new.pager.now) }
+    ensures pages { BetweenIfHonest E.Node.NodeSet E.Env E.Hash.KeyHash S.PagableStorage lent.old.pager.now
+        lent.new.pager.now (λ v s s'. PagesItem v (shelf_of table.old) (written_of (arc_value item))
+        (shelf_of table.new) (answer_of result) s s') }
     ensures honest { IsTrue (S.is_honest lent.new.pager.now.storage) → IsTrue (S.is_honest lent.old.pager.now.storage) }
     ensures lender { lent.new.pager.ghost_name ≡ lent.old.pager.ghost_name }
 {
@@ -122,11 +113,9 @@ pub fn page_out_item<E: Env<Node: NodeSet<E>>, S: PagableStorage<E>>(
     table: &mut LentTable<E>,
     item: Arc<SerializedData>,
 ) -> Result<DataKey, PageOutError>
-    ensures pages { IsTrue (S.is_honest pager.new.storage)
-        → PagesOutItem (values_at E.Node.NodeSet E.Env E.Hash.KeyHash pager.old.environment)
-        (pager_state (storage_view S.PagableStorage) pager.old)
-        (shelf_of table.old) (written_of (arc_value item)) (answer_of result)
-        (pager_state (storage_view S.PagableStorage) pager.new) (shelf_of table.new) }
+    ensures pages { BetweenIfHonest E.Node.NodeSet E.Env E.Hash.KeyHash S.PagableStorage pager.old pager.new
+        (λ v s s'. PagesOutItem v s (shelf_of table.old) (written_of (arc_value item)) (answer_of result) s'
+        (shelf_of table.new)) }
     ensures honest { IsTrue (S.is_honest pager.new.storage) → IsTrue (S.is_honest pager.old.storage) }
 {
     pager.assert_invariant();
@@ -139,10 +128,8 @@ fn page_out_pending_lent<'a, E: Env<Node: NodeSet<E>>, S: PagableStorage<E>>(
     alloc: Global,
 ) -> Result<(), PageOutError>
     requires caller { lent.old.me ≡ owners.Caller }
-    ensures pages { IsTrue (S.is_honest lent.new.pager.now.storage)
-        → PagesList (values_at E.Node.NodeSet E.Env E.Hash.KeyHash lent.old.pager.now.environment) result
-        (pager_state (storage_view S.PagableStorage) lent.old.pager.now)
-        (pager_state (storage_view S.PagableStorage) lent.new.pager.now) }
+    ensures pages { BetweenIfHonest E.Node.NodeSet E.Env E.Hash.KeyHash S.PagableStorage lent.old.pager.now
+        lent.new.pager.now (λ v s s'. PagesList v result s s') }
     ensures honest { IsTrue (S.is_honest lent.new.pager.now.storage) → IsTrue (S.is_honest lent.old.pager.now.storage) }
     ensures lender { lent.new.pager.ghost_name ≡ lent.old.pager.ghost_name }
 {
@@ -162,10 +149,8 @@ pub fn page_out_pending<E: Env<Node: NodeSet<E>>, S: PagableStorage<E>>(
     alloc: Global,
     pager: &mut Pager<E, S>,
 ) -> Result<(), PageOutError>
-    ensures pages { IsTrue (S.is_honest pager.new.storage)
-        → PagesOutList (values_at E.Node.NodeSet E.Env E.Hash.KeyHash pager.old.environment)
-        (pager_state (storage_view S.PagableStorage) pager.old)
-        result (pager_state (storage_view S.PagableStorage) pager.new) }
+    ensures pages { BetweenIfHonest E.Node.NodeSet E.Env E.Hash.KeyHash S.PagableStorage pager.old pager.new
+        (λ v s s'. PagesOutList v s result s') }
     ensures failed { IsTrue (S.is_honest pager.new.storage) → IfErr result IsFailed }
     ensures honest { IsTrue (S.is_honest pager.new.storage) → IsTrue (S.is_honest pager.old.storage) }
 {

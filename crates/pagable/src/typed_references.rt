@@ -2,7 +2,7 @@
 //! inserted, it becomes the handle's owner.
 
 ghost use Rattle.pagable.specs.TypedReferences.{IsHeldBy, IsNodeOfType, Refers, RefusesHolding, RefusesReference};
-ghost use Rattle.pagable_pager.specs.View.{pager_core, pager_state, storage_view};
+ghost use Rattle.pagable_pager.specs.View.{pager_core, pager_state};
 ghost use Rattle.pagable_traits.specs.References.{holding_kind, holding_reference, loose_kind, loose_reference};
 ghost use Rattle.std.specs.{Arc.arc_value, Prelude.{IfErr, IfOk}};
 
@@ -20,9 +20,8 @@ fn node_of_type<E: Env<Node: NodeSet<E>>, S: PagableStorage<E>>(
     handle: HandleNumber,
     node_type: u32,
 ) -> Result<NodeNumber, Error>
-    ensures named { IfOk result (IsNodeOfType (pager_core (storage_view S.PagableStorage) pager.now) handle node_type) }
-    ensures refused { IfErr result (RefusesReference (pager_core (storage_view S.PagableStorage) pager.now) handle
-        node_type) }
+    ensures named { IfOk result (IsNodeOfType (pager_core S.PagableStorage pager.now) handle node_type) }
+    ensures refused { IfErr result (RefusesReference (pager_core S.PagableStorage pager.now) handle node_type) }
 {
     let node = pager.node_of(handle)?;
     match pager.node_live(node) {
@@ -43,10 +42,9 @@ pub fn loose<T: OfNode<E>, E: Env<Node: NodeSet<E>>, S: PagableStorage<E>>(
     pager: &Pager<E, S>,
     handle: HandleNumber,
 ) -> Result<PagableArc<T>, Error>
-    ensures named { IfOk result (λ a. Refers (pager_core (storage_view S.PagableStorage) pager.now) handle T.TYPE
-        (loose_kind T.TYPE) (loose_reference T.TYPE a)) }
-    ensures refused { IfErr result (RefusesReference (pager_core (storage_view S.PagableStorage) pager.now) handle
-        T.TYPE) }
+    ensures named { IfOk result (λ a. Refers (pager_core S.PagableStorage pager.now) handle T.TYPE (loose_kind T.TYPE)
+        (loose_reference T.TYPE a)) }
+    ensures refused { IfErr result (RefusesReference (pager_core S.PagableStorage pager.now) handle T.TYPE) }
 {
     let node = node_of_type(pager, handle, T::TYPE)?;
     let kind = <PagableArc<T> as ArcErase<E>>::kind();
@@ -71,12 +69,11 @@ pub fn holding<
     S: PagableStorage<E>,
     const PINS: bool,
 >(alloc: Global, pager: &Pager<E, S>, handle: HandleNumber) -> Result<HoldingArc<T, PINS>, Error>
-    ensures named { IfOk result (λ a. Refers (pager_core (storage_view S.PagableStorage) pager.now) handle T.TYPE
+    ensures named { IfOk result (λ a. Refers (pager_core S.PagableStorage pager.now) handle T.TYPE
         (holding_kind T.TYPE PINS) (holding_reference T.TYPE PINS a)) }
-    ensures value { IfOk result (λ a. IsHeldBy (pager_state (storage_view S.PagableStorage) pager.now) handle T.held
-        (arc_value a.value)) }
-    ensures refused { IfErr result (RefusesHolding (pager_state (storage_view S.PagableStorage) pager.now) handle T.TYPE
-        T.held) }
+    ensures value { IfOk result
+        (λ a. IsHeldBy (pager_state S.PagableStorage pager.now) handle T.held (arc_value a.value)) }
+    ensures refused { IfErr result (RefusesHolding (pager_state S.PagableStorage pager.now) handle T.TYPE T.held) }
 {
     let node = node_of_type(pager, handle, T::TYPE)?;
     let held = match pager.value(handle)? {

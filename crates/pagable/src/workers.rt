@@ -11,7 +11,7 @@ ghost use Rattle.pagable_pageout.specs.{
   Tasks.{EachIsAwaited, todo_of, todos},
   Turns.{PerformsStep, answer_in, todos_after},
 };
-ghost use Rattle.pagable_pager.specs.View.{pager_core, pager_state, storage_view};
+ghost use Rattle.pagable_pager.specs.View.{BetweenIfHonest, pager_core};
 ghost use Rattle.pagable_pager_spec.specs.{
   Kinds.{identity_of, owner_worker},
   World.{of_entry, of_item},
@@ -85,10 +85,9 @@ pub fn make_table<E: Env<Node: NodeSet<E>>, S: PagableStorage<E>>(
     held: &mut LoadsAndWorkers<E>,
     alloc: Global,
 ) -> Result<TableNumber, Error>
-    requires { HeldFitsPager S.is_honest (storage_view S.PagableStorage) pager.now held.old }
-    ensures { Drives S.is_honest (values_at E.Node.NodeSet E.Env E.Hash.KeyHash pager.now.environment)
-        (storage_view S.PagableStorage)
-        pager.now held.old Event.TableNew (EventReply.TableMade result) pager.now held.new }
+    requires { HeldFitsPager S.PagableStorage pager.now held.old }
+    ensures { Drives (values_at E.Node.NodeSet E.Env E.Hash.KeyHash pager.now.environment) S.PagableStorage pager.now
+        held.old Event.TableNew (EventReply.TableMade result) pager.now held.new }
 {
     pager.assert_invariant();
     held.tables.reserve(1)?;
@@ -169,10 +168,9 @@ pub fn begin_item_worker<E: Env<Node: NodeSet<E>>, S: PagableStorage<E>>(
     table: TableNumber,
     item: SerializedData,
 ) -> Result<WorkerNumber, Error>
-    requires { HeldFitsPager S.is_honest (storage_view S.PagableStorage) pager.old held.old }
-    ensures { Drives S.is_honest (values_at E.Node.NodeSet E.Env E.Hash.KeyHash pager.old.environment)
-        (storage_view S.PagableStorage)
-        pager.old held.old (Event.WorkerItem table item) (EventReply.WorkerMade result) pager.new held.new }
+    requires { HeldFitsPager S.PagableStorage pager.old held.old }
+    ensures { Drives (values_at E.Node.NodeSet E.Env E.Hash.KeyHash pager.old.environment) S.PagableStorage pager.old
+        held.old (Event.WorkerItem table item) (EventReply.WorkerMade result) pager.new held.new }
 {
     pager.assert_invariant();
     make_room_for_worker(&mut held.walks, &held.tables, table)?;
@@ -199,10 +197,9 @@ pub fn begin_entry_worker<E: Env<Node: NodeSet<E>>, S: PagableStorage<E>>(
     table: TableNumber,
     place: u64,
 ) -> Result<WorkerNumber, Error>
-    requires { HeldFitsPager S.is_honest (storage_view S.PagableStorage) pager.old held.old }
-    ensures { Drives S.is_honest (values_at E.Node.NodeSet E.Env E.Hash.KeyHash pager.old.environment)
-        (storage_view S.PagableStorage)
-        pager.old held.old (Event.WorkerListed table place) (EventReply.WorkerMade result) pager.new held.new }
+    requires { HeldFitsPager S.PagableStorage pager.old held.old }
+    ensures { Drives (values_at E.Node.NodeSet E.Env E.Hash.KeyHash pager.old.environment) S.PagableStorage pager.old
+        held.old (Event.WorkerListed table place) (EventReply.WorkerMade result) pager.new held.new }
 {
     pager.assert_invariant();
     if place >= pager.pending() as u64 {
@@ -229,12 +226,9 @@ fn step_lent<'a, E: Env<Node: NodeSet<E>>, S: PagableStorage<E>>(
     requires me { lent.old.me ≡ owner_worker worker.0 }
     requires way { EachIsAwaited (todo_of task ∷ todos path.old.items) }
     ensures way { EachIsAwaited (todos_after result.turn path.new.items) }
-    ensures step { IsTrue (S.is_honest lent.new.pager.now.storage)
-        → PerformsStep (values_at E.Node.NodeSet E.Env E.Hash.KeyHash lent.old.pager.now.environment)
-        (owner_worker worker.0) worker.0 (shelf_of table.old) task (todos path.old.items)
-        (shelf_of table.new) result
-        (todos_after result.turn path.new.items) (pager_state (storage_view S.PagableStorage) lent.old.pager.now)
-        (pager_state (storage_view S.PagableStorage) lent.new.pager.now) }
+    ensures step { BetweenIfHonest E.Node.NodeSet E.Env E.Hash.KeyHash S.PagableStorage lent.old.pager.now
+        lent.new.pager.now (λ v s s'. PerformsStep v (owner_worker worker.0) worker.0 (shelf_of table.old) task
+        (todos path.old.items) (shelf_of table.new) result (todos_after result.turn path.new.items) s s') }
     ensures honest { IsTrue (S.is_honest lent.new.pager.now.storage) → IsTrue (S.is_honest lent.old.pager.now.storage) }
     ensures lender { lent.new.pager.ghost_name ≡ lent.old.pager.ghost_name }
 {
@@ -258,12 +252,10 @@ fn step_running_worker<E: Env<Node: NodeSet<E>>, S: PagableStorage<E>>(
     walk: &mut WorkerProgress<E>,
 ) -> WorkerReply<Arc<SerializedData>>
     requires unanswered { is_some (answer_in walk.old.turn) ≡ false }
-    requires at_work { (pager_core (storage_view S.PagableStorage) pager.old).workers worker.0 ≡ true }
+    requires at_work { (pager_core S.PagableStorage pager.old).workers worker.0 ≡ true }
     requires on_table { IsOnTable (length tables.old.items) walk.old }
-    ensures walks { IsTrue (S.is_honest pager.new.storage)
-        → WalksOn (values_at E.Node.NodeSet E.Env E.Hash.KeyHash pager.old.environment) worker.0 tables.old.items
-        walk.old (pager_state (storage_view S.PagableStorage) pager.old) result
-        tables.new.items walk.new (pager_state (storage_view S.PagableStorage) pager.new) }
+    ensures walks { BetweenIfHonest E.Node.NodeSet E.Env E.Hash.KeyHash S.PagableStorage pager.old pager.new
+        (λ v s s'. WalksOn v worker.0 tables.old.items walk.old s result tables.new.items walk.new s') }
     ensures honest { IsTrue (S.is_honest pager.new.storage) → IsTrue (S.is_honest pager.old.storage) }
     ensures count { length tables.new.items ≡ length tables.old.items }
     ensures on_table { IsOnTable (length tables.new.items) walk.new }
@@ -305,10 +297,9 @@ pub fn step_worker<E: Env<Node: NodeSet<E>>, S: PagableStorage<E>>(
     alloc: Global,
     worker: WorkerNumber,
 ) -> Result<WorkerReply<Arc<SerializedData>>, Error>
-    requires { HeldFitsPager S.is_honest (storage_view S.PagableStorage) pager.old held.old }
-    ensures { Drives S.is_honest (values_at E.Node.NodeSet E.Env E.Hash.KeyHash pager.old.environment)
-        (storage_view S.PagableStorage)
-        pager.old held.old (Event.WorkerStep worker) (EventReply.WorkerMoved result) pager.new held.new }
+    requires { HeldFitsPager S.PagableStorage pager.old held.old }
+    ensures { Drives (values_at E.Node.NodeSet E.Env E.Hash.KeyHash pager.old.environment) S.PagableStorage pager.old
+        held.old (Event.WorkerStep worker) (EventReply.WorkerMoved result) pager.new held.new }
 {
     pager.assert_invariant();
     if is_done(&held.walks, worker.0) {

@@ -8,7 +8,7 @@ use Rattle.pagable_budget.specs.{
   Budgets.{no-memory-is-left, none-is-kept, pin-is-kept, touched},
   declared.{bound.BudgetStats.BudgetStats, evictions.KeptPin.KeptPin},
 }
-use Rattle.pagable_pager.specs.View.{PagerView, Telling, pager_core}
+use Rattle.pagable_pager.specs.View.{PagerView, Storages, pager_core}
 use Rattle.pagable_pager_spec.specs.{Basics.{Error, HandleNumber, NodeNumber}, Calls.NodeCall}
 use Rattle.std.proofs.{
   Common.{Bool, Err, IsErrAnd, List, None, Ok, OnErr, OnOk, Option, Result, Some, ap, append-nil, append_assoc, ap₂, arith, false, is_ok, length},
@@ -118,7 +118,7 @@ as-miss cell b is =
 
 -- ---- pins that are evicted
 
-module _ {N S E : Type 0} (tells : Telling S) where
+module _ {N S E H K V : Type 0} (tells : Storages S E N H K V) where
   -- the last pin is evicted, if there is one
   evict-none-of : (pins : List Kept) (p : PagerView N S E) → last_entry pins ≡ None → EvictsLast tells pins p None (take (length pins - 1) pins) p
   evict-none-of [] p none = none-is-kept refl
@@ -209,7 +209,7 @@ bounded-promoted pins pins' cost most cell was are = subst (λ c. IsBounded c co
 
 -- ---- a pin within a budget leaves the storage alone, but for the caller's pin
 
-module _ {N S E : Type 0} (tells : Telling S) where
+module _ {N S E H K V : Type 0} (tells : Storages S E N H K V) where
   stores-alone : {b b' : BudgetView} {p q : PagerView N S E} {cell : ℕ} {pin : KeptPin} → Stores tells b p cell pin b' q → q.storage ≡ p.storage
   stores-alone (pin-is-kept mid q trims) = same-storage tells trims.evicts.evicts
   stores-alone (no-memory-is-left told b' mid q trims releases) = releases.only.storage ∙ same-storage tells trims.evicts.evicts
@@ -245,7 +245,7 @@ still-none cell b mid kept is after none =
     let absent = sym is ∙ none in
     subst (λ (m : BudgetView). lookup (nat_eq cell) m.pins ≡ None) (sym (after ∙ as-miss cell b absent)) (none-of cell b.pins absent)
 
-module _ {N S E : Type 0} (tells : Telling S) where
+module _ {N S E H K V : Type 0} (tells : Storages S E N H K V) where
   pub trimmed : (b : BudgetView) (p q : PagerView N S E) (pins pins' : List Kept) (most n : ℕ) (stats : BudgetStats) (before after evictions : ℕ)
       → budget_of pins most stats ≡ b
       → EvictsAbove tells n pins p pins' q → before ≡ length pins → after ≡ length pins' → evictions ≡ more stats.evictions (before - after)

@@ -3,7 +3,7 @@ use Rattle.lru.specs.LruCache.{LruCache, promoted}
 use Rattle.pagable.specs.{Cells.{Pins, Releases}, PageOuts.Clones, Paged.PagesOutList}
 use Rattle.pagable_budget.specs.declared.{bound.BudgetStats.BudgetStats, evictions.KeptPin.KeptPin}
 use Rattle.pagable_pageout.specs.declared.tasks.PageOutError.{PageOutError}
-use Rattle.pagable_pager.specs.View.{PagerView, Telling, pager_core}
+use Rattle.pagable_pager.specs.View.{PagerView, Storages, pager_core}
 use Rattle.pagable_pager_spec.specs.{
   Basics.{Error, HandleNumber, NodeNumber},
   Calls.NodeCall,
@@ -71,7 +71,7 @@ pub record Inserts (cell : ℕ) (pin : KeptPin) (is_kept : Bool) (pins pins' : L
   pub refused : is_kept ≡ false → pins'.entries ≡ pins.entries
   pub room : pins'.cap ≡ pins.cap
 
-module _ {N S E : Type 0} (tells : Telling S) where
+module _ {N S E H K V : Type 0} (tells : Storages S E N H K V) where
   -- the handles of these pins are released, from the last to the first
   pub data Evicts (old : PagerView N S E) : List Kept → PagerView N S E → Type 0 where
     evicts-none : Evicts old [] old

@@ -4,7 +4,6 @@ ghost use Rattle.pagable_budget.specs.{
   Budgets.{Admits, Clears, Keeps, PinsWithin, Stores, Trims, cost_of, counted, new_budget, touched},
 };
 ghost use Rattle.pagable_load.specs.AccessView.{values_at};
-ghost use Rattle.pagable_pager.specs.View.{storage_view};
 ghost use Rattle.pagable_pager_spec.specs.World.{result_map};
 ghost use Rattle.std.specs.{
   Arc.arc_value,
@@ -151,7 +150,7 @@ impl Budget {
         handle: HandleNumber,
         cost: u64,
     ) -> Result<(HandleNumber, Arc<E::Node>), Error>
-        ensures pins { IsTrue (S.is_honest pager.new.storage) → PinsWithin (storage_view S.PagableStorage)
+        ensures pins { IsTrue (S.is_honest pager.new.storage) → PinsWithin S.PagableStorage
             (values_at E.Node.NodeSet E.Env E.Hash.KeyHash) self.old pager.old handle cost
             (result_map (λ a. (a.0, arc_value a.1)) result) self.new pager.new }
         ensures honest { IsTrue (S.is_honest pager.new.storage) → IsTrue (S.is_honest pager.old.storage) }
@@ -169,7 +168,7 @@ impl Budget {
         pinned: HandleNumber,
         cost: u64,
     )
-        ensures { Keeps (storage_view S.PagableStorage) self.old pager.old pinned cost self.new pager.new }
+        ensures { Keeps S.PagableStorage self.old pager.old pinned cost self.new pager.new }
     {
         let Ok(cell) = pager.node_of(pinned) else {
             return;
@@ -201,8 +200,7 @@ impl Budget {
         cost: u64,
     )
         requires new { lookup (nat_eq cell) self.old.pins ≡ None }
-        ensures { Admits (storage_view S.PagableStorage) self.old pager.old cell pinned cost
-            self.new pager.new }
+        ensures { Admits S.PagableStorage self.old pager.old cell pinned cost self.new pager.new }
     {
         if cost > self.most {
             return;
@@ -222,7 +220,7 @@ impl Budget {
     )
         requires new { lookup (nat_eq cell) self.old.pins ≡ None }
         requires fits { pin.cost ≤ self.old.most }
-        ensures { Stores (storage_view S.PagableStorage) self.old pager.old cell pin self.new pager.new }
+        ensures { Stores S.PagableStorage self.old pager.old cell pin self.new pager.new }
     {
         let most = self.most - pin.cost;
         self.trim(pager, most);
@@ -240,7 +238,7 @@ impl Budget {
         pager: &mut Pager<E, S>,
         most: u64,
     )
-        ensures { Trims (storage_view S.PagableStorage) most self.old pager.old self.new pager.new }
+        ensures { Trims S.PagableStorage most self.old pager.old self.new pager.new }
     {
         let before = self.pins.len();
         let cost = evict_above(&mut self.pins, pager, self.cost, most);
@@ -253,7 +251,7 @@ impl Budget {
 
     /// Releases all kept pins. The counts stay as they are.
     pub fn clear<E: Env<Node: NodeSet<E>>, S: PagableStorage<E>>(&mut self, pager: &mut Pager<E, S>)
-        ensures { Clears (storage_view S.PagableStorage) self.old pager.old self.new pager.new }
+        ensures { Clears S.PagableStorage self.old pager.old self.new pager.new }
     {
         evict_all(&mut self.pins, pager);
         self.cost = 0;

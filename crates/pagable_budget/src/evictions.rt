@@ -1,7 +1,6 @@
 //! The pins that a budget keeps, most recently used first, and their eviction.
 
 ghost use Rattle.pagable_budget.specs.Budgets.{Evicts, EvictsAbove, EvictsLast, Inserts, cost_of};
-ghost use Rattle.pagable_pager.specs.View.{storage_view};
 ghost use Rattle.std.specs.{Map.lookup, Prelude.{None, nat_eq, [], ◌-◌, ◌^◌, ◌≡◌, ◌≤◌}};
 
 use lru::LruCache;
@@ -28,8 +27,7 @@ fn evict_last<E: Env<Node: NodeSet<E>>, S: PagableStorage<E>>(
     pins: &mut KeptPins,
     pager: &mut Pager<E, S>,
 ) -> Option<u64>
-    ensures evicts { EvictsLast (storage_view S.PagableStorage)
-        pins.old.entries pager.old result pins.new.entries pager.new }
+    ensures evicts { EvictsLast S.PagableStorage pins.old.entries pager.old result pins.new.entries pager.new }
     ensures room { pins.new.cap ≡ pins.old.cap }
 {
     let (_, pin) = pins.pop_lru()?;
@@ -46,8 +44,7 @@ pub(crate) fn evict_above<E: Env<Node: NodeSet<E>>, S: PagableStorage<E>>(
     most: u64,
 ) -> u64
     requires sum { cost ≡ cost_of pins.old.entries }
-    ensures evicts { EvictsAbove (storage_view S.PagableStorage)
-        most pins.old.entries pager.old pins.new.entries pager.new }
+    ensures evicts { EvictsAbove S.PagableStorage most pins.old.entries pager.old pins.new.entries pager.new }
     ensures sum { result ≡ cost_of pins.new.entries }
     ensures less { result ≤ cost }
     ensures room { pins.new.cap ≡ pins.old.cap }
@@ -68,7 +65,7 @@ pub(crate) fn evict_all<E: Env<Node: NodeSet<E>>, S: PagableStorage<E>>(
     pins: &mut KeptPins,
     pager: &mut Pager<E, S>,
 )
-    ensures evicts { Evicts (storage_view S.PagableStorage) pager.old pins.old.entries pager.new }
+    ensures evicts { Evicts S.PagableStorage pager.old pins.old.entries pager.new }
     ensures none { pins.new.entries ≡ [] }
     ensures room { pins.new.cap ≡ pins.old.cap }
 {

@@ -1,8 +1,7 @@
 //! Page-out of the pending list, if it is too long.
 
 ghost use Rattle.pagable_budget.specs.Budgets.{PagesOutAbove};
-ghost use Rattle.pagable_load.specs.AccessView.{values_at};
-ghost use Rattle.pagable_pager.specs.View.{pager_state, storage_view};
+ghost use Rattle.pagable_pager.specs.View.{BetweenIfHonest};
 ghost use Rattle.std.specs.Prelude.{IsTrue};
 
 use pagable::paging::page_out_pending;
@@ -24,10 +23,8 @@ pub fn page_out_above<E: Env<Node: NodeSet<E>>, S: PagableStorage<E>>(
     pager: &mut Pager<E, S>,
     most: usize,
 ) -> Result<(), PageOutError>
-    ensures pages { IsTrue (S.is_honest pager.new.storage) → PagesOutAbove
-        (values_at E.Node.NodeSet E.Env E.Hash.KeyHash pager.old.environment) most
-        (pager_state (storage_view S.PagableStorage) pager.old) result
-        (pager_state (storage_view S.PagableStorage) pager.new) }
+    ensures pages { BetweenIfHonest E.Node.NodeSet E.Env E.Hash.KeyHash S.PagableStorage pager.old pager.new
+        (λ v s s'. PagesOutAbove v most s result s') }
     ensures honest { IsTrue (S.is_honest pager.new.storage) → IsTrue (S.is_honest pager.old.storage) }
 {
     if pager.pending() <= most {

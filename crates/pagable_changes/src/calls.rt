@@ -3,10 +3,10 @@
 
 ghost use Rattle.pagable_changes.specs.{
   Changes.{Clones, Loosens, Pins, Releases, ReleasesBoth, SetsKey, StoresBlob},
-  Keeping.{Between, BetweenIfHonest, KeepsStorage},
+  Keeping.KeepsStorage,
 };
 ghost use Rattle.pagable_core.specs.Data.{blob_of};
-ghost use Rattle.pagable_pager.specs.View.{pager_core, storage_view};
+ghost use Rattle.pagable_pager.specs.View.{Between, BetweenIfHonest, pager_core};
 ghost use Rattle.pagable_pager_spec.specs.Calls.{NodeCall};
 ghost use Rattle.std.specs.Prelude.{IsTrue, Ok, true, ◌≡◌};
 
@@ -23,7 +23,7 @@ pub(crate) fn is_handle_of<E: Env<Node: NodeSet<E>>, S: PagableStorage<E>>(
     handle: HandleNumber,
     node: NodeNumber,
 ) -> bool
-    ensures { result ≡ true → NodeCall (pager_core (storage_view S.PagableStorage) pager.now) handle (Ok node) }
+    ensures { result ≡ true → NodeCall (pager_core S.PagableStorage pager.now) handle (Ok node) }
 {
     match pager.node_of(handle) {
         Ok(found) => found.0 == node.0,

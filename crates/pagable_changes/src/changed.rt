@@ -2,10 +2,9 @@
 
 ghost use Rattle.pagable_changes.specs.{
   Changes.{IsReferenceToCellOf, PagesOutChanged, PagesOutKeyless},
-  Keeping.BetweenIfHonest,
-  Keys.KeepsTrees,
+    Keys.KeepsTrees,
 };
-ghost use Rattle.pagable_pager.specs.View.{pager_core, storage_view};
+ghost use Rattle.pagable_pager.specs.View.{BetweenIfHonest, pager_core};
 ghost use Rattle.std.specs.Prelude.{IfOk, IsTrue, ◌≡◌};
 
 use crate::nodes::open_node;
@@ -21,7 +20,7 @@ fn root_of<E: Env<Node: NodeSet<E>>, S: PagableStorage<E>>(
     pager: &Pager<E, S>,
     handle: HandleNumber,
 ) -> Result<ArcRef, Error>
-    ensures { IfOk result (λ r. IsReferenceToCellOf (pager_core (storage_view S.PagableStorage) pager.now) handle r) }
+    ensures { IfOk result (λ r. IsReferenceToCellOf (pager_core S.PagableStorage pager.now) handle r) }
 {
     let node = pager.node_of(handle)?;
     let Some(node_type) = pager.node_live(node) else {

@@ -1,7 +1,7 @@
 //! The keys of references: a cell's own key, or the key that this page-out found for another node.
 
 ghost use Rattle.pagable_changes.specs.Changes.{AllHaveKeys, AppendsKey, IsKeyOfTarget};
-ghost use Rattle.pagable_pager.specs.View.{pager_core, storage_view};
+ghost use Rattle.pagable_pager.specs.View.{pager_core};
 ghost use Rattle.pagable_pager_spec.specs.Calls.{KeyCall, NodeCall};
 ghost use Rattle.pagable_tables.specs.NumberTable.{row_by};
 ghost use Rattle.std.specs.Prelude.{IfOk, Ok, OnOk, slice_get, [], ◌++◌, ◌∷◌, ◌≡◌};
@@ -41,11 +41,9 @@ fn cell_key<E: Env<Node: NodeSet<E>>, S: PagableStorage<E>>(
     pager: &Pager<E, S>,
     reference: ArcRef,
 ) -> Result<OptionalDataKey, Error>
-    ensures of_node { IfOk result (λ key. NodeCall (pager_core (storage_view S.PagableStorage)
-        pager.now) reference.handle
-        (Ok reference.node)) }
-    ensures key { IfOk result (λ key. KeyCall (pager_core (storage_view S.PagableStorage) pager.now) reference.handle
-        (Ok key)) }
+    ensures of_node { IfOk result
+        (λ key. NodeCall (pager_core S.PagableStorage pager.now) reference.handle (Ok reference.node)) }
+    ensures key { IfOk result (λ key. KeyCall (pager_core S.PagableStorage pager.now) reference.handle (Ok key)) }
 {
     if !is_handle_of(pager, reference.handle, reference.node) {
         return Err(Error::NoSuchHandle);
@@ -63,9 +61,8 @@ pub(crate) fn find_key<E: Env<Node: NodeSet<E>>, S: PagableStorage<E>>(
     found: &FoundKeys,
     reference: ArcRef,
 ) -> Result<Option<FoundKey>, Error>
-    ensures { IfOk result (λ key. IsKeyOfTarget (λ n. row_by found.now n)
-        (pager_core (storage_view S.PagableStorage) pager.now)
-        reference key) }
+    ensures { IfOk result
+        (λ key. IsKeyOfTarget (λ n. row_by found.now n) (pager_core S.PagableStorage pager.now) reference key) }
 {
     if !reference.kind.is_loose() {
         return Ok(found_at(found, reference.node));
@@ -114,7 +111,7 @@ fn append_key_at<E: Env<Node: NodeSet<E>>, S: PagableStorage<E>>(
     at: usize,
     keys: &mut Vec<DataKey>,
 ) -> Result<u64, Error>
-    ensures { OnOk result (AppendsKey (λ n. row_by found.now n) (pager_core (storage_view S.PagableStorage) pager.now)
+    ensures { OnOk result (AppendsKey (λ n. row_by found.now n) (pager_core S.PagableStorage pager.now)
         references.now.items at keys.old.items keys.new.items) }
 {
     let Some(reference) = reference_at(references, at) else {
@@ -142,8 +139,7 @@ pub(crate) fn collect_keys<E: Env<Node: NodeSet<E>>, S: PagableStorage<E>>(
     found: &FoundKeys,
     references: &Vec<ArcRef>,
 ) -> Result<(Vec<DataKey>, u64), Error>
-    ensures { IfOk result (λ r. AllHaveKeys (λ n. row_by found.now n)
-        (pager_core (storage_view S.PagableStorage) pager.now)
+    ensures { IfOk result (λ r. AllHaveKeys (λ n. row_by found.now n) (pager_core S.PagableStorage pager.now)
         references.now.items r.0.items) }
 {
     let mut keys = Vec::with_capacity(alloc, references.len())?;

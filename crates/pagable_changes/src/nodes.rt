@@ -3,10 +3,10 @@
 
 ghost use Rattle.pagable_changes.specs.{
   Changes.{IsFormOf, OpenNodeFails, OpensNode, PinNodeFails, PinsLoosely, PinsNode, Writes, WritesNode, written_of},
-  Keeping.{Between, KeepsStorage},
+  Keeping.KeepsStorage,
 };
 ghost use Rattle.pagable_load.specs.AccessView.{values_at};
-ghost use Rattle.pagable_pager.specs.View.{pager_state, storage_view};
+ghost use Rattle.pagable_pager.specs.View.{Between, pager_state};
 ghost use Rattle.pagable_pager_spec.specs.Basics.{is_loose_kind};
 ghost use Rattle.std.specs.Prelude.{IfErr, IfOk, true, ◌≡◌};
 
@@ -122,7 +122,7 @@ fn write_pinned<E: Env<Node: NodeSet<E>>, S: PagableStorage<E>>(
     pin: HandleNumber,
 ) -> Result<SerializedData, Error>
     ensures { IfOk result (λ d. Writes (values_at E.Node.NodeSet E.Env E.Hash.KeyHash pager.now.environment)
-        (pager_state (storage_view S.PagableStorage) pager.now) reference pin (written_of d)) }
+        (pager_state S.PagableStorage pager.now) reference pin (written_of d)) }
 {
     match pager.value(pin) {
         Ok(Some(node)) => {
@@ -146,7 +146,7 @@ fn check_and_write<E: Env<Node: NodeSet<E>>, S: PagableStorage<E>>(
     pin: HandleNumber,
 ) -> Result<SerializedData, Error>
     ensures { IfOk result (λ d. WritesNode (values_at E.Node.NodeSet E.Env E.Hash.KeyHash pager.now.environment)
-        (pager_state (storage_view S.PagableStorage) pager.now) reference cloned pin (written_of d)) }
+        (pager_state S.PagableStorage pager.now) reference cloned pin (written_of d)) }
 {
     if !is_handle_of(pager, cloned, reference.node) {
         return Err(Error::NoSuchHandle);

@@ -3,10 +3,10 @@
 ghost use Rattle.pagable_changes.specs.{
   Changes.{FinishFails, FinishesOpenNode, IsBlobOfNode, MakesTurn, OpenChildFails, OpensChild, RecordsKey},
   Changes.{ReleasesPath, SetKeyFails, Turn, TurnFails, TurnsFail, TurnsUntilKey, Walks, stage},
-  Keeping.{Between, BetweenIfHonest, KeepsStorage},
+  Keeping.KeepsStorage,
 };
 ghost use Rattle.pagable_core.specs.Data.{blob_of};
-ghost use Rattle.pagable_pager.specs.View.{pager_core, storage_view};
+ghost use Rattle.pagable_pager.specs.View.{Between, BetweenIfHonest, pager_core};
 ghost use Rattle.pagable_tables.specs.NumberTable.{place_at, row_by};
 ghost use Rattle.std.specs.{
   Prelude.{IfErr, IfNone, IfOk, IfSome, IsSome, IsTrue, OnErr, OnOk, Some, slice_get, [], ◌++◌, ◌∷◌, ◌≡◌},
@@ -31,9 +31,8 @@ fn blob_of_node<E: Env<Node: NodeSet<E>>, S: PagableStorage<E>>(
     found: &FoundKeys,
     node: &OpenNode,
 ) -> Result<(PagableData, u64), Error>
-    ensures { IfOk result (λ r. IsBlobOfNode (λ n. row_by found.now n)
-        (pager_core (storage_view S.PagableStorage) pager.now)
-        node.now (blob_of r.0)) }
+    ensures { IfOk result
+        (λ r. IsBlobOfNode (λ n. row_by found.now n) (pager_core S.PagableStorage pager.now) node.now (blob_of r.0)) }
 {
     let (arcs, height) = collect_keys(alloc, pager, found, &node.written.arcs)?;
     if height > LONGEST_PATH || node.depth > LONGEST_PATH - height {
@@ -53,8 +52,8 @@ fn record_key<E: Env<Node: NodeSet<E>>, S: PagableStorage<E>>(
 ) -> Result<(), Error>
     requires ready { IsSome (place_at found.old node.now.reference.node.0) }
     ensures sets { Between E.Node.NodeSet E.Env E.Hash.KeyHash S.PagableStorage pager.old pager.new
-        (λ v s s'. OnOk result (RecordsKey v (λ n. row_by found.old n) node.now known.key s (λ n. row_by found.new n)
-        s')) }
+        (λ v s s'. OnOk result
+        (RecordsKey v (λ n. row_by found.old n) node.now known.key s (λ n. row_by found.new n) s')) }
     ensures refused { Between E.Node.NodeSet E.Env E.Hash.KeyHash S.PagableStorage pager.old pager.new
         (λ v s s'. IfErr result (λ e. SetKeyFails v node.now known.key s e s')) }
     ensures keeps { KeepsStorage pager.old pager.new }
@@ -74,8 +73,8 @@ fn finish_open_node<E: Env<Node: NodeSet<E>>, S: PagableStorage<E>>(
     node: &OpenNode,
 ) -> Result<DataKey, Error>
     ensures finishes { BetweenIfHonest E.Node.NodeSet E.Env E.Hash.KeyHash S.PagableStorage pager.old pager.new
-        (λ v s s'. IfOk result (λ key. FinishesOpenNode v (λ n. row_by found.old n) s node.now key (λ n. row_by
-        found.new n) s')) }
+        (λ v s s'. IfOk result
+        (λ key. FinishesOpenNode v (λ n. row_by found.old n) s node.now key (λ n. row_by found.new n) s')) }
     ensures fails { BetweenIfHonest E.Node.NodeSet E.Env E.Hash.KeyHash S.PagableStorage pager.old pager.new
         (λ v s s'. IfErr result (λ e. FinishFails v (λ n. row_by found.old n) s node.now e s')) }
     ensures honest { IsTrue (S.is_honest pager.new.storage) → IsTrue (S.is_honest pager.old.storage) }
@@ -166,8 +165,8 @@ fn process_reference<E: Env<Node: NodeSet<E>>, S: PagableStorage<E>>(
 ) -> Result<(), Error>
     requires next { Some reference ≡ slice_get node.old.written.arcs.items node.old.keyed }
     ensures turns { Between E.Node.NodeSet E.Env E.Hash.KeyHash S.PagableStorage pager.old pager.new
-        (λ v s s'. OnOk result (Turn v (stage path.old.items node.old (λ n. row_by found.now n) s) (stage
-        path.new.items node.new (λ n. row_by found.now n) s'))) }
+        (λ v s s'. OnOk result (Turn v (stage path.old.items node.old (λ n. row_by found.now n) s)
+        (stage path.new.items node.new (λ n. row_by found.now n) s'))) }
     ensures fails { Between E.Node.NodeSet E.Env E.Hash.KeyHash S.PagableStorage pager.old pager.new
         (λ v s s'. IfErr result (λ e. TurnFails v (stage path.old.items node.old (λ n. row_by found.now n) s) e s')) }
     ensures stays { OnErr result ((path.new.items ≡ path.old.items) × (node.new ≡ node.old)) }
@@ -268,8 +267,8 @@ fn make_turns<E: Env<Node: NodeSet<E>>, S: PagableStorage<E>>(
         (λ v s s'. IfOk result (λ key. TurnsUntilKey v (stage path.old.items node.old (λ n. row_by found.old n) s) key
         (stage path.new.items node.new (λ n. row_by found.new n) s'))) }
     ensures fails { BetweenIfHonest E.Node.NodeSet E.Env E.Hash.KeyHash S.PagableStorage pager.old pager.new
-        (λ v s s'. IfErr result (λ e. TurnsFail v (stage path.old.items node.old (λ n. row_by found.old n) s) e
-        path.new.items node.new s')) }
+        (λ v s s'. IfErr result
+        (λ e. TurnsFail v (stage path.old.items node.old (λ n. row_by found.old n) s) e path.new.items node.new s')) }
     ensures honest { IsTrue (S.is_honest pager.new.storage) → IsTrue (S.is_honest pager.old.storage) }
     ensures environment { pager.new.environment ≡ pager.old.environment }
 {

@@ -2,7 +2,8 @@
 use Rattle.futures.specs.{Poll.IfReady, declared.task.Poll.Poll}
 use Rattle.pagable_pager.specs.{
   Polling.PollCall,
-  View.{AddsNoValue, AsksStorage, Calls, CallsKeepingInvariant, ChangesOnlyTables, IsPager, KeepsWorkers, PagerView, Telling, ValuesByNode, may_call},
+  View.{AddsNoValue, AsksStorage, Calls, CallsKeepingInvariant, ChangesOnlyTables, IsPager, KeepsWorkers, PagerView, Storages, ValuesByNode, may_call,
+      storage_view},
   View.{pager_core, pager_state, value_in},
 }
 use Rattle.pagable_pager_spec.specs.{
@@ -61,7 +62,7 @@ module _ (w v : Core) where
       }
 
 -- tables that are whole leave the pager in step, where the core stays well-formed
-pub in-step : {N S E : Type 0} {tells : Telling S} {says : E → Values N} (q : PagerView N S E) → IsWhole q.tables → OwnLaterHandles q.tables
+pub in-step : {N S E H K V : Type 0} {tells : Storages S E N H K V} {says : E → Values N} (q : PagerView N S E) → IsWhole q.tables → OwnLaterHandles q.tables
     → (IsRight (pager_state tells q) → IsPagerWhole (says q.environment) (pager_state tells q)) → IsPager tells says q
 in-step {tells = tells} q whole later state =
     let right = whole-over (core_alone q.tables) (pager_core tells q) whole.core in
@@ -80,11 +81,11 @@ pub left-map : {X Y : Type 0} (f : X → Y) (b : Bool) (old new : Option X) → 
     ≡ (if b then option_map f old else None)
 left-map f b old new which some = grind (arith, nat_tests)
 
-pub less-moves : {N S E : Type 0} (tells : Telling S) {comes : ℕ → N → Type 0} (p q : PagerView N S E) → AddsNoValue p q
+pub less-moves : {N S E H K V : Type 0} (tells : Storages S E N H K V) {comes : ℕ → N → Type 0} (p q : PagerView N S E) → AddsNoValue p q
     → Moves comes (pager_state tells p) (pager_state tells q)
 less-moves tells p q less = record { each = λ n x has. inl (less.values n x has); environment = less.environment }
 
-module _ {N S E : Type 0} {tells : Telling S} {says : E → Values N} {p : PagerView N S E} (is : IsPager tells says p) where
+module _ {N S E H K V : Type 0} {tells : Storages S E N H K V} {says : E → Values N} {p : PagerView N S E} (is : IsPager tells says p) where
   pub here-in : (n : ℕ) → (is_some ((pager_core tells p).cells n) && is_here (pager_core tells p) n) ≡ has_value (counts_at p.tables.ref_counts.nodes n)
   here-in n = here-told (counts_at p.tables.ref_counts.nodes n) (pager_core tells p) n refl (sym (is.tables.steady.fits.pinned n))
 
@@ -97,10 +98,13 @@ module _ {N S E : Type 0} {tells : Telling S} {says : E → Values N} {p : Pager
   pub kept-in : AreKept (counts_at p.tables.ref_counts.nodes) (row_by p.values)
   kept-in n falls = sym (some-map arc_value (row_by p.values n)) ∙ is.state.valued n ∙ here-in n
 
-  module _ {step : Core → Core → Type 0} (t : Tables) (call : Does p.tables step t) where
+  pub only-tables : (t : Tables) → ChangesOnlyTables p (record p { tables = t })
+  only-tables t = record { values = refl; storage = refl; environment = refl }
+
+  module _ {step : Core → Core → Type 0} {t : Tables} (call : Does p.tables step t) where
     pub made-by : (step (pager_core tells p) (pager_core tells (record p { tables = t })) → IsRight (pager_state tells (record p { tables = t }))
         → IsPagerWhole (says p.environment) (pager_state tells (record p { tables = t }))) → IsPager tells says (record p { tables = t })
-    made-by state = in-step (record p { tables = t }) call.whole (call.later is.later) (state (call.does (tells p.storage)))
+    made-by state = in-step (record p { tables = t }) call.whole (call.later is.later) (state (call.does (storage_view tells p.storage)))
 
     pub called : (step (pager_core tells p) (pager_core tells (record p { tables = t }))
         → Rests (pager_core tells p) (pager_core tells (record p { tables = t })))
@@ -108,10 +112,7 @@ module _ {N S E : Type 0} {tells : Telling S} {says : E → Values N} {p : Pager
     called rests = made-by (λ made. spared is.state (rests made) (λ n. refl))
 
     pub calls-tables : Calls ChangesOnlyTables tells p step (record p { tables = t })
-    calls-tables = record {
-      step = call.does (tells p.storage);
-      only = record { values = refl; storage = refl; environment = refl };
-    }
+    calls-tables = record { step = call.does (storage_view tells p.storage); only = only-tables t }
 
   -- values went with their nodes
   module _ (t : Tables) (values : ValuesByNode N) where
@@ -138,17 +139,17 @@ module _ {N S E : Type 0} {tells : Telling S} {says : E → Values N} {p : Pager
 
     -- by a call of the tables
     module _ {b : Bool} {step : Core → Core → Type 0} (call : DoesAndDropsValues (not b) p.tables p.values step t values)
-        (opens : b ≡ (tells p.storage).closed) where
+        (opens : b ≡ tells.is_closed p.storage) where
       pub release_at-by : (Leaves (value_in p.values) (pager_state tells gone) → step (pager_core tells p) (pager_core tells gone)
           → IsPagerWhole (says p.environment) (pager_state tells gone))
-          → IsPager tells says gone × CallsKeepingInvariant AddsNoValue tells says p step gone
+          → IsPager tells says gone × CallsKeepingInvariant tells says p step gone
       release_at-by state =
           let after : IsPager tells says gone = release_at call.whole (call.later is.later) call.drops
-          (λ left. state left (call.does (tells p.storage) (ap not opens))) in (
+          (λ left. state left (call.does (storage_view tells p.storage) (ap not opens))) in (
             after,
             record {
               called = record {
-                step = call.does (tells p.storage) (ap not opens);
+                step = call.does (storage_view tells p.storage) (ap not opens);
                 moves = less-moves tells p gone (only-less call.drops);
                 whole = after.state;
               };
@@ -161,20 +162,20 @@ module _ {N S E : Type 0} {tells : Telling S} {says : E → Values N} {p : Pager
       same-so a = release_at whole later drops (stayed is.state (unmoved a is.state.whole.shut))
 
       pub none-so : t ≡ p.tables → IsPager tells says gone
-      none-so same = same-so (subst (λ (x : Tables). Alike (pager_core tells p) (pager_core tells (record p { tables = x; values = values }))) (sym same)
-          (still (pager_core tells p)))
+      none-so same = same-so (rw same (still (pager_core tells p)))
 
 pub caller-free : NotValues Owner.Caller
 caller-free n is = absurd (cc)
 
 -- nor is who is at work, and it may hold handles and begin loads
-module _ {N S E : Type 0} {tells : Telling S} {says : E → Values N} {p q : PagerView N S E} (_ : IsPager tells says p) (me : Owner) (same : p ≡ q)
+module _ {N S E H K V : Type 0} {tells : Storages S E N H K V} {says : E → Values N} {p q : PagerView N S E} (_ : IsPager tells says p) (me : Owner)
+    (same : p ≡ q)
     (works : may_call (pager_core tells q) me ≡ true) where
   pub owner-may : MayOwnLoad (pager_core tells p) me
   owner-may = grind (arith, nat_tests)
 
   pub owner-free : NotValues me
-  owner-free n is = subst (MayOwnLoad (pager_core tells p)) is owner-may
+  owner-free n is = rw is at owner-may
 
   pub owner-loads : (m : LoadNumber) → is_owner (Owner.Load m) me ≡ false
   owner-loads m = grind (arith, nat_tests, owner-may)
@@ -195,9 +196,9 @@ pub asks : {w w' : Core} {me : Owner} {l : LoadNumber} {kind : Kind} {key : ℕ}
 asks {l = l} whole (Ok found) c = recalls whole (not-load l) (Ok found) (record { answers = c.gives.2; refused = tt })
 asks whole (Err e) c = unmoved c.refused.stays whole.shut
 
-module _ {N S E : Type 0} {tells : Telling S} {says : E → Values N} {p : PagerView N S E} (is : IsPager tells says p) (s : S)
-    (stays : (tells s).closed ≡ (tells p.storage).closed)
-    (more : (tells p.storage).failures ≤ (tells s).failures) where
+module _ {N S E H K V : Type 0} {tells : Storages S E N H K V} {says : E → Values N} {p : PagerView N S E} (is : IsPager tells says p) (s : S)
+    (stays : tells.is_closed s ≡ tells.is_closed p.storage)
+    (more : tells.failed p.storage ≤ tells.failed s) where
   abbrev stored-in : PagerView N S E
   stored-in = record p { storage = s }
 
@@ -208,19 +209,19 @@ module _ {N S E : Type 0} {tells : Telling S} {says : E → Values N} {p : Pager
     shut = λ shut. is.state.whole.shut (sym stays ∙ shut);
   }) (λ n. refl))
 
-  pub asked : (tells s).stored ≡ (tells p.storage).stored → Asked (pager_core tells p) (pager_core tells stored-in)
+  pub asked : tells.stored s ≡ tells.stored p.storage → Asked (pager_core tells p) (pager_core tells stored-in)
   asked same = grind (arith, nat_tests, still)
 
   pub store-call : (digest : Blob → ℕ) (blob : Blob) (r : Result ℕ Error) → IfOk r (λ key. key ≡ digest blob)
-      → OnOk r (Adds (digest blob) blob ((tells p.storage).stored) ((tells s).stored))
-      → OnOk r ((tells p.storage).closed ≡ false) → IfErr r (RefusesStore blob ((tells p.storage).stored (digest blob)) ((tells p.storage).closed)
-      ((tells p.storage).failures) ((tells s).failures))
-      → OnErr r ((tells s).stored ≡ (tells p.storage).stored) → StoreCall digest (pager_core tells p) blob r (pager_core tells stored-in)
+      → OnOk r (Adds (digest blob) blob (tells.stored p.storage) (tells.stored s))
+      → OnOk r (tells.is_closed p.storage ≡ false) → IfErr r (RefusesStore blob (tells.stored p.storage (digest blob)) (tells.is_closed p.storage)
+      (tells.failed p.storage) (tells.failed s))
+      → OnErr r (tells.stored s ≡ tells.stored p.storage) → StoreCall digest (pager_core tells p) blob r (pager_core tells stored-in)
   store-call digest blob r keyed adds was only same = grind (arith, nat_tests, asked, still)
 
-  pub asks-it : {honest : S → Bool} {makes : Core → Core → Type 0} → (IsTrue (honest s) → makes (pager_core tells p) (pager_core tells stored-in))
-      → (IsTrue (honest s) → IsTrue (honest p.storage))
-      → AsksStorage honest tells p makes stored-in
+  pub asks-it : {makes : Core → Core → Type 0} → (IsTrue (tells.is_honest s) → makes (pager_core tells p) (pager_core tells stored-in))
+      → (IsTrue (tells.is_honest s) → IsTrue (tells.is_honest p.storage))
+      → AsksStorage tells p makes stored-in
   asks-it step faithful = record { step = step; honest = faithful; closed = stays; only = record { tables = refl; values = refl; environment = refl } }
 
 pub fetch-call : {X : Type 0} (see : X → Blob) (w w' : Core) (key : ℕ) (r : Result X Error) → Asked w w' → IfOk r (λ x. w.stored key ≡ Some (see x))

@@ -2,7 +2,7 @@
 use Rattle.pagable_pager.proofs.Invariant.{here-in, here-told, in-step, whole-over}
 use Rattle.pagable_pager.specs.{
   Leaf.{LeafBegun, LeafDropped, LeafPinned},
-  View.{IsPager, PagerView, Telling, ValuesByNode, pager_core, pager_state, value_in, with_value},
+  View.{IsPager, PagerView, Storages, ValuesByNode, pager_core, pager_state, storage_view, value_in, with_value},
 }
 use Rattle.pagable_pager_spec.specs.{
   Basics.{one, updated},
@@ -29,7 +29,7 @@ use Rattle.std.proofs.{
 }
 use Rattle.std.specs.Prelude.{is_some, ◌⊎◌}
 
-module _ {N S E : Type 0} {tells : Telling S} {says : E → Values N} {p : PagerView N S E} (is : IsPager tells says p) where
+module _ {N S E H K V : Type 0} {tells : Storages S E N H K V} {says : E → Values N} {p : PagerView N S E} (is : IsPager tells says p) where
   abbrev w : Core
   w = pager_core tells p
 
@@ -71,14 +71,14 @@ module _ {N S E : Type 0} {tells : Telling S} {says : E → Values N} {p : Pager
     given = record p { tables = t; values = values }
 
     drops : DropsLeaf w Owner.Caller leaf.row leaf.key leaf.node_type (pager_core tells given)
-    drops = does.does (tells p.storage)
+    drops = does.does (storage_view tells p.storage)
 
     kept : (n : ℕ) → value_in values n ≡ (if is_some ((pager_core tells given).cells n)
         && is_here (pager_core tells given) n then value_in p.values n else None)
     kept n =
         let e = is.state.valued n in
-        let cells = ap (λ (u : Tables). (core_of u (tells p.storage)).cells n) same in
-        let here = ap (λ (u : Tables). is_here (core_of u (tells p.storage)) n) same in
+        let cells = ap (λ (u : Tables). (core_of u (storage_view tells p.storage)).cells n) same in
+        let here = ap (λ (u : Tables). is_here (core_of u (storage_view tells p.storage)) n) same in
         let is-same = sames n in
         grind (arith, nat_tests)
 
@@ -116,7 +116,7 @@ module _ {N S E : Type 0} {tells : Telling S} {says : E → Values N} {p : Pager
     l = record { 0 = w.last.load + 1 }
 
     leaf-ends : PinsLeaf w Owner.Caller leaf.row leaf.key leaf.node_type k w'
-    leaf-ends = ends (tells p.storage)
+    leaf-ends = ends (storage_view tells p.storage)
 
     abbrev mid : PagerState N E
     mid = at-core leaf-ends.begun
@@ -125,11 +125,10 @@ module _ {N S E : Type 0} {tells : Telling S} {says : E → Values N} {p : Pager
     mid-whole = begun-whole leaf-ends.begun leaf.row.number l leaf.key leaf-ends.begins leaf-ends.placed
 
     may : MayEnd leaf-ends.begun Owner.Caller l leaf.row.node leaf.row.number (v.node_type x) (v.references x)
-    may = subst (λ q. MayEnd leaf-ends.begun Owner.Caller l leaf.row.node leaf.row.number q (v.references x)) (sym typed)
-        (subst (λ rs. MayEnd leaf-ends.begun Owner.Caller l leaf.row.node leaf.row.number leaf.node_type rs) (sym bare) leaf-ends.may)
+    may = rw (typed, bare) leaf-ends.may
 
     installs : Installs leaf-ends.begun Owner.Caller l leaf.row.node leaf.row.number k (v.references x) w'
-    installs = subst (λ rs. Installs leaf-ends.begun Owner.Caller l leaf.row.node leaf.row.number k rs w') (sym bare) leaf-ends.ends
+    installs = rw bare leaf-ends.ends
 
     swept : (n : ℕ) → value_in values n ≡ (if is_some (w'.cells n) && is_here w' n then updated leaf.row.node.0 (Some x) (value_in p.values) n else None)
     swept n =

@@ -4,7 +4,7 @@ use Rattle.pagable_load.specs.{Decoding.IsReadAs, PinStart.is_unpinned_at}
 use Rattle.pagable_pager.proofs.LeafRuns.{pins-run, refused-run, root-fails, root-pins, wanting-run}
 use Rattle.pagable_pager.specs.{
   Leaf.{LeafBegun, LeafDropped, LeafFetched, LeafLoads, LeafPinned, LeafUnbegun},
-  View.{AsksStorage, ChangesOnlyStorage, ChangesOnlyTables, IsPager, PagerView, Telling, ValuesByNode, pager_core, pager_state, value_in},
+  View.{AsksStorage, ChangesOnlyStorage, ChangesOnlyTables, IsPager, PagerView, Storages, ValuesByNode, pager_core, pager_state, storage_view, value_in},
 }
 use Rattle.pagable_pager_spec.specs.{
   Access.{PinRun, load-is-refused},
@@ -15,7 +15,7 @@ use Rattle.pagable_pager_spec.specs.{
   World.{Alike, Core, Values, is_here, of_cell, type_at},
   declared.{handle_row.{HandleRow.HandleRow, Owner.Owner}, mode.Mode.Mode, pinning.Beginning.Beginning},
 }
-use Rattle.pagable_tables.proofs.SameViews.{alike-on}
+use Rattle.pagable_tables.proofs.SameViews.{alike-on, room-alike}
 use Rattle.pagable_tables.specs.{
   Core.{Does, OnlyRoom, StorageView, core_alone, core_of, no_blobs},
   HandleTable.room,
@@ -33,11 +33,7 @@ use Rattle.pagable_pager_spec.specs.Pager as pager
 
 -- ---- what the pager's calls are told by
 
-pub leaf-in : {N S E : Type 0} (tells : Telling S) {p q : PagerView N S E} {leaf : Leaf} → p ≡ q → IsLeaf (pager_core tells q) Owner.Caller leaf
-    → IsLeaf (pager_core tells p) Owner.Caller leaf
-leaf-in tells {leaf = leaf} viewed is = subst (λ x. IsLeaf (pager_core tells x) Owner.Caller leaf) (sym viewed) is
-
-pub not-begun : {N S E : Type 0} {tells : Telling S} {says : E → Values N} {p : PagerView N S E} → IsPager tells says p
+pub not-begun : {N S E H K V : Type 0} {tells : Storages S E N H K V} {says : E → Values N} {p : PagerView N S E} → IsPager tells says p
     → (t : Tables) {h : HandleNumber} {e : Error} → IsPager tells says (record p { tables = t })
     → BeginCall (pager_core tells p) Owner.Caller h (Err e) (pager_core tells (record p { tables = t }))
     → PinRun (says p.environment) (pager_state tells p) h (Err e) (pager_state tells (record p { tables = t }))
@@ -53,76 +49,48 @@ leaf-alike rows cells last is = grind (arith, nat_tests, rows, cells, last)
 pub leaf-after : {N S E : Type 0} {p q : PagerView N S E} {t : Tables} {leaf : Leaf} → p ≡ q → q.tables ≡ t
     → ((storage : StorageView) → IsLeaf (core_of t storage) Owner.Caller leaf)
     → IsLeaf (core_alone p.tables) Owner.Caller leaf
-leaf-after {N} {S} {E} {leaf = leaf} viewed same found = subst (λ (t : Tables). IsLeaf (core_alone t) Owner.Caller leaf)
-    (sym (ap (λ (x : PagerView N S E). x.tables) viewed ∙ same)) (found no_blobs)
+leaf-after {N} {S} {E} {leaf = leaf} viewed same found = rw (← (ap (λ (x : PagerView N S E). x.tables) viewed ∙ same)) at (found no_blobs)
 
-pub leaf-asked : {N S E : Type 0} (tells : Telling S) (q : PagerView N S E) {t : Tables} {leaf : Leaf} → q.tables ≡ t
+pub leaf-asked : {N S E H K V : Type 0} (tells : Storages S E N H K V) (q : PagerView N S E) {t : Tables} {leaf : Leaf} → q.tables ≡ t
     → ((storage : StorageView) → IsLeaf (core_of t storage) Owner.Caller leaf)
     → IsLeaf (pager_core tells q) Owner.Caller leaf
 leaf-asked tells q {leaf = leaf} same found =
-    subst (λ (t : Tables). IsLeaf (core_of t (tells q.storage)) Owner.Caller leaf) (sym same) (found (tells q.storage))
+    rw (← same) at (found (storage_view tells q.storage))
 
-pub pager-in : {N S E : Type 0} {tells : Telling S} {says : E → Values N} {p q : PagerView N S E} → p ≡ q → IsPager tells says p → IsPager tells says q
-pager-in {tells = tells} {says = says} viewed is = subst (λ x. IsPager tells says x) viewed is
+pub pager-in : {N S E H K V : Type 0} {tells : Storages S E N H K V} {says : E → Values N} {p q : PagerView N S E} → p ≡ q → IsPager tells says p
+    → IsPager tells says q
+pager-in {tells = tells} {says = says} viewed is = rw viewed at is
 
-pub asked-in : {N S E : Type 0} {honest : S → Bool} {tells : Telling S} {o p q : PagerView N S E} {makes : Core → Core → Type 0} → p ≡ q
-    → AsksStorage honest tells o makes q → AsksStorage honest tells o makes p
-asked-in {honest = honest} {tells = tells} {o = o} {makes = makes} viewed asks = subst (λ x. AsksStorage honest tells o makes x) (sym viewed) asks
+pub asked-in : {N S E H K V : Type 0} {tells : Storages S E N H K V} {o p q : PagerView N S E} {makes : Core → Core → Type 0} → p ≡ q
+    → AsksStorage tells o makes q → AsksStorage tells o makes p
+asked-in {tells = tells} {o = o} {makes = makes} viewed asks = rw (← viewed) at asks
 
 unpinned-so : {w : Core} {leaf : Leaf} → pager.IsWhole w → IsLeaf w Owner.Caller leaf → is_unpinned_at w leaf.row.number ≡ true
 unpinned-so whole is = let live = is.owned.live in let away = is.away in grind (arith, nat_tests, pinned-here, row-pins)
 
-module _ {N S E : Type 0} {tells : Telling S} {says : E → Values N} {p p1 : PagerView N S E} (is : IsPager tells says p) (is1 : IsPager tells says p1)
+module _ {N S E H K V : Type 0} {tells : Storages S E N H K V} {says : E → Values N} {p p1 : PagerView N S E} (is : IsPager tells says p)
+    (is1 : IsPager tells says p1)
     (t0 : Tables) (room : Does p.tables OnlyRoom t0) (leaf : Leaf)
     (found : (storage : StorageView) → IsLeaf (core_of t0 storage) Owner.Caller leaf) (r : Result Blob Error)
     (asks : FetchCall (pager_core tells (record p { tables = t0 })) leaf.key r (pager_core tells p1))
     (only : ChangesOnlyStorage (record p { tables = t0 }) p1) where
-  abbrev w0 : Core
-  w0 = pager_core tells (record p { tables = t0 })
-
-  roomier-so : OnlyRoom (pager_core tells p) w0
-  roomier-so = room.does (tells p.storage)
-
   fetched : FetchCall (pager_core tells p) leaf.key r (pager_core tells p1)
   fetched =
-      let wider : FetchCall (record (pager_core tells p) { places = w0.places }) leaf.key r (pager_core tells p1) =
-      subst (λ u. FetchCall u leaf.key r (pager_core tells p1)) roomier-so.same asks in
-      let a = wider.asked.leaves in
-      let more = roomier-so.more in
-      record {
-        asked = record {
-          fails = wider.asked.fails;
-          leaves = record {
-            rows = a.rows;
-            cells = a.cells;
-            list = a.list;
-            cache = record { gives = a.cache.gives; only = a.cache.only };
-            stored = a.stored;
-            closed = a.closed;
-            failures = a.failures;
-            loads = a.loads;
-            workers = a.workers;
-            last = a.last;
-            places = record { handles = omega (arith, more.handles, a.places.handles); entries = omega (arith, more.entries, a.places.entries) };
-          };
-        };
-        found = wider.found;
-        refused = wider.refused;
-      }
+      let wider = room-alike (room.does (record (storage_view tells p.storage) { failures = tells.failed p1.storage })) in
+      record { asked = record { fails = asks.asked.fails; leaves = alike-on wider asks.asked.leaves }; found = asks.found; refused = asks.refused }
 
   sames : (n : ℕ) → value_in p1.values n ≡ value_in p.values n
   sames n = ap (λ (values : ValuesByNode N). value_in values n) only.values
 
   leaf-still : IsLeaf (pager_core tells p) Owner.Caller leaf
   leaf-still =
-      let f : IsLeaf w0 Owner.Caller leaf = found (tells p.storage) in
-      let g : IsLeaf (record (pager_core tells p) { places = w0.places }) Owner.Caller leaf = subst (λ u. IsLeaf u Owner.Caller leaf) roomier-so.same f in
-      leaf-alike refl (λ n. refl) refl g
+      let a = room-alike (room.does (storage_view tells p.storage)) in
+      leaf-alike (sym a.rows) (λ n. sym (a.cells n)) (sym a.last) (found (storage_view tells p.storage))
 
   pub fetch-told : (blob : Blob) → r ≡ Ok blob → LeafFetched (says p.environment) (pager_state tells p) leaf blob (pager_state tells p1)
   fetch-told blob of_blob = record {
     fetched = record {
-      step = subst (λ q. FetchCall (pager_core tells p) leaf.key q (pager_core tells p1)) of_blob fetched;
+      step = rw of_blob at fetched;
       moves = record { each = λ n x has. inl (sym (sames n) ∙ has); environment = only.environment };
       whole = subst (λ e. IsPagerWhole (says e) (pager_state tells p1)) only.environment is1.state;
     };
@@ -156,8 +124,8 @@ module _ {N E : Type 0} {v : Values N} {s s1 u : PagerState N E} {leaf : Leaf} {
       let g = f.fetched.step in
       let again : FetchCall s.core leaf.key (Ok blob) d.between.core = record {
         asked = record {
-          fails = subst (λ n. s.core.failures ≤ n) (sym a.failures) g.asked.fails;
-          leaves = subst (λ n. Alike (record s.core { failures = n }) d.between.core) (sym a.failures) (alike-on g.asked.leaves a);
+          fails = rw (← a.failures) at g.asked.fails;
+          leaves = rw (← a.failures) at (alike-on g.asked.leaves a);
         };
         found = g.found;
         refused = tt;
@@ -173,7 +141,7 @@ module _ {N E : Type 0} {v : Values N} {s s1 u : PagerState N E} {leaf : Leaf} {
   pub loads-refused : {e : Error} → LeafLoads v s1 leaf blob (Err e) u → PinRun v s leaf.row.number (Err e) u
   loads-refused {e} d = elim d.refused [
     | inl (l, mid, b, run) ↦ root-fails v s s1 mid leaf l (Ok blob) f.fetched.step f.values f.fetched.moves.environment b blob refl e u run
-    | inr (is, wanting) ↦ subst (λ q. PinRun v s leaf.row.number (Err q) u) (sym is) (unbegun-run wanting)
+    | inr (is, wanting) ↦ rw (← is) at (unbegun-run wanting)
   ]
 
 -- ---- a load of the cell that begins by itself, or is refused
@@ -198,7 +166,7 @@ in-memory-never {w} {w'} {leaf} is call =
     let never : true ≡ false = sym there ∙ away in
     absurd cc
 
-pub begin-told : {N S E : Type 0} {tells : Telling S} {says : E → Values N} {p : PagerView N S E} → IsPager tells says p → (t : Tables)
+pub begin-told : {N S E H K V : Type 0} {tells : Storages S E N H K V} {says : E → Values N} {p : PagerView N S E} → IsPager tells says p → (t : Tables)
     → IsPager tells says (record p { tables = t }) → (leaf : Leaf) {l : LoadNumber} {key : ℕ}
     → IsLeaf (pager_core tells p) Owner.Caller leaf → BeginCall (pager_core tells p) Owner.Caller leaf.row.number (Ok (Beginning.Load l key))
     (pager_core tells (record p { tables = t }))
@@ -216,7 +184,8 @@ begin-told {tells = tells} {p = p} was t after leaf {l} {key} is call =
       opened = b.1;
     }
 
-module _ {N S E : Type 0} {tells : Telling S} {says : E → Values N} {p p1 : PagerView N S E} (is : IsPager tells says p) (is1 : IsPager tells says p1)
+module _ {N S E H K V : Type 0} {tells : Storages S E N H K V} {says : E → Values N} {p p1 : PagerView N S E} (is : IsPager tells says p)
+    (is1 : IsPager tells says p1)
     (leaf : Leaf) (e : Error)
     (found : IsLeaf (pager_core tells p) Owner.Caller leaf) (call : BeginCall (pager_core tells p) Owner.Caller leaf.row.number (Err e) (pager_core tells p1))
     (only : ChangesOnlyTables p p1) where
@@ -239,7 +208,7 @@ module _ {N S E : Type 0} {tells : Telling S} {says : E → Values N} {p p1 : Pa
     stays = record {
       step = call.refused.stays;
       moves = record {
-        each = λ n x has. inl (subst (λ (values : ValuesByNode N). value_in values n ≡ Some x) only.values has);
+        each = λ n x has. inl (rw only.values at has);
         environment = only.environment;
       };
       whole = subst (λ e. IsPagerWhole (says e) (pager_state tells p1)) only.environment is1.state;

@@ -116,7 +116,7 @@ module _ {N E : Type 0} (v : Values N) (s s1 mid1 : PagerState N E) (leaf : Leaf
   got : FetchCall core leaf.key r mid1.core
   got = record {
     asked = record {
-      fails = subst (λ n. s.core.failures ≤ n) (sym failures-are) fetched.asked.fails;
+      fails = rw (← failures-are) at fetched.asked.fails;
       leaves = record {
         rows = refl;
         cells = λ n. refl;
@@ -132,7 +132,7 @@ module _ {N E : Type 0} (v : Values N) (s s1 mid1 : PagerState N E) (leaf : Leaf
       };
     };
     found = fetched.found;
-    refused = subst (λ n. IfErr r (λ e. RefusesFetch leaf.key (s.core.stored leaf.key) s.core.failures n e)) (sym failures-are) fetched.refused;
+    refused = rw (← failures-are) at fetched.refused;
   }
 
   starts : LoadStarts v s leaf.row.number (fresh l leaf.node_type) before
@@ -169,7 +169,7 @@ module _ {N E : Type 0} (v : Values N) (s s1 mid1 : PagerState N E) (leaf : Leaf
           first = refl;
           open_load = begun.opened;
           asked = record {
-            gives = (load, record { stands_open = begun.opened; own = refl }, subst (λ q. FetchCall core leaf.key q mid1.core) of_blob got);
+            gives = (load, record { stands_open = begun.opened; own = refl }, rw of_blob at got);
             refused = tt;
           };
           goes = refl;
@@ -208,8 +208,8 @@ module _ {N E : Type 0} (v : Values N) (s s1 mid1 : PagerState N E) (leaf : Leaf
         }
 
         holds-none : (y : N) → y ≡ x → HoldsItsNodes v mid1 y
-        holds-none y is ref among eager = absurd (let rs : v.references y ≡ [] = ap v.references is ∙ bare in let (i, at) = among in
-            let none : slice_get [] i ≡ Some ref = subst (λ (zs : List ArcRef). slice_get zs i ≡ Some ref) rs at in cc)
+        holds-none y is ref among eager = absurd (let rs : v.references y ≡ [] = ap v.references is ∙ bare in let (i, there) = among in
+            let none : slice_get [] i ≡ Some ref = rw rs at there in cc)
 
         step-end : ReadingStep v Owner.Caller rooted mid1 (Some (LoadAnswer.Pinned k)) [] u
         step-end = record {
@@ -227,7 +227,7 @@ module _ {N E : Type 0} (v : Values N) (s s1 mid1 : PagerState N E) (leaf : Leaf
           moves = record {
             each = λ n y some. elim (ends.moves.each n y some) [
               | inl was ↦ inl was
-              | inr (none, (is, cell)) ↦ inr (none, inr (subst (λ z. ReadsRoot v rooted z) (sym is) reads-root, cell))
+              | inr (none, (is, cell)) ↦ inr (none, inr (rw (← is) at reads-root, cell))
             ];
             environment = ends.moves.environment;
           };
@@ -263,10 +263,7 @@ module _ {N E : Type 0} (v : Values N) (s s1 mid1 : PagerState N E) (leaf : Leaf
   -- the storage refuses the blob
   module _ (e : Error) (u : PagerState N E) (of_error : r ≡ Err e) (closes : MakesCall v (λ w'. LoadCloses mid1.core l (Ok tt) w') mid1 u) where
     brings-none : {comes : ℕ → N → Type 0} → Moves comes before u
-    brings-none = record {
-      each = λ n y some. elim (closes.moves.each n y some) [ inl was ↦ inl was | inr (none, never) ↦ absurd never ];
-      environment = closes.moves.environment;
-    }
+    brings-none {comes} = let none : Moves comes mid1 u = none_comes closes.moves in record { each = none.each; environment = none.environment }
 
     step-refused : ReadingStep v Owner.Caller (fresh l leaf.node_type) before (Some (LoadAnswer.Refused e)) [] u
     step-refused = record {
@@ -281,7 +278,7 @@ module _ {N E : Type 0} (v : Values N) (s s1 mid1 : PagerState N E) (leaf : Leaf
                 refused = inr (
                   load,
                   record { stands_open = begun.opened; own = refl },
-                  subst (λ q. FetchCall core leaf.key q mid1.core) of_error got,
+                  rw of_error at got,
                 );
               },
             ));

@@ -4,7 +4,7 @@ use Rattle.pagable_load.proofs.PinsAndReads.{begun_is}
 use Rattle.pagable_load.specs.{AccessView.{AsksFor, IfKnown, IsMade, MakesCallBringing}, PinStart.StartsPin, declared.access.PinStart.PinStart}
 use Rattle.pagable_pager.proofs.Invariant.{in-step, less, swept}
 use Rattle.pagable_pager.specs.{
-  View.{Calls, ChangesOnlyStorage, FewerValues, IsPager, KeepsWorkers, PagerView, SameValues, TakesEntry, Telling, ValuesByNode, from_cache_or_store},
+  View.{Calls, ChangesOnlyStorage, FewerValues, IsPager, KeepsWorkers, PagerView, SameValues, Storages, TakesEntry, ValuesByNode, from_cache_or_store},
   View.{may_call, pager_core, pager_state, value_in},
 }
 use Rattle.pagable_pager_spec.specs.{
@@ -49,7 +49,7 @@ use Rattle.pagable_pager_spec.specs.Pager as pager
 -- ---- what a lent pager's calls tell as those of an access; and what a worker does, for an entry of the list or without one
 
 -- what a call does to a pager of which no value comes
-module _ {N S E : Type 0} (tells : Telling S) (v : E → Values N) (p q : PagerView N S E) where
+module _ {N S E H K V : Type 0} (tells : Storages S E N H K V) (v : E → Values N) (p q : PagerView N S E) where
   pub called_fewer : (D : Core → Type 0) → D (pager_core tells q) → FewerValues p q → IsPagerWhole (v q.environment) (pager_state tells q)
       → MakesCall (v p.environment) D (pager_state tells p) (pager_state tells q)
   called_fewer D step only whole = grind (arith, nat_tests)
@@ -62,7 +62,7 @@ module _ {N S E : Type 0} (tells : Telling S) (v : E → Values N) (p q : PagerV
 module _ {N S E : Type 0} {p q : PagerView N S E} where
   pub fewer_of_same : SameValues p q → FewerValues p q
   fewer_of_same only = record {
-    values = λ n x has. subst (λ (values : ValuesByNode N). value_in values n ≡ Some x) only.values has;
+    values = λ n x has. rw only.values at has;
     environment = only.environment;
   }
 
@@ -117,9 +117,9 @@ pub found-made : {B : Type 0} (see : B → Blob) {w w' : Core} {me : Owner} {l :
     → AsksFor see w me l kind key (Ok (Either.Left r)) w'
 found-made {B} see {w} {w'} {me} {l} {kind} {key} {r} {k} given is same made ask =
     let found : LoadFetchCall w me l (FetchTarget.Nested kind key) (Ok (from_cache k)) w' =
-    subst (λ x. LoadFetchCall w me l (FetchTarget.Nested kind key) (Ok (from_cache_or_store see x)) w') is ask in
+    rw is at ask in
     record {
-      asked = subst (λ x. LoadFetchCall w me l (FetchTarget.Nested kind key) (Ok (from_cache x)) w') (sym same) found;
+      asked = rw (← same) at found;
       made = made (known_live found.gives.2);
     }
 
@@ -194,7 +194,7 @@ module _ {N E : Type 0} {v : Values N} {s : PagerState N E} (is : IsPagerWhole v
       → ValueCall s h (Ok (option_map (λ x. see (g x)) r))
   lends n x0 see g value l = grind (arith, nat_tests, pinned-here, row-held, row-pins)
 
-module _ {N S E : Type 0} (tells : Telling S) (p : PagerView N S E) (rows : p.tables.ref_counts.handles.places.items ≡ [])
+module _ {N S E H K V : Type 0} (tells : Storages S E N H K V) (p : PagerView N S E) (rows : p.tables.ref_counts.handles.places.items ≡ [])
     (nodes : (n : ℕ) → counts_at p.tables.ref_counts.nodes n ≡ None)
     (list : p.tables.ref_counts.list.items ≡ []) (cache : (kind key : ℕ) → cached_at p.tables.cache kind key ≡ None) (none : (n : ℕ) → row_by p.values n ≡ None)
   where
@@ -203,10 +203,10 @@ module _ {N S E : Type 0} (tells : Telling S) (p : PagerView N S E) (rows : p.ta
     is-new loads workers last = grind (arith, nat_tests)
 
 -- what the storage tells is that it is empty and closed
-module _ {N S E : Type 0} {tells : Telling S} {says : E → Values N} {p : PagerView N S E} (is : IsPager tells says p) (s : S) (t : Tables)
+module _ {N S E H K V : Type 0} {tells : Storages S E N H K V} {says : E → Values N} {p : PagerView N S E} (is : IsPager tells says p) (s : S) (t : Tables)
     (values : ValuesByNode N)
-    (empty : (key : ℕ) → (tells s).stored key ≡ None) (shut : (tells s).closed ≡ true)
-    (call : CloseCall (pager_core tells p) (Ok tt) (core_of t (shut_view (tells s).failures))) (whole : IsWhole t)
+    (empty : (key : ℕ) → tells.stored s key ≡ None) (shut : tells.is_closed s ≡ true)
+    (call : CloseCall (pager_core tells p) (Ok tt) (core_of t (shut_view (tells.failed s)))) (whole : IsWhole t)
     (drops : DropsValues (counts_at p.tables.ref_counts.nodes) (row_by p.values) (counts_at t.ref_counts.nodes) (row_by values)) where
   abbrev new : PagerView N S E
   new = record p { tables = t; values = values; storage = s }

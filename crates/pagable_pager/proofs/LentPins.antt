@@ -43,7 +43,7 @@ module _ {N E : Type 0} (v : Values N) (s mid : PagerState N E) (leaf : Leaf) (l
     where
       runs-so : (answer : LoadAnswer N) → RunsLoad v me own mid answer t → LoadRun v Owner.Caller (rooted_reading l leaf.key leaf.node_type blob) mid answer t
       runs-so answer runs =
-          let r : RunsLoad v Owner.Caller own mid answer t = subst (λ m. RunsLoad v m own mid answer t) mine runs in
+          let r : RunsLoad v Owner.Caller own mid answer t = rw mine at runs in
           subst (λ (q : Reading). LoadRun v Owner.Caller q mid answer t) rooted (r.run open-load)
 
       pub loads-ended : (r : Result HandleNumber Error) → EndsCellLoad v me own mid r t → LeafLoads v s leaf blob r t
@@ -53,37 +53,36 @@ module _ {N E : Type 0} (v : Values N) (s mid : PagerState N E) (leaf : Leaf) (l
       -- by what is told in the same environment
       pub loads-told : {F : Type 0} (says : F → Values N) {e1 e0 : F} → e1 ≡ e0 → says e0 ≡ v → (r : Result HandleNumber Error)
           → EndsCellLoad (says e1) me own mid r t → LeafLoads v s leaf blob r t
-      loads-told says same is r ends = loads-ended r (subst (λ w. EndsCellLoad w me own mid r t) (ap says same ∙ is) ends)
+      loads-told says same is r ends = loads-ended r (rw (ap says same ∙ is) at ends)
 
 -- ---- a pin of a cell whose value is away, once its blob has come
 
 module _ {N E : Type 0} (says : E → Values N) {e1 e0 : E} (same : e1 ≡ e0) {s s1 : PagerState N E} {leaf : Leaf} {blob : Blob}
     (f : LeafFetched (says e0) s leaf blob s1) {h : HandleNumber} (number : leaf.row.number ≡ h) where
   is-refused : (e : Error) (u : PagerState N E) → PinRun (says e0) s leaf.row.number (Err e) u → PinsPagedOut (says e0) s h (Err e) u
-  is-refused e u run = record { goes = tt; refused = subst (λ q. PinRun (says e0) s q (Err e) u) number run }
+  is-refused e u run = record { goes = tt; refused = rw number at run }
 
   is-pinned : (k : HandleNumber) (u : PagerState N E) → PinRun (says e0) s leaf.row.number (Ok k) u → PinsPagedOut (says e0) s h (Ok (Some k)) u
   is-pinned k u run = record {
-    goes = (subst (λ q. PinRun (says e0) s q (Ok k) u) number run, subst (λ q. is_unpinned_at s.core q ≡ true) number f.unpinned);
+    goes = (rw number at run, rw number at f.unpinned);
     refused = tt;
   }
 
   pub away-loads-refused : (e : Error) (u : PagerState N E) → LeafLoads (says e1) s1 leaf blob (Err e) u → PinsPagedOut (says e0) s h (Err e) u
-  away-loads-refused e u loads = is-refused e u (loads-refused f (subst (λ q. LeafLoads (says q) s1 leaf blob (Err e) u) same loads))
+  away-loads-refused e u loads = is-refused e u (loads-refused f (rw same at loads))
 
   pub away-loads-pinned : (k : HandleNumber) (u : PagerState N E) → LeafLoads (says e1) s1 leaf blob (Ok k) u → PinsPagedOut (says e0) s h (Ok (Some k)) u
-  away-loads-pinned k u loads = is-pinned k u (loads-pinned f (subst (λ q. LeafLoads (says q) s1 leaf blob (Ok k) u) same loads))
+  away-loads-pinned k u loads = is-pinned k u (loads-pinned f (rw same at loads))
 
   pub away-dropped : (e : Error) (u : PagerState N E) → (e ≡ Error.OutOfMemory) × LeafDropped (says e1) s1 leaf u → PinsPagedOut (says e0) s h (Err e) u
   away-dropped e u (wanting, dropped) =
-      is-refused e u (subst (λ q. PinRun (says e0) s leaf.row.number (Err q) u) (sym wanting)
-      (dropped-run f (subst (λ q. LeafDropped (says q) s1 leaf u) same dropped)))
+      is-refused e u (rw (← wanting) at (dropped-run f (rw same at dropped)))
 
   pub away-pinned : (x : N) (k : HandleNumber) (u : PagerState N E) → IsReadAs (says e1) leaf.node_type blob [] x → (says e1).references x ≡ []
       → LeafPinned (says e1) s1 leaf x k u → PinsPagedOut (says e0) s h (Ok (Some k)) u
-  away-pinned x k u read bare pinned = is-pinned k u (pinned-run f (subst (λ q. IsReadAs (says q) leaf.node_type blob [] x) same read)
-      (subst (λ q. (says q).references x ≡ []) same bare)
-      (subst (λ q. LeafPinned (says q) s1 leaf x k u) same pinned))
+  away-pinned x k u read bare pinned = is-pinned k u (pinned-run f (rw same at read)
+      (rw same at bare)
+      (rw same at pinned))
 
 -- ---- the value that a new pin shares
 
@@ -95,4 +94,4 @@ module _ {N E : Type 0} (v : Values N) (h k : HandleNumber) where
   pub back-so : {me : Owner} → me ≡ Owner.Caller → (told other : Result (Unit {0}) Error) (s low t : PagerState N E)
       → MakesCall v (λ w'. UnpinCall s.core me h told w') s low → MakesCall v (λ w'. ReleaseCall low.core me k other w') low t → TakesBack v true h k s t
   back-so {me} mine told other s low t unpins releases = takes_back v h mine k true s low t other
-      (told, subst (λ m. MakesCall v (λ w'. UnpinCall s.core m h told w') s low) mine unpins) releases
+      (told, rw mine at unpins) releases

@@ -1,12 +1,14 @@
 -- Bringing a value keeps the pager's invariant: with a new node, as what a load has read, or to a load's cell.
 use Rattle.pagable_pager.proofs.Invariant.{caller-free, here-in, here-told, in-step, left-map, some-map}
-use Rattle.pagable_pager.specs.View.{IsPager, PagerView, Telling, ValuesByNode, pager_core, pager_state, value_in, with_value}
+use Rattle.pagable_pager.specs.{
+  View.{BringsAtNewNode, BringsToCell, IsPager, PagerView, Storages, ValuesByNode, pager_core, pager_state, storage_view, value_in, with_value},
+}
 use Rattle.pagable_pager_spec.specs.{
   Basics.{Error, if_there, updated},
   Calls.{InsertCall, IsNext, insert_fault},
   Kinds.is_pinning,
   LoadCalls.{AdoptCall, Adopts, DropCall, EndCall, EndRefused, Installs, MayEnd, adopt_fault, adopted, end_fault, first_key},
-  Pager.{IsCellOf, IsNewNode, Moves},
+  Pager.IsCellOf,
   Refusals.{Refused, load_fault, references_fault},
   World.{Alike, Core, OpenLoad, Values, greatest, is_here, usable},
   declared.{handle_row.Owner.Owner, mode.Mode.Mode},
@@ -45,13 +47,14 @@ birth-past : {N : Type 0} {w w1 w' : Core} {x : N} (me : Owner) (t t' : ℕ) (rs
     → w1.last.node < greatest → t ≡ t' → rs ≡ rs' → InsertsNode w1 me t 0 rs mode k w' → InsertCall w me x t' rs' mode (Ok k) w'
 birth-past {N} {w} {w1} {w'} {x} me t t' rs rs' mode k room fit left typed named b = grind (arith, nat_tests, born-past, next-past)
 
-module _ {N S E : Type 0} {tells : Telling S} {says : E → Values N} {p : PagerView N S E} (is : IsPager tells says p) {t1 : Tables} (values : ValuesByNode N)
+module _ {N S E H K V : Type 0} {tells : Storages S E N H K V} {says : E → Values N} {p : PagerView N S E} (is : IsPager tells says p) {t1 : Tables}
+    (values : ValuesByNode N)
     (room : Does p.tables OnlyRoom t1) where
   abbrev roomy : PagerView N S E
   roomy = record p { tables = t1; values = values }
 
   pub only-room : OnlyRoom (pager_core tells p) (pager_core tells roomy)
-  only-room = room.does (tells p.storage)
+  only-room = room.does (storage_view tells p.storage)
 
   pub roomier : ((n : ℕ) → value_in values n ≡ value_in p.values n) → IsPager tells says roomy
   roomier same = in-step roomy room.whole (room.later is.later) (spared is.state (unmoved (room-alike only-room) is.state.whole.shut) same)
@@ -67,7 +70,7 @@ module _ {N S E : Type 0} {tells : Telling S} {says : E → Values N} {p : Pager
     pub told : (n : ℕ) → value_in values n ≡ (if n == next then Some x else value_in p.values n)
     told n = placed n ∙ ap (λ m. if n == m + 1 then Some x else value_in p.values n) (ap (λ (u : Core). u.last.node) only-room.same)
 
-    pub moved-in : Moves (λ n z. (z ≡ x) × IsNewNode (pager_core tells p) n) (pager_state tells p) (pager_state tells after)
+    pub moved-in : BringsAtNewNode tells x p after
     moved-in = let none_yet : value_in p.values next ≡ None = grind (arith, nat_tests) in grind (arith, nat_tests, cases_eq, none_yet, same_some, told)
 
     -- a node of the caller's
@@ -80,14 +83,12 @@ module _ {N S E : Type 0} {tells : Telling S} {says : E → Values N} {p : Pager
           (pager_core tells after)
       birth =
           let plain = room.does no_blobs in
-          let fine = fault-by (core_alone p.tables) (pager_core tells p) Owner.Caller [] rs ∙ sym (room-fault Owner.Caller rs plain) ∙ subst
-          (λ l. references_fault (core_alone t1) Owner.Caller [] l ≡ None) read fit in
+          let fine = fault-by (core_alone p.tables) (pager_core tells p) Owner.Caller [] rs ∙ sym (room-fault Owner.Caller rs plain) ∙ (rw read at fit) in
           birth-past Owner.Caller node_type ((says p.environment).node_type x) rs ((says p.environment).references x) mode k only-room fine left typed named
-          (bears.does (tells p.storage))
+          (bears.does (storage_view tells p.storage))
 
       pub born-told : InsertCall (pager_core tells p) Owner.Caller x ((says p.environment).node_type x) ((says p.environment).references x) mode (Ok k)
-          (pager_core tells after) × Moves (λ n z. (z ≡ x) × IsNewNode (pager_core tells p) n)
-          (pager_state tells p) (pager_state tells after)
+          (pager_core tells after) × BringsAtNewNode tells x p after
       born-told = (birth, moved-in)
 
       pub born-so : is_pinning mode ≡ true → IsPager tells says after
@@ -101,24 +102,23 @@ pub not-adopted : {N : Type 0} {w w' : Core} {me : Owner} {l : LoadNumber} {kind
     → Refused (adopt_fault w me l kind key t qs) (load_fault w me l) (Unit {0}) w e w' → AdoptCall w me l kind key x u refs (Err (e, y)) w'
 not-adopted {me = me} {l} typed named back r = rw (← typed, ← named) (record { adopts = tt; refused = (back, told-later me l r) })
 
-module _ {N S E : Type 0} {tells : Telling S} {says : E → Values N} {p q : PagerView N S E} (is : IsPager tells says p) (viewed : p ≡ q) (me : Owner)
+module _ {N S E H K V : Type 0} {tells : Storages S E N H K V} {says : E → Values N} {p q : PagerView N S E} (is : IsPager tells says p) (viewed : p ≡ q)
+    (me : Owner)
     (l : LoadNumber) (kind : Kind) (key : ℕ) (x : N)
     {rs : List ArcRef} (listed : rs ≡ (says p.environment).references x)
     (fresh : (storage : StorageView) → adopt_check_fault (core_of q.tables storage) me l kind
     ((says p.environment).node_type x) rs ≡ None) (unknown : usable (core_alone q.tables) kind.0 key ≡ None) where
   fresh-in : (storage : StorageView) → adopt_check_fault (core_of p.tables storage) me l kind ((says p.environment).node_type x) rs ≡ None
-  fresh-in storage = subst (λ (v : PagerView N S E). adopt_check_fault (core_of v.tables storage) me l kind ((says p.environment).node_type x) rs ≡ None)
-      (sym viewed)
-      (fresh storage)
+  fresh-in storage = rw (← viewed) at (fresh storage)
 
   unknown-in : usable (core_alone p.tables) kind.0 key ≡ None
-  unknown-in = subst (λ (v : PagerView N S E). usable (core_alone v.tables) kind.0 key ≡ None) (sym viewed) unknown
+  unknown-in = rw (← viewed) at unknown
 
   pub new-refused : {w' : Core} {e : Error} → Refused (insert_fault (pager_core tells p)) (insert_fault (pager_core tells p)) (Unit {0})
       (pager_core tells p) e w'
       → AdoptCall (pager_core tells p) me l kind key x ((says p.environment).node_type x) ((says p.environment).references x) (Err (e, x)) w'
   new-refused r = not-adopted refl listed refl (refused-new (pager_core tells p) me l kind key ((says p.environment).node_type x) rs
-      (fresh-in (tells p.storage)) unknown-in r)
+      (fresh-in (storage_view tells p.storage)) unknown-in r)
 
   pub new-asked : {t1 : Tables} → Does p.tables OnlyRoom t1 → adopt_check_fault (core_alone t1) me l kind ((says p.environment).node_type x) rs ≡ None
   new-asked room = early-past me l kind ((says p.environment).node_type x) rs (room.does no_blobs) ∙ fresh-in no_blobs
@@ -130,28 +130,27 @@ module _ {N S E : Type 0} {tells : Telling S} {says : E → Values N} {p q : Pag
     pub new-memory : {y : N} → y ≡ x → AdoptCall (pager_core tells p) me l kind key x ((says p.environment).node_type x) ((says p.environment).references x)
         (Err (Error.OutOfMemory, y)) (pager_core tells (record p { tables = t1; values = values }))
     new-memory back = not-adopted refl listed back (refused-memory (pager_core tells p) me l kind key ((says p.environment).node_type x) rs
-        (fresh-in (tells p.storage))
+        (fresh-in (storage_view tells p.storage))
         (only-room is values room))
 
     module _ (placed : (n : ℕ) → value_in values n ≡ updated (t1.last_node + 1) (Some x) (value_in p.values) n) (t2 : Tables) {k : HandleNumber} {b : Bool}
-        (opens : b ≡ (tells p.storage).closed)
+        (opens : b ≡ tells.is_closed p.storage)
         (left : t1.last_node < greatest) (does : Does t1 (λ w w'. IsNext k w
         × (not b ≡ not w.closed → Alike (adopted w l kind key (first_key kind.0 key) rs) w')) t2) where
       abbrev learned : PagerView N S E
       learned = record p { tables = t2; values = values }
 
       leaves : Alike (adopted (pager_core tells p) l kind key (first_key kind.0 key) rs) (pager_core tells learned)
-      leaves = adopted-past l kind key (first_key kind.0 key) rs (only-room is values room) ((does.does (tells p.storage)).1 (ap not opens))
+      leaves = adopted-past l kind key (first_key kind.0 key) rs (only-room is values room) ((does.does (storage_view tells p.storage)).1 (ap not opens))
 
       adopts : Adopts (pager_core tells p) me l kind key ((says p.environment).node_type x) ((says p.environment).references x) k (pager_core tells learned)
-      adopts = subst (λ z. Adopts (pager_core tells p) me l kind key ((says p.environment).node_type x) z k (pager_core tells learned)) listed
-          (made-new (pager_core tells p) me l kind key ((says p.environment).node_type x) rs (fresh-in (tells p.storage)) unknown-in k
+      adopts = rw listed at (made-new (pager_core tells p) me l kind key ((says p.environment).node_type x) rs
+          (fresh-in (storage_view tells p.storage)) unknown-in k
           (subst (λ (u : Core). u.last.node < greatest) (only-room is values room).same left)
-          (next-past (only-room is values room) (does.does (tells p.storage)).0) leaves)
+          (next-past (only-room is values room) (does.does (storage_view tells p.storage)).0) leaves)
 
       pub new-told : AdoptCall (pager_core tells p) me l kind key x ((says p.environment).node_type x) ((says p.environment).references x) (Ok k)
-          (pager_core tells learned) × Moves (λ n z. (z ≡ x) × IsNewNode (pager_core tells p) n)
-          (pager_state tells p) (pager_state tells learned)
+          (pager_core tells learned) × BringsAtNewNode tells x p learned
       new-told = (record { adopts = adopts; refused = tt }, moved-in is values room t2 x placed)
 
       pub new-so : IsPager tells says learned
@@ -169,15 +168,15 @@ came false node x values at there was n = let here = there refl in grind (arith,
 
 pub ready-told : {w : Core} {me : Owner} {l : LoadNumber} {t t' : ℕ} {refs refs' : List ArcRef} {r : Ending} → t ≡ t' → refs ≡ refs' → IsReady w me l t refs r
     → IsReady w me l t' refs' r
-ready-told {w} {me} {l} {t} {t'} {refs} {refs'} {r} typed named is = subst (λ k. IsReady w me l k refs' r) typed (subst (λ k. IsReady w me l t k r) named is)
+ready-told typed named is = rw (← typed, ← named) is
 
 -- the pager after a load has ended with a pin
-module _ {N S E : Type 0} {tells : Telling S} {says : E → Values N} {p : PagerView N S E} (is : IsPager tells says p) (x : N) {t1 t2 : Tables}
+module _ {N S E H K V : Type 0} {tells : Storages S E N H K V} {says : E → Values N} {p : PagerView N S E} (is : IsPager tells says p) (x : N) {t1 t2 : Tables}
     (mid values : ValuesByNode N) {me : Owner} {l : LoadNumber}
     {node_type : ℕ} {qs rs : List ArcRef} {r : Ending} {k : HandleNumber} {b : Bool} (typed : node_type ≡ (says p.environment).node_type x) (read : qs ≡ rs)
     (listed : rs ≡ (says p.environment).references x) (room : Does p.tables OnlyRoom t1) (nodes : t1.ref_counts.nodes ≡ p.tables.ref_counts.nodes)
     (prepared : (storage : StorageView) → IsReady (core_of t1 storage) me l node_type qs r)
-    (done : Does t1 (λ w w'. not b ≡ not w.closed → Installs w me l r.row.node r.row.number k rs w') t2) (opens : b ≡ (tells p.storage).closed)
+    (done : Does t1 (λ w w'. not b ≡ not w.closed → Installs w me l r.row.node r.row.number k rs w') t2) (opens : b ≡ tells.is_closed p.storage)
     (placed : (n : ℕ) → value_in mid n ≡ with_value r.lacks_value r.row.node.0 x (value_in p.values) n)
     (drops : DropsOtherValues r.row.node (counts_at t1.ref_counts.nodes) (row_by mid) (counts_at t2.ref_counts.nodes) (row_by values)) where
   abbrev w : Core
@@ -193,14 +192,14 @@ module _ {N S E : Type 0} {tells : Telling S} {says : E → Values N} {p : Pager
   wider = only-room is values room
 
   ready : IsReady (pager_core tells (record p { tables = t1 })) me l ((says p.environment).node_type x) ((says p.environment).references x) r
-  ready = ready-told typed (read ∙ listed) (prepared (tells p.storage))
+  ready = ready-told typed (read ∙ listed) (prepared (storage_view tells p.storage))
 
   may : MayEnd w me l r.row.node r.row.number ((says p.environment).node_type x) ((says p.environment).references x)
   may = may-wider wider ready.may
 
   was : Installs w me l r.row.node r.row.number k ((says p.environment).references x) w'
   was = installs-wider wider (subst (λ z. Installs (pager_core tells (record p { tables = t1 })) me l r.row.node r.row.number k z w') listed
-      (done.does (tells p.storage) (ap not opens)))
+      (done.does (storage_view tells p.storage) (ap not opens)))
 
   kept : (n : ℕ) → is_some (value_in p.values n) ≡ has_value (counts_at t1.ref_counts.nodes n)
   kept n = is.state.valued n ∙ here-in is n ∙ ap (λ ns. has_value (counts_at ns n)) (sym nodes)
@@ -254,7 +253,7 @@ module _ {N S E : Type 0} {tells : Telling S} {says : E → Values N} {p : Pager
       grind (arith, nat_tests, cases_eq)
 
   pub ended-told : EndCall w me l x ((says p.environment).node_type x) ((says p.environment).references x) (Ok k) w'
-      × Moves (λ n y. (y ≡ x) × IsCellOf w l n) (pager_state tells p) (pager_state tells p')
+      × BringsToCell tells l x p p'
   ended-told = (record { installs = (r.row.node, r.row.number, may, was); refused = tt }, record { each = comes; environment = refl })
 
 -- a load that doesn't end with the value stays open; or it is closed, where its end is in vain
@@ -268,7 +267,8 @@ module _ {N : Type 0} {w w' : Core} {me : Owner} {l : LoadNumber} {t u : ℕ} {q
   vain r (is, same) drop = let closes : EndRefused w me l x t qs e None w' =
       grind (arith, nat_tests, no-load-fault) in rw (← typed, ← named) (record { installs = tt; refused = closes })
 
-pub no-room : {N S E : Type 0} {tells : Telling S} {says : E → Values N} {p : PagerView N S E} → IsPager tells says p → {t : Tables} (values : ValuesByNode N)
+pub no-room : {N S E H K V : Type 0} {tells : Storages S E N H K V} {says : E → Values N} {p : PagerView N S E} → IsPager tells says p → {t : Tables}
+    (values : ValuesByNode N)
     → Does p.tables OnlyRoom t → {me : Owner} {l : LoadNumber} {x y : N} {u node_type : ℕ} {qs refs : List ArcRef} {r : Ending} → y ≡ x
     → IsReady (pager_core tells (record p { tables = t })) me l u qs r
     → EndCall (pager_core tells p) me l x node_type refs (Err (Error.OutOfMemory, Some y)) (pager_core tells (record p { tables = t; values = values }))

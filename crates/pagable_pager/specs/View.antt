@@ -1,13 +1,17 @@
 -- What contracts see of a pager and its open loads, and the core that they derive from it.
 use Rattle.either.specs.declared.Either.{Either}
-use Rattle.pagable_core.specs.declared.storage.traits.PagableStorage.{Ghosts as Storages}
+use Rattle.pagable_codec.specs.{
+  declared.{env.Env.Ghosts as Environments, hash.KeyHash.Ghosts as Hashes, nodes.NodeSet.Ghosts as Nodes},
+}
+pub use Rattle.pagable_core.specs.declared.storage.traits.PagableStorage.{Ghosts as Storages}
+use Rattle.pagable_load.specs.AccessView.{values_at}
 use Rattle.pagable_pager_spec.specs.{
   Access.MakesCall,
   Basics.{Blob, updated},
   Events.{IsEntry, with_entry_taken, with_worker},
   Kinds.{HasKinds, loose_kind},
   LoadCalls.{Given, from_cache, from_store},
-  Pager.{IsPagerWhole, PagerState},
+  Pager.{IsCellOf, IsNewNode, IsPagerWhole, Moves, PagerState},
   Refusals.OwnsLoad,
   World.{Alike, Core, OpenLoad, Root, Values, of_cell, of_key},
   declared.{calls.FetchTarget.FetchTarget, handle_row.{HandleRow.HandleRow, Owner.Owner}},
@@ -49,15 +53,15 @@ abbrev pub with_value : {N : Type 0} → Bool → ℕ → N → (ℕ → Option 
 with_value true n x values = updated n (Some x) values
 with_value false n x values = values
 
--- how each state of a storage is seen
-abbrev pub Telling : Type 0 → Type 0
-Telling S = S → StorageView
+-- what a storage has stored, whether it is closed, and how often it failed
+abbrev pub storage_view : {S E N H K V : Type 0} → Storages S E N H K V → S → StorageView
+storage_view tells s = record { stored = tells.stored s; closed = tells.is_closed s; failures = tells.failed s }
 
 -- the pager's core; below: with counts, values and environment
-abbrev pub pager_core : {N S E : Type 0} → Telling S → PagerView N S E → Core
-pager_core tells p = core_of p.tables (tells p.storage)
+abbrev pub pager_core : {N S E H K V : Type 0} → Storages S E N H K V → PagerView N S E → Core
+pager_core tells p = core_of p.tables (storage_view tells p.storage)
 
-abbrev pub pager_state : {N S E : Type 0} → Telling S → PagerView N S E → PagerState N E
+abbrev pub pager_state : {N S E H K V : Type 0} → Storages S E N H K V → PagerView N S E → PagerState N E
 pager_state tells p = record {
   core = pager_core tells p;
   counts = λ n. pins_in (counts_at p.tables.ref_counts.nodes n);
@@ -65,12 +69,35 @@ pager_state tells p = record {
   environment = p.environment;
 }
 
-abbrev pub storage_view : {S E N H K V : Type 0} → Storages S E N H K V → Telling S
-storage_view g s = record { stored = g.stored s; closed = g.is_closed s; failures = g.failed s }
+-- a relation of the pager's states before and after a call, over the values of its environment
+abbrev pub Between : {N S E H K V : Type 0} → Nodes N E N H K V → Environments E N H K V → Hashes H
+    → Storages S E N H K V → PagerView N S E → PagerView N S E
+    → (Values N → PagerState N E → PagerState N E → Type 0) → Type 0
+Between nodes environments hashes tells old new relates = relates
+    (values_at nodes environments hashes old.environment) (pager_state tells old) (pager_state tells new)
+
+-- the same, if the storage is honest after the call
+abbrev pub BetweenIfHonest : {N S E H K V : Type 0} → Nodes N E N H K V → Environments E N H K V → Hashes H
+    → Storages S E N H K V → PagerView N S E → PagerView N S E
+    → (Values N → PagerState N E → PagerState N E → Type 0) → Type 0
+BetweenIfHonest nodes environments hashes tells old new relates = IsTrue (tells.is_honest new.storage)
+    → Between nodes environments hashes tells old new relates
+
+-- no value comes into memory but x, at a new node; or at the node of the load's cell
+abbrev pub BringsAtNewNode : {N S E H K V : Type 0} → Storages S E N H K V → N → PagerView N S E → PagerView N S E
+    → Type 0
+BringsAtNewNode tells x old new = Moves (λ n y. (y ≡ x) × IsNewNode (pager_core tells old) n) (pager_state tells old)
+    (pager_state tells new)
+
+abbrev pub BringsToCell : {N S E H K V : Type 0} → Storages S E N H K V → LoadNumber → N → PagerView N S E
+    → PagerView N S E → Type 0
+BringsToCell tells l x old new = Moves (λ n y. (y ≡ x) × IsCellOf (pager_core tells old) l n) (pager_state tells old)
+    (pager_state tells new)
 
 -- The tables satisfy their invariant; the handles that loads and workers own are in their ranges; and the core
 -- satisfies the invariant for the environment's values.
-pub record IsPager {N S E : Type 0} (tells : Telling S) (says : E → Values N) (p : PagerView N S E) : Type 0 where
+pub record IsPager {N S E H K V : Type 0} (tells : Storages S E N H K V) (says : E → Values N)
+    (p : PagerView N S E) : Type 0 where
   pub tables : tables.IsWhole p.tables
   pub later : OwnLaterHandles p.tables
   pub state : IsPagerWhole (says p.environment) (pager_state tells p)
@@ -125,28 +152,27 @@ pub record KeepsWorkers (w w' : Core) : Type 0 where
   pub closed : w'.closed ≡ w.closed
 
 -- a call's step in the core, and what it leaves unchanged
-pub record Calls {N S E : Type 0} (Only : PagerView N S E → PagerView N S E → Type 0) (tells : Telling S)
-    (old : PagerView N S E) (makes : Core → Core → Type 0) (new : PagerView N S E) : Type 0 where
+pub record Calls {N S E H K V : Type 0} (Only : PagerView N S E → PagerView N S E → Type 0)
+    (tells : Storages S E N H K V) (old : PagerView N S E) (makes : Core → Core → Type 0)
+        (new : PagerView N S E) : Type 0 where
   pub step : makes (pager_core tells old) (pager_core tells new)
   pub only : Only old new
 
 -- A call of the storage: its step in the core, if the storage is honest afterwards. In any case nothing else
 -- changes, the storage is closed exactly if it was, and a storage that is honest afterwards was honest before.
-pub record AsksStorage {N S E : Type 0} (is_honest : S → Bool) (tells : Telling S) (old : PagerView N S E)
+pub record AsksStorage {N S E H K V : Type 0} (tells : Storages S E N H K V) (old : PagerView N S E)
     (makes : Core → Core → Type 0) (new : PagerView N S E) : Type 0 where
-  pub step : IsTrue (is_honest new.storage) → makes (pager_core tells old) (pager_core tells new)
-  pub honest : IsTrue (is_honest new.storage) → IsTrue (is_honest old.storage)
-  pub closed : (tells new.storage).closed ≡ (tells old.storage).closed
+  pub step : IsTrue (tells.is_honest new.storage) → makes (pager_core tells old) (pager_core tells new)
+  pub honest : IsTrue (tells.is_honest new.storage) → IsTrue (tells.is_honest old.storage)
+  pub closed : tells.is_closed new.storage ≡ tells.is_closed old.storage
   pub only : ChangesOnlyStorage old new
 
 -- a call that brings no value into memory, and keeps the pager's invariant
-pub record CallsKeepingInvariant {N S E : Type 0} (Only : PagerView N S E → PagerView N S E → Type 0)
-    (tells : Telling S)
-    (says : E → Values N) (old : PagerView N S E) (makes : Core → Core → Type 0)
-    (new : PagerView N S E) : Type 0 where
+pub record CallsKeepingInvariant {N S E H K V : Type 0} (tells : Storages S E N H K V) (says : E → Values N)
+    (old : PagerView N S E) (makes : Core → Core → Type 0) (new : PagerView N S E) : Type 0 where
   pub called : MakesCall (says old.environment) (makes (pager_core tells old)) (pager_state tells old)
       (pager_state tells new)
-  pub only : Only old new
+  pub only : AddsNoValue old new
 
 -- ---- what an open load reads
 

@@ -6,7 +6,7 @@ ghost use Rattle.pagable_core.specs.Data.{blob_of};
 ghost use Rattle.pagable_load.specs.AccessView.{values_at};
 ghost use Rattle.pagable_pager.specs.{
   Leaf.{LeafLoads, PinsPagedOut},
-  View.{AddsNoValue, Calls, ChangesOnlyTables, may_call, pager_core, pager_state, storage_view},
+  View.{AddsNoValue, BetweenIfHonest, Calls, ChangesOnlyTables, may_call, pager_core, pager_state},
 };
 ghost use Rattle.pagable_pager_spec.specs.{
   Calls.{ClearCall, OfferCall, RecallCall},
@@ -40,7 +40,7 @@ use std::sync::Arc;
 pub struct Lent<'a, E: Env<Node: NodeSet<E>>, S: PagableStorage<E>> {
     pager: &'a mut Pager<E, S>,
     me: Owner,
-    ghost at_work: { may_call (pager_core (storage_view S.PagableStorage) pager.now) me ≡ true },
+    ghost at_work: { may_call (pager_core S.PagableStorage pager.now) me ≡ true },
 }
 
 impl<'a, E: Env<Node: NodeSet<E>>, S: PagableStorage<E>> Lent<'a, E, S> {
@@ -58,7 +58,7 @@ impl<'a, E: Env<Node: NodeSet<E>>, S: PagableStorage<E>> Lent<'a, E, S> {
 
     /// Creates the access of a worker. The caller makes sure that the worker is at work.
     pub fn for_worker(pager: &'a mut Pager<E, S>, worker: WorkerNumber) -> Lent<'a, E, S>
-        requires { (pager_core (storage_view S.PagableStorage) pager.old).workers worker.0 ≡ true }
+        requires { (pager_core S.PagableStorage pager.old).workers worker.0 ≡ true }
         ensures lent { result.pager.ghost_name ≡ pager.entry.ghost_name }
         ensures same { result.pager.now ≡ pager.old }
         ensures me { result.me ≡ Owner.Worker worker }
@@ -117,10 +117,8 @@ impl<'a, E: Env<Node: NodeSet<E>>, S: PagableStorage<E>> Lent<'a, E, S> {
         handle: HandleNumber,
     ) -> Result<Option<HandleNumber>, Error>
         requires caller { self.old.me ≡ Owner.Caller }
-        ensures goes { IsTrue (S.is_honest self.new.pager.now.storage)
-            → PinsPagedOut (values_at E.Node.NodeSet E.Env E.Hash.KeyHash self.old.pager.now.environment)
-            (pager_state (storage_view S.PagableStorage) self.old.pager.now) handle result
-            (pager_state (storage_view S.PagableStorage) self.new.pager.now) }
+        ensures goes { BetweenIfHonest E.Node.NodeSet E.Env E.Hash.KeyHash S.PagableStorage self.old.pager.now
+            self.new.pager.now (λ v s s'. PinsPagedOut v s handle result s') }
         ensures honest { IsTrue (S.is_honest self.new.pager.now.storage)
             → IsTrue (S.is_honest self.old.pager.now.storage) }
         ensures lender { self.new.pager.ghost_name ≡ self.old.pager.ghost_name }
@@ -148,12 +146,10 @@ impl<'a, E: Env<Node: NodeSet<E>>, S: PagableStorage<E>> Lent<'a, E, S> {
         blob: Arc<PagableData>,
     ) -> Result<HandleNumber, Error>
         requires caller { self.old.me ≡ Owner.Caller }
-        requires leaf { IsLeaf (pager_core (storage_view S.PagableStorage) self.old.pager.now) Owner.Caller leaf }
+        requires leaf { IsLeaf (pager_core S.PagableStorage self.old.pager.now) Owner.Caller leaf }
         requires place { 1 ≤ room self.old.pager.now.tables.ref_counts.handles }
-        ensures loads { IsTrue (S.is_honest self.new.pager.now.storage)
-            → LeafLoads (values_at E.Node.NodeSet E.Env E.Hash.KeyHash self.old.pager.now.environment)
-            (pager_state (storage_view S.PagableStorage) self.old.pager.now) leaf (blob_of (arc_value blob)) result
-            (pager_state (storage_view S.PagableStorage) self.new.pager.now) }
+        ensures loads { BetweenIfHonest E.Node.NodeSet E.Env E.Hash.KeyHash S.PagableStorage self.old.pager.now
+            self.new.pager.now (λ v s s'. LeafLoads v s leaf (blob_of (arc_value blob)) result s') }
         ensures honest { IsTrue (S.is_honest self.new.pager.now.storage)
             → IsTrue (S.is_honest self.old.pager.now.storage) }
         ensures lender { self.new.pager.ghost_name ≡ self.old.pager.ghost_name }
@@ -175,7 +171,7 @@ fn with_invariant<E: Env<Node: NodeSet<E>>, S: PagableStorage<E>, X: Drop>(
 ) -> X
     ensures same { result ≡ answer }
     ensures whole { IsPagerWhole (values_at E.Node.NodeSet E.Env E.Hash.KeyHash pager.now.environment)
-        (pager_state (storage_view S.PagableStorage) pager.now) }
+        (pager_state S.PagableStorage pager.now) }
 {
     pager.assert_invariant();
     answer
@@ -183,10 +179,10 @@ fn with_invariant<E: Env<Node: NodeSet<E>>, S: PagableStorage<E>, X: Drop>(
 
 impl<'a, E: Env<Node: NodeSet<E>>, S: PagableStorage<E>> Access<E> for Lent<'a, E, S> {
     ghost use Rattle.std.specs.Prelude.{None, Some, if◌then◌else◌};
-    ghost use Rattle.pagable_pager.specs.View.{pager_state, storage_view};
+    ghost use Rattle.pagable_pager.specs.View.{pager_state};
 
     ghost known_state = { λ l. if S.is_honest l.pager.now.storage then Some
-        (pager_state (storage_view S.PagableStorage) l.pager.now) else None };
+        (pager_state S.PagableStorage l.pager.now) else None };
 
     ghost acting = { λ l. record { me = l.me; environment = l.pager.now.environment; lender = l.pager.ghost_name } };
 
@@ -449,7 +445,7 @@ impl<'a, E: Env<Node: NodeSet<E>>, S: PagableStorage<E>> DeserializedArcCache<'a
     /// - those of `Pager::cache_get`.
     pub fn get(&mut self, kind: Kind, key: DataKey) -> Result<Option<HandleNumber>, Error>
         ensures lent { self.new.pager.ghost_name ≡ self.old.pager.ghost_name }
-        ensures calls { Calls ChangesOnlyTables (storage_view S.PagableStorage) self.old.pager.now
+        ensures calls { Calls ChangesOnlyTables S.PagableStorage self.old.pager.now
             (λ w w'. RecallCall w Owner.Caller kind key result w') self.new.pager.now }
     {
         self.pager.cache_get(kind, key)
@@ -464,7 +460,7 @@ impl<'a, E: Env<Node: NodeSet<E>>, S: PagableStorage<E>> DeserializedArcCache<'a
     pub fn get_or_create_cell(&mut self, kind: Kind, key: DataKey) -> Result<ArcCell, Error>
         ensures lent { self.new.pager.ghost_name ≡ self.old.pager.ghost_name }
         ensures place { IfOk result (λ cell. (cell.kind ≡ kind) × (cell.key ≡ key)) }
-        ensures calls { Calls ChangesOnlyTables (storage_view S.PagableStorage) self.old.pager.now
+        ensures calls { Calls ChangesOnlyTables S.PagableStorage self.old.pager.now
             (λ w w'. RecallCall w Owner.Caller kind key (result_map (λ cell. cell.handle) result) w')
             self.new.pager.now }
     {
@@ -486,7 +482,7 @@ impl<'a, E: Env<Node: NodeSet<E>>, S: PagableStorage<E>> DeserializedArcCache<'a
         handle: HandleNumber,
     ) -> Result<Option<HandleNumber>, Error>
         ensures lent { self.new.pager.ghost_name ≡ self.old.pager.ghost_name }
-        ensures calls { Calls AddsNoValue (storage_view S.PagableStorage) self.old.pager.now
+        ensures calls { Calls AddsNoValue S.PagableStorage self.old.pager.now
             (λ w w'. OfferCall w Owner.Caller kind key handle result w') self.new.pager.now }
     {
         self.pager.on_arc_deserialized(kind, key, handle)
@@ -495,7 +491,7 @@ impl<'a, E: Env<Node: NodeSet<E>>, S: PagableStorage<E>> DeserializedArcCache<'a
     /// Empties the cache. Never fails.
     pub fn clear(&mut self) -> Result<(), Error>
         ensures lent { self.new.pager.ghost_name ≡ self.old.pager.ghost_name }
-        ensures calls { Calls ChangesOnlyTables (storage_view S.PagableStorage) self.old.pager.now
+        ensures calls { Calls ChangesOnlyTables S.PagableStorage self.old.pager.now
             (λ w w'. ClearCall w result w') self.new.pager.now }
     {
         self.pager.cache_clear()

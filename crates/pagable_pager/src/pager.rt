@@ -7,7 +7,7 @@ ghost use Rattle.pagable_load.specs.{AccessView.values_at, PinStart.Shares};
 ghost use Rattle.pagable_pager.specs.{
   Polling.PollCall,
   View.{AsksStorage, Calls, ChangesOnlyTables, FewerValues, FitsWant, KeepsWorkers, ReadsAs, SameValues},
-  View.{from_cache_or_store, may_call, pager_core, pager_state, storage_view, type_of_root},
+  View.{from_cache_or_store, may_call, pager_core, pager_state, type_of_root},
 };
 ghost use Rattle.pagable_pager_spec.specs.{
   Calls.{CloseCall, FetchCall, FlushCall, StoreCall},
@@ -61,7 +61,7 @@ pub struct Pager<E: Env<Node: NodeSet<E>>, S: PagableStorage<E>> {
 
 impl<E: Env<Node: NodeSet<E>>, S: PagableStorage<E>> Model for Pager<E, S> {
     ghost use Rattle.std.specs.Coded.{codes};
-    ghost use Rattle.{pagable_load.specs.AccessView.values_at, pagable_pager.specs.{Setting.environment_of, View.{PagerView, IsPager, storage_view}}, indexmap.specs.Layout.hash_map_code};
+    ghost use Rattle.{pagable_load.specs.AccessView.values_at, pagable_pager.specs.{Setting.environment_of, View.{PagerView, IsPager}}, indexmap.specs.Layout.hash_map_code};
 
     ghost Value = { PagerView E.Node S E };
 
@@ -74,7 +74,7 @@ impl<E: Env<Node: NodeSet<E>>, S: PagableStorage<E>> Model for Pager<E, S> {
       environment = environment_of p.setting;
     } };
 
-    ghost invariant = { λ p. IsPager (storage_view S.PagableStorage) (values_at E.Node.NodeSet E.Env E.Hash.KeyHash)
+    ghost invariant = { λ p. IsPager S.PagableStorage (values_at E.Node.NodeSet E.Env E.Hash.KeyHash)
         (record {
           tables = p.tables;
           values = p.values;
@@ -97,7 +97,7 @@ pub(crate) fn cell_type(root: LoadRoot) -> Option<u32>
 impl<E: Env<Node: NodeSet<E>>, S: PagableStorage<E>> Pager<E, S> {
     /// Creates an empty pager over a storage, which may hold blobs. It allocates nothing.
     pub fn new(alloc: Global, storage: S, env: E) -> Pager<E, S>
-        ensures empty { IsNew (pager_state (storage_view S.PagableStorage) result) }
+        ensures empty { IsNew (pager_state S.PagableStorage result) }
         ensures storage { result.storage ≡ storage }
         ensures environment { result.environment ≡ env }
     {
@@ -113,7 +113,7 @@ impl<E: Env<Node: NodeSet<E>>, S: PagableStorage<E>> Pager<E, S> {
     /// session that are also used without the pager, as by threads outside its lock. It allocates
     /// nothing.
     pub fn with_shared_setting(alloc: Global, storage: S, setting: Arc<Setting<E>>) -> Pager<E, S>
-        ensures empty { IsNew (pager_state (storage_view S.PagableStorage) result) }
+        ensures empty { IsNew (pager_state S.PagableStorage result) }
         ensures storage { result.storage ≡ storage }
         ensures environment { result.environment ≡ (arc_value setting).env }
     {
@@ -127,7 +127,7 @@ impl<E: Env<Node: NodeSet<E>>, S: PagableStorage<E>> Pager<E, S> {
 
     /// Lends the value of a handle's node, if the handle pins it. Fails with NoSuchHandle only.
     fn pinned_value(&self, handle: HandleNumber) -> Result<Option<&Arc<E::Node>>, Error>
-        ensures { ValueCall (pager_state (storage_view S.PagableStorage) self.now) handle
+        ensures { ValueCall (pager_state S.PagableStorage self.now) handle
             (result_map (option_map (λ x. arc_value x.now)) result) }
     {
         match queries::pinned_node(&self.tables, handle) {
@@ -143,7 +143,7 @@ impl<E: Env<Node: NodeSet<E>>, S: PagableStorage<E>> Pager<E, S> {
     ///
     /// - `NoSuchHandle` if the handle isn't live.
     pub fn value(&self, handle: HandleNumber) -> Result<Option<&E::Node>, Error>
-        ensures { ValueCall (pager_state (storage_view S.PagableStorage) self.now) handle
+        ensures { ValueCall (pager_state S.PagableStorage self.now) handle
             (result_map (option_map (λ x. x.now)) result) }
     {
         match self.pinned_value(handle) {
@@ -160,7 +160,7 @@ impl<E: Env<Node: NodeSet<E>>, S: PagableStorage<E>> Pager<E, S> {
     /// - `NoSuchHandle` if the handle isn't live.
     /// - `OutOfMemory` if the value can't be shared once more.
     pub fn share(&self, handle: HandleNumber) -> Result<Option<Arc<E::Node>>, Error>
-        ensures { Shares arc_value (pager_state (storage_view S.PagableStorage) self.now) handle result }
+        ensures { Shares arc_value (pager_state S.PagableStorage self.now) handle result }
     {
         match self.pinned_value(handle) {
             Ok(Some(value)) => Ok(Some(value.clone()?)),
@@ -186,14 +186,14 @@ impl<E: Env<Node: NodeSet<E>>, S: PagableStorage<E>> Pager<E, S> {
     /// before it returns; but workers are at work between the steps of a `Machine`, and between
     /// those of a page-out that takes a lock for each step.
     pub fn is_at_rest(&self) -> bool
-        ensures { result ≡ true → (v : ℕ) → (pager_core (storage_view S.PagableStorage) self.now).workers v ≡ false }
+        ensures { result ≡ true → (v : ℕ) → (pager_core S.PagableStorage self.now).workers v ≡ false }
     {
         self.tables.workers.is_empty()
     }
 
     /// Returns whether this page-out worker is at work on this pager.
     pub fn has_worker(&self, worker: WorkerNumber) -> bool
-        ensures { result ≡ (pager_core (storage_view S.PagableStorage) self.now).workers worker.0 }
+        ensures { result ≡ (pager_core S.PagableStorage self.now).workers worker.0 }
     {
         self.tables.workers.get(&worker.0).is_some()
     }
@@ -220,7 +220,7 @@ impl<E: Env<Node: NodeSet<E>>, S: PagableStorage<E>> Pager<E, S> {
     /// handles of its references.
     pub fn assert_invariant(&self)
         ensures { IsPagerWhole (values_at E.Node.NodeSet E.Env E.Hash.KeyHash self.now.environment)
-            (pager_state (storage_view S.PagableStorage) self.now) }
+            (pager_state S.PagableStorage self.now) }
     {
         let _tables = &self.tables;
     }
@@ -244,7 +244,7 @@ impl<E: Env<Node: NodeSet<E>>, S: PagableStorage<E>> Pager<E, S> {
     /// - `OutOfMemory` if an allocation fails.
     /// - `Storage` if the storage fails.
     pub fn fetch(&mut self, alloc: Global, key: DataKey) -> Result<Arc<PagableData>, Error>
-        ensures asks { AsksStorage S.is_honest (storage_view S.PagableStorage) self.old
+        ensures asks { AsksStorage S.PagableStorage self.old
             (λ w w'. FetchCall w key (result_map (λ d. blob_of (arc_value d)) result) w') self.new }
         ensures named { IfOk result (λ found. key_of E.Hash.digest (blob_of (arc_value found)) ≡ key) }
         ensures refused { IfErr result (RefusesFetch key None (S.failed self.old.storage) (S.failed self.new.storage)) }
@@ -264,7 +264,7 @@ impl<E: Env<Node: NodeSet<E>>, S: PagableStorage<E>> Pager<E, S> {
         alloc: Global,
         key: DataKey,
     ) -> Poll<Result<Arc<PagableData>, Error>>
-        ensures asks { AsksStorage S.is_honest (storage_view S.PagableStorage) self.old
+        ensures asks { AsksStorage S.PagableStorage self.old
             (λ w w'. PollCall (λ d. blob_of (arc_value d)) w key result w') self.new }
         ensures named { IfReady result (λ r. IfOk r (λ found. key_of E.Hash.digest (blob_of (arc_value found)) ≡ key)) }
         ensures refused { IfReady result (λ r. IfErr r
@@ -284,7 +284,7 @@ impl<E: Env<Node: NodeSet<E>>, S: PagableStorage<E>> Pager<E, S> {
     /// - `KeyTaken` if another blob is stored under the key.
     /// - `Closed` if the storage is closed.
     pub fn store(&mut self, alloc: Global, blob: PagableData) -> Result<DataKey, Error>
-        ensures asks { AsksStorage S.is_honest (storage_view S.PagableStorage) self.old
+        ensures asks { AsksStorage S.PagableStorage self.old
             (λ w w'. StoreCall (key_of E.Hash.digest) w (blob_of blob) result w') self.new }
         ensures key { IfOk result (λ key. key ≡ key_of E.Hash.digest (blob_of blob)) }
         ensures refused { IfErr result (λ e. (found : Option Blob)
@@ -307,7 +307,7 @@ impl<E: Env<Node: NodeSet<E>>, S: PagableStorage<E>> Pager<E, S> {
         blob: PagableData,
     ) -> Result<DataKey, Error>
         requires { key ≡ key_of E.Hash.digest (blob_of blob) }
-        ensures asks { AsksStorage S.is_honest (storage_view S.PagableStorage) self.old
+        ensures asks { AsksStorage S.PagableStorage self.old
             (λ w w'. StoreCall (key_of E.Hash.digest) w (blob_of blob) result w') self.new }
         ensures key { IfOk result (λ answer. answer ≡ key_of E.Hash.digest (blob_of blob)) }
         ensures refused { IfErr result (λ e. (found : Option Blob)
@@ -324,8 +324,7 @@ impl<E: Env<Node: NodeSet<E>>, S: PagableStorage<E>> Pager<E, S> {
     /// - `OutOfMemory` if an allocation fails.
     /// - `Storage` if the storage fails.
     pub fn flush(&mut self) -> Result<(), Error>
-        ensures asks { AsksStorage S.is_honest (storage_view S.PagableStorage) self.old (λ w w'. FlushCall w result w')
-            self.new }
+        ensures asks { AsksStorage S.PagableStorage self.old (λ w w'. FlushCall w result w') self.new }
         ensures sure { IsTrue (S.is_honest self.new.storage)
             → OnOk result (S.flushed self.new.storage ≡ S.stored self.new.storage) }
         ensures refused { IfErr result (IsMemoryOrFailure (S.failed self.old.storage) (S.failed self.new.storage)) }
@@ -337,8 +336,7 @@ impl<E: Env<Node: NodeSet<E>>, S: PagableStorage<E>> Pager<E, S> {
     /// all that follows, and empties the list and the cache; from then on nothing is listed for
     /// page-out or cached. Never fails, and allocates nothing.
     pub fn close(&mut self) -> Result<(), Error>
-        ensures calls { Calls FewerValues (storage_view S.PagableStorage) self.old (λ w w'. CloseCall w result w')
-            self.new }
+        ensures calls { Calls FewerValues S.PagableStorage self.old (λ w w'. CloseCall w result w') self.new }
         ensures honest { IsTrue (S.is_honest self.new.storage) → IsTrue (S.is_honest self.old.storage) }
     {
         self.storage.close();
@@ -353,17 +351,15 @@ impl<E: Env<Node: NodeSet<E>>, S: PagableStorage<E>> Pager<E, S> {
     /// - `NumbersSpent` if no number is left for a load.
     /// - `OutOfMemory` if the load can't be allocated.
     pub fn load_key(&mut self, key: DataKey) -> Result<Beginning, Error>
-        ensures { Calls ChangesOnlyTables (storage_view S.PagableStorage) self.old
+        ensures { Calls ChangesOnlyTables S.PagableStorage self.old
             (λ w w'. BeginKeyCall w Owner.Caller key result w') self.new }
     {
         self.load_key_for(Owner::Caller, key)
     }
 
     pub(crate) fn load_key_for(&mut self, me: Owner, key: DataKey) -> Result<Beginning, Error>
-        requires { may_call (pager_core (storage_view S.PagableStorage) self.old) me ≡ true }
-        ensures { Calls ChangesOnlyTables (storage_view S.PagableStorage) self.old
-            (λ w w'. BeginKeyCall w me key result w')
-            self.new }
+        requires { may_call (pager_core S.PagableStorage self.old) me ≡ true }
+        ensures { Calls ChangesOnlyTables S.PagableStorage self.old (λ w w'. BeginKeyCall w me key result w') self.new }
     {
         load::load_key(&mut self.tables, me, key)
     }
@@ -379,7 +375,7 @@ impl<E: Env<Node: NodeSet<E>>, S: PagableStorage<E>> Pager<E, S> {
     /// - `NumbersSpent` if no number is left for the load or the clone.
     /// - `OutOfMemory` if the load or the clone can't be allocated.
     pub fn load_begin(&mut self, handle: HandleNumber) -> Result<Beginning, Error>
-        ensures { Calls ChangesOnlyTables (storage_view S.PagableStorage) self.old
+        ensures { Calls ChangesOnlyTables S.PagableStorage self.old
             (λ w w'. BeginCall w Owner.Caller handle result w') self.new }
     {
         self.load_begin_for(Owner::Caller, handle)
@@ -390,10 +386,8 @@ impl<E: Env<Node: NodeSet<E>>, S: PagableStorage<E>> Pager<E, S> {
         me: Owner,
         handle: HandleNumber,
     ) -> Result<Beginning, Error>
-        requires { may_call (pager_core (storage_view S.PagableStorage) self.old) me ≡ true }
-        ensures { Calls ChangesOnlyTables (storage_view S.PagableStorage) self.old
-            (λ w w'. BeginCall w me handle result w')
-            self.new }
+        requires { may_call (pager_core S.PagableStorage self.old) me ≡ true }
+        ensures { Calls ChangesOnlyTables S.PagableStorage self.old (λ w w'. BeginCall w me handle result w') self.new }
     {
         load::load_begin(&mut self.tables, me, handle)
     }
@@ -407,11 +401,10 @@ impl<E: Env<Node: NodeSet<E>>, S: PagableStorage<E>> Pager<E, S> {
         kind: Kind,
         key: DataKey,
     ) -> Result<Option<HandleNumber>, Error>
-        ensures step { AsksCache (pager_core (storage_view S.PagableStorage) self.old) me load kind key result
-            (pager_core (storage_view S.PagableStorage) self.new) }
-        ensures none { IfOk result (λ found. IfNone found
-            (pager_core (storage_view S.PagableStorage) self.new
-            ≡ pager_core (storage_view S.PagableStorage) self.old)) }
+        ensures step { AsksCache (pager_core S.PagableStorage self.old) me load kind key result
+            (pager_core S.PagableStorage self.new) }
+        ensures none { IfOk result
+            (λ found. IfNone found (pager_core S.PagableStorage self.new ≡ pager_core S.PagableStorage self.old)) }
         ensures only { ChangesOnlyTables self.old self.new }
     {
         load::load_cached(&mut self.tables, me, load, kind, key)
@@ -432,13 +425,11 @@ impl<E: Env<Node: NodeSet<E>>, S: PagableStorage<E>> Pager<E, S> {
         load: LoadNumber,
         want: FetchTarget,
     ) -> Result<Either<HandleNumber, Arc<PagableData>>, Error>
-        ensures step { IsTrue (S.is_honest self.new.storage)
-            → LoadFetchCall (pager_core (storage_view S.PagableStorage) self.old) Owner.Caller load want
-            (result_map (from_cache_or_store (λ d. blob_of (arc_value d))) result)
-            (pager_core (storage_view S.PagableStorage) self.new) }
+        ensures step { IsTrue (S.is_honest self.new.storage) → LoadFetchCall (pager_core S.PagableStorage self.old)
+            Owner.Caller load want (result_map (from_cache_or_store (λ d. blob_of (arc_value d))) result)
+            (pager_core S.PagableStorage self.new) }
         ensures honest { IsTrue (S.is_honest self.new.storage) → IsTrue (S.is_honest self.old.storage) }
-        ensures kept { KeepsWorkers (pager_core (storage_view S.PagableStorage) self.old)
-            (pager_core (storage_view S.PagableStorage) self.new) }
+        ensures kept { KeepsWorkers (pager_core S.PagableStorage self.old) (pager_core S.PagableStorage self.new) }
         ensures fits { IfOk result (FitsWant want) }
         ensures only { SameValues self.old self.new }
     {
@@ -453,13 +444,11 @@ impl<E: Env<Node: NodeSet<E>>, S: PagableStorage<E>> Pager<E, S> {
         load: LoadNumber,
         want: FetchTarget,
     ) -> Result<Either<HandleNumber, Arc<PagableData>>, Error>
-        ensures step { IsTrue (S.is_honest self.new.storage)
-            → LoadFetchCall (pager_core (storage_view S.PagableStorage) self.old) me load want
-            (result_map (from_cache_or_store (λ d. blob_of (arc_value d))) result)
-            (pager_core (storage_view S.PagableStorage) self.new) }
+        ensures step { IsTrue (S.is_honest self.new.storage) → LoadFetchCall (pager_core S.PagableStorage self.old) me
+            load want (result_map (from_cache_or_store (λ d. blob_of (arc_value d))) result)
+            (pager_core S.PagableStorage self.new) }
         ensures honest { IsTrue (S.is_honest self.new.storage) → IsTrue (S.is_honest self.old.storage) }
-        ensures kept { KeepsWorkers (pager_core (storage_view S.PagableStorage) self.old)
-            (pager_core (storage_view S.PagableStorage) self.new) }
+        ensures kept { KeepsWorkers (pager_core S.PagableStorage self.old) (pager_core S.PagableStorage self.new) }
         ensures fits { IfOk result (FitsWant want) }
         ensures only { SameValues self.old self.new }
     {
@@ -491,7 +480,7 @@ impl<E: Env<Node: NodeSet<E>>, S: PagableStorage<E>> Pager<E, S> {
         kind: Kind,
         key: DataKey,
     ) -> Result<HandleNumber, Error>
-        ensures { Calls ChangesOnlyTables (storage_view S.PagableStorage) self.old
+        ensures { Calls ChangesOnlyTables S.PagableStorage self.old
             (λ w w'. LazyCall w Owner.Caller load kind key result w') self.new }
     {
         self.load_lazy_for(Owner::Caller, alloc, load, kind, key)
@@ -505,7 +494,7 @@ impl<E: Env<Node: NodeSet<E>>, S: PagableStorage<E>> Pager<E, S> {
         kind: Kind,
         key: DataKey,
     ) -> Result<HandleNumber, Error>
-        ensures { Calls ChangesOnlyTables (storage_view S.PagableStorage) self.old
+        ensures { Calls ChangesOnlyTables S.PagableStorage self.old
             (λ w w'. LazyCall w me load kind key result w') self.new }
     {
         let lists = !self.storage.has_closed();
@@ -514,7 +503,7 @@ impl<E: Env<Node: NodeSet<E>>, S: PagableStorage<E>> Pager<E, S> {
 
     /// Returns whether a number is left for a load.
     pub fn has_load_number(&self) -> bool
-        ensures { result ≡ nat_lt (pager_core (storage_view S.PagableStorage) self.now).last.load greatest }
+        ensures { result ≡ nat_lt (pager_core S.PagableStorage self.now).last.load greatest }
     {
         self.tables.last_load < u64::MAX
     }
@@ -527,9 +516,9 @@ impl<E: Env<Node: NodeSet<E>>, S: PagableStorage<E>> Pager<E, S> {
     /// - `NoSuchHandle` if the load isn't open.
     /// - `NotYours` if another than the caller began it.
     pub fn load_key_and_type(&self, load: LoadNumber) -> Result<(DataKey, Option<u32>), Error>
-        ensures reads { IfOk result (λ r. ReadsAs (pager_core (storage_view S.PagableStorage) self.now) load r.0 r.1) }
-        ensures fault { IfErr result (λ e. load_fault (pager_core (storage_view S.PagableStorage) self.now) Owner.Caller
-            load ≡ Some e) }
+        ensures reads { IfOk result (λ r. ReadsAs (pager_core S.PagableStorage self.now) load r.0 r.1) }
+        ensures fault { IfErr result
+            (λ e. load_fault (pager_core S.PagableStorage self.now) Owner.Caller load ≡ Some e) }
     {
         let row = checks::load_row(&self.tables, Owner::Caller, load)?;
         Ok((row.key, cell_type(row.root)))

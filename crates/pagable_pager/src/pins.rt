@@ -5,7 +5,7 @@ ghost use Rattle.pagable_core.specs.Data.{blob_of};
 ghost use Rattle.pagable_load.specs.{AccessView.{Acts, values_at}, Frames.reading_of};
 ghost use Rattle.pagable_pager.specs.{
   Leaf.{EndsCellLoad, SharesOrUndoes, rooted_reading},
-  View.{pager_state, storage_view},
+  View.BetweenIfHonest,
 };
 ghost use Rattle.pagable_pager_spec.specs.{Access.PinsOver, World.result_map};
 ghost use Rattle.std.specs.{Arc.arc_value, Prelude.{IsTrue, true, ◌≡◌}};
@@ -95,11 +95,8 @@ fn pin_lent<'a, E: Env<Node: NodeSet<E>>, S: PagableStorage<E>>(
     handle: HandleNumber,
 ) -> Result<(HandleNumber, Arc<E::Node>), Error>
     requires caller { lent.old.me ≡ Owner.Caller }
-    ensures pins { IsTrue (S.is_honest lent.new.pager.now.storage)
-        → PinsOver (values_at E.Node.NodeSet E.Env E.Hash.KeyHash lent.old.pager.now.environment)
-        (pager_state (storage_view S.PagableStorage) lent.old.pager.now)
-        handle (result_map (λ a. (a.0, arc_value a.1)) result)
-        (pager_state (storage_view S.PagableStorage) lent.new.pager.now) }
+    ensures pins { BetweenIfHonest E.Node.NodeSet E.Env E.Hash.KeyHash S.PagableStorage lent.old.pager.now
+        lent.new.pager.now (λ v s s'. PinsOver v s handle (result_map (λ a. (a.0, arc_value a.1)) result) s') }
     ensures honest { IsTrue (S.is_honest lent.new.pager.now.storage) → IsTrue (S.is_honest lent.old.pager.now.storage) }
     ensures lender { lent.new.pager.ghost_name ≡ lent.old.pager.ghost_name }
 {
@@ -124,10 +121,8 @@ pub fn pin<E: Env<Node: NodeSet<E>>, S: PagableStorage<E>>(
     pager: &mut Pager<E, S>,
     handle: HandleNumber,
 ) -> Result<(HandleNumber, Arc<E::Node>), Error>
-    ensures pins { IsTrue (S.is_honest pager.new.storage)
-        → PinsOver (values_at E.Node.NodeSet E.Env E.Hash.KeyHash pager.old.environment)
-        (pager_state (storage_view S.PagableStorage) pager.old)
-        handle (result_map (λ a. (a.0, arc_value a.1)) result) (pager_state (storage_view S.PagableStorage) pager.new) }
+    ensures pins { BetweenIfHonest E.Node.NodeSet E.Env E.Hash.KeyHash S.PagableStorage pager.old pager.new
+        (λ v s s'. PinsOver v s handle (result_map (λ a. (a.0, arc_value a.1)) result) s') }
     ensures honest { IsTrue (S.is_honest pager.new.storage) → IsTrue (S.is_honest pager.old.storage) }
 {
     let mut lent = Lent::new(pager);

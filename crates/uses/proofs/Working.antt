@@ -2,7 +2,7 @@
 use Rattle.pagable.specs.Paged.{PagesOutList}
 use Rattle.pagable_pageout.specs.{Turns.plain, declared.tasks.PageOutError.PageOutError}
 use Rattle.pagable_pager.proofs.Invariant.{less-moves}
-use Rattle.pagable_pager.specs.View.{AddsNoValue, Calls, PagerView, Telling, pager_state}
+use Rattle.pagable_pager.specs.View.{AddsNoValue, Calls, PagerView, Storages, pager_state}
 use Rattle.pagable_pager_spec.specs.{
   Access.PinsOver,
   Basics.{Error, HandleNumber},
@@ -17,7 +17,7 @@ use Rattle.std.proofs.Common.{Ok, Result, subst, ◌∙◌, ◌≡◌}
 use Rattle.uses.proofs.Environment.{all-keep, pin-keeps}
 use Rattle.uses.specs.Again.{ShowsSame}
 
-module _ {N S E : Type 0} {tells : Telling S} where
+module _ {N S E H K V : Type 0} {tells : Storages S E N H K V} where
   -- the release of a handle is a call of the pager's
   releases : (v : Values N) (old new : PagerView N S E) (k : HandleNumber) (told : Result (Unit {0}) Error)
       → Calls AddsNoValue tells old (λ w w'. ReleaseCall w Owner.Caller k told w') new → IsPagerWhole v (pager_state tells new)

@@ -3,9 +3,8 @@
 #![tactic(auto)]
 
 ghost use Rattle.pagable_core.specs.Data.{blob_of};
-ghost use Rattle.pagable_load.specs.AccessView.{values_at};
 ghost use Rattle.pagable_pageout.specs.Turns.{plain};
-ghost use Rattle.pagable_pager.specs.View.{pager_state, storage_view};
+ghost use Rattle.pagable_pager.specs.View.{BetweenIfHonest};
 ghost use Rattle.pagable_theorems.specs.CallerLaws.{Operations};
 ghost use Rattle.pagable_value_spec.specs.Blob.{key_of};
 ghost use Rattle.std.specs.{Arc.arc_value, Prelude.{IfOk, IfSome, IsTrue, ◌≡◌}};
@@ -56,10 +55,8 @@ pub fn look_up<E: Env<Node: NodeSet<E>>, S: PagableStorage<E>>(
 pub trait Work<E: Env<Node: NodeSet<E>>, S: PagableStorage<E>> {
     /// Does the work.
     fn run(&mut self, alloc: Global, pager: &mut Pager<E, S>) -> Result<(), Error>
-        ensures operates { IsTrue (S.is_honest pager.new.storage)
-            → Operations (plain (values_at E.Node.NodeSet E.Env E.Hash.KeyHash pager.old.environment))
-            (pager_state (storage_view S.PagableStorage) pager.old)
-            (pager_state (storage_view S.PagableStorage) pager.new) }
+        ensures operates { BetweenIfHonest E.Node.NodeSet E.Env E.Hash.KeyHash S.PagableStorage pager.old pager.new
+            (λ v s s'. Operations (plain v) s s') }
         ensures honest { IsTrue (S.is_honest pager.new.storage) → IsTrue (S.is_honest pager.old.storage) };
 }
 
@@ -90,11 +87,8 @@ pub fn pinned_again<E: Env<Node: NodeSet<E>>, S: PagableStorage<E>, W: Work<E, S
     handle: HandleNumber,
     work: &mut W,
 ) -> Result<(Arc<E::Node>, (HandleNumber, Arc<E::Node>)), Error>
-    ensures same { IsTrue (S.is_honest pager.new.storage)
-        → IfOk result (λ shown. ShowsSame (values_at E.Node.NodeSet E.Env E.Hash.KeyHash pager.old.environment)
-        (pager_state (storage_view S.PagableStorage) pager.old) handle (arc_value shown.0) shown.1.0
-        (arc_value shown.1.1)
-        (pager_state (storage_view S.PagableStorage) pager.new)) }
+    ensures same { BetweenIfHonest E.Node.NodeSet E.Env E.Hash.KeyHash S.PagableStorage pager.old pager.new
+        (λ v s s'. IfOk result (λ shown. ShowsSame v s handle (arc_value shown.0) shown.1.0 (arc_value shown.1.1) s')) }
 {
     pager.assert_invariant();
     let (pinned, first) = pin(alloc, pager, handle)?;

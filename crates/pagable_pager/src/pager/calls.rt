@@ -8,7 +8,7 @@ ghost use Rattle.pagable_load.specs.{
   WorkerCalls.{EntryFault, TakesReference},
 };
 ghost use Rattle.pagable_pager.specs.{
-  View.{AddsNoValue, Calls, CallsKeepingInvariant, ChangesOnlyTables, TakesEntry, may_call, pager_core, storage_view},
+  View.{AddsNoValue, Calls, CallsKeepingInvariant, ChangesOnlyTables, TakesEntry, may_call, pager_core},
 };
 ghost use Rattle.pagable_pager_spec.specs.{
   Calls.{ClearCall, CloneCall, CountCall, IsPagedOutCall, KeyCall, Looks, LoosenCall, NodeCall, OfferCall, PinCall},
@@ -51,7 +51,7 @@ impl<E: Env<Node: NodeSet<E>>, S: PagableStorage<E>> Pager<E, S> {
     /// - `NumbersSpent` if no number is left for a handle.
     /// - `OutOfMemory` if the handle can't be allocated.
     pub fn clone(&mut self, handle: HandleNumber) -> Result<HandleNumber, Error>
-        ensures { Calls ChangesOnlyTables (storage_view S.PagableStorage) self.old
+        ensures { Calls ChangesOnlyTables S.PagableStorage self.old
             (λ w w'. CloneCall w Owner.Caller handle result w') self.new }
     {
         self.clone_for(Owner::Caller, handle)
@@ -62,10 +62,8 @@ impl<E: Env<Node: NodeSet<E>>, S: PagableStorage<E>> Pager<E, S> {
         me: Owner,
         handle: HandleNumber,
     ) -> Result<HandleNumber, Error>
-        requires { may_call (pager_core (storage_view S.PagableStorage) self.old) me ≡ true }
-        ensures { Calls ChangesOnlyTables (storage_view S.PagableStorage) self.old
-            (λ w w'. CloneCall w me handle result w')
-            self.new }
+        requires { may_call (pager_core S.PagableStorage self.old) me ≡ true }
+        ensures { Calls ChangesOnlyTables S.PagableStorage self.old (λ w w'. CloneCall w me handle result w') self.new }
     {
         create::clone(&mut self.tables, me, handle)
     }
@@ -78,7 +76,7 @@ impl<E: Env<Node: NodeSet<E>>, S: PagableStorage<E>> Pager<E, S> {
     /// - `NotYours` if another than the caller has it.
     /// - `WrongMode` if it isn't Pinned.
     pub fn into_pagable(&mut self, handle: HandleNumber) -> Result<HandleNumber, Error>
-        ensures { Calls ChangesOnlyTables (storage_view S.PagableStorage) self.old
+        ensures { Calls ChangesOnlyTables S.PagableStorage self.old
             (λ w w'. LoosenCall w Owner.Caller handle result w') self.new }
     {
         create::into_pagable(&mut self.tables, Owner::Caller, handle)
@@ -96,17 +94,15 @@ impl<E: Env<Node: NodeSet<E>>, S: PagableStorage<E>> Pager<E, S> {
     /// - `NumbersSpent` if no number is left for a handle.
     /// - `OutOfMemory` if the handle can't be allocated.
     pub fn pin(&mut self, handle: HandleNumber) -> Result<Pinning, Error>
-        ensures { Calls ChangesOnlyTables (storage_view S.PagableStorage) self.old
+        ensures { Calls ChangesOnlyTables S.PagableStorage self.old
             (λ w w'. PinCall w Owner.Caller handle result w') self.new }
     {
         self.pin_for(Owner::Caller, handle)
     }
 
     pub(crate) fn pin_for(&mut self, me: Owner, handle: HandleNumber) -> Result<Pinning, Error>
-        requires { may_call (pager_core (storage_view S.PagableStorage) self.old) me ≡ true }
-        ensures { Calls ChangesOnlyTables (storage_view S.PagableStorage) self.old
-            (λ w w'. PinCall w me handle result w')
-            self.new }
+        requires { may_call (pager_core S.PagableStorage self.old) me ≡ true }
+        ensures { Calls ChangesOnlyTables S.PagableStorage self.old (λ w w'. PinCall w me handle result w') self.new }
     {
         create::pin(&mut self.tables, me, handle)
     }
@@ -117,7 +113,7 @@ impl<E: Env<Node: NodeSet<E>>, S: PagableStorage<E>> Pager<E, S> {
     ///
     /// - `NoSuchHandle` if the handle isn't live.
     pub fn count(&self, handle: HandleNumber) -> Result<u64, Error>
-        ensures { CountCall (pager_core (storage_view S.PagableStorage) self.now) handle result }
+        ensures { CountCall (pager_core S.PagableStorage self.now) handle result }
     {
         queries::pin_count(&self.tables, handle)
     }
@@ -128,7 +124,7 @@ impl<E: Env<Node: NodeSet<E>>, S: PagableStorage<E>> Pager<E, S> {
     ///
     /// - `NoSuchHandle` if the handle isn't live.
     pub fn key(&self, handle: HandleNumber) -> Result<OptionalDataKey, Error>
-        ensures { KeyCall (pager_core (storage_view S.PagableStorage) self.now) handle result }
+        ensures { KeyCall (pager_core S.PagableStorage self.now) handle result }
     {
         queries::key(&self.tables, handle)
     }
@@ -139,7 +135,7 @@ impl<E: Env<Node: NodeSet<E>>, S: PagableStorage<E>> Pager<E, S> {
     ///
     /// - `NoSuchHandle` if the handle isn't live.
     pub fn is_paged_out(&self, handle: HandleNumber) -> Result<bool, Error>
-        ensures { IsPagedOutCall (pager_core (storage_view S.PagableStorage) self.now) handle result }
+        ensures { IsPagedOutCall (pager_core S.PagableStorage self.now) handle result }
     {
         queries::is_paged_out(&self.tables, handle)
     }
@@ -150,14 +146,14 @@ impl<E: Env<Node: NodeSet<E>>, S: PagableStorage<E>> Pager<E, S> {
     ///
     /// - `NoSuchHandle` if the handle isn't live.
     pub fn node_of(&self, handle: HandleNumber) -> Result<NodeNumber, Error>
-        ensures { NodeCall (pager_core (storage_view S.PagableStorage) self.now) handle result }
+        ensures { NodeCall (pager_core S.PagableStorage self.now) handle result }
     {
         queries::node_of(&self.tables, handle)
     }
 
     /// Returns the number of the node's value type; None if the node is gone.
     pub fn node_live(&self, node: NodeNumber) -> Option<u32>
-        ensures { TypeCall (pager_core (storage_view S.PagableStorage) self.now) node result }
+        ensures { TypeCall (pager_core S.PagableStorage self.now) node result }
     {
         queries::node_live(&self.tables, node)
     }
@@ -165,8 +161,8 @@ impl<E: Env<Node: NodeSet<E>>, S: PagableStorage<E>> Pager<E, S> {
     // Makes the reference of this kind by a live handle. If the handle isn't live, the reference
     // names no node.
     pub(crate) fn reference(&self, kind: Kind, handle: HandleNumber) -> ArcRef
-        ensures made { IsSome (row_at (pager_core (storage_view S.PagableStorage) self.now) handle)
-            → IsMade (pager_core (storage_view S.PagableStorage) self.now) kind result }
+        ensures made { IsSome (row_at (pager_core S.PagableStorage self.now) handle) → IsMade
+            (pager_core S.PagableStorage self.now) kind result }
         ensures handle { result.handle ≡ handle }
     {
         let node = match self.node_of(handle) {
@@ -178,7 +174,7 @@ impl<E: Env<Node: NodeSet<E>>, S: PagableStorage<E>> Pager<E, S> {
 
     /// Returns whether this is a live loose handle that doesn't pin its cell now (`LooseUnpinned`).
     fn is_unpinned(&self, handle: HandleNumber) -> bool
-        ensures { result ≡ is_unpinned_at (pager_core (storage_view S.PagableStorage) self.now) handle }
+        ensures { result ≡ is_unpinned_at (pager_core S.PagableStorage self.now) handle }
     {
         match handle_table::find_live(&self.tables.ref_counts.handles, handle) {
             Some(at) => kinds::is_unpinned(at.row.mode),
@@ -190,7 +186,7 @@ impl<E: Env<Node: NodeSet<E>>, S: PagableStorage<E>> Pager<E, S> {
     /// key, or isn't open.
     pub fn load_type(&self, load: LoadNumber) -> Option<u32>
         ensures { result ≡ option_map (λ (r : Reading). r.node_type)
-            (reading_of_load load ((pager_core (storage_view S.PagableStorage) self.now).loads load.0)) }
+            (reading_of_load load ((pager_core S.PagableStorage self.now).loads load.0)) }
     {
         let row = load_table::load_of(&self.tables.loads, load.0)?;
         cell_type(row.root)
@@ -203,7 +199,7 @@ impl<E: Env<Node: NodeSet<E>>, S: PagableStorage<E>> Pager<E, S> {
     ///
     /// - those of `pin` and `load_begin`.
     pub fn begin_pin(&mut self, handle: HandleNumber) -> Result<PinStart, Error>
-        ensures { Calls ChangesOnlyTables (storage_view S.PagableStorage) self.old
+        ensures { Calls ChangesOnlyTables S.PagableStorage self.old
             (λ w w'. StartsPin w Owner.Caller handle result w') self.new }
     {
         self.begin_pin_for(Owner::Caller, handle)
@@ -214,10 +210,8 @@ impl<E: Env<Node: NodeSet<E>>, S: PagableStorage<E>> Pager<E, S> {
         me: Owner,
         handle: HandleNumber,
     ) -> Result<PinStart, Error>
-        requires { may_call (pager_core (storage_view S.PagableStorage) self.old) me ≡ true }
-        ensures { Calls ChangesOnlyTables (storage_view S.PagableStorage) self.old
-            (λ w w'. StartsPin w me handle result w')
-            self.new }
+        requires { may_call (pager_core S.PagableStorage self.old) me ≡ true }
+        ensures { Calls ChangesOnlyTables S.PagableStorage self.old (λ w w'. StartsPin w me handle result w') self.new }
     {
         let was_unpinned = self.is_unpinned(handle);
         if let Ok(true) = self.is_paged_out(handle) {
@@ -238,17 +232,15 @@ impl<E: Env<Node: NodeSet<E>>, S: PagableStorage<E>> Pager<E, S> {
     /// Removes the entry at this place from the page-out list, and returns its handle, a loose
     /// unpinned one, which the caller owns from then on. Returns None past the list's end.
     pub fn take_pending(&mut self, place: usize) -> Option<HandleNumber>
-        ensures { Calls ChangesOnlyTables (storage_view S.PagableStorage) self.old
+        ensures { Calls ChangesOnlyTables S.PagableStorage self.old
             (λ w w'. TakeCall w Owner.Caller place result w') self.new }
     {
         self.take_pending_for(Owner::Caller, place)
     }
 
     pub(crate) fn take_pending_for(&mut self, me: Owner, place: usize) -> Option<HandleNumber>
-        requires { may_call (pager_core (storage_view S.PagableStorage) self.old) me ≡ true }
-        ensures { Calls ChangesOnlyTables (storage_view S.PagableStorage) self.old
-            (λ w w'. TakeCall w me place result w')
-            self.new }
+        requires { may_call (pager_core S.PagableStorage self.old) me ≡ true }
+        ensures { Calls ChangesOnlyTables S.PagableStorage self.old (λ w w'. TakeCall w me place result w') self.new }
     {
         pending::take_pending(&mut self.tables, me, place)
     }
@@ -263,7 +255,7 @@ impl<E: Env<Node: NodeSet<E>>, S: PagableStorage<E>> Pager<E, S> {
     /// - `WrongMode` if it isn't loose and unpinned.
     /// - `OutOfMemory` if the list can't grow.
     pub fn schedule_for_paging(&mut self, handle: HandleNumber) -> Result<(), Error>
-        ensures { Calls AddsNoValue (storage_view S.PagableStorage) self.old
+        ensures { Calls AddsNoValue S.PagableStorage self.old
             (λ w w'. ScheduleCall w Owner.Caller handle result w') self.new }
     {
         self.schedule_for_paging_for(Owner::Caller, handle)
@@ -274,10 +266,9 @@ impl<E: Env<Node: NodeSet<E>>, S: PagableStorage<E>> Pager<E, S> {
         me: Owner,
         handle: HandleNumber,
     ) -> Result<(), Error>
-        requires { may_call (pager_core (storage_view S.PagableStorage) self.old) me ≡ true }
-        ensures { CallsKeepingInvariant AddsNoValue (storage_view S.PagableStorage)
-            (values_at E.Node.NodeSet E.Env E.Hash.KeyHash)
-            self.old (λ w w'. ScheduleCall w me handle result w') self.new }
+        requires { may_call (pager_core S.PagableStorage self.old) me ≡ true }
+        ensures { CallsKeepingInvariant S.PagableStorage (values_at E.Node.NodeSet E.Env E.Hash.KeyHash) self.old
+            (λ w w'. ScheduleCall w me handle result w') self.new }
     {
         let lists = !self.storage.has_closed();
         pending::schedule_for_paging(&mut self.tables, &mut self.values, me, handle, lists)
@@ -291,7 +282,7 @@ impl<E: Env<Node: NodeSet<E>>, S: PagableStorage<E>> Pager<E, S> {
     /// - `NumbersSpent` if no number is left for a handle.
     /// - `OutOfMemory` if the handle can't be allocated.
     pub fn cache_get(&mut self, kind: Kind, key: DataKey) -> Result<Option<HandleNumber>, Error>
-        ensures { Calls ChangesOnlyTables (storage_view S.PagableStorage) self.old
+        ensures { Calls ChangesOnlyTables S.PagableStorage self.old
             (λ w w'. RecallCall w Owner.Caller kind key result w') self.new }
     {
         cache::cache_get(&mut self.tables, Owner::Caller, kind, key)
@@ -315,7 +306,7 @@ impl<E: Env<Node: NodeSet<E>>, S: PagableStorage<E>> Pager<E, S> {
         key: DataKey,
         handle: HandleNumber,
     ) -> Result<Option<HandleNumber>, Error>
-        ensures { Calls AddsNoValue (storage_view S.PagableStorage) self.old
+        ensures { Calls AddsNoValue S.PagableStorage self.old
             (λ w w'. OfferCall w Owner.Caller kind key handle result w') self.new }
     {
         let lists = !self.storage.has_closed();
@@ -325,7 +316,7 @@ impl<E: Env<Node: NodeSet<E>>, S: PagableStorage<E>> Pager<E, S> {
 
     /// Returns how many list entries wait for page-out.
     pub fn pending(&self) -> usize
-        ensures { result ≡ length (pager_core (storage_view S.PagableStorage) self.now).list }
+        ensures { result ≡ length (pager_core S.PagableStorage self.now).list }
     {
         queries::pending_count(&self.tables)
     }
@@ -333,7 +324,7 @@ impl<E: Env<Node: NodeSet<E>>, S: PagableStorage<E>> Pager<E, S> {
     /// Returns how many handles, and as many entries of the page-out list, can be added even if no
     /// memory is left.
     pub fn room(&self) -> usize
-        ensures { result ≡ room_of (pager_core (storage_view S.PagableStorage) self.now) }
+        ensures { result ≡ room_of (pager_core S.PagableStorage self.now) }
     {
         tables::room(&self.tables)
     }
@@ -344,17 +335,14 @@ impl<E: Env<Node: NodeSet<E>>, S: PagableStorage<E>> Pager<E, S> {
     ///
     /// - `OutOfMemory` if the allocation fails.
     pub fn reserve(&mut self, more: usize) -> Result<(), Error>
-        ensures { Calls ChangesOnlyTables (storage_view S.PagableStorage) self.old
-            (λ w w'. ReserveCall w more result w')
-            self.new }
+        ensures { Calls ChangesOnlyTables S.PagableStorage self.old (λ w w'. ReserveCall w more result w') self.new }
     {
         tables::reserve(&mut self.tables, more)
     }
 
     /// Empties the cache. Never fails.
     pub fn cache_clear(&mut self) -> Result<(), Error>
-        ensures { Calls ChangesOnlyTables (storage_view S.PagableStorage) self.old
-            (λ w w'. ClearCall w result w') self.new }
+        ensures { Calls ChangesOnlyTables S.PagableStorage self.old (λ w w'. ClearCall w result w') self.new }
     {
         tables::cache_clear(&mut self.tables)
     }
@@ -371,17 +359,16 @@ impl<E: Env<Node: NodeSet<E>>, S: PagableStorage<E>> Pager<E, S> {
     /// - `NumbersSpent` or `OutOfMemory` if a cell can't be listed for page-out: the handle is
     ///   unpinned all the same.
     pub fn unpin(&mut self, handle: HandleNumber) -> Result<(), Error>
-        ensures { Calls AddsNoValue (storage_view S.PagableStorage) self.old
+        ensures { Calls AddsNoValue S.PagableStorage self.old
             (λ w w'. UnpinCall w Owner.Caller handle result w') self.new }
     {
         self.unpin_for(Owner::Caller, handle)
     }
 
     pub(crate) fn unpin_for(&mut self, me: Owner, handle: HandleNumber) -> Result<(), Error>
-        requires { may_call (pager_core (storage_view S.PagableStorage) self.old) me ≡ true }
-        ensures { CallsKeepingInvariant AddsNoValue (storage_view S.PagableStorage)
-            (values_at E.Node.NodeSet E.Env E.Hash.KeyHash)
-            self.old (λ w w'. UnpinCall w me handle result w') self.new }
+        requires { may_call (pager_core S.PagableStorage self.old) me ≡ true }
+        ensures { CallsKeepingInvariant S.PagableStorage (values_at E.Node.NodeSet E.Env E.Hash.KeyHash) self.old
+            (λ w w'. UnpinCall w me handle result w') self.new }
     {
         let lists = !self.storage.has_closed();
         release::unpin(&mut self.tables, &mut self.values, me, handle, lists)
@@ -397,17 +384,16 @@ impl<E: Env<Node: NodeSet<E>>, S: PagableStorage<E>> Pager<E, S> {
     /// - `NumbersSpent` or `OutOfMemory` if a cell can't be listed for page-out: the handle is
     ///   released all the same.
     pub fn release(&mut self, handle: HandleNumber) -> Result<(), Error>
-        ensures { Calls AddsNoValue (storage_view S.PagableStorage) self.old
+        ensures { Calls AddsNoValue S.PagableStorage self.old
             (λ w w'. ReleaseCall w Owner.Caller handle result w') self.new }
     {
         self.release_for(Owner::Caller, handle)
     }
 
     pub(crate) fn release_for(&mut self, me: Owner, handle: HandleNumber) -> Result<(), Error>
-        requires { may_call (pager_core (storage_view S.PagableStorage) self.old) me ≡ true }
-        ensures { CallsKeepingInvariant AddsNoValue (storage_view S.PagableStorage)
-            (values_at E.Node.NodeSet E.Env E.Hash.KeyHash)
-            self.old (λ w w'. ReleaseCall w me handle result w') self.new }
+        requires { may_call (pager_core S.PagableStorage self.old) me ≡ true }
+        ensures { CallsKeepingInvariant S.PagableStorage (values_at E.Node.NodeSet E.Env E.Hash.KeyHash) self.old
+            (λ w w'. ReleaseCall w me handle result w') self.new }
     {
         let lists = !self.storage.has_closed();
         release::release(&mut self.tables, &mut self.values, me, handle, lists)
@@ -423,7 +409,7 @@ impl<E: Env<Node: NodeSet<E>>, S: PagableStorage<E>> Pager<E, S> {
     /// - `NumbersSpent` or `OutOfMemory` if a cell can't be listed for page-out: the key is set all
     ///   the same.
     pub fn set_data_key(&mut self, handle: HandleNumber, key: DataKey) -> Result<(), Error>
-        ensures { Calls AddsNoValue (storage_view S.PagableStorage) self.old
+        ensures { Calls AddsNoValue S.PagableStorage self.old
             (λ w w'. SetKeyCall w Owner.Caller handle key result w') self.new }
     {
         self.set_data_key_for(Owner::Caller, handle, key)
@@ -435,10 +421,9 @@ impl<E: Env<Node: NodeSet<E>>, S: PagableStorage<E>> Pager<E, S> {
         handle: HandleNumber,
         key: DataKey,
     ) -> Result<(), Error>
-        requires { may_call (pager_core (storage_view S.PagableStorage) self.old) me ≡ true }
-        ensures { CallsKeepingInvariant AddsNoValue (storage_view S.PagableStorage)
-            (values_at E.Node.NodeSet E.Env E.Hash.KeyHash)
-            self.old (λ w w'. SetKeyCall w me handle key result w') self.new }
+        requires { may_call (pager_core S.PagableStorage self.old) me ≡ true }
+        ensures { CallsKeepingInvariant S.PagableStorage (values_at E.Node.NodeSet E.Env E.Hash.KeyHash) self.old
+            (λ w w'. SetKeyCall w me handle key result w') self.new }
     {
         let lists = !self.storage.has_closed();
         release::set_data_key(&mut self.tables, &mut self.values, me, handle, key, lists)
@@ -453,16 +438,15 @@ impl<E: Env<Node: NodeSet<E>>, S: PagableStorage<E>> Pager<E, S> {
     /// - `NumbersSpent` or `OutOfMemory` if a cell can't be listed for page-out: the load is
     ///   dropped all the same.
     pub fn load_drop(&mut self, load: LoadNumber) -> Result<(), Error>
-        ensures { Calls AddsNoValue (storage_view S.PagableStorage) self.old
+        ensures { Calls AddsNoValue S.PagableStorage self.old
             (λ w w'. DropCall w Owner.Caller load result w') self.new }
     {
         self.load_drop_for(Owner::Caller, load)
     }
 
     pub(crate) fn load_drop_for(&mut self, me: Owner, load: LoadNumber) -> Result<(), Error>
-        ensures { CallsKeepingInvariant AddsNoValue (storage_view S.PagableStorage)
-            (values_at E.Node.NodeSet E.Env E.Hash.KeyHash)
-            self.old (λ w w'. DropCall w me load result w') self.new }
+        ensures { CallsKeepingInvariant S.PagableStorage (values_at E.Node.NodeSet E.Env E.Hash.KeyHash) self.old
+            (λ w w'. DropCall w me load result w') self.new }
     {
         let lists = !self.storage.has_closed();
         load_end::load_drop(&mut self.tables, &mut self.values, me, load, lists)
@@ -478,7 +462,7 @@ impl<E: Env<Node: NodeSet<E>>, S: PagableStorage<E>> Pager<E, S> {
     ///   handle, or a handle is named twice.
     /// - `WrongMode` if it is a load of a cell.
     pub fn load_take(&mut self, load: LoadNumber, named: &[HandleNumber]) -> Result<(), Error>
-        ensures { Calls AddsNoValue (storage_view S.PagableStorage) self.old
+        ensures { Calls AddsNoValue S.PagableStorage self.old
             (λ w w'. HandOverCall w Owner.Caller load named.now result w') self.new }
     {
         self.load_take_for(Owner::Caller, load, named)
@@ -490,10 +474,9 @@ impl<E: Env<Node: NodeSet<E>>, S: PagableStorage<E>> Pager<E, S> {
         load: LoadNumber,
         named: &[HandleNumber],
     ) -> Result<(), Error>
-        requires { may_call (pager_core (storage_view S.PagableStorage) self.old) me ≡ true }
-        ensures { CallsKeepingInvariant AddsNoValue (storage_view S.PagableStorage)
-            (values_at E.Node.NodeSet E.Env E.Hash.KeyHash)
-            self.old (λ w w'. HandOverCall w me load named.now result w') self.new }
+        requires { may_call (pager_core S.PagableStorage self.old) me ≡ true }
+        ensures { CallsKeepingInvariant S.PagableStorage (values_at E.Node.NodeSet E.Env E.Hash.KeyHash) self.old
+            (λ w w'. HandOverCall w me load named.now result w') self.new }
     {
         let lists = !self.storage.has_closed();
         load_end::load_take(&mut self.tables, &mut self.values, me, load, named, lists)
@@ -501,8 +484,7 @@ impl<E: Env<Node: NodeSet<E>>, S: PagableStorage<E>> Pager<E, S> {
 
     /// Returns whether a handle is loose. Fails with NoSuchHandle only.
     pub(crate) fn is_loose(&self, handle: HandleNumber) -> Result<bool, Error>
-        ensures { Looks (pager_core (storage_view S.PagableStorage) self.now) handle
-            (λ loose row. loose ≡ is_loose row.mode) result }
+        ensures { Looks (pager_core S.PagableStorage self.now) handle (λ loose row. loose ≡ is_loose row.mode) result }
     {
         queries::is_loose(&self.tables, handle)
     }
@@ -510,20 +492,16 @@ impl<E: Env<Node: NodeSet<E>>, S: PagableStorage<E>> Pager<E, S> {
     /// Returns the handle at this place of the page-out list, with type and key of its cell; None
     /// past the list's end.
     pub(crate) fn pending_entry(&self, place: usize) -> Option<(HandleRow, u32, OptionalDataKey)>
-        ensures found { IfSome result (λ e. IsEntry (pager_core (storage_view S.PagableStorage) self.now) place
-            e.0.number
-            e.0 e.1) }
-        ensures keyed { IfSome result (λ e. key_at (pager_core (storage_view S.PagableStorage) self.now) e.0.node.0
-            ≡ e.2) }
-        ensures past { IfNone result (length (pager_core (storage_view S.PagableStorage) self.now).list ≤ place) }
+        ensures found { IfSome result (λ e. IsEntry (pager_core S.PagableStorage self.now) place e.0.number e.0 e.1) }
+        ensures keyed { IfSome result (λ e. key_at (pager_core S.PagableStorage self.now) e.0.node.0 ≡ e.2) }
+        ensures past { IfNone result (length (pager_core S.PagableStorage self.now).list ≤ place) }
     {
         queries::pending_entry(&self.tables, place)
     }
 
     /// Begins a worker. Fails with NumbersSpent or OutOfMemory.
     pub(crate) fn worker_begin(&mut self) -> Result<WorkerNumber, Error>
-        ensures { Calls ChangesOnlyTables (storage_view S.PagableStorage) self.old
-            (λ w w'. BeginsWorker w result w') self.new }
+        ensures { Calls ChangesOnlyTables S.PagableStorage self.old (λ w w'. BeginsWorker w result w') self.new }
     {
         workers::worker_begin(&mut self.tables)
     }
@@ -531,10 +509,8 @@ impl<E: Env<Node: NodeSet<E>>, S: PagableStorage<E>> Pager<E, S> {
     /// Begins a worker, removes the entry at this place from the page-out list, and makes the
     /// worker the owner of the entry's handle. Fails with NumbersSpent or OutOfMemory.
     pub(crate) fn worker_begin_with_entry(&mut self, place: usize) -> Result<WorkerNumber, Error>
-        requires { place < length (pager_core (storage_view S.PagableStorage) self.old).list }
-        ensures { Calls ChangesOnlyTables (storage_view S.PagableStorage) self.old
-            (λ w w'. TakesWorker w place result w')
-            self.new }
+        requires { place < length (pager_core S.PagableStorage self.old).list }
+        ensures { Calls ChangesOnlyTables S.PagableStorage self.old (λ w w'. TakesWorker w place result w') self.new }
     {
         workers::worker_begin_with_entry(&mut self.tables, place)
     }
@@ -544,12 +520,10 @@ impl<E: Env<Node: NodeSet<E>>, S: PagableStorage<E>> Pager<E, S> {
     /// with WrongKind if the kinds of the cell's type don't fit 32 bits, and with NumbersSpent or
     /// OutOfMemory.
     pub(crate) fn worker_listed(&mut self, place: usize) -> Result<(WorkerNumber, ArcRef), Error>
-        ensures begins { IfOk result (λ b. TakesEntry (pager_core (storage_view S.PagableStorage) self.old) place b.0
-            b.1
-            (pager_core (storage_view S.PagableStorage) self.new)) }
-        ensures refused { IfErr result (λ e. EntryFault (pager_core (storage_view S.PagableStorage) self.old) place e
-            × Alike (pager_core (storage_view S.PagableStorage) self.old)
-            (pager_core (storage_view S.PagableStorage) self.new)) }
+        ensures begins { IfOk result (λ b. TakesEntry (pager_core S.PagableStorage self.old) place b.0 b.1
+            (pager_core S.PagableStorage self.new)) }
+        ensures refused { IfErr result (λ e. EntryFault (pager_core S.PagableStorage self.old) place e × Alike
+            (pager_core S.PagableStorage self.old) (pager_core S.PagableStorage self.new)) }
         ensures only { ChangesOnlyTables self.old self.new }
     {
         let Some((row, node_type, _)) = self.pending_entry(place) else {
@@ -565,9 +539,7 @@ impl<E: Env<Node: NodeSet<E>>, S: PagableStorage<E>> Pager<E, S> {
 
     /// Releases all handles that a worker has of a node, with all that follows.
     pub(crate) fn release_worker_node(&mut self, worker: WorkerNumber, node: NodeNumber)
-        ensures { CallsKeepingInvariant AddsNoValue (storage_view S.PagableStorage)
-            (values_at E.Node.NodeSet E.Env E.Hash.KeyHash)
-            self.old
+        ensures { CallsKeepingInvariant S.PagableStorage (values_at E.Node.NodeSet E.Env E.Hash.KeyHash) self.old
             (λ w w'. FallsAnyhow w w (is_workers_at w worker.0 node.0) w') self.new }
     {
         let lists = !self.storage.has_closed();
@@ -577,9 +549,8 @@ impl<E: Env<Node: NodeSet<E>>, S: PagableStorage<E>> Pager<E, S> {
     /// Ends a worker: closes its loads and releases what it and they still own, with all that
     /// follows.
     pub(crate) fn worker_end(&mut self, worker: WorkerNumber)
-        ensures { CallsKeepingInvariant AddsNoValue (storage_view S.PagableStorage)
-            (values_at E.Node.NodeSet E.Env E.Hash.KeyHash)
-            self.old (λ w w'. WorkerEnds w worker.0 w') self.new }
+        ensures { CallsKeepingInvariant S.PagableStorage (values_at E.Node.NodeSet E.Env E.Hash.KeyHash) self.old
+            (λ w w'. WorkerEnds w worker.0 w') self.new }
     {
         let lists = !self.storage.has_closed();
         workers::worker_end(&mut self.tables, &mut self.values, worker, lists);
@@ -592,9 +563,9 @@ impl<E: Env<Node: NodeSet<E>>, S: PagableStorage<E>> Pager<E, S> {
         me: Owner,
         reference: ArcRef,
     ) -> Result<PinnedOrLoading, Error>
-        requires { may_call (pager_core (storage_view S.PagableStorage) self.old) me ≡ true }
-        ensures step { TakesReference (pager_core (storage_view S.PagableStorage) self.old) me reference result
-            (pager_core (storage_view S.PagableStorage) self.new) }
+        requires { may_call (pager_core S.PagableStorage self.old) me ≡ true }
+        ensures step { TakesReference (pager_core S.PagableStorage self.old) me reference result
+            (pager_core S.PagableStorage self.new) }
         ensures only { ChangesOnlyTables self.old self.new }
     {
         let loose = self.is_loose(reference.handle);

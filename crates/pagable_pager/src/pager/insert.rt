@@ -1,14 +1,14 @@
 //! Inserts values, makes nodes of what loads have read, and ends loads of cells with a value.
 
 ghost use Rattle.pagable_pager.specs.{
-  View.{Calls, ChangesOnlyTables, pager_core, pager_state, storage_view, value_in, with_value},
+  View.{BringsAtNewNode, BringsToCell, Calls, ChangesOnlyTables, pager_core, value_in, with_value},
 };
 ghost use Rattle.pagable_pager_spec.specs.{
   Basics.Error,
   Calls.{InsertCall, InsertPagedOutCall},
   Kinds.is_pinning,
   LoadCalls.{AdoptCall, EndCall},
-  Pager.{IsCellOf, IsNewNode, Moves},
+  
   Refusals.{Refused, closed_fault, earlier, load_fault},
   World.usable,
 };
@@ -65,12 +65,9 @@ impl<E: Env<Node: NodeSet<E>>, S: PagableStorage<E>> Pager<E, S> {
         mode: Mode,
     ) -> Result<HandleNumber, (Error, E::Node)>
         requires { is_pinning mode ≡ true }
-        ensures step { InsertCall (pager_core (storage_view S.PagableStorage) self.old) Owner.Caller node
-            (E.Node.type_of node) (E.Node.refs_of node) mode result
-            (pager_core (storage_view S.PagableStorage) self.new) }
-        ensures moves { Moves (λ n x. (x ≡ node) × IsNewNode (pager_core (storage_view S.PagableStorage) self.old) n)
-            (pager_state (storage_view S.PagableStorage) self.old)
-            (pager_state (storage_view S.PagableStorage) self.new) }
+        ensures step { InsertCall (pager_core S.PagableStorage self.old) Owner.Caller node (E.Node.type_of node)
+            (E.Node.refs_of node) mode result (pager_core S.PagableStorage self.new) }
+        ensures moves { BringsAtNewNode S.PagableStorage node self.old self.new }
         ensures storage { self.new.storage ≡ self.old.storage }
     {
         let references = match node.refs(alloc) {
@@ -106,12 +103,9 @@ impl<E: Env<Node: NodeSet<E>>, S: PagableStorage<E>> Pager<E, S> {
         alloc: Global,
         node: E::Node,
     ) -> Result<HandleNumber, (Error, E::Node)>
-        ensures step { InsertCall (pager_core (storage_view S.PagableStorage) self.old) Owner.Caller node
-            (E.Node.type_of node) (E.Node.refs_of node) Mode.Pinned result
-            (pager_core (storage_view S.PagableStorage) self.new) }
-        ensures moves { Moves (λ n x. (x ≡ node) × IsNewNode (pager_core (storage_view S.PagableStorage) self.old) n)
-            (pager_state (storage_view S.PagableStorage) self.old)
-            (pager_state (storage_view S.PagableStorage) self.new) }
+        ensures step { InsertCall (pager_core S.PagableStorage self.old) Owner.Caller node (E.Node.type_of node)
+            (E.Node.refs_of node) Mode.Pinned result (pager_core S.PagableStorage self.new) }
+        ensures moves { BringsAtNewNode S.PagableStorage node self.old self.new }
         ensures storage { self.new.storage ≡ self.old.storage }
     {
         self.new_node(alloc, node, Mode::Pinned)
@@ -127,12 +121,9 @@ impl<E: Env<Node: NodeSet<E>>, S: PagableStorage<E>> Pager<E, S> {
         alloc: Global,
         node: E::Node,
     ) -> Result<HandleNumber, (Error, E::Node)>
-        ensures step { InsertCall (pager_core (storage_view S.PagableStorage) self.old) Owner.Caller node
-            (E.Node.type_of node) (E.Node.refs_of node) Mode.LoosePinned result
-            (pager_core (storage_view S.PagableStorage) self.new) }
-        ensures moves { Moves (λ n x. (x ≡ node) × IsNewNode (pager_core (storage_view S.PagableStorage) self.old) n)
-            (pager_state (storage_view S.PagableStorage) self.old)
-            (pager_state (storage_view S.PagableStorage) self.new) }
+        ensures step { InsertCall (pager_core S.PagableStorage self.old) Owner.Caller node (E.Node.type_of node)
+            (E.Node.refs_of node) Mode.LoosePinned result (pager_core S.PagableStorage self.new) }
+        ensures moves { BringsAtNewNode S.PagableStorage node self.old self.new }
         ensures storage { self.new.storage ≡ self.old.storage }
     {
         self.new_node(alloc, node, Mode::LoosePinned)
@@ -149,12 +140,9 @@ impl<E: Env<Node: NodeSet<E>>, S: PagableStorage<E>> Pager<E, S> {
         alloc: Global,
         node: E::Node,
     ) -> Result<HandleNumber, (Error, E::Node)>
-        ensures step { InsertCall (pager_core (storage_view S.PagableStorage) self.old) Owner.Caller node
-            (E.Node.type_of node) (E.Node.refs_of node) Mode.Shared result
-            (pager_core (storage_view S.PagableStorage) self.new) }
-        ensures moves { Moves (λ n x. (x ≡ node) × IsNewNode (pager_core (storage_view S.PagableStorage) self.old) n)
-            (pager_state (storage_view S.PagableStorage) self.old)
-            (pager_state (storage_view S.PagableStorage) self.new) }
+        ensures step { InsertCall (pager_core S.PagableStorage self.old) Owner.Caller node (E.Node.type_of node)
+            (E.Node.refs_of node) Mode.Shared result (pager_core S.PagableStorage self.new) }
+        ensures moves { BringsAtNewNode S.PagableStorage node self.old self.new }
         ensures storage { self.new.storage ≡ self.old.storage }
     {
         self.new_node(alloc, node, Mode::Shared)
@@ -173,7 +161,7 @@ impl<E: Env<Node: NodeSet<E>>, S: PagableStorage<E>> Pager<E, S> {
         node_type: u32,
         key: DataKey,
     ) -> Result<HandleNumber, Error>
-        ensures { Calls ChangesOnlyTables (storage_view S.PagableStorage) self.old
+        ensures { Calls ChangesOnlyTables S.PagableStorage self.old
             (λ w w'. InsertPagedOutCall w Owner.Caller node_type key result w') self.new }
     {
         create::insert_paged_out(&mut self.tables, alloc, Owner::Caller, node_type, key)
@@ -196,11 +184,9 @@ impl<E: Env<Node: NodeSet<E>>, S: PagableStorage<E>> Pager<E, S> {
         requires fresh { (storage : StorageView) → adopt_check_fault (core_of self.old.tables storage) me load kind
             (E.Node.type_of node) references.items ≡ None }
         requires unknown { usable (core_alone self.old.tables) kind.0 key ≡ None }
-        ensures step { AdoptCall (pager_core (storage_view S.PagableStorage) self.old) me load kind key node
-            (E.Node.type_of node) (E.Node.refs_of node) result (pager_core (storage_view S.PagableStorage) self.new) }
-        ensures moves { Moves (λ n x. (x ≡ node) × IsNewNode (pager_core (storage_view S.PagableStorage) self.old) n)
-            (pager_state (storage_view S.PagableStorage) self.old)
-            (pager_state (storage_view S.PagableStorage) self.new) }
+        ensures step { AdoptCall (pager_core S.PagableStorage self.old) me load kind key node (E.Node.type_of node)
+            (E.Node.refs_of node) result (pager_core S.PagableStorage self.new) }
+        ensures moves { BringsAtNewNode S.PagableStorage node self.old self.new }
         ensures storage { self.new.storage ≡ self.old.storage }
     {
         if let Err(e) = create::make_room_for_node(&mut self.tables) {
@@ -218,11 +204,10 @@ impl<E: Env<Node: NodeSet<E>>, S: PagableStorage<E>> Pager<E, S> {
     /// Returns the error of a load's call that ran out of memory when it listed the references of
     /// a value: NoSuchHandle if the load isn't open, and otherwise `e`.
     fn references_error(&self, me: Owner, load: LoadNumber, e: Error) -> Error
-        ensures { e ≡ Error.OutOfMemory → (later : Option Error)
-            → Refused (earlier (load_fault (pager_core (storage_view S.PagableStorage) self.now) me load) later)
-            (closed_fault (pager_core (storage_view S.PagableStorage) self.now) load) (Unit {0})
-            (pager_core (storage_view S.PagableStorage) self.now) result
-            (pager_core (storage_view S.PagableStorage) self.now) }
+        ensures { e ≡ Error.OutOfMemory → (later : Option Error) → Refused
+            (earlier (load_fault (pager_core S.PagableStorage self.now) me load) later)
+            (closed_fault (pager_core S.PagableStorage self.now) load) (Unit {0}) (pager_core S.PagableStorage self.now)
+            result (pager_core S.PagableStorage self.now) }
     {
         match load_table::load_of(&self.tables.loads, load.0) {
             Some(_) => e,
@@ -253,11 +238,9 @@ impl<E: Env<Node: NodeSet<E>>, S: PagableStorage<E>> Pager<E, S> {
         key: DataKey,
         node: E::Node,
     ) -> Result<HandleNumber, (Error, E::Node)>
-        ensures step { AdoptCall (pager_core (storage_view S.PagableStorage) self.old) Owner.Caller load kind key node
-            (E.Node.type_of node) (E.Node.refs_of node) result (pager_core (storage_view S.PagableStorage) self.new) }
-        ensures moves { Moves (λ n x. (x ≡ node) × IsNewNode (pager_core (storage_view S.PagableStorage) self.old) n)
-            (pager_state (storage_view S.PagableStorage) self.old)
-            (pager_state (storage_view S.PagableStorage) self.new) }
+        ensures step { AdoptCall (pager_core S.PagableStorage self.old) Owner.Caller load kind key node
+            (E.Node.type_of node) (E.Node.refs_of node) result (pager_core S.PagableStorage self.new) }
+        ensures moves { BringsAtNewNode S.PagableStorage node self.old self.new }
         ensures storage { self.new.storage ≡ self.old.storage }
     {
         self.load_adopt_for(Owner::Caller, alloc, load, kind, key, node)
@@ -272,11 +255,9 @@ impl<E: Env<Node: NodeSet<E>>, S: PagableStorage<E>> Pager<E, S> {
         key: DataKey,
         node: E::Node,
     ) -> Result<HandleNumber, (Error, E::Node)>
-        ensures step { AdoptCall (pager_core (storage_view S.PagableStorage) self.old) me load kind key node
-            (E.Node.type_of node) (E.Node.refs_of node) result (pager_core (storage_view S.PagableStorage) self.new) }
-        ensures moves { Moves (λ n x. (x ≡ node) × IsNewNode (pager_core (storage_view S.PagableStorage) self.old) n)
-            (pager_state (storage_view S.PagableStorage) self.old)
-            (pager_state (storage_view S.PagableStorage) self.new) }
+        ensures step { AdoptCall (pager_core S.PagableStorage self.old) me load kind key node (E.Node.type_of node)
+            (E.Node.refs_of node) result (pager_core S.PagableStorage self.new) }
+        ensures moves { BringsAtNewNode S.PagableStorage node self.old self.new }
         ensures storage { self.new.storage ≡ self.old.storage }
     {
         let references = match node.refs(alloc) {
@@ -317,12 +298,9 @@ impl<E: Env<Node: NodeSet<E>>, S: PagableStorage<E>> Pager<E, S> {
         load: LoadNumber,
         value: E::Node,
     ) -> Result<HandleNumber, (Error, Option<E::Node>)>
-        ensures step { EndCall (pager_core (storage_view S.PagableStorage) self.old) Owner.Caller load value
-            (E.Node.type_of value) (E.Node.refs_of value) result (pager_core (storage_view S.PagableStorage) self.new) }
-        ensures moves { Moves (λ n x. (x ≡ value) × IsCellOf (pager_core (storage_view S.PagableStorage) self.old) load
-            n)
-            (pager_state (storage_view S.PagableStorage) self.old)
-            (pager_state (storage_view S.PagableStorage) self.new) }
+        ensures step { EndCall (pager_core S.PagableStorage self.old) Owner.Caller load value (E.Node.type_of value)
+            (E.Node.refs_of value) result (pager_core S.PagableStorage self.new) }
+        ensures moves { BringsToCell S.PagableStorage load value self.old self.new }
         ensures storage { self.new.storage ≡ self.old.storage }
     {
         self.load_end_for(Owner::Caller, alloc, load, value)
@@ -342,13 +320,9 @@ impl<E: Env<Node: NodeSet<E>>, S: PagableStorage<E>> Pager<E, S> {
         load: LoadNumber,
         value: E::Node,
     ) -> Result<HandleNumber, (Error, Option<E::Node>)>
-        ensures step { EndCall (pager_core (storage_view S.PagableStorage) self.old) me load value
-            (E.Node.type_of value)
-            (E.Node.refs_of value) result (pager_core (storage_view S.PagableStorage) self.new) }
-        ensures moves { Moves (λ n x. (x ≡ value) × IsCellOf (pager_core (storage_view S.PagableStorage) self.old) load
-            n)
-            (pager_state (storage_view S.PagableStorage) self.old)
-            (pager_state (storage_view S.PagableStorage) self.new) }
+        ensures step { EndCall (pager_core S.PagableStorage self.old) me load value (E.Node.type_of value)
+            (E.Node.refs_of value) result (pager_core S.PagableStorage self.new) }
+        ensures moves { BringsToCell S.PagableStorage load value self.old self.new }
         ensures storage { self.new.storage ≡ self.old.storage }
     {
         let references = match value.refs(alloc) {

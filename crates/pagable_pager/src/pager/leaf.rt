@@ -5,7 +5,7 @@ ghost use Rattle.pagable_core.specs.Data.{blob_of};
 ghost use Rattle.pagable_load.specs.{AccessView.values_at, Decoding.IsReadAs};
 ghost use Rattle.pagable_pager.specs.{
   Leaf.{LeafBegun, LeafDropped, LeafFetched, LeafPinned, LeafUnbegun},
-  View.{pager_core, pager_state, storage_view},
+  View.{Between, BetweenIfHonest, pager_core},
 };
 ghost use Rattle.pagable_pager_spec.specs.Access.{PinRun};
 ghost use Rattle.pagable_tables.specs.{HandleTable.room, Leaf.IsLeaf};
@@ -72,18 +72,13 @@ impl<E: Env<Node: NodeSet<E>>, S: PagableStorage<E>> Pager<E, S> {
     ) -> Result<Option<(Leaf, Arc<PagableData>)>, Error>
         ensures none { IfOk result (λ found. IfNone found (self.new ≡ self.old)) }
         ensures number { IfOk result (λ found. IfSome found (λ f. f.0.row.number ≡ handle)) }
-        ensures leaf { IfOk result (λ found. IfSome found
-            (λ f. IsLeaf (pager_core (storage_view S.PagableStorage) self.new) Owner.Caller f.0)) }
+        ensures leaf { IfOk result
+            (λ found. IfSome found (λ f. IsLeaf (pager_core S.PagableStorage self.new) Owner.Caller f.0)) }
         ensures place { IfOk result (λ found. IfSome found (λ f. 1 ≤ room self.new.tables.ref_counts.handles)) }
-        ensures fetched { IsTrue (S.is_honest self.new.storage)
-            → IfOk result (λ found. IfSome found (λ f. LeafFetched
-            (values_at E.Node.NodeSet E.Env E.Hash.KeyHash self.old.environment)
-            (pager_state (storage_view S.PagableStorage) self.old) f.0 (blob_of (arc_value f.1))
-            (pager_state (storage_view S.PagableStorage) self.new))) }
-        ensures refused { IsTrue (S.is_honest self.new.storage)
-            → IfErr result (λ e. PinRun (values_at E.Node.NodeSet E.Env E.Hash.KeyHash self.old.environment)
-            (pager_state (storage_view S.PagableStorage) self.old) handle (Err e)
-            (pager_state (storage_view S.PagableStorage) self.new)) }
+        ensures fetched { BetweenIfHonest E.Node.NodeSet E.Env E.Hash.KeyHash S.PagableStorage self.old self.new
+            (λ v s s'. IfOk result (λ found. IfSome found (λ f. LeafFetched v s f.0 (blob_of (arc_value f.1)) s'))) }
+        ensures refused { BetweenIfHonest E.Node.NodeSet E.Env E.Hash.KeyHash S.PagableStorage self.old self.new
+            (λ v s s'. IfErr result (λ e. PinRun v s handle (Err e) s')) }
         ensures honest { IsTrue (S.is_honest self.new.storage) → IsTrue (S.is_honest self.old.storage) }
         ensures environment { self.new.environment ≡ self.old.environment }
     {
@@ -107,15 +102,12 @@ impl<E: Env<Node: NodeSet<E>>, S: PagableStorage<E>> Pager<E, S> {
     ///
     /// - `OutOfMemory` if the load can't be allocated: no load is left.
     pub(crate) fn begin_leaf_load(&mut self, leaf: Leaf) -> Result<LoadNumber, Error>
-        requires leaf { IsLeaf (pager_core (storage_view S.PagableStorage) self.old) Owner.Caller leaf }
+        requires leaf { IsLeaf (pager_core S.PagableStorage self.old) Owner.Caller leaf }
         requires place { 1 ≤ room self.old.tables.ref_counts.handles }
-        ensures begun { IfOk result (λ l. LeafBegun (values_at E.Node.NodeSet E.Env E.Hash.KeyHash self.old.environment)
-            (pager_state (storage_view S.PagableStorage) self.old) leaf l
-            (pager_state (storage_view S.PagableStorage) self.new)) }
-        ensures dropped { IfErr result (λ e. (e ≡ Error.OutOfMemory)
-            × LeafUnbegun (values_at E.Node.NodeSet E.Env E.Hash.KeyHash self.old.environment)
-            (pager_state (storage_view S.PagableStorage) self.old) leaf
-            (pager_state (storage_view S.PagableStorage) self.new)) }
+        ensures begun { Between E.Node.NodeSet E.Env E.Hash.KeyHash S.PagableStorage self.old self.new
+            (λ v s s'. IfOk result (λ l. LeafBegun v s leaf l s')) }
+        ensures dropped { Between E.Node.NodeSet E.Env E.Hash.KeyHash S.PagableStorage self.old self.new
+            (λ v s s'. IfErr result (λ e. (e ≡ Error.OutOfMemory) × LeafUnbegun v s leaf s')) }
         ensures storage { self.new.storage ≡ self.old.storage }
         ensures environment { self.new.environment ≡ self.old.environment }
     {
@@ -140,17 +132,14 @@ impl<E: Env<Node: NodeSet<E>>, S: PagableStorage<E>> Pager<E, S> {
         leaf: Leaf,
         value: E::Node,
     ) -> Result<HandleNumber, Error>
-        requires leaf { IsLeaf (pager_core (storage_view S.PagableStorage) self.old) Owner.Caller leaf }
+        requires leaf { IsLeaf (pager_core S.PagableStorage self.old) Owner.Caller leaf }
         requires place { 1 ≤ room self.old.tables.ref_counts.handles }
         requires typed { E.Node.type_of value ≡ leaf.node_type }
         requires bare { E.Node.refs_of value ≡ [] }
-        ensures pinned { IfOk result (λ k. LeafPinned (values_at E.Node.NodeSet E.Env E.Hash.KeyHash
-            self.old.environment) (pager_state (storage_view S.PagableStorage) self.old) leaf value k
-            (pager_state (storage_view S.PagableStorage) self.new)) }
-        ensures dropped { IfErr result (λ e. (e ≡ Error.OutOfMemory)
-            × LeafDropped (values_at E.Node.NodeSet E.Env E.Hash.KeyHash self.old.environment)
-            (pager_state (storage_view S.PagableStorage) self.old) leaf
-            (pager_state (storage_view S.PagableStorage) self.new)) }
+        ensures pinned { Between E.Node.NodeSet E.Env E.Hash.KeyHash S.PagableStorage self.old self.new
+            (λ v s s'. IfOk result (λ k. LeafPinned v s leaf value k s')) }
+        ensures dropped { Between E.Node.NodeSet E.Env E.Hash.KeyHash S.PagableStorage self.old self.new
+            (λ v s s'. IfErr result (λ e. (e ≡ Error.OutOfMemory) × LeafDropped v s leaf s')) }
         ensures storage { self.new.storage ≡ self.old.storage }
         ensures environment { self.new.environment ≡ self.old.environment }
     {

@@ -1,7 +1,7 @@
 //! Names of root keys in a pager's storage.
 
 ghost use Rattle.pagable_core.specs.Roots.{HasBlobIfKey, RefusesRoot, Sets};
-ghost use Rattle.pagable_pager.specs.View.{AsksStorage, storage_view};
+ghost use Rattle.pagable_pager.specs.View.{AsksStorage};
 ghost use Rattle.pagable_pager_spec.specs.Calls.{Asked};
 ghost use Rattle.pagable_value_spec.specs.Stored.{IsMemoryOrFailure};
 ghost use Rattle.std.specs.Prelude.{IfErr, IfOk, IsTrue, OnErr, OnOk, ◌≡◌};
@@ -20,13 +20,13 @@ impl<E: Env<Node: NodeSet<E>>, S: Roots<E>> Pager<E, S> {
     /// - `OutOfMemory` if an allocation fails.
     /// - `Storage` if the storage fails.
     pub fn root(&mut self, name: &str) -> Result<Option<DataKey>, Error>
-        ensures asks { AsksStorage S.PagableStorage.is_honest (storage_view S.PagableStorage) self.old Asked self.new }
-        ensures ok { IsTrue (S.PagableStorage.is_honest self.new.storage)
-            → IfOk result (λ key. key ≡ S.Roots.roots self.old.storage name.now) }
+        ensures asks { AsksStorage S.PagableStorage self.old Asked self.new }
+        ensures ok { IsTrue (S.PagableStorage.is_honest self.new.storage) → IfOk result
+            (λ key. key ≡ S.Roots.roots self.old.storage name.now) }
         ensures same { IsTrue (S.PagableStorage.is_honest self.new.storage) → S.Roots.roots self.new.storage
             ≡ S.Roots.roots self.old.storage }
-        ensures refused { IfErr result (IsMemoryOrFailure (S.PagableStorage.failed self.old.storage)
-            (S.PagableStorage.failed self.new.storage)) }
+        ensures refused { IfErr result
+            (IsMemoryOrFailure (S.PagableStorage.failed self.old.storage) (S.PagableStorage.failed self.new.storage)) }
     {
         self.storage.root(name)
     }
@@ -43,17 +43,16 @@ impl<E: Env<Node: NodeSet<E>>, S: Roots<E>> Pager<E, S> {
     /// - `OutOfMemory` if an allocation fails.
     /// - `Storage` if the storage fails.
     pub fn set_root(&mut self, alloc: Global, name: &str, key: Option<DataKey>) -> Result<(), Error>
-        ensures asks { AsksStorage S.PagableStorage.is_honest (storage_view S.PagableStorage) self.old Asked self.new }
-        ensures sets { IsTrue (S.PagableStorage.is_honest self.new.storage)
-            → OnOk result (Sets name.now key (S.Roots.roots self.old.storage) (S.Roots.roots self.new.storage)) }
-        ensures stands { IsTrue (S.PagableStorage.is_honest self.new.storage)
-            → OnOk result (HasBlobIfKey (S.PagableStorage.stored self.old.storage) key) }
-        ensures refused { IsTrue (S.PagableStorage.is_honest self.new.storage)
-            → IfErr result (RefusesRoot key (S.PagableStorage.stored self.old.storage)
-            (S.PagableStorage.is_closed self.old.storage) (S.PagableStorage.failed self.old.storage)
-            (S.PagableStorage.failed self.new.storage)) }
-        ensures kept { IsTrue (S.PagableStorage.is_honest self.new.storage)
-            → OnErr result (S.Roots.roots self.new.storage ≡ S.Roots.roots self.old.storage) }
+        ensures asks { AsksStorage S.PagableStorage self.old Asked self.new }
+        ensures sets { IsTrue (S.PagableStorage.is_honest self.new.storage) → OnOk result
+            (Sets name.now key (S.Roots.roots self.old.storage) (S.Roots.roots self.new.storage)) }
+        ensures stands { IsTrue (S.PagableStorage.is_honest self.new.storage) → OnOk result
+            (HasBlobIfKey (S.PagableStorage.stored self.old.storage) key) }
+        ensures refused { IsTrue (S.PagableStorage.is_honest self.new.storage) → IfErr result (RefusesRoot key
+            (S.PagableStorage.stored self.old.storage) (S.PagableStorage.is_closed self.old.storage)
+            (S.PagableStorage.failed self.old.storage) (S.PagableStorage.failed self.new.storage)) }
+        ensures kept { IsTrue (S.PagableStorage.is_honest self.new.storage) → OnErr result
+            (S.Roots.roots self.new.storage ≡ S.Roots.roots self.old.storage) }
     {
         self.storage.set_root(alloc, name, key)
     }

@@ -1,5 +1,5 @@
 use Rattle.pagable_changes.specs.Changes.{AllHaveKeys}
-use Rattle.pagable_pager.specs.View.{pager_core, storage_view}
+use Rattle.pagable_pager.specs.View.{pager_core}
 use Rattle.pagable_tables.specs.NumberTable.{row_by}
 use Rattle.std.proofs.Common.{length, take, ◌-◌, ◌≤◌}
 use Rattle.pagable_changes.proofs.keys.collect_keys.Given as goal
@@ -8,7 +8,7 @@ use Rattle.pagable_changes.proofs.keys.collect_keys.Given as goal
 abbrev pub invariant-loop-at : goal.invariant-loop-at
 invariant-loop-at g l = record {
   within : l.at ≤ length l.references.items;
-  so : AllHaveKeys (λ n. row_by l.found n) (pager_core (storage_view g.S.PagableStorage) l.pager)
+  so : AllHaveKeys (λ n. row_by l.found n) (pager_core g.S.PagableStorage l.pager)
       (take l.at l.references.items) l.keys.items;
 }
 

@@ -1,6 +1,6 @@
 use Rattle.pagable_changes.specs.Changes.{Turns, stage}
 use Rattle.pagable_load.specs.AccessView.{values_at}
-use Rattle.pagable_pager.specs.View.{pager_state, storage_view}
+use Rattle.pagable_pager.specs.View.{pager_state}
 use Rattle.pagable_tables.specs.NumberTable.{row_by}
 use Rattle.std.proofs.Common.{IsTrue, ◌≡◌}
 use Rattle.pagable_changes.proofs.turns.make_turns.Given as goal
@@ -9,8 +9,8 @@ use Rattle.pagable_changes.proofs.turns.make_turns.Given as goal
 abbrev pub invariant-loop-left : goal.invariant-loop-left
 invariant-loop-left g l = record {
   so : IsTrue (g.S.PagableStorage.is_honest l.pager.storage) → Turns (values_at g.E.Node.NodeSet g.E.Env g.E.Hash.KeyHash l.fn.pager.environment)
-      (stage l.fn.path.items l.fn.node (λ n. row_by l.fn.found n) (pager_state (storage_view g.S.PagableStorage) l.fn.pager))
-      (stage l.path.items l.node (λ n. row_by l.found n) (pager_state (storage_view g.S.PagableStorage) l.pager));
+      (stage l.fn.path.items l.fn.node (λ n. row_by l.fn.found n) (pager_state g.S.PagableStorage l.fn.pager))
+      (stage l.path.items l.node (λ n. row_by l.found n) (pager_state g.S.PagableStorage l.pager));
   honest : IsTrue (g.S.PagableStorage.is_honest l.pager.storage) → IsTrue (g.S.PagableStorage.is_honest l.fn.pager.storage);
   environment : l.pager.environment ≡ l.fn.pager.environment;
 }

@@ -11,7 +11,7 @@ returns g c =
     record {
       loads = λ h. loads-told _ _ _ _ _ c.in_ok-load.ensures.begun c.reading_with_root-reading.result r.load r.key r.of_cell _ _ _ c.requires.caller r.reading
           (λ e. values_at g.E.Node.NodeSet g.E.Env g.E.Hash.KeyHash e) c.in_ok-load.ensures.environment refl c.read_rest.result (told h).1;
-      honest = λ h. subst (λ s. IsTrue (g.S.PagableStorage.is_honest s)) c.in_ok-load.ensures.storage (told h).0;
+      honest = λ h. rw c.in_ok-load.ensures.storage at (told h).0;
       lender = lender-is c.read_rest.ensures.acting;
       me = me-is c.read_rest.ensures.acting;
       environment = environment-is c.read_rest.ensures.acting ∙ c.in_ok-load.ensures.environment;

@@ -20,12 +20,12 @@ pub returns-in_err-pinned-2-clause-goes : goal.returns-in_err-pinned-2-clause-go
 returns-in_err-pinned-2-clause-goes g c =
     let p = err_from_is_err_and c.from_residual-in_err-pinned-2.result c.from_residual-in_err-pinned-2.ensures.1 in
     λ h. rw (p.1, p.2) (away-dropped (λ e. values_at g.E.Node.NodeSet g.E.Env g.E.Hash.KeyHash e) c.in_ok-started.ensures.environment
-    ((rw c.in-Some.is at c.in_ok-started.ensures.fetched) (subst (λ s. IsTrue (g.S.PagableStorage.is_honest s)) c.in_err-pinned-2.ensures.storage h))
+    ((rw c.in-Some.is at c.in_ok-started.ensures.fetched) (rw c.in_err-pinned-2.ensures.storage at h))
     (rw c.in-Some.is at c.in_ok-started.ensures.number) _ _ c.in_err-pinned-2.ensures.dropped)
 
 pub returns-clause-goes : goal.returns-clause-goes
 returns-clause-goes g c =
     λ h. away-pinned (λ e. values_at g.E.Node.NodeSet g.E.Env g.E.Hash.KeyHash e) c.in_ok-started.ensures.environment
-    ((rw c.in-Some.is at c.in_ok-started.ensures.fetched) (subst (λ s. IsTrue (g.S.PagableStorage.is_honest s)) c.in_ok-pinned-2.ensures.storage h))
+    ((rw c.in-Some.is at c.in_ok-started.ensures.fetched) (rw c.in_ok-pinned-2.ensures.storage at h))
     (rw c.in-Some.is at c.in_ok-started.ensures.number) c.in-Some-read.value c.in_ok-pinned-2.pinned _ (rw c.as_ref.ensures at c.in-Some-read.ensures.read)
     c.in-Some-read.ensures.bare c.in_ok-pinned-2.ensures.pinned

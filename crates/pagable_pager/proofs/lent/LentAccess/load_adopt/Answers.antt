@@ -1,6 +1,6 @@
 use Rattle.pagable_load.specs.AccessView.{AdoptsValue, values_at}
 use Rattle.pagable_pager.proofs.LentCalls.{adopted_live, brings-so, told-if}
-use Rattle.pagable_pager.specs.View.{pager_core, storage_view}
+use Rattle.pagable_pager.specs.View.{pager_core}
 use Rattle.pagable_tables.proofs.SameViews.{failed}
 use Rattle.std.proofs.Common.{Ok, rules, subst}
 use Rattle.std.specs.Prelude.{IsTrue}
@@ -8,10 +8,10 @@ use Rattle.pagable_pager.proofs.lent.LentAccess.load_adopt.Goals as goal
 
 pub returns-in_err-adopted : goal.returns-in_err-adopted
 returns-in_err-adopted g c =
-    let tells = storage_view g.S.PagableStorage in
+    let tells = g.S.PagableStorage in
     let e = c.in_err-adopted.ensures in
     record {
-      step = told-if _ _ _ _ (λ h. subst (λ s. IsTrue (g.S.PagableStorage.is_honest s)) c.load_adopt_for-adopted.ensures.storage h)
+      step = told-if _ _ _ _ (λ h. rw c.load_adopt_for-adopted.ensures.storage at h)
           (λ h. brings-so tells (values_at g.E.Node.NodeSet g.E.Env g.E.Hash.KeyHash) c.args.self.now.pager.now c.load_adopt_for-adopted.new.self
           (λ w'. AdoptsValue (pager_core tells c.args.self.now.pager.now) c.args.self.now.me c.args.load c.args.kind c.args.key c.args.node
           (g.E.Node.NodeSet.type_of c.args.node) (g.E.Node.NodeSet.refs_of c.args.node) (c.from_residual.result) w')
@@ -21,10 +21,10 @@ returns-in_err-adopted g c =
 
 pub returns : goal.returns
 returns g c =
-    let tells = storage_view g.S.PagableStorage in
+    let tells = g.S.PagableStorage in
     let e = c.in_ok-adopted.ensures in
     record {
-      step = told-if _ _ _ _ (λ h. subst (λ s. IsTrue (g.S.PagableStorage.is_honest s)) c.load_adopt_for-adopted.ensures.storage h)
+      step = told-if _ _ _ _ (λ h. rw c.load_adopt_for-adopted.ensures.storage at h)
           (λ h. brings-so tells (values_at g.E.Node.NodeSet g.E.Env g.E.Hash.KeyHash) c.args.self.now.pager.now c.load_adopt_for-adopted.new.self
           (λ w'. AdoptsValue (pager_core tells c.args.self.now.pager.now) c.args.self.now.me c.args.load c.args.kind c.args.key c.args.node
           (g.E.Node.NodeSet.type_of c.args.node) (g.E.Node.NodeSet.refs_of c.args.node) (Ok c.reference.result) w')

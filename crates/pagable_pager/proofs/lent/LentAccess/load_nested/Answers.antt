@@ -2,7 +2,7 @@ use Rattle.either.specs.declared.Either.{Either}
 use Rattle.pagable_core.specs.Data.{blob_of}
 use Rattle.pagable_load.specs.AccessView.{AsksFor, values_at}
 use Rattle.pagable_pager.proofs.LentCalls.{called_fewer, fewer_of_same, found-made, still-at-work, told-if}
-use Rattle.pagable_pager.specs.View.{pager_core, storage_view}
+use Rattle.pagable_pager.specs.View.{pager_core}
 use Rattle.std.proofs.Common.{Ok, rules}
 use Rattle.std.specs.Arc.{arc_value}
 use Rattle.pagable_pager.proofs.lent.LentAccess.load_nested.Goals as goal
@@ -12,7 +12,7 @@ invariant_of-self g c = record { at_work = still-at-work c.args.self.now.me c.lo
 
 pub returns-in-Left : goal.returns-in-Left
 returns-in-Left g c =
-    let tells = storage_view g.S.PagableStorage in
+    let tells = g.S.PagableStorage in
     let e = c.in_ok-handle.ensures in
     record {
       step = told-if _ _ _ _ e.honest (λ h. called_fewer tells (values_at g.E.Node.NodeSet g.E.Env g.E.Hash.KeyHash) c.args.self.now.pager.now

@@ -17,7 +17,7 @@ returns g c =
     record {
       h = c.in_ok-entry.entry;
       key = key;
-      has = subst (λ x. EntryHas s.core place x (OptionalDataKey.Some key)) same has;
+      has = rw same at has;
       mid = mid;
       takes = takes;
       refused = c.release-told.result;

@@ -1,5 +1,4 @@
 use Rattle.pagable_pager.proofs.NewValues.{new-asked, new-memory, new-refused, new-so, new-told, new-unknown, roomier}
-use Rattle.pagable_pager.specs.View.{storage_view}
 use Rattle.std.proofs.Common.{refl}
 use Rattle.pagable_pager.proofs.pager.Pager.adopt_as_new.Goals as goal
 
@@ -8,7 +7,7 @@ invariant_of-self g c = roomier c.self.invariant c.self.inside.values c.make_roo
 
 pub returns-in-Err-clause-step : goal.returns-in-Err-clause-step
 returns-in-Err-clause-step g c = rw (← c.self.view_is) (new-refused c.self.invariant c.self.view_is _ _ _ _ c.args.node c.requires.listed c.requires.fresh
-    c.requires.unknown (c.in-Err.ensures.refused (storage_view g.S.PagableStorage c.self.inside.storage)))
+    c.requires.unknown (c.in-Err.ensures.refused _))
 
 pub invariant_of-self-in-Err-put_value : goal.invariant_of-self-in-Err-put_value
 invariant_of-self-in-Err-put_value g c = roomier c.self.invariant c.put_value.new.values c.make_room_for_node.ensures.does c.in-Err-put_value.ensures.kept

@@ -1,5 +1,4 @@
 use Rattle.pagable_pager.proofs.{Invariant.{known-valued, none-so, only-less, release_at, same-so}, NewValues.not-adopted}
-use Rattle.pagable_pager.specs.View.{storage_view}
 use Rattle.pagable_tables.proofs.OwnedByLoad.{eager-pins}
 use Rattle.pagable_theorems.proofs.ValuesOwned.{adopted_known}
 use Rattle.std.proofs.Common.{ap, inl, not, refl, ◌∙◌}
@@ -12,7 +11,7 @@ pub invariant_of-self : goal.invariant_of-self
 invariant_of-self g c =
     let e = c.in-Ok-Some.ensures in
     release_at c.self.invariant _ _ e.whole e.later e.drops
-    (λ left. adopted_known c.self.invariant.state left ((rw c.in-Ok-Some.field-0-is at e.known) (storage_view g.S.PagableStorage c.self.inside.storage)
+    (λ left. adopted_known c.self.invariant.state left ((rw c.in-Ok-Some.field-0-is at e.known) _
     (ap not c.has_closed-lists.ensures))
     (rw c.in-Ok-Some.field-0-is at e.given).1)
 
@@ -22,7 +21,7 @@ returns-in-Ok-Some g c =
     let less = only-less c.self.invariant c.adopt_if_cached.new.t c.adopt_if_cached.new.values e.drops in
     rw (← c.self.view_is, ← c.node_type-node_type.ensures.value, ← (c.deref.ensures.value ∙ c.in-Ok.ensures.ok)) (record {
       step = record {
-        adopts = (rw c.in-Ok-Some.field-0-is at e.known) (storage_view g.S.PagableStorage c.self.inside.storage)
+        adopts = (rw c.in-Ok-Some.field-0-is at e.known) _
             (ap not c.has_closed-lists.ensures);
         refused = tt;
       };
@@ -50,7 +49,7 @@ returns-in-Ok-None g c =
 
 pub invariant_of-self-in-Err-adopt_if_cached : goal.invariant_of-self-in-Err-adopt_if_cached
 invariant_of-self-in-Err-adopt_if_cached g c = let e = c.in-Err-adopt_if_cached.ensures in
-    same-so c.self.invariant _ _ e.whole e.later e.drops (e.refused (storage_view g.S.PagableStorage c.self.inside.storage)).stays
+    same-so c.self.invariant _ _ e.whole e.later e.drops (e.refused _).stays
 
 pub returns-in-Err-adopt_if_cached : goal.returns-in-Err-adopt_if_cached
 returns-in-Err-adopt_if_cached g c =
@@ -58,7 +57,7 @@ returns-in-Err-adopt_if_cached g c =
     let less = only-less c.self.invariant c.adopt_if_cached.new.t c.adopt_if_cached.new.values e.drops in
     rw (← c.self.view_is) (record {
       step = not-adopted c.node_type-node_type.ensures.value (c.deref.ensures.value ∙ c.in-Ok.ensures.ok) refl
-          (e.refused (storage_view g.S.PagableStorage c.self.inside.storage));
+          (e.refused _);
       moves = record { each = λ n x has. inl (less.values n x has); environment = less.environment };
       storage = refl;
     })

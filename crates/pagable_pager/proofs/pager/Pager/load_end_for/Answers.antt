@@ -1,5 +1,4 @@
 use Rattle.pagable_pager.proofs.NewValues.{ended-so, ended-told, no-room, ready-told, roomier, unended, vain}
-use Rattle.pagable_pager.specs.View.{storage_view}
 use Rattle.std.proofs.Common.{inl, refl, ◌∙◌}
 use Rattle.pagable_pager.proofs.pager.Pager.load_end_for.Goals as goal
 
@@ -12,13 +11,13 @@ invariant_of-self-in-Err-HandleLost g c = roomier c.self.invariant c.self.inside
 pub returns-in-Err-Refused-clause-step : goal.returns-in-Err-Refused-clause-step
 returns-in-Err-Refused-clause-step g c =
     rw (← c.self.view_is, c.in-Err-Refused.field-0-is) (unended c.args.value c.node_type-node_type.ensures.value (c.deref.ensures.value ∙ c.in-Ok.ensures.ok)
-    ((rw c.in-Err-Refused.field-0-is at c.in-Err-Refused.ensures.unended) (storage_view g.S.PagableStorage c.self.inside.storage)))
+    ((rw c.in-Err-Refused.field-0-is at c.in-Err-Refused.ensures.unended) _))
 
 pub returns-in-Err-HandleLost-clause-step : goal.returns-in-Err-HandleLost-clause-step
 returns-in-Err-HandleLost-clause-step g c =
     rw (← c.self.view_is, c.in-Err-HandleLost.field-0-is) (vain c.args.value c.node_type-node_type.ensures.value (c.deref.ensures.value ∙ c.in-Ok.ensures.ok)
     c.load_drop_for.result
-    ((rw c.in-Err-HandleLost.field-0-is at c.in-Err-HandleLost.ensures.unended) (storage_view g.S.PagableStorage c.self.inside.storage))
+    ((rw c.in-Err-HandleLost.field-0-is at c.in-Err-HandleLost.ensures.unended) _)
     c.load_drop_for.ensures.called.step)
 
 pub returns-in-Err-HandleLost-clause-moves : goal.returns-in-Err-HandleLost-clause-moves
@@ -31,7 +30,7 @@ invariant_of-self-in-Err-put_value g c = roomier c.self.invariant c.put_value.ne
 pub returns-in-Err-put_value-clause-step : goal.returns-in-Err-put_value-clause-step
 returns-in-Err-put_value-clause-step g c = rw (← c.self.view_is, c.in-Err-put_value.ensures.only)
     (no-room c.self.invariant c.put_value.new.values c.prepare_end.ensures.does c.in-Err-put_value.ensures.back
-    (c.in-Ok-prepare_end.ensures.ready (storage_view g.S.PagableStorage c.self.inside.storage)))
+    (c.in-Ok-prepare_end.ensures.ready _))
 
 pub install-requires-clause-ready : goal.install-requires-clause-ready
 install-requires-clause-ready g c storage = ready-told refl c.deref.ensures.value (c.in-Ok-prepare_end.ensures.ready storage)

@@ -1,5 +1,4 @@
 use Rattle.pagable_pager.proofs.Invariant.{asks-kept}
-use Rattle.pagable_pager.specs.View.{storage_view}
 use Rattle.pagable_pager_spec.specs.Refusals.{earlier}
 use Rattle.pagable_tables.proofs.SameViews.{failed, still}
 use Rattle.pagable_tables.specs.Core.{load_in, no_blobs}
@@ -22,7 +21,7 @@ returns-in_err-fetch-in-Root-clause-step g c = λ h. rw (
   refused = inr (
     load_in c.in_ok-row-in-Root.row,
     rw (← c.self.view_is) (c.in_ok-row-in-Root.ensures.own
-        (storage_view g.S.PagableStorage c.self.inside.storage)),
+        _),
     c.in_err-fetch-in-Root.ensures.asks.step h,
   );
 })
@@ -32,7 +31,7 @@ returns-in_ok-fetch-in-Root-clause-step g c =
     λ h. rw c.in-Root.is (record {
       gives = (
         load_in c.in_ok-row-in-Root.row,
-        rw (← c.self.view_is) (c.in_ok-row-in-Root.ensures.own (storage_view g.S.PagableStorage c.self.inside.storage)),
+        rw (← c.self.view_is) (c.in_ok-row-in-Root.ensures.own _),
         c.in_ok-fetch-in-Root.ensures.asks.step h,
       );
       refused = tt;

@@ -1,5 +1,4 @@
 use Rattle.pagable_pager.proofs.NewValues.{born-so, born-told, only-room, roomier}
-use Rattle.pagable_pager.specs.View.{storage_view}
 use Rattle.pagable_tables.proofs.SameViews.{room-alike}
 use Rattle.std.proofs.Common.{inr, refl, ◌∙◌}
 use Rattle.pagable_pager.proofs.pager.Pager.new_node.Goals as goal
@@ -40,6 +39,6 @@ returns-in-Err-prepare_insert-clause-step g c = rw (← c.self.view_is) (record 
   made = tt;
   refused = (
     refl,
-    (rw (c.deref.ensures.value ∙ c.in-Ok.ensures.ok) at c.in-Err-prepare_insert.ensures.refused) (storage_view g.S.PagableStorage c.self.inside.storage),
+    (rw (c.deref.ensures.value ∙ c.in-Ok.ensures.ok) at c.in-Err-prepare_insert.ensures.refused) _,
   );
 })

@@ -1,11 +1,12 @@
 use Rattle.pagable_core.specs.Data.{blob_of}
 use Rattle.pagable_pager.proofs.Invariant.{asked, asks-it, kept-so, poll-call}
 use Rattle.std.specs.Arc.{arc_value}
+use Rattle.pagable_pager.proofs.pager.Pager.poll_fetch.Goals as goal
 
-pub invariant_of-self : Rattle.pagable_pager.proofs.pager.Pager.poll_fetch.Goals.invariant_of-self
+pub invariant_of-self : goal.invariant_of-self
 invariant_of-self g c = let e = c.fetch_data.ensures in kept-so c.self.invariant c.fetch_data.new.self e.open e.later
 
-pub returns-clause-asks : Rattle.pagable_pager.proofs.pager.Pager.poll_fetch.Goals.returns-clause-asks
+pub returns-clause-asks : goal.returns-clause-asks
 returns-clause-asks g c =
     let e = c.fetch_data.ensures in
     let s = c.fetch_data.new.self in

@@ -3,7 +3,6 @@ use Rattle.pagable_pager.proofs.{
   LeafPins.{asked-in, fetch-refused, fetch-told, leaf-after, leaf-asked, not-begun, pager-in},
   NewValues.roomier,
 }
-use Rattle.pagable_pager.specs.View.{storage_view}
 use Rattle.std.proofs.Common.{refl, ◌≡◌}
 use Rattle.pagable_pager.proofs.pager.Pager.start_leaf.Goals as goal
 
@@ -14,7 +13,7 @@ pub returns-in-Err-clause-refused : goal.returns-in-Err-clause-refused
 returns-in-Err-clause-refused g c =
     λ h. rw (← c.self.view_is)
     (not-begun c.self.invariant c.prepare_pin.new.t (roomier c.self.invariant c.self.inside.values c.prepare_pin.ensures.does (λ n. refl))
-    (c.in-Err.ensures.refused (storage_view g.S.PagableStorage c.self.inside.storage)))
+    (c.in-Err.ensures.refused _))
 
 pub invariant_of-self-2 : goal.invariant_of-self-2
 invariant_of-self-2 g c = roomier c.self.invariant c.self.inside.values c.prepare_pin.ensures.does (λ n. refl)
@@ -29,7 +28,7 @@ invariant_of-self-in-Err-fetch g c = given-so c.self-2.invariant c.leave_unloade
     c.leave_unloaded.ensures.same
 
 pub returns-in-Ok-clause-leaf : goal.returns-in-Ok-clause-leaf
-returns-in-Ok-clause-leaf g c = leaf-asked (storage_view g.S.PagableStorage) c.fetch.new.self c.in-Ok.ensures.asks.only.tables
+returns-in-Ok-clause-leaf g c = leaf-asked g.S.PagableStorage c.fetch.new.self c.in-Ok.ensures.asks.only.tables
     (rw c.in-Ok-Some.field-0-is at c.in-Ok-Some.ensures.leaf)
 
 pub returns-in-Ok-clause-fetched : goal.returns-in-Ok-clause-fetched

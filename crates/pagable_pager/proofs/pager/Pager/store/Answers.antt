@@ -1,11 +1,12 @@
 use Rattle.pagable_core.specs.Data.{blob_of}
 use Rattle.pagable_pager.proofs.Invariant.{asks-it, kept-so, store-call}
 use Rattle.pagable_value_spec.specs.Blob.{key_of}
+use Rattle.pagable_pager.proofs.pager.Pager.store.Goals as goal
 
-pub invariant_of-self : Rattle.pagable_pager.proofs.pager.Pager.store.Goals.invariant_of-self
+pub invariant_of-self : goal.invariant_of-self
 invariant_of-self g c = let e = c.store_data.ensures in kept-so c.self.invariant c.store_data.new.self e.open e.later
 
-pub returns-clause-asks : Rattle.pagable_pager.proofs.pager.Pager.store.Goals.returns-clause-asks
+pub returns-clause-asks : goal.returns-clause-asks
 returns-clause-asks g c =
     let e = c.store_data.ensures in
     let s = c.store_data.new.self in

@@ -1,12 +1,13 @@
 use Rattle.pagable_pager.proofs.Invariant.{owner-free, release_at-by}
 use Rattle.pagable_theorems.proofs.ValuesOwned.{unpinned}
+use Rattle.pagable_pager.proofs.pager.Pager.unpin_for.Goals as goal
 
-pub invariant_of-self : Rattle.pagable_pager.proofs.pager.Pager.unpin_for.Goals.invariant_of-self
+pub invariant_of-self : goal.invariant_of-self
 invariant_of-self g c =
     (release_at-by c.self.invariant _ _ c.unpin.ensures c.has_closed-lists.ensures
     (λ left. unpinned c.self.invariant.state left (owner-free c.self.invariant c.args.me c.self.view_is c.requires))).0
 
-pub returns : Rattle.pagable_pager.proofs.pager.Pager.unpin_for.Goals.returns
+pub returns : goal.returns
 returns g c = rw (← c.self.view_is)
     (release_at-by c.self.invariant _ _ c.unpin.ensures c.has_closed-lists.ensures
     (λ left. unpinned c.self.invariant.state left (owner-free c.self.invariant c.args.me c.self.view_is c.requires))).1

@@ -1,11 +1,10 @@
 use Rattle.pagable_pager.proofs.LentCalls.{is-new}
-use Rattle.pagable_pager.specs.View.{storage_view}
 use Rattle.std.specs.Arc.{arc_value}
 
 pub returns-clause-empty : Rattle.pagable_pager.proofs.pager.Pager.with_shared_setting.Goals.returns-clause-empty
 returns-clause-empty g c =
     let e = c.new.ensures in
-    is-new (storage_view g.S.PagableStorage) (record {
+    is-new g.S.PagableStorage (record {
       tables = c.new.result;
       values = c.new-2.result;
       storage = c.args.storage;

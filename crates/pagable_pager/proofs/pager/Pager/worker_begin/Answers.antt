@@ -1,7 +1,8 @@
 use Rattle.pagable_pager.proofs.{Invariant.{called, calls-tables}, LentCalls.begins}
+use Rattle.pagable_pager.proofs.pager.Pager.worker_begin.Goals as goal
 
-pub invariant_of-self : Rattle.pagable_pager.proofs.pager.Pager.worker_begin.Goals.invariant_of-self
-invariant_of-self g c = called c.self.invariant c.worker_begin.new.t c.worker_begin.ensures.does (begins c.self.invariant.state.whole c.worker_begin.result)
+pub invariant_of-self : goal.invariant_of-self
+invariant_of-self g c = called c.self.invariant c.worker_begin.ensures.does (begins c.self.invariant.state.whole c.worker_begin.result)
 
-pub returns : Rattle.pagable_pager.proofs.pager.Pager.worker_begin.Goals.returns
-returns g c = rw (← c.self.view_is) (calls-tables c.self.invariant _ c.worker_begin.ensures.does)
+pub returns : goal.returns
+returns g c = rw (← c.self.view_is) (calls-tables c.self.invariant c.worker_begin.ensures.does)
