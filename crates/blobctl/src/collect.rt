@@ -26,7 +26,7 @@ fn remove_log(rt: &HostRuntime, path: &str) -> io::Result<()> {
 }
 
 /// Moves the file `new` over the one at `path`, and removes both logs. Both files must be closed.
-fn replace(rt: &HostRuntime, path: &str, new: &str) -> io::Result<()> {
+fn replace_with_file(rt: &HostRuntime, path: &str, new: &str) -> io::Result<()> {
     remove_log(rt, new)?;
     remove_log(rt, path)?;
     fs::rename(rt, new, path)
@@ -54,6 +54,6 @@ pub fn collect_garbage<B: BlobsInFile>(rt: &HostRuntime, path: &str, mut blobs: 
     let new = path_with(rt.alloc(), path, ".new")?;
     let count = copy_beside(rt, &mut blobs, new.as_str())?;
     blobs.close(rt.alloc())?;
-    replace(rt, path, new.as_str())?;
+    replace_with_file(rt, path, new.as_str())?;
     Ok((format!(in rt.alloc(); "{count} blobs kept\n")?, true))
 }

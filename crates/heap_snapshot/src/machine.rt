@@ -176,7 +176,7 @@ impl Machine {
     }
 }
 
-/// Inserts the record of a machine at the first line of a program.
+/// Inserts the record of a machine that stands at the first line of the program.
 ///
 /// # Errors
 ///

@@ -15,9 +15,9 @@ SpellsDurable line (Open root new) = IsName root.now × IsName new.now
 SpellsDurable line Flush = line ≡ codes "flush"
 SpellsDurable line Stat = line ≡ codes "stat"
 
--- the answer to a line: its command, and none if it is no command's
-abbrev pub AnswersDurableLine : List ℕ → Option DurableCommand → Type 0
-AnswersDurableLine line answer = MatchOption answer ((command : DurableCommand) → ¬ (SpellsDurable line command))
+-- the result of a line: the command that it spells, and none if it spells none
+abbrev pub SpellsDurableResult : List ℕ → Option DurableCommand → Type 0
+SpellsDurableResult line answer = MatchOption answer ((command : DurableCommand) → ¬ (SpellsDurable line command))
     (λ command. SpellsDurable line command)
 
 -- what a command does to the names of handles, whatever it answers

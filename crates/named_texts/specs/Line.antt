@@ -33,9 +33,9 @@ Spells line (RunVerb verb name) = IsName name.now × (line ≡ word_of verb ++ 3
 Spells line Pending = line ≡ codes "pending"
 Spells line PageOut = line ≡ codes "pageout"
 
--- the answer to a line: its command, and none if it is no command's
-abbrev pub AnswersLine : List ℕ → Option Command → Type 0
-AnswersLine line answer = MatchOption answer ((command : Command) → ¬ (Spells line command))
+-- the result of a line: the command that it spells, and none if it spells none
+abbrev pub SpellsResult : List ℕ → Option Command → Type 0
+SpellsResult line answer = MatchOption answer ((command : Command) → ¬ (Spells line command))
     (λ command. Spells line command)
 
 -- no byte is a space

@@ -1,6 +1,6 @@
 //! The lines about named texts, whatever storage is below.
 
-ghost use Rattle.named_texts.specs.{Line.{AnswersLine, IsName, LacksSpace, word_of}, declared.command.Verb.Verb};
+ghost use Rattle.named_texts.specs.{Line.{IsName, LacksSpace, SpellsResult, word_of}, declared.command.Verb.Verb};
 ghost use Rattle.std.specs.{
   Char.is_ascii_alphanumeric,
   List.list_all,
@@ -43,7 +43,7 @@ pub enum Command<'a> {
 
 /// Returns the command that a line spells, or None if it spells none. One space separates words.
 pub fn parse(line: &str) -> Option<Command<'_>>
-    ensures { AnswersLine line.now result }
+    ensures { SpellsResult line.now result }
 {
     match line {
         "pending" => return Some(Command::Pending),
@@ -62,7 +62,7 @@ pub fn parse(line: &str) -> Option<Command<'_>>
 fn parse_word_and_name<'a>(word: &str, name: &'a str) -> Option<Command<'a>>
     requires word { LacksSpace word.now }
     requires name { LacksSpace name.now }
-    ensures { AnswersLine (word.now ++ 32 ∷ name.now) result }
+    ensures { SpellsResult (word.now ++ 32 ∷ name.now) result }
 {
     if !is_name(name) {
         return None;
@@ -80,7 +80,7 @@ fn parse_word_and_name<'a>(word: &str, name: &'a str) -> Option<Command<'a>>
 fn parse_word_name_and_rest<'a>(word: &str, name: &'a str, behind: &'a str) -> Option<Command<'a>>
     requires word { LacksSpace word.now }
     requires name { LacksSpace name.now }
-    ensures { AnswersLine (word.now ++ 32 ∷ (name.now ++ 32 ∷ behind.now)) result }
+    ensures { SpellsResult (word.now ++ 32 ∷ (name.now ++ 32 ∷ behind.now)) result }
 {
     if !is_name(name) {
         return None;

@@ -1,6 +1,6 @@
 //! The lines about texts that a storage keeps under names of roots.
 
-ghost use Rattle.named_texts.specs.{Durable.AnswersDurableLine, Line.LacksSpace};
+ghost use Rattle.named_texts.specs.{Durable.SpellsDurableResult, Line.LacksSpace};
 ghost use Rattle.std.specs.Prelude.{◌++◌, ◌∷◌};
 
 use crate::command::is_name;
@@ -21,7 +21,7 @@ pub enum DurableCommand<'a> {
 
 /// Returns the command that a line spells, or None if it spells none. One space separates words.
 pub fn parse_durable(line: &str) -> Option<DurableCommand<'_>>
-    ensures { AnswersDurableLine line.now result }
+    ensures { SpellsDurableResult line.now result }
 {
     match line {
         "flush" => return Some(DurableCommand::Flush),
@@ -44,7 +44,7 @@ fn parse_word_and_two_names<'a>(
 ) -> Option<DurableCommand<'a>>
     requires word { LacksSpace word.now }
     requires first { LacksSpace first.now }
-    ensures { AnswersDurableLine (word.now ++ 32 ∷ (first.now ++ 32 ∷ second.now)) result }
+    ensures { SpellsDurableResult (word.now ++ 32 ∷ (first.now ++ 32 ∷ second.now)) result }
 {
     if !is_name(first) || !is_name(second) {
         return None;

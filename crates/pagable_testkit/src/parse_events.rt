@@ -32,7 +32,7 @@ pub fn events_of_line(alloc: Global, line: &str) -> anyhow::Result<Vec<CellEvent
 /// chain of inserts.
 fn push_events(alloc: Global, events: &mut Vec<CellEvent>, part: &str) -> anyhow::Result<()> {
     if let Some(chain) = part.strip_prefix("chain ") {
-        return push_chain(alloc, events, chain);
+        return push_chain_of_inserts(alloc, events, chain);
     }
     let (one, times) = split_count(part);
     for _ in 0..times {
@@ -49,7 +49,11 @@ fn push_event(alloc: Global, events: &mut Vec<CellEvent>, one: &str) -> anyhow::
 /// Appends inserts into a new pager; each value but the first refers to the node before. A chain
 /// such as `new_loose 3 10 130` is the call, the type, the kind of the references, and the number
 /// of inserts.
-fn push_chain(alloc: Global, events: &mut Vec<CellEvent>, chain: &str) -> anyhow::Result<()> {
+fn push_chain_of_inserts(
+    alloc: Global,
+    events: &mut Vec<CellEvent>,
+    chain: &str,
+) -> anyhow::Result<()> {
     let (birth, times) = chain.rsplit_once(' ').context("no chain")?;
     let (birth, kind) = birth.rsplit_once(' ').context("no chain")?;
     push_event(alloc, events, birth)?;

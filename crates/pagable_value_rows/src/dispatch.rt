@@ -2,7 +2,9 @@
 //! environment registers. `types` answers for all other names.
 
 use crate::bytes::{AnyEnv, encoding_of, read};
-use crate::round_trip::{Outcome, ReplayedValue, replay, replay_eagerly, replay_in, with_text};
+use crate::round_trip::{
+    Outcome, ReencodedValue, reencode, reencode_eagerly, reencode_in, with_text,
+};
 use crate::types;
 use pagable_examples::animal::{Animal, AnimalReader};
 use pagable_examples::dish::Dish;
@@ -15,8 +17,8 @@ use std::alloc::Global;
 
 /// Reads a static text and writes it again. The outcome shows the text, and the least index of an
 /// equal text in the registry.
-fn replay_static_text(alloc: Global, zoo: &Zoo, input: &[u8]) -> Option<Outcome> {
-    let outcome = replay_in::<Zoo, StaticStr>(alloc, zoo, input);
+fn reencode_static_text(alloc: Global, zoo: &Zoo, input: &[u8]) -> Option<Outcome> {
+    let outcome = reencode_in::<Zoo, StaticStr>(alloc, zoo, input);
     let text = match read::<Zoo, StaticStr>(alloc, zoo, input) {
         Ok(value) => {
             let index = zoo.words.index_of(&value.as_str())?;
@@ -28,8 +30,8 @@ fn replay_static_text(alloc: Global, zoo: &Zoo, input: &[u8]) -> Option<Outcome>
 }
 
 /// Reads static bytes and writes them again. The outcome shows them as a text.
-fn replay_static_bytes(alloc: Global, zoo: &Zoo, input: &[u8]) -> Option<Outcome> {
-    let outcome = replay_in::<Zoo, StaticBytes>(alloc, zoo, input);
+fn reencode_static_bytes(alloc: Global, zoo: &Zoo, input: &[u8]) -> Option<Outcome> {
+    let outcome = reencode_in::<Zoo, StaticBytes>(alloc, zoo, input);
     let text = match read::<Zoo, StaticBytes>(alloc, zoo, input) {
         Ok(value) => String::from_utf8(value.as_bytes().to_vec(alloc).ok()?).ok(),
         Err(_) => None,
@@ -54,7 +56,7 @@ fn write_animal(alloc: Global, zoo: &Zoo, input: &[u8]) -> Outcome {
         [age] => Animal::Dog(*age),
         _ => Animal::Cat,
     };
-    Ok(ReplayedValue::new(input.len(), encoding_of(alloc, zoo, &animal)))
+    Ok(ReencodedValue::new(input.len(), encoding_of(alloc, zoo, &animal)))
 }
 
 /// Returns the readers of these names, in their order: of two for one tag the later one counts.
@@ -72,10 +74,10 @@ fn readers(names: &str) -> &'static [AnimalReader] {
 /// name says.
 fn answer_registered(alloc: Global, zoo: &Zoo, name: &str, input: &[u8]) -> Option<Outcome> {
     match name {
-        "StaticStr" => replay_static_text(alloc, zoo, input),
-        "StaticBytes" => replay_static_bytes(alloc, zoo, input),
+        "StaticStr" => reencode_static_text(alloc, zoo, input),
+        "StaticBytes" => reencode_static_bytes(alloc, zoo, input),
         "NewAnimal" => Some(write_animal(alloc, zoo, input)),
-        _ => Some(replay_in::<Zoo, Animal>(alloc, zoo, input)),
+        _ => Some(reencode_in::<Zoo, Animal>(alloc, zoo, input)),
     }
 }
 
@@ -87,10 +89,14 @@ pub fn answer(alloc: Global, name: &str, input: &[u8]) -> Option<Outcome> {
             let zoo = zoo(alloc, names)?;
             answer_registered(alloc, &zoo, word, input)
         }
-        "Dish" => replay::<Dish>(alloc, input),
-        "Size" => replay::<Size>(alloc, input),
-        "Expression" => Some(replay_in::<ExpressionEnv, Expression>(alloc, &ExpressionEnv, input)),
-        "Ticket" => Some(replay_eagerly::<AnyEnv, Ticket>(alloc, &AnyEnv, input)),
+        "Dish" => reencode::<Dish>(alloc, input),
+        "Size" => reencode::<Size>(alloc, input),
+        "Expression" => Some(reencode_in::<ExpressionEnv, Expression>(
+            alloc,
+            &ExpressionEnv,
+            input,
+        )),
+        "Ticket" => Some(reencode_eagerly::<AnyEnv, Ticket>(alloc, &AnyEnv, input)),
         _ => types::answer(alloc, name, input),
     }
 }

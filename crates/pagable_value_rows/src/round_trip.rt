@@ -12,11 +12,11 @@ use std::fmt::Display;
 
 /// The record of a value that was read and written again; or the number of the error that reading
 /// met; or `Err(None)` if two readings, or two ways of writing, that must agree differ.
-pub type Outcome = Result<ReplayedValue, Option<u32>>;
+pub type Outcome = Result<ReencodedValue, Option<u32>>;
 
 /// The record of a value that was read from an input and written again.
 #[derive(Drop)]
-pub struct ReplayedValue {
+pub struct ReencodedValue {
     /// How many bytes of the input the reader took for the value.
     pub bytes_read: usize,
     /// The bytes that were written for the value, or the number of the error of writing it.
@@ -25,10 +25,10 @@ pub struct ReplayedValue {
     pub shown: Option<String>,
 }
 
-impl ReplayedValue {
+impl ReencodedValue {
     /// Makes the record of a value that isn't shown.
-    pub fn new(bytes_read: usize, written: Result<Vec<u8>, u32>) -> ReplayedValue {
-        ReplayedValue {
+    pub fn new(bytes_read: usize, written: Result<Vec<u8>, u32>) -> ReencodedValue {
+        ReencodedValue {
             bytes_read,
             written,
             shown: None,
@@ -38,8 +38,8 @@ impl ReplayedValue {
 
 /// Adds the value's text to an outcome.
 pub fn with_text(outcome: Outcome, shown: Option<String>) -> Outcome {
-    let replayed = outcome?;
-    Ok(ReplayedValue { shown, ..replayed })
+    let reencoded = outcome?;
+    Ok(ReencodedValue { shown, ..reencoded })
 }
 
 /// Returns the encoding, if a value was read and written.
@@ -51,15 +51,15 @@ pub fn written_bytes(outcome: &Outcome) -> Option<&[u8]> {
 /// is how many bytes were read. WRITTEN is left out if it is what was read, and `= SHOWN` if the
 /// value isn't shown.
 pub fn outcome_text(alloc: Global, outcome: &Outcome, input: &[u8]) -> Result<String, AllocError> {
-    let replayed = match outcome {
-        Ok(replayed) => replayed,
+    let reencoded = match outcome {
+        Ok(reencoded) => reencoded,
         Err(Some(number)) => return format!(in alloc; "refused {number}"),
         Err(None) => return String::from_str(alloc, "unlike"),
     };
-    let written = written_text(alloc, &replayed.written, input.get(..replayed.bytes_read))?;
-    match &replayed.shown {
-        Some(shown) => format!(in alloc; "ok {}{written} = {shown}", replayed.bytes_read),
-        None => format!(in alloc; "ok {}{written}", replayed.bytes_read),
+    let written = written_text(alloc, &reencoded.written, input.get(..reencoded.bytes_read))?;
+    match &reencoded.shown {
+        Some(shown) => format!(in alloc; "ok {}{written} = {shown}", reencoded.bytes_read),
+        None => format!(in alloc; "ok {}{written}", reencoded.bytes_read),
     }
 }
 
@@ -100,7 +100,7 @@ fn read_twice<'de, E: Env, T: PagableDeserialize<'de, E> + Drop, D: PagableDeser
 }
 
 /// Reads an input twice as the type `T` of an environment, and writes the value again.
-pub fn replay_in<'de, E: Env, T>(alloc: Global, env: &E, input: &'de [u8]) -> Outcome
+pub fn reencode_in<'de, E: Env, T>(alloc: Global, env: &E, input: &'de [u8]) -> Outcome
 where
     T: PagableSerialize<E> + PagableDeserialize<'de, E> + Drop,
 {
@@ -108,24 +108,24 @@ where
     let mut source = PagableDeserializerImpl::new(input, &[], NoReferences::new(env, &session));
     let value = read_twice::<E, T, _>(alloc, &mut source)?;
     let bytes_read = PagableDeserializer::<E>::position(&source).byte_pos;
-    Ok(ReplayedValue::new(bytes_read, encoding_of(alloc, env, &value)))
+    Ok(ReencodedValue::new(bytes_read, encoding_of(alloc, env, &value)))
 }
 
 /// Reads an input as the type `T`, which needs no environment, and writes the value again.
-pub fn replay<'de, T>(alloc: Global, input: &'de [u8]) -> Option<Outcome>
+pub fn reencode<'de, T>(alloc: Global, input: &'de [u8]) -> Option<Outcome>
 where
     T: PagableSerialize<AnyEnv> + PagableDeserialize<'de, AnyEnv> + Drop,
 {
-    Some(replay_in::<AnyEnv, T>(alloc, &AnyEnv, input))
+    Some(reencode_in::<AnyEnv, T>(alloc, &AnyEnv, input))
 }
 
-/// Reads an input as the type `T` and writes the value again, as `replay` does, and adds the
+/// Reads an input as the type `T` and writes the value again, as `reencode` does, and adds the
 /// value's text to the outcome.
 pub fn shown<'de, T>(alloc: Global, input: &'de [u8]) -> Option<Outcome>
 where
     T: PagableSerialize<AnyEnv> + PagableDeserialize<'de, AnyEnv> + Display + Drop,
 {
-    let outcome = replay::<T>(alloc, input)?;
+    let outcome = reencode::<T>(alloc, input)?;
     let text = match read::<AnyEnv, T>(alloc, &AnyEnv, input) {
         Ok(value) => value.to_string(alloc).ok(),
         Err(_) => None,
@@ -134,7 +134,7 @@ where
 }
 
 /// Reads an input eagerly as the type `T` of an environment, and writes the value eagerly.
-pub fn replay_eagerly<'de, E: Env, T>(alloc: Global, env: &E, input: &'de [u8]) -> Outcome
+pub fn reencode_eagerly<'de, E: Env, T>(alloc: Global, env: &E, input: &'de [u8]) -> Outcome
 where
     T: PagableEagerSerialize<E> + PagableEagerDeserialize<'de, E> + Drop,
 {
@@ -146,7 +146,7 @@ where
             let bytes_read = PagableDeserializer::<E>::position(&source).byte_pos;
             let mut out = PagableSerializerImpl::testing_new(alloc, env);
             let done = value.eager_pagable_serialize(&mut out);
-            Ok(ReplayedValue::new(bytes_read, finished_bytes(done, out)))
+            Ok(ReencodedValue::new(bytes_read, finished_bytes(done, out)))
         }
     }
 }

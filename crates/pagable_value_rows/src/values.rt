@@ -39,7 +39,7 @@ fn checksum_of(bytes: &[u8]) -> u64 {
 /// Reads it, writes the value again, and returns `NAME N bytes wrote SUM`: how many bytes were
 /// written (0 if reading or writing fails), and their check sum; or `no such values` for an unknown
 /// name.
-fn replay_drawn(alloc: Global, name: &str, count: u32) -> anyhow::Result<String> {
+fn reencode_drawn(alloc: Global, name: &str, count: u32) -> anyhow::Result<String> {
     let Some((name_of_type, input)) = input_of(alloc, name, count)? else {
         return Ok(String::from_str(alloc, "no such values")?);
     };
@@ -67,7 +67,7 @@ fn find_match(alloc: Global, pattern: &str, text: &str) -> anyhow::Result<String
 pub fn answer(alloc: Global, name: &str, verb: &str, input: &str) -> anyhow::Result<String> {
     match verb {
         "write" => Ok(json_encoding(alloc, input)?),
-        "drawn" => replay_drawn(alloc, name, input.parse::<u32>()?),
+        "drawn" => reencode_drawn(alloc, name, input.parse::<u32>()?),
         "find" => find_match(alloc, name, input),
         _ => Ok(format!(in alloc; "\"{}\"", Error::Custom(Reason::new(input)))?),
     }

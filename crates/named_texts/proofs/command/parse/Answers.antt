@@ -1,6 +1,6 @@
 -- What stands before and behind the first two spaces.
 use Rattle.named_texts.proofs.Lines.{split_none, split_some}
-use Rattle.named_texts.specs.Line.{AnswersLine}
+use Rattle.named_texts.specs.Line.{SpellsResult}
 use Rattle.std.proofs.Common.{ap, subst, sym, ◌++◌, ◌∙◌, ◌∷◌}
 use Rattle.named_texts.proofs.command.parse.Goals as goal
 
@@ -18,10 +18,10 @@ parse_word_name_and_rest-requires-clause-name c = (split_some c.in_ok-word.rest.
 
 pub returns-in-None : goal.returns-in-None
 returns-in-None c = let parts = (split_some c.args.line.now (c.in_ok-word.word, c.in_ok-word.rest) c.in_ok-word.ensures.cases).1 in
-    subst (λ line. AnswersLine line c.parse_word_and_name.result) (sym parts) c.parse_word_and_name.ensures
+    subst (λ line. SpellsResult line c.parse_word_and_name.result) (sym parts) c.parse_word_and_name.ensures
 
 pub returns-in-Some : goal.returns-in-Some
 returns-in-Some c = let parts = (split_some c.args.line.now (c.in_ok-word.word, c.in_ok-word.rest) c.in_ok-word.ensures.cases).1 in
     let behind = (split_some c.in_ok-word.rest.now (c.in-Some.name, c.in-Some.behind) c.in-Some.ensures.cases).1 in
-    subst (λ line. AnswersLine line c.parse_word_name_and_rest.result) (sym (parts ∙ ap (λ rest. c.in_ok-word.word.now ++ 32 ∷ rest) behind))
+    subst (λ line. SpellsResult line c.parse_word_name_and_rest.result) (sym (parts ∙ ap (λ rest. c.in_ok-word.word.now ++ 32 ∷ rest) behind))
     c.parse_word_name_and_rest.ensures
