@@ -94,7 +94,8 @@ module _ {N E : Type 0} {v : Values N} where
   entry-walked {me = me} {n = n} {r = r} {shelf = shelf} {task = task} {below = below} {shelf' = shelf'} {answer = answer}
       mine is_plain first same {s = s} {mid = mid} {t = t} starts runs = record {
         pages = λ whole listed.
-            let fits : Fits v me n.0 task mid = record { me_is = mine; whole = starts.starts.begins.whole; task_fits = plain-fits n.0 mid.core task is_plain } in
+            let fits : Fits v me n.0 task mid =
+            record { me_is = mine; whole = starts.starts.begins.whole; task_fits = plain-fits n.0 mid.core task is_plain } in
             let empty : shelf ≡ no_shelf = λ p. record { slots = λ i. same.slots i p; waits = λ q. same.waits q p } in
             let task_is : first_todo (of_entry r.handle (identity_of r)) ≡ first_todo (entry_task starts.h starts.row starts.type) =
             ap (λ (x : ArcRef). first_todo (of_entry x.handle (identity_of x))) starts.is in
