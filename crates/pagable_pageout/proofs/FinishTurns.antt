@@ -1,30 +1,26 @@
 -- A worker's turns at what was written store it, set its key, publish the result and release the node; or the worker fails.
-use Rattle.pagable_codec.specs.declared.{env.Env.Ghosts as Environments, hash.KeyHash.Ghosts as Hashes, nodes.NodeSet.Ghosts as Nodes}
-use Rattle.pagable_load.proofs.LoadSteps.{acts_all, acts_map, none_comes}
-use Rattle.pagable_pageout.proofs.WorkerTurns.{alike, none-back, plain-fits, same-shelf}
+use Rattle.pagable_load.proofs.LoadSteps.{none_comes}
+use Rattle.pagable_pageout.proofs.{
+  Words.{Action, ArcRef, ClaimedNode, EachIsAwaited, EntryGetsResult, Environments, Equalities, Err, Error, FollowsStore, HandleNumber, Hashes, List},
+  Words.{MakesCall, NeedsNoPager, Nodes, None, Ok, Option, Orders, Owner, PageOutError, PagerState, PartialOrders, PerformsTask, Result, SameShelf, Shelf},
+  Words.{Some, Task, Todo, Turn, Values, WaitingValue, WorkerAnswer, Written, acts_all, acts_map, ap, arc_value, back_of, basics, false, identity_of, inl, inr},
+  Words.{keys_of, published, refl, subst, sym, tests, to_fail, to_publish, to_release, todos, todos_after, true, waiting_todo, waits_as, was_refused},
+  Words.{with_changed_slot, with_outcome, written_of, ℕ, [], ◌∙◌, ◌∷◌, ◌≡◌},
+  WorkerTurns.{alike, none-back, plain-fits, same-shelf},
+}
 use Rattle.pagable_pageout.specs.{
-  Slots.{keys_of, written_of},
-  Tasks.{EachIsAwaited, EntryGetsResult, NeedsNoPager, back_of, fails, fault_of, todos, waiting_todo, waits_as},
-  Turns.{FollowsStore, GoesBackOnList, PerformsTask, SetsKeyThrough, Stores, identity_of_node, todos_after},
-  declared.tasks.{ClaimedNode.ClaimedNode, DoneReference.DoneReference, PageOutError.PageOutError, Task.Task, Turn.Turn, WaitingValue.WaitingValue},
+  Tasks.{fails, fault_of},
+  Turns.{GoesBackOnList, SetsKeyThrough, Stores, identity_of_node},
+  declared.tasks.DoneReference.DoneReference,
 }
 use Rattle.pagable_pager_spec.specs.{
-  Access.MakesCall,
-  Basics.{ArcRef, Error, HandleNumber, Identity, is_loose_kind},
+  Basics.is_loose_kind,
   Calls.{ScheduleCall, SetKeyCall},
   Cascade.FallsAnyhow,
-  Kinds.identity_of,
-  Pager.PagerState,
-  Workers.{KeySetFor, is_workers_at, with_changed_slot, with_failed, with_outcome},
-  World.{SameShelf, Shelf, Todo, Values, Written, answer_of_fault, published, to_fail, to_publish, to_release, was_refused},
-  declared.{events.{Action.Action, WorkerAnswer.WorkerAnswer}, handle_row.Owner.Owner},
+  Workers.{KeySetFor, is_workers_at, with_failed},
+  World.answer_of_fault,
 }
 use Rattle.pagable_value_spec.specs.Merkle.{blob_of}
-use Rattle.std.proofs.{
-  Common.{Err, List, None, Ok, Result, Some, ap, arith, false, inl, inr, refl, subst, sym, true, ℕ, [], ◌∙◌, ◌∷◌, ◌≡◌},
-  lemmas.{Bool.Decides.nat_tests, Grind.common_steps},
-}
-use Rattle.std.specs.{Arc.arc_value, Prelude.Option, declared.cmp.{Ord.Ghosts as Orders, PartialEq.Ghosts as Equalities, PartialOrd.Ghosts as PartialOrders}}
 
 -- ---- a turn at what was written is the worker's
 
@@ -33,12 +29,12 @@ module _ {X XN XH XK XV : Type 0} {g : Environments X XN XH XK XV} {gh : Hashes 
   pub stored-way : (node : Option ClaimedNode) (written : Written) (keys : List ℕ) (key : ℕ) (turn : Turn X XN XH XK XV g gh go gq gp gn)
       (path : List (WaitingValue X XN XH XK XV g gh go gq gp gn)) → FollowsStore node key turn → EachIsAwaited (waits_as node written keys ∷ todos path)
       → EachIsAwaited (todos_after turn path)
-  stored-way given written keys key turn path is way = grind (arith, nat_tests, common_steps)
+  stored-way given written keys key turn path is way = grind basics
 
 module _ {X XN XH XK XV : Type 0} {g : Environments X XN XH XK XV} {gh : Hashes XH} {go : Orders XK} {gq : Equalities XK} {gp : PartialOrders XK}
-    {gn : Nodes XN X XN XH XK XV} {N E : Type 0} (v : Values N) (me : Owner) (n : ℕ) (shelf : Shelf) (below : List Todo) where
-  module _ (w : WaitingValue X XN XH XK XV g gh go gq gp gn) (way : EachIsAwaited (waiting_todo w ∷ below)) where
-    pub finish-stores : (key : ℕ) (turn : Turn X XN XH XK XV g gh go gq gp gn) (path : List (WaitingValue X XN XH XK XV g gh go gq gp gn)) → todos path ≡ below
+    {gn : Nodes XN X XN XH XK XV} {N E : Type 0} {v : Values N} {me : Owner} {n : ℕ} {shelf : Shelf} {below : List Todo} where
+  module _ {w : WaitingValue X XN XH XK XV g gh go gq gp gn} (way : EachIsAwaited (waiting_todo w ∷ below)) where
+    pub finish-stores : {key : ℕ} {turn : Turn X XN XH XK XV g gh go gq gp gn} (path : List (WaitingValue X XN XH XK XV g gh go gq gp gn)) → todos path ≡ below
         → FollowsStore w.node key turn → (s t : PagerState N E)
         → Stores v s (blob_of (written_of (arc_value w.written)).bytes (keys_of w.children.items)) (Ok key) t
         → PerformsTask v me n shelf (Task.Finish w) below shelf (record {
@@ -47,9 +43,9 @@ module _ {X XN XH XK XV : Type 0} {g : Environments X XN XH XK XV} {gh : Hashes 
           counted = true;
         })
         (todos_after turn path) s t
-    finish-stores key turn path at is s t call = grind (arith, nat_tests, common_steps, same-shelf, none_comes, plain-fits)
+    finish-stores path at is s t call = grind (basics, same-shelf, none_comes, plain-fits)
 
-    pub finish-fails : (e : Error) (task : Task X XN XH XK XV g gh go gq gp gn) (after : List Todo) → NeedsNoPager task → after
+    pub finish-fails : {e : Error} {task : Task X XN XH XK XV g gh go gq gp gn} {after : List Todo} → NeedsNoPager task → after
         ≡ fails (was_refused e) (back_of None below) → (s t : PagerState N E)
         → Stores v s (blob_of (written_of (arc_value w.written)).bytes (keys_of w.children.items)) (Err e) t
         → PerformsTask v me n shelf (Task.Finish w) below shelf (record {
@@ -58,14 +54,14 @@ module _ {X XN XH XK XV : Type 0} {g : Environments X XN XH XK XV} {gh : Hashes 
           counted = true;
         })
         after s t
-    finish-fails e task after plain is s t call = grind (arith, nat_tests, common_steps, same-shelf, none_comes, plain-fits)
+    finish-fails {task = task} plain is s t call = grind (basics, same-shelf, none_comes, plain-fits)
 
-  module _ (d : DoneReference X XN XH XK XV g gh go gq gp gn) where
-    pub set-goes : (through : HandleNumber) (s t : PagerState N E) → SetsKeyThrough v me d.reference through d.found.key (Ok tt) s t
+  module _ {d : DoneReference X XN XH XK XV g gh go gq gp gn} where
+    pub set-goes : {through : HandleNumber} (s t : PagerState N E) → SetsKeyThrough v me d.reference through d.found.key (Ok tt) s t
         → PerformsTask {g = g} {gh = gh} {go = go} {gq = gq} {gp = gp} {gn = gn} v me n shelf (Task.SetKey d through) below shelf
         (record { action = Action.SetKey (identity_of d.reference) (Ok tt); turn = Turn.Goes (Task.Publish d); counted = true })
         (to_publish d.reference d.found.key d.found.height ∷ below) s t
-    set-goes through s t call = record {
+    set-goes {through} s t call = record {
       counts = refl;
       turns = λ f.
           let sets = subst (λ o. KeySetFor s.core o d.reference through d.found.key (Ok tt) t.core) f.me_is call.sets in
@@ -80,7 +76,7 @@ module _ {X XN XH XK XV : Type 0} {g : Environments X XN XH XK XV} {gh : Hashes 
           };
     }
 
-    pub set-fails : (through : HandleNumber) (e : Error) (task : Task X XN XH XK XV g gh go gq gp gn) (after : List Todo) → NeedsNoPager task → after
+    pub set-fails : {through : HandleNumber} {e : Error} {task : Task X XN XH XK XV g gh go gq gp gn} {after : List Todo} → NeedsNoPager task → after
         ≡ fails (was_refused e) (back_of None below) → (s t : PagerState N E)
         → SetsKeyThrough v me d.reference through d.found.key (Err e) s t
         → PerformsTask v me n shelf (Task.SetKey d through) below shelf (record {
@@ -88,7 +84,7 @@ module _ {X XN XH XK XV : Type 0} {g : Environments X XN XH XK XV} {gh : Hashes 
           turn = Turn.Goes task;
           counted = true;
         }) after s t
-    set-fails through e task after is-plain is s t call = record {
+    set-fails {through} {e} {task} is-plain is s t call = record {
       counts = refl;
       turns = λ f.
           let sets = subst (λ o. KeySetFor s.core o d.reference through d.found.key (Err e) t.core) f.me_is call.sets in
@@ -112,25 +108,26 @@ module _ {X XN XH XK XV : Type 0} {g : Environments X XN XH XK XV} {gh : Hashes 
           };
     }
 
-    pub publishes : (shelf' : Shelf) (i : Identity) (key height : ℕ) → i ≡ identity_of d.reference → key ≡ d.found.key → height ≡ d.found.height
-        → SameShelf (with_changed_slot shelf i (with_outcome (published key height))) shelf' → (s : PagerState N E)
+    pub publishes : {shelf' : Shelf} (s : PagerState N E)
+        → SameShelf (with_changed_slot shelf d.found.identity (with_outcome (published d.found.key d.found.height))) shelf'
         → PerformsTask {g = g} {gh = gh} {go = go} {gq = gq} {gp = gp} {gn = gn} v me n shelf (Task.Publish d) below shelf'
         (record { action = Action.Publish (identity_of d.reference) d.found.key d.found.height; turn = Turn.Goes (Task.Release d); counted = true })
         (to_release d.reference d.found.key d.found.height ∷ below) s s
-    publishes shelf' i key height at same_key same_height same s = grind (arith, nat_tests, common_steps, alike)
+    publishes s same = let own = d.own in grind (basics, alike)
 
 module _ {X XN XH XK XV : Type 0} {g : Environments X XN XH XK XV} {gh : Hashes XH} {go : Orders XK} {gq : Equalities XK} {gp : PartialOrders XK}
-    {gn : Nodes XN X XN XH XK XV} {N E : Type 0} (v : Values N) (me : Owner) (n : ℕ) (shelf : Shelf) (d : DoneReference X XN XH XK XV g gh go gq gp gn) where
-  pub release-ends : (below : List Todo) → below ≡ [] → (s t : PagerState N E)
+    {gn : Nodes XN X XN XH XK XV} {N E : Type 0} {v : Values N} {me : Owner} {n : ℕ} {shelf : Shelf} {d : DoneReference X XN XH XK XV g gh go gq gp gn}
+    {below : List Todo} where
+  pub release-ends : below ≡ [] → (s t : PagerState N E)
       → MakesCall v (λ w'. FallsAnyhow s.core s.core (is_workers_at s.core n d.reference.node.0) w') s t
       → PerformsTask v me n shelf (Task.Release d) below shelf (record {
         action = Action.Release (identity_of d.reference);
         turn = Turn.Answers (WorkerAnswer.Key d.found.key);
         counted = true;
       }) [] s t
-  release-ends below none s t call = grind (arith, nat_tests, common_steps, same-shelf, none_comes)
+  release-ends none s t call = grind (basics, same-shelf, none_comes)
 
-  pub release-gives : (below : List Todo) (task : Task X XN XH XK XV g gh go gq gp gn) (after : List Todo)
+  pub release-gives : {task : Task X XN XH XK XV g gh go gq gp gn} {after : List Todo}
       → EntryGetsResult d.reference d.found.key d.found.height below after → NeedsNoPager task → (s t : PagerState N E)
       → MakesCall v (λ w'. FallsAnyhow s.core s.core (is_workers_at s.core n d.reference.node.0) w') s t
       → PerformsTask v me n shelf (Task.Release d) below shelf (record {
@@ -138,18 +135,18 @@ module _ {X XN XH XK XV : Type 0} {g : Environments X XN XH XK XV} {gh : Hashes 
         turn = Turn.Goes task;
         counted = true;
       }) after s t
-  release-gives below task after gives plain s t call = grind (arith, nat_tests, common_steps, same-shelf, none_comes, plain-fits)
+  release-gives {task} gives plain s t call = grind (basics, same-shelf, none_comes, plain-fits)
 
 module _ {X XN XH XK XV : Type 0} {g : Environments X XN XH XK XV} {gh : Hashes XH} {go : Orders XK} {gq : Equalities XK} {gp : PartialOrders XK}
-    {gn : Nodes XN X XN XH XK XV} {N E : Type 0} (v : Values N) (me : Owner) (n : ℕ) (shelf : Shelf) where
-  pub ends-failed : (shelf' : Shelf) (why : PageOutError) (back : Option HandleNumber) (below : List Todo) → SameShelf (with_failed shelf n) shelf'
+    {gn : Nodes XN X XN XH XK XV} {N E : Type 0} {v : Values N} {me : Owner} {n : ℕ} {shelf : Shelf} where
+  pub ends-failed : {shelf' : Shelf} {why : PageOutError} {back : Option HandleNumber} {below : List Todo} → SameShelf (with_failed shelf n) shelf'
       → (s t : PagerState N E) → GoesBackOnList v me back s t
       → PerformsTask {g = g} {gh = gh} {go = go} {gq = gq} {gp = gp} {gn = gn} v me n shelf (Task.Fail why back) below shelf'
       (record { action = Action.Fail; turn = Turn.Answers (answer_of_fault (fault_of why)); counted = true }) [] s t
-  ends-failed shelf' why back below same s t call = grind (arith, nat_tests, common_steps, none_comes)
+  ends-failed {why = why} {back} same s t call = grind (basics, none_comes)
 
 -- a key is set, or none is
-module _ {N E : Type 0} (v : Values N) (me : Owner) (r : ArcRef) (through : HandleNumber) (key : ℕ) where
+module _ {N E : Type 0} {v : Values N} {me : Owner} {r : ArcRef} {through : HandleNumber} {key : ℕ} where
   pub key-unset : is_loose_kind r.kind.0 ≡ false → (s : PagerState N E) → SetsKeyThrough v me r through key (Ok tt) s s
   key-unset kind s = record {
     sets = record { does = inr (kind, refl, alike s.core) };
@@ -157,14 +154,14 @@ module _ {N E : Type 0} (v : Values N) (me : Owner) (r : ArcRef) (through : Hand
     whole = λ w. w;
   }
 
-  pub key-set : is_loose_kind r.kind.0 ≡ true → (result : Result (Unit {0}) Error) (s t : PagerState N E)
+  pub key-set : is_loose_kind r.kind.0 ≡ true → {result : Result (Unit {0}) Error} (s t : PagerState N E)
       → MakesCall v (λ w'. SetKeyCall s.core me through key result w') s t → SetsKeyThrough v me r through key result s t
-  key-set kind result s t call = record { sets = record { does = inl (kind, call.step) }; moves = call.moves; whole = λ w. call.whole }
+  key-set kind s t call = record { sets = record { does = inl (kind, call.step) }; moves = call.moves; whole = λ w. call.whole }
 
 -- an entry goes back, or none does
 module _ {N E : Type 0} (v : Values N) (me : Owner) where
   pub back-none : (back : Option HandleNumber) → ((h : HandleNumber) → back ≡ Some h → ⊥) → (s : PagerState N E) → GoesBackOnList v me back s s
-  back-none back none s = grind (arith, nat_tests, common_steps, alike)
+  back-none back none s = grind (basics, alike)
 
   pub back-some : (back : Option HandleNumber) (h : HandleNumber) (r : Result (Unit {0}) Error) → back ≡ Some h → (s t : PagerState N E)
       → MakesCall v (λ w'. ScheduleCall s.core me h r w') s t
@@ -172,10 +169,10 @@ module _ {N E : Type 0} (v : Values N) (me : Owner) where
   back-some back h r is s t call = subst (λ b. GoesBackOnList v me b s t) (sym is)
       (record { goes = (r, call.step); moves = call.moves; whole = λ w. call.whole })
 
-pub ruleset keys = (nat_tests, acts_map, acts_all, key-unset, key-set)
+pub ruleset keys = (tests, acts_map, acts_all, key-unset, key-set)
 
-pub ruleset finishing = (nat_tests, common_steps, stored-way)
+pub ruleset finishing = (basics, stored-way)
 
 pub ruleset backs = (acts_map, acts_all, back-none, back-some)
 
-pub ruleset turning = (nat_tests, acts_all, publishes)
+pub ruleset turning = (tests, acts_all, publishes)

@@ -1,63 +1,39 @@
 -- What an access and a table do together.
 use Rattle.pagable_load.proofs.LoadSteps.{told_then}
 use Rattle.pagable_load.specs.AccessView.{Acting, ActsThen, IfKnown}
+use Rattle.pagable_pageout.proofs.Words.{None, Option, Some, ap, refl, subst, tells_all, tests, ◌∙◌, ◌≡◌}
 use Rattle.pagable_pageout.specs.Joint.{ActsBoth, both}
 use Rattle.pagable_pager_spec.specs.Access.{IfBothKnown, if_both_known}
-use Rattle.std.proofs.Common.{None, Option, Some, ap, refl, subst, ◌∙◌, ◌≡◌}
 use Rattle.std.specs.Prelude.{IfSome}
 
-module _ {S : Type 0} where
-  tells-as : (o n : Option S) (R P : S → S → Type 0) → ((s t : S) → R s t → P s t) → if_both_known o n R → if_both_known o n P
-  tells-as o None R P f h = tt
-  tells-as None (Some t) R P f h = h
-  tells-as (Some s) (Some t) R P f h = f s t h
-
-  pub told-as : {o n : Option S} {R P : S → S → Type 0} → ((s t : S) → R s t → P s t) → IfBothKnown o n R → IfBothKnown o n P
-  told-as {o} {n} {R} {P} f h = record { holds = tells-as o n R P f h.holds }
+pub told-as : {S : Type 0} {o n : Option S} {R P : S → S → Type 0} → ((s t : S) → R s t → P s t) → IfBothKnown o n R → IfBothKnown o n P
+told-as {S} {o} {n} f h = grind tests
 
 module _ {S Q : Type 0} where
   told-first : (o n : Option S) (q : Option Q) (R : S → Q → S → Q → Type 0) → ((x : Q) → if_both_known o n (λ s s'. R s x s' x))
       → if_both_known (both o q) (both n q) (λ st st'. R st.0 st.1 st'.0 st'.1)
-  told-first o None q R h = tt
-  told-first o (Some s') None R h = tt
-  told-first None (Some s') (Some x) R h = h x
   told-first (Some s) (Some s') (Some x) R h = h x
+  told-first None (Some s') (Some x) R h = h x
+  told-first o n q R h = tt
 
   told-second : (o : Option S) (q p : Option Q) (P : S → Type 0) (R : Q → Q → Type 0) (D : S → Q → S → Q → Type 0) → IfSome o P → if_both_known q p R
       → ((s : S) (x y : Q) → P s → R x y → D s x s y)
       → if_both_known (both o q) (both o p) (λ st st'. D st.0 st.1 st'.0 st'.1)
-  told-second None q p P R D h k f = tt
-  told-second (Some s) q None P R D h k f = tt
-  told-second (Some s) None (Some y) P R D h k f = k
-  told-second (Some s) (Some x) (Some y) P R D h k f = f s x y h k
+  told-second o q p P R D h k f = grind tests
 
   told-each : (o n : Option S) (q p : Option Q) (R : S → S → Type 0) (K : Q → Q → Type 0) (D : S → Q → S → Q → Type 0) → if_both_known o n R
       → if_both_known q p K
       → ((s s' : S) (x y : Q) → R s s' → K x y → D s x s' y)
       → if_both_known (both o q) (both n p) (λ st st'. D st.0 st.1 st'.0 st'.1)
-  told-each o None q p R K D h k f = tt
-  told-each o (Some s') q None R K D h k f = tt
-  told-each None (Some s') q (Some y) R K D h k f = h
-  told-each (Some s) (Some s') None (Some y) R K D h k f = k
-  told-each (Some s) (Some s') (Some x) (Some y) R K D h k f = f s s' x y h k
+  told-each o n q p R K D h k f = grind tests
 
   told-stays : (o : Option S) (q : Option Q) (P : S → Type 0) (D : S → Q → S → Q → Type 0) → IfSome o P → ((s : S) (x : Q) → P s → D s x s x)
       → if_both_known (both o q) (both o q) (λ st st'. D st.0 st.1 st'.0 st'.1)
-  told-stays None q P D h f = tt
-  told-stays (Some s) None P D h f = tt
-  told-stays (Some s) (Some x) P D h f = f s x h
-
-  told-none : (o : Option S) (q : Option Q) (R : S → Q → S → Q → Type 0) → ((s : S) (x : Q) → R s x s x)
-      → if_both_known (both o q) (both o q) (λ st st'. R st.0 st.1 st'.0 st'.1)
-  told-none None q R f = tt
-  told-none (Some s) None R f = tt
-  told-none (Some s) (Some x) R f = f s x
+  told-stays o q P D h f = grind tests
 
   told-alone : (o n : Option S) (x y : Q) (R : S → Q → S → Q → Type 0) → if_both_known (both o (Some x)) (both n (Some y)) (λ st st'. R st.0 st.1 st'.0 st'.1)
       → if_both_known o n (λ s s'. R s x s' y)
-  told-alone o None x y R h = tt
-  told-alone None (Some s') x y R h = h
-  told-alone (Some s) (Some s') x y R h = h
+  told-alone o n x y R h = grind tests
 
 module _ {A T S Q E : Type 0} {told : A → Option S} {by : A → Acting E} {shelf : T → Option Q} where
   -- the access acts, and the table stays
@@ -116,7 +92,7 @@ module _ {A T S Q E : Type 0} {told : A → Option S} {by : A → Acting E} {she
 
   -- nothing is done
   pub both-all : {a : A} {t : T} {R : Acting E → S → Q → S → Q → Type 0} → ((s : S) (x : Q) → R (by a) s x s x) → ActsBoth told by shelf a t a t (λ x. x) R
-  both-all {a} {t} {R} f = record { step = record { holds = told-none (told a) (shelf t) (R (by a)) f }; acting = refl }
+  both-all f = both-stays {P = λ s. Unit {0}} (tells_all (λ s. tt)) (λ s x u. f s x)
 
   -- the table is lent
   pub both-alone : {a a' : A} {t t' : T} {after : Acting E → Acting E} {R : Acting E → S → Q → S → Q → Type 0} (x y : Q) → shelf t ≡ Some x → shelf t' ≡ Some y

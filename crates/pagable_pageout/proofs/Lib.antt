@@ -1,3 +1,4 @@
+pub mod Words
 pub mod Waits
 pub mod Stacks
 pub mod WorkerTurns

@@ -1,28 +1,74 @@
 -- After each step the path still waits for what is done next, and less is left to do.
-use Rattle.pagable_codec.specs.declared.{env.Env.Ghosts as Environments, hash.KeyHash.Ghosts as Hashes, nodes.NodeSet.Ghosts as Nodes}
+use Rattle.pagable_pageout.proofs.Words.{
+  ArcRef,
+  Bool,
+  ClaimedNode,
+  EachIsAwaited,
+  EntryGetsResult,
+  Environments,
+  Equalities,
+  HandleNumber,
+  Hashes,
+  List,
+  Nodes,
+  None,
+  Option,
+  Orders,
+  PartialOrders,
+  Some,
+  Task,
+  Todo,
+  Turn,
+  WaitingValue,
+  Written,
+  advance,
+  ap,
+  arith,
+  back_of,
+  basics,
+  identity_of,
+  if_there,
+  if◌then◌else◌,
+  length,
+  length-map,
+  longest_path,
+  none-some,
+  refl,
+  same_some,
+  slice_get,
+  subst,
+  sym,
+  tests,
+  to_finish,
+  to_item,
+  to_start,
+  todo_of,
+  waiting_todo,
+  waits_as,
+  work_left,
+  ℕ,
+  [],
+  ◌*◌,
+  ◌+◌,
+  ◌<◌,
+  ◌∙◌,
+  ◌∷◌,
+  ◌≡◌,
+  ◌≤◌,
+}
 use Rattle.pagable_pageout.specs.{
   Slots.ids_of,
-  Tasks.{Awaits, AwaitsWithHeight, EachIsAwaited, EntryGetsResult, IfGoes, LowersWorkLeft, TakesNext, back_of, claim_weight, raise_height, todo_of, todos},
-  Tasks.{waiting_todo, waits_as, work_left},
-  declared.{results.SlotResult.SlotResult, tasks.{ClaimedNode.ClaimedNode, Task.Task, Turn.Turn, WaitingValue.WaitingValue}},
+  Tasks.{Awaits, AwaitsWithHeight, IfGoes, LowersWorkLeft, TakesNext, claim_weight, raise_height, todos},
+  declared.results.SlotResult.SlotResult,
 }
-use Rattle.pagable_pager_spec.specs.{
-  Basics.{above, if_there, is_eager, longest_path},
-  Kinds.identity_of,
-  Workers.{advance, give, give_known, next_start, place_below},
-  World.{Open, Todo, Written, to_finish, to_item, to_start},
-}
-use Rattle.pagable_theorems.proofs.Trees.{same_some}
-use Rattle.pagable_value_spec.specs.declared.numbers.{ArcRef.ArcRef, HandleNumber.HandleNumber}
+use Rattle.pagable_pager_spec.specs.{Basics.{above, is_eager}, Workers.{give, give_known, next_start, place_below}, World.Open}
 use Rattle.std.proofs.{
-  Common.{Bool, List, None, Option, Some, ap, arith, drop, get_or, if◌then◌else◌, length, map, refl, reverse, slice_get, subst, suc, sym, take, zero, ℕ, []},
-  Common.{◌*◌, ◌++◌, ◌+◌, ◌<◌, ◌^◌, ◌∙◌, ◌∷◌, ◌≡◌, ◌≤◌},
+  Common.{drop, get_or, map, reverse, suc, take, zero, ◌++◌, ◌^◌},
   Math.Nat.mul-le-mul_right,
-  lemmas.{Bool.Decides.nat_tests, Grind.common_steps},
-  lemmas.List.{at_drop_all, at_drop_more, length-append, length-map, length-reverse, map-append, nil_from_length, reverse-append, take_more},
-  lemmas.Option.{get_or_from_slice_get, none-some, slice_get_within},
+  lemmas.List.{at_drop_all, at_drop_more, length-append, length-reverse, map-append, nil_from_length, reverse-append, take_more},
+  lemmas.Option.{get_or_from_slice_get, slice_get_within},
 }
-use Rattle.std.specs.{Prelude.max, declared.cmp.{Ord.Ghosts as Orders, PartialEq.Ghosts as Equalities, PartialOrd.Ghosts as PartialOrders}}
+use Rattle.std.specs.Prelude.{max}
 
 -- what is left of references after so many, in both cases
 left-by : (Q : List ArcRef → Type 0) (n : ℕ) (refs : List ArcRef) → n ≤ length refs → (n ≡ length refs → Q [])
@@ -50,7 +96,7 @@ item-way written keys few = left-by (λ rest. EachIsAwaited (next_start 0 rest +
 -- the height by the reference too fits
 near-by : (place height p h kind : ℕ) (b : Bool) → is_eager kind ≡ b → p ≡ (if b then place + 1 else 0) → place + height ≤ longest_path → p + h ≤ longest_path
     → place + max height (above kind h) ≤ longest_path
-near-by place height p h kind b is at near low = grind (arith, nat_tests)
+near-by place height p h kind b is at near low = grind tests
 
 node-awaits : (o : Open) (below : List Todo) (r : ArcRef) (h : ℕ) → AwaitsWithHeight (to_finish o ∷ below) r h
     → (slice_get o.written.references (length o.keys) ≡ Some r) × (o.place + max o.height (above r.kind.0 h) ≤ longest_path) × Awaits below o.reference o.place
@@ -64,7 +110,7 @@ one-more refs xs x r at = let a = length-append xs (x ∷ []) in let b = slice_g
 pub takes-next : (node : Option ClaimedNode) (written : Written) (keys : List ℕ) (below : List Todo) (r : ArcRef) (h : ℕ)
     → AwaitsWithHeight (waits_as node written keys ∷ below) r h → TakesNext node written keys r h
 unfolding Awaits
-takes-next given written keys below r h up = grind (arith, nat_tests, node-awaits, none-some, same_some)
+takes-next given written keys below r h up = grind (tests, node-awaits, none-some, same_some)
 
 -- a reference is done
 pub give-way : (below : List Todo) (r : ArcRef) (key h : ℕ) → AwaitsWithHeight below r h → EachIsAwaited (give r key h below)
@@ -133,30 +179,30 @@ module _ {E EN EH EK EV : Type 0} {g : Environments E EN EH EK EV} {gh : Hashes 
 
 pub give-is : (node : Option ClaimedNode) (written : Written) (keys : List ℕ) (below : List Todo) (r : ArcRef) (key height : ℕ)
     → give r key height (waits_as node written keys ∷ below) ≡ advance (waits_as (raise_height r.kind.0 height node) written (keys ++ key ∷ []) ∷ below)
-give-is given written keys below r key height = grind (arith, nat_tests)
+give-is given written keys below r key height = grind tests
 
 -- what holds of a node with the height by a reference too
 pub raise_height-has : (Q : ClaimedNode → Type 0) (kind height : ℕ) (node : Option ClaimedNode)
     → ((m : ClaimedNode) → node ≡ Some m → Q (record m { height = max m.height (above kind height) }))
     → (n : ClaimedNode) → raise_height kind height node ≡ Some n → Q n
-raise_height-has Q kind height given f n is = grind (arith, nat_tests, same_some)
+raise_height-has Q kind height given f n is = grind (tests, same_some)
 
 -- of so many references that are done, the next is started, or none is left
 module _ (node : Option ClaimedNode) (written : Written) (keys : List ℕ) (below : List Todo) (n : ℕ) (many : length keys ≡ n) where
   pub settled-all : length written.references ≤ n → waits_as node written keys ∷ below ≡ advance (waits_as node written keys ∷ below)
-  settled-all all = grind (arith, nat_tests, common_steps, at_drop_all)
+  settled-all all = grind (basics, at_drop_all)
 
   pub settled-next : (r : ArcRef) (p : ℕ) → n < length written.references → r ≡ get_or written.references n r → p
       ≡ place_below (if_there (λ (n : ClaimedNode). n.place) 0 node) r.kind.0
       → to_start r p ∷ waits_as node written keys ∷ below ≡ advance (waits_as node written keys ∷ below)
-  settled-next r p more is at = grind (arith, nat_tests, common_steps, at_drop_more)
+  settled-next r p more is at = grind (basics, at_drop_more)
 
 -- what a path with nothing on it, and one with one more, is as plain data
-pub ruleset paths = (nat_tests, todos-none, todos-more, back-none, item-way)
+pub ruleset paths = (tests, todos-none, todos-more, back-none, item-way)
 
-pub ruleset settling = (nat_tests, common_steps, todos-more, settled-all, settled-next, length-map)
+pub ruleset settling = (basics, todos-more, settled-all, settled-next, length-map)
 
-pub ruleset giving = (nat_tests, common_steps, todos-more, todos-none, raise_height-has, length-map, map-append, slice_get_within)
+pub ruleset giving = (basics, todos-more, todos-none, raise_height-has, length-map, map-append, slice_get_within)
 
 -- ---- the number that falls with each step of a walk
 
@@ -168,11 +214,11 @@ module _ {X XN XH XK XV : Type 0} {g : Environments X XN XH XK XV} {gh : Hashes 
   pub start-falls : (turn : Turn X XN XH XK XV g gh go gq gp gn) (l l' : ℕ) (r : ArcRef) (place : ℕ) (below after : List Todo) → l' + 1 ≤ l
       → length below < 2 ^ 64 → LowersWorkLeft (to_start r place ∷ below) turn after
       → IfGoes turn (l' * claim_weight + work_left after < l * claim_weight + work_left (to_start r place ∷ below))
-  start-falls turn l l' r place below after less few leads = grind (arith, nat_tests, falls-by)
+  start-falls turn l l' r place below after less few leads = grind (tests, falls-by)
 
   pub other-falls : (task : Task X XN XH XK XV g gh go gq gp gn) → ((r : ArcRef) (place : ℕ) → task ≡ Task.Start r place → ⊥)
       → (turn : Turn X XN XH XK XV g gh go gq gp gn) (l : ℕ) (below after : List Todo) → LowersWorkLeft (todo_of task ∷ below) turn after
       → IfGoes turn (l * claim_weight + work_left after < l * claim_weight + work_left (todo_of task ∷ below))
-  other-falls task other turn l below after leads = grind (arith, nat_tests)
+  other-falls task other turn l below after leads = grind tests
 
-pub ruleset dues = (nat_tests, start-falls, other-falls, todos-length)
+pub ruleset dues = (tests, start-falls, other-falls, todos-length)

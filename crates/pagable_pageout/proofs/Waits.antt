@@ -1,47 +1,87 @@
 -- For whom a worker waits, why chains of waits end, and the slots of a table after each change.
 use Rattle.indexmap.specs.IndexMap.{IndexMap, get, set_value_at}
-use Rattle.pagable_codec.specs.declared.{env.Env.Ghosts as Environments, hash.KeyHash.Ghosts as Hashes, nodes.NodeSet.Ghosts as Nodes}
+use Rattle.pagable_pageout.proofs.Words.{
+  [],
+  Bool,
+  Environments,
+  Equalities,
+  Err,
+  Hashes,
+  List,
+  Nodes,
+  None,
+  Ok,
+  Option,
+  Orders,
+  PartialOrders,
+  Result,
+  SameShelf,
+  Shelf,
+  Some,
+  ap,
+  arith,
+  basics,
+  false,
+  if_there,
+  if◌then◌else◌,
+  inl,
+  inr,
+  is_same,
+  length,
+  lookup,
+  nat_eq,
+  none-some,
+  open_worker,
+  option_map,
+  refl,
+  same_some,
+  shelf_in,
+  slice_get,
+  slot_of,
+  subst,
+  sym,
+  tests,
+  true,
+  with_outcome,
+  ℕ,
+  ∥∥₁_map,
+  ◌<◌,
+  ◌∙◌,
+  ◌∷◌,
+  ◌≡◌,
+  ◌≤◌,
+}
 use Rattle.pagable_pageout.specs.{
   Slots.{Changes, EachEnds, Ends, FailedTo, HoldOnlyOwnResults, HoldsOnlyResultOf, SlotIs, TellsDeadlock, after_failure, claimed_by, ends-at, failed_by},
-  Slots.{is_same, open_worker, shelf_in, slot_of, slots_in, waits_for},
+  Slots.{slots_in, waits_for},
   declared.lent_slot.LentSlot.LentSlot,
 }
 use Rattle.pagable_pager_spec.specs.{
-  Basics.{Identity, SameAt, if_there, updated},
-  Workers.{ComesToEnd, IsOpenSlot, is_open_outcome, is_open_slot, may-go-on, waits-back, waits-on, with_outcome, with_slot, with_wait, works},
-  World.{Outcome, SameShelf, Shelf, Slot, is_identity, no_result},
+  Basics.{Identity, SameAt, updated},
+  Workers.{ComesToEnd, IsOpenSlot, is_open_outcome, is_open_slot, may-go-on, waits-back, waits-on, with_slot, with_wait, works},
+  World.{Outcome, Slot, is_identity, no_result},
 }
-use Rattle.pagable_theorems.proofs.Trees.{same_some}
-use Rattle.std.proofs.{
-  Common.{Bool, List, None, Option, Some, ap, arith, cond, false, if◌then◌else◌, inl, inr, length, nat_eq, refl, slice_get, subst, suc, sym, true, zero, ℕ, []},
-  Common.{◌&&◌, ◌<◌, ◌∙◌, ◌∷◌, ◌≡◌, ◌≤◌, ◌⊎◌},
-  lemmas.{Bool.Decides.nat_tests, Grind.{common_steps, merely}, Option.none-some},
-}
-use Rattle.std.specs.{
-  Map.{lookup, values_of},
-  Option.option_map,
-  Prelude.{Err, Ok, OnErr, OnOk, Result},
-  declared.cmp.{Ord.Ghosts as Orders, PartialEq.Ghosts as Equalities, PartialOrd.Ghosts as PartialOrders},
-}
-use mathlib.Core.{HLevel.Σ_prop_path, Logic.{∥∥₁_elim, ∥∥₁_map, ∥∥₁_prop}}
+use Rattle.std.proofs.{Common.{cond, suc, zero, ◌&&◌, ◌⊎◌}, lemmas.Grind.merely}
+use Rattle.std.specs.{Map.values_of, Prelude.{OnErr, OnOk}}
+use mathlib.Core.{HLevel.Σ_prop_path, Logic.{∥∥₁_elim, ∥∥₁_prop}}
 use native.Mathlib.Nat.{ℕ_set}
 
-pub open-is : (x : Slot) → x.outcome ≡ no_result → open_worker (Some x) ≡ Some x.worker
+open-is : (x : Slot) → x.outcome ≡ no_result → open_worker (Some x) ≡ Some x.worker
 open-is x e = ap (λ q. if is_open_outcome q then Some x.worker else None) e
 
-pub closed : (slot : Option Slot) → is_open_slot slot ≡ false → (w : ℕ) → open_worker slot ≡ Some w → ⊥
+closed : (slot : Option Slot) → is_open_slot slot ≡ false → (w : ℕ) → open_worker slot ≡ Some w → ⊥
 closed None h w e = none-some w e
 closed (Some x) h w e = none-some w (sym (ap (λ b. if b then Some x.worker else None) h) ∙ e)
 
 -- where the worker that it waits for leads, it does; and where it waits for none it goes no further
 pub leads-on : (s : Shelf) (v u w : ℕ) → waits_for s u ≡ Some w → nat_eq u v ≡ false → (b : Bool) → TellsDeadlock s v w b → TellsDeadlock s v u b
-leads-on s v u w is differs b h = grind (arith, nat_tests, same_some, waits-back, waits-on)
+leads-on s v u w is differs b h = grind (tests, same_some, waits-back, waits-on)
 
 pub leads-no-more : (s : Shelf) (v u : ℕ) → waits_for s u ≡ None → nat_eq u v ≡ false → TellsDeadlock s v u false
 leads-no-more s v u none differs = by (s.waits u) refl none
   where
     not-open : (slot : Option Slot) → open_worker slot ≡ None → is_open_slot slot ≡ false
-    not-open slot none = grind (arith, nat_tests)
+    not-open slot none = grind tests
 
     by : (found : Option Identity) → s.waits u ≡ found → if_there (λ i. open_worker (s.slots i)) None found ≡ None → ComesToEnd s v u
     by None is none = works u differs is
@@ -60,7 +100,7 @@ module _ (s s1 s2 : Shelf) (v : ℕ) (i : Identity) (same : SameShelf (with_wait
   end-still (may-go-on u j d e o) = may-go-on u j d (off u d ∙ e) (ap is_open_slot (same.slots j) ∙ o)
   end-still (waits-on u j slot d e o c) = waits-on u j slot d (off u d ∙ e) (open-still j slot o) (end-still c)
 
-pub ruleset claims = (nat_tests, open-still, end-still)
+pub ruleset claims = (tests, open-still, end-still)
 
 -- ---- the slots of a table after one of them came or changed
 
@@ -69,7 +109,7 @@ either-way (Ok x) p q = inl p
 either-way (Err e) p q = inr q
 
 pub eq-sym : (a b : ℕ) → nat_eq a b ≡ nat_eq b a
-eq-sym a b = grind (arith, nat_tests)
+eq-sym a b = grind tests
 
 pub same-as : (i j : Identity) → is_same (i.kind.0, i.node.0) (j.kind.0, j.node.0) ≡ is_identity i j
 same-as i j = ap (λ b. b && nat_eq i.node.0 j.node.0) (eq-sym i.kind.0 j.kind.0) ∙ ap (λ b. nat_eq j.kind.0 i.kind.0 && b) (eq-sym i.node.0 j.node.0)
@@ -78,7 +118,7 @@ pub same-numbers : (i j : Identity) → i.kind.0 ≡ j.kind.0 → i.node.0 ≡ j
 same-numbers i j k n = λ p. record { kind = record { 0 = k p }; node = record { 0 = n p } }
 
 pub same-identity : (i j : Identity) → is_same (i.kind.0, i.node.0) (j.kind.0, j.node.0) ≡ true → i ≡ j
-same-identity i j h = grind (arith, nat_tests, common_steps, same-numbers)
+same-identity i j h = grind (basics, same-numbers)
 
 -- what waits at one number, and at the others
 pub wait-is : {T : Type 0} (old new : IndexMap ℕ Identity T) (v : ℕ) (w : Option Identity)
@@ -90,16 +130,16 @@ module _ {E EN EH EK EV : Type 0} {g : Environments E EN EH EK EV} {gh : Hashes 
   module _ {S : Type 0} (old new : IndexMap (ℕ × ℕ) (LentSlot E EN EH EK EV g gh go gq gp gn) S) (i : Identity) (s : LentSlot E EN EH EK EV g gh go gq gp gn)
       (h : (q : ℕ × ℕ) → get is_same new q ≡ cond (is_same (i.kind.0, i.node.0) q) (Some s) (get is_same old q)) where
     pub slot-is : (x : Slot) → slot_of s ≡ x → SlotIs (slots_in old) i (Some x) (slots_in new)
-    slot-is x e j = grind (arith, nat_tests, common_steps, same-as)
+    slot-is x e j = grind (basics, same-as)
 
     pub own-is : HoldOnlyOwnResults old → ((j : Identity) → is_same (i.kind.0, i.node.0) (j.kind.0, j.node.0) ≡ true → HoldsOnlyResultOf j s)
         → HoldOnlyOwnResults new
-    own-is own fresh j t there = grind (arith, nat_tests, common_steps, same_some)
+    own-is own fresh j t there = grind (basics, same_some)
 
     -- the slot that stood there has changed
     module _ (was : LentSlot E EN EH EK EV g gh go gq gp gn) (at : Some was ≡ get is_same old (i.kind.0, i.node.0)) where
       pub changed-is : (f : Slot → Slot) → slot_of s ≡ f (slot_of was) → Changes f (slots_in old) i (slots_in new)
-      changed-is f e j = grind (arith, nat_tests, common_steps, slot-is)
+      changed-is f e j = grind (basics, slot-is)
 
 -- ---- waits come to an end after each change of a table
 
@@ -114,11 +154,11 @@ module _ (s s' : Shelf) (h : (u w : ℕ) → waits_for s' u ≡ Some w → (wait
 -- slots that get an outcome
 pub less-open : (s s' : Shelf) → ((i : Identity) (w : ℕ) → open_worker (s'.slots i) ≡ Some w → open_worker (s.slots i) ≡ Some w) → SameAt s.waits s'.waits
     → EachEnds s → EachEnds s'
-less-open s s' h same = each-ends s s' (λ u w e. let waits = same u in inl (grind (arith, nat_tests, h)))
+less-open s s' h same = each-ends s s' (λ u w e. let waits = same u in inl (grind (tests, h)))
 
 -- one that doesn't wait any more
 pub stopped : (s s' : Shelf) (v : ℕ) → SameShelf (with_wait s v None) s' → EachEnds s → EachEnds s'
-stopped s s' v same = each-ends s s' (λ u w e. let waits = same.waits u in inl (grind (arith, nat_tests, same.slots)))
+stopped s s' v same = each-ends s s' (λ u w e. let waits = same.waits u in inl (grind (tests, same.slots)))
 
 -- a claim of a worker that doesn't wait
 module _ (s s' : Shelf) (v : ℕ) (i : Identity) (same : SameShelf (with_slot s i (Some (claimed_by v))) s') (works-on : s.waits v ≡ None) where
@@ -126,23 +166,23 @@ module _ (s s' : Shelf) (v : ℕ) (i : Identity) (same : SameShelf (with_slot s 
   claimer-ends = ends-at v (λ w e. absurd (none-some w (ap (if_there (λ j. open_worker (s'.slots j)) None) (sym (same.waits v ∙ works-on)) ∙ e)))
 
   pub taken : EachEnds s → EachEnds s'
-  taken = each-ends s s' (λ u w e. let waits = same.waits u in grind (arith, nat_tests, same.slots, same_some, claimer-ends))
+  taken = each-ends s s' (λ u w e. let waits = same.waits u in grind (tests, same.slots, same_some, claimer-ends))
 
 -- a worker waits for one whose wait comes to an end without it
 module _ (s s' : Shelf) (v : ℕ) (i : Identity) (same : SameShelf (with_wait s v (Some i)) s') where
   -- whom another one waits for
   was-for : (u w : ℕ) → nat_eq u v ≡ false → waits_for s' u ≡ Some w → waits_for s u ≡ Some w
-  was-for u w d e = let waits = same.waits u in grind (arith, nat_tests, same.slots)
+  was-for u w d e = let waits = same.waits u in grind (tests, same.slots)
 
   end-later : {u : ℕ} → ComesToEnd s v u → Ends s' u
   end-later (works u d e) = ends-at u (λ w n. let f = was-for u w d n in absurd (none-some w (ap (if_there (λ j. open_worker (s.slots j)) None) (sym e) ∙ f)))
   end-later (may-go-on u j d e o) = ends-at u (λ w n. let f = was-for u w d n in
       absurd (closed (s.slots j) o w (ap (if_there (λ k. open_worker (s.slots k)) None) (sym e) ∙ f)))
-  end-later (waits-on u j slot d e o c) = ends-at u (λ w n. grind (arith, nat_tests, was-for u w d n, same_some, open-is, end-later c))
+  end-later (waits-on u j slot d e o c) = ends-at u (λ w n. grind (tests, was-for u w d n, same_some, open-is, end-later c))
 
   pub waiting : (slot : Slot) → IsOpenSlot s i slot → ComesToEnd s v slot.worker → EachEnds s → EachEnds s'
   waiting slot o c = each-ends s s' (λ u w e. let waits = same.waits u in let later = end-later c in
-      grind (arith, nat_tests, same.slots, was-for, same_some, open-is))
+      grind (tests, same.slots, was-for, same_some, open-is))
 
 -- no worker waits
 pub no-waits : (s : Shelf) → ((v : ℕ) → s.waits v ≡ None) → EachEnds s
@@ -152,7 +192,7 @@ no-waits s h u = merely (ends-at u (λ w e. absurd (none-some w (ap (if_there (�
 module _ (old new : Identity → Option Slot) (i : Identity) (f : Slot → Slot)
     (h : (x : Slot) (w : ℕ) → open_worker (Some (f x)) ≡ Some w → open_worker (Some x) ≡ Some w) (is : Changes f old i new) where
   pub changed-less : (j : Identity) (w : ℕ) → open_worker (new j) ≡ Some w → open_worker (old j) ≡ Some w
-  changed-less j w e = grind (arith, nat_tests, same-identity, same-as, h)
+  changed-less j w e = grind (tests, same-identity, same-as, h)
 
 module _ {E EN EH EK EV : Type 0} {g : Environments E EN EH EK EV} {gh : Hashes EH} {go : Orders EK} {gq : Equalities EK} {gp : PartialOrders EK}
     {gn : Nodes EN E EN EH EK EV} {S T : Type 0} (old new : IndexMap (ℕ × ℕ) (LentSlot E EN EH EK EV g gh go gq gp gn) S) (waits : IndexMap ℕ Identity T)
@@ -172,7 +212,7 @@ module _ {E EN EH EK EV : Type 0} {g : Environments E EN EH EK EV} {gh : Hashes 
 -- a slot that gets an outcome
 pub outcome-less : (o : Outcome) → is_open_outcome o ≡ false → (x : Slot) (w : ℕ) → open_worker (Some (with_outcome o x)) ≡ Some w → open_worker (Some x)
     ≡ Some w
-outcome-less o h x w e = grind (arith, nat_tests)
+outcome-less o h x w e = grind tests
 
 -- ---- how many waits lead on from a worker
 
@@ -229,12 +269,12 @@ module _ {E EN EH EK EV : Type 0} {g : Environments E EN EH EK EV} {gh : Hashes 
         rest,
       )
   row-fails (suc n) (e ∷ es) (m ∷ ms) s w at is own (row, rest) = (row, row-fails n es ms s w at is own rest)
-  row-fails n first rows s w at is own h = grind (arith, nat_tests, none-some)
+  row-fails n first rows s w at is own h = grind (tests, none-some)
 
   pub no-row : (n : ℕ) (first rows : List ((ℕ × ℕ) × LentSlot E EN EH EK EV g gh go gq gp gn)) → slice_get (values_of rows) n ≡ None → FailedTo v n first rows
       → FailedTo v (suc n) first rows
   no-row (suc n) (e ∷ es) (m ∷ ms) none (row, rest) = (row, no-row n es ms none rest)
-  no-row n first rows none h = grind (arith, nat_tests, none-some)
+  no-row n first rows none h = grind (tests, none-some)
 
   -- once each row is failed
   pub all-failed : (n : ℕ) (first rows : List ((ℕ × ℕ) × LentSlot E EN EH EK EV g gh go gq gp gn)) (q : ℕ × ℕ) → length first ≤ n → FailedTo v n first rows
@@ -243,15 +283,13 @@ module _ {E EN EH EK EV : Type 0} {g : Environments E EN EH EK EV} {gh : Hashes 
   all-failed zero (e ∷ es) rows q many h = absurd (omega (arith, many))
   all-failed (suc n) [] rows q many h = rw h refl
   all-failed (suc n) (e ∷ es) [] q many h = absurd h
-  all-failed (suc n) (e ∷ es) (f ∷ fs) q many (row, rest) = let more = all-failed n es fs q (omega (arith, many)) rest in
-      rw row.key (grind (arith, nat_tests, row.slot, more))
+  all-failed (suc n) (e ∷ es) (f ∷ fs) q many (row, rest) = let more = all-failed n es fs q (omega arith) rest in
+      rw row.key (grind (tests, row.slot, more))
 
   pub still-named : (n : ℕ) (first rows : List ((ℕ × ℕ) × LentSlot E EN EH EK EV g gh go gq gp gn)) (i : Identity) (q : ℕ × ℕ) → FailedTo v n first rows
       → ((s : LentSlot E EN EH EK EV g gh go gq gp gn) → lookup (is_same q) first ≡ Some s → HoldsOnlyResultOf i s)
       → (s : LentSlot E EN EH EK EV g gh go gq gp gn) → lookup (is_same q) rows ≡ Some s → HoldsOnlyResultOf i s
   still-named zero first rows i q h named s there = named s (sym (ap (lookup (is_same q)) h) ∙ there)
-  still-named (suc n) [] rows i q h named s there = absurd (none-some s (sym (ap (lookup (is_same q)) h) ∙ there))
-  still-named (suc n) (e ∷ es) [] i q h named s there = absurd h
   still-named (suc n) (e ∷ es) (f ∷ fs) i q (row, rest) named s there = by (still-named n es fs i q rest) (is_same q e.0) refl
       (sym (ap (λ k. cond (is_same q k) (Some f.1) (lookup (is_same q) fs)) row.key) ∙ there)
     where
@@ -261,8 +299,9 @@ module _ {E EN EH EK EV : Type 0} {g : Environments E EN EH EK EV} {gh : Hashes 
           → (b : Bool) → is_same q e.0 ≡ b → cond b (Some f.1) (lookup (is_same q) fs) ≡ Some s → HoldsOnlyResultOf i s
       by more true at is = subst (HoldsOnlyResultOf i) (same_some _ _ is) (row.own i (named e.1 (ap (λ b. cond b (Some e.1) (lookup (is_same q) es)) at)))
       by more false at is = more (λ x was. named x (ap (λ b. cond b (Some e.1) (lookup (is_same q) es)) at ∙ was)) s is
+  still-named n first rows i q h named s there = grind (tests, none-some)
 
 pub failure-less : (v : ℕ) (o : Option Slot) (w : ℕ) → open_worker (after_failure v o) ≡ Some w → open_worker o ≡ Some w
-failure-less v o w e = grind (arith, nat_tests, outcome-less)
+failure-less v o w e = grind (tests, outcome-less)
 
 pub ruleset failing = (no-row, all-failed)

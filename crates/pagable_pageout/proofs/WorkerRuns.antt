@@ -1,60 +1,48 @@
 -- A turn with the worker's end is a step of the worker, and its steps, one after the other, are a run.
-use Rattle.pagable_codec.specs.declared.{env.Env.Ghosts as Environments, hash.KeyHash.Ghosts as Hashes, nodes.NodeSet.Ghosts as Nodes}
 use Rattle.pagable_core.specs.declared.context.writing.SerializedData.{SerializedData}
-use Rattle.pagable_load.proofs.LoadSteps.{acts_all, acts_on, moves_then}
-use Rattle.pagable_pageout.proofs.WorkerTurns.{alike, same-shelf}
-use Rattle.pagable_pageout.specs.{
-  Tasks.todo_of,
-  Turns.{EndsIfAnswered, HasWalked, IsAlone, LeavesFit, PerformsStep, PerformsTask, RunsToAnswer, Stepped, StepsAlone, answer_in, is_waiting, plain},
-  Turns.{plain_took, worker_state},
-  declared.tasks.{StepResult.StepResult, Task.Task, Turn.Turn},
+use Rattle.pagable_load.proofs.LoadSteps.{acts_on, moves_then}
+use Rattle.pagable_pageout.proofs.{
+  Words.{Action, ArcRef, Claim, EndsIfAnswered, Environments, Equalities, Err, HasWalked, Hashes, IsPagerWhole, List, Nodes, None, Ok, Option, Orders, Owner},
+  Words.{PagerState, PartialOrders, PerformsStep, PerformsTask, RunsToAnswer, SameShelf, Shelf, Some, StepResult, Task, Todo, Turn, Values, WorkerAnswer},
+  Words.{Written, acts_all, ap, basics, false, identity_of, if_there, if◌then◌else◌, nat_eq, plain, published, refl, same_some, sym, tests, to_fail, to_finish},
+  Words.{to_item, to_publish, to_release, to_start, todo_of, true, with_changed_slot, with_outcome, ℕ, ◌∙◌, ◌∷◌, ◌≡◌},
+  WorkerTurns.{alike, same-shelf},
 }
+use Rattle.pagable_pageout.specs.Turns.{IsAlone, LeavesFit, Stepped, answer_in, is_waiting, plain_took, worker_state}
 use Rattle.pagable_pager_spec.specs.{
-  Access.{WalkStep, worker-ends, worker-goes-on},
-  Basics.{ArcRef, Error, Identity, if_there},
+  Access.{worker-ends, worker-goes-on},
+  Basics.Identity,
   Events.Ends,
-  Kinds.identity_of,
-  Pager.{IsPagerWhole, Moves, PagerState},
-  Workers.{ComesToEnd, WorkDoes, WorkerState, may-go-on, waits-on, with_changed_slot, with_failed, with_outcome, works},
-  World.{Outcome, SameShelf, Seen, Shelf, Slot, Todo, Values, Written, failed, is_identity, no_result, published, to_fail, to_finish, to_item, to_load, to_pin},
-  World.{to_publish, to_release, to_set, to_start, to_write},
-  declared.{events.{Action.Action, Claim.Claim, PinStep.PinStep, WorkerAnswer.WorkerAnswer}, handle_row.Owner.Owner},
+  Pager.Moves,
+  Workers.{ComesToEnd, WorkDoes, WorkerState, may-go-on, waits-on, with_failed, works},
+  World.{Outcome, Seen, Slot, failed, is_identity, no_result, to_load, to_pin, to_set, to_write},
+  declared.events.PinStep.PinStep,
 }
-use Rattle.pagable_theorems.proofs.Trees.{same_some}
-use Rattle.std.proofs.{
-  Common.{Err, List, None, Ok, Some, ap, arith, false, refl, subst, sym, true, ℕ, [], ◌∙◌, ◌∷◌, ◌≡◌},
-  lemmas.{Bool.Decides.nat_tests, Grind.common_steps},
-}
-use Rattle.std.specs.{
-  Prelude.{Option, if◌then◌else◌, nat_eq},
-  declared.{alloc.Global.Global, cmp.{Ord.Ghosts as Orders, PartialEq.Ghosts as Equalities, PartialOrd.Ghosts as PartialOrders}, sync.Arc.Arc},
-}
-
--- ---- a turn with the worker's end is its step, and steps of a worker's walk are joined to a run
+use Rattle.std.specs.declared.{alloc.Global.Global, sync.Arc.Arc}
 
 module _ {X XN XH XK XV : Type 0} {g : Environments X XN XH XK XV} {gh : Hashes XH} {go : Orders XK} {gq : Equalities XK} {gp : PartialOrders XK}
-    {gn : Nodes XN X XN XH XK XV} {N E : Type 0} (v : Values N) (n : ℕ) where
+    {gn : Nodes XN X XN XH XK XV} {N E : Type 0} {v : Values N} {n : ℕ} where
   -- what the end after a turn does
-  closed : (turn : Turn X XN XH XK XV g gh go gq gp gn) (s t : PagerState N E) → EndsIfAnswered v n turn s t
+  closed : {turn : Turn X XN XH XK XV g gh go gq gp gn} {s t : PagerState N E} → EndsIfAnswered v n turn s t
       → Ends (answer_in turn) n s.core t.core × Moves (λ k x. ⊥) s t × (IsPagerWhole v s → IsPagerWhole v t)
       × (LeavesFit n s.core turn → LeavesFit n t.core turn)
-  closed turn s t close = grind (arith, nat_tests, common_steps, alike)
+  closed {turn} {s} {t} close = grind (basics, alike)
 
-  pub steps-to : (me : Owner) (shelf shelf' : Shelf) (task : Task X XN XH XK XV g gh go gq gp gn) (below after : List Todo)
-      (moved : StepResult X XN XH XK XV g gh go gq gp gn) (s mid t : PagerState N E)
-      → PerformsTask v me n shelf task below shelf' moved after s mid → EndsIfAnswered v n moved.turn mid t
-      → PerformsStep v me n shelf task below shelf' moved after s t
-  steps-to me shelf shelf' task below after moved s mid t turns close = record {
+  -- a turn with the worker's end is its step
+  pub steps-to : {me : Owner} {shelf shelf' : Shelf} {task : Task X XN XH XK XV g gh go gq gp gn} {below after : List Todo}
+      {moved : StepResult X XN XH XK XV g gh go gq gp gn} {s mid t : PagerState N E} → PerformsTask v me n shelf task below shelf' moved after s mid
+      → EndsIfAnswered v n moved.turn mid t → PerformsStep v me n shelf task below shelf' moved after s t
+  steps-to {shelf' = shelf'} turns close = record {
     steps = λ f.
         let turned = turns.turns f in
-        let end = closed moved.turn mid t close in
+        let end = closed close in
         record {
           does = record {
-            after = worker_state mid.core shelf' after;
+            after = _;
             does = turned.does;
             goes_on = refl;
             shelf_is = same-shelf shelf';
-            ends = subst (λ a. Ends a n mid.core t.core) (sym turned.answers) end.0;
+            ends = rw turned.answers end.0;
             moves = moves_then turned.moves end.1;
             holds = moves_then turned.holds end.1;
             writes = turned.writes;
@@ -101,7 +89,7 @@ changed-alone n shelf shelf' i f same keeps alone = put-alone n shelf shelf' i _
 
 outcome-keeps : (outcome : Outcome) (slot : Slot) → ((with_outcome outcome slot).outcome ≡ no_result → (outcome ≡ no_result → ⊥) → slot.outcome ≡ no_result)
     × ((with_outcome outcome slot).worker ≡ slot.worker)
-outcome-keeps outcome slot = grind (arith, nat_tests, common_steps)
+outcome-keeps outcome slot = grind basics
 
 failed-alone : (n v : ℕ) (shelf shelf' : Shelf) → SameShelf (with_failed shelf v) shelf' → IsAlone n shelf → IsAlone n shelf'
 failed-alone n v shelf shelf' same alone i slot still = by (shelf.slots i) refl (sym (same.slots i) ∙ still.claimed)
@@ -110,7 +98,7 @@ failed-alone n v shelf shelf' same alone i slot still = by (shelf.slots i) refl 
         found ≡ Some slot → slot.worker ≡ n
     by None there is = absurd (cc)
     by (Some old) there is =
-        let e = same_some _ _ is in let none_yet = still.no_result_yet in let kept = alone i old in grind (arith, nat_tests, common_steps)
+        let e = same_some _ _ is in let none_yet = still.no_result_yet in let kept = alone i old in grind basics
 
 module _ {N B W : Type 0} (m : Seen N B W) (n : ℕ) (s s' : WorkerState) where
   -- a step of the worker leaves it alone
@@ -148,80 +136,61 @@ module _ {N B W : Type 0} (m : Seen N B W) (n : ℕ) (s s' : WorkerState) where
   keeps-alone (to_set r through key height ∷ below) (Action.SetKey i (Ok u)) (is, p) alone = same-alone n s.shelf s'.shelf p.goes.table_stays.slots alone
   keeps-alone (to_set r through key height ∷ below) (Action.SetKey i (Err e)) (is, p) alone = same-alone n s.shelf s'.shelf p.refused.table_stays.slots alone
   keeps-alone (to_release r key height ∷ below) (Action.Release i) (is, falls, t) alone = same-alone n s.shelf s'.shelf t.table_stays.slots alone
-  keeps-alone todo step does alone = grind (arith, nat_tests)
+  keeps-alone todo step does alone = grind tests
 
 module _ {X XN XH XK XV : Type 0} {g : Environments X XN XH XK XV} {gh : Hashes XH} {go : Orders XK} {gq : Equalities XK} {gp : PartialOrders XK}
-    {gn : Nodes XN X XN XH XK XV} {N E : Type 0} (v : Values N) (me : Owner) (n : ℕ) (shelf : Shelf) where
+    {gn : Nodes XN X XN XH XK XV} {N E : Type 0} {v : Values N} {n : ℕ} {shelf : Shelf} {r : ArcRef} {place : ℕ} {below : List Todo} where
   -- a worker that is alone waits for nobody
-  none-waits : (r : ArcRef) (place : ℕ) (below after : List Todo) (mid : Shelf) (moved : StepResult X XN XH XK XV g gh go gq gp gn) (s t : PagerState N E)
-      → is_waiting moved.action ≡ true → Stepped v n shelf (to_start r place ∷ below) s mid moved after t → IsAlone n shelf → ⊥
-  none-waits r place below after mid moved s t waits st alone = by (plain_took moved.action) (waits-plain moved.action waits) st.does.does.does
+  none-waits : {after : List Todo} {mid : Shelf} {moved : StepResult X XN XH XK XV g gh go gq gp gn} {s t : PagerState N E}
+      → Stepped v n shelf (to_start r place ∷ below) s mid moved after t → IsAlone n shelf → is_waiting moved.action ≡ true → ⊥
+  none-waits {moved = moved} {s} st alone waits = by (plain_took moved.action) (waits-plain moved.action waits) st.does.does.does
     where
       waits-plain : (action : Action (Arc SerializedData Global)) → is_waiting action ≡ true → is_waiting (plain_took action) ≡ true
-      waits-plain action is = grind (arith, nat_tests)
+      waits-plain action is = grind tests
 
       by : (action : Action Written) → is_waiting action ≡ true → WorkDoes (plain v) n (worker_state s.core shelf (to_start r place ∷ below))
           (to_start r place ∷ below) action st.does.after → ⊥
       by (Action.Claim i (Ok Claim.Waiting)) is (at, c) =
           let (slot, still, ends) = c.finds.1.1 in let own : slot.worker ≡ n = alone (identity_of r) slot still in let other =
-          other-ends ends in grind (arith, nat_tests)
-      by action is does = grind (arith, nat_tests)
+          other-ends ends in grind tests
+      by action is does = grind tests
 
-  pub waits-alone : (r : ArcRef) (place : ℕ) (below after last : List Todo) (mid shelf' : Shelf) (moved : StepResult X XN XH XK XV g gh go gq gp gn) (e : Error)
-      (task : Task X XN XH XK XV g gh go gq gp gn) (s t u : PagerState N E) → is_waiting moved.action ≡ true
-      → PerformsStep v me n shelf (Task.Start r place) below mid moved after s t
-      → StepsAlone v me n shelf (Task.Start r place) below shelf' (record {
-        action = Action.Claim (identity_of r) (Err e);
-        turn = Turn.Goes task;
-        counted = true;
-      }) last s u
-  waits-alone r place below after last mid shelf' moved e task s t u waits step =
-      record { steps = λ alone. record { steps = λ f. absurd (none-waits r place below after mid moved s t waits (step.steps f) alone); counts = refl } }
-
-  pub steps-alone : (task : Task X XN XH XK XV g gh go gq gp gn) (below after : List Todo) (shelf' : Shelf) (moved : StepResult X XN XH XK XV g gh go gq gp gn)
-      (s t : PagerState N E) → PerformsStep v me n shelf task below shelf' moved after s t → StepsAlone v me n shelf task below shelf' moved after s t
-  steps-alone task below after shelf' moved s t step = record { steps = λ alone. step }
+  -- whatever comes then
+  pub waits-walked : {me : Owner} {mid shelf' : Shelf} {after rest : List Todo} {moved : StepResult X XN XH XK XV g gh go gq gp gn}
+      {task : Task X XN XH XK XV g gh go gq gp gn} {s t u : PagerState N E} → PerformsStep v me n shelf (Task.Start r place) below mid moved after s t
+      → is_waiting moved.action ≡ true → HasWalked v me n shelf (Task.Start r place) below shelf' task rest s u
+  waits-walked step waits = record {
+    fits = λ f alone. absurd (none-waits (step.steps f) alone waits);
+    alone = λ f alone. absurd (none-waits (step.steps f) alone waits);
+    then = λ f alone answer u shelf' w. absurd (none-waits (step.steps f) alone waits);
+  }
 
 module _ {X XN XH XK XV : Type 0} {g : Environments X XN XH XK XV} {gh : Hashes XH} {go : Orders XK} {gq : Equalities XK} {gp : PartialOrders XK}
-    {gn : Nodes XN X XN XH XK XV} {N E : Type 0} (v : Values N) (me : Owner) (n : ℕ) (shelf : Shelf) (first : Task X XN XH XK XV g gh go gq gp gn)
-    (below : List Todo) where
-  pub none-walked : (s : PagerState N E) → HasWalked v me n shelf first below shelf first below s s
-  none-walked s = record { fits = λ f alone. f; alone = λ f alone. alone; then = λ f alone answer u shelf' w. w }
+    {gn : Nodes XN X XN XH XK XV} {N E : Type 0} {v : Values N} {me : Owner} {n : ℕ} {shelf : Shelf}
+    {first : Task X XN XH XK XV g gh go gq gp gn} {below : List Todo} where
+  pub none-walked : {s : PagerState N E} → HasWalked v me n shelf first below shelf first below s s
+  none-walked = record { fits = λ f alone. f; alone = λ f alone. alone; then = λ f alone answer u shelf' w. w }
 
-  module _ (now_shelf next_shelf : Shelf) (now : Task X XN XH XK XV g gh go gq gp gn) (now_below after : List Todo)
-      (moved : StepResult X XN XH XK XV g gh go gq gp gn) where
-    pub goes-walked : (next : Task X XN XH XK XV g gh go gq gp gn) (next_below : List Todo) → moved.turn ≡ Turn.Goes next → after ≡ todo_of next ∷ next_below
-        → (s mid t : PagerState N E) → HasWalked v me n shelf first below now_shelf now now_below s mid
-        → StepsAlone v me n now_shelf now now_below next_shelf moved after mid t
-        → HasWalked v me n shelf first below next_shelf next next_below s t
-    goes-walked next next_below goes is s mid t walked step = record {
-      fits = λ f alone. let st = (step.steps (walked.alone f alone)).steps (walked.fits f alone) in
-          record { me_is = f.me_is; whole = st.does.whole; task_fits = subst (LeavesFit n t.core) goes st.fits };
-      alone = λ f alone.
-          let now_alone = walked.alone f alone in let st = (step.steps now_alone).steps (walked.fits f alone) in
-          same-alone n st.does.after.shelf next_shelf st.does.shelf_is.slots
-          (keeps-alone (plain v) n (worker_state mid.core now_shelf (todo_of now ∷ now_below)) st.does.after (todo_of now ∷ now_below)
-          (plain_took moved.action) st.does.does.does now_alone);
-      then = λ f alone answer u shelf' w.
-          let st = (step.steps (walked.alone f alone)).steps (walked.fits f alone) in
-          walked.then f alone answer u shelf' (record {
-            steps = plain_took moved.action ∷ w.steps;
-            run = worker-goes-on (todo_of now ∷ now_below) (todo_of next ∷ next_below) (plain_took moved.action) w.steps answer _ _ _
-                (subst (λ todo. WalkStep (plain v) n (todo_of now ∷ now_below) (record { pager = mid; shelf = now_shelf }) (plain_took moved.action) todo
-                (record { pager = t; shelf = next_shelf })) is st.does) (st.answers ∙ ap answer_in goes) w.run;
-          });
-    }
+  -- a step that goes on
+  pub step-walked : {shelf' : Shelf} {next : Task X XN XH XK XV g gh go gq gp gn} {next_below after : List Todo}
+      {moved : StepResult X XN XH XK XV g gh go gq gp gn} {s t : PagerState N E} → PerformsStep v me n shelf first below shelf' moved after s t
+      → moved.turn ≡ Turn.Goes next → after ≡ todo_of next ∷ next_below → HasWalked v me n shelf first below shelf' next next_below s t
+  step-walked {shelf'} {moved = moved} {s = s} step goes is = record {
+    fits = λ f alone. let st = step.steps f in record { me_is = f.me_is; whole = st.does.whole; task_fits = rw goes at st.fits };
+    alone = λ f alone. let st = step.steps f in same-alone n st.does.after.shelf shelf' st.does.shelf_is.slots
+        (keeps-alone (plain v) n (worker_state s.core shelf (todo_of first ∷ below)) st.does.after (todo_of first ∷ below)
+        (plain_took moved.action) st.does.does.does alone);
+    then = λ f alone answer u last w. let st = step.steps f in
+        record { steps = _; run = worker-goes-on _ _ _ _ answer _ _ _ (rw is at st.does) (st.answers ∙ ap answer_in goes) w.run };
+  }
 
-    pub ends-walked : (answer : WorkerAnswer) → moved.turn ≡ Turn.Answers answer → (s mid t : PagerState N E)
-        → HasWalked v me n shelf first below now_shelf now now_below s mid → StepsAlone v me n now_shelf now now_below next_shelf moved after mid t
-        → RunsToAnswer v me n shelf first below next_shelf answer s t
-    ends-walked answer ends s mid t walked step = record {
-      runs = λ f alone.
-          let st = (step.steps (walked.alone f alone)).steps (walked.fits f alone) in
-          walked.then f alone answer t next_shelf (record {
-            steps = plain_took moved.action ∷ [];
-            run = worker-ends (todo_of now ∷ now_below) after (plain_took moved.action) answer _ _ st.does (st.answers ∙ ap answer_in ends);
-          });
-    }
+  -- one that ends the walk
+  pub step-ends : {shelf' : Shelf} {after : List Todo} {moved : StepResult X XN XH XK XV g gh go gq gp gn} {answer : WorkerAnswer} {s t : PagerState N E}
+      → PerformsStep v me n shelf first below shelf' moved after s t → moved.turn ≡ Turn.Answers answer
+      → RunsToAnswer v me n shelf first below shelf' answer s t
+  step-ends {answer = answer} step ends = record {
+    runs = λ f alone. let st = step.steps f in
+        record { steps = _; run = worker-ends _ _ _ answer _ _ st.does (st.answers ∙ ap answer_in ends) };
+  }
 
-pub ruleset joining = (nat_tests, acts_all, acts_on, none-walked, goes-walked, ends-walked)
+pub ruleset joining = (tests, acts_all, acts_on)

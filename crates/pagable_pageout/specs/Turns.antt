@@ -198,12 +198,6 @@ pub record Walked {N E : Type 0} (v : Values N) (n : ℕ) (todo : List Todo) (s 
 
 module _ {X XN XH XK XV : Type 0} {g : Environments X XN XH XK XV} {gh : Hashes XH} {go : Orders XK}
     {gq : Equalities XK} {gp : PartialOrders XK} {gn : Nodes XN X XN XH XK XV} where
-  -- A task is performed as `PerformsStep` says, if the worker is alone.
-  pub record StepsAlone {N E : Type 0} (v : Values N) (me : Owner) (n : ℕ) (shelf : Shelf)
-      (task : Task X XN XH XK XV g gh go gq gp gn) (below : List Todo) (shelf' : Shelf)
-      (moved : StepResult X XN XH XK XV g gh go gq gp gn) (after : List Todo) (s t : PagerState N E) : Type 0 where
-    pub steps : IsAlone n shelf → PerformsStep v me n shelf task below shelf' moved after s t
-
   -- The answer is that of a run of the worker, where the task fits and the worker is alone.
   pub record RunsToAnswer {N E : Type 0} (v : Values N) (me : Owner) (n : ℕ) (shelf : Shelf)
       (task : Task X XN XH XK XV g gh go gq gp gn) (below : List Todo) (shelf' : Shelf) (answer : WorkerAnswer)

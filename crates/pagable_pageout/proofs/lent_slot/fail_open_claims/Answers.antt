@@ -1,6 +1,6 @@
-use Rattle.pagable_pageout.proofs.Waits.{row-fails, still-named}
-use Rattle.std.proofs.Common.{add-one, sym}
+use Rattle.pagable_pageout.proofs.{Waits.{row-fails, still-named}, Words.sym}
 use Rattle.pagable_pageout.proofs.lent_slot.fail_open_claims.Goals as goal
+use Rattle.std.proofs.Common.{add-one}
 
 pub loop-place-preserved : goal.loop-place-preserved
 loop-place-preserved g c =

@@ -1,8 +1,7 @@
-use Rattle.pagable_pageout.proofs.Stacks.{give-is, takes-next, todos-more}
-use Rattle.pagable_pageout.specs.{Slots.{keys_of, written_of}, Tasks.{todos, waiting_todo}}
-use Rattle.pagable_pager_spec.specs.Workers.{advance}
-use Rattle.std.proofs.Common.{ap, sym, ◌∙◌, ◌∷◌}
-use Rattle.std.specs.Arc.{arc_value}
+use Rattle.pagable_pageout.proofs.{
+  Stacks.{give-is, takes-next, todos-more},
+  Words.{advance, ap, arc_value, keys_of, sym, todos, waiting_todo, written_of, ◌∙◌, ◌∷◌},
+}
 
 pub returns-clause-gives : Rattle.pagable_pageout.proofs.stack.give_result.Goals.returns-clause-gives
 returns-clause-gives g c =

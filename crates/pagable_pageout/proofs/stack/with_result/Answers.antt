@@ -1,7 +1,7 @@
-use Rattle.pagable_pageout.proofs.Stacks.{ids-more, raise_height-has}
-use Rattle.pagable_pager_spec.specs.Basics.{longest_path}
-use Rattle.std.proofs.{Common.{Some, slice_get, subst, sym, ◌+◌, ◌∙◌, ◌≡◌, ◌≤◌}, lemmas.List.length-map}
-use Rattle.std.specs.Arc.{arc_value}
+use Rattle.pagable_pageout.proofs.{
+  Stacks.{ids-more, raise_height-has},
+  Words.{Some, arc_value, length-map, longest_path, slice_get, subst, sym, ◌+◌, ◌∙◌, ◌≡◌, ◌≤◌},
+}
 
 pub invariant_of-result-clause-near : Rattle.pagable_pageout.proofs.stack.with_result.Goals.invariant_of-result-clause-near
 invariant_of-result-clause-near g c n is = raise_height-has (λ m. m.place + m.height ≤ longest_path) _ _ c.args.waiting.node c.requires.near n

@@ -1,6 +1,7 @@
-use Rattle.pagable_load.specs.AccessView.{Acts, values_at}
-use Rattle.pagable_pageout.specs.PageOuts.{HasPaged}
+use Rattle.pagable_load.specs.AccessView.{Acts}
+use Rattle.pagable_pageout.proofs.Words.{values_at}
 use Rattle.pagable_pageout.proofs.step.page_out_pending_over.Given as goal
+use Rattle.pagable_pageout.specs.PageOuts.{HasPaged}
 
 -- the entries above this place are paged out
 abbrev pub invariant-loop-left : goal.invariant-loop-left

@@ -1,23 +1,18 @@
-use Rattle.pagable_load.proofs.LoadSteps.{tells_all}
 use Rattle.pagable_pageout.proofs.{
   FinishTurns.{ends-failed, publishes},
   ItemLast.{claimed-ends, failed-ends, goes-ends},
   Joint.{both-each, both-first, both-second},
+  Words.{claim_result, no_shelf, tells_all, todos},
   WorkerTurns.start-turns,
 }
-use Rattle.pagable_pageout.specs.{Table.claim_result, Tasks.todos}
-use Rattle.pagable_pager_spec.specs.Events.{no_shelf}
-use Rattle.std.proofs.Common.{refl}
 use Rattle.pagable_pageout.proofs.step.perform_task.Goals as goal
 
 pub returns-in-Start-clause-acts : goal.returns-in-Start-clause-acts
 returns-in-Start-clause-acts g c =
-    let below = todos c.args.path.now.items in
-    let after = c.task_after_claim in
+    let says = c.task_after_claim.ensures in
     rw (c.in-Start.is, c.referenced_identity.ensures, c.claim_answer-told.ensures.counts, c.claim_answer-told.ensures.found)
     (both-second c.check_reference-checked.ensures c.claim-claim.ensures.step
-    (λ s x y fault step. start-turns _ _ c.args.worker.0 x y c.in-Start.reference c.in-Start.place below _ c.claim-claim.result after.result after.ensures.todo
-    after.ensures.leaves s (step s.core below fault)))
+    (λ s x y fault step. start-turns c.claim-claim.result says.todo says.leaves s (step s.core (todos c.args.path.now.items) fault)))
 
 pub returns-in-Pin-clause-acts : goal.returns-in-Pin-clause-acts
 returns-in-Pin-clause-acts g c = rw c.in-Pin.is (both-first (λ q. c.pin.ensures.acts c.args.worker.0 q) no_shelf)
@@ -36,16 +31,15 @@ returns-in-SetKey-clause-acts g c = rw c.in-SetKey.is (both-first (λ q. c.set_k
 
 pub returns-in-Publish-clause-acts : goal.returns-in-Publish-clause-acts
 returns-in-Publish-clause-acts g c =
-    let d = c.in-Publish.done in
     rw (c.in-Publish.is, c.referenced_identity-in-Publish.ensures, c.key.ensures) (both-second {P = λ s. Unit {0}} (tells_all (λ s. tt)) c.publish.ensures
-    (λ s x y u same. publishes _ _ c.args.worker.0 x (todos c.args.path.now.items) d y d.found.identity d.found.key d.found.height d.own refl refl same s))
+    (λ s x y u same. publishes s same))
 
 pub returns-in-Release-clause-acts : goal.returns-in-Release-clause-acts
 returns-in-Release-clause-acts g c = rw c.in-Release.is (both-first (λ q. c.release.ensures.acts q) no_shelf)
 
 pub returns-in-Fail-clause-acts : goal.returns-in-Fail-clause-acts
 returns-in-Fail-clause-acts g c = rw (c.in-Fail.is, c.answer_of_failure.ensures) (both-each c.put_back_on_list.ensures c.fail_claims.ensures
-    (λ s s' x y back same. ends-failed _ _ c.args.worker.0 x y c.in-Fail.why c.in-Fail.back (todos c.args.path.now.items) same s s' back))
+    (λ s s' x y back same. ends-failed same s s' back))
 
 pub returns-in-Pin-clause-ends : goal.returns-in-Pin-clause-ends
 returns-in-Pin-clause-ends g c = rw c.in-Pin.is c.pin.ensures.ends
@@ -66,11 +60,10 @@ pub returns-in-Release-clause-ends : goal.returns-in-Release-clause-ends
 returns-in-Release-clause-ends g c = rw c.in-Release.is c.release.ensures.ends
 
 pub returns-in-Start-clause-ends : goal.returns-in-Start-clause-ends
-returns-in-Start-clause-ends g c = rw c.in-Start.is (claimed-ends c.in-Start.reference c.in-Start.place (todos c.args.path.now.items) _
-    (claim_result c.claim-claim.result) c.task_after_claim.result c.task_after_claim.ensures.todo)
+returns-in-Start-clause-ends g c = rw c.in-Start.is (claimed-ends (claim_result c.claim-claim.result) c.task_after_claim.ensures.todo)
 
 pub returns-in-Publish-clause-ends : goal.returns-in-Publish-clause-ends
-returns-in-Publish-clause-ends g c = rw c.in-Publish.is (goes-ends _ _ _ (λ w h. h))
+returns-in-Publish-clause-ends g c = rw c.in-Publish.is (goes-ends (λ w h. h))
 
 pub returns-in-Fail-clause-ends : goal.returns-in-Fail-clause-ends
-returns-in-Fail-clause-ends g c = rw (c.in-Fail.is, c.answer_of_failure.ensures) (failed-ends c.in-Fail.why c.in-Fail.back (todos c.args.path.now.items))
+returns-in-Fail-clause-ends g c = rw (c.in-Fail.is, c.answer_of_failure.ensures) (failed-ends c.in-Fail.why)

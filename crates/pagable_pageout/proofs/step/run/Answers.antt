@@ -1,14 +1,12 @@
-use Rattle.pagable_pageout.proofs.{Joint.{both-all, both-on}, Strides.{walked-on, walked-runs}, WorkerRuns.none-walked}
-use Rattle.pagable_pageout.specs.{Tasks.todos, Turns.acting_after}
-use Rattle.std.proofs.Common.{ap}
+use Rattle.pagable_pageout.proofs.{Joint.{both-all, both-on}, Strides.{walked-on, walked-runs}, Words.ap, WorkerRuns.none-walked}
 use Rattle.pagable_pageout.proofs.step.run.Goals as goal
+use Rattle.pagable_pageout.specs.Turns.{acting_after}
 
 pub loop-next-init : goal.loop-next-init
 loop-next-init g c = record {
   way = c.requires;
   ends = λ w h. h;
-  walked =
-      both-all (λ s x. none-walked _ _ c.args.worker.0 x c.args.first (todos c.args.path.now.items) s);
+  walked = both-all (λ s x. none-walked);
 }
 
 pub loop-next-preserved : goal.loop-next-preserved
@@ -18,8 +16,7 @@ loop-next-preserved g c =
       way = rw c.in-Goes.is at says.way;
       ends = λ w h. (rw c.in-Goes.is at says.ends).stays w (c.loop-next.invariant.ends w h);
       walked = both-on c.loop-next.invariant.walked says.acts
-          (λ s mid s' x y z walked strides. walked-on _ _ c.args.worker.0 x c.args.first (todos c.args.path.now.items) y z c.loop-next.task c.in-Goes.next
-          (todos c.loop-next.path.items) (todos c.make_next_steps-turn.new.path.items) s mid s' walked (strides.goes c.in-Goes.next c.in-Goes.is))
+          (λ s mid s' x y z walked strides. walked-on walked (strides.goes c.in-Goes.next c.in-Goes.is))
           (ap (λ t. acting_after t (g.A.Access.acting c.args.access.now)) c.in-Goes.is);
     }
 
@@ -28,8 +25,6 @@ returns-in-Answers-clause-over g c = λ w h. (rw c.in-Answers.is at c.make_next_
 
 pub returns-in-Answers-clause-acts : goal.returns-in-Answers-clause-acts
 returns-in-Answers-clause-acts g c =
-    let says = c.make_next_steps-turn.ensures in
-    both-on c.loop-next.invariant.walked says.acts
-    (λ s mid s' x y z walked strides. walked-runs _ _ c.args.worker.0 x c.args.first (todos c.args.path.now.items) y z c.loop-next.task
-    (todos c.loop-next.path.items) c.in-Answers.answer s mid s' walked (strides.answers c.in-Answers.answer c.in-Answers.is))
+    both-on c.loop-next.invariant.walked c.make_next_steps-turn.ensures.acts
+    (λ s mid s' x y z walked strides. walked-runs walked (strides.answers c.in-Answers.answer c.in-Answers.is))
     (ap (λ t. acting_after t (g.A.Access.acting c.args.access.now)) c.in-Answers.is)

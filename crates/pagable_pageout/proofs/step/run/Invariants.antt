@@ -1,8 +1,6 @@
-use Rattle.pagable_load.specs.AccessView.{values_at}
-use Rattle.pagable_pageout.specs.{Joint.ActsBoth, Tasks.{EachIsAwaited, EndsWithItem, claim_weight, todo_of, todos, work_left}, Turns.HasWalked}
-use Rattle.pagable_pager_spec.specs.World.{Written}
-use Rattle.std.proofs.Common.{◌*◌, ◌+◌, ◌∷◌}
+use Rattle.pagable_pageout.proofs.Words.{EachIsAwaited, EndsWithItem, HasWalked, Written, todo_of, todos, values_at, work_left, ◌*◌, ◌+◌, ◌∷◌}
 use Rattle.pagable_pageout.proofs.step.run.Given as goal
+use Rattle.pagable_pageout.specs.{Joint.ActsBoth, Tasks.claim_weight}
 
 -- the path leads to the task, and a run from here is one from the beginning
 abbrev pub invariant-loop-next : goal.invariant-loop-next

@@ -1,5 +1,4 @@
 use Rattle.pagable_pageout.proofs.{Joint.both-as, Strides.walk-strides}
-use Rattle.pagable_pageout.specs.{Tasks.todos, declared.tasks.Task.Task}
 use Rattle.pagable_pageout.proofs.stride.claim_as_turn.Goals as goal
 
 pub returns-clause-goes : goal.returns-clause-goes
@@ -10,6 +9,4 @@ returns-clause-ends g c = c.claim_and_write.ensures.ends
 
 pub returns-clause-acts : goal.returns-clause-acts
 returns-clause-acts g c =
-    both-as (λ s s' x y walked. walk-strides _ _ c.args.worker.0 x (Task.Start c.args.reference c.args.place)
-    (todos c.args.path.now.items) y c.claim_and_write.result
-    (todos c.claim_and_write.new.path.items) s s' walked) c.claim_and_write.ensures.acts
+    both-as (λ s s' x y walked. walk-strides walked) c.claim_and_write.ensures.acts

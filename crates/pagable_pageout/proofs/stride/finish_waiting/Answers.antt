@@ -1,5 +1,4 @@
-use Rattle.pagable_pageout.proofs.Joint.{both-first}
-use Rattle.pagable_pager_spec.specs.Events.{no_shelf}
+use Rattle.pagable_pageout.proofs.{Joint.both-first, Words.no_shelf}
 use Rattle.pagable_pageout.proofs.stride.finish_waiting.Goals as goal
 
 pub store_and_publish_node-requires-clause-node : goal.store_and_publish_node-requires-clause-node

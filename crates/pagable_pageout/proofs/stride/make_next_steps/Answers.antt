@@ -1,31 +1,22 @@
-use Rattle.pagable_load.proofs.LoadSteps.{acts_map, tells_all}
-use Rattle.pagable_load.specs.AccessView.{values_at}
 use Rattle.pagable_pageout.proofs.{
   ItemLast.refused-ends,
   Joint.{both-as, both-first, both-on, both-second},
   Stacks.other-falls,
-  Strides.{comes-strides, step-strides, turn-walked, walk-strides},
+  Strides.{comes-strides, steps-stride, turn-walked, walk-strides},
+  Words.{EndsIfAnswered, Task, acts_map, no_shelf, refl, tells_all, todos, todos_after, values_at, ◌≡◌},
+  WorkerRuns.none-walked,
   WorkerTurns.start-refused,
 }
-use Rattle.pagable_pageout.specs.{Strides.Strides, Tasks.todos, Turns.{EndsIfAnswered, todos_after}, declared.tasks.Task.Task}
-use Rattle.pagable_pager_spec.specs.Events.{no_shelf}
-use Rattle.std.proofs.Common.{refl, subst, ◌≡◌}
 use Rattle.pagable_pageout.proofs.stride.make_next_steps.Goals as goal
 
 pub returns-then-left-eq0-clause-acts : goal.returns-then-left-eq0-clause-acts
 returns-then-left-eq0-clause-acts g c =
-    let r = c.in-Start.reference in
-    let place = c.in-Start.place in
-    let n = c.args.worker.0 in
-    let below = todos c.args.path.now.items in
     let says = c.fail_unclaimed.ensures in
     rw c.in-Start.is (both-second {P = λ s. Unit {0}} (tells_all (λ s. tt)) says.table
-    (λ s x y u same. walk-strides _ _ n x (Task.Start r place) below y c.fail_unclaimed.result (todos c.fail_unclaimed.new.path.items) s s
-    (turn-walked _ _ n x (Task.Start r place) below y c.fail_unclaimed.result (todos c.fail_unclaimed.new.path.items) _ _ s s
-    (start-refused _ _ n x y r place below _ c.fail_unclaimed.result says.todo says.plain same s) refl refl)))
+    (λ s x y u same. walk-strides (turn-walked (start-refused says.todo says.plain same s) refl)))
 
 pub returns-then-left-eq0-clause-ends : goal.returns-then-left-eq0-clause-ends
-returns-then-left-eq0-clause-ends g c = rw c.in-Start.is (refused-ends _ _ c.fail_unclaimed.result _ _ c.fail_unclaimed.ensures.todo)
+returns-then-left-eq0-clause-ends g c = rw c.in-Start.is (refused-ends c.fail_unclaimed.ensures.todo)
 
 pub returns-else-left-eq0-clause-ends : goal.returns-else-left-eq0-clause-ends
 returns-else-left-eq0-clause-ends g c = rw c.in-Start.is c.claim_as_turn.ensures.ends
@@ -43,20 +34,12 @@ returns-in-Finish-clause-ends g c = rw c.in-Finish.is c.finish_waiting-last.ensu
 
 pub returns-in-Finish-clause-acts : goal.returns-in-Finish-clause-acts
 returns-in-Finish-clause-acts g c =
-    let task = Task.Finish c.in-Finish.waiting in
-    let n = c.args.worker.0 in
-    let below = todos c.args.path.now.items in
-    let path = c.finish_waiting-last.new.path.items in
-    let last = c.finish_waiting-last.result in
-    let by = g.A.Access.acting c.args.access.now in
     rw c.in-Finish.is (both-on c.finish_waiting-last.ensures.acts
     (both-first {R = λ a s q s' q'. EndsIfAnswered (values_at g.E.Node.NodeSet g.E.Env g.E.Hash.KeyHash a.environment) c.args.worker.0
     c.finish_waiting-last.result s s'
     × (q ≡ q')} (λ q. acts_map c.end_if_answered.ensures (λ s t close. (close, refl))) no_shelf)
-    (λ s mid s' x y z comes close. subst (λ q. Strides (values_at g.E.Node.NodeSet g.E.Env g.E.Hash.KeyHash by.environment) by.me n x task below q last
-    (todos path) s s') close.1 (comes-strides _ _ n x task below y last path s mid s' comes close.0)) refl)
+    (λ s mid s' x y z comes close. rw (← close.1) (comes-strides c.finish_waiting-last.new.path.items comes close.0)) refl)
 
 pub returns-in_default-clause-acts : goal.returns-in_default-clause-acts
 returns-in_default-clause-acts g c =
-    both-as (λ s s' x y step. step-strides _ _ c.args.worker.0 x c.args.task (todos c.args.path.now.items) y c.step-turn.result c.step-turn.new.path.items s s'
-    step) c.step-turn.ensures.acts
+    both-as (λ s s' x y step. steps-stride c.step-turn.new.path.items none-walked step refl) c.step-turn.ensures.acts

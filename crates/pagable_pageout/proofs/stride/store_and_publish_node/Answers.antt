@@ -1,28 +1,24 @@
-use Rattle.pagable_load.proofs.LoadSteps.{acts_map}
 use Rattle.pagable_pageout.proofs.{
   ItemLast.refused-ends,
   Joint.{both-each, both-first},
   Nodes.{node-left, node-refused, node-way},
   Strides.{ends-as, leads-waiting},
+  Words.{EndsWithItem, acts_map, arc_value, arith, keys_of, no_shelf, refl, subst, to_publish, todos, todos_after, waits_as, work_left, written_of, ◌∷◌},
 }
-use Rattle.pagable_pageout.specs.{Slots.{keys_of, written_of}, Tasks.{EndsWithItem, todos, waits_as, work_left}, Turns.todos_after}
-use Rattle.pagable_pager_spec.specs.{Events.no_shelf, World.to_publish}
-use Rattle.std.proofs.Common.{arith, refl, subst, ◌∷◌}
-use Rattle.std.specs.Arc.{arc_value}
 use Rattle.pagable_pageout.proofs.stride.store_and_publish_node.Goals as goal
 
 pub make_done-requires-clause-all : goal.make_done-requires-clause-all
-make_done-requires-clause-all g c = (node-way c.args.waiting c.args.node (todos c.args.path.now.items) c.requires.node c.requires.way).0
+make_done-requires-clause-all g c = (node-way c.args.waiting (todos c.args.path.now.items) c.requires.node c.requires.way).0
 
 pub publish-requires : goal.publish-requires
 publish-requires g c =
-    let way = node-way c.args.waiting c.args.node (todos c.args.path.now.items) c.requires.node c.requires.way in
+    let way = node-way c.args.waiting (todos c.args.path.now.items) c.requires.node c.requires.way in
     rw (c.make_done.ensures.reference, c.make_done.ensures.height) (c.args.node.place, way.1, way.2)
 
 pub returns-in-Ok-clause-ends : goal.returns-in-Ok-clause-ends
 returns-in-Ok-clause-ends g c =
     let w = c.args.waiting in
-    ends-as _ _ _ _ (λ x h. subst (λ o. EndsWithItem x (waits_as o (written_of (arc_value w.written)) (keys_of w.children.items) ∷ todos c.args.path.now.items))
+    ends-as (λ x h. subst (λ o. EndsWithItem x (waits_as o (written_of (arc_value w.written)) (keys_of w.children.items) ∷ todos c.args.path.now.items))
     c.requires.node h) c.publish.ensures.ends
 
 pub returns-in-Ok-clause-goes : goal.returns-in-Ok-clause-goes
@@ -40,13 +36,13 @@ pub returns-in-Ok-clause-acts : goal.returns-in-Ok-clause-acts
 returns-in-Ok-clause-acts g c =
     let says = c.make_done.ensures in
     both-each c.in-Ok.ensures.acts c.publish.ensures.table
-    (λ s s' x y left same. node-left _ _ c.args.worker.0 x c.args.path.now.items c.args.waiting c.requires.way c.args.node c.requires.node c.make_done.result
-    c.in-Ok.key says.reference says.key says.height y c.publish.result _ c.publish.ensures.hands s s' left same)
+    (λ s s' x y left same. node-left c.args.path.now.items c.args.waiting c.requires.way c.requires.node c.make_done.result says.reference says.key says.height
+    c.publish.ensures.hands left same)
 
 pub returns-clause-acts : goal.returns-clause-acts
 returns-clause-acts g c =
-    both-first (λ q. acts_map c.in-Err.ensures.acts (λ s t left. node-refused _ _ c.args.worker.0 q c.args.path.now.items c.args.waiting c.requires.way
-    c.args.node c.requires.node refl c.in-Err.e c.fail_with.result _ c.fail_with.ensures.plain c.fail_with.ensures.todo s t left)) no_shelf
+    both-first (λ q. acts_map c.in-Err.ensures.acts (λ s t left. node-refused c.args.path.now.items c.args.waiting c.requires.way
+    c.requires.node refl c.fail_with.ensures.plain c.fail_with.ensures.todo left)) no_shelf
 
 pub returns-clause-ends : goal.returns-clause-ends
-returns-clause-ends g c = refused-ends _ _ c.fail_with.result _ _ c.fail_with.ensures.todo
+returns-clause-ends g c = refused-ends c.fail_with.ensures.todo

@@ -1,16 +1,13 @@
-use Rattle.pagable_load.proofs.LoadSteps.{tells_map}
 use Rattle.pagable_pageout.proofs.{
   ItemLast.{refused-ends, written-ends},
   Joint.{both-second, both-stays},
   Stacks.advance-way,
   Strides.turn-walked,
+  Words.{EachIsAwaited, None, advance, ap, arc_value, arith, back_of, length, refl, subst, sym, tells_map, to_finish, todos, was_refused, written_of, ◌∙◌, ◌∷◌},
   WorkerTurns.{same-shelf, write-fails, write-turns},
 }
-use Rattle.pagable_pageout.specs.{Slots.written_of, Tasks.{EachIsAwaited, back_of, fails, todos}, Turns.just_open, declared.tasks.Task.Task}
-use Rattle.pagable_pager_spec.specs.{Workers.advance, World.{to_finish, was_refused}}
-use Rattle.std.proofs.Common.{None, ap, arith, length, refl, subst, sym, ◌∙◌, ◌∷◌}
-use Rattle.std.specs.Arc.{arc_value}
 use Rattle.pagable_pageout.proofs.stride.write_and_advance.Goals as goal
+use Rattle.pagable_pageout.specs.{Tasks.fails, Turns.just_open}
 
 pub returns-in-Ok-clause-goes : goal.returns-in-Ok-clause-goes
 returns-in-Ok-clause-goes g c =
@@ -25,33 +22,24 @@ returns-in-Ok-clause-goes g c =
 pub returns-in-Ok-clause-step : goal.returns-in-Ok-clause-step
 returns-in-Ok-clause-step g c n pin shares =
     let w = written_of (arc_value c.in-Ok.told) in
-    let below = todos c.args.path.now.items in
     let e = c.advance.ensures.todo ∙ ap (λ t. advance (t ∷ todos c.write_claimed.new.path.items)) c.in-Ok.ensures.open
     ∙ ap (λ ps. advance (to_finish (just_open c.args.reference c.args.place c.args.through w) ∷ todos ps)) c.in-Ok.ensures.path in
     let noted = rw c.in-Ok.ensures.listed at c.note_written.ensures in
     both-second (tells_map (λ s h. c.in-Ok.ensures.forms s pin h) shares) (rw c.referenced_identity.ensures at noted)
-    (λ s x y forms same. turn-walked _ _ n x (Task.Write c.args.reference c.args.place c.args.through pin) below y c.advance.result
-    (todos c.advance.new.path.items) _ _ s s
-    (write-turns _ _ n x y c.args.reference c.args.place c.args.through pin below _ c.advance.result c.advance.ensures.plain s c.in-Ok.told forms same e) refl
-    refl)
+    (λ s x y forms same. turn-walked (write-turns c.advance.ensures.plain {told = c.in-Ok.told} forms same e) refl)
 
 pub returns-in-Err-clause-step : goal.returns-in-Err-clause-step
 returns-in-Err-clause-step g c n pin shares =
-    let below = todos c.args.path.now.items in
     let e = c.fail_with.ensures.todo ∙ ap (λ ps. fails (was_refused c.in-Err.e) (back_of None (todos ps))) c.in-Err.ensures.path in
     both-stays (tells_map (λ s h. c.in-Err.ensures.forms s pin h) shares)
-    (λ s x forms. turn-walked _ _ n x (Task.Write c.args.reference c.args.place c.args.through pin) below x c.fail_with.result
-    (todos c.fail_with.new.path.items) _ _ s s
-    (write-fails _ _ n x x c.args.reference c.args.place c.args.through pin below _ c.fail_with.result c.fail_with.ensures.plain s c.in-Err.e forms
-    (same-shelf x) e)
-    refl refl)
+    (λ s x forms. turn-walked (write-fails c.fail_with.ensures.plain forms (same-shelf x) e) refl)
 
 pub returns-in-Ok-clause-ends : goal.returns-in-Ok-clause-ends
 returns-in-Ok-clause-ends g c =
     let node = just_open c.args.reference c.args.place c.args.through (written_of (arc_value c.in-Ok.told)) in
     let e = c.advance.ensures.todo ∙ ap (λ t. advance (t ∷ todos c.write_claimed.new.path.items)) c.in-Ok.ensures.open
     ∙ ap (λ ps. advance (to_finish node ∷ todos ps)) c.in-Ok.ensures.path in
-    written-ends _ node (todos c.args.path.now.items) _ c.advance.result (λ w h. h) e
+    written-ends node (λ w h. h) e
 
 pub returns-in-Err-clause-ends : goal.returns-in-Err-clause-ends
-returns-in-Err-clause-ends g c = refused-ends _ _ c.fail_with.result _ _ c.fail_with.ensures.todo
+returns-in-Err-clause-ends g c = refused-ends c.fail_with.ensures.todo

@@ -1,20 +1,18 @@
-use Rattle.pagable_load.proofs.LoadSteps.{acts_map}
-use Rattle.pagable_pageout.proofs.{FinishTurns.{release-ends, release-gives}, ItemLast.{alone-ends, given-ends}}
-use Rattle.pagable_pageout.specs.Tasks.{todos}
+use Rattle.pagable_pageout.proofs.{FinishTurns.{release-ends, release-gives}, ItemLast.{alone-ends, given-ends}, Words.acts_map}
 use Rattle.pagable_pageout.proofs.turns.release.Goals as goal
 
 pub returns-in-Ok-clause-acts : goal.returns-in-Ok-clause-acts
 returns-in-Ok-clause-acts g c shelf = rw c.referenced_identity-identity.ensures
     (acts_map (rw c.referenced_identity-identity.ensures at c.release_worker_node.ensures)
-    (release-gives _ _ c.args.worker.0 shelf c.args.done (todos c.args.path.now.items) c.in-Ok.task _ c.in-Ok.ensures.gives c.in-Ok.ensures.plain))
+    (release-gives c.in-Ok.ensures.gives c.in-Ok.ensures.plain))
 
 pub returns-in-Err-clause-acts : goal.returns-in-Err-clause-acts
 returns-in-Err-clause-acts g c shelf = rw (c.referenced_identity-identity.ensures, c.key.ensures, c.in-Err.ensures.back)
     (acts_map (rw c.referenced_identity-identity.ensures at c.release_worker_node.ensures)
-    (release-ends _ _ c.args.worker.0 shelf c.args.done (todos c.args.path.now.items) c.in-Err.ensures.none.0))
+    (release-ends c.in-Err.ensures.none.0))
 
 pub returns-in-Ok-clause-ends : goal.returns-in-Ok-clause-ends
-returns-in-Ok-clause-ends g c = given-ends _ _ _ _ _ c.in-Ok.task c.in-Ok.ensures.gives
+returns-in-Ok-clause-ends g c = given-ends c.in-Ok.ensures.gives
 
 pub returns-in-Err-clause-ends : goal.returns-in-Err-clause-ends
-returns-in-Err-clause-ends g c = alone-ends _ _ _ _ _ c.in-Err.ensures.none.0
+returns-in-Err-clause-ends g c = alone-ends c.in-Err.ensures.none.0

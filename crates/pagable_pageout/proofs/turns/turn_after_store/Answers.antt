@@ -1,7 +1,4 @@
-use Rattle.pagable_pageout.proofs.Nodes.{results-stand}
-use Rattle.pagable_pageout.specs.{Slots.keys_of, declared.tasks.Task.Task}
-use Rattle.std.proofs.Common.{refl}
-use mathlib.Core.Logic.{∥∥₁_map}
+use Rattle.pagable_pageout.proofs.{Nodes.results-stand, Words.{Task, keys_of, refl, ∥∥₁_map}}
 use Rattle.pagable_pageout.proofs.turns.turn_after_store.Goals as goal
 
 pub returns-clause-follows : goal.returns-clause-follows

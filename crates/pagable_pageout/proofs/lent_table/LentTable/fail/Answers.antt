@@ -1,6 +1,5 @@
-use Rattle.pagable_pageout.proofs.Waits.{failure-less, less-open}
-use Rattle.pagable_pageout.specs.{Slots.{open_worker, shelf_in, slots_in}, Table.shelf_of}
-use Rattle.std.proofs.Common.{ap, refl, sym, ◌∙◌}
+use Rattle.pagable_pageout.proofs.{Waits.{failure-less, less-open}, Words.{ap, open_worker, refl, shelf_in, shelf_of, sym, ◌∙◌}}
+use Rattle.pagable_pageout.specs.Slots.{slots_in}
 
 pub invariant_of-self-clause-ends : Rattle.pagable_pageout.proofs.lent_table.LentTable.fail.Goals.invariant_of-self-clause-ends
 invariant_of-self-clause-ends g c =

@@ -1,7 +1,4 @@
-use Rattle.pagable_pageout.proofs.Waits.{no-waits}
-use Rattle.pagable_pageout.specs.Slots.{is_same, shelf_in, slot_of}
-use Rattle.std.proofs.{Common.{ap, nat_eq, sym, ◌∙◌}, lemmas.Option.none-some}
-use Rattle.std.specs.{Map.lookup, Option.option_map}
+use Rattle.pagable_pageout.proofs.{Waits.no-waits, Words.{ap, is_same, lookup, nat_eq, none-some, option_map, shelf_in, slot_of, sym, ◌∙◌}}
 use Rattle.pagable_pageout.proofs.lent_table.LentTable.forget_claims.Goals as goal
 
 pub returns : goal.returns

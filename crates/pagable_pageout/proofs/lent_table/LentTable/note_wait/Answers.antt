@@ -1,7 +1,4 @@
-use Rattle.pagable_pageout.proofs.Waits.{either-way, less-open, wait-is, waiting}
-use Rattle.pagable_pageout.specs.{Slots.shelf_in, Table.shelf_of}
-use Rattle.std.proofs.Common.{Some, ap, inl, inr, nat_eq, refl}
-use Rattle.std.specs.Map.{lookup}
+use Rattle.pagable_pageout.proofs.{Waits.{either-way, less-open, wait-is, waiting}, Words.{Some, ap, inl, inr, lookup, nat_eq, refl, shelf_in, shelf_of}}
 
 pub invariant_of-self-clause-ends : Rattle.pagable_pageout.proofs.lent_table.LentTable.note_wait.Goals.invariant_of-self-clause-ends
 invariant_of-self-clause-ends g c =

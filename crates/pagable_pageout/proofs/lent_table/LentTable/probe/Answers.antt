@@ -1,8 +1,6 @@
-use Rattle.pagable_pageout.proofs.Waits.{same-numbers}
-use Rattle.pagable_pageout.specs.Slots.{outcome_of, slot_of}
-use Rattle.std.proofs.Common.{ap, arith, inl, inr, refl, sym, ◌∙◌}
-use Rattle.std.specs.Option.{option_map}
+use Rattle.pagable_pageout.proofs.{Waits.same-numbers, Words.{ap, arith, inl, inr, option_map, refl, slot_of, sym, ◌∙◌}}
 use Rattle.pagable_pageout.proofs.lent_table.LentTable.probe.Goals as goal
+use Rattle.pagable_pageout.specs.Slots.{outcome_of}
 
 pub returns-in-Failed-clause-finds : goal.returns-in-Failed-clause-finds
 returns-in-Failed-clause-finds g c = (

@@ -1,6 +1,4 @@
-use Rattle.pagable_pageout.proofs.Waits.{stopped, wait-is}
-use Rattle.pagable_pageout.specs.{Slots.shelf_in, Table.shelf_of}
-use Rattle.std.proofs.Common.{None, refl}
+use Rattle.pagable_pageout.proofs.{Waits.{stopped, wait-is}, Words.{None, refl, shelf_in, shelf_of}}
 
 pub invariant_of-self-clause-ends : Rattle.pagable_pageout.proofs.lent_table.LentTable.stop_waiting.Goals.invariant_of-self-clause-ends
 invariant_of-self-clause-ends g c =

@@ -1,7 +1,6 @@
-use Rattle.pagable_pageout.proofs.Waits.{how-long}
-use Rattle.pagable_pageout.specs.{Slots.TellsDeadlock, Table.shelf_of}
-use Rattle.std.proofs.Common.{Bool}
+use Rattle.pagable_pageout.proofs.{Waits.how-long, Words.{Bool, shelf_of}}
 use Rattle.pagable_pageout.proofs.lent_table.LentTable.would_deadlock.Given as goal
+use Rattle.pagable_pageout.specs.Slots.{TellsDeadlock}
 
 -- where the worker that was come to leads, the first one does
 abbrev pub invariant-loop-worker : goal.invariant-loop-worker
