@@ -7,7 +7,7 @@ use Rattle.pagable_examples.specs.{
 }
 use Rattle.pagable_traits.proofs.{
   JsonSteps.{wrote-below, wrote-nothing, wrote-then, wrote-then-err},
-  Parts.{no-failure, no-success, refused_second, refuses_first, refuses_whole, writes_pair, writes_whole},
+  Parts.{no-failure, no-success, refuses_first, refuses_second, refuses_whole, writes_pair, writes_whole},
 }
 use Rattle.pagable_traits.specs.Clauses.{Piece, Wrote, bytes}
 use Rattle.pagable_value_spec.specs.{
@@ -41,7 +41,7 @@ module _ {S E N H K V : Type 0} (env : Environments E N H K V) (s : Serializers 
       ≡ s.environment c
       → Wrote env s (expression_form x (nested 0)) causes a d r
   written_down {X} x {causes} {a} r down out_in env_in w up out_out env_out =
-      wrote-then env s r (wrote-nothing env s {P = nothing} {causes = causes} {a = a} refl) (wrote-below env s r down out_in env_in w up out_out env_out)
+      wrote-then (wrote-nothing {P = nothing} {causes = causes} {a = a} refl) (wrote-below down out_in env_in w up out_out env_out)
       (λ n old mid new e v. writes-down nodes 0 (Is of_expression x) n.levels old new v.0 (rw e at v.1))
       (λ n e l h. refused-down nodes 0 (let p : Result X Error = Err e in p) (Is of_expression x) n.levels l.0 l.1)
       (λ e h. h)
@@ -49,7 +49,7 @@ module _ {S E N H K V : Type 0} (env : Environments E N H K V) (s : Serializers 
   pub number_written : {X : Type 0} (x : ℕ) (value : Expression) → value ≡ Number x → {a b c : S} (r : Result X Error)
       → Wrote env s (bytes (bool_form true)) IsOutOfMemory a b (let p : Result (Unit {0}) Error = Ok tt in p)
       → Wrote env s (written (Is number x) (unsigned w64)) IsOutOfMemory b c r → Wrote env s (expression_form value variant_shape) (deep_or IsOutOfMemory) a c r
-  number_written x value is r f w = wrote-then env s r f w
+  number_written x value is r f w = wrote-then f w
       (λ n old mid new e v. writes_whole (nesting n.levels nodes) (nesting n.levels nodes) success (unsigned w64) variant_shape (Is number x)
       (Is of_expression value)
       (λ m h. rw (h, is) refl) (bool_form true) old mid new
@@ -71,18 +71,18 @@ module _ {S E N H K V : Type 0} (env : Environments E N H K V) (s : Serializers 
         → Wrote env s (expression_form x (nested 0)) (deep_or IsOutOfMemory) b c (let p : Result X Error = Err e in p)
         → Wrote env s (expression_form value variant_shape) (deep_or IsOutOfMemory) a c r
     left_unwritten r same w =
-        wrote-then-err env s r same f w (λ n old mid v l h. unwritten n.levels _
+        wrote-then-err same f w (λ n old mid v l h. unwritten n.levels _
         (refuses_first (Is of_expression) (Is of_expression) (λ z. (of_expression z, refl)) (x, y) (nesting n.levels nodes) _ _ _ l)) (λ h. h)
 
     pub sum_written : {X Y : Type 0} {d : X} {c z : S} (r : Result Y Error)
         → Wrote env s (expression_form x (nested 0)) (deep_or IsOutOfMemory) b c (let p : Result X Error = Ok d in p)
         → Wrote env s (expression_form y (nested 0)) (deep_or IsOutOfMemory) c z r
         → Wrote env s (expression_form value variant_shape) (deep_or IsOutOfMemory) a z r
-    sum_written r v w = wrote-then env s r f
-        (wrote-then env s {W = written (two x y) (both (nested 0) (nested 0))} {causes = deep_or IsOutOfMemory} r v w
+    sum_written r v w = wrote-then f
+        (wrote-then {W = written (two x y) (both (nested 0) (nested 0))} {causes = deep_or IsOutOfMemory} v w
         (λ n old mid new p q. writes_pair (Is of_expression) (Is of_expression) (x, y) (nesting n.levels nodes) (nested 0) (nested 0) old mid new p q)
-        (λ n e l h. refused_second {X = Unit {0}} (Err e) (Is of_expression) (Is of_expression) (λ u. (of_expression u, refl)) (x, y) (nesting n.levels nodes)
-        (nested 0) (nested 0) l) (λ e h. h))
+        (λ n e l h. refuses_second (Is of_expression) (Is of_expression) (λ u. (of_expression u, refl)) (x, y) (nesting n.levels nodes)
+        (nested 0) (nested 0) e l) (λ e h. h))
         (λ n old mid new e v. writes_whole (nesting n.levels nodes) (nesting n.levels nodes) failure (both (nested 0) (nested 0)) variant_shape (two x y)
         (Is of_expression value) sum-means (bool_form false) old mid new
         (λ m b k form. err-form _ _ _ m b k form) e v)

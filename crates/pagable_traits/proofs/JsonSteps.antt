@@ -8,7 +8,7 @@ use Rattle.pagable_traits.proofs.{
   Parts.{refuses_whole, writes_whole},
   Words.{Answer, ArcRef, Context, Err, Error, FormAt, Gets, GivesSome, IsErrAnd, IsOutOfMemory, List, Meaning, Means, MovesOn, Nesting, NoForm, Ok, Option},
   Words.{Out, Piece, Reads, Rest, Result, Shape, SomeMeaning, Wrote, added, arith, bytes, context_in, deepest, grows_refl, grows_trans, items, length},
-  Words.{length_form, memory_or, moves_trans, nested_in, nesting, read, refl, then, ℕ, [], ◌++◌, ◌+◌, ◌-◌, ◌<◌, ◌∙◌, ◌∷◌, ◌≡◌, ◌≤◌, ◌⊎◌},
+  Words.{length_form, memory_or, moves_trans, nested_in, nesting, read, refl, ℕ, [], ◌++◌, ◌+◌, ◌-◌, ◌<◌, ◌∙◌, ◌∷◌, ◌≡◌, ◌≤◌, ◌⊎◌},
 }
 use Rattle.pagable_traits.specs.{Clauses.value, Walks.counted_forms}
 

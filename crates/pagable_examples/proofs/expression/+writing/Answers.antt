@@ -8,8 +8,8 @@ use Rattle.pagable_examples.proofs.expression.+writing.Goals as goal
 pub write_nested-returns-in_err-enter : goal.write_nested-returns-in_err-enter
 write_nested-returns-in_err-enter g t c =
     let h = c.in_err-enter.ensures in
-    wrote-deep _ g.S.PagableSerializer c.from_residual.result c.from_residual.ensures.1
-    (wrote-nothing _ g.S.PagableSerializer {P = nothing} {causes = IsOutOfMemory} refl) h.err h.same_out h.same_env
+    wrote-deep c.from_residual.ensures.1
+    (wrote-nothing {P = nothing} {causes = IsOutOfMemory} refl) h.err h.same_out h.same_env
     (λ n le. refused-deep nodes 0 _ _ _ n.levels refl le) (λ e. inl e)
 
 pub write_nested-returns : goal.write_nested-returns
