@@ -52,10 +52,10 @@ keys-go {w} {w'} {c} {SetAt} goes none sets = record {
           (kept.was.node_type, ap (λ o. if_there (λ (cell : Cell). Some cell.node_type) None o) kept.live),
           elim kept.key [
             | inl stays ↦ inl (ap (λ o. if_there (λ (cell : Cell). cell.key) OptionalDataKey.None o) kept.live ∙ sym stays ∙ there.2)
-            | inr (k, set, now) ↦ let same : k ≡ key = cc in inr (sets n key (subst (λ q. Sets c n q) same set))
+            | inr (k, set, now) ↦ let same : k ≡ key = cc in inr (sets n key (rw same at set))
           ],
         )
-        | inr (next, bears) ↦ absurd (none there.0.node_type key (subst (λ own. Bears c there.0.node_type own) there.2 bears))
+        | inr (next, bears) ↦ absurd (none there.0.node_type key (rw there.2 at bears))
       ];
 }
 
@@ -97,6 +97,6 @@ module _ {hash : List ℕ → List ℕ} {types : Types} where
   all-keys trees none-are-asked each = no-keys
   all-keys trees (one-more-has rs keys r key all one) each =
       let kid_of = λ (q : ArcRef). kid q.kind.0 (trees q.node.0).meaning in
-      subst (λ kids. KeysOf hash types kids (keys ++ key ∷ [])) (sym (map-append kid_of rs (r ∷ [])))
-      (one-more-key (kid_of r) key (all-keys trees all (λ q k among has. each q k (among-left rs (r ∷ []) among.0 q among.1) has))
+      rw (← (map-append kid_of rs (r ∷ []))) at (one-more-key (kid_of r) key (all-keys trees all
+          (λ q k among has. each q k (among-left rs (r ∷ []) among.0 q among.1) has))
       (each r key (among-right rs (r ∷ []) 0 r refl) one))

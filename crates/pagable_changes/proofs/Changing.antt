@@ -16,42 +16,34 @@ use Rattle.std.proofs.{
 use Rattle.std.specs.Prelude.{slice_get}
 
 -- what was done in an environment that is the same
-pub at-same : {N E X : Type 0} (says : E → Values N) {e e' : E} {does : Core → Type 0} {s s' : PagerState N X} → e' ≡ e → MakesCall (says e') does s s'
-    → MakesCall (says e) does s s'
-at-same says {does = does} {s} {s'} same c = subst (λ x. MakesCall (says x) does s s') same c
+module _ {N E X : Type 0} (says : E → Values N) {e e' : E} (same : e' ≡ e) where
+  pub at-same : {does : Core → Type 0} {s s' : PagerState N X} → MakesCall (says e') does s s' → MakesCall (says e) does s s'
+  at-same c = rw same at c
 
-pub pins-same : {N E X : Type 0} (says : E → Values N) {e e' : E} {c : HandleNumber} {r : Result HandleNumber Error} {s s' : PagerState N X} → e' ≡ e
-    → PinsLoosely (says e') c s r s' → PinsLoosely (says e) c s r s'
-pins-same says {c = c} {r} {s} {s'} same p = subst (λ x. PinsLoosely (says x) c s r s') same p
+  pub pins-same : {c : HandleNumber} {r : Result HandleNumber Error} {s s' : PagerState N X} → PinsLoosely (says e') c s r s' → PinsLoosely (says e) c s r s'
+  pins-same p = rw same at p
 
-pub lets-same : {N E X : Type 0} (says : E → Values N) {e e' : E} {c k : HandleNumber} {s s' : PagerState N X} → e' ≡ e → ReleasesBoth (says e') c k s s'
-    → ReleasesBoth (says e) c k s s'
-lets-same says {c = c} {k} {s} {s'} same p = subst (λ x. ReleasesBoth (says x) c k s s') same p
+  pub lets-same : {c k : HandleNumber} {s s' : PagerState N X} → ReleasesBoth (says e') c k s s' → ReleasesBoth (says e) c k s s'
+  lets-same p = rw same at p
 
-pub sets-same : {N E X : Type 0} (says : E → Values N) {e e' : E} {found found' : FoundKeys} {o : OpenNode} {key : ℕ} {s s' : PagerState N X} → e' ≡ e
-    → RecordsKey (says e') found o key s found' s' → RecordsKey (says e) found o key s found' s'
-sets-same says {found = found} {found'} {o} {key} {s} {s'} same p = subst (λ x. RecordsKey (says x) found o key s found' s') same p
+  pub sets-same : {found found' : FoundKeys} {o : OpenNode} {key : ℕ} {s s' : PagerState N X} → RecordsKey (says e') found o key s found' s'
+      → RecordsKey (says e) found o key s found' s'
+  sets-same p = rw same at p
 
-pub unset-same : {N E X : Type 0} (says : E → Values N) {e e' : E} {o : OpenNode} {key : ℕ} {why : Error} {s s' : PagerState N X} → e' ≡ e
-    → SetKeyFails (says e') o key s why s' → SetKeyFails (says e) o key s why s'
-unset-same says {o = o} {key} {why} {s} {s'} same p = subst (λ x. SetKeyFails (says x) o key s why s') same p
+  pub unset-same : {o : OpenNode} {key : ℕ} {why : Error} {s s' : PagerState N X} → SetKeyFails (says e') o key s why s' → SetKeyFails (says e) o key s why s'
+  unset-same p = rw same at p
 
-pub gives-same : {N E X : Type 0} (says : E → Values N) {e e' : E} {path : List OpenNode} {s s' : PagerState N X} → e' ≡ e → ReleasesPath (says e') path s s'
-    → ReleasesPath (says e) path s s'
-gives-same says {path = path} {s} {s'} same p = subst (λ x. ReleasesPath (says x) path s s') same p
+  pub gives-same : {path : List OpenNode} {s s' : PagerState N X} → ReleasesPath (says e') path s s' → ReleasesPath (says e) path s s'
+  gives-same p = rw same at p
 
-pub turned-same : {N E X : Type 0} (says : E → Values N) {e e' : E} {a b : Stage N X} {key : Option ℕ} → e' ≡ e → MakesTurn (says e') a key b
-    → MakesTurn (says e) a key b
-turned-same says {a = a} {b} {key} same p = subst (λ x. MakesTurn (says x) a key b) same p
+  pub turned-same : {a b : Stage N X} {key : Option ℕ} → MakesTurn (says e') a key b → MakesTurn (says e) a key b
+  turned-same p = rw same at p
 
-pub fails-same : {N E X : Type 0} (says : E → Values N) {e e' : E} {a : Stage N X} {why : Error} {s' : PagerState N X} → e' ≡ e → TurnFails (says e') a why s'
-    → TurnFails (says e) a why s'
-fails-same says {a = a} {why} {s'} same p = subst (λ x. TurnFails (says x) a why s') same p
+  pub fails-same : {a : Stage N X} {why : Error} {s' : PagerState N X} → TurnFails (says e') a why s' → TurnFails (says e) a why s'
+  fails-same p = rw same at p
 
-pub walks-same : {N E X : Type 0} (says : E → Values N) {e e' : E} {first : OpenNode} {r : Result ℕ Error} {s s' : PagerState N X} → e' ≡ e
-    → Walks (says e') first s r s'
-    → Walks (says e) first s r s'
-walks-same says {first = first} {r} {s} {s'} same walks = subst (λ x. Walks (says x) first s r s') same walks
+  pub walks-same : {first : OpenNode} {r : Result ℕ Error} {s s' : PagerState N X} → Walks (says e') first s r s' → Walks (says e) first s r s'
+  walks-same p = rw same at p
 
 -- what is so of each refusal
 pub err-any : {X Y : Type 0} {P : Y → Type 0} (r : Result X Y) → ((e : Y) → P e) → IfErr r P
@@ -71,14 +63,13 @@ module _ {N E : Type 0} (v : Values N) (o : OpenNode) (key : ℕ) (s s' : PagerS
 
 -- the keys of one reference more
 pub no-keys-yet : {found : FoundKeys} {w : Core} (rs : List ArcRef) {keys : List ℕ} → keys ≡ [] → AllHaveKeys found w (take 0 rs) keys
-no-keys-yet {found} {w} rs is = subst (λ ks. AllHaveKeys found w (take 0 rs) ks) (sym is) none-are-asked
+no-keys-yet {found} {w} rs is = rw is none-are-asked
 
 pub one-key-more : {found : FoundKeys} {w : Core} (rs : List ArcRef) (at : ℕ) (r : ArcRef) (key : ℕ) {keys keys' : List ℕ} → take (at + 1) rs ≡ take at rs ++ r
     ∷ []
     → AllHaveKeys found w (take at rs) keys → HasKey found w r key → keys' ≡ keys ++ key ∷ [] → AllHaveKeys found w (take (at + 1) rs) keys'
 one-key-more {found} {w} rs at r key {keys} {keys'} one so has is =
-    subst (λ ks. AllHaveKeys found w (take (at + 1) rs) ks) (sym is) (subst (λ xs. AllHaveKeys found w xs (keys ++ key ∷ [])) (sym one)
-    (one-more-has (take at rs) keys r key so has))
+    rw (← is) at (rw (← one) at (one-more-has (take at rs) keys r key so has))
 
 pub one-taken : {found : FoundKeys} {w : Core} {rs : List ArcRef} {at : ℕ} {keys keys' : List ℕ} → AllHaveKeys found w (take at rs) keys
     → AppendsKey found w rs at keys keys'
@@ -89,12 +80,12 @@ one-taken {rs = rs} {at} so t =
 
 pub all-taken : {found : FoundKeys} {w : Core} (rs : List ArcRef) {at : ℕ} {keys : List ℕ} → length rs ≤ at → AllHaveKeys found w (take at rs) keys
     → AllHaveKeys found w rs keys
-all-taken {found} {w} rs {at} {keys} past so = subst (λ xs. AllHaveKeys found w xs keys) (take_all at rs past) so
+all-taken {found} {w} rs {at} {keys} past so = rw (take_all at rs past) at so
 
 -- a node is left, or isn't
 module _ {N E : Type 0} (v : Values N) {found : FoundKeys} {s mid : PagerState N E} {o : OpenNode} {blob : Blob} (over : IsBlobOfNode found s.core o blob) where
   stores-over : {r : Result ℕ Error} → StoresBlob v s blob r mid → StoresBlob v s (blob_of (written_of o.written).bytes over.keys) r mid
-  stores-over {r} stores = subst (λ b. StoresBlob v s b r mid) over.is stores
+  stores-over {r} stores = rw over.is at stores
 
   pub leaves-by : {ready found' : FoundKeys} {low s' : PagerState N E} {key : ℕ} → StoresBlob v s blob (Ok key) mid → ((n : ℕ) → ready n ≡ found n)
       → RecordsKey v ready o key mid found' low
@@ -139,17 +130,16 @@ next-stage v {a} {b} so (turns-once d turn) = one-more-turn a b d so turn
 pub one-given-up : {N E : Type 0} (v : Values N) {path path' : List OpenNode} (o : OpenNode) {s mid s' : PagerState N E} → path ≡ path' ++ o ∷ []
     → ReleasesBoth v o.cloned o.pin s mid
     → ReleasesPath v path' mid s' → ReleasesPath v path s s'
-one-given-up v {path' = path'} o {s} {mid} {s'} is lets gives = subst (λ p. ReleasesPath v p s s') (sym is) (one-goes-first path' o s mid s' lets gives)
+one-given-up v {path' = path'} o {s} {mid} {s'} is lets gives = rw (← is) at (one-goes-first path' o s mid s' lets gives)
 
 pub none-left : {N E : Type 0} (v : Values N) {path : List OpenNode} {s : PagerState N E} → path ≡ [] → ReleasesPath v path s s
-none-left v {s = s} is = subst (λ p. ReleasesPath v p s s) (sym is) (none-is-open s)
+none-left v {s = s} is = rw is (none-is-open s)
 
 -- the walk from its turns
 module _ {N E : Type 0} (v : Values N) {first : OpenNode} {s : PagerState N E} {path : List OpenNode} {found : FoundKeys} (none : path ≡ [])
     (empty : (n : ℕ) → found n ≡ None) where
   pub same-start : {b : Stage N E} → Turns v (stage path first found s) b → Turns v (stage [] first nothing_found s) b
-  same-start {b} turns =
-      subst (λ f. Turns v (stage [] first f s) b) (λ i n. empty n i) (subst (λ p. Turns v (stage p first found s) b) none turns)
+  same-start {b} turns = subst (λ f. Turns v (stage [] first f s) b) (λ i n. empty n i) (rw none at turns)
 
   pub walks-by : {b : Stage N E} {key : ℕ} → TurnsUntilKey v (stage path first found s) key b → Walks v first s (Ok key) b.pager
   walks-by t = last-by v (same-start t.so) t.out
@@ -158,5 +148,5 @@ module _ {N E : Type 0} (v : Values N) {first : OpenNode} {s : PagerState N E} {
       → TurnsFail v (stage path first found s) e path' node' mid
       → ReleasesBoth v node'.cloned node'.pin mid low → ReleasesPath v path' low s' → Walks v first s (Err e) s'
   refused-by {e = e} {mid} {low} {s'} t lets gives =
-      walk-is-refused t.last e mid low s' (same-start t.so) t.fails (subst (λ (o : OpenNode). ReleasesBoth v o.cloned o.pin mid low) t.node_is lets)
-      (subst (λ p. ReleasesPath v p low s') t.path_is gives)
+      walk-is-refused t.last e mid low s' (same-start t.so) t.fails (rw t.node_is at lets)
+      (rw t.path_is at gives)

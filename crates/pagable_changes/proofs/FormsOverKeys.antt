@@ -83,7 +83,7 @@ pub each-has : {found : FoundKeys} {w : Core} {rs : List ArcRef} {keys : List �
 each-has none-are-asked r among = absurd cc
 each-has {found} {w} (one-more-has rs keys q key all one) r (i, is) = elim (pushed rs q i r is) [
   | inl old ↦ each-has all r (i, old)
-  | inr new ↦ (key, subst (λ x. HasKey found w x key) new.1 one)
+  | inr new ↦ (key, rw new.1 at one)
 ]
 
 module _ {stored : ℕ → Option Blob} {types : Types} {trees : ℕ → Tree} (f : ArcRef → ℕ) (rs : List ArcRef)
@@ -95,8 +95,8 @@ module _ {stored : ℕ → Option Blob} {types : Types} {trees : ℕ → Tree} (
   follows-keys (variant-leads i x a h) = variant-followed i _ a (follows-keys h)
   follows-keys (reference-leads r a among is) =
       let p = reads r among in
-      let under : ReadsAs stored types (type_of r.kind.0) (f r) p.1.own = subst (λ t. ReadsAs stored types t (f r) p.1.own) p.0 p.1.reads in
-      reference-followed (key_ref r.kind.0 (f r)) p.1.own a under (subst (λ m. IsFollowed (ReadsAs stored types) p.1.own m) is p.1.follows)
+      let under : ReadsAs stored types (type_of r.kind.0) (f r) p.1.own = rw p.0 at p.1.reads in
+      reference-followed (key_ref r.kind.0 (f r)) p.1.own a under (rw is at p.1.follows)
   follows-keys (followed-leads kind x a none h) = absurd none
   follows-keys h = search (number-followed, integer-followed, text-followed, pattern-followed, none-followed)
 

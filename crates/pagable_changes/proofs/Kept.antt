@@ -83,8 +83,8 @@ module _ {N E : Type 0} (v : Values N) (lawful : IsLawful v) (M : Type 0) where
   keys-on s s' {trees} {trees'} well go same sets keyed m n key is =
       let (typed, had) = go.each n key is in
       let within = (given-of well.whole.handles n typed.1).1 in
-      let at : KeyOf v.hash v.types (trees n) key = elim had [ inl was ↦ keyed m n key was | inr set ↦ sets m n key set ] in
-      subst (λ t. KeyOf v.hash v.types t key) (sym (same n within)) at
+      let its_key : KeyOf v.hash v.types (trees n) key = elim had [ inl was ↦ keyed m n key was | inr set ↦ sets m n key set ] in
+      rw (← (same n within)) at its_key
 
   by-call : {does : Core → Type 0} {s s' : PagerState N E} {trees : ℕ → Tree} {SetAt : ℕ → ℕ → Type 0} (call : Call N Blob) (reply : Reply N Blob)
       → ((c : Change) → CallFeels v s.core Owner.Caller call reply s'.core c → CoreGoes c s.core s'.core → KeysGo s.core s'.core SetAt)
@@ -168,8 +168,8 @@ module _ {N E : Type 0} (v : Values N) (lawful : IsLawful v) (M : Type 0) where
   key-on : {s s' : PagerState N E} {trees : ℕ → Tree} (a : Went s trees s') {n key : ℕ} → KeyReads s trees n key → KeyReads s' a.trees' n key
   key-on {s' = s'} a {n} {key} k = record {
     given = let more = a.after.nodes in let g = k.given in omega (arith, more, g);
-    reads = subst (λ t. ReadsTree s'.core.stored v.types key t) (sym (a.after.same n k.given)) (tree-stays a.kept k.reads);
-    is_key = λ m. subst (λ t. KeyOf v.hash v.types t key) (sym (a.after.same n k.given)) (k.is_key m);
+    reads = rw (← (a.after.same n k.given)) at (tree-stays a.kept k.reads);
+    is_key = λ m. rw (← (a.after.same n k.given)) at (k.is_key m);
   }
 
   wrote-on : {s s' : PagerState N E} {trees : ℕ → Tree} (a : Went s trees s') {n : ℕ} {written : Written} → n ≤ s.core.last.node
@@ -180,9 +180,9 @@ module _ {N E : Type 0} (v : Values N) (lawful : IsLawful v) (M : Type 0) where
       let inside : (r : ArcRef) → Among written.references r → r.node.0 ≤ s'.core.last.node = λ r among. let le = w.given r among in let more =
       a.after.nodes in omega (arith, le, more) in
       let follows : FollowsTo a.trees' written.references w.own (a.trees' n).meaning =
-      leads-on (subst (λ (t : Tree). FollowsTo trees written.references w.own t.meaning) (sym same) w.follows)
+      leads-on (rw (← same) at w.follows)
       (λ r own among. (among, a.after.same r.node.0 (w.given r among))) in
-      let can = subst (λ (t : Tree). IsReadableType v.types t.type) (sym same) w.can in
+      let can = rw (← same) at w.can in
       record {
         shape = w.shape;
         own = w.own;
@@ -228,10 +228,10 @@ module _ {N E : Type 0} (v : Values N) (lawful : IsLawful v) (M : Type 0) where
             given = subst (λ (q : ArcRef). q.node.0 ≤ s'.core.last.node) (sym o_is) live.1;
             wrote = subst (λ (q : ArcRef). WroteTree v.types (ground s' a.trees') q.node.0 (written_of o.written)) (sym o_is) written;
             typed = λ q among.
-                let is = well.references r.node.0 x q has (subst (λ rs. Among rs q) w.writes.form.listed among) in
+                let is = well.references r.node.0 x q has (rw w.writes.form.listed at among) in
                 same_some _ _ (sym (a.now.stands.typed q.node.0 (given-of well.whole.handles q.node.0 is.typed).0) ∙ is.typed);
-            small = subst (λ n. n ≤ s'.core.last.handle) (found-number o.cloned.0 s'.core.rows cloned.0 cloned.1)
-                (well.whole.handles.numbered cloned.0 (among-found o.cloned.0 s'.core.rows cloned.0 cloned.1)).1;
+            small = rw (found-number o.cloned.0 s'.core.rows cloned.0 cloned.1) at (well.whole.handles.numbered cloned.0
+                (among-found o.cloned.0 s'.core.rows cloned.0 cloned.1)).1;
             cloned = λ row is. ap (λ (q : HandleRow). q.node) (same_some _ _ (sym is ∙ cloned.1)) ∙ sym cloned.2 ∙ ap (λ (q : ArcRef). q.node) (sym o_is);
           },
         )
@@ -247,7 +247,7 @@ module _ {N E : Type 0} (v : Values N) (lawful : IsLawful v) (M : Type 0) where
         → FoundFits s trees found
         → HasKey found s.core r key → KeyReads s trees r.node.0 key
     has-reads {s} {trees} {r = r} {key} at keyed fits (cell-has-key key2 loose node keys) =
-        let live = subst (λ n. 0 < held n.0 s.core.rows) (sym node.found.2) (row-held s.core r.handle node.found.0 node.found.1) in
+        let live = rw (← node.found.2) at (row-held s.core r.handle node.found.0 node.found.1) in
         record {
           given = (given-of at.well.whole.handles r.node.0 (at.stands.typed r.node.0 live)).1;
           reads = key-fits (at.stands.stands r.node.0 live) key2 (cell-key r node keys);
@@ -278,14 +278,13 @@ module _ {N E : Type 0} (v : Values N) (lawful : IsLawful v) (M : Type 0) where
         → ((a.trees' r.node.0).type ≡ type_of r.kind.0) × ReadsTree mid.core.stored v.types (key_now found s.core r) (a.trees' r.node.0) = λ r among.
         let h = each-has have r among in (
           f.typed r among,
-          subst (λ q. ReadsTree mid.core.stored v.types q (a.trees' r.node.0)) (sym (has-now h.1))
-              (key-on a (has-reads at keyed founds h.1)).reads,
+          rw (← (has-now h.1)) at (key-on a (has-reads at keyed founds h.1)).reads,
         ) in
         let kids : M → KeysOf v.hash v.types (kids_of a.trees' (written_of o.written).references) keys = λ m.
         all-keys a.trees' have (λ r q among has. rw (← f.typed r among) ((key-on a (has-reads at keyed founds has)).is_key m)) in
         let is_key : M → KeyOf v.hash v.types (a.trees' o.reference.node.0) key = λ m.
-        subst (λ q. KeyOf v.hash v.types (a.trees' o.reference.node.0) q) (sym stores.step.stores.0)
-        (key-of (a.trees' o.reference.node.0) f.wrote.shape (written_of o.written).bytes (kids_of a.trees' (written_of o.written).references) keys f.wrote.is
+        rw (← stores.step.stores.0) at (key-of (a.trees' o.reference.node.0) f.wrote.shape (written_of o.written).bytes
+            (kids_of a.trees' (written_of o.written).references) keys f.wrote.is
         (tree-form f.wrote) (kids m)) in
         record { went = a; fits = f; reads = record { given = f.given; reads = blob-reads f.wrote have each is_stored; is_key = is_key } }
 
@@ -307,7 +306,7 @@ module _ {N E : Type 0} (v : Values N) (lawful : IsLawful v) (M : Type 0) where
     sets-fit {s} {trees = trees} {o} {key = key} (cell-gets-key found' s' loose sets same) at f founds k =
         let b = by-call (Call.SetDataKey o.cloned key) (Reply.Done (Ok tt)) (λ c feels goes. set-keys o.cloned key (refl, refl) feels goes)
         (set-is-key f k) tt sets (λ d. d)
-        (λ row owns. subst (λ n. ReadsTree s.core.stored v.types key (trees n.0)) (sym (f.cloned row owns.live)) k.reads) at in
+        (λ row owns. rw (← (f.cloned row owns.live)) at k.reads) at in
         record { went = b; found = λ n x is. key-on b (founds n x (sym (same n) ∙ is)) }
     sets-fit {s} {trees = trees} {o} {key = key} (key-is-found x found' eager is there others) at f founds k = record {
       went = went-same at;
@@ -316,7 +315,7 @@ module _ {N E : Type 0} (v : Values N) (lawful : IsLawful v) (M : Type 0) where
             let same = same-number n o.reference.node.0 e in
             let y_is : y ≡ x = same_some _ _ (sym was ∙ ap found' same ∙ there) in
             let keys : key ≡ y.key = sym is ∙ ap (λ (z : FoundKey). z.key) (sym y_is) in
-            subst (λ q. KeyReads s trees q y.key) (sym same) (subst (λ q. KeyReads s trees o.reference.node.0 q) keys k)
+            rw (← same) at (rw keys at k)
         | inr e ↦ founds n y (sym (others n (λ same. absurd (grind (arith, nat_tests)))) ∙ was)
       ];
     }
@@ -365,7 +364,7 @@ module _ {N E : Type 0} (v : Values N) (lawful : IsLawful v) (M : Type 0) where
 
     turn-fits : {a b : Stage N E} {trees : ℕ → Tree} {r : ArcRef} → Turn v a b → Fits a trees r → (w : Went a.pager trees b.pager) × Fits b w.trees' r
     turn-fits {a} {b} {trees} {r} (has-key b2 next is) f =
-        subst (λ c. (w : Went a.pager trees c.pager) × Fits c w.trees' r) (sym is) (
+        rw is (
           went-same f.at,
           record {
             at = f.at;
@@ -383,15 +382,15 @@ module _ {N E : Type 0} (v : Values N) (lawful : IsLawful v) (M : Type 0) where
             at = w.now;
             keyed = w.keys f.keyed;
             node = node;
-            path = subst (λ p. (o : OpenNode) → Among p o → OpenFits b.pager w.trees' o) (sym waits)
-                (both-all a.path (a.node ∷ []) (λ o in_it. open-on w (f.path o in_it)) (alone (OpenFits b.pager w.trees') a.node (open-on w f.node)));
+            path = rw waits (both-all a.path (a.node ∷ []) (λ o in_it. open-on w (f.path o in_it))
+                (alone (OpenFits b.pager w.trees') a.node (open-on w f.node)));
             found = subst (FoundFits b.pager w.trees') (sym same) (found-on w f.found);
             first = ap (λ p. (first_of p b.node).reference) waits ∙ ap (λ (o : OpenNode). o.reference) (first-down a.path a.node b.node) ∙ f.first;
           },
         )
     turn-fits {a} {b} {trees} {r} (goes-up b2 key waits leaves) f =
         let l = leaves-fit leaves f.at f.keyed f.node f.found in
-        let path = subst (λ p. (o : OpenNode) → Among p o → OpenFits a.pager trees o) waits f.path in (
+        let path = rw waits at f.path in (
           l.went,
           record {
             at = l.went.now;

@@ -2,7 +2,7 @@
 
 ghost use Rattle.pagable_changes.specs.{
   Changes.{IsReferenceToCellOf, PagesOutChanged, PagesOutKeyless},
-    Keys.KeepsTrees,
+  Keys.KeepsTrees,
 };
 ghost use Rattle.pagable_pager.specs.View.{BetweenIfHonest, pager_core};
 ghost use Rattle.std.specs.Prelude.{IfOk, IsTrue, ◌≡◌};

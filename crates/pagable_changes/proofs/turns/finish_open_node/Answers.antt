@@ -16,14 +16,14 @@ returns-in-Err-store-clause-fails g c = λ honest. blob-fails-by (values_at g.E.
 
 pub returns-in-Err-record_key-clause-fails : goal.returns-in-Err-record_key-clause-fails
 returns-in-Err-record_key-clause-fails g c = λ honest.
-    let stored = subst (λ s. IsTrue (g.S.PagableStorage.is_honest s)) c.in-Err-record_key.ensures.keeps.storage honest in
+    let stored = rw c.in-Err-record_key.ensures.keeps.storage at honest in
     key-fails-by (values_at g.E.Node.NodeSet g.E.Env g.E.Hash.KeyHash c.args.pager.now.environment) c.in-Ok.ensures (c.in-Ok-store.ensures.called stored)
     (unset-same (values_at g.E.Node.NodeSet g.E.Env g.E.Hash.KeyHash) c.in-Ok-store.ensures.environment c.in-Err-record_key.ensures.refused)
 
 pub returns-clause-finishes : goal.returns-clause-finishes
 returns-clause-finishes g c = λ honest.
     let set = c.in-Ok-record_key.ensures in
-    let stored = subst (λ s. IsTrue (g.S.PagableStorage.is_honest s)) (c.release_both.ensures.keeps.storage ∙ set.keeps.storage) honest in
+    let stored = rw (c.release_both.ensures.keeps.storage ∙ set.keeps.storage) at honest in
     leaves-by (values_at g.E.Node.NodeSet g.E.Env g.E.Hash.KeyHash c.args.pager.now.environment) c.in-Ok.ensures
     (c.in-Ok-store.ensures.called stored) c.reserve.ensures.rows (sets-same (values_at g.E.Node.NodeSet g.E.Env g.E.Hash.KeyHash)
     c.in-Ok-store.ensures.environment set.sets)

@@ -9,7 +9,7 @@ returns-in-Ok-clause-walks g c = λ honest. walks-by (values_at g.E.Node.NodeSet
 
 pub returns-clause-walks : goal.returns-clause-walks
 returns-clause-walks g c = λ honest.
-    let turned = subst (λ s. IsTrue (g.S.PagableStorage.is_honest s)) (c.release_path.ensures.keeps.storage ∙ c.release_both.ensures.keeps.storage) honest in
+    let turned = rw (c.release_path.ensures.keeps.storage ∙ c.release_both.ensures.keeps.storage) at honest in
     let same = c.in-Err.ensures.environment in
     refused-by (values_at g.E.Node.NodeSet g.E.Env g.E.Hash.KeyHash c.args.pager.now.environment) c.new-path.ensures.items c.new-found.ensures
     (c.in-Err.ensures.fails turned) (lets-same (values_at g.E.Node.NodeSet g.E.Env g.E.Hash.KeyHash) same c.release_both.ensures.releases)
