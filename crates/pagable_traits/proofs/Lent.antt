@@ -2,7 +2,7 @@
 use Rattle.pagable_traits.proofs.{
   Items.puts-last,
   Words.{Bool, Err, IsPermutation, List, None, Ok, Option, Ordering, PutInTurn, Result, Some, ap, false, insert_entry, lookup, match_ordering, refl, set_value},
-  Words.{subst, sym, then, true, ℕ, [], ◌++◌, ◌∙◌, ◌∷◌, ◌≡◌},
+  Words.{subst, sym, true, ℕ, [], ◌++◌, ◌∙◌, ◌∷◌, ◌≡◌},
 }
 use Rattle.pagable_traits.specs.{
   HeldValues.{Beside, CollectsHeld, holding_beside, lists_beside, options_beside, pairs_beside, results_beside},

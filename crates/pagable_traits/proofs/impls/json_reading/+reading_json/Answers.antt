@@ -5,7 +5,6 @@ use Rattle.pagable_traits.proofs.{
   JsonSteps.{all-read, either-memory, none-so-far, one-more, read-deep, read-err, refused-so-far, seen-same, then-err, then-is, then-ok},
   Words.{array_case, mean-none, object_case, read, read_with, refl, rules, sequence, variant},
 }
-use Rattle.serde_json.specs.declared.value.Value as values
 use Rattle.pagable_traits.proofs.impls.json_reading.+reading_json.Goals as goal
 
 pub read_value-returns-in_err-case : goal.read_value-returns-in_err-case
