@@ -8,8 +8,8 @@ use Rattle.pagable_file.specs.{
 use Rattle.pagable_value_spec.specs.{Blob.Blob, Stored.Adds}
 use Rattle.sqlite_trees.specs.{Tree.Trees, View.{IsClean, View, doubt}}
 use Rattle.sqlite_value.specs.Order.{Row}
-use Rattle.std.proofs.Common.{Bool, IsTrue, List, Option, Some, ap, arith, false, inl, inr, refl, sym, ℕ, [], ◌∙◌, ◌≡◌, ◌≤◌, ◌⊎◌}
-use Rattle.std.specs.{HashMap.IsUnique, List.AllByRecursion as Each, Ordering.int_eq, Prelude.{if◌then◌else◌, ◌==◌}}
+use Rattle.std.proofs.Common.{Bool, IsTrue, List, Option, Some, ap, arith, false, inl, inr, ℕ, [], ◌∙◌, ◌≡◌, ◌≤◌, ◌⊎◌}
+use Rattle.std.specs.{HashMap.IsUnique, List.AllByRecursion as Each, Ordering.int_eq}
 
 module _ (waiting : WaitingBlobs) (roots : WaitingRoots) (once : IsUnique int_eq waiting) (roots_once : IsUnique int_eq roots)
     (fit : Each (λ e. Fits e.1) waiting.entries) (roots_fit : Each (λ e. CanBeKeyIfSome e.1.key) roots.entries) where
@@ -27,12 +27,10 @@ module _ (waiting : WaitingBlobs) (roots : WaitingRoots) (once : IsUnique int_eq
     shown = shown_is_committed old was (saved.sure sure)
 
     pub committed_blobs : blobs_in (new.committed blob_tree) ≡ stored_with waiting (old.committed blob_tree)
-    committed_blobs = blobs_then (old.trees blob_tree) (new.committed blob_tree) (saved.blobs_are sure)
-        ∙ ap (λ (t : ℕ → List Row). stored_with waiting (t blob_tree)) shown
+    committed_blobs = rw (← shown) (blobs_then (old.trees blob_tree) (new.committed blob_tree) (saved.blobs_are sure))
 
     pub committed_roots : roots_in (new.committed root_tree) ≡ roots_with roots (old.committed root_tree)
-    committed_roots = roots_then (old.trees root_tree) (new.committed root_tree) (saved.roots_are sure)
-        ∙ ap (λ (t : ℕ → List Row). roots_with roots (t root_tree)) shown
+    committed_roots = rw (← shown) (roots_then (old.trees root_tree) (new.committed root_tree) (saved.roots_are sure))
 
     pub stored_stays : (after : WaitingBlobs) → after.entries ≡ [] → stored_with after (new.committed blob_tree) ≡ stored_with waiting (old.committed blob_tree)
     stored_stays after none = none_waits after (new.committed blob_tree) none ∙ committed_blobs
@@ -43,11 +41,11 @@ module _ (waiting : WaitingBlobs) (roots : WaitingRoots) (once : IsUnique int_eq
 pub blobs_kept : (waiting : WaitingBlobs) (old new : View) → LeavesCommitted old new → IsTrue (is_honest_view new)
     → stored_with waiting (new.committed blob_tree)
     ≡ stored_with waiting (old.committed blob_tree)
-blobs_kept waiting old new stays sure = ap (λ (t : ℕ → List Row). stored_with waiting (t blob_tree)) (stays.same sure)
+blobs_kept waiting old new stays sure = cc (stays.same sure)
 
 pub roots_kept : (roots : WaitingRoots) (old new : View) → LeavesCommitted old new → IsTrue (is_honest_view new) → roots_with roots (new.committed root_tree)
     ≡ roots_with roots (old.committed root_tree)
-roots_kept roots old new stays sure = ap (λ (t : ℕ → List Row). roots_with roots (t root_tree)) (stays.same sure)
+roots_kept roots old new stays sure = cc (stays.same sure)
 
 -- what a crash leaves of a commit
 pub crashed : (old mid new : View) (waiting : WaitingBlobs) (roots : WaitingRoots) (Mid Old : Trees → Type 0)
@@ -56,17 +54,7 @@ pub crashed : (old mid new : View) (waiting : WaitingBlobs) (roots : WaitingRoot
     → doubt mid.is_clean ≤ doubt new.is_clean
     → ((db : Trees) → Mid db → Old db) → (db : Trees) → ((mid.is_broken ≡ false) × (db ≡ mid.trees)) ⊎ Mid db → IsClean new → SavedAs old waiting roots db
     ⊎ Old db
-crashed old mid new waiting roots Mid Old wrote once roots_once fit roots_fit falls kept db (inr was) clean = inr (kept db was)
-crashed old mid new waiting roots Mid Old wrote once roots_once fit roots_fit falls kept db (inl is) clean =
-    let w = wrote (omega (arith, falls, clean)) in
-    inl (record {
-      blobs_are = ap (λ (t : Trees). t blob_tree) is.1 ∙ w.blobs_are;
-      roots_are = ap (λ (t : Trees). t root_tree) is.1 ∙ w.roots_are;
-      fit = fit;
-      roots_fit = roots_fit;
-      once = once;
-      roots_once = roots_once;
-    })
+crashed old mid new waiting roots Mid Old wrote once roots_once fit roots_fit falls kept db left clean = grind arith
 
 -- the tables after a crash in a commit
 pub crash_holds : (old : View) (waiting : WaitingBlobs) (roots : WaitingRoots) (db : Trees) (Old : Trees → Type 0) → Settled old → IsTrue (is_honest_view old)
@@ -75,30 +63,23 @@ pub crash_holds : (old : View) (waiting : WaitingBlobs) (roots : WaitingRoots) (
     ⊎ Old db
 crash_holds old waiting roots db Old was sure (inr h) = inr h
 crash_holds old waiting roots db Old was sure (inl h) =
-    let shown = shown_is_committed old was sure in
-    inl (
-      blobs_then waiting roots h.once h.roots_once h.fit h.roots_fit (old.trees blob_tree) (db blob_tree) h.blobs_are
-          ∙ ap (λ (t : ℕ → List Row). stored_with waiting (t blob_tree)) shown,
-      roots_then waiting roots h.once h.roots_once h.fit h.roots_fit (old.trees root_tree) (db root_tree) h.roots_are
-          ∙ ap (λ (t : ℕ → List Row). roots_with roots (t root_tree)) shown,
-    )
+    rw (← shown_is_committed old was sure) (inl (
+      blobs_then waiting roots h.once h.roots_once h.fit h.roots_fit (old.trees blob_tree) (db blob_tree) h.blobs_are,
+      roots_then waiting roots h.once h.roots_once h.fit h.roots_fit (old.trees root_tree) (db root_tree) h.roots_are,
+    ))
 
 -- what was stored and flushed stands in the table
 pub flushed_has : (stored0 stored1 stored2 : ℕ → Option Blob) (closed : Bool) (rows : List Row) (key : ℕ) (blob : Blob) → Adds key blob stored0 stored1
     → stored2 ≡ stored1
     → unless closed (blobs_in rows) ≡ stored2 → closed ≡ false → blobs_in rows key ≡ Some blob
 flushed_has stored0 stored1 stored2 closed rows key blob adds same flushed usable =
-    let here : (if key == key then Some blob else stored0 key) ≡ Some blob = rw (same_number key) refl in
-    ap (λ c. unless c (blobs_in rows) key) (sym usable) ∙ ap (λ (f : ℕ → Option Blob). f key) (flushed ∙ same) ∙ adds.each key ∙ here
+    grind (arith, same_number key, adds.each key, ap (λ (f : ℕ → Option Blob). f key) (flushed ∙ same))
 
 -- and is found again where nothing waits
 pub found_last : (again : Bool) (waiting : WaitingBlobs) (rows now : List Row) (key : ℕ) (blob found : Blob) → blobs_in rows key ≡ Some blob → again ≡ false
     → waiting.entries ≡ [] → now ≡ rows
     → unless again (stored_with waiting now) key ≡ Some found → found ≡ blob
 found_last again waiting rows now key blob found there usable none kept here =
-    let both : Some found ≡ Some blob =
-    sym here ∙ ap (λ c. unless c (stored_with waiting now) key) usable ∙ ap (λ (f : ℕ → Option Blob). f key) (none_waits waiting now none)
-    ∙ ap (λ (r : List Row). blobs_in r key) kept ∙ there in
-    cc
+    grind (arith, ap (λ (f : ℕ → Option Blob). f key) (none_waits waiting now none))
 
 pub ruleset committing = (committed_blobs, committed_roots, stored_stays, roots_stay, blobs_kept, roots_kept, crash_holds)

@@ -1,64 +1,46 @@
 -- What a look-up in what waits and in the table says of what is stored.
 use Rattle.pagable_file.specs.{
   Blobs.{AreKeyed, HasBlob, HasNone, Holds, IsFoundAs, RefusesFound, RefusesHeld, WaitingBlobs, before, blob_pending, stored_with, unless},
-  Rows.{blob_in, blob_of_row, blobs_in, row_at, rowid_of},
+  Rows.{blob_in, blobs_in, row_at, rowid_of},
   declared.{pending.PendingBlob.PendingBlob, rows.Reading.Reading},
 }
 use Rattle.pagable_value_spec.specs.{Blob.Blob, Stored.{Adds, Keeps, RefusesStore}, declared.error.Error.Error}
 use Rattle.sqlite_value.specs.Order.{Row}
 use Rattle.std.proofs.{
-  Common.{Bool, Err, List, None, Ok, Option, Result, Some, ap, arith, false, inl, inr, refl, subst, sym, true, true≢false, ℕ, ℤ, [], ◌∙◌, ◌≡◌, ◌≢◌},
+  Common.{Bool, Err, List, None, Ok, Option, Result, Some, ap, arith, false, inl, inr, refl, sym, true, ℕ, ℤ, [], ◌∙◌, ◌≡◌, ◌≢◌},
   lemmas.Bool.{Decides.{Decides-int_eq, nat_tests}, eqb-true},
 }
 use Rattle.std.specs.{HashMap.get, Map.lookup, Ordering.int_eq, Prelude.{OnErr, OnOk, if◌then◌else◌, ◌==◌}}
-use Rattle.pagable_file.specs.declared.rows.Reading.TheVariants as reading
 use Rattle.pagable_value_spec.specs.declared.error.Error.TheVariants as error
 
 pub same_number : (a : ℕ) → (a == a) ≡ true
 same_number a = grind (arith, nat_tests)
-
-other_number : (a b : ℕ) → a ≢ b → (a == b) ≡ false
-other_number a b h = grind (arith, nat_tests)
 
 pub held_stored : (closed : Bool) (waiting : WaitingBlobs) (rows : List Row) (key : ℕ) (it : PendingBlob) → closed ≡ false → Some it
     ≡ get int_eq waiting (rowid_of key)
     → it.key ≡ key
     → unless closed (stored_with waiting rows) key ≡ Some (blob_pending it)
 unfolding stored_with
-held_stored closed waiting rows key it usable e same = rw (usable, sym e, same, same_number key) refl
+held_stored closed waiting rows key it usable e same = grind (arith, nat_tests)
 
 pub held_other : (closed : Bool) (waiting : WaitingBlobs) (rows : List Row) (key : ℕ) (it : PendingBlob) → closed ≡ false → Some it
     ≡ get int_eq waiting (rowid_of key)
     → it.key ≢ key
     → unless closed (stored_with waiting rows) key ≡ None
 unfolding stored_with
-held_other closed waiting rows key it usable e other = rw (usable, sym e, other_number it.key key other) refl
-
-row_has : (rows : List Row) (key : ℕ) (found : Option Reading) (blob : Blob) → IsFoundAs rows key found → HasBlob found blob → blobs_in rows key ≡ Some blob
-unfolding blobs_in
-row_has rows key (Some (reading.Blob it)) blob f has = rw (f.1, f.2) (ap Some has)
-row_has rows key None blob f has = absurd has
-row_has rows key (Some reading.Other) blob f has = absurd has
-row_has rows key (Some reading.Damaged) blob f has = absurd has
-
-row_has_none : (rows : List Row) (key : ℕ) (found : Option Reading) → IsFoundAs rows key found → HasNone found → blobs_in rows key ≡ None
-unfolding blobs_in blob_in
-row_has_none rows key None f none = rw f refl
-row_has_none rows key (Some reading.Other) f none = rw (f.1, f.2) refl
-row_has_none rows key (Some reading.Damaged) f none = absurd none
-row_has_none rows key (Some (reading.Blob it)) f none = absurd none
+held_other closed waiting rows key it usable e other = grind (arith, nat_tests)
 
 pub read_stored : (closed : Bool) (waiting : WaitingBlobs) (rows : List Row) (key : ℕ) (found : Option Reading) (blob : Blob) → closed ≡ false → None
     ≡ get int_eq waiting (rowid_of key)
     → IsFoundAs rows key found → HasBlob found blob → unless closed (stored_with waiting rows) key ≡ Some blob
-unfolding stored_with
-read_stored closed waiting rows key found blob usable e f has = rw (usable, sym e) (row_has rows key found blob f has)
+unfolding stored_with blobs_in
+read_stored closed waiting rows key found blob usable e f has = grind arith
 
 pub read_none : (closed : Bool) (waiting : WaitingBlobs) (rows : List Row) (key : ℕ) (found : Option Reading) → closed ≡ false → None
     ≡ get int_eq waiting (rowid_of key)
     → IsFoundAs rows key found → HasNone found → unless closed (stored_with waiting rows) key ≡ None
-unfolding stored_with
-read_none closed waiting rows key found usable e f none = rw (usable, sym e) (row_has_none rows key found f none)
+unfolding stored_with blobs_in blob_in
+read_none closed waiting rows key found usable e f none = grind arith
 
 -- a blob that stands there already adds nothing
 pub adds_nothing : (stored : ℕ → Option Blob) (key : ℕ) (blob : Blob) → stored key ≡ Some blob → Adds key blob stored stored
@@ -70,52 +52,21 @@ pub adds_waiting : (closed : Bool) (waiting after : WaitingBlobs) (rows : List R
     → ((q : ℤ) → get int_eq after q ≡ (if int_eq (rowid_of key) q then Some it else get int_eq waiting q)) → row_at rows (rowid_of key) ≡ None
     → Adds key (blob_pending it) (unless closed (stored_with waiting rows)) (unless closed (stored_with after rows))
 unfolding stored_with blobs_in
-adds_waiting closed waiting after rows key it usable own free comes none = rw usable (record { each = each; free = inl nothing })
-  where
-    nothing : before key (get int_eq waiting (rowid_of key)) (blob_of_row key (row_at rows (rowid_of key))) ≡ None
-    nothing = rw (free, none) refl
-
-    each : (q : ℕ) → before q (get int_eq after (rowid_of q)) (blob_of_row q (row_at rows (rowid_of q)))
-        ≡ (if q == key then Some (blob_pending it) else before q (get int_eq waiting (rowid_of q)) (blob_of_row q (row_at rows (rowid_of q))))
-    each q = rw (comes (rowid_of q)) (go (int_eq (rowid_of key) (rowid_of q)) refl (q == key) refl)
-      where
-        go : (b : Bool) → int_eq (rowid_of key) (rowid_of q) ≡ b → (c : Bool) → (q == key) ≡ c
-            → before q (if b then Some it else get int_eq waiting (rowid_of q)) (blob_of_row q (row_at rows (rowid_of q)))
-            ≡ (if c then Some (blob_pending it) else before q (get int_eq waiting (rowid_of q)) (blob_of_row q (row_at rows (rowid_of q))))
-        go true e true f = let same : q ≡ key = eqb-true q key f in rw (own, same, same_number key) refl
-        go true e false f =
-            let place : rowid_of key ≡ rowid_of q = (Decides-int_eq (rowid_of key) (rowid_of q)).0 e in
-            let apart : (it.key == q) ≡ false = grind (arith, nat_tests, own) in
-            rw (apart, ← place, free, none) refl
-        go false e false f = refl
-        go false e true f =
-            let same : q ≡ key = eqb-true q key f in
-            absurd (true≢false (sym ((Decides-int_eq (rowid_of key) (rowid_of q)).1 (ap rowid_of (sym same))) ∙ e))
+adds_waiting closed waiting after rows key it usable own free comes none = rw usable (record {
+  each = λ q. grind (arith, nat_tests, comes (rowid_of q), Decides-int_eq (rowid_of key) (rowid_of q));
+  free = inl (rw (free, none) refl);
+})
 
 pub adds_holding : (closed : Bool) (waiting after : WaitingBlobs) (old new : List Row) (key : ℕ) (blob : Blob) → closed ≡ false → None
     ≡ get int_eq waiting (rowid_of key) → Holds key blob waiting after
     → IsFoundAs old key None → new ≡ old → Adds key blob (unless closed (stored_with waiting old)) (unless closed (stored_with after new))
 adds_holding closed waiting after old new key blob usable free h none same =
-    let here : Adds key (blob_pending h.it) (unless closed (stored_with waiting old)) (unless closed (stored_with after old)) =
-    adds_waiting closed waiting after old key h.it usable h.own (sym free) h.each none in
-    subst (λ (rows : List Row). Adds key blob (unless closed (stored_with waiting old)) (unless closed (stored_with after rows))) (sym same)
-    (subst (λ (b : Blob). Adds key b (unless closed (stored_with waiting old)) (unless closed (stored_with after old))) h.content here)
-
-pub holds : (waiting after : WaitingBlobs) (key : ℕ) (it : PendingBlob) → it.key ≡ key
-    → ((q : ℤ) → get int_eq after q ≡ (if int_eq (rowid_of key) q then Some it else get int_eq waiting q)) → Holds key (blob_pending it) waiting after
-holds waiting after key it own each = record { it = it; own = own; content = refl; each = each }
+    rw same (rw h.content at (adds_waiting closed waiting after old key h.it usable h.own (sym free) h.each none))
 
 -- each blob that waits stays under its own key, whether one came or not
 pub all_keyed : (key_of : Blob → ℕ) (old after : WaitingBlobs) (key : ℕ) (blob : Blob) (r : Result (Unit {0}) Error) → key ≡ key_of blob → AreKeyed key_of old
     → OnOk r (Holds key blob old after) → OnErr r (after.entries ≡ old.entries) → AreKeyed key_of after
-all_keyed key_of old after key blob (Ok _) own keyed comes stays place it is = go (int_eq (rowid_of key) place) refl
-  where
-    go : (b : Bool) → int_eq (rowid_of key) place ≡ b → key_of (blob_pending it) ≡ it.key
-    go true e =
-        let same : Some comes.it ≡ Some it = rw e at (sym (comes.each place) ∙ is) in
-        let one : comes.it ≡ it = cc in
-        ap (λ (p : PendingBlob). key_of (blob_pending p)) (sym one) ∙ ap key_of comes.content ∙ sym own ∙ sym comes.own ∙ ap (λ (p : PendingBlob). p.key) one
-    go false e = keyed place it (rw e at (sym (comes.each place) ∙ is))
+all_keyed key_of old after key blob (Ok _) own keyed comes stays place it is = grind (arith, keyed place it, comes.each place)
 all_keyed key_of old after key blob (Err e) own keyed comes stays place it is = keyed place it (sym (ap (lookup (int_eq place)) stays) ∙ is)
 
 pub held_named : (key_of : Blob → ℕ) (waiting : WaitingBlobs) (key : ℕ) (it : PendingBlob) → AreKeyed key_of waiting → Some it
@@ -125,7 +76,7 @@ held_named key_of waiting key it keyed found own = keyed (rowid_of key) it (sym 
 
 -- nothing that waits has no key
 pub none_keyed : (key_of : Blob → ℕ) (waiting : WaitingBlobs) → waiting.entries ≡ [] → AreKeyed key_of waiting
-none_keyed key_of waiting none place it is = let same : None ≡ Some it = sym (ap (lookup (int_eq place)) none) ∙ is in absurd (cc)
+none_keyed key_of waiting none place it is = cc (ap (lookup (int_eq place)) none)
 
 pub keeps_same : (old new : ℕ → Option Blob) → new ≡ old → Keeps old new
 keeps_same old new same key blob is = rw same is
@@ -133,10 +84,10 @@ keeps_same old new same key blob is = rw same is
 -- the same blobs where the table is as it was
 pub same_stored : (closed : Bool) (waiting : WaitingBlobs) (old new : List Row) → new ≡ old → unless closed (stored_with waiting new)
     ≡ unless closed (stored_with waiting old)
-same_stored closed waiting old new same = ap (λ rows. unless closed (stored_with waiting rows)) same
+same_stored closed waiting old new same = cc
 
 pub same_flushed : (closed : Bool) (old new : List Row) → new ≡ old → unless closed (blobs_in new) ≡ unless closed (blobs_in old)
-same_flushed closed old new same = ap (λ rows. unless closed (blobs_in rows)) same
+same_flushed closed old new same = cc
 
 -- what stands there already, whether it waits or was read, adds nothing
 pub adds_held : (closed : Bool) (waiting : WaitingBlobs) (rows : List Row) (key : ℕ) (it : PendingBlob) (blob : Blob) → closed ≡ false → Some it
@@ -148,8 +99,7 @@ pub adds_found : (closed : Bool) (waiting : WaitingBlobs) (old new : List Row) (
     ≡ get int_eq waiting (rowid_of key) → IsFoundAs old key (Some found) → HasBlob (Some found) blob
     → new ≡ old → Adds key blob (unless closed (stored_with waiting old)) (unless closed (stored_with waiting new))
 adds_found closed waiting old new key found blob usable free f has same =
-    subst (λ rows. Adds key blob (unless closed (stored_with waiting old)) (unless closed (stored_with waiting rows))) (sym same)
-    (adds_nothing _ key blob (read_stored closed waiting old key (Some found) blob usable free f has))
+    rw same (adds_nothing _ key blob (read_stored closed waiting old key (Some found) blob usable free f has))
 
 -- what waits and the table decide alone
 pub same_entries : (closed : Bool) (waiting after : WaitingBlobs) (old new : List Row) → after.entries ≡ waiting.entries → new ≡ old
@@ -165,8 +115,7 @@ pub held_refuses : (it : PendingBlob) (key : ℕ) (blob : Blob) (closed : Bool) 
     → (found : Option Blob)
     × RefusesStore blob found closed was now e
 held_refuses it key blob closed was now error.KeyTaken h = (Some (blob_pending it), (blob_pending it, refl, h.1))
-held_refuses it key blob closed was now (error.Storage code) h = (None, h)
-held_refuses it key blob closed was now x0 h = grind arith
+held_refuses it key blob closed was now x0 h = (None, grind arith)
 
 pub held_refuses_only : (it : PendingBlob) (key : ℕ) (blob : Blob) (closed : Bool) (waiting : WaitingBlobs) (rows : List Row) (was now : ℕ)
     (e : Error) → closed ≡ false
@@ -174,26 +123,22 @@ pub held_refuses_only : (it : PendingBlob) (key : ℕ) (blob : Blob) (closed : B
     → RefusesHeld it key blob was now e → RefusesStore blob (unless closed (stored_with waiting rows) key) closed was now e
 held_refuses_only it key blob closed waiting rows was now error.KeyTaken usable found h =
     (blob_pending it, held_stored closed waiting rows key it usable found h.0, h.1)
-held_refuses_only it key blob closed waiting rows was now (error.Storage code) usable found h = h
 held_refuses_only it key blob closed waiting rows was now x0 usable found h = grind arith
 
 pub found_refuses : (found : Reading) (blob : Blob) (closed : Bool) (was now : ℕ) (e : Error) → RefusesFound found blob was now e → (o : Option Blob)
     × RefusesStore blob o closed was now e
 found_refuses found blob closed was now error.KeyTaken h = (Some h.0, (h.0, refl, h.2))
-found_refuses found blob closed was now (error.Storage code) h = (None, h)
-found_refuses found blob closed was now x0 h = grind arith
+found_refuses found blob closed was now x0 h = (None, grind arith)
 
 pub found_refuses_only : (found : Reading) (key : ℕ) (blob : Blob) (closed : Bool) (waiting : WaitingBlobs) (rows : List Row) (was now : ℕ) (e : Error) → closed
     ≡ false → None ≡ get int_eq waiting (rowid_of key)
     → IsFoundAs rows key (Some found) → RefusesFound found blob was now e → RefusesStore blob (unless closed (stored_with waiting rows) key) closed was now e
 found_refuses_only found key blob closed waiting rows was now error.KeyTaken usable free f h =
     (h.0, read_stored closed waiting rows key (Some found) h.0 usable free f h.1, h.2)
-found_refuses_only found key blob closed waiting rows was now (error.Storage code) usable free f h = h
 found_refuses_only found key blob closed waiting rows was now x0 usable free f h = grind arith
 
 pub any_err : {X : Type 0} (r : Result X Error) (P : Type 0) → P → OnErr r P
-any_err (Ok x) P h = tt
-any_err (Err e) P h = h
+any_err r P h = grind arith
 
 pub ruleset fetching = (held_named, held_stored, held_other, read_stored, read_none, same_stored, same_flushed)
 

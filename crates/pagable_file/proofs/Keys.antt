@@ -1,9 +1,10 @@
 -- Keys as bytes, and back.
+use Rattle.pagable_file.proofs.Each.{each_more}
 use Rattle.pagable_file.specs.Rows.{CanBeKey, key_in, keys_from, keys_in, with_key}
 use Rattle.std.proofs.{
   Common.{Bool, List, None, Option, Some, ap, append-nil, append_assoc, arith, drop, false, get_or, length, length-append, refl, suc, sym, take, true, zero, ℕ},
   Common.{[], ◌%◌, ◌*◌, ◌++◌, ◌+◌, ◌/◌, ◌<◌, ◌^◌, ◌∙◌, ◌∷◌, ◌≡◌},
-  Math.Nat.{div-div-eq-div-mul, mod-add-div, mul-add, mul_assoc, mul_comm, pow-suc},
+  Math.Nat.{div-div-eq-div-mul, mod-add-div, pow-suc},
   lemmas.{Bool.Decides.nat_tests, List.{flat_map_more, take_more}},
 }
 use Rattle.std.specs.{
@@ -14,7 +15,7 @@ use Rattle.std.specs.{
 
 -- the rest by m, and the rest of the quotient, make the rest by 256 m
 split : (n m r t a b : ℕ) → a + m * (r + 256 * t) ≡ n → b + m * 256 * t ≡ n → a + r * m ≡ b
-split n m r t a b h g = omega (arith, mul-add m r (256 * t), mul_assoc m 256 t, mul_comm r m, h, g)
+split n m r t a b h g = omega arith
 
 -- the bytes of a number up to this one are its rest
 lows : (n k : ℕ) → sum_through (λ i. byte_worth i (byte_at i n)) k ≡ n % 256 ^ suc k
@@ -84,10 +85,6 @@ pub continues : (f : ℕ → List ℕ) (keys : List ℕ) (i key : ℕ) (front mo
     → (front ++ flat_map f (take i keys)) ++ more ≡ front ++ flat_map f (take (i + 1) keys)
 continues f keys i key front more h is e = rw (e, take_more keys i key h, ← is) (flat_map_more f front (take i keys) key)
 
-each_more : (keys : List ℕ) (key : ℕ) → Each CanBeKey keys → CanBeKey key → Each CanBeKey (keys ++ key ∷ [])
-each_more [] key all here = (here, tt)
-each_more (k ∷ keys) key all here = (all.0, each_more keys key all.1 here)
-
 pub more_fit : (keys : List ℕ) (i key : ℕ) → i < length keys → key ≡ get_or keys i key → CanBeKey key → Each CanBeKey (take i keys)
     → Each CanBeKey (take (i + 1) keys)
-more_fit keys i key h is here all = rw (take_more keys i key h, ← is) (each_more (take i keys) key all here)
+more_fit keys i key h is here all = each_more CanBeKey CanBeKey keys i key h is (λ k fits. fits) all here

@@ -1,5 +1,6 @@
 mod Committing
 mod Copying
+mod Each
 mod Fetching
 mod Flawed
 mod Keys

@@ -1,39 +1,30 @@
 -- Names of roots, and whether a blob is stored under a key.
 use Rattle.pagable_core.specs.Roots.{HasBlobIfKey, RefusesRoot, Sets}
+use Rattle.pagable_file.proofs.Settling.{stays_then}
 use Rattle.pagable_file.specs.{
-  Blobs.{HasNoOtherName, HoldsRoot, IsFoundAs, IsNamedAs, IsNotOther, LeavesCommitted, WaitingBlobs, WaitingRoots, before, before_root, found_root},
+  Blobs.{HasNoOtherName, HoldsRoot, IsFoundAs, IsNamedAs, IsNotOther, LeavesCommitted, WaitingBlobs, WaitingRoots, before_root, found_root},
   Blobs.{is_honest_view, reads_blob, roots_unless, roots_with, stored_with, unless},
   Rows.{blob_in, blob_tree, blobs_in, root_in, root_of_row, root_tree, roots_in, row_at, rowid_of, rowid_of_name},
   declared.{pending.{PendingBlob.PendingBlob, PendingRoot.PendingRoot}, rows.{Naming.Naming, Reading.Reading}},
 }
-use Rattle.pagable_value_spec.specs.{Blob.Blob, Outcomes.IsOutOfMemory, Stored.{HasFailed, IsMemoryOrFailure}, declared.error.Error.Error}
-use Rattle.sqlite_trees.specs.{Tree.Trees, View.View}
-use Rattle.sqlite_value.specs.Order.{Row, bytes, column}
+use Rattle.pagable_value_spec.specs.{Blob.Blob, Outcomes.IsOutOfMemory, Stored.IsMemoryOrFailure, declared.error.Error.Error}
+use Rattle.sqlite_trees.specs.View.{View}
+use Rattle.sqlite_value.specs.Order.{Row}
 use Rattle.std.proofs.{
-  Common.{Bool, IsTrue, List, None, Option, Some, ap, arith, false, refl, subst, sym, true, true≢false, ℕ, ℤ, ◌∙◌, ◌≡◌, ◌≤◌},
-  lemmas.{Bool.Decides.Decides-int_eq, Slice.Eq.bytes_eq-Decides},
+  Common.{Bool, IsTrue, List, None, Option, Some, ap, arith, false, refl, sym, true, true≢false, ℕ, ◌∙◌, ◌≡◌, ◌≤◌},
+  lemmas.{Bool.Decides.{Decides-int_eq, nat_tests}, Slice.Eq.bytes_eq-Decides},
 }
 use Rattle.std.specs.{HashMap.get, Map.lookup, Ordering.int_eq, Prelude.{if◌then◌else◌, is_some, ◌==◌}, Str.bytes_eq, String.string_bytes}
-use Rattle.pagable_file.specs.declared.rows.Naming.TheVariants as naming
-use Rattle.pagable_file.specs.declared.rows.Reading.TheVariants as reading
-use Rattle.pagable_value_spec.specs.declared.error.Error.TheVariants as error
 
 -- whether a blob stands under a key, by what waits
 pub has_held : (waiting : WaitingBlobs) (rows : List Row) (key : ℕ) (it : PendingBlob) → Some it ≡ get int_eq waiting (rowid_of key) → (it.key == key)
     ≡ is_some (stored_with waiting rows key)
 unfolding stored_with
-has_held waiting rows key it e = rw (sym e) (go (it.key == key) refl)
-  where
-    go : (b : Bool) → (it.key == key) ≡ b → (it.key == key) ≡ is_some (before key (Some it) (blobs_in rows key))
-    go true h = rw h refl
-    go false h = rw h refl
+has_held waiting rows key it e = grind (arith, nat_tests)
 
 pub row_has_blob : (rows : List Row) (key : ℕ) (found : Option Reading) → IsFoundAs rows key found → reads_blob found ≡ is_some (blobs_in rows key)
 unfolding blobs_in blob_in
-row_has_blob rows key None f = rw f refl
-row_has_blob rows key (Some reading.Other) f = rw (f.1, f.2) refl
-row_has_blob rows key (Some reading.Damaged) f = rw f.1 (ap is_some (sym f.2))
-row_has_blob rows key (Some (reading.Blob it)) f = rw f.1 (ap is_some (sym f.2))
+row_has_blob rows key found f = grind arith
 
 -- and by the table
 pub has_read : (waiting : WaitingBlobs) (rows : List Row) (key : ℕ) (found : Option Reading) → None ≡ get int_eq waiting (rowid_of key)
@@ -50,9 +41,7 @@ root_held waiting rows name it e = rw (sym e) refl
 
 row_names : (rows : List Row) (name : List ℕ) (found : Option Naming) → IsNamedAs rows name found → found_root found ≡ roots_in rows name
 unfolding roots_in root_in
-row_names rows name None f = rw f refl
-row_names rows name (Some naming.Other) f = rw (f.1, f.2) refl
-row_names rows name (Some (naming.Root key)) f = rw f.1 (sym f.2.1)
+row_names rows name found f = grind arith
 
 -- and by the table
 pub root_read : (waiting : WaitingRoots) (rows : List Row) (name : List ℕ) (found : Option Naming) → None ≡ get int_eq waiting (rowid_of_name name)
@@ -66,28 +55,16 @@ pub place_held : (waiting : WaitingRoots) (rows : List Row) (name : List ℕ) (i
     → HasNoOtherName name (get int_eq waiting (rowid_of_name name)) (row_at rows (rowid_of_name name))
 place_held waiting rows name it e is = rw (sym e) is
 
-read_place : (rows : List Row) (name : List ℕ) (found : Option Naming) → IsNamedAs rows name found → IsNotOther found
-    → HasNoOtherName name None (row_at rows (rowid_of_name name))
-read_place rows name None f h = rw f tt
-read_place rows name (Some (naming.Root key)) f h = rw f.1 f.2.0
-read_place rows name (Some naming.Other) f h = absurd h
-
 pub place_read : (waiting : WaitingRoots) (rows : List Row) (name : List ℕ) (found : Option Naming) → None ≡ get int_eq waiting (rowid_of_name name)
     → IsNamedAs rows name found → IsNotOther found
     → HasNoOtherName name (get int_eq waiting (rowid_of_name name)) (row_at rows (rowid_of_name name))
-place_read waiting rows name found e f h = rw (sym e) (read_place rows name found f h)
+place_read waiting rows name found e f h = grind arith
 
 -- another name at the same place stands for nothing
 other_name : (name q : List ℕ) (held : Option PendingRoot) (row : Option Row) → HasNoOtherName name held row → bytes_eq name q ≡ false
     → before_root q held (root_of_row q row) ≡ None
 unfolding root_in
-other_name name q (Some it) row h apart =
-    let same : string_bytes it.name ≡ name = (bytes_eq-Decides (string_bytes it.name) name).0 h in
-    rw (same, apart) refl
-other_name name q None None h apart = refl
-other_name name q None (Some row) h apart =
-    let same : bytes (column row 2) ≡ name = (bytes_eq-Decides (bytes (column row 2)) name).0 h in
-    rw (same, apart) refl
+other_name name q held row h apart = grind (arith, bytes_eq-Decides)
 
 -- a name that comes to what waits
 pub sets : (waiting after : WaitingRoots) (rows : List Row) (name : List ℕ) (key : Option ℕ)
@@ -104,40 +81,24 @@ sets waiting after rows name key free h q = rw (h.each (rowid_of_name q)) (go (i
         ≡ (if c then key else before_root q (get int_eq waiting (rowid_of_name q)) below)
     go true e true f = rw (h.own, f) h.stands
     go true e false f =
-        let place : rowid_of_name name ≡ rowid_of_name q = (Decides-int_eq (rowid_of_name name) (rowid_of_name q)).0 e in
-        let none : before_root q (get int_eq waiting (rowid_of_name q)) below ≡ None =
-        subst (λ p. before_root q (get int_eq waiting p) (root_of_row q (row_at rows p)) ≡ None) place
+        let none = rw ((Decides-int_eq (rowid_of_name name) (rowid_of_name q)).0 e) at
         (other_name name q (get int_eq waiting (rowid_of_name name)) (row_at rows (rowid_of_name name)) free f) in
         rw (h.own, f) (sym none)
     go false e false f = refl
     go false e true f =
-        let same : name ≡ q = (bytes_eq-Decides name q).0 f in
-        absurd (true≢false (sym ((Decides-int_eq (rowid_of_name name) (rowid_of_name q)).1 (ap rowid_of_name same)) ∙ e))
-
--- one look-up after another
-pub stays_then : (a b c : View) → LeavesCommitted a b → LeavesCommitted b c → LeavesCommitted a c
-stays_then a b c f g = record { settled = λ was. g.settled (f.settled was); sure = λ h. f.sure (g.sure h); same = λ h. g.same h ∙ f.same (g.sure h) }
-
-pub holds_root : (waiting after : WaitingRoots) (name : List ℕ) (it : PendingRoot) → string_bytes it.name ≡ name
-    → ((q : ℤ) → get int_eq after q ≡ (if int_eq (rowid_of_name name) q then Some it else get int_eq waiting q)) → HoldsRoot name it.key waiting after
-holds_root waiting after name it own each = record { it = it; own = own; stands = refl; each = each }
+        absurd (true≢false (sym ((Decides-int_eq (rowid_of_name name) (rowid_of_name q)).1 (ap rowid_of_name ((bytes_eq-Decides name q).0 f))) ∙ e))
 
 -- what waits decides by its entries alone
 by_entries : (waiting after : WaitingRoots) (rows : List Row) → after.entries ≡ waiting.entries → roots_with after rows ≡ roots_with waiting rows
 unfolding roots_with
 by_entries waiting after rows same = λ i q. before_root q (lookup (int_eq (rowid_of_name q)) (same i)) (roots_in rows q)
 
-failed_since : (was mid now : ℕ) → was ≤ mid → HasFailed mid now → HasFailed was now
-failed_since was mid now le h = grind arith
-
 pub refuses_root : (key : Option ℕ) (stored : ℕ → Option Blob) (closed : Bool) (was mid now : ℕ) (e : Error) → was ≤ mid → IsMemoryOrFailure mid now e
     → RefusesRoot key stored closed was now e
-refuses_root key stored closed was mid now (error.Storage code) le h = failed_since was mid now le h
-refuses_root key stored closed was mid now x0 le h = grind arith
+refuses_root key stored closed was mid now e le h = grind arith
 
 pub none_there : (o : Option Blob) (there : Bool) → there ≡ is_some o → there ≡ false → o ≡ None
-none_there None there e h = refl
-none_there (Some x) there e h = absurd (true≢false (sym e ∙ h))
+none_there o there e h = grind arith
 
 pub ruleset looking = (has_held, has_read, place_held, place_read, stays_then, refuses_root, none_there)
 
@@ -157,34 +118,28 @@ answers_read closed waiting rows name found key usable e f is = rw usable (is �
 
 pub kept_stored : (closed : Bool) (waiting : WaitingBlobs) (old new : View) → LeavesCommitted old new → IsTrue (is_honest_view new)
     → unless closed (stored_with waiting (new.committed blob_tree)) ≡ unless closed (stored_with waiting (old.committed blob_tree))
-kept_stored closed waiting old new stays sure = ap (λ (t : Trees). unless closed (stored_with waiting (t blob_tree))) (stays.same sure)
+kept_stored closed waiting old new stays sure = cc (stays.same sure)
 
 pub kept_flushed : (closed : Bool) (old new : View) → LeavesCommitted old new → IsTrue (is_honest_view new) → unless closed (blobs_in (new.committed blob_tree))
     ≡ unless closed (blobs_in (old.committed blob_tree))
-kept_flushed closed old new stays sure = ap (λ (t : Trees). unless closed (blobs_in (t blob_tree))) (stays.same sure)
+kept_flushed closed old new stays sure = cc (stays.same sure)
 
 pub kept_roots : (closed : Bool) (waiting : WaitingRoots) (old new : View) → LeavesCommitted old new → IsTrue (is_honest_view new)
     → roots_unless closed (roots_with waiting (new.committed root_tree)) ≡ roots_unless closed (roots_with waiting (old.committed root_tree))
-kept_roots closed waiting old new stays sure = ap (λ (t : Trees). roots_unless closed (roots_with waiting (t root_tree))) (stays.same sure)
+kept_roots closed waiting old new stays sure = cc (stays.same sure)
 
 pub kept_entries : (closed : Bool) (waiting after : WaitingRoots) (old new : View) → after.entries ≡ waiting.entries → LeavesCommitted old new
     → IsTrue (is_honest_view new)
     → roots_unless closed (roots_with after (new.committed root_tree)) ≡ roots_unless closed (roots_with waiting (old.committed root_tree))
-kept_entries closed waiting after old new same stays sure = kept_by same ∙ kept_roots closed waiting old new stays sure
-  where
-    kept_by : after.entries ≡ waiting.entries → roots_unless closed (roots_with after (new.committed root_tree))
-        ≡ roots_unless closed (roots_with waiting (new.committed root_tree))
-    kept_by is = ap (roots_unless closed) (by_entries waiting after (new.committed root_tree) is)
+kept_entries closed waiting after old new same stays sure =
+    ap (roots_unless closed) (by_entries waiting after (new.committed root_tree) same) ∙ kept_roots closed waiting old new stays sure
 
 pub sets_in : (closed : Bool) (waiting after : WaitingRoots) (old new : View) (name text : List ℕ) (key : Option ℕ) → closed ≡ false → text ≡ name
     → LeavesCommitted old new → IsTrue (is_honest_view new)
     → HasNoOtherName name (get int_eq waiting (rowid_of_name name)) (row_at (old.committed root_tree) (rowid_of_name name)) → HoldsRoot text key waiting after
     → Sets name key (roots_unless closed (roots_with waiting (old.committed root_tree))) (roots_unless closed (roots_with after (new.committed root_tree)))
 sets_in closed waiting after old new name text key usable is stays sure free h =
-    let here : Sets name key (roots_with waiting (old.committed root_tree)) (roots_with after (old.committed root_tree)) =
-    sets waiting after (old.committed root_tree) name key free (subst (λ (t : List ℕ). HoldsRoot t key waiting after) is h) in
-    rw usable (subst (λ (t : Trees). Sets name key (roots_with waiting (old.committed root_tree)) (roots_with after (t root_tree)))
-    (sym (stays.same sure)) here)
+    rw (usable, stays.same sure) (sets waiting after (old.committed root_tree) name key free (rw is at h))
 
 pub there_in : (closed : Bool) (stored : ℕ → Option Blob) (key : ℕ) (there : Bool) → closed ≡ false → there ≡ is_some (stored key) → there
     ≡ is_some (unless closed stored key)

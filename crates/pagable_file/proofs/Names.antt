@@ -1,5 +1,6 @@
 -- Lists of names: which names they have, and that they leave none out.
 use Rattle.pagable_core.specs.Roots.{ListsAll, is_among}
+use Rattle.pagable_file.proofs.Each.{all_with, of_found}
 use Rattle.pagable_file.specs.{
   Blobs.{WaitingRoots, before_root, roots_unless, roots_with},
   Names.{IsListed, IsNameListed, IsWaitingListed, KeepsNames},
@@ -9,46 +10,35 @@ use Rattle.pagable_file.specs.{
 use Rattle.pagable_value_spec.specs.declared.error.Error.{Error}
 use Rattle.sqlite_value.specs.Order.{Row, bytes, column}
 use Rattle.std.proofs.{
-  Common.{Bool, IsSome, IsTrue, List, None, Option, Some, ap, append_assoc, false, get_or, length, refl, subst, sym, take, true, true≢false, ℕ, ℤ},
-  Common.{[], ◌++◌, ◌+◌, ◌<◌, ◌∙◌, ◌∷◌, ◌≡◌},
-  lemmas.{List.{Folds.list_any-append, take_more}, Slice.Eq.bytes_eq-Decides},
+  Common.{Bool, IsSome, IsTrue, List, None, Option, Some, ap, append_assoc, arith, false, refl, subst, sym, true, ℕ, ℤ, [], ◌++◌, ◌∙◌, ◌∷◌, ◌≡◌},
+  lemmas.{List.Folds.list_any-append, Slice.Eq.bytes_eq-Decides},
 }
 use Rattle.std.specs.{
   HashMap.get,
   List.AllByRecursion,
-  Map.lookup,
   Ordering.int_eq,
-  Prelude.{Err, IfOk, Ok, Result, String, Vec, is_some, string_bytes, ◌||◌},
+  Prelude.{Err, IfOk, Ok, Result, String, Vec, is_some, string_bytes},
   Str.{IsUtf8, bytes_eq},
 }
 
-or_left : (a b : Bool) → IsTrue a → IsTrue (a || b)
-or_left true b h = refl
-or_left false b h = absurd (cc)
-
-or_right : (a b : Bool) → IsTrue b → IsTrue (a || b)
-or_right true b h = refl
-or_right false b h = h
-
 -- with one name more
 pub pushed_keeps : {A : Type 0} (old new : List (String A)) (it : String A) → new ≡ old ++ it ∷ [] → KeepsNames old new
-pushed_keeps old new it is name h = rw (is, list_any-append (λ n. bytes_eq name (string_bytes n)) old (it ∷ [])) (or_left (is_among name old) _ h)
+pushed_keeps old new it is name h = rw (is, list_any-append (λ n. bytes_eq name (string_bytes n)) old (it ∷ []), h) refl
 
 pub pushed_lists : {A : Type 0} (old new : List (String A)) (it : String A) (name : List ℕ) → new ≡ old ++ it ∷ [] → string_bytes it ≡ name
     → IsTrue (is_among name new)
 pushed_lists old new it name is same =
-    rw (is, list_any-append (λ n. bytes_eq name (string_bytes n)) old (it ∷ []))
-    (or_right (is_among name old) _ (or_left (bytes_eq name (string_bytes it)) false ((bytes_eq-Decides name (string_bytes it)).1 (sym same))))
+    rw (is, list_any-append (λ n. bytes_eq name (string_bytes n)) old (it ∷ []), (bytes_eq-Decides name (string_bytes it)).1 (sym same)) (grind arith)
 
 -- an entry waits at the place
 pub waits_there : {A : Type 0} (waiting : WaitingRoots) (rows : List Row) (names : List (String A)) (place : ℤ) → is_some (get int_eq waiting place) ≡ true
     → IsListed waiting rows names place
-waits_there waiting rows names place there none = absurd (true≢false (sym there ∙ ap is_some none))
+waits_there waiting rows names place there none = cc
 
 -- the table has no row there
 pub not_there : {A : Type 0} (waiting : WaitingRoots) (rows : List Row) (names : List (String A)) (place : ℤ) → row_at rows place ≡ None
     → IsListed waiting rows names place
-not_there waiting rows names place away none row at = let clash : None ≡ Some row = sym away ∙ at in absurd (cc)
+not_there waiting rows names place away none row at = cc
 
 -- the row there has no text, or one that is among the names
 pub not_text : {A : Type 0} (names : List (String A)) (row : Row) → ¬ (IsUtf8 (bytes (column row 2))) → IsNameListed names row
@@ -56,25 +46,7 @@ not_text names row isn't text = absurd (isn't text)
 
 pub row_listed : {A : Type 0} (waiting : WaitingRoots) (rows : List Row) (names : List (String A)) (place : ℤ) (row : Row) → row_at rows place ≡ Some row
     → IsNameListed names row → IsListed waiting rows names place
-row_listed waiting rows names place row at listed none other there =
-    let both : Some row ≡ Some other = sym at ∙ there in
-    let same : row ≡ other = cc in
-    subst (IsNameListed names) same listed
-
--- what holds of each item and of one more
-pub all_with : {X : Type 0} (P Q : X → Type 0) (x : X) → ((y : X) → P y → Q y) → Q x → (xs : List X) → AllByRecursion P xs → AllByRecursion Q (xs ++ x ∷ [])
-all_with P Q x goes here [] all = (here, tt)
-all_with P Q x goes here (y ∷ ys) all = (goes y all.0, all_with P Q x goes here ys all.1)
-
--- the names of one more row are listed
-pub listed_next : {A : Type 0} (waiting : WaitingRoots) (rows : List Row) (old new : List (String A)) (places : List ℤ) (i : ℕ) (place : ℤ) → i < length places
-    → place ≡ get_or places i place → KeepsNames old new → AllByRecursion (IsListed waiting rows old) (take i places) → IsListed waiting rows new place
-    → AllByRecursion (IsListed waiting rows new) (take (i + 1) places)
-listed_next waiting rows old new places i place h is keeps listed here =
-    let more : take (i + 1) places ≡ take i places ++ place ∷ [] = take_more places i place h ∙ ap (λ p. take i places ++ p ∷ []) (sym is) in
-    subst (AllByRecursion (IsListed waiting rows new)) (sym more)
-    (all_with (IsListed waiting rows old) (IsListed waiting rows new) place (λ p was none row at text. keeps (bytes (column row 2)) (was none row at text)) here
-    (take i places) listed)
+row_listed waiting rows names place row at listed none other there = let same : row ≡ other = cc in subst (IsNameListed names) same listed
 
 -- what holds of each item that a loop has passed, if these are left
 pub record Passed {X : Type 0} (P : X → Type 0) (left all : List X) : Type 0 where
@@ -82,49 +54,29 @@ pub record Passed {X : Type 0} (P : X → Type 0) (left all : List X) : Type 0 w
   pub rest : passed ++ left ≡ all
   pub holds : AllByRecursion P passed
 
-pub passed_more : {X : Type 0} (P Q : X → Type 0) (x : X) (before left all : List X) → Passed P before all → before ≡ x ∷ left → ((y : X) → P y → Q y) → Q x
+pub passed_more : {X : Type 0} {P Q : X → Type 0} {x : X} {before left all : List X} → Passed P before all → before ≡ x ∷ left → ((y : X) → P y → Q y) → Q x
     → Passed Q left all
-passed_more P Q x before left all was is goes here = record {
+passed_more {P} {Q} {x} {left} was is goes here = record {
   passed = was.passed ++ x ∷ [];
   rest = append_assoc was.passed (x ∷ []) left ∙ ap (λ r. was.passed ++ r) (sym is) ∙ was.rest;
   holds = all_with P Q x goes here was.passed was.holds;
 }
 
--- what holds of each entry holds of one that is found
-found_entry : (P : PendingRoot → Type 0) (test : ℤ → Bool) (entries : List (ℤ × PendingRoot)) (it : PendingRoot) → AllByRecursion (λ e. P e.1) entries
-    → lookup test entries ≡ Some it → P it
-found_entry P test [] it all at = absurd (cc)
-found_entry P test ((k, x) ∷ entries) it all at = go (test k) refl (found_entry P test entries it all.1)
-  where
-    go : (b : Bool) → test k ≡ b → (lookup test entries ≡ Some it → P it) → P it
-    go true t more = subst P (cc) all.0
-    go false t more = more (cc)
-
 -- the name of a row that is found for it
 row_stands : (name : List ℕ) (row : Row) → IsSome (root_in name row) → bytes (column row 2) ≡ name
 unfolding root_in
-row_stands name row stands = go (bytes_eq (bytes (column row 2)) name) refl
-  where
-    go : (b : Bool) → bytes_eq (bytes (column row 2)) name ≡ b → bytes (column row 2) ≡ name
-    go true is = (bytes_eq-Decides (bytes (column row 2)) name).0 is
-    go false is = absurd (true≢false (sym (rw is at stands)))
+row_stands name row stands = grind (arith, bytes_eq-Decides)
 
 module _ {A : Type 0} (waiting : WaitingRoots) (rows : List Row) (first all : List (String A)) where
   -- a name that waits
   held_listed : (name : List ℕ) (it : PendingRoot) → IsWaitingListed all it → IsSome (before_root name (Some it) (roots_in rows name))
       → IsTrue (is_among name all)
-  held_listed name it listed stands = go (bytes_eq (string_bytes it.name) name) refl
-    where
-      go : (b : Bool) → bytes_eq (string_bytes it.name) name ≡ b → IsTrue (is_among name all)
-      go true is =
-          let same : string_bytes it.name ≡ name = (bytes_eq-Decides (string_bytes it.name) name).0 is in
-          subst (λ n. IsTrue (is_among n all)) same (listed (rw is at stands))
-      go false is = absurd (true≢false (sym (rw is at stands)))
+  held_listed name it listed stands = grind (arith, bytes_eq-Decides)
 
   -- a name in the table
   stored_listed : (name : List ℕ) (found : Option Row) → row_at rows (rowid_of_name name) ≡ found → get int_eq waiting (rowid_of_name name) ≡ None
       → IsListed waiting rows first (rowid_of_name name) → KeepsNames first all → IsUtf8 name → IsSome (root_of_row name found) → IsTrue (is_among name all)
-  stored_listed name None at none listed keeps text stands = absurd (true≢false (sym stands))
+  stored_listed name None at none listed keeps text stands = cc
   stored_listed name (Some row) at none listed keeps text stands =
       let is : bytes (column row 2) ≡ name = row_stands name row stands in
       keeps name (subst (λ n. IsTrue (is_among n first)) is (listed none row at (subst IsUtf8 (sym is) text)))
@@ -133,11 +85,11 @@ module _ {A : Type 0} (waiting : WaitingRoots) (rows : List Row) (first all : Li
   pub lists_all : (closed : Bool) → ((place : ℤ) → IsListed waiting rows first place) → KeepsNames first all
       → AllByRecursion (λ e. IsWaitingListed all e.1) waiting.entries → ListsAll (roots_unless closed (roots_with waiting rows)) all
   unfolding roots_with roots_in
-  lists_all true listed keeps held name text stands = absurd (true≢false (sym stands))
+  lists_all true listed keeps held name text stands = cc
   lists_all false listed keeps held name text stands = go (get int_eq waiting (rowid_of_name name)) refl
     where
       go : (o : Option PendingRoot) → get int_eq waiting (rowid_of_name name) ≡ o → IsTrue (is_among name all)
-      go (Some it) at = held_listed name it (found_entry (IsWaitingListed all) (int_eq (rowid_of_name name)) waiting.entries it held at) (rw at at stands)
+      go (Some it) at = held_listed name it (of_found (IsWaitingListed all) (int_eq (rowid_of_name name)) waiting.entries it held at) (rw at at stands)
       go None at = stored_listed name (row_at rows (rowid_of_name name)) refl at (listed (rowid_of_name name)) keeps text (rw at at stands)
 
 pub lists_all_if : {A B : Type 0} (waiting : WaitingRoots) (rows : List Row) (first : List (String A)) (closed : Bool) (r : Result (Vec (String A) B) Error)

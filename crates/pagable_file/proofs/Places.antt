@@ -1,5 +1,5 @@
 -- The row at a place after other rows were put, and the blobs that the table then has.
-use Rattle.pagable_file.proofs.Keys.{all_back, key_back}
+use Rattle.pagable_file.proofs.{Each.of_found, Keys.{all_back, key_back}}
 use Rattle.pagable_file.specs.{
   Blobs.{CanBeKeyIfSome, Fits, WaitingBlobs, WaitingRoots, before, before_root, blob_pending, pending_root_row, pending_row, put_all, roots_with, stored_with},
   Rows.{CanBeKey, blob_in, blob_of_row, blob_row, blobs_in, key_bytes, key_in, root_in, root_of_row, root_row, roots_in, row_at, rowid_of, rowid_of_name},
@@ -10,7 +10,7 @@ use Rattle.sqlite_trees.specs.Tree.{has_rowid, put_row, rowid}
 use Rattle.sqlite_value.proofs.OrderLemmas.{value_cmp-Int, value_cmp_total}
 use Rattle.sqlite_value.specs.{Order.{Row, value_cmp}, declared.value.Value.TheVariants.Int}
 use Rattle.std.proofs.{
-  Common.{Bool, Equal, Greater, Less, List, None, Option, Ordering, Some, ap, false, filter, is_eq, refl, subst, sym, true, true≢false, ℕ, ℤ, [], ◌∙◌, ◌∷◌},
+  Common.{Bool, Equal, Greater, Less, List, None, Option, Ordering, Some, ap, arith, false, filter, is_eq, refl, sym, true, ℕ, ℤ, [], ◌∙◌, ◌∷◌},
   Common.◌≡◌,
 }
 use Rattle.std.specs.{
@@ -32,18 +32,12 @@ apart : (row new : Row) (p id : ℤ) (o : Ordering) → rowid new ≡ Int p → 
     → (b : Bool) → int_eq p id ≡ b → int_eq p id ≡ false
 apart row new p id o is e other here false f = f
 apart row new p id o is e other here true f =
-    let same : p ≡ id = (signed_Decides p id).0 f in
-    let there : value_cmp (rowid row) (Int id) ≡ o = ap (λ q. value_cmp (rowid row) (Int q)) (sym same) ∙ ap (value_cmp (rowid row)) (sym is) ∙ e in
-    absurd (true≢false (sym here ∙ ap is_eq there ∙ other))
+    let same : p ≡ id = (signed_Decides p id).0 f in absurd (cc)
 
 pub row_at-put : (new : Row) (p : ℤ) → rowid new ≡ Int p → (id : ℤ) (rows : List Row) → row_at (put_row new rows) id
     ≡ (if int_eq p id then Some new else row_at rows id)
 unfolding row_at
-row_at-put new p is id [] = go (has_rowid id new) refl
-  where
-    go : (b : Bool) → has_rowid id new ≡ b → slice_get (filter (has_rowid id) (new ∷ [])) 0 ≡ (if int_eq p id then Some new else None)
-    go true e = rw (e, sym (has_place new p id is) ∙ e) refl
-    go false e = rw (e, sym (has_place new p id is) ∙ e) refl
+row_at-put new p is id [] = grind (arith, has_place new p id is)
 row_at-put new p is id (r ∷ rows) = step (value_cmp (rowid r) (rowid new)) refl (has_rowid id new) refl (has_rowid id r) refl (row_at-put new p is id rows)
   where
     step : (o : Ordering) → value_cmp (rowid r) (rowid new) ≡ o → (b : Bool) → has_rowid id new ≡ b → (c : Bool) → has_rowid id r ≡ c
@@ -65,12 +59,7 @@ over row id None below = below
 over row id (Some it) below = Some (row id it)
 
 swapped : (p q : ℤ) (b : Bool) → int_eq p q ≡ b → int_eq q p ≡ b
-swapped p q true h = (signed_Decides q p).1 (sym ((signed_Decides p q).0 h))
-swapped p q false h = go (int_eq q p) refl
-  where
-    go : (b : Bool) → int_eq q p ≡ b → int_eq q p ≡ false
-    go false e = e
-    go true e = absurd (true≢false (sym ((signed_Decides p q).1 (sym ((signed_Decides q p).0 e))) ∙ h))
+swapped p q b h = grind (arith, signed_Decides p q, signed_Decides q p)
 
 module _ {A : Type 0} (row : ℤ → A → Row) (placed : (p : ℤ) (it : A) → rowid (row p it) ≡ Int p) where
   -- no entry behind has the place of one before
@@ -113,14 +102,6 @@ pub root_reads : (id : ℤ) (name : List ℕ) (key : Option ℕ) → CanBeKeyIfS
 unfolding root_in
 root_reads id name key h q = rw (bytes_back key h) refl
 
-found_fits : {A : Type 0} (P : A → Type 0) (p : ℤ) (es : List (ℤ × A)) (it : A) → Each (λ e. P e.1) es → lookup (int_eq p) es ≡ Some it → P it
-found_fits P p [] it all is = absurd (cc)
-found_fits P p (e ∷ es) it all is = go (int_eq p e.0) refl (found_fits P p es it all.1)
-  where
-    go : (b : Bool) → int_eq p e.0 ≡ b → (lookup (int_eq p) es ≡ Some it → P it) → P it
-    go true h more = let same : Some e.1 ≡ Some it = rw h at is in let one : e.1 ≡ it = cc in subst P one all.0
-    go false h more = more (rw h at is)
-
 -- once all that waits is put, the tables have what was stored
 pub all_stored : (waiting : WaitingBlobs) (rows : List Row) → IsDistinct int_eq (keys_of waiting.entries) → Each (λ e. Fits e.1) waiting.entries
     → (q : ℕ) → blobs_in (put_all pending_row waiting.entries rows) q ≡ stored_with waiting rows q
@@ -131,7 +112,7 @@ all_stored waiting rows once fit q = rw (row_at-put_all pending_row (λ p it. re
     go : (o : Option PendingBlob) → lookup (int_eq (rowid_of q)) waiting.entries ≡ o
         → blob_of_row q (over pending_row (rowid_of q) o (row_at rows (rowid_of q))) ≡ before q o (blob_of_row q (row_at rows (rowid_of q)))
     go None h = refl
-    go (Some it) h = let f = found_fits Fits (rowid_of q) waiting.entries it fit h in row_reads (rowid_of q) it.key (blob_pending it) f.0 f.1 q
+    go (Some it) h = let f = of_found Fits (int_eq (rowid_of q)) waiting.entries it fit h in row_reads (rowid_of q) it.key (blob_pending it) f.0 f.1 q
 
 pub all_named : (waiting : WaitingRoots) (rows : List Row) → IsDistinct int_eq (keys_of waiting.entries) → Each (λ e. CanBeKeyIfSome e.1.key) waiting.entries
     → (q : List ℕ) → roots_in (put_all pending_root_row waiting.entries rows) q ≡ roots_with waiting rows q
@@ -144,7 +125,7 @@ all_named waiting rows once fit q = rw (row_at-put_all pending_root_row (λ p it
         ≡ before_root q o (root_of_row q (row_at rows (rowid_of_name q)))
     go None h = refl
     go (Some it) h = root_reads (rowid_of_name q) (string_bytes it.name) it.key
-        (found_fits (λ (r : PendingRoot). CanBeKeyIfSome r.key) (rowid_of_name q) waiting.entries it fit h) q
+        (of_found (λ (r : PendingRoot). CanBeKeyIfSome r.key) (int_eq (rowid_of_name q)) waiting.entries it fit h) q
 
 -- where nothing waits, the tables have all
 pub none_waits : (waiting : WaitingBlobs) (rows : List Row) → waiting.entries ≡ [] → stored_with waiting rows ≡ blobs_in rows

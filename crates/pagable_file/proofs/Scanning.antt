@@ -1,9 +1,9 @@
 -- Going over all rows of a table.
-use Rattle.pagable_file.proofs.{Places.has_place, Settling.moved_then}
+use Rattle.pagable_file.proofs.Places.{has_place}
 use Rattle.pagable_file.specs.{Blobs.MovesOnlyCursors, Rows.row_at}
 use Rattle.sqlite_trees.specs.{Tree.{from_key, has_rowid, rowid, sought}, View.{Advances, View, with_cursor}, declared.store.Direction.TheVariants.Forward}
 use Rattle.sqlite_value.specs.{Order.Row, declared.{keys.Order.Order, value.Value.{TheVariants.Int, Value}}}
-use Rattle.std.proofs.Common.{Bool, List, Some, ap, arith, false, get_or, length, map, refl, subst, suc, sym, true, zero, ℕ, ℤ, [], ◌++◌, ◌<◌, ◌∙◌, ◌∷◌, ◌≡◌}
+use Rattle.std.proofs.Common.{Bool, List, Some, ap, false, map, refl, subst, sym, true, ℤ, [], ◌++◌, ◌∙◌, ◌∷◌, ◌≡◌}
 use Rattle.std.specs.{Cmp.signed_Decides, List.AllByRecursion as Each}
 
 -- the places so far go before those of the rows that the cursor has left
@@ -33,23 +33,11 @@ more : (places : List ℤ) (place : ℤ) (rest : List Value) → map Int (places
 more [] place rest = refl
 more (p ∷ places) place rest = ap (λ l. Int p ∷ l) (more places place rest)
 
-some_same : {A : Type 0} (a b : A) → Some a ≡ Some b → a ≡ b
-some_same a b e = cc
-
 pub listing_goes_on : (first now next : View) (rows : List Row) (places after : List ℤ) (row : Row) (place : ℤ) → Listing first now rows places
     → Advances now next 0 row true → rowid row ≡ Int place → after ≡ places ++ place ∷ [] → Listing first next rows after
 listing_goes_on first now next rows places after row place l (left, here, is) id all =
-    let same : l.left ≡ row ∷ left = some_same l.left (row ∷ left) (sym l.at ∙ here) in
-    let go : MovesOnlyCursors now next = is ∙ ap (λ (v : View). record now { cursors = v.cursors }) (sym is) in
-    let rest : map Int (places ++ place ∷ []) ++ map rowid left ≡ map rowid rows =
-    more places place (map rowid left) ∙ ap (λ v. map Int places ++ v ∷ map rowid left) (sym id)
-    ∙ ap (λ (r : List Row). map Int places ++ map rowid r) (sym same) ∙ l.rest in
-    record {
-      left = left;
-      moved = moved_then first now next l.moved go;
-      at = ap (λ (v : View). v.cursors 0) is;
-      rest = ap (λ (p : List ℤ). map Int p ++ map rowid left) all ∙ rest;
-    }
+    let same : l.left ≡ row ∷ left = cc in
+    record { left = left; moved = cc; at = ap (λ (v : View). v.cursors 0) is; rest = cc (more places place (map rowid left)) }
 
 -- the row at a place is among the rows, so its place is among theirs
 found_step : (P : ℤ → Type 0) (id : ℤ) (row r : Row) (rows : List Row) (p : ℤ) → rowid r ≡ Int p → P p → (row_at rows id ≡ Some row → P id) → (b : Bool)
@@ -67,9 +55,3 @@ found_place P id row (r ∷ rows) (p ∷ places) e at all =
     let first : rowid r ≡ Int p = cc in
     let rest : map Int places ≡ map rowid rows = cc in
     found_step P id row r rows p first all.0 (λ h. found_place P id row rows places rest h all.1) (has_rowid id r) refl at
-
--- what an index within a list reads
-pub read_once : {A : Type 0} (xs : List A) (i : ℕ) (d e : A) → i < length xs → get_or xs i d ≡ get_or xs i e
-read_once [] i d e h = absurd (omega (arith, h))
-read_once (x ∷ xs) zero d e h = refl
-read_once (x ∷ xs) (suc i) d e h = read_once xs i d e (omega (arith, h))

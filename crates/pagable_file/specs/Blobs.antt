@@ -186,10 +186,8 @@ pub record SavedAs (old : View) (waiting : WaitingBlobs) (roots : WaitingRoots) 
 
 -- the row that a table has at a key's place is this blob's
 abbrev pub HasBlob : Option Reading → Blob → Type 0
-HasBlob None blob = ⊥
-HasBlob (Some reading.Other) blob = ⊥
-HasBlob (Some reading.Damaged) blob = ⊥
 HasBlob (Some (reading.Blob found)) blob = blob_of found ≡ blob
+HasBlob _ blob = ⊥
 
 -- the table has no row there, or another key's
 abbrev pub HasNone : Option Reading → Type 0
@@ -257,18 +255,14 @@ pub record HoldsRoot (name : List ℕ) (key : Option ℕ) (old new : WaitingRoot
 
 -- the key that a look-up found for a name
 abbrev pub found_root : Option Naming → Option ℕ
-found_root None = None
-found_root (Some naming.Other) = None
 found_root (Some (naming.Root key)) = key
+found_root _ = None
 
 abbrev pub IsNotOther : Option Naming → Type 0
-IsNotOther None = Unit {0}
 IsNotOther (Some naming.Other) = ⊥
-IsNotOther (Some (naming.Root key)) = Unit {0}
+IsNotOther _ = Unit {0}
 
 -- whether a look-up found a blob
 abbrev pub reads_blob : Option Reading → Bool
-reads_blob None = false
-reads_blob (Some reading.Other) = false
-reads_blob (Some reading.Damaged) = false
 reads_blob (Some (reading.Blob found)) = true
+reads_blob _ = false

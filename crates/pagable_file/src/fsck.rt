@@ -11,7 +11,7 @@ ghost use Rattle.pagable_value_spec.specs.{Blob.{Blob, key_of}, Stored.IsMemoryO
 ghost use Rattle.sqlite_value.specs.Order.{Row as SqlRow};
 ghost use Rattle.std.specs.{
   List.{AllByRecursion, Contains},
-  Prelude.{IfErr, IfOk, IsTrue, List, None, OnOk, Some, is_some, option_map, ℕ, ℤ, [], ◌↔◌, ◌≡◌, ◌≤◌},
+  Prelude.{IfErr, IfOk, IsTrue, List, None, OnOk, Some, option_map, ℕ, ℤ, [], ◌↔◌, ◌≡◌, ◌≤◌},
 };
 
 use crate::file_blobs::FileBlobs;
@@ -70,23 +70,6 @@ fn read_at(
     }
 }
 
-/// Returns whether the table has a blob under a key.
-#[tactic(auto, using(crate::proofs::Named::row_has_blob))]
-fn is_there<S: Store>(
-    alloc: Global,
-    store: &mut S,
-    row: &mut Row,
-    key: DataKey,
-) -> Result<bool, StoreError>
-    requires settled { Settled (S.view store.old) }
-    ensures ok { IsTrue (is_honest_view (S.view store.new)) → IfOk result
-        (λ there. there ≡ is_some (blobs_in ((S.view store.old).committed blob_tree) key)) }
-    ensures stays { LeavesCommitted (S.view store.old) (S.view store.new) }
-{
-    let found = read(alloc, store, row, key)?;
-    Ok(is_blob(&found))
-}
-
 /// Adds `flaw` if the table has no blob under `key`.
 #[tactic(auto, using(crate::proofs::Flawed::testing))]
 fn test_there<S: Store>(
@@ -104,7 +87,8 @@ fn test_there<S: Store>(
         (IsThere ((S.view store.old).committed blob_tree) key) }
     ensures stays { LeavesCommitted (S.view store.old) (S.view store.new) }
 {
-    if is_there(alloc, store, row, key)? {
+    let found = read(alloc, store, row, key)?;
+    if is_blob(&found) {
         return Ok(());
     }
     flaws.push(flaw)?;

@@ -30,7 +30,7 @@ pub struct ListedBlob {
 
 /// Reads the list entry of the row at `place` in the table of blobs. Returns None if there is no
 /// row, or the row has no key.
-#[tactic(auto, using(crate::proofs::Named::stays_then))]
+#[tactic(auto, using(crate::proofs::Settling::stays_then))]
 fn list_row<S: Store>(
     store: &mut S,
     row: &mut Row,
@@ -55,7 +55,7 @@ fn list_row<S: Store>(
 }
 
 /// Reads the list entries of all rows.
-#[tactic(auto, using(crate::proofs::Named::stays_then))]
+#[tactic(auto, using(crate::proofs::Settling::stays_then))]
 fn list_all<S: Store>(
     alloc: Global,
     store: &mut S,

@@ -78,7 +78,6 @@ pub fn push_waiting(
 
 /// Adds a blob to those that wait for a flush, at the rowid of `key`. Fails with `OutOfMemory`
 /// only; then nothing changes.
-#[tactic(auto, using(crate::proofs::Fetching::holds))]
 pub fn add_waiting(
     waiting: &mut WaitingBlobs,
     key: DataKey,

@@ -216,11 +216,10 @@ pub fn write_root(
     ensures row { OnOk result (row.new ≡ root_row place name.now key) }
     ensures key { OnOk result (CanBeKeyIfSome key) }
 {
-    write_key(bytes, key)?;
     row.clear();
     row.push(ValueRef::Int(place))?;
     row.push(ValueRef::Null)?;
     row.push(ValueRef::Text(name.as_bytes()))?;
-    row.push(ValueRef::Blob(bytes.as_slice()))?;
+    push_key(row, bytes, key)?;
     Ok(())
 }

@@ -123,7 +123,7 @@ fn push_name_at<S: Store>(
 
 /// Returns the names in the table, but for those at whose places an entry waits for a flush, in the
 /// order of their places.
-#[tactic(auto, using(crate::proofs::Named::stays_then))]
+#[tactic(auto, using(crate::proofs::Settling::stays_then))]
 pub fn committed_names<S: Store>(
     alloc: Global,
     store: &mut S,

@@ -8,12 +8,9 @@ returns-in-Ok-clause-ok g c =
 
 pub returns-in-Ok-clause-err : goal.returns-in-Ok-clause-err
 returns-in-Ok-clause-err g c =
-    let old = g.S.Store.view c.args.store.now in
-    let mid = g.S.Store.view c.put_waiting.new.store in
-    on_rolled_back c.commit.result old mid (g.S.Store.view c.commit.new.self) (λ h. only_keeps old mid (c.in-Ok.ensures.ok h).only) c.commit.ensures.err
-    c.put_waiting.ensures.doubt_never_falls c.commit.ensures.clean
+    on_rolled_back c.commit.result (g.S.Store.view c.args.store.now) (g.S.Store.view c.put_waiting.new.store) (g.S.Store.view c.commit.new.self)
+    (λ h. only_keeps (c.in-Ok.ensures.ok h).only) c.commit.ensures.err c.put_waiting.ensures.doubt_never_falls c.commit.ensures.clean
 
 pub returns-in-Err-clause-err : goal.returns-in-Err-clause-err
 returns-in-Err-clause-err g c =
-    rolled_back (g.S.Store.view c.args.store.now) (g.S.Store.view c.put_waiting.new.store) (g.S.Store.view c.rollback.new.self) c.in-Err.ensures.err
-    c.rollback.ensures.undone c.put_waiting.ensures.doubt_never_falls c.rollback.ensures.quiet.clean
+    rolled_back c.in-Err.ensures.err c.rollback.ensures.undone c.put_waiting.ensures.doubt_never_falls c.rollback.ensures.quiet.clean

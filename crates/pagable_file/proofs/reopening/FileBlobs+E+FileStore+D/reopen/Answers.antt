@@ -11,15 +11,11 @@ returns-in_ok-again-in-Ok-clause-sure g c sure =
     rw c.into_store.ensures at (c.in_ok-files.ensures.sure (c.in-Ok.ensures.found clean).honest)
 
 pub returns-in_ok-again-in-Ok-clause-blobs : goal.returns-in_ok-again-in-Ok-clause-blobs
-returns-in_ok-again-in-Ok-clause-blobs g c sure =
-    let found = c.in-Ok.ensures.found (c.in_ok-again-in-Ok.ensures.clean sure) in
-    let holds = rw c.into_store.ensures at c.in_ok-files.ensures.holds in
-    c.in_ok-again-in-Ok.ensures.blobs sure ∙ ap (λ (t : Trees). t blob_tree)
-    (found_again c.in-Ok.conn c.in_ok-files.files (view c.args.self.store).committed holds found)
+returns-in_ok-again-in-Ok-clause-blobs g c sure = c.in_ok-again-in-Ok.ensures.blobs sure ∙ ap (λ (t : Trees). t blob_tree)
+    (found_again (view c.args.self.store).committed (rw c.into_store.ensures at c.in_ok-files.ensures.holds)
+    (c.in-Ok.ensures.found (c.in_ok-again-in-Ok.ensures.clean sure)))
 
 pub returns-in_ok-again-in-Ok-clause-roots : goal.returns-in_ok-again-in-Ok-clause-roots
-returns-in_ok-again-in-Ok-clause-roots g c sure =
-    let found = c.in-Ok.ensures.found (c.in_ok-again-in-Ok.ensures.clean sure) in
-    let holds = rw c.into_store.ensures at c.in_ok-files.ensures.holds in
-    c.in_ok-again-in-Ok.ensures.roots sure ∙ ap (λ (t : Trees). t root_tree)
-    (found_again c.in-Ok.conn c.in_ok-files.files (view c.args.self.store).committed holds found)
+returns-in_ok-again-in-Ok-clause-roots g c sure = c.in_ok-again-in-Ok.ensures.roots sure ∙ ap (λ (t : Trees). t root_tree)
+    (found_again (view c.args.self.store).committed (rw c.into_store.ensures at c.in_ok-files.ensures.holds)
+    (c.in-Ok.ensures.found (c.in_ok-again-in-Ok.ensures.clean sure)))
