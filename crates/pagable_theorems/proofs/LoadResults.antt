@@ -111,7 +111,8 @@ module _ {N E : Type 0} {v : Values N} (lawful : IsLawful v) where
             };
         right = λ x is.
             let read = (rw is at step.does.does).0 in
-            let load = read.of_key_load in rw (← (u.keyed load.load load.open_load)) (read-right lawful s _ _ _ fit.1.same felt.does.goes.stored step.whole stands _ takes.types u.going _ load.open_load x
+            let load = read.of_key_load in rw (← (u.keyed load.load load.open_load))
+            (read-right lawful s _ _ _ fit.1.same felt.does.goes.stored step.whole stands _ takes.types u.going _ load.open_load x
             read.reads_root
             (hands _ _ u.well.whole.handles read.handed));
       }

@@ -8,8 +8,8 @@ use Rattle.pagable_traits.proofs.{
   Words.{AllAfter, Apart, ArcRef, Bool, Collected, Context, Differ, Entries, Entry, Error, FormAt, FormsAt, GivesSome, IsDistinct, IsPermutation, IsTotalOrder},
   Words.{List, Meaning, Means, MeansPair, Nesting, None, Option, Ordering, PutInTurn, Rest, Result, Shape, Some, ap, arith, both, counted, entry, false},
   Words.{get_or, insert_entry, is_eq, is_some, keys_of, kind_of_arc, length, length-map, length_form, longest, lookup, map, match_ordering, more-entries},
-  Words.{of_entries, ordered, ordering_reverse, put_all, put_sorted, read, read_with, refl, same_key, set_value, subst, suc, sym, true, zero, ℕ, [], ◌++◌, ◌<◌, ◌∙◌},
-  Words.{◌∷◌, ◌≡◌, ◌≤◌},
+  Words.{of_entries, ordered, ordering_reverse, put_all, put_sorted, read, read_with, refl, same_key, set_value, subst, suc, sym, true, zero, ℕ, []},
+  Words.{◌++◌, ◌<◌, ◌∙◌, ◌∷◌, ◌≡◌, ◌≤◌},
 }
 use Rattle.pagable_value_spec.specs.{
   CarriedTypes.of_hash_map,

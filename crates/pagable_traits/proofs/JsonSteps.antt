@@ -147,8 +147,10 @@ module _ {D E R N H K V : Type 0} {env : Environments E N H K V} {d : Deserializ
   then-err view is told q same may = grind (arith, moves_trans)
 
   -- the rest of the whole is this part
-  pub then-is : {X Y P : Type 0} {own : Error → Type 0} {M : X → Y → Type 0} {get whole : Context Answer ArcRef → Gets Answer Y} {a b c : D} {r : Result X Error}
-      → Tells d P a b → Reads env d own M get b c r → whole (context_in env d a) (d.rest a) ≡ get (context_in env d a) (d.rest b) → Reads env d own M whole a c r
+  pub then-is : {X Y P : Type 0} {own : Error → Type 0} {M : X → Y → Type 0}
+      {get whole : Context Answer ArcRef → Gets Answer Y} {a b c : D} {r : Result X Error}
+      → Tells d P a b → Reads env d own M get b c r
+      → whole (context_in env d a) (d.rest a) ≡ get (context_in env d a) (d.rest b) → Reads env d own M whole a c r
   then-is told q same =
       record {
         gives = rw same (rw (told.same_levels, told.same_env) at q.gives);

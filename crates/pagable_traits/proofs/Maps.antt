@@ -210,7 +210,8 @@ IsOrderOf M cmp order = IsLike M cmp (ordered order) ordering_reverse
 abbrev pub IsSameOf : {K : Type 0} → Means K → (K → K → Bool) → Type 0
 IsSameOf M eq = IsLike M eq same_key (λ b. b)
 
-pub order-of : {K : Type 0} (M : Meanings K) (order : KeyOrder) → AreSingle M → {cmp : K → K → Ordering} → ((x y : K) → cmp x y ≡ ordered order (M.meaning x) (M.meaning y)) → ((x y : K) → cmp x y ≡ ordering_reverse (cmp y x)) → IsOrderOf M.of cmp order
+pub order-of : {K : Type 0} (M : Meanings K) (order : KeyOrder) → AreSingle M → {cmp : K → K → Ordering} → ((x y : K) → cmp x y ≡ ordered order
+    (M.meaning x) (M.meaning y)) → ((x y : K) → cmp x y ≡ ordering_reverse (cmp y x)) → IsOrderOf M.of cmp order
 order-of M order single is flips = record { agrees = λ x y m n first second. rw (single x m first, single y n second) (is x y); flips = flips }
 
 pub same-of : {K E : Type 0} {M : Meanings K} {eq : K → K → Bool} {parts : E → ℕ → Shape} {shape : E → Shape} → IsKey M eq parts shape → AreSingle M

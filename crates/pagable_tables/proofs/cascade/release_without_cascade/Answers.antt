@@ -44,7 +44,13 @@ returns c stack w =
     let rows' = rows_of mid in
     let sums : (f : HandleRow → ℕ) → sum_by f rows' + f x ≡ sum_by f (rows_of old) + (if stays then f (unpinned x) else 0) +
     (if listed then f (entry (old.last_handle + 1) x.node) else 0) =
-    λ f. omega (arith, c.remove_or_unpin.ensures.sums f, ap (sum_by f) e.rows, with-entry f (live c.remove_or_unpin.new.handles.places.items) listed (old.last_handle + 1) x.node)
+    λ f. omega (
+      arith,
+      c.remove_or_unpin.ensures.sums f,
+      ap (sum_by f) e.rows,
+      with-entry f (live c.remove_or_unpin.new.handles.places.items) listed
+          (old.last_handle + 1) x.node,
+    )
     in
     let plain = λ (so : stays ≡ true) (m q : ℕ). owned-by-none m q x (c.requires.not_a_value so) in
     record {
