@@ -3,7 +3,7 @@
 use crate::blobs::{Blobs, BlobsInFile};
 use crate::command::{Verb, key_of};
 use crate::look::{graph, list, roots, stat, tree};
-use crate::progress::Progress;
+use crate::progress::ProgressPrinter;
 use crate::refusal::Refusal;
 use crate::show::{digits, write_flaw};
 use pagable_core::PagableData;
@@ -73,7 +73,7 @@ fn flush<B: Blobs>(alloc: Global, blobs: &mut B) -> Result<String, Error> {
 
 /// Names each flaw of the file, and says how many blobs and flaws there are.
 fn fsck<B: Blobs>(rt: &HostRuntime, blobs: &mut B) -> Result<(String, bool), Error> {
-    let mut progress = Progress::new(rt);
+    let mut progress = ProgressPrinter::new(rt);
     let flaws = blobs.fsck(rt.alloc(), &mut progress)?;
     let mut text = String::new(rt.alloc());
     for flaw in &flaws {
@@ -86,7 +86,7 @@ fn fsck<B: Blobs>(rt: &HostRuntime, blobs: &mut B) -> Result<(String, bool), Err
 /// Copies into one file what the roots of another reach, and returns how many blobs these are.
 fn copy_roots<B: Blobs>(rt: &HostRuntime, from: &mut B, to: &mut B) -> Result<usize, Error> {
     let names = from.root_names(rt.alloc())?;
-    let mut progress = Progress::new(rt);
+    let mut progress = ProgressPrinter::new(rt);
     let count = from.copy(rt.alloc(), to, names.as_slice(), &mut progress)?;
     to.flush()?;
     Ok(count)

@@ -7,15 +7,15 @@ const STEP: u64 = 10_000;
 
 /// Counts blobs, and prints their number on standard error after each `STEP` of them.
 #[derive(Drop)]
-pub struct Progress<'a> {
+pub struct ProgressPrinter<'a> {
     rt: &'a HostRuntime,
     count: u64,
 }
 
-impl<'a> Progress<'a> {
+impl<'a> ProgressPrinter<'a> {
     /// Makes the counter, at zero blobs.
-    pub fn new(rt: &'a HostRuntime) -> Progress<'a> {
-        Progress { rt, count: 0 }
+    pub fn new(rt: &'a HostRuntime) -> ProgressPrinter<'a> {
+        ProgressPrinter { rt, count: 0 }
     }
 
     /// Returns how many blobs were counted.
@@ -24,7 +24,7 @@ impl<'a> Progress<'a> {
     }
 }
 
-impl<'a> Watch for Progress<'a> {
+impl<'a> Watch for ProgressPrinter<'a> {
     fn note(&mut self) {
         self.count = self.count.saturating_add(1);
         if self.count % STEP == 0 {

@@ -6,4 +6,4 @@ pub mod commit;
 pub mod project;
 
 pub use commit::{Commit, History};
-pub use project::{File, Folder, Project, ProjectNode};
+pub use project::{File, Folder, ProjectEnv, ProjectNode};

@@ -17,9 +17,9 @@ use std::sync::Arc;
 
 /// The environment of commits, which have the type number 0, folders (1) and files (2).
 #[derive(Drop)]
-pub struct Project;
+pub struct ProjectEnv;
 
-impl Env for Project {
+impl Env for ProjectEnv {
     type Node = ProjectNode;
 
     type Hash = Sha256Key;
@@ -181,7 +181,7 @@ impl<E: Env> NodeValue<E> for File {
     }
 }
 
-impl OfNode<Project> for Commit {
+impl OfNode<ProjectEnv> for Commit {
     ghost TYPE = { 0 };
 
     ghost held = { first_held };
@@ -201,7 +201,7 @@ impl OfNode<Project> for Commit {
     ghost small = { three_are_small.0 };
 }
 
-impl OfNode<Project> for Folder {
+impl OfNode<ProjectEnv> for Folder {
     ghost TYPE = { 1 };
 
     ghost held = { second_held };
@@ -221,7 +221,7 @@ impl OfNode<Project> for Folder {
     ghost small = { three_are_small.1.0 };
 }
 
-impl OfNode<Project> for File {
+impl OfNode<ProjectEnv> for File {
     ghost TYPE = { 2 };
 
     ghost held = { third_held };

@@ -17,7 +17,7 @@ use std::sync::Wait;
 /// Why `serve_durable` ended before the end of the input.
 #[derive(Drop)]
 pub enum ServeError {
-    /// The storage can't tell its names of roots, or no session can be made.
+    /// No line was read: the storage can't tell its names of roots, or no memory is left.
     Storage(Error),
     /// Reading or writing failed, or a buffer can't be made.
     Lines(io::Error),

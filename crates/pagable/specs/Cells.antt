@@ -1,7 +1,14 @@
 -- Calls on one cell that consist of a few calls of the pager.
 use Rattle.either.specs.declared.Either.{Either}
-use Rattle.pagable_pager.specs.View.{AddsNoValue, Calls, ChangesOnlyTables, PagerView, Storages, pager_core,
-    pager_state}
+use Rattle.pagable_pager.specs.View.{
+  AddsNoValue,
+  Calls,
+  ChangesOnlyTables,
+  PagerView,
+  Storages,
+  pager_core,
+  pager_state,
+}
 use Rattle.pagable_pager_spec.specs.{
   Access.PinsOver,
   Basics.{Error, HandleNumber, Kind},

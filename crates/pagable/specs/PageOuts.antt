@@ -1,8 +1,15 @@
 -- Page-out of one cell: the calls that list a clone of its handle, and the page-out of that entry.
 use Rattle.pagable.specs.Cells.{Releases, Unpins}
 use Rattle.pagable_pageout.specs.{PageOuts.PagesEntryIfThere, declared.tasks.PageOutError.PageOutError}
-use Rattle.pagable_pager.specs.View.{AddsNoValue, Calls, ChangesOnlyTables, PagerView, Storages, pager_core,
-    pager_state}
+use Rattle.pagable_pager.specs.View.{
+  AddsNoValue,
+  Calls,
+  ChangesOnlyTables,
+  PagerView,
+  Storages,
+  pager_core,
+  pager_state,
+}
 use Rattle.pagable_pager_spec.specs.{
   Basics.{Error, HandleNumber, OptionalDataKey},
   Calls.{CloneCall, KeyCall, LoosenCall, ScheduleCall},

@@ -138,7 +138,7 @@ fn page_out_pending_lent<'a, E: Env<Node: NodeSet<E>>, S: PagableStorage<E>>(
 
 /// Pages out the cells that wait for page-out when it is called, with all that they refer to, from
 /// the last entry of the list to the first, up to the first failure. Entries that are listed
-/// meanwhile wait for the next call. An entry whose cell has a key is only released.
+/// meanwhile wait for the next call. An entry whose cell has a key only leaves the list.
 ///
 /// # Errors
 ///

@@ -98,5 +98,5 @@ module _ {hash : List ℕ → List ℕ} {types : Types} where
   all-keys trees (one-more-has rs keys r key all one) each =
       let kid_of = λ (q : ArcRef). kid q.kind.0 (trees q.node.0).meaning in
       rw (← (map-append kid_of rs (r ∷ []))) at (one-more-key (kid_of r) key (all-keys trees all
-          (λ q k among has. each q k (among-left rs (r ∷ []) among.0 q among.1) has))
+      (λ q k among has. each q k (among-left rs (r ∷ []) among.0 q among.1) has))
       (each r key (among-right rs (r ∷ []) 0 r refl) one))

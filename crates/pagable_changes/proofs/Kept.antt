@@ -284,7 +284,7 @@ module _ {N E : Type 0} (v : Values N) (lawful : IsLawful v) (M : Type 0) where
         all-keys a.trees' have (λ r q among has. rw (← f.typed r among) ((key-on a (has-reads at keyed founds has)).is_key m)) in
         let is_key : M → KeyOf v.hash v.types (a.trees' o.reference.node.0) key = λ m.
         rw (← stores.step.stores.0) at (key-of (a.trees' o.reference.node.0) f.wrote.shape (written_of o.written).bytes
-            (kids_of a.trees' (written_of o.written).references) keys f.wrote.is
+        (kids_of a.trees' (written_of o.written).references) keys f.wrote.is
         (tree-form f.wrote) (kids m)) in
         record { went = a; fits = f; reads = record { given = f.given; reads = blob-reads f.wrote have each is_stored; is_key = is_key } }
 

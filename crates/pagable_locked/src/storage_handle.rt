@@ -281,13 +281,14 @@ impl<E: Env<Node: NodeSet<E>>, S: PagableStorage<E>> PagableStorageHandle<E, S> 
 
     /// Pages out the cells that wait for page-out when it is called, with all that they refer to,
     /// from the last entry of the list to the first, up to the first failure. An entry whose cell
-    /// has a key is only released. Entries that are listed meanwhile wait for the next call, unless
-    /// other threads take entries before them.
+    /// has a key only leaves the list, and its handle is released. Entries that are listed
+    /// meanwhile wait for the next call; but if another thread removes entries that stand before
+    /// them in the list, this call may reach them.
     ///
     /// # Errors
     ///
-    /// - `Failed` with the error of the first entry that fails: it keeps its place if no worker
-    ///   could begin; else its cell is listed again, at the end, or, if it is still pinned or the
+    /// - `Failed` with the error of the first entry that fails. If no worker could begin, the entry
+    ///   keeps its place. Else its cell is listed again, at the end; if it is still pinned or the
     ///   list can't grow, perhaps only when it next loses its last pin. Entries before it stay.
     pub fn page_out_pending<R: Wait>(&self, rt: &R, alloc: Global) -> Result<(), PageOutError> {
         let mut access = self.access(rt);

@@ -47,7 +47,7 @@ use Rattle.pagable_pageout.proofs.Words.{
   ◌∷◌,
   ◌≡◌,
 }
-use Rattle.pagable_pageout.specs.{Results.IsKeyOverResults, Tasks.{IfKey, IfKeyOf, LeadsToItemKey, fails, fault_of}, Turns.claim_todo}
+use Rattle.pagable_pageout.specs.{Results.IsKeyOverResults, Tasks.{IfKey, IfKeyOf, KeepsItemOrGivesItsKey, fails, fault_of}, Turns.claim_todo}
 use Rattle.pagable_pager_spec.specs.{Basics.above, Workers.{first_todo, give, give_known, next_start}, World.{Fault, Open, answer_of_fault, of_item}}
 use Rattle.std.proofs.Common.{◌++◌}
 use Rattle.std.specs.Prelude.{IfOk, max}
@@ -83,35 +83,37 @@ module _ {X XN XH XK XV : Type 0} {g : Environments X XN XH XK XV} {gh : Hashes 
     {gn : Nodes XN X XN XH XK XV} where
   -- what goes on keeps its end
   pub goes-ends : {todo after : List Todo} {t : Task X XN XH XK XV g gh go gq gp gn} → ((w : Written) → EndsWithItem w todo → EndsWithItem w after)
-      → LeadsToItemKey {g = g} {gh = gh} {go = go} {gq = gq} {gp = gp} {gn = gn} todo (Turn.Goes t) after
+      → KeepsItemOrGivesItsKey {g = g} {gh = gh} {go = go} {gq = gq} {gp = gp} {gn = gn} todo (Turn.Goes t) after
   goes-ends f = record { stays = f; over = λ w h. tt }
 
   pub refused-ends : {todo after : List Todo} {t : Task X XN XH XK XV g gh go gq gp gn} {fault : Fault} {back : Option HandleNumber} → after
-      ≡ fails fault back → LeadsToItemKey {g = g} {gh = gh} {go = go} {gq = gq} {gp = gp} {gn = gn} todo (Turn.Goes t) after
+      ≡ fails fault back → KeepsItemOrGivesItsKey {g = g} {gh = gh} {go = go} {gq = gq} {gp = gp} {gn = gn} todo (Turn.Goes t) after
   refused-ends is = goes-ends (λ w h. subst (EndsWithItem w) (sym is) tt)
 
   pub claimed-ends : {r : ArcRef} {place : ℕ} {below after : List Todo} (found : Result Claim Error) {t : Task X XN XH XK XV g gh go gq gp gn} → after
-      ≡ claim_todo r place below found → LeadsToItemKey {g = g} {gh = gh} {go = go} {gq = gq} {gp = gp} {gn = gn} (to_start r place ∷ below) (Turn.Goes t) after
+      ≡ claim_todo r place below found
+      → KeepsItemOrGivesItsKey {g = g} {gh = gh} {go = go} {gq = gq} {gp = gp} {gn = gn} (to_start r place ∷ below) (Turn.Goes t) after
   claimed-ends {r} {place} {below} found is = goes-ends (λ w h. subst (EndsWithItem w) (sym is) (claim-ends w r place below found h))
 
   pub written-ends : {x : Todo} (o : Open) {below after : List Todo} {t : Task X XN XH XK XV g gh go gq gp gn}
       → ((w : Written) → EndsWithItem w (x ∷ below) → EndsWithItem w below) → after ≡ advance (to_finish o ∷ below)
-      → LeadsToItemKey {g = g} {gh = gh} {go = go} {gq = gq} {gp = gp} {gn = gn} (x ∷ below) (Turn.Goes t) after
+      → KeepsItemOrGivesItsKey {g = g} {gh = gh} {go = go} {gq = gq} {gp = gp} {gn = gn} (x ∷ below) (Turn.Goes t) after
   written-ends o {below} f is = goes-ends (λ w h. subst (EndsWithItem w) (sym is) (advance-ends w (to_finish o ∷ below) (f w h)))
 
   pub given-ends : {r : ArcRef} {key height : ℕ} {below after : List Todo} {t : Task X XN XH XK XV g gh go gq gp gn} → EntryGetsResult r key height below after
-      → LeadsToItemKey {g = g} {gh = gh} {go = go} {gq = gq} {gp = gp} {gn = gn} (to_release r key height ∷ below) (Turn.Goes t) after
+      → KeepsItemOrGivesItsKey {g = g} {gh = gh} {go = go} {gq = gq} {gp = gp} {gn = gn} (to_release r key height ∷ below) (Turn.Goes t) after
   given-ends {r} {key} {height} gives = goes-ends (λ w h. subst (EndsWithItem w) (sym gives.is)
       (give-ends w r key height (gives.x ∷ gives.rest) (subst (EndsWithItem w) gives.was h)))
 
   pub alone-ends : {r : ArcRef} {key height : ℕ} {below : List Todo} {k : ℕ} → below ≡ []
-      → LeadsToItemKey {g = g} {gh = gh} {go = go} {gq = gq} {gp = gp} {gn = gn} (to_release r key height ∷ below) (Turn.Answers (WorkerAnswer.Key k)) []
+      → KeepsItemOrGivesItsKey {g = g} {gh = gh} {go = go} {gq = gq} {gp = gp} {gn = gn} (to_release r key height ∷ below)
+      (Turn.Answers (WorkerAnswer.Key k)) []
   alone-ends none = record { stays = λ w h. tt; over = λ w h. absurd (subst (EndsWithItem w) none h) }
 
   pub stored-ends : (node : Option ClaimedNode) (written : Written) (keys : List ℕ) (key : ℕ) {turn : Turn X XN XH XK XV g gh go gq gp gn}
       (path : List (WaitingValue X XN XH XK XV g gh go gq gp gn)) → FollowsStore node key turn
       → IfKey turn (λ k. ∥ IsKeyOverResults gh.digest (values_at gn g gh) written k ∥₁)
-      → LeadsToItemKey (waits_as node written keys ∷ todos path) turn (todos_after turn path)
+      → KeepsItemOrGivesItsKey (waits_as node written keys ∷ todos path) turn (todos_after turn path)
   stored-ends None written keys key path is over =
       let at = subst (λ t. IfKey t (λ k. ∥ IsKeyOverResults gh.digest (values_at gn g gh) written k ∥₁)) is over in
       rw is (record { stays = λ w h. tt; over = λ w h. subst (λ x. ∥ IsKeyOverResults gh.digest (values_at gn g gh) x key ∥₁) h.0 at })
@@ -119,7 +121,7 @@ module _ {X XN XH XK XV : Type 0} {g : Environments X XN XH XK XV} {gh : Hashes 
       rw is (goes-ends (λ w h. subst (λ x. EndsWithItem w (x ∷ todos path)) (sym goes) h))
 
   pub failed-ends : (why : PageOutError) {back : Option HandleNumber} {below : List Todo}
-      → LeadsToItemKey {g = g} {gh = gh} {go = go} {gq = gq} {gp = gp} {gn = gn} (to_fail (fault_of why) back ∷ below)
+      → KeepsItemOrGivesItsKey {g = g} {gh = gh} {go = go} {gq = gq} {gp = gp} {gn = gn} (to_fail (fault_of why) back ∷ below)
       (Turn.Answers (answer_of_fault (fault_of why))) []
   failed-ends why = record { stays = λ w h. tt; over = λ w h. grind tests }
 

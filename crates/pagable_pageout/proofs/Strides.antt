@@ -5,13 +5,13 @@ use Rattle.pagable_pageout.proofs.{
   Words.{tests, todo_of, todos, todos_after, waits_as, work_left, ℕ, ◌*◌, ◌+◌, ◌<◌, ◌∙◌, ◌∷◌, ◌≡◌},
   WorkerRuns.{none-walked, step-ends, step-walked, steps-to},
 }
-use Rattle.pagable_pageout.specs.{Strides.{Strides, WalksTo}, Tasks.{IfGoes, LeadsToItemKey, LowersWorkLeft}}
+use Rattle.pagable_pageout.specs.{Strides.{Strides, WalksTo}, Tasks.{IfGoes, KeepsItemOrGivesItsKey, LowersWorkLeft}}
 
 module _ {X XN XH XK XV : Type 0} {g : Environments X XN XH XK XV} {gh : Hashes XH} {go : Orders XK} {gq : Equalities XK} {gp : PartialOrders XK}
     {gn : Nodes XN X XN XH XK XV} where
   -- the item stays where another task was in front
   pub ends-as : {todo other after : List Todo} {turn : Turn X XN XH XK XV g gh go gq gp gn}
-      → ((w : Written) → EndsWithItem w other → EndsWithItem w todo) → LeadsToItemKey todo turn after → LeadsToItemKey other turn after
+      → ((w : Written) → EndsWithItem w other → EndsWithItem w todo) → KeepsItemOrGivesItsKey todo turn after → KeepsItemOrGivesItsKey other turn after
   ends-as f e = record { stays = λ w h. e.stays w (f w h); over = λ w h. e.over w (f w h) }
 
   pub leads-waiting : (turn : Turn X XN XH XK XV g gh go gq gp gn) (node : Option ClaimedNode) (written : Written) (keys : List ℕ)

@@ -187,7 +187,7 @@ module _ {X XN XH XK XV : Type 0} {g : Environments X XN XH XK XV} {gh : Hashes 
   IfKey (Turn.Goes t) P = Unit {0}
 
   -- The list still ends with the item; and a key that is answered is that of the item over its references' results.
-  pub record LeadsToItemKey (todo : List Todo) (turn : Turn X XN XH XK XV g gh go gq gp gn)
+  pub record KeepsItemOrGivesItsKey (todo : List Todo) (turn : Turn X XN XH XK XV g gh go gq gp gn)
       (after : List Todo) : Type 0 where
     pub stays : (w : Written) → EndsWithItem w todo → IfGoes turn (EndsWithItem w after)
     pub over : (w : Written) → EndsWithItem w todo → IfKey turn

@@ -7,7 +7,7 @@ ghost use Rattle.pagable_pageout.specs.{
   PageOuts.{PagesAt, PagesEntryIfThere, PagesItem, PagesList, answer_of, with_some_key},
   Results.IsKeyOverResults,
   Slots.written_of,
-  Tasks.{EachIsAwaited, EndsWithItem, IfKeyOf, LeadsToItemKey, LeavesLess, LowersWorkLeft, todo_of, todos},
+  Tasks.{EachIsAwaited, EndsWithItem, IfKeyOf, KeepsItemOrGivesItsKey, LeavesLess, LowersWorkLeft, todo_of, todos},
   Turns.{EndsIfAnswered, PerformsStep, PerformsTask, RunsToAnswer, acting_after, todos_after},
 };
 ghost use Rattle.pagable_pager_spec.specs.{World.Written, declared.handle_row.Owner.Owner};
@@ -42,7 +42,7 @@ fn perform_task<E: Env<Node: NodeSet<E>>, A: WorkerAccess<E>, T: Claims<E>>(
     requires { EachIsAwaited (todo_of task ∷ todos path.old.items) }
     ensures goes { LeavesLess (todo_of task ∷ todos path.old.items) result.turn
         (todos_after result.turn path.new.items) }
-    ensures ends { LeadsToItemKey (todo_of task ∷ todos path.old.items) result.turn
+    ensures ends { KeepsItemOrGivesItsKey (todo_of task ∷ todos path.old.items) result.turn
         (todos_after result.turn path.new.items) }
     ensures acts { ActsBoth A.known_state A.acting T.shelf access.old table.old access.new table.new (λ a. a)
         (λ a s q s' q'. PerformsTask (values_at E.Node.NodeSet E.Env E.Hash.KeyHash a.environment) a.me worker.0 q task
@@ -121,7 +121,7 @@ pub fn step<E: Env<Node: NodeSet<E>>, A: WorkerAccess<E>, T: Claims<E>>(
 ) -> StepResult<E>
     requires { EachIsAwaited (todo_of task ∷ todos path.old.items) }
     ensures way { EachIsAwaited (todos_after result.turn path.new.items) }
-    ensures ends { LeadsToItemKey (todo_of task ∷ todos path.old.items) result.turn
+    ensures ends { KeepsItemOrGivesItsKey (todo_of task ∷ todos path.old.items) result.turn
         (todos_after result.turn path.new.items) }
     ensures leads { LowersWorkLeft (todo_of task ∷ todos path.old.items) result.turn
         (todos_after result.turn path.new.items) }
@@ -276,7 +276,7 @@ fn page_out_at<E: Env<Node: NodeSet<E>>, A: WorkerAccess<E>>(
 }
 
 /// Pages out the cells that wait for page-out when it is called, from the last entry of the list to
-/// the first, each on an empty table of claims. If a cell has a key, it only releases the entry.
+/// the first, each on an empty table of claims. An entry whose cell has a key only leaves the list.
 /// Entries that are listed meanwhile stay. The access is the caller's before and after.
 ///
 /// # Errors

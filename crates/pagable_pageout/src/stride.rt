@@ -5,7 +5,8 @@ ghost use Rattle.pagable_load.specs.{AccessView.{Acts, IfKnown, values_at}, PinS
 ghost use Rattle.pagable_pageout.specs.{
   Joint.ActsBoth,
   Strides.{HandsOnResult, Strides, WalksTo},
-  Tasks.{AwaitsWithHeight, EachIsAwaited, IfGoes, LeadsToItemKey, LeavesLess, NeedsNoPager, back_of, claim_weight},
+  Tasks.{AwaitsWithHeight, EachIsAwaited, IfGoes, KeepsItemOrGivesItsKey, LeavesLess, NeedsNoPager, back_of},
+  Tasks.claim_weight,
   Tasks.{fails, todo_of, todos, waiting_todo, work_left},
   Turns.{HasWalked, acting_after, todos_after},
 };
@@ -65,14 +66,14 @@ fn write_and_advance<E: Env<Node: NodeSet<E>>, A: WorkerAccess<E>, T: Claims<E>>
     shared: Result<Option<Arc<E::Node>>, Error>,
 ) -> Task<E>
     requires { EachIsAwaited (to_write reference place through ∷ todos path.old.items) }
-    ensures ends { LeadsToItemKey (to_write reference place through ∷ todos path.old.items) (Turn.Goes result)
+    ensures ends { KeepsItemOrGivesItsKey (to_write reference place through ∷ todos path.old.items) (Turn.Goes result)
         (todo_of result ∷ todos path.new.items) }
     ensures goes { LeavesLess (to_write reference place through ∷ todos path.old.items) (Turn.Goes result)
         (todo_of result ∷ todos path.new.items) }
-    ensures step { (n : ℕ) (pin : HandleNumber) → IfKnown (A.known_state access.now)
+    ensures step { (worker : ℕ) (pin : HandleNumber) → IfKnown (A.known_state access.now)
         (λ s. Shares arc_value s pin shared)
         → ActsBoth A.known_state A.acting T.shelf access.now table.old access.now table.new (λ a. a)
-        (λ a s q s' q'. HasWalked (values_at E.Node.NodeSet E.Env E.Hash.KeyHash a.environment) a.me n q
+        (λ a s q s' q'. HasWalked (values_at E.Node.NodeSet E.Env E.Hash.KeyHash a.environment) a.me worker q
         (Task.Write reference place through pin) (todos path.old.items) q' result (todos path.new.items) s s') }
 {
     match write_claimed(access, alloc, path, reference, place, through, shared) {
@@ -97,12 +98,12 @@ fn pin_and_write<E: Env<Node: NodeSet<E>>, A: WorkerAccess<E>, T: Claims<E>>(
     place: u64,
 ) -> Task<E>
     requires { EachIsAwaited (to_pin reference place ∷ todos path.old.items) }
-    ensures ends { LeadsToItemKey (to_pin reference place ∷ todos path.old.items) (Turn.Goes result)
+    ensures ends { KeepsItemOrGivesItsKey (to_pin reference place ∷ todos path.old.items) (Turn.Goes result)
         (todo_of result ∷ todos path.new.items) }
     ensures goes { LeavesLess (to_pin reference place ∷ todos path.old.items) (Turn.Goes result)
         (todo_of result ∷ todos path.new.items) }
-    ensures acts { (n : ℕ) → ActsBoth A.known_state A.acting T.shelf access.old table.old access.new table.new (λ a. a)
-        (λ a s q s' q'. HasWalked (values_at E.Node.NodeSet E.Env E.Hash.KeyHash a.environment) a.me n q
+    ensures acts { (worker : ℕ) → ActsBoth A.known_state A.acting T.shelf access.old table.old access.new table.new
+        (λ a. a) (λ a s q s' q'. HasWalked (values_at E.Node.NodeSet E.Env E.Hash.KeyHash a.environment) a.me worker q
         (Task.Pin reference place) (todos path.old.items) q' result (todos path.new.items) s s') }
 {
     match access.pin_or_load_value(reference) {
@@ -135,7 +136,7 @@ fn claim_and_write<E: Env<Node: NodeSet<E>>, A: WorkerAccess<E>, T: Claims<E>>(
     place: u64,
 ) -> Task<E>
     requires { EachIsAwaited (to_start reference place ∷ todos path.old.items) }
-    ensures ends { LeadsToItemKey (to_start reference place ∷ todos path.old.items) (Turn.Goes result)
+    ensures ends { KeepsItemOrGivesItsKey (to_start reference place ∷ todos path.old.items) (Turn.Goes result)
         (todo_of result ∷ todos path.new.items) }
     ensures goes { LeavesLess (to_start reference place ∷ todos path.old.items) (Turn.Goes result)
         (todo_of result ∷ todos path.new.items) }
@@ -163,7 +164,7 @@ fn claim_as_turn<E: Env<Node: NodeSet<E>>, A: WorkerAccess<E>, T: Claims<E>>(
     place: u64,
 ) -> Turn<E>
     requires { EachIsAwaited (to_start reference place ∷ todos path.old.items) }
-    ensures ends { LeadsToItemKey (to_start reference place ∷ todos path.old.items) result
+    ensures ends { KeepsItemOrGivesItsKey (to_start reference place ∷ todos path.old.items) result
         (todos_after result path.new.items) }
     ensures goes { LeavesLess (to_start reference place ∷ todos path.old.items) result
         (todos_after result path.new.items) }
@@ -184,7 +185,7 @@ fn publish<E: Env<Node: NodeSet<E>>, T: Claims<E>>(
     done: DoneReference<E>,
 ) -> Turn<E>
     requires { AwaitsWithHeight (todos path.old.items) done.reference done.found.height }
-    ensures ends { LeadsToItemKey (to_publish done.reference done.found.key done.found.height
+    ensures ends { KeepsItemOrGivesItsKey (to_publish done.reference done.found.key done.found.height
         ∷ todos path.old.items) result
         (todos_after result path.new.items) }
     ensures goes { LeavesLess (to_publish done.reference done.found.key done.found.height ∷ todos path.old.items) result
@@ -215,7 +216,7 @@ fn store_and_publish_node<E: Env<Node: NodeSet<E>>, A: WorkerAccess<E>, T: Claim
 ) -> Turn<E>
     requires way { EachIsAwaited (waiting_todo waiting ∷ todos path.old.items) }
     requires node { waiting.node ≡ Some node }
-    ensures ends { LeadsToItemKey (waiting_todo waiting ∷ todos path.old.items) result
+    ensures ends { KeepsItemOrGivesItsKey (waiting_todo waiting ∷ todos path.old.items) result
         (todos_after result path.new.items) }
     ensures goes { LeavesLess (waiting_todo waiting ∷ todos path.old.items) result (todos_after result path.new.items) }
     ensures acts { ActsBoth A.known_state A.acting T.shelf access.old table.old access.new table.new (λ a. a)
@@ -237,11 +238,11 @@ fn store_and_answer_item<E: Env<Node: NodeSet<E>>, A: WorkerAccess<E>>(
     waiting: WaitingValue<E>,
 ) -> Turn<E>
     requires { EachIsAwaited (waiting_todo waiting ∷ todos path.old.items) }
-    ensures ends { LeadsToItemKey (waiting_todo waiting ∷ todos path.old.items) result
+    ensures ends { KeepsItemOrGivesItsKey (waiting_todo waiting ∷ todos path.old.items) result
         (todos_after result path.new.items) }
     ensures goes { LeavesLess (waiting_todo waiting ∷ todos path.old.items) result (todos_after result path.new.items) }
-    ensures acts { (n : ℕ) (shelf : Shelf) → Acts A.known_state A.acting access.old access.new
-        (λ a s t. WalksTo (values_at E.Node.NodeSet E.Env E.Hash.KeyHash a.environment) a.me n shelf
+    ensures acts { (worker : ℕ) (shelf : Shelf) → Acts A.known_state A.acting access.old access.new
+        (λ a s t. WalksTo (values_at E.Node.NodeSet E.Env E.Hash.KeyHash a.environment) a.me worker shelf
         (Task.Finish waiting) (todos path.old.items) shelf result (todos_after result path.new.items) s t) }
 {
     match store(access, alloc, &waiting) {
@@ -260,7 +261,7 @@ fn finish_waiting<E: Env<Node: NodeSet<E>>, A: WorkerAccess<E>, T: Claims<E>>(
     waiting: WaitingValue<E>,
 ) -> Turn<E>
     requires { EachIsAwaited (waiting_todo waiting ∷ todos path.old.items) }
-    ensures ends { LeadsToItemKey (waiting_todo waiting ∷ todos path.old.items) result
+    ensures ends { KeepsItemOrGivesItsKey (waiting_todo waiting ∷ todos path.old.items) result
         (todos_after result path.new.items) }
     ensures goes { LeavesLess (waiting_todo waiting ∷ todos path.old.items) result (todos_after result path.new.items) }
     ensures acts { ActsBoth A.known_state A.acting T.shelf access.old table.old access.new table.new (λ a. a)
@@ -291,7 +292,8 @@ pub fn make_next_steps<E: Env<Node: NodeSet<E>>, A: WorkerAccess<E>, T: Claims<E
 ) -> Turn<E>
     requires { EachIsAwaited (todo_of task ∷ todos path.old.items) }
     ensures way { EachIsAwaited (todos_after result path.new.items) }
-    ensures ends { LeadsToItemKey (todo_of task ∷ todos path.old.items) result (todos_after result path.new.items) }
+    ensures ends { KeepsItemOrGivesItsKey (todo_of task ∷ todos path.old.items) result
+        (todos_after result path.new.items) }
     ensures falls { IfGoes result (left.new * claim_weight + work_left (todos_after result path.new.items) < left.old *
         claim_weight + work_left
         (todo_of task ∷ todos path.old.items)) }

@@ -15,7 +15,8 @@ ghost use Rattle.pagable_pageout.specs.{
   Slots.{keys_of, written_of},
   Strides.{StoresAndReleasesNode, loose_handle_of},
   Table.claim_result,
-  Tasks.{Awaits, AwaitsWithHeight, EachIsAwaited, IfKey, LeadsToItemKey, LeavesLess, fault_of, most_work_left, todo_of},
+  Tasks.{Awaits, AwaitsWithHeight, EachIsAwaited, IfKey, KeepsItemOrGivesItsKey, LeavesLess, fault_of},
+  Tasks.{most_work_left, todo_of},
   Tasks.{todos, waiting_todo, work_left},
   Turns.{ClaimFits, FollowsStore, GoesBackOnList, IsForm, IsTaskAfterClaim, PerformsTask, SetsKeyThrough, Stores},
   Turns.{WriteRefused, WritesForm, claim_todo, identity_of_node, just_open, todos_after, worker_state},
@@ -149,7 +150,7 @@ pub fn pin<E: Env<Node: NodeSet<E>>, A: WorkerAccess<E>>(
     place: u64,
 ) -> StepResult<E>
     requires { EachIsAwaited (to_pin reference place ∷ todos path.old.items) }
-    ensures ends { LeadsToItemKey (to_pin reference place ∷ todos path.old.items) result.turn
+    ensures ends { KeepsItemOrGivesItsKey (to_pin reference place ∷ todos path.old.items) result.turn
         (todos_after result.turn path.new.items) }
     ensures goes { LeavesLess (to_pin reference place ∷ todos path.old.items) result.turn
         (todos_after result.turn path.new.items) }
@@ -194,7 +195,7 @@ pub fn load<E: Env<Node: NodeSet<E>>, A: WorkerAccess<E>>(
     mut reading: Reading,
 ) -> StepResult<E>
     requires { EachIsAwaited (to_load reference place through (reading_of reading) ∷ todos path.old.items) }
-    ensures ends { LeadsToItemKey (to_load reference place through (reading_of reading)
+    ensures ends { KeepsItemOrGivesItsKey (to_load reference place through (reading_of reading)
         ∷ todos path.old.items) result.turn
         (todos_after result.turn path.new.items) }
     ensures goes { LeavesLess (to_load reference place through (reading_of reading) ∷ todos path.old.items) result.turn
@@ -337,7 +338,7 @@ pub fn write<E: Env<Node: NodeSet<E>>, A: WorkerAccess<E>, T: Claims<E>>(
     pin: HandleNumber,
 ) -> StepResult<E>
     requires { EachIsAwaited (to_write reference place through ∷ todos path.old.items) }
-    ensures ends { LeadsToItemKey (to_write reference place through ∷ todos path.old.items) result.turn
+    ensures ends { KeepsItemOrGivesItsKey (to_write reference place through ∷ todos path.old.items) result.turn
         (todos_after result.turn path.new.items) }
     ensures goes { LeavesLess (to_write reference place through ∷ todos path.old.items) result.turn
         (todos_after result.turn path.new.items) }
@@ -498,7 +499,7 @@ pub fn finish<E: Env<Node: NodeSet<E>>, A: WorkerAccess<E>>(
     waiting: WaitingValue<E>,
 ) -> StepResult<E>
     requires { EachIsAwaited (waiting_todo waiting ∷ todos path.old.items) }
-    ensures ends { LeadsToItemKey (waiting_todo waiting ∷ todos path.old.items) result.turn
+    ensures ends { KeepsItemOrGivesItsKey (waiting_todo waiting ∷ todos path.old.items) result.turn
         (todos_after result.turn path.new.items) }
     ensures goes { LeavesLess (waiting_todo waiting ∷ todos path.old.items) result.turn
         (todos_after result.turn path.new.items) }
@@ -550,7 +551,7 @@ pub fn set_key<E: Env<Node: NodeSet<E>>, A: WorkerAccess<E>>(
     through: HandleNumber,
 ) -> StepResult<E>
     requires { AwaitsWithHeight (todos path.old.items) done.reference done.found.height }
-    ensures ends { LeadsToItemKey (to_set done.reference through done.found.key done.found.height
+    ensures ends { KeepsItemOrGivesItsKey (to_set done.reference through done.found.key done.found.height
         ∷ todos path.old.items)
         result.turn (todos_after result.turn path.new.items) }
     ensures goes { LeavesLess (to_set done.reference through done.found.key done.found.height ∷ todos path.old.items)
@@ -584,7 +585,7 @@ pub fn release<E: Env<Node: NodeSet<E>>, A: WorkerAccess<E>>(
     done: DoneReference<E>,
 ) -> StepResult<E>
     requires { AwaitsWithHeight (todos path.old.items) done.reference done.found.height }
-    ensures ends { LeadsToItemKey (to_release done.reference done.found.key done.found.height
+    ensures ends { KeepsItemOrGivesItsKey (to_release done.reference done.found.key done.found.height
         ∷ todos path.old.items) result.turn
         (todos_after result.turn path.new.items) }
     ensures goes { LeavesLess (to_release done.reference done.found.key done.found.height ∷ todos path.old.items)

@@ -2,8 +2,20 @@
 use Rattle.futures.specs.{Poll.IfReady, declared.task.Poll.Poll}
 use Rattle.pagable_pager.specs.{
   Polling.PollCall,
-  View.{AddsNoValue, AsksStorage, Calls, CallsKeepingInvariant, ChangesOnlyTables, IsPager, KeepsWorkers, PagerView, Storages, ValuesByNode, may_call,
-      storage_view},
+  View.{
+    AddsNoValue,
+    AsksStorage,
+    Calls,
+    CallsKeepingInvariant,
+    ChangesOnlyTables,
+    IsPager,
+    KeepsWorkers,
+    PagerView,
+    Storages,
+    ValuesByNode,
+    may_call,
+    storage_view,
+  },
   View.{pager_core, pager_state, value_in},
 }
 use Rattle.pagable_pager_spec.specs.{

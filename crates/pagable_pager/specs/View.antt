@@ -154,7 +154,7 @@ pub record KeepsWorkers (w w' : Core) : Type 0 where
 -- a call's step in the core, and what it leaves unchanged
 pub record Calls {N S E H K V : Type 0} (Only : PagerView N S E → PagerView N S E → Type 0)
     (tells : Storages S E N H K V) (old : PagerView N S E) (makes : Core → Core → Type 0)
-        (new : PagerView N S E) : Type 0 where
+    (new : PagerView N S E) : Type 0 where
   pub step : makes (pager_core tells old) (pager_core tells new)
   pub only : Only old new
 

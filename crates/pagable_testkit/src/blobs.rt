@@ -42,7 +42,7 @@ pub fn blob(alloc: Global, text: &str) -> anyhow::Result<PagableData> {
 }
 
 /// Parses a blob, and prints the key that `WeighHash` computes of it.
-pub fn weigh_hash_key(alloc: Global, text: &str) -> anyhow::Result<String> {
+pub fn compute_weigh_hash_key(alloc: Global, text: &str) -> anyhow::Result<String> {
     let key = blob(alloc, text)?.compute_key::<WeighHash>();
     Ok(format!(in alloc; "{}", key.get())?)
 }

@@ -88,7 +88,7 @@ pub fn parse_node(alloc: Global, spelled: &str) -> anyhow::Result<CellNode> {
     match node_type {
         "0" => Ok(CellNode::Name(String::from_str(alloc, rest)?)),
         "1" => Ok(CellNode::Note(String::from_str(alloc, rest)?)),
-        "2" => parse_mixed(alloc, rest),
+        "2" => parse_mixed_value(alloc, rest),
         "7" => match bytes_of(alloc, rest)?.as_slice() {
             [first, second] => Ok(CellNode::Bytes((*first, *second))),
             _ => bail!("no two bytes"),
@@ -98,7 +98,7 @@ pub fn parse_node(alloc: Global, spelled: &str) -> anyhow::Result<CellNode> {
 }
 
 /// Parses a `Mixed` value, such as `5/7:1:2`.
-fn parse_mixed(alloc: Global, spelled: &str) -> anyhow::Result<CellNode> {
+fn parse_mixed_value(alloc: Global, spelled: &str) -> anyhow::Result<CellNode> {
     let (tag, rest) = spelled.split_once('/').unwrap_or(("0", spelled));
     let tag = tag.parse::<u8>()?;
     let spelled = parse_references(alloc, rest)?;

@@ -2,7 +2,7 @@
 
 use crate::calls::RowMachine;
 use pagable::Reason;
-use pagable_testkit::blobs::{bytes_of, weigh_hash_key};
+use pagable_testkit::blobs::{bytes_of, compute_weigh_hash_key};
 use pagable_testkit::serve;
 use pagable_value_rows::round_trip::outcome_text;
 use pagable_value_rows::{dispatch, values};
@@ -50,7 +50,7 @@ fn answer_all(alloc: Global, name: &str, verb: &str, inputs: &str) -> anyhow::Re
         let answer = match verb {
             "read" => read_bytes(alloc, name, bytes_of(alloc, input)?.as_slice())?,
             "cut" => read_prefixes(alloc, name, input)?,
-            "weigh" => weigh_hash_key(alloc, input)?,
+            "weigh" => compute_weigh_hash_key(alloc, input)?,
             "serve" => serve::answer(alloc, name, input)?,
             "reason" if !is_reason_in_parts(input) => String::from_str(alloc, "unlike in parts")?,
             _ => values::answer(alloc, name, verb, input)?,

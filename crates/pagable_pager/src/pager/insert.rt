@@ -8,7 +8,6 @@ ghost use Rattle.pagable_pager_spec.specs.{
   Calls.{InsertCall, InsertPagedOutCall},
   Kinds.is_pinning,
   LoadCalls.{AdoptCall, EndCall},
-  
   Refusals.{Refused, closed_fault, earlier, load_fault},
   World.usable,
 };
