@@ -63,7 +63,7 @@ pinned-at {N} {v = v} (load-ends reading answer s s' step) well few k is =
 pinned-at (load-goes-on reading frames answer s mid s' step more) well few k is =
     let goes = (caller-feels step).does.goes in
     let p = pinned-at more step.whole (omega arith) k is in
-    record { load = p.load; node = p.node; t = p.t; h = p.h; open_load = was-open goes _ _ few p.open_load; root = p.root; pin = p.pin }
+    record { load = p.load; node = p.node; t = p.t; h = p.h; open_load = was-open goes reading.load.0 p.load few p.open_load; root = p.root; pin = p.pin }
 
 -- a load that has begun is of its handle's node
 record LoadBegun (w : Core) (h : HandleNumber) (l : LoadNumber) (w' : Core) : Type 0 where
@@ -85,7 +85,7 @@ load-begun w w' h l key c =
       live = c.begins.1.live;
       load = load;
       t = t;
-      open_load = a.loads l.0 ∙ ap (updated (w.last.load + 1) (Some load) w.loads) next.above ∙ updated-at (w.last.load + 1) _ w.loads;
+      open_load = a.loads l.0 ∙ ap (updated (w.last.load + 1) (Some load) w.loads) next.above ∙ updated-at (w.last.load + 1) (Some load) w.loads;
       root = refl;
       few = omega (arith, last, next.above);
     }
@@ -94,13 +94,13 @@ load-begun w w' h l key c =
 pin-of : {N E : Type 0} {v : Values N} {s s' : PagerState N E} {h k : HandleNumber} → PinRun v s h (Ok k) s' → IsPagerWhole v s
     → (row : HandleRow) × (row_at s.core h ≡ Some row) × PinOf s'.core Owner.Caller row.node k
 pin-of {s = s} {s'} {h} {k} (pins-at-once k2 s2 c) well =
-    (c.step.pins.0, c.step.pins.1.live, pin-call s.core _ (low-whole well.whole.handles) _ h k c.step)
+    (c.step.pins.0, c.step.pins.1.live, pin-call s.core s'.core (low-whole well.whole.handles) Owner.Caller h k c.step)
 pin-of {s = s} {s'} {h} {k} (load-pins k2 reading mid s2 starts run) well =
-    let b = load-begun _ _ h _ _ starts.begins.step in
+    let b = load-begun s.core mid.core h reading.load starts.key starts.begins.step in
     let p = pinned-at run starts.begins.whole b.few k refl in
-    let loads = same_some _ _ (sym p.open_load ∙ b.open_load) in
+    let loads : p.load ≡ b.load = same_some _ _ (sym p.open_load ∙ b.open_load) in
     let nodes : p.node ≡ b.row.node = cc in
-    (b.row, b.live, rw (← nodes) p.pin)
+    (b.row, b.live, subst (λ n. PinOf s'.core Owner.Caller n k) nodes p.pin)
 
 -- ---- each operation
 
@@ -121,14 +121,14 @@ module _ {N E B W : Type 0} (m : Seen N B W) (lawful : IsLawful m.values) where
   pin-stays {h = h} (load-is-refused e s' c) at asks = ((plain-stays m lawful (Call.LoadBegin h) (Reply.Begun (Err e)) at c c.step tt tt).0, tt)
   pin-stays {s} {trees = trees} {h} (load-pins k reading mid s' starts run) at asks =
       let begun = plainly m lawful (Call.LoadBegin h) (Reply.Begun (Ok (Beginning.Load reading.load starts.key))) starts.begins starts.begins.step in
-      let r = pin-after _ s _ _ h _ _ _ at.well starts asks lawful at.settled _ at.stands in
-      let left = load-left _ asks (call-nobody m begun tt at.nobody) in
+      let r = pin-after m.values s mid s' h reading (LoadAnswer.Pinned k) run at.well starts asks lawful at.settled trees at.stands in
+      let left = load-left run asks (call-nobody m begun tt at.nobody) in
       let p = (pin-of (load-pins k reading mid s' starts run) at.well).2.pin in
-      (stays-so r.1 left, pin_stands _ _ k _ left.well r.1.stands p.live p.is)
+      (stays-so r.1 left, pin_stands s' r.0 k p.row left.well r.1.stands p.live p.is)
   pin-stays {s} {trees = trees} {h} (load-fails e reading mid s' starts run) at asks =
       let begun = plainly m lawful (Call.LoadBegin h) (Reply.Begun (Ok (Beginning.Load reading.load starts.key))) starts.begins starts.begins.step in
-      let r = pin-after _ s _ _ h _ _ _ at.well starts asks lawful at.settled _ at.stands in
-      (stays-so r.1 (load-left _ asks (call-nobody m begun tt at.nobody)), tt)
+      let r = pin-after m.values s mid s' h reading (LoadAnswer.Refused e) run at.well starts asks lawful at.settled trees at.stands in
+      (stays-so r.1 (load-left run asks (call-nobody m begun tt at.nobody)), tt)
 
   read-stays : {s s' : PagerState N E} {trees : ℕ → Tree} {key t : ℕ} {r : Result N Error} (run : ReadRun m.values s key t r s') → Stands m.values s trees
       → ReadAsksWell run
@@ -145,11 +145,11 @@ module _ {N E B W : Type 0} (m : Seen N B W) (lawful : IsLawful m.values) where
 
   operation-stays : {s s' : PagerState N E} {trees : ℕ → Tree} (one : Operation m s s') → Stands m.values s trees → OperationAsksWell trees one
       → (a : Stays m.values s trees s') × OperationIsRight trees a.trees' one
-  operation-stays (calls call reply s s' c) at asks = call-stays m lawful _ _ at c asks.0 asks.1 asks.2
+  operation-stays (calls call reply s s' c) at asks = call-stays m lawful call reply at c asks.0 asks.1 asks.2
   operation-stays (pins h r s s' run) at asks = pin-stays run at asks
   operation-stays (reads-key key t r s s' run) at asks = read-stays run at asks
-  operation-stays (pages-item item answer s s' new run) at asks = item-stays m lawful _ at new run asks
-  operation-stays (pages-list i answer s s' run) at asks = list-stays m lawful _ at asks
+  operation-stays (pages-item item answer s s' new run) at asks = item-stays m lawful item at new run asks
+  operation-stays (pages-list i answer s s' run) at asks = list-stays m lawful run at asks
 
   all-right : {s s' : PagerState N E} (trees : ℕ → Tree) (operations : Operations m s s') → Stands m.values s trees → AreRight trees operations
   unfolding AreRight
@@ -200,5 +200,5 @@ pinned_again_law E m s mid later s' trees h k l x y first between again well nob
         (r : HandleRow). s.values r.node.0) rows ∙ i.held)
 
 pub caller_law : {N B W : Type 0} (E : Type 0) (m : Seen N B W) → CallerLaw E m
-caller_law E m s s' trees operations well nobody lawful settled stands = all-right m lawful _ _
+caller_law E m s s' trees operations well nobody lawful settled stands = all-right m lawful trees operations
     (record { well = well; nobody = nobody; settled = settled; stands = stands })

@@ -64,9 +64,9 @@ module _ (rows : List HandleRow) (keyed : ℕ → Bool) (entries : List HandleRo
   -- a value that goes with fewer handles goes with more
   pub wider : (s t : ℕ → Bool) (n : ℕ) → IsWithin rows s t → lost s n ≡ true → lost t n ≡ true
   wider s t n within goes =
-      let pins = sum-le (λ h. one (is_pin n h && is_outside t h)) (λ h. one (is_pin n h && is_outside s h)) _
+      let pins = sum-le (λ h. one (is_pin n h && is_outside t h)) (λ h. one (is_pin n h && is_outside s h)) rows
       (λ h among. grind (basics, at-most-sum (only_in s t) rows h among)) in
-      let handles = sum-le (λ h. one (is_at n h && is_outside t h)) (λ h. one (is_at n h && is_outside s h)) _
+      let handles = sum-le (λ h. one (is_at n h && is_outside t h)) (λ h. one (is_at n h && is_outside s h)) rows
       (λ h among. grind (basics, at-most-sum (only_in s t) rows h among)) in
       grind basics
 
@@ -94,8 +94,8 @@ module _ (rows : List HandleRow) (keyed : ℕ → Bool) (entries : List HandleRo
       let of-value : (h x : HandleRow) → Among rows x → x.number.0 ≡ h.number.0 → (n : ℕ) × (is_owner (owner_value n) x.owner ≡ true) × (lost s n ≡ true)
       → t h.number.0 ≡ true =
       λ h x among number (n, is, goes).
-      let none = closed n (wider s t n within goes) in
-      let at = at-most-sum (owned_out t n) rows x among in
+      let none : sum_by (owned_out t n) rows ≡ 0 = closed n (wider s t n within goes) in
+      let at : owned_out t n x ≤ sum_by (owned_out t n) rows = at-most-sum (owned_out t n) rows x among in
       let it : t x.number.0 ≡ true = grind basics in sym (ap t number) ∙ it in
       let owned : (h : HandleRow) → Among rows h → 0 < sum_by (follows (lost s) h.number.0) rows → t h.number.0 ≡ true = λ h among some.
       grind (basics, one-true, of-value, same-number, owner-of, counted (follows (lost s) h.number.0) rows some) in
@@ -128,7 +128,7 @@ module _ (rows : List HandleRow) (keyed : ℕ → Bool) (entries : List HandleRo
 given-least : (rows : List HandleRow) (keyed : ℕ → Bool) (entries : List HandleRow) (given : ℕ → Bool) → OwnsNothing rows
     → IsLeast rows keyed entries given given
 given-least rows keyed entries given nothing =
-    let closed : IsClosed rows keyed entries given = λ n goes. let none =
+    let closed : IsClosed rows keyed entries given = λ n goes. let none : sum_by (λ h. one (is_owner (owner_value n) h.owner)) rows ≡ 0 =
     nothing n in grind (basics, and_parts, sum-le) in
     search (within-self rows keyed entries given, closed)
 

@@ -13,7 +13,7 @@ use Rattle.pagable_pager_spec.specs.{
   Theorem.HeadlineLaw,
   Workers.{claim_fault, give_known, next_start, with_changed_slot},
   World.{SameShelf, published, to_publish, type_at},
-  declared.events.PinStep.PinStep,
+  declared.{events.PinStep.PinStep, pinning.Pinning.Pinning},
 }
 use Rattle.pagable_theorems.proofs.{
   CallEffects.{begin-goes, pins},
@@ -30,10 +30,10 @@ use Rattle.pagable_theorems.proofs.{
   TablesKept.{fits-on, keys-same},
   TreeProgress.{call-fits, fits-key, fits-nothing, none-comes, reading-fits, trees-go-on},
   Trees.{one-small, same_some, sum-zero},
-  Words.{Action, Among, ArcRef, AreMoments, Bool, Change, Claim, CloneCall, Core, Event, EventReply, HandleNumber, HandleRow, HandlesAreWhole},
+  Words.{Action, Among, ArcRef, AreMoments, Beginning, Bool, Change, Claim, CloneCall, Core, Event, EventReply, HandleNumber, HandleRow, HandlesAreWhole},
   Words.{Happens, HoldsSettled, Identity, IsIdle, IsLawful, IsMachineWhole, IsPublished, IsWellAsked, List, MachineState, Moment, NodeNumber, None, Ok, Option},
   Words.{Owner, Reading, Seen, Shelf, Slot, Some, Todo, Tree, Values, Walking, WorkDoes, WorkFits, WorkerAnswer, WorkerNumber, WorkerReply, WorkerState},
-  Words.{WorkerSteps, World, above, any_mode, ap, append_assoc, arith, basics, false, false_from_ne_true, find_row, give, inl, inr, is_owner},
+  Words.{WorkerSteps, World, above, any_mode, ap, append_assoc, arith, basics, false, false_from_ne_true, find_row, give, identity_of, inl, inr, is_owner},
   Words.{is_some, le_trans, nothing_felt, one, owner_worker, refl, row_at, rules, state_after, step_of, subst, sum_by-cons, sym, times, to_finish, to_item},
   Words.{to_load, to_pin, to_set, to_start, to_write, true, type_of, world_of, ℕ, [], ◌&&◌, ◌++◌, ◌+◌, ◌∙◌, ◌∷◌, ◌≡◌, ◌≤◌, ◌⊎◌},
 }
@@ -142,7 +142,7 @@ module _ {N B W : Type 0} (m : Seen N B W) (v : ℕ) (s s' : WorkerState) (whole
     pub reveals : Reveals s.shelf s'.shelf KeyThere
 
   leaves : {next : List Todo} → s'.todo ≡ next → AllHold s'.core v next → Reveals s.shelf s'.shelf KeyThere → Leaves
-  leaves e all reveals = record { all = rw e all; reveals = reveals }
+  leaves e all reveals = record { all = subst (λ x. AllHold s'.core v x) (sym e) all; reveals = reveals }
 
   stays : ((i : Identity) → s'.shelf.slots i ≡ s.shelf.slots i) → {next : List Todo} → s'.todo ≡ next → AllHold s'.core v next → Leaves
   stays same e all = leaves e all (λ i key height p. inl (keys-same (λ j. sym (same j)) i key height p))
@@ -154,15 +154,15 @@ module _ {N B W : Type 0} (m : Seen N B W) (v : ℕ) (s s' : WorkerState) (whole
       leaves t.list_is (stands-on f (claimed-stands whole r c.finds.0), waits-on f below waits) (grind (arith, put-cases, known))
   stepped (to_pin r place ∷ below) (Action.Pin i (Ok (PinStep.Pinned k))) e (is, p) f (h, waits) = let t = p.pins.2 in
       let stands : StandsAt s'.core r p.pins.0 = elim p.pins.1 [
-        | inl (row, same, clone) ↦ rw same (clone-stands whole r k h clone)
+        | inl (row, same, clone) ↦ subst (λ h. StandsAt s'.core r h) (sym same) (clone-stands whole r k h clone)
         | inr (row, (mid, clone, pin)) ↦ stands-on (pins {lists = false} {Asks = Unit {0}} {Leaves = Unit {0}} {c = nothing_felt} (works-free v)
-            _ pin).goes
-            (clone-stands whole r _ h clone)
+            (Ok (Pinning.Pinned k)) pin).goes
+            (clone-stands whole r p.pins.0 h clone)
       ] in stays t.table_stays.slots t.list_is (stands, waits-on f below waits)
   stepped (to_pin r place ∷ below) (Action.Pin i (Ok (PinStep.LoadBegun l))) e (is, p) f (h, waits) = let t = p.pins.2 in
       stays t.table_stays.slots t.list_is (
-        stands-on (begin-goes _ p.pins.1.1.3)
-            (clone-stands whole r _ h p.pins.1.1.2),
+        stands-on (begin-goes (Ok (Beginning.Load l p.pins.1.1.1)) p.pins.1.1.3)
+            (clone-stands whole r p.pins.0 h p.pins.1.1.2),
         waits-on f below waits,
       )
   stepped (to_load r place through reading ∷ below) (Action.Pin i (Ok (PinStep.Pinned k))) e (is, p) f (h, waits) = let t = p.goes.1 in
@@ -172,8 +172,8 @@ module _ {N B W : Type 0} (m : Seen N B W) (v : ℕ) (s s' : WorkerState) (whole
   stepped (to_write r place through ∷ below) (Action.Write i (Ok out)) e (is, p) f (h, waits) =
       let t = p.writes in
       leaves t.list_is
-      (started _ v _ _ _ _ (stands-on f h) (waits-on f below waits) (stands-on f h, waits-on f below waits))
-      (changed-reveals _ _ _ _ (λ slot. record slot { references = Some (m.written_of out).references }) t.table_is
+      (started s'.core v place (m.written_of out).references _ below (stands-on f h) (waits-on f below waits) (stands-on f h, waits-on f below waits))
+      (changed-reveals s.shelf s'.shelf KeyThere (identity_of r) (λ slot. record slot { references = Some (m.written_of out).references }) t.table_is
       (λ old key height is. inl is))
   stepped (to_finish o ∷ below) (Action.Store i (Ok key)) e (is, p) f (h, waits) = let t =
       p.goes in stays t.table_stays.slots t.list_is (stands-on f h, waits-on f below waits)
@@ -182,7 +182,7 @@ module _ {N B W : Type 0} (m : Seen N B W) (v : ℕ) (s s' : WorkerState) (whole
         elim p.sets.does [
           | inl (kind, sets) ↦ (let there : is_loose_kind r.kind.0 ≡ true
               → KeyIsSet s'.core r.node.0 = grind (basics, goes-quiet, fell, updated-at) in
-              λ loose. (there loose, still-held v r _ _ u whole h sets))
+              λ loose. (there loose, still-held v r through key u whole h sets))
           | inr (held, done, a) ↦ λ loose. absurd (cc)
         ],
         waits-on f below waits,
@@ -217,12 +217,12 @@ module _ {N B W : Type 0} (m : Seen N B W) (u u' : World) {c : Change} (goes : C
       → ((n : ℕ) → step_of n event reply ≡ [] → Spares (owner_worker n) u.core u'.core)
       → KeysHeld u'
   keys-hold event reply turns work spares =
-      let h = turns-keep m turns _ (λ n shelf w. AllHold u'.core n w.todo)
+      let h = turns-keep m turns SlotsHeld (λ n shelf w. AllHold u'.core n w.todo)
       (λ a b same slots i key height p. slots i key height (keys-same (λ j. sym (same j)) i key height p))
       (λ a b more slots n w all. all)
       (λ t shelf more same i key height p kind. key-on goes (held.slots t i key height (keys-same (λ j. sym (same j)) i key height p) kind))
-      (λ n w none there. all-on goes n (λ q. λ h. let s = (spares n none).each h.h.0 h.row h.own (stands-whole whole _ _ h.live) in
-      record { h = h.h; row = h.row; live = s.live; own = h.own; at = h.at }) _ (held.walks n w there))
+      (λ n w none there. all-on goes n (λ q. λ h. let s = (spares n none).each h.h.0 h.row h.own (stands-whole whole h.h.0 h.row h.live) in
+      record { h = h.h; row = h.row; live = s.live; own = h.own; at = h.at }) w.todo (held.walks n w there))
       (λ n shelf t task. (let s = started u'.core n 0 in grind (basics, s))) (λ k r s at one more. a-step work k r s) turns.own in
       record { walks = h.walks; slots = h.slots }
 
@@ -267,7 +267,7 @@ module _ {N E B W : Type 0} (m : Seen N B W) (s : MachineState N E) (trees : ℕ
 module _ {N E B W : Type 0} (m : Seen N B W) (s s' : MachineState N E) (trees trees' : ℕ → Tree) (whole : IsMachineWhole m.values s')
     (stands : StandsFor m.values s' trees') where
   pin-gives : (event : Event N B W) (reply : EventReply N B W) → PinHolds event reply s'.pager.core → PinGives m.values s trees event reply s' trees'
-  pin-gives x0 x1 pinned = let given = λ (k : HandleNumber) (h : HasPin s'.pager.core k). pin_stands _ _ k _ whole.pager stands.pager h.live
+  pin-gives x0 x1 pinned = let given = λ (k : HandleNumber) (h : HasPin s'.pager.core k). pin_stands s'.pager trees' k h.row whole.pager stands.pager h.live
       h.is in grind (basics, given)
 
 -- what holds of a machine and its trees along a chain
@@ -289,25 +289,25 @@ module _ {N E B W : Type 0} (m : Seen N B W) (lawful : IsLawful m.values) where
       → IsPremised m.values s trees x.event x.reply x.after → (trees' : ℕ → Tree) × TreesAfter m (IsRight m.values) s trees x.event x.reply x.after trees'
       × IsGoingOn m.values x.after trees'
   goes s trees x on does premised =
-      let g = event-goes m _ _ _ _ premised.stays_open does.step.happens in
+      let g = event-goes m (world_of s) (world_of x.after) x.event x.reply premised.stays_open does.step.happens in
       let felt = g.feels on.whole.pager.whole (λ n w is. (on.work.workers n w is).waits) in
-      let ready = keys-ready _ s _ on.fits on.held in
-      let f = event-fits m s _ on.stands on.readings lawful _ on.settled on.whole does.whole ready _ _ g.goes premised.well felt in
+      let ready = keys-ready m.values s trees on.fits on.held in
+      let f = event-fits m s trees on.stands on.readings lawful x.after on.settled on.whole does.whole ready x.event x.reply g.goes premised.well felt in
       let pager = trees-go-on lawful on.settled on.whole.pager does.whole.pager on.stands.pager does.moves g.goes f.1 in
-      let readings = readings-on _ (λ reading is. going-on on.whole.pager does.whole.pager on.stands.pager g.goes f.1 _
+      let readings = readings-on (Going m.values x.after.pager f.0) (λ reading is. going-on on.whole.pager does.whole.pager on.stands.pager g.goes f.1 reading
       (on.readings reading is))
-      (λ reading new. going-new _ _ _ new.0 new.2) (λ reading frames load is at read.
-      going-step on.whole.pager does.whole.pager on.stands.pager g.goes f.1 _ _ _ at (going-of s _ on.readings _ is) read) felt in
+      (λ reading new. going-new x.after.pager f.0 reading new.0 new.2) (λ reading frames load is at read.
+      going-step on.whole.pager does.whole.pager on.stands.pager g.goes f.1 reading frames load at (going-of s trees on.readings reading is) read) felt in
       let stands : StandsFor m.values x.after f.0 = record { pager = pager; readings = λ reading is. (readings reading is).fits } in
-      let turns = event-turns m _ _ on.work (λ v w there. (on.whole.walkings v w there).table.1) _ _
+      let turns = event-turns m (world_of s) (world_of x.after) on.work (λ v w there. (on.whole.walkings v w there).table.1) x.event x.reply
       does.step.happens in
-      let fits = fits-on m s _ _ _ (record { kept = g.goes.stored; last = g.goes.nodes; trees = f.1.same }) on.fits on.whole on.stands.pager
-      on.settled lawful on.work _ _ turns does.writes premised.well in
+      let fits = fits-on m s x.after trees f.0 (record { kept = g.goes.stored; last = g.goes.nodes; trees = f.1.same }) on.fits on.whole on.stands.pager
+      on.settled lawful on.work x.event x.reply turns does.writes premised.well in
       let work = turns-stand m turns on.work in
-      let held = keys-hold m _ _ g.goes on.held on.whole.pager.whole.handles _ _ turns work
+      let held = keys-hold m (world_of s) (world_of x.after) g.goes on.held on.whole.pager.whole.handles x.event x.reply turns work
       (λ n others. g.spares n on.whole.pager.whole.owners_there others) in
-      let pins = pins-hold m _ _ _ _ on.whole.pager.whole.handles does.step.happens in
-      let keys = keys-right m s x.after trees f.0 on.fits fits on.whole does.whole stands on.held held _ _ does.step.happens in
+      let pins = pins-hold m (world_of s) (world_of x.after) x.event x.reply on.whole.pager.whole.handles does.step.happens in
+      let keys = keys-right m s x.after trees f.0 on.fits fits on.whole does.whole stands on.held held x.event x.reply does.step.happens in
       let so : IsRight m.values s trees x.event x.reply x.after f.0 = search (rules, pin-gives, reads-give) in
       (f.0, record { keeps = f.1.same; stands = stands; so = so }, assumption (does.whole, work, premised.settled, stands, readings, fits, held))
 
@@ -321,7 +321,7 @@ module _ {N E B W : Type 0} (m : Seen N B W) (lawful : IsLawful m.values) where
       → TreesAlong m P s trees moments
   along-with P I follows s trees [] on so does = tt
   along-with P I follows s trees (x ∷ xs) on so (does, more) = λ premised.
-      let (trees', a, after) = goes s _ x on does premised in
+      let (trees', a, after) = goes s trees x on does premised in
       let f = follows s trees trees' x xs on so does.whole does.step.happens premised.well a.so in
       (trees', record { keeps = a.keeps; stands = a.stands; so = f.0 }, along-with P I follows x.after trees' xs after f.1 more)
 
@@ -440,12 +440,12 @@ module _ {N E B W : Type 0} (m : Seen N B W) (s end : MachineState N E) (happene
       let few : (i : Identity) → times (is_claim_of i) (steps_of n happened replied) ≤ 1 =
       λ i. le_trans (own-claims end.work.walkings walking.table i n walking there refl happened replied) (grind (basics, one-small)) in
       let once : OnceEach (steps_of n happened replied) =
-      record { claim = few; later = λ stage i. at-once _ i _ _ _ _ went.leads (few i) } in
+      record { claim = few; later = λ stage i. at-once stage i m.written_of walking.task (steps_of n happened replied) walking.todo went.leads (few i) } in
       let within = went.within in record { order = order; once = once; bounded = omega arith; met = went.met; let_go = let_go }
 
 pub headline_law : {N B W : Type 0} (E : Type 0) (m : Seen N B W) → HeadlineLaw E m
 headline_law E m start moments whole idle chain =
-    let (all, within) = arrives m _ _ chain whole (idle-stands _ idle) (grind basics) in let end = state_after start moments in
+    let (all, within) = arrives m start moments chain whole (idle-stands start idle) (grind basics) in let end = state_after start moments in
     record {
       chain = chain;
       work = record {
@@ -459,7 +459,7 @@ headline_law E m start moments whole idle chain =
         loads = steps-left m.values end all.loads;
       };
       loads = within;
-      trees = λ trees stands lawful settled. along-with m lawful _ (λ s xs. Unit {0})
+      trees = λ trees stands lawful settled. along-with m lawful (IsRight m.values) (λ s xs. Unit {0})
           (λ s trees trees' x xs on so whole' happens asked right. (right, tt))
-          _ _ _ (idle-goes m lawful _ _ whole idle settled stands) tt chain;
+          start trees moments (idle-goes m lawful start trees whole idle settled stands) tt chain;
     }

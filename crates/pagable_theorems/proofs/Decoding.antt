@@ -17,7 +17,7 @@ use Rattle.pagable_theorems.proofs.{
   Words.{Among, ArcRef, Blob, Bool, Core, Err, Error, Form, Frame, IsLawful, IsReadable, IsReadableType, IsReference, Kind, List, Meaning, None, Ok, Option},
   Words.{Owner, PagerState, ReadsTree, Result, Shape, Some, Throughout, Tree, Types, ValueStands, Values, and_parts, ap, append-nil, append_assoc, arith},
   Words.{basics, cases_Bool, cases_lt, false, followed, if◌then◌else◌, inl, inr, integer-leads, is_eager, is_in, length, length-append, map, next_in, none},
-  Words.{one, pair, read, references_fault, references_in, refl, rest, slice_get, subst, suc, sum_by-cons, sym, times, tree, true, type_of, variant},
+  Words.{one, pair, read, reference, references_fault, references_in, refl, rest, slice_get, subst, suc, sum_by-cons, sym, times, tree, true, type_of, variant},
   Words.{zero, ℕ, [], ◌&&◌, ◌++◌, ◌+◌, ◌==◌, ◌∙◌, ◌∷◌, ◌≡◌, ◌≤◌, ◌⊎◌},
 }
 use Rattle.pagable_theorems.specs.{
@@ -30,7 +30,7 @@ use Rattle.pagable_value_spec.specs.{
   ReadSteps.◌>>=◌,
   Reading.{Rest, deepest},
   References.SameReferences,
-  Trees.{IsFollowed, KeyRef, ReadsAs, integer-followed, key_ref, none-followed, number-followed, pair-followed, pattern-followed, reference-followed},
+  Trees.{IsFollowed, KeyRef, ReadsAs, integer-followed, key_ref, none-followed, number-followed, pair-followed, pattern-followed, reference-followed, rest_of},
   Trees.{text-followed, variant-followed},
   Writing.kind_of_arc,
 }
@@ -74,10 +74,10 @@ by-alike key (first-refused e r c) isnt = absurd (no_cause c)
 next-alike : (types : Types) (t : ℕ) (blob : Blob) (got : List ArcRef) → ((own : Meaning ArcRef) → next_of types t blob got ≡ reads own → ⊥)
     → after_kinds types t blob (kinds_of got) ≡ next_of types t blob got
 next-alike types t blob got isnt =
-    let two = typed_par {E = one_cause} {F = Unit {0}} {T = AllTwo AnswersAlike} {R = (λ r q. Unit {0})} {parts = types.parts} _ _
-    (each _ _ (λ kind a b h. h kind)) 0 _ (λ s is. inl tt)
-    _ _
-    (record { bytes = refl; refs = answers-alike _ 0 _ }) in
+    let two = typed_par {E = one_cause} {F = Unit {0}} {T = AllTwo AnswersAlike} {R = (λ r q. Unit {0})} {parts = types.parts} answer_at answer_at
+    (each _ _ (λ kind a b h. h kind)) 0 (types.nodes t) (λ s is. inl tt)
+    (rest blob.bytes (answers_from got 0 blob.keys)) (rest blob.bytes (answers_from (some_of (kinds_of got)) 0 blob.keys))
+    (record { bytes = refl; refs = answers-alike got 0 blob.keys }) in
     ap (λ n. next_by (slice_get blob.keys n) (read_with types t blob (some_of (kinds_of got)))) (length-map (kinds_of got) _ ∙ length-map got _)
     ∙ by-alike _ two isnt
 
@@ -119,9 +119,9 @@ looked-more front g back kind key kinds keys c same tail =
 -- where the first were got, the next one is refused
 pub looked : {X : Type 0} (kind : X → ℕ) (front back : List ArcRef) (done : List X) (q : X) (more : List X) (keys : List ℕ) → kinds_of back ≡ map kind done
     → length keys ≡ length (done ++ q ∷ more) → Lookup front back keys (map kind (done ++ q ∷ more)) (Err (Error.Storage (kind q)))
-looked kind front [] [] q more (key ∷ keys) same few = looked-none _ _ _ _ _
+looked kind front [] [] q more (key ∷ keys) same few = looked-none front (kind q) key (map kind more) keys
 looked kind front (g ∷ back) (d ∷ done) q more (key ∷ keys) same few =
-    looked-more _ g _ _ _ _ _ _ (cc) (looked kind (front ++ g ∷ []) back done q _ keys (cc) (omega arith))
+    looked-more front g back (kind d) key (map kind (done ++ q ∷ more)) keys _ (cc) (looked kind (front ++ g ∷ []) back done q more keys (cc) (omega arith))
 looked kind front x1 x2 q more x4 same few = grind basics
 
 -- A blob that is a form of a value of the type, which names no handle twice: its bytes, and a key for each reference.
@@ -228,8 +228,8 @@ module _ (types : Types) (t : ℕ) (blob : Blob) (refs : List ArcRef) (f : IsFor
         (own, ap (λ r. next_by (slice_get blob.keys (length got)) r) (by-shape got ∙ given), along)
 
   ahead : (got done left : List ArcRef) → refs ≡ done ++ left → kinds_of got ≡ kinds_of done → Ahead types t blob refs got
-  ahead got done [] split same = let all = same ∙ ap kinds_of (sym (split ∙ append-nil done)) in let w = reads-all _ all in all-done w.0 w.1 all
-  ahead got done (q ∷ left) split same = let a = asks-next _ done q _ split same in one-left done left q _ split same a.1 a.2
+  ahead got done [] split same = let all = same ∙ ap kinds_of (sym (split ∙ append-nil done)) in let w = reads-all got all in all-done w.0 w.1 all
+  ahead got done (q ∷ left) split same = let a = asks-next got done q left split same in one-left done left q a.0 split same a.1 a.2
 
   pub comes-to : {got : List ArcRef} → GotAsked types t blob got → Ahead types t blob refs got
   comes-to (none-got got is) = ahead got [] refs refl (ap kinds_of is)
@@ -337,12 +337,12 @@ module _ {types : Types} {stored : ℕ → Option Blob} {trees : ℕ → Tree} {
   leads-follows (variant-along n x a h) = let p = leads-follows h in (variant n p.0, variant-leads n x p.0 p.1, variant-followed n a p.0 p.2)
   leads-follows (reference-along r k f) =
       let t = trees r.node.0 in let read = f.tree_read in
-      let typed = read.typed ∙ ap type_of (sym f.kind) in
-      let own = rw typed at read.reads.reads in
+      let typed : t.type ≡ type_of k.kind = read.typed ∙ ap type_of (sym f.kind) in
+      let own = subst (λ n. ReadsAs stored types n k.key read.reads.own) typed read.reads.reads in
       let led = reference-followed k read.reads.own t.meaning own read.reads.follows in (
         followed r.kind.0 t.meaning,
         reference-leads r t.meaning read.typed refl,
-        rw (← f.kind) led,
+        subst (λ n. IsFollowed (ReadsAs stored types) (reference k) (followed n t.meaning)) f.kind led,
       )
   leads-follows (followed-along kind x a n h) = absurd n
 
@@ -353,7 +353,7 @@ is_ref r q = (q.kind.0 == r.kind.0) && ((q.node.0 == r.node.0) && (q.handle.0 ==
 
 pub meant-refs : (rs ss : List ArcRef) → SameReferences rs ss → (r : ArcRef) → Among rs r → Among ss r
 meant-refs rs ss same r among =
-    let itself : is_ref r r ≡ true = rw (self-number _, self-number _, self-number _) refl in
+    let itself : is_ref r r ≡ true = rw (self-number r.kind.0, self-number r.node.0, self-number r.handle.0) refl in
     let one_here : 1 ≤ sum_by (λ q. one (is_ref r q)) rs = let a = at-most-sum (λ q. one (is_ref r q)) rs r among in rw itself at a in
     let found = counted (λ q. one (is_ref r q)) ss (omega (arith, one_here, same (is_ref r))) in
     subst (Among ss) (grind (arith, and_parts, same-number)) found.1
@@ -362,17 +362,17 @@ module _ {N : Type 0} {v : Values N} (lawful : IsLawful v) {stored : ℕ → Opt
   pub decodes : (frame : Frame) (x : N) → IsReadableType v.types frame.node_type → FrameFits v.types stored trees frame → IsDecoded v frame x
       → Decoded v stored trees frame x
   decodes frame x readable fits decoded =
-      let given = read-gives _ _ _ decoded.read in
-      let all = answers-two _ _ 0 _ _ refl (λ i key is n at.
-      answer-of _ _ (λ r there. (
+      let given = read-gives _ _ decoded.own decoded.read in
+      let all = answers-two (AnswersFor v.types stored trees frame.got) frame.got 0 frame.blob.keys frame.blob.keys refl (λ i key is n at.
+      answer-of (slice_get frame.got n) key (λ r there. (
         (n, there),
         let same : n ≡ i = omega arith in
-            fits.got i key r (rw (← same) there) is,
+            fits.got i key r (subst (λ k. slice_get frame.got k ≡ Some r) same there) is,
       ))) in
       let both = typed_par {E = any_cause} {F = ⊥} {T = AllTwo (AnswersFor v.types stored trees frame.got)} {R = Found v.types stored trees frame.got}
-      {parts = v.types.parts} _
-      (λ kind key. Ok (key_ref kind key)) (each _ _ (λ kind a key h. h kind)) 0 _ (λ s is. inr (readable s is))
-      _ _ (record { bytes = refl; refs = all }) in
+      {parts = v.types.parts} answer_at
+      (λ kind key. Ok (key_ref kind key)) (each _ _ (λ kind a key h. h kind)) 0 (v.types.nodes frame.node_type) (λ s is. inr (readable s is))
+      (rest frame.blob.bytes (answers_from frame.got 0 frame.blob.keys)) (rest_of frame.blob) (record { bytes = refl; refs = all }) in
       let two = given-too both given.1 in
       let led = leads-follows two.3 in
       record {
@@ -414,8 +414,8 @@ pub read_stands : {N E : Type 0} {v : Values N} → IsLawful v → (s : PagerSta
     → NodeStands v s r.node.0 (trees r.node.0)) → t.type ≡ frame.node_type
     → ReadsTree s.core.stored v.types frame.key t → ValueStands v s x t
 read_stands {v = v} lawful s trees frame x t readable fits decoded nodes typed reads_tree =
-    let read = decodes lawful _ x readable fits decoded in let led = read.leads in
-    let same : read.t ≡ t = one_tree _ _ _ _ t (read.typed ∙ sym typed) read.reads reads_tree in
+    let read = decodes lawful frame x readable fits decoded in let led = read.leads in
+    let same : read.t ≡ t = one_tree s.core.stored v.types frame.key read.t t (read.typed ∙ sym typed) read.reads reads_tree in
     let meant = leads-stands led.leads (λ r among. nodes r (meant-refs _ _ (λ is. sym (lawful.refers x led.own led.means is)) r among)) in
     record {
       own = led.own;

@@ -22,8 +22,8 @@ use Rattle.pagable_theorems.proofs.{
   Trees.variant-along,
   Words.{Action, Among, ArcRef, AreMoments, Bool, Core, Err, Error, Event, EventReply, FollowsTo, Happens, HoldsSettled, Identity, IsIdle, IsLawful},
   Words.{IsMachineWhole, IsPublished, List, MachineState, Meaning, Moment, Ok, Seen, Shelf, Some, Task, Todo, Tree, Types, Values, Walking, WorkDoes, WorkFits},
-  Words.{WorkerAnswer, WorkerState, Written, above, ap, arith, basics, followed, identity_of, if◌then◌else◌, inl, inr, max, of_entry, of_item, pair},
-  Words.{refl, subst, suc, sym, to_finish, to_item, to_start, true, type_of, variant, world_of, zero, ℕ, ◌+◌, ◌<◌, ◌∙◌, ◌∷◌, ◌≡◌, ◌≤◌, ◌⊎◌},
+  Words.{WorkerAnswer, WorkerState, Written, above, ap, arith, basics, followed, identity_of, if◌then◌else◌, inl, inr, is_eager, max, of_entry, of_item, pair},
+  Words.{refl, subst, suc, sym, to_finish, to_item, to_start, tree, true, type_of, variant, world_of, zero, ℕ, ◌+◌, ◌<◌, ◌∙◌, ◌∷◌, ◌≡◌, ◌≤◌, ◌⊎◌},
 }
 use Rattle.pagable_theorems.specs.{
   DepthLaws.{ClaimIsDeep, MetDepthAlone, WaitsForAsker, WorkerReportsDepth},
@@ -70,7 +70,7 @@ module _ (trees : ℕ → Tree) (rs : List ArcRef) (whole : Meaning ⊥) where
 part-of : {types : Types} {g : Ground} {n : ℕ} {written : Written} → WroteTree types g n written → (r : ArcRef) → Among written.references r
     → Part g.trees (g.trees n).meaning r
 part-of {g = g} {n} {written} w r among =
-    let p = form-along (λ x y h. ap kind_of_arc h.0) w.form (parts-along _ _ _ w.follows (omega arith) (omega arith)
+    let p = form-along (λ x y h. ap kind_of_arc h.0) w.form (parts-along g.trees written.references (g.trees n).meaning w.follows (omega arith) (omega arith)
     (omega arith)) in
     (each-two p.each r among).1.1
 
@@ -97,10 +97,10 @@ module _ {N E : Type 0} (v : Values N) (s : MachineState N E) (trees : ℕ → T
       → WroteTree v.types (ground_of s trees) i.node.0 written
       → IsAttained shelf h written.references → h ≤ height (trees i.node.0).meaning
   attained-height n i h few written w (inl is) = omega arith
-  attained-height zero i h few written w (inr a) = absurd (omega (arith, part-of w _ a.among))
+  attained-height zero i h few written w (inr a) = absurd (omega (arith, part-of w a.r a.among))
   attained-height (suc n) i h few written w (inr a) =
-      let part = part-of w _ a.among in
-      let k = known _ _ _ a.known in
+      let part = part-of w a.r a.among in
+      let k = known (identity_of a.r) a.key a.below a.known in
       let below = attained-height n (identity_of a.r) a.below (omega arith) k.written k.stands.wrote k.stands.attained in
       grind basics
 
@@ -111,15 +111,15 @@ module _ {N E : Type 0} (v : Values N) (s : MachineState N E) (trees : ℕ → T
   leads-down n task r (to_finish o ∷ below) (more, e) (known, attained, place, reach, expects, waits) (stands, apart, all) long =
       let claim = stands.1 in
       let f = fit.slots t (identity_of o.reference) claim.slot claim.claimed in
-      let part = part-of (f.writes o.written.references claim.written_so).1 r (next-among shelf _ _ r _ e) in
+      let part = part-of (f.writes o.written.references claim.written_so).1 r (next-among shelf o.written.references o.keys r more e) in
       let m = (trees r.node.0).meaning in
       let above_it = (trees o.reference.node.0).meaning in
-      let up = climbs _ _ _ _ _ _ part.top part.deep
+      let up = climbs (is_eager r.kind.0) o.place (height m) (deepest_path m) (height above_it) (deepest_path above_it) part.top part.deep
       (height-within m) long in
-      leads-down n task o.reference below expects waits all (rw (← place) up)
+      leads-down n task o.reference below expects waits all (subst (λ q. longest_path < max (q + height above_it) (deepest_path above_it)) place up)
   leads-down n task r (to_item written keys ∷ below) (more, e) (is, known) all long =
       let m = (trees r.node.0).meaning in
-      rw is (r, next-among shelf _ _ r _ e, grind (basics, height-within m))
+      subst (λ x. IsTooDeepTask trees x) (sym is) (r, next-among shelf written.references keys r more e, grind (basics, height-within m))
   leads-down n x1 r x3 x4 x5 x6 long = grind (basics, height-within)
 
   -- a worker comes upon no claim of its own that it is at: a tree is no part of itself
@@ -130,9 +130,9 @@ module _ {N E : Type 0} (v : Values N) (s : MachineState N E) (trees : ℕ → T
   not-below n task q r (to_finish o ∷ below) few (more, e) (known, attained, place, reach, expects, waits) (stands, apart, all) is =
       let claim = stands.1 in
       let f = fit.slots t (identity_of o.reference) claim.slot claim.claimed in
-      let part = part-of (f.writes o.written.references claim.written_so).1 r (next-among shelf _ _ r _ e) in
+      let part = part-of (f.writes o.written.references claim.written_so).1 r (next-among shelf o.written.references o.keys r more e) in
       elim (or_cases (is_identity q (identity_of o.reference)) (is_open_in q below) is) [
-        | inl same ↦ absurd (omega (arith, ap (λ (j : Identity). size (trees j.node.0).meaning) (is-same q _ same)))
+        | inl same ↦ absurd (omega (arith, ap (λ (j : Identity). size (trees j.node.0).meaning) (is-same q (identity_of o.reference) same)))
         | inr rest ↦ not-below n task q o.reference below (omega arith) expects waits all rest
       ]
   not-below n task q r x4 few x6 x7 x8 is = grind basics
@@ -150,7 +150,7 @@ module _ {N E : Type 0} (v : Values N) (s : MachineState N E) (trees : ℕ → T
         let few = attained-height (size (trees (identity_of r).node.0).meaning) (identity_of r) h (omega arith) k.written k.stands.wrote k.stands.attained in
         inl (grind (basics, leads-down))
     | inr (inl (none_there, is, inr (inr (slot, still, back)))) ↦
-        let other : slot.worker ≢ n = λ own. not-below n _ _ r _ (omega arith) expects waits all
+        let other : slot.worker ≢ n = λ own. not-below n task (identity_of r) r below (omega arith) expects waits all
         (covers (identity_of r) slot still.claimed own still.no_result_yet) in
         inr (record { slot = slot; still = still; another = other; back = back })
     | inr (inr (inl spent)) ↦ absurd (cc)
@@ -172,7 +172,7 @@ module _ {N E : Type 0} (v : Values N) (s : MachineState N E) (trees : ℕ → T
   shallow limit rs le lows (variant-leads i x a h) (variant j c) e = grind (basics, shallow limit rs le lows h c (cc))
   shallow limit rs le lows (reference-leads r a among is) (followed kind c) e =
       let l = lows r among in
-      let k = known _ _ _ l.known in
+      let k = known (identity_of r) l.key l.below l.known in
       let meanings : a ≡ c = cc in
       grind (basics, shallow l.below k.written.references k.stands.within k.stands.low k.stands.wrote.follows c (is ∙ meanings))
   shallow limit rs le lows (followed-leads kind x a none h) m e = absurd none
@@ -180,8 +180,8 @@ module _ {N E : Type 0} (v : Values N) (s : MachineState N E) (trees : ℕ → T
 
   shallow-tree : (i : Identity) (key h : ℕ) → IsPublished shelf i key h → (height (trees i.node.0).meaning ≤ h)
       × (deepest_path (trees i.node.0).meaning ≤ longest_path)
-  shallow-tree i key h p = let k = known i _ h p in shallow h _ k.stands.within k.stands.low k.stands.wrote.follows
-      _ refl
+  shallow-tree i key h p = let k = known i key h p in shallow h k.written.references k.stands.within k.stands.low k.stands.wrote.follows
+      (trees i.node.0).meaning refl
 
   -- ---- and the tree has a form, and so has each that it reaches
 
@@ -195,15 +195,15 @@ module _ {N E : Type 0} (v : Values N) (s : MachineState N E) (trees : ℕ → T
       → FollowsTo trees j.written.references own m
       → n ≡ m → HasNoForm v.types u → ⊥
   below-has-form j (refers kind b) (reference-leads r a among is) e formless =
-      let p = known-of _ _ _ j.stands.known r among in
-      let k = known _ _ _ p.1.1 in
+      let p = known-of shelf j.written.references j.stands.keys j.stands.known r among in
+      let k = known (identity_of r) p.0 p.1.0 p.1.1 in
       let kinds : kind ≡ r.kind.0 = cc in
       let meanings : b ≡ a = cc in
-      let same = tree_is (ap type_of kinds ∙ sym k.typed) (meanings ∙ sym is) in
-      has-form _ k (rw (← same) formless)
+      let same : tree (type_of kind) b ≡ trees r.node.0 = tree_is (ap type_of kinds ∙ sym k.typed) (meanings ∙ sym is) in
+      has-form (identity_of r) k (subst (λ x. HasNoForm v.types x) same formless)
   below-has-form {i = i} {key = key} {height = top} j (refers-on kind b u reach) (reference-leads r a among is) e formless =
-      let p = known-of _ _ _ j.stands.known r among in
-      let k = known _ _ _ p.1.1 in
+      let p = known-of shelf j.written.references j.stands.keys j.stands.known r among in
+      let k = known (identity_of r) p.0 p.1.0 p.1.1 in
       let meanings : b ≡ a = cc in
       below-has-form {i = identity_of r} {key = p.0} {height = p.1.0} k reach k.stands.wrote.follows (meanings ∙ sym is) formless
   below-has-form j (in-first c d u reach) (pair-leads x y a b h g) e formless = below-has-form j reach h (cc) formless
@@ -213,16 +213,16 @@ module _ {N E : Type 0} (v : Values N) (s : MachineState N E) (trees : ℕ → T
   below-has-form j reach follows e formless = absurd (cc)
 
   has-forms : (i : Identity) (key height : ℕ) → IsPublished shelf i key height → LeadsToNoForm v.types (trees i.node.0) → ⊥
-  has-forms i key height p (inl formless) = has-form i (known i _ _ p) formless
-  has-forms i key height p (inr (u, reach, formless)) = let k = known i _ _ p in below-has-form k reach k.stands.wrote.follows refl formless
+  has-forms i key height p (inl formless) = has-form i (known i key height p) formless
+  has-forms i key height p (inr (u, reach, formless)) = let k = known i key height p in below-has-form k reach k.stands.wrote.follows refl formless
 
   -- a task that has come to a key leads down no path that is too long, and to no value that has no form
   task-is-fine : (task : Task) (key : ℕ) → IsDone v shelf task key → (¬ IsTooDeepTask trees task) × (¬ IsFormlessTask v.types trees task)
   task-is-fine (of_item written) key (keys, each, is, lows) = (
-    λ (r, among, long). let l = lows r among in grind (basics, shallow-tree _ _ _ l.known),
-    λ (r, among, formless). let p = known-of _ _ _ each r among in has-forms _ _ _ p.1.1 formless,
+    λ (r, among, long). let l = lows r among in grind (basics, shallow-tree (identity_of r) l.key l.below l.known),
+    λ (r, among, formless). let p = known-of shelf written.references keys each r among in has-forms (identity_of r) p.0 p.1.0 p.1.1 formless,
   )
-  task-is-fine (of_entry h i) key (top, p) = (λ long. absurd (omega (arith, (shallow-tree i _ _ p).1)), has-forms i _ _ p)
+  task-is-fine (of_entry h i) key (top, p) = (λ long. absurd (omega (arith, (shallow-tree i key top p).1)), has-forms i key top p)
 
 module _ {N B W E : Type 0} (m : Seen N B W) (s s' : MachineState N E) (trees trees' : ℕ → Tree) (fit : WorkFits m.values s trees)
     (work : StandsIn (world_of s)) where
@@ -232,7 +232,7 @@ module _ {N B W E : Type 0} (m : Seen N B W) (s s' : MachineState N E) (trees tr
       let w = is.moves in
       let a = answered m n.0 (ground_of s trees) w.walking.task (site_of (world_of s) w.walking) w.after w.walking.todo reply.action w.does.does
       (fit.walks n.0 w.walking w.at) key (sym w.answers ∙ e) in
-      grind (basics, same_some, task-is-fine _ s _ fit w.walking.table _ _ a.0)
+      grind (basics, same_some, task-is-fine m.values s trees fit w.walking.table w.walking.task key a.0)
   key-is-shallow event reply is = tt
 
   -- what a worker answers that leads down so, and met no other refusal
@@ -242,16 +242,16 @@ module _ {N B W E : Type 0} (m : Seen N B W) (s s' : MachineState N E) (trees tr
   depth-is-told (Event.WorkerStep n) (EventReply.WorkerMoved (Ok reply)) is shallow = λ start moments walking answer whole idle chain ends there e alone deep.
       let w = is.moves in
       let now : Walking = record w.walking { todo = w.after.todo; steps = reply.steps; answer = reply.answer } in
-      let at : s'.work.walkings n.0 ≡ Some now = w.work.same_walkings n.0 ∙ updated-at n.0 _ s.work.walkings in
+      let at : s'.work.walkings n.0 ≡ Some now = w.work.same_walkings n.0 ∙ updated-at n.0 (Some now) s.work.walkings in
       let right = headline_law E m start moments whole idle chain in
       let met = (right.work.workers n.0 now (ap (λ (x : MachineState N E). x.work.walkings n.0) ends ∙ at)).met answer e in
       of _ _ answer alone e met (λ key k.
-      let fine = shallow walking _ there k in elim deep [ inl long ↦ fine.0 long | inr formless ↦ fine.1 formless ])
+      let fine = shallow walking key there k in elim deep [ inl long ↦ fine.0 long | inr formless ↦ fine.1 formless ])
     where
       of : (shelf : Shelf) (steps : List (Action W)) (answer : WorkerAnswer) → MetDepthAlone steps → reply.answer ≡ Some answer
           → IsMetFailure shelf n.0 steps answer
           → ((key : ℕ) → ¬ (reply.answer ≡ Some (WorkerAnswer.Key key))) → answer ≡ WorkerAnswer.Failed Error.TooDeep
-      of _ steps (WorkerAnswer.Key key) alone e met none = absurd (none _ e)
+      of _ steps (WorkerAnswer.Key key) alone e met none = absurd (none key e)
       of _ steps (WorkerAnswer.Failed f) alone e (step, among, is) none = ap WorkerAnswer.Failed (alone.0 step f among is)
       of _ steps WorkerAnswer.AlreadyFailed alone e (i, among, elsewhere) none = absurd (alone.1 i among)
   depth-is-told event reply is shallow = tt
@@ -264,7 +264,8 @@ module _ {N B W E : Type 0} (m : Seen N B W) (s s' : MachineState N E) (trees tr
         → AllStand site.shelf n walking.task todo → Covers site.shelf n todo
         → Walks m.values (ground_of s trees) site.shelf walking.task todo → IsTooDeepTask trees walking.task ⊎ WaitsForAsker site.shelf n i
     of-claim after (to_start r place ∷ below) i (is, c) (stands, apart, all) covers (at, (expects, waits)) =
-        rw is (claim-deep _ s _ fit walking.table n _ _ _ r _ _ _ c expects waits all covers at)
+        subst (λ (j : Identity). IsTooDeepTask trees walking.task ⊎ WaitsForAsker site.shelf n j) (sym is)
+        (claim-deep m.values s trees fit walking.table n walking.task s.pager.core walking.todo r place below after c expects waits all covers at)
     of-claim after todo i does all covers walks = absurd does
 
   pub claim-is-deep : (event : Event N B W) (reply : EventReply N B W) → Happens m (world_of s) event reply (world_of s')
@@ -279,4 +280,4 @@ module _ {N B W E : Type 0} (m : Seen N B W) (lawful : IsLawful m.values) (P : F
   along-first follows s moments trees whole idle chain stands settled =
       along-with m lawful P (λ s xs. Unit {0}) (λ s trees trees' x xs on so whole happens asked right.
       (follows s x.after trees trees' x.event x.reply on happens, tt))
-      s _ _ (idle-goes m lawful s _ whole idle settled stands) tt chain
+      s trees moments (idle-goes m lawful s trees whole idle settled stands) tt chain

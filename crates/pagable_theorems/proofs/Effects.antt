@@ -3,7 +3,7 @@
 use Rattle.pagable_pager_spec.proofs.Elements.{among-left}
 use Rattle.pagable_pager_spec.specs.{
   Basics.{changed, is_pinned_kind},
-  Calls.{with_cached, with_key, with_mode, with_node},
+  Calls.{row_of, with_cached, with_key, with_mode, with_node},
   Cascade.{Falls, fallen, left_rows, nobody, only_handle},
   Kinds.{is_at, is_in_memory, is_loose, is_pin},
   LoadCalls.{is_owned_in, numbers_of, with_load, without_load},
@@ -20,7 +20,7 @@ use Rattle.pagable_theorems.proofs.{
   Trees.{at-most-sum, counted, one-true, same-number, same_some, self-number},
   Words.{Alike, Among, ArcRef, Blob, Bool, Change, Core, Error, HandleNumber, HandleRow, Kind, List, LoadNumber, Mode, NodeNumber, None, OpenLoad, Option},
   Words.{OptionalDataKey, Owner, Result, Some, and_parts, ap, arith, basics, cases_Bool, false, false_from_ne_true, find_row, held, if_there, if◌then◌else◌},
-  Words.{inl, inr, is_handle, is_in, is_named_by, is_owned_by, is_owner, is_pinning, is_some, moved, not, nothing_felt, one, owner_worker, pins},
+  Words.{inl, inr, is_handle, is_in, is_named_by, is_owned_by, is_owner, is_pinning, is_some, moved, not, nothing_felt, one, owner_value, owner_worker, pins},
   Words.{refl, rules, slice_get, subst, suc, sym, true, updated, with_handle, zero, ℕ, [], ◌&&◌, ◌++◌, ◌+◌, ◌<◌, ◌==◌, ◌∙◌, ◌∷◌, ◌≡◌, ◌≤◌},
 }
 use Rattle.pagable_theorems.specs.TreeSteps.{AreGood, Bears, Knows, sets_key}
@@ -43,7 +43,7 @@ module _ (kind key n : ℕ) where
   at-row row at = ap (λ (x : ℕ). x == n) at ∙ self-number n
 
   above-none : (a b : ℕ) (t : Bool) → t ≡ true → one t ≤ b → nat_lt 0 b ≡ true
-  above-none a b t is le = let e = ap one is in grind basics
+  above-none a b t is le = let e : one t ≡ 1 = ap one is in grind basics
 
   pinned : (rows : List HandleRow) → IsHeldFor rows → is_pinned_kind kind ≡ true → nat_lt 0 (pins n rows) ≡ true
   pinned rows h is = grind (basics, above-none, at-row h.row h.at, at-most-sum (λ x. one (is_pin n x)) rows h.row h.live)
@@ -55,7 +55,7 @@ module _ (kind key n : ℕ) where
   entered-of w is = grind basics
 
   pub stays-alike : {w w' : Core} → Alike w w' → IsEntered w.cache w.cells → IsHeldFor w'.rows → IsEntered w'.cache w'.cells
-  stays-alike {w} {w'} a e h = entered-of w' (a.cache.gives kind key ∙ can-use w e (rw (← a.rows) h))
+  stays-alike {w} {w'} a e h = entered-of w' (a.cache.gives kind key ∙ can-use w e (subst IsHeldFor a.rows h))
 
   pub stays-fell : {before w w' : Core} {given : ℕ → Bool} {r : Result (Unit {0}) Error} → Falls before w given r w' → IsEntered w.cache w.cells
       → IsHeldFor w'.rows → IsEntered w'.cache w'.cells
@@ -114,8 +114,8 @@ named-among (r ∷ rs) q is = elim (cases_Bool (r.handle.0 == q)) [
 pub with-one : (w : Core) {q : ℕ} {row : HandleRow} (node : NodeNumber) (mode : Mode) (owner : Owner) → Stands w.last.handle w.rows q row
     → Stands (with_handle w node mode owner).last.handle (with_handle w node mode owner).rows q row
 with-one w {q} {row} node mode owner s =
-    stands-more _ (le-more _ _)
-    (none-in-next _ q _ refl s.given) s
+    stands-more (row_of (w.last.handle + 1) node mode owner ∷ []) (le-more _ _)
+    (none-in-next w.last.handle q (row_of (w.last.handle + 1) node mode owner) refl s.given) s
 
 pub both-none : (a b : Option Error) → earlier a b ≡ None → (a ≡ None) × (b ≡ None)
 both-none x0 x1 is = grind basics
@@ -126,7 +126,7 @@ pub named : (w : Core) (owner : Owner) (seen : List ℕ) (hs : List HandleNumber
 unfolding named_fault is_in
 named w owner seen [] none h is = absurd (cc)
 named w owner seen (x ∷ hs) none h is = elim (cases_Bool (x.0 == h.0)) [
-  | inl e ↦ rw (← (ap (λ n. let k : HandleNumber = record { 0 = n } in k) (same-number _ _ e))) (grind basics)
+  | inl e ↦ subst (λ z. Has w owner z) (ap (λ n. let k : HandleNumber = record { 0 = n } in k) (same-number _ _ e)) (grind basics)
   | inr e ↦ named w owner (x.0 ∷ seen) hs (both-none _ _ none).1 h (rw e at is)
 ]
 
@@ -152,12 +152,13 @@ module _ (mine : Owner) where
   }
 
   pub spares-handle : (w : Core) (node : NodeNumber) (mode : Mode) (owner : Owner) → Spares w (with_handle w node mode owner)
-  spares-handle w node mode owner = record { each = λ q row own s. with-one w _ _ _ s }
+  spares-handle w node mode owner = record { each = λ q row own s. with-one w node mode owner s }
 
   pub unchanged : {last : ℕ} {rows : List HandleRow} {q : ℕ} {row : HandleRow} (test : HandleRow → Bool) (f : HandleRow → HandleRow)
       → ((h : HandleRow) → (f h).number ≡ h.number)
       → test row ≡ false → Stands last rows q row → Stands last (changed test f rows) q row
-  unchanged {last} {rows} {q} {row} test f same e s = rw (← (ap (λ b. if b then f row else row) e)) (stands-changed _ f same s)
+  unchanged {last} {rows} {q} {row} test f same e s = subst (λ r. Stands last (changed test f rows) q r) (ap (λ b. if b then f row else row) e)
+      (stands-changed test f same s)
 
   -- handles of a set move that aren't the owner's
   pub moved-free : {last : ℕ} {rows : List HandleRow} {q : ℕ} {row : HandleRow} (set : ℕ → Bool) (owner : Owner) → set q ≡ false → Stands last rows q row
@@ -180,7 +181,7 @@ module _ (mine : Owner) where
       → Free w (only_handle h)
   listed-free listing_error {w} there i h at = record {
     each = λ q row own s. false_from_ne_true (q == h.0) (λ e.
-        let here = ap (λ n. one (n == q)) (sym (same-number q h.0 e)) ∙ ap one (self-number q) in
+        let here : one (h.0 == q) ≡ 1 = ap (λ n. one (n == q)) (sym (same-number q h.0 e)) ∙ ap one (self-number q) in
         let most = at-most-sum (λ (x : HandleNumber). one (x.0 == q)) w.list h (i, at) in
         let (x, among, some) = counted (λ (x : HandleRow). one (is_handle q x && is_owned_by Owner.List x)) w.rows
         (omega (arith, here, most, there.listed q)) in
@@ -192,9 +193,9 @@ module _ (mine : Owner) where
       → named_fault w (Owner.Load l) seen hs ≡ None
       → (q : ℕ) (row : HandleRow) → row.owner ≡ mine → Stands w.last.handle w.rows q row → is_in (numbers_of hs) q ≡ false
   handed-free apart w l hs seen none q row own s = false_from_ne_true (is_in (numbers_of hs) q) (λ is.
-      let has = named w _ _ _ none _ is in let same = same_some _ _ (sym s.live ∙ has.live) in
-      let e = sym has.own ∙ ap (λ (x : HandleRow). x.owner) (sym same) ∙ own in
-      cc (ap (is_owner (Owner.Load l)) e ∙ apart l, self-number _))
+      let has = named w (Owner.Load l) seen hs none (record { 0 = q }) is in let same : row ≡ has.row = same_some _ _ (sym s.live ∙ has.live) in
+      let e : Owner.Load l ≡ mine = sym has.own ∙ ap (λ (x : HandleRow). x.owner) (sym same) ∙ own in
+      cc (ap (is_owner (Owner.Load l)) e ∙ apart l, self-number l.0))
 
 -- an owner of whom nothing is taken: not the asker, no value and no load; and not the list, where its entries may be taken
 pub record IsOther (me : Owner) (lists : Bool) (w : Core) (mine : Owner) : Type 0 where
@@ -248,10 +249,10 @@ module _ {me : Owner} {lists : Bool} where
   own-handle h row owns mine o = other-handle mine h row o.other owns
 
   pub load-named : (w : Core) (l : LoadNumber) (references : List ArcRef) → AreGood w (Owner.Load l) references → Ours me lists w (is_named_by references)
-  load-named w l references right mine o = named-free _ w _ _ (not-load l o.apart) right
+  load-named w l references right mine o = named-free mine w (Owner.Load l) references (not-load l o.apart) right
 
   pub own-named : (w : Core) (references : List ArcRef) → AreGood w me references → Ours me lists w (is_named_by references)
-  own-named w references right mine o = named-free _ w _ _ o.other right
+  own-named w references right mine o = named-free mine w me references o.other right
 
   pub load-owns : (w : Core) (l : LoadNumber) → Ours me lists w (is_owned_in w (Owner.Load l))
   load-owns w l mine o = grind basics
@@ -282,21 +283,21 @@ module _ {me : Owner} {lists : Bool} {Asks Leaves : Type 0} where
     rowed q spares = search (rules, goes-quiet, spares, directly, d.workers, d.others)
 
     pub handle : (node : NodeNumber) (mode : Mode) (owner : Owner) → Effect me lists Asks Leaves true c w (with_handle m node mode owner)
-    handle node mode owner = rowed (a-handle m _ _ _) (λ mine o. spares-then mine (d.spares mine o) (spares-handle mine m _ _ _))
+    handle node mode owner = rowed (a-handle m node mode owner) (λ mine o. spares-then mine (d.spares mine o) (spares-handle mine m node mode owner))
 
     pub turned : (h : HandleNumber) (mode : Mode) → is_loose mode ≡ true → Ours me lists w (only_handle h)
         → ((r : HandleRow) → find_row h.0 m.rows ≡ Some r → NotLoads r.owner) → Effect me lists Asks Leaves true c w (with_mode m h mode)
-    turned h mode is free safe = rowed (only-rows (rows-mode _ _ h _ is safe) (le-self _))
+    turned h mode is free safe = rowed (only-rows (rows-mode m.last.handle m.rows h mode is safe) (le-self _))
         (λ mine o. record {
           each = λ q row own s. let r = (d.spares mine o).each q row own s in
-              unchanged mine _ (λ x. record x { mode = mode }) (λ x. refl)
+              unchanged mine (is_handle h.0) (λ x. record x { mode = mode }) (λ x. refl)
               (ap (λ n. n == h.0) (found-number _ _ _ r.live) ∙ (free mine o).each q row own s) r;
         })
 
     pub moves : (set : ℕ → Bool) (owner : Owner) (list : List HandleNumber) → NotLoads owner → Ours me lists w set
         → Effect me lists Asks Leaves true c w (record m { rows = moved set owner m.rows; list = list })
-    moves set owner list safe free = rowed (only-rows (rows-moved _ _ _ _ safe) (le-self _))
-        (λ mine o. record { each = λ q row own s. moved-free mine _ _ ((free mine o).each q row own s) ((d.spares mine o).each q row own s) })
+    moves set owner list safe free = rowed (only-rows (rows-moved m.last.handle m.rows set owner safe) (le-self _))
+        (λ mine o. record { each = λ q row own s. moved-free mine set owner ((free mine o).each q row own s) ((d.spares mine o).each q row own s) })
 
     plainly : {cache : ℕ → ℕ → Option ℕ} {loads : ℕ → Option OpenLoad} {last : ℕ} → let x =
         record m { cache = cache; loads = loads; last = record m.last { load = last } } in
@@ -315,8 +316,8 @@ module _ {me : Owner} {lists : Bool} {Asks Leaves : Type 0} where
 
     pub cached : (kind : Kind) (key : ℕ) (n : NodeNumber) → Knows c w kind.0 key n.0 → usable w kind.0 key ≡ None
         → Effect me lists Asks Leaves true c w (with_cached m kind key n)
-    cached kind key n knows unknown = plainly (goes-known d.goes _ _ n knows) (λ k k' q p e h.
-        let was = directly k _ q p e h in record { entry = grind (basics, same-number, can-use _ q p w e h); there = was.there }) d.others
+    cached kind key n knows unknown = plainly (goes-known d.goes kind key n knows) (λ k k' q p e h.
+        let was = directly k k' q p e h in record { entry = grind (basics, same-number, can-use k' q p w e h); there = was.there }) d.others
 
     pub cached-if : (b : Bool) (kind : Kind) (key : ℕ) (n : NodeNumber) → Knows c w kind.0 key n.0 → usable w kind.0 key ≡ None
         → Effect me lists Asks Leaves true c w (if b then m else with_cached m kind key n)
@@ -340,15 +341,15 @@ module _ {me : Owner} {lists : Bool} {Asks Leaves : Type 0} where
 
   pub own-mode : NotLoads me → {c : Change} (w : Core) {fits : Mode → Bool} (h : HandleNumber) (row : HandleRow) → Owns w me h fits row → (mode : Mode)
       → is_loose mode ≡ true → Effect me lists Asks Leaves true c w (with_mode w h mode)
-  own-mode free w h row owns mode is = turned (none w) h _ is (own-handle h row owns)
-      (λ r found. rw (ap (λ (x : HandleRow). x.owner) (same_some _ _ (sym found ∙ owns.live)) ∙ owns.own) free)
+  own-mode free w h row owns mode is = turned (none w) h mode is (own-handle h row owns)
+      (λ r found. subst NotLoads (sym (ap (λ (x : HandleRow). x.owner) (same_some _ _ (sym found ∙ owns.live)) ∙ owns.own)) free)
 
   pub node : {c : Change} (w : Core) (t : ℕ) (own : OptionalDataKey) (references : List ArcRef) → Bears c t own → Ours me lists w (is_named_by references)
       → Effect me lists Asks Leaves true c w (with_node w t own references)
   node {c} w t own references bears free =
       let spares : (mine : Owner) → IsOther me lists w mine → Spares mine w (with_node w t own references) =
       λ mine o. record {
-        each = λ q row mine_is s. moved-free mine _ _
+        each = λ q row mine_is s. moved-free mine (is_named_by references) (owner_value (w.last.node + 1))
             ((free mine o).each q row mine_is s) s;
       } in
       search (rules, born, spares, entered-born)

@@ -2,20 +2,20 @@
 use Rattle.pagable_pager_spec.specs.{
   Calls.StoreCall,
   Cascade.only_handle,
-  Events.{Ends, ReadingsAre, Starts, Stays, reading_after},
+  Events.{Ends, ReadingsAre, Starts, Stays, new_walking, reading_after, with_worker},
   Kinds.is_loose,
   Loads.gone_on,
   Pager.{EventBrings, IsNewNode, IsWhole, OwnersAreThere, TodoBrings},
   Refusals.Owns,
   WorkerClaims.LeavesCache,
-  Workers.{KeySetFor, fresh, next_start},
+  Workers.{KeySetFor, fresh, next_start, without_worker},
   World.{Cell, digest},
-  declared.events.{PinStep.PinStep, TableNumber.TableNumber},
+  declared.{events.{PinStep.PinStep, TableNumber.TableNumber}, pinning.Pinning.Pinning},
 }
 use Rattle.pagable_theorems.proofs.{
   CallEffects.{begins, begins-key, call-knows, calls-go, clones, pins, schedules, stores},
   Decoding.among-left,
-  Effects.{Effect, IsApart, IsMine, Lasts, Spares, ended-free, entry, fell, held-fell, moves, no-one, none, one-then, released-free, spares-then},
+  Effects.{Effect, IsApart, IsHeldFor, IsMine, Lasts, Spares, ended-free, entry, fell, held-fell, moves, no-one, none, one-then, released-free, spares-then},
   Effects.{stays, stays-alike, stays-fell, then-alike, then-fell, with-key, worker-apart},
   HandlesKept.{Goes, KnowsNext, NotLoads, Quiet, alike, alike-away, at-updated, fell-anyhow, goes-quiet, le-self, parts, quiet-then, rows-self},
   ReadingSteps.{LoadsTodo, caller-free, feels-alike, front_reading, read-after, reading-feels, reading-knows, reading-stands},
@@ -110,17 +110,17 @@ module _ {N B W : Type 0} (m : Seen N B W) (v : ℕ) (s s' : WorkerState) where
       → KeySetFor s.core (owner_worker v) r through key told s'.core → s'.todo ≡ next → front_reading next ≡ None
       → WalkFelt m v s s' (to_set r through key height ∷ below)
   sets r through key height below next told c is other = elim c.does [
-    | inr (kind, done, a) ↦ rests _ (λ n x b. b) is (λ well. other) (stays a)
+    | inr (kind, done, a) ↦ rests next (λ n x b. b) is (λ well. other) (stays a)
     | inl (kind, call) ↦ elim call.does [
-      | inl refused ↦ rests _ (λ n x b. b) is (λ well. other) (stays refused.stays)
-      | inr (row, owns, inl (mode, done, a)) ↦ rests _ (λ n x b. b) is (λ well. other) (stays a)
+      | inl refused ↦ rests next (λ n x b. b) is (λ well. other) (stays refused.stays)
+      | inr (row, owns, inl (mode, done, a)) ↦ rests next (λ n x b. b) is (λ well. other) (stays a)
       | inr (row, owns, inr (loose, f)) ↦ let e =
-          fell (with-key _ _ _) f no-one in record {
+          fell (with-key s.core row.node key) f no-one in record {
             change = sets_key row.node.0 key;
             does = e;
             goes = e.goes;
             feels = λ front well. walk-sets r through key height below row refl (record { live = owns.live; own = owns.own; as_asked = loose })
-                (no-load s' _ is other);
+                (no-load s' next is other);
             knows = λ whole k q n known. absurd known;
           }
     ]
@@ -131,7 +131,7 @@ module _ {N B W : Type 0} (m : Seen N B W) (v : ℕ) (s s' : WorkerState) where
       c.finds.1.2 in quiet (λ n x b. b) (λ front well. no-load s' _ (t.list_is ∙ front) refl) (stays t.pager_stays)
   walk-goes (to_pin r place ∷ below) (Action.Pin i (Ok (PinStep.Pinned k))) (is, p) = rests _ (λ n x b. b) p.pins.2.list_is (λ well. refl) (elim p.pins.1 [
     | inl (row, same, clone) ↦ clones (Ok k) clone
-    | inr (row, (mid, clone, pin)) ↦ then-clone v clone (pins (works-free v) _ pin)
+    | inr (row, (mid, clone, pin)) ↦ then-clone v clone (pins (works-free v) (Ok (Pinning.Pinned k)) pin)
   ])
   walk-goes (to_pin r place ∷ below) (Action.Pin i (Ok (PinStep.LoadBegun l))) (is, p) =
       let (mid, key, clone, begin) = p.pins.1.1 in let list = p.pins.2.list_is in
@@ -139,12 +139,12 @@ module _ {N B W : Type 0} (m : Seen N B W) (v : ℕ) (s s' : WorkerState) where
       quiet (λ n x b. b) (λ front well reading e. grind basics) (then-clone v clone (begins (Ok (Beginning.Load l key)) begin))
   walk-goes (to_pin r place ∷ below) (Action.Pin i (Err f)) (is, p) = rests _ (λ n x b. b) p.refused.1.list_is (λ well. refl) (elim p.refused.0 [
     | inl clone ↦ clones (Err f) clone
-    | inr (row, (mid, through, clone, inl pin)) ↦ then-clone v clone (pins (works-free v) _ pin)
+    | inr (row, (mid, through, clone, inl pin)) ↦ then-clone v clone (pins (works-free v) (Err f) pin)
     | inr (row, (mid, through, clone, inr begin)) ↦ then-clone v clone (begins (Err f) begin)
   ])
   walk-goes (to_load r place through reading ∷ below) step does =
       let t : LoadsTodo m.values (owner_worker v) s s' reading = grind basics in
-      let f = reading-feels m _ _ (works-free v) _ _ _ _ t.does in
+      let f = reading-feels m s.core (owner_worker v) (works-free v) s'.core reading t.answer t.frames t.does in
       record {
         change = f.change;
         does = f.does;
@@ -153,14 +153,14 @@ module _ {N B W : Type 0} (m : Seen N B W) (v : ℕ) (s s' : WorkerState) where
             f.feels;
         knows = λ whole. reading-knows (f.feels whole);
       }
-  walk-goes (to_set r through key height ∷ below) (Action.SetKey i (Ok u)) (is, p) = sets r _ _ _ _ _ _ p.sets p.goes.list_is refl
-  walk-goes (to_set r through key height ∷ below) (Action.SetKey i (Err f)) (is, p) = sets r _ _ _ _ _ _ p.sets p.refused.list_is refl
+  walk-goes (to_set r through key height ∷ below) (Action.SetKey i (Ok u)) (is, p) = sets r through key height below _ (Ok u) p.sets p.goes.list_is refl
+  walk-goes (to_set r through key height ∷ below) (Action.SetKey i (Err f)) (is, p) = sets r through key height below _ (Err f) p.sets p.refused.list_is refl
   walk-goes (to_release r key height ∷ below) (Action.Release i) (is, falls, g) =
-      rests _ (λ n x b. b) g.list_is (given r key height below) (fell (none _) falls.falls
-      (λ mine o. released-free _ o.apart v o.other _ _))
+      rests _ (λ n x b. b) g.list_is (given r key height below) (fell (none s.core) falls.falls
+      (λ mine o. released-free mine o.apart v o.other s.core r.node.0))
   walk-goes (to_fail fault None ∷ below) Action.Fail (same, shelf, list_is) = rests _ (λ n x b. b) list_is (λ well. refl) (stays same)
   walk-goes (to_fail fault (Some h) ∷ below) Action.Fail ((told, c), shelf, list_is) =
-      rests _ (λ n x b. b) list_is (λ well. refl) (schedules (works-free v) h _ c)
+      rests _ (λ n x b. b) list_is (λ well. refl) (schedules (works-free v) h told c)
   walk-goes _ step does =
       let unmoved : Alike s.core s'.core → Effect (owner_worker v) false (Unit {0}) (Unit {0}) false nothing_felt s.core s'.core = stays in
       let stored : (blob : Blob) (r : Result ℕ Error) → StoreCall (digest m.values) s.core blob r s'.core
@@ -172,12 +172,13 @@ module _ {N B W : Type 0} (m : Seen N B W) (v : ℕ) (s s' : WorkerState) where
 others-work : (w : Core) (loads : ℕ → Option OpenLoad) (workers : ℕ → Bool) (worker : ℕ) → w.last.worker ≤ worker
     → ((l : ℕ) (load : OpenLoad) → loads l ≡ Some load → w.loads l ≡ Some load)
     → Quiet w (record w { loads = loads; workers = workers; last = record w.last { worker = worker } })
-others-work w loads workers worker more fewer = search (parts, le-self, rows-self)
+others-work w loads workers worker more fewer = parts (le-self _) more (λ n cell is. is) fewer (λ kind key n is. is)
+    (rows-self w.last.handle w.rows w.rows refl)
 
 pub ends-quiet : {w w' : Core} (answer : Option WorkerAnswer) (v : ℕ) → Ends answer v w w' → Quiet w w'
 ends-quiet None v e = alike e
 ends-quiet {w} (Some answer) v f =
-    quiet-then (others-work w _ _ _ (omega arith) (λ l load is. grind basics))
+    quiet-then (others-work w (without_worker w v).loads (without_worker w v).workers w.last.worker (omega arith) (λ l load is. grind basics))
     (fell-anyhow f)
 
 -- it gives up what it has: what others own stays, and what is held then was held before
@@ -185,10 +186,10 @@ pub ends-spare : (mine : Owner) → IsApart mine → (v : ℕ) → (owner_worker
     → Spares mine w m → Spares mine w w'
 ends-spare mine apart v other None e a = then-alike mine e a
 ends-spare mine apart v other (Some answer) {m = m} f a = spares-then mine a
-    (then-fell _ apart f.falls (record { each = λ q row own s. s }) (ended-free _ apart v other m))
+    (then-fell mine apart f.falls (record { each = λ q row own s. s }) (ended-free mine apart v other m))
 
 ends-last : (kind key n : ℕ) (answer : Option WorkerAnswer) (v : ℕ) {w m w' : Core} → Ends answer v m w' → Lasts kind key n w m → Lasts kind key n w w'
-ends-last kind key n None v e a = record { lasts = λ i h h'. stays-alike kind key n e (a.lasts i h (rw (← e.rows) h')) h' }
+ends-last kind key n None v e a = record { lasts = λ i h h'. stays-alike kind key n e (a.lasts i h (subst (IsHeldFor kind key n) e.rows h')) h' }
 ends-last kind key n (Some answer) v f a = record { lasts = λ i h h'. stays-fell kind key n f.falls (a.lasts i h (held-fell kind key n refl f.falls h')) h' }
 
 -- in no worker's list a load waits below what is done next
@@ -239,13 +240,13 @@ module _ {N B W : Type 0} (m : Seen N B W) (u u' : World) where
       → EventGoes m u event reply u'
   starts brings t task core v e s = record {
     change = nothing_felt;
-    goes = goes-quiet e.goes (quiet-then (others-work _ _ _ _ (omega arith) (λ l load is. is))
+    goes = goes-quiet e.goes (quiet-then (others-work core core.loads (with_worker core).workers (core.last.worker + 1) (omega arith) (λ l load is. is))
         (alike s.pager));
     spares = λ q there others.
         let a = e.spares (owner_worker q) (record { apart = worker-apart q; other = callers q; listing_error = λ yes. (refl, there) }) in
         then-alike (owner_worker q) s.pager (record { each = a.each });
     lasts = λ left kind key n. record { lasts = λ i h h'. stays-alike kind key n s.pager (e.lasts tt kind key n i h (λ f. absurd (cc))) h' };
-    feels = λ whole well. by-nothing (λ n x b. absurd (brings n x b)) (keeps-but s.readings _ _ s.work.same_walkings
+    feels = λ whole well. by-nothing (λ n x b. absurd (brings n x b)) (keeps-but s.readings v.0 (new_walking t task) s.work.same_walkings
         (λ reading is. absurd (grind (basics, started))));
     knows = λ whole leaves k q n known. absurd known;
   }
@@ -253,8 +254,8 @@ module _ {N B W : Type 0} (m : Seen N B W) (u u' : World) where
   module _ (k : WorkerNumber) (reply : WorkerReply W) (s : WorkerSteps m u k reply u') where
     now : LoadsAnew s.after → KeepsReadings u u'
     now anew =
-        let q = ends-quiet _ _ s.ends in let le = q.loads_last in
-        keeps-but s.readings _ _ s.work.same_walkings
+        let q = ends-quiet reply.answer k.0 s.ends in let le = q.loads_last in
+        keeps-but s.readings k.0 (record s.walking { todo = s.after.todo; steps = reply.steps; answer = reply.answer }) s.work.same_walkings
         (λ reading is. let a = anew reading is in let b = a.2 in (a.0, a.1, omega arith))
 
     worker-feels : (c : Change) → WalkFeels m k.0 (site_of u s.walking) s.after s.walking.todo c
@@ -280,23 +281,24 @@ module _ {N B W : Type 0} (m : Seen N B W) (u u' : World) where
 
     worker-steps : EventGoes m u (Event.WorkerStep k) (EventReply.WorkerMoved (Ok reply)) u'
     worker-steps =
-        let f = walk-goes m _ _ _ _ _ s.does.does in
+        let f = walk-goes m k.0 (site_of u s.walking) s.after s.walking.todo reply.action s.does.does in
         record {
           change = f.change;
-          goes = goes-quiet f.goes (ends-quiet _ _ s.ends);
+          goes = goes-quiet f.goes (ends-quiet reply.answer k.0 s.ends);
           spares = λ v there others.
               let other : (owner_worker k.0 ≡ owner_worker v → ⊥) = λ is. grind (basics, self-number) in
-              ends-spare _ (worker-apart v) _ other _ s.ends
+              ends-spare (owner_worker v) (worker-apart v) k.0 other reply.answer s.ends
               (f.does.spares (owner_worker v) (record { apart = worker-apart v; other = other; listing_error = λ yes. absurd (cc) }));
-          lasts = λ left kind key n. ends-last _ _ n _ _ s.ends (record { lasts = λ i h h'. f.does.lasts tt kind key n i h (λ g. h') });
-          feels = λ whole well. worker-feels _ (f.feels refl (well k.0 s.walking s.at)) whole;
+          lasts = λ left kind key n. ends-last kind key n reply.answer k.0 s.ends (record { lasts = λ i h h'. f.does.lasts tt kind key n i h (λ g. h') });
+          feels = λ whole well. worker-feels f.change (f.feels refl (well k.0 s.walking s.at)) whole;
           knows = λ whole leaves. f.knows whole.handles;
         }
 
   pub event-goes : (event : Event N B W) (reply : EventReply N B W) → KeepsOpen event → Happens m u event reply u' → EventGoes m u event reply u'
   event-goes (Event.Call call) (EventReply.CallReply r) open_still is =
       let g = calls-go m u.core Owner.Caller caller-free u'.core call r open_still is.step.does in
-      search (felt, by-call, keeps-all, call-knows)
+      felt g.does (λ left. left) (λ whole well. by-call g.change call r refl refl g.feels (keeps-all is.readings is.work.walkings))
+      (λ whole leaves. call-knows W g.feels leaves)
   event-goes (Event.LoadStep l) (EventReply.LoadMoved (Ok reply)) open_still is =
       let x = is.moves in
       let f = reading-feels m u.core Owner.Caller caller-free u'.core x.reading reply.ended x.frames x.does in

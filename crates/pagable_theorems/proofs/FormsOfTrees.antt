@@ -22,7 +22,7 @@ use Rattle.pagable_theorems.specs.{
 }
 use Rattle.pagable_value_spec.specs.{
   Canonical.{EachType, IsReadableTree},
-  Height.{kid, kind_of_kid},
+  Height.{Kid, kid, kind_of_kid},
   Merkle.{KeyOf, KeysOf, StoredAs, TreeForm, key-of, key_of_ref, kind_of_ref, more-keys, no-keys, unfolded},
   Reading.deepest,
   Trees.{IsFollowed, KeyRef, integer-followed, key_ref, none-followed, number-followed, pair-followed, pattern-followed, reference-followed, text-followed},
@@ -95,8 +95,8 @@ one-less x0 x1 = grind basics
 
 pub owned-once : {w : Core} → HandlesAreWhole w → (o : Owner) (q : ℕ) → times (λ h. is_handle q h && is_owned_by o h) w.rows ≤ 1
 owned-once {w} whole o q =
-    le_trans (sum-le (λ h. one (is_handle q h && is_owned_by o h)) (λ h. one (is_handle q h)) w.rows (λ h among. one-less _ _))
-    (rows-once q _ (λ i j a b lt at there.
+    le_trans (sum-le (λ h. one (is_handle q h && is_owned_by o h)) (λ h. one (is_handle q h)) w.rows (λ h among. one-less (is_handle q h) (is_owned_by o h)))
+    (rows-once q w.rows (λ i j a b lt at there.
     rw (get_or_from_slice_get w.rows i a a at, get_or_from_slice_get w.rows j b a there) at (whole.ordered i j a lt (slice_get_within w.rows j b there))))
 
 -- what is so of each of both lists is so of each of the one, and of the other
@@ -107,7 +107,7 @@ halves xs ys h = (λ x among. h x (among-left xs ys among.0 x among.1), λ x amo
 pub leads-on : {F : Type 0} {P Q : ArcRef → Type 0} {trees trees' : ℕ → Tree} {x : Meaning ArcRef} {a : Meaning ⊥} → LeadsBy F P trees x a
     → ((r : ArcRef) → Among (references_in x) r → P r → Q r × (trees' r.node.0 ≡ trees r.node.0)) → LeadsBy F Q trees' x a
 unfolding references_in
-leads-on (pair-leads x y a b f g) h = let p = halves _ _ h in pair-leads x y a b (leads-on f p.0) (leads-on g p.1)
+leads-on (pair-leads x y a b f g) h = let p = halves (references_in x) (references_in y) h in pair-leads x y a b (leads-on f p.0) (leads-on g p.1)
 leads-on (variant-leads i x a f) h = variant-leads i x a (leads-on f h)
 leads-on (followed-leads kind x a n f) h = followed-leads kind x a n (leads-on f h)
 leads-on (reference-leads r a p meant) h = let q = h r (zero, refl) p in reference-leads r a q.0 (ap (λ (t : Tree). t.meaning) q.1 ∙ meant)
@@ -122,7 +122,7 @@ pub stands-leads : {N E : Type 0} {v : Values N} {s : PagerState N E} {trees : �
     → LeadsBy F P trees x a
 unfolding references_in
 stands-leads (pair-stands x y a b f g) (pair-along x2 y2 a2 b2 k l) h = let p =
-    halves _ _ h in pair-leads x y a b (stands-leads f k p.0) (stands-leads g l p.1)
+    halves (references_in x) (references_in y) h in pair-leads x y a b (stands-leads f k p.0) (stands-leads g l p.1)
 stands-leads (variant-stands i x a f) (variant-along j x2 a2 k) h = variant-leads i x a (stands-leads f k h)
 stands-leads (followed-stands i x a f) (followed-along j x2 a2 n k) h = followed-leads i x a n (stands-leads f k h)
 stands-leads (reference-stands r a node) (reference-along r2 c same) h = let is = h r (zero, refl) c same a node in reference-leads r a is.0 is.1
@@ -135,7 +135,7 @@ module _ {N E : Type 0} {v : Values N} {s : PagerState N E} {trees : ℕ → Tre
       → (r.node.0 ≤ s.core.last.node) × ((b : Meaning ⊥) → NodeStands v s r.node.0 (tree (type_of r.kind.0) b) → (trees r.node.0).meaning ≡ b)
   refers n x r there among =
       let is = whole.references n x r there among in
-      let given = given-of whole.whole.handles _ is.typed in
+      let given = given-of whole.whole.handles r.node.0 is.typed in
       (given.1, λ b stands. one-node settled (represents.stands r.node.0 given.0) stands (same_some _ _ (sym (represents.typed r.node.0 given.0) ∙ is.typed)))
 
   wrote-of : (n : ℕ) (written : Written) (t : Tree) → IsReadableType v.types (trees n).type → t ≡ trees n → NodeStands v s n t → IsWrittenOf v s n written
@@ -217,7 +217,7 @@ renamed-kids : (trees : ℕ → Tree) (rs : List ArcRef) {x : Meaning ArcRef} {a
 unfolding rename unfolded
 renamed-kids trees rs (pair-leads x y a b h k) = rw (renamed-kids trees rs h, renamed-kids trees rs k) refl
 renamed-kids trees rs (variant-leads i x a h) = rw (renamed-kids trees rs h) refl
-renamed-kids trees rs (reference-leads r a among is) = ap (λ (m : Meaning ⊥). let z = reference (kid r.kind.0 m) in z) is
+renamed-kids trees rs (reference-leads r a among is) = ap (λ (m : Meaning ⊥). let z : Meaning Kid = reference (kid r.kind.0 m) in z) is
 renamed-kids trees rs (followed-leads kind x a none h) = absurd none
 renamed-kids trees rs _ = refl
 
@@ -227,7 +227,8 @@ pub tree-form : {types : Types} {g : Ground} {n : ℕ} {written : Written} → (
 tree-form {types} {g} {n} {written} w =
     let f = keeps_forms (λ (r : ArcRef). kid r.kind.0 (g.trees r.node.0).meaning) kind_of_arc kind_of_kid types.parts deepest w.shape w.own written.bytes
     written.references (λ r. refl) w.form in
-    rw (← (renamed-kids _ _ w.follows)) f
+    subst (λ m. Form Kid kind_of_kid types.parts deepest w.shape m written.bytes (kids_of g.trees written.references))
+    (renamed-kids g.trees written.references w.follows) f
 
 -- the types of all that it leads to are read back, where those of its references' trees are
 followed-read : (types : Types) {trees : ℕ → Tree} (rs : List ArcRef) {x : Meaning ArcRef} {a : Meaning ⊥} → FollowsTo trees rs x a
@@ -236,7 +237,7 @@ unfolding EachType
 followed-read types rs (pair-leads x y a b f g) h = (followed-read types rs f h, followed-read types rs g h)
 followed-read types rs (variant-leads i x a f) h = followed-read types rs f h
 followed-read types rs (reference-leads r a among is) h =
-    let (typed, can) = h r among in (rw (← typed) can.0, rw (← is) can.1)
+    let (typed, can) = h r among in (subst (IsReadableType types) typed can.0, subst (EachType (IsReadableType types)) is can.1)
 followed-read types rs (followed-leads kind x a none f) h = absurd none
 followed-read types rs _ h = tt
 
@@ -249,21 +250,21 @@ pub key-stands : {N : Type 0} {v : Values N} {g : Ground} {shelf : Shelf} {n key
 key-stands {v = v} {g} {shelf} {n} {key} {written} keys right w known is_stored is =
     let form = keeps_forms (keyed_by shelf) kind_of_arc kind_of_ref v.types.parts deepest w.shape w.own written.bytes written.references (λ r. refl) w.form in
     let is_key : KeyOf v.hash v.types (g.trees n) key =
-    rw is (key-of (g.trees n) w.shape written.bytes (kids_of g.trees written.references) keys w.is (tree-form w) (keys-of right _ _ known))
+    rw is (key-of (g.trees n) w.shape written.bytes (kids_of g.trees written.references) keys w.is (tree-form w) (keys-of right written.references keys known))
     in
-    let all =
-    followed-read _ _ w.follows (λ r among. let p = (known-of _ _ _ known r among).1 in
+    let all : EachType (IsReadableType v.types) (g.trees n).meaning =
+    followed-read v.types written.references w.follows (λ r among. let p = (known-of shelf written.references keys known r among).1 in
     let i = right (identity_of r) _ p.0 p.1 in
     (i.typed, i.right.can)) in
     let spells : StoredAs g.stored v.types (g.trees n).type key (rename (keyed_by shelf) w.own) =
-    search (w.is, form, is_stored ∙ ap (λ ks. Some (blob_of written.bytes ks)) (keys-are _ _ _ known)) in
+    search (w.is, form, is_stored ∙ ap (λ ks. Some (blob_of written.bytes ks)) (keys-are shelf written.references keys known)) in
     record {
       is_key = is_key;
       stands = record {
         own = rename
             (keyed_by shelf) w.own;
         stands = spells;
-        follows = follows-keys right _ _ known w.follows;
+        follows = follows-keys right written.references keys known w.follows;
       };
       can = (w.can, all);
     }

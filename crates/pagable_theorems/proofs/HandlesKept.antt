@@ -6,7 +6,7 @@ use Rattle.pagable_pager_spec.specs.{
   Calls.{row_of, with_cached, with_key, with_mode, with_node},
   Cascade.{AreNewEntries, Falls, FallsAnyhow, fallen, is_keyed, left_rows},
   Kinds.{is_loose, is_pin},
-  LoadCalls.{EndCall, is_owned_in, with_load, with_pin},
+  LoadCalls.{EndCall, is_owned_in, with_load, with_pin, without_load},
   Refusals.reference_fault,
   World.{Cell, Root},
   declared.{events.PinStep.PinStep, pinning.Pinning.Pinning},
@@ -56,7 +56,7 @@ next-above q last next = omega arith
 pub rows-self : (last : ℕ) (rows rows' : List HandleRow) → rows' ≡ rows → RowsGo last rows rows'
 rows-self last rows rows' same q row found few = record {
   was = row;
-  live = rw (← same) found;
+  live = subst (λ r. find_row q r ≡ Some row) same found;
   at = refl;
   mine = λ l is. refl;
   loose = λ is. is;
@@ -140,7 +140,7 @@ pub parts : {w : Core} {rows : List HandleRow} {list : List HandleNumber} {cells
 parts {w} handles workers cells loads cache go = grind (arith, le-self)
 
 pub quiet-self : (w : Core) → Quiet w w
-quiet-self w = parts (le-self _) (le-self _) (λ n cell is. is) (λ l load is. is) (λ kind key n is. is) (rows-self _ _ _ refl)
+quiet-self w = parts (le-self _) (le-self _) (λ n cell is. is) (λ l load is. is) (λ kind key n is. is) (rows-self w.last.handle w.rows w.rows refl)
 
 pub only-rows : {w : Core} {rows : List HandleRow} {list : List HandleNumber} {last : ℕ} → RowsGo w.last.handle w.rows rows → w.last.handle ≤ last
     → Quiet w (record w { rows = rows; list = list; last = record w.last { handle = last } })
@@ -149,16 +149,16 @@ only-rows go le = parts le (le-self _) (λ n cell is. is) (λ l load is. is) (λ
 pub fell : {before w w' : Core} {given : ℕ → Bool} {r : _} → Falls before w given r w' → Quiet w w'
 fell {w = w} f = quiet-then {m = fallen w f.gone f.entries}
     (parts (le-more _ _) (le-self _) (λ n cell is. grind basics) (λ l load is. is) (λ kind key n is. is)
-    (rows-then _ _ _ _ _ (le-of _ _ refl)
+    (rows-then w.last.handle w.last.handle w.rows (left_rows f.gone w.rows) _ (le-of _ _ refl)
     (λ q row found few. record { was = row; live = grind (basics, find-left f.gone q w.rows); at = refl; mine = λ l is. refl; loose = λ is. is })
-    (rows-more _ _ _ (λ q few. none-in-new _ q _ f.new few)))) (alike f.leaves)
+    (rows-more w.last.handle (left_rows f.gone w.rows) f.entries (λ q few. none-in-new w.last.handle q f.entries f.new few)))) (alike f.leaves)
 
 pub fell-anyhow : {before w w' : Core} {given : ℕ → Bool} → FallsAnyhow before w given w' → Quiet w w'
 fell-anyhow f = fell f.falls
 
 pub a-handle : (w : Core) (node : NodeNumber) (mode : Mode) (owner : Owner) → Quiet w (with_handle w node mode owner)
-a-handle w node mode owner = only-rows (rows-more _ _ _
-    (λ q few. none-in-next _ q _ refl few)) (le-more _ _)
+a-handle w node mode owner = only-rows (rows-more w.last.handle w.rows _
+    (λ q few. none-in-next w.last.handle q (row_of (w.last.handle + 1) node mode owner) refl few)) (le-more _ _)
 
 pub quiet-goes : (c : Change) {w w' : Core} → Quiet w w' → Goes c w w'
 quiet-goes c q = grind arith
@@ -197,7 +197,7 @@ pub goes-then : {w m w' : Core} → Goes nothing_felt w m → Goes nothing_felt 
 goes-then {w} {m} {w'} a b =
     let cells : (n : ℕ) (cell : Cell) → w'.cells n ≡ Some cell → Kept nothing_felt w n cell
     ⊎ ((n ≡ w.last.node + 1) × Bears nothing_felt cell.node_type cell.key) =
-    λ n cell is. inl (record { was = cell; live = was-there a n _ (was-there b n _ is); typed = refl; key = inl refl }) in
+    λ n cell is. inl (record { was = cell; live = was-there a n cell (was-there b n cell is); typed = refl; key = inl refl }) in
     let begins : (load : OpenLoad) → BeginsWell m load → BeginsWell w load =
     λ load well node t h root. grind (basics, well node t h root, was-there a node.0) in
     let loads : (l : ℕ) (load : OpenLoad) → w'.loads l ≡ Some load → (w.loads l ≡ Some load) ⊎ ((w.last.load < l) × BeginsWell w load) = λ l load is.
@@ -215,7 +215,7 @@ pub adopts : (w : Core) (l : LoadNumber) (kind : Kind) (key : ℕ) (own : Option
 adopts w l kind key own references =
     let made = goes-quiet (born (bears_known kind.0 key own) w (type_of kind.0) own references (refl, refl))
     (a-handle _ (next_node w) (mode_of kind.0) (Owner.Load l)) in
-    grind (basics, goes-known made _ _ _ (refl, refl, refl))
+    grind (basics, goes-known made kind key (next_node w) (refl, refl, refl))
 
 abbrev pub NotValues : Owner → Type 0
 NotValues o = (n : NodeNumber) → o ≡ Owner.Value n → ⊥
@@ -252,7 +252,7 @@ stands-whole {w} whole q row found =
     record {
       live = found;
       only = λ h there is. once w.rows whole.ordered h row there among (is ∙ sym number);
-      given = rw (← number) (whole.numbered row among).1;
+      given = subst (λ n. n ≤ w.last.handle) number (whole.numbered row among).1;
     }
 
 pub record Has (w : Core) (owner : Owner) (h : HandleNumber) : Type 0 where
@@ -261,10 +261,11 @@ pub record Has (w : Core) (owner : Owner) (h : HandleNumber) : Type 0 where
   pub own : row.owner ≡ owner
 
 pub has-alike : {w w' : Core} {owner : Owner} {h : HandleNumber} → Alike w w' → Has w owner h → Has w' owner h
-has-alike {h = h} a has = record { row = has.row; live = rw a.rows has.live; own = has.own }
+has-alike {h = h} a has = record { row = has.row; live = subst (λ rows. find_row h.0 rows ≡ Some has.row) (sym a.rows) has.live; own = has.own }
 
 pub stands-alike : {w w' : Core} {q : ℕ} {row : HandleRow} → Alike w w' → Stands w.last.handle w.rows q row → Stands w'.last.handle w'.rows q row
-stands-alike {w} {w'} {q} {row} a s = rw (ap (λ (l : Last). l.handle) a.last) (rw a.rows s)
+stands-alike {w} {w'} {q} {row} a s = subst (λ l. Stands l w'.rows q row) (sym (ap (λ (l : Last). l.handle) a.last))
+    (subst (λ rows. Stands w.last.handle rows q row) (sym a.rows) s)
 
 module _ (test : HandleRow → Bool) (f : HandleRow → HandleRow) (same : (h : HandleRow) → (f h).number ≡ h.number) where
   abbrev after : HandleRow → HandleRow
@@ -282,7 +283,7 @@ module _ (test : HandleRow → Bool) (f : HandleRow → HandleRow) (same : (h : 
   stands-changed {last} {rows} {q} {row} s =
       let only : (h : HandleRow) → Among (changed test f rows) h → h.number.0 ≡ q → h ≡ after row = λ h among is.
       let a = among-changed after rows h among in grind (basics, after-number a.0, s.only a.0 a.1) in
-      record { live = found-after q _ _ s.live; only = only; given = s.given }
+      record { live = found-after q rows row s.live; only = only; given = s.given }
 
 -- where rows of greater numbers come; and such a row itself
 pub stands-more : {last more_last : ℕ} {rows : List HandleRow} {q : ℕ} {row : HandleRow} (more : List HandleRow) → last ≤ more_last → find_row q more ≡ None
@@ -290,19 +291,19 @@ pub stands-more : {last more_last : ℕ} {rows : List HandleRow} {q : ℕ} {row 
     → Stands more_last (rows ++ more) q row
 stands-more {last} {more_last} {rows} {q} {row} more le none s =
     let only : (h : HandleRow) → Among (rows ++ more) h → h.number.0 ≡ q → h ≡ row = λ h (i, at) is.
-    elim (among-either _ _ i h at) [ inl a ↦ s.only h a is | inr b ↦ absurd (none-found q _ h none b is) ] in
-    let g = s.given in record { live = find-both q _ _ ∙ ap (λ x. or_else x (find_row q more)) s.live; only = only; given = omega arith }
+    elim (among-either rows more i h at) [ inl a ↦ s.only h a is | inr b ↦ absurd (none-found q more h none b is) ] in
+    let g = s.given in record { live = find-both q rows more ∙ ap (λ x. or_else x (find_row q more)) s.live; only = only; given = omega arith }
 
 pub stands-new : (last : ℕ) (rows : List HandleRow) (row : HandleRow) → AreUpTo last rows → row.number.0 ≡ last + 1
     → Stands (last + 1) (rows ++ row ∷ []) row.number.0 row
 unfolding find_row
 stands-new last rows row few next =
-    let none = none-above _ _ _ few (omega arith) in
+    let none = none-above last row.number.0 rows few (omega arith) in
     record {
       live = find-both row.number.0 rows (row ∷ []) ∙ (ap (λ x. or_else x (find_row row.number.0 (row ∷ []))) none
           ∙ (let e = self-number row.number.0 in rw e refl));
       only = λ h (i, at) is. elim (among-either rows (row ∷ []) i h at) [
-        | inl a ↦ absurd (none-found _ _ h none a is)
+        | inl a ↦ absurd (none-found row.number.0 rows h none a is)
         | inr b ↦ only-one row h b
       ];
       given = omega arith;
@@ -315,7 +316,7 @@ pub stands-left : {before w w' : Core} {given : ℕ → Bool} {r : _} (f : Falls
 stands-left {w = w} f {q} {row} kept s =
     let left : Stands w.last.handle (left_rows f.gone w.rows) q row =
     record { live = find-left f.gone q w.rows ∙ (rw kept s.live); only = λ h a is. s.only h (among-left _ w.rows h a).0 is; given = s.given } in
-    search (stands-alike, stands-more, le-more, none-in-new)
+    stands-alike {w = fallen w f.gone f.entries} f.leaves (stands-more f.entries (le-more _ _) (none-in-new w.last.handle q f.entries f.new s.given) left)
 
 pub stands-fell : {before w w' : Core} {given : ℕ → Bool} {r : _} {q : ℕ} {row : HandleRow} → Falls before w given r w' → NotValues row.owner → given q ≡ false
     → Stands w.last.handle w.rows q row → Stands w'.last.handle w'.rows q row
@@ -381,11 +382,11 @@ pub low-changed : (last : ℕ) (rows : List HandleRow) (test : HandleRow → Boo
     → AreUpTo last rows → AreUpTo last (changed test f rows)
 low-changed last rows test f same low h among =
     let a = among-changed (λ h. if test h then f h else h) rows h among in
-    rw (ap (λ (r : HandleRow). r.number) a.2 ∙ after-number test f same _) (low a.0 a.1)
+    subst (λ (k : HandleNumber). k.0 ≤ last) (sym (ap (λ (r : HandleRow). r.number) a.2 ∙ after-number test f same a.0)) (low a.0 a.1)
 
 pub new-handle : (w : Core) (node : NodeNumber) (mode : Mode) (owner : Owner) → AreLow w
     → Stands (w.last.handle + 1) (w.rows ++ row_of (w.last.handle + 1) node mode owner ∷ []) (w.last.handle + 1) (row_of (w.last.handle + 1) node mode owner)
-new-handle w node mode owner low = stands-new _ _ _ low refl
+new-handle w node mode owner low = stands-new w.last.handle w.rows (row_of (w.last.handle + 1) node mode owner) low refl
 
 -- the handle is its owner's, and pins this node
 pub record PinOf (w : Core) (me : Owner) (node : NodeNumber) (k : HandleNumber) : Type 0 where
@@ -396,7 +397,7 @@ pub record PinOf (w : Core) (me : Owner) (node : NodeNumber) (k : HandleNumber) 
 pub pins-by : {last : ℕ} (w : Core) {row : HandleRow} (k : HandleNumber) (q : ℕ) → k.0 ≡ q → Stands last w.rows q row → is_pinning row.mode ≡ true
     → PinOf w row.owner row.node k
 pins-by w {row = row} k q is s pins = record {
-  pin = record { row = row; live = rw is s.live; is = pins };
+  pin = record { row = row; live = subst (λ n. find_row n w.rows ≡ Some row) (sym is) s.live; is = pins };
   own = refl;
   at = refl;
 }
@@ -404,13 +405,13 @@ pins-by w {row = row} k q is s pins = record {
 -- the pin that is made of a loose handle
 pinned-new : (u : Core) (h : HandleNumber) (node : NodeNumber) (me : Owner) → AreLow u
     → Stands (with_pin u h node me).last.handle (with_pin u h node me).rows (u.last.handle + 1) (row_of (u.last.handle + 1) node Mode.Pinned me)
-pinned-new u h node me low = new-handle (with_mode u h Mode.LoosePinned) _ _ _
-    (low-changed _ _ _ (λ r. record r { mode = Mode.LoosePinned }) (λ r. refl) low)
+pinned-new u h node me low = new-handle (with_mode u h Mode.LoosePinned) node Mode.Pinned me
+    (low-changed u.last.handle u.rows (is_handle h.0) (λ r. record r { mode = Mode.LoosePinned }) (λ r. refl) low)
 
 module _ (w w' : Core) (low : AreLow w) where
   pub pin-call : (me : Owner) (h k : HandleNumber) (c : PinCall w me h (Ok (Pinning.Pinned k)) w') → PinOf w' me c.pins.0.node k
-  pin-call me h k c = pins-by _ k _ c.pins.2.1.above (stands-alike {w = with_pin w h c.pins.0.node me} c.pins.2.2
-      (pinned-new w h _ _ low)) refl
+  pin-call me h k c = pins-by w' k (w.last.handle + 1) c.pins.2.1.above (stands-alike {w = with_pin w h c.pins.0.node me} c.pins.2.2
+      (pinned-new w h c.pins.0.node me low)) refl
 
   pub clone-call : (me : Owner) (h k : HandleNumber) → CloneCall w me h (Ok k) w'
       → (row : HandleRow) × (row_at w h ≡ Some row) × Stands w'.last.handle w'.rows (w.last.handle + 1) (row_of (w.last.handle + 1) row.node row.mode me)
@@ -424,8 +425,8 @@ module _ (w w' : Core) (low : AreLow w) where
       ≡ w.last.handle
       → k.0 ≡ w.last.handle + 1 → given (w.last.handle + 1) ≡ false → FallsAnyhow w (with_pin u h node me) given w' → PinOf w' me node k
   pin-stays u h node me k given free low' same next kept f =
-      let q = ap (λ n. n + 1) same in
-      pins-by _ k _ (next ∙ sym q) (stands-fell f.falls free (ap given q ∙ kept) (pinned-new u h _ _ low')) refl
+      let q : u.last.handle + 1 ≡ w.last.handle + 1 = ap (λ n. n + 1) same in
+      pins-by w' k (u.last.handle + 1) (next ∙ sym q) (stands-fell f.falls free (ap given q ∙ kept) (pinned-new u h node me low')) refl
 
   pub end-call : {N : Type 0} (me : Owner) (l : LoadNumber) (x : N) (t : ℕ) (references : List ArcRef) (k : HandleNumber) → NotValues me
       → (c : EndCall w me l x t references (Ok k) w')
@@ -433,11 +434,11 @@ module _ (w w' : Core) (low : AreLow w) where
   end-call me l x t references k free c =
       let (node, h, may, i) = c.installs in
       elim i.falls [
-        | inl (away, f) ↦ pin-stays _ h _ _ k _ free
-            (low-changed _ _ (λ r. is_named_by references r.number.0) (λ r. record r { owner = Owner.Value node }) (λ r. refl) low) refl
+        | inl (away, f) ↦ pin-stays (record (without_load w l) { rows = moved (is_named_by references) (Owner.Value node) w.rows }) h node me k _ free
+            (low-changed w.last.handle w.rows (λ r. is_named_by references r.number.0) (λ r. record r { owner = Owner.Value node }) (λ r. refl) low) refl
             i.next.above
             (ap (λ b. b && not (is_named_by references (w.last.handle + 1))) (owned-none l)) f
-        | inr (there, f) ↦ pin-stays _ h _ _ k _ free low refl i.next.above (owned-none l) f
+        | inr (there, f) ↦ pin-stays (without_load w l) h node me k (is_owned_in w (Owner.Load l)) free low refl i.next.above (owned-none l) f
       ]
 
 pub not-loose : (mode : Mode) → is_loose mode ≡ false → is_pinning mode ≡ true
@@ -445,8 +446,8 @@ not-loose x0 is = grind basics
 
 pub low-handle : (w m : Core) (node : NodeNumber) (mode : Mode) (owner : Owner) → AreLow w → Alike (with_handle w node mode owner) m → AreLow m
 low-handle w m node mode owner low a h among =
-    let there = rw a.rows at among in
-    grind (basics, among-either w.rows (row_of (w.last.handle + 1) node _ _ ∷ []) there.0 h there.1, only-one, low h)
+    let there = subst (λ rows. Among rows h) a.rows among in
+    grind (basics, among-either w.rows (row_of (w.last.handle + 1) node mode owner ∷ []) there.0 h there.1, only-one, low h)
 
 module _ {N B W : Type 0} (m : Seen N B W) (v : ℕ) (s s' : WorkerState) (low : AreLow s.core) where
   held : (todo : List Todo) (i : Identity) (k : HandleNumber) → workers.WorkDoes m v s todo (Action.Pin i (Ok (PinStep.Pinned k))) s'
@@ -454,14 +455,14 @@ module _ {N B W : Type 0} (m : Seen N B W) (v : ℕ) (s s' : WorkerState) (low :
   held (to_pin r place ∷ below) i k (is, p) = (
     elim p.pins.1 [
       | inl (sort, same, clone) ↦
-          let c = clone-call _ _ low _ _ k clone in
+          let c = clone-call s.core s'.core low (owner_worker v) r.handle k clone in
           (pins-by s'.core k (s.core.last.handle + 1) clone.made.2.above c.2 (not-loose c.0.mode (rw (same_some _ _ (sym sort.live ∙ c.1)) at sort.sort))).pin
       | inr (sort, (mid, clone, pin)) ↦ (pin-call mid s'.core (low-handle s.core mid _ _ _ low clone.made.3) (owner_worker v) p.pins.0 k pin).pin
     ],
     refl,
   )
   held (to_load r place through reading ∷ below) i k (is, p) =
-      let e = p.goes.0.does.0 in ((end-call s.core s'.core low _ _ e.x _ _ k (λ n is. absurd (cc)) e.ended).pin, refl)
+      let e = p.goes.0.does.0 in ((end-call s.core s'.core low (owner_worker v) reading.load e.x _ _ k (λ n is. absurd (cc)) e.ended).pin, refl)
   held _ i k does = absurd does
 
 -- each pin of an event that answers one

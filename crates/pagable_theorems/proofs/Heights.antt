@@ -55,13 +55,13 @@ one-more got g refs d c same (one-left done left q is kinds) = one-left (d ∷ d
 looks : (front back : List ArcRef) (refs : List KeyRef) → (c : Result (List Answer) Error) × LookupOf front back refs c × Ends back refs c
 unfolding answers_from
 looks front back [] = (Ok [], all-looked [], all-there [])
-looks front [] (d ∷ refs) = (_, looked-none front _ d.key _ _, one-left [] refs d refl refl)
+looks front [] (d ∷ refs) = (_, looked-none front d.kind d.key _ _, one-left [] refs d refl refl)
 looks front (g ∷ back) (d ∷ refs) = elim (cases_Bool (g.kind.0 == d.kind)) [
   | inl e ↦
       let same = same-number g.kind.0 d.kind e in
       let (c, tail, ends) = looks (front ++ g ∷ []) back refs in
-      (c, looked-more front g _ _ d.key _ _ c same tail, one-more _ g _ d c same ends)
-  | inr e ↦ (Err Error.WrongKind, looked-another front g _ d _ e, of-another)
+      (c, looked-more front g back d.kind d.key _ _ c same tail, one-more back g refs d c same ends)
+  | inr e ↦ (Err Error.WrongKind, looked-another front g back d refs e, of-another)
 ]
 
 -- it is read, or one of its references is asked for, or one of another kind was got
@@ -76,7 +76,7 @@ key-there (d ∷ done) left q = key-there done left q
 
 ref-there : (done left : List KeyRef) (q : KeyRef) → Among (done ++ q ∷ left) q
 ref-there [] left q = (zero, refl)
-ref-there (d ∷ done) left q = let a = ref-there done _ q in (suc a.0, a.1)
+ref-there (d ∷ done) left q = let a = ref-there done left q in (suc a.0, a.1)
 
 bound-ok : {X Y : Type 0} (r : Result X Error) (f : X → Y) (y : Y) → (r >>= λ x. Ok (f x)) ≡ Ok y → (x : X) × (r ≡ Ok x)
 bound-ok (Ok x) f y is = (x, refl)
@@ -125,9 +125,9 @@ module _ (types : Types) {store : ℕ → Option Blob} {t key : ℕ} {own : Mean
       → next_of types t blob got ≡ asks (record { 0 = q.kind }) q.key
   asked-so got done left q split kinds is =
       let kind = λ (r : ArcRef). r.kind.0 in
-      let gotten : length got ≡ length done = sym (length-map got kind) ∙ ap length kinds ∙ length-map done _ in
+      let gotten : length got ≡ length done = sym (length-map got kind) ∙ ap length kinds ∙ length-map done kind_of_ref in
       let there : slice_get blob.keys (length got) ≡ Some q.key = ap (slice_get blob.keys) gotten ∙ ap (λ (rs : List KeyRef). slice_get (map key_of_ref rs)
-      (length done)) split ∙ key-there done _ q in
+      (length done)) split ∙ key-there done left q in
       next-so got _ is ∙ ap (λ o. next_by o (Err (Error.Storage q.kind))) there
 
   by-ends : (got : List ArcRef) (c : Result (List Answer) Error) → Ends got h.refs c
@@ -230,7 +230,7 @@ module _ {store : ℕ → Option Blob} {types : Types} where
       → (u last : ℕ) × LeadsDown types store t key n u last × ((blob : Blob) × (store last ≡ Some blob))
   goes-deep zero t key a path s can = (t, key, is-there t key, (_, s.stands.stored))
   goes-deep (suc n) t key a path s can =
-      let f = first-of _ n s.follows can.1 path (references-among (can.0 s.stands.shape s.stands.is) s.stands.form).1 in
+      let f = first-of s.stands.refs n s.follows can.1 path (references-among (can.0 s.stands.shape s.stands.is) s.stands.form).1 in
       let (done, left, split) = split-at s.stands.refs f.r f.among in
       let next = next-asked types s.stands can.0 done left f.r split in
       let (u, last, down, there) = goes-deep n (type_of f.r.kind) f.r.key f.m f.path f.stored f.can in (
@@ -244,7 +244,7 @@ module _ {store : ℕ → Option Blob} {types : Types} where
 pub depth_is_height : DepthIsHeight
 depth_is_height types store t key can s = (
   λ d.
-      let (b, there, read, few) = comes-down d.down _ s can in
+      let (b, there, read, few) = comes-down d.down t.meaning s can in
       elim d.deep [
         | inl long ↦ omega arith
         | inr (kinds, faulty) ↦
@@ -257,6 +257,6 @@ depth_is_height types store t key can s = (
             ])
       ],
   λ high.
-      let (u, last, down, (blob, there)) = goes-deep _ _ _ _ ((longest_path _ _).1 (omega arith)) s can in
+      let (u, last, down, (blob, there)) = goes-deep (suc limit) t.type key t.meaning ((longest_path t.meaning (suc limit)).1 (omega arith)) s can in
       record { n = suc limit; last_type = u; last = last; blob = blob; down = down; is = there; deep = inl (omega arith) },
 )

@@ -3,7 +3,7 @@ use Rattle.pagable_pager_spec.specs.{
   Basics.longest_path,
   Events.{LoadSteps, reading_at},
   LoadCalls.{LazyCall, LoadFetchCall, ask_fault, is_known, node_fault},
-  Loads.{Fails, IsDecoded, IsOfKey, RefusesNode, RefusesRoot, asks, is_broken, need_of, needs_lazy, needs_nested, reads},
+  Loads.{Fails, IsDecoded, IsOfKey, LoadDoes, RefusesNode, RefusesRoot, asks, is_broken, need_of, needs_lazy, needs_nested, reads},
   Refusals.{AreHandlesFull, Refused, earlier, handle_fault, load_fault, reference_fault, refused_if, row_fault, where_so},
   Rightness.AreKeysOf,
   WorkerClaims.{IsLoadOfPagedOut, IsOfChance, IsPagedOutAs},
@@ -67,7 +67,7 @@ module _ {N E : Type 0} (v : Values N) (s : MachineState N E) (trees : ℕ → T
         subst (IsReadableType v.types)
             (sym typed) w.can w.shape there,
         w.form,
-        as-many-keys _ _ _ b.2.known,
+        as-many-keys shelf written.references b.2.keys b.2.known,
         w.once,
       ) in
       search (
@@ -184,7 +184,7 @@ only-node P w kind key p e is = grind (basics, only-if P, only-earlier {P = P})
 
 pub only-refused : {P : Error → Type 0} {cause before : Option Error} {full : Type 0} {w w' : Core} (e : Error) → Refused cause before full w e w'
     → Only P cause → P Error.OutOfMemory → P e
-only-refused {P} e r by memory = elim r.why [ inl is ↦ by e is | inr wanting ↦ rw wanting.0 memory ]
+only-refused {P} e r by memory = elim r.why [ inl is ↦ by e is | inr wanting ↦ subst P (sym wanting.0) memory ]
 
 never : (b : Bool) (f e : Error) → b ≡ false → refused_if b f ≡ Some e → ⊥
 never _ f e is so = cc
@@ -207,13 +207,13 @@ module _ {N E : Type 0} (v : Values N) (s : MachineState N E) (trees : ℕ → T
     out = paged.4
 
     number : reading.load ≡ l
-    number = reading-number s on.whole l _ at
+    number = reading-number s on.whole l reading at
 
     going : Going v s.pager trees reading
-    going = going-of s _ on.readings _ (reading-stands _ on.whole.pager.whole l _ at)
+    going = going-of s trees on.readings reading (reading-stands (world_of s) on.whole.pager.whole l reading at)
 
     fits : FramesFit v.types w.stored trees load.key reading.node_type reading.frames
-    fits = going.fits load (reading-open s on.whole l _ at open_load)
+    fits = going.fits load (reading-open s on.whole l reading at open_load)
 
     of-type : reading.node_type ≡ paged.1
     of-type =
@@ -223,7 +223,7 @@ module _ {N E : Type 0} (v : Values N) (s : MachineState N E) (trees : ℕ → T
 
     -- the tree that it reads
     typed : (trees out.i.node.0).type ≡ reading.node_type
-    typed = let r = on.stands.pager.loads l.0 load _ _ paged.2 open_load paged.3 in ap (λ n. (trees n).type) out.of_node ∙ r.typed ∙ sym of-type
+    typed = let r = on.stands.pager.loads l.0 load paged.0 paged.1 paged.2 open_load paged.3 in ap (λ n. (trees n).type) out.of_node ∙ r.typed ∙ sym of-type
 
     found : (blob : Blob) × (w.stored load.key ≡ Some blob)
     found = let b = (on.fits.slots out.t out.i out.known.slot out.known.claimed).publishes load.key out.height out.known.known in (_, b.2.is_stored)
@@ -236,14 +236,14 @@ module _ {N E : Type 0} (v : Values N) (s : MachineState N E) (trees : ℕ → T
 
     need-there : (kind : Kind) (key : ℕ) → Needs v.types reading.frames kind key → (blob : Blob) × (w.stored key ≡ Some blob)
         × (is_eager kind.0 ≡ true → length reading.frames ≤ longest_path)
-    need-there = needed v s _ on.fits out.t _ _ _ _ out.known typed _ fits going.asked
+    need-there = needed v s trees on.fits out.t load.key reading.node_type out.i out.height out.known typed reading.frames fits going.asked
 
     front : (frames : List Frame) (kind : Kind) (key : ℕ) → need_of v.types frames ≡ needs_nested kind key → is_eager kind.0 ≡ true
     front x0 kind key is = grind (basics, eager-nested)
 
     form-of : (frame : Frame) (below : List Frame) → reading.frames ≡ frame ∷ below → (x : N) → IsDecoded v frame x → IsForm v frame
-    form-of frame below is x decoded = formed v s _ on.fits out.t _ _ _ _ out.known typed _ _
-        (subst (λ fs. FramesFit v.types w.stored trees load.key reading.node_type fs) is fits) (subst (λ fs. FramesAsked v.types fs) is going.asked) _
+    form-of frame below is x decoded = formed v s trees on.fits out.t load.key reading.node_type out.i out.height out.known typed frame below
+        (subst (λ fs. FramesFit v.types w.stored trees load.key reading.node_type fs) is fits) (subst (λ fs. FramesAsked v.types fs) is going.asked) decoded.own
         decoded.read
 
     ask-chance : (want : FetchTarget) (mid : Core) (e : Error)
@@ -261,8 +261,8 @@ module _ {N E : Type 0} (v : Values N) (s : MachineState N E) (trees : ℕ → T
     of-lazy : (mid : Core) (e : Error) (kind : Kind) (key : ℕ) → need_of v.types reading.frames ≡ needs_lazy kind key
         → LazyCall w Owner.Caller reading.load kind key (Err e) mid → IsOfChance e
     of-lazy mid e kind key needs c = only-refused {P = IsOfChance} e c.refused
-        (only-earlier _ _ (no-load-fault _) (only-earlier _ _ (λ f so. absurd (never _ _ f (grind basics) so))
-        (only-node _ w _ _ tt))) tt
+        (only-earlier _ _ (no-load-fault _) (only-earlier _ _ (λ f so. absurd (never _ Error.WrongKind f (grind basics) so))
+        (only-node IsOfChance w kind key tt))) tt
 
     of-node : (mid : Core) (e : Error) → RefusesNode v w Owner.Caller reading e mid → C e
     unfolding FramesFit FramesAsked
@@ -270,9 +270,9 @@ module _ {N E : Type 0} (v : Values N) (s : MachineState N E) (trees : ℕ → T
         let n = r.reads_node in
         let right : (is_eager n.top.kind.0 ≡ true) × (n.top.node_type ≡ type_of n.top.kind.0) = grind (basics, fits, going, adopted-over) in
         only-refused {P = C} e r.adopted.refused.1 (only-earlier _ _ (no-load-fault _)
-        (only-earlier _ _ (λ f so. absurd (never _ _ f (grind basics) so))
-        (only-earlier _ _ (λ f so. absurd (never _ _ f (ap (λ x. not (x == (type_of n.top.kind.0))) (n.decoded.typed ∙ right.1)
-        ∙ ap not (self-number _)) so))
+        (only-earlier _ _ (λ f so. absurd (never _ Error.WrongMode f (grind basics) so))
+        (only-earlier _ _ (λ f so. absurd (never _ Error.WrongKind f (ap (λ x. not (x == (type_of n.top.kind.0))) (n.decoded.typed ∙ right.1)
+        ∙ ap not (self-number (type_of n.top.kind.0))) so))
         (only-earlier _ _ (λ f a. by-references n.top n.below r.x n.frames n.decoded (form-of n.top n.below n.frames r.x n.decoded) a)
         (λ f a. by-chance (only-node IsOfChance w n.top.kind n.top.key tt f a)))))) (by-chance tt)
 
@@ -292,22 +292,22 @@ module _ {N E : Type 0} (v : Values N) (s : MachineState N E) (trees : ℕ → T
     pub cause : (w' : Core) (e : Error) → Fails v w Owner.Caller reading e w' → C e
     cause w' e (inr r) =
         let c = r.ended.refused in
-        let same = same_some _ _ (sym c.may.owned.stands_open ∙ (ap (λ (x : LoadNumber). w.loads x.0) number ∙ open_load)) in
+        let same : c.may.load ≡ load = same_some _ _ (sym c.may.owned.stands_open ∙ (ap (λ (x : LoadNumber). w.loads x.0) number ∙ open_load)) in
         by-handle c.node (v.node_type r.x) c.h (ap (λ (x : OpenLoad). x.root) (sym same) ∙ c.may.of_node) c.why
     cause w' e (inl gives) = elim gives.meets [
       | inl (refuses, a) ↦
           by-chance (grind (
             basics,
-            not-broken v s _ on.fits out.t _ _ _ _ out.known typed _ fits
+            not-broken v s trees on.fits out.t load.key reading.node_type out.i out.height out.known typed reading.frames fits
                 going.asked,
           ))
       | inr (inl (first, asked)) ↦ by-chance (grind (basics, ask-chance, same_some, number, found))
-      | inr (inr (inl (kind, key, needs, inl asked))) ↦ let n = need-there _ _ (inl needs) in by-chance (nested-asked _ _ _ _ e n.1 asked)
+      | inr (inr (inl (kind, key, needs, inl asked))) ↦ let n = need-there kind key (inl needs) in by-chance (nested-asked kind key n.0 gives.mid e n.1 asked)
       | inr (inr (inl (kind, key, needs, inr (blob, is, deep, asked)))) ↦
-          absurd (omega (arith, (need-there _ _ (inl needs)).2 (front _ _ _ needs)))
-      | inr (inr (inr (inl (kind, key, needs, asked)))) ↦ by-chance (of-lazy _ e _ _ needs asked)
-      | inr (inr (inr (inr (inl node)))) ↦ of-node _ e node
-      | inr (inr (inr (inr (inr root)))) ↦ of-root _ e root
+          absurd (omega (arith, (need-there kind key (inl needs)).2 (front reading.frames kind key needs)))
+      | inr (inr (inr (inl (kind, key, needs, asked)))) ↦ by-chance (of-lazy gives.mid e kind key needs asked)
+      | inr (inr (inr (inr (inl node)))) ↦ of-node gives.mid e node
+      | inr (inr (inr (inr (inr root)))) ↦ of-root gives.mid e root
     ]
 
 by-row : (w : Core) (r : ArcRef) (b : Bool) (row : HandleRow) → Only IsOfHandles (row_fault w r (refused_if b Error.NotYours) row)
@@ -330,8 +330,8 @@ module _ {N B W E : Type 0} (m : Seen N B W) (lawful : IsLawful m.values) (s s' 
       → s.pager.core.loads l.0 ≡ Some load
       → IsLoadOfPagedOut s load → reply.ended ≡ Some (LoadAnswer.Refused e) → Cause m.values s.pager.core load x.reading e
   load-cause l reply x load e open_load paged is =
-      let fails = rw is at x.does.does in
-      cause _ s _ on lawful l _ _ x.at x.may open_load paged _ e fails.0
+      let fails = subst (λ a. LoadDoes m.values s.pager.core Owner.Caller x.reading a x.frames s'.pager.core) is x.does.does in
+      cause m.values s trees on lawful l x.reading load x.at x.may open_load paged s'.pager.core e fails.0
 
   pub load-faultless : (event : Event N B W) (reply : EventReply N B W) → Happens m (world_of s) event reply (world_of s')
       → LoadOfPagedOutIsFaultless s trees event reply s' trees'

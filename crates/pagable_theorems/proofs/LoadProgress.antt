@@ -40,7 +40,7 @@ module _ {stored stored' : ℕ → Option Blob} {types : Types} (kept : KeepsSto
       → ReadsNodeTree types stored' trees' key t n
   node-stays {key = key} same h = record {
     typed = ap (λ (z : Tree). z.type) same ∙ h.typed;
-    reads = rw same (tree-stays h.reads);
+    reads = subst (λ (z : Tree). ReadsTree stored' types key z) (sym same) (tree-stays h.reads);
   }
 
   frame-stays : {trees trees' : ℕ → Tree} {frame : Frame} (last : ℕ) → SameTrees last trees trees' → ((r : ArcRef) → Among frame.got r → r.node.0 ≤ last)
@@ -78,10 +78,10 @@ module _ (types : Types) (root_key root_type : ℕ) where
   unfolding FramesFit
   frames-stay stored stored' trees trees' last [] kept same given h = tt
   frames-stay stored stored' trees trees' last (frame ∷ []) kept same given (fits, key, typed) =
-      (frame-stays kept _ same (λ r among. given frame r (zero, refl) among) fits, key, typed)
+      (frame-stays kept last same (λ r among. given frame r (zero, refl) among) fits, key, typed)
   frames-stay stored stored' trees trees' last (frame ∷ next ∷ rest) kept same given (fits, typed, next_is, more) =
       let below = frames-stay stored stored' trees trees' last (next ∷ rest) kept same (λ f r among got. given f r (suc among.0, among.1) got) more in
-      (frame-stays kept _ same (λ r among. given frame r (zero, refl) among) fits, typed, next_is, below)
+      (frame-stays kept last same (λ r among. given frame r (zero, refl) among) fits, typed, next_is, below)
 
   module _ (stored : ℕ → Option Blob) (trees : ℕ → Tree) where
     -- and with a handle that the innermost blob gets, of a node whose tree the key reads as
@@ -105,7 +105,7 @@ module _ (types : Types) (root_key root_type : ℕ) where
 
 module _ (P : ArcRef → Type 0) where
   all-none : (frames : List Frame) → frames ≡ [] → AllGot P frames
-  all-none frames bare frame r among got = let there = rw bare at among in absurd (cc (there.1))
+  all-none frames bare frame r among got = let there = subst (λ fs. Among fs frame) bare among in absurd (cc (there.1))
 
   pub all-new : (frame : Frame) (frames : List Frame) → frame.got ≡ [] → AllGot P frames → AllGot P (frame ∷ frames)
   all-new frame frames bare all f r (zero, is) (place, there) = grind basics
@@ -117,7 +117,7 @@ module _ (P : ArcRef → Type 0) where
   all-more (top ∷ below) kind row new all frame r (suc i, is) got = all frame r (suc i, is) got
   all-more (top ∷ below) kind row new all frame r (zero, is) (j, there) =
       let grown : record top { got = top.got ++ record { kind = kind; node = row.node; handle = row.number } ∷ [] } ≡ frame = cc in
-      elim (pushed _ _ j r (subst (λ (f : Frame). slice_get f.got j ≡ Some r) (sym grown) there))
+      elim (pushed top.got _ j r (subst (λ (f : Frame). slice_get f.got j ≡ Some r) (sym grown) there))
       [ inl old ↦ all top r (zero, refl) (j, old) | inr last ↦ subst P last.1 new ]
 
 pub row-held : (w : Core) (k : HandleNumber) (row : HandleRow) → row_at w k ≡ Some row → 0 < held row.node.0 w.rows
@@ -183,7 +183,7 @@ pub going-of : {N E : Type 0} {v : Values N} (s : MachineState N E) (trees : ℕ
     → ((reading : Reading) → IsReadingOf s.work reading → Going v s.pager trees reading) → (reading : Reading)
     → IsReadingOf s.work reading ⊎ IsFresh s.pager.core reading → Going v s.pager trees reading
 going-of s trees readings reading (inl is) = readings reading is
-going-of s trees readings reading (inr new) = going-new _ _ _ new.0 new.2
+going-of s trees readings reading (inr new) = going-new s.pager trees reading new.0 new.2
 
 -- a load that is open afterwards and was given was open before
 pub was-open : {c : Change} {w w' : Core} → CoreGoes c w w' → (l : ℕ) (load : OpenLoad) → l ≤ w.last.load → w'.loads l ≡ Some load → w.loads l ≡ Some load
@@ -198,10 +198,10 @@ module _ {N E : Type 0} {v : Values N} {s s' : PagerState N E} {trees trees' : �
     unfolding FramesFit FramesAsked
     fit-nested [] kind key blob needs is f = absurd (cc)
     fit-nested (top ∷ below) kind key blob needs is f =
-        let next = asked _ _ _ _ (inl needs) in
-        let held = all-new _ _ (top ∷ below) refl f.held in
-        let asked = eager-nested below (next_in v.types top) _ _ needs in
-        record { fit = (new-fits _ refl is, refl, next, f.fit); held = held; asked = (none-got [] refl, asked, next, f.asked) }
+        let next = asked below (next_in v.types top) kind key (inl needs) in
+        let held = all-new (GotStands s'.core reading.load) (nested_frame kind key blob) (top ∷ below) refl f.held in
+        let asked = eager-nested below (next_in v.types top) kind key needs in
+        record { fit = (new-fits (nested_frame kind key blob) refl is, refl, next, f.fit); held = held; asked = (none-got [] refl, asked, next, f.asked) }
 
     -- the innermost blob gets what it asks for next
     fit-grown : (top : Frame) (below : List Frame) (kind : Kind) (key n : ℕ) (row : HandleRow) → next_in v.types top ≡ asks kind key
@@ -218,15 +218,15 @@ module _ {N E : Type 0} {v : Values N} {s s' : PagerState N E} {trees trees' : �
         → ReadsNodeTree v.types s'.core.stored trees' key (type_of kind.0) n → FitAfter v s'.core trees' reading load frames
         → FitAfter v s'.core trees' reading load (with_got kind row frames)
     fit-got [] kind key n row needs got reads_n f = f
-    fit-got (top ∷ below) kind key n row needs got reads_n f = fit-grown _ _ _ _ n row (asked _ _ _ _ needs) got reads_n
+    fit-got (top ∷ below) kind key n row needs got reads_n f = fit-grown top below kind key n row (asked below (next_in v.types top) kind key needs) got reads_n
         f
 
     fit-made : (top : Frame) (below : List Frame) (n : ℕ) (row : HandleRow) → GetsRow s.core s'.core top.kind n row
         → ReadsNodeTree v.types s'.core.stored trees' top.key (type_of top.kind.0) n
         → FitAfter v s'.core trees' reading load (top ∷ below) → FitAfter v s'.core trees' reading load (with_got top.kind row below)
     unfolding FramesFit FramesAsked
-    fit-made top [] n row got reads_n f = record { fit = tt; held = all-none _ [] refl; asked = tt }
-    fit-made top (next ∷ below) n row got reads_n f = fit-grown _ _ _ _ n row f.fit.2 got reads_n
+    fit-made top [] n row got reads_n f = record { fit = tt; held = all-none (GotStands s'.core reading.load) [] refl; asked = tt }
+    fit-made top (next ∷ below) n row got reads_n f = fit-grown next below top.kind top.key n row f.fit.2 got reads_n
         (record { fit = f.fit.3; held = λ frame r among there. f.held frame r (suc among.0, among.1) there; asked = f.asked.3 })
 
   module _ {c : Change} {comes : ℕ → N → Type 0} (goes : CoreGoes c s.core s'.core) (fits : ChangeFits v c comes s s' trees trees') where
@@ -269,8 +269,8 @@ module _ {N E : Type 0} {v : Values N} {s s' : PagerState N E} {trees trees' : �
     pub going-on : (reading : Reading) → Going v s trees reading → Going v s' trees' reading
     going-on reading g =
         let fit : ReadingFits v s' trees' reading = λ load is. let was = was-open goes reading.load.0 load g.within is in
-        (fit-still goes fits reading load _ (record { fit = g.fits load was; held = g.held; asked = g.asked })).fit in
-        search (still-within _ g.within, fit, frames-on goes _ _ g.held, g.asked)
+        (fit-still goes fits reading load reading.frames (record { fit = g.fits load was; held = g.held; asked = g.asked })).fit in
+        search (still-within reading.load.0 g.within, fit, frames-on goes reading.load reading.frames g.held, g.asked)
 
     pub going-step : (reading : Reading) (frames : List Frame) (load : OpenLoad) → s.core.loads reading.load.0 ≡ Some load → Going v s trees reading
         → ReadingFeels v s.core reading None frames s'.core c → Going v s' trees' (gone_on reading frames)

@@ -5,21 +5,22 @@
 use Rattle.pagable_pager_spec.specs.{
   Access.{AccessState, AllHaveResults, KeyStarts, LoadAsksWell, LoadRun, LoadStarts, PinLaw, ReadLaw, ReadingStep, WalkStep, WorkerRun, load-ends},
   Access.{load-goes-on, worker-ends, worker-goes-on},
-  Basics.{is_loose_kind},
+  Basics.{is_loose_kind, longest_path},
   Kinds.has_key,
   LoadCalls.with_load,
-  Loads.{gone_on},
+  Loads.{LoadDoes, gone_on},
   Order.{Follows, Leads, is_claim_of, is_later_of},
   Pager.{Moves, SameTrees, StandsFor, kids_of},
   Rightness.{AnswerIsKey, AnswerLeavesAll, AreKeysOf, FailedElsewhere, IsKeyOfTask, IsMetFailure, LeavesAll, Meets, PublishIsKey, ReadIsRight, meets-below},
   Rightness.{meets-entry, meets-of-item},
   Runs.TakesWell,
   Workers.{first_todo, fresh, is_open_outcome, next_start},
-  World.{Fault, Root, is_identity, to_publish},
+  World.{Fault, Root, is_identity, of_key, to_publish},
 }
 use Rattle.pagable_theorems.proofs.{
   CallEffects.{begin-goes, begins-key},
   Decoding.{among-left, among-right},
+  EventEffects.site_of,
   FormsOfTrees.{cell-of, keys-of, known-of, tree-form},
   HandlesKept.{Goes, rows-then, updated-at},
   LoadProgress.{Going, given-nodes, going-new, going-step, row-held, settled-on, stands-here, was-open},
@@ -32,14 +33,14 @@ use Rattle.pagable_theorems.proofs.{
   TreeProgress.{fits-nothing, reading-fits, trees-go-on},
   Trees.{same-number, same_some, steps_follow},
   Words.{Action, Alike, ArcRef, Blob, Bool, Claim, Core, Event, EventReply, Frame, FramesFit, HandleNumber, Happens, HoldsSettled, Identity, IsLawful},
-  Words.{IsMachineWhole, IsPagerWhole, IsPublished, Last, List, LoadAnswer, LoadNumber, MachineState, None, Ok, OpenLoad, Option, OptionalDataKey, Owner},
-  Words.{PagerStandsFor, PagerState, Reading, Seen, Shelf, Slot, Some, Task, Todo, Tree, Values, Walking, WorkDoes, WorkFits, WorkerAnswer},
+  Words.{IsMachineWhole, IsPagerWhole, IsPublished, Last, List, LoadAnswer, LoadNumber, MachineState, Mode, None, Ok, OpenLoad, Option, OptionalDataKey, Owner},
+  Words.{PagerStandsFor, PagerState, Reading, ReadingFeels, Seen, Shelf, Slot, Some, Task, Todo, Tree, Values, Walking, WorkDoes, WorkFits, WorkerAnswer},
   Words.{WorkerNumber, WorkerReply, WorkerState, WorkerSteps, Written, answer_after, ap, append_assoc, arith, basics, cases_Bool, false, give, held},
-  Words.{identity_of, if_there, inl, inr, is_some, key_at, nat_eq, nothing_felt, of_entry, of_item, one, refl, subst, sum_by-cons, sym, times},
-  Words.{to_fail, to_finish, to_item, to_load, to_pin, to_release, to_set, to_start, to_write, true, world_of, ℕ, [], ◌&&◌, ◌++◌, ◌+◌, ◌==◌, ◌∙◌},
+  Words.{identity_of, if_there, inl, inr, is_some, key_at, nat_eq, nothing_felt, of_cell, of_entry, of_item, one, refl, subst, sum_by-cons, sym, times},
+  Words.{to_fail, to_finish, to_item, to_load, to_pin, to_release, to_set, to_start, to_write, true, with_handle, world_of, ℕ, [], ◌&&◌, ◌++◌, ◌+◌, ◌==◌, ◌∙◌},
   Words.{◌∷◌, ◌≡◌, ◌≤◌},
 }
-use Rattle.pagable_theorems.specs.TreeSteps.{AllHold, Ground, HasHandle, IsDone, KeyIsSet, KeysHeld, RowsGo, Waits, Walks}
+use Rattle.pagable_theorems.specs.TreeSteps.{AllHold, Ground, HasHandle, IsDone, KeyIsSet, KeysHeld, RowsGo, Waits, Walks, ground_of}
 use Rattle.pagable_value_spec.specs.Merkle.{KeyOfItem}
 use Rattle.std.proofs.Math.Nat.{zero-add}
 use Rattle.std.specs.Prelude.{nat_le}
@@ -92,37 +93,37 @@ module _ {N E : Type 0} {v : Values N} (lawful : IsLawful v) where
   stepped s s' trees key reading answer frames u settled' takes step =
       let felt = caller-feels step in
       let feels = felt.feels u.well.whole.handles in
-      let fit = reading-fits lawful u.settled u.well step.whole u.stands _ takes u.going.fits
-      (given-nodes _ u.going.held) felt.does.goes felt.opens feels in
+      let fit = reading-fits lawful u.settled u.well step.whole u.stands reading takes u.going.fits
+      (given-nodes reading.frames u.going.held) felt.does.goes felt.opens feels in
       let stands = trees-go-on lawful u.settled u.well step.whole u.stands step.moves felt.does.goes fit.1 in
       record {
         trees' = fit.0;
         after = record { same = fit.1.same; nodes = felt.does.goes.nodes; stands = stands; handles = felt.does.goes.handles; rows = felt.does.goes.rows };
         still = λ none.
             let load = felt.opens none in
-            let going = going-step u.well step.whole u.stands felt.does.goes fit.1 _ _ _ load.1 u.going
-            (rw (← none) feels) in
+            let going = going-step u.well step.whole u.stands felt.does.goes fit.1 reading frames load.0 load.1 u.going
+            (subst (λ (o : Option (LoadAnswer N)). ReadingFeels v s.core reading o frames s'.core felt.change) none feels) in
             record {
               settled = settled';
               well = step.whole;
               stands = stands;
               going = going;
-              keyed = λ other there. u.keyed other (was-open felt.does.goes _ _ u.going.within there);
+              keyed = λ other there. u.keyed other (was-open felt.does.goes reading.load.0 other u.going.within there);
             };
         right = λ x is.
-            let read = (rw is at step.does.does).0 in
-            let load = read.of_key_load in rw (← (u.keyed load.load load.open_load))
-            (read-right lawful s _ _ _ fit.1.same felt.does.goes.stored step.whole stands _ takes.types u.going _ load.open_load x
+            let read = (subst (λ (o : Option (LoadAnswer N)). LoadDoes v s.core Owner.Caller reading o frames s'.core) is step.does.does).0 in
+            let load = read.of_key_load in subst (λ q. ReadIsRight v s' q x) (u.keyed load.load load.open_load)
+            (read-right lawful s s' trees fit.0 fit.1.same felt.does.goes.stored step.whole stands reading takes.types u.going load.load load.open_load x
             read.reads_root
-            (hands _ _ u.well.whole.handles read.handed));
+            (hands reading.load (v.references x) u.well.whole.handles read.handed));
       }
 
   comes : {reading : Reading} {s s' : PagerState N E} {answer : LoadAnswer N} (run : LoadRun v Owner.Caller reading s answer s') → LoadAsksWell run
       → (trees : ℕ → Tree) (key : ℕ) → Under v s trees key reading → Stepped s trees key reading (Some answer) [] s'
   unfolding LoadAsksWell
-  comes (load-ends reading answer s s' step) asks trees key u = stepped s _ _ _ _ _ [] u asks.0 asks.1 step
+  comes (load-ends reading answer s s' step) asks trees key u = stepped s s' trees key reading (Some answer) [] u asks.0 asks.1 step
   comes (load-goes-on reading frames answer s mid s' step more) asks trees key u =
-      let a = stepped s _ _ _ _ _ _ u asks.0 asks.1 step in
+      let a = stepped s mid trees key reading None frames u asks.0 asks.1 step in
       let rest = comes more asks.2 a.trees' key (a.still refl) in
       record { trees' = rest.trees'; after = after-then a.after rest.after; still = λ none. absurd (cc); right = rest.right }
 
@@ -152,10 +153,11 @@ pub pin-after : {N E : Type 0} (v : Values N) (s mid s' : PagerState N E) (h : H
     → (trees' : ℕ → Tree) × After v s trees s' trees'
 pin-after v s mid s' h reading answer run well starts asks lawful settled trees stands =
     let c = starts.begins in let b = c.step.begins.2 in
-    let first = begun lawful s _ _ well settled stands (begin-goes _ c.step) c.moves c.whole in
+    let first = begun lawful s mid trees well settled stands (begin-goes _ c.step) c.moves c.whole in
     let f : (t : ℕ) × (reading ≡ fresh reading.load t) = grind (basics, same_some) in
-    let u = under lawful s _ _ well settled stands (begin-goes _ c.step) c.moves c.whole _ _ _ _ _ b.2.above b.4.2 in
-    let r = comes lawful _ asks _ _ (subst (λ z. Under v mid trees starts.key z) (sym f.1) u) in
+    let u = under lawful s mid trees well settled stands (begin-goes _ c.step) c.moves c.whole (with_handle s.core
+    c.step.begins.0.node Mode.LooseUnpinned (Owner.Load reading.load)) reading.load f.0 starts.key (of_cell c.step.begins.0.node b.4.0 h) b.2.above b.4.2 in
+    let r = comes lawful run asks trees starts.key (subst (λ z. Under v mid trees starts.key z) (sym f.1) u) in
     (r.trees', after-then first r.after)
 
 -- so does a load of a key, and a value that it reads stands for the tree that the key reads as
@@ -166,19 +168,19 @@ pub read-after : {N E : Type 0} (v : Values N) (s mid s' : PagerState N E) (key 
 read-after v s mid s' key t l answer run well starts asks lawful settled trees stands =
     let b = starts.step.begins in
     let goes : Goes nothing_felt s.core mid.core = (begins-key {lists = false} {Asks = Unit {0}} {Leaves = Unit {0}} _ starts.step).goes in
-    let first = begun lawful s _ _ well settled stands goes starts.moves starts.whole in
-    let u = under lawful s _ _ well settled stands goes starts.moves starts.whole _ l t _ _ b.1.above b.2 in
-    let r = comes lawful _ asks _ _ u in
+    let first = begun lawful s mid trees well settled stands goes starts.moves starts.whole in
+    let u = under lawful s mid trees well settled stands goes starts.moves starts.whole s.core l t key of_key b.1.above b.2 in
+    let r = comes lawful run asks trees key u in
     (r.trees', after-then first r.after, λ x is. r.right x (ap Some is))
 
 pub pin_law : {N E : Type 0} (v : Values N) → PinLaw E v
 pin_law v s mid s' h k reading x row run well starts asks live held lawful settled trees stands =
-    let r = pin-after v s _ _ h _ _ _ well starts asks lawful settled _ stands in
+    let r = pin-after v s mid s' h reading (LoadAnswer.Pinned k) run well starts asks lawful settled trees stands in
     (r.0, r.1.same, r.1.stands, stands-here (r.1.stands.stands row.node.0 (row-held s'.core k row live)) held)
 
 pub read_law : {N E : Type 0} (v : Values N) → ReadLaw E v
 read_law v s mid s' key t l x run well starts asks settled_value lawful settled trees stands =
-    let r = read-after v s _ _ _ t l _ _ well starts asks lawful settled _ stands in (r.0, r.1.same, r.1.stands, r.2 x refl)
+    let r = read-after v s mid s' key t l (LoadAnswer.Read x) run well starts asks lawful settled trees stands in (r.0, r.1.same, r.1.stands, r.2 x refl)
 
 -- the stage k is this one or comes after it, from p on
 abbrev from : ℕ → ℕ → Bool → ℕ
@@ -236,9 +238,9 @@ module _ (k : ℕ) (i : Identity) where
 
     along : (todo : List Todo) (steps : List (Action W)) (last : List Todo) → IsWay todo → Leads f todo steps last
         → times (is_later_of k i) steps + all-left last ≤ times (is_claim_of i) steps + all-left todo
-    along todo [] last way is = rw is (omega arith)
+    along todo [] last way is = subst (λ t. 0 + all-left t ≤ 0 + all-left todo) (sym is) (omega arith)
     along todo (step ∷ steps) last way (mid, follows, leads) =
-        let a = goes _ _ _ way follows in let more = along mid steps last a.1 leads in
+        let a = goes todo step mid way follows in let more = along mid steps last a.1 leads in
         omega (arith, sum_by-cons (λ s. one (is_later_of k i s)) step steps, sum_by-cons (λ s. one (is_claim_of i s)) step steps)
 
     after-release : (r : ArcRef) (key height : ℕ) (steps : List (Action W)) (last : List Todo) → Leads f (to_release r key height ∷ []) steps last
@@ -253,7 +255,7 @@ module _ (k : ℕ) (i : Identity) where
 
     few-claims : (step : Action W) (steps : List (Action W)) → times (is_claim_of i) (step ∷ steps) ≤ 1
         → one (is_claim_of i step) + times (is_claim_of i) steps ≤ 1
-    few-claims step steps few = rw (← (sum_by-cons (λ s. one (is_claim_of i s)) step steps)) few
+    few-claims step steps few = subst (λ n. n ≤ 1) (sum_by-cons (λ s. one (is_claim_of i s)) step steps) few
 
     -- what is left to be done is no more than was claimed
     bounded : (t d s n c : ℕ) → t + d ≤ s + n → n ≤ c → c + s ≤ 1 → t ≤ 1
@@ -286,7 +288,7 @@ module _ {N B W : Type 0} (m : Seen N B W) (n : ℕ) (g : Ground) (task : Task) 
   answered (to_item written ks ∷ below) (Action.Store i (Ok k)) (is, p) (of_it, known) key e =
       let to : k ≡ key = cc in let b = p.stored.stores in
       let done = subst (λ t. IsDone m.values s.shelf t key) (sym of_it)
-      (ks, all-known _ _ _ _ p.all known, sym to ∙ b.0, all-low _ _ _ _ p.all known) in
+      (ks, all-known s.shelf longest_path written.references ks p.all known, sym to ∙ b.0, all-low s.shelf longest_path written.references ks p.all known) in
       let t = p.goes in search (done, t.table_stays.slots)
   answered x0 x1 x2 x3 key e = grind basics
 
@@ -296,23 +298,23 @@ module _ {N E : Type 0} (v : Values N) (s : MachineState N E) (trees : ℕ → T
 
   is-key : (task : Task) (key : ℕ) → IsDone v shelf task key → IsKeyOfTask v trees task key
   is-key (of_item written) key (keys, known, is, lows) =
-      let each = keys-of (stands-for v _ _ (fit.slots t)) _ _ known in
+      let each = keys-of (stands-for v (ground_of s trees) shelf (fit.slots t)) written.references keys known in
       let k : KeyOfItem v.hash v.types written.bytes (kids_of trees written.references) key = record { keys = keys; each = each; is = is } in
       (k, λ canonical other o. one_item_key.one v.hash v.types written.bytes (kids_of trees written.references) other key canonical o k)
   is-key (of_entry h i) key (height, p) =
-      let k = (stands-for v _ _ (fit.slots t) i _ _ p).right.is_key in
-      (k, λ canonical other o. one_key _ _ _ _ _ canonical o k)
+      let k = (stands-for v (ground_of s trees) shelf (fit.slots t) i key height p).right.is_key in
+      (k, λ canonical other o. one_key v.hash v.types (trees i.node.0) other key canonical o k)
 
   met : (task : Task) (key : ℕ) → IsDone v shelf task key → (i : Identity) → Meets shelf task i → (k : ℕ) × ((h : ℕ) × IsPublished shelf i k h)
   met task key done i (meets-of-item written r is among) = let d = subst (λ x. IsDone v shelf x key) is done in let p =
-      known-of _ _ _ d.1 r among in (p.0, p.1)
+      known-of shelf written.references d.0 d.1 r among in (p.0, p.1)
   met task key done i (meets-entry h j is) = let d = subst (λ x. IsDone v shelf x key) is done in (key, d)
   met task key done i (meets-below j slot references r above there wrote among) =
       let p = met task key done j above in let q = p.1.1 in
       let same : q.slot ≡ slot = same_some _ _ (sym q.claimed ∙ there) in
       let b = (fit.slots t j q.slot q.claimed).publishes p.0 p.1.0 q.known in
       let w : b.0.references ≡ references = same_some _ _ (sym b.1 ∙ ap (λ (z : Slot). z.references) same ∙ wrote) in
-      let p = known-of _ _ _ (subst (λ (z : List ArcRef). AreKeysOf shelf z b.2.keys) w b.2.known) r among in (p.0, p.1)
+      let p = known-of shelf references b.2.keys (subst (λ (z : List ArcRef). AreKeysOf shelf z b.2.keys) w b.2.known) r among in (p.0, p.1)
 
 -- a live cell whose key was set has one
 key-known : (w : Core) (n : ℕ) → KeyIsSet w n → is_some (w.cells n) ≡ true → (key : ℕ) × (key_at w n ≡ OptionalDataKey.Some key)
@@ -326,7 +328,7 @@ set-by-then : {N B W : Type 0} (m : Seen N B W) (n : ℕ) (s s' : WorkerState) (
     × (key_at s.core i.node.0 ≡ OptionalDataKey.Some set)
 set-by-then m n s s' (to_publish r k h ∷ below) i key height does all live kind =
     subst (λ (j : Identity). (set : ℕ) × (key_at s.core j.node.0 ≡ OptionalDataKey.Some set)) (sym does.0)
-    (let at = all.0 (subst (λ (j : Identity). is_loose_kind j.kind.0 ≡ true) does.0 kind) in key-known _ _ at.0 (live r.node.0 at.1))
+    (let at = all.0 (subst (λ (j : Identity). is_loose_kind j.kind.0 ≡ true) does.0 kind) in key-known s.core r.node.0 at.0 (live r.node.0 at.1))
 set-by-then m n s s' todo i key height does all live kind = absurd does
 
 module _ {N B W E : Type 0} (m : Seen N B W) (s s' : MachineState N E) (trees trees' : ℕ → Tree) (before : WorkFits m.values s trees)
@@ -336,7 +338,7 @@ module _ {N B W E : Type 0} (m : Seen N B W) (s s' : MachineState N E) (trees tr
   module _ (n : WorkerNumber) (reply : WorkerReply W) (w : WorkerSteps m (world_of s) n reply (world_of s')) where
     done : (key : ℕ) → reply.answer ≡ Some (WorkerAnswer.Key key) → IsDone m.values (s'.work.shelves w.walking.table) w.walking.task key
     done key is =
-        let a = answered m _ _ _ _ _ _ _ w.does.does
+        let a = answered m n.0 (ground_of s trees) w.walking.task (site_of (world_of s) w.walking) w.after w.walking.todo reply.action w.does.does
         (before.walks n.0 w.walking w.at) key (sym w.answers ∙ is) in
         done-on (keys-same (λ i. (w.work.same_shelves w.walking.table).slots i
         ∙ ap (λ (x : Shelf). x.slots i) (updated-at w.walking.table w.after.shelf s.work.shelves) ∙ a.1 i))
@@ -366,14 +368,14 @@ module _ {N B W E : Type 0} (m : Seen N B W) (s s' : MachineState N E) (trees tr
   keys-right (Event.WorkerStep n) (EventReply.WorkerMoved (Ok reply)) is =
       let w = is.moves in (
         λ i key height e.
-            let does = rw e at w.does.does in
-            let set = set-by-then m _ _ _ _ i _ _ does (held_before.walks n.0 w.walking w.at) (λ k h.
-            rw (← h.at) (cell-of earlier.pager.whole.handles _ (row-held s.pager.core _ _ h.live)))
+            let does = subst (λ (k : Action W). WorkDoes m n.0 (site_of (world_of s) w.walking) w.walking.todo k w.after) e w.does.does in
+            let set = set-by-then m n.0 (site_of (world_of s) w.walking) w.after w.walking.todo i key height does (held_before.walks n.0 w.walking w.at) (λ k h.
+            subst (λ k. is_some (s.pager.core.cells k) ≡ true) h.at (cell-of earlier.pager.whole.handles h.row.node.0 (row-held s.pager.core h.h h.row h.live)))
             in (grind basics, set),
-        λ walking key there e. is-after n _ w (λ x. IsKeyOfTask m.values trees' x.task key)
-            (is-key _ _ _ after w.walking.table _ _ (done n _ w _ e)) _ there,
-        λ walking key there e. is-after n _ w (λ x. LeavesAll m.values s'.pager (s'.work.shelves x.table) trees' x.task)
-            (left-all _ _ _ (done n _ w _ e)) _ there,
+        λ walking key there e. is-after n reply w (λ x. IsKeyOfTask m.values trees' x.task key)
+            (is-key m.values s' trees' after w.walking.table w.walking.task key (done n reply w key e)) walking there,
+        λ walking key there e. is-after n reply w (λ x. LeavesAll m.values s'.pager (s'.work.shelves x.table) trees' x.task)
+            (left-all w.walking.table w.walking.task key (done n reply w key e)) walking there,
       )
   keys-right event reply is = (tt, tt, tt)
 
@@ -381,7 +383,8 @@ module _ {N E B W : Type 0} (m : Seen N B W) (n : ℕ) (task : Task) (C : Type 0
   went : {todo next : List Todo} {s s' : AccessState N E} {step : Action W} → WalkStep m n todo s step next s' → AllStand s.shelf n task todo
       → Covers s.shelf n todo
       → ShelfGoes n task s.shelf (answer_after todo step) s'.shelf next
-  went {todo} {next} {s} {s'} {step} w all covers = rw w.goes_on (goes-same n _ _ _ _ _ _ w.shelf_is.slots
+  went {todo} {next} {s} {s'} {step} w all covers = subst (λ t. ShelfGoes n task s.shelf (answer_after todo step) s'.shelf t) (sym w.goes_on)
+      (goes-same n task s.shelf w.after.shelf s'.shelf _ w.after.todo w.shelf_is.slots
       (stands-on m n task (record { core = s.pager.core; shelf = s.shelf; todo = todo }) w.after todo refl all covers step w.does.does))
 
   -- What a worker leaves with its answer: of its own claims, and of others'. And what it failed with was met where, if C, what its list fails with was met,

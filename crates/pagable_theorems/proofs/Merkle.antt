@@ -132,7 +132,7 @@ one_preimage : (a b : Blob) → IsBlob a → IsBlob b → preimage a ≡ preimag
 unfolding preimage
 one_preimage a b h g e =
     let counts = cut (to_le_bytes w64 (length a.keys)) (to_le_bytes w64 (length b.keys)) _ _ refl e in
-    let count = same-bytes 8 _ _ (omega arith) (omega arith) counts.0 in
+    let count : length a.keys ≡ length b.keys = same-bytes 8 _ _ (omega arith) (omega arith) counts.0 in
     let long = ap length counts.1 in let size : length a.bytes ≡ length b.bytes = omega (
       arith,
       long,
@@ -142,7 +142,7 @@ one_preimage a b h g e =
       keys-length a.keys,
       keys-length b.keys,
     ) in
-    let rest = cut a.bytes b.bytes _ _ size counts.1 in grind (basics, same-key-lists _ _ h.1 g.1 rest.1)
+    let rest = cut a.bytes b.bytes _ _ size counts.1 in grind (basics, same-key-lists a.keys b.keys h.1 g.1 rest.1)
 
 -- ---- the height of a tree is the length of its longest path
 
@@ -233,25 +233,25 @@ module _ {hash : List ℕ → List ℕ} {types : Types} where
     node-key type key x a h g =
         let p = form-along (λ r k o. o.kind) h.form g in
         let k = key-of (tree type a) h.shape h.bytes p.refs (map key_of_ref h.refs) h.is p.form (keyed p.each) in
-        let P : ℕ → Type 0 = λ n. KeyOf hash types (tree type a) n in rw (own_keys key _ h.stored) k
+        let P : ℕ → Type 0 = λ n. KeyOf hash types (tree type a) n in subst P (sym (own_keys key _ h.stored)) k
 
     keys-along : {x : Meaning KeyRef} {a : Meaning ⊥} → IsFollowed (StoredAs store types) x a → Along ⊥ (KeyedKid hash types) x (unfolded a)
     unfolding unfolded
     keys-along (pair-followed x y a b f g) = pair-along _ _ _ _ (keys-along f) (keys-along g)
     keys-along (variant-followed n x a f) = variant-along _ _ _ (keys-along f)
-    keys-along (reference-followed r x a o f) = reference-along _ _ (record { kind = refl; key = node-key _ _ x a o (keys-along f) })
+    keys-along (reference-followed r x a o f) = reference-along _ _ (record { kind = refl; key = node-key (type_of r.kind) r.key x a o (keys-along f) })
     keys-along x0 = grind (basics, number-along, integer-along, text-along, pattern-along, none-along)
 
 stored_key : (hash : List ℕ → List ℕ) (store : ℕ → Option Blob) (types : Types) (t : Tree) (key : ℕ) → HasOwnKeys hash store → StoredTree store types key t
     → KeyOf hash types t key
-stored_key hash store types t key own_keys h = node-key own_keys _ _ _ _ h.stands (keys-along own_keys h.follows)
+stored_key hash store types t key own_keys h = node-key own_keys t.type key h.own t.meaning h.stands (keys-along own_keys h.follows)
 
 -- ---- keys tell trees apart
 
 module _ {store other : ℕ → Option Blob} {types : Types} (shares : SharesNoKey store other) where
   same-stored : {type key : ℕ} {m n : Meaning KeyRef} → IsReadableType types type → StoredAs store types type key m → StoredAs other types type key n → m ≡ n
   same-stored {type} {key} {m} {n} can h g =
-      let first = stored-reads _ _ _ _ m can h in let second = stored-reads _ _ _ _ n can g in
+      let first = stored-reads store types type key m can h in let second = stored-reads other types type key n can g in
       grind basics
 
 pub tree_laws : TreeLaws
@@ -265,17 +265,17 @@ tree_laws = record {
     λ e.
         let stands = let P : ℕ → ℕ → Type 0 = λ n key. StoredAs other types n key g.own in
         subst (λ (n : ℕ). P n k) (sym type) (subst (λ (key : ℕ). P u.type key) (sym e) g.stands) in
-        tree_is type (one-followed _ (λ t key m n can p q. same-stored shares can p q) readable.1 h.follows g.follows
+        tree_is type (one-followed (IsReadableType types) (λ t key m n can p q. same-stored shares can p q) readable.1 h.follows g.follows
         (same-stored shares readable.0 h.stands stands)),
     λ e.
-        let two = let P : Tree → Type 0 = λ x. KeyOf hash types x l in subst P (sym e) (stored_key _ _ _ u l second g) in
-        one_key _ _ t k l can (stored_key _ _ _ t k first h) two,
+        let two = let P : Tree → Type 0 = λ x. KeyOf hash types x l in subst P (sym e) (stored_key hash other types u l second g) in
+        one_key hash types t k l can (stored_key hash store types t k first h) two,
   );
   is_longest_path = longest_path;
-  stays_inside = λ hash types nodes t key closed inside h. stays _ _ (λ n. nodes n ≡ true) (λ n. nodes n ≡ true) closed (λ n i. i) h inside;
+  stays_inside = λ hash types nodes t key closed inside h. stays hash types (λ n. nodes n ≡ true) (λ n. nodes n ≡ true) closed (λ n i. i) h inside;
   is_canonical_inside = λ hash types nodes t key closed all inside h. (
     all t.type inside,
-    stays _ _ (λ n. nodes n ≡ true) _ closed all h inside,
+    stays hash types (λ n. nodes n ≡ true) (IsCanonicalType types) closed all h inside,
   );
   is_one_meaning = one-meaning;
 }

@@ -14,8 +14,8 @@ use Rattle.pagable_theorems.proofs.{
   LoadProgress.moves-as,
   Trees.{same-number, same_some},
   Words.{Action, Alike, Bool, Core, Event, EventReply, HandleNumber, HandleRow, Happens, IsMachineWhole, IsPagerWhole, List, MachineState, None, Ok, OpenLoad},
-  Words.{Option, PagerState, Reading, Seen, Shelf, Some, Task, Todo, Walking, WorkerAnswer, WorkerReply, WorkerState, answer_after, ap, arith},
-  Words.{basics, cases_Bool, false, if_there, inl, inr, of_item, refl, rules, sym, true, updated, world_of, ℕ, ◌+◌, ◌<◌, ◌==◌, ◌∙◌, ◌≡◌, ◌≤◌},
+  Words.{Option, PagerState, Reading, Seen, Shelf, Some, Task, Todo, WalkDoes, Walking, WorkerAnswer, WorkerReply, WorkerState, answer_after, ap, arith},
+  Words.{basics, cases_Bool, false, if_there, inl, inr, of_item, refl, rules, subst, sym, true, updated, world_of, ℕ, ◌+◌, ◌<◌, ◌==◌, ◌∙◌, ◌≡◌, ◌≤◌},
 }
 use Rattle.pagable_theorems.specs.PageOutLaws.{NobodyWorks}
 use Rattle.std.specs.Prelude.{is_none}
@@ -97,7 +97,7 @@ module _ {N E B W : Type 0} (m : Seen N B W) where
       happens = record {
         made = (
           refl,
-          alike _,
+          alike s.core,
           λ l. rests.unread l ∙ (let f = rests.unread l in (grind basics)),
           record {
             same_shelves = λ q. elim (cases_Bool (q == work.last_table + 1)) [ inl e ↦ rw e new | inr e ↦ rw e (same-shelf refl) ];
@@ -111,7 +111,7 @@ module _ {N E B W : Type 0} (m : Seen N B W) where
     moves = record { each = λ q x is. inl is; environment = refl };
     holds = record { each = λ q x is. inl is; environment = refl };
     writes = tt;
-    whole = rest-whole s _ (with-table-rests _ _ rests) well nobody;
+    whole = rest-whole s (with-table work shelf) (with-table-rests work shelf rests) well nobody;
   }
 
   module _ (base : Work) (rests : IsAtRest base) (n t : ℕ) (there : (0 < t) × (t ≤ base.last_table)) (task : Task) where
@@ -126,9 +126,9 @@ module _ {N E B W : Type 0} (m : Seen N B W) where
       readings = λ l reading is. absurd (cc);
       walkings = λ q w is. elim (cases_Bool (q == n)) [
         | inl e ↦
-            let same = same_some _ _ (rw e at is) in
+            let same : walking-on t task todo count answer ≡ w = same_some _ _ (rw e at is) in
             record {
-              table = rw (← same) there;
+              table = subst (λ (x : Walking). (0 < x.table) × (x.table ≤ base.last_table)) same there;
               at_work = ap s.pager.core.workers (same-number q n e) ∙ alone.self ∙ ap (λ (x : Walking). is_none x.answer) same;
             }
         | inr e ↦ let r = rests.answered q w (rw e at is) in record { table = (r.1, r.2); at_work = alone.others q e ∙ sym r.0 }
@@ -174,9 +174,11 @@ module _ {N E B W : Type 0} (m : Seen N B W) where
         → WorkerStarts m.values s.pager.core s.pager n mid → NobodyWorks s.pager.core
         → EventDoes m (at-rest s.pager base) (Event.WorkerItem (record { 0 = t }) item) (EventReply.WorkerMade (Ok (record { 0 = n })))
         (at-work (record { pager = mid; shelf = s.shelf }) (first_todo task) 0 None)
-    item-began item s mid is on starts nobody = began _ s _ _
-        _ starts nobody refl (record {
-          starts = rw (← is) (starts-so _ s _ on starts);
+    item-began item s mid is on starts nobody = began s.pager.core s mid (Event.WorkerItem (record { 0 = t }) item)
+        (EventReply.WorkerMade (Ok (record { 0 = n }))) starts nobody refl (record {
+          starts = subst (λ (x : Task). Starts (world_of (at-rest s.pager base)) (record { 0 = t }) x s.pager.core (record { 0 = n })
+              (world_of (at-work (record { pager = mid; shelf = s.shelf }) (first_todo task) 0 None))) is
+              (starts-so s.pager.core s mid on starts);
           refused = tt;
         }) tt
 
@@ -187,14 +189,15 @@ module _ {N E B W : Type 0} (m : Seen N B W) where
         (at-work (record { pager = mid; shelf = s.shelf }) (first_todo task) 0 None)
     entry-began place h row type s mid is on entry kinds starts nobody =
         let core = with_entry_taken s.pager.core place h (record { 0 = n }) in
-        began _ s _ _ _ starts nobody refl (record {
+        began core s mid (Event.WorkerListed (record { 0 = t }) place) (EventReply.WorkerMade (Ok (record { 0 = n }))) starts nobody refl (record {
           starts = (
             h,
             row,
             type,
             entry,
             kinds,
-            rw (← is) (starts-so _ s _ on starts),
+            subst (λ (x : Task). Starts (world_of (at-rest s.pager base)) (record { 0 = t }) x core (record { 0 = n })
+                (world_of (at-work (record { pager = mid; shelf = s.shelf }) (first_todo task) 0 None))) is (starts-so core s mid on starts),
           );
           refused = tt;
         }) tt
@@ -207,10 +210,10 @@ module _ {N E B W : Type 0} (m : Seen N B W) where
     moved s s' todo next count step w alone =
         let now = walking-on t task todo count None in
         let site : WorkerState = record { core = s.pager.core; shelf = s.shelf; todo = todo } in
-        let felt = walk-goes m n _ _ _ _ w.does.does in
+        let felt = walk-goes m n site w.after todo step w.does.does in
         let mid : WorksAlone w.after.core n true = record { self = felt.does.workers n ∙ alone.self; others = λ q e. felt.does.workers q ∙ alone.others q e } in
-        let alone' = ends-workers _ n _ _ w.ends mid in
-        let at = updated-at n _ base.walkings in (
+        let alone' = ends-workers (answer_after todo step) n w.after.core s'.pager.core w.ends mid in
+        let at = updated-at n (Some now) base.walkings in (
           record {
             step = record {
               happens = record {
@@ -219,11 +222,12 @@ module _ {N E B W : Type 0} (m : Seen N B W) where
                   after = w.after;
                   at = at;
                   at_work = refl;
-                  does = rw (updated-at t _ _) w.does;
+                  does = subst (λ (x : Shelf). WalkDoes m n (record { core = s.pager.core; shelf = x; todo = todo }) step w.after)
+                      (sym (updated-at t s.shelf base.shelves)) w.does;
                   answers = refl;
                   counts = refl;
                   ends = w.ends;
-                  readings = λ l. none-read _;
+                  readings = λ l. none-read (s'.pager.core.loads l);
                   work = record {
                     same_shelves = λ q. elim (cases_Bool (q == t)) [ inl e ↦ rw e w.shelf_is | inr e ↦ rw e (same-shelf refl) ];
                     last_is = refl;
@@ -240,7 +244,7 @@ module _ {N E B W : Type 0} (m : Seen N B W) where
             moves = moves-as (λ q x is came. (now, at, came)) w.moves;
             holds = w.holds;
             writes = w.writes;
-            whole = is-whole _ _ _ _ w.whole alone';
+            whole = is-whole s' next (steps_after count (is_counted todo step)) (answer_after todo step) w.whole alone';
           },
           alone',
         )

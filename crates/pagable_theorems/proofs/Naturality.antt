@@ -5,7 +5,7 @@ use Rattle.pagable_theorems.proofs.{
   Trees.{AllTwo, Along, EntryAlong, entries-two, flag-same, followed-along, form-along, integer-along, lifted-along, more-two, no-two, none-along},
   Trees.{number-along, one-two, pair-along, pattern-along, plain-along, put_all-two, reference-along, sequence-two, sorted-two, text-along, variant-along},
   Words.{Bool, Err, Error, Form, IsReadable, LiesIn, List, Meaning, None, Ok, Option, Result, Shape, Some, Throughout, ap, append-nil, append_assoc, basics},
-  Words.{cases_Bool, cases_lt, drop, followed, if◌then◌else◌, inl, inr, length, length-append, map, pair, put_all, read, refl, rename, rest, rules},
+  Words.{cases_Bool, cases_lt, drop, followed, if◌then◌else◌, inl, inr, length, length-append, map, none, pair, put_all, read, refl, rename, rest, rules},
   Words.{subst, suc, sym, true, variant, zero, ℕ, [], ◌*◌, ◌++◌, ◌+◌, ◌==◌, ◌∙◌, ◌∷◌, ◌≡◌, ◌≤◌, ◌⊎◌},
 }
 use Rattle.pagable_theorems.specs.{
@@ -15,12 +15,12 @@ use Rattle.pagable_theorems.specs.{
 use Rattle.pagable_value_spec.specs.{
   BasicValues.{bool_at, bytes_at, carried, char_at, duration_at, length_at, longest, nanos_of_second, text_at},
   Canonical.HasNoReference,
-  CarriedTypes.{of_entries, of_hash_map},
-  Keys.{code_order, put_sorted, text_order},
-  Meaning.{lifted, sequence},
-  Numbers.{Read, byte_at, signed_at, signed_from, unsigned_at, varint_at},
+  CarriedTypes.{of_entries, of_hash_map, of_tagged},
+  Keys.{code_order, put_placed_item, put_sorted, put_sorted_item, text_order},
+  Meaning.{absent, entry, failure, lifted, present, sequence, success},
+  Numbers.{Read, byte_at, last_of, more_of, signed_at, signed_from, unsigned_at, varint_at},
   ReadSteps.◌>>=◌,
-  Reading.{Context, Deeper, Gets, JsonCase, Look, Rest, array_case, below, bytes_of, choose, counted, enter, flag_case, items, json_case, json_part},
+  Reading.{Context, Deeper, Gets, JsonCase, Look, Rest, array_case, below, bytes_of, choose, counted, deepest, enter, flag_case, items, json_case, json_part},
   Reading.{null_case, number_case, object_case, read_typed, read_with, reference_at, registered, seen, text_case, two},
   Shape.{array, both, cases, duration, flag, hash_map, json, letter, list, nested, nothing, optional, outcome, placed_map, placed_set, run, signed, sorted_map},
   Shape.{sorted_set, static_value, tagged, unsigned},
@@ -88,8 +88,8 @@ module _ {I : Type 0} {plus : I → I → I} {end : I} {K : Error → Type 0} (j
   -- one whose value is tested, and seen by view
   tested : {A B : Type 0} {get : I → Result (A × I) Error} {whole : I → Result (B × I) Error} (pass : A → Bool) (view : A → B) (e : Error)
       → ((i : I) → whole i ≡ (get i >>= λ p. if pass p.0 then Ok (view p.0, p.1) else Err e)) → Tame plus K get → K e → Tame plus K whole
-  tested {B = B} {whole = whole} pass view e is h known = and_then (λ v i. if pass v then Ok (view v, i) else Err e) _ is h
-      (λ v. either _ (gives _) (refuses B e known))
+  tested {B = B} {whole = whole} pass view e is h known = and_then (λ v i. if pass v then Ok (view v, i) else Err e) whole is h
+      (λ v. either (pass v) (gives (view v)) (refuses B e known))
 
 bytes_join : Joins {I = List ℕ} ◌++◌ []
 bytes_join = record { assoc = append_assoc; start = λ a. refl }
@@ -118,15 +118,15 @@ varint_tame zero last = tested bytes_join (λ b. nat_le b last) (λ b. b) Error.
 varint_tame (suc more) last =
     and_then bytes_join (λ b bs. if nat_lt b 128 then Ok (b, bs) else (varint_at more last bs >>= λ high. Ok (b - 128 + 128 * high.0, high.1))) _
     (grind basics) byte_tame
-    (λ b. either bytes_join _ (gives bytes_join b)
-    (and_then bytes_join (λ high bs. Ok (b - 128 + 128 * high, bs)) _ (λ bs. refl) (varint_tame more last) (λ high. gives bytes_join _)))
+    (λ b. either bytes_join (nat_lt b 128) (gives bytes_join b)
+    (and_then bytes_join (λ high bs. Ok (b - 128 + 128 * high, bs)) _ (λ bs. refl) (varint_tame more last) (λ high. gives bytes_join (b - 128 + 128 * high))))
 
 unsigned_tame : (w : Width) → Tame ◌++◌ Sober (unsigned_at w)
 unsigned_tame w8 = byte_tame
-unsigned_tame w = varint_tame _ _
+unsigned_tame w = varint_tame (more_of w) (last_of w)
 
 signed_tame : (w : Width) → Tame ◌++◌ Sober (signed_at w)
-signed_tame w = and_then bytes_join (λ n bs. Ok (signed_from w n, bs)) _ (λ bs. refl) (unsigned_tame w) (λ n. gives bytes_join _)
+signed_tame w = and_then bytes_join (λ n bs. Ok (signed_from w n, bs)) _ (λ bs. refl) (unsigned_tame w) (λ n. gives bytes_join (signed_from w n))
 
 bool_tame : Tame ◌++◌ Sober bool_at
 unfolding bool_at
@@ -139,7 +139,7 @@ length_tame = tested bytes_join (λ n. nat_le n longest) (λ n. n) Error.TooLong
 text_tame : Tame ◌++◌ Sober text_at
 unfolding text_at
 text_tame = and_then bytes_join (λ n bs. bytes_at n bs >>= λ t. if is_utf8 t.0 then Ok t else Err Error.BadUtf8) _ (λ bs. refl) length_tame
-    (λ n. tested bytes_join _ (λ t. t) _ (λ bs. refl) (bytes_tame n) tt)
+    (λ n. tested bytes_join is_utf8 (λ t. t) Error.BadUtf8 (λ bs. refl) (bytes_tame n) tt)
 
 char_tame : Tame ◌++◌ Sober char_at
 unfolding char_at
@@ -148,7 +148,7 @@ char_tame = tested bytes_join (λ t. length (chars t) == 1) (λ t. get_or (chars
 duration_tame : Tame ◌++◌ Sober duration_at
 unfolding duration_at
 duration_tame = and_then bytes_join (λ s bs. unsigned_at w32 bs >>= λ n. carried s n.0 n.1) _ (λ bs. refl) (unsigned_tame w64)
-    (λ s. tested bytes_join (λ n. nat_lt (s + n / nanos_of_second) (2 ^ 64)) (λ n. (s + n / nanos_of_second, n % nanos_of_second)) _
+    (λ s. tested bytes_join (λ n. nat_lt (s + n / nanos_of_second) (2 ^ 64)) (λ n. (s + n / nanos_of_second, n % nanos_of_second)) Error.BadDuration
     (λ bs. refl) (unsigned_tame w32) tt)
 
 -- causes of two refusals: one for both; and any, where what comes of a refusal isn't asked
@@ -169,7 +169,7 @@ module _ {A : Type 0} where
   joins = record { assoc = λ a b c. rw (append_assoc a.bytes b.bytes c.bytes, append_assoc a.refs b.refs c.refs) refl; start = λ a. refl }
 
   seen_tame : {X Y U : Type 0} {get : Gets A Y} (view : X → Y → U) → Tame more Any get → (v : X) → Tame more Any (λ i. seen (view v) get i)
-  seen_tame view h v = and_then joins (λ y i. Ok (view v y, i)) _ (λ i. refl) h (λ y. gives joins _)
+  seen_tame view h v = and_then joins (λ y i. Ok (view v y, i)) _ (λ i. refl) h (λ y. gives joins (view v y))
 
 module _ {A X Y : Type 0} (read : List ℕ → Read X) (view : X → Y) where
   bytes_come : (i : Rest A) (first : Read X) → Comes ◌++◌ Sober read i.bytes first → Comes more Any (bytes_of read view) i
@@ -186,7 +186,7 @@ module _ {A B : Type 0} (look : Look A B) where
     where
       by : (r : Result B Error) → look kind a ≡ r
           → Comes more Any (λ i. reference_at look kind i.refs i) (rest bytes (a ∷ refs))
-          (r >>= λ b. let z = Ok (meanings.reference b, rest bytes refs) in z)
+          (r >>= λ b. let z : Result (Meaning B × Rest A) Error = Ok (meanings.reference b, rest bytes refs) in z)
       by (Ok b) e = record { used = rest [] (a ∷ []); whole = refl; reads = λ y. rw e refl }
       by (Err f) e = (tt, inr (λ x. rw e refl))
 
@@ -247,7 +247,7 @@ module _ {A B : Type 0} {E : Error → Error → Type 0} {T : List A → List B 
   bytes_par {X} {Y} {Z} {V} read t view view2 h =
       record {
         out = λ r q s. rw s.bytes (by r q s.refs (read r.bytes) (t.comes r.bytes));
-        tame = record { comes = λ i. bytes_come _ _ i _ (t.comes i.bytes) };
+        tame = record { comes = λ i. bytes_come read view i (read i.bytes) (t.comes i.bytes) };
       }
     where
       by : (r : Rest A) (q : Rest B) → T r.refs q.refs → (first : Read Z) → Comes ◌++◌ Sober read r.bytes first
@@ -261,8 +261,8 @@ module _ {A B : Type 0} {E : Error → Error → Type 0} {T : List A → List B 
 
   seen_par : {X Y U W : Type 0} {V : X → Y → Type 0} {V2 : U → W → Type 0} {get : Gets A X} {get2 : Gets B Y} (view : X → U) (view2 : Y → W)
       → ((v : X) (w : Y) → V v w → V2 (view v) (view2 w)) → Par E T V get get2 → Par E T V2 (seen view get) (seen view2 get2)
-  seen_par view view2 k h = then_par (λ v i. Ok (view v, i)) (λ w i. Ok (view2 w, i)) h (λ v w r. gives_par _ _ (k v w r))
-      (λ v. gives joins _)
+  seen_par view view2 k h = then_par (λ v i. Ok (view v, i)) (λ w i. Ok (view2 w, i)) h (λ v w r. gives_par (view v) (view2 w) (k v w r))
+      (λ v. gives joins (view v))
 
   -- what is read first says which of two is read then
   known_par : {X Y Z : Type 0} {V : X → Y → Type 0} (read : List ℕ → Read Z) → Tame ◌++◌ Sober read
@@ -285,7 +285,7 @@ module _ {A B : Type 0} {E : Error → Error → Type 0} {T : List A → List B 
 
   counted_par : {X Y : Type 0} {V : X → Y → Type 0} {get : Gets A X} {get2 : Gets B Y} → Par E T V get get2
       → Par E T (AllTwo V) (counted get) (counted get2)
-  counted_par h = then_same (bytes_same _ length_tame) (λ n. items_par h n)
+  counted_par h = then_same (bytes_same length_at length_tame) (λ n. items_par h n)
 
 -- it is read throughout, or F says that references may stand followed in what is read
 abbrev pub Covers : Type 0 → (ℕ → Shape) → Shape → Type 0
@@ -335,8 +335,8 @@ module _ {A B C D : Type 0} {E : Error → Error → Type 0} {F : Type 0} {T : L
   registered_par : (registry : List (Meaning ⊥)) → F ⊎ AllByRecursion HasNoReference registry → (n : ℕ)
       → Par E T (Along F R) (λ (i : Rest A). registered registry n >>= λ m. let z : Result (Meaning C × Rest A) Error = Ok (lifted m, i) in z)
       (λ (i : Rest B). registered registry n >>= λ m. let z : Result (Meaning D × Rest B) Error = Ok (lifted m, i) in z)
-  registered_par [] h n = refuses_par _ _ tt
-  registered_par (m ∷ ms) h zero = gives_par _ _ (lifted-along m (elim h [ inl f ↦ inl f | inr all ↦ inr all.0 ]))
+  registered_par [] h n = refuses_par (Along F R) Error.BadStaticIndex tt
+  registered_par (m ∷ ms) h zero = gives_par (lifted m) (lifted m) (lifted-along m (elim h [ inl f ↦ inl f | inr all ↦ inr all.0 ]))
   registered_par (m ∷ ms) h (suc n) = registered_par ms (elim h [ inl f ↦ inl f | inr all ↦ inr all.1 ]) n
 
   module _ {parts : ℕ → Shape} where
@@ -346,29 +346,29 @@ module _ {A B C D : Type 0} {E : Error → Error → Type 0} {F : Type 0} {T : L
         → ((get : Shape → Gets A (Meaning C)) (get2 : Shape → Gets B (Meaning D)) → ((s : Shape) → Covers F parts s → Par E T (Along F R) (get s) (get2 s))
         → Par E T V (part get) (part2 get2))
         → Par E T V (λ i. enter d part i) (λ i. enter d2 part2 i)
-    enter_par {X} {Y} {V} part part2 no-deeper k = refuses_par V _ tt
+    enter_par {X} {Y} {V} part part2 no-deeper k = refuses_par V Error.TooDeep tt
     enter_par part part2 (one-deeper get get2 h) k = k get get2 h
 
     json_par : {d : Deeper A C} {d2 : Deeper B D} → DeeperPar E F T R parts d d2 → (case : JsonCase)
         → Par E T (Along F R) (λ i. json_part d case i) (λ i. json_part d2 case i)
     unfolding IsReadable LiesIn
     json_par h null_case = gives_par _ _ (variant-along _ _ _ none-along)
-    json_par h flag_case = bytes_par _ bool_tame _ _ (λ b. variant-along _ _ _ (flag-same b))
+    json_par h flag_case = bytes_par bool_at bool_tame _ _ (λ b. variant-along _ _ _ (flag-same b))
     json_par h number_case = known_par bool_at bool_tame (λ float. float) (λ float e. refuses_par (Along F R) Error.JsonNumber tt)
         (λ float. bytes_par (signed_at w64) (signed_tame w64) _ _ (λ z. variant-along _ _ _ (integer-along z)))
-    json_par h text_case = bytes_par _ text_tame _ _ (λ t. variant-along _ _ _ (text-along t))
-    json_par h array_case = then_same (bytes_same _ length_tame)
+    json_par h text_case = bytes_par text_at text_tame _ _ (λ t. variant-along _ _ _ (text-along t))
+    json_par h array_case = then_same (bytes_same length_at length_tame)
         (λ count. enter_par (λ get. seen (λ ms. variant 4 (sequence ms)) (items (get json) count))
         (λ get. seen (λ ms. variant 4 (sequence ms)) (items (get json) count)) h
-        (λ get get2 g. seen_par _ _ (λ ms ns r. variant-along _ _ _ (sequence-two r)) (items_par (g json (inr (alone (λ n d. tt) tt))) _)))
+        (λ get get2 g. seen_par _ _ (λ ms ns r. variant-along _ _ _ (sequence-two r)) (items_par (g json (inr (alone (λ n d. tt) tt))) count)))
     json_par {d} {d2} h object_case =
         then_same {f = λ count. enter d (λ get. seen (λ es. variant 5 (of_entries (put_all (put_sorted text_order) [] es)))
         (items (two (get shapes.text) (get json)) count))}
         {g = λ count. enter d2 (λ get. seen (λ es. variant 5 (of_entries (put_all (put_sorted text_order) [] es)))
         (items (two (get shapes.text) (get json)) count))}
-        (bytes_same _ length_tame)
+        (bytes_same length_at length_tame)
         (λ count. enter_par _ _ h (λ get get2 g. seen_par _ _ (λ es fs r. variant-along _ _ _ (sorted-two text_order r))
-        (items_par (entry_par (g shapes.text (inr (alone (λ n d. tt) tt))) (g json (inr (alone (λ n d. tt) tt)))) _)))
+        (items_par (entry_par (g shapes.text (inr (alone (λ n d. tt) tt))) (g json (inr (alone (λ n d. tt) tt)))) count)))
 
     -- where the next references are read alike
     module _ (look : Look A C) (look2 : Look B D)
@@ -377,27 +377,27 @@ module _ {A B C D : Type 0} {E : Error → Error → Type 0} {F : Type 0} {T : L
       with_par : {d : Deeper A C} {d2 : Deeper B D} → DeeperPar E F T R parts d d2 → (s : Shape) → Covers F parts s
           → Par E T (Along F R) (λ i. read_with look parts d s i) (λ i. read_with look2 parts d2 s i)
       unfolding read_with IsReadable LiesIn
-      with_par h nothing t = gives_par _ _ none-along
-      with_par h (unsigned w) t = bytes_par _ (unsigned_tame w) _ _ (λ n. number-along n)
-      with_par h (signed w) t = bytes_par _ (signed_tame w) _ _ (λ z. integer-along z)
-      with_par h flag t = bytes_par _ bool_tame _ _ flag-same
-      with_par h shapes.text t = bytes_par _ text_tame _ _ (λ b. text-along b)
-      with_par h letter t = bytes_par _ char_tame _ _ (λ c. number-along c)
-      with_par h duration t = bytes_par _ duration_tame _ _ (λ p. pair-along _ _ _ _ (number-along p.0) (number-along p.1))
-      with_par h shapes.pattern t = bytes_par _ text_tame _ _ (λ b. pattern-along b)
-      with_par {d} {d2} h json t = then_same (bytes_same _ (unsigned_tame w64)) (λ n.
+      with_par h nothing t = gives_par none none none-along
+      with_par h (unsigned w) t = bytes_par (unsigned_at w) (unsigned_tame w) _ _ (λ n. number-along n)
+      with_par h (signed w) t = bytes_par (signed_at w) (signed_tame w) _ _ (λ z. integer-along z)
+      with_par h flag t = bytes_par bool_at bool_tame _ _ flag-same
+      with_par h shapes.text t = bytes_par text_at text_tame _ _ (λ b. text-along b)
+      with_par h letter t = bytes_par char_at char_tame _ _ (λ c. number-along c)
+      with_par h duration t = bytes_par duration_at duration_tame _ _ (λ p. pair-along _ _ _ _ (number-along p.0) (number-along p.1))
+      with_par h shapes.pattern t = bytes_par text_at text_tame _ _ (λ b. pattern-along b)
+      with_par {d} {d2} h json t = then_same (bytes_same (unsigned_at w64) (unsigned_tame w64)) (λ n.
           elim (json_case n) as (λ c. IfErr c Sober → Par E T (Along F R) (λ i. c >>= λ case. json_part d case i) (λ i. c >>= λ case. json_part d2 case i))
-          [ Ok case ↦ λ s. json_par h _ | Err e ↦ refuses_par _ e ] (grind basics))
-      with_par h (optional s) t = known_par _ bool_tame (λ some. some)
-          (λ some e. seen_par _ _ (λ m n r. variant-along _ _ _ r) (with_par h s (over (λ p. p) (λ n d l. l) t)))
-          (λ some. gives_par _ _ (variant-along _ _ _ none-along))
-      with_par h (outcome s s2) t = known_par _ bool_tame (λ ok. ok)
-          (λ ok e. seen_par _ _ (λ m n r. variant-along _ _ _ r) (with_par h s (over (λ p. p.0) (λ n d l. l.0) t)))
-          (λ ok. seen_par _ _ (λ m n r. variant-along _ _ _ r) (with_par h s2 (over (λ p. p.1) (λ n d l. l.1) t)))
-      with_par h (list s) t = seen_par _ _ (λ ms ns r. sequence-two r) (counted_par (with_par h s (over (λ p. p) (λ n d l. l) t)))
-      with_par h (run s) t = refuses_par _ _ tt
-      with_par h (array n s) t = seen_par _ _ (λ ms ns r. sequence-two r) (items_par (with_par h s (over (λ p. p) (λ n d l. l) t)) n)
-      with_par h (both s s2) t = seen_par _ _ (λ e f r. pair-along _ _ _ _ r.key r.value)
+          [ Ok case ↦ λ s. json_par h case | Err e ↦ refuses_par (Along F R) e ] (grind basics))
+      with_par h (optional s) t = known_par bool_at bool_tame (λ some. some)
+          (λ some e. seen_par present present (λ m n r. variant-along _ _ _ r) (with_par h s (over (λ p. p) (λ n d l. l) t)))
+          (λ some. gives_par absent absent (variant-along _ _ _ none-along))
+      with_par h (outcome s s2) t = known_par bool_at bool_tame (λ ok. ok)
+          (λ ok e. seen_par success success (λ m n r. variant-along _ _ _ r) (with_par h s (over (λ p. p.0) (λ n d l. l.0) t)))
+          (λ ok. seen_par failure failure (λ m n r. variant-along _ _ _ r) (with_par h s2 (over (λ p. p.1) (λ n d l. l.1) t)))
+      with_par h (list s) t = seen_par sequence sequence (λ ms ns r. sequence-two r) (counted_par (with_par h s (over (λ p. p) (λ n d l. l) t)))
+      with_par h (run s) t = refuses_par (Along F R) Error.WrongKind tt
+      with_par h (array n s) t = seen_par sequence sequence (λ ms ns r. sequence-two r) (items_par (with_par h s (over (λ p. p) (λ n d l. l) t)) n)
+      with_par h (both s s2) t = seen_par entry entry (λ e f r. pair-along _ _ _ _ r.key r.value)
           (entry_par (with_par h s (over (λ p. p.0) (λ n d l. l.0) t)) (with_par h s2 (over (λ p. p.1) (λ n d l. l.1) t)))
       with_par h (sorted_map order s s2) t = seen_par _ _ (λ es fs r. sorted-two order r)
           (counted_par (entry_par (with_par h s (over (λ p. p.0) (λ n d l. l.0) t)) (with_par h s2 (over (λ p. p.1) (λ n d l. l.1) t))))
@@ -407,19 +407,19 @@ module _ {A B C D : Type 0} {E : Error → Error → Type 0} {F : Type 0} {T : L
       with_par h (hash_map s s2) t = seen_par of_hash_map of_hash_map (λ es fs r. sorted-two code_order r)
           (counted_par (entry_par (with_par h s (over (λ p. p.0) (λ n d l. l.0) t)) (with_par h s2 (over (λ p. p.1) (λ n d l. l.1) t))))
       with_par h (sorted_set order s) t = seen_par _ _ (λ ms ns r. sequence-two
-          (put_all-two {V = Along F R} _ _ one-two
+          (put_all-two {V = Along F R} (put_sorted_item order) (put_sorted_item order) one-two
           (λ x u y w acc acc2 v g k l. search (rules, more-two, plain-along)) r no-two)) (counted_par (with_par h s (over (λ p. p) (λ n d l. l) t)))
-      with_par h (placed_set s) t = seen_par _ _ (λ ms ns r. sequence-two (put_all-two {V = Along F R} _ _ one-two
+      with_par h (placed_set s) t = seen_par _ _ (λ ms ns r. sequence-two (put_all-two {V = Along F R} put_placed_item put_placed_item one-two
           (λ x u y w acc acc2 v g k l. search (rules, more-two, plain-along)) r no-two)) (counted_par (with_par h s (over (λ p. p) (λ n d l. l) t)))
       with_par h (static_value registry) t = then_same (bytes_same (unsigned_at w32) (unsigned_tame w32))
           (λ n. registered_par registry (grind (basics, here)) n)
-      with_par h (tagged written known body) t = known_par _ text_tame _
-          (λ tag e. seen_par _ _ (λ m n r. pair-along _ _ _ _ (text-along tag) r)
+      with_par h (tagged written known body) t = known_par text_at text_tame known
+          (λ tag e. seen_par (of_tagged tag) (of_tagged tag) (λ m n r. pair-along _ _ _ _ (text-along tag) r)
           (with_par h (body tag) (over (λ p. p.1 tag e) (λ n d l. l.1 tag e) t)))
-          (λ tag. refuses_par _ _ tt)
-      with_par h (cases w known part) t = known_par _ (unsigned_tame w) _
-          (λ n e. seen_par _ _ (λ x y r. variant-along _ _ _ r) (with_par h (part n) (over (λ p. p n e) (λ nodes d l. l n e) t)))
-          (λ n. refuses_par _ _ tt)
+          (λ tag. refuses_par (Along F R) Error.UnknownTag tt)
+      with_par h (cases w known part) t = known_par (unsigned_at w) (unsigned_tame w) known
+          (λ n e. seen_par (variant n) (variant n) (λ x y r. variant-along _ _ _ r) (with_par h (part n) (over (λ p. p n e) (λ nodes d l. l n e) t)))
+          (λ n. refuses_par (Along F R) Error.UnknownTag tt)
       with_par h (shapes.reference kind) t = record { out = alike kind; tame = record { comes = λ i. reference_comes look kind i.bytes i.refs } }
       with_par h (nested n) t = enter_par _ _ h (λ get get2 g. g (parts n) (grind (basics, part_of)))
 
@@ -432,7 +432,7 @@ module _ {A B C D : Type 0} {E : Error → Error → Type 0} {F : Type 0} {T : L
           → Par E T (Along F R) (read (record { levels = levels; look = look; parts = parts }) s)
           (read (record { levels = levels; look = look2; parts = parts }) s)
       unfolding read
-      read_par levels s t = with_par (below_par _) s t
+      read_par levels s t = with_par (below_par (deepest - levels)) s t
 
       -- so do they read a type that may not be known
       pub typed_par : (levels : ℕ) (o : Option Shape) → ((s : Shape) → o ≡ Some s → Covers F parts s) → (r : Rest A) (q : Rest B) → SameRest T r q
@@ -450,16 +450,16 @@ comes-of {A} {B} context s input e =
     -- what is looked up stands for itself
     let alike : (k : ℕ) (a b : A) → a ≡ b → OutLook any_cause (λ (c d : B). Unit {0}) (context.look k a) (context.look k b) = λ k a b is. rw is
     (elim (context.look k b) as (λ r. OutLook any_cause (λ (c d : B). Unit {0}) r r) [ Ok c ↦ both-looked-up c c tt | Err e ↦ both-not e e tt ]) in
-    let par = read_par {E = any_cause} {F = Unit {0}} {T = AllTwo (λ a b. a ≡ b)} {R = λ c d. Unit {0}} {parts = context.parts} _ _
-    (each _ _ alike) _ s (inl tt) in
-    rw (← e) (par.tame.comes input)
+    let par = read_par {E = any_cause} {F = Unit {0}} {T = AllTwo (λ a b. a ≡ b)} {R = λ c d. Unit {0}} {parts = context.parts} context.look context.look
+    (each _ _ alike) context.levels s (inl tt) in
+    subst (Comes more Any (read context s) input) e (par.tame.comes input)
 
 pub local : {A B : Type 0} → FrontReadsAlike A B
-local context s front after x y m e = let f = comes-of _ s _ e in rw (f.whole, joins.assoc f.used after (rest x y)) (f.reads (more after (rest x y)))
+local context s front after x y m e = let f = comes-of context s front e in rw (f.whole, joins.assoc f.used after (rest x y)) (f.reads (more after (rest x y)))
 
 pub used : {A B : Type 0} → UsedPartReadsAlone A B
 used context s input after m e =
-    let f = comes-of _ s _ e in
+    let f = comes-of context s input e in
     let alone : more f.used (rest [] []) ≡ f.used = rw (append-nil f.used.bytes, append-nil f.used.refs) refl in
     record { bytes = f.used.bytes; refs = f.used.refs; whole = f.whole; alone = rw alone at (f.reads (rest [] [])) }
 
@@ -508,8 +508,8 @@ pub natural : {A B C D : Type 0} → ReadsAlikeForAnyReferences A B C D
 natural {A} {B} {C} {D} f g look other levels parts s input h =
     let alike : (kind : ℕ) (a : A) (c : C) → f a ≡ c → OutLook one_cause (Leads g) (look kind a) (other kind c) =
     λ kind a c e. (grind (basics, both-looked-up, both-not)) in
-    let par = read_par _ _ (each _ _ alike) _ s (inl tt) in
-    natural-out f g (par.out input (rest input.bytes (map f input.refs)) (record { bytes = refl; refs = all-map f _ }))
+    let par = read_par look other (each look other alike) levels s (inl tt) in
+    natural-out f g (par.out input (rest input.bytes (map f input.refs)) (record { bytes = refl; refs = all-map f input.refs }))
 
 rename_same : {B : Type 0} (m : Meaning B) → rename (λ b. b) m ≡ m
 unfolding rename
@@ -546,5 +546,5 @@ read_through {A} {B} {C} {D} f g look other levels parts s input after m h e =
       | Ok b ↦ λ j. (let q : other kind c ≡ Ok (g b) = rw (← i) (h kind a b j) in rw q (both-looked-up b (g b) refl))
       | Err x ↦ λ j. first-not x (other kind c) (λ d. tt)
     ] refl in
-    let par = read_par _ _ (each _ _ alike) _ s (inl tt) in
-    through-out f g m _ (par.out input (rest input.bytes (map f input.refs)) (record { bytes = refl; refs = all-map f _ })) e
+    let par = read_par look other (each look other alike) levels s (inl tt) in
+    through-out f g m after (par.out input (rest input.bytes (map f input.refs)) (record { bytes = refl; refs = all-map f input.refs })) e

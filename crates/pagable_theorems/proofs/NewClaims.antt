@@ -3,7 +3,7 @@ use Rattle.pagable_pager_spec.specs.{
   Events.{Starts, WorkStays, new_walking},
   Order.{Follows, Leads, MetError, is_claim, own_references, references_written},
   Rightness.{FailedElsewhere, IsMetFailure},
-  Workers.{first_todo, is_counted, next_start, with_outcome},
+  Workers.{advance, first_todo, is_counted, next_start, with_outcome, with_wait},
   World.{Open, answer_of_fault, is_identity, published, to_publish},
   declared.events.TableNumber.TableNumber,
 }
@@ -30,57 +30,57 @@ use Rattle.std.specs.List.{sum_by}
 module _ {N B W : Type 0} (m : Seen N B W) (v : ℕ) (task : Task) (s s' : WorkerState) where
   to-list : {answer : Option WorkerAnswer} {todo : List Todo} → s'.todo ≡ todo → Goes v task s.shelf answer s'.shelf todo
       → Goes v task s.shelf answer s'.shelf s'.todo
-  to-list {answer = answer} e goes = rw e goes
+  to-list {answer = answer} e goes = subst (λ t. Goes v task s.shelf answer s'.shelf t) (sym e) goes
 
   released : (r : ArcRef) (key height : ℕ) (below : List Todo) → AllStand s.shelf v task (to_release r key height ∷ below)
       → CoversBy v task s.shelf (to_release r key height ∷ below)
       → ((i : Identity) → s'.shelf.slots i ≡ s.shelf.slots i) → (step : Action W)
       → Goes v task s.shelf (answer_after (to_release r key height ∷ below) step) s'.shelf (give r key height below)
   released r key height below (stands, apart, rest) covers same step =
-      plain v _ _ _ same _ _ (λ a is. grind basics) (gives v task s.shelf r key height below rest)
+      plain v task s.shelf s'.shelf same _ (give r key height below) (λ a is. grind basics) (gives v task s.shelf r key height below rest)
       (λ i slot there own still. given-open v task s.shelf i r key height below ∙ covers i slot there own still)
 
   pub stands-on : (todo : List Todo) → s.todo ≡ todo → AllStand s.shelf v task todo → Covers s.shelf v todo → (step : Action W) → WorkDoes m v s todo step s'
       → Goes v task s.shelf (answer_after todo step) s'.shelf s'.todo
   stands-on (to_start r place ∷ below) e (meets, apart, rest) covers (Action.Claim i (Ok Claim.Claimed)) (is, c) =
       let new : Slot = record { worker = v; references = None; outcome = no_result } in
-      let free = false_from_ne_true (is_open_in (identity_of r) below)
-      (λ is. let a = open-slot v _ _ _ _ rest is in some-none a.1 c.finds.1.1) in
-      to-list c.finds.1.2.list_is (own-goes v _ _ _ _ _ _
-      (puts-slot _ _ _ _ c.finds.1.2.table_is) (is-new new c.finds.1.1 refl refl) meets refl
+      let free : is_open_in (identity_of r) below ≡ false = false_from_ne_true (is_open_in (identity_of r) below)
+      (λ is. let a = open-slot v task s.shelf (identity_of r) below rest is in some-none a.1 c.finds.1.1) in
+      to-list c.finds.1.2.list_is (own-goes v task s.shelf s'.shelf (identity_of r) new (to_pin r place ∷ below)
+      (puts-slot (with_wait s.shelf v None) s'.shelf (identity_of r) new c.finds.1.2.table_is) (is-new new c.finds.1.1 refl refl) meets refl
       (λ changes now. (grind (basics, all-stay, grows, false_from_ne_true, true-false, is-same, is-self)))
       (grind (basics, put-cases, identity_of, is_open_in, or_right, is_identity, or_left, is-self)))
   -- the key of the reference was known
   stands-on (to_start r place ∷ []) e (meets, apart, rest) covers (Action.Claim i (Ok (Claim.Known key height))) (is, c) = to-list c.finds.1.2.list_is
-      (plain v _ _ _ c.finds.1.2.table_is.slots _ _ (λ a is. absurd (cc)) (
+      (plain v task s.shelf s'.shelf c.finds.1.2.table_is.slots None (to_release r key height ∷ []) (λ a is. absurd (cc)) (
         (meets, c.finds.1.1),
         (λ i no. absurd (cc)),
         tt,
       ) covers)
   stands-on (to_start r place ∷ x ∷ below) e (meets, apart, rest) covers (Action.Claim i (Ok (Claim.Known key height))) (is, c) = to-list c.finds.1.2.list_is
-      (plain v _ _ _ c.finds.1.2.table_is.slots _ _ (λ a is. absurd (cc))
+      (plain v task s.shelf s'.shelf c.finds.1.2.table_is.slots None (give r key height (x ∷ below)) (λ a is. absurd (cc))
       (gives v task s.shelf r key height (x ∷ below) rest)
       (λ i slot there own still. given-open v task s.shelf i r key height (x ∷ below) ∙ covers i slot there own still))
   stands-on (to_start r place ∷ below) e all covers (Action.Claim i (Ok Claim.Waiting)) (is, c) = to-list (c.finds.1.2.list_is ∙ e)
-      (plain v _ _ _ c.finds.1.2.table_is.slots _ _ (λ a is. absurd (cc)) all covers)
+      (plain v task s.shelf s'.shelf c.finds.1.2.table_is.slots None (to_start r place ∷ below) (λ a is. absurd (cc)) all covers)
   stands-on (to_write r place through ∷ below) e ((meets, c), apart, rest) covers (Action.Write i (Ok out)) (is, p) =
       let new : Slot = record c.slot { references = Some (m.written_of out).references } in
-      let puts = changes-slot _ _ _ _ (λ slot. record slot { references = Some (m.written_of out).references }) c.claimed
+      let puts = changes-slot s.shelf s'.shelf (identity_of r) c.slot (λ slot. record slot { references = Some (m.written_of out).references }) c.claimed
       p.writes.table_is in
       let o : Open = record { reference = r; place = place; through = through; written = m.written_of out; keys = []; height = 0 } in
-      to-list p.writes.list_is (own-goes v _ _ _ _ _ _ puts
+      to-list p.writes.list_is (own-goes v task s.shelf s'.shelf (identity_of r) new (advance (to_finish o ∷ below)) puts
       (is-changed c.slot new c.claimed c.own refl (grind (basics, some-none))) meets (ap is_failed c.no_result_yet)
-      (λ changes now. settles v _ _ o _ (grind (basics, all-stay, grows, false_from_ne_true, true-false, is-same, is-self)))
+      (λ changes now. settles v task s'.shelf o below (grind (basics, all-stay, grows, false_from_ne_true, true-false, is-same, is-self)))
       (grind (basics, or_right, started-open, put-cases, is_identity, or_left, is-self)))
   stands-on (to_publish r key height ∷ below) e ((meets, c), apart, rest) covers (Action.Publish i k h) (is, same_key, same_height, t) =
       let new = with_outcome (published key height) c.slot in
-      let puts = changes-slot _ _ _ _ _ c.claimed t.table_is in
-      to-list t.list_is (own-goes v _ _ _ _ _ _ puts
+      let puts = changes-slot s.shelf s'.shelf (identity_of r) c.slot (with_outcome (published key height)) c.claimed t.table_is in
+      to-list t.list_is (own-goes v task s.shelf s'.shelf (identity_of r) new (to_release r key height ∷ below) puts
       (is-changed c.slot new c.claimed c.own refl (grind arith)) meets (grind arith)
       (λ changes now. (grind (basics, all-stay, grows, false_from_ne_true, true-false, is-same, is-self)))
       (grind (basics, put-cases, or_cases, true-false, is-same, is-self)))
   stands-on (to_fail fault back ∷ below) e all covers Action.Fail (back_is, table_is, list_is) =
-      to-list list_is (failed-goes v _ _ _ _ table_is)
+      to-list list_is (failed-goes v task s.shelf s'.shelf (answer_of_fault fault) table_is)
   stands-on _ e all covers step does = grind (basics, to-list, fails, swaps, plain, released)
 
 abbrev pub StandsIn : World → Type 0
@@ -117,7 +117,7 @@ module _ {N B W : Type 0} (m : Seen N B W) (u u' : World) (work : StandsIn u) wh
   module _ (event : Event N B W) (reply : EventReply N B W) (h : Happens m u event reply u') where
     last-on : u.core.last.worker ≤ u'.core.last.worker
     last-on = let cases : KeepsOpen event ⊎ (event ≡ Event.Call Call.Close) = grind basics in elim cases [
-      | inl keeps ↦ (event-goes m u _ _ _ keeps h).goes.workers_last
+      | inl keeps ↦ (event-goes m u u' event reply keeps h).goes.workers_last
       | inr closes ↦ (grind (basics, le-of))
     ]
 
@@ -133,12 +133,12 @@ module _ {N B W : Type 0} (m : Seen N B W) (u u' : World) (work : StandsIn u) wh
         → EventTurns m u event reply u'
     starts no_step t task core v same s =
         let above : u.core.last.worker < v.0 = omega arith in
-        let last = ap (λ l. l.worker) s.pager.last in
-        let new = s.work.same_walkings v.0 ∙ updated-at v.0 _ u.work.walkings in
-        let turned = is-started _ _ _ _ _ work (λ q i. (s.work.same_shelves q).slots i)
-        _ _ above refl refl new (λ n other. s.work.same_walkings n
-        ∙ updated-off _ _ u.work.walkings n other) in
-        let own = begins t task (no_step v.0) (λ q i. (s.work.same_shelves q).slots i)
+        let last : u'.core.last.worker ≡ core.last.worker + 1 = ap (λ l. l.worker) s.pager.last in
+        let new : u'.work.walkings v.0 ≡ Some (new_walking t task) = s.work.same_walkings v.0 ∙ updated-at v.0 (Some (new_walking t task)) u.work.walkings in
+        let turned = is-started u.work.shelves u'.work.shelves u.work.walkings u'.work.walkings u.core.last.worker work (λ q i. (s.work.same_shelves q).slots i)
+        v.0 (new_walking t task) above refl refl new (λ n other. s.work.same_walkings n
+        ∙ updated-off v.0 (Some (new_walking t task)) u.work.walkings n other) in
+        let own : OwnTurn m u v.0 (step_of v.0 event reply) u' = begins t task (no_step v.0) (λ q i. (s.work.same_shelves q).slots i)
         (grind basics) new in
         record { who = v.0; turned = turned; last = last-on; small = omega (arith, s.next); others = λ n other. no_step n; own = own }
 
@@ -184,7 +184,7 @@ at-number P k x f q here there = grind basics
 pub turns-stand : {N B W : Type 0} (m : Seen N B W) {u u' : World} {event : Event N B W} {reply : EventReply N B W} → EventTurns m u event reply u' → StandsIn u
     → StandsIn u'
 turns-stand m {u} {u'} turns work =
-    work-stands _ _ _ _ _ turns.turned _ _ turns.last
+    work-stands turns.who u.work.shelves u'.work.shelves u.work.walkings u'.work.walkings turns.turned u.core.last.worker u'.core.last.worker turns.last
     turns.small work
 
 abbrev SameAs : Shelf → Shelf → Type 0
@@ -225,12 +225,12 @@ module _ {N B W : Type 0} (m : Seen N B W) {u u' : World} {event : Event N B W} 
         let w = s.walking in
         let now : Walking = record w { todo = s.after.todo; steps = r.steps; answer = r.answer } in
         let at_now : u'.work.walkings turns.who ≡ Some now = sym (ap u'.work.walkings at) ∙ s.work.same_walkings k.0
-        ∙ updated-at k.0 _ u.work.walkings in
+        ∙ updated-at k.0 (Some now) u.work.walkings in
         let table : SameAs s.after.shelf (u'.work.shelves w.table) = λ i. (s.work.same_shelves w.table).slots i
         ∙ ap (λ (z : Shelf). z.slots i) (updated-at w.table s.after.shelf u.work.shelves) in
         let d = step k r s at one (λ i slot there. let a = turns-grow w.table i slot there in (a.0, sym (table i) ∙ a.1, a.2)) in
         all-hold
-        (λ t. at-number (λ shelf. SameAs shelf (u'.work.shelves t) → Slots (u'.work.shelves t)) _ _ u.work.shelves t
+        (λ t. at-number (λ shelf. SameAs shelf (u'.work.shelves t) → Slots (u'.work.shelves t)) w.table s.after.shelf u.work.shelves t
         (λ same. alike s.after.shelf (u'.work.shelves t) same d.0)
         (stay t (u'.work.shelves t) (turns-grow t)) (s.work.same_shelves t).slots)
         (λ x there. rw (← some-same at_now there, ← at) (onward s.after.shelf (u'.work.shelves w.table)
@@ -318,19 +318,19 @@ module _ {W : Type 0} (n : ℕ) where
     refused step e among met = ((step, among, met), tt)
 
     on : {next other : List Todo} → next ≡ other → FailsMet shelf past other → FailsMet shelf past next
-    on e met = rw e met
+    on e met = subst (λ t. FailsMet shelf past t) (sym e) met
 
     -- what follows a step, where the other's claim has failed if that is what was found
     pub follows-met : (f : W → Written) (todo : List Todo) (step : Action W) (next : List Todo) → Follows f todo step next → Among past step
         → ((i : Identity) → step ≡ Action.Claim i (Ok Claim.AlreadyFailed) → FailedElsewhere shelf n i) → FailsMet shelf past todo → FailsMet shelf past next
     follows-met f (to_start r place ∷ below) (Action.Claim j (Ok Claim.AlreadyFailed)) next (is, e) among already met = rw e ((j, among, already j refl), tt)
-    follows-met f (to_start r place ∷ below) (Action.Claim j (Err fault)) next (is, e) among already met = rw e (refused _ _ among refl)
-    follows-met f (to_pin r place ∷ below) (Action.Pin j (Err fault)) next (is, e) among already met = rw e (refused _ _ among refl)
-    follows-met f (to_load r place through reading ∷ below) (Action.Pin j (Err fault)) next (is, e) among already met = rw e (refused _ _ among refl)
-    follows-met f (to_write r place through ∷ below) (Action.Write j (Err fault)) next (is, e) among already met = rw e (refused _ _ among refl)
-    follows-met f (to_finish o ∷ below) (Action.Store (Some j) (Err fault)) next (is, e) among already met = rw e (refused _ _ among refl)
-    follows-met f (to_item written keys ∷ below) (Action.Store None (Err fault)) next e among already met = rw e (refused _ _ among refl)
-    follows-met f (to_set r through key height ∷ below) (Action.SetKey j (Err fault)) next (is, e) among already met = rw e (refused _ _ among refl)
+    follows-met f (to_start r place ∷ below) (Action.Claim j (Err fault)) next (is, e) among already met = rw e (refused _ fault among refl)
+    follows-met f (to_pin r place ∷ below) (Action.Pin j (Err fault)) next (is, e) among already met = rw e (refused _ fault among refl)
+    follows-met f (to_load r place through reading ∷ below) (Action.Pin j (Err fault)) next (is, e) among already met = rw e (refused _ fault among refl)
+    follows-met f (to_write r place through ∷ below) (Action.Write j (Err fault)) next (is, e) among already met = rw e (refused _ fault among refl)
+    follows-met f (to_finish o ∷ below) (Action.Store (Some j) (Err fault)) next (is, e) among already met = rw e (refused _ fault among refl)
+    follows-met f (to_item written keys ∷ below) (Action.Store None (Err fault)) next e among already met = rw e (refused _ fault among refl)
+    follows-met f (to_set r through key height ∷ below) (Action.SetKey j (Err fault)) next (is, e) among already met = rw e (refused _ fault among refl)
     follows-met f _ step next follows among already met = grind (basics, on, given, started, drop)
 
     -- the answer is what the list was about to fail with, or a key
@@ -353,7 +353,7 @@ HasGone f n shelves (Some w) past = Went f n (shelves w.table) w past
 leads-more : {W : Type 0} (f : W → Written) (todo : List Todo) (past : List (Action W)) (mid : List Todo) (step : Action W) (last : List Todo)
     → Leads f todo past mid → Follows f mid step last
     → Leads f todo (past ++ step ∷ []) last
-leads-more f todo [] mid step last is follows = (last, rw (← is) follows, refl)
+leads-more f todo [] mid step last is follows = (last, subst (λ t. Follows f t step last) is follows, refl)
 leads-more f todo (x ∷ past) mid step last (next, first, leads) follows = (next, first, leads-more f next past mid step last leads follows)
 
 -- where a claim finds one that has failed, it is another's
@@ -363,7 +363,7 @@ pub failed-elsewhere : {N B W : Type 0} (m : Seen N B W) (v : ℕ) (s s' : Worke
 failed-elsewhere m v s s' (to_start r place ∷ below) i (is, c) clean =
     let found = c.finds.1.1 in
     let claimed = ap s.shelf.slots is ∙ found.1 in
-    let other =
+    let other : (found.0.worker == v) ≡ false =
     false_from_ne_true (found.0.worker == v) (λ e. cc (clean i found.0 claimed (same-number found.0.worker v e), ap is_failed found.2)) in
     record { slot = found.0; claimed = claimed; of_another = other; is_failed = found.2 }
 failed-elsewhere m v s s' todo i does clean = absurd does
@@ -399,21 +399,21 @@ module _ {N B W : Type 0} (m : Seen N B W) (u u' : World) (grow : (t : ℕ) → 
       let shelf = u.work.shelves w.table in
       let shelf' = u'.work.shelves w.table in
       let now : Walking = record w { todo = s.after.todo; steps = reply.steps; answer = reply.answer } in
-      let new : u'.work.walkings k.0 ≡ Some now = s.work.same_walkings k.0 ∙ updated-at k.0 _ u.work.walkings in
+      let new : u'.work.walkings k.0 ≡ Some now = s.work.same_walkings k.0 ∙ updated-at k.0 (Some now) u.work.walkings in
       let was = subst (λ o. HasGone f k.0 u.work.shelves o past) s.at gone in
-      let follows = steps_follow m _ _ _ _ s.does in
+      let follows = steps_follow m k.0 (site_of u w) s.after reply.action s.does in
       let fails = fails-stay k.0 shelf shelf' past (past ++ reply.action ∷ []) w.todo (grow w.table) (λ x (i, at). among-left past (reply.action ∷ []) i x at)
       was.fails in
       let already : (i : Identity) → reply.action ≡ Action.Claim i (Ok Claim.AlreadyFailed) → FailedElsewhere shelf' k.0 i =
-      λ i is. failed-stays _ _ _ i (grow w.table)
-      (failed-elsewhere m _ _ _ _ i (subst (λ step. WorkDoes m k.0 (site_of u w) w.todo step s.after) is s.does.does)
+      λ i is. failed-stays k.0 shelf shelf' i (grow w.table)
+      (failed-elsewhere m k.0 (site_of u w) s.after w.todo i (subst (λ step. WorkDoes m k.0 (site_of u w) w.todo step s.after) is s.does.does)
       ((work.workers k.0 w s.at).unfailed s.at_work)) in
-      let leads = leads-more f _ _ _ _ _ was.leads follows in
-      let left = follows-met _ _ _ f _ _ _ follows
-      (among-right past (reply.action ∷ []) 0 _ refl) already fails in
-      let met = λ (answer : WorkerAnswer) (is : reply.answer ≡ Some answer). answered _ _ _ _ _ _
+      let leads = leads-more f (first_todo w.task) past w.todo reply.action s.after.todo was.leads follows in
+      let left = follows-met k.0 shelf' (past ++ reply.action ∷ []) f w.todo reply.action s.after.todo follows
+      (among-right past (reply.action ∷ []) 0 reply.action refl) already fails in
+      let met = λ (answer : WorkerAnswer) (is : reply.answer ≡ Some answer). answered k.0 shelf' (past ++ reply.action ∷ []) w.todo reply.action answer
       (sym s.answers ∙ is) fails in
-      let counts = s.counts in let was_so = was.within in let paid = pays f _ _ _ follows in
+      let counts = s.counts in let was_so = was.within in let paid = pays f w.todo reply.action s.after.todo follows in
       rw new (record { leads = leads; fails = left; met = met; within = grind (basics, sum_by-append, sum_by-cons) })
 
 -- whatever an event does, its steps are added
@@ -423,6 +423,6 @@ pub goes-on : {N B W : Type 0} (m : Seen N B W) (u u' : World) (event : Event N 
     (past ++ step_of n event reply)
 goes-on {W = W} m u u' event reply work turns n past gone = elim (cases_Bool (nat_eq n turns.who)) [
   | inl e ↦ let is = same-number n turns.who e in let before = rw is at gone in rw is (grind (basics, stays, begun, went-on))
-  | inr e ↦ stays m u u' (turns-grow m turns) n _ _ _ _ (turns.turned.others n e)
+  | inr e ↦ stays m u u' (turns-grow m turns) n (u.work.walkings n) (u'.work.walkings n) past (step_of n event reply) (turns.turned.others n e)
       (turns.others n e) gone
 ]

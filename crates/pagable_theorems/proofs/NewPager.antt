@@ -1,8 +1,8 @@
 -- A new pager over any storage satisfies the invariant and stands for any trees, since nothing is in it.
-use Rattle.pagable_pager_spec.specs.{Kinds.{is_at, is_share}, Pager.{IsNew, IsReadingOf, OwnersAreThere, of_caller, of_worker}}
+use Rattle.pagable_pager_spec.specs.{Kinds.{is_at, is_pin, is_share}, Pager.{IsNew, IsReadingOf, OwnersAreThere, of_caller, of_worker}}
 use Rattle.pagable_theorems.proofs.{
   Words.{Among, Bool, HandleNumber, HandleRow, HandlesAreWhole, IsIdle, IsLawful, IsPagerWhole, MachineState, Owner, PagerStandsFor, PagerState, Reading, Tree},
-  Words.{Values, ap, arith, basics, false, inl, is_handle, is_owned_by, is_some, refl, sym, times, ℕ, ◌&&◌, ◌==◌, ◌∙◌, ◌≡◌},
+  Words.{Values, ap, arith, basics, false, inl, is_handle, is_owned_by, is_some, owner_value, refl, sym, times, ℕ, ◌&&◌, ◌==◌, ◌∙◌, ◌≡◌},
 }
 use Rattle.pagable_theorems.specs.SmallWorlds.{NewMachineIsWhole, StartsWell}
 
@@ -26,7 +26,7 @@ module _ {N E : Type 0} (v : Values N) (s : PagerState N E) (new : IsNew s) wher
     nodes_numbered = λ n is. absurd (cc (no-cell n));
     within = rw new.last (omega arith, omega arith, omega arith);
     live = λ n. rw (no-cell n, none-counted (is_at n)) refl;
-    uniform = λ n. inl (none-counted _);
+    uniform = λ n. inl (none-counted (is_share n));
     unkeyed = λ n some. absurd (omega (arith, none-counted (is_share n)));
     places = rw (new.rows, new.list) (omega arith, omega arith);
   }
@@ -53,11 +53,11 @@ module _ {N E : Type 0} (v : Values N) (s : PagerState N E) (new : IsNew s) wher
       workers_numbered = λ u is. absurd (cc (new.workers u));
       shut = λ closed. (new.list, new.cache);
     };
-    counted = λ n. new.counts n ∙ sym (none-counted _);
+    counted = λ n. new.counts n ∙ sym (none-counted (is_pin n));
     valued = λ n. rw (new.values n, no-cell n) refl;
     typed = λ n x is. absurd (cc (new.values n));
     owns_references = λ n x q is. absurd (cc (new.values n));
-    owns_nothing = λ n none. none-counted _;
+    owns_nothing = λ n none. none-counted (is_owned_by (owner_value n));
     references = λ n x r is among. absurd (cc (new.values n));
   }
 
@@ -72,13 +72,13 @@ module _ {N E : Type 0} (v : Values N) (s : PagerState N E) (new : IsNew s) wher
 new-starts : {N E : Type 0} (v : Values N) (s : MachineState N E) → IsNew s.pager → IsIdle s → IsLawful v → StartsWell v s
 new-starts v s new idle lawful = record {
   whole = record {
-    pager = new-well v _ new;
+    pager = new-well v s.pager new;
     readings = λ l reading is. absurd (cc (idle.readings l));
     walkings = λ n walking is. absurd (cc (idle.walkings n));
     each_walks = λ n is. absurd (cc (idle.nobody n));
   };
   idle = idle;
-  stands = λ trees. record { pager = new-represents v _ new _; readings = λ reading is. absurd (unread reading is) };
+  stands = λ trees. record { pager = new-represents v s.pager new trees; readings = λ reading is. absurd (unread reading is) };
   lawful = lawful;
   settled = λ n x is. absurd (cc (new.values n));
 }

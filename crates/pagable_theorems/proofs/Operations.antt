@@ -22,7 +22,7 @@ use Rattle.pagable_theorems.proofs.{
   Trees.{same-number, same_some},
   Words.{Action, Alike, Call, Core, Event, EventReply, HandleNumber, HandleRow, HoldsSettled, IsLawful, IsPagerWhole, IsWellAsked, KeepsOpen, List},
   Words.{MachineState, Moment, None, Ok, Option, Owner, PagerStandsFor, PagerState, Reply, Result, Seen, Shelf, Some, Task, Todo, Tree, Values, Walking},
-  Words.{WorkerAnswer, answer_after, ap, arith, basics, cases_Bool, inl, inr, length, of_item, refl, subst, sym, true, ℕ, ◌+◌, ◌<◌, ◌==◌, ◌∙◌, ◌≡◌},
+  Words.{WorkerAnswer, answer_after, ap, arith, basics, cases_Bool, inl, inr, length, of_item, refl, subst, sym, true, world_of, ℕ, ◌+◌, ◌<◌, ◌==◌, ◌∙◌, ◌≡◌},
   Words.◌≤◌,
 }
 use Rattle.pagable_theorems.specs.{
@@ -72,7 +72,7 @@ module _ {N E B W : Type 0} (m : Seen N B W) (lawful : IsLawful m.values) where
       → IsPremised m.values a trees x.event x.reply x.after → Came a trees x
   comes a trees x on does premised =
       let g = goes m lawful a trees x on does premised in
-      let e = event-goes m _ _ _ _ premised.stays_open does.step.happens in
+      let e = event-goes m (world_of a) (world_of x.after) x.event x.reply premised.stays_open does.step.happens in
       record {
         trees' = g.0;
         after = record {
@@ -100,11 +100,12 @@ module _ {N E B W : Type 0} (m : Seen N B W) (lawful : IsLawful m.values) where
           after = at s' next (steps_after count (is_counted todo step)) (answer_after todo step);
         })
     step-comes s s' todo next count step trees w alone on settled takes =
-        comes _ _ _ on (moved m _ rests n t there _ s _ _ _ _ _ w alone).0 (record {
+        comes _ trees _ on (moved m base rests n t there task s s' todo next count step w alone).0 (record {
           settled = settled;
           reads_settled = λ x is. absurd (cc);
           stays_open = tt;
-          well = λ walking is. subst (λ (x : Walking). TodoAsksWell m.values s.pager x.todo) (same_some _ _ (sym (updated-at n _ base.walkings) ∙ is)) takes;
+          well = λ walking is. subst (λ (x : Walking). TodoAsksWell m.values s.pager x.todo) (same_some _ _ (sym (updated-at n (Some
+              (walking-on t task todo count None)) base.walkings) ∙ is)) takes;
         })
 
     pub ends : {todo : List Todo} {s s' : AccessState N E} {steps : List (Action W)} {answer : WorkerAnswer} (run : WorkerRun m n todo s steps answer s')
@@ -154,7 +155,7 @@ nobody-yet = record { unread = λ l. refl; answered = λ q w is. absurd (cc) }
 module _ {N E B W : Type 0} (m : Seen N B W) (lawful : IsLawful m.values) (s : PagerState N E) (well : IsPagerWhole m.values s) (nobody : NobodyWorks s.core)
     (settled : HoldsSettled m.values s) (trees : ℕ → Tree) (stands : PagerStandsFor m.values s trees) where
   starting : IsGoingOn m.values (at-rest m s no_work) trees
-  starting = idle-goes m lawful _ _ (rest-whole m s _ nobody-yet well nobody)
+  starting = idle-goes m lawful (at-rest m s no_work) trees (rest-whole m s no_work nobody-yet well nobody)
       (record { no_table = refl; shelves = λ t i. refl; waits = λ t v. refl; readings = λ l. refl; walkings = λ v. refl; nobody = nobody }) settled
       (record { pager = stands; readings = λ reading is. absurd (grind basics) })
 
@@ -165,7 +166,7 @@ module _ {N E B W : Type 0} (m : Seen N B W) (lawful : IsLawful m.values) (s : A
   tabled = with-table no_work s.shelf
 
   tabled-rests : IsAtRest tabled
-  tabled-rests = with-table-rests _ _ nobody-yet
+  tabled-rests = with-table-rests no_work s.shelf nobody-yet
 
   with-a-table : Came m lawful (at-rest m s.pager no_work) trees (record {
     event = Event.TableNew;
@@ -202,9 +203,9 @@ module _ {N E B W : Type 0} (m : Seen N B W) (lawful : IsLawful m.values) (s : A
       → Ended m.values s.pager trees answer (of_item (m.written_of item)) s'
   item-walks item {n} {mid} {s'} {steps} {answer} starts run asks =
       let task = of_item (m.written_of item) in
-      on-new n _ _ _ _ _ _ _
-      (item-began m _ tabled-rests n 1 (omega arith, omega arith) _ _ s _ refl (updated-at 1 _ no_work.shelves) starts nobody) tt tt starts
-      nobody refl _ asks
+      on-new n task s.pager.core mid s' steps answer (Event.WorkerItem (record { 0 = 1 }) item)
+      (item-began m tabled tabled-rests n 1 (omega arith, omega arith) task item s mid refl (updated-at 1 s.shelf no_work.shelves) starts nobody) tt tt starts
+      nobody refl run asks
 
   entry-walks : (place : ℕ) (h : HandleNumber) (row : HandleRow) (type n : ℕ) (mid : PagerState N E) {s' : AccessState N E} {steps : List (Action W)}
       {answer : WorkerAnswer}
@@ -214,16 +215,16 @@ module _ {N E B W : Type 0} (m : Seen N B W) (lawful : IsLawful m.values) (s : A
       → Ended m.values s.pager trees answer (entry_task h row type) s'
   entry-walks place h row type n mid {s'} {steps} {answer} entry kinds starts run asks =
       let task = entry_task h row type in
-      on-new n _ _ _ _ _ _ _
-      (entry-began m _ tabled-rests n 1 (omega arith, omega arith) _ _ h _ _ s _ refl (updated-at 1 _ no_work.shelves) entry kinds
-      starts nobody) tt tt starts nobody refl _ asks
+      on-new n task (with_entry_taken s.pager.core place h (record { 0 = n })) mid s' steps answer (Event.WorkerListed (record { 0 = 1 }) place)
+      (entry-began m tabled tabled-rests n 1 (omega arith, omega arith) task place h row type s mid refl (updated-at 1 s.shelf no_work.shelves) entry kinds
+      starts nobody) tt tt starts nobody refl run asks
 
 -- ---- calls
 
 module _ {N E B W : Type 0} (m : Seen N B W) where
   pub call-nobody : {s s' : PagerState N E} {call : Call N B} {reply : Reply N B} → IsCall m s call reply s'
       → KeepsOpen {N = N} {B = B} {W = W} (Event.Call call) → NobodyWorks s.core → NobodyWorks s'.core
-  call-nobody {s} {s'} {call} {reply} c stays nobody q = (calls-go m _ _ caller-free _ _ _ stays c.step.does).does.workers q
+  call-nobody {s} {s'} {call} {reply} c stays nobody q = (calls-go m s.core Owner.Caller caller-free s'.core call reply stays c.step.does).does.workers q
       ∙ nobody q
 
   pub called : (s s' : PagerState N E) (work : Work) (call : Call N B) (reply : Reply N B) → IsAtRest work → IsCall m s call reply s' → NobodyWorks s'.core
@@ -254,10 +255,10 @@ module _ {N E B W : Type 0} (m : Seen N B W) (lawful : IsLawful m.values) where
       → AsksWell m.values s trees call reply → HoldsSettled m.values s' → (a : Stays m.values s trees s') × CallIsRight m.values s' a.trees' call reply
   call-stays {s} {s'} {trees} call reply at c stays asks settled =
       let nobody = call-nobody m c stays at.nobody in
-      let g = comes m lawful _ _ _ (starting m lawful s at.well at.nobody at.settled _ at.stands) (called m s _ _ _ _ nobody-yet c nobody)
+      let g = comes m lawful _ trees _ (starting m lawful s at.well at.nobody at.settled trees at.stands) (called m s s' no_work call reply nobody-yet c nobody)
       (record { settled = settled; reads_settled = λ x is. absurd (cc); stays_open = stays; well = asks }) in (
         record { trees' = g.trees'; after = g.after; now = record { well = c.whole; nobody = nobody; settled = settled; stands = g.after.stands } },
-        call-right W _ (at-rest m s no_work) _ trees _ _ _ g.right.pins_give,
+        call-right W m.values (at-rest m s no_work) (at-rest m s' no_work) trees g.trees' call reply g.right.pins_give,
       )
 
   -- a call that brings no value
@@ -268,7 +269,7 @@ module _ {N E B W : Type 0} (m : Seen N B W) (lawful : IsLawful m.values) where
   pub plain-stays : {does : Core → Type 0} {s s' : PagerState N E} {trees : ℕ → Tree} (call : Call N B) (reply : Reply N B) → Stands m.values s trees
       → MakesCall m.values does s s' → CallDoes m s.core Owner.Caller call reply s'.core → KeepsOpen {N = N} {B = B} {W = W} (Event.Call call)
       → AsksWell m.values s trees call reply → (a : Stays m.values s trees s') × CallIsRight m.values s' a.trees' call reply
-  plain-stays call reply at c does stays asks = call-stays _ _ at (plainly _ _ c does) stays asks (settled-on m.values at.settled c.moves)
+  plain-stays call reply at c does stays asks = call-stays call reply at (plainly call reply c does) stays asks (settled-on m.values at.settled c.moves)
 
   pub stays-same : {s : PagerState N E} {trees : ℕ → Tree} → Stands m.values s trees → Stays m.values s trees s
   stays-same {s} {trees} at = record {
@@ -288,8 +289,8 @@ module _ {N E B W : Type 0} (m : Seen N B W) (lawful : IsLawful m.values) where
   entry-stays at (entry-is-refused h row t s' is none c) asks = (unchanged at c, λ key same. absurd (cc))
   entry-stays at (no-entry-worker e s' why c) asks = (unchanged at c, λ key same. absurd (cc))
   entry-stays {s} {place = place} {trees = trees} at (entry-is-walked h row t n steps answer mid s' is kinds starts run) asks =
-      let r = entry-walks m lawful _ at.well at.nobody
-      (same-shelf refl) at.settled _ at.stands _ h _ t n _ is kinds starts _ asks in (
+      let r = entry-walks m lawful (record { pager = s; shelf = no_shelf }) at.well at.nobody
+      (same-shelf refl) at.settled trees at.stands place h row t n mid is kinds starts run asks in (
         r.stays,
         λ key same. record { h = h; row = row; t = t; shelf = s'.shelf; entry = is; out = r.out key same },
       )
@@ -300,7 +301,7 @@ module _ {N E B W : Type 0} (m : Seen N B W) (lawful : IsLawful m.values) where
       → LeavesPagedOut m.values s'.pager s'.shelf a.trees' (of_item (m.written_of item)) key)
   item-stays item at new (no-worker e s' why c same_shelf) asks = (unchanged at c, λ key same. absurd (cc))
   item-stays {s} {trees = trees} item at new (item-is-walked n steps answer mid s' starts run) asks =
-      let r = item-walks m lawful s at.well at.nobody new at.settled _ at.stands _ starts _ asks in (r.stays, r.out)
+      let r = item-walks m lawful s at.well at.nobody new at.settled trees at.stands item starts run asks in (r.stays, r.out)
 
   pub list-stays : {i : ℕ} {s s' : PagerState N E} {answer : Result (Unit {0}) WorkerAnswer} {trees : ℕ → Tree} (run : ListRun m i s answer s')
       → Stands m.values s trees → ListAsksWell run

@@ -14,7 +14,7 @@ use Rattle.pagable_theorems.proofs.{
   Trees.same_some,
   Words.{Alike, ArcRef, Bool, Change, Core, Err, Event, EventReply, Frame, GetsKnown, HandleNumber, HandleRow, HandlesAreWhole, IsMachineWhole, Kind, List},
   Words.{LoadAnswer, LoadNumber, MachineState, NodeNumber, None, Ok, OpenLoad, Option, OptionalDataKey, Owner, Reading, ReadingFeels, Seen, Some, Todo, Values},
-  Words.{Walking, WorkerState, World, adopted, ap, basics, false, find_row, first_key, inl, inr, is_named_by, mode_of, moved, next_node},
+  Words.{Walking, WorkerState, World, adopted, ap, basics, bears_known, false, find_row, first_key, inl, inr, is_named_by, mode_of, moved, next_node},
   Words.{nothing_felt, owner_value, refl, row_at, rules, subst, sym, to_load, world_of, ℕ, [], ◌++◌, ◌+◌, ◌∙◌, ◌∷◌, ◌≡◌, ◌≤◌, ◌⊎◌},
 }
 use Rattle.pagable_theorems.specs.{
@@ -45,9 +45,9 @@ module _ {w w' : Core} (whole : HandlesAreWhole w) (kind : Kind) (k : HandleNumb
   pub got-born : (l : LoadNumber) (key : ℕ) (own : OptionalDataKey) (references : List ArcRef) → Alike (adopted w l kind key own references) w'
       → GetsRow w w' kind (w.last.node + 1) row
   got-born l key own references a =
-      let low = low-changed _ _ (λ h. is_named_by references h.number.0) (λ h. record h { owner = owner_value (w.last.node + 1) }) (λ h. refl)
+      let low = low-changed w.last.handle w.rows (λ h. is_named_by references h.number.0) (λ h. record h { owner = owner_value (w.last.node + 1) }) (λ h. refl)
       (low-whole whole) in
-      grind (basics, gets (moved _ _ w.rows) (next_node w) (Owner.Load l) low)
+      grind (basics, gets (moved (is_named_by references) (owner_value (w.last.node + 1)) w.rows) (next_node w) (Owner.Load l) low)
 
 -- what can be used is in the cache
 pub is-cached : (w : Core) (kind key n : ℕ) → usable w kind key ≡ Some n → w.cache kind key ≡ Some n
@@ -70,7 +70,7 @@ reading-number s whole l reading at = grind (basics, whole.readings l.0 reading)
 pub reading-open : {N E : Type 0} {v : Values N} (s : MachineState N E) → IsMachineWhole v s → (l : LoadNumber) (reading : Reading) {load : OpenLoad}
     → reading_at (world_of s) l ≡ Some reading
     → s.pager.core.loads l.0 ≡ Some load → s.pager.core.loads reading.load.0 ≡ Some load
-reading-open s whole l reading at open_load = ap (λ (k : LoadNumber). s.pager.core.loads k.0) (reading-number s whole l _ at) ∙ open_load
+reading-open s whole l reading at open_load = ap (λ (k : LoadNumber). s.pager.core.loads k.0) (reading-number s whole l reading at) ∙ open_load
 
 -- the reading of a load at the front
 abbrev pub front_reading : List Todo → Option Reading
@@ -121,8 +121,8 @@ readings-on {v = v} {u} {u'} {event} P old fresh gone (by-reading c before answe
   | inl was ↦ old reading was
   | inr (none, same) ↦
       let load = opens none in
-      rw same (gone before frames load.0 (is-reading-of u _ _ stepped) load.1
-      (rw (← none) feels))
+      subst P (sym same) (gone before frames load.0 (is-reading-of u event before stepped) load.1
+      (subst (λ a. ReadingFeels v u.core before a frames u'.core c) none feels))
 ]
 
 -- A load's step, as trees feel it: one change, what it does to the core with it, and how the load's own blobs grow.
@@ -150,21 +150,21 @@ module _ {N B W : Type 0} (m : Seen N B W) (w : Core) (me : Owner) (free : NotLo
       → Needs m.values.types reading.frames kind key
       → GetsKnown w reading.load kind key k w' → row_at w' k ≡ Some row → frames ≡ with_got kind row reading.frames
       → ReadingFelt m.values w me reading None frames w'
-  knew kind key k row load opened needs c made goes = on _ load opened (was-known c)
-      (λ whole. gets-known kind key c.n row needs (is-cached w _ _ _ c.known)
-      (got-known whole _ k _ made c.next.above _ (Owner.Load reading.load) c.leaves) refl goes)
+  knew kind key k row load opened needs c made goes = on nothing_felt load opened (was-known c)
+      (λ whole. gets-known kind key c.n row needs (is-cached w kind.0 key c.n c.known)
+      (got-known whole kind k row made c.next.above c.n (Owner.Load reading.load) c.leaves) refl goes)
 
   makes : (frames : List Frame) → MakesNode m.values w me reading frames w' → ReadingFelt m.values w me reading None frames w'
   makes frames g =
       let r = g.reads_node in let c = g.adopted.adopts in
-      let right = good w _ [] (m.values.references g.x) c.good in elim c.makes [
-        | inl (n, usable, f) ↦ on _ _ c.owned.stands_open (adopts-known _ r.top.kind n _ right f)
-            (λ whole. makes-known g.x r n g.row (is-cached w _ _ n usable)
-            (got-fallen whole _ _ _ g.made c.next.above n _ f) refl g.goes)
-        | inr (unknown, few, a) ↦ on _ _ c.owned.stands_open
+      let right = good w (Owner.Load reading.load) [] (m.values.references g.x) c.good in elim c.makes [
+        | inl (n, usable, f) ↦ on nothing_felt c.load c.owned.stands_open (adopts-known reading.load r.top.kind n (m.values.references g.x) right f)
+            (λ whole. makes-known g.x r n g.row (is-cached w r.top.kind.0 r.top.key n usable)
+            (got-fallen whole r.top.kind g.k g.row g.made c.next.above n (Owner.Load reading.load) f) refl g.goes)
+        | inr (unknown, few, a) ↦ on (bears_known r.top.kind.0 r.top.key (first_key r.top.kind.0 r.top.key)) c.load c.owned.stands_open
             (adopts reading.load r.top.kind r.top.key (first_key r.top.kind.0 r.top.key) (m.values.references g.x) unknown right a)
-            (λ whole. makes-node g.x r g.row (got-born whole _ _ _ g.made c.next.above _ _ _
-            _ a) refl g.goes)
+            (λ whole. makes-node g.x r g.row (got-born whole r.top.kind g.k g.row g.made c.next.above reading.load r.top.key (first_key r.top.kind.0 r.top.key)
+            (m.values.references g.x) a) refl g.goes)
       ]
 
   ended : (end : LoadAnswer N) (frames : List Frame) → frames ≡ [] → Effect me false (IsMine w me reading.load) (Unit {0}) false nothing_felt w w'
@@ -176,23 +176,23 @@ module _ {N B W : Type 0} (m : Seen N B W) (w : Core) (me : Owner) (free : NotLo
   reading-feels None frames d = elim d.does [
     | inl g ↦
         let same : g.asked.gives.0 ≡ g.load = same_some _ _ (sym g.asked.gives.1.stands_open ∙ g.open_load) in
-        on _ _ g.open_load (asks _ g.asked)
+        on nothing_felt g.load g.open_load (asks _ g.asked)
         (λ whole. reads-root g.load g.blob g.first g.open_load (subst (λ (x : OpenLoad). w.stored x.key ≡ Some g.blob) same g.asked.gives.2.found) refl g.goes)
-    | inr (inl g) ↦ knew _ _ _ _ _ g.asked.gives.1.stands_open (inl g.needs) g.asked.gives.2 g.made g.goes
-    | inr (inr (inl g)) ↦ on _ _ g.asked.gives.1.stands_open (asks _ g.asked)
+    | inr (inl g) ↦ knew g.kind g.key g.k g.row g.asked.gives.0 g.asked.gives.1.stands_open (inl g.needs) g.asked.gives.2 g.made g.goes
+    | inr (inr (inl g)) ↦ on nothing_felt g.asked.gives.0 g.asked.gives.1.stands_open (asks _ g.asked)
         (λ whole. reads-blob g.kind g.key g.blob g.needs g.asked.gives.2.1.found refl g.goes)
     | inr (inr (inr (inl g))) ↦ elim g.asked.makes.3 [
-      | inl k ↦ knew _ _ _ _ _ g.asked.makes.1.stands_open (inr g.needs) k g.made g.goes
-      | inr (unknown, few, next, a) ↦ on _ _ g.asked.makes.1.stands_open
-          (adopts reading.load g.kind g.key (OptionalDataKey.Some g.key) [] unknown (none-named w _) a)
-          (λ whole. gets-lazy g.kind g.key g.row g.needs (got-born whole _ _ _ g.made next.above _ _ _
+      | inl k ↦ knew g.kind g.key g.k g.row g.asked.makes.0 g.asked.makes.1.stands_open (inr g.needs) k g.made g.goes
+      | inr (unknown, few, next, a) ↦ on (bears_known g.kind.0 g.key (OptionalDataKey.Some g.key)) g.asked.makes.0 g.asked.makes.1.stands_open
+          (adopts reading.load g.kind g.key (OptionalDataKey.Some g.key) [] unknown (none-named w (Owner.Load reading.load)) a)
+          (λ whole. gets-lazy g.kind g.key g.row g.needs (got-born whole g.kind g.k g.row g.made next.above reading.load g.key (OptionalDataKey.Some g.key)
           [] a) refl g.goes)
     ]
-    | inr (inr (inr (inr made))) ↦ makes _ made
+    | inr (inr (inr (inr made))) ↦ makes frames made
   ]
   reading-feels (Some (LoadAnswer.Pinned k)) frames d = ended (LoadAnswer.Pinned k) frames d.does.1 (ends-load free reading.load (Ok k) d.does.0.ended)
-  reading-feels (Some (LoadAnswer.Read x)) frames d = ended _ _ d.does.1 (hands-over free _ _ _ d.does.0.handed)
-  reading-feels (Some (LoadAnswer.Refused e)) frames d = ended _ _ d.does.1 (elim d.does.0 [
+  reading-feels (Some (LoadAnswer.Read x)) frames d = ended (LoadAnswer.Read x) frames d.does.1 (hands-over free reading.load _ (Ok tt) d.does.0.handed)
+  reading-feels (Some (LoadAnswer.Refused e)) frames d = ended (LoadAnswer.Refused e) frames d.does.1 (elim d.does.0 [
     | inl gives ↦
         -- a refusal that it meets changes nothing, but that a failure of the storage may be noted
         let a : (f : ℕ) × Alike (record w { failures = f }) gives.mid = elim gives.meets [
@@ -204,7 +204,7 @@ module _ {N B W : Type 0} (m : Seen N B W) (w : Core) (me : Owner) (free : NotLo
           | inr (inr (inr (inr (inr r)))) ↦ elim r.refuses [ inl h ↦ let does = h.1 in search (rules) | inr h ↦ let does = h.1 in search (rules) ]
         ] in
         one-then (λ kind key n h. subst (IsHeldFor kind key n) (sym a.1.rows) h) (λ mine load is. mine load (sym (a.1.loads reading.load.0) ∙ is))
-        (noted _ a.1)
+        (noted a.0 a.1)
         (closes reading.load (λ mine. mine) gives.closes)
     | inr ended ↦ ends-load free reading.load (Err (e, None)) ended.ended
   ])

@@ -4,7 +4,7 @@ use Rattle.pagable_pager_spec.specs.{
   Basics.longest_path,
   Kinds.{is_loose, is_owner},
   LoadCalls.{AdoptCall, AsksInVain, EndCall, HandOverCall, LazyCall, LoadCloses, LoadFetchCall, cell_fault, root_fault},
-  Loads.{Fails, Meets, RefusesBlob, RefusesNested, RefusesNode, RefusesRoot, answer_of, answers_from, asks, is_faulty, need_of, needs_nested},
+  Loads.{Fails, Meets, RefusesBlob, RefusesNested, RefusesNode, RefusesRoot, answer_of, answers_from, asks, handles_of, is_faulty, need_of, needs_nested},
   Loads.{next_by, next_of, read_with},
   Order.{LeadsDown, ReadsTooDeep, after_kinds, goes-down, is-there},
   Pager.{IsReadingOf, of_worker},
@@ -22,7 +22,7 @@ use Rattle.pagable_theorems.proofs.{
   Trees.{AllTwo, Along, more-two, no-two, same_some},
   Words.{ArcRef, Blob, Bool, Core, Err, Error, Event, EventReply, Frame, FramesFit, HandleNumber, HandleRow, Happens, IsLawful, Kind, List, LoadNumber},
   Words.{MachineState, Meaning, Mode, None, Ok, OpenLoad, Option, Owner, Reading, Result, Seen, Some, Tree, Types, Values, any_mode, arith, basics, false},
-  Words.{if_there, if◌then◌else◌, inl, inr, is_eager, length, next_in, not, references_fault, refl, rest, slice_get, subst, sym, true, type_of},
+  Words.{if_there, if◌then◌else◌, inl, inr, is_eager, length, next_in, not, owner_worker, references_fault, refl, rest, slice_get, subst, sym, true, type_of},
   Words.{world_of, ℕ, [], ◌+◌, ◌<◌, ◌==◌, ◌∙◌, ◌∷◌, ◌≡◌, ◌⊎◌},
 }
 use Rattle.pagable_theorems.specs.{
@@ -30,7 +30,7 @@ use Rattle.pagable_theorems.specs.{
   RefusalLaws.{BeginsRefusedLaw, IsOfLoad, IsOfPin, LoadsRefusedLaw, PinsRefusedLaw, TellsOfStorage},
   TreeSteps.IsFresh,
 }
-use Rattle.pagable_value_spec.specs.{Cursor.{Answer, answer_at}, Reading.Rest, Refusals.is_own_reading, Stored.{RefusesFetch}}
+use Rattle.pagable_value_spec.specs.{Cursor.{Answer, answer_at}, Reading.Rest, Refusals.is_own_reading, Stored.{HasFailed, RefusesFetch}}
 use Rattle.std.specs.Prelude.{IfErr}
 
 -- ---- a blob is refused by its reading alone
@@ -55,7 +55,7 @@ by-kind false r = tt
 
 well-answered : (found : Option ArcRef) (kind : ℕ) → IfErr (answer_of found kind) Told
 well-answered None kind = tt
-well-answered (Some r) kind = by-kind _ r
+well-answered (Some r) kind = by-kind (r.kind.0 == kind) r
 
 all-well : (got : List ArcRef) (place : ℕ) (keys : List ℕ) → AllTwo AnswersWell (answers_from got place keys) (answers_from got place keys)
 unfolding answers_from
@@ -67,7 +67,7 @@ looked (Ok c) told = both-looked-up c c tt
 looked (Err e) told = both-not e e told
 
 alike : (kind : ℕ) (a b : Answer) → AnswersWell a b → OutLook told_cause (λ (c d : ArcRef). Unit {0}) (answer_at kind a) (answer_at kind b)
-alike kind a b h = rw h.0 (looked _ (h.1 kind))
+alike kind a b h = subst (λ (x : Answer). OutLook told_cause (λ (c d : ArcRef). Unit {0}) (a kind) (x kind)) (sym h.0) (looked (a kind) (h.1 kind))
 
 sober-told : (e : Error) → Sober e → Told e
 sober-told e sober = grind basics
@@ -83,8 +83,8 @@ read-told : (types : Types) (t : ℕ) (blob : Blob) (got : List ArcRef) → IfEr
 read-told types t blob got =
     let input = rest blob.bytes (answers_from got 0 blob.keys) in
     by-out (typed_par {E = told_cause} {F = Unit {0}} {T = AllTwo AnswersWell} {R = (λ c d. Unit {0})} {parts = types.parts}
-    _ _ (each _ _ alike) 0 _ (λ s is. inl tt)
-    _ _ (record { bytes = refl; refs = all-well _ 0 _ }))
+    answer_at answer_at (each _ _ alike) 0 (types.nodes t) (λ s is. inl tt)
+    input input (record { bytes = refl; refs = all-well got 0 blob.keys }))
 
 by-next : (key : Option ℕ) (r : Result (Meaning ArcRef × Rest Answer) Error) (e : Error) → IfErr r Told → next_by key r ≡ is_faulty e → Sober e
 by-next key r e told is = grind basics
@@ -129,7 +129,7 @@ fetched w w' key (Error.NoData k) (same, none) =
     record { named = grind basics; tells = record { failed = λ code is. absurd (cc); absent = λ q is. cc } }
 fetched w w' key (Error.Storage code) failed =
     record { named = grind basics; tells = record { failed = λ c is. failed; absent = λ q is. absurd (cc) } }
-fetched w w' key Error.OutOfMemory h = sober-refused w _ _ tt
+fetched w w' key Error.OutOfMemory h = sober-refused w w' Error.OutOfMemory tt
 fetched w w' key e h = absurd h
 
 pub only-load : (w : Core) (me : Owner) (l : LoadNumber) → Only Quiet (load_fault w me l)
@@ -148,7 +148,7 @@ there-quiet None f all e is = absurd (cc)
 there-quiet (Some load) f all e is = all load e is
 
 pub only-spent : (last : ℕ) → Only Quiet (spent last)
-only-spent last = only-if _ _ _ tt
+only-spent last = only-if Quiet _ Error.NumbersSpent tt
 
 pub only-handle : (w : Core) (me : Owner) (h : HandleNumber) (fits : Mode → Bool) → Only Quiet (handle_fault w me h fits)
 only-handle w me h fits e is = handles-quiet e (by-handle-row w me h fits e is)
@@ -173,34 +173,34 @@ module _ (w : Core) (me : Owner) (w' : Core) where
   pub of-lazy : (l : LoadNumber) (kind : Kind) (key : ℕ) (e : Error) → LazyCall w me l kind key (Err e) w' → Quiet e
   of-lazy l kind key e c =
       only-refused {P = Quiet} e c.refused
-      (only-earlier _ _ (only-load w _ l) (only-earlier _ _ (only-if _ _ _ tt) (only-node _ w _ _ tt))) tt
+      (only-earlier _ _ (only-load w me l) (only-earlier _ _ (only-if Quiet _ Error.WrongKind tt) (only-node Quiet w kind key tt))) tt
 
   pub of-end : {N : Type 0} (l : LoadNumber) (x : N) (t : ℕ) (references : List ArcRef) (e : Error) (given : Option N)
       → EndCall w me l x t references (Err (e, given)) w' → Quiet e
-  of-end l x t references e (Some y) c = only-refused {P = Quiet} e c.refused.1 (only-earlier _ _ (only-load w _ l)
-      (only-earlier _ _ (there-quiet _ (λ (load : OpenLoad). root_fault w me t load.root) (λ load. root-quiet w _ t _))
-      (only-all w _ _))) tt
-  of-end l x t references e None c = only-handle w _ _ any_mode e c.refused.why
+  of-end l x t references e (Some y) c = only-refused {P = Quiet} e c.refused.1 (only-earlier _ _ (only-load w me l)
+      (only-earlier _ _ (there-quiet (w.loads l.0) (λ (load : OpenLoad). root_fault w me t load.root) (λ load. root-quiet w me t load.root))
+      (only-all w (Owner.Load l) references))) tt
+  of-end l x t references e None c = only-handle w me c.refused.h any_mode e c.refused.why
 
   pub of-hand-over : (l : LoadNumber) (hs : List HandleNumber) (e : Error) → HandOverCall w me l hs (Err e) w' → Quiet e
-  of-hand-over l hs e c = only-earlier {P = Quiet} _ _ (only-load w _ l)
-      (only-earlier _ _ (there-quiet _ (λ (load : OpenLoad). cell_fault load.root) (λ load. cell-quiet _))
-      (only-named w _ [] hs)) e c.refused.0
+  of-hand-over l hs e c = only-earlier {P = Quiet} _ _ (only-load w me l)
+      (only-earlier _ _ (there-quiet (w.loads l.0) (λ (load : OpenLoad). cell_fault load.root) (λ load. cell-quiet load.root))
+      (only-named w (Owner.Load l) [] hs)) e c.refused.0
 
 module _ {N : Type 0} (v : Values N) (w : Core) (me : Owner) (reading : Reading) where
   of-node : (e : Error) (mid : Core) → RefusesNode v w me reading e mid → Quiet e
-  of-node e mid r = of-adopt w _ _ _ _ _ _ _ _ _ e r.adopted
+  of-node e mid r = of-adopt w me mid reading.load r.reads_node.top.kind r.reads_node.top.key r.x r.x (v.node_type r.x) (v.references r.x) e r.adopted
 
   of-root : (e : Error) (mid : Core) → RefusesRoot v w me reading e mid → Quiet e
   of-root e mid r = elim r.refuses [
-    | inl (is, ended) ↦ of-end w _ _ _ _ _ _ e _ ended
-    | inr (is, handed) ↦ of-hand-over w _ _ _ _ e handed
+    | inl (is, ended) ↦ of-end w me mid reading.load r.x (v.node_type r.x) (v.references r.x) e (Some r.x) ended
+    | inr (is, handed) ↦ of-hand-over w me mid reading.load (handles_of (v.references r.x)) e handed
   ]
 
 module _ {N : Type 0} (v : Values N) (lawful : IsLawful v) (w : Core) (me : Owner) (reading : Reading) where
   in-vain : (want : FetchTarget) (load : OpenLoad) (e : Error) (mid : Core) → AsksInVain w load want e mid → LoadRefused w mid e
-  in-vain FetchTarget.Root load e mid vain = fetched w _ _ e vain.refused
-  in-vain (FetchTarget.Nested kind key) load e mid vain = fetched w _ _ e vain.1.refused
+  in-vain FetchTarget.Root load e mid vain = fetched w mid load.key e vain.refused
+  in-vain (FetchTarget.Nested kind key) load e mid vain = fetched w mid key e vain.1.refused
 
   pub asked : (want : FetchTarget) (e : Error) (mid : Core) → LoadFetchCall w me reading.load want (Err e) mid → LoadRefused w mid e
   asked want e mid c = elim c.refused [
@@ -214,30 +214,30 @@ module _ {N : Type 0} (v : Values N) (lawful : IsLawful v) (w : Core) (me : Owne
   of-blob e (top ∷ below) is refuses = grind (basics, own-sober, lawful, broken v.types top.node_type top.blob top.got e)
 
   of-nested : (e : Error) (mid : Core) → RefusesNested v.types w me reading e mid → LoadRefused w mid e
-  of-nested e mid (kind, key, needs, inl c) = asked _ e _ c
-  of-nested e mid (kind, key, needs, inr (blob, is, deep, c)) = sober-refused w _ e (rw is tt)
+  of-nested e mid (kind, key, needs, inl c) = asked (FetchTarget.Nested kind key) e mid c
+  of-nested e mid (kind, key, needs, inr (blob, is, deep, c)) = sober-refused w mid e (subst Sober (sym is) tt)
 
   -- what is given up then changes nothing of what the storage said
   closed-over : (e : Error) (mid w' : Core) (told : Result (Unit {0}) Error) → LoadCloses mid reading.load told w' → LoadRefused w mid e → LoadRefused w w' e
   closed-over e mid w' told closes r = record {
     named = r.named;
-    tells = record { failed = λ code is. rw closes.leaves.failures (r.tells.failed code is); absent = r.tells.absent };
+    tells = record { failed = λ code is. subst (HasFailed w.failures) (sym closes.leaves.failures) (r.tells.failed code is); absent = r.tells.absent };
   }
 
   met : (e : Error) (mid : Core) → Meets v w me reading e mid → LoadRefused w mid e
-  met e mid (inl (refuses, a)) = sober-refused w _ e (of-blob e _ refl refuses)
-  met e mid (inr (inl (first, c))) = asked _ e _ c
-  met e mid (inr (inr (inl nested))) = of-nested e _ nested
-  met e mid (inr (inr (inr (inl (kind, key, needs, c))))) = sober-refused w _ e (quiet-sober e (of-lazy w _ _ _ _ _ e c))
-  met e mid (inr (inr (inr (inr (inl node))))) = sober-refused w _ e (quiet-sober e (of-node v w _ _ e _ node))
-  met e mid (inr (inr (inr (inr (inr root))))) = sober-refused w _ e (quiet-sober e (of-root v w _ _ e _ root))
+  met e mid (inl (refuses, a)) = sober-refused w mid e (of-blob e reading.frames refl refuses)
+  met e mid (inr (inl (first, c))) = asked FetchTarget.Root e mid c
+  met e mid (inr (inr (inl nested))) = of-nested e mid nested
+  met e mid (inr (inr (inr (inl (kind, key, needs, c))))) = sober-refused w mid e (quiet-sober e (of-lazy w me mid reading.load kind key e c))
+  met e mid (inr (inr (inr (inr (inl node))))) = sober-refused w mid e (quiet-sober e (of-node v w me reading e mid node))
+  met e mid (inr (inr (inr (inr (inr root))))) = sober-refused w mid e (quiet-sober e (of-root v w me reading e mid root))
 
   pub fails : (e : Error) (w' : Core) → Fails v w me reading e w' → LoadRefused w w' e
-  fails e w' (inl gives) = closed-over e _ _ _ gives.closes (met e _ gives.meets)
-  fails e w' (inr ended) = sober-refused w _ e (quiet-sober e (handles-quiet e (by-handle-row w _ _ any_mode e ended.ended.refused.why)))
+  fails e w' (inl gives) = closed-over e gives.mid w' gives.told gives.closes (met e gives.mid gives.meets)
+  fails e w' (inr ended) = sober-refused w w' e (quiet-sober e (handles-quiet e (by-handle-row w me ended.ended.refused.h any_mode e ended.ended.refused.why)))
 
 pub loads-refused : {N : Type 0} (v : Values N) → LoadsRefusedLaw v
-loads-refused v lawful w me reading e w' does = (fails v lawful w _ _ e _ does.does.0).named
+loads-refused v lawful w me reading e w' does = (fails v lawful w me reading e w' does.does.0).named
 
 -- ---- what is asked of a handle
 
@@ -248,11 +248,11 @@ by-owner false c e is = only-if IsOfPin c Error.WrongMode (omega arith) e is
 of-row : (me : Owner) (found : Option HandleRow) → Only IsOfPin (if_there
     (λ (row : HandleRow). if not (is_owner me row.owner) then Some Error.NotYours else refused_if (not (is_loose row.mode)) Error.WrongMode)
     (Some Error.NoSuchHandle) found)
-of-row me None e is = let not_there : IsOfPin Error.NoSuchHandle = omega arith in rw (← (same_some _ _ is)) not_there
-of-row me (Some row) e is = by-owner _ _ e is
+of-row me None e is = let not_there : IsOfPin Error.NoSuchHandle = omega arith in subst IsOfPin (same_some _ _ is) not_there
+of-row me (Some row) e is = by-owner (not (is_owner me row.owner)) (not (is_loose row.mode)) e is
 
 of-spent : (last : ℕ) → Only IsOfPin (spent last)
-of-spent last = only-if _ _ _ (omega arith)
+of-spent last = only-if IsOfPin _ Error.NumbersSpent (omega arith)
 
 pub pins-refused : PinsRefusedLaw
 pins-refused w me h e w' c =
@@ -290,9 +290,9 @@ module _ (types : Types) (stored : ℕ → Option Blob) where
         → need_of types frames ≡ needs_nested kind key → stored key ≡ Some blob → longest_path < length frames → ReadsTooDeep types stored root_type root_key
     of-path [] fits got kind key blob needs is long = absurd (cc)
     of-path (top ∷ below) fits got kind key blob needs is long =
-        let d = down-to _ _ fits got in
-        let step = asks-by-kinds types top.node_type top.blob top.got _ _ (was-asked below (next_in types top) kind key (inl needs)) in
-        let further = goes-further _ (kinds_of top.got) _ _ d.0 d.1 step (eager-nested below (next_in types top) _ _ needs) in
+        let d = down-to top below fits got in
+        let step = asks-by-kinds types top.node_type top.blob top.got kind key (was-asked below (next_in types top) kind key (inl needs)) in
+        let further = goes-further top.blob (kinds_of top.got) kind key d.0 d.1 step (eager-nested below (next_in types top) kind key needs) in
         record { n = length below + 1; last_type = type_of kind.0; last = key; blob = blob; down = further; is = is; deep = inl (omega arith) }
 
 module _ {N B W : Type 0} (m : Seen N B W) (lawful : IsLawful m.values) (w : Core) (me : Owner) (reading : Reading) (trees : ℕ → Tree) (root_key root_type : ℕ)
@@ -308,14 +308,14 @@ module _ {N B W : Type 0} (m : Seen N B W) (lawful : IsLawful m.values) (w : Cor
   nested-deep u x1 = grind (basics, not-asked, of-path)
 
   fails-deep : (w' : Core) → Fails m.values w me reading Error.TooDeep w' → Deep
-  fails-deep w' (inr ended) = absurd (by-handle-row w _ _ any_mode Error.TooDeep ended.ended.refused.why)
+  fails-deep w' (inr ended) = absurd (by-handle-row w me ended.ended.refused.h any_mode Error.TooDeep ended.ended.refused.why)
   fails-deep w' (inl gives) = elim gives.meets [
     | inl (refuses, a) ↦ (grind (basics, down-to, kinds_of, faulty-by-kinds, next_in))
-    | inr (inl (first, c)) ↦ absurd (not-asked _ _ c)
-    | inr (inr (inl nested)) ↦ nested-deep _ nested
-    | inr (inr (inr (inl (kind, key, needs, c)))) ↦ absurd (of-lazy w _ _ _ _ _ _ c)
-    | inr (inr (inr (inr (inl node)))) ↦ absurd (of-node _ w _ _ _ _ node)
-    | inr (inr (inr (inr (inr root)))) ↦ absurd (of-root _ w _ _ _ _ root)
+    | inr (inl (first, c)) ↦ absurd (not-asked FetchTarget.Root gives.mid c)
+    | inr (inr (inl nested)) ↦ nested-deep gives.mid nested
+    | inr (inr (inr (inl (kind, key, needs, c)))) ↦ absurd (of-lazy w me gives.mid reading.load kind key Error.TooDeep c)
+    | inr (inr (inr (inr (inl node)))) ↦ absurd (of-node m.values w me reading Error.TooDeep gives.mid node)
+    | inr (inr (inr (inr (inr root)))) ↦ absurd (of-root m.values w me reading Error.TooDeep gives.mid root)
   ]
 
 module _ {N B W E : Type 0} (m : Seen N B W) (lawful : IsLawful m.values) (s s' : MachineState N E) (trees trees' : ℕ → Tree)
@@ -324,15 +324,16 @@ module _ {N B W E : Type 0} (m : Seen N B W) (lawful : IsLawful m.values) (s s' 
       → s.pager.core.loads reading.load.0 ≡ Some load → (w' : Core)
       → Fails m.values s.pager.core me reading Error.TooDeep w' → ReadsTooDeep m.values.types s.pager.core.stored reading.node_type load.key
   by-reading me reading load stands open_load w' fails =
-      let g = going-of s trees on.readings reading stands in search (fails-deep, lawful, g.fits)
+      let g = going-of s trees on.readings reading stands in fails-deep m lawful s.pager.core me reading trees load.key reading.node_type
+      (g.fits load open_load) g.asked w' fails
 
   pub load-deep : (event : Event N B W) (reply : EventReply N B W) → Happens m (world_of s) event reply (world_of s')
       → LoadIsDeep m.values s trees event reply s' trees'
   load-deep (Event.LoadStep l) (EventReply.LoadMoved (Ok reply)) is = λ reading load at open_load ended.
-      let x = is.moves in let same = same_some _ _ (sym x.at ∙ at) in let fails = rw (same, ended) at x.does.does in
-      by-reading _ _ load (reading-stands _ on.whole.pager.whole l _ at) (reading-open s on.whole l _ at open_load)
-      _ fails.0
+      let x = is.moves in let same : x.reading ≡ reading = same_some _ _ (sym x.at ∙ at) in let fails = rw (same, ended) at x.does.does in
+      by-reading Owner.Caller reading load (reading-stands (world_of s) on.whole.pager.whole l reading at) (reading-open s on.whole l reading at open_load)
+      s'.pager.core fails.0
   load-deep (Event.WorkerStep n) (EventReply.WorkerMoved (Ok reply)) is = λ walking r place through reading below load i there todo open_load taken.
-      let x = is.moves in let same = same_some _ _ (sym x.at ∙ there) in let step = rw (same, todo, taken) at x.does.does in
-      by-reading _ _ load (inl (of_worker n.0 place walking r through below there todo)) open_load _ step.1.refused.0.does.0
+      let x = is.moves in let same : x.walking ≡ walking = same_some _ _ (sym x.at ∙ there) in let step = rw (same, todo, taken) at x.does.does in
+      by-reading (owner_worker n.0) reading load (inl (of_worker n.0 place walking r through below there todo)) open_load x.after.core step.1.refused.0.does.0
   load-deep event reply is = tt

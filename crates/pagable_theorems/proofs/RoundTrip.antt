@@ -95,7 +95,7 @@ unfolding char_at
 char-again c rest s =
     let small : len_utf8 c ≤ 4 = grind arith in
     let one : chars (encode_utf8 c) ≡ c ∷ [] = rw (← append-nil (encode_utf8 c)) (chars-encodes (c ∷ []) (rw s refl)) in
-    rw (text-again _ _ (IsUtf8-encode c s) (omega (arith, length-encode c, small)), one) refl
+    rw (text-again (encode_utf8 c) rest (IsUtf8-encode c s) (omega (arith, length-encode c, small)), one) refl
 
 duration-again : (seconds nanos : ℕ) (rest : List ℕ) → seconds < 2 ^ 64 → nanos < nanos_of_second → duration_at (duration_form seconds nanos ++ rest)
     ≡ Ok ((seconds, nanos), rest)
@@ -119,7 +119,7 @@ module _ {X : Type 0} (put : List X → X → List X) (R : X → X → Type 0) (
   put_end : (acc : List X) (x : X) (xs : List X) → Apart R (acc ++ x ∷ xs) → put acc x ≡ acc ++ x ∷ []
   unfolding Apart
   put_end [] x xs h = start x
-  put_end (y ∷ acc) x xs h = later y x _ (last-after R y x _ _ h.0) ∙ ap (λ (ys : List X). y ∷ ys) (put_end acc x xs h.1)
+  put_end (y ∷ acc) x xs h = later y x acc (last-after R y x acc xs h.0) ∙ ap (λ (ys : List X). y ∷ ys) (put_end acc x xs h.1)
 
   put_on : (acc xs : List X) → Apart R (acc ++ xs) → put_all put acc xs ≡ acc ++ xs
   unfolding put_all
@@ -314,8 +314,8 @@ prefix_free {A} parts s t kind_of left m n b c x y k l u v f g e h =
     let first = form-again x f (looked-by u (looks-itself {look = λ kind a. Ok a} (λ a. refl) k)) t in
     let second = form-again y g (looked-by v (looks-itself {look = λ kind a. Ok a} (λ a. refl) l)) t in
     let both : (m, rest x u) ≡ (n, rest y v) = cc in
-    let same_bytes = ap (λ (p : Meaning A × Rest A). p.1.bytes) both in
-    let same_refs = ap (λ (p : Meaning A × Rest A). p.1.refs) both in (
+    let same_bytes : x ≡ y = ap (λ (p : Meaning A × Rest A). p.1.bytes) both in
+    let same_refs : u ≡ v = ap (λ (p : Meaning A × Rest A). p.1.refs) both in (
       ap (λ (p : Meaning A × Rest A). p.0) both,
       append_cancel_right b c y (rw (← same_bytes) (rw (← same_bytes) at e)),
       append_cancel_right k l v (rw (← same_refs) (rw (← same_refs) at h)),

@@ -8,7 +8,7 @@ use Rattle.pagable_pager_spec.specs.{
 use Rattle.pagable_theorems.proofs.{
   Trees.same-number,
   Words.{Action, Among, ArcRef, Bool, HandleNumber, Identity, IsPublished, List, None, Option, Shelf, Slot, Some, Task, Todo, Walking, WorkerAnswer, Written},
-  Words.{above, and_parts, arith, basics, cases_Bool, drop, false, give, identity_of, if_there, if◌then◌else◌, inl, inr, is_some, nat_eq, no_result},
+  Words.{above, and_parts, arith, basics, cases_Bool, drop, false, give, identity_of, if_there, if◌then◌else◌, inl, inr, is_some, max, nat_eq, no_result},
   Words.{of_entry, of_item, refl, rules, subst, suc, sym, to_fail, to_finish, to_item, to_load, to_pin, to_release, to_set, to_start, to_write, true, ℕ, []},
   Words.{◌++◌, ◌<◌, ◌==◌, ◌||◌, ◌∙◌, ◌∷◌, ◌≡◌, ◌≤◌, ◌⊎◌},
 }
@@ -250,7 +250,7 @@ module _ (v : ℕ) (task : Task) where
     pub swaps : (x y : Todo) (below : List Todo) → AllStand shelf v task (x ∷ below) → CoversBy shelf (x ∷ below)
         → ((i : Identity) → is_open_of i y ≡ is_open_of i x)
         → (Stands shelf v task x below → Stands shelf v task y below) → Goes shelf None shelf' (y ∷ below)
-    swaps x y below (stands, apart, rest) covers about goes = plain _ _ (λ a is. absurd (cc)) (goes stands, grind basics, rest)
+    swaps x y below (stands, apart, rest) covers about goes = plain None (y ∷ below) (λ a is. absurd (cc)) (goes stands, grind basics, rest)
         (grind basics)
 
   module _ (shelf : Shelf) where
@@ -269,8 +269,8 @@ module _ (v : ℕ) (task : Task) where
     item-settles written keys below x3 = search (rules, started, meets-of-item, among-drop)
 
     pub gives : (r : ArcRef) (key height : ℕ) (todo : List Todo) → AllStand shelf v task todo → AllStand shelf v task (give r key height todo)
-    gives r key height (to_finish o ∷ below) all = settles _ _ all
-    gives r key height (to_item written keys ∷ below) all = item-settles _ _ _ all
+    gives r key height (to_finish o ∷ below) all = settles (record o { keys = o.keys ++ key ∷ []; height = max o.height (above r.kind.0 height) }) below all
+    gives r key height (to_item written keys ∷ below) all = item-settles written (keys ++ key ∷ []) below all
     gives r key height x3 all = grind basics
 
     pub given-open : (i : Identity) (r : ArcRef) (key height : ℕ) (todo : List Todo) → is_open_in i (give r key height todo) ≡ is_open_in i todo
@@ -287,7 +287,7 @@ module _ (v : ℕ) (task : Task) (shelf shelf' : Shelf) where
   own-goes i new todo puts at meets good all covers =
       let changes : Changes v shelf shelf' = λ j. elim (cases_Bool (is_identity i j))
       [ inl e ↦ rw (is-same i j e, puts.at) at | inr e ↦ stays (puts.elsewhere j e) ] in
-      let now = meets-grow _ _ _ i (grows v shelf shelf' changes) meets in
+      let now = meets-grow shelf shelf' task i (grows v shelf shelf' changes) meets in
       grind (basics, put-cases, some-none, all changes now)
 
   pub failed-goes : (answer : WorkerAnswer) → SameShelf (with_failed shelf v) shelf' → Goes v task shelf (Some answer) shelf' []
@@ -322,7 +322,7 @@ module _ (v : ℕ) (shelves shelves' : ℕ → Shelf) (walkings walkings' : ℕ 
   keeps-task u w there = grind (arith, same-number)
 
   met-stays : (t : ℕ) (i : Identity) (u n : ℕ) → n ≡ u → IsMetBy (shelves t) walkings u t i → IsMetBy (shelves' t) walkings' n t i
-  met-stays t i u n same met = grind (basics, keeps-task, meets-grow, grows, keeps-task u _ met.there)
+  met-stays t i u n same met = grind (basics, keeps-task, meets-grow, grows, keeps-task u met.walking met.there)
 
   pub work-stands : (last last' : ℕ) → last ≤ last' → v ≤ last' → WorkStands shelves walkings last → WorkStands shelves' walkings' last'
   work-stands last last' few small work =
@@ -343,7 +343,7 @@ module _ (v : ℕ) (shelves shelves' : ℕ → Shelf) (walkings walkings' : ℕ 
       grind (basics, each, met-stays, some-same, cases_Bool, nat_eq, same-number)
 
 pub first-stands : (shelf : Shelf) (v : ℕ) (task : Task) → AllStand shelf v task (first_todo task)
-first-stands shelf v (of_item written) = item-settles v _ _ _ [] [] ((refl, refl), (λ i is. absurd (cc)), tt)
+first-stands shelf v (of_item written) = item-settles v (of_item written) shelf written [] [] ((refl, refl), (λ i is. absurd (cc)), tt)
 first-stands shelf v (of_entry h i) = (meets-entry h i refl, (λ j is. absurd (cc)), tt)
 
 abbrev pub SameSlots : (ℕ → Shelf) → (ℕ → Shelf) → Type 0
@@ -356,7 +356,7 @@ module _ (shelves shelves' : ℕ → Shelf) (walkings walkings' : ℕ → Option
   is-quiet stay =
       let changes : (t : ℕ) → Changes 0 (shelves t) (shelves' t) = λ t. same-slots 0 (shelves t) (shelves' t) (same t) in
       let stands : (w : Walking) → walkings' 0 ≡ Some w → WalkingStands (shelves' w.table) 0 w = λ w there.
-      walking-stays 0 w _ _ (grows 0 (shelves w.table) (shelves' w.table) (changes w.table))
+      walking-stays 0 w (shelves w.table) (shelves' w.table) (grows 0 (shelves w.table) (shelves' w.table) (changes w.table))
       (λ i slot is own. same w.table i ∙ is) (λ i slot is own. sym (same w.table i) ∙ is) (work.workers 0 w (sym (stay 0) ∙ there)) in
       grind (basics, some-none, changes, stands, stay)
 

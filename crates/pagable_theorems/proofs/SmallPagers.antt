@@ -2,7 +2,7 @@
 use Rattle.pagable_pager_spec.specs.{
   Basics.is_eager,
   Cascade.{Falls, IsLeast, MustList, fallen, is_keyed, loses_value, owned_outside},
-  Kinds.{is_loose, is_pin, is_shared, sharing},
+  Kinds.{is_at, is_loose, is_pin, is_share, is_shared, sharing},
   Pager.{EventHolds, HoldsItsNodes, IsHandleBefore, MayOwnLoad},
   World.{Root, is_here, of_key, type_at},
 }
@@ -53,10 +53,10 @@ IsLow w = Each RowLow w.rows
 
 module _ (rows : List HandleRow) (low : Each RowLow rows) where
   held-past : (n : ℕ) → 3 < n → held n rows ≡ 0
-  held-past n lt = none-pass _ _ _ low (λ h ok. grind (basics, ok.0))
+  held-past n lt = none-pass RowLow (is_at n) rows low (λ h ok. grind (basics, ok.0))
 
   unshared : (n : ℕ) → sharing n rows ≡ 0
-  unshared n = none-pass _ _ _ low (λ h ok. grind (basics, ok.1))
+  unshared n = none-pass RowLow (is_share n) rows low (λ h ok. grind (basics, ok.1))
 
   owner-past : (n : ℕ) → 3 < n → (o : Owner) → OwnerLow o → is_owner (owner_value n) o ≡ false
   owner-past n lt x2 ok = grind basics
@@ -192,16 +192,16 @@ loose-holds s event x loose = by event
 
 module _ (w : Core) (vs : List (Option Sample)) (few : Few w) (p : Passes w vs) where
   number : (n : ℕ) → NumberFits w vs n
-  number = by-four _ p.numbers (λ n lt. grind (basics, past-end, held-past, none-pass, owner-past))
+  number = by-four (NumberFits w vs) p.numbers (λ n lt. grind (basics, past-end, held-past, none-pass, owner-past))
 
   row : (h : HandleRow) → Among w.rows h → RowThere w h
-  row h among = each-among _ _ h p.handles.2 among
+  row h among = each-among (RowThere w) w.rows h p.handles.2 among
 
   low : (h : HandleRow) → Among w.rows h → RowLow h
-  low h among = each-among _ _ h p.handles.0 among
+  low h among = each-among RowLow w.rows h p.handles.0 among
 
   load : (l : ℕ) (load : OpenLoad) → w.loads l ≡ Some load → LoadFits w l load
-  load l x is = of-some _ (number l).4 is
+  load l x is = of-some (LoadFits w l) (number l).4 is
 
   value : (n : ℕ) (x : Sample) → value_at vs n ≡ Some x → ValueFits w n (Some x)
   value n x is = subst (λ o. ValueFits w n o) is (number n).3
@@ -217,13 +217,13 @@ module _ (w : Core) (vs : List (Option Sample)) (few : Few w) (p : Passes w vs) 
       record {
         whole = record {
           handles = record {
-            ordered = (ordered 0 _ p.handles.1).0;
+            ordered = (ordered 0 w.rows p.handles.1).0;
             numbered = λ h among. let (a, b, c) = row h among in (grind basics, grind basics);
             nodes_numbered = grind (basics, number, and_parts);
             within = grind basics;
             live = λ n. (number n).1;
-            uniform = λ n. inl (unshared _ p.handles.0 n);
-            unkeyed = λ n some. absurd (omega (arith, unshared _ p.handles.0 n));
+            uniform = λ n. inl (unshared w.rows p.handles.0 n);
+            unkeyed = λ n some. absurd (omega (arith, unshared w.rows p.handles.0 n));
             places = (grind basics, let e : length w.list ≡ 0 = ap length p.stands.list in omega arith);
           };
           owners_there = record {
@@ -247,5 +247,5 @@ module _ (w : Core) (vs : List (Option Sample)) (few : Few w) (p : Passes w vs) 
         typed = λ n x is. (value n x is).0;
         owns_references = λ n x q is. inside n x q is;
         owns_nothing = λ n is. subst (λ o. ValueFits w n o) is (number n).3;
-        references = λ n x r is among. good w _ [] (sample.references x) (value n x is).3 r among;
+        references = λ n x r is among. good w (owner_value n) [] (sample.references x) (value n x is).3 r among;
       }

@@ -5,7 +5,7 @@ use Rattle.pagable_pager_spec.specs.{
   Calls.{ReleaseCall, with_node},
   Events.Ends,
   LoadCalls.{HandOverCall, is_owned_in, numbers_of},
-  Loads.{asks, gone_on, handles_of, need_of, needs_nested, nested_frame, to_adopt, with_got},
+  Loads.{LoadDoes, asks, gone_on, handles_of, need_of, needs_nested, nested_frame, to_adopt, with_got},
   Order.{IsWithinBound, Unfolds, UnfoldsFrom, after_kinds, unfolds},
   Pager.{FrameFits, IsReadingOf, IsWhole, NodeStands, OwnersAreThere, SameTrees, StandsFor},
   Rightness.{LoadsHaveStepsLeft, ReadGives, ReadIsRight, StepIsWithin},
@@ -27,9 +27,9 @@ use Rattle.pagable_theorems.proofs.{
   Trees.{at-most-sum, counted, one-true, same-number, same_some, self-number},
   Words.{Action, Alike, Among, ArcRef, AreMoments, Blob, Bool, Call, Change, Core, Error, Event, EventReply, Frame, FramesFit, GetsKnown, HandleNumber},
   Words.{HandleRow, HandlesAreWhole, Happens, IsLawful, IsMachineWhole, IsPagerWhole, IsReadableType, IsReference, IsWellAsked, KeepsOpen, Kind, Last, List},
-  Words.{LoadNumber, MachineState, Moment, NodeNumber, None, Ok, OpenLoad, Option, OptionalDataKey, Owner, PagerStandsFor, PagerState, Reading},
+  Words.{LoadAnswer, LoadNumber, MachineState, Moment, NodeNumber, None, Ok, OpenLoad, Option, OptionalDataKey, Owner, PagerStandsFor, PagerState, Reading},
   Words.{ReadingFeels, ReadsRoot, ReadsTree, Result, Seen, Some, Tree, Types, Values, WorkerAnswer, WorkerState, World, adopted, and_parts, ap, arith, basics},
-  Words.{false, find_row, held, inl, inr, is_eager, is_handle, is_in, is_owned_by, length, mode_of, moved, next_in, next_node, not, nothing_felt},
+  Words.{false, find_row, first_key, held, inl, inr, is_eager, is_handle, is_in, is_owned_by, length, mode_of, moved, next_in, next_node, not, nothing_felt},
   Words.{one, owner_worker, refl, root_frame, rules, slice_get_within, state_after, step_of, subst, suc, sum_by-cons, sym, times, true, type_of, with_handle},
   Words.{world_of, zero, ℕ, [], ◌&&◌, ◌*◌, ◌++◌, ◌+◌, ◌<◌, ◌==◌, ◌∙◌, ◌∷◌, ◌≡◌, ◌≤◌, ◌⊎◌},
 }
@@ -53,12 +53,12 @@ in-numbers x0 r x2 = grind (basics, self-number)
 pub hands : {w w' : Core} (l : LoadNumber) (references : List ArcRef) → HandlesAreWhole w → HandOverCall w Owner.Caller l (handles_of references) (Ok tt) w'
     → HandsOver w l references w'
 hands {w} {w'} l references whole c r among =
-    let hs = handles_of references in let numbered = in-numbers _ r among in
-    let n = named w _ [] hs (grind (basics, neither)) r.handle numbered in
+    let hs = handles_of references in let numbered = in-numbers references r among in
+    let n = named w (Owner.Load l) [] hs (grind (basics, neither)) r.handle numbered in
     let stood = stands-changed (λ (row : HandleRow). is_in (numbers_of hs) row.number.0) (λ row. record row { owner = Owner.Caller }) (λ h. refl)
-    (stands-whole whole _ _ n.live) in
-    let moves = ap (is_in (numbers_of hs)) (found-number _ _ _ n.live) ∙ numbered in
-    let now : Stands w.last.handle (moved _ _ w.rows) r.handle.0 (record n.row { owner = Owner.Caller }) = rw moves at stood in
+    (stands-whole whole r.handle.0 n.row n.live) in
+    let moves : is_in (numbers_of hs) n.row.number.0 ≡ true = ap (is_in (numbers_of hs)) (found-number r.handle.0 w.rows n.row n.live) ∙ numbered in
+    let now : Stands w.last.handle (moved (is_in (numbers_of hs)) Owner.Caller w.rows) r.handle.0 (record n.row { owner = Owner.Caller }) = rw moves at stood in
     let stays : (is_owned_in w (Owner.Load l) r.handle.0 && not (is_in (numbers_of hs) r.handle.0)) ≡ false = grind basics in
     let after = stands-fell c.hands.1.falls (λ n e. cc) stays now in (n.row, n.live, n.own, after.live)
 
@@ -109,12 +109,12 @@ module _ {N E B W : Type 0} (m : Seen N B W) (lawful : IsLawful m.values) (s s' 
       → ReadGives m.values s trees event reply s' trees'
   reads-give (Event.LoadStep l) (EventReply.LoadMoved (Ok reply)) does asked = λ load x open_load ended.
       let h = does.step.happens.moves in
-      let read = (rw ended at h.does.does).0 in
-      let stored = (reading-feels m _ _ caller-free _ _ _ _ h.does).does.goes.stored in
-      let going = going-of s _ readings _ (reading-stands _ whole.pager.whole l _ h.at) in
-      read-right lawful s.pager _ _ _ same stored whole'.pager stands'.pager _ (asked h.reading h.at).types going load
-      (reading-open s whole l _ h.at open_load) x read.reads_root
-      (hands _ _ whole.pager.whole.handles read.handed)
+      let read = (subst (λ (a : Option (LoadAnswer N)). LoadDoes m.values s.pager.core Owner.Caller h.reading a h.frames s'.pager.core) ended h.does.does).0 in
+      let stored = (reading-feels m s.pager.core Owner.Caller caller-free s'.pager.core h.reading reply.ended h.frames h.does).does.goes.stored in
+      let going = going-of s trees readings h.reading (reading-stands (world_of s) whole.pager.whole l h.reading h.at) in
+      read-right lawful s.pager s'.pager trees trees' same stored whole'.pager stands'.pager h.reading (asked h.reading h.at).types going load
+      (reading-open s whole l h.reading h.at open_load) x read.reads_root
+      (hands h.reading.load (m.values.references x) whole.pager.whole.handles read.handed)
   reads-give event reply does asked = tt
 
 -- How many steps an open load still needs: at most two for each reference that its blobs still take, with all that it leads to, and one for each of its blobs.
@@ -123,7 +123,7 @@ root-unfolds : {types : Types} {store : ℕ → Option Blob} {t key many longest
     ≡ Some blob
     → UnfoldsFrom types store t blob [] many longest
 root-unfolds {types} {store} (unfolds t key many longest other there from) blob is =
-    rw (← (same_some _ _ (sym there ∙ is))) from
+    subst (λ b. UnfoldsFrom types store t b [] many longest) (same_some _ _ (sym there ∙ is)) from
 
 -- it takes a reference of this kind under this key, and then the rest
 takes : {types : Types} {store : ℕ → Option Blob} {t many longest : ℕ} {blob : Blob} {kinds : List ℕ} → UnfoldsFrom types store t blob kinds many longest
@@ -220,8 +220,10 @@ module _ {N : Type 0} {v : Values N} {w w' : Core} (store : ℕ → Option Blob)
   owes-less : {c : Change} → ReadingFeels v w reading None frames w' c → OwesLess v.types store many frames owed
   owes-less (reads-root l blob none_read at stored answer is) = search (rules, reads-root, owes-root)
   owes-less (reads-blob kind key blob needs stored answer is) = grind (basics, owes-blob)
-  owes-less (gets-known kind key n row needs known got answer is) = rw is (owes-got _ _ _ _ _ key _ row needs o)
-  owes-less (gets-lazy kind key row needs got answer is) = rw is (owes-got _ _ _ _ _ key _ row (inr needs) o)
+  owes-less (gets-known kind key n row needs known got answer is) = subst (λ fs. OwesLess v.types store many fs owed) (sym is)
+      (owes-got v.types store many reading.frames kind key owed row needs o)
+  owes-less (gets-lazy kind key row needs got answer is) = subst (λ fs. OwesLess v.types store many fs owed) (sym is)
+      (owes-got v.types store many reading.frames kind key owed row (inr needs) o)
   owes-less (makes-known x r n row known got answer is) = search (rules, makes-known, owes-made)
   owes-less (makes-node x r row got answer is) = search (rules, makes-node, owes-made)
   owes-less (reading-ends end answer is) = absurd (cc)
@@ -250,7 +252,7 @@ fresh-bounded : (types : Types) (u : World) (reading : Reading) → IsFresh u.co
 fresh-bounded types u reading new = (
   new.2,
   λ load o more k many longest d.
-      (2 * many + 2, rw new.0 refl, omega arith),
+      (2 * many + 2, subst (λ fs. Owes types more many fs (2 * many + 2)) (sym new.0) refl, omega arith),
 )
 
 abbrev AllBounded : Types → World → Type 0
@@ -264,7 +266,7 @@ module _ {N E B W : Type 0} (m : Seen N B W) (s s' : MachineState N E) (whole : 
   bounded-of : AllBounded m.values.types (world_of s) → (reading : Reading) → IsReadingOf s.work reading ⊎ IsFresh s.pager.core reading
       → IsBounded m.values.types (world_of s) reading
   bounded-of all reading (inl there) = all reading there
-  bounded-of all reading (inr new) = fresh-bounded _ (world_of s) _ new
+  bounded-of all reading (inr new) = fresh-bounded m.values.types (world_of s) reading new
 
   kept-bounded : {c : Change} → Goes c s.pager.core s'.pager.core → (reading : Reading) → IsBounded m.values.types (world_of s) reading
       → IsBounded m.values.types (world_of s') reading
@@ -273,7 +275,7 @@ module _ {N E B W : Type 0} (m : Seen N B W) (s s' : MachineState N E) (whole : 
   all-on : {event : Event N B W} {reply : EventReply N B W} {c : Change} → Goes c s.pager.core s'.pager.core → AllBounded m.values.types (world_of s)
       → EventFeels m.values (world_of s) event reply (world_of s') c → AllBounded m.values.types (world_of s')
   all-on goes all = readings-on (λ r. IsBounded m.values.types (world_of s') r) (λ r is. kept-bounded goes r (all r is))
-      (fresh-bounded _ (world_of s'))
+      (fresh-bounded m.values.types (world_of s'))
       (λ r frames load stands at feels. let before = bounded-of all r stands in
       kept-bounded goes (gone_on r frames) (before.0, λ load was. bounded-step r load frames was (before.1 load was) feels))
 
@@ -283,7 +285,7 @@ module _ {N E B W : Type 0} (m : Seen N B W) (s s' : MachineState N E) (whole : 
   event-on event reply h waits stands = let cases : KeepsOpen event ⊎ (event ≡ Event.Call Call.Close) = grind basics in elim cases [
     | inr closes ↦ inl (grind basics)
     | inl keeps ↦
-        let g = event-goes m _ _ _ _ keeps h in
+        let g = event-goes m (world_of s) (world_of s') event reply keeps h in
         elim stands [ inl shut ↦ inl (g.goes.shut shut) | inr all ↦ inr (all-on g.goes all (g.feels whole.pager.whole waits)) ]
   ]
 
@@ -312,7 +314,7 @@ steps-left v s (inr all) reading load is is_open = let b = (all reading is).1 lo
 pub event-spares : {N B W : Type 0} (m : Seen N B W) (v : ℕ) (u u' : World) → OwnersAreThere u.core → (event : Event N B W) (reply : EventReply N B W)
     → step_of v event reply ≡ [] → KeepsOpen event
     → Happens m u event reply u' → Spares (owner_worker v) u.core u'.core
-event-spares m v u u' there event reply others still h = (event-goes m u _ _ _ still h).spares v there others
+event-spares m v u u' there event reply others still h = (event-goes m u u' event reply still h).spares v there others
 
 keeps-open : {N B W : Type 0} (event : Event N B W) → LeavesCache event → KeepsOpen event
 keeps-open x0 leaves = grind basics
@@ -326,8 +328,8 @@ pub walk-spares-list : {N B W : Type 0} (m : Seen N B W) (u : ℕ) (s s' : Worke
     → workers.WalkDoes m u s step s' → Ends answer u s'.core w'
     → Spares Owner.List s.core w'
 walk-spares-list m u s s' w' step answer does ends =
-    ends-spare _ list-apart u (λ is. absurd (cc)) _ ends ((walk-goes m u s _ _ _ does.does).does.spares Owner.List
-    (listed _ (λ is. absurd (cc))))
+    ends-spare Owner.List list-apart u (λ is. absurd (cc)) answer ends ((walk-goes m u s s' s.todo step does.does).does.spares Owner.List
+    (listed s.core (λ is. absurd (cc))))
 
 pub release-spares-list : {w w' : Core} {h : HandleNumber} (r : Result (Unit {0}) Error) → ReleaseCall w Owner.Caller h r w' → Spares Owner.List w w'
 release-spares-list {w} {w'} {h} r c = let e : Effect Owner.Caller false (Unit {0}) (Unit {0}) false nothing_felt w w' =
@@ -354,8 +356,8 @@ pub found : {w : Core} → HandlesAreWhole w → (q : ℕ) (x : HandleRow) → A
 found {w} whole q x among is = by (find_row q w.rows) refl
   where
     by : (f : Option HandleRow) → find_row q w.rows ≡ f → find_row q w.rows ≡ Some x
-    by None e = absurd (none-found q _ x e among is)
-    by (Some r) e = e ∙ ap (λ (y : HandleRow). Some y) (once w.rows whole.ordered r x (among-found q _ r e) among (found-number q _ r e ∙ sym is))
+    by None e = absurd (none-found q w.rows x e among is)
+    by (Some r) e = e ∙ ap (λ (y : HandleRow). Some y) (once w.rows whole.ordered r x (among-found q w.rows r e) among (found-number q w.rows r e ∙ sym is))
 
 pub none-shorter : {w w' : Core} → IsWhole w → IsWhole w' → Spares Owner.List w w' → length w.list ≤ length w'.list
 none-shorter {w} {w'} whole whole' spares = fewer w.list w'.list (λ q. each q (times (own q) w.rows) refl)
@@ -385,7 +387,7 @@ data Got (w : Core) (kind : Kind) (key n : ℕ) (w' : Core) : Type 0 where
 held-by : {w w' : Core} {n : ℕ} {row : _} (kind : Kind) (key : ℕ) → GetsRow w w' kind n row → IsHeldFor kind.0 key n w'.rows
 held-by {w' = w'} {row = row} kind key g = record {
   row = row;
-  live = among-found row.number.0 _ _ g.live;
+  live = among-found row.number.0 w'.rows row g.live;
   at = g.at;
   pins_it = λ is. grind basics;
 }
@@ -397,28 +399,29 @@ record Gotten (w : Core) (kind : Kind) (key n : ℕ) (w' : Core) : Type 0 where
 module _ {w w' : Core} (whole : IsWhole w) (kind : Kind) (key n : ℕ) (g : GetsReference w kind key n w') where
   old : (m : ℕ) → usable w kind.0 key ≡ Some m → GetsRow w w' kind m g.row → Goes nothing_felt w w'
       → (IsEntered kind.0 key m w.cache w.cells → IsHeldFor kind.0 key m w'.rows → IsEntered kind.0 key m w'.cache w'.cells) → Gotten w kind key n w'
-  old m is gets q enters = rw (← (sym gets.at ∙ g.at)) (record { held = held-by _ _ gets; from = got-old is q (enters (entered-of _ _ m w is)) })
+  old m is gets q enters = subst (λ x. Gotten w kind key x w') (sym gets.at ∙ g.at)
+      (record { held = held-by kind key gets; from = got-old is q (enters (entered-of kind.0 key m w is)) })
 
   known : GetsKnown w g.l kind key g.k w' → Gotten w kind key n w'
-  known c = old _ c.known (got-known whole.handles _ _ _ g.made c.next.above _ _ c.leaves)
+  known c = old c.n c.known (got-known whole.handles kind g.k g.row g.made c.next.above c.n (Owner.Load g.l) c.leaves)
       (was-known {me = Owner.Caller} {lists = false} {Asks = Unit {0}} {Leaves = Unit {0}} c).goes (λ e h. stays-alike kind.0 key c.n c.leaves e h)
 
   new : (own : OptionalDataKey) (references : List ArcRef) → g.k.0 ≡ w.last.handle + 1 → usable w kind.0 key ≡ None
       → Alike (adopted w g.l kind key own references) w' → Gotten w kind key n w'
   new own references above none a =
-      let gets = got-born whole.handles _ _ _ g.made above _ _ _ _ a in
+      let gets = got-born whole.handles kind g.k g.row g.made above g.l key own references a in
       let next = sym gets.at ∙ g.at in
-      record { held = rw (← next) (held-by _ _ gets); from = got-new none (sym next) _ _ references a }
+      record { held = subst (λ x. IsHeldFor kind.0 key x w'.rows) next (held-by kind key gets); from = got-new none (sym next) g.l own references a }
 
   got : Gotten w kind key n w'
   got = elim g.gets [
     | inl asked ↦ known asked.gives.2
-    | inr (inl lazy) ↦ elim lazy.makes.3 [ inl c ↦ known c | inr (none, few, next, a) ↦ new _ [] next.above none a ]
+    | inr (inl lazy) ↦ elim lazy.makes.3 [ inl c ↦ known c | inr (none, few, next, a) ↦ new (OptionalDataKey.Some key) [] next.above none a ]
     | inr (inr (t, references, c)) ↦ elim c.makes [
       | inl (m, is, f) ↦
-          let gets = got-fallen whole.handles _ _ _ g.made c.next.above m _ f in
-          old m is gets (quiet-goes _ (quiet-then (a-handle w _ _ _) (fell-anyhow f))) (λ e h. stays-fell kind.0 key m f.falls e h)
-      | inr (none, few, a) ↦ new _ _ c.next.above none a
+          let gets = got-fallen whole.handles kind g.k g.row g.made c.next.above m (Owner.Load g.l) f in
+          old m is gets (quiet-goes nothing_felt (quiet-then (a-handle w _ _ (Owner.Load g.l)) (fell-anyhow f))) (λ e h. stays-fell kind.0 key m f.falls e h)
+      | inr (none, few, a) ↦ new (first_key kind.0 key) references c.next.above none a
     ]
   ]
 
@@ -448,12 +451,12 @@ module _ {N B W E : Type 0} (m : Seen N B W) (kind : Kind) (key n : ℕ) where
       × (StaysAlive kind n xs → IsEntered kind.0 key n s.pager.core.cache s.pager.core.cells → IsHeldFor kind.0 key n s.pager.core.rows
       → usable (state_after s xs).pager.core kind.0 key ≡ Some n)
   unfolding state_after
-  along s [] whole chain leaves once = (whole, once, λ alive e h. can-use _ _ n s.pager.core e h)
+  along s [] whole chain leaves once = (whole, once, λ alive e h. can-use kind.0 key n s.pager.core e h)
   along s (x ∷ xs) whole (does, more) leaves once =
       let kept = leaves x (zero, refl) in
-      let g = event-goes m _ _ _ _ (keeps-open _ kept) does.step.happens in
+      let g = event-goes m (world_of s) (world_of x.after) x.event x.reply (keeps-open x.event kept) does.step.happens in
       let (whole', once', used) = along x.after xs does.whole more (λ y (i, is). leaves y (suc i, is))
-      (once-goes _ _ n g.goes (g.knows whole.pager.whole kept) once) in (
+      (once-goes kind.0 key n g.goes (g.knows whole.pager.whole kept) once) in (
         whole',
         once',
         λ (a, alive) e h.
@@ -475,7 +478,7 @@ filled-goes {c} {w} whole g next filled kind key k q n a b =
     λ kind key was k q new. omega (arith, (whole.cache kind key n was).given, next k q n new) in
     elim (g.cache kind key n a) [
       | inl was ↦ elim (g.cache k q n b) [ inl too ↦ filled kind key k q n was too | inr new ↦ absurd (old kind key was k q new) ]
-      | inr new ↦ elim (g.cache k q n b) [ inl was ↦ absurd (old k q was kind key new) | inr too ↦ known-twice c w _ _ k q n new too ]
+      | inr new ↦ elim (g.cache k q n b) [ inl was ↦ absurd (old k q was kind key new) | inr too ↦ known-twice c w kind key k q n new too ]
     ]
 
 filled-along : {N E B W : Type 0} (m : Seen N B W) (s : MachineState N E) (xs : List (Moment N E B W)) → IsMachineWhole m.values s → AreMoments m s xs
@@ -485,7 +488,7 @@ unfolding state_after
 filled-along m s [] whole chain leaves filled = filled
 filled-along m s (x ∷ xs) whole (does, more) leaves filled =
     let kept = leaves x (zero, refl) in
-    let g = event-goes m _ _ _ _ (keeps-open _ kept) does.step.happens in
+    let g = event-goes m (world_of s) (world_of x.after) x.event x.reply (keeps-open x.event kept) does.step.happens in
     filled-along m x.after xs does.whole more (λ y (i, is). leaves y (suc i, is)) (filled-goes whole.pager.whole g.goes (g.knows whole.pager.whole kept) filled)
 
 pub loads_alone_fill_cache : {N B W : Type 0} (E : Type 0) (m : Seen N B W) → LoadsAloneFillCache E m
@@ -497,10 +500,10 @@ same {u} {last} kind other_kind key other_key n other_n got = grind (basics, is-
 
 pub one_identity_law : {N B W : Type 0} (E : Type 0) (m : Seen N B W) → OneIdentityLaw E m
 one_identity_law E m w first between last kind other_kind key other_key n other_n whole filled opened gets whole' chain leaves gets' =
-    let a = got whole _ _ n gets in
-    let s = along m _ _ n _ _ whole' chain leaves (once-got _ _ n whole filled a.from) in
-    let b = got s.0.pager.whole _ _ _ gets' in
-    let (differs, equals) = same _ _ _ _ n _ b.from in
+    let a = got whole kind key n gets in
+    let s = along m kind key n first between whole' chain leaves (once-got kind key n whole filled a.from) in
+    let b = got s.0.pager.whole other_kind other_key other_n gets' in
+    let (differs, equals) = same kind other_kind key other_key n other_n b.from in
     record {
       differ = λ same_kind. differs s.1;
       same = λ same_kind same_key alive. equals

@@ -6,7 +6,7 @@ use Rattle.pagable_pager_spec.specs.{
   Pager.{ReplyWrites, TookWrites},
   Rightness.AreKeysOf,
   Runs.TodoAsksWell,
-  Workers.{claim_fault, first_todo, give_known, next_start, open_node, with_failed, with_outcome},
+  Workers.{claim_fault, first_todo, give_known, next_start, open_node, with_failed, with_outcome, with_wait},
   World.{Fault, Open, digest, failed, published, to_load, to_pin, to_publish},
 }
 use Rattle.pagable_theorems.proofs.{
@@ -50,7 +50,7 @@ module _ {shelf shelf' : Shelf} (keys : KeepsKeys shelf shelf') where
   attained-on x0 rs x2 = grind basics
 
   pub done-on : {N : Type 0} (v : Values N) (task : Task) (key : ℕ) → IsDone v shelf task key → IsDone v shelf' task key
-  done-on v (of_item written) key (ks, known, is, low) = (ks, keys-on _ _ known, is, λ r among. low-on (low r among))
+  done-on v (of_item written) key (ks, known, is, low) = (ks, keys-on written.references ks known, is, λ r among. low-on (low r among))
   done-on v (of_entry h i) key (height, p) = (height, keys i key height p)
 
 module _ {N : Type 0} (v : Values N) {g g' : Ground} (goes : GroundGoes g g') where
@@ -79,7 +79,7 @@ module _ {N : Type 0} (v : Values N) {g g' : Ground} (goes : GroundGoes g g') wh
           b.within,
           low-on keys,
           b.low,
-          attained-on keys _ _ b.attained,
+          attained-on keys height written.references b.attained,
         )
 
     slot-on : {i : Identity} {slot : Slot} → SlotFits v g shelf i slot → SlotFits v g' shelf' i slot
@@ -117,7 +117,7 @@ module _ (shelf shelf' : Shelf) (more : ShelfGrows shelf shelf') where
   wait-on task x1 x2 = grind (basics, so-far-on, keys-grow, longest_path)
 
   above-on : (task : Task) (r : ArcRef) (below : List Todo) → Above shelf task r below → Above shelf' task r below
-  above-on task r below (expects, waits) = (expects, wait-on _ _ waits)
+  above-on task r below (expects, waits) = (expects, wait-on task below waits)
 
 module _ {N : Type 0} {v : Values N} {g g' : Ground} {shelf shelf' : Shelf} (goes : GroundGoes g g') (more : ShelfGrows shelf shelf')
     (fits : SlotsFit v g shelf) where
@@ -140,9 +140,9 @@ module _ {N : Type 0} {v : Values N} {g g' : Ground} {shelf shelf' : Shelf} (goe
 
   slots-but : {i : Identity} {new : Slot} → PutsSlot shelf.slots shelf'.slots i new → SlotFits v g' shelf' i new → SlotsFit v g' shelf'
   slots-but {i} {new} puts fits_new j slot now =
-      elim (put-cases _ _ i _ puts j _ now) [
+      elim (put-cases shelf.slots shelf'.slots i new puts j slot now) [
         | inl e ↦ rw (e.1, e.0) fits_new
-        | inr e ↦ slot-on v goes (keys-grow more) (fits j _ e.1)
+        | inr e ↦ slot-on v goes (keys-grow more) (fits j slot e.1)
       ]
 
   slots-failed : (n : ℕ) → ((i : Identity) → shelf'.slots i ≡ (with_failed shelf n).slots i) → SlotsFit v g' shelf'
@@ -156,16 +156,16 @@ module _ {N : Type 0} {v : Values N} {g g' : Ground} {shelf : Shelf} (shelf' : S
     (fits : SlotsFit v g shelf) where
   walks-on : (task : Task) (todo : List Todo) → Walks v g shelf task todo → Walks v g' shelf' task todo
   walks-on task [] walks = tt
-  walks-on task (to_start r place ∷ below) (at, rest) = (at, above-on _ _ more _ r _ rest)
-  walks-on task (to_pin r place ∷ below) (at, few, rest) = (at, few, above-on _ _ more _ r _ rest)
-  walks-on task (to_load r place through reading ∷ below) (at, few, rest) = (at, few, above-on _ _ more _ r _ rest)
-  walks-on task (to_write r place through ∷ below) (at, few, rest) = (at, few, above-on _ _ more _ r _ rest)
-  walks-on task (to_finish o ∷ below) waits = wait-on _ _ more _ _ waits
-  walks-on task (to_item written keys ∷ below) waits = wait-on _ _ more _ _ waits
+  walks-on task (to_start r place ∷ below) (at, rest) = (at, above-on shelf shelf' more task r below rest)
+  walks-on task (to_pin r place ∷ below) (at, few, rest) = (at, few, above-on shelf shelf' more task r below rest)
+  walks-on task (to_load r place through reading ∷ below) (at, few, rest) = (at, few, above-on shelf shelf' more task r below rest)
+  walks-on task (to_write r place through ∷ below) (at, few, rest) = (at, few, above-on shelf shelf' more task r below rest)
+  walks-on task (to_finish o ∷ below) waits = wait-on shelf shelf' more task (to_finish o ∷ below) waits
+  walks-on task (to_item written keys ∷ below) waits = wait-on shelf shelf' more task (to_item written keys ∷ below) waits
   walks-on task (to_set r through key height ∷ below) (blob, reach, rest) =
-      (has-blob-on goes more fits blob, reach, above-on _ _ more _ r _ rest)
-  walks-on task (to_publish r key height ∷ below) (blob, reach, rest) = (has-blob-on goes more fits blob, reach, above-on _ _ more _ r _ rest)
-  walks-on task (to_release r key height ∷ below) (p, reach, rest) = (keys-grow more _ _ _ p, reach, above-on _ _ more _ r _ rest)
+      (has-blob-on goes more fits blob, reach, above-on shelf shelf' more task r below rest)
+  walks-on task (to_publish r key height ∷ below) (blob, reach, rest) = (has-blob-on goes more fits blob, reach, above-on shelf shelf' more task r below rest)
+  walks-on task (to_release r key height ∷ below) (p, reach, rest) = (keys-grow more _ _ _ p, reach, above-on shelf shelf' more task r below rest)
   walks-on task (to_fail fault back ∷ below) walks = tt
 
 -- A worker's step, case by case: its table and its to-do list fit afterwards.
@@ -189,7 +189,7 @@ module _ (shelf : Shelf) where
   all-low h x1 x2 e x4 r x6 = grind basics
 
   pub next-among : (rs : List ArcRef) (ks : List ℕ) (r : ArcRef) (more : List ArcRef) → drop (length ks) rs ≡ r ∷ more → Among rs r
-  next-among rs ks r more e = among-drop _ _ r (subst (λ (xs : List ArcRef). Among xs r) (sym e) (zero, refl))
+  next-among rs ks r more e = among-drop (length ks) rs r (subst (λ (xs : List ArcRef). Among xs r) (sym e) (zero, refl))
 
 -- what a reference adds is within the place's reach
 adds : (b : Bool) (place height limit : ℕ) → (if b then place + 1 else 0) + height ≤ limit → place ≤ limit → place + (if b then height + 1 else 0) ≤ limit
@@ -227,14 +227,14 @@ module _ {N : Type 0} (v : Values N) (g : Ground) (shelf : Shelf) (task : Task) 
       )
   given r key height p (to_item written ks ∷ below) reach (more, e) (is, known) =
       let a = adds (is_eager r.kind.0) 0 height longest_path reach (omega arith) in
-      search (basics, started-item, so-far-more, longest_path)
+      started-item written _ below _ refl (is, so-far-more shelf longest_path longest_path _ _ r more key height (omega arith) (omega arith) e known p)
   given r key height p (_ ∷ below) reach expects waits = absurd expects
 
   given-known : (r : ArcRef) (key height : ℕ) → IsPublished shelf (identity_of r) key height → (below : List Todo) → HasRoom r height below
       → Expects task r below → Waits shelf task below
       → Walks v g shelf task (give_known r key height below)
   given-known r key height p [] reach expects waits = (p, reach, (expects, waits))
-  given-known r key height p (x ∷ below) reach expects waits = given r _ _ p _ reach expects waits
+  given-known r key height p (x ∷ below) reach expects waits = given r key height p (x ∷ below) reach expects waits
 
 -- a known key of a table that fits stands for its node's tree
 pub stands-for : {N : Type 0} (v : Values N) (g : Ground) (shelf : Shelf) → SlotsFit v g shelf → (i : Identity) (key height : ℕ)
@@ -246,14 +246,14 @@ module _ {N B W : Type 0} (m : Seen N B W) (n : ℕ) {g g' : Ground} (task : Tas
     (fits : SlotsFit m.values g s.shelf)
     (claimable : (r : ArcRef) → claim_fault s.core r ≡ None → (r.node.0 ≤ g.last) × ((g.trees r.node.0).type ≡ type_of r.kind.0)) where
   still : (r : ArcRef) (below : List Todo) → Above s.shelf task r below → Above s'.shelf task r below
-  still r below above = above-on _ _ more _ r _ above
+  still r below above = above-on s.shelf s'.shelf more task r below above
 
   -- what one step of a worker leaves
   abbrev Fits : Type 0
   Fits = SlotsFit m.values g' s'.shelf × Walks m.values g' s'.shelf task s'.todo
 
   did : SlotsFit m.values g' s'.shelf → {next : List Todo} → s'.todo ≡ next → Walks m.values g' s'.shelf task next → Fits
-  did slots e walks = (slots, rw e walks)
+  did slots e walks = (slots, subst (λ t. Walks m.values g' s'.shelf task t) (sym e) walks)
 
   module _ (same : (i : Identity) → s'.shelf.slots i ≡ s.shelf.slots i) where
     kept : SlotsFit m.values g' s'.shelf
@@ -271,14 +271,14 @@ module _ {N B W : Type 0} (m : Seen N B W) (n : ℕ) {g g' : Ground} (task : Tas
     finishes o below key claim wrote (known, attained, place, reach, expects, waits) all is there =
         let a = more (identity_of o.reference) claim.slot claim.claimed in
         let so = a.2.references o.written.references claim.written_so in
-        let first = so-far-on (keys-grow more) _ _ _ known in
-        let known' = all-known _ _ _ _ all first in
-        let right = key-stands _ (stands-for _ _ _ kept) wrote known' there is in
+        let first = so-far-on (keys-grow more) o.height o.written.references o.keys known in
+        let known' = all-known s'.shelf o.height o.written.references o.keys all first in
+        let right = key-stands o.keys (stands-for m.values g' s'.shelf kept) wrote known' there is in
         let small : o.height ≤ longest_path = omega arith in
-        let most : IsAttained s'.shelf o.height o.written.references = attained-on (keys-grow more) _ _ attained in
+        let most : IsAttained s'.shelf o.height o.written.references = attained-on (keys-grow more) o.height o.written.references attained in
         let stands : BlobStands m.values g' s'.shelf o.reference.node.0 o.written key o.height =
-        search (wrote, known', there, right, small, all-low _ _ _ _ all first, most) in
-        (record { slot = a.0; written = o.written; claimed = a.1; wrote = so; stands = stands }, reach, still _ _ (expects, waits))
+        search (wrote, known', there, right, small, all-low s'.shelf o.height o.written.references o.keys all first, most) in
+        (record { slot = a.0; written = o.written; claimed = a.1; wrote = so; stands = stands }, reach, still o.reference below (expects, waits))
 
   writes : (r : ArcRef) (place : ℕ) (through : HandleNumber) (below : List Todo) (written : Written)
       (claim : HasClaim s.shelf n (identity_of r) (λ w. w ≡ None))
@@ -301,7 +301,7 @@ module _ {N B W : Type 0} (m : Seen N B W) (n : ℕ) {g g' : Ground} (task : Tas
       (tt, inl refl, at, omega arith, a.0, a.1))
 
   listed : {next : List Todo} → s'.todo ≡ next → AllWrote m.values.types g' next → AllWrote m.values.types g' s'.todo
-  listed e all = rw e all
+  listed e all = subst (λ t. AllWrote m.values.types g' t) (sym e) all
 
   stored-so : (key : ℕ) (b : Blob) → Stores s.core key b s'.core → s'.core.stored key ≡ Some b
   stored-so key b h = let e : (key == key) ≡ true = grind basics in h.adds.each key ∙ ap (λ t. if t then Some b else s.core.stored key) e
@@ -318,7 +318,8 @@ module _ {N B W : Type 0} (m : Seen N B W) (n : ℕ) {g g' : Ground} (task : Tas
         let ok = claimable r c.finds.0 in
         let new : Slot = record { worker = n; references = None; outcome = no_result } in let more_last = goes.last in
         let fits_new : SlotFits m.values g' s'.shelf (identity_of r) new = grind basics in
-        search (did, slots-but, goes, fits, puts-slot, still)
+        did (slots-but goes more fits (puts-slot (with_wait s.shelf n None) s'.shelf (identity_of r) new t.table_is) fits_new) t.list_is
+        (at, c.finds.1.0, still r below above)
     stepped (to_start r place ∷ below) e written (Action.Claim i (Ok (Claim.Known key height))) st (is, c) all (at, above) =
         let t = c.finds.1.2 in let a = still r below above in
         did (kept (λ j. t.table_is.slots j)) t.list_is
@@ -358,13 +359,15 @@ module _ {N B W : Type 0} (m : Seen N B W) (n : ℕ) {g g' : Ground} (task : Tas
           still r below above,
         )
     stepped (to_release r key height ∷ below) e written (Action.Release i) st (is, falls, t) all (p, reach, above) =
-        let a = still r below above in search (did, kept, given, keys-grow)
+        let a = still r below above in did (kept t.table_stays.slots) t.list_is
+        (given m.values g' s'.shelf task r key height (keys-grow more _ _ _ p) below reach a.0 a.1)
     stepped (to_fail fault back ∷ below) e written Action.Fail st (gives, same, list_is) all walks = did (slots-failed goes more fits n same.slots) list_is tt
     stepped (to_finish o ∷ below) e ((given, w), rest) (Action.Store i (Ok key)) st (is, p) (stands, apart, all) walks =
         let t = p.goes in let b = p.stored.stores in
         let none : answer_after s.todo step ≡ None = subst (λ t. answer_after t step ≡ None) (sym e)
         (subst (λ k. answer_after (to_finish o ∷ below) k ≡ None) (sym st) refl) in
-        search (did, kept, finishes, wrote-on, goes, ends, stored-so)
+        did (kept t.table_stays.slots) t.list_is (finishes t.table_stays.slots o below key stands.1 (wrote-on m.values goes given w) walks p.all b.0
+        (ends none key _ (stored-so key _ b.1)))
     stepped _ e written step st does all walks = grind (
       basics,
       fails,
@@ -403,7 +406,7 @@ module _ {N B W E : Type 0} (m : Seen N B W) (s s' : MachineState N E) (trees tr
 
   starts-well : (shelf : Shelf) (task : Task) → Walks m.values g' shelf task (first_todo task)
   unfolding Waits
-  starts-well shelf (of_item written) = started-item _ _ _ _ _ [] [] _ refl (refl, tt)
+  starts-well shelf (of_item written) = started-item m.values g' shelf (of_item written) written [] [] _ refl (refl, tt)
   starts-well shelf (of_entry h i) = (refl, (refl, tt))
 
   -- what the event asks of the worker that makes its step
@@ -425,34 +428,34 @@ module _ {N B W E : Type 0} (m : Seen N B W) (s s' : MachineState N E) (trees tr
       → IsWellAsked m.values s trees event reply → WorkFits m.values s' trees'
   fits-on work event reply turns writes asked =
       let stay : GroundGoes g' g' = record { kept = λ key b e. e; last = omega arith; trees = λ n le. refl } in
-      let h = turns-keep m turns _ (λ n shelf w. Walks m.values g' shelf w.task w.todo × AllWrote m.values.types g' w.todo)
+      let h = turns-keep m turns (SlotsFit m.values g') (λ n shelf w. Walks m.values g' shelf w.task w.todo × AllWrote m.values.types g' w.todo)
       (λ a b same fits. slots-on stay (same-grow a b same) fits same)
-      (λ a b more fits n w (walks, wrote). (walks-on b stay more fits _ _ walks, wrote)) (λ t shelf more same. slots-on goes more (fit.slots t) same)
+      (λ a b more fits n w (walks, wrote). (walks-on b stay more fits w.task w.todo walks, wrote)) (λ t shelf more same. slots-on goes more (fit.slots t) same)
       (λ n w none there. (
-        walks-on _ goes (turns-grow m turns _) (fit.slots w.table) _ _ (fit.walks n w there),
+        walks-on (s'.work.shelves w.table) goes (turns-grow m turns w.table) (fit.slots w.table) w.task w.todo (fit.walks n w there),
         all-wrote-on m.values goes w.todo (fit.wrote n w there),
       ))
-      (λ n shelf t task. (starts-well _ _, wrote-first _)) (λ k r w at one more.
+      (λ n shelf t task. (starts-well shelf task, wrote-first task)) (λ k r w at one more.
       let ends : answer_after w.walking.todo r.action ≡ None → (key : ℕ) (b : Blob) → w.after.core.stored key ≡ Some b → s'.pager.core.stored key ≡ Some b =
       λ none key b is. (let e = subst (λ a. Ends a k.0 w.after.core s'.pager.core) (w.answers ∙ none) w.ends in e.stored key ∙ is) in
       let claimable : (r : ArcRef) → claim_fault s.pager.core r ≡ None → (r.node.0 ≤ s.pager.core.last.node) × ((trees r.node.0).type ≡ type_of r.kind.0) =
       λ r may. grind basics in
       let writes_so : (i : Identity) (out : W) → r.action ≡ Action.Write i (Ok out) → IsReadableType m.values.types (trees i.node.0).type
       → WroteTree m.values.types (ground_of s trees) i.node.0 (m.written_of out) =
-      λ i out is can. wrote represents whole.pager settled lawful _ _ can
+      λ i out is can. wrote represents whole.pager settled lawful i.node.0 (m.written_of out) can
       (subst (λ (t : Action W). TookWrites m.values m.written_of s.pager t) is (grind basics)) in
       let readable : (q : ArcRef) (place : ℕ) (through : HandleNumber) (below : List Todo) → w.walking.todo ≡ to_write q place through ∷ below
       → IsReadableType m.values.types (type_of q.kind.0) =
       λ q place through below front. subst (TodoAsksWell m.values s.pager) front
-      (walker-asked _ _ _ r one asked _ (sym (ap s.work.walkings at) ∙ w.at)) in
+      (walker-asked turns.who event reply r one asked w.walking (sym (ap s.work.walkings at) ∙ w.at)) in
       let site = site_of (world_of s) w.walking in let all = (work.workers k.0 w.walking w.at).all in let wrote_so = fit.wrote k.0 w.walking w.at in
-      let now = stepped m _ _ _ _ goes more (fit.slots w.walking.table) claimable _ writes_so readable ends _ refl
-      wrote_so _ refl w.does.does all (fit.walks k.0 w.walking w.at) in (
+      let now = stepped m k.0 w.walking.task site w.after goes more (fit.slots w.walking.table) claimable r.action writes_so readable ends w.walking.todo refl
+      wrote_so r.action refl w.does.does all (fit.walks k.0 w.walking w.at) in (
         now.0,
         (
           now.1,
-          wrote-stepped m _ _ _ _ goes more (fit.slots w.walking.table) claimable _ writes_so readable ends
-              _ _ refl w.does.does all refl wrote_so,
+          wrote-stepped m k.0 w.walking.task site w.after goes more (fit.slots w.walking.table) claimable r.action writes_so readable ends
+              w.walking.todo r.action refl w.does.does all refl wrote_so,
         ),
       )) turns.own in
       record { slots = h.slots; walks = λ n w there. (h.walks n w there).0; wrote = λ n w there. (h.walks n w there).1 }

@@ -54,7 +54,7 @@ led (text t) h = (text t, text-leads t)
 led (pattern t) h = (pattern t, pattern-leads t)
 led none h = (none, none-leads)
 led (pair x y) h =
-    let p = halves _ _ h in
+    let p = halves (references_in x) (references_in y) h in
     let left = led x p.0 in
     let right = led y p.1 in
     (pair left.0 right.0, pair-leads x y left.0 right.0 left.1 right.1)
@@ -73,8 +73,8 @@ own-refs lawful x own means r among = meant-refs _ _ (λ is. sym (lawful.refers 
 value-on : {N : Type 0} {v : Values N} → IsLawful v → (last : ℕ) {trees trees' : ℕ → Tree} {x : N} {t : Tree} → SameTrees last trees trees'
     → ((r : ArcRef) → Among (v.references x) r → r.node.0 ≤ last) → ValueLeads v trees x t → ValueLeads v trees' x t
 value-on lawful last {trees' = trees'} {x = x} {t = t} same few l =
-    let leads = leads-on l.leads
-    (λ r among typed. let e = same r.node.0 (few r (own-refs lawful x _ l.means r among)) in (ap (λ (t : Tree). t.type) e ∙ typed, e)) in
+    let leads : LeadsTo trees' l.own t.meaning = leads-on l.leads
+    (λ r among typed. let e = same r.node.0 (few r (own-refs lawful x l.own l.means r among)) in (ap (λ (t : Tree). t.type) e ∙ typed, e)) in
     search (l.typed, l.means)
 
 module _ {N E : Type 0} {v : Values N} {s : PagerState N E} {trees : ℕ → Tree} (lawful : IsLawful v) where
@@ -103,8 +103,8 @@ module _ {N E : Type 0} {v : Values N} {s : PagerState N E} {trees : ℕ → Tre
       → NodeStands v s n (trees n)
   node-by n (Some x) is live follow =
       let l = (all n live).valued x is in
-      let refs : AreLive s.core l.own = λ r among. (given-of well.whole.handles _
-      (well.references n x r is (own-refs lawful x _ l.means r among)).typed).0 in
+      let refs : AreLive s.core l.own = λ r among. (given-of well.whole.handles r.node.0
+      (well.references n x r is (own-refs lawful x l.own l.means r among)).typed).0 in
       here n x l.own (trees n) is l.typed l.means (follow l.own l.leads refs) (all n live).keyed
   -- what has no value in memory has a key
   node-by n None is live follow =
@@ -114,7 +114,7 @@ module _ {N E : Type 0} {v : Values N} {s : PagerState N E} {trees : ℕ → Tre
   stand : (m : Meaning ⊥) {own : Meaning ArcRef} {a : Meaning ⊥} → LeadsTo trees own a → m ≡ a → AreLive s.core own → MeaningStands v s own a
   unfolding references_in
   stand (pair c d) (pair-leads x y a b f g) e h =
-      let p = halves _ _ h in
+      let p = halves (references_in x) (references_in y) h in
       let e1 : c ≡ a = cc in
       let e2 : d ≡ b = cc in
       pair-stands x y a b (stand c f e1 p.0) (stand d g e2 p.1)
@@ -123,7 +123,7 @@ module _ {N E : Type 0} {v : Values N} {s : PagerState N E} {trees : ℕ → Tre
   stand (followed j c) (reference-leads r a typed meant) e h =
       let same : c ≡ (trees r.node.0).meaning = (let f : c ≡ a = cc in f ∙ sym meant) in
       reference-stands r a (subst (λ (t : Tree). NodeStands v s r.node.0 t) (tree_is typed meant)
-      (node-by _ _ refl (h r (zero, refl)) (λ z l k. stand c l same k)))
+      (node-by r.node.0 _ refl (h r (zero, refl)) (λ z l k. stand c l same k)))
   stand m (number-leads i) e h = number-stands i
   stand m l e h = first_of (search (integer-stands, text-stands, pattern-stands, none-stands), cc)
 
@@ -132,20 +132,20 @@ module _ {N E : Type 0} {v : Values N} {c : Change} {comes : ℕ → N → Type 
     (goes : CoreGoes c s.core s'.core)
     (fits : ChangeFits v c comes s s' trees trees') where
   moved-tree : (n : ℕ) {key : ℕ} → n ≤ s.core.last.node → ReadsTree s'.core.stored v.types key (trees n) → ReadsTree s'.core.stored v.types key (trees' n)
-  moved-tree n {key} within reads = rw (fits.same n within) reads
+  moved-tree n {key} within reads = subst (λ t. ReadsTree s'.core.stored v.types key t) (sym (fits.same n within)) reads
 
   moved-value : (n : ℕ) (x : N) → s.values n ≡ Some x → ValueLeads v trees' x (trees' n)
   moved-value n x is =
       let live = given-of well.whole.handles n (well.typed n x is) in
-      rw (fits.same n live.1) (value-on lawful _ fits.same
-      (λ r among. (given-of well.whole.handles _ (well.references n x r is among).typed).1)
+      subst (λ z. ValueLeads v trees' x z) (sym (fits.same n live.1)) (value-on lawful s.core.last.node fits.same
+      (λ r among. (given-of well.whole.handles r.node.0 (well.references n x r is among).typed).1)
       ((node-leads lawful settled well stands (stands.stands n live.0) refl).valued x is))
 
   keyed-old : (n : ℕ) → n ≤ s.core.last.node → SameNode c s.core s'.core n → KeyFits v s' n (trees' n)
   keyed-old n within same key is = elim same.key [
     | inl stays ↦ moved-tree n within (tree-stays goes.stored ((node-leads lawful settled well stands (stands.stands n (held-of well.whole.handles n same.was))
         refl).keyed key (sym stays ∙ is)))
-    | inr (k, sets, set) ↦ let e : k ≡ key = (cc) in rw (← e) (moved-tree n within (fits.sets n k sets))
+    | inr (k, sets, set) ↦ let e : k ≡ key = (cc) in subst (λ q. ReadsTree s'.core.stored v.types q (trees' n)) e (moved-tree n within (fits.sets n k sets))
   ]
 
   leads-again : (n : ℕ) → 0 < held n s'.core.rows → NodeLeads v s' trees' n
@@ -153,15 +153,15 @@ module _ {N E : Type 0} {v : Values N} {c : Change} {comes : ℕ → N → Type 
 
   pub trees-go-on : PagerStandsFor v s' trees'
   trees-go-on = record {
-    stands = λ n live. node-by lawful well' leads-again n _ refl live (λ z l k. stand lawful well' leads-again _ l refl k);
+    stands = λ n live. node-by lawful well' leads-again n _ refl live (λ z l k. stand lawful well' leads-again (trees' n).meaning l refl k);
     typed = λ n live. grind (basics, old-node goes, new-node goes well.whole.handles);
     loads = λ l load node t h is root. elim (goes.loads l load is) [
-      | inl stays ↦ node-stays goes.stored (fits.same node.0 (well.whole.loads.roots l load _ t h stays root).given.1)
-          (stands.loads l load _ t h stays root)
+      | inl stays ↦ node-stays goes.stored (fits.same node.0 (well.whole.loads.roots l load node t h stays root).given.1)
+          (stands.loads l load node t h stays root)
       | inr (above, begins) ↦
           let b = begins node t h root in
-          let live = given-of well.whole.handles _ b.0 in
-          let typed = same_some _ _ (sym (stands.typed node.0 live.0) ∙ b.0) in
+          let live = given-of well.whole.handles node.0 b.0 in
+          let typed : (trees node.0).type ≡ t = same_some _ _ (sym (stands.typed node.0 live.0) ∙ b.0) in
           let reads = (node-leads lawful settled well stands (stands.stands node.0 live.0) refl).keyed load.key b.1 in
           node-stays goes.stored {trees = trees} (fits.same node.0 live.1) (record { typed = typed; reads = reads })
     ];
@@ -224,7 +224,7 @@ module _ {N E : Type 0} {v : Values N} {s s' : PagerState N E} {trees : ℕ → 
         → ((r : ArcRef) → Among (v.references y) r → r.node.0 ≤ last) → ValueLeads v trees y t0 → ValueLeads v more x (more n)
     value-born c n x y goes is same new few l =
         rw (same, (new-node goes well.whole.handles n new (live-after n x is)).next, updated-at (last + 1) t0 trees)
-        (value-on lawful _ (with-below _ _ _) few l)
+        (value-on lawful last (with-below last t0 trees) few l)
 
   -- some trees after a call fit what it brings
   pub call-fits : {B : Type 0} (c : Change) (call : Call N B) (reply : Reply N B) → CoreGoes c s.core s'.core → AsksWell v s trees call reply
@@ -281,7 +281,7 @@ module _ {N E : Type 0} {v : Values N} {s s' : PagerState N E} {trees : ℕ → 
   module _ (reading : Reading) (takes : TakesWell v s reading) (fits : ReadingFits v s trees reading) (given : AllGot
       (λ r. r.node.0 ≤ last) reading.frames) where
     top-read : (x : N) (r : ReadsNode v reading x) → IsReadableType v.types r.top.node_type
-    top-read x r = takes.types r.top (rw r.frames (zero, refl))
+    top-read x r = takes.types r.top (subst (λ fs. Among fs r.top) (sym r.frames) (zero, refl))
 
     module _ {c : Change} (goes : CoreGoes c s.core s'.core) where
       -- the value of a root that was read leads to its cell's tree
@@ -290,8 +290,8 @@ module _ {N E : Type 0} {v : Values N} {s s' : PagerState N E} {trees : ℕ → 
       root-leads n x is root cell =
           let here = rw root.frames at (fits cell.load cell.open_load) in
           let d = decodes lawful root.root x (takes.types root.root (rw root.frames (zero, refl)))
-          (first-fits _ _ _ _ _ _ [] here) root.decoded in
-          let under = subst (λ q. ReadsTree s.core.stored v.types q d.t) (root-key _ _ _ _ _ _ here)
+          (first-fits v.types cell.load.key reading.node_type s.core.stored trees root.root [] here) root.decoded in
+          let under = subst (λ q. ReadsTree s.core.stored v.types q d.t) (root-key v.types s.core.stored trees cell.load.key reading.node_type root.root here)
           d.reads in
           let within : n ≤ last = subst (λ m. m ≤ last) cell.is (well.whole.loads.roots reading.load.0 cell.load cell.node cell.t cell.h cell.open_load
           cell.root).given.1 in
@@ -299,7 +299,7 @@ module _ {N E : Type 0} {v : Values N} {s s' : PagerState N E} {trees : ℕ → 
           let typed : (trees n).type ≡ v.node_type x = same_some _ _ (sym (stands.typed n (held-of well.whole.handles n old.was)) ∙ sym old.typed
           ∙ well'.typed n x is) in
           let cells = rw cell.is at (stands.loads reading.load.0 cell.load cell.node cell.t cell.h cell.open_load cell.root).reads in
-          let same : d.t ≡ trees n = one_tree _ _ _ _ _ (sym d.leads.typed ∙ sym typed) under cells in
+          let same : d.t ≡ trees n = one_tree s.core.stored v.types cell.load.key d.t (trees n) (sym d.leads.typed ∙ sym typed) under cells in
           (within, subst (λ z. ValueLeads v trees x z) same d.leads, λ r among. given root.root r (rw root.frames (zero, refl)) (d.got r among))
 
       quiet : (n : ℕ) (x : N) → c ≡ nothing_felt → ReadingBrings v s.core reading n x → s'.values n ≡ Some x → ValueLeads v trees x (trees n)
@@ -309,8 +309,8 @@ module _ {N E : Type 0} {v : Values N} {s s' : PagerState N E} {trees : ℕ → 
       root-on : (t0 : Tree) (n : ℕ) (x : N) → s'.values n ≡ Some x → ReadsRoot v reading x → IsCellOf s.core reading.load n
           → ValueLeads v (more t0) x (more t0 n)
       root-on t0 n x is root cell =
-          let r = root-leads n x is root cell in let same = with-below _ _ _ in
-          subst (λ z. ValueLeads v (more t0) x z) (sym (same n r.0)) (value-on lawful _ same r.2 r.1)
+          let r = root-leads n x is root cell in let same = with-below last t0 trees in
+          subst (λ z. ValueLeads v (more t0) x z) (sym (same n r.0)) (value-on lawful last same r.2 r.1)
 
     pub reading-fits : {c : Change} {answer : Option (LoadAnswer N)} {frames : List Frame} → CoreGoes c s.core s'.core
         → (answer ≡ None → (load : OpenLoad) × (s.core.loads reading.load.0 ≡ Some load))

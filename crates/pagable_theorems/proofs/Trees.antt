@@ -127,7 +127,7 @@ append-two (more-two x y xs ys r h) g = more-two x y _ _ r (append-two h g)
 
 pub each-two : {X Y : Type 0} {R : X → Y → Type 0} {xs : List X} {ys : List Y} → AllTwo R xs ys → (x : X) → Among xs x → (y : Y) × R x y
 each-two no-two x (i, e) = absurd (cc)
-each-two {R = R} (more-two a b xs ys h g) x (zero, e) = let same : a ≡ x = cc in (b, rw (← same) h)
+each-two {R = R} (more-two a b xs ys h g) x (zero, e) = let same : a ≡ x = cc in (b, subst (λ z. R z b) same h)
 each-two (more-two a b xs ys h g) x (suc i, e) = each-two g x (i, e)
 
 pub swap-two : {X Y : Type 0} {R : X → Y → Type 0} {xs : List X} {ys : List Y} → AllTwo R xs ys → AllTwo (λ y x. R x y) ys xs
@@ -294,7 +294,7 @@ module _ {A B : Type 0} {F : Type 0} {R : A → B → Type 0} where
           → Unput F R (x ∷ acc) e fs
       at back Ordering.Less q (more-two u f us vs r (more-two w y ws ys s g)) =
           record { before = y ∷ ys; entry = f; each = more-two x y acc ys s g; one = r; put = rw (same_order r s q) refl }
-      at back Ordering.Equal q b = absurd ((cc (is_eq-slice_cmp (code (plain _)) (code (plain _)))))
+      at back Ordering.Equal q b = absurd ((cc (is_eq-slice_cmp (code (plain e.0)) (code (plain x.0)))))
       at back Ordering.Greater q (more-two u y us ys s g) =
           let r = back ys g in
           record {
@@ -313,8 +313,8 @@ module _ {A B : Type 0} {F : Type 0} {R : A → B → Type 0} where
   unfolding Apart put_all
   unput_all [] acc {fs} h d a = (fs, [], a, no-two, refl)
   unput_all (e ∷ es) acc h d a =
-      let rest = unput_all es (put_sorted code_order acc e) (those_put e _ _ h.1 d.0) d.1 a in
-      let one = unput _ e h.0 rest.2 in
+      let rest = unput_all es (put_sorted code_order acc e) (those_put e acc es h.1 d.0) d.1 a in
+      let one = unput acc e h.0 rest.2 in
       let put = ap (λ (z : List (Entry B)). put_all (put_sorted code_order) z rest.1) one.put ∙ rest.4 in
       (one.before, one.entry ∷ rest.1, one.each, more-two e one.entry es rest.1 one.one rest.3, put)
 
@@ -490,7 +490,7 @@ module _ {A : Type 0} where
 
 pub any_order : {A : Type 0} → HashMapHasAnyOrder A
 any_order {A} es fs h =
-    let puts = all_along _ _ _ put_along [] in
+    let puts = all_along lift_key put_in (put_sorted code_order) put_along [] in
     let same = same_entries code_order (on_texts code) (λ a b e. one-meaning a b (exact_bytes (code a) (code b) e)) _ _ (all_sorted [] es tt)
     (all_sorted [] fs tt)
     (λ q. all_found q [] es ∙ ap (λ (o : Option (Meaning A)). option_or o None) (h q) ∙ sym (all_found q [] fs)) in

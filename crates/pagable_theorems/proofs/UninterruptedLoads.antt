@@ -41,11 +41,11 @@ once-got (top ∷ below) kind row small o =
     let old-isnt : (frame : Frame) (r q : ArcRef) → Among (top ∷ below) frame → Among frame.got r → new ≡ q → r.handle.0 ≡ q.handle.0 → ⊥ =
     λ frame r q among got is same.
     omega (arith, small frame r among got, ap (λ (g : ArcRef). g.handle.0) is) in (
-      λ j l r q at there same. elim (pushed _ _ j r at) [
-        | inl a ↦ elim (pushed _ _ l q there) [ inl b ↦ o.0 j l r q a b same | inr b ↦ absurd (old-isnt top r q (zero, refl) (j, a) b.1 same) ]
-        | inr a ↦ elim (pushed _ _ l q there) [ inl b ↦ absurd (old-isnt top q r (zero, refl) (l, b) a.1 (sym same)) | inr b ↦ a.0 ∙ sym b.0 ]
+      λ j l r q at there same. elim (pushed top.got new j r at) [
+        | inl a ↦ elim (pushed top.got new l q there) [ inl b ↦ o.0 j l r q a b same | inr b ↦ absurd (old-isnt top r q (zero, refl) (j, a) b.1 same) ]
+        | inr a ↦ elim (pushed top.got new l q there) [ inl b ↦ absurd (old-isnt top q r (zero, refl) (l, b) a.1 (sym same)) | inr b ↦ a.0 ∙ sym b.0 ]
       ],
-      λ r (j, at) frame q (i, is) got same. elim (pushed _ _ j r at)
+      λ r (j, at) frame q (i, is) got same. elim (pushed top.got new j r at)
           [ inl a ↦ o.1 r (j, a) frame q (i, is) got same | inr a ↦ old-isnt frame q r (suc i, is) got a.1 same ],
       o.2,
     )
@@ -65,12 +65,13 @@ module _ (w w' : Core) (l : LoadNumber) (kind : Kind) (key : ℕ) (own : Optiona
   adopted-keeps : {q : ℕ} {row : HandleRow} → Alike known w' → is_named_by references q ≡ false → Stands w.last.handle w.rows q row
       → Stands w'.last.handle w'.rows q row
   adopted-keeps {q} {row} a free s =
-      search (stands-alike, to-known, with-one, born, moved-free)
+      stands-alike a (to-known (with-one born (next_node w) (mode_of kind.0) (Owner.Load l)
+      (moved-free (Owner.Load l) (is_named_by references) (owner_value (w.last.node + 1)) free s)))
 
   adopted-new : HandlesAreWhole w → Alike known w' → Stands w'.last.handle w'.rows (w.last.handle + 1)
       (row_of (w.last.handle + 1) (next_node w) (mode_of kind.0) (Owner.Load l))
-  adopted-new whole a = stands-alike a (to-known (new-handle born _ _ _
-      (low-changed _ _ (λ h. is_named_by references h.number.0) (λ h. record h { owner = owner_value (w.last.node + 1) }) (λ h. refl)
+  adopted-new whole a = stands-alike a (to-known (new-handle born (next_node w) (mode_of kind.0) (Owner.Load l)
+      (low-changed w.last.handle w.rows (λ h. is_named_by references h.number.0) (λ h. record h { owner = owner_value (w.last.node + 1) }) (λ h. refl)
       (low-whole whole))))
 
 not-named : (rs : List ArcRef) (q : ℕ) → ((g : ArcRef) → Among rs g → g.handle.0 ≡ q → ⊥) → is_named_by rs q ≡ false
@@ -102,7 +103,7 @@ module _ {N : Type 0} (v : Values N) (lawful : IsLawful v) (w w' : Core) (readin
 
   has-on : (named : ℕ → Bool) → Keeps named → (owner : Owner) → NotValues owner → (h : HandleNumber) → named h.0 ≡ false → Has w owner h → Has w' owner h
   has-on named keeps owner own h free has =
-      let s = keeps h.0 has.row free (rw has.own own) (stands-whole whole _ _ has.live) in
+      let s = keeps h.0 has.row free (subst NotValues (sym has.own) own) (stands-whole whole h.0 has.row has.live) in
       record { row = has.row; live = s.live; own = has.own }
 
   -- what these frames have got, and the handle that began the load, stay
@@ -110,11 +111,11 @@ module _ {N : Type 0} (v : Values N) (lawful : IsLawful v) (w w' : Core) (readin
       → AllGot (λ r. named r.handle.0 ≡ false) fs
       → AllGot (λ r. Has w (Owner.Load l) r.handle) fs → GotOnce fs → LoadReady w' l load fs
   still-ready named keeps fs callers frees live once =
-      let stay = λ (frame : Frame) (r : ArcRef) (among : Among fs frame) (got : Among frame.got r). has-on named keeps _
-      (λ n is. absurd (cc)) _ (frees frame r among got)
+      let stay = λ (frame : Frame) (r : ArcRef) (among : Among fs frame) (got : Among frame.got r). has-on named keeps (Owner.Load l)
+      (λ n is. absurd (cc)) r.handle (frees frame r among got)
       (live frame r among got) in
       record {
-        begun = λ node t h root. let has = ready.begun node t h root in has-on named keeps _ (λ n is. absurd (cc)) h (callers h has) has;
+        begun = λ node t h root. let has = ready.begun node t h root in has-on named keeps Owner.Caller (λ n is. absurd (cc)) h (callers h has) has;
         live = stay;
         once = once;
       }
@@ -128,17 +129,17 @@ module _ {N : Type 0} (v : Values N) (lawful : IsLawful v) (w w' : Core) (readin
       → LoadReady w' l load fs
       → LoadReady w' l load (with_got kind row fs)
   got-ready fs kind row k new made next s own below still =
-      let same = same_some _ _ (sym made ∙ ap (λ n. find_row n w'.rows) next ∙ s.live) in
-      let number = found-number _ w'.rows row made in
-      let there = ap (λ n. find_row n w'.rows) number ∙ made in
-      let owned = ap (λ (x : HandleRow). x.owner) same ∙ own in
+      let same : row ≡ new = same_some _ _ (sym made ∙ ap (λ n. find_row n w'.rows) next ∙ s.live) in
+      let number = found-number k.0 w'.rows row made in
+      let there : row_at w' row.number ≡ Some row = ap (λ n. find_row n w'.rows) number ∙ made in
+      let owned : row.owner ≡ Owner.Load l = ap (λ (x : HandleRow). x.owner) same ∙ own in
       let here : Has w' (Owner.Load l) row.number = record { row = row; live = there; own = owned } in
-      let once = once-got _ _ row (λ frame r among got. omega (arith, below frame r among got)) still.once in
-      record { begun = still.begun; live = all-more (λ r. Has w' (Owner.Load l) r.handle) _ _ row here still.live; once = once }
+      let once = once-got fs kind row (λ frame r among got. omega (arith, below frame r among got)) still.once in
+      record { begun = still.begun; live = all-more (λ r. Has w' (Owner.Load l) r.handle) fs kind row here still.live; once = once }
 
   -- where no handle is given up
   all-ready : Keeps (λ q. false) → LoadReady w' l load reading.frames
-  all-ready keeps = search still-ready
+  all-ready keeps = still-ready (λ q. false) keeps reading.frames (λ h has. refl) (λ frame r among got. refl) ready.live ready.once
 
   known-ready : (kind : Kind) (key : ℕ) (k : HandleNumber) (row : HandleRow) → GetsKnown w l kind key k w' → row_at w' k ≡ Some row
       → LoadReady w' l load (with_got kind row reading.frames)
@@ -154,22 +155,22 @@ module _ {N : Type 0} (v : Values N) (lawful : IsLawful v) (w w' : Core) (readin
       let top = g.reads_node.top in let below = g.reads_node.below in let is = g.reads_node.frames in
       let c = g.adopted.adopts in let refs = v.references g.x in
       let here = rw is at fit in let now = rw is at ready in let small_all = rw is at small in
-      let was_got = (decodes lawful _ _ (takes top (subst (λ fs. Among fs top) (sym is) (zero, refl)))
-      (first-fits _ _ _ _ _ _ _ here) g.reads_node.decoded).got in
-      let caller-free : (h : HandleNumber) → Has w Owner.Caller h → is_named_by refs h.0 ≡ false = λ h has. not-named _ _ (λ x named same.
-      let a = good w _ [] refs c.good x named in cc) in
+      let was_got = (decodes lawful top g.x (takes top (subst (λ fs. Among fs top) (sym is) (zero, refl)))
+      (first-fits v.types root_key root_type w.stored trees top below here) g.reads_node.decoded).got in
+      let caller-free : (h : HandleNumber) → Has w Owner.Caller h → is_named_by refs h.0 ≡ false = λ h has. not-named refs h.0 (λ x named same.
+      let a = good w (Owner.Load l) [] refs c.good x named in cc) in
       -- no reference names the handle that comes
-      let new-free : is_named_by refs (w.last.handle + 1) ≡ false = not-named _ _
+      let new-free : is_named_by refs (w.last.handle + 1) ≡ false = not-named refs (w.last.handle + 1)
       (λ x named same. omega (arith, small_all top x (zero, refl) (was_got x named))) in
       let by : (new : HandleRow) → Stands w'.last.handle w'.rows (w.last.handle + 1) new → new.owner ≡ Owner.Load l → Keeps (is_named_by refs)
-      → LoadReady w' l load _ =
-      λ new s own keeps. got-ready _ top.kind _ _ _ g.made c.next.above s own (λ frame r (i, e) got. small_all frame r (suc i, e) got)
-      (still-ready _ keeps _ caller-free
-      (λ frame r among got. not-named _ _ (λ x named same. now.once.1 x (was_got x named) frame r among got (sym same)))
+      → LoadReady w' l load (with_got top.kind g.row below) =
+      λ new s own keeps. got-ready below top.kind g.row g.k new g.made c.next.above s own (λ frame r (i, e) got. small_all frame r (suc i, e) got)
+      (still-ready (is_named_by refs) keeps below caller-free
+      (λ frame r among got. not-named refs r.handle.0 (λ x named same. now.once.1 x (was_got x named) frame r among got (sym same)))
       (λ frame r (i, e) got. now.live frame r (suc i, e) got) now.once.2) in
       elim c.makes [
         | inl (n, usable, f) ↦ by _ (stands-fell f.falls (λ m e. cc) new-free
-            (new-handle w _ _ _ (low-whole whole))) refl
+            (new-handle w (record { 0 = n }) (mode_of top.kind.0) (Owner.Load l) (low-whole whole))) refl
             (λ q x free no s. stands-fell f.falls no free (with-one w (record { 0 = n }) (mode_of top.kind.0) (Owner.Load l) s))
         | inr (none, few, a) ↦ by _ (adopted-new w w' l top.kind top.key _ refs whole a) refl
             (λ q x free no s. adopted-keeps w w' l top.kind top.key _ refs a free s)
@@ -264,25 +265,25 @@ module _ {N B W E : Type 0} (m : Seen N B W) (lawful : IsLawful m.values) (s s' 
       → (decoded : IsDecoded m.values frame x) → IsForm m.values frame → references_fault core (Owner.Load reading.load) [] (m.values.references x) ≡ None
   unfolding is_in
   references-fine l reading load asks at open_load ready frame below x is decoded form =
-      let a = going-of s _ on.readings _ (reading-stands _ on.whole.pager.whole l _ at) in
-      let fits = first-fits _ _ _ _ _ _ _
-      (rw is at (a.fits load (reading-open s on.whole l _ at open_load))) in
+      let a = going-of s trees on.readings reading (reading-stands (world_of s) on.whole.pager.whole l reading at) in
+      let fits = first-fits m.values.types load.key reading.node_type core.stored trees frame below
+      (rw is at (a.fits load (reading-open s on.whole l reading at open_load))) in
       let front = subst (λ fs. Among fs frame) (sym is) (zero, refl) in
       let good-one : (r : ArcRef) → Among (m.values.references x) r → IsReference core (Owner.Load reading.load) r = λ r among.
-      let got = (decodes lawful _ x ((asks _ at).types frame front) fits decoded).got r among in let b = ready.live frame r front got in
-      let own : b.row.owner ≡ Owner.Load reading.load = b.own ∙ ap (λ (k : LoadNumber). Owner.Load k) (sym (reading-number s on.whole l _ at)) in
+      let got = (decodes lawful frame x ((asks reading at).types frame front) fits decoded).got r among in let b = ready.live frame r front got in
+      let own : b.row.owner ≡ Owner.Load reading.load = b.own ∙ ap (λ (k : LoadNumber). Owner.Load k) (sym (reading-number s on.whole l reading at)) in
       let stood = (a.held frame r front got).is b.row b.live own in
-      let live = subst (λ (n : NodeNumber). 0 < held n.0 core.rows) stood.0 (row-held core _ _ b.live) in
+      let live = subst (λ (n : NodeNumber). 0 < held n.0 core.rows) stood.0 (row-held core r.handle b.row b.live) in
       record {
         row = b.row;
         live = b.live;
         at = stood.0;
         owned = own;
         fits = stood.1;
-        typed = on.stands.pager.typed r.node.0 live ∙ ap (λ (n : ℕ). Some n) (got-typed _ fits r got);
+        typed = on.stands.pager.typed r.node.0 live ∙ ap (λ (n : ℕ). Some n) (got-typed frame fits r got);
       } in
-      fine _ _ [] (m.values.references x) good-one (λ r among. refl) (λ q.
-      let few = reads-once _ _ _ _ _ form.form form.kinds (subst GotOnce is ready.once).0 _
+      fine core (Owner.Load reading.load) [] (m.values.references x) good-one (λ r among. refl) (λ q.
+      let few = reads-once m.values.types frame.node_type frame.blob form.refs frame.got form.form form.kinds (subst GotOnce is ready.once).0 decoded.own
       decoded.read q in
       omega (arith, lawful.refers x decoded.own decoded.means (λ r. r.handle.0 == q), few))
 
@@ -301,11 +302,11 @@ module _ {N B W E : Type 0} (m : Seen N B W) (lawful : IsLawful m.values) (s s' 
   load-step-ready : (l : LoadNumber) (reply : EventReply N B W) → Happens m (world_of s) (Event.LoadStep l) reply (world_of s') → LoadAsked l → Ready s l
       → Ready s' l
   load-step-ready l (EventReply.LoadMoved (Ok reply)) is asks ready reading load at open_load =
-      step-ready l _ _ refl is.moves asks ready reading load at open_load
+      step-ready l reply _ refl is.moves asks ready reading load at open_load
   load-step-ready l (EventReply.LoadMoved (Err e)) is asks ready reading load at open_load =
       let st = is.refused.1 in
-      let was = sym (st.core.loads l.0) ∙ open_load in
-      let same = st.readings l.0
+      let was : core.loads l.0 ≡ Some load = sym (st.core.loads l.0) ∙ open_load in
+      let same : s'.work.readings l.0 ≡ s.work.readings l.0 = st.readings l.0
       ∙ ap (λ (o : Option OpenLoad). if_there (λ (z : OpenLoad). s.work.readings l.0) None o) open_load in
       let here : reading_at (world_of s) l ≡ Some reading = rw (same, st.core.loads l.0) at at in
       let b = ready reading load here was in search (rules, has-alike, st.core, b.begun, b.live, b.once)
@@ -316,10 +317,10 @@ module _ {N B W E : Type 0} (m : Seen N B W) (lawful : IsLawful m.values) (s s' 
   turn-ready l event reply is asks turn ready =
       let cases : IsBeginOf l.0 event reply ⊎ ((k : LoadNumber) × (k.0 ≡ l.0) × (event ≡ Event.LoadStep k)) = grind basics in
       elim cases [
-        | inl begins ↦ begin-ready m s _ on.whole whole' l _ _ begins is
+        | inl begins ↦ begin-ready m s s' on.whole whole' l event reply begins is
         | inr (k, same, e) ↦
             let own : event ≡ Event.LoadStep l = e ∙ ap (λ (q : LoadNumber). Event.LoadStep q) (ap (λ n. let q : LoadNumber = record { 0 = n } in q) same) in
-            load-step-ready l _ (subst (λ (x : Event N B W). Happens m (world_of s) x reply (world_of s')) own is)
+            load-step-ready l reply (subst (λ (x : Event N B W). Happens m (world_of s) x reply (world_of s')) own is)
             (subst (λ (x : Event N B W). IsWellAsked m.values s trees x reply) own asks) ready
       ]
 
@@ -339,7 +340,7 @@ module _ {N B W E : Type 0} (m : Seen N B W) where
     next-stage stages k c l at step = elim (stages (suc k) c l at step) [
       | inl h ↦ by h.i h.a h.before h.at h.begins
       | inr (r, own) ↦ inr (
-        turn-ready m lawful s _ _ on whole' l _ _ is asks (own 0 x (omega arith) refl) r,
+        turn-ready m lawful s x.after trees on whole' l x.event x.reply is asks (own 0 x (omega arith) refl) r,
         λ i a lt at. own (suc i) a (omega arith) at,
       )
     ]
@@ -348,10 +349,10 @@ module _ {N B W E : Type 0} (m : Seen N B W) where
         by (suc i) a before there begins = inl (record { i = i; a = a; before = omega arith; at = there; begins = begins })
         by zero a before there begins =
             let same : a ≡ x = cc in
-            let here = rw same at begins in
-            let turn = begin-turn _ _ _ here in
+            let here = subst (λ (y : Moment N E B W). IsBeginOf l.0 y.event y.reply) same begins in
+            let turn = begin-turn l.0 x.event x.reply here in
             inr (
-              begin-ready m s _ on.whole whole' l _ _ here is,
+              begin-ready m s x.after on.whole whole' l x.event x.reply here is,
               λ j b lt later. together 0 (suc j) (suc k) x b c (omega arith) (omega arith) refl later at
                   (λ nobody. cc (sym turn ∙ nobody)) (ap (λ (v : Event N B W). turn_of v c.reply) step ∙ sym turn) ∙ turn,
             )
@@ -360,17 +361,17 @@ module _ {N B W E : Type 0} (m : Seen N B W) where
         → Happens m (world_of s) event reply (world_of x.after) → IsWellAsked m.values s trees event reply → LoadIsSound s trees event reply x.after trees'
     load-sound stages trees' (Event.LoadStep l) (EventReply.LoadMoved (Ok reply)) same h asked = λ load e open_load paged ended. elim (stages 0 x l refl same) [
       | inl begun ↦ absurd (omega arith)
-      | inr (ready, own) ↦ sound m lawful s _ _ on whole' l _ h.moves asked ready load e open_load paged ended
+      | inr (ready, own) ↦ sound m lawful s x.after trees on whole' l reply h.moves asked ready load e open_load paged ended
     ]
     load-sound stages trees' event reply same h asked = tt
 
 pub sound_law : {N B W : Type 0} (E : Type 0) (m : Seen N B W) → UninterruptedLoadsAreSound E m
 sound_law E m start moments together begun trees whole idle chain stands lawful settled =
-    along-with m lawful _ (λ s xs. StandTogether xs × Stages m s xs) (λ s trees trees' x xs on so whole' is asks right. (
-      load-sound m lawful s _ on x _ whole' is asks so.0 so.1 _ _ _ refl is asks,
+    along-with m lawful LoadIsSound (λ s xs. StandTogether xs × Stages m s xs) (λ s trees trees' x xs on so whole' is asks right. (
+      load-sound m lawful s trees on x xs whole' is asks so.0 so.1 trees' x.event x.reply refl is asks,
       (
         λ i j k p q r lt lt2 at a b. so.0 (suc i) (suc j) (suc k) p q r (omega arith) (omega arith) at a b,
-        next-stage m lawful s _ on x _ whole' is asks so.0 so.1,
+        next-stage m lawful s trees on x xs whole' is asks so.0 so.1,
       ),
     ))
-    _ _ _ (idle-goes m lawful _ _ whole idle settled stands) (together, λ k c l at step. inl (begun k c l at step)) chain
+    start trees moments (idle-goes m lawful start trees whole idle settled stands) (together, λ k c l at step. inl (begun k c l at step)) chain

@@ -73,7 +73,7 @@ pub owned-test : (n : ℕ) (o : Owner) → o ≡ owner_value n → is_owner (own
 owned-test n o is = ap (is_owner (owner_value n)) is ∙ self-number n
 
 owns-test : (n q : ℕ) (h : HandleRow) → h.number.0 ≡ q → h.owner ≡ owner_value n → owns n q h ≡ true
-owns-test n q h number own = let a = ap (λ m. m == q) number ∙ self-number q in let b = owned-test n _ own in rw (a, b) refl
+owns-test n q h number own = let a = ap (λ m. m == q) number ∙ self-number q in let b = owned-test n h.owner own in rw (a, b) refl
 
 -- ---- a pager's type says that
 
@@ -83,15 +83,15 @@ module _ {N E : Type 0} {v : Values N} {s : PagerState N E} (is : IsPagerWhole v
     where
       at : (o : Option N) → s.values n ≡ o → At v s.core n o
       at None e = λ h among own.
-          absurd (omega (arith, is.owns_nothing n e, some-there (is_owned_by (owner_value n)) s.core.rows h among (owned-test n _ own)))
+          absurd (omega (arith, is.owns_nothing n e, some-there (is_owned_by (owner_value n)) s.core.rows h among (owned-test n h.owner own)))
       at (Some x) e = record {
         typed = is.typed n x e;
-        names = λ r among. let a = is.references n x r e among in record { is = a; stands = stands-whole is.whole.handles _ _ a.live };
-        once = λ q. rw (is.owns_references n x q e) (owned-once is.whole.handles (owner_value n) q);
+        names = λ r among. let a = is.references n x r e among in record { is = a; stands = stands-whole is.whole.handles r.handle.0 a.row a.live };
+        once = λ q. subst (λ k. k ≤ 1) (sym (is.owns_references n x q e)) (owned-once is.whole.handles (owner_value n) q);
         owned = λ h among own.
-            let some = some-there _ _ h among (owns-test n _ h refl own) in
-            let c = there-some (λ (r : ArcRef). r.handle.0 == h.number.0) _
-            (rw (is.owns_references n x h.number.0 e) some) in
+            let some = some-there (owns n h.number.0) s.core.rows h among (owns-test n h.number.0 h refl own) in
+            let c = there-some (λ (r : ArcRef). r.handle.0 == h.number.0) (v.references x)
+            (subst (λ k. 0 < k) (sym (is.owns_references n x h.number.0 e)) some) in
             (c.0, c.1, same-number _ _ c.2);
       }
 
@@ -118,7 +118,7 @@ settled {N} {v = v} s all valued counts whole = record {
         let c = there-some (λ (r : ArcRef). r.handle.0 == q) (v.references x) some in
         let is = (a.names c.0 c.1).is in
         let number = found-number c.0.handle.0 s.core.rows is.row is.live ∙ same-number _ _ c.2 in
-        search (some-there, among-found, owns-test) in
+        some-there (owns n q) s.core.rows is.row (among-found c.0.handle.0 s.core.rows is.row is.live) (owns-test n q is.row number is.owned) in
         let down : 0 < times (owns n q) s.core.rows → 0 < times (λ (r : ArcRef). r.handle.0 == q) (v.references x) = λ some.
         let c = there-some (owns n q) s.core.rows some in
         let both = and_parts (is_handle q c.0) (is_owned_by (owner_value n) c.0) c.2 in
@@ -211,7 +211,7 @@ rests-cached kind key n x3 a e shut = grind (basics, unmoved, rests-then, spares
 pub spared : {N E : Type 0} {v : Values N} {s s' : PagerState N E} → IsPagerWhole v s → Rests s.core s'.core → ((n : ℕ) → s'.values n ≡ s.values n) → IsRight s'
     → IsPagerWhole v s'
 spared {v = v} {s} {s'} is rests same right =
-    settled _ (λ n. rw (same n) (sits-on v (rests.spares.owns n) _ (sits is n)))
+    settled s' (λ n. subst (At v s'.core n) (sym (same n)) (sits-on v (rests.spares.owns n) (s.values n) (sits is n)))
     (λ n. ap is_some (same n) ∙ is.valued n ∙ sym (rests.spares.holds n))
     right.counted (right.whole rests.shut)
 
@@ -227,7 +227,7 @@ pub pinned-here : (w : Core) (n : ℕ) → 0 < pins n w.rows → is_here w n ≡
 pinned-here w n pinned = let some : nat_lt 0 (pins n w.rows) ≡ true = grind basics in rw some refl
 
 pub row-here : (w : Core) (h : HandleNumber) (row : HandleRow) → row_at w h ≡ Some row → is_pinning row.mode ≡ true → is_here w row.node.0 ≡ true
-row-here w h row live pinning = pinned-here w _ (row-pins w h row live pinning)
+row-here w h row live pinning = pinned-here w row.node.0 (row-pins w h row live pinning)
 
 module _ (w : Core) (node : NodeNumber) (mode : Mode) (me : Owner) (free : NotValues me) where
   pub owns-handle : (n : ℕ) → OwnsAlike n w (with_handle w node mode me)
@@ -249,13 +249,13 @@ module _ (w : Core) (test : HandleRow → Bool) (f : HandleRow → HandleRow) (n
     typed = λ p t is. is;
     spares = record {
       each = λ q row own s. effects.unchanged (owner_value n) test f numbers
-          (false_from_ne_true (test row) (λ is. (free row (among-found q _ _ s.live) is).0 own)) s;
+          (false_from_ne_true (test row) (λ is. (free row (among-found q w.rows row s.live) is).0 own)) s;
     };
     owned = λ h among own.
         let a = among-changed (λ x. if test x then f x else x) w.rows h among in
         let no = free a.0 a.1 in
         let e : a.0 ≡ h = grind basics in
-        rw (← e) a.1;
+        subst (Among w.rows) e a.1;
   }
 
 pub moved-pins : (rows : List HandleRow) (set : ℕ → Bool) (owner : Owner) (n : ℕ) → pins n (moved set owner rows) ≡ pins n rows
@@ -275,7 +275,8 @@ module _ (w : Core) (h : HandleNumber) (mode : Mode) (row : HandleRow) (stands :
   is-row x among is = stands.only x among (same-number _ _ is)
 
   pub mode-owns : NotValues row.owner → (n : ℕ) → OwnsAlike n w (with_mode w h mode)
-  mode-owns free n = owns-changed w _ _ (λ x. refl) n (λ x among is. let f = rw (← (is-row x among is)) at free (record { 0 = n }) in (f, f))
+  mode-owns free n = owns-changed w (is_handle h.0) to (λ x. refl) n (λ x among is. let f = subst (λ (y : HandleRow). NotValues y.owner)
+      (sym (is-row x among is)) free (record { 0 = n }) in (f, f))
 
   pub mode-others : (n : ℕ) → (row.node.0 == n) ≡ false → pins n (with_mode w h mode).rows ≡ pins n w.rows
   mode-others n other = sum-mapped (λ x. if is_handle h.0 x then to x else x) (λ x. one (is_pin n x)) (λ x. one (is_pin n x)) w.rows
@@ -283,8 +284,8 @@ module _ (w : Core) (h : HandleNumber) (mode : Mode) (row : HandleRow) (stands :
 
   pub mode-here : is_pinning mode ≡ true → is_here (with_mode w h mode) row.node.0 ≡ true
   mode-here pinning =
-      let number : is_handle h.0 row ≡ true = ap (λ n. n == h.0) (found-number _ w.rows row stands.live) ∙ self-number _ in
-      row-here (with_mode w h mode) h _ (found-after (is_handle h.0) to (λ x. refl) _ w.rows row stands.live
+      let number : is_handle h.0 row ≡ true = ap (λ n. n == h.0) (found-number h.0 w.rows row stands.live) ∙ self-number h.0 in
+      row-here (with_mode w h mode) h (to row) (found-after (is_handle h.0) to (λ x. refl) h.0 w.rows row stands.live
       ∙ ap (λ b. Some (if b then to row else row)) number) pinning
 
   spares-mode : NotValues row.owner → is_pinning mode ≡ true → is_here w row.node.0 ≡ true → Spares w (with_mode w h mode)
@@ -314,7 +315,7 @@ module _ {w : Core} (whole : IsWhole w) where
 
   pub rowed : (given : ℕ → Bool) → ((n : NodeNumber) → effects.Free (Owner.Value n) w given) → AreFree w given
   rowed given free h among is n own = let no = (free n).each h.number.0 h own
-      (stands-whole whole.handles _ h (found whole.handles h.number.0 h among refl)) in cc
+      (stands-whole whole.handles h.number.0 h (found whole.handles h.number.0 h among refl)) in cc
 
   -- handles whose rows pass a test that no value's passes
   pub by-row : (test : HandleRow → Bool) → ((h : HandleRow) (n : NodeNumber) → h.owner ≡ Owner.Value n → test h ≡ false)
@@ -322,14 +323,14 @@ module _ {w : Core} (whole : IsWhole w) where
   by-row test none = rowed _ (λ n. record { each = λ q row own s. ap (if_there test false) s.live ∙ none row n own })
 
   pub load-free : (l : LoadNumber) → AreFree w (is_owned_in w (Owner.Load l))
-  load-free l = by-row _ (λ h n own. ap (is_owner (Owner.Load l)) own)
+  load-free l = by-row (is_owned_by (Owner.Load l)) (λ h n own. ap (is_owner (Owner.Load l)) own)
 
   -- an own handle, and an entry of the list
   pub own-free : {me : Owner} {fits : Mode → Bool} (h : HandleNumber) (row : HandleRow) → NotValues me → Owns w me h fits row → AreFree w (only_handle h)
   own-free h row free owns = rowed (only_handle h) (λ n. effects.other-handle (Owner.Value n) h row (free n) owns)
 
   pub listed-free : (i : ℕ) (h : HandleNumber) → slice_get w.list i ≡ Some h → AreFree w (only_handle h)
-  listed-free i h at = rowed _ (λ n. effects.listed-free (Owner.Value n) refl whole.owners_there i h at)
+  listed-free i h at = rowed (only_handle h) (λ n. effects.listed-free (Owner.Value n) refl whole.owners_there i h at)
 
   listed-open : (i : ℕ) (h : HandleNumber) → slice_get w.list i ≡ Some h → w.closed ≡ true → ⊥
   listed-open i h at closed = omega (arith, slice_get_within w.list i h at, ap (λ (hs : List HandleNumber). length hs) (whole.shut closed).0)
@@ -338,27 +339,27 @@ module _ {w : Core} (whole : IsWhole w) where
   pub starts-listed : {w' : Core} (i : ℕ) (h : HandleNumber) (v : WorkerNumber) → slice_get w.list i ≡ Some h
       → Alike (with_worker (with_entry_taken w i h v)) w' → Rests w w'
   starts-listed i h v at a =
-      rests-then (spares-then {m = with_entry_taken w i h v} (spares-moved w _ _ (λ n e. cc) (listed-free i h at))
+      rests-then (spares-then {m = with_entry_taken w i h v} (spares-moved w (only_handle h) (Owner.Worker v) (λ n e. cc) (listed-free i h at))
       (spares-same refl (λ n. refl) refl)) a
       (λ e. absurd (listed-open i h at e))
 
   module _ {me : Owner} (free : NotValues me) where
     pub clones : {w' : Core} {h : HandleNumber} (r : Result HandleNumber Error) → CloneCall w me h r w' → Rests w w'
-    clones {h = h} (Ok k) c = let row = c.made.0 in rests-then (spares-handle w _ _ _ free (row-here w h row c.made.1)) c.made.3
+    clones {h = h} (Ok k) c = let row = c.made.0 in rests-then (spares-handle w row.node row.mode me free (row-here w h row c.made.1)) c.made.3
         whole.shut
     clones (Err e) c = unmoved c.refused.stays whole.shut
 
     -- a handle of the asker's in a mode that pins
     pub turned : {fits : Mode → Bool} (h : HandleNumber) (row : HandleRow) → Owns w me h fits row → is_here w row.node.0 ≡ true
         → Spares w (with_mode w h Mode.LoosePinned)
-    turned h row owns here = spares-mode w h _ row (stands-whole whole.handles _ _ owns.live) (rw owns.own free) refl here
+    turned h row owns here = spares-mode w h Mode.LoosePinned row (stands-whole whole.handles h.0 row owns.live) (subst NotValues (sym owns.own) free) refl here
 
     pub pins-it : {w' : Core} {h : HandleNumber} (r : Result Pinning Error) → PinCall w me h r w' → Rests w w'
     pins-it {h = h} (Ok (Pinning.Pinned k)) c =
         let row = c.pins.0 in
         let owns = c.pins.1 in
-        let here = mode-here w h _ row (stands-whole whole.handles _ _ owns.live) refl in
-        rests-then (spares-then (turned h row owns c.pins.2.0) (spares-handle _ _ _ _ free (λ is. here))) c.pins.2.2 whole.shut
+        let here = mode-here w h Mode.LoosePinned row (stands-whole whole.handles h.0 row owns.live) refl in
+        rests-then (spares-then (turned h row owns c.pins.2.0) (spares-handle _ row.node Mode.Pinned me free (λ is. here))) c.pins.2.2 whole.shut
     pins-it x0 c = grind (basics, unmoved)
 
     pub loosens : {w' : Core} {h : HandleNumber} (r : Result HandleNumber Error) → LoosenCall w me h r w' → Rests w w'
@@ -369,15 +370,15 @@ module _ {w : Core} (whole : IsWhole w) where
     loosens (Err e) c = unmoved c.refused.1 whole.shut
 
   pub takes : {w' : Core} {me : Owner} (i : ℕ) → NotValues me → (h : Option HandleNumber) → TakeCall w me i h w' → Rests w w'
-  takes {me = me} i free (Some h) c = rests-then (spares-moved w _ _ free (listed-free i h c.0)) c.1 (λ e. absurd (listed-open i h c.0 e))
+  takes {me = me} i free (Some h) c = rests-then (spares-moved w (only_handle h) me free (listed-free i h c.0)) c.1 (λ e. absurd (listed-open i h c.0 e))
   takes i free None c = unmoved c.1 whole.shut
 
   pub known-here : (kind key n : ℕ) → usable w kind key ≡ Some n → is_pinning (mode_of kind) ≡ true → is_here w n ≡ true
   known-here kind key n known pinning =
-      let entered = entered-of _ _ n w known in
+      let entered = entered-of kind key n w known in
       let shared : is_shared_kind kind ≡ true → is_here w n ≡ true = λ is.
       let holds = counted (λ h. one (is_at n h)) w.rows (held-of whole.handles n entered.there) in
-      let at = one-true _ holds.2 in
+      let at : (holds.0.node.0 == n) ≡ true = one-true _ holds.2 in
       let shares : is_shared holds.0.mode ≡ true = (whole.cache kind key n entered.entry).shares holds.0 holds.1 (same-number _ _ at) ∙ is in
       let one_share : one (is_share n holds.0) ≡ 1 = rw (at, shares) refl in
       let le = at-most-sum (λ h. one (is_share n h)) w.rows holds.0 holds.1 in
@@ -385,9 +386,9 @@ module _ {w : Core} (whole : IsWhole w) where
       grind (basics, not, is_some, is_here)
 
   pub spares-known : {owner : Owner} (kind : Kind) (key n : ℕ) → NotValues owner → usable w kind.0 key ≡ Some n → Spares w (with_known w kind n owner)
-  spares-known {owner} kind key n free known = spares-handle w _ _ _ free (known-here _ _ n known)
+  spares-known {owner} kind key n free known = spares-handle w (record { 0 = n }) (mode_of kind.0) owner free (known-here kind.0 key n known)
 
   pub recalls : {w' : Core} {me : Owner} {kind : Kind} {key : ℕ} → NotValues me → (r : Result (Option HandleNumber) Error) → RecallCall w me kind key r w'
       → Rests w w'
-  recalls {kind = kind} {key} free (Ok (Some k)) c = rests-then (spares-known _ _ _ free c.answers.1) c.answers.3 whole.shut
+  recalls {kind = kind} {key} free (Ok (Some k)) c = rests-then (spares-known kind key c.answers.0 free c.answers.1) c.answers.3 whole.shut
   recalls free x0 c = grind (basics, unmoved)

@@ -2,7 +2,7 @@
 -- call is that neither brings nor drops a value.
 use Rattle.pagable_pager_spec.proofs.Elements.{among-left}
 use Rattle.pagable_pager_spec.specs.{
-  Basics.{Among, ArcRef, Error, HandleNumber, Kind, LoadNumber, NodeNumber, OptionalDataKey, if_there, is_in, one, times, updated},
+  Basics.{Among, ArcRef, Error, HandleNumber, Kind, LoadNumber, NodeNumber, OptionalDataKey, if_there, is_in, one, times, type_of, updated},
   Calls.{CloseCall, InsertCall, InsertPagedOutCall, OfferCall, ReleaseCall, ScheduleCall, SetKeyCall, UnpinCall, is_named_by, moved, next_node, row_of},
   Calls.{with_handle, with_key, with_mode, with_node},
   Cascade.{AreNewEntries, Falls, FallsAnyhow, fallen, is_keyed, is_outside, left_rows, loses_value, only_handle, owned_outside},
@@ -94,8 +94,8 @@ module _ {before w w' : Core} {given : ℕ → Bool} {r : _} (f : Falls before w
 
   shut-fell : IsShut w → IsShut w'
   shut-fell shut closed =
-      let e = sym f.leaves.closed ∙ closed in
-      let none = no-entries _ (λ n some. let open_still = (f.only n some).0.stands_open in
+      let e : w.closed ≡ true = sym f.leaves.closed ∙ closed in
+      let none : f.entries ≡ [] = no-entries f.entries (λ n some. let open_still = (f.only n some).0.stands_open in
       absurd (cc (sym e ∙ open_still))) in
       let listed = ap (λ (qs : List HandleNumber). filter (λ (q : HandleNumber). not (f.gone q.0)) qs ++ map (λ (h : HandleRow). h.number) f.entries)
       (shut e).0 in
@@ -106,24 +106,24 @@ module _ {before w w' : Core} {given : ℕ → Bool} {r : _} (f : Falls before w
     has n x e = subst (At v w n) e (at n)
 
     loses-it : (n : ℕ) (x : N) → values n ≡ Some x → loses_value w.rows (is_keyed w) f.entries f.gone n ≡ not (holds_value w' n)
-    loses-it n x e = let c = typed-cell w n _ (has n x e).typed in loses n _ c.1
+    loses-it n x e = let c = typed-cell w n (v.node_type x) (has n x e).typed in loses n c.0 c.1
 
     -- what a value refers to that stays isn't gone
     kept : (n : ℕ) (x : N) → values n ≡ Some x → holds_value w' n ≡ true → (r : ArcRef) → Among (v.references x) r → f.gone r.handle.0 ≡ false
     kept n x e still r among =
         let a = ((has n x e).names r among).is in
-        let number = found-number _ _ _ a.live in
+        let number = found-number r.handle.0 w.rows a.row a.live in
         let owner : (h : HandleRow) → Among w.rows h → is_named_by (v.references x) h.number.0 ≡ true → h.owner ≡ owner_value n = λ h there named.
-        let c = named-among _ _ named in
+        let c = named-among (v.references x) h.number.0 named in
         let b = (has n x e).names c.0 c.1 in
         ap (λ (y : HandleRow). y.owner) (b.stands.only h there (sym c.2)) ∙ b.is.owned in
         ap f.gone (sym number)
-        ∙ outlast _ _ _ _ _ _ f.set
+        ∙ outlast w.rows (is_keyed w) f.entries given f.gone (is_named_by (v.references x)) f.set
         (λ h there is. false_from_ne_true (is_named_by (v.references x) h.number.0) (λ named. free h there is (record { 0 = n }) (owner h there named)))
         (λ m h there own lost. false_from_ne_true (is_named_by (v.references x) h.number.0) (λ named.
-        let same = same-value _ (owner h there named) (same-owner _ _ own) in
+        let same : m ≡ n = same-value h.owner (owner h there named) (same-owner (owner_value m) h.owner own) in
         cc (ap (loses_value w.rows (is_keyed w) f.entries f.gone) (sym same) ∙ lost, loses-it n x e)))
-        _ (among-found _ _ _ a.live) (ap (is_named_by (v.references x)) number ∙ among-named _ r among)
+        a.row (among-found r.handle.0 w.rows a.row a.live) (ap (is_named_by (v.references x)) number ∙ among-named (v.references x) r among)
 
     at-left : (n : ℕ) → At v w' n (if holds_value w' n then values n else None)
     at-left n = by (values n) refl (holds_value w' n) refl
@@ -146,7 +146,7 @@ module _ {before w w' : Core} {given : ℕ → Bool} {r : _} (f : Falls before w
                       at = is.at;
                       owned = is.owned;
                       fits = is.fits;
-                      typed = same-type _ there ∙ is.typed;
+                      typed = same-type r.node.0 there ∙ is.typed;
                     };
                     stands = s;
                   };
@@ -157,7 +157,7 @@ module _ {before w w' : Core} {given : ℕ → Bool} {r : _} (f : Falls before w
             let none : owned_outside w.rows f.gone n ≡ 0 = f.set.closed n (loses-it n x e ∙ ap not goes) in
             let a = was n h among own in
             let some = at-most-sum (λ y. one (is_owned_by (owner_value n) y && is_outside f.gone y)) w.rows h a.0 in
-            let counts : one (is_owned_by (owner_value n) h && is_outside f.gone h) ≡ 1 = rw (owned-test n _ own, a.1) refl in
+            let counts : one (is_owned_by (owner_value n) h && is_outside f.gone h) ≡ 1 = rw (owned-test n h.owner own, a.1) refl in
             absurd (omega arith)
         by None e true still = λ h among own. subst (At v w n) e (at n) h (was n h among own).0 own
         by None e false goes = λ h among own. subst (At v w n) e (at n) h (was n h among own).0 own
@@ -167,7 +167,7 @@ fell-from : {N E : Type 0} {v : Values N} {m : Core} {values : ℕ → Option N}
     → ((n : ℕ) → holds_value m n ≡ true → is_some (values n) ≡ true)
     → {before : Core} {given : ℕ → Bool} {r : _} (s' : PagerState N E) → Falls before m given r s'.core → IsShut m → AreFree m given → Leaves values s'
     → IsPagerWhole v s'
-fell-from {N} {v = v} {m} {values} at there s' f shut free l = settled _ (λ n. rw (l.swept n) (at-left f v _ at free n))
+fell-from {N} {v = v} {m} {values} at there s' f shut free l = settled s' (λ n. subst (At v s'.core n) (sym (l.swept n)) (at-left f v values at free n))
     (λ n.
     let was : holds_value s'.core n ≡ true → holds_value m n ≡ true = λ is.
     (grind (basics, same-cell f n (and_parts (is_some (s'.core.cells n)) (is_here s'.core n) is).0, fell-away f n)) in
@@ -178,7 +178,7 @@ pub fell : {N E : Type 0} {v : Values N} {s s' : PagerState N E} {before m : Cor
     → Falls before m given r s'.core → IsShut m
     → AreFree s.core given → Leaves s.values s' → IsPagerWhole v s'
 fell {v = v} {s} {s'} is k f shut free =
-    fell-from (λ n. sits-on v (k.owns n) _ (sits is n)) (λ n held. is.valued n ∙ k.held n held) _ f shut
+    fell-from (λ n. sits-on v (k.owns n) (s.values n) (sits is n)) (λ n held. is.valued n ∙ k.held n held) s' f shut
     (λ h among given n own. free h ((k.owns n.0).owned h among own) given n own)
 
 module _ {N E : Type 0} {v : Values N} {s s' : PagerState N E} (is : IsPagerWhole v s) (left : Leaves s.values s') where
@@ -197,9 +197,9 @@ module _ {N E : Type 0} {v : Values N} {s s' : PagerState N E} (is : IsPagerWhol
       → usable s.core kind.0 key ≡ Some n → IsPagerWhole v s'
   adopted_known {l = l} {kind} {key} {references = references} a known = elim a.makes [
     | inl (n, usable, f) ↦
-        let right = good _ _ [] references a.good in
+        let right = good s.core (Owner.Load l) [] references a.good in
         let free = rowed is.whole (is_named_by references) (λ m. effects.named-free (Owner.Value m) s.core (Owner.Load l) references (not-load l m) right) in
-        fell is (spares-keeps (spares-known is.whole _ _ n (not-load l) usable)) f.falls is.whole.shut free left
+        fell is (spares-keeps (spares-known is.whole kind key n (not-load l) usable)) f.falls is.whole.shut free left
     | inr (none, few, alike) ↦ absurd (cc (sym none ∙ known))
   ]
 
@@ -261,7 +261,7 @@ module _ {N E : Type 0} {v : Values N} {s s' : PagerState N E} (is : IsPagerWhol
       | inl (open_still, a) ↦
           let listed = spares-moved s.core (only_handle h) Owner.List (λ n e. cc) (own-free is.whole h c.moves.0 none c.moves.1) in
           stayed is (rests-then listed a (λ e. absurd (cc (sym e ∙ open_still)))) left
-      | inr (shut, f) ↦ search (fell, spares-keeps, spares-same, own-free, none)
+      | inr (shut, f) ↦ fell is (spares-keeps (spares-same refl (λ n. refl) refl)) f.falls is.whole.shut (own-free is.whole h c.moves.0 none c.moves.1) left
     ]
     scheduled (Err e) c = stays c.refused.stays
 
@@ -271,7 +271,8 @@ module _ {N E : Type 0} {v : Values N} {s s' : PagerState N E} (is : IsPagerWhol
         (λ e. absurd (cc (sym e ∙ c.answers.3.0)))) left
     offered {kind} {key} {h} (Ok (Some k)) c = elim c.answers.3 [
       | inl (shut, same, a) ↦ stays a
-      | inr (open_still, (n, usable, next, f)) ↦ search (fell, spares-keeps, spares-known, none, own-free)
+      | inr (open_still, (n, usable, next, f)) ↦ fell is (spares-keeps (spares-known is.whole kind key n none usable)) f.falls is.whole.shut
+          (own-free is.whole h c.answers.0 none c.answers.1) left
     ]
     offered (Err e) c = stays c.refused.stays
 
@@ -279,7 +280,7 @@ module _ {N E : Type 0} {v : Values N} {s s' : PagerState N E} (is : IsPagerWhol
     handed_over {l} {hs} (Ok u) c =
         let named = (neither _ _ (neither _ _ c.hands.0).1).1 in
         let free = rowed is.whole (is_in (numbers_of hs)) (λ n. record { each = effects.handed-free (Owner.Value n) (λ m. refl) s.core l hs [] named }) in
-        let moves = spares-moved _ _ _ {list = s.core.list} none free in
+        let moves = spares-moved s.core (is_in (numbers_of hs)) me {list = s.core.list} none free in
         fell is (spares-keeps (spares-then moves (spares-same refl (λ n. refl) refl))) c.hands.1.falls is.whole.shut
         (λ h among is_so. load-free is.whole l h among (and_parts (is_owned_in s.core (Owner.Load l) h.number.0) _ is_so).0) left
     handed_over (Err e) c = stays c.refused.1
@@ -326,39 +327,39 @@ module _ {N E : Type 0} {v : Values N} {s : PagerState N E} (is : IsPagerWhole v
 
   others : (n : ℕ) → (n == p) ≡ false → OwnsAlike n s.core given
   others n other =
-      let apart : owner_value p ≡ owner_value n → ⊥ = λ own. grind (basics, same-value _ refl own, self-number p) in
+      let apart : owner_value p ≡ owner_value n → ⊥ = λ own. grind (basics, same-value (owner_value p) refl own, self-number p) in
       let before = rowed is.whole (is_named_by references) (λ m. effects.named-free (Owner.Value m) s.core me references (free m)
-      (good _ _ [] references fine)) in
-      owns-then (owns-changed _ _ _ (λ h. refl) n (λ h among is. (before h among is (record { 0 = n }), apart)) {list = s.core.list})
+      (good s.core me [] references fine)) in
+      owns-then (owns-changed s.core named given_row (λ h. refl) n (λ h among is. (before h among is (record { 0 = n }), apart)) {list = s.core.list})
       (owns-same refl refl typed)
 
   owned : (h : HandleRow) → Among given.rows h → h.owner ≡ owner_value p → named h ≡ true
   owned h among own = let a = among-changed (λ x. if named x then given_row x else x) s.core.rows h among in let none =
-      rw no_value at (sits is p) a.0 a.1 in grind basics
+      subst (At v s.core p) no_value (sits is p) a.0 a.1 in grind basics
 
   new : (x : N) → v.references x ≡ references → type_at given p ≡ Some (v.node_type x) → Has v given p x
   unfolding is_in
   new x same its_type = record {
     typed = its_type;
     names = λ r among.
-        let a = good _ _ [] references fine r (subst (λ rs. Among rs r) same among) in
-        let hit : named a.row ≡ true = ap (is_named_by references) (found-number _ _ _ a.live)
-        ∙ among-named _ r (subst (λ rs. Among rs r) same among) in
-        let kept = stands-changed _ _ (λ h. refl) (stands-whole is.whole.handles _ _ a.live) in
+        let a = good s.core me [] references fine r (subst (λ rs. Among rs r) same among) in
+        let hit : named a.row ≡ true = ap (is_named_by references) (found-number r.handle.0 s.core.rows a.row a.live)
+        ∙ among-named references r (subst (λ rs. Among rs r) same among) in
+        let kept = stands-changed named given_row (λ h. refl) (stands-whole is.whole.handles r.handle.0 a.row a.live) in
         let stands = subst (λ b. Stands s.core.last.handle given.rows r.handle.0 (if b then given_row a.row else a.row)) hit kept in
         record {
           is = record { row = given_row a.row; live = stands.live; at = a.at; owned = refl; fits = a.fits; typed = typed _ _ a.typed };
           stands = stands;
         };
-    once = λ q. subst (λ (rs : List ArcRef). times (λ (r : ArcRef). r.handle.0 == q) rs ≤ 1) (sym same) (named-once _ _ [] references q fine);
-    owned = λ h among own. named-among _ _ (ap (λ rs. is_named_by rs h.number.0) same ∙ owned h among own);
+    once = λ q. subst (λ (rs : List ArcRef). times (λ (r : ArcRef). r.handle.0 == q) rs ≤ 1) (sym same) (named-once s.core me [] references q fine);
+    owned = λ h among own. named-among (v.references x) h.number.0 (ap (λ rs. is_named_by rs h.number.0) same ∙ owned h among own);
   }
 
   receives : Receives v s.core given s.values references p
   receives = record {
     all = λ o here n. elim (cases_Bool (n == p)) [
-      | inl e ↦ rw e (rw (same-number n p e) here)
-      | inr e ↦ rw e (sits-on v (others n e) _ (sits is n))
+      | inl e ↦ rw e (subst (λ k. At v given k o) (sym (same-number n p e)) here)
+      | inr e ↦ rw e (sits-on v (others n e) (s.values n) (sits is n))
     ];
     value = new;
     pins = moved-pins s.core.rows (is_named_by references) (owner_value p);
@@ -386,7 +387,7 @@ module _ {N E : Type 0} {v : Values N} {s : PagerState N E} (s' : PagerState N E
   no-value = grind basics
 
   receives-it : Receives v s.core bearing s.values references next
-  receives-it = receives is free _ fine _ _ _ _ (λ n u has. grind (basics, no-cell)) no-value
+  receives-it = receives is free references fine next bearing.cells s.core.loads next (λ n u has. grind (basics, no-cell)) no-value
 
   pins-made : (n : ℕ) → pins n made.rows ≡ pins n s.core.rows + one ((next == n) && is_pinning mode)
   pins-made n = sum_by_push (λ h. one (is_pin n h)) bearing.rows (row_of (s.core.last.handle + 1) (next_node s.core) mode me)
@@ -398,8 +399,8 @@ module _ {N E : Type 0} {v : Values N} {s : PagerState N E} (s' : PagerState N E
   comes : (o : Option N) → At v bearing next o → is_some o ≡ is_here made next → ((n : ℕ) → s'.values n ≡ (if n == next then o else s.values n)) → IsRight s'
       → IsPagerWhole v s'
   comes o new here values right =
-      settled _ (λ n. rw (values n) (sits-on v
-      (owns-then (owns-handle _ _ _ _ free n) (like.spares.owns n)) _ (receives-it.all o new n)))
+      settled s' (λ n. subst (At v s'.core n) (sym (values n)) (sits-on v
+      (owns-then (owns-handle bearing (next_node s.core) mode me free n) (like.spares.owns n)) _ (receives-it.all o new n)))
       (λ n.
       let valued : is_some (if n == next then o else s.values n) ≡ holds_value made n = grind (basics, same-number, is.valued n, new-cell, pins-made n) in
       ap is_some (values n) ∙ (valued ∙ sym (like.spares.holds n))) right.counted (right.whole like.shut)
@@ -421,7 +422,7 @@ module _ {N E : Type 0} {v : Values N} {s s' : PagerState N E} (is : IsPagerWhol
   pub born : {me : Owner} {x : N} {mode : Mode} {k : HandleNumber} → NotValues me → is_pinning mode ≡ true
       → InsertCall s.core me x (v.node_type x) (v.references x) mode (Ok k) s'.core
       → ((n : ℕ) → s'.values n ≡ (if n == s.core.last.node + 1 then Some x else s.values n)) → IsRight s' → IsPagerWhole v s'
-  born {x = x} {mode} free pinning b = comes-with _ is free _ _ _ _ b.made.0
+  born {x = x} {mode} free pinning b = comes-with s' is free (v.node_type x) OptionalDataKey.None (v.references x) mode b.made.0
       (unmoved b.made.3 is.whole.shut) x refl refl pinning
 
   -- what a load read becomes a node, where the cache gives none
@@ -430,14 +431,14 @@ module _ {N E : Type 0} {v : Values N} {s s' : PagerState N E} (is : IsPagerWhol
       → usable s.core kind.0 key ≡ None → ((n : ℕ) → s'.values n ≡ (if n == s.core.last.node + 1 then Some x else s.values n)) → IsRight s' → IsPagerWhole v s'
   adopts-new {l = l} {kind} {key} {x} a unknown = elim a.makes [
     | inl (n, known, f) ↦ absurd (cc (sym unknown ∙ known))
-    | inr (none, few, alike) ↦ comes-with _ is (not-load l) _ _ _ _ a.good
-        (rests-cached _ _ _ _ alike refl is.whole.shut) x a.typed refl (grind (basics, a.eager))
+    | inr (none, few, alike) ↦ comes-with s' is (not-load l) (type_of kind.0) _ (v.references x) (mode_of kind.0) a.good
+        (rests-cached kind key (next_node s.core) s.core.closed alike refl is.whole.shut) x a.typed refl (grind (basics, a.eager))
   ]
 
   pub born-away : {me : Owner} {t key : ℕ} (r : Result HandleNumber Error) → NotValues me → InsertPagedOutCall s.core me t key r s'.core
       → ((n : ℕ) → s'.values n ≡ s.values n) → IsRight s' → IsPagerWhole v s'
   unfolding references_fault
-  born-away {me} {t} {key} (Ok k) free b = comes-away _ is free t _ [] Mode.LooseUnpinned refl
+  born-away {me} {t} {key} (Ok k) free b = comes-away s' is free t (OptionalDataKey.Some key) [] Mode.LooseUnpinned refl
       (unmoved b.made.2 is.whole.shut) key refl refl refl
   born-away (Err e) free b = spared is (unmoved b.refused.stays is.whole.shut)
 
@@ -445,10 +446,10 @@ module _ {N E : Type 0} {v : Values N} {s s' : PagerState N E} (is : IsPagerWhol
       → ((n : ℕ) → s'.values n ≡ s.values n) → IsRight s' → IsPagerWhole v s'
   unfolding references_fault
   lazily {l = l} {kind} {key} (Ok k) c = elim c.makes.3 [
-    | inl g ↦ spared is (rests-then (spares-known is.whole _ _ _ (not-load l) g.known) g.leaves is.whole.shut)
+    | inl g ↦ spared is (rests-then (spares-known is.whole kind key g.n (not-load l) g.known) g.leaves is.whole.shut)
     | inr (none, few, is_next, a) ↦
-        comes-away _ is (not-load l) _ _ [] (mode_of kind.0) refl
-        (rests-cached _ _ _ _ a refl is.whole.shut) key refl refl (grind (basics, c.makes.2))
+        comes-away s' is (not-load l) (type_of kind.0) (OptionalDataKey.Some key) [] (mode_of kind.0) refl
+        (rests-cached kind key (next_node s.core) s.core.closed a refl is.whole.shut) key refl refl (grind (basics, c.makes.2))
   ]
   lazily (Err e) c = spared is (unmoved c.refused.stays is.whole.shut)
 
@@ -467,7 +468,7 @@ module _ {N E : Type 0} {v : Values N} {s : PagerState N E} (is : IsPagerWhole v
       let first = turned is.whole free.0 h row own (subst (λ (m : NodeNumber). is_here s.core m.0 ≡ true) (sym at_node) there) in
       let here = subst (λ (m : NodeNumber). is_here (with_mode s.core h Mode.LoosePinned) m.0 ≡ true) at_node
       (mode-here s.core h Mode.LoosePinned row stands refl) in
-      spares-keeps (spares-then first (spares-then (spares-handle (with_mode s.core h Mode.LoosePinned) node _ _ free.0 (λ e. here))
+      spares-keeps (spares-then first (spares-then (spares-handle (with_mode s.core h Mode.LoosePinned) node Mode.Pinned me free.0 (λ e. here))
       (spares-same refl (λ n. refl) refl)))
 
   module _ (away : is_here s.core node.0 ≡ false) where
@@ -481,20 +482,20 @@ module _ {N E : Type 0} {v : Values N} {s : PagerState N E} (is : IsPagerWhole v
     -- the handle has its row still
     stands-still : Stands closed-given.last.handle closed-given.rows h.0 row
     stands-still =
-        let right = good _ _ [] (v.references x) may.good in
+        let right = good s.core (Owner.Load l) [] (v.references x) may.good in
         let unnamed = (effects.named-free me s.core (Owner.Load l) (v.references x) (λ e. free.1 l (sym e)) right).each h.0 row own.own stands in
         effects.moved-free me (is_named_by (v.references x)) (owner_value node.0) unnamed stands
 
     after : (n : ℕ) → OwnsAlike n closed-given (with_pin closed-given h node me)
-    after n = owns-then (mode-owns _ h _ row stands-still (rw own.own free.0) n)
-        (owns-handle _ _ _ _ free.0 n)
+    after n = owns-then (mode-owns closed-given h Mode.LoosePinned row stands-still (subst NotValues (sym own.own) free.0) n)
+        (owns-handle _ node Mode.Pinned me free.0 n)
 
     takes-it : Receives v s.core closed-given s.values (v.references x) node.0
-    takes-it = receives is (not-load l) _ may.good _ _ closed-given.loads s.core.last.node (λ n t e. e)
+    takes-it = receives is (not-load l) (v.references x) may.good node.0 s.core.cells closed-given.loads s.core.last.node (λ n t e. e)
         (grind basics)
 
     sits-all : (n : ℕ) → At v (with_pin closed-given h node me) n (values n)
-    sits-all n = sits-on v (after n) _ (takes-it.all (Some x) (takes-it.value x refl (grind (basics, row-held))) n)
+    sits-all n = sits-on v (after n) (values n) (takes-it.all (Some x) (takes-it.value x refl (grind (basics, row-held))) n)
 
     there : (n : ℕ) → holds_value (with_pin closed-given h node me) n ≡ true → is_some (values n) ≡ true
     there n holds =
@@ -529,7 +530,7 @@ module _ {N E : Type 0} {v : Values N} {s s' : PagerState N E} (is : IsPagerWhol
 
   pub installed_away : is_here s.core node.0 ≡ false → Leaves (updated node.0 (Some x) s.values) s' → IsPagerWhole v s'
   installed_away away left = elim i.falls [
-    | inl (none, f) ↦ fell-from (sits-all is may _ i.owned i.at away) (there is may _ i.owned i.at away) _ f.falls is.whole.shut
-        (none-goes is may _ i.owned i.at away) left
+    | inl (none, f) ↦ fell-from (sits-all is may i.row i.owned i.at away) (there is may i.row i.owned i.at away) s' f.falls is.whole.shut
+        (none-goes is may i.row i.owned i.at away) left
     | inr (there, f) ↦ absurd (cc (sym there ∙ away))
   ]

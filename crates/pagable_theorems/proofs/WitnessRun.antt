@@ -2,7 +2,7 @@
 use Rattle.pagable_pager_spec.specs.{
   Basics.is_loose_kind,
   Calls.{CountCall, IsNext, UnpinCall, row_of, with_key, with_mode},
-  Cascade.{IsLeast, is_keyed, nobody},
+  Cascade.{IsLeast, is_keyed, nobody, owned_outside},
   Events.{Ends, ReadingsAre, WorkStays, no_shelf, reading_at, steps_after},
   LoadCalls.{BeginCall, EndCall, Installs, LazyCall},
   Loads.{ReadingDoes, answers_from, need_of, needs_lazy},
@@ -78,7 +78,7 @@ does-so w s (to_pin r place ∷ below) (live, clone_live, here, few) =
     grind (basics, cloned, alike-self, same-shelf)
 does-so w s (to_set r through key height ∷ below) (loose, live, alone) = let f =
     falls-alone w (with_key w r.node key) nobody alone in grind (basics, f, same-shelf)
-does-so w s (to_release r key height ∷ below) alone = search (same-shelf, falls-alone w w _ alone)
+does-so w s (to_release r key height ∷ below) alone = search (same-shelf, falls-alone w w (is_workers_at w 1 r.node.0) alone)
 does-so w s todo ok = grind (basics, alike-self, same-shelf)
 
 -- the pager has few of each after the step, and after its answer
@@ -90,7 +90,7 @@ writes-so : (w : Core) (s : Shelf) (work : _) (todo : List Todo) → Asks w s to
 writes-so w s work (to_write r place through ∷ below) (held, kind) = record {
   x = two.value_of r.node;
   held = held;
-  form = form-of _ kind;
+  form = form-of (two.value_of r.node) kind;
   listed = refl;
 }
   where
@@ -105,7 +105,7 @@ EndsSo (Some answer) w = AreAlone w (without_worker w 1) (is_workers w 1)
 
 ends-so : (answer : Option WorkerAnswer) (w : Core) → EndsSo answer w → Ends answer 1 w (two.ended answer w)
 ends-so None w ok = alike-self w
-ends-so (Some answer) w alone = record { told = Ok tt; falls = falls-alone w _ _ alone }
+ends-so (Some answer) w alone = record { told = Ok tt; falls = falls-alone w (without_worker w 1) (is_workers w 1) alone }
 
 unfoldable pub AllAsk : ℕ → two.Working → Type 0
 AllAsk zero x = Unit {0}
@@ -132,13 +132,13 @@ does : (s : MachineState two.Sample (Unit {0})) (event : Event two.Sample Blob W
     → EventDoes two.sample_seen s event reply s'
 does s event reply w vs shelf walking reading happens come writes (few, p) walks reads =
     let whole : IsMachineWhole two.sample (two.machine w vs (two.work_of shelf walking reading)) =
-    record { pager = whole-so w _ few p; readings = grind basics; walkings = grind basics; each_walks = grind basics } in
+    record { pager = whole-so w vs few p; readings = grind basics; walkings = grind basics; each_walks = grind basics } in
     let holds : Moves (λ n x. EventHolds two.sample s.pager event x) s.pager (two.machine w vs (two.work_of shelf walking reading)).pager =
     record {
       each = λ n x is. elim (come n x is) [
         | inl was ↦ inl was
         | inr (none, came) ↦
-            inr (none, loose-holds _ _ x (loose-at _ n x p.stands.loose is))
+            inr (none, loose-holds s.pager event x (loose-at vs n x p.stands.loose is))
       ];
       environment = refl;
     } in
@@ -228,13 +228,13 @@ evicts =
     let set : IsLeast w.rows (is_keyed w) [] nobody outer = record {
       holds = refl;
       closed = λ n goes. omega (arith, and-false (2 == n));
-      least = λ t holds closed. let fallen = closed 2 refl in omega arith;
+      least = λ t holds closed. let fallen : owned_outside w.rows t 2 ≡ 0 = closed 2 refl in omega arith;
     } in
     record {
       does = inr (
         row_of 2 (two.node 2) Mode.LoosePinned Owner.Caller,
         search arith,
-        inr (refl, falls-so _ w _ _ (search arith) refl refl set),
+        inr (refl, falls-so two.answered.core w nobody outer (search arith) refl refl set),
       );
     }
 
@@ -351,18 +351,18 @@ child-reads s stored = record {
 takes-well : (s : PagerState two.Sample (Unit {0})) (reading : Reading)
     → ((kind : Kind) (key : ℕ) → need_of two.sample_types reading.frames ≡ needs_lazy kind key → ReadsAsType two.sample s (type_of kind.0) key)
     → TakesWell two.sample s reading
-takes-well s reading keys = record { types = λ frame among. reads-types _; keys = keys }
+takes-well s reading keys = record { types = λ frame among. reads-types frame.node_type; keys = keys }
 
 loads-asked : ArePremised (two.at_work two.answered) (two.loads ++ two.counts 2)
 unfolding two.walked preimage find_row is_named_by grammar.read grammar.read_with answers_from
 loads-asked =
     asked _ _ tt (λ trees. tt) ⨾ asked _ _ tt (λ trees. tt)
-    ⨾ asked _ _ tt (λ trees reading is. takes-well _ _ (grind (basics, child-reads)))
-    ⨾ asked _ _ tt (λ trees reading is. takes-well _ _ (grind (basics, child-reads)))
-    ⨾ asked _ _ tt (λ trees reading is. takes-well _ _ (grind (basics, child-reads)))
+    ⨾ asked _ _ tt (λ trees reading is. takes-well _ reading (grind (basics, child-reads)))
+    ⨾ asked _ _ tt (λ trees reading is. takes-well _ reading (grind (basics, child-reads)))
+    ⨾ asked _ _ tt (λ trees reading is. takes-well _ reading (grind (basics, child-reads)))
     ⨾ asked _ _ tt (λ trees. tt)
-    ⨾ asked _ _ tt (λ trees reading is. takes-well _ _ (grind (basics, child-reads)))
-    ⨾ asked _ _ tt (λ trees reading is. takes-well _ _ (grind (basics, child-reads)))
+    ⨾ asked _ _ tt (λ trees reading is. takes-well _ reading (grind (basics, child-reads)))
+    ⨾ asked _ _ tt (λ trees reading is. takes-well _ reading (grind (basics, child-reads)))
     ⨾ asked _ _ tt (λ trees. tt) ⨾ tt
 
 later : (s : MachineState two.Sample (Unit {0})) (xs ys : List two.Happening) → AreMoments two.sample_seen s (xs ++ ys)
@@ -381,7 +381,7 @@ no-other n all =
 
 pub headline_met : TwoLevelsMeetTheHeadline
 headline_met =
-    let new = new_whole _ _ in let worked = pages _ _ _ births-good.3.0 begun-asks
+    let new = new_whole (Unit {0}) two.sample in let worked = pages 15 two.begun (two.loads ++ two.counts 2) births-good.3.0 begun-asks
     (loads-do, loads-asked) in
     let start = new.starts two.new_one (new.new _ _ tt) (new.idle _ _ tt) lawful in
     let premised : ArePremised two.new_one (two.moments 2) =
@@ -393,6 +393,6 @@ headline_met =
       start.stands,
       start.settled,
       premised,
-      headline_law _ _ two.new_one (two.moments 2) start.whole start.idle (births-do _ worked.0),
+      headline_law (Unit {0}) two.sample_seen two.new_one (two.moments 2) start.whole start.idle (births-do _ worked.0),
       no-other,
     )
