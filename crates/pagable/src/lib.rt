@@ -7,14 +7,37 @@
 //! crate would make the check of each user of this crate read all of it.
 #![tactic(auto)]
 
-pub mod cell_page_out;
-pub mod cells;
-mod events;
-pub mod laws;
-pub mod machine;
-pub mod paging;
-pub mod typed_references;
-mod workers;
+/// The page-out of one cell.
+pub mod cell_page_out {
+    pub use pagable_calls::cell_page_out::page_out;
+}
+
+/// Calls on one cell, for programs that lend a pager: they make cells, and look at their values.
+pub mod cells {
+    pub use pagable_calls::cells::{cell_of, contains, follow, insert, look};
+}
+
+/// Laws of the definitions, for carried types and for blobs in memory.
+pub mod laws {
+    pub use pagable_calls::laws::{forms_are_read_again, memory_is_honest};
+}
+
+/// A pager that runs lists of events.
+pub mod machine {
+    pub use pagable_calls::machine::Machine;
+}
+
+/// Pins, readings and page-outs by a lent pager.
+pub mod paging {
+    pub use pagable_calls::paging::{
+        deserialize_pagable_data, page_out_item, page_out_pending, pin, read,
+    };
+}
+
+/// References of handles, by the types of their values.
+pub mod typed_references {
+    pub use pagable_calls::typed_references::{holding, loose};
+}
 
 /// The numbers of cells and handles, the references that values hold, and the traits that all
 /// references have.
@@ -50,7 +73,7 @@ pub mod impls {
 
 /// The pager, the machine that runs lists of events, and the references to shared values.
 pub mod pagable_arc {
-    pub use crate::machine::Machine;
+    pub use pagable_calls::machine::Machine;
     pub use pagable_pager::{ArcCell, DeserializedArcCache, Pager};
     pub use pagable_pager_spec::handle_row::Owner;
     pub use pagable_pager_spec::{
@@ -172,7 +195,7 @@ pub use pagable_value_spec::{
 };
 
 // Pagers and storages.
-pub use machine::Machine;
+pub use pagable_calls::machine::Machine;
 pub use pagable_core::{
     InMemoryBlobs, NoReferences, PagableData, PagableDeserializerImpl, PagableKeys,
     PagableSerializerImpl, PagableStorage, References, Roots, SerializedData, SerializerForPaging,

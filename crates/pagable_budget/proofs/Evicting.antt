@@ -1,7 +1,7 @@
 -- Which pins leave and join a list of pins, what they cost, and what that does to the pager.
 use Rattle.lru.proofs.Pairs.{cut_end, last_of_push, lookup-lookup_entry, promoted_absent}
 use Rattle.lru.specs.LruCache.{LruCache, last_entry, lru_cache, promoted, put_entries}
-use Rattle.pagable.specs.Cells.{Releases}
+use Rattle.pagable_calls.specs.Cells.{Releases}
 use Rattle.pagable_budget.specs.{
   Budgets.{Admits, BudgetView, Clears, Evicts, EvictsAbove, EvictsLast, Inserts, IsBounded, IsNeeded, Keeps, Kept, Stores, Trims, cell-is-kept, cell-is-new},
   Budgets.{clone-is-refused, clone-is-stored, cost_of, costs-too-much, counted, evicts-more, evicts-none, hit, last-goes, missed, more, no-cell},

@@ -1,6 +1,6 @@
 -- What a budget keeps, and what its calls do to it and to its pager.
 use Rattle.lru.specs.LruCache.{LruCache, promoted}
-use Rattle.pagable.specs.{Cells.{Pins, Releases}, PageOuts.Clones, Paged.PagesOutList}
+use Rattle.pagable_calls.specs.{Cells.{Pins, Releases}, PageOuts.Clones, Paged.PagesOutList}
 use Rattle.pagable_budget.specs.declared.{bound.BudgetStats.BudgetStats, evictions.KeptPin.KeptPin}
 use Rattle.pagable_pageout.specs.declared.tasks.PageOutError.{PageOutError}
 use Rattle.pagable_pager.specs.View.{PagerView, Storages, pager_core}

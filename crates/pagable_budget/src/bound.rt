@@ -13,7 +13,7 @@ ghost use Rattle.std.specs.{
 
 use crate::evictions::{KeptPin, KeptPins, evict_above, evict_all, insert};
 use lru::LruCache;
-use pagable::paging;
+use pagable_calls::paging;
 use pagable_codec::{Env, NodeSet};
 use pagable_core::PagableStorage;
 use pagable_pager::Pager;

@@ -4,7 +4,7 @@ ghost use Rattle.pagable_budget.specs.Budgets.{PagesOutAbove};
 ghost use Rattle.pagable_pager.specs.View.{BetweenIfHonest};
 ghost use Rattle.std.specs.Prelude.{IsTrue};
 
-use pagable::paging::page_out_pending;
+use pagable_calls::paging::page_out_pending;
 use pagable_codec::{Env, NodeSet};
 use pagable_core::PagableStorage;
 use pagable_pageout::PageOutError;

@@ -3,7 +3,8 @@
 ghost use Rattle.std.specs.{Arc.arc_value, Prelude.{slice_get, string_bytes, ◌≡◌}};
 
 use crate::store_error::StoreError;
-use pagable::{DataKey, HandleNumber, Record};
+use pagable_nodes::Record;
+use pagable_value_spec::{DataKey, HandleNumber};
 use std::alloc::Global;
 use std::sync::Arc;
 

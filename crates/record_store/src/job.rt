@@ -3,8 +3,10 @@
 use crate::calls::RecordCalls;
 use crate::record_store::RecordStore;
 use anyhow::{Context, Result};
-use pagable::{HandleNumber, Records};
-use pagable_file::{FileBlobs, OpenError, Roots};
+use pagable_core::Roots;
+use pagable_file::{FileBlobs, OpenError};
+use pagable_nodes::Records;
+use pagable_value_spec::HandleNumber;
 use std::alloc::Global;
 
 /// The work that a program does in each run, with its records.

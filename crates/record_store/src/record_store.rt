@@ -4,15 +4,15 @@ ghost use Rattle.std.specs.Prelude.{IsTrue, OnOk, ◌≡◌};
 
 use crate::calls::{RecordCalls, RecordView, TEXT};
 use crate::store_error::StoreError;
-use pagable::cells::{cell_of, insert};
-use pagable::typed_references::loose;
-use pagable::{
-    DataKey, Error, HandleNumber, PagableData, PagableStorage, Pager, Record, RecordNode,
-    RecordRef, Records, Sha256Key, to_bytes,
-};
 use pagable_budget::Budget;
+use pagable_calls::cells::{cell_of, insert};
+use pagable_calls::typed_references::loose;
 use pagable_changes::page_out_changed;
-use pagable_file::Roots;
+use pagable_core::{PagableData, PagableStorage, Roots, Sha256Key};
+use pagable_nodes::bytes::to_bytes;
+use pagable_nodes::{Record, RecordNode, RecordRef, Records};
+use pagable_pager::Pager;
+use pagable_value_spec::{DataKey, Error, HandleNumber};
 use std::alloc::Global;
 use std::sync::Arc;
 

@@ -1,7 +1,7 @@
 //! Why a call of a store of records fails.
 
-use pagable::Error;
 use pagable_file::Fault;
+use pagable_value_spec::Error;
 use std::fmt;
 
 /// Why a call of a store of records fails. It is shown as the pager's error; a storage's code is shown as

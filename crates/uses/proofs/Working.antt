@@ -1,5 +1,5 @@
 -- A pin, the release of what it gave, other work, and a pin again: what both pins give.
-use Rattle.pagable.specs.Paged.{PagesOutList}
+use Rattle.pagable_calls.specs.Paged.{PagesOutList}
 use Rattle.pagable_pageout.specs.{Turns.plain, declared.tasks.PageOutError.PageOutError}
 use Rattle.pagable_pager.proofs.Invariant.{less-moves}
 use Rattle.pagable_pager.specs.View.{AddsNoValue, Calls, PagerView, Storages, pager_state}
