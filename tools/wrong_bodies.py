@@ -2,7 +2,11 @@
 """Tries the wrong bodies of tools/wrong_bodies/CRATE.edits: the prover has to refuse, by itself, each function that one
 breaks.
 
-usage: tools/wrong_bodies.py [CRATE..]        (with no word: every crate that has wrong bodies)
+usage: tools/wrong_bodies.py [--over-ci] [CRATE..]     (with no crate: every one that has wrong bodies)
+       tools/wrong_bodies.py [--over-ci] --drawn COMMIT    (ten of all, drawn by the commit's hash)
+
+With --over-ci the libraries are those that `rt ci` left in this checkout when it ended, and none is built. Of drawn ones
+only the modules are checked that they break.
 
 tools/edits.py tells how they are spelled. All edits of a crate are tried together, on a copy of the repository over the
 work that earlier checks kept: one body a function and round, so that one check answers many. If stored answers or
@@ -17,7 +21,11 @@ their place. Each edit gets one of these results, of which the first two pass:
 An edit that isn't refused in its round is tried once more, alone; then it is refused if any function isn't proved for a
 reason of its own. The last line is 'N passed, M failed'; the status is 1 if one failed.
 """
+import argparse
+import importlib.machinery
+import importlib.util
 import os
+import random
 import re
 import shutil
 import subprocess
@@ -42,9 +50,14 @@ def functions(edit):
     return {function_at(text, file) for file, text in edit.places}
 
 
+def module_of(file):
+    """The path, below its crate, of a file's module."""
+    return "".join(f"{it}::" for it in file[len("src/") : -len(".rt")].split("/") if it != "lib")
+
+
 def function_at(text, file):
     """A pattern of the names by which the prover tells the last function of a text: its module's path, the type and trait of its impl, and its own name."""
-    module = "".join(f"{it}::" for it in file[len("src/") : -len(".rt")].split("/") if it != "lib")
+    module = module_of(file)
     indent, name = ([("", "?")] + re.findall(r"(?m)^( *)(?:pub(?:\(\w+\))? )?(?:unsafe |const )*fn (\w+)", text))[-1]
     if not indent:
         return rf"\w+::{module}{re.escape(name)}"
@@ -73,22 +86,47 @@ def copied(room, crate):
         shutil.copy(TOP / file, room)
     for own in (TOP / "crates").iterdir():
         left_out = {own / it for it in (["must-fail"] if own.name == crate else ["must-fail", "out/incremental", "data"])}
-        shutil.copytree(own, Path(room) / "crates" / own.name, ignore=lambda at, names: [it for it in names if Path(at) / it in left_out])
+        ignored = lambda at, names: [it for it in names if Path(at) / it in left_out]  # noqa: E731
+        shutil.copytree(own, Path(room) / "crates" / own.name, ignore=ignored, copy_function=linked_or_copied)
     return Path(room) / "crates" / crate
+
+
+def linked_or_copied(file, to):
+    """Copies a file, or gives it a second name if it is of a library, into which rt never writes."""
+    try:
+        if "/out/rlib/" in str(file):
+            return os.link(file, to)
+    except OSError:
+        pass
+    return shutil.copy2(file, to)
+
+
+def stamp_libraries(room):
+    """Lets `rt check` take the libraries that `rt ci` left, in a copy of all: puts beside each the sum by which rt tells of
+    which text it is."""
+    kit = Path(shutil.which("rt")).resolve().parent
+    sys.path.append(str(kit))
+    loader = importlib.machinery.SourceFileLoader("rt", str(kit / "rt"))
+    rt = importlib.util.module_from_spec(importlib.util.spec_from_loader("rt", loader))
+    loader.exec_module(rt)
+    rt.Crate.allowed = rt.handles_of(room)
+    for crate in rt.crates_of(room):
+        if os.path.isdir(crate.rlib):
+            Path(crate.folder, "out/rlib/stamp").write_text(crate.stamp(), encoding="utf-8")
 
 
 class Answer:
     """What the check says with these texts in place of the crate's own, as long as stored answers don't fit once more without those."""
 
-    def __init__(self, folder, texts):
-        self.output, first = ran(folder, texts), None
+    def __init__(self, folder, texts, only=()):
+        self.output, first = ran(folder, texts, only), None
         made, taken = dict(texts), set()
         while misfits := MISFIT.findall(self.output):
             first = first or self.told()[0]
             for file, line in misfits:
                 made[file] = without_block(made.get(file) or (folder / file).read_text(encoding="utf-8"), int(line))
                 taken.add(file.split("/", 1)[1].rsplit("/", 1)[0].replace("/", "::").replace("+", ""))
-            self.output = ran(folder, made)
+            self.output = ran(folder, made, only)
         self.refused, self.unjudged = self.told()
         self.answer_only = (first or set()) - self.refused - self.unjudged
         self.lost = {it for it in self.refused if it.split("::", 1)[1] in taken}
@@ -100,13 +138,14 @@ class Answer:
         return set(told) - unjudged, unjudged
 
 
-def ran(folder, texts):
-    """The output of a check with these texts in place of the crate's own."""
+def ran(folder, texts, only):
+    """The output of a check with these texts in place of the crate's own, of these functions or modules alone if any are named."""
     own = {file: (folder / file).read_text(encoding="utf-8") for file in texts}
     for file, text in texts.items():
         (folder / file).write_text(text, encoding="utf-8")
     jobs = os.environ.get("RT_JOBS", "1")
-    done = subprocess.run(["rt", "check", "--jobs", jobs], cwd=folder, stdout=subprocess.PIPE, stderr=subprocess.STDOUT, text=True)
+    words = ["rt", "check", "--jobs", jobs, *(word for path in sorted(only) for word in ("--only", path))]
+    done = subprocess.run(words, cwd=folder, stdout=subprocess.PIPE, stderr=subprocess.STDOUT, text=True)
     for file, text in own.items():
         (folder / file).write_text(text, encoding="utf-8")
     return done.stdout
@@ -120,48 +159,52 @@ def without_block(text, line):
     return "\n".join(lines[:start] + [""] * (end - start) + lines[end:])
 
 
-def tried_alone(folder, edit):
+def tried_alone(folder, edit, only):
     """What is told of an edit by itself."""
     texts = {}
     edit.apply(texts, folder)
-    answer = Answer(folder, texts)
+    answer = Answer(folder, texts, only)
     # Of a text of src/ that could not be read no contract was tried.
     for at in re.finditer(r"(?m)^(?:\./)?(src|specs)/\S+:\d+:\d+: error: (`[^`]*`: )?(.*)$", answer.output):
         if not at[2] or UNREAD.search(re.sub(r"`[^`]*`", "", at[3])):
             return f"the edited text can't be read: {at[0][:200]}"
-    if not re.search(r"(?m)^logic=", answer.output):
+    if not re.search(r"(?m)^(?:logic|only)=", answer.output):
         return f"the check didn't come to the proofs: {answer.output.strip()[-300:]}"
     if answer.refused:
         return WITHOUT if answer.refused == answer.lost else REFUSED
     if answer.answer_only:
         return "answer-only"
-    return "proved" if re.search(r"(?m)^logic=proved", answer.output) else "unjudged"
+    return "proved" if re.search(r"(?m)^(?:logic=proved|only=(\d+) proved=\1$)", answer.output) else "unjudged"
 
 
-def try_round(folder, edits):
-    """Tries those of the edits together that meet in no function; answers them, each with what is told of it."""
+def try_round(folder, edits, is_drawn):
+    """Tries those of the edits together that meet in no function; answers them, each with what is told of it. Of drawn ones only the modules that they break are
+    checked."""
     texts, held = {}, []
     for edit in edits:
         if not any(functions(edit) & functions(it) for it in held) and edit.apply(texts, folder) is None:
             held.append(edit)
-    answer = Answer(folder, texts)
+    modules = {edit: {f"{folder.name}::{module_of(file)}".removesuffix("::") for file, _ in edit.places} if is_drawn else set() for edit in held}
+    answer = Answer(folder, texts, set().union(*modules.values()))
     for edit in held:
         of_each = [{it for it in answer.refused if re.fullmatch(pattern, it, re.IGNORECASE)} for pattern in functions(edit)]
         alone = not all(of_each)
-        told = tried_alone(folder, edit) if alone else WITHOUT if set().union(*of_each) <= answer.lost else REFUSED
+        told = tried_alone(folder, edit, modules[edit]) if alone else WITHOUT if set().union(*of_each) <= answer.lost else REFUSED
         print(f"{folder.name}/{edit.name}: {told}{' (alone)' if alone else ''}", flush=True)
         yield edit, told
 
 
-def try_crate(crate):
-    """Tries a crate's wrong bodies, and answers how many were refused and how many weren't."""
-    edits = edits_in(EDITS / f"{crate}.edits")
+def try_crate(crate, is_over_ci, drawn=None):
+    """Tries a crate's wrong bodies, or those of these names, and answers how many were refused and how many weren't."""
+    edits = [edit for edit in edits_in(EDITS / f"{crate}.edits") if drawn is None or edit.name in drawn]
     with tempfile.TemporaryDirectory(prefix="wrong-bodies-") as room:
         folder = copied(room, crate)
+        if is_over_ci:
+            stamp_libraries(room)
         told = {edit: edit.apply({}, folder) for edit in edits}
         left = [edit for edit in edits if told[edit] is None]
         while left:
-            tried = dict(try_round(folder, left))
+            tried = dict(try_round(folder, left, drawn is not None))
             told.update(tried)
             left = [edit for edit in left if edit not in tried]
     failed = [edit for edit in edits if told[edit] not in (REFUSED, WITHOUT)]
@@ -170,12 +213,23 @@ def try_crate(crate):
     return len(edits) - len(failed), len(failed)
 
 
+def drawn_by(commit, count=10):
+    """So many of all wrong bodies, drawn by a commit's hash: their names by crates."""
+    told = subprocess.run(["git", "rev-parse", commit], cwd=TOP, check=True, capture_output=True, text=True)
+    every = [(file.stem, edit.name) for file in sorted(EDITS.iterdir()) for edit in edits_in(file)]
+    chosen = random.Random(told.stdout.strip()).sample(every, count)
+    return {crate: {name for of, name in chosen if of == crate} for crate, _ in sorted(chosen)}
+
+
 def main():
-    crates = sys.argv[1:] or sorted(it.stem for it in EDITS.iterdir())
-    unknown = [it for it in crates if not (EDITS / f"{it}.edits").exists()]
-    if unknown:
-        sys.exit(f"tools/wrong_bodies has no file {unknown[0]}.edits")
-    passed, failed = map(sum, zip(*map(try_crate, crates)))
+    words = argparse.ArgumentParser(usage="tools/wrong_bodies.py [--over-ci] [--drawn COMMIT | CRATE..]")
+    words.add_argument("--over-ci", action="store_true")
+    words.add_argument("--drawn")
+    words.add_argument("crates", nargs="*", choices=[[], *sorted(it.stem for it in EDITS.iterdir())])
+    given = words.parse_args()
+    every = dict.fromkeys(given.crates or sorted(it.stem for it in EDITS.iterdir()))
+    tried = drawn_by(given.drawn) if given.drawn else every
+    passed, failed = map(sum, zip(*(try_crate(crate, given.over_ci, names) for crate, names in tried.items())))
     print(f"{passed} passed, {failed} failed")
     sys.exit(1 if failed else 0)
 

@@ -1,0 +1,50 @@
+#!/usr/bin/env python3
+"""Tries what takes too long for the gate, and says what stood.
+
+    tools/nightly.py [SEED]         (with no word: the day's number, as 20261130)
+
+It runs `rt ci`, and over its libraries tries every wrong body, crate by crate; the wrong bodies that only tests of
+threads can find; drawn machines, bytes and scripts against plain models; and files of blobs with drawn kills and a race
+with `gc` of a minute. The seed decides what is drawn. A line tells of each part how it ended and after how long, and its
+output is kept in nightly/ at the top of the checkout, which git passes over. The status is 0 if all stood.
+"""
+import subprocess
+import sys
+import time
+from pathlib import Path
+
+TOP = Path(__file__).resolve().parent.parent
+BLOBCTL = "crates/blobctl/out/blobctl"
+
+
+def parts(seed):
+    """Each part's name, and the words that run it."""
+    yield "gate's proofs", ["rt", "ci"]
+    for file in sorted((TOP / "tools" / "wrong_bodies").iterdir()):
+        yield f"wrong bodies of {file.stem}", ["tools/wrong_bodies.py", "--over-ci", file.stem]
+    yield "wrong bodies of threads", ["tools/threads/run.py", "--wrong"]
+    yield "drawn programs", ["tools/fuzz.py", seed, "2000"]
+    yield "files of blobs", ["tools/file_blobs/check.py", BLOBCTL, "--seed", seed, "--kills", "300", "--race", "60"]
+
+
+def run(name, words, log):
+    """Runs a part: whether it stood."""
+    begun = time.time()
+    with open(log, "w", encoding="utf-8") as said:
+        status = subprocess.run(words, cwd=TOP, stdin=subprocess.DEVNULL, stdout=said, stderr=subprocess.STDOUT).returncode
+    last = log.read_text(encoding="utf-8", errors="replace").strip().split("\n")[-1]
+    print(f"{'stood' if status == 0 else 'FAILED'} after {(time.time() - begun) / 60:.0f} minutes: {name}: {last}", flush=True)
+    return status == 0
+
+
+def main():
+    seed = sys.argv[1] if sys.argv[1:] else time.strftime("%Y%m%d")
+    folder = TOP / "nightly"
+    folder.mkdir(exist_ok=True)
+    stood = [run(name, words, folder / f"{name.replace(' ', '_')}.log") for name, words in parts(seed)]
+    print(f"seed {seed}: {stood.count(True)} passed, {stood.count(False)} failed")
+    sys.exit(0 if all(stood) else 1)
+
+
+if __name__ == "__main__":
+    main()
