@@ -148,9 +148,7 @@ def told(tally):
 
 
 def main(words):
-    if not shutil.which("cc"):
-        print("failures: there is no C compiler, so no request was refused")
-        return
+    build.need("cc")
     with tempfile.TemporaryDirectory() as folder:
         tally = tried(*built(pathlib.Path(words[0] if words else folder).resolve()))
     if not told(tally):
