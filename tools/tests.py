@@ -24,7 +24,7 @@ import build  # noqa: E402
 
 CRATE = "pagable_locked_examples"
 NAMES = {"threads": "threads", "crate_tests": "crates"}
-# What the tests of each folder use beside what the crate does.
+# What the tests of each folder may use beside what the crate does.
 USES = {
     "threads": "pagable_examples pagable_value_rows indexmap smallvec",
     "crate_tests": "pagable pagable_budget pagable_changes pagable_file sqlite sqlite_trees",
@@ -38,7 +38,9 @@ def files_of(folder):
 
 def copied(work, folders, files):
     """Copies the crates, with these modules of these folders as tests: where the files of their crate stand."""
-    source = build.copied(work, CRATE, " ".join(USES[folder] for folder in folders))
+    text = "".join(file.read_text(encoding="utf-8") for file in files)
+    used = [crate for folder in folders for crate in USES[folder].split() if re.search(rf"\b{crate}::", text)]
+    source = build.copied(work, CRATE, " ".join(used))
     for file in files:
         shutil.copy(file, source / f"{file.stem}.rt")
     with open(source / "lib.rt", "a", encoding="utf-8") as root:

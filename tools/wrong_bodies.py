@@ -25,10 +25,12 @@ import sys
 import tempfile
 from pathlib import Path
 
+TOP = Path(__file__).resolve().parent.parent
 sys.dont_write_bytecode = True
+sys.path.append(str(TOP / "tools" / "speed"))
+from build import need  # noqa: E402
 from edits import edits_in  # noqa: E402
 
-TOP = Path(__file__).resolve().parent.parent
 EDITS = TOP / "tools" / "wrong_bodies"
 MISFIT = re.compile(r"(?m)^(?:\./)?(proofs/\S+/(?:Answers|Invariants)\.antt):(\d+):\d+: error")
 NOT_PROVED = re.compile(r"(?m)^\w+ (\S+): ((?:not proved|no proof).*)$")
@@ -175,6 +177,7 @@ def main():
     unknown = [it for it in crates if not (EDITS / f"{it}.edits").exists()]
     if unknown:
         sys.exit(f"tools/wrong_bodies has no file {unknown[0]}.edits")
+    need("rt")
     passed, failed = map(sum, zip(*map(try_crate, crates)))
     print(f"{passed} passed, {failed} failed")
     sys.exit(1 if failed else 0)
