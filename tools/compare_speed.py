@@ -29,7 +29,7 @@ import textwrap
 sys.dont_write_bytecode = True
 TOP = pathlib.Path(__file__).resolve().parent.parent
 sys.path.insert(0, str(TOP / "tools" / "speed"))
-from build import built as built_here
+from build import built as built_here, need  # noqa: E402
 
 PAGE = TOP / "docs" / "PROOFS.md"
 BEGIN, END = "<!-- table -->", "<!-- end of the table -->"
@@ -113,6 +113,8 @@ def measured(programs, forms, row, count, rounds):
     if len({one[2] for mine in runs for one in mine if one}) > 1:
         sys.exit(f"{row}: the programs make different keys or claims")
     least = lambda those: ({part: min(one[0][part] for one in those) for part in those[0][0]}, min(one[1] for one in those))
+    if None in runs[0]:
+        sys.exit(f"{row}: the program of this repository fails")
     best = [None if None in mine else least(mine) for mine in runs]
     return best + [None] * (len(programs) - len(best))
 
@@ -138,6 +140,18 @@ def machine():
     return textwrap.fill(text, 120, break_on_hyphens=False)
 
 
+def chosen(words):
+    """The rows of these names, or all."""
+    wanted = words.split(",") if words else [row for row, _ in ROWS]
+    if "shared" in wanted:
+        wanted.remove("shared")
+        wanted += [row for row, _ in ROWS if "/" in row]
+    for row in wanted:
+        if row not in dict(ROWS):
+            sys.exit(f"no row is called {row}")
+    return wanted
+
+
 def asked():
     parser = argparse.ArgumentParser(usage="compare_speed.py ORIGINAL WORK [--rounds N] [--rows ROW,..] [--print]")
     parser.add_argument("original")
@@ -150,15 +164,15 @@ def asked():
 
 def main():
     words = asked()
+    wanted = chosen(words.rows)
+    for tool in ("time", "cargo"):
+        need(tool)
     work = pathlib.Path(words.work).resolve()
     original = pathlib.Path(words.original).resolve()
     programs = [built_here(work / "here"), *(built_original(original, work, is_soft) for is_soft in (False, True))]
     forms = work / "forms"
     forms.mkdir(exist_ok=True)
     ran(sys.executable, TOP / "tools" / "speed_sums.py", forms)
-    wanted = words.rows.split(",") if words.rows else [row for row, _ in ROWS]
-    if "shared" in wanted:
-        wanted += [row for row, _ in ROWS if "/" in row]
     results = {}
     for row, count in ROWS:
         if row in wanted:

@@ -36,7 +36,7 @@ TOOLS = (
     ("text", ["tools/check_text.py"], None),
     ("planted faults", ["tools/planted.py"], None),
     ("failures", ["tools/failures/run.py"], None),
-    ("threads and crates", ["tools/threads/run.py"], None),
+    ("threads and crates", ["tools/tests.py"], None),
     ("rows", ["tools/rows/run.py"], None),
     ("programs", ["tools/programs/run.py"], None),
     ("files of blobs", ["tools/file_blobs/check.py", BLOBCTL], "blobctl"),

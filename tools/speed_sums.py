@@ -49,10 +49,34 @@ DRAWN = {
     "ordered": ("IndexMap<String,u32>", lambda draws: {drawn_text(draws, 12 + next(draws) % 16): next(draws) >> 32 for _ in range(100_000)}.items()),
 }
 
-if __name__ == "__main__":
-    for seed, (name, (its_type, drawn)) in enumerate(DRAWN.items(), 1):
-        data = form(its_type, drawn(draws_of(seed)))
-        if len(sys.argv) > 1:
-            (pathlib.Path(sys.argv[1]) / name).write_bytes(data)
+SEEDS = {name: seed for seed, name in enumerate(DRAWN, 1)}
+
+
+def drawn_forms():
+    """Each value, by its name."""
+    for name, (its_type, drawn) in DRAWN.items():
+        yield name, form(its_type, drawn(draws_of(SEEDS[name])))
+
+
+def line_of(name, data):
+    return f"{name} {len(data)} bytes wrote {sum_of([len(data), *data]):016x}"
+
+
+def check(rows):
+    """Ends the program where no row of this file wants what is worked out here."""
+    wanted = rows.read_text(encoding="utf-8")
+    for name, data in drawn_forms():
+        if f"-> {line_of(name, data)}\n" not in wanted:
+            sys.exit(f"no row wants: {line_of(name, data)}")
+
+
+def main(words):
+    for name, data in drawn_forms():
+        if words:
+            (pathlib.Path(words[0]) / name).write_bytes(data)
         else:
-            print(f"{name} {len(data)} bytes wrote {sum_of([len(data), *data]):016x}")
+            print(line_of(name, data))
+
+
+if __name__ == "__main__":
+    main(sys.argv[1:])

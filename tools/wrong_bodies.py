@@ -33,10 +33,12 @@ import sys
 import tempfile
 from pathlib import Path
 
+TOP = Path(__file__).resolve().parent.parent
 sys.dont_write_bytecode = True
+sys.path.append(str(TOP / "tools" / "speed"))
+from build import need  # noqa: E402
 from edits import edits_in  # noqa: E402
 
-TOP = Path(__file__).resolve().parent.parent
 EDITS = TOP / "tools" / "wrong_bodies"
 MISFIT = re.compile(r"(?m)^(?:\./)?(proofs/\S+/(?:Answers|Invariants)\.antt):(\d+):\d+: error")
 NOT_PROVED = re.compile(r"(?m)^\w+ (\S+): ((?:not proved|no proof).*)$")
@@ -227,6 +229,7 @@ def main():
     words.add_argument("--drawn")
     words.add_argument("crates", nargs="*", choices=[[], *sorted(it.stem for it in EDITS.iterdir())])
     given = words.parse_args()
+    need("rt")
     every = dict.fromkeys(given.crates or sorted(it.stem for it in EDITS.iterdir()))
     tried = drawn_by(given.drawn) if given.drawn else every
     passed, failed = map(sum, zip(*(try_crate(crate, given.over_ci, names) for crate, names in tried.items())))

@@ -1,5 +1,6 @@
 """Runs a row while something fails in its middle: what is answered, what is left, and the same row again."""
 
+import contextlib
 import re
 import subprocess
 
@@ -25,12 +26,14 @@ class Server:
         return self
 
     def __exit__(self, *_):
-        self.running.stdin.close()
+        with contextlib.suppress(BrokenPipeError):
+            self.running.stdin.close()
         self.running.wait()
 
     def ask(self, line):
-        self.running.stdin.write(line + "\n")
-        self.running.stdin.flush()
+        with contextlib.suppress(BrokenPipeError):
+            self.running.stdin.write(line + "\n")
+            self.running.stdin.flush()
         answer = self.running.stdout.readline()
         if not answer:
             raise Unlike(f"the program ended at `{line}`")

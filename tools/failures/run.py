@@ -60,6 +60,7 @@ def add_pagectl(crates, source):
 
 def built(work):
     """Builds the program and the library: their paths."""
+    build.need("cc")
     source = build.source_in(work, TOP, HERE, USES)
     crates = source.parent.parent
     add_counters(crates)
@@ -148,9 +149,6 @@ def told(tally):
 
 
 def main(words):
-    if not shutil.which("cc"):
-        print("failures: there is no C compiler, so no request was refused")
-        return
     with tempfile.TemporaryDirectory() as folder:
         tally = tried(*built(pathlib.Path(words[0] if words else folder).resolve()))
     if not told(tally):

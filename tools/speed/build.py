@@ -24,6 +24,14 @@ TOP = HERE.parent.parent
 USES = "pagable pagable_testkit pagable_value_rows anyhow indexmap"
 # What `rt try` adds: bytes put into new variables, and calls of its checks.
 ADDED = re.compile(r"(?m)^ *call void @(?:llvm\.memset\.p0\.i64\(ptr %\S+, i8 -86,|\"rattle-llvm-checks::).*\n")
+# What is told of a tool that isn't there.
+NEEDED = {
+    "cargo": "no cargo: install Rust's toolchain",
+    "cc": "no C compiler: install gcc or clang",
+    "git": "no git: install it",
+    "rt": "no rt: put the toolchain's bin into PATH",
+    "time": "no GNU time: install it",
+}
 RESULT = re.compile(r"(?m)^test result: (ok|FAILED)\. (\d+) passed; (\d+) failed; 0 ignored")
 FAST = ["-Xclang", "-fmerge-functions", "-mllvm", "-mergefunc-use-aliases", "-fno-vectorize", "-fno-slp-vectorize"]
 
@@ -57,9 +65,16 @@ def linked(kit, work, words):
     return status
 
 
-def kit_in(work, level):
-    """A folder like the kit's, whose compiler and linker are this script."""
-    kit = pathlib.Path(shutil.which("rt")).resolve().parent.parent
+def need(tool):
+    """Ends the program where this tool isn't there."""
+    if not shutil.which(tool):
+        program = pathlib.Path(sys.argv[0])
+        name = program.parent.name if program.name == "run.py" else program.stem
+        sys.exit(f"{name}: there is {NEEDED[tool]}")
+
+
+def links_in(work, kit):
+    """A folder like the kit's, without the check that `rt try` begins beside, which only looks at names."""
     folder = work / "kit"
     shutil.rmtree(folder, ignore_errors=True)
     for inner in ("bin", "toolchain/bin"):
@@ -72,12 +87,29 @@ def kit_in(work, level):
     for name in ("rt", "rtlib.py"):
         (folder / "bin" / name).unlink()
         shutil.copy(kit / "bin" / name, folder / "bin" / name)
+    put_script(folder / "bin" / "rattle", "exit 0")
+    return folder
+
+
+def put_script(tool, text):
+    """Puts a shell script in a tool's place."""
+    tool.unlink()
+    tool.write_text(f"#!/bin/sh\n{text}\n")
+    tool.chmod(0o755)
+
+
+def kit():
+    """The kit's folder."""
+    need("rt")
+    return pathlib.Path(shutil.which("rt")).resolve().parent.parent
+
+
+def kit_in(work, level):
+    """A folder like the kit's, whose compiler and linker are this script."""
+    folder = links_in(work, kit())
     for name in ("clang", "ld.lld"):
-        tool = folder / "toolchain" / "bin" / name
-        tool.unlink()
-        words = f'"{sys.executable}" "{HERE / "build.py"}" --{name} "{kit}" "{work}" {level}'
-        tool.write_text(f'#!/bin/sh\nexec {words} "$@"\n')
-        tool.chmod(0o755)
+        words = f'"{sys.executable}" "{HERE / "build.py"}" --{name} "{kit()}" "{work}" {level}'
+        put_script(folder / "toolchain" / "bin" / name, f'exec {words} "$@"')
     return folder
 
 
@@ -94,6 +126,7 @@ def built_crate(work, crate):
 def copied(work, crate, uses="", repository=TOP):
     """Copies the crates of a repository, with one that is new or uses these others too: the folder of its files. A
     program's words and input stay behind."""
+    need("git")
     work.mkdir(parents=True, exist_ok=True)
     copy = work / "repository"
     shutil.rmtree(copy, ignore_errors=True)
@@ -119,19 +152,9 @@ def source_in(work, repository, folder, uses):
 
 def said_by_tests(source):
     """What a run of the tests of the crate with these files says, by `rt try`."""
-    run = subprocess.run(["rt", "try", "--test"], cwd=source.parent, text=True, capture_output=True)
+    rt = links_in(source.parents[3], kit()) / "bin" / "rt"
+    run = subprocess.run([rt, "try", "--test"], cwd=source.parent, text=True, capture_output=True)
     return run.stdout + run.stderr
-
-
-def tested(source, of):
-    """Runs the tests of the crate with these files, which are those of this name, and prints how many passed; ends the
-    program where one didn't."""
-    count = sum(file.read_text(encoding="utf-8").count("#[test]\n") for file in source.glob("*.rt"))
-    said = said_by_tests(source)
-    result = RESULT.search(said)
-    if not result or (result[1], int(result[2])) != ("ok", count):
-        sys.exit(f"{said}tests of {of}: not all of {count} passed")
-    print(f"tests of {of}: {count} passed", flush=True)
 
 
 def compiled_in(work, source, level="-O3"):

@@ -1,22 +1,15 @@
 #!/usr/bin/env python3
-"""Runs the tests of a pager that threads share, and says how many passed; its status is 0 if all did.
+"""Tries the wrong bodies of wrong.edits, such as no contract refuses: the tests of threads have to find each.
 
-    tools/threads/run.py
-    tools/threads/run.py --wrong [NAME+..]      # tries the wrong bodies of wrong.edits, or these
+    tools/threads/run.py --wrong [NAME+..]      # all of them, or these
 
-They run unproved, by `rt try`, in a copy of the repository's crates, as modules of `pagable_locked_examples`: a proof
-of a test says no more than that it ends, and these tests would take as long to prove as the calls that they run. The
-files are named X.rattle, since the gate stops at a file X.rt that it doesn't check.
-
-A wrong body is one that no contract refuses, and that a test has to find: each test that is named with it has to fail
-(tools/edits.py tells how it is spelled). Only the modules of these tests run, on a copy with that edit, or with several
-whose names are joined by '+', if none bears on another's tests: that saves minutes. Each edit is 'found', or the line
-says why it isn't, and the last line is 'N found, M not'; the status is 1 if one isn't.
+tools/edits.py tells how they are spelled; each test that is named with one has to fail. Only the modules of these tests
+run, on a copy with that edit, or with several whose names are joined by '+', if none bears on another's tests: that
+saves minutes. Each edit is 'found', or the line says why it isn't, and the last line is 'N found, M not'; the status is
+1 if one isn't. The tests themselves run by tools/tests.py.
 """
 import pathlib
 import re
-import shutil
-import subprocess
 import sys
 import tempfile
 
@@ -24,11 +17,8 @@ HERE = pathlib.Path(__file__).resolve().parent
 sys.dont_write_bytecode = True
 sys.path[:0] = [str(HERE.parent / "speed"), str(HERE.parent)]
 import build  # noqa: E402
+import tests  # noqa: E402
 from edits import edits_in  # noqa: E402
-
-CRATE = "pagable_locked_examples"
-# What the tests use beside what the crate does.
-USES = "pagable_examples pagable_value_rows indexmap smallvec"
 
 
 def used(names):
@@ -43,29 +33,10 @@ def used(names):
     return sorted(found)
 
 
-def any_of(module, tests):
-    """Whether one of these tests stands in the module."""
-    return any(test.startswith(f"{module}::") for test in tests)
-
-
-def copied(folder, tests=None):
-    """The crates in this folder, with all modules of tests or those of these tests: the crate's files."""
-    source = build.copied(folder, CRATE, USES)
-    modules = used(file.stem for file in HERE.glob("*.rattle") if tests is None or any_of(file.stem, tests))
-    for module in modules:
-        shutil.copy(HERE / f"{module}.rattle", source / f"{module}.rt")
-    with open(source / "lib.rt", "a", encoding="utf-8") as root:
-        root.writelines(f"#[cfg(test)]\nmod {module};\n" for module in modules)
-    return source
-
-
-def check_sums():
-    """Stops where a number that sums.py works out isn't what the tests want."""
-    wanted = "".join(file.read_text(encoding="utf-8") for file in HERE.glob("*.rattle"))
-    worked_out = subprocess.run([sys.executable, HERE / "sums.py"], check=True, text=True, capture_output=True).stdout
-    missing = [number for number in re.findall(r"\d{20,}", worked_out) if number not in wanted]
-    if missing:
-        sys.exit(f"tests of threads: no test wants {' '.join(missing)}")
+def copied(folder, of_edits):
+    """The crates in this folder, with the modules of these tests: the crate's files."""
+    modules = used({test.partition("::")[0] for test in of_edits})
+    return tests.copied(folder, ["threads"], [HERE / f"{module}.rattle" for module in modules])
 
 
 def told(together):
@@ -79,6 +50,11 @@ def told(together):
         for file, text in texts.items():
             (top / file).write_text(text, encoding="utf-8")
         said = build.said_by_tests(source)
+    return told_by(together, said)
+
+
+def told_by(together, said):
+    """What is told of each of these edits by what the tests' run said."""
     if not build.RESULT.search(said):
         return [f"no tests ran: {said[-1000:]}" for _ in together]
     passed = [[test for test in edit.tests if not re.search(rf"{test} \.\.\. FAILED", said)] for edit in together]
@@ -101,11 +77,9 @@ def try_wrong(groups):
 
 
 def main():
-    if sys.argv[1:2] == ["--wrong"]:
-        sys.exit(0 if try_wrong(sys.argv[2:]) else 1)
-    check_sums()
-    with tempfile.TemporaryDirectory() as folder:
-        build.tested(copied(pathlib.Path(folder)), "threads")
+    if sys.argv[1:2] != ["--wrong"]:
+        sys.exit(__doc__)
+    sys.exit(0 if try_wrong(sys.argv[2:]) else 1)
 
 
 if __name__ == "__main__":

@@ -108,6 +108,7 @@ def main():
     print("100 items above a list of 1,000 bytes:", sum_above(key_of(b"\xe8\x07" + b"\xab" * 1000)))
     print("the text hello world:", text_key("hello world"))
     print("a reference to the text string:", key_of(b"", text_key("string")))
+    print("tagged values of the text test:", *(key_of(tag, text_key("test")) for tag in (b"\3Key", b"\3Bar")))
     print("items over a failing storage:", *failing_keys())
     for quarter in range(4):
         first = 100 * quarter

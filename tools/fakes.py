@@ -1,0 +1,137 @@
+#!/usr/bin/env python3
+"""Programs that answer as those of the repository do, by the plain models, but for a fault if one is named: planted.py
+tries the tools on them.
+
+    tools/fakes.py rows FAULT                              # the program of tools/failures
+    tools/fakes.py texts FAULT weigh                       # `pagectl`
+    tools/fakes.py machine FAULT STORE LINES [PROGRAM]     # `heap_snapshot`
+"""
+import os
+import pathlib
+import pickle
+import struct
+import sys
+
+HERE = pathlib.Path(__file__).resolve().parent
+sys.dont_write_bytecode = True
+sys.path[:0] = [str(HERE / "programs"), str(HERE / "failures"), str(HERE)]
+import models  # noqa: E402
+import plain_script  # noqa: E402
+import plain_values  # noqa: E402
+from driver import GIVING_BACK  # noqa: E402
+from plain_rows import Rows  # noqa: E402
+
+USAGE = "usage: heap_snapshot STORE LINES [PROGRAM]"
+
+
+class Program:
+    """The program of tools/failures, in which each event makes one request for memory."""
+
+    def __init__(self, fault=""):
+        self.fault, self.plain, self.done = fault, Rows(), {}
+
+    def ask(self, line):
+        """The answer to a line."""
+        word, _, rest = line.removeprefix("typed-").partition(" ")
+        if word in ("machine", "over"):
+            self.plain = Rows()
+            return self.plain.answer(f"machine {rest}".strip())
+        if word in ("look", "peek"):
+            return self.plain.look(self.plain.pager.last_handle)
+        if word in ("ask", "lock", "typed"):
+            place, _, events = rest.partition(" ")
+            return self.asked(int(place), events)
+        if word == "short":
+            return self.asked(0, rest.partition(" ")[2])
+        if word in ("small", "value"):
+            return self.value(*rest.split(" ")[-3:])
+        return "refused 7"
+
+    def asked(self, place, events):
+        """The answer to events, of which this request is refused, and all that follow it if the number is negative."""
+        # (a refused step would have to give its load up)
+        if abs(place) != 1 or events.startswith("step"):
+            done = self.done.pop(events, None)
+            return self.answered(done or "; ".join(self.plain.answer(event) for event in events.split("; ")))
+        if self.fault == "does what it refuses":
+            self.plain.answer(events)
+        if self.fault == "does what it refuses, and not again":
+            self.done[events] = self.plain.answer(events)
+        number = 21 if self.fault == "refuses by another error" else 22
+        is_back = events.startswith(GIVING_BACK) and self.fault != "gives nothing back"
+        return f"met refused {number}" + " back" * is_back
+
+    def answered(self, answer):
+        """An answer, or another one by the fault."""
+        return "free " + (answer.replace(" = x", " = y") if self.fault == "reads another text" else answer)
+
+    def value(self, *words):
+        """What is read of bytes, and of a value also again, and written, with this request being refused."""
+        name, data = words[-2:]
+        answer = plain_values.answer(name, bytes.fromhex(data.strip("-")))
+        if self.fault == "reads what is cut" and answer == "refused 1":
+            answer = "ok"
+        if len(words) == 2:
+            return f"free {answer}"
+        again = "refused 1" if self.fault == "forgets what it refused" else answer
+        return f"{'met refused 22' if words[0] == '1' else 'free ' + answer} | {again} | free ok | ok"
+
+
+def rows(fault):
+    """Answers lines, each at once."""
+    program = Program(fault)
+    for line in sys.stdin:
+        print(program.ask(line.rstrip("\n")), flush=True)
+    return 0
+
+
+def texts(fault, _):
+    """Answers a script, of which the line that REFUSE_AT names, of those that aren't to give up, has no memory."""
+    script, left = plain_script.Script(), int(os.environ.get("REFUSE_AT", 0))
+    for line in sys.stdin.buffer:
+        line = line.removesuffix(b"\n")
+        left -= not line.startswith((b"unpin", b"release"))
+        is_refused = left == 0 and not line.startswith((b"unpin", b"release"))
+        answer = None if is_refused and fault != "does what it refuses" else script.answer(line)
+        if is_refused:
+            pathlib.Path(os.environ["COUNTS"]).write_bytes(struct.pack("4Q", 1, 1, 0, 0))
+            answer = "error 22"
+        if fault == "cuts at NUL" and answer:
+            answer = answer.partition("\0")[0]
+        if answer is not None:
+            sys.stdout.buffer.write(answer.encode() + b"\n")
+            sys.stdout.buffer.flush()
+    return 0
+
+
+def refusal(store, words):
+    """Why a call of `heap_snapshot` fails, or None."""
+    if not store.parent.exists():
+        return f"opening {store}: the file cannot be opened"
+    if store.exists() and store.read_bytes()[:2] != b"\x80\x04":
+        return f"opening {store}: the file is none of blobs"
+    if words and not pathlib.Path(words[0]).exists():
+        return f"reading the program {words[0]}"
+    return None if words or store.exists() else f"{store} has no machine"
+
+
+def machine(fault, *words):
+    """Runs lines of a machine that stands in a file."""
+    if len(words) not in (2, 3) or not words[1].isdigit():
+        print(USAGE, file=sys.stderr)
+        return 2
+    store, most, *program = words
+    store = pathlib.Path(store)
+    if why := refusal(store, program):
+        print(why, file=sys.stderr)
+        return 1
+    state = models.Machine(pathlib.Path(*program).read_text()) if program else pickle.loads(store.read_bytes())
+    print(state.run(int(most)), end="")
+    if fault == "forgets a line":
+        state.place -= 1
+    store.write_bytes(pickle.dumps(state, protocol=4))
+    return 0
+
+
+if __name__ == "__main__":
+    sys.exit(globals()[sys.argv[1]](*sys.argv[2:]))

@@ -1,0 +1,498 @@
+#!/usr/bin/env python3
+"""Tries each tool on faults that it has to find, and on the same without them, which it has to pass. Prints a line for
+each tool; the status is 1 if one isn't as it should be.
+
+    tools/planted.py [TOOL..]       # with no word: all
+
+A fault is an edit of a copied text, an answer that was changed, or a program that answers wrongly (tools/fakes.py).
+Nothing is compiled.
+"""
+import collections
+import contextlib
+import importlib
+import io
+import json
+import pathlib
+import re
+import shutil
+import subprocess
+import sys
+import tempfile
+import types
+from unittest import mock
+
+HERE = pathlib.Path(__file__).resolve().parent
+TOP = HERE.parent
+DATA = TOP / "crates" / "vectors" / "data"
+sys.dont_write_bytecode = True
+sys.path[:0] = [str(HERE / folder) for folder in ("threads", "programs", "failures", "speed", ".")]
+import edits  # noqa: E402
+import fakes  # noqa: E402
+import fuzz  # noqa: E402
+import hostile  # noqa: E402
+import middle  # noqa: E402
+import naming  # noqa: E402
+import original_rows  # noqa: E402
+import pagectl  # noqa: E402
+import plain_pager  # noqa: E402
+import plain_rows  # noqa: E402
+import plain_script  # noqa: E402
+import plain_values  # noqa: E402
+import rows  # noqa: E402
+import shared  # noqa: E402
+import speed_sums  # noqa: E402
+import sweeps  # noqa: E402
+import table  # noqa: E402
+import tests  # noqa: E402
+import typed  # noqa: E402
+import wrong_bodies  # noqa: E402
+from driver import Server  # noqa: E402
+
+
+def module_at(name, path):
+    """A tool that has another one's name."""
+    spec = importlib.util.spec_from_file_location(name, path)
+    module = importlib.util.module_from_spec(spec)
+    spec.loader.exec_module(module)
+    return module
+
+
+def told(call, *words):
+    """What a call prints, and by what it ends, if not at its end."""
+    said = io.StringIO()
+    with contextlib.redirect_stdout(said), contextlib.redirect_stderr(said):
+        try:
+            call(*words)
+        except (SystemExit, naming.Unlike) as end:
+            print(end)
+    return said.getvalue()
+
+
+def ran(*words):
+    """What a tool prints, and its status where that isn't 0."""
+    how = {"stdout": subprocess.PIPE, "stderr": subprocess.STDOUT, "text": True}
+    done = subprocess.run([sys.executable, *map(str, words)], **how)
+    return done.stdout + (f"status {done.returncode}\n" if done.returncode else "")
+
+
+def program(work, sort, fault=""):
+    """A program of tools/fakes.py, as a file."""
+    file = work / f"{sort} {fault}"
+    file.write_text(f"#!/bin/sh\nexec '{sys.executable}' '{HERE / 'fakes.py'}' {sort} '{fault}' \"$@\"\n")
+    file.chmod(0o755)
+    return file
+
+
+# ---- texts, and wrong bodies
+
+TWICE = """
+pub fn ask_twice<R: Wait>(pager: &Mutex<Pager>, rt: &R) {
+    let mut pager = pager.lock(rt);
+    pager.flush();
+    pager.pending();
+}
+"""
+MEMORY = "\npub fn refuse() -> Result<(), Error> {\n    Err(Error::OutOfMemory)\n}\n"
+
+
+def check_text(work):
+    """A want of memory that is invented, two calls under the lock, and README with other code than the file's."""
+    leave = shutil.ignore_patterns("out", "proofs", "specs", "must-fail", "data")
+    shutil.copytree(TOP / "crates", work / "crates", ignore=leave)
+    (work / "tools").mkdir()
+    for file in (HERE / "check_text.py", TOP / "README.md"):
+        shutil.copy(file, work / file.relative_to(TOP))
+    yield "", ran(work / "tools" / "check_text.py")
+    for file, added, line in [
+        ("crates/pagable_core/src/lib.rt", MEMORY, 3),
+        ("crates/pagable_locked/src/slot.rt", TWICE, 2),
+        ("crates/demo/src/main.rt", "\n// Another line.\n", None),
+    ]:
+        text = (work / file).read_text(encoding="utf-8")
+        (work / file).write_text(text + added, encoding="utf-8")
+        place = f"{file}:{text.count(chr(10)) + line}" if line else "README.md:"
+        yield place, ran(work / "tools" / "check_text.py")
+        (work / file).write_text(text, encoding="utf-8")
+
+
+def edit(work, text):
+    """The edit of a file with this text, which stands in the folder."""
+    (work / "one.edits").write_text(text, encoding="utf-8")
+    (found,) = edits.edits_in(work / "one.edits")
+    return found
+
+
+def edits_of_bodies(work):
+    """An edit whose old text stands never, or twice."""
+    (work / "file.rt").write_text("let a = 1;\nlet b = 1;\n", encoding="utf-8")
+    never, twice = ("let c = ⟦1 ⇒ 2⟧;", "stands 0 times"), ("= ⟦1 ⇒ 2⟧;", "stands 2 times")
+    for old, why in [("let a = ⟦1 ⇒ 2⟧;", ""), never, twice]:
+        texts = {}
+        why_not = edit(work, f"file: file.rt\none: {old}\n").apply(texts, work)
+        is_made = texts == {"file.rt": "let a = 2;\nlet b = 1;\n"}
+        yield why, (why_not or "") + "another text was made" * (is_made == bool(why))
+
+
+def tried_by(output, work):
+    """What is told of the wrong bodies in a folder if the prover says this."""
+    counts = []
+    with (
+        mock.patch.object(wrong_bodies, "EDITS", work),
+        mock.patch.object(wrong_bodies, "copied", lambda room, crate: work),
+        mock.patch.object(wrong_bodies, "ran", lambda folder, texts, only: output),
+    ):
+        said = told(lambda: counts.extend(wrong_bodies.try_crate("crate", False)))
+    return f"{said}{counts[0]} passed, {counts[1]} failed"
+
+
+def bodies(work):
+    """What is told of the prover's outputs: a wrong body that is proved, that only breaks a caller, or that can't be
+    read."""
+    (work / "src").mkdir()
+    (work / "src" / "lib.rt").write_text("pub fn one() -> u64 {\n    1\n}\n", encoding="utf-8")
+    (work / "crate.edits").write_text("file: src/lib.rt\none: ⟦1 ⇒ 2⟧\n", encoding="utf-8")
+    yield "1 passed, 0 failed", tried_by("fn crate::one: not proved (1 goal is open)\nlogic=refused\n", work)
+    for output, why in [
+        ("logic=proved\n", "proved"),
+        ("fn crate::one: no proof: it calls crate::two, which has no proof\nlogic=refused\n", "unjudged"),
+        ("src/lib.rt:2:5: error: two is not in scope\n", "the edited text can't be read"),
+        ("Killed\n", "the check didn't come to the proofs"),
+    ]:
+        yield (f"crate/one: FAILED: {why}", "0 passed, 1 failed"), tried_by(output, work)
+
+
+def threads(work):
+    """A wrong body whose tests pass, tests that fail or didn't run, and a number that no test wants."""
+    run = module_at("run_of_threads", HERE / "threads" / "run.py")
+    wrong = edit(work, "file: a\none: b\ntest: calls::first\ntest: calls::second\n")
+    said = "test calls::first ... FAILED\ntest calls::second ... {}\n"
+    said += "test result: FAILED. {} passed; {} failed; 0 ignored"
+    yield "found", run.told_by([wrong], said.format("FAILED", 0, 2))[0]
+    yield "passed: calls::second", run.told_by([wrong], said.format("ok", 1, 1))[0]
+    yield "no tests ran", run.told_by([wrong], "error: no crate")[0]
+    printed, files = ran(HERE / "threads" / "sums.py"), tests.files_of("threads")
+    yield "", told(tests.check_sums, printed, files)
+    number = re.search(r"\d{20,}", printed)[0]
+    yield "no test wants", told(tests.check_sums, printed.replace(number, number[::-1]), files)
+
+
+def of_tests(_):
+    """Tests that fail, or of which nothing is said."""
+    for folder, name in tests.NAMES.items():
+        texts = {file.stem: file.read_text(encoding="utf-8") for file in tests.files_of(folder)}
+        found = [(module, test) for module, text in texts.items() for test in re.findall(r"#\[test\]\nfn (\w+)", text)]
+        lines = [f"test {module}::{test} ... ok\n" for module, test in found]
+        yield f"tests of {name}: {len(lines)} passed", tests.told(folder, "".join(lines))
+        for last in ("", lines[-1].replace("ok", "FAILED")):
+            yield f"{len(lines) - 1} of {len(lines)} passed", told(tests.told, folder, "".join([*lines[:-1], last]))
+
+
+# ---- plain models
+
+def changed(file, work, old, new):
+    """A copy of a file of rows, with another answer where this one stood first."""
+    text = file.read_text(encoding="utf-8")
+    (work / file.name).write_text(text.replace(old, new, 1), encoding="utf-8")
+    return work / file.name
+
+
+def pager(_):
+    """A plain pager that counts one pin too many, against the worked rows."""
+    yield "", told(rows.worked)
+    pins = plain_pager.Machine.pins
+    with mock.patch.object(plain_pager.Machine, "pins", lambda self, cell: pins(self, cell) + 1):
+        yield "the plain pager answers", told(rows.worked)
+
+
+def pager_rows(work):
+    """A row whose answer is changed."""
+    calls = "new_loose 0 hello world; count 1; node_of 1 -> ok 1; ok 1; ok 1"
+    for answers, wanted in [(calls, ""), (calls.replace("; ok 1;", "; ok 2;"), "the plain pager answers")]:
+        (work / "rows.txt").write_text(f"machine\n{answers}\n", encoding="utf-8")
+        yield wanted, told(rows.rows_in, work / "rows.txt")
+        answered = ran(HERE / "plain_rows.py", "answers", work / "rows.txt")
+        yield "", "" if (answered == (work / "rows.txt").read_text(encoding="utf-8")) == (not wanted) else answered
+
+
+def unlike(file):
+    """The rows of values in a file that the plain rules answer otherwise, without what a value shows."""
+    for line in file.read_text(encoding="utf-8").splitlines():
+        asked, _, wanted = line.partition(" -> ")
+        name, verb, *inputs = [*asked.split(" "), ""][:-1]
+        if name not in plain_values.TYPES or verb != "read":
+            continue
+        for one, answer in zip(inputs, wanted.split("; "), strict=True):
+            if plain_values.answer(name, hostile.bytes_of(one)) != answer.partition(" = ")[0]:
+                yield f"{name} of {one}: {answer}"
+
+
+def values(work):
+    """A row of the original's whose answer is changed, and rules of which one is changed."""
+    original = DATA / "original.txt"
+    yield "", "".join(unlike(original))
+    yield "bool of 02", "".join(unlike(changed(original, work, "bool read 00 01 ", "bool read 00 02 ")))
+    with mock.patch.dict(plain_values.SIMPLE, {"bool": lambda b: b.take(1)}):
+        yield "bool of ac", "".join(unlike(original))
+
+
+def script(_):
+    """A plain `pagectl` that counts one pin too many, against the script of tools/failures."""
+    def unlike_script():
+        plain = plain_script.Script()
+        return "".join(f"{line}\n" for line, answer, _ in pagectl.SCRIPT if plain.answer(line.encode()) != answer)
+
+    yield "", unlike_script()
+    with mock.patch.object(plain_pager.Machine, "count", lambda self, handle: 7):
+        yield "count a", unlike_script()
+
+
+def original(work):
+    """Bytes that the original would not have written."""
+    numbers = original_rows.UNSIGNED + original_rows.SIGNED
+    zeros = [{"op": "enc", "type": name, "value": "0", "bytes_hex": "00"} for name in numbers]
+    line = {"op": "enc", "type": "u16", "value": "300"}
+    for data, wanted in [("ac02", "u16 read 00 ac02 -> ok 1 = 0; ok 2 = 300\n"), ("ac03", "the original has")]:
+        lines = [json.dumps(it) + "\n" for it in [*zeros, {**line, "bytes_hex": data}]]
+        (work / "original.jsonl").write_text("".join(lines), encoding="utf-8")
+        yield wanted, ran(HERE / "original_rows.py", work / "original.jsonl")
+
+
+# Check sums of the bytes of a text by FNV-1a, and draws of splitmix64 from a seed, as its authors published them.
+FNV = {"": 0xCBF29CE484222325, "a": 0xAF63DC4C8601EC8C, "foobar": 0x85944171F73967E8}
+SPLITMIX = (1234567, [6457827717110365317, 3203168211198807973, 9817491932198370423, 4593380528125082431])
+
+
+def speed(work):
+    """A check sum, a draw or a form that is another one, and a number that no row of drawn.txt wants."""
+    seed, wanted = SPLITMIX
+    yield "", "".join(text for text, number in FNV.items() if speed_sums.sum_of(text.encode()) != number)
+    yield "", "" if [draw for draw, _ in zip(speed_sums.draws_of(seed), wanted)] == wanted else "other draws"
+    few = {"maps": speed_sums.DRAWN["maps"]}
+    with mock.patch.object(speed_sums, "DRAWN", few):
+        yield "", told(speed_sums.check, DATA / "drawn.txt")
+        wrong = changed(DATA / "drawn.txt", work, "ca411d1d", "da411d1d")
+        yield "no row wants: maps", told(speed_sums.check, wrong)
+
+
+def compare(_):
+    """A row that isn't there, programs that come to other sums, and a program that fails."""
+    compare_speed = module_at("compare_speed", HERE / "compare_speed.py")
+    yield "no row is called celsl", told(compare_speed.chosen, "cells,celsl")
+    yield "", told(compare_speed.chosen, "cells,shared")
+    others = [("7", "8", "different keys"), ("7", None, "different keys"), (None, "8", "fails")]
+    for ours, theirs, why in [("7", "7", ""), *others]:
+        runs = {"here": ours and ({"out": 1.0}, 9, ours), "there": ({"out": 2.0}, 9, theirs)}
+        with mock.patch.object(compare_speed, "once", lambda call: runs[call[0]]):
+            yield why, told(compare_speed.measured, ["here", "there"], None, "cells", 1_000, 2)
+
+
+# ---- failures
+
+CALLS = "new_loose 0 x; clone 1; count 2; new_shared 0 x; store 0178; read 1209 0; step 1 2"
+
+
+def faults(section, *words):
+    """What a part of tools/failures tells as faults."""
+    tally = sweeps.Tally()
+    said = told(section, *words, tally)
+    return "".join(f"{fault}\n" for fault in tally.faults) or said or ("nothing was tried" if not tally.places else "")
+
+
+def sweep(server, tally):
+    """A row undisturbed, and with each request, each call and each number refused."""
+    row = rows.row_of("planted", "", [(CALLS, None)])
+    for part in (sweeps.each_request, sweeps.each_call, sweeps.each_number):
+        part(server, row, tally)
+
+
+def served(fault, section):
+    """What is told of a program with this fault."""
+    with Server([sys.executable, HERE / "fakes.py", "rows", fault], "") as server:
+        return faults(section, server)
+
+
+def driver(_):
+    """A state that differs after a refusal, another refusal, an answer that differs, and a program that ends."""
+    yield "", served("", sweep)
+    yield "in the place of `pending", served("does what it refuses", sweep)
+    yield "in the place of `pending", served("does what it refuses, and not again", sweep)
+    yield "`refused 21 back` in the place of", served("refuses by another error", sweep)
+    yield "`refused 22` in the place of `refused 22 back`", served("gives nothing back", sweep)
+    yield "read 2 = y", served("reads another text", sweep)
+    with Server(["/bin/false"], "") as server:
+        yield "the program ended at", faults(sweep, server)
+
+
+ROW = ("planted", [("new_loose 0 x", "", "ok $a"), ("clone $a", "", "ok $b"), ("count $b", "", "ok 2")])
+
+
+def shared_rows(run_of, row, server, tally):
+    """A row of calls on a shared storage, with each request refused."""
+    shared.each_request(server, tally, row, shared.whole(server, tally, row, run_of), run_of)
+
+
+def of_shared(_):
+    """The same of calls on a storage that threads share, by handles and by typed references."""
+    for run_of in (shared.SharedRun, typed.TypedRun):
+        part = lambda server, tally: shared_rows(run_of, ROW, server, tally)
+        wrong = (ROW[0], [*ROW[1][:2], ("count $b", "", "ok 3")])
+        yield "", faults(part, fakes.Program())
+        yield "after the refused `new_loose 0 x`", faults(part, fakes.Program("does what it refuses"))
+        yield "in the place of `ok 3`", told(shared_rows, run_of, wrong, fakes.Program(), sweeps.Tally())
+
+
+def cut_input(server, tally):
+    """Inputs that are cut, and a blob."""
+    with mock.patch.object(hostile, "inputs", lambda: [("u16", b"\xac\x02\x05"), ("String", b"\1x")]):
+        hostile.cuts(server, tally)
+    hostile.each_request(server, tally, {1: [("String read 0178", "ok 2")]})
+    hostile.read_blob(server, tally, "0178", 0)
+
+
+def hostile_input(_):
+    """A number that is read though it is cut, a value that is another one after a refusal, a blob of another text."""
+    yield "", faults(cut_input, fakes.Program())
+    yield "`u16` of ac", faults(cut_input, fakes.Program("reads what is cut"))
+    yield "refused 1", faults(cut_input, fakes.Program("forgets what it refused"))
+    yield "read 2 = y", faults(cut_input, fakes.Program("reads another text"))
+
+
+class Answering:
+    """A server that gives these answers in turn, whatever is asked."""
+
+    def __init__(self, answers):
+        self.answers = iter(answers)
+
+    def ask(self, _):
+        return next(self.answers)
+
+
+FETCHES = ["", "ok 1", "ok", "ok", "refused 23 7", "ok 0", "yes", "ok 2 = hello world", "ok 2"]
+
+
+def rows_in_the_middle(_):
+    """A pin that fails as its fetch does, but leaves a pin, or has its text no second time."""
+    for place, answer in [(0, ""), (5, "ok 1"), (7, "refused 16 1")]:
+        answers = [*FETCHES[:place], answer, *FETCHES[place + 1:]]
+        answered = Answering([answers[0], *(f"free {it}" for it in answers[1:])])
+        yield f"`{answer}`" if place else "", told(middle.failed_fetch, answered, sweeps.Tally())
+
+
+def names(_):
+    """A number that stands for two things, and a handle that is left."""
+    known = naming.Names()
+    yield "", told(known.compare, "clone 1", "ok 2", "ok 3")
+    yield "handle 3 in the place of", told(known.compare, "clone 1", "ok 4", "ok 3")
+    look = "pending 0; 2: 1 1 0 here = x"
+    yield "", told(known.compare_looks, look, look.replace("2:", "3:"))
+    yield "in the place of", told(known.compare_looks, look, "pending 0; 3: 1 1 0 here = x; 4: 1 1 0 here = x")
+    yield "nothing stands for", told(known.compare_looks, look, "pending 0; 3: 1 2 0 here = x")
+
+
+def refusals(_):
+    """A refusal that never came, and a fault that was told."""
+    came = collections.Counter((call, number) for call, numbers in table.wanted() for number in numbers)
+    missing = []
+    told(lambda: missing.extend(table.printed(came)))
+    yield "", "".join(missing)
+    del came["clone", 18]
+    told(lambda: missing.extend(table.printed(came)))
+    yield "clone was never refused with NoSuchHandle", "".join(missing)
+    run = module_at("run_of_failures", HERE / "failures" / "run.py")
+    tally = sweeps.Tally()
+    told(tally.fault, "planted", "a fault")
+    yield "failures: planted: a fault", told(run.told, tally)
+
+
+def scripts(work):
+    """`pagectl` that does what it refuses, or cuts an answer."""
+    with mock.patch.object(pagectl, "SCRIPT", pagectl.SCRIPT[:6]):
+        for fault, why in [("", ""), ("does what it refuses", "to `new a hello world` again")]:
+            yield why, faults(pagectl.each_request, program(work, "texts", fault), "")
+    for fault, why in [("", ""), ("cuts at NUL", "lines that are no lines")]:
+        yield why, faults(pagectl.hostile, program(work, "texts", fault), "")
+
+
+# ---- drawn input, and programs
+
+def first_difference(sort):
+    """What is told of the first drawn input of a sort that differs, of a few."""
+    said = ""
+    for seed in range(30):
+        said = said or told(fuzz.tried, sort, seed)
+    return said
+
+
+def is_smallest(sort, said):
+    """Whether the input that is shown needs each of its parts to differ."""
+    parts = said.rpartition("\nMachines, seed")[0].split("\n")
+    return all(sort.differs(parts[:place] + parts[place + 1:]) is None for place in range(len(parts)))
+
+
+def drawn_scripts(answer):
+    """Scripts of a `pagectl` that answers so."""
+    def run(words, input, **_):
+        plain = plain_script.Script()
+        answers = [answer(plain, line) for line in input.split(b"\n")]
+        said = "".join(f"{it}\n" for it in answers if it is not None)
+        return types.SimpleNamespace(stdout=said.encode(), returncode=0)
+
+    with mock.patch.object(fuzz.subprocess, "run", run):
+        return first_difference(fuzz.Scripts("pagectl"))
+
+
+def fuzzed(_):
+    """A machine, a value and a script that are answered otherwise, each down to its smallest input."""
+    yield "", first_difference(fuzz.Machines(fakes.Program()))
+    sort = fuzz.Machines(fakes.Program("reads another text"))
+    said = first_difference(sort)
+    yield "by the plain pager", said
+    yield "", "" if is_smallest(sort, said) else f"a part of these isn't needed: {said}"
+    yield "", first_difference(fuzz.Values(fakes.Program()))
+    yield ("read -\n", "by the plain rules"), first_difference(fuzz.Values(fakes.Program("reads what is cut")))
+    yield "", drawn_scripts(plain_script.Script.answer)
+    other = lambda plain, line: "0 " if line == b"pending" else plain.answer(line)
+    yield "pending\nScripts, seed", drawn_scripts(other)
+
+
+def programs(work):
+    """A machine that goes on at the line before."""
+    run = module_at("run_of_programs", HERE / "programs" / "run.py")
+    for fault, why in [("", ""), ("forgets a line", "in place of")]:
+        folder = work / f"work {fault}"
+        folder.mkdir()
+        with mock.patch.object(run.random, "randrange", lambda first, behind: behind - 1):
+            yield why, told(run.heap_snapshot, program(work, "machine", fault), folder)
+
+
+# What is tried on a tool: one after the other, words that have to be told of a fault, or none, and what is told.
+TOOLS = {
+    "check_text.py": check_text, "edits.py": edits_of_bodies, "wrong_bodies.py": bodies, "threads": threads,
+    "tests.py": of_tests, "plain_pager.py": pager, "plain_rows.py": pager_rows, "plain_values.py": values,
+    "plain_script.py": script, "original_rows.py": original, "speed_sums.py": speed, "compare_speed.py": compare,
+    "failures/driver.py": driver, "failures/shared.py": of_shared, "failures/hostile.py": hostile_input,
+    "failures/middle.py": rows_in_the_middle, "failures/naming.py": names, "failures/table.py": refusals,
+    "failures/pagectl.py": scripts, "fuzz.py": fuzzed, "programs": programs,
+}
+
+
+def is_as_it_should_be(name):
+    """Tries a tool, and prints what came of it; whether all was as it should be."""
+    found, wrong = 0, []
+    with tempfile.TemporaryDirectory() as work:
+        for words, said in TOOLS[name](pathlib.Path(work)):
+            words = (words,) if isinstance(words, str) else words
+            is_right = all(word in said for word in words) if any(words) else not said
+            found += is_right and any(words)
+            wrong += [] if is_right else [f"{words} in `{said[-500:]}`"]
+    print(f"{name}: " + ("; ".join(wrong) or f"{found} found"), flush=True)
+    return found and not wrong
+
+
+def main(names):
+    are_right = [is_as_it_should_be(name) for name in names or TOOLS]
+    sys.exit(0 if all(are_right) else "planted: a tool isn't as it should be")
+
+
+if __name__ == "__main__":
+    main(sys.argv[1:])
