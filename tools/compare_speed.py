@@ -4,11 +4,10 @@ docs/PROOFS.md.
 
     tools/compare_speed.py ORIGINAL WORK [--rounds N] [--rows ROW,..] [--print]
 
-ORIGINAL is a cargo workspace that has the Rust crate `pagable` 0.4.2 as a member, with a module `oracle_access` whose
-`set_mode` puts SHA-256 in BLAKE3's place. It is copied into the folder WORK, with tools/original_speed.rs as one of its
-examples, and built by cargo twice, each time with LTO, one codegen unit and the processor level of the programs here
-(x86-64-v2): with the processor's SHA instructions, if it has them, and without (`sha2`'s feature `force-soft`). Nothing
-of it comes into the repository. tools/speed/build.py builds the rows here, unproved.
+ORIGINAL is the original crate (tools/original_crate.py says in which form). It is copied into the folder WORK, with
+tools/original_speed.rs as one of its examples, and built by cargo twice, each time with LTO, one codegen unit and the
+processor level of the programs here (x86-64-v2): with the processor's SHA instructions, if it has them, and without
+(`sha2`'s feature `force-soft`). tools/speed/build.py builds the rows here, unproved.
 
 The values of the first five rows come from tools/speed_sums.py; both sides fail if they write another form than they
 read. Each row runs 9 times, or as often as `--rounds` says, by all three programs in turn, each time in a process of
@@ -21,14 +20,14 @@ import datetime
 import os
 import pathlib
 import re
-import shutil
 import subprocess
 import sys
 import textwrap
 
 sys.dont_write_bytecode = True
 TOP = pathlib.Path(__file__).resolve().parent.parent
-sys.path.insert(0, str(TOP / "tools" / "speed"))
+sys.path[:0] = [str(TOP / "tools"), str(TOP / "tools" / "speed")]
+import original_crate  # noqa: E402
 from build import built as built_here, need  # noqa: E402
 
 PAGE = TOP / "docs" / "PROOFS.md"
@@ -69,21 +68,11 @@ def ran(*words):
 def built_original(original, work, is_soft):
     """The example in a copy of the original, by cargo."""
     copy = work / ("soft" if is_soft else "hard")
-    shutil.rmtree(copy / "source", ignore_errors=True)
-    shutil.copytree(original, copy / "source", ignore=shutil.ignore_patterns("target"))
-    for manifest in sorted((copy / "source").rglob("Cargo.toml")):
-        text = manifest.read_text()
-        if re.search(r'^name\s*=\s*"pagable"', text, re.MULTILINE):
-            break
-    else:
-        sys.exit("no package `pagable` is there")
+    manifest = original_crate.copied(original, copy / "source")
     if is_soft:
-        manifest.write_text(text.replace("[dependencies]\n", '[dependencies]\nsha2 = { version = "0.10", features = ["force-soft"] }\n', 1))
-    (manifest.parent / "examples").mkdir(exist_ok=True)
-    shutil.copy(TOP / "tools" / "original_speed.rs", manifest.parent / "examples" / "speed.rs")
-    build = ["cargo", "build", "--release", "-p", "pagable", "--example", "speed", "--target-dir", copy / "target"]
-    subprocess.run(build, check=True, cwd=manifest.parent, env={**os.environ, **TUNED})
-    return copy / "target" / "release" / "examples" / "speed"
+        soft = '[dependencies]\nsha2 = { version = "0.10", features = ["force-soft"] }\n'
+        manifest.write_text(manifest.read_text().replace("[dependencies]\n", soft, 1))
+    return original_crate.built(manifest, "speed", copy / "target", TUNED)
 
 
 def once(call):

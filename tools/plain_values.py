@@ -4,7 +4,7 @@ and not from the crates, for fuzz.py to compare with them. Types are named as in
 
 import re
 
-from original_rows import split
+from plain_forms import split
 from plain_pager import DEEPEST, TOO_DEEP, Bytes, Refused, need, varint
 
 BAD_CHAR = 5

@@ -9,7 +9,7 @@ import pathlib
 import sys
 
 sys.dont_write_bytecode = True
-from original_rows import form
+from plain_forms import form
 
 WORD = (1 << 64) - 1
 
