@@ -5,13 +5,15 @@
 
 `rt ci` proves each crate and its tests, tries the must-fail edits, and runs each program. (What it passed on this
 machine it keeps by the check sums of all that it read, and proves again only what changed; with --anew it proves all.)
-Beside it run the tools of TOOLS, which test what no proof says. The tool on files of blobs takes the `blobctl` that
-`rt ci` built, and ten wrong bodies, drawn by the commit's own hash, are tried once `rt ci` has ended.
+Beside it run the tools of TOOLS, which test what no proof says, each once the memory that it takes is free. The tool on
+files of blobs takes the `blobctl` that `rt ci` built, and ten wrong bodies, drawn by the commit's own hash, are tried
+once `rt ci` has ended.
 
 Lines of `rt ci` begin with the minutes and seconds since the start. Behind them stands what each tool said, and a table
 of times by crate and tool (tools/gate_times.py writes docs/PROOFS.md's from it). The last line is 'N passed, M failed':
 what `rt ci` counts, and each tool as one. The status is 0 if nothing failed.
 """
+import itertools
 import os
 import re
 import shutil
@@ -28,8 +30,8 @@ import gate_times  # noqa: E402
 
 TOP = Path(__file__).resolve().parent.parent
 NEEDED = {"rt": "the Rattle toolchain", "git": "git", "cc": "gcc or clang", "sqlite3": "sqlite3"}
-# What the largest of the tools takes beside the proofs, in MB.
-TOOLS_MB = 3000
+# The share of free memory that checks and tools may plan with, and what else a tool leaves free, in MB.
+SHARE, SPARE = 0.9, 1500
 BLOBCTL = "crates/blobctl/out/blobctl"
 # The tools, the dearest first: a name, the words that run it, and the crate of `rt ci` whose end it waits for.
 TOOLS = (
@@ -57,9 +59,10 @@ class Ended:
             self.names.add(name)
             self.changed.notify_all()
 
-    def wait_for(self, name):
+    def wait_for(self, name, seconds=None):
+        """Waits until a crate has ended, or for so long: whether it has."""
         with self.changed:
-            self.changed.wait_for(lambda: name in self.names or "all" in self.names)
+            return self.changed.wait_for(lambda: name in self.names or "all" in self.names, seconds)
 
 
 def missing():
@@ -67,20 +70,38 @@ def missing():
     return [f"gate: there is no {name}: install {what}" for name, what in NEEDED.items() if not shutil.which(name)]
 
 
-def lanes():
-    """How many checks may run side by side: as many as there are processors, but no more than have room even if the dearest run together."""
+def libraries():
+    """Each crate's libraries in this repository, at any distance."""
+    lines = (TOP / "crates.txt").read_text(encoding="utf-8").splitlines()
+    right_below = {line.split()[0].rstrip(":"): line.partition(":")[2].split() for line in lines if ":" in line and line[0] != "#"}
+    below = {}
+    for _ in right_below:
+        below = {crate: {it for lib in libs if lib in right_below for it in {lib, *below.get(lib, ())}} for crate, libs in right_below.items()}
+    return below
+
+
+def most_at_once(peaks, below, count):
+    """The most memory that so many checks can take at once: none of them is of a library of another."""
+    together = itertools.combinations(sorted(peaks, key=peaks.get, reverse=True)[:16], count)
+    apart = (crates for crates in together if not any(one in below[other] for one in crates for other in crates))
+    return max((sum(map(peaks.get, crates)) for crates in apart), default=0)
+
+
+def lanes(free):
+    """How many checks may run side by side with so much memory: as many as there are processors, but no more than have
+    room whichever crates meet."""
     if os.environ.get("RT_JOBS", "").isdigit():
         return int(os.environ["RT_JOBS"])
-    room = gate_times.available_mb() * 0.95 - TOOLS_MB
-    dearest = sorted(gate_times.peaks_in_docs(TOP).values(), reverse=True)
-    fitting = [count for count in range(1, len(os.sched_getaffinity(0)) + 1) if sum(dearest[:count]) <= room]
-    return max(fitting, default=1)
+    below = libraries()
+    peaks = {name: peak for name, peak in gate_times.peaks_in_docs(TOP).items() if name in below}
+    counts = range(2, len(os.sched_getaffinity(0)) + 1)
+    return max((it for it in counts if most_at_once(peaks, below, it) <= SHARE * free), default=1)
 
 
 def prove(words, usage, ended):
     """Runs `rt ci` and prints what it says, with the time before its own lines: how many passed and failed."""
     begun, last = time.time(), ""
-    env = {**os.environ, "RT_JOBS": str(lanes())}
+    env = {**os.environ, "RT_JOBS": str(lanes(gate_times.available_mb()))}
     print(f"gate: {env['RT_JOBS']} checks side by side", flush=True)
     with subprocess.Popen(["rt", "ci", *words], cwd=TOP, env=env, stdin=subprocess.DEVNULL, stdout=subprocess.PIPE,
                           stderr=subprocess.STDOUT, text=True, errors="replace") as running:
@@ -102,6 +123,9 @@ def run_tool(tool, usage, ended):
     name, words, waits = tool
     if waits:
         ended.wait_for(waits)
+    needs = gate_times.peaks_in_docs(TOP).get(name, 0) + SPARE
+    while gate_times.available_mb() < needs and not ended.wait_for("all", 5):
+        pass
     begun = time.time()
     with tempfile.TemporaryFile("w+", errors="replace") as said:
         with subprocess.Popen(["nice", *words], cwd=TOP, stdin=subprocess.DEVNULL, stdout=said, stderr=subprocess.STDOUT) as running:

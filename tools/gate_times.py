@@ -30,10 +30,10 @@ def available_mb():
 
 
 def peaks_in_docs(top):
-    """The peak of memory of each crate's check, in MB, by the table of docs/PROOFS.md."""
+    """The peak of memory of each crate's check and of each tool, in MB, by the table of docs/PROOFS.md."""
     text = (top / "docs" / "PROOFS.md").read_text(encoding="utf-8")
     rows = DOCS_ROW.findall(text.split(MARKS[0])[1].split(MARKS[1])[0])
-    return {name: int(peak.replace(",", "")) for name, _, peak in rows if (top / "crates" / name).is_dir()}
+    return {name: int(peak.replace(",", "")) for name, _, peak in rows}
 
 
 def process(pid):

@@ -247,14 +247,22 @@ def script(_):
 
 
 def original(work):
-    """Bytes that the original would not have written."""
-    numbers = original_rows.UNSIGNED + original_rows.SIGNED
-    zeros = [{"op": "enc", "type": name, "value": "0", "bytes_hex": "00"} for name in numbers]
-    line = {"op": "enc", "type": "u16", "value": "300"}
-    for data, wanted in [("ac02", "u16 read 00 ac02 -> ok 1 = 0; ok 2 = 300\n"), ("ac03", "the original has")]:
-        lines = [json.dumps(it) + "\n" for it in [*zeros, {**line, "bytes_hex": data}]]
-        (work / "original.jsonl").write_text("".join(lines), encoding="utf-8")
-        yield wanted, ran(HERE / "original_rows.py", work / "original.jsonl")
+    """A row that the original answers otherwise, a file without rows, and an answer too many."""
+    file, program = work / "original.txt", work / "answers"
+    program.write_text("#!/bin/sh\ncat > /dev/null\necho 'ok 2 = 300'\necho 'refused 1'\n")
+    program.chmod(0o755)
+    for text, wanted in [
+        ("# Rows.\nu16 read ac02 80 -> ok 2 = 300; refused 1\n", ("1 rows as the original answers, 0 otherwise",)),
+        ("u16 read ac02 80 -> ok 2 = 301; refused 1\n", ("the original: ok 2 = 300; refused 1", "0 rows as")),
+        ("u16 read ac02 -> ok 2 = 300\n", ("more answers than there are inputs",)),
+    ]:
+        file.write_text(text, encoding="utf-8")
+        with (
+            mock.patch.object(original_rows, "ROWS", file),
+            mock.patch.object(original_rows.original_crate, "copied", lambda *_: work),
+            mock.patch.object(original_rows.original_crate, "built", lambda *_: program),
+        ):
+            yield wanted, told(original_rows.main, [str(work), str(work)])
 
 
 # Check sums of the bytes of a text by FNV-1a, and draws of splitmix64 from a seed, as its authors published them.
