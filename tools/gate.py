@@ -72,11 +72,11 @@ def missing():
 
 def libraries():
     """Each crate's libraries in this repository, at any distance."""
-    lines = (TOP / "crates.txt").read_text(encoding="utf-8").splitlines()
-    right_below = {line.split()[0].rstrip(":"): line.partition(":")[2].split() for line in lines if ":" in line and line[0] != "#"}
-    below = {}
-    for _ in right_below:
-        below = {crate: {it for lib in libs if lib in right_below for it in {lib, *below.get(lib, ())}} for crate, libs in right_below.items()}
+    text = (TOP / "crates.txt").read_text(encoding="utf-8")
+    lines = re.findall(r"(?m)^(\w+)\b[^:#\n]*:(.*)$", text)
+    below = {crate: {it for it in names.split() if re.search(rf"(?m)^{it}\b", text)} for crate, names in lines}
+    for _ in lines:
+        below = {crate: libs.union(*map(below.get, libs)) for crate, libs in below.items()}
     return below
 
 
@@ -128,10 +128,12 @@ def run_tool(tool, usage, ended):
         pass
     begun = time.time()
     with tempfile.TemporaryFile("w+", errors="replace") as said:
-        with subprocess.Popen(["nice", *words], cwd=TOP, stdin=subprocess.DEVNULL, stdout=said, stderr=subprocess.STDOUT) as running:
+        streams = {"stdin": subprocess.DEVNULL, "stdout": said, "stderr": subprocess.STDOUT}
+        with subprocess.Popen(["nice", *words], cwd=TOP, **streams) as running:
             status = usage.end(name, running, begun)
         said.seek(0)
-        return status == 0, f"== {name}\n{said.read()}gate: {name} {'passed' if status == 0 else f'FAILED with status {status}'}"
+        verdict = "passed" if status == 0 else f"FAILED with status {status}"
+        return status == 0, f"== {name}\n{said.read()}gate: {name} {verdict}"
 
 
 def main():

@@ -60,7 +60,7 @@ def descendants(root):
 
 
 class Usage:
-    """What the parts of a gate took: of each, its processor seconds and the most memory of one of its processes, in MB."""
+    """What the parts of a gate took: of each, its processor seconds and the most memory of one process, in MB."""
 
     def __init__(self):
         self.begun, self.parts, self.crates, self.known = time.time(), {}, {}, {}
@@ -98,13 +98,16 @@ class Usage:
 
     def table(self):
         """A line for each crate that was checked and for each part, the dearest first, and one of all."""
-        crates = {name: (sum(it for it, _ in taken.values()), max(it for _, it in taken.values())) for name, taken in self.crates.items()}
-        rest = self.parts["rt ci"][0] - sum(seconds for seconds, _ in crates.values())
-        rows = {**crates, "compilers and runs": (max(rest, 0), 0), **{name: it[:2] for name, it in self.parts.items() if name != "rt ci"}}
-        lines = [f"times: {name:<24} {seconds / 60:6.1f} min {memory:6} MB" for name, (seconds, memory) in sorted(rows.items(), key=lambda it: -it[1][0])]
-        lines += [f"times: {name} ended after {clock / 60:.1f} minutes" for name, (_, _, clock) in self.parts.items()]
-        total = sum(seconds for seconds, _, _ in self.parts.values())
-        return "\n".join([*lines, f"times: in all {total / 60:.1f} processor minutes, {(time.time() - self.begun) / 60:.1f} by the clock"])
+        rows = {name: (sum(it for it, _ in taken.values()), max(it for _, it in taken.values()))
+                for name, taken in self.crates.items()}
+        rest = self.parts["rt ci"][0] - sum(seconds for seconds, _ in rows.values())
+        rows["compilers and runs"] = (max(rest, 0), 0)
+        rows.update({name: taken[:2] for name, taken in self.parts.items() if name != "rt ci"})
+        dearest = sorted(rows.items(), key=lambda it: -it[1][0])
+        lines = [f"times: {name:<24} {seconds / 60:6.1f} min {memory:6} MB" for name, (seconds, memory) in dearest]
+        lines += [f"times: {name} took {clock / 60:.1f} minutes by the clock" for name, (_, _, clock) in self.parts.items()]
+        total, clock = sum(seconds for seconds, _, _ in self.parts.values()), time.time() - self.begun
+        return "\n".join([*lines, f"times: in all {total / 60:.1f} processor minutes, {clock / 60:.1f} by the clock"])
 
 
 def docs_table(log, top):

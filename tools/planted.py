@@ -29,6 +29,8 @@ sys.path[:0] = [str(HERE / folder) for folder in ("threads", "programs", "failur
 import edits  # noqa: E402
 import fakes  # noqa: E402
 import fuzz  # noqa: E402
+import gate  # noqa: E402
+import gate_times  # noqa: E402
 import hostile  # noqa: E402
 import middle  # noqa: E402
 import naming  # noqa: E402
@@ -473,6 +475,42 @@ def programs(work):
             yield why, told(run.heap_snapshot, program(work, "machine", fault), folder)
 
 
+def proved(work, text, status):
+    """What the gate counts if `rt` says this and ends with this status."""
+    rt = work / "rt"
+    rt.write_text(f"#!/bin/sh\ncat <<END\n{text}END\nexit {status}\n")
+    rt.chmod(0o755)
+    counts = []
+    with mock.patch.dict(gate.os.environ, {"PATH": f"{work}:{gate.os.environ['PATH']}", "RT_JOBS": "1"}):
+        said = told(lambda: counts.extend(gate.prove([], gate_times.Usage(), gate.Ended())))
+    return f"{said}{counts}"
+
+
+def of_gate(work):
+    """Proofs that fail, don't count or are cut off; a tool that fails; a program that isn't there; checks that have no
+    room."""
+    yield "[3, 0]", proved(work, "3 passed, 0 failed\n", 0)
+    fails, is_cut_off = ("2 passed, 1 failed\n", 1, "[2, 1]"), ("Killed\n", 0, "[0, 1]")
+    for text, status, counts in [("3 passed, 0 failed\n", 1, "[3, 1]"), fails, is_cut_off]:
+        yield counts, proved(work, text, status)
+    for words, holds in [(["true"], "True"), (["false"], "False")]:
+        yield holds, str(gate.run_tool(("a tool", words, None), gate_times.Usage(), gate.Ended())[0])
+    with mock.patch.object(gate.shutil, "which", lambda name: None if name == "cc" else name):
+        yield "there is no cc: install gcc or clang", "".join(gate.missing())
+    below = {"low": set(), "high": {"low"}, "other": set()}
+    most = [gate.most_at_once({"low": 5, "high": 4, "other": 2}, below, count) for count in (1, 2, 3)]
+    yield "", "" if most == [5, 7, 0] else f"at most {most}"
+
+
+def of_times(work):
+    """A log of a gate that took earlier results, and one that was cut off."""
+    row = "times: pagable_core                1.5 min    900 MB\n"
+    end = "times: in all 1.5 processor minutes, 1.0 by the clock\n"
+    yield "| `pagable_core` | 1.5 | 900 |", gate_times.docs_table(f"{gate_times.ALL_DONE}\n{row}{end}", TOP)
+    for log in (f"{row}{end}", f"{gate_times.ALL_DONE}\n{row}"):
+        yield "of no gate that proved everything", told(gate_times.docs_table, log, TOP)
+
+
 # What is tried on a tool: one after the other, words that have to be told of a fault, or none, and what is told.
 TOOLS = {
     "check_text.py": check_text, "edits.py": edits_of_bodies, "wrong_bodies.py": bodies, "threads": threads,
@@ -480,7 +518,8 @@ TOOLS = {
     "plain_script.py": script, "original_rows.py": original, "speed_sums.py": speed, "compare_speed.py": compare,
     "failures/driver.py": driver, "failures/shared.py": of_shared, "failures/hostile.py": hostile_input,
     "failures/middle.py": rows_in_the_middle, "failures/naming.py": names, "failures/table.py": refusals,
-    "failures/pagectl.py": scripts, "fuzz.py": fuzzed, "programs": programs,
+    "failures/pagectl.py": scripts, "fuzz.py": fuzzed, "programs": programs, "gate.py": of_gate,
+    "gate_times.py": of_times,
 }
 
 
