@@ -105,7 +105,8 @@ class Usage:
         rows.update({name: taken[:2] for name, taken in self.parts.items() if name != "rt ci"})
         dearest = sorted(rows.items(), key=lambda it: -it[1][0])
         lines = [f"times: {name:<24} {seconds / 60:6.1f} min {memory:6} MB" for name, (seconds, memory) in dearest]
-        lines += [f"times: {name} took {clock / 60:.1f} minutes by the clock" for name, (_, _, clock) in self.parts.items()]
+        clocks = ((name, clock / 60) for name, (_, _, clock) in self.parts.items())
+        lines += [f"times: {name} took {clock:.1f} minutes by the clock" for name, clock in clocks]
         total, clock = sum(seconds for seconds, _, _ in self.parts.values()), time.time() - self.begun
         return "\n".join([*lines, f"times: in all {total / 60:.1f} processor minutes, {clock / 60:.1f} by the clock"])
 

@@ -5,8 +5,8 @@
 
 It runs `rt ci`, and over its libraries tries every wrong body, crate by crate; the wrong bodies that only tests of
 threads can find; drawn machines, bytes and scripts against plain models; and files of blobs with drawn kills and a race
-with `gc` of a minute. The seed decides what is drawn. A line tells of each part how it ended and after how long, and its
-output is kept in nightly/ at the top of the checkout, which git passes over. The status is 0 if all stood.
+with `gc` of a minute. The seed decides what is drawn. A line tells of each part how it ended and after how long, and
+its output is kept in nightly/ at the top of the checkout, which git passes over. The status is 0 if all stood.
 """
 import subprocess
 import sys
@@ -31,9 +31,11 @@ def run(name, words, log):
     """Runs a part: whether it stood."""
     begun = time.time()
     with open(log, "w", encoding="utf-8") as said:
-        status = subprocess.run(words, cwd=TOP, stdin=subprocess.DEVNULL, stdout=said, stderr=subprocess.STDOUT).returncode
+        streams = {"stdin": subprocess.DEVNULL, "stdout": said, "stderr": subprocess.STDOUT}
+        status = subprocess.run(words, cwd=TOP, **streams).returncode
     last = log.read_text(encoding="utf-8", errors="replace").strip().split("\n")[-1]
-    print(f"{'stood' if status == 0 else 'FAILED'} after {(time.time() - begun) / 60:.0f} minutes: {name}: {last}", flush=True)
+    verdict, minutes = "stood" if status == 0 else "FAILED", (time.time() - begun) / 60
+    print(f"{verdict} after {minutes:.0f} minutes: {name}: {last}", flush=True)
     return status == 0
 
 
