@@ -1,7 +1,7 @@
 #!/usr/bin/env python3
-"""Turns what the original crate writes and reads into rows for `vectors`, each with the result that it has to get.
+"""Turns what the original crate writes and reads into rows for `rows`, each with the result that it has to get.
 
-    tools/original_rows.py original.jsonl > crates/vectors/data/original.txt
+    tools/original_rows.py original.jsonl > tools/crates/rows/data/original.txt
 
 Each line of the input is a JSON object: a value that the original wrote ("op": "enc"), an input that it read ("op":
 "dec"), or a tree of blobs that it stored ("op": "blob"). docs/PROOFS.md says what the lines of the output mean. To add
@@ -16,7 +16,7 @@ import sys
 sys.dont_write_bytecode = True
 from plain_pager import varint
 
-# The types whose lines are replayed, all of which `vectors` knows.
+# The types whose lines are replayed, all of which `rows` knows.
 CARRIED = [
     "()", "bool", "char", "u8", "u16", "u32", "u64", "u128", "usize", "i8", "i16", "i32", "i64", "i128", "String", "Box<str>", "PathBuf",
     "PhantomData", "Duration", "AtomicI64", "OnceLock<u16>", "Regex", "Json", "Box<u16>", "Option<u8>", "Option<Option<i32>>",
@@ -26,7 +26,7 @@ CARRIED = [
     "IndexMap<String,BTreeSet<Option<i8>>>",
 ]
 
-# The types whose value `vectors` shows.
+# The types whose value `rows` shows.
 SHOWN = ("u16", "u128", "i128")
 
 UNSIGNED = ("u8", "u16", "u32", "u64", "u128", "usize")
