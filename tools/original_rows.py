@@ -20,7 +20,7 @@ TOP = pathlib.Path(__file__).resolve().parent.parent
 sys.path.insert(0, str(TOP / "tools"))
 import original_crate  # noqa: E402
 
-ROWS = TOP / "crates/vectors/data/original.txt"
+ROWS = TOP / "tools/crates/rows/data/original.txt"
 # The types whose values the rows show. The program shows every value.
 SHOWN = ("u16", "u128", "i128")
 

@@ -1,5 +1,5 @@
 #!/usr/bin/env python3
-"""Rows of events, as the program `vectors` reads them: answers them by a plain pager, or draws them from a seed.
+"""Rows of events, as the program `rows` reads them: answers them by a plain pager, or draws them from a seed.
 
     plain_rows.py answers FILE      prints the file, each row that has an answer with that of the plain pager
     plain_rows.py draw SEED COUNT   prints a new machine, COUNT drawn lists of events and a look

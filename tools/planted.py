@@ -23,7 +23,7 @@ from unittest import mock
 
 HERE = pathlib.Path(__file__).resolve().parent
 TOP = HERE.parent
-DATA = TOP / "crates" / "vectors" / "data"
+DATA = TOP / "tools" / "crates" / "rows" / "data"
 sys.dont_write_bytecode = True
 sys.path[:0] = [str(HERE / folder) for folder in ("threads", "programs", "failures", "speed", ".")]
 import edits  # noqa: E402
