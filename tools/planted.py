@@ -100,8 +100,8 @@ MEMORY = "\npub fn refuse() -> Result<(), Error> {\n    Err(Error::OutOfMemory)\
 def check_text(work):
     """A want of memory that is invented, two calls under the lock, and README with other code than the file's."""
     leave = shutil.ignore_patterns("out", "proofs", "specs", "must-fail", "data")
-    shutil.copytree(TOP / "crates", work / "crates", ignore=leave)
-    (work / "tools").mkdir()
+    for folder in ("crates", "tools/crates"):
+        shutil.copytree(TOP / folder, work / folder, ignore=leave)
     for file in (HERE / "check_text.py", TOP / "README.md"):
         shutil.copy(file, work / file.relative_to(TOP))
     yield "", ran(work / "tools" / "check_text.py")
