@@ -168,7 +168,8 @@ def source_in(work, repository, folder, uses):
 def said_by_tests(source):
     """What a run of the tests of the crate with these files says, by `rt try`."""
     rt = links_in(source.parents[3], kit()) / "bin" / "rt"
-    run = subprocess.run([rt, "try", "--test"], cwd=source.parent, text=True, capture_output=True)
+    # (each test ends within a minute, but for a machine that has much else to do)
+    run = subprocess.run([rt, "try", "--test", "--seconds", "300"], cwd=source.parent, text=True, capture_output=True)
     return run.stdout + run.stderr
 
 
