@@ -98,6 +98,7 @@ fn answer_map(alloc: Global, name: &str, input: &[u8]) -> Option<Outcome> {
     match name {
         "HashMap<String,i32>" => reencode_hash_map(alloc, input),
         "BTreeMap<u8,u8>" => reencode::<BTreeMap<u8, u8>>(alloc, input),
+        "BTreeMap<String,u32>" => reencode::<BTreeMap<String, u32>>(alloc, input),
         "BTreeMap<u64,BTreeMap<u64,u64>>" => {
             reencode::<BTreeMap<u64, BTreeMap<u64, u64>>>(alloc, input)
         }
