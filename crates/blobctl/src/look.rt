@@ -41,12 +41,13 @@ pub fn list<B: Blobs>(alloc: Global, blobs: &mut B) -> Result<String, Error> {
     Ok(text)
 }
 
-/// Shows the names that stand for keys, each on a line with its key.
+/// Shows the names that stand for keys, each on a line with its key. What isn't printable in a name is
+/// escaped.
 pub fn roots<B: Blobs>(alloc: Global, blobs: &mut B) -> Result<String, Error> {
     let mut text = String::new(alloc);
     for name in &blobs.root_names(alloc)? {
         if let Some(key) = blobs.root(name.as_str())? {
-            writeln!(text, "{name} {:032x}", digits(key))?;
+            writeln!(text, "{} {:032x}", name.escape_debug(), digits(key))?;
         }
     }
     Ok(text)

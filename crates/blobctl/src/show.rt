@@ -30,7 +30,7 @@ pub fn write_point(text: &mut String, reached: &ReachedBlob) -> Result<(), Alloc
     Ok(())
 }
 
-/// Appends a line that describes a flaw.
+/// Appends a line that describes a flaw. What isn't printable in a name is escaped.
 pub fn write_flaw(text: &mut String, flaw: &Flaw) -> Result<(), AllocError> {
     match flaw {
         Flaw::StrayBlob(place) => writeln!(text, "the row of blobs at {place} is no key's"),
@@ -41,7 +41,7 @@ pub fn write_flaw(text: &mut String, flaw: &Flaw) -> Result<(), AllocError> {
         }
         Flaw::StrayRoot(place) => writeln!(text, "the row of roots at {place} is no name's"),
         Flaw::MissingRoot(name, key) => {
-            let key = digits(*key);
+            let (name, key) = (name.escape_debug(), digits(*key));
             writeln!(text, "root {name} is {key:032x}, which is missing")
         }
     }
