@@ -31,7 +31,7 @@ use sqlite::{Connection, File, FileStore, MemStore};
 use sqlite_trees::store::{Alter, Store};
 use sqlite_value::row::Row;
 use std::alloc::Global;
-use std::collections::HashMap;
+use std::collections::BTreeMap;
 use std::marker::PhantomData;
 use std::sync::Arc;
 
@@ -98,8 +98,8 @@ impl<E: Env, S: Alter + Drop> FileBlobs<E, S> {
         prepare_tables(alloc, &mut store)?;
         Ok(FileBlobs {
             store,
-            waiting: HashMap::new(alloc),
-            waiting_roots: HashMap::new(alloc),
+            waiting: BTreeMap::new(alloc),
+            waiting_roots: BTreeMap::new(alloc),
             row: Row::new(alloc),
             bytes: Vec::new(alloc),
             closed: false,
