@@ -16,6 +16,7 @@ ghost use Rattle.std.specs.{
 
 use crate::fault::Fault;
 use crate::lookup::read;
+use crate::name_lock::NameLock;
 use crate::naming::has_blob;
 use crate::open_error::OpenError;
 use crate::pending::{PendingBlob, WaitingBlobs, WaitingRoots, add_waiting, is_same, waiting_at};
@@ -59,7 +60,21 @@ impl<E: Env> FileBlobs<E, FileStore<File>> {
     ///
     /// - the causes in [`OpenError`]: a file that isn't opened stays as it is.
     pub fn open(rt: &HostRuntime, path: &str) -> Result<FileBlobs<E, FileStore<File>>, OpenError> {
-        let conn = Connection::open_with_sums(rt, path)?;
+        let name = NameLock::take(rt, path)?;
+        FileBlobs::open_under(rt, &name)
+    }
+
+    /// Opens the file whose name is locked, as `open` does, and no other program does so before the
+    /// lock is dropped.
+    ///
+    /// # Errors
+    ///
+    /// - as `open`.
+    pub fn open_under(
+        rt: &HostRuntime,
+        name: &NameLock,
+    ) -> Result<FileBlobs<E, FileStore<File>>, OpenError> {
+        let conn = Connection::open_with_sums(rt, name.path())?;
         FileBlobs::over(rt.alloc(), conn)
     }
 }
