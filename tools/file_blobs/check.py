@@ -1,19 +1,18 @@
 #!/usr/bin/env python3
-"""Tries what users may do to files of blobs: kills, a full disk, a second writer, damage, SQLite's own shell, and texts
-that one run saves and the next one opens.
+"""Tries what users may do to files of blobs: kills, full disks, a second writer, gc beside others, damage, copies of
+the file alone, SQLite's own shell, and texts that one run saves and the next one opens.
 
-    tools/file_blobs/check.py [PROGRAM [KILLS [STEP]]]
+    tools/file_blobs/check.py [PROGRAM [KILLS [STEP [SECONDS [SEED]]]]]
 
 PROGRAM is the built `blobctl`; without one it is built here, unproved, as tools/speed/build.py says. It is killed at
-KILLS drawn moments (20), and nothing that a flush had answered may be lost. Each STEP-th byte (50) of a file is changed
-in turn: then the file isn't opened, `fsck` names the damage, or nothing that was kept has changed. The status is 0 if
-all holds.
+KILLS drawn moments (20) while it writes, and at as many while it collects garbage: each of them has to meet a running
+program, and nothing that a flush had answered may be lost. For SECONDS (5) two writers work beside a loop of gc. Each
+STEP-th byte (80) of a file is changed in turn, with the sums of its pages and against them: then the file isn't opened,
+`fsck` names the damage, or nothing that was kept has changed. What is drawn depends on SEED (5). The status is 0 if all
+holds.
 """
-import hashlib
 import pathlib
-import random
 import resource
-import shutil
 import signal
 import subprocess
 import sys
@@ -21,85 +20,53 @@ import tempfile
 import time
 
 sys.dont_write_bytecode = True
-sys.path.insert(0, str(pathlib.Path(__file__).resolve().parent.parent / "speed"))
+HERE = pathlib.Path(__file__).resolve().parent
+sys.path += [str(HERE), str(HERE.parent / "speed")]
+import collecting  # noqa: E402
+import damages  # noqa: E402
+from asking import (  # noqa: E402
+    DRAWN, alone, chain, flushes, key_of, kill, log_of, lost, removed, run, seen, wait_until,
+)
 from build import built_crate  # noqa: E402
 
-DRAWN = random.Random(5)
+# How many blobs are stored, and after how many of them comes a flush.
+PLANS = [(150, 1), (700, 7), (1_200, 100)]
 
 
-def run(program, file, *words, text="", **more):
-    """What the program answers to a command, or to lines of input."""
-    return subprocess.run([program, file, *map(str, words)], input=text, capture_output=True, encoding="utf-8",
-                          check=False, timeout=100, **more)
-
-
-def key_of(data, children):
-    """The key of a blob, as the program shows it."""
-    preimage = len(children).to_bytes(8, "little") + data + b"".join(map(bytes.fromhex, children))
-    return hashlib.sha256(preimage).digest()[:16].hex()
-
-
-def chain(count, size, batch):
-    """Lines that store so many blobs in a chain, each over the one before, and the key of the last blob at each flush."""
-    lines, roots, below = [], [], []
-    for number in range(count):
-        data = DRAWN.randbytes(size)
-        lines.append(" ".join(["put", data.hex(), *below]))
-        below = [key_of(data, below)]
-        if number % batch == batch - 1:
-            lines += [f"root last {below[0]}", "flush"]
-            roots.append(below[0])
-    return "\n".join(lines) + "\n", roots
-
-
-def flushes(said):
-    """How many flushes were answered; a last line that was cut off doesn't count."""
-    return said.split("\n")[:-1].count("flushed")
-
-
-def lost(program, file, roots, answered, batch):
-    """What a file lacks of what flushes had answered, or None. (A kill may come before there is a file.)"""
-    if not file.exists() and not answered:
-        return None
-    test = run(program, file, "fsck")
-    if test.returncode:
-        return f"fsck: {test.stdout[-200:]}{test.stderr[-200:]}"
-    if not answered:
-        return None
-    root = run(program, file, "roots").stdout.split()
-    if len(root) != 2 or root[1] not in roots[answered - 1:]:
-        return f"the root is {root} after {answered} flushes"
-    count = len(run(program, file, "tree", root[1]).stdout.splitlines())
-    if count < answered * batch:
-        return f"the root reaches {count} blobs of {answered * batch}"
-    return None
+def killed_after(program, file, lines, count, delay):
+    """Kills the program that fills a file, a moment after it had answered so many flushes: how many it had answered by
+    then, or None if it had ended before."""
+    said = lines.with_name("said")
+    with open(lines, encoding="utf-8") as read, open(said, "w", encoding="utf-8") as write:
+        with subprocess.Popen([program, file], stdin=read, stdout=write) as filling:
+            wait_until(lambda: flushes(said.read_text(encoding="utf-8")) >= count, filling)
+            time.sleep(delay)
+            met = kill(filling)
+    return flushes(said.read_text(encoding="utf-8")) if met else None
 
 
 def kills(program, folder, rounds):
     """Kills the program while it fills a file."""
-    most = 0
-    for turn in range(rounds):
-        for part in folder.glob("kill.blobs*"):
-            part.unlink()
-        file, batch = folder / "kill.blobs", DRAWN.choice([1, 7, 100])
-        lines, roots = chain(2_000, 300, batch)
-        (folder / "lines").write_text(lines, encoding="utf-8")
-        with open(folder / "lines", encoding="utf-8") as read, open(folder / "said", "w", encoding="utf-8") as said:
-            with subprocess.Popen([program, file], stdin=read, stdout=said) as filling:
-                time.sleep(DRAWN.uniform(0.01, 0.6))
-                filling.send_signal(signal.SIGKILL)
-        answered = flushes((folder / "said").read_text(encoding="utf-8"))
-        most = max(most, answered * batch)
-        fault = lost(program, file, roots, answered, batch)
+    file, lines, met, turns = folder / "kill.blobs", folder / "lines", [], 0
+    while len(met) < rounds and turns < 5 * rounds:
+        turns += 1
+        count, batch = DRAWN.choice(PLANS)
+        text, roots = chain(count, 300, batch)
+        lines.write_text(text, encoding="utf-8")
+        answered = killed_after(program, removed(file), lines, DRAWN.randrange(len(roots)), DRAWN.uniform(0, 0.02))
+        fault = answered is not None and lost(program, file, roots, answered, batch)
         if fault:
-            return f"kill {turn}: {fault}"
-    print(f"kills: {rounds}, none lost what a flush had answered; at most {most} blobs")
+            return f"kill {turns}: {fault}"
+        met += [] if answered is None else [0 < answered < len(roots)]
+    if len(met) < rounds or 2 * sum(met) < rounds:
+        return f"kills: of {turns} only {len(met)} met a running program, {sum(met)} of them between two flushes"
+    print(f"kills: {len(met)} of a running program, {sum(met)} between two flushes: nothing that was flushed is lost")
     return None
 
 
 def full_disk(program, folder):
     """Lets no file grow past 400 kB."""
-    file = folder / "full.blobs"
+    file = removed(folder / "full.blobs")
     lines, roots = chain(2_000, 300, 5)
 
     def limit():
@@ -108,10 +75,10 @@ def full_disk(program, folder):
 
     filled = run(program, file, text=lines, preexec_fn=limit)
     refused = [line for line in filled.stdout.splitlines() if line.startswith("error: the disk")]
-    if not refused:
-        return f"full disk: {filled.stdout[-200:]}"
+    if not refused or filled.returncode:
+        return f"full disk: {filled.returncode} {filled.stdout[-200:]}"
     answered = flushes(filled.stdout)
-    fault = lost(program, file, roots, answered, 5)
+    fault = lost(program, alone(file), roots, answered, 5)
     again = run(program, file, text=lines)
     if fault or flushes(again.stdout) != 400:
         return f"full disk: {fault} {again.stdout[-200:]}"
@@ -119,58 +86,50 @@ def full_disk(program, folder):
     return None
 
 
-def two_writers(program, folder):
-    """Opens a file that another process has open."""
-    file = folder / "two.blobs"
-    with subprocess.Popen([program, file], stdin=subprocess.PIPE, stdout=subprocess.PIPE, text=True) as first:
-        first.stdin.write("put 01\n")
-        first.stdin.flush()
-        first.stdout.readline()
-        second = run(program, file, "stat")
-        first.stdin.close()
-    if second.returncode == 0 or "in use" not in second.stderr:
-        return f"two writers: {second.stdout}{second.stderr}"
-    print("two writers: the second is refused, since the file is in use")
+def copies(program, folder):
+    """Copies a file alone after each command: the copy has to show all that the file shows."""
+    file, other = removed(folder / "source.blobs"), removed(folder / "other.blobs")
+    lines, roots = chain(300, 300, 50)
+    commands = [["put", "01"], ["root", "one", key_of(b"\x01")], ["stat"], ["list"], ["roots"], ["tree", roots[-1]],
+                ["dot", roots[-1]], ["fsck"], ["copy", other], ["drop", "last"], ["gc"], ["flush"]]
+    run(program, file, text=lines)
+    for words in [["fsck"], *commands]:
+        done = run(program, file, *words)
+        shown = seen(program, alone(file))
+        if done.returncode or " 0 flaws\n" not in shown[1] or shown != seen(program, file):
+            return f"copies: {done.stdout[-200:]}{done.stderr}; a copy behind '{words[0]}' shows {shown[1][-200:]}"
+        if words[0] == "copy" and shown != seen(program, alone(other)):
+            return "copies: what `copy` wrote isn't whole without its log"
+        file = alone(file).rename(removed(file))
+    print(f"copies: of the file alone, behind each of {len(commands)} commands, they have all")
     return None
 
 
-def seen(program, file):
-    """All that a file shows: its roots, its keys, and what each root reaches."""
-    roots = run(program, file, "roots")
-    trees = [run(program, file, "tree", root).stdout for root in roots.stdout.split()[1::2]]
-    return (roots.returncode, roots.stdout, run(program, file, "list").stdout, tuple(trees))
-
-
-def damage(program, folder, step):
-    """Turns bits of each so many bytes of a file that was closed."""
-    whole, file = folder / "whole.blobs", folder / "damaged.blobs"
-    lines, _ = chain(12, 900, 3)
-    run(program, whole, text=lines)
-    run(program, whole, "gc")
-    content, shown = whole.read_bytes(), seen(program, whole)
-    whole.write_bytes(content)
-    counts = {"refused": 0, "named": 0, "unseen": 0}
-    for place in range(0, len(content), step):
-        for part in folder.glob("damaged.blobs*"):
-            part.unlink()
-        file.write_bytes(content[:place] + bytes([content[place] ^ 0x41]) + content[place + 1:])
-        test = run(program, file, "fsck")
-        if test.returncode == 0 and seen(program, file) != shown:
-            return f"damage of byte {place}: fsck finds nothing, and the file shows something else"
-        counts["unseen" if test.returncode == 0 else "refused" if test.stderr else "named"] += 1
-    print(f"damage of {len(range(0, len(content), step))} bytes of {len(content)}: {counts}")
+def order(program, folder):
+    """Stores many small blobs in one flush, which writes them in the order of their places, and so each page once or
+    twice."""
+    file, count, size = removed(folder / "order.blobs"), 20_000, 600
+    lines = "".join(f"put {DRAWN.randbytes(size).hex()}\n" for _ in range(count))
+    with open(folder / "said", "w", encoding="utf-8") as said:
+        with subprocess.Popen([program, file], stdin=subprocess.PIPE, stdout=said, text=True) as writing:
+            writing.stdin.write(f"{lines}flush\n")
+            writing.stdin.flush()
+            wait_until(lambda: (folder / "said").read_text(encoding="utf-8").endswith("flushed\n"), writing)
+            wrote = log_of(file).stat().st_size
+            writing.stdin.close()
+    if not count * size < wrote < 2 * count * size:
+        return f"order: one flush of {count * size} bytes wrote a log of {wrote}"
+    print(f"order: one flush of {count} blobs of {size} bytes wrote a log of {wrote} bytes")
     return None
 
 
 def shell(program, folder):
     """Reads a file by SQLite's own shell."""
-    if not shutil.which("sqlite3"):
-        print("sqlite3 isn't there: its shell was not tried")
-        return None
-    file = folder / "shell.blobs"
+    file = removed(folder / "shell.blobs")
     lines, roots = chain(100, 300, 100)
     run(program, file, text=lines)
-    asked = "PRAGMA integrity_check; SELECT count(*), sum(length(bytes)) FROM blobs; SELECT name, lower(hex(key)) FROM roots;"
+    asked = "PRAGMA integrity_check; SELECT count(*), sum(length(bytes)) FROM blobs;"
+    asked += "SELECT name, lower(hex(key)) FROM roots;"
     said = subprocess.run(["sqlite3", file, asked], capture_output=True, text=True, check=False)
     if said.stdout.splitlines() != ["ok", "100|30000", f"last|{roots[-1]}"]:
         return f"sqlite3: {said.stdout}{said.stderr}"
@@ -249,23 +208,30 @@ def texts(program, folder):
         said = run(program, "texts", file, text="".join(f"{line}\n" for line, _, _ in asked))
         if said.returncode or said.stdout != "".join(f"{answer}\n" for _, _, answer in asked):
             return f"texts: {said.returncode} {said.stdout}{said.stderr}"
+        file = alone(file).rename(removed(file))
     roots, test = run(program, file, "roots").stdout, run(program, file, "fsck")
     if sorted(roots.split("\n")) != ["", f"main {keys[1]}", f"other {keys[0]}"] or test.returncode:
         return f"texts: {roots}{test.stdout}"
     if run(program, "texts", folder / "none" / "texts.blobs").returncode != 1:
         return "texts: a file in a folder that isn't there was opened"
-    print(f"texts: {len(TEXTS)} runs, each with what the one before had flushed, and no more")
+    print(f"texts: {len(TEXTS)} runs, each on a copy of the file alone, with what was flushed before, and no more")
     return None
 
 
 def main():
-    rounds = int(sys.argv[2]) if len(sys.argv) > 2 else 20
-    step = int(sys.argv[3]) if len(sys.argv) > 3 else 50
+    rounds, step, seconds, seed = [*map(int, sys.argv[2:]), *[20, 80, 5, 5][len(sys.argv[2:]) :]]
+    if not damages.shell_is_there():
+        sys.exit("install sqlite3: its shell has to read and change files of blobs")
+    DRAWN.seed(seed)
     with tempfile.TemporaryDirectory() as folder:
         folder = pathlib.Path(folder)
         program = pathlib.Path(sys.argv[1]).resolve() if len(sys.argv) > 1 else built_crate(folder / "build", "blobctl")
-        faults = [kills(program, folder, rounds), full_disk(program, folder), two_writers(program, folder),
-                  damage(program, folder, step), shell(program, folder), texts(program, folder)]
+        tests = [
+            (kills, rounds), (collecting.kills, rounds), (collecting.race, seconds), (collecting.keeps,),
+            (damages.opens,), (damages.rows,), (damages.pages, step),
+            (copies,), (order,), (full_disk,), (shell,), (texts,),
+        ]
+        faults = [test(program, folder, *words) for test, *words in tests]
     if any(faults):
         sys.exit("\n".join(filter(None, faults)))
 

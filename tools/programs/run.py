@@ -23,9 +23,12 @@ import models  # noqa: E402
 
 
 def run(program, words, text=""):
-    """Runs a program with these words and this input: its status, and what it said."""
+    """Runs a program with these words and this input: its status, and what it said. Behind a run that succeeds, the log
+    of its store is removed: the store alone has to have all."""
     how = {"encoding": "utf-8", "errors": "surrogateescape", "capture_output": True, "timeout": 120}
     done = subprocess.run([program, *map(str, words)], input=text, **how)
+    if done.returncode == 0:
+        pathlib.Path(f"{words[0]}-wal").unlink(missing_ok=True)
     return done.returncode, done.stdout + done.stderr
 
 

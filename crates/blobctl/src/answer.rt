@@ -84,7 +84,11 @@ fn fsck<B: Blobs>(rt: &HostRuntime, blobs: &mut B) -> Result<(String, bool), Err
 }
 
 /// Copies into one file what the roots of another reach, and returns how many blobs these are.
-fn copy_roots<B: Blobs>(rt: &HostRuntime, from: &mut B, to: &mut B) -> Result<usize, Error> {
+///
+/// # Errors
+///
+/// - as the calls on either file: some blobs may have been copied.
+pub fn copy_roots<B: Blobs>(rt: &HostRuntime, from: &mut B, to: &mut B) -> Result<usize, Error> {
     let names = from.root_names(rt.alloc())?;
     let mut progress = ProgressPrinter::new(rt);
     let count = from.copy(rt.alloc(), to, names.as_slice(), &mut progress)?;
@@ -92,27 +96,11 @@ fn copy_roots<B: Blobs>(rt: &HostRuntime, from: &mut B, to: &mut B) -> Result<us
     Ok(count)
 }
 
-/// Copies into the file of a path what the roots reach, closes that, and returns how many blobs
-/// these are.
-///
-/// # Errors
-///
-/// - `Blobs` if a call on either file fails, `File` if the other file can't be opened or closed:
-///   some blobs may have been copied.
-pub fn copy_to<B: BlobsInFile>(
-    rt: &HostRuntime,
-    blobs: &mut B,
-    path: &str,
-) -> Result<usize, Refusal> {
+/// Copies into the file of a path what the roots reach, closes that, and says how many blobs these are.
+fn copy<B: BlobsInFile>(rt: &HostRuntime, blobs: &mut B, path: &str) -> Result<String, Refusal> {
     let mut to = B::open(rt, path)?;
     let count = copy_roots(rt, blobs, &mut to)?;
     to.close(rt.alloc())?;
-    Ok(count)
-}
-
-/// Copies into the file of a path what the roots reach, and says how many blobs these are.
-fn copy<B: BlobsInFile>(rt: &HostRuntime, blobs: &mut B, path: &str) -> Result<String, Refusal> {
-    let count = copy_to(rt, blobs, path)?;
     Ok(format!(in rt.alloc(); "{count} blobs copied\n")?)
 }
 

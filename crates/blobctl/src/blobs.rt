@@ -3,9 +3,9 @@
 use pagable_codec::Env;
 use pagable_core::{PagableData, PagableStorage, Roots};
 use pagable_file::copy::copy;
-use pagable_file::{FileBlobs, Flaw, ListedBlob, OpenError, Watch};
+use pagable_file::{FileBlobs, Flaw, ListedBlob, NameLock, OpenError, Watch};
 use pagable_flavors::{DataKey, Error};
-use sqlite::{File, FileStore};
+use sqlite::{File, FileStore, Files};
 use sqlite_trees::store::Store;
 use std::alloc::Global;
 use std::sync::Arc;
@@ -53,8 +53,11 @@ pub trait BlobsInFile: Blobs {
     /// Opens the file of a path, which it creates if there is none.
     fn open(rt: &HostRuntime, path: &str) -> Result<Self, OpenError>;
 
-    /// Closes the file, with its log copied into it.
-    fn close(self, alloc: Global) -> Result<(), OpenError>;
+    /// Opens the file whose name is locked.
+    fn open_under(rt: &HostRuntime, name: &NameLock) -> Result<Self, OpenError>;
+
+    /// Closes the file, with its log copied into it. The locks on both last as long as what it returns.
+    fn close(self, alloc: Global) -> Result<Files<File>, OpenError>;
 }
 
 impl<E: Env> BlobsInFile for FileBlobs<E, FileStore<File>> {
@@ -62,9 +65,15 @@ impl<E: Env> BlobsInFile for FileBlobs<E, FileStore<File>> {
         FileBlobs::open(rt, path)
     }
 
-    fn close(self, alloc: Global) -> Result<(), OpenError> {
-        self.close_files(alloc)?;
-        Ok(())
+    fn open_under(
+        rt: &HostRuntime,
+        name: &NameLock,
+    ) -> Result<FileBlobs<E, FileStore<File>>, OpenError> {
+        FileBlobs::open_under(rt, name)
+    }
+
+    fn close(self, alloc: Global) -> Result<Files<File>, OpenError> {
+        self.close_files(alloc)
     }
 }
 

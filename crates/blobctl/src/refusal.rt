@@ -7,7 +7,7 @@ use std::alloc::AllocError;
 use std::{fmt, io};
 
 /// Why a command fails.
-#[derive(Clone, Copy)]
+#[derive(Drop)]
 pub enum Refusal {
     /// The line is no command, or its words are wrong.
     BadLine,
@@ -17,8 +17,10 @@ pub enum Refusal {
     Blobs(Error),
     /// A file couldn't be opened or closed.
     File(OpenError),
-    /// A file couldn't be moved or removed.
+    /// A file couldn't be made, moved or removed.
     System(io::Error),
+    /// A file has this path already, where a new one is to be made.
+    Taken(String),
 }
 
 impl From<Error> for Refusal {
@@ -55,6 +57,10 @@ impl fmt::Display for Refusal {
             Refusal::Blobs(error) => write_error(f, error),
             Refusal::File(error) => write!(f, "error: {error}"),
             Refusal::System(error) => write!(f, "error: {error}"),
+            Refusal::Taken(path) => write!(
+                f,
+                "error: {path} is there already: remove it, or give it another name"
+            ),
         }
     }
 }

@@ -5,6 +5,7 @@ use crate::blobs::BlobsInFile;
 use crate::collect::collect_garbage;
 use crate::command::{Verb, parse};
 use crate::refusal::Refusal;
+use pagable_file::{NameLock, OpenError};
 use std::io::{BufRead, BufReader};
 use std::{fs, io};
 
@@ -81,9 +82,55 @@ fn finds_no_file(rt: &HostRuntime, path: &str, line: &str) -> io::Result<bool> {
     }
 }
 
-/// Opens the file of a path, and runs the command of a line or, if the line is empty, those of the
-/// input. Returns false if the file can't be opened, the command fails, or it finds a flaw. Only an
-/// empty line and a command that stores, sets or flushes create the file.
+/// Tells why the file of a path can't be opened or closed, and returns false.
+///
+/// # Errors
+///
+/// - an error of writing.
+pub fn tell(rt: &HostRuntime, path: &str, error: OpenError) -> io::Result<bool> {
+    eprintln!(rt; "blobctl: {path}: {error}")?;
+    Ok(false)
+}
+
+/// Opens the file of a path, and keeps its name locked.
+fn open_and_lock<B: BlobsInFile>(rt: &HostRuntime, path: &str) -> Result<(NameLock, B), OpenError> {
+    let name = NameLock::take(rt, path)?;
+    let blobs = B::open_under(rt, &name)?;
+    Ok((name, blobs))
+}
+
+/// Drops what no root of the file of a path reaches. Returns false if that fails.
+fn run_gc<B: BlobsInFile>(rt: &HostRuntime, path: &str) -> io::Result<bool> {
+    match open_and_lock::<B>(rt, path) {
+        Ok((name, blobs)) => print_answer(rt, collect_garbage(rt, name, blobs)),
+        Err(error) => tell(rt, path, error),
+    }
+}
+
+/// Opens the file of a path, runs a command or, for none, those of the input, and closes the file.
+/// Returns false if the file can't be opened or closed, the command fails, or it finds a flaw.
+fn run_over_file<B: BlobsInFile>(
+    rt: &HostRuntime,
+    path: &str,
+    command: Option<(Verb, &str)>,
+) -> io::Result<bool> {
+    let mut blobs = match B::open(rt, path) {
+        Ok(blobs) => blobs,
+        Err(error) => return tell(rt, path, error),
+    };
+    let done = match command {
+        Some((verb, words)) => run_alone(rt, &mut blobs, verb, words),
+        None => run_lines(rt, &mut blobs),
+    };
+    match blobs.close(rt.alloc()) {
+        Ok(_) => done,
+        Err(error) => tell(rt, path, error),
+    }
+}
+
+/// Runs the command of a line over the file of a path or, if the line is empty, those of the input, and
+/// closes the file. Returns false if the file can't be opened or closed, the command fails, or it finds
+/// a flaw. Only an empty line and a command that stores, sets or flushes create the file.
 ///
 /// # Errors
 ///
@@ -93,16 +140,8 @@ pub fn serve<B: BlobsInFile>(rt: &HostRuntime, path: &str, line: &str) -> io::Re
         eprintln!(rt; "blobctl: {path}: there is no such file")?;
         return Ok(false);
     }
-    let mut blobs = match B::open(rt, path) {
-        Ok(blobs) => blobs,
-        Err(error) => {
-            eprintln!(rt; "blobctl: {path}: {error}")?;
-            return Ok(false);
-        }
-    };
     match parse(line) {
-        Some((Verb::Gc, _)) => print_answer(rt, collect_garbage(rt, path, blobs)),
-        Some((verb, words)) => run_alone(rt, &mut blobs, verb, words),
-        None => run_lines(rt, &mut blobs),
+        Some((Verb::Gc, _)) => run_gc::<B>(rt, path),
+        command => run_over_file::<B>(rt, path, command),
     }
 }

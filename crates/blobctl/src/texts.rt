@@ -1,30 +1,59 @@
 //! The service of lines about texts that a file keeps under names.
 
 use crate::refusal::Refusal;
+use crate::serve::tell;
 use named_texts::TextEnv;
 use named_texts::serve::{ServeError, serve_durable};
 use pagable_core::Sha256Key;
-use pagable_file::FileBlobs;
+use pagable_file::{FileBlobs, OpenError};
 use sqlite::{File, FileStore};
 use std::io;
 use std::io::BufReader;
 use std::sync::Wait;
 
-/// Opens the file of a path, and answers each line of the input over the texts in it. Returns false if
-/// the file can't be opened or its names of roots can't be read. It waits for locks by `waits`.
+/// A file of blobs of texts, with keys by SHA-256.
+type TextBlobs = FileBlobs<TextEnv<Sha256Key>, FileStore<File>>;
+
+/// Opens the file of a path and closes it, so that its log is copied into it. If another program has it
+/// open by now, that one has to close it.
+fn close_again(rt: &HostRuntime, path: &str) -> Result<(), OpenError> {
+    match TextBlobs::open(rt, path) {
+        Ok(blobs) => {
+            blobs.close_files(rt.alloc())?;
+            Ok(())
+        }
+        Err(OpenError::InUse) => Ok(()),
+        Err(error) => Err(error),
+    }
+}
+
+/// Answers each line of the input over the texts in the file of a path, and closes the file. Returns
+/// false if the file can't be opened or closed, or its names of roots can't be read. It waits for locks
+/// by `waits`.
 ///
 /// # Errors
 ///
 /// - an error of reading or writing, or of making a buffer: the call writes nothing more.
 pub fn serve_texts<W: Wait>(rt: &HostRuntime, waits: &W, path: &str) -> io::Result<bool> {
-    let mut reader = BufReader::new(rt.alloc(), rt.reader())?;
-    let blobs = match FileBlobs::<TextEnv<Sha256Key>, FileStore<File>>::open(rt, path) {
-        Ok(blobs) => blobs,
-        Err(error) => {
-            eprintln!(rt; "blobctl: {path}: {error}")?;
-            return Ok(false);
-        }
+    let done = match TextBlobs::open(rt, path) {
+        Ok(blobs) => serve_lines(rt, waits, path, blobs),
+        Err(error) => return tell(rt, path, error),
     };
+    match close_again(rt, path) {
+        Ok(()) => done,
+        Err(error) => tell(rt, path, error),
+    }
+}
+
+/// Answers each line of the input over the texts in a file, which it drops. Returns false if the names
+/// of roots can't be read.
+fn serve_lines<W: Wait>(
+    rt: &HostRuntime,
+    waits: &W,
+    path: &str,
+    blobs: TextBlobs,
+) -> io::Result<bool> {
+    let mut reader = BufReader::new(rt.alloc(), rt.reader())?;
     let writer = io::writer(rt);
     match serve_durable::<Sha256Key, _, _, _, _>(waits, rt.alloc(), blobs, &mut reader, writer) {
         Ok(()) => Ok(true),

@@ -9,16 +9,16 @@ use Rattle.pagable_value_spec.specs.{Blob.Blob, Stored.Adds}
 use Rattle.sqlite_trees.specs.{Tree.Trees, View.{IsClean, View, doubt}}
 use Rattle.sqlite_value.specs.Order.{Row}
 use Rattle.std.proofs.Common.{Bool, IsTrue, List, Option, Some, ap, arith, false, inl, inr, ℕ, [], ◌∙◌, ◌≡◌, ◌≤◌, ◌⊎◌}
-use Rattle.std.specs.{HashMap.IsUnique, List.AllByRecursion as Each, Ordering.int_eq}
+use Rattle.std.specs.{BTreeMap.IsOrdered, List.AllByRecursion as Each, Ordering.int_cmp}
 
-module _ (waiting : WaitingBlobs) (roots : WaitingRoots) (once : IsUnique int_eq waiting) (roots_once : IsUnique int_eq roots)
+module _ (waiting : WaitingBlobs) (roots : WaitingRoots) (ordered : IsOrdered int_cmp waiting) (roots_ordered : IsOrdered int_cmp roots)
     (fit : Each (λ e. Fits e.1) waiting.entries) (roots_fit : Each (λ e. CanBeKeyIfSome e.1.key) roots.entries) where
   -- the tables with all that waited
   blobs_then : (rows now : List Row) → now ≡ put_all pending_row waiting.entries rows → blobs_in now ≡ stored_with waiting rows
-  blobs_then rows now is = ap blobs_in is ∙ (λ i q. all_stored waiting rows once fit q i)
+  blobs_then rows now is = ap blobs_in is ∙ (λ i q. all_stored waiting rows ordered fit q i)
 
   roots_then : (rows now : List Row) → now ≡ put_all pending_root_row roots.entries rows → roots_in now ≡ roots_with roots rows
-  roots_then rows now is = ap roots_in is ∙ (λ i q. all_named roots rows roots_once roots_fit q i)
+  roots_then rows now is = ap roots_in is ∙ (λ i q. all_named roots rows roots_ordered roots_fit q i)
 
   module _ (old new : View) (was : Settled old)
       (saved : Saved old new (put_all pending_row waiting.entries (old.trees blob_tree)) (put_all pending_root_row roots.entries (old.trees root_tree)))
@@ -50,11 +50,11 @@ roots_kept roots old new stays sure = cc (stays.same sure)
 -- what a crash leaves of a commit
 pub crashed : (old mid new : View) (waiting : WaitingBlobs) (roots : WaitingRoots) (Mid Old : Trees → Type 0)
     → (IsClean mid → Wrote old mid (put_all pending_row waiting.entries (old.trees blob_tree)) (put_all pending_root_row roots.entries (old.trees root_tree)))
-    → IsUnique int_eq waiting → IsUnique int_eq roots → Each (λ e. Fits e.1) waiting.entries → Each (λ e. CanBeKeyIfSome e.1.key) roots.entries
+    → IsOrdered int_cmp waiting → IsOrdered int_cmp roots → Each (λ e. Fits e.1) waiting.entries → Each (λ e. CanBeKeyIfSome e.1.key) roots.entries
     → doubt mid.is_clean ≤ doubt new.is_clean
     → ((db : Trees) → Mid db → Old db) → (db : Trees) → ((mid.is_broken ≡ false) × (db ≡ mid.trees)) ⊎ Mid db → IsClean new → SavedAs old waiting roots db
     ⊎ Old db
-crashed old mid new waiting roots Mid Old wrote once roots_once fit roots_fit falls kept db left clean = grind arith
+crashed old mid new waiting roots Mid Old wrote ordered roots_ordered fit roots_fit falls kept db left clean = grind arith
 
 -- the tables after a crash in a commit
 pub crash_holds : (old : View) (waiting : WaitingBlobs) (roots : WaitingRoots) (db : Trees) (Old : Trees → Type 0) → Settled old → IsTrue (is_honest_view old)
@@ -64,8 +64,8 @@ pub crash_holds : (old : View) (waiting : WaitingBlobs) (roots : WaitingRoots) (
 crash_holds old waiting roots db Old was sure (inr h) = inr h
 crash_holds old waiting roots db Old was sure (inl h) =
     rw (← shown_is_committed old was sure) (inl (
-      blobs_then waiting roots h.once h.roots_once h.fit h.roots_fit (old.trees blob_tree) (db blob_tree) h.blobs_are,
-      roots_then waiting roots h.once h.roots_once h.fit h.roots_fit (old.trees root_tree) (db root_tree) h.roots_are,
+      blobs_then waiting roots h.ordered h.roots_ordered h.fit h.roots_fit (old.trees blob_tree) (db blob_tree) h.blobs_are,
+      roots_then waiting roots h.ordered h.roots_ordered h.fit h.roots_fit (old.trees root_tree) (db root_tree) h.roots_are,
     ))
 
 -- what was stored and flushed stands in the table

@@ -10,34 +10,34 @@ use Rattle.std.proofs.{
   Common.{Bool, Err, List, None, Ok, Option, Result, Some, ap, arith, false, inl, inr, refl, sym, true, ℕ, ℤ, [], ◌∙◌, ◌≡◌, ◌≢◌},
   lemmas.Bool.{Decides.{Decides-int_eq, nat_tests}, eqb-true},
 }
-use Rattle.std.specs.{HashMap.get, Map.lookup, Ordering.int_eq, Prelude.{OnErr, OnOk, if◌then◌else◌, ◌==◌}}
+use Rattle.std.specs.{BTreeMap.get, Map.lookup, Ordering.{int_cmp, int_eq}, Prelude.{OnErr, OnOk, if◌then◌else◌, ◌==◌}}
 use Rattle.pagable_value_spec.specs.declared.error.Error.TheVariants as error
 
 pub same_number : (a : ℕ) → (a == a) ≡ true
 same_number a = grind (arith, nat_tests)
 
 pub held_stored : (closed : Bool) (waiting : WaitingBlobs) (rows : List Row) (key : ℕ) (it : PendingBlob) → closed ≡ false → Some it
-    ≡ get int_eq waiting (rowid_of key)
+    ≡ get int_cmp waiting (rowid_of key)
     → it.key ≡ key
     → unless closed (stored_with waiting rows) key ≡ Some (blob_pending it)
 unfolding stored_with
 held_stored closed waiting rows key it usable e same = grind (arith, nat_tests)
 
 pub held_other : (closed : Bool) (waiting : WaitingBlobs) (rows : List Row) (key : ℕ) (it : PendingBlob) → closed ≡ false → Some it
-    ≡ get int_eq waiting (rowid_of key)
+    ≡ get int_cmp waiting (rowid_of key)
     → it.key ≢ key
     → unless closed (stored_with waiting rows) key ≡ None
 unfolding stored_with
 held_other closed waiting rows key it usable e other = grind (arith, nat_tests)
 
 pub read_stored : (closed : Bool) (waiting : WaitingBlobs) (rows : List Row) (key : ℕ) (found : Option Reading) (blob : Blob) → closed ≡ false → None
-    ≡ get int_eq waiting (rowid_of key)
+    ≡ get int_cmp waiting (rowid_of key)
     → IsFoundAs rows key found → HasBlob found blob → unless closed (stored_with waiting rows) key ≡ Some blob
 unfolding stored_with blobs_in
 read_stored closed waiting rows key found blob usable e f has = grind arith
 
 pub read_none : (closed : Bool) (waiting : WaitingBlobs) (rows : List Row) (key : ℕ) (found : Option Reading) → closed ≡ false → None
-    ≡ get int_eq waiting (rowid_of key)
+    ≡ get int_cmp waiting (rowid_of key)
     → IsFoundAs rows key found → HasNone found → unless closed (stored_with waiting rows) key ≡ None
 unfolding stored_with blobs_in blob_in
 read_none closed waiting rows key found usable e f none = grind arith
@@ -48,8 +48,8 @@ adds_nothing stored key blob h = record { each = λ q. grind (arith, nat_tests, 
 
 -- a blob comes to what waits, where nothing waits and the table has no row
 pub adds_waiting : (closed : Bool) (waiting after : WaitingBlobs) (rows : List Row) (key : ℕ) (it : PendingBlob) → closed ≡ false → it.key ≡ key
-    → get int_eq waiting (rowid_of key) ≡ None
-    → ((q : ℤ) → get int_eq after q ≡ (if int_eq (rowid_of key) q then Some it else get int_eq waiting q)) → row_at rows (rowid_of key) ≡ None
+    → get int_cmp waiting (rowid_of key) ≡ None
+    → ((q : ℤ) → get int_cmp after q ≡ (if int_eq (rowid_of key) q then Some it else get int_cmp waiting q)) → row_at rows (rowid_of key) ≡ None
     → Adds key (blob_pending it) (unless closed (stored_with waiting rows)) (unless closed (stored_with after rows))
 unfolding stored_with blobs_in
 adds_waiting closed waiting after rows key it usable own free comes none = rw usable (record {
@@ -58,7 +58,7 @@ adds_waiting closed waiting after rows key it usable own free comes none = rw us
 })
 
 pub adds_holding : (closed : Bool) (waiting after : WaitingBlobs) (old new : List Row) (key : ℕ) (blob : Blob) → closed ≡ false → None
-    ≡ get int_eq waiting (rowid_of key) → Holds key blob waiting after
+    ≡ get int_cmp waiting (rowid_of key) → Holds key blob waiting after
     → IsFoundAs old key None → new ≡ old → Adds key blob (unless closed (stored_with waiting old)) (unless closed (stored_with after new))
 adds_holding closed waiting after old new key blob usable free h none same =
     rw same (rw h.content at (adds_waiting closed waiting after old key h.it usable h.own (sym free) h.each none))
@@ -70,7 +70,7 @@ all_keyed key_of old after key blob (Ok _) own keyed comes stays place it is = g
 all_keyed key_of old after key blob (Err e) own keyed comes stays place it is = keyed place it (sym (ap (lookup (int_eq place)) stays) ∙ is)
 
 pub held_named : (key_of : Blob → ℕ) (waiting : WaitingBlobs) (key : ℕ) (it : PendingBlob) → AreKeyed key_of waiting → Some it
-    ≡ get int_eq waiting (rowid_of key)
+    ≡ get int_cmp waiting (rowid_of key)
     → it.key ≡ key → key_of (blob_pending it) ≡ key
 held_named key_of waiting key it keyed found own = keyed (rowid_of key) it (sym found) ∙ own
 
@@ -91,12 +91,12 @@ same_flushed closed old new same = cc
 
 -- what stands there already, whether it waits or was read, adds nothing
 pub adds_held : (closed : Bool) (waiting : WaitingBlobs) (rows : List Row) (key : ℕ) (it : PendingBlob) (blob : Blob) → closed ≡ false → Some it
-    ≡ get int_eq waiting (rowid_of key) → it.key ≡ key → blob_pending it ≡ blob
+    ≡ get int_cmp waiting (rowid_of key) → it.key ≡ key → blob_pending it ≡ blob
     → Adds key blob (unless closed (stored_with waiting rows)) (unless closed (stored_with waiting rows))
 adds_held closed waiting rows key it blob usable found own is = adds_nothing _ key blob (held_stored closed waiting rows key it usable found own ∙ ap Some is)
 
 pub adds_found : (closed : Bool) (waiting : WaitingBlobs) (old new : List Row) (key : ℕ) (found : Reading) (blob : Blob) → closed ≡ false → None
-    ≡ get int_eq waiting (rowid_of key) → IsFoundAs old key (Some found) → HasBlob (Some found) blob
+    ≡ get int_cmp waiting (rowid_of key) → IsFoundAs old key (Some found) → HasBlob (Some found) blob
     → new ≡ old → Adds key blob (unless closed (stored_with waiting old)) (unless closed (stored_with waiting new))
 adds_found closed waiting old new key found blob usable free f has same =
     rw same (adds_nothing _ key blob (read_stored closed waiting old key (Some found) blob usable free f has))
@@ -119,7 +119,7 @@ held_refuses it key blob closed was now x0 h = (None, grind arith)
 
 pub held_refuses_only : (it : PendingBlob) (key : ℕ) (blob : Blob) (closed : Bool) (waiting : WaitingBlobs) (rows : List Row) (was now : ℕ)
     (e : Error) → closed ≡ false
-    → Some it ≡ get int_eq waiting (rowid_of key)
+    → Some it ≡ get int_cmp waiting (rowid_of key)
     → RefusesHeld it key blob was now e → RefusesStore blob (unless closed (stored_with waiting rows) key) closed was now e
 held_refuses_only it key blob closed waiting rows was now error.KeyTaken usable found h =
     (blob_pending it, held_stored closed waiting rows key it usable found h.0, h.1)
@@ -131,7 +131,7 @@ found_refuses found blob closed was now error.KeyTaken h = (Some h.0, (h.0, refl
 found_refuses found blob closed was now x0 h = (None, grind arith)
 
 pub found_refuses_only : (found : Reading) (key : ℕ) (blob : Blob) (closed : Bool) (waiting : WaitingBlobs) (rows : List Row) (was now : ℕ) (e : Error) → closed
-    ≡ false → None ≡ get int_eq waiting (rowid_of key)
+    ≡ false → None ≡ get int_cmp waiting (rowid_of key)
     → IsFoundAs rows key (Some found) → RefusesFound found blob was now e → RefusesStore blob (unless closed (stored_with waiting rows) key) closed was now e
 found_refuses_only found key blob closed waiting rows was now error.KeyTaken usable free f h =
     (h.0, read_stored closed waiting rows key (Some found) h.0 usable free f h.1, h.2)

@@ -14,10 +14,10 @@ use Rattle.std.proofs.{
   Common.{Bool, IsTrue, List, None, Option, Some, ap, arith, false, refl, sym, true, true≢false, ℕ, ◌∙◌, ◌≡◌, ◌≤◌},
   lemmas.{Bool.Decides.{Decides-int_eq, nat_tests}, Slice.Eq.bytes_eq-Decides},
 }
-use Rattle.std.specs.{HashMap.get, Map.lookup, Ordering.int_eq, Prelude.{if◌then◌else◌, is_some, ◌==◌}, Str.bytes_eq, String.string_bytes}
+use Rattle.std.specs.{BTreeMap.get, Map.lookup, Ordering.{int_cmp, int_eq}, Prelude.{if◌then◌else◌, is_some, ◌==◌}, Str.bytes_eq, String.string_bytes}
 
 -- whether a blob stands under a key, by what waits
-pub has_held : (waiting : WaitingBlobs) (rows : List Row) (key : ℕ) (it : PendingBlob) → Some it ≡ get int_eq waiting (rowid_of key) → (it.key == key)
+pub has_held : (waiting : WaitingBlobs) (rows : List Row) (key : ℕ) (it : PendingBlob) → Some it ≡ get int_cmp waiting (rowid_of key) → (it.key == key)
     ≡ is_some (stored_with waiting rows key)
 unfolding stored_with
 has_held waiting rows key it e = grind (arith, nat_tests)
@@ -27,14 +27,14 @@ unfolding blobs_in blob_in
 row_has_blob rows key found f = grind arith
 
 -- and by the table
-pub has_read : (waiting : WaitingBlobs) (rows : List Row) (key : ℕ) (found : Option Reading) → None ≡ get int_eq waiting (rowid_of key)
+pub has_read : (waiting : WaitingBlobs) (rows : List Row) (key : ℕ) (found : Option Reading) → None ≡ get int_cmp waiting (rowid_of key)
     → IsFoundAs rows key found
     → reads_blob found ≡ is_some (stored_with waiting rows key)
 unfolding stored_with
 has_read waiting rows key found e f = rw (sym e) (row_has_blob rows key found f)
 
 -- which key a name stands for, by what waits
-pub root_held : (waiting : WaitingRoots) (rows : List Row) (name : List ℕ) (it : PendingRoot) → Some it ≡ get int_eq waiting (rowid_of_name name)
+pub root_held : (waiting : WaitingRoots) (rows : List Row) (name : List ℕ) (it : PendingRoot) → Some it ≡ get int_cmp waiting (rowid_of_name name)
     → (if bytes_eq (string_bytes it.name) name then it.key else None) ≡ roots_with waiting rows name
 unfolding roots_with
 root_held waiting rows name it e = rw (sym e) refl
@@ -44,20 +44,20 @@ unfolding roots_in root_in
 row_names rows name found f = grind arith
 
 -- and by the table
-pub root_read : (waiting : WaitingRoots) (rows : List Row) (name : List ℕ) (found : Option Naming) → None ≡ get int_eq waiting (rowid_of_name name)
+pub root_read : (waiting : WaitingRoots) (rows : List Row) (name : List ℕ) (found : Option Naming) → None ≡ get int_cmp waiting (rowid_of_name name)
     → IsNamedAs rows name found → found_root found ≡ roots_with waiting rows name
 unfolding roots_with
 root_read waiting rows name found e f = rw (sym e) (row_names rows name found f)
 
 -- no other name has the place
-pub place_held : (waiting : WaitingRoots) (rows : List Row) (name : List ℕ) (it : PendingRoot) → Some it ≡ get int_eq waiting (rowid_of_name name)
+pub place_held : (waiting : WaitingRoots) (rows : List Row) (name : List ℕ) (it : PendingRoot) → Some it ≡ get int_cmp waiting (rowid_of_name name)
     → bytes_eq (string_bytes it.name) name ≡ true
-    → HasNoOtherName name (get int_eq waiting (rowid_of_name name)) (row_at rows (rowid_of_name name))
+    → HasNoOtherName name (get int_cmp waiting (rowid_of_name name)) (row_at rows (rowid_of_name name))
 place_held waiting rows name it e is = rw (sym e) is
 
-pub place_read : (waiting : WaitingRoots) (rows : List Row) (name : List ℕ) (found : Option Naming) → None ≡ get int_eq waiting (rowid_of_name name)
+pub place_read : (waiting : WaitingRoots) (rows : List Row) (name : List ℕ) (found : Option Naming) → None ≡ get int_cmp waiting (rowid_of_name name)
     → IsNamedAs rows name found → IsNotOther found
-    → HasNoOtherName name (get int_eq waiting (rowid_of_name name)) (row_at rows (rowid_of_name name))
+    → HasNoOtherName name (get int_cmp waiting (rowid_of_name name)) (row_at rows (rowid_of_name name))
 place_read waiting rows name found e f h = grind arith
 
 -- another name at the same place stands for nothing
@@ -68,7 +68,7 @@ other_name name q held row h apart = grind (arith, bytes_eq-Decides)
 
 -- a name that comes to what waits
 pub sets : (waiting after : WaitingRoots) (rows : List Row) (name : List ℕ) (key : Option ℕ)
-    → HasNoOtherName name (get int_eq waiting (rowid_of_name name)) (row_at rows (rowid_of_name name)) → HoldsRoot name key waiting after
+    → HasNoOtherName name (get int_cmp waiting (rowid_of_name name)) (row_at rows (rowid_of_name name)) → HoldsRoot name key waiting after
     → Sets name key (roots_with waiting rows) (roots_with after rows)
 unfolding roots_with roots_in
 sets waiting after rows name key free h q = rw (h.each (rowid_of_name q)) (go (int_eq (rowid_of_name name) (rowid_of_name q)) refl (bytes_eq name q) refl)
@@ -77,12 +77,12 @@ sets waiting after rows name key free h q = rw (h.each (rowid_of_name q)) (go (i
     below = root_of_row q (row_at rows (rowid_of_name q))
 
     go : (b : Bool) → int_eq (rowid_of_name name) (rowid_of_name q) ≡ b → (c : Bool) → bytes_eq name q ≡ c
-        → before_root q (if b then Some h.it else get int_eq waiting (rowid_of_name q)) below
-        ≡ (if c then key else before_root q (get int_eq waiting (rowid_of_name q)) below)
+        → before_root q (if b then Some h.it else get int_cmp waiting (rowid_of_name q)) below
+        ≡ (if c then key else before_root q (get int_cmp waiting (rowid_of_name q)) below)
     go true e true f = rw (h.own, f) h.stands
     go true e false f =
         let none = rw ((Decides-int_eq (rowid_of_name name) (rowid_of_name q)).0 e) at
-        (other_name name q (get int_eq waiting (rowid_of_name name)) (row_at rows (rowid_of_name name)) free f) in
+        (other_name name q (get int_cmp waiting (rowid_of_name name)) (row_at rows (rowid_of_name name)) free f) in
         rw (h.own, f) (sym none)
     go false e false f = refl
     go false e true f =
@@ -107,12 +107,12 @@ pub unnamed : (closed : Bool) (roots : List ℕ → Option ℕ) (name : List ℕ
 unnamed closed roots name is = rw is refl
 
 pub answers_held : (closed : Bool) (waiting : WaitingRoots) (rows : List Row) (name : List ℕ) (it : PendingRoot) (key : Option ℕ) → closed ≡ false → Some it
-    ≡ get int_eq waiting (rowid_of_name name)
+    ≡ get int_cmp waiting (rowid_of_name name)
     → key ≡ (if bytes_eq (string_bytes it.name) name then it.key else None) → key ≡ roots_unless closed (roots_with waiting rows) name
 answers_held closed waiting rows name it key usable e is = rw usable (is ∙ root_held waiting rows name it e)
 
 pub answers_read : (closed : Bool) (waiting : WaitingRoots) (rows : List Row) (name : List ℕ) (found : Option Naming) (key : Option ℕ) → closed ≡ false → None
-    ≡ get int_eq waiting (rowid_of_name name)
+    ≡ get int_cmp waiting (rowid_of_name name)
     → IsNamedAs rows name found → key ≡ found_root found → key ≡ roots_unless closed (roots_with waiting rows) name
 answers_read closed waiting rows name found key usable e f is = rw usable (is ∙ root_read waiting rows name found e f)
 
@@ -136,7 +136,7 @@ kept_entries closed waiting after old new same stays sure =
 
 pub sets_in : (closed : Bool) (waiting after : WaitingRoots) (old new : View) (name text : List ℕ) (key : Option ℕ) → closed ≡ false → text ≡ name
     → LeavesCommitted old new → IsTrue (is_honest_view new)
-    → HasNoOtherName name (get int_eq waiting (rowid_of_name name)) (row_at (old.committed root_tree) (rowid_of_name name)) → HoldsRoot text key waiting after
+    → HasNoOtherName name (get int_cmp waiting (rowid_of_name name)) (row_at (old.committed root_tree) (rowid_of_name name)) → HoldsRoot text key waiting after
     → Sets name key (roots_unless closed (roots_with waiting (old.committed root_tree))) (roots_unless closed (roots_with after (new.committed root_tree)))
 sets_in closed waiting after old new name text key usable is stays sure free h =
     rw (usable, stays.same sure) (sets waiting after (old.committed root_tree) name key free (rw is at h))

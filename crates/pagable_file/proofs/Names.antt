@@ -14,9 +14,9 @@ use Rattle.std.proofs.{
   lemmas.{List.Folds.list_any-append, Slice.Eq.bytes_eq-Decides},
 }
 use Rattle.std.specs.{
-  HashMap.get,
+  BTreeMap.get,
   List.AllByRecursion,
-  Ordering.int_eq,
+  Ordering.{int_cmp, int_eq},
   Prelude.{Err, IfOk, Ok, Result, String, Vec, is_some, string_bytes},
   Str.{IsUtf8, bytes_eq},
 }
@@ -31,7 +31,7 @@ pushed_lists old new it name is same =
     rw (is, list_any-append (λ n. bytes_eq name (string_bytes n)) old (it ∷ []), (bytes_eq-Decides name (string_bytes it)).1 (sym same)) (grind arith)
 
 -- an entry waits at the place
-pub waits_there : {A : Type 0} (waiting : WaitingRoots) (rows : List Row) (names : List (String A)) (place : ℤ) → is_some (get int_eq waiting place) ≡ true
+pub waits_there : {A : Type 0} (waiting : WaitingRoots) (rows : List Row) (names : List (String A)) (place : ℤ) → is_some (get int_cmp waiting place) ≡ true
     → IsListed waiting rows names place
 waits_there waiting rows names place there none = cc
 
@@ -74,7 +74,7 @@ module _ {A : Type 0} (waiting : WaitingRoots) (rows : List Row) (first all : Li
   held_listed name it listed stands = grind (arith, bytes_eq-Decides)
 
   -- a name in the table
-  stored_listed : (name : List ℕ) (found : Option Row) → row_at rows (rowid_of_name name) ≡ found → get int_eq waiting (rowid_of_name name) ≡ None
+  stored_listed : (name : List ℕ) (found : Option Row) → row_at rows (rowid_of_name name) ≡ found → get int_cmp waiting (rowid_of_name name) ≡ None
       → IsListed waiting rows first (rowid_of_name name) → KeepsNames first all → IsUtf8 name → IsSome (root_of_row name found) → IsTrue (is_among name all)
   stored_listed name None at none listed keeps text stands = cc
   stored_listed name (Some row) at none listed keeps text stands =
@@ -86,9 +86,9 @@ module _ {A : Type 0} (waiting : WaitingRoots) (rows : List Row) (first all : Li
       → AllByRecursion (λ e. IsWaitingListed all e.1) waiting.entries → ListsAll (roots_unless closed (roots_with waiting rows)) all
   unfolding roots_with roots_in
   lists_all true listed keeps held name text stands = cc
-  lists_all false listed keeps held name text stands = go (get int_eq waiting (rowid_of_name name)) refl
+  lists_all false listed keeps held name text stands = go (get int_cmp waiting (rowid_of_name name)) refl
     where
-      go : (o : Option PendingRoot) → get int_eq waiting (rowid_of_name name) ≡ o → IsTrue (is_among name all)
+      go : (o : Option PendingRoot) → get int_cmp waiting (rowid_of_name name) ≡ o → IsTrue (is_among name all)
       go (Some it) at = held_listed name it (of_found (IsWaitingListed all) (int_eq (rowid_of_name name)) waiting.entries it held at) (rw at at stands)
       go None at = stored_listed name (row_at rows (rowid_of_name name)) refl at (listed (rowid_of_name name)) keeps text (rw at at stands)
 

@@ -12,12 +12,14 @@ use Rattle.sqlite_value.specs.{Order.{Row, value_cmp}, declared.value.Value.TheV
 use Rattle.std.proofs.{
   Common.{Bool, Equal, Greater, Less, List, None, Option, Ordering, Some, ap, arith, false, filter, is_eq, refl, sym, true, ℕ, ℤ, [], ◌∙◌, ◌∷◌},
   Common.◌≡◌,
+  lemmas.Map.Keys.IsDistinct-from_sorted,
 }
 use Rattle.std.specs.{
+  BTreeMap.IsOrdered,
   Cmp.signed_Decides,
   List.{AllByRecursion as Each, IsDistinct},
   Map.{keys_of, lookup},
-  Ordering.{int_eq, match_ordering},
+  Ordering.{int_cmp, int_eq, match_ordering},
   Prelude.{if◌then◌else◌, slice_get, ◌==◌},
   Str.bytes_eq,
   String.string_bytes,
@@ -103,10 +105,10 @@ unfolding root_in
 root_reads id name key h q = rw (bytes_back key h) refl
 
 -- once all that waits is put, the tables have what was stored
-pub all_stored : (waiting : WaitingBlobs) (rows : List Row) → IsDistinct int_eq (keys_of waiting.entries) → Each (λ e. Fits e.1) waiting.entries
+pub all_stored : (waiting : WaitingBlobs) (rows : List Row) → IsOrdered int_cmp waiting → Each (λ e. Fits e.1) waiting.entries
     → (q : ℕ) → blobs_in (put_all pending_row waiting.entries rows) q ≡ stored_with waiting rows q
 unfolding blobs_in stored_with
-all_stored waiting rows once fit q = rw (row_at-put_all pending_row (λ p it. refl) (rowid_of q) waiting.entries once rows)
+all_stored waiting rows ordered fit q = rw (row_at-put_all pending_row (λ p it. refl) (rowid_of q) waiting.entries (IsDistinct-from_sorted int_cmp (keys_of waiting.entries) ordered) rows)
     (go (lookup (int_eq (rowid_of q)) waiting.entries) refl)
   where
     go : (o : Option PendingBlob) → lookup (int_eq (rowid_of q)) waiting.entries ≡ o
@@ -114,10 +116,10 @@ all_stored waiting rows once fit q = rw (row_at-put_all pending_row (λ p it. re
     go None h = refl
     go (Some it) h = let f = of_found Fits (int_eq (rowid_of q)) waiting.entries it fit h in row_reads (rowid_of q) it.key (blob_pending it) f.0 f.1 q
 
-pub all_named : (waiting : WaitingRoots) (rows : List Row) → IsDistinct int_eq (keys_of waiting.entries) → Each (λ e. CanBeKeyIfSome e.1.key) waiting.entries
+pub all_named : (waiting : WaitingRoots) (rows : List Row) → IsOrdered int_cmp waiting → Each (λ e. CanBeKeyIfSome e.1.key) waiting.entries
     → (q : List ℕ) → roots_in (put_all pending_root_row waiting.entries rows) q ≡ roots_with waiting rows q
 unfolding roots_in roots_with
-all_named waiting rows once fit q = rw (row_at-put_all pending_root_row (λ p it. refl) (rowid_of_name q) waiting.entries once rows)
+all_named waiting rows ordered fit q = rw (row_at-put_all pending_root_row (λ p it. refl) (rowid_of_name q) waiting.entries (IsDistinct-from_sorted int_cmp (keys_of waiting.entries) ordered) rows)
     (go (lookup (int_eq (rowid_of_name q)) waiting.entries) refl)
   where
     go : (o : Option PendingRoot) → lookup (int_eq (rowid_of_name q)) waiting.entries ≡ o

@@ -15,13 +15,12 @@ use Rattle.sqlite_trees.specs.{
 use Rattle.sqlite_value.specs.Order.{Row, bytes, column}
 use Rattle.std.specs.{
   Arc.arc_value,
-  HashMap.{HashMap, IsUnique, get},
+  BTreeMap.{BTreeMap, IsOrdered, get},
   List.AllByRecursion,
-  Ordering.int_eq,
+  Ordering.{int_cmp, int_eq},
   Prelude.{Bool, IsTrue, List, None, Option, Some, false, fold, if◌then◌else◌, true, ℕ, ℤ, [], ◌&&◌, ◌==◌, ◌≡◌, ◌≢◌},
   Str.bytes_eq,
   String.string_bytes,
-  declared.hash.{BuildHasherDefault.BuildHasherDefault, FoldHasher.FoldHasher},
 }
 use base.Stored.{Coded-set}
 use mathlib.Core.{Bool.Bool-set, HLevel.{Π_prop, Π_set, ×_prop}}
@@ -31,7 +30,7 @@ use Rattle.pagable_file.specs.declared.rows.Reading.TheVariants as reading
 
 -- the blobs that wait for a flush, by their places
 abbrev pub WaitingBlobs : Type 0
-WaitingBlobs = HashMap ℤ PendingBlob (BuildHasherDefault FoldHasher)
+WaitingBlobs = BTreeMap ℤ PendingBlob
 
 abbrev pub blob_pending : PendingBlob → Blob
 blob_pending it = blob_of (arc_value it.blob)
@@ -46,7 +45,7 @@ before key None below = below
 before key (Some it) below = if it.key == key then Some (blob_pending it) else None
 
 unfoldable pub stored_with : WaitingBlobs → List Row → ℕ → Option Blob
-stored_with waiting rows key = before key (get int_eq waiting (rowid_of key)) (blobs_in rows key)
+stored_with waiting rows key = before key (get int_cmp waiting (rowid_of key)) (blobs_in rows key)
 
 -- the row of the blob that waits at a place
 abbrev pub pending_row : ℤ → PendingBlob → Row
@@ -54,14 +53,14 @@ pending_row place it = blob_row place it.key (blob_pending it)
 
 -- the names that wait for a flush, by their places
 abbrev pub WaitingRoots : Type 0
-WaitingRoots = HashMap ℤ PendingRoot (BuildHasherDefault FoldHasher)
+WaitingRoots = BTreeMap ℤ PendingRoot
 
 abbrev pub before_root : List ℕ → Option PendingRoot → Option ℕ → Option ℕ
 before_root name None below = below
 before_root name (Some it) below = if bytes_eq (string_bytes it.name) name then it.key else None
 
 unfoldable pub roots_with : WaitingRoots → List Row → List ℕ → Option ℕ
-roots_with waiting rows name = before_root name (get int_eq waiting (rowid_of_name name)) (roots_in rows name)
+roots_with waiting rows name = before_root name (get int_cmp waiting (rowid_of_name name)) (roots_in rows name)
 
 abbrev pub CanBeKeyIfSome : Option ℕ → Type 0
 CanBeKeyIfSome None = Unit {0}
@@ -120,7 +119,7 @@ settled_prop v = Π_prop (λ _. IsSettled-prop v)
 
 -- each blob that waits has the key that it waits under
 abbrev pub AreKeyed : (Blob → ℕ) → WaitingBlobs → Type 0
-AreKeyed key_of waiting = (place : ℤ) (it : PendingBlob) → get int_eq waiting place ≡ Some it → key_of (blob_pending it)
+AreKeyed key_of waiting = (place : ℤ) (it : PendingBlob) → get int_cmp waiting place ≡ Some it → key_of (blob_pending it)
     ≡ it.key
 
 -- a blob is added to those that wait, in the place of what waited at its key's place
@@ -128,7 +127,7 @@ pub record Holds (key : ℕ) (blob : Blob) (old new : WaitingBlobs) : Type 0 whe
   pub it : PendingBlob
   pub own : it.key ≡ key
   pub content : blob_pending it ≡ blob
-  pub each : (place : ℤ) → get int_eq new place ≡ (if int_eq (rowid_of key) place then Some it else get int_eq old
+  pub each : (place : ℤ) → get int_cmp new place ≡ (if int_eq (rowid_of key) place then Some it else get int_cmp old
       place)
 
 -- only trees and cursors differ, and the two tables have these rows
@@ -181,8 +180,8 @@ pub record SavedAs (old : View) (waiting : WaitingBlobs) (roots : WaitingRoots) 
   pub roots_are : db root_tree ≡ put_all pending_root_row roots.entries (old.trees root_tree)
   pub fit : AllByRecursion (λ e. Fits e.1) waiting.entries
   pub roots_fit : AllByRecursion (λ e. CanBeKeyIfSome e.1.key) roots.entries
-  pub once : IsUnique int_eq waiting
-  pub roots_once : IsUnique int_eq roots
+  pub ordered : IsOrdered int_cmp waiting
+  pub roots_ordered : IsOrdered int_cmp roots
 
 -- the row that a table has at a key's place is this blob's
 abbrev pub HasBlob : Option Reading → Blob → Type 0
@@ -250,7 +249,7 @@ pub record HoldsRoot (name : List ℕ) (key : Option ℕ) (old new : WaitingRoot
   pub it : PendingRoot
   pub own : string_bytes it.name ≡ name
   pub stands : it.key ≡ key
-  pub each : (place : ℤ) → get int_eq new place ≡ (if int_eq (rowid_of_name name) place then Some it else get int_eq old
+  pub each : (place : ℤ) → get int_cmp new place ≡ (if int_eq (rowid_of_name name) place then Some it else get int_cmp old
       place)
 
 -- the key that a look-up found for a name

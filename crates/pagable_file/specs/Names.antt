@@ -3,8 +3,8 @@ use Rattle.pagable_core.specs.Roots.{is_among}
 use Rattle.pagable_file.specs.{Blobs.WaitingRoots, Rows.row_at, declared.pending.PendingRoot.PendingRoot}
 use Rattle.sqlite_value.specs.Order.{Row, bytes, column}
 use Rattle.std.specs.{
-  HashMap.get,
-  Ordering.int_eq,
+  BTreeMap.get,
+  Ordering.int_cmp,
   Prelude.{IsSome, IsTrue, List, None, Some, String, string_bytes, ℕ, ℤ, ◌≡◌},
   Str.IsUtf8,
 }
@@ -19,7 +19,7 @@ IsNameListed names row = IsUtf8 (bytes (column row 2)) → IsTrue (is_among (byt
 
 -- so is the name of the row at a place, if there is one, and nothing waits at the place
 abbrev pub IsListed : {A : Type 0} → WaitingRoots → List Row → List (String A) → ℤ → Type 0
-IsListed waiting rows names place = get int_eq waiting place ≡ None → (row : Row) → row_at rows place ≡ Some row
+IsListed waiting rows names place = get int_cmp waiting place ≡ None → (row : Row) → row_at rows place ≡ Some row
     → IsNameListed names row
 
 -- a name that waits is listed, if it is to stand for a key

@@ -16,6 +16,7 @@ ghost use Rattle.std.specs.{
 
 use crate::fault::Fault;
 use crate::lookup::read;
+use crate::name_lock::NameLock;
 use crate::naming::has_blob;
 use crate::open_error::OpenError;
 use crate::pending::{PendingBlob, WaitingBlobs, WaitingRoots, add_waiting, is_same, waiting_at};
@@ -31,7 +32,7 @@ use sqlite::{Connection, File, FileStore, MemStore};
 use sqlite_trees::store::{Alter, Store};
 use sqlite_value::row::Row;
 use std::alloc::Global;
-use std::collections::HashMap;
+use std::collections::BTreeMap;
 use std::marker::PhantomData;
 use std::sync::Arc;
 
@@ -59,7 +60,21 @@ impl<E: Env> FileBlobs<E, FileStore<File>> {
     ///
     /// - the causes in [`OpenError`]: a file that isn't opened stays as it is.
     pub fn open(rt: &HostRuntime, path: &str) -> Result<FileBlobs<E, FileStore<File>>, OpenError> {
-        let conn = Connection::open_with_sums(rt, path)?;
+        let name = NameLock::take(rt, path)?;
+        FileBlobs::open_under(rt, &name)
+    }
+
+    /// Opens the file whose name is locked, as `open` does, and no other program does so before the
+    /// lock is dropped.
+    ///
+    /// # Errors
+    ///
+    /// - as `open`.
+    pub fn open_under(
+        rt: &HostRuntime,
+        name: &NameLock,
+    ) -> Result<FileBlobs<E, FileStore<File>>, OpenError> {
+        let conn = Connection::open_with_sums(rt, name.path())?;
         FileBlobs::over(rt.alloc(), conn)
     }
 }
@@ -98,8 +113,8 @@ impl<E: Env, S: Alter + Drop> FileBlobs<E, S> {
         prepare_tables(alloc, &mut store)?;
         Ok(FileBlobs {
             store,
-            waiting: HashMap::new(alloc),
-            waiting_roots: HashMap::new(alloc),
+            waiting: BTreeMap::new(alloc),
+            waiting_roots: BTreeMap::new(alloc),
             row: Row::new(alloc),
             bytes: Vec::new(alloc),
             closed: false,

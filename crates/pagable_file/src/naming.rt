@@ -9,8 +9,8 @@ ghost use Rattle.pagable_file.specs.{
 };
 ghost use Rattle.pagable_value_spec.specs.{Outcomes.IsOutOfMemory, Stored.IsMemoryOrFailure};
 ghost use Rattle.std.specs.{
-  HashMap.get,
-  Ordering.int_eq,
+  BTreeMap.get,
+  Ordering.int_cmp,
   Prelude.{IfErr, IfOk, IsTrue, None, OnErr, OnOk, false, if◌then◌else◌, is_some, true, ◌≡◌, ◌≤◌},
   Str.bytes_eq,
   String.string_bytes,
@@ -152,7 +152,7 @@ fn test_place<S: Store>(
 ) -> Result<(), Error>
     requires settled { Settled (S.view store.old) }
     ensures free { IsTrue (is_honest_view (S.view store.new))
-        → OnOk result (HasNoOtherName name.now (get int_eq waiting.now (spec.rowid_of_name name.now))
+        → OnOk result (HasNoOtherName name.now (get int_cmp waiting.now (spec.rowid_of_name name.now))
         (row_at ((S.view store.old).committed root_tree) (spec.rowid_of_name name.now))) }
     ensures stays { LeavesCommitted (S.view store.old) (S.view store.new) }
     ensures only { IfErr result (IsMemoryOrFailure stats.old.failures stats.new.failures) }
@@ -188,7 +188,7 @@ pub fn test_root<S: Store>(
     ensures stands { IsTrue (is_honest_view (S.view store.new))
         → OnOk result (HasBlobIfKey (stored_with waiting.now ((S.view store.old).committed blob_tree)) key.now) }
     ensures free { IsTrue (is_honest_view (S.view store.new))
-        → OnOk result (HasNoOtherName name.now (get int_eq waiting_roots.now (spec.rowid_of_name name.now))
+        → OnOk result (HasNoOtherName name.now (get int_cmp waiting_roots.now (spec.rowid_of_name name.now))
         (row_at ((S.view store.old).committed root_tree) (spec.rowid_of_name name.now))) }
     ensures refused { IsTrue (is_honest_view (S.view store.new))
         → IfErr result (RefusesRoot key.now (stored_with waiting.now ((S.view store.old).committed blob_tree)) false

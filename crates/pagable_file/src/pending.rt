@@ -5,9 +5,9 @@ ghost use Rattle.pagable_file.specs.{Blobs.Holds, Names.{IsWaitingListed, KeepsN
 ghost use Rattle.pagable_value_spec.specs.Outcomes.{IsOutOfMemory};
 ghost use Rattle.std.specs.{
   Arc.arc_value,
-  HashMap.get,
+  BTreeMap.get,
   List.AllByRecursion,
-  Ordering.int_eq,
+  Ordering.int_cmp,
   Prelude.{IfErr, IfOk, IsTrue, OnErr, OnOk, option_copied, ◌↔◌, ◌≡◌},
 };
 ghost use Rattle.pagable_file.specs.Rows as spec;
@@ -16,7 +16,7 @@ use crate::rows::{rowid_of, rowid_of_name};
 use pagable_core::PagableData;
 use pagable_flavors::{DataKey, Error};
 use std::alloc::Global;
-use std::collections::HashMap;
+use std::collections::BTreeMap;
 use std::sync::Arc;
 
 /// A blob that waits for a flush, with its key.
@@ -27,7 +27,7 @@ pub struct PendingBlob {
 }
 
 /// The blobs that wait for a flush, by their places.
-pub type WaitingBlobs = HashMap<i64, PendingBlob>;
+pub type WaitingBlobs = BTreeMap<i64, PendingBlob>;
 
 /// A name that waits for a flush, with the key that it stands for, or None if it stands for none
 /// any more.
@@ -38,12 +38,12 @@ pub struct PendingRoot {
 }
 
 /// The names that wait for a flush, by their places.
-pub type WaitingRoots = HashMap<i64, PendingRoot>;
+pub type WaitingRoots = BTreeMap<i64, PendingRoot>;
 
 /// Returns the blob that waits for a flush at the rowid of `key`, if one does. It may be another
 /// key's, with the same low 63 bits.
 pub fn waiting_at(waiting: &WaitingBlobs, key: DataKey) -> Option<&PendingBlob>
-    ensures { option_copied result ≡ get int_eq waiting.now (spec.rowid_of key) }
+    ensures { option_copied result ≡ get int_cmp waiting.now (spec.rowid_of key) }
 {
     waiting.get(&rowid_of(key))
 }
@@ -51,7 +51,7 @@ pub fn waiting_at(waiting: &WaitingBlobs, key: DataKey) -> Option<&PendingBlob>
 /// Returns the entry that waits for a flush at the rowid of `name`, if one does. It may be
 /// another name's.
 pub fn waiting_root_at<'a>(waiting: &'a WaitingRoots, name: &str) -> Option<&'a PendingRoot>
-    ensures { option_copied result ≡ get int_eq waiting.now (spec.rowid_of_name name.now) }
+    ensures { option_copied result ≡ get int_cmp waiting.now (spec.rowid_of_name name.now) }
 {
     waiting.get(&rowid_of_name(name))
 }

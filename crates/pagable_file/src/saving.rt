@@ -10,9 +10,9 @@ ghost use Rattle.sqlite_trees.specs.{
   declared.store.Shape.TheVariants.Table,
 };
 ghost use Rattle.std.specs.{
-  HashMap.IsUnique,
+  BTreeMap.IsOrdered,
   List.AllByRecursion,
-  Ordering.int_eq,
+  Ordering.int_cmp,
   Prelude.{OnErr, OnOk, ◌≡◌, ◌≤◌, ◌⊎◌},
 };
 
@@ -23,7 +23,7 @@ use sqlite_trees::error::StoreError;
 use sqlite_trees::store::Store;
 use sqlite_value::row::Row;
 
-/// Puts the waiting blobs into their table, without a commit.
+/// Puts the waiting blobs into their table, in the order of their places, without a commit.
 #[tactic(auto, using(crate::proofs::Settling::writing, crate::proofs::Putting::putting))]
 fn put_blobs<S: Store>(
     store: &mut S,
@@ -36,7 +36,7 @@ fn put_blobs<S: Store>(
         → Wrote (S.view store.old) (S.view store.new) (put_all pending_row waiting.now.entries
         ((S.view store.old).trees blob_tree)) ((S.view store.old).trees root_tree)) }
     ensures fit { OnOk result (AllByRecursion (λ e. Fits e.1) waiting.now.entries) }
-    ensures once { IsUnique int_eq waiting.now }
+    ensures ordered { IsOrdered int_cmp waiting.now }
     ensures err { OnErr result (IsClean (S.view store.new) → KeepsCommitted (S.view store.old) (S.view store.new)) }
     ensures doubt_never_falls { doubt (S.view store.old).is_clean ≤ doubt (S.view store.new).is_clean }
     ensures crash { (db : Trees) → S.recovers store.new db → S.recovers store.old db }
@@ -48,7 +48,7 @@ fn put_blobs<S: Store>(
     Ok(())
 }
 
-/// Puts the waiting names into their table, without a commit.
+/// Puts the waiting names into their table, in the order of their places, without a commit.
 #[tactic(auto, using(crate::proofs::Settling::writing, crate::proofs::Putting::putting))]
 fn put_roots<S: Store>(
     store: &mut S,
@@ -61,7 +61,7 @@ fn put_roots<S: Store>(
         → Wrote (S.view store.old) (S.view store.new) ((S.view store.old).trees blob_tree)
         (put_all pending_root_row waiting.now.entries ((S.view store.old).trees root_tree))) }
     ensures fit { OnOk result (AllByRecursion (λ e. CanBeKeyIfSome e.1.key) waiting.now.entries) }
-    ensures once { IsUnique int_eq waiting.now }
+    ensures ordered { IsOrdered int_cmp waiting.now }
     ensures err { OnErr result (IsClean (S.view store.new) → KeepsCommitted (S.view store.old) (S.view store.new)) }
     ensures doubt_never_falls { doubt (S.view store.old).is_clean ≤ doubt (S.view store.new).is_clean }
     ensures crash { (db : Trees) → S.recovers store.new db → S.recovers store.old db }
@@ -90,8 +90,8 @@ fn put_waiting<S: Store>(
         ((S.view store.old).trees root_tree))) }
     ensures fit { OnOk result (AllByRecursion (λ e. Fits e.1) waiting.now.entries) }
     ensures roots_fit { OnOk result (AllByRecursion (λ e. CanBeKeyIfSome e.1.key) roots.now.entries) }
-    ensures once { OnOk result (IsUnique int_eq waiting.now) }
-    ensures roots_once { OnOk result (IsUnique int_eq roots.now) }
+    ensures ordered { OnOk result (IsOrdered int_cmp waiting.now) }
+    ensures roots_ordered { OnOk result (IsOrdered int_cmp roots.now) }
     ensures err { OnErr result (IsClean (S.view store.new) → KeepsCommitted (S.view store.old) (S.view store.new)) }
     ensures doubt_never_falls { doubt (S.view store.old).is_clean ≤ doubt (S.view store.new).is_clean }
     ensures crash { (db : Trees) → S.recovers store.new db → S.recovers store.old db }
@@ -117,8 +117,8 @@ pub fn save<S: Store>(
         (put_all pending_root_row roots.now.entries ((S.view store.old).trees root_tree))) }
     ensures fit { OnOk result (AllByRecursion (λ e. Fits e.1) waiting.now.entries) }
     ensures roots_fit { OnOk result (AllByRecursion (λ e. CanBeKeyIfSome e.1.key) roots.now.entries) }
-    ensures once { OnOk result (IsUnique int_eq waiting.now) }
-    ensures roots_once { OnOk result (IsUnique int_eq roots.now) }
+    ensures ordered { OnOk result (IsOrdered int_cmp waiting.now) }
+    ensures roots_ordered { OnOk result (IsOrdered int_cmp roots.now) }
     ensures err { OnErr result (LeavesCommitted (S.view store.old) (S.view store.new)) }
     // A crash leaves all that waited, blobs and names, or what a crash before the call could leave.
     ensures crash { IsClean (S.view store.new) → (db : Trees) → S.recovers store.new db

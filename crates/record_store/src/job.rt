@@ -7,6 +7,7 @@ use pagable_core::Roots;
 use pagable_file::{FileBlobs, OpenError};
 use pagable_nodes::Records;
 use pagable_value_spec::HandleNumber;
+use sqlite::{File, FileStore};
 use std::alloc::Global;
 
 /// The work that a program does in each run, with its records.
@@ -40,22 +41,42 @@ pub fn run_over<J: Job, S: Roots<Records> + Drop>(
     job.run(&mut store, last)
 }
 
-// Runs a job over the records of a storage that was opened at a path, or fails as the opening did. It
-// takes a storage of any type, so that the checker needn't follow how a file of blobs is dropped.
-fn run_over_opened<J: Job, S: Roots<Records> + Drop>(
+/// A storage in a file that its program closes.
+trait CloseFile {
+    /// Closes the file, with its log copied into it.
+    fn close_file(self, alloc: Global) -> Result<(), OpenError>;
+}
+
+impl CloseFile for FileBlobs<Records, FileStore<File>> {
+    fn close_file(self, alloc: Global) -> Result<(), OpenError> {
+        self.close_files(alloc)?;
+        Ok(())
+    }
+}
+
+// Runs a job over the records of a storage that was opened at a path, or fails as the opening did, and
+// closes the storage. It takes one of any type, so that the checker needn't follow how a file of blobs is
+// dropped.
+fn run_over_opened<J: Job, S: Roots<Records> + CloseFile + Drop>(
     alloc: Global,
     path: &str,
     storage: Result<S, OpenError>,
     job: &J,
 ) -> Result<()> {
-    run_over(alloc, storage.context(format_args!("opening {path}"))?, job)
+    let storage = storage.context(format_args!("opening {path}"))?;
+    let (mut store, last) = RecordStore::open(alloc, storage, J::ROOT, J::KEPT_RECORDS)?;
+    let done = job.run(&mut store, last);
+    let closed = store.into_storage().close_file(alloc);
+    done?;
+    Ok(closed.context(format_args!("closing {path}"))?)
 }
 
-/// Runs a job over the records of a file, which it creates if there is none.
+/// Runs a job over the records of a file, which it creates if there is none, and closes the file: then it
+/// holds all that was saved, without its log.
 ///
 /// # Errors
 ///
-/// - as `FileBlobs::open`, with the path, and `run_over`.
+/// - as `FileBlobs::open` and `close_files`, with the path, and as `run_over`.
 pub fn run_over_file<J: Job>(rt: &HostRuntime, path: &str, job: &J) -> Result<()> {
     run_over_opened(rt.alloc(), path, FileBlobs::open(rt, path), job)
 }

@@ -130,6 +130,13 @@ impl<S: Roots<Records>> RecordCalls for RecordStore<S> {
 }
 
 impl<S: Roots<Records> + Drop> RecordStore<S> {
+    /// Returns the storage, and drops the records in memory.
+    pub fn into_storage(self) -> S
+        ensures { result ≡ self.pager.storage }
+    {
+        self.pager.into_storage()
+    }
+
     /// Opens the records of a storage, with a budget that keeps `kept` records in memory. If the
     /// root's name stands for a key, also returns a handle of the key's record, which pins nothing;
     /// the call doesn't read the record.
