@@ -24,7 +24,7 @@ def parts(seed):
         yield f"wrong bodies of {file.stem}", ["tools/wrong_bodies.py", "--over-ci", file.stem]
     yield "wrong bodies of threads", ["tools/threads/run.py", "--wrong"]
     yield "drawn programs", ["tools/fuzz.py", seed, "2000"]
-    yield "files of blobs", ["tools/file_blobs/check.py", BLOBCTL, "--seed", seed, "--kills", "300", "--race", "60"]
+    yield "files of blobs", ["tools/file_blobs/check.py", BLOBCTL, "300", "20", "60", seed]
 
 
 def run(name, words, log):
