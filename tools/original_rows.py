@@ -15,6 +15,7 @@ import sys
 
 sys.dont_write_bytecode = True
 from plain_pager import varint
+from plain_values import answer, split
 
 # The types whose lines are replayed, all of which `rows` knows.
 CARRIED = [
@@ -26,9 +27,6 @@ CARRIED = [
     "IndexMap<String,BTreeSet<Option<i8>>>",
 ]
 
-# The types whose value `rows` shows.
-SHOWN = ("u16", "u128", "i128")
-
 UNSIGNED = ("u8", "u16", "u32", "u64", "u128", "usize")
 SIGNED = ("i8", "i16", "i32", "i64", "i128")
 
@@ -39,17 +37,6 @@ REFUSALS = {"UnexpectedEnd": 1, "BadVarint": 2, "BadBool": 3, "BadUtf8": 4, "Too
 # How many inputs of a type are taken, beside the bounds of numbers, and how many blobs; how long an input may be; and how many columns the inputs of a
 # line or their answers may fill before another line begins.
 WRITTEN, READ, BLOBS, LONGEST_INPUT, COLUMNS = 5, 8, 12, 44, 190
-
-
-def split(text):
-    """The parts between the outer commas."""
-    parts, level, start = [], 0, 0
-    for place, sign in enumerate(text):
-        level += (sign in "<([") - (sign in ">)]")
-        if sign == "," and level == 0:
-            parts.append(text[start:place])
-            start = place + 1
-    return parts + [text[start:]]
 
 
 # The type of the items of a list; of an array or a lent slice, which have no count.
@@ -149,7 +136,15 @@ def row(line):
         used = len(data)
     again = form(name, value)
     other = "" if again == data[:used] else f" {again.hex() or '-'}"
-    return data, f"ok {used}{other}" + (f" = {value}" if name in SHOWN else "")
+    return data, shown(name, data, f"ok {used}{other}", value)
+
+
+def shown(name, data, told, value):
+    """An answer, with the value as rows show it, by the plain rules: these have to agree with the original."""
+    by_rules = answer(name, data)
+    if by_rules.partition(" = ")[0] != told or (name in UNSIGNED + SIGNED and by_rules != f"{told} = {value}"):
+        raise SystemExit(f"{name} of {data.hex()}: the original has `{told}`, {value}, and the plain rules `{by_rules}`")
+    return by_rules
 
 
 def picked(rows, most, kind):
@@ -184,8 +179,8 @@ def rows_of(name, lines):
     return written + picked([found for found in decoded if found not in written], READ, kind_of_answer)
 
 
-def print_lines(start, rows):
-    """Prints the inputs of the rows and their answers, in lines of which neither part is too long."""
+def lines_of(start, rows):
+    """The inputs of the rows and their answers, in lines of which neither part is too long."""
     lines = []
     for row in rows:
         if not lines or sum(max(map(len, other)) + 2 for other in [*lines[-1], row]) > COLUMNS:
@@ -193,7 +188,7 @@ def print_lines(start, rows):
         lines[-1].append(row)
     for line in lines:
         inputs, answers = zip(*line)
-        print(" ".join([start, *inputs]), "->", "; ".join(answers))
+        yield " ".join([start, *inputs]) + " -> " + "; ".join(answers)
 
 
 def main():
@@ -206,11 +201,14 @@ def main():
                     blobs[(blob["data_hex"] or "-") + ":" * bool(blob["arcs"]) + ",".join(blob["arcs"]), blob["key"]] = None
             elif line.get("type") in lines and not line.get("differs"):
                 lines[line["type"]].append(line)
-    print("# What the original crate wrote and read, by tools/original_rows.py.")
+    printed = []
     for name in CARRIED:
-        print_lines(f"{name} read", [(data.hex() or "-", answer) for data, answer in rows_of(name, lines[name])])
+        rows = [(data.hex() or "-", told) for data, told in rows_of(name, lines[name])]
+        printed += lines_of(f"{name} read", rows)
     of_blobs = picked(list(blobs), BLOBS, lambda blob: ("ok", ":" in blob[0], blob[0].count(","), len(blob[0])))
-    print_lines("blob weigh", of_blobs)
+    printed += lines_of("blob weigh", of_blobs)
+    print(f"# rows: {len(printed)}")
+    print("# What the original crate wrote and read, by tools/original_rows.py.", *printed, sep="\n")
 
 
 if __name__ == "__main__":
