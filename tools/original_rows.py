@@ -19,10 +19,11 @@ sys.dont_write_bytecode = True
 TOP = pathlib.Path(__file__).resolve().parent.parent
 sys.path.insert(0, str(TOP / "tools"))
 import original_crate  # noqa: E402
+import plain_values  # noqa: E402
 
 ROWS = TOP / "tools/crates/rows/data/original.txt"
-# The types whose values the rows show. The program shows every value.
-SHOWN = ("u16", "u128", "i128")
+# The types whose values both spell alike. The program shows every value.
+NUMBERS = ("u8", "u16", "u32", "u64", "u128", "usize", "i8", "i16", "i32", "i64", "i128")
 
 
 def answers_of(program, rows):
@@ -37,9 +38,13 @@ def answers_of(program, rows):
 
 
 def spelled(row, answers):
-    """The answers as a row has them."""
-    is_shown = row.partition(" ")[0] in SHOWN
-    return "; ".join(answer if is_shown else answer.partition(" = ")[0] for answer in answers)
+    """The answers as a row has them: where the original reads and writes what the plain rules say, as these show it."""
+    name, verb, *inputs = row.split()
+    if verb != "read":
+        return "; ".join(answers)
+    wanted = [plain_values.answer(name, plain_values.bytes_of(data)) for data in inputs]
+    in_part = (lambda told: told) if name in NUMBERS else (lambda told: told.partition(" = ")[0])
+    return "; ".join(plain if in_part(plain) == in_part(told) else told for plain, told in zip(wanted, answers))
 
 
 def main(words):
@@ -53,7 +58,7 @@ def main(words):
     asked = [row for row, _, _ in rows]
     found = [spelled(row, answers) for row, answers in zip(asked, answers_of(program, asked))]
     if words[2:]:
-        heads = [line for line in lines if line.startswith("#")]
+        heads = [f"# rows: {len(rows)}", *(line for line in lines[1:] if line.startswith("#"))]
         ROWS.write_text("\n".join([*heads, *map(" -> ".join, zip(asked, found))]) + "\n", encoding="utf-8")
     differ = [f"{row}\n  the original: {answer}\n  the file:     {here.strip()}"
               for (row, _, here), answer in zip(rows, found) if here.strip() != answer]

@@ -1,5 +1,5 @@
 //! Answers rows of values on the Rust crate `pagable`: for each line `TYPE read HEX ..` or `blob weigh BLOB ..` that it
-//! reads, it prints a line for each input, as docs/PROOFS.md says of `vectors` (Rows), but with every value shown, by
+//! reads, it prints a line for each input, as docs/PROOFS.md says of `rows` (Rows), but with every value shown, by
 //! `{:?}`. A refusal that has no number here is printed as the original tells it. `tools/original_rows.py` puts this
 //! file among the examples of a copy of that crate, builds it there, and compares.
 

@@ -384,7 +384,7 @@ def main(words):
         with open(words[1], encoding="utf-8") as lines:
             print("\n".join(rows.answered(line) for line in lines.read().splitlines()))
     elif len(words) == 3 and words[0] == "draw":
-        print("\n".join(Draw(int(words[1])).rows(int(words[2]))))
+        print("# rows: 0", *Draw(int(words[1])).rows(int(words[2])), sep="\n")
     else:
         sys.exit(__doc__)
 
