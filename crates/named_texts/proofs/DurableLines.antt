@@ -1,5 +1,5 @@
 -- Lines about texts under names of roots, taken apart at their spaces.
-use Rattle.named_texts.proofs.Lines.{cut, letters_lack, name_lacks, uncut}
+use Rattle.named_texts.proofs.SplitLines.{cut, letters_lack, name_lacks, uncut}
 use Rattle.named_texts.specs.{
   Durable.SpellsDurable,
   Line.{IsName, LacksSpace},

@@ -1,2 +1,2 @@
 pub mod DurableLines
-pub mod Lines
+pub mod SplitLines

@@ -58,7 +58,7 @@ pub fn parse(line: &str) -> Option<Command<'_>>
 }
 
 /// Returns the command that a word and a name spell, or None if they spell none.
-#[tactic(auto, using(crate::proofs::Lines::two_words))]
+#[tactic(auto, using(crate::proofs::SplitLines::two_words))]
 fn parse_word_and_name<'a>(word: &str, name: &'a str) -> Option<Command<'a>>
     requires word { LacksSpace word.now }
     requires name { LacksSpace name.now }
@@ -76,7 +76,7 @@ fn parse_word_and_name<'a>(word: &str, name: &'a str) -> Option<Command<'a>>
 
 /// Returns the command that a word, a name and the rest of the line spell, or None if they spell
 /// none. The rest is the text of `new`, and the second name of `pin` and `clone`.
-#[tactic(auto, using(crate::proofs::Lines::more_words))]
+#[tactic(auto, using(crate::proofs::SplitLines::more_words))]
 fn parse_word_name_and_rest<'a>(word: &str, name: &'a str, behind: &'a str) -> Option<Command<'a>>
     requires word { LacksSpace word.now }
     requires name { LacksSpace name.now }

@@ -1,5 +1,5 @@
 -- What stands before and behind the first two spaces.
-use Rattle.named_texts.proofs.Lines.{split_none, split_some}
+use Rattle.named_texts.proofs.SplitLines.{split_none, split_some}
 use Rattle.named_texts.specs.Line.{SpellsResult}
 use Rattle.std.proofs.Common.{ap, subst, sym, ◌++◌, ◌∙◌, ◌∷◌}
 use Rattle.named_texts.proofs.command.parse.Goals as goal

@@ -1,5 +1,5 @@
 -- What stands before and behind the first two spaces.
-use Rattle.named_texts.proofs.{DurableLines.two_durable_words, Lines.{split_none, split_some}}
+use Rattle.named_texts.proofs.{DurableLines.two_durable_words, SplitLines.{split_none, split_some}}
 use Rattle.named_texts.specs.Durable.{SpellsDurableResult}
 use Rattle.std.proofs.Common.{None, ap, subst, sym, ◌++◌, ◌∙◌, ◌∷◌}
 use Rattle.named_texts.proofs.durable_command.parse_durable.Goals as goal
