@@ -73,6 +73,7 @@ class Program:
             answer = "ok"
         if len(words) == 2:
             return f"free {answer}"
+        answer = answer.partition(" = ")[0]
         again = "refused 1" if self.fault == "forgets what it refused" else answer
         return f"{'met refused 22' if words[0] == '1' else 'free ' + answer} | {again} | free ok | ok"
 

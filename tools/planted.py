@@ -217,24 +217,18 @@ def pager_rows(work):
 
 
 def unlike(file):
-    """The rows of values in a file that the plain rules answer otherwise, without what a value shows."""
-    for line in file.read_text(encoding="utf-8").splitlines():
-        asked, _, wanted = line.partition(" -> ")
-        name, verb, *inputs = [*asked.split(" "), ""][:-1]
-        if name not in plain_values.TYPES or verb != "read":
-            continue
-        for one, answer in zip(inputs, wanted.split("; "), strict=True):
-            if plain_values.answer(name, hostile.bytes_of(one)) != answer.partition(" = ")[0]:
-                yield f"{name} of {one}: {answer}"
+    """The rows of values in a file that the plain rules answer otherwise."""
+    return "".join(line for line in file.read_text(encoding="utf-8").split("\n") if plain_values.answered(line) != line)
 
 
 def values(work):
-    """A row of the original's whose answer is changed, and rules of which one is changed."""
+    """A row of the original's whose answer or value is changed, and rules of which one is changed."""
     original = DATA / "original.txt"
-    yield "", "".join(unlike(original))
-    yield "bool of 02", "".join(unlike(changed(original, work, "bool read 00 01 ", "bool read 00 02 ")))
-    with mock.patch.dict(plain_values.SIMPLE, {"bool": lambda b: b.take(1)}):
-        yield "bool of ac", "".join(unlike(original))
+    yield "", unlike(original)
+    for old, new in [("bool read 00 01 ", "bool read 00 02 "), ("= false; ok 1 = true", "= true; ok 1 = true")]:
+        yield "bool read 0", unlike(changed(original, work, old, new))
+    with mock.patch.dict(plain_values.SIMPLE, {"bool": lambda b: plain_values.number("u8")(b)}):
+        yield "bool read 00", unlike(original)
 
 
 def script(_):
@@ -355,7 +349,7 @@ def cut_input(server, tally):
     """Inputs that are cut, and a blob."""
     with mock.patch.object(hostile, "inputs", lambda: [("u16", b"\xac\x02\x05"), ("String", b"\1x")]):
         hostile.cuts(server, tally)
-    hostile.each_request(server, tally, {1: [("String read 0178", "ok 2")]})
+    hostile.each_request(server, tally, {1: [("String read 0178", 'ok 2 = "x"')]})
     hostile.read_blob(server, tally, "0178", 0)
 
 
