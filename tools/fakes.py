@@ -5,6 +5,7 @@ tries the tools on them.
     tools/fakes.py rows FAULT                              # the program of tools/failures
     tools/fakes.py texts FAULT weigh                       # `pagectl`
     tools/fakes.py machine FAULT STORE LINES [PROGRAM]     # `heap_snapshot`
+    tools/fakes.py blobs FAULT FILE [COMMAND..]            # `blobctl`
 """
 import os
 import pathlib
@@ -14,7 +15,8 @@ import sys
 
 HERE = pathlib.Path(__file__).resolve().parent
 sys.dont_write_bytecode = True
-sys.path[:0] = [str(HERE / "programs"), str(HERE / "failures"), str(HERE)]
+sys.path[:0] = [str(HERE / folder) for folder in ("programs", "failures", "file_blobs", ".")]
+import asking  # noqa: E402
 import models  # noqa: E402
 import plain_script  # noqa: E402
 import plain_values  # noqa: E402
@@ -132,6 +134,43 @@ def machine(fault, *words):
         state.place -= 1
     store.write_bytes(pickle.dumps(state, protocol=4))
     return 0
+
+
+class Blobs:
+    """The blobs and names of a file, each with what was flushed of it."""
+
+    def __init__(self):
+        self.blobs, self.names = {}, {}
+
+    def answer(self, word, words):
+        """The answer to a command."""
+        if word == "put":
+            key = asking.key_of(bytes.fromhex(words[0]), words[1:])
+            self.blobs[key] = words[1:]
+            return key
+        if word == "root":
+            self.names[words[0]] = words[1]
+            return "set"
+        if word == "roots":
+            return "\n".join(" ".join(it) for it in self.names.items())
+        if word == "tree":
+            below = self.blobs.get(words[0], [])
+            return "\n".join([words[0], *(self.answer("tree", [key]) for key in below)])
+        return "flushed" if word == "flush" else f"{len(self.blobs)} blobs, 0 flaws"
+
+
+def blobs(fault, file, *words):
+    """Runs a command, or those of the input, over a file, which keeps what was flushed."""
+    file = pathlib.Path(file)
+    state = pickle.loads(file.read_bytes()) if file.exists() else Blobs()
+    for line in [" ".join(words)] if words else sys.stdin.read().splitlines():
+        word, *rest = line.split(" ")
+        print(state.answer(word, rest))
+        if word == "flush":
+            forgotten = {"forgets names": state.names, "forgets blobs": state.blobs}.get(fault, {})
+            forgotten.clear()
+            file.write_bytes(pickle.dumps(state))
+    return int(fault == "has a flaw" and words == ("fsck",))
 
 
 if __name__ == "__main__":

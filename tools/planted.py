@@ -25,7 +25,9 @@ HERE = pathlib.Path(__file__).resolve().parent
 TOP = HERE.parent
 DATA = TOP / "tools" / "crates" / "rows" / "data"
 sys.dont_write_bytecode = True
-sys.path[:0] = [str(HERE / folder) for folder in ("threads", "programs", "failures", "speed", ".")]
+FOLDERS = ("hostile", "file_blobs", "threads", "programs", "failures", "speed", ".")
+sys.path[:0] = [str(HERE / folder) for folder in FOLDERS]
+import asking  # noqa: E402
 import edits  # noqa: E402
 import fakes  # noqa: E402
 import fuzz  # noqa: E402
@@ -34,6 +36,7 @@ import gate_times  # noqa: E402
 import hostile  # noqa: E402
 import middle  # noqa: E402
 import naming  # noqa: E402
+import nightly  # noqa: E402
 import original_rows  # noqa: E402
 import pagectl  # noqa: E402
 import plain_pager  # noqa: E402
@@ -505,6 +508,45 @@ def of_times(work):
         yield "of no gate that proved everything", told(gate_times.docs_table, log, TOP)
 
 
+def files(work):
+    """A file that lacks the name or the blobs of a flush, or has a flaw; a file that isn't there."""
+    lines, roots = asking.chain(6, 10, 3)
+    faults = {"": "", "forgets names": "the root is", "forgets blobs": "blobs of", "has a flaw": "fsck"}
+    for fault, why in faults.items():
+        blobctl, file = program(work, "blobs", fault), work / f"file {fault}"
+        said = asking.run(blobctl, file, text=lines)
+        yield why, asking.lost(blobctl, file, roots, asking.flushes(said.stdout), 3) or ""
+    yield "", asking.lost(blobctl, work / "none", roots, 0, 3) or ""
+
+
+def hostile_run(work):
+    """An input that comes to something else, and one that comes too late."""
+    run = module_at("run_of_hostile", HERE / "hostile" / "run.py").Run(work)
+    for came, seconds, wrong in [("refused 1", 0.1, ""), ("refused 2", 0.1, "WRONG"), ("refused 1", 2, "WRONG")]:
+        said = told(run.tell, "an input", came, seconds, "refused 1", 1)
+        yield wrong, said if wrong else said.partition(" s")[2].strip()
+
+
+def data_rows(work):
+    """A row of values that expects something else, and a program that prints something else."""
+    run = module_at("run_of_rows", HERE / "rows" / "run.py")
+    shutil.copytree(run.CRATE, work / "rows")
+    wanted = (run.CRATE / "stdout").read_text(encoding="utf-8")
+    with mock.patch.object(run, "CRATE", work / "rows"):
+        for printed, status, why in [(wanted, 0, "all are"), (wanted, 1, "status 1"), ("", 0, "isn't what is")]:
+            done = types.SimpleNamespace(stdout=printed, stderr="", returncode=status)
+            with mock.patch.object(run, "told", lambda _, done=done: done):
+                yield why, told(run.main, [])
+        changed(DATA / "by_hand.txt", work / "rows" / "data", "ok 2 = 300", "ok 2 = 301")
+        yield "by the plain rules", told(run.main, [])
+
+
+def of_night(work):
+    """A part that fails."""
+    for words, verdict in [(["true"], "stood"), (["false"], "FAILED")]:
+        yield verdict, told(nightly.run, "a part", words, work / "log")
+
+
 # What is tried on a tool: one after the other, words that have to be told of a fault, or none, and what is told.
 TOOLS = {
     "check_text.py": check_text, "edits.py": edits_of_bodies, "wrong_bodies.py": bodies, "threads": threads,
@@ -513,7 +555,7 @@ TOOLS = {
     "failures/driver.py": driver, "failures/shared.py": of_shared, "failures/hostile.py": hostile_input,
     "failures/middle.py": rows_in_the_middle, "failures/naming.py": names, "failures/table.py": refusals,
     "failures/pagectl.py": scripts, "fuzz.py": fuzzed, "programs": programs, "gate.py": of_gate,
-    "gate_times.py": of_times,
+    "gate_times.py": of_times, "file_blobs": files, "hostile": hostile_run, "rows": data_rows, "nightly.py": of_night,
 }
 
 

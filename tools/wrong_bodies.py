@@ -5,8 +5,8 @@ breaks.
 usage: tools/wrong_bodies.py [--over-ci] [CRATE..]     (with no crate: every one that has wrong bodies)
        tools/wrong_bodies.py [--over-ci] --drawn COMMIT    (ten of all, drawn by the commit's hash)
 
-With --over-ci the libraries are those that `rt ci` left in this checkout when it ended, and none is built. Of drawn ones
-only the modules are checked that they break.
+With --over-ci the libraries are those that `rt ci` left in this checkout when it ended, and none is built. Of drawn
+ones only the modules are checked that they break.
 
 tools/edits.py tells how they are spelled. All edits of a crate are tried together, on a copy of the repository over the
 work that earlier checks kept: one body a function and round, so that one check answers many. If stored answers or
@@ -104,8 +104,8 @@ def linked_or_copied(file, to):
 
 
 def stamp_libraries(room):
-    """Lets `rt check` take the libraries that `rt ci` left, in a copy of all: puts beside each the sum by which rt tells of
-    which text it is."""
+    """Lets `rt check` take the libraries that `rt ci` left, in a copy of all: puts beside each the sum by which rt tells
+    of which text it is."""
     kit = Path(shutil.which("rt")).resolve().parent
     sys.path.append(str(kit))
     loader = importlib.machinery.SourceFileLoader("rt", str(kit / "rt"))
@@ -141,7 +141,7 @@ class Answer:
 
 
 def ran(folder, texts, only):
-    """The output of a check with these texts in place of the crate's own, of these functions or modules alone if any are named."""
+    """The output of a check with these texts in place of the crate's own, of these modules alone if any are named."""
     own = {file: (folder / file).read_text(encoding="utf-8") for file in texts}
     for file, text in texts.items():
         (folder / file).write_text(text, encoding="utf-8")
@@ -180,13 +180,14 @@ def tried_alone(folder, edit, only):
 
 
 def try_round(folder, edits, is_drawn):
-    """Tries those of the edits together that meet in no function; answers them, each with what is told of it. Of drawn ones only the modules that they break are
-    checked."""
+    """Tries those of the edits together that meet in no function; answers them, each with what is told of it. Of drawn
+    ones only the modules that they break are checked."""
     texts, held = {}, []
     for edit in edits:
         if not any(functions(edit) & functions(it) for it in held) and edit.apply(texts, folder) is None:
             held.append(edit)
-    modules = {edit: {f"{folder.name}::{module_of(file)}".removesuffix("::") for file, _ in edit.places} if is_drawn else set() for edit in held}
+    broken = lambda edit: {f"{folder.name}::{module_of(file)}".removesuffix("::") for file, _ in edit.places}  # noqa: E731
+    modules = {edit: broken(edit) if is_drawn else set() for edit in held}
     answer = Answer(folder, texts, set().union(*modules.values()))
     for edit in held:
         of_each = [{it for it in answer.refused if re.fullmatch(pattern, it, re.IGNORECASE)} for pattern in functions(edit)]
