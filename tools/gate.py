@@ -5,9 +5,9 @@
 
 `rt ci` proves each crate and its tests, tries the must-fail edits, and runs each program. (What it passed on this
 machine it keeps by the check sums of all that it read, and proves again only what changed; with --anew it proves all.)
-Beside it run the tools of TOOLS, which test what no proof says, each once the memory that it takes is free. The tool on
-files of blobs takes the `blobctl` that `rt ci` built, and ten wrong bodies, drawn by the commit's own hash, are tried
-once `rt ci` has ended.
+Beside it run the tools of TOOLS, which test what no proof says, one after the other, each once there is memory for it.
+The tool on files of blobs takes the `blobctl` that `rt ci` built, and ten wrong bodies, drawn by the commit's own hash,
+are tried once `rt ci` has ended.
 
 Lines of `rt ci` begin with the minutes and seconds since the start. Behind them stands what each tool said, and a table
 of times by crate and tool (tools/gate_times.py writes docs/PROOFS.md's from it). The last line is 'N passed, M failed':
@@ -30,19 +30,19 @@ import gate_times  # noqa: E402
 
 TOP = Path(__file__).resolve().parent.parent
 NEEDED = {"rt": "the Rattle toolchain", "git": "git", "cc": "gcc or clang", "sqlite3": "sqlite3"}
-# The share of free memory that checks and tools may plan with, and what else a tool leaves free, in MB.
-SHARE, SPARE = 0.9, 1500
+# The share of free memory that checks may plan with, and what a tool leaves free for them to grow, in MB.
+SHARE, SPARE = 0.9, 6000
 BLOBCTL = "crates/blobctl/out/blobctl"
-# The tools, the dearest first: a name, the words that run it, and the crate of `rt ci` whose end it waits for.
+# The tools: a name, the words that run it, and the crate of `rt ci` whose end it waits for, or `all`.
 TOOLS = (
     ("text", ["tools/check_text.py"], None),
     ("planted faults", ["tools/planted.py"], None),
-    ("failures", ["tools/failures/run.py"], None),
     ("threads and crates", ["tools/tests.py"], None),
+    ("failures", ["tools/failures/run.py"], None),
     ("rows", ["tools/rows/run.py"], None),
     ("programs", ["tools/programs/run.py"], None),
     ("files of blobs", ["tools/file_blobs/check.py", BLOBCTL], "blobctl"),
-    ("wrong bodies", ["tools/wrong_bodies.py", "--over-ci", "--drawn", "HEAD"], "all"),
+    ("wrong bodies", ["tools/wrong_bodies.py", "--over-ci", "--jobs", "3", "--drawn", "HEAD"], "all"),
 )
 LAST = re.compile(r"(\d+) passed, (\d+) failed")
 ENDED = re.compile(r"rt: (\w+) (?:proved|is kept)")
@@ -142,8 +142,8 @@ def main():
         print("\n".join([*lacking, f"0 passed, {len(lacking)} failed"]))
         sys.exit(1)
     usage, ended = gate_times.Usage(), Ended()
-    with ThreadPoolExecutor(2) as beside:
-        told = [beside.submit(run_tool, tool, usage, ended) for tool in TOOLS]
+    with ThreadPoolExecutor(1) as beside, ThreadPoolExecutor(2) as behind:
+        told = [(behind if tool[2] else beside).submit(run_tool, tool, usage, ended) for tool in TOOLS]
         passed, failed = prove(sys.argv[1:], usage, ended)
         results = [it.result() for it in told]
     for holds, said in results:

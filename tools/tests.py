@@ -7,8 +7,8 @@ status is 0 if all did.
 
 They run by `rt try`, in a copy of the repository's crates: a proof of a test says no more than that it ends, and these
 would take longer to prove than the libraries that they test. All are modules of one crate, which is
-`pagable_locked_examples`, so that what is below is compiled once. The files are named X.rattle, since the gate stops at
-a file X.rt that it doesn't check.
+`pagable_locked_examples`, so that what is below is compiled once; that takes 9 GB of memory, and 7 for those of one
+folder. The files are named X.rattle, since the gate stops at a file X.rt that it doesn't check.
 """
 import pathlib
 import re

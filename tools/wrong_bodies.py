@@ -2,10 +2,10 @@
 """Tries the wrong bodies of tools/wrong_bodies/CRATE.edits: the prover has to refuse, by itself, each function that one
 breaks.
 
-usage: tools/wrong_bodies.py [--over-ci] [CRATE..]     (with no crate: every one that has wrong bodies)
-       tools/wrong_bodies.py [--over-ci] --drawn COMMIT    (ten of all, drawn by the commit's hash)
+usage: tools/wrong_bodies.py [--over-ci] [--jobs N] [CRATE..]     (with no crate: every one that has wrong bodies)
+       tools/wrong_bodies.py [--over-ci] [--jobs N] --drawn COMMIT    (ten of all, drawn by the commit's hash)
 
-With --over-ci the libraries are those that `rt ci` left in this checkout when it ended, and none is built. Of drawn
+So many crates are tried side by side as --jobs says, or one. With --over-ci the libraries are those that `rt ci` left in this checkout when it ended, and none is built. Of drawn
 ones only the modules are checked that they break.
 
 tools/edits.py tells how they are spelled. All edits of a crate are tried together, on a copy of the repository over the
@@ -31,6 +31,7 @@ import shutil
 import subprocess
 import sys
 import tempfile
+from concurrent.futures import ThreadPoolExecutor
 from pathlib import Path
 
 TOP = Path(__file__).resolve().parent.parent
@@ -225,15 +226,18 @@ def drawn_by(commit, count=10):
 
 
 def main():
-    words = argparse.ArgumentParser(usage="tools/wrong_bodies.py [--over-ci] [--drawn COMMIT | CRATE..]")
+    words = argparse.ArgumentParser(usage="tools/wrong_bodies.py [--over-ci] [--jobs N] [--drawn COMMIT | CRATE..]")
     words.add_argument("--over-ci", action="store_true")
+    words.add_argument("--jobs", type=int, default=1)
     words.add_argument("--drawn")
     words.add_argument("crates", nargs="*", choices=[[], *sorted(it.stem for it in EDITS.iterdir())])
     given = words.parse_args()
     need("rt")
     every = dict.fromkeys(given.crates or sorted(it.stem for it in EDITS.iterdir()))
     tried = drawn_by(given.drawn) if given.drawn else every
-    passed, failed = map(sum, zip(*(try_crate(crate, given.over_ci, names) for crate, names in tried.items())))
+    with ThreadPoolExecutor(given.jobs) as pool:
+        counts = pool.map(lambda crate: try_crate(crate, given.over_ci, tried[crate]), tried)
+        passed, failed = map(sum, zip(*counts))
     print(f"{passed} passed, {failed} failed")
     sys.exit(1 if failed else 0)
 
