@@ -5,8 +5,8 @@ breaks.
 usage: tools/wrong_bodies.py [--over-ci] [--jobs N] [CRATE..]     (with no crate: every one that has wrong bodies)
        tools/wrong_bodies.py [--over-ci] [--jobs N] --drawn COMMIT    (ten of all, drawn by the commit's hash)
 
-So many crates are tried side by side as --jobs says, or one. With --over-ci the libraries are those that `rt ci` left in this checkout when it ended, and none is built. Of drawn
-ones only the modules are checked that they break.
+As many crates are tried side by side as --jobs says, or one. With --over-ci the libraries are those that `rt ci` left in
+this checkout when it ended, and none is built. Of drawn ones only the modules are checked that they break.
 
 tools/edits.py tells how they are spelled. All edits of a crate are tried together, on a copy of the repository over the
 work that earlier checks kept: one body a function and round, so that one check answers many. If stored answers or
