@@ -21,8 +21,6 @@ sys.path.insert(0, str(TOP / "tools"))
 import original_crate  # noqa: E402
 
 ROWS = TOP / "crates/vectors/data/original.txt"
-# The types whose values the rows show. The program shows every value.
-SHOWN = ("u16", "u128", "i128")
 
 
 def answers_of(program, rows):
@@ -36,10 +34,11 @@ def answers_of(program, rows):
     return answers
 
 
-def spelled(row, answers):
-    """The answers as a row has them."""
-    is_shown = row.partition(" ")[0] in SHOWN
-    return "; ".join(answer if is_shown else answer.partition(" = ")[0] for answer in answers)
+def compared(here, answers):
+    """The answers as a row has them, which may show values or not."""
+    parts = here.split("; ")
+    shows = len(parts) != len(answers) or any(" = " in part for part in parts)
+    return "; ".join(answer if shows else answer.partition(" = ")[0] for answer in answers)
 
 
 def main(words):
@@ -51,7 +50,7 @@ def main(words):
     lines = ROWS.read_text(encoding="utf-8").splitlines()
     rows = [line.partition(" ->") for line in lines if not line.startswith("#")]
     asked = [row for row, _, _ in rows]
-    found = [spelled(row, answers) for row, answers in zip(asked, answers_of(program, asked))]
+    found = [compared(here, answers) for (_, _, here), answers in zip(rows, answers_of(program, asked))]
     if words[2:]:
         heads = [line for line in lines if line.startswith("#")]
         ROWS.write_text("\n".join([*heads, *map(" -> ".join, zip(asked, found))]) + "\n", encoding="utf-8")
