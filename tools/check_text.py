@@ -2,7 +2,7 @@
 """Prints, as file:line, each place where the libraries' text invents a want of memory, does more under the pager's lock
 than one call of it, or where README.md shows other code than the file has. The status is 1 if there is one.
 
-In the src/ of every library crate one function alone writes `Error::OutOfMemory` as a value: it makes it of a growth
+In the src/ of every crate one function alone writes `Error::OutOfMemory` as a value: it makes it of a growth
 that the allocator refused (crates/pagable_value_spec/src/error.rt). All others pass such an error on, so none says that
 memory is wanting where no growth was refused. It may stand in patterns, clauses and comments. `AllocError` and
 `AllocFailed`, the refused growth itself, are values nowhere; and `Error::of_library`, which takes its caller's word, is
@@ -22,8 +22,6 @@ import sys
 from pathlib import Path
 
 CRATES = Path(__file__).resolve().parent.parent / "crates"
-# The programs and the crates of rows, which make refusals of their own to test.
-OTHERS = ("pagectl", "vectors", "pagable_testkit", "pagable_value_rows")
 CONVERSION = "fn out_of_memory() -> Error"
 OF_LIBRARY = ("pagable_traits/src/saved_regex.rt", "pagable_file/src/stats.rt")
 NOT_CODE = re.compile(r"//.*|\"(?:\\.|[^\"\\])*\"|^\s*(?:pub )?(?:use|ghost|ensures|requires|invariant|decreases)\b.*")
@@ -50,7 +48,7 @@ FOLLOWS, ALSO = {"node_of"}, {"cache_get": {"fetch"}}
 INSERTS = {"new_loose", "new_shared", "new_pinned"}
 GUARD = re.compile(r"(?<![.\w])pager\b(?!\s*\.)")
 # A file that README.md shows, and what it shows.
-SHOWN = re.compile(r"This is\s`(crates/\S+\.rt)`[^`]*\n\n```rust\n(.*?)```", re.S)
+SHOWN = re.compile(r"This is\s`((?:tools/)?crates/\S+\.(?:rt|rattle))`[^`]*\n\n```rust\n(.*?)```", re.S)
 PRINTED = re.compile(r"This is\s`(crates/\S+/stdout)`(?:.|\n(?!\n))*\n\n((?: {4}.*\n)+)")
 KEPT = re.compile(r"let (?:mut )?pager = |Lent::(?:new|for_owner)\(&mut \*pager\b")
 
@@ -125,8 +123,6 @@ def offences(text, file):
 def main():
     lines = []
     for file in sorted(CRATES.glob("*/src/**/*.rt")):
-        if file.relative_to(CRATES).parts[0] in OTHERS:
-            continue
         found, allowed = offences(file.read_text(encoding="utf-8"), str(file.relative_to(CRATES)))
         is_home = file == CRATES / "pagable_value_spec/src/error.rt"
         lines += [(file, number) for number in found + (allowed[1:] if is_home else allowed)]

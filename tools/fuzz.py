@@ -86,7 +86,7 @@ class Values:
     def differs(self, parts):
         data = bytes(parts)
         wanted = plain_values.answer(self.name, data)
-        found = self.server.ask(f"small {self.name} {data.hex() or '-'}").removeprefix("free ").partition(" = ")[0]
+        found = self.server.ask(f"small {self.name} {data.hex() or '-'}").removeprefix("free ")
         return None if wanted == found else f"`{self.name}`: `{found}`, and `{wanted}` by the plain rules"
 
     def shown(self, parts):

@@ -6,7 +6,7 @@
 
 ORIGINAL is the original crate (tools/original_crate.py says in which form). It is copied into the folder WORK, and
 tools/original_values.rs is built over the copy and gets each row without its answers. To add a type, add it there, put
-rows without answers into the file, as `u16 read ac02 ff`, and write. Rows leave out what the original answers
+rows without answers into the file, as `u16 read ac02 ff`, and write, which counts the rows too. Rows leave out what the original answers
 otherwise by design: JSON numbers, a `char` of several characters, lengths above 4,294,967,295, and a refusal whose
 cause its reader loses, as of an array's item. The status is 1 if a row differs that isn't written, or if the file has
 no rows. The first build takes two minutes of processor time.
@@ -20,7 +20,7 @@ TOP = pathlib.Path(__file__).resolve().parent.parent
 sys.path.insert(0, str(TOP / "tools"))
 import original_crate  # noqa: E402
 
-ROWS = TOP / "crates/vectors/data/original.txt"
+ROWS = TOP / "tools/crates/rows/data/original.txt"
 
 
 def answers_of(program, rows):
@@ -52,8 +52,9 @@ def main(words):
     asked = [row for row, _, _ in rows]
     found = [compared(here, answers) for (_, _, here), answers in zip(rows, answers_of(program, asked))]
     if words[2:]:
-        heads = [line for line in lines if line.startswith("#")]
-        ROWS.write_text("\n".join([*heads, *map(" -> ".join, zip(asked, found))]) + "\n", encoding="utf-8")
+        heads = [line for line in lines[1:] if line.startswith("#")]
+        written = [f"# rows: {len(rows)}", *heads, *map(" -> ".join, zip(asked, found))]
+        ROWS.write_text("\n".join(written) + "\n", encoding="utf-8")
     differ = [f"{row}\n  the original: {answer}\n  the file:     {here.strip()}"
               for (row, _, here), answer in zip(rows, found) if here.strip() != answer]
     print(*differ, f"{len(rows) - len(differ)} rows as the original answers, {len(differ)} otherwise", sep="\n")

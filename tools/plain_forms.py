@@ -3,6 +3,7 @@ crates. Types are named as in rows."""
 import re
 
 from plain_pager import varint
+from plain_values import split
 
 # The type of the items of a list.
 LIST = re.compile(r"Vec<(.*)>$")
@@ -13,17 +14,6 @@ FORMS = {
     "u8": lambda value: bytes([value]),
     "String": lambda value: varint(len(value.encode())) + value.encode(),
 }
-
-
-def split(text):
-    """The parts between the outer commas."""
-    parts, level, start = [], 0, 0
-    for place, sign in enumerate(text):
-        level += (sign in "<([") - (sign in ">)]")
-        if sign == "," and level == 0:
-            parts.append(text[start:place])
-            start = place + 1
-    return parts + [text[start:]]
 
 
 def form(name, value):

@@ -1,5 +1,5 @@
 #!/usr/bin/env python3
-"""Rows of events, as the program `vectors` reads them: answers them by a plain pager, or draws them from a seed.
+"""Rows of events, as the program `rows` reads them: answers them by a plain pager, or draws them from a seed.
 
     plain_rows.py answers FILE      prints the file, each row that has an answer with that of the plain pager
     plain_rows.py draw SEED COUNT   prints a new machine, COUNT drawn lists of events and a look
@@ -384,7 +384,7 @@ def main(words):
         with open(words[1], encoding="utf-8") as lines:
             print("\n".join(rows.answered(line) for line in lines.read().splitlines()))
     elif len(words) == 3 and words[0] == "draw":
-        print("\n".join(Draw(int(words[1])).rows(int(words[2]))))
+        print("# rows: 0", *Draw(int(words[1])).rows(int(words[2])), sep="\n")
     else:
         sys.exit(__doc__)
 

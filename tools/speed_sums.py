@@ -1,7 +1,7 @@
 #!/usr/bin/env python3
 """Works out large drawn values in the wire format. It shares no code with the crates.
 
-tools/speed_sums.py            # their check sums, which the rows of crates/vectors/data/drawn.txt expect
+tools/speed_sums.py            # their check sums, which the rows of tools/crates/rows/data/drawn.txt expect
 tools/speed_sums.py FOLDER     # the values themselves, a file for each in FOLDER
 """
 

@@ -12,13 +12,13 @@ MIB = 1 << 20
 # refusal.
 READ = re.compile(r"free (ok \d+( -| [0-9a-f]+| refused \d+)?( = .*)?|refused ([1-9]|1[0-5]|22|26))$", re.S)
 TABLE = [
-    ("String", "8300616263", "ok 5 03616263"),
+    ("String", "8300616263", 'ok 5 03616263 = "abc"'),
     ("u64", "ff*9+02", "refused 2"),
     ("u128", "ff*18+03", f"ok 19 = {2**128 - 1}"),
     ("u128", "ff*18+04", "refused 2"),
     ("Vec<u8>", "ffffffff0f", "refused 1"),
     ("Vec<()>", "8080808010", "refused 6"),
-    ("Vec<()>", "03", "ok 1"),
+    ("Vec<()>", "03", "ok 1 = [(), (), ()]"),
 ]
 # Blobs, the type as which they are read, and what the load ends in.
 BLOBS = [

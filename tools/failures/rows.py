@@ -5,7 +5,7 @@ import sys
 from dataclasses import dataclass, field
 
 HERE = pathlib.Path(__file__).resolve().parent
-DATA = HERE.parent.parent / "crates/vectors/data"
+DATA = HERE.parent / "crates/rows/data"
 sys.path.insert(0, str(HERE.parent))
 from plain_rows import Rows  # noqa: E402
 
@@ -142,7 +142,7 @@ def worked():
 
 def rows_in(file):
     """The rows of a file, each on a new machine. One begins with `= NAME`, and behind ` | ` its storage; or, as
-    `vectors` reads a file, with `machine` and its storage."""
+    `rows` reads a file, with `machine` and its storage."""
     rows = []
     for line in file.read_text(encoding="utf-8").splitlines():
         word, _, rest = line.partition(" ")

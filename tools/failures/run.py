@@ -38,7 +38,7 @@ USES = (
 # (a test's own calls, in the copy alone)
 COUNTERS = {
     "pagable_pager/src/pager.rt": "Pager",
-    "pagable/src/machine.rt": "Machine",
+    "pagable_calls/src/machine.rt": "Machine",
     "pagable_locked/src/storage_handle.rt": "PagableStorageHandle",
 }
 
@@ -64,8 +64,8 @@ def built(work):
     crates = source.parent.parent
     add_counters(crates)
     add_pagectl(crates, source)
-    # (the machines of `vectors`, and how it looks at them)
-    shutil.copy(crates / "vectors/src/calls.rt", source)
+    # (the machines of `rows`, and how it looks at them)
+    shutil.copy(crates / "rows/src/calls.rt", source)
     library = work / "refuse.so"
     subprocess.run(["cc", "-O2", "-Wall", "-Werror", "-shared", "-fPIC", HERE / "refuse.c", "-o", library], check=True)
     return build.compiled_in(work, source, "-O1"), library
@@ -103,7 +103,7 @@ def rows_of_threads(server, tally):
 
 
 def calls_that_refuse(server, tally):
-    """The lists of calls that stand in `vectors`, and those of this folder, of whose refusals alone something is
+    """The lists of calls that stand in `rows`, and those of this folder, of whose refusals alone something is
     wanted."""
     for file in (rows.DATA / "calls.txt", rows.DATA / "loads.txt", rows.DATA / "workers.txt", HERE / "refusals.txt"):
         for row in rows.rows_in(file):

@@ -4,7 +4,8 @@ plain models; its status is 0 if all is the same.
 
     tools/programs/run.py [PROGRAM..]        (with no word: build_cache, heap_snapshot and spreadsheet)
 
-They are built unproved, by `rt try`, as tools/speed/build.py says, in a copy of the repository's crates.
+They are built unproved, by `rt try`, as tools/speed/build.py says, in a copy of the repository's crates. Each is also
+run once on the words, input and files that stand beside its code, and has to print what is stored there.
 """
 import pathlib
 import random
@@ -15,8 +16,8 @@ import sys
 import tempfile
 
 HERE = pathlib.Path(__file__).resolve().parent
-TOP = HERE.parent.parent
-sys.path += [str(HERE), str(TOP / "tools" / "speed")]
+CRATES = HERE.parent / "crates"
+sys.path += [str(HERE), str(HERE.parent / "speed")]
 import build  # noqa: E402
 import models  # noqa: E402
 
@@ -32,6 +33,19 @@ def expect(found, wanted, what):
     """Ends the program where something isn't as it should be."""
     if found != wanted:
         sys.exit(f"{what}: {found!r} in place of {wanted!r}")
+
+
+def expect_stored_run(program, name, folder):
+    """Ends the program where a run on the words, input and files of a crate doesn't print what is stored there."""
+    crate = CRATES / name
+    folder.mkdir()
+    if (crate / "data").exists():
+        shutil.copytree(crate / "data", folder, dirs_exist_ok=True)
+    given = (crate / "stdin").read_bytes() if (crate / "stdin").exists() else b""
+    words = (crate / "args").read_text().splitlines()
+    done = subprocess.run([program, *words], cwd=folder, input=given, capture_output=True, timeout=120)
+    found = done.returncode, done.stdout, done.stderr
+    expect(found, (0, (crate / "stdout").read_bytes(), b""), f"the stored run of {name}")
 
 
 def expect_failure(found, said, why, what):
@@ -116,7 +130,7 @@ def build_cache(program, work):
     """Wrong calls and stores, builds that fail, builds of many lines, a first build, a second one, edits that change a
     part and nothing, a lost target, and drawn edits and failures."""
     folder, store, cache = work / "folder", work / "build.store", set()
-    shutil.copytree(TOP / "crates" / "build_cache" / "data", folder)
+    shutil.copytree(CRATES / "build_cache" / "data", folder)
     expect_usage(program, "build_cache STORE FOLDER", [], ["a"], ["a", "b", "c"])
     expect_no_store(program, work, folder)
     runs = 5 + failing(program, folder, work / "failing.store", set())
@@ -144,7 +158,7 @@ def build_cache(program, work):
 
 def heap_snapshot(program, work):
     """Wrong calls and stores, a program in one run, and stopped at drawn places, from process to process."""
-    file = TOP / "crates" / "heap_snapshot" / "data" / "squares.txt"
+    file = CRATES / "heap_snapshot" / "data" / "squares.txt"
     usage = "heap_snapshot STORE LINES [PROGRAM]"
     expect_usage(program, usage, [], ["a"], ["a", "b"], ["a", "-1"], ["a", "1.5", "c"], ["a", "1", "c", "d"])
     expect_no_store(program, work, 1)
@@ -185,7 +199,8 @@ def main():
             program = build.built_crate(folder, name)
             work = folder / "work"
             work.mkdir()
-            print(f"{name}: {globals()[name](program, work)} runs as they should be", flush=True)
+            expect_stored_run(program, name, work / "stored")
+            print(f"{name}: {globals()[name](program, work) + 1} runs as they should be", flush=True)
 
 
 if __name__ == "__main__":

@@ -3,6 +3,7 @@
 own.
 
     tools/speed/build.py WORK [REPOSITORY]        # writes WORK/speed, over the crates of this repository or of another
+    tools/speed/build.py --crate NAME PROGRAM     # writes the program of a crate of this repository as PROGRAM
 
 A proved program is compiled by `rt run`, which proves it first. `rt try` compiles without a proof, but puts checks of
 its own into the code, fills each new variable, and links a sanitizer. So here the compiler that `rt try` calls is this
@@ -10,7 +11,8 @@ script: it takes all that out of the code, and compiles as `rt run` does, at -O3
 the proved program, within what one can measure. Other tools copy crates, build programs, and run tests that aren't
 proved, by it.
 
-The files are named X.rattle, since the gate stops at a file X.rt that it doesn't check.
+A copy has the crates of tools/crates too, which are built unproved alone. Their files are named X.rattle, as those of
+this folder are, since the gate stops at a file X.rt that it doesn't check.
 """
 import os
 import pathlib
@@ -18,10 +20,12 @@ import re
 import shutil
 import subprocess
 import sys
+import tempfile
 
 HERE = pathlib.Path(__file__).resolve().parent
 TOP = HERE.parent.parent
 USES = "pagable pagable_testkit pagable_value_rows anyhow indexmap"
+LEFT_BEHIND = shutil.ignore_patterns("out", "stdin", "stdout", "args", "list.txt")
 # What `rt try` adds: bytes put into new variables, and calls of its checks.
 ADDED = re.compile(r"(?m)^ *call void @(?:llvm\.memset\.p0\.i64\(ptr %\S+, i8 -86,|\"rattle-llvm-checks::).*\n")
 RESULT = re.compile(r"(?m)^test result: (ok|FAILED)\. (\d+) passed; (\d+) failed; 0 ignored")
@@ -97,14 +101,25 @@ def copied(work, crate, uses="", repository=TOP):
     work.mkdir(parents=True, exist_ok=True)
     copy = work / "repository"
     shutil.rmtree(copy, ignore_errors=True)
-    left_behind = shutil.ignore_patterns("out", "stdin", "stdout", "args")
-    shutil.copytree(repository / "crates", copy / "crates", ignore=left_behind)
+    shutil.copytree(repository / "crates", copy / "crates", ignore=LEFT_BEHIND)
     shutil.copy(repository / "HANDLES", copy / "HANDLES")
-    line, crates = re.compile(rf"(?m)^{crate}\b.*"), (repository / "crates.txt").read_text(encoding="utf-8")
+    crates = (repository / "crates.txt").read_text(encoding="utf-8") + copied_unproved(repository, copy)
+    line = re.compile(rf"(?m)^{crate}\b.*")
     crates = line.sub(rf"\g<0> {uses}".rstrip(), crates) if line.search(crates) else f"{crates}{crate}: {uses}\n"
     (copy / "crates.txt").write_text(crates, encoding="utf-8")
     subprocess.run(["git", "init", "-q"], cwd=copy, check=True)
     return copy / "crates" / crate / "src"
+
+
+def copied_unproved(repository, copy):
+    """Copies the crates of tools/crates beside the others: the lines that crates.txt gets for them."""
+    crates = repository / "tools" / "crates"
+    if not crates.exists():
+        return ""
+    shutil.copytree(crates, copy / "crates", ignore=LEFT_BEHIND, dirs_exist_ok=True)
+    for file in (copy / "crates").rglob("*.rattle"):
+        file.rename(file.with_suffix(".rt"))
+    return (crates / "list.txt").read_text(encoding="utf-8")
 
 
 def source_in(work, repository, folder, uses):
@@ -151,6 +166,10 @@ def main():
         sys.exit(compiled(pathlib.Path(sys.argv[2]), sys.argv[4], sys.argv[5:]))
     if sys.argv[1] == "--ld.lld":
         sys.exit(linked(pathlib.Path(sys.argv[2]), pathlib.Path(sys.argv[3]), sys.argv[5:]))
+    if sys.argv[1] == "--crate":
+        with tempfile.TemporaryDirectory() as folder:
+            shutil.copy(built_crate(pathlib.Path(folder), sys.argv[2]), sys.argv[3])
+        return
     print(built(*[pathlib.Path(word).resolve() for word in sys.argv[1:]]))
 
 

@@ -1,3 +1,4 @@
 pub mod Durable
 pub mod Line
 pub mod Named
+pub mod Texts

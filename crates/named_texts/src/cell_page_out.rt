@@ -1,12 +1,12 @@
 //! The page-out of one cell of a storage that threads may share.
 
+use crate::text::TextEnv;
 use crate::text_storage::TextStorage;
 use pagable::storage::handle::Storage;
 use pagable::{
     DataKey, Error, HandleNumber, KeyHash, LentTable, OptionalDataKey, PagableStorage, PageOutError,
 };
 use pagable_pageout::page_out_entry;
-use pagable_testkit::text::TextEnv;
 use std::alloc::Global;
 use std::sync::Wait;
 

@@ -1,8 +1,8 @@
 //! Counts of the roots of a storage.
 
+use crate::text::TextEnv;
 use crate::text_storage::TextStorage;
 use pagable::{DataKey, Error, KeyHash, Roots};
-use pagable_testkit::text::TextEnv;
 use std::alloc::Global;
 use std::collections::HashSet;
 use std::fmt;

@@ -7,10 +7,10 @@ use crate::counts::count_roots;
 use crate::durable_command::DurableCommand;
 use crate::names::{Names, Refusal};
 use crate::session::{Answer, Session};
+use crate::text::{TextEnv, TextNode};
 use crate::text_storage::TextStorage;
 use pagable::storage::handle::Storage;
 use pagable::{Env, Error, HandleNumber, KeyHash, Roots};
-use pagable_testkit::text::{TextEnv, TextNode};
 use std::alloc::Global;
 use std::sync::Wait;
 

@@ -7,9 +7,11 @@ pub mod command;
 mod counts;
 pub mod durable_command;
 mod durable_session;
+pub mod lines;
 mod names;
 pub mod serve;
 mod session;
+pub mod text;
 mod text_storage;
 
-pub use pagable_testkit::text::TextEnv;
+pub use text::TextEnv;

@@ -3,12 +3,12 @@
 use crate::command::parse;
 use crate::durable_command::parse_durable;
 use crate::durable_session::DurableSession;
+use crate::lines;
+use crate::lines::LineAnswerer;
 use crate::names::Refusal;
 use crate::session::{Answer, Session};
+use crate::text::TextEnv;
 use pagable::{Error, InMemoryBlobs, KeyHash, PagableStorage, Roots};
-use pagable_testkit::lines;
-use pagable_testkit::lines::LineAnswerer;
-use pagable_testkit::text::TextEnv;
 use std::alloc::Global;
 use std::io;
 use std::io::{BufRead, Write};

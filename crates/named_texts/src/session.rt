@@ -5,13 +5,13 @@ ghost use Rattle.named_texts.specs.Named.{GivesName, IsFree, KeepsOtherNames, Se
 use crate::command::{Command, Verb};
 use crate::counts::Counts;
 use crate::names::{Names, Refusal};
+use crate::text::{TextEnv, TextNode};
 use crate::text_storage::TextStorage;
 use pagable::storage::handle::Storage;
 use pagable::{
     Env, Error, FirstHandle, HandleNumber, InMemoryBlobs, InMemoryPagableStorage, KeyHash,
     OptionalDataKey, PagableStorage, PagableStorageHandle, PageOutError,
 };
-use pagable_testkit::text::{TextEnv, TextNode};
 use std::alloc::Global;
 use std::sync::{Arc, Wait};
 

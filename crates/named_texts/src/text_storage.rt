@@ -1,7 +1,7 @@
 //! The storage of the cells and blobs of texts.
 
+use crate::text::TextEnv;
 use pagable::PagableStorageHandle;
-use pagable_testkit::text::TextEnv;
 
 /// A storage of texts that threads may share, over the storage `S` of blobs, whose keys the hash `H`
 /// computes.

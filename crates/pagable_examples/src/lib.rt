@@ -6,11 +6,13 @@
 //! - `ticket`: a type that is written and read eagerly.
 //! - `animal`: an enum whose values are written as a tag and a body.
 //! - `zoo`: an environment with registries of static values and of tags.
+//! - `linked`: types that refer to each other, and their nodes.
 #![tactic(auto)]
 
 pub mod animal;
 pub mod dish;
 pub mod expression;
+pub mod linked;
 pub mod size;
 pub mod ticket;
 pub mod zoo;

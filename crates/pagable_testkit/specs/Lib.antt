@@ -1,4 +1,0 @@
-pub mod Cells
-pub mod Failing
-pub mod Linked
-pub mod Texts
