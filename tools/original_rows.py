@@ -6,10 +6,10 @@
 
 ORIGINAL is the original crate (tools/original_crate.py says in which form). It is copied into the folder WORK, and
 tools/original_values.rs is built over the copy and gets each row without its answers. To add a type, add it there, put
-rows without answers into the file, as `u16 read ac02 ff`, and write. Rows leave out what the original answers
-otherwise by design: JSON numbers, a `char` of several characters, lengths above 4,294,967,295, and a refusal whose
-cause its reader loses, as of an array's item. The status is 1 if a row differs that isn't written, or if the file has
-no rows. The first build takes two minutes of processor time.
+rows without answers into the file, as `u16 read ac02 ff`, and write, which counts the rows too. Rows leave out what the
+original answers otherwise by design: JSON numbers, a `char` of several characters, lengths above 4,294,967,295, and a
+refusal whose cause its reader loses, as of an array's item. The status is 1 if a row differs that isn't written, or if
+the file has no rows. The first build takes two minutes of processor time.
 """
 import pathlib
 import subprocess
@@ -19,11 +19,8 @@ sys.dont_write_bytecode = True
 TOP = pathlib.Path(__file__).resolve().parent.parent
 sys.path.insert(0, str(TOP / "tools"))
 import original_crate  # noqa: E402
-import plain_values  # noqa: E402
 
 ROWS = TOP / "tools/crates/rows/data/original.txt"
-# The types whose values both spell alike. The program shows every value.
-NUMBERS = ("u8", "u16", "u32", "u64", "u128", "usize", "i8", "i16", "i32", "i64", "i128")
 
 
 def answers_of(program, rows):
@@ -37,16 +34,6 @@ def answers_of(program, rows):
     return answers
 
 
-def spelled(row, answers):
-    """The answers as a row has them: where the original reads and writes what the plain rules say, as these show it."""
-    name, verb, *inputs = row.split()
-    if verb != "read":
-        return "; ".join(answers)
-    wanted = [plain_values.answer(name, plain_values.bytes_of(data)) for data in inputs]
-    in_part = (lambda told: told) if name in NUMBERS else (lambda told: told.partition(" = ")[0])
-    return "; ".join(plain if in_part(plain) == in_part(told) else told for plain, told in zip(wanted, answers))
-
-
 def main(words):
     if len(words) < 2 or words[2:] not in ([], ["--write"]):
         sys.exit(__doc__)
@@ -56,10 +43,11 @@ def main(words):
     lines = ROWS.read_text(encoding="utf-8").splitlines()
     rows = [line.partition(" ->") for line in lines if not line.startswith("#")]
     asked = [row for row, _, _ in rows]
-    found = [spelled(row, answers) for row, answers in zip(asked, answers_of(program, asked))]
+    found = ["; ".join(answers) for answers in answers_of(program, asked)]
     if words[2:]:
-        heads = [f"# rows: {len(rows)}", *(line for line in lines[1:] if line.startswith("#"))]
-        ROWS.write_text("\n".join([*heads, *map(" -> ".join, zip(asked, found))]) + "\n", encoding="utf-8")
+        heads = [line for line in lines[1:] if line.startswith("#")]
+        written = [f"# rows: {len(rows)}", *heads, *map(" -> ".join, zip(asked, found))]
+        ROWS.write_text("\n".join(written) + "\n", encoding="utf-8")
     differ = [f"{row}\n  the original: {answer}\n  the file:     {here.strip()}"
               for (row, _, here), answer in zip(rows, found) if here.strip() != answer]
     print(*differ, f"{len(rows) - len(differ)} rows as the original answers, {len(differ)} otherwise", sep="\n")

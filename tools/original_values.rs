@@ -1,14 +1,13 @@
 //! Answers rows of values on the Rust crate `pagable`: for each line `TYPE read HEX ..` or `blob weigh BLOB ..` that it
-//! reads, it prints a line for each input, as docs/PROOFS.md says of `rows` (Rows), but with every value shown, by
-//! `{:?}`. A refusal that has no number here is printed as the original tells it. `tools/original_rows.py` puts this
-//! file among the examples of a copy of that crate, builds it there, and compares.
+//! reads, it prints a line for each input, as docs/PROOFS.md says (Rows), with every value shown. A refusal that has no
+//! number here is printed as the original tells it. `tools/original_rows.py` puts this file among the examples of a copy
+//! of that crate, builds it there, and compares.
 
 use std::collections::{BTreeMap, BTreeSet, HashMap};
-use std::fmt::Debug;
 use std::io::stdin;
 use std::path::PathBuf;
 use std::sync::OnceLock;
-use std::sync::atomic::AtomicI64;
+use std::sync::atomic::{AtomicI64, Ordering};
 use std::time::Duration;
 
 use indexmap::{IndexMap, IndexSet};
@@ -33,6 +32,142 @@ const REFUSALS: [(&str, u32); 6] = [
     ("invalid serde_json::Value case", 8),
     ("invalid regex", 11),
 ];
+
+/// A value that rows show: numbers and flags as they are printed, texts in quotes, and what holds others by these.
+trait Show {
+    fn show(&self) -> String;
+}
+
+macro_rules! shows_as_printed {
+    ($($type:ty),+) => { $(impl Show for $type { fn show(&self) -> String { self.to_string() } })+ };
+}
+shows_as_printed!(u8, u16, u32, u64, u128, usize, i8, i16, i32, i64, i128, bool, Json);
+
+/// A text in quotes, with a number for a quote, a stroke and what isn't printed.
+fn quoted(text: &str) -> String {
+    let is_plain = |sign: char| !sign.is_control() && sign != '"' && sign != '\\';
+    let shown = |sign| if is_plain(sign) { sign.to_string() } else { format!("\\u{:04x}", sign as u32) };
+    format!("\"{}\"", text.chars().map(shown).collect::<String>())
+}
+
+macro_rules! shows_as_text {
+    ($($type:ty, $value:ident => $text:expr);+) => {
+        $(impl Show for $type { fn show(&self) -> String { let $value = self; quoted($text) } })+
+    };
+}
+shows_as_text!(String, text => text; Box<str>, text => text; char, sign => &sign.to_string();
+    PathBuf, path => path.to_str().expect("UTF-8"); Regex, regex => regex.as_str());
+
+impl Show for () {
+    fn show(&self) -> String {
+        "()".into()
+    }
+}
+
+impl Show for PhantomData {
+    fn show(&self) -> String {
+        "()".into()
+    }
+}
+
+impl Show for Duration {
+    fn show(&self) -> String {
+        format!("{} s {} ns", self.as_secs(), self.subsec_nanos())
+    }
+}
+
+impl Show for AtomicI64 {
+    fn show(&self) -> String {
+        self.load(Ordering::SeqCst).to_string()
+    }
+}
+
+impl<T: Show> Show for Box<T> {
+    fn show(&self) -> String {
+        (**self).show()
+    }
+}
+
+fn optional<T: Show>(value: Option<&T>) -> String {
+    value.map_or("none".into(), |value| format!("some {}", value.show()))
+}
+
+impl<T: Show> Show for Option<T> {
+    fn show(&self) -> String {
+        optional(self.as_ref())
+    }
+}
+
+impl<T: Show> Show for OnceLock<T> {
+    fn show(&self) -> String {
+        optional(self.get())
+    }
+}
+
+impl<T: Show, X: Show> Show for Result<T, X> {
+    fn show(&self) -> String {
+        match self {
+            Ok(value) => format!("ok {}", value.show()),
+            Err(value) => format!("err {}", value.show()),
+        }
+    }
+}
+
+macro_rules! shows_parts {
+    ($($name:ident $place:tt),+) => {
+        impl<$($name: Show),+> Show for ($($name,)+) {
+            fn show(&self) -> String { format!("({})", [$(self.$place.show()),+].join(", ")) }
+        }
+    };
+}
+shows_parts!(A 0, B 1);
+shows_parts!(A 0, B 1, C 2);
+shows_parts!(A 0, B 1, C 2, D 3);
+shows_parts!(A 0, B 1, C 2, D 3, F 4);
+
+fn joined(texts: impl Iterator<Item = String>) -> String {
+    texts.collect::<Vec<String>>().join(", ")
+}
+
+macro_rules! shows_items {
+    ($([$($bounds:tt)*] $type:ty, $form:literal);+) => {
+        $(impl<T: Show, $($bounds)*> Show for $type {
+            fn show(&self) -> String { format!($form, joined(self.iter().map(Show::show))) }
+        })+
+    };
+}
+shows_items!([] Vec<T>, "[{}]"; [] Box<[T]>, "[{}]"; [const N: usize] [T; N], "[{}]"; [] BTreeSet<T>, "{{{}}}";
+    [] IndexSet<T>, "{{{}}}");
+
+impl Show for SmallVec<[String; 4]> {
+    fn show(&self) -> String {
+        format!("[{}]", joined(self.iter().map(Show::show)))
+    }
+}
+
+fn entry<K: Show, V: Show>((key, value): (&K, &V)) -> String {
+    format!("{}: {}", key.show(), value.show())
+}
+
+impl<K: Show, V: Show> Show for BTreeMap<K, V> {
+    fn show(&self) -> String {
+        format!("{{{}}}", joined(self.iter().map(entry)))
+    }
+}
+
+impl<K: Show, V: Show> Show for IndexMap<K, V> {
+    fn show(&self) -> String {
+        format!("{{{}}}", joined(self.iter().map(entry)))
+    }
+}
+
+/// A hash map's entries are shown in the order of their texts.
+impl<K: Show, V: Show> Show for HashMap<K, V> {
+    fn show(&self) -> String {
+        let entries: BTreeSet<String> = self.iter().map(entry).collect();
+        format!("{{{}}}", joined(entries.into_iter()))
+    }
+}
 
 fn refused(cause: &anyhow::Error) -> String {
     let text = format!("{cause:#}");
@@ -75,14 +210,14 @@ fn written_in_order(map: &HashMap<String, i32>) -> Vec<u8> {
 /// Reads a value, writes it again in this way, and tells of both.
 fn answer_by<T>(input: &[u8], write: impl Fn(&T) -> Vec<u8>) -> String
 where
-    T: Debug + for<'a> PagableDeserialize<'a>,
+    T: Show + for<'a> PagableDeserialize<'a>,
 {
     match read::<T>(input) {
         Err(cause) => refused(&cause),
         Ok((value, count)) => {
             let bytes = write(&value);
             let other = if bytes == input[..count] { String::new() } else { format!(" {}", hex_of(&bytes)) };
-            format!("ok {count}{other} = {value:?}")
+            format!("ok {count}{other} = {}", value.show())
         }
     }
 }
