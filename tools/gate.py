@@ -32,16 +32,19 @@ TOP = Path(__file__).resolve().parent.parent
 NEEDED = {"rt": "the Rattle toolchain", "git": "git", "cc": "gcc or clang", "sqlite3": "sqlite3"}
 # The share of free memory that checks may plan with, and what a tool leaves free for them to grow, in MB.
 SHARE, SPARE = 0.9, 6000
-BLOBCTL = "crates/blobctl/out/blobctl"
+# The programs that `rt ci` leaves.
+BLOBCTL, PAGECTL = "crates/blobctl/out/blobctl", "crates/pagectl/out/pagectl"
 # The tools: a name, the words that run it, and the crate of `rt ci` whose end it waits for, or `all`.
 TOOLS = (
     ("text", ["tools/check_text.py"], None),
     ("planted faults", ["tools/planted.py"], None),
-    ("threads and crates", ["tools/tests.py"], None),
+    ("threads", ["tools/tests.py", "threads"], None),
+    ("crates", ["tools/tests.py", "crate_tests"], None),
     ("failures", ["tools/failures/run.py"], None),
     ("rows", ["tools/rows/run.py"], None),
     ("programs", ["tools/programs/run.py"], None),
     ("files of blobs", ["tools/file_blobs/check.py", BLOBCTL], "blobctl"),
+    ("hostile", ["tools/hostile/run.py", "--pagectl", PAGECTL, "--blobctl", BLOBCTL], "all"),
     ("wrong bodies", ["tools/wrong_bodies.py", "--over-ci", "--jobs", "3", "--drawn", "HEAD"], "all"),
 )
 LAST = re.compile(r"(\d+) passed, (\d+) failed")

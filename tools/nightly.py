@@ -4,8 +4,8 @@
     tools/nightly.py [SEED]         (with no word: the day's number, as 20261130)
 
 It runs `rt ci`, and over its libraries tries every wrong body, crate by crate; the wrong bodies that only tests of
-threads can find; drawn machines, bytes and scripts against plain models; and files of blobs with drawn kills and a race
-with `gc` of a minute. The seed decides what is drawn. A line tells of each part how it ended and after how long, and
+threads can find; drawn machines, bytes and scripts against plain models; hostile input; and files of blobs with drawn
+kills and a race with `gc` of a minute. The seed decides what is drawn. A line tells of each part how it ended and after how long, and
 its output is kept in nightly/ at the top of the checkout, which git passes over. The status is 0 if all stood.
 """
 import subprocess
@@ -14,7 +14,7 @@ import time
 from pathlib import Path
 
 TOP = Path(__file__).resolve().parent.parent
-BLOBCTL = "crates/blobctl/out/blobctl"
+BLOBCTL, PAGECTL = "crates/blobctl/out/blobctl", "crates/pagectl/out/pagectl"
 
 
 def parts(seed):
@@ -24,6 +24,9 @@ def parts(seed):
         yield f"wrong bodies of {file.stem}", ["tools/wrong_bodies.py", "--over-ci", file.stem]
     yield "wrong bodies of threads", ["tools/threads/run.py", "--wrong"]
     yield "drawn programs", ["tools/fuzz.py", seed, "2000"]
+    yield "the program of rows", ["tools/speed/build.py", "--crate", "rows", "nightly/rows"]
+    hostile = ["tools/hostile/run.py", "--rows", "nightly/rows", "--pagectl", PAGECTL, "--blobctl", BLOBCTL]
+    yield "hostile input", hostile
     yield "files of blobs", ["tools/file_blobs/check.py", BLOBCTL, "300", "20", "60", seed]
 
 
