@@ -5,8 +5,9 @@
 
 It runs `rt ci`, and over its libraries tries every wrong body, crate by crate; the wrong bodies that only tests of
 threads can find; drawn machines, bytes and scripts against plain models; hostile input; and files of blobs with drawn
-kills and a race with `gc` of a minute. The seed decides what is drawn. A line tells of each part how it ended and after how long, and
-its output is kept in nightly/ at the top of the checkout, which git passes over. The status is 0 if all stood.
+kills and a race with `gc` of a minute. The seed decides what is drawn. A line tells of each part how it ended and after
+how long, and its output is kept in nightly/ at the top of the checkout, which git passes over. The status is 0 if all
+stood.
 """
 import subprocess
 import sys
