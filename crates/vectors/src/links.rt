@@ -19,11 +19,16 @@ pub struct Link<const KIND: u32> {
 
 /// A value whose writer fails.
 #[derive(Drop)]
-pub struct Refusing;
+pub struct Refusing {
+    pub nothing: (),
+}
 
-/// The reason that a `Refusing` value isn't written.
+/// Why a `Refusing` value isn't written.
+const REASON: &str = "intentional serialization failure";
+
+/// The error of writing a `Refusing` value.
 pub fn refusal() -> Error {
-    Error::Custom(Reason::new("intentional serialization failure"))
+    Error::Custom(Reason::new(REASON))
 }
 
 /// A node that holds a link to a loose link (type number 0, so its kind is 1), a link to a shared link
@@ -96,13 +101,14 @@ impl<E: Env> NodeValue<E> for Refusing {
     }
 
     fn write<S: PagableSerializer<E>>(&self, _serializer: &mut S) -> Result<(), Error> {
-        Err(refusal())
+        Err(Error::Custom(Reason::new(REASON)))
     }
 
     fn read<D: PagableDeserializer<E>>(
-        _alloc: Global,
-        _deserializer: &mut D,
+        alloc: Global,
+        deserializer: &mut D,
     ) -> Result<Refusing, Error> {
-        Ok(Refusing)
+        let nothing = PagableDeserialize::pagable_deserialize(alloc, deserializer)?;
+        Ok(Refusing { nothing })
     }
 }

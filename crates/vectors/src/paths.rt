@@ -12,7 +12,7 @@ use std::sync::Arc;
 
 /// Makes the node of a value that can't be written.
 fn refusing(alloc: Global) -> Result<LinkNode, Error> {
-    Ok(EitherNode::Third(OneNode::new(Arc::new(alloc, Refusing)?)))
+    Ok(EitherNode::Third(OneNode::new(Arc::new(alloc, Refusing { nothing: () })?)))
 }
 
 /// Row 16: a value that can't be written isn't paged out, nor is what refers to it, on the same
