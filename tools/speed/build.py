@@ -124,7 +124,7 @@ def built(work, repository=TOP):
 
 def built_crate(work, crate):
     """Builds the program of a crate of this repository, and gives its path."""
-    return compiled_in(work, copied(work, crate))
+    return compiled_in(work, copied(work, crate), "-O1")
 
 
 def copied(work, crate, uses="", repository=TOP):
