@@ -6,7 +6,8 @@ usage: tools/wrong_bodies.py [--over-ci] [--jobs N] [CRATE..]     (with no crate
        tools/wrong_bodies.py [--over-ci] [--jobs N] --drawn COMMIT    (ten of all, drawn by the commit's hash)
 
 As many crates are tried side by side as --jobs says, or one. With --over-ci the libraries are those that `rt ci` left in
-this checkout when it ended, and none is built. Of drawn ones only the modules are checked that they break.
+this checkout when it ended, and none is built. Of drawn ones only the functions that they break are checked, with those
+that these call.
 
 tools/edits.py tells how they are spelled. All edits of a crate are tried together, on a copy of the repository over the
 work that earlier checks kept: one body a function and round, so that one check answers many. If stored answers or
@@ -58,10 +59,20 @@ def module_of(file):
     return "".join(f"{it}::" for it in file[len("src/") : -len(".rt")].split("/") if it != "lib")
 
 
+def last_function(text):
+    """The indent and the name of the last function of a text."""
+    return ([("", "?")] + re.findall(r"(?m)^( *)(?:pub(?:\(\w+\))? )?(?:unsafe |const )*fn (\w+)", text))[-1]
+
+
+def paths(edit, crate):
+    """How a check is asked for the functions that an edit changes: a function by its path, the methods of an impl by their module."""
+    found = [(last_function(text), f"{crate}::{module_of(file)}") for file, text in edit.places]
+    return {module.removesuffix("::") if indent else f"{module}{name}" for (indent, name), module in found}
+
+
 def function_at(text, file):
     """A pattern of the names by which the prover tells the last function of a text: its module's path, the type and trait of its impl, and its own name."""
-    module = module_of(file)
-    indent, name = ([("", "?")] + re.findall(r"(?m)^( *)(?:pub(?:\(\w+\))? )?(?:unsafe |const )*fn (\w+)", text))[-1]
+    module, (indent, name) = module_of(file), last_function(text)
     if not indent:
         return rf"\w+::{module}{re.escape(name)}"
     head = re.sub(r"\s+", " ", re.findall(r"(?m)^(?:impl|pub trait|trait)\b([^{]*)", text)[-1])
@@ -142,7 +153,7 @@ class Answer:
 
 
 def ran(folder, texts, only):
-    """The output of a check with these texts in place of the crate's own, of these modules alone if any are named."""
+    """The output of a check with these texts in place of the crate's own, of these functions and modules alone if any are named."""
     own = {file: (folder / file).read_text(encoding="utf-8") for file in texts}
     for file, text in texts.items():
         (folder / file).write_text(text, encoding="utf-8")
@@ -182,18 +193,17 @@ def tried_alone(folder, edit, only):
 
 def try_round(folder, edits, is_drawn):
     """Tries those of the edits together that meet in no function; answers them, each with what is told of it. Of drawn
-    ones only the modules that they break are checked."""
+    ones only the functions that they break are checked."""
     texts, held = {}, []
     for edit in edits:
         if not any(functions(edit) & functions(it) for it in held) and edit.apply(texts, folder) is None:
             held.append(edit)
-    broken = lambda edit: {f"{folder.name}::{module_of(file)}".removesuffix("::") for file, _ in edit.places}  # noqa: E731
-    modules = {edit: broken(edit) if is_drawn else set() for edit in held}
-    answer = Answer(folder, texts, set().union(*modules.values()))
+    only = {edit: paths(edit, folder.name) if is_drawn else set() for edit in held}
+    answer = Answer(folder, texts, set().union(*only.values()))
     for edit in held:
         of_each = [{it for it in answer.refused if re.fullmatch(pattern, it, re.IGNORECASE)} for pattern in functions(edit)]
         alone = not all(of_each)
-        told = tried_alone(folder, edit, modules[edit]) if alone else WITHOUT if set().union(*of_each) <= answer.lost else REFUSED
+        told = tried_alone(folder, edit, only[edit]) if alone else WITHOUT if set().union(*of_each) <= answer.lost else REFUSED
         print(f"{folder.name}/{edit.name}: {told}{' (alone)' if alone else ''}", flush=True)
         yield edit, told
 
