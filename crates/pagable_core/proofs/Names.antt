@@ -1,33 +1,49 @@
--- A list of all names.
-use Rattle.pagable_core.specs.Roots.{is_among}
+-- A list of all names, each once.
+use Rattle.pagable_core.specs.Roots.{ListsEach}
 use Rattle.std.proofs.{
-  Common.{Bool, IsSome, IsTrue, List, false, refl, sym, true, ℕ, [], ◌++◌, ◌∙◌, ◌∷◌, ◌≡◌},
-  lemmas.{List.Folds.list_any-append, Map.Made.is_some-lookup},
+  Common.{Bool, List, ap, append-nil, map, refl, subst, sym, ℕ, [], ◌++◌, ◌∙◌, ◌∷◌, ◌≡◌},
+  lemmas.{
+    Map.{Made.{AllPairs-from_IsDistinct, is_some-lookup}, Views.{Contains-from_any, list_any-from_Contains}},
+    Slice.Eq.bytes_eq-Decides,
+  },
 }
-use Rattle.std.specs.{HashMap.{HashMap, get_by_text, keys}, Prelude.{String, string_bytes, ◌||◌}, Str.bytes_eq}
+use Rattle.std.specs.{
+  Cmp.Lexicographic.nat_list_eq_equiv,
+  HashMap.{HashMap, IsUnique, get_by_text, keys},
+  List.{AllByRecursion, IsDistinct, list_any},
+  Prelude.{String, false, string_bytes, string_eq, ◌||◌},
+  Str.bytes_eq,
+}
 
--- each name is a key of the map
-pub keys_are_named : {A X S : Type 0} (roots : HashMap (String A) X S) (name : List ℕ) → IsSome (get_by_text roots name)
-    → IsTrue (is_among name (keys roots))
-keys_are_named roots name stands = sym (is_some-lookup (λ k. bytes_eq name (string_bytes k)) roots.entries) ∙ stands
+-- a test of each text's bytes
+any_of_bytes : {A : Type 0} (p : List ℕ → Bool) (texts : List (String A)) → list_any (λ t. p (string_bytes t)) texts ≡ list_any p (map string_bytes texts)
+any_of_bytes p [] = refl
+any_of_bytes p (t ∷ ts) = ap (λ b. p (string_bytes t) || b) (any_of_bytes p ts)
 
--- one key is listed
-pub key_is_listed : {A : Type 0} (name : List ℕ) (old new left : List (String A)) (key it : String A) → new ≡ old ++ it ∷ []
-    → string_bytes it ≡ string_bytes key → IsTrue (is_among name old || is_among name (key ∷ left)) → IsTrue (is_among name new || is_among name left)
-key_is_listed name old new left key it is same was =
-    rw (is, list_any-append (λ n. bytes_eq name (string_bytes n)) old (it ∷ []), same) (
-    go (is_among name old) (bytes_eq name (string_bytes key)) (is_among name left) was
-    )
-  where
-    go : (a b c : Bool) → IsTrue (a || (b || c)) → IsTrue ((a || (b || false)) || c)
-    go true b c h = refl
-    go false true c h = refl
-    go false false c h = h
+apart_bytes : {A : Type 0} (t : String A) (ts : List (String A)) → AllByRecursion (λ y. string_eq t y ≡ false) ts
+    → AllByRecursion (λ y. bytes_eq (string_bytes t) y ≡ false) (map string_bytes ts)
+apart_bytes t [] h = tt
+apart_bytes t (y ∷ ys) h = (h.0, apart_bytes t ys h.1)
 
--- no key is left
-pub all_are_listed : {A : Type 0} (name : List ℕ) (names : List (String A)) → IsTrue (is_among name names || false) → IsTrue (is_among name names)
-all_are_listed name names h = go (is_among name names) h
-  where
-    go : (b : Bool) → IsTrue (b || false) → IsTrue b
-    go true h = refl
-    go false h = h
+distinct_bytes : {A : Type 0} (texts : List (String A)) → IsDistinct string_eq texts → IsDistinct bytes_eq (map string_bytes texts)
+unfolding IsDistinct
+distinct_bytes [] h = tt
+distinct_bytes (t ∷ ts) h = (apart_bytes t ts h.0, distinct_bytes ts h.1)
+
+-- the keys of a map are all its names, each once
+keys_are_names : {A S : Type 0} (roots : HashMap (String A) ℕ S) → IsUnique string_eq roots → ListsEach (get_by_text roots) (map string_bytes (keys roots))
+keys_are_names roots unique = record {
+  once = AllPairs-from_IsDistinct bytes_eq-Decides (map string_bytes (keys roots)) (distinct_bytes (keys roots) unique);
+  all = λ name text stands. Contains-from_any (λ x y. (bytes_eq-Decides x y).0) name (map string_bytes (keys roots))
+      (sym (any_of_bytes (bytes_eq name) (keys roots)) ∙ sym (is_some-lookup (λ k. bytes_eq name (string_bytes k)) roots.entries) ∙ stands);
+  only = λ name among. is_some-lookup (λ k. bytes_eq name (string_bytes k)) roots.entries ∙ any_of_bytes (bytes_eq name) (keys roots)
+      ∙ list_any-from_Contains nat_list_eq_equiv name (map string_bytes (keys roots)) among;
+}
+
+-- where no key is left
+pub all_listed : {A S : Type 0} (roots : HashMap (String A) ℕ S) (names left : List (String A)) → left ≡ []
+    → map string_bytes names ++ map string_bytes left ≡ map string_bytes (keys roots) → IsUnique string_eq roots
+    → ListsEach (get_by_text roots) (map string_bytes names)
+all_listed roots names left none all unique =
+    let is : map string_bytes names ≡ map string_bytes (keys roots) = sym (append-nil (map string_bytes names)) ∙ rw none at all in
+    subst (ListsEach (get_by_text roots)) (sym is) (keys_are_names roots unique)

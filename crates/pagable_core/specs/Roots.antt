@@ -1,8 +1,9 @@
 -- Names that stand for keys in a storage of blobs.
 use Rattle.pagable_value_spec.specs.{Blob.Blob, Stored.HasFailed, declared.error.Error.Error}
 use Rattle.std.specs.{
-  List.list_any,
-  Prelude.{Bool, IsSome, IsTrue, List, None, Option, Some, String, if◌then◌else◌, string_bytes, true, ℕ, ◌≡◌},
+  List.{AllPairs, Contains},
+  Prelude.{Bool, IsSome, List, None, Option, Some, if◌then◌else◌, true, ℕ, ◌≡◌, ◌≢◌},
+  Prelude.◌⊎◌,
   Str.{IsUtf8, bytes_eq},
 }
 
@@ -22,9 +23,12 @@ RefusesRoot key stored closed before after Error.OutOfMemory = Unit {0}
 RefusesRoot key stored closed before after (Error.Storage code) = HasFailed before after
 RefusesRoot key stored closed before after _ = ⊥
 
-abbrev pub is_among : {A : Type 0} → List ℕ → List (String A) → Bool
-is_among name names = list_any (λ it. bytes_eq name (string_bytes it)) names
+-- what the names durably stand for stays as it was, or becomes what they stand for: all of them, or none
+abbrev pub StaysOrTakes : (List ℕ → Option ℕ) → (List ℕ → Option ℕ) → (List ℕ → Option ℕ) → Type 0
+StaysOrTakes roots old new = (new ≡ old) ⊎ (new ≡ roots)
 
--- each name, which is UTF-8, is listed if it stands for a key
-abbrev pub ListsAll : {A : Type 0} → (List ℕ → Option ℕ) → List (String A) → Type 0
-ListsAll roots names = (name : List ℕ) → IsUtf8 name → IsSome (roots name) → IsTrue (is_among name names)
+-- Each name that stands for a key is listed, once, and no other. A name that isn't UTF-8 has no `str`.
+pub record ListsEach (roots : List ℕ → Option ℕ) (names : List (List ℕ)) : Type 0 where
+  pub once : AllPairs (λ a b. a ≢ b) names
+  pub all : (name : List ℕ) → IsUtf8 name → IsSome (roots name) → Contains names name
+  pub only : (name : List ℕ) → Contains names name → IsSome (roots name)

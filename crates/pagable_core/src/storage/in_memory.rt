@@ -4,7 +4,7 @@ ghost use Rattle.pagable_core.specs.Data.{blob_of, stored_in};
 ghost use Rattle.pagable_value_spec.specs.{Blob.key_of, Outcomes.IsOutOfMemory, Stored.{AreNamed, IsCount}};
 ghost use Rattle.std.specs.{
   HashMap.get_by_text,
-  Prelude.{IfErr, IsTrue, None, OnErr, OnOk, Some, false, if◌then◌else◌, option_map, true, ℕ, ◌==◌, ◌↔◌, ◌≡◌},
+  Prelude.{IfErr, IsTrue, List, None, OnErr, OnOk, Some, false, if◌then◌else◌, option_map, true, ℕ, ◌==◌, ◌↔◌, ◌≡◌},
 };
 
 use crate::storage::data::PagableData;
@@ -19,8 +19,8 @@ use std::marker::PhantomData;
 use std::sync::Arc;
 
 /// A storage in memory: a map of blobs by key, and one of keys by name. It refuses another blob
-/// under a taken key and keeps the first. What it stores counts as flushed at once. It stays honest
-/// (it takes no wrong answer for true), since it asks no layer below.
+/// under a taken key and keeps the first. What it stores or names counts as flushed at once. It
+/// stays honest (it takes no wrong answer for true), since it asks no layer below.
 #[derive(Drop)]
 pub struct InMemoryBlobs<E: Env> {
     blobs: HashMap<DataKey, Arc<PagableData>>,
@@ -31,9 +31,10 @@ pub struct InMemoryBlobs<E: Env> {
 }
 
 impl<E: Env> InMemoryBlobs<E> {
-    /// Creates an open storage without blobs. It allocates nothing.
+    /// Creates an open storage without blobs and names. It allocates nothing.
     pub fn new(alloc: Global) -> InMemoryBlobs<E>
         ensures empty { (key : ℕ) → ⟦<InMemoryBlobs<E> as PagableStorage<E>>⟧.stored result key ≡ None }
+        ensures no_names { (name : List ℕ) → ⟦<InMemoryBlobs<E> as PagableStorage<E>>⟧.roots result name ≡ None }
         ensures open { ⟦<InMemoryBlobs<E> as PagableStorage<E>>⟧.is_closed result ≡ false }
     {
         InMemoryBlobs {
@@ -95,6 +96,10 @@ impl<E: Env> PagableStorage<E> for InMemoryBlobs<E> {
     ghost is_closed = { λ s. s.closed };
 
     ghost failed = { λ s. 0 };
+
+    ghost roots = { λ s. get_by_text s.roots };
+
+    ghost roots_flushed = { λ s. get_by_text s.roots };
 
     fn fetch_data_blocking(
         &mut self,
@@ -161,8 +166,6 @@ impl<E: Env> PagableStorage<E> for InMemoryBlobs<E> {
 }
 
 impl<E: Env> Roots<E> for InMemoryBlobs<E> {
-    ghost roots = { λ s. get_by_text s.roots };
-
     fn root(&mut self, name: &str) -> Result<Option<DataKey>, Error> {
         Ok(self.roots.get(name).copied())
     }

@@ -1,8 +1,11 @@
 //! Names that stand for keys.
 
-ghost use Rattle.pagable_core.specs.Roots.{HasBlobIfKey, ListsAll, RefusesRoot, Sets};
+ghost use Rattle.pagable_core.specs.Roots.{HasBlobIfKey, ListsEach, RefusesRoot, Sets, StaysOrTakes};
 ghost use Rattle.pagable_value_spec.specs.Stored.{IsMemoryOrFailure};
-ghost use Rattle.std.specs.Prelude.{IfErr, IfOk, IsTrue, List, OnErr, OnOk, Option, false, ℕ, ◌≡◌, ◌≤◌};
+ghost use Rattle.std.specs.{
+  Prelude.{IfErr, IfOk, IsTrue, OnErr, OnOk, false, map, ◌≡◌, ◌≤◌},
+  String.string_bytes,
+};
 
 use crate::storage::traits::PagableStorage;
 use pagable_codec::Env;
@@ -15,9 +18,6 @@ use std::alloc::Global;
 /// What a call returns is right as long as the storage is honest after the call, that is, hasn't
 /// taken a wrong answer of a layer below for true.
 pub trait Roots<E: Env>: PagableStorage<E> {
-    // The key that each name stands for, or None.
-    ghost roots: { Self → List ℕ → Option ℕ };
-
     /// Returns the key that a name stands for, or None if it stands for none.
     ///
     /// # Errors
@@ -26,10 +26,12 @@ pub trait Roots<E: Env>: PagableStorage<E> {
     /// - `Storage` only if the call raised the storage's count of failures, or it was 2^64 - 1.
     fn root(&mut self, name: &str) -> Result<Option<DataKey>, Error>
         ensures ok { IsTrue (Self.PagableStorage.is_honest self.new)
-            → IfOk result (λ key. key ≡ roots self.old name.now) }
+            → IfOk result (λ key. key ≡ Self.PagableStorage.roots self.old name.now) }
         ensures only { IfErr result (IsMemoryOrFailure (Self.PagableStorage.failed self.old)
             (Self.PagableStorage.failed self.new)) }
-        ensures same { IsTrue (Self.PagableStorage.is_honest self.new) → roots self.new ≡ roots self.old }
+        ensures same_names { IsTrue (Self.PagableStorage.is_honest self.new)
+            → (Self.PagableStorage.roots self.new ≡ Self.PagableStorage.roots self.old)
+            × (Self.PagableStorage.roots_flushed self.new ≡ Self.PagableStorage.roots_flushed self.old) }
         ensures stays { IsTrue (Self.PagableStorage.is_honest self.new)
             → (Self.PagableStorage.stored self.new ≡ Self.PagableStorage.stored self.old)
             × (Self.PagableStorage.flushed self.new ≡ Self.PagableStorage.flushed self.old) }
@@ -50,7 +52,11 @@ pub trait Roots<E: Env>: PagableStorage<E> {
     /// - `Storage` only if the call raised the storage's count of failures, or it was 2^64 - 1.
     fn set_root(&mut self, alloc: Global, name: &str, key: Option<DataKey>) -> Result<(), Error>
         ensures sets { IsTrue (Self.PagableStorage.is_honest self.new)
-            → OnOk result (Sets name.now key (roots self.old) (roots self.new)) }
+            → OnOk result (Sets name.now key (Self.PagableStorage.roots self.old)
+            (Self.PagableStorage.roots self.new)) }
+        ensures durable_names { IsTrue (Self.PagableStorage.is_honest self.new)
+            → StaysOrTakes (Self.PagableStorage.roots self.new) (Self.PagableStorage.roots_flushed self.old)
+            (Self.PagableStorage.roots_flushed self.new) }
         ensures stands { IsTrue (Self.PagableStorage.is_honest self.new)
             → OnOk result (HasBlobIfKey (Self.PagableStorage.stored self.old) key) }
         ensures was_open { OnOk result (Self.PagableStorage.is_closed self.old ≡ false) }
@@ -58,7 +64,8 @@ pub trait Roots<E: Env>: PagableStorage<E> {
             → IfErr result (RefusesRoot key (Self.PagableStorage.stored self.old)
             (Self.PagableStorage.is_closed self.old) (Self.PagableStorage.failed self.old)
             (Self.PagableStorage.failed self.new)) }
-        ensures err { IsTrue (Self.PagableStorage.is_honest self.new) → OnErr result (roots self.new ≡ roots self.old) }
+        ensures err { IsTrue (Self.PagableStorage.is_honest self.new)
+            → OnErr result (Self.PagableStorage.roots self.new ≡ Self.PagableStorage.roots self.old) }
         ensures stays { IsTrue (Self.PagableStorage.is_honest self.new)
             → (Self.PagableStorage.stored self.new ≡ Self.PagableStorage.stored self.old)
             × (Self.PagableStorage.flushed self.new ≡ Self.PagableStorage.flushed self.old) }
@@ -67,17 +74,18 @@ pub trait Roots<E: Env>: PagableStorage<E> {
         ensures open { Self.PagableStorage.is_closed self.new ≡ Self.PagableStorage.is_closed self.old }
         ensures later { Self.PagableStorage.failed self.old ≤ Self.PagableStorage.failed self.new };
 
-    /// Returns all names that stand for a key, and maybe others that once did, in no particular
-    /// order.
+    /// Returns each name that stands for a key, once, and no other, in no particular order.
     ///
     /// # Errors
     ///
     /// - `OutOfMemory`.
     /// - `Storage` only if the call raised the storage's count of failures, or it was 2^64 - 1.
     fn root_names(&mut self, alloc: Global) -> Result<Vec<String>, Error>
-        ensures all { IsTrue (Self.PagableStorage.is_honest self.new)
-            → IfOk result (λ names. ListsAll (roots self.old) names.items) }
-        ensures same { IsTrue (Self.PagableStorage.is_honest self.new) → roots self.new ≡ roots self.old }
+        ensures each { IsTrue (Self.PagableStorage.is_honest self.new)
+            → IfOk result (λ names. ListsEach (Self.PagableStorage.roots self.old) (map string_bytes names.items)) }
+        ensures same_names { IsTrue (Self.PagableStorage.is_honest self.new)
+            → (Self.PagableStorage.roots self.new ≡ Self.PagableStorage.roots self.old)
+            × (Self.PagableStorage.roots_flushed self.new ≡ Self.PagableStorage.roots_flushed self.old) }
         ensures stays { IsTrue (Self.PagableStorage.is_honest self.new)
             → (Self.PagableStorage.stored self.new ≡ Self.PagableStorage.stored self.old)
             × (Self.PagableStorage.flushed self.new ≡ Self.PagableStorage.flushed self.old) }

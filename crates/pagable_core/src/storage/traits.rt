@@ -1,14 +1,14 @@
 //! The trait of a storage of blobs.
 
 ghost use Rattle.futures.specs.{Poll.{IfReady, OnPending}, Task.{IsArmed, Keeps as KeepsPoll}};
-ghost use Rattle.pagable_core.specs.Data.{blob_of};
+ghost use Rattle.pagable_core.specs.{Data.blob_of, Roots.StaysOrTakes};
 ghost use Rattle.pagable_value_spec.specs.{
   Blob.{Blob, key_of},
   Stored.{Adds, IsMemoryOrFailure, Keeps, RefusesFetch, RefusesStore},
 };
 ghost use Rattle.std.specs.{
   Arc.arc_value,
-  Prelude.{Bool, IfErr, IfOk, IsTrue, None, OnErr, OnOk, Option, Some, false, true, ℕ, ◌≡◌, ◌≤◌},
+  Prelude.{Bool, IfErr, IfOk, IsTrue, List, None, OnErr, OnOk, Option, Some, false, true, ℕ, ◌≡◌, ◌≤◌},
 };
 
 use crate::storage::data::PagableData;
@@ -22,8 +22,8 @@ use std::sync::Arc;
 /// counts its failures: a call may fail with `Storage` only if the count went up, or had reached
 /// 2^64 - 1 before.
 ///
-/// What a call promises of the stored blobs holds as long as the storage is honest after the call,
-/// that is, hasn't taken a wrong answer of a layer below for true.
+/// What a call promises of the stored blobs, and of names, holds as long as the storage is honest
+/// after the call, that is, hasn't taken a wrong answer of a layer below for true.
 /// Whatever the storage does, a call fails only with an error that it names, a fetched blob has the
 /// key that was asked for, and storing returns the key of the blob's content.
 pub trait PagableStorage<E: Env>: Sized {
@@ -41,6 +41,12 @@ pub trait PagableStorage<E: Env>: Sized {
 
     // How often the storage has failed, up to 2^64 - 1.
     ghost failed: { Self → ℕ };
+
+    // The key that each name stands for, or None; `Roots` has the calls that set and read it.
+    ghost roots: { Self → List ℕ → Option ℕ } = { λ _ _. None };
+
+    // The key that a flush has made each name stand for durably, or None.
+    ghost roots_flushed: { Self → List ℕ → Option ℕ } = { λ _ _. None };
 
     /// Fetches the blob under a key.
     ///
@@ -65,6 +71,8 @@ pub trait PagableStorage<E: Env>: Sized {
             (RefusesFetch key (stored self.old key) (failed self.old) (failed self.new)) }
         ensures same { IsTrue (is_honest self.new) → (stored self.new ≡ stored self.old)
             × (flushed self.new ≡ flushed self.old) }
+        ensures same_names { IsTrue (is_honest self.new) → (roots self.new ≡ roots self.old)
+            × (roots_flushed self.new ≡ roots_flushed self.old) }
         ensures honest { IsTrue (is_honest self.new) → IsTrue (is_honest self.old) }
         ensures open { is_closed self.new ≡ is_closed self.old }
         ensures later { failed self.old ≤ failed self.new };
@@ -92,6 +100,8 @@ pub trait PagableStorage<E: Env>: Sized {
             (λ r. IfErr r (RefusesFetch key (stored self.old key) (failed self.old) (failed self.new))) }
         ensures same { IsTrue (is_honest self.new) → (stored self.new ≡ stored self.old)
             × (flushed self.new ≡ flushed self.old) }
+        ensures same_names { IsTrue (is_honest self.new) → (roots self.new ≡ roots self.old)
+            × (roots_flushed self.new ≡ roots_flushed self.old) }
         ensures honest { IsTrue (is_honest self.new) → IsTrue (is_honest self.old) }
         ensures open { is_closed self.new ≡ is_closed self.old }
         ensures later { failed self.old ≤ failed self.new }
@@ -99,7 +109,7 @@ pub trait PagableStorage<E: Env>: Sized {
         ensures kept { KeepsPoll cx.old cx.new };
 
     /// Stores a blob under its key, and returns the key. Does nothing if the same blob is stored
-    /// there already. What a flush has made durable stays durable.
+    /// there already. What a flush has made durable stays durable, and no name changes.
     ///
     /// # Errors
     ///
@@ -122,6 +132,9 @@ pub trait PagableStorage<E: Env>: Sized {
             (failed self.old) (failed self.new)) }
         ensures err { IsTrue (is_honest self.new) → OnErr result (stored self.new ≡ stored self.old) }
         ensures keeps { IsTrue (is_honest self.new) → Keeps (flushed self.old) (flushed self.new) }
+        ensures same_names { IsTrue (is_honest self.new) → roots self.new ≡ roots self.old }
+        ensures durable_names { IsTrue (is_honest self.new)
+            → StaysOrTakes (roots self.old) (roots_flushed self.old) (roots_flushed self.new) }
         ensures honest { IsTrue (is_honest self.new) → IsTrue (is_honest self.old) }
         ensures open { is_closed self.new ≡ is_closed self.old }
         ensures later { failed self.old ≤ failed self.new };
@@ -152,6 +165,9 @@ pub trait PagableStorage<E: Env>: Sized {
             (failed self.old) (failed self.new)) }
         ensures err { IsTrue (is_honest self.new) → OnErr result (stored self.new ≡ stored self.old) }
         ensures keeps { IsTrue (is_honest self.new) → Keeps (flushed self.old) (flushed self.new) }
+        ensures same_names { IsTrue (is_honest self.new) → roots self.new ≡ roots self.old }
+        ensures durable_names { IsTrue (is_honest self.new)
+            → StaysOrTakes (roots self.old) (roots_flushed self.old) (roots_flushed self.new) }
         ensures honest { IsTrue (is_honest self.new) → IsTrue (is_honest self.old) }
         ensures open { is_closed self.new ≡ is_closed self.old }
         ensures later { failed self.old ≤ failed self.new }
@@ -160,7 +176,9 @@ pub trait PagableStorage<E: Env>: Sized {
     }
 
     /// Writes what the storage has held back: after a call that succeeds, all that is stored is
-    /// durable. The call changes nothing that is stored.
+    /// durable, and each name durably stands for what it stands for. The call changes nothing that is
+    /// stored, and no name. After a failure the names durably stand for what they durably stood for,
+    /// or all of them for what they stand for.
     ///
     /// # Errors
     ///
@@ -168,15 +186,21 @@ pub trait PagableStorage<E: Env>: Sized {
     /// - `Storage` only if the call raised the count of failures, or it was 2^64 - 1 before.
     fn flush(&mut self) -> Result<(), Error>
         ensures sure { IsTrue (is_honest self.new) → OnOk result (flushed self.new ≡ stored self.new) }
+        ensures sure_names { IsTrue (is_honest self.new) → OnOk result (roots_flushed self.new ≡ roots self.new) }
         ensures only { IfErr result (IsMemoryOrFailure (failed self.old) (failed self.new)) }
         ensures same { IsTrue (is_honest self.new) → stored self.new ≡ stored self.old }
+        ensures same_names { IsTrue (is_honest self.new) → roots self.new ≡ roots self.old }
+        ensures durable_names { IsTrue (is_honest self.new) → OnErr result
+            (StaysOrTakes (roots self.old) (roots_flushed self.old) (roots_flushed self.new)) }
         ensures honest { IsTrue (is_honest self.new) → IsTrue (is_honest self.old) }
         ensures open { is_closed self.new ≡ is_closed self.old }
         ensures later { failed self.old ≤ failed self.new };
 
-    /// Closes the storage: it drops every blob, and stores nothing any more. It flushes nothing.
+    /// Closes the storage: it drops every blob and every name, and stores nothing any more. It
+    /// flushes nothing.
     fn close(&mut self)
         ensures empty { (key : ℕ) → stored self.new key ≡ None }
+        ensures no_names { (name : List ℕ) → roots self.new name ≡ None }
         ensures closed { is_closed self.new ≡ true }
         ensures honest { IsTrue (is_honest self.new) → IsTrue (is_honest self.old) }
         ensures later { failed self.old ≤ failed self.new };

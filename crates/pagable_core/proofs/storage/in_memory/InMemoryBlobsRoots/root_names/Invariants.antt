@@ -1,8 +1,8 @@
-use Rattle.pagable_core.specs.Roots.{is_among}
-use Rattle.std.specs.{HashMap.get_by_text, Prelude.{IsSome, IsTrue, List, ℕ, ◌||◌}}
+use Rattle.std.proofs.Common.{map, string_bytes, ◌++◌, ◌≡◌}
+use Rattle.std.specs.HashMap.{keys}
 use Rattle.pagable_core.proofs.storage.in_memory.InMemoryBlobsRoots.root_names.Given as goal
 
--- a name that stands for a key is listed, or among those to come
+-- the names so far, and those to come, are all names
 abbrev pub invariant-loop-name : goal.invariant-loop-name
-invariant-loop-name g l = (name : List ℕ) → IsSome (get_by_text l.fn.self.roots name)
-    → IsTrue (is_among name l.names.items || is_among name l.name-iterator)
+invariant-loop-name g l =
+    map string_bytes l.names.items ++ map string_bytes l.name-iterator ≡ map string_bytes (keys l.fn.self.roots)
