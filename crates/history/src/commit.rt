@@ -2,7 +2,7 @@
 
 ghost use Rattle.history.specs.Commits.{commit_encoding};
 ghost use Rattle.pagable_nodes.specs.Nodes.{one_held, zero_is_small};
-ghost use Rattle.pagable_traits.specs.ReadBack.{IsReadableThroughout};
+ghost use Rattle.pagable_traits.specs.{HeldValues.only_references, ReadBack.IsReadableThroughout};
 ghost use Rattle.std.specs.{Arc.arc_value, Prelude.{Some, ◌≡◌}};
 
 use pagable_core::Sha256Key;
@@ -95,6 +95,8 @@ impl<'de, E: Env> PagableDeserialize<'de, E> for Commit {
 
 impl<E: Env> NodeValue<E> for Commit {
     ghost encoding = { commit_encoding };
+
+    ghost beside = { only_references };
 
     fn list_refs(&self, alloc: Global) -> Result<Vec<ArcRef>, Error> {
         references_of::<E, Commit>(alloc, self)

@@ -1,7 +1,8 @@
 //! An environment of three types: commits, folders and files, which refer to each other.
 
-ghost use Rattle.history.specs.Projects.{file_encoding, folder_encoding};
+ghost use Rattle.history.specs.Projects.{file_encoding, folder_beside, folder_encoding};
 ghost use Rattle.pagable_nodes.specs.Nodes.{first_held, second_held, third_held, three_are_small};
+ghost use Rattle.pagable_traits.specs.HeldValues.{only_references};
 ghost use Rattle.std.specs.{Arc.arc_value, Prelude.{Some, ◌≡◌}};
 
 use crate::commit::Commit;
@@ -9,8 +10,8 @@ use pagable_core::Sha256Key;
 use pagable_flavors::Error;
 use pagable_nodes::{EitherNode, NodeValue, OneNode, write_with_refs};
 use pagable_traits::{
-    ArcRef, Canonical, Carried, Env, OfNode, OneMeaning, PagableDeserialize, PagableDeserializer,
-    PagableSerialize, PagableSerializer, RawRef, Refers, references_of,
+    Arc as Shared, ArcRef, Canonical, Carried, Env, OfNode, OneMeaning, PagableDeserialize,
+    PagableDeserializer, PagableSerialize, PagableSerializer, RawRef, Refers, references_of,
 };
 use std::alloc::Global;
 use std::sync::Arc;
@@ -36,73 +37,86 @@ impl Env for ProjectEnv {
 /// A node that holds a commit, a folder or a file.
 pub type ProjectNode = EitherNode<Commit, Folder, File>;
 
-/// A folder: its name, the commit that added it, and its files.
+/// A folder: its name, the commit that added it, a file that is read together with it, and its
+/// other files.
 #[derive(Drop)]
 pub struct Folder {
     pub name: String,
     pub added_in: RawRef<1>,
+    pub readme: Shared<File>,
     pub files: Vec<RawRef<7>>,
 }
 
-impl<E: Env> Carried<E> for Folder {
+impl Carried<ProjectEnv> for Folder {
     ghost shape = { λ e. folder_encoding.shape };
 
     ghost means = { folder_encoding.means };
+
+    ghost beside = { folder_beside };
 }
 
-impl<E: Env> OneMeaning<E> for Folder {
+impl OneMeaning<ProjectEnv> for Folder {
     ghost single = { folder_encoding.single };
 }
 
-impl<E: Env> Canonical<E> for Folder {
-    ghost one_form = { λ e. folder_encoding.one_form (E.parts e) };
+impl Canonical<ProjectEnv> for Folder {
+    ghost one_form = { λ e. folder_encoding.one_form (⟦<ProjectEnv as Env>⟧.parts e) };
 }
 
-impl<E: Env> Refers<E> for Folder {
+impl Refers<ProjectEnv> for Folder {
     fn list_references(&self, list: &mut Vec<ArcRef>) -> Result<(), Error> {
-        Refers::<E>::list_references(&(&self.name, (&self.added_in, &self.files)), list)
+        let fields = (&self.name, (&self.added_in, (&self.readme, &self.files)));
+        Refers::<ProjectEnv>::list_references(&fields, list)
     }
 
-    ghost in_order = { λ e. folder_encoding.in_order (E.parts e) };
+    ghost in_order = { λ e. folder_encoding.in_order (⟦<ProjectEnv as Env>⟧.parts e) };
 }
 
-impl<E: Env> PagableSerialize<E> for Folder {
+impl PagableSerialize<ProjectEnv> for Folder {
     ghost write_causes = { folder_encoding.writes };
 
-    fn pagable_serialize<S: PagableSerializer<E>>(&self, serializer: &mut S) -> Result<(), Error> {
-        (&self.name, (&self.added_in, &self.files)).pagable_serialize(serializer)
+    fn pagable_serialize<S: PagableSerializer<ProjectEnv>>(
+        &self,
+        serializer: &mut S,
+    ) -> Result<(), Error> {
+        let fields = (&self.name, (&self.added_in, (&self.readme, &self.files)));
+        fields.pagable_serialize(serializer)
     }
 }
 
-impl<'de, E: Env> PagableDeserialize<'de, E> for Folder {
+impl<'de> PagableDeserialize<'de, ProjectEnv> for Folder {
     ghost read_causes = { folder_encoding.reads };
 
-    fn pagable_deserialize<D: PagableDeserializer<E>>(
+    #[tactic(auto, using(pagable_nodes::proofs::Held::parts_hold))]
+    fn pagable_deserialize<D: PagableDeserializer<ProjectEnv>>(
         alloc: Global,
         deserializer: &mut D,
     ) -> Result<Self, Error> {
         let fields = PagableDeserialize::pagable_deserialize(alloc, deserializer)?;
-        let (name, (added_in, files)) = fields;
+        let (name, (added_in, (readme, files))) = fields;
         Ok(Folder {
             name,
             added_in,
+            readme,
             files,
         })
     }
 }
 
-impl<E: Env> NodeValue<E> for Folder {
+impl NodeValue<ProjectEnv> for Folder {
     ghost encoding = { folder_encoding };
 
+    ghost beside = { folder_beside };
+
     fn list_refs(&self, alloc: Global) -> Result<Vec<ArcRef>, Error> {
-        references_of::<E, Folder>(alloc, self)
+        references_of::<ProjectEnv, Folder>(alloc, self)
     }
 
-    fn write<S: PagableSerializer<E>>(&self, serializer: &mut S) -> Result<(), Error> {
+    fn write<S: PagableSerializer<ProjectEnv>>(&self, serializer: &mut S) -> Result<(), Error> {
         write_with_refs(self, serializer)
     }
 
-    fn read<D: PagableDeserializer<E>>(
+    fn read<D: PagableDeserializer<ProjectEnv>>(
         alloc: Global,
         deserializer: &mut D,
     ) -> Result<Folder, Error> {
@@ -167,6 +181,8 @@ impl<'de, E: Env> PagableDeserialize<'de, E> for File {
 
 impl<E: Env> NodeValue<E> for File {
     ghost encoding = { file_encoding };
+
+    ghost beside = { only_references };
 
     fn list_refs(&self, alloc: Global) -> Result<Vec<ArcRef>, Error> {
         references_of::<E, File>(alloc, self)

@@ -61,6 +61,7 @@ impl TextNode {
 
 impl<H: KeyHash> NodeSet<TextEnv<H>> for TextNode {
     ghost use Rattle.std.specs.Prelude.{◌≡◌, [], refl};
+    ghost use Rattle.pagable_traits.specs.HeldValues.{only_references};
     ghost use Rattle.pagable_value_spec.specs.{Causes.{memory_is_own_reading, text_may_refuse_writing}, Outcomes.{long_or, IsOutOfMemory}, Shape.text as text_shape};
     ghost use Rattle.named_texts.specs.Texts.{shape_of, text_of, texts_refer};
 
@@ -73,6 +74,8 @@ impl<H: KeyHash> NodeSet<TextEnv<H>> for TextNode {
     ghost means = { λ n m. m ≡ text_of n };
 
     ghost refs_of = { λ n. [] };
+
+    ghost beside = { only_references };
 
     ghost write_causes = { λ t. long_or IsOutOfMemory };
 

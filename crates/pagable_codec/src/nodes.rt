@@ -37,8 +37,8 @@ pub trait NodeSet<E: Env>: Sized {
     ghost refs_of: { Self → List Reference };
 
     // Says that what the value holds beside this reference, wherever it holds the reference, is the
-    // value of this node. By default it says nothing, which fits values that hold only references.
-    ghost beside: { Self → Reference → E.Node → Type 0 } = { λ n r y. Unit {0} };
+    // value of this node: nothing, if the value holds only references.
+    ghost beside: { Self → Reference → E.Node → Type 0 };
 
     // All errors of writing a type's values, and all errors of reading them other than faults of
     // the input and errors of references.

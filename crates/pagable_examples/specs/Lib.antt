@@ -1,5 +1,6 @@
 pub mod Animals
 pub mod Dishes
+pub mod Dolls
 pub mod Expressions
 pub mod Linked
 pub mod Sizes

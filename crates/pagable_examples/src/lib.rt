@@ -2,6 +2,7 @@
 //!
 //! - `dish`: a struct of named fields, which may be a key of maps too.
 //! - `size`: an enum that is encoded as an `Option`.
+//! - `doll`: a struct with an `Arc` field.
 //! - `expression`: a type that holds values of its own type.
 //! - `ticket`: a type that is written and read eagerly.
 //! - `animal`: an enum whose values are written as a tag and a body.
@@ -11,6 +12,7 @@
 
 pub mod animal;
 pub mod dish;
+pub mod doll;
 pub mod expression;
 pub mod linked;
 pub mod size;

@@ -1,6 +1,7 @@
--- The numbers, meanings, references and errors of nodes of one value type and of three.
+-- The numbers, meanings, references, errors and held values of nodes of one value type and of three.
 use Rattle.pagable_nodes.specs.declared.{either_node.EitherNode.EitherNode, one_node.OneNode.OneNode}
 use Rattle.pagable_traits.specs.{
+  HeldValues.Beside,
   InNodes.{Holds, holds-none, holds-value},
   Meanings.{AreSingle, Meanings, some},
   OwnCauses.{ReadCauses, WriteCauses, reads_memory_or},
@@ -32,6 +33,10 @@ shape_of_one s (suc n) = None
 
 abbrev pub one_held : {T : Type 0} → OneNode T → Option T
 one_held n = Some (arc_value n.value)
+
+-- a node holds beside references what its value holds
+abbrev pub one_beside : {N T : Type 0} → Beside N T → Beside N (OneNode T)
+one_beside B n = B (arc_value n.value)
 
 pub holds_one : {T : Type 0} (M : Meanings T) (n : OneNode T) → Holds M.of 0 0 (M.of (arc_value n.value)) (one_held n)
 holds_one M n = holds-value (arc_value n.value) refl (λ m h. h) (λ m h. h)
@@ -74,6 +79,11 @@ module _ {A B C : Type 0} where
   abbrev pub third_held : EitherNode A B C → Option C
   third_held (nodes.Third n) = one_held n
   third_held _ = None
+
+  abbrev pub either_beside : {N : Type 0} → Beside N A → Beside N B → Beside N C → Beside N (EitherNode A B C)
+  either_beside P Q R (nodes.First n) = one_beside P n
+  either_beside P Q R (nodes.Second n) = one_beside Q n
+  either_beside P Q R (nodes.Third n) = one_beside R n
 
   module _ (s t u : Shape) where
     abbrev pub either_shape : EitherNode A B C → Shape

@@ -1,8 +1,8 @@
 //! A node that holds a value of one of three types.
 
 ghost use Rattle.pagable_nodes.specs.{
-  Nodes.{either_has_meaning, either_has_shape, either_means, either_number, either_reads, either_refers, either_refs},
-  Nodes.{either_shape, either_writes, first_held, second_held, shape_of_three, third_held},
+  Nodes.{either_beside, either_has_meaning, either_has_shape, either_means, either_number, either_reads, either_refers},
+  Nodes.{either_refs, either_shape, either_writes, first_held, second_held, shape_of_three, third_held},
 };
 ghost use Rattle.pagable_value_spec.specs.Outcomes.{IsOutOfMemory};
 ghost use Rattle.std.specs.{Arc.arc_value, Option.option_map, Prelude.{IfErr, IfOk, ◌≡◌}};
@@ -85,6 +85,8 @@ impl<E: Env, A: NodeValue<E> + Drop, B: NodeValue<E> + Drop, C: NodeValue<E> + D
 
     ghost refs_of = { either_refs A.encoding.means B.encoding.means C.encoding.means };
 
+    ghost beside = { either_beside A.beside B.beside C.beside };
+
     ghost write_causes = { λ t. (either_writes A.encoding.writes B.encoding.writes C.encoding.writes t).are };
 
     ghost read_causes = { λ t. (either_reads A.encoding.reads B.encoding.reads C.encoding.reads t).are };
@@ -125,7 +127,7 @@ impl<E: Env, A: NodeValue<E> + Drop, B: NodeValue<E> + Drop, C: NodeValue<E> + D
         }
     }
 
-    #[tactic(auto, using(crate::proofs::Causes::or_memory))]
+    #[tactic(auto, using(crate::proofs::Causes::or_memory, crate::proofs::Held::held))]
     fn read<D: PagableDeserializer<E>>(
         node_type: u32,
         alloc: Global,

@@ -1,9 +1,15 @@
 //! The types whose values nodes hold.
 
 ghost use Rattle.pagable_nodes.specs.Encoding.{Encoding, empty};
-ghost use Rattle.pagable_traits.specs.Clauses.{Reads, Wrote, value as form};
+ghost use Rattle.pagable_traits.specs.{Clauses.{Reads, Wrote, value as form}, HeldValues.only_references};
 ghost use Rattle.pagable_value_spec.{
-  specs.{Outcomes.IsOutOfMemory, Reading.read as read_shape, References.references_in},
+  specs.{
+    Cursor.HoldsLentValues,
+    Outcomes.IsOutOfMemory,
+    Reading.read as read_shape,
+    References.references_in,
+    declared.numbers.ArcRef.ArcRef as Reference,
+  },
 };
 ghost use Rattle.std.specs.Prelude.{IfErr, IfOk, OnOk, ◌++◌, ◌≡◌};
 
@@ -23,6 +29,10 @@ use std::alloc::Global;
 pub trait NodeValue<E: Env>: Sized {
     // The shape of the values, the one meaning of each, and all errors of writing and reading them.
     ghost encoding: { Encoding Self };
+
+    // Says that what the value holds beside this reference, wherever it holds the reference, is the
+    // value of this node: `only_references` of a type without an `Arc` and without a pin.
+    ghost beside: { Self → Reference → E.Node → Type 0 };
 
     /// Returns the references in the value, in the order in which they are written.
     ///
@@ -44,7 +54,8 @@ pub trait NodeValue<E: Env>: Sized {
         ensures listed { OnOk result ((S.out serializer.new).refs ≡ (S.out serializer.old).refs
             ++ references_in (encoding.means.meaning self.now)) };
 
-    /// Reads the value at the start of what is left, and leaves the rest.
+    /// Reads the value at the start of what is left, and leaves the rest. If the value holds what
+    /// its references refer to, it holds what the deserializer lent for them.
     ///
     /// # Errors
     ///
@@ -52,12 +63,15 @@ pub trait NodeValue<E: Env>: Sized {
     ///   type's own.
     fn read<D: PagableDeserializer<E>>(alloc: Global, deserializer: &mut D) -> Result<Self, Error>
         ensures reads { Reads E.Env D.PagableDeserializer encoding.reads.are encoding.means.of
-            (λ c. read_shape c encoding.shape) deserializer.old deserializer.new result };
+            (λ c. read_shape c encoding.shape) deserializer.old deserializer.new result }
+        ensures holds { IfOk result (HoldsLentValues (D.input_state deserializer.old) beside) };
 }
 
 /// `()` is the third type of an environment with two.
 impl<E: Env> NodeValue<E> for () {
     ghost encoding = { empty };
+
+    ghost beside = { only_references };
 
     fn list_refs(&self, alloc: Global) -> Result<Vec<ArcRef>, Error> {
         references_of::<E, ()>(alloc, self)

@@ -1,6 +1,6 @@
 //! A node that holds a value of the environment's one value type.
 
-ghost use Rattle.pagable_nodes.specs.Nodes.{shape_of_one, value_refers};
+ghost use Rattle.pagable_nodes.specs.Nodes.{one_beside, shape_of_one, value_refers};
 ghost use Rattle.pagable_traits.specs.{Clauses.{Wrote, value as form}, Meanings.some, OwnCauses.reads_memory_or};
 ghost use Rattle.pagable_value_spec.specs.References.{references_in};
 ghost use Rattle.std.specs.{Arc.arc_value, Prelude.{OnOk, refl, ◌++◌, ◌≡◌}};
@@ -59,6 +59,8 @@ impl<E: Env, T: NodeValue<E> + Drop> NodeSet<E> for OneNode<T> {
 
     ghost refs_of = { λ n. references_in (T.encoding.means.meaning (arc_value n.value)) };
 
+    ghost beside = { one_beside T.beside };
+
     ghost write_causes = { λ t. T.encoding.writes.are };
 
     ghost read_causes = { λ t. (reads_memory_or T.encoding.reads).are };
@@ -85,6 +87,7 @@ impl<E: Env, T: NodeValue<E> + Drop> NodeSet<E> for OneNode<T> {
         NodeValue::<E>::write(self.value.as_ref(), serializer)
     }
 
+    #[tactic(auto, using(crate::proofs::Held::one_holds))]
     fn read<D: PagableDeserializer<E>>(
         node_type: u32,
         alloc: Global,

@@ -2,7 +2,11 @@
 //! references to other records.
 
 ghost use Rattle.pagable_nodes.specs.{Nodes.{holds_one, one_held, zero_is_small}, Records.{IsRecord, record_encoding}};
-ghost use Rattle.pagable_traits.specs.{ReadBack.IsReadableThroughout, References.{loose_reference, raw_reference}};
+ghost use Rattle.pagable_traits.specs.{
+  HeldValues.only_references,
+  ReadBack.IsReadableThroughout,
+  References.{loose_reference, raw_reference},
+};
 ghost use Rattle.std.specs.{Arc.arc_value, Prelude.{IfOk, Some, refl, ◌≡◌}};
 
 use crate::node_value::NodeValue;
@@ -147,6 +151,8 @@ impl<'de, E: Env> PagableDeserialize<'de, E> for Record {
 
 impl<E: Env> NodeValue<E> for Record {
     ghost encoding = { record_encoding };
+
+    ghost beside = { only_references };
 
     fn list_refs(&self, alloc: Global) -> Result<Vec<ArcRef>, Error> {
         references_of::<E, Record>(alloc, self)

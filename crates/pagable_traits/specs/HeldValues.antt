@@ -15,6 +15,10 @@ use Rattle.std.specs.{
 abbrev pub Beside : Type 0 → Type 0 → Type 1
 Beside N X = X → ArcRef → N → Type 0
 
+-- a type without an `Arc` and without a pin: its values hold nothing beside their references
+abbrev pub only_references : {N T : Type 0} → Beside N T
+only_references x r y = Unit {0}
+
 -- if the reference is the holder's own, the holder has the node's value
 abbrev pub holding_beside : {N T : Type 0} {sort : ℕ} → ℕ → Bool → (N → Option T) → Beside N (HoldingArc T sort)
 holding_beside t pins held a r y = holding_reference t pins a ≡ r → held y ≡ Some (arc_value a.value)

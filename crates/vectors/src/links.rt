@@ -1,6 +1,7 @@
 //! Environments of links and of values that can't be written, one for each hash of keys.
 
 ghost use Rattle.pagable_nodes.specs.Encoding.{fields, one, optional};
+ghost use Rattle.pagable_traits.specs.HeldValues.{only_references};
 ghost use Rattle.pagable_value_spec.specs.Shape.{nothing};
 ghost use Rattle.vectors.specs.Links.{refusing};
 
@@ -76,6 +77,8 @@ impl Env for WeighedLinks {
 impl<E: Env, const KIND: u32> NodeValue<E> for Link<KIND> {
     ghost encoding = { fields (λ l. l.next) (optional (one KIND)) };
 
+    ghost beside = { only_references };
+
     fn list_refs(&self, alloc: Global) -> Result<Vec<ArcRef>, Error> {
         references_of::<E, Option<RawRef<KIND>>>(alloc, &self.next)
     }
@@ -95,6 +98,8 @@ impl<E: Env, const KIND: u32> NodeValue<E> for Link<KIND> {
 
 impl<E: Env> NodeValue<E> for Refusing {
     ghost encoding = { refusing };
+
+    ghost beside = { only_references };
 
     fn list_refs(&self, alloc: Global) -> Result<Vec<ArcRef>, Error> {
         references_of::<E, ()>(alloc, &())

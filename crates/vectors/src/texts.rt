@@ -2,6 +2,7 @@
 //! is asked to store.
 
 ghost use Rattle.pagable_nodes.specs.Encoding.{many, one, text as text_encoding};
+ghost use Rattle.pagable_traits.specs.HeldValues.{only_references};
 
 use futures::task::{Context, Poll};
 use pagable::{
@@ -41,6 +42,8 @@ impl Env for Texts {
 impl NodeValue<Texts> for String {
     ghost encoding = { text_encoding };
 
+    ghost beside = { only_references };
+
     fn list_refs(&self, alloc: Global) -> Result<Vec<ArcRef>, Error> {
         references_of::<Texts, String>(alloc, self)
     }
@@ -60,6 +63,8 @@ impl NodeValue<Texts> for String {
 impl NodeValue<Texts> for Vec<RawRef<0>> {
     ghost encoding = { many (one 0) };
 
+    ghost beside = { only_references };
+
     fn list_refs(&self, alloc: Global) -> Result<Vec<ArcRef>, Error> {
         references_of::<Texts, Vec<RawRef<0>>>(alloc, self)
     }
@@ -78,6 +83,8 @@ impl NodeValue<Texts> for Vec<RawRef<0>> {
 
 impl NodeValue<Texts> for RawRef<0> {
     ghost encoding = { one 0 };
+
+    ghost beside = { only_references };
 
     fn list_refs(&self, alloc: Global) -> Result<Vec<ArcRef>, Error> {
         references_of::<Texts, RawRef<0>>(alloc, self)
