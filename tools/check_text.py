@@ -29,7 +29,9 @@ CONVERSION = "fn out_of_memory() -> Error"
 OF_LIBRARY = ("pagable_traits/src/saved_regex.rt", "pagable_file/src/stats.rt")
 # What isn't code: comments, strings, and what begins a clause or a ghost member, up to its braces.
 NOT_CODE = re.compile(r"//.*|\"(?:\\.|[^\"\\])*\"")
-CLAUSE = re.compile(r"\b(?:ensures|requires|invariant|decreases)\b[^{};]*(?=\{)|\bghost\s+(?!use\b)\w+\s*[:=]\s*(?=\{)")
+CLAUSE = re.compile(
+    r"\b(?:ensures|requires|invariant|decreases)\b[^{};]*(?=\{)|\bghost\s+(?!use\b)\w+\s*[:=]\s*(?=\{)"
+)
 GHOST_USE = re.compile(r"\bghost\s+use\b[^;]*;")
 ENUM = re.compile(r"\benum\s+\w+[^{;]*(?=\{)")
 USE = re.compile(r"\buse\s[^;]*;")
@@ -117,7 +119,8 @@ def functions(text):
 
 def is_one_call(function, behind, pager):
     """Whether what stands behind the pager's lock is one call of these functions of the pager, the function's own, with
-    what may stand round it."""
+    what may stand round it.
+    """
     calls = [name for name in CALLED.findall(behind) if name not in PLAIN | ACCESS]
     is_own = bool(calls) and calls[0] in OTHER_NAMES.get(function, {function})
     rest = [name for name in calls if name not in INSERTS] if calls[:1] and calls[0] in INSERTS else calls[1:]
