@@ -97,26 +97,50 @@ pub fn ask_twice<R: Wait>(pager: &Mutex<Pager>, rt: &R) {
     pager.pending();
 }
 """
-MEMORY = "\npub fn refuse() -> Result<(), Error> {\n    Err(Error::OutOfMemory)\n}\n"
+REFUSES = "\npub fn refuse() -> Result<(), Error> {{\n    Err({})\n}}\n"
+# A want of memory that is invented, in the ways to write one.
+MEMORY = [
+    REFUSES.format("Error::OutOfMemory"),
+    "\nfn refuse() -> Result<(), Error> {\n    Err(Error::\n        OutOfMemory)\n}\n",
+    "\ntype Refusal = pagable_value_spec::Error;\n",
+    "\nuse pagable_value_spec::{DataKey, Error as Refusal};\n",
+    "\nuse pagable_value_spec::Error::*;\n",
+    "\nuse pagable_value_spec::{DataKey, Error::{self, *}};\n",
+    "\nuse pagable_value_spec::Error::OutOfMemory;\n",
+    REFUSES.format("OutOfMemory"),
+    REFUSES.format("<Error>::OutOfMemory"),
+    REFUSES.format("Error::of_library(true, Error::Closed)"),
+    "\nfn ask(cause: bool) -> bool {\n    matches!(refuse(Error::OutOfMemory), Err(_))\n}\n",
+]
+# A lock that is taken by another name than that of its field, and a call that is another one.
+TAKEN = "\npub fn flush<R: Wait>(inner: &Inner, rt: &R) {{\n    {}\n}}\n"
+LOCKS = [
+    TAKEN.format("let state = &inner.pager; state.lock(rt).flush(); state.lock(rt).close()"),
+    TAKEN.format("let pager = &inner.pager; lock_briefly(pager, rt).flush()"),
+    TAKEN.format("Mutex::lock(&inner.pager, rt).flush()"),
+    TAKEN.format("if let Some(pager) = inner.pager.try_lock() { pager.flush() }"),
+    TAKEN.format("inner.pager.lock(rt).pending()"),
+    "\nuse crate::lock::lock_briefly as take;\n",
+    "\ntype Guarded<T> = Mutex<T>;\n",
+    "\nstruct Kept<E, S> {\n    state: Mutex<Pager<E, S>>,\n}\n",
+]
 
 
 def check_text(work):
-    """A want of memory that is invented, two calls under the lock, and README with other code than the file's."""
+    """A want of memory that is invented, two calls under the lock, a lock by another name, and README with other code
+    than the file's."""
     leave = shutil.ignore_patterns("out", "proofs", "specs", "must-fail", "data")
     for folder in ("crates", "tools/crates"):
         shutil.copytree(TOP / folder, work / folder, ignore=leave)
     for file in (HERE / "check_text.py", TOP / "README.md"):
         shutil.copy(file, work / file.relative_to(TOP))
     yield "", ran(work / "tools" / "check_text.py")
-    for file, added, line in [
-        ("crates/pagable_core/src/lib.rt", MEMORY, 3),
-        ("crates/pagable_locked/src/slot.rt", TWICE, 2),
-        ("crates/demo/src/main.rt", "\n// Another line.\n", None),
-    ]:
+    faults = [("crates/pagable_core/src/lib.rt", added) for added in MEMORY]
+    faults += [("crates/pagable_locked/src/slot.rt", added) for added in [TWICE, *LOCKS]]
+    for file, added in [*faults, ("crates/demo/src/main.rt", "\n// Another line.\n")]:
         text = (work / file).read_text(encoding="utf-8")
         (work / file).write_text(text + added, encoding="utf-8")
-        place = f"{file}:{text.count(chr(10)) + line}" if line else "README.md:"
-        yield place, ran(work / "tools" / "check_text.py")
+        yield "README.md:" if "demo" in file else f"{file}:", ran(work / "tools" / "check_text.py")
         (work / file).write_text(text, encoding="utf-8")
 
 

@@ -4,13 +4,19 @@ use Rattle.pagable_value_spec.specs.{
   Meaning.Meaning,
   Shape.Shape,
   Writing.{Refused, WritesSome},
-  declared.{data_key.OptionalDataKey.OptionalDataKey, error.Error.Error, numbers.ArcRef.ArcRef},
+  declared.{data_key.OptionalDataKey.OptionalDataKey, error.Error.Error, numbers.{ArcRef.ArcRef, HandleNumber.HandleNumber}},
 }
 use Rattle.std.specs.Prelude.{Bool, Err, IfSome, Ok, Option, Result, Some, false, option_and_then, true, ℕ, ◌≡◌}
 
 -- the value is the one of the handle's node, if the storage tells the values of its handles
 abbrev pub IsValueOfHandle : {N T : Type 0} → (N → Option T) → Option (ℕ → Option N) → ℕ → T → Type 0
 IsValueOfHandle held nodes handle x = IfSome nodes (λ at. option_and_then held (at handle) ≡ Some x)
+
+-- a pin by a clone of the handle: what the storage returned for the clone, which it had returned for the handle
+pub record IsPinOfClone (clones pins : HandleNumber → HandleNumber → Type 0) (handle pin : HandleNumber) : Type 0 where
+  pub clone : HandleNumber
+  pub cloned : clones handle clone
+  pub pinned : pins clone pin
 
 -- whether a cell has to be paged out, by the storage's answer for its key: it has to if it has no key
 abbrev pub needs_by : Result OptionalDataKey Error → Result Bool Error

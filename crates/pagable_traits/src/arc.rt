@@ -7,7 +7,10 @@ ghost use Rattle.pagable_traits.specs.{
   References.{holding_kind, holding_means, holding_reference, lending_causes, reads_lending, reference_has_one_form},
 };
 ghost use Rattle.pagable_value_spec.specs.Shape.{reference as reference_shape};
-ghost use Rattle.std.specs.{Arc.arc_value, Prelude.{IfErr, IfOk, IfSome, nat_eq, ◌≡◌, ◌≢◌}};
+ghost use Rattle.std.specs.{
+  Arc.arc_value,
+  Prelude.{Err, IfErr, IfOk, IfSome, Ok, OnOk, nat_eq, ◌<◌, ◌≡◌, ◌≢◌},
+};
 
 use crate::raw_ref::{read_reference, write_reference};
 use crate::storage::{FirstHandle, was_released_despite};
@@ -159,6 +162,8 @@ impl<T, const PINS: bool> HoldingArc<T, PINS> {
         ensures handle_value { IfOk result (λ a. IfSome (S.nodes_by_handle storage.now)
             (λ at. at a.handle.0 ≡ at self.now.handle.0)) }
         ensures node { IfOk result (λ a. a.node ≡ self.now.node) }
+        ensures later { IfOk result (λ a. self.now.handle.0 < a.handle.0) }
+        ensures clone { IfOk result (λ a. S.clones storage.now self.now.handle a.handle) }
     {
         let value = Shared::try_clone(&self.value)?;
         let handle = storage.clone_handle(rt, self.handle)?;
@@ -182,6 +187,8 @@ impl<T, const PINS: bool> HoldingArc<T, PINS> {
     ) -> Result<(), (Error, Option<HoldingArc<T, PINS>>)>
     where
         T: Drop,
+        ensures released { OnOk result (S.release_answers storage.now self.handle (Ok tt)) }
+        ensures refused { IfErr result (λ r. S.release_answers storage.now self.handle (Err r.0)) }
         ensures back { IfErr result (λ r. IfSome r.1 (λ a. a ≡ self)) }
     {
         match storage.release(rt, self.handle) {
@@ -196,7 +203,9 @@ impl<T, const PINS: bool> HoldingArc<T, PINS> {
     /// # Errors
     ///
     /// - `NoSuchHandle` if the reference's handle was released by its number.
-    pub fn count<E: Env, R: Wait, S: Storage<E>>(&self, rt: &R, storage: &S) -> Result<u64, Error> {
+    pub fn count<E: Env, R: Wait, S: Storage<E>>(&self, rt: &R, storage: &S) -> Result<u64, Error>
+        ensures answers { S.counts storage.now self.now.handle result }
+    {
         storage.count(rt, self.handle)
     }
 
@@ -209,7 +218,9 @@ impl<T, const PINS: bool> HoldingArc<T, PINS> {
         &self,
         rt: &R,
         storage: &S,
-    ) -> Result<OptionalDataKey, Error> {
+    ) -> Result<OptionalDataKey, Error>
+        ensures answers { S.key_answers storage.now self.now.handle result }
+    {
         storage.key(rt, self.handle)
     }
 
@@ -222,7 +233,9 @@ impl<T, const PINS: bool> HoldingArc<T, PINS> {
         &self,
         rt: &R,
         storage: &S,
-    ) -> Result<bool, Error> {
+    ) -> Result<bool, Error>
+        ensures answers { S.paged_out_answers storage.now self.now.handle result }
+    {
         storage.is_paged_out(rt, self.handle)
     }
 }
@@ -266,6 +279,8 @@ impl<T> HoldingArc<T, true> {
     where
         T: Drop,
         ensures numbers { IfOk result (λ a. (a.node ≡ self.node) × (a.handle ≡ self.handle)) }
+        ensures loosened { OnOk result (S.loosen_answers storage.now self.handle (Ok tt)) }
+        ensures refused { IfErr result (λ r. S.loosen_answers storage.now self.handle (Err r.0)) }
         ensures back { IfErr result (λ r. r.1 ≡ self) }
     {
         match storage.into_pagable(rt, self.handle) {
@@ -321,6 +336,8 @@ impl<'a, T> PinnedPagableArcBorrow<'a, T> {
         T: Drop,
         ensures value { IfOk result (λ a. arc_value a.value ≡ arc_value self.entry.pin.now.value) }
         ensures node { IfOk result (λ a. a.node ≡ self.entry.pin.now.node) }
+        ensures later { IfOk result (λ a. self.entry.pin.now.handle.0 < a.handle.0) }
+        ensures clone { IfOk result (λ a. S.clones storage.now self.entry.pin.now.handle a.handle) }
     {
         let pin = self.pin;
         pin.clone(rt, storage)

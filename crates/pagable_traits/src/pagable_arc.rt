@@ -1,13 +1,16 @@
 //! Loose references: they hold no value, and are pinned to get it.
 
 ghost use Rattle.pagable_traits.specs.{
-  Erased.IsValueOfHandle,
+  Erased.{IsPinOfClone, IsValueOfHandle},
   Meanings.exactly,
   References.{loose_kind, loose_means, loose_reference, reference_has_one_form},
   declared.pin_future.PinStage.PinStage,
 };
 ghost use Rattle.pagable_value_spec.specs.Shape.{reference as reference_shape};
-ghost use Rattle.std.specs.{Arc.arc_value, Prelude.{IfErr, IfNone, IfOk, IfSome, nat_eq, ◌≡◌, ◌≢◌}};
+ghost use Rattle.std.specs.{
+  Arc.arc_value,
+  Prelude.{Err, IfErr, IfNone, IfOk, IfSome, Ok, OnOk, nat_eq, ◌<◌, ◌≡◌, ◌≢◌},
+};
 
 use crate::pin_future::PinFuture;
 use crate::raw_ref::write_reference;
@@ -147,6 +150,8 @@ impl<T> PagableArc<T> {
         ensures node { IfOk result (λ a. a.node ≡ self.now.node) }
         ensures handle_value { IfOk result (λ a. IfSome (S.nodes_by_handle storage.now)
             (λ at. at a.handle.0 ≡ at self.now.handle.0)) }
+        ensures later { IfOk result (λ a. self.now.handle.0 < a.handle.0) }
+        ensures clone { IfOk result (λ a. S.clones storage.now self.now.handle a.handle) }
     {
         let handle = storage.clone_handle(rt, self.handle)?;
         Ok(PagableArc::from_handle(self.node, handle))
@@ -174,6 +179,7 @@ impl<T> PagableArc<T> {
         ensures value { IfOk result (λ p. IsValueOfHandle T.held (S.nodes_by_handle storage.now) self.now.handle.0
             (arc_value p.value)) }
         ensures node { IfOk result (λ p. p.node ≡ self.now.node) }
+        ensures pin { IfOk result (λ p. S.pins storage.now self.now.handle p.handle) }
     {
         let pin = storage.pin(rt, alloc, self.handle)?;
         let NewPin {
@@ -224,6 +230,7 @@ impl<T> PagableArc<T> {
         ensures value { IfOk result (λ p. IsValueOfHandle T.held (S.nodes_by_handle storage.now) self.now.handle.0
             (arc_value p.value)) }
         ensures node { IfOk result (λ p. p.node ≡ self.now.node) }
+        ensures pin { IfOk result (λ p. IsPinOfClone (S.clones storage.now) (S.pins storage.now) self.now.handle p.handle) }
     {
         let clone = self.clone(rt, storage)?;
         let pin = clone.pin_sync(rt, alloc, storage);
@@ -237,7 +244,9 @@ impl<T> PagableArc<T> {
     /// # Errors
     ///
     /// - as `Storage::unpin`.
-    pub fn unpin<E: Env, R: Wait, S: Storage<E>>(&self, rt: &R, storage: &S) -> Result<(), Error> {
+    pub fn unpin<E: Env, R: Wait, S: Storage<E>>(&self, rt: &R, storage: &S) -> Result<(), Error>
+        ensures answers { S.unpin_answers storage.now self.now.handle result }
+    {
         storage.unpin(rt, self.handle)
     }
 
@@ -264,6 +273,8 @@ impl<T> PagableArc<T> {
         rt: &R,
         storage: &S,
     ) -> Result<(), (Error, Option<PagableArc<T>>)>
+        ensures released { OnOk result (S.release_answers storage.now self.handle (Ok tt)) }
+        ensures refused { IfErr result (λ r. S.release_answers storage.now self.handle (Err r.0)) }
         ensures back { IfErr result (λ r. IfSome r.1 (λ a. a ≡ self)) }
     {
         match storage.release(rt, self.handle) {
@@ -278,7 +289,9 @@ impl<T> PagableArc<T> {
     /// # Errors
     ///
     /// - `NoSuchHandle` if the reference's handle was released by its number.
-    pub fn count<E: Env, R: Wait, S: Storage<E>>(&self, rt: &R, storage: &S) -> Result<u64, Error> {
+    pub fn count<E: Env, R: Wait, S: Storage<E>>(&self, rt: &R, storage: &S) -> Result<u64, Error>
+        ensures answers { S.counts storage.now self.now.handle result }
+    {
         storage.count(rt, self.handle)
     }
 
@@ -306,7 +319,9 @@ impl<T> PagableArc<T> {
         &self,
         rt: &R,
         storage: &S,
-    ) -> Result<bool, Error> {
+    ) -> Result<bool, Error>
+        ensures answers { S.paged_out_answers storage.now self.now.handle result }
+    {
         storage.is_paged_out(rt, self.handle)
     }
 

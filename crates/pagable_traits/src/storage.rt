@@ -7,7 +7,10 @@ ghost use Rattle.pagable_value_spec.specs.declared.{
   error.Error.Error as Refusal,
   numbers.{HandleNumber.HandleNumber as Handle, NodeNumber.NodeNumber as Node},
 };
-ghost use Rattle.std.specs.{Arc.arc_value, Prelude.{IfOk, IfSome, Option, Result, Some, ℕ, ◌≡◌}};
+ghost use Rattle.std.specs.{
+  Arc.arc_value,
+  Prelude.{Bool, IfOk, IfSome, Option, Result, Some, ℕ, ◌<◌, ◌≡◌},
+};
 
 use crate::pin_future::Polls;
 use pagable_codec::{Env, HandleNumber, NodeNumber};
@@ -46,13 +49,28 @@ pub trait Storage<E: Env> {
     // The node to which each handle refers, or None for a storage whose contract doesn't state it.
     ghost nodes_by_handle: { Self → Option (ℕ → Option E.Node) };
 
-    // Relations that a storage may choose: which results `key` and `set_data_key` may return for a
-    // handle, and which cells `new_paged_out` may return for a type and a key. By default all may.
+    // Relations that a storage may choose: what each call may return for a handle, and which cells
+    // `new_paged_out` may return for a type and a key. By default they may return anything. A typed
+    // reference returns what its storage has returned for it.
     ghost key_answers: { Self → Handle → Result Key Refusal → Type 0 } = { λ s h r. Unit {0} };
 
     ghost set_key_answers: { Self → Handle → ℕ → Result (Unit {0}) Refusal → Type 0 } = { λ s h k r. Unit {0} };
 
     ghost new_cells: { Self → ℕ → ℕ → Node × Handle → Type 0 } = { λ s t k r. Unit {0} };
+
+    ghost clones: { Self → Handle → Handle → Type 0 } = { λ s h k. Unit {0} };
+
+    ghost pins: { Self → Handle → Handle → Type 0 } = { λ s h k. Unit {0} };
+
+    ghost unpin_answers: { Self → Handle → Result (Unit {0}) Refusal → Type 0 } = { λ s h r. Unit {0} };
+
+    ghost loosen_answers: { Self → Handle → Result (Unit {0}) Refusal → Type 0 } = { λ s h r. Unit {0} };
+
+    ghost release_answers: { Self → Handle → Result (Unit {0}) Refusal → Type 0 } = { λ s h r. Unit {0} };
+
+    ghost counts: { Self → Handle → Result ℕ Refusal → Type 0 } = { λ s h r. Unit {0} };
+
+    ghost paged_out_answers: { Self → Handle → Result Bool Refusal → Type 0 } = { λ s h r. Unit {0} };
 
     /// Inserts a node with its first handle. The caller owns that handle, and must own the handles
     /// in the value.
@@ -89,13 +107,16 @@ pub trait Storage<E: Env> {
     ) -> Result<(NodeNumber, HandleNumber), Error>
         ensures made { IfOk result (new_cells self.now node_type key) };
 
-    /// Makes another handle of a handle's node, in the same mode.
+    /// Makes another handle of a handle's node, in the same mode. Its number is greater than that
+    /// of each live handle.
     ///
     /// # Errors
     ///
     /// - `NoSuchHandle`, `NumbersSpent`, `OutOfMemory`: nothing changes.
     fn clone_handle<R: Wait>(&self, rt: &R, handle: HandleNumber) -> Result<HandleNumber, Error>
-        ensures value { IfOk result (λ r. IfSome (nodes_by_handle self.now) (λ at. at r.0 ≡ at handle.0)) };
+        ensures value { IfOk result (λ r. IfSome (nodes_by_handle self.now) (λ at. at r.0 ≡ at handle.0)) }
+        ensures later { IfOk result (λ r. handle.0 < r.0) }
+        ensures clone { IfOk result (clones self.now handle) };
 
     /// Pins the cell of a loose handle that the caller owns, loading its value if it isn't in
     /// memory.
@@ -114,7 +135,8 @@ pub trait Storage<E: Env> {
         handle: HandleNumber,
     ) -> Result<NewPin<E::Node>, Error>
         ensures value { IfOk result (λ p. IfSome (nodes_by_handle self.now)
-            (λ at. at handle.0 ≡ Some (arc_value p.value))) };
+            (λ at. at handle.0 ≡ Some (arc_value p.value))) }
+        ensures pin { IfOk result (λ p. pins self.now handle p.handle) };
 
     /// Returns a polled pin of the cell of a loose handle that the caller owns. Its first poll
     /// begins the pin.
@@ -132,7 +154,8 @@ pub trait Storage<E: Env> {
     /// - `NoSuchHandle`, `NotYours`, `WrongMode`: nothing changes.
     /// - `NumbersSpent`, `OutOfMemory` if the cell can't be listed for page-out: the handle is
     ///   unpinned all the same.
-    fn unpin<R: Wait>(&self, rt: &R, handle: HandleNumber) -> Result<(), Error>;
+    fn unpin<R: Wait>(&self, rt: &R, handle: HandleNumber) -> Result<(), Error>
+        ensures answers { unpin_answers self.now handle result };
 
     /// Turns a Pinned handle that the caller owns into a loose one with the same number, which
     /// pins.
@@ -140,7 +163,8 @@ pub trait Storage<E: Env> {
     /// # Errors
     ///
     /// - `NoSuchHandle`, `NotYours`, `WrongMode`: nothing changes.
-    fn into_pagable<R: Wait>(&self, rt: &R, handle: HandleNumber) -> Result<(), Error>;
+    fn into_pagable<R: Wait>(&self, rt: &R, handle: HandleNumber) -> Result<(), Error>
+        ensures answers { loosen_answers self.now handle result };
 
     /// Releases a handle that the caller owns.
     ///
@@ -149,14 +173,16 @@ pub trait Storage<E: Env> {
     /// - `NoSuchHandle`, `NotYours`: nothing changes.
     /// - `NumbersSpent`, `OutOfMemory` if a cell can't be listed for page-out: the handle is
     ///   released all the same.
-    fn release<R: Wait>(&self, rt: &R, handle: HandleNumber) -> Result<(), Error>;
+    fn release<R: Wait>(&self, rt: &R, handle: HandleNumber) -> Result<(), Error>
+        ensures answers { release_answers self.now handle result };
 
     /// Returns how many handles pin a handle's node.
     ///
     /// # Errors
     ///
     /// - `NoSuchHandle`.
-    fn count<R: Wait>(&self, rt: &R, handle: HandleNumber) -> Result<u64, Error>;
+    fn count<R: Wait>(&self, rt: &R, handle: HandleNumber) -> Result<u64, Error>
+        ensures answers { counts self.now handle result };
 
     /// Returns the key of a handle's node, if it is a cell that has one.
     ///
@@ -183,7 +209,8 @@ pub trait Storage<E: Env> {
     /// # Errors
     ///
     /// - `NoSuchHandle`.
-    fn is_paged_out<R: Wait>(&self, rt: &R, handle: HandleNumber) -> Result<bool, Error>;
+    fn is_paged_out<R: Wait>(&self, rt: &R, handle: HandleNumber) -> Result<bool, Error>
+        ensures answers { paged_out_answers self.now handle result };
 }
 
 /// Returns whether a release that fails with the error `why` has released the handle all the same.
