@@ -8,3 +8,4 @@ pub mod JsonSteps
 pub mod Json
 pub mod Listed
 pub mod Registered
+pub mod Handles

@@ -1,5 +1,5 @@
 -- What references of all sorts return of the values that they refer to, and of the keys of their cells.
-use Rattle.pagable_traits.specs.Clauses.{Piece}
+use Rattle.pagable_traits.specs.{Clauses.Piece, declared.storage.FirstHandle.FirstHandle}
 use Rattle.pagable_value_spec.specs.{
   Meaning.Meaning,
   Shape.Shape,
@@ -11,6 +11,17 @@ use Rattle.std.specs.Prelude.{Bool, Err, IfSome, Ok, Option, Result, Some, false
 -- the value is the one of the handle's node, if the storage tells the values of its handles
 abbrev pub IsValueOfHandle : {N T : Type 0} → (N → Option T) → Option (ℕ → Option N) → ℕ → T → Type 0
 IsValueOfHandle held nodes handle x = IfSome nodes (λ at. option_and_then held (at handle) ≡ Some x)
+
+-- the mode of the first handle of a new node, by a pin or by a shared reference
+abbrev pub first_handle_of : Bool → FirstHandle
+first_handle_of true = FirstHandle.Pinned
+first_handle_of false = FirstHandle.Shared
+
+-- this was returned for some node that holds the value
+pub record IsInserted {N T : Type 0} (held : N → Option T) (value : T) (returned : N → Type 0) : Type 0 where
+  pub node : N
+  pub holds : held node ≡ Some value
+  pub inserted : returned node
 
 -- a pin by a clone of the handle: what the storage returned for the clone, which it had returned for the handle
 pub record IsPinOfClone (clones pins : HandleNumber → HandleNumber → Type 0) (handle pin : HandleNumber) : Type 0 where

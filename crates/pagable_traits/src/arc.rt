@@ -1,7 +1,7 @@
 //! References that hold their shared value.
 
 ghost use Rattle.pagable_traits.specs.{
-  Erased.IsValueOfHandle,
+  Erased.{IsInserted, IsValueOfHandle, first_handle_of},
   HeldValues.holding_beside,
   Meanings.exactly,
   References.{holding_kind, holding_means, holding_reference, lending_causes, reads_lending, reference_has_one_form},
@@ -118,6 +118,7 @@ impl<T, const PINS: bool> HoldingArc<T, PINS> {
     ///
     /// - as `Storage::insert`.
     /// - `OutOfMemory` if the value can't be shared once more.
+    #[tactic(auto, using(crate::proofs::Handles::made))]
     pub fn new<E: Env, R: Wait, S: Storage<E>>(
         rt: &R,
         alloc: Global,
@@ -129,6 +130,8 @@ impl<T, const PINS: bool> HoldingArc<T, PINS> {
         ensures holds { IfOk result (λ a. arc_value a.value ≡ arc_value value) }
         ensures handle_value { IfOk result (λ a. IsValueOfHandle T.held (S.nodes_by_handle storage.now) a.handle.0
             (arc_value value)) }
+        ensures made { IfOk result (λ a. IsInserted T.held (arc_value value)
+            (λ n. S.new_nodes storage.now n (first_handle_of PINS) (a.node, a.handle))) }
         ensures back { IfErr result (λ r. arc_value r.1 ≡ arc_value value) }
     {
         let inserted = match Shared::try_clone(&value) {
@@ -241,7 +244,9 @@ impl<T, const PINS: bool> HoldingArc<T, PINS> {
 }
 
 // Returns the mode of a new node's first handle, for a pin or a shared reference.
-fn first_handle(is_pin: bool) -> FirstHandle {
+fn first_handle(is_pin: bool) -> FirstHandle
+    ensures { result ≡ first_handle_of is_pin }
+{
     if is_pin {
         FirstHandle::Pinned
     } else {

@@ -1,10 +1,10 @@
 //! Loose references: they hold no value, and are pinned to get it.
 
 ghost use Rattle.pagable_traits.specs.{
-  Erased.{IsPinOfClone, IsValueOfHandle},
+  Erased.{IsInserted, IsPinOfClone, IsValueOfHandle},
   Meanings.exactly,
   References.{loose_kind, loose_means, loose_reference, reference_has_one_form},
-  declared.pin_future.PinStage.PinStage,
+  declared.{pin_future.PinStage.PinStage, storage.FirstHandle.FirstHandle},
 };
 ghost use Rattle.pagable_value_spec.specs.Shape.{reference as reference_shape};
 ghost use Rattle.std.specs.{
@@ -94,6 +94,7 @@ impl<T> PagableArc<T> {
     ///
     /// - as `Storage::insert`.
     /// - `OutOfMemory` if the value can't be shared once more.
+    #[tactic(auto, using(crate::proofs::Handles::made))]
     pub fn new<E: Env, R: Wait, S: Storage<E>>(
         rt: &R,
         alloc: Global,
@@ -104,6 +105,8 @@ impl<T> PagableArc<T> {
         T: OfNode<E> + Drop,
         ensures handle_value { IfOk result (λ a. IsValueOfHandle T.held (S.nodes_by_handle storage.now) a.handle.0
             (arc_value value)) }
+        ensures made { IfOk result (λ a. IsInserted T.held (arc_value value)
+            (λ n. S.new_nodes storage.now n FirstHandle.Loose (a.node, a.handle))) }
         ensures back { IfErr result (λ r. arc_value r.1 ≡ arc_value value) }
     {
         let inserted = match Arc::try_clone(&value) {
@@ -219,6 +222,7 @@ impl<T> PagableArc<T> {
     /// # Errors
     ///
     /// - as `clone` and `pin_sync`: handles and counts are as they were.
+    #[tactic(auto, using(crate::proofs::Handles::made))]
     pub fn follow<E: Env, R: Wait, S: Storage<E>>(
         &self,
         rt: &R,

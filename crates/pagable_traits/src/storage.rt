@@ -1,7 +1,7 @@
 //! The calls by which typed references make, pin and release their handles. A storage is a pager
 //! behind a lock, or a borrowed pager.
 
-ghost use Rattle.pagable_traits.specs.declared.pin_future.PinStage.{PinStage};
+ghost use Rattle.pagable_traits.specs.declared.{pin_future.PinStage.PinStage, storage.FirstHandle.FirstHandle};
 ghost use Rattle.pagable_value_spec.specs.declared.{
   data_key.OptionalDataKey.OptionalDataKey as Key,
   error.Error.Error as Refusal,
@@ -49,9 +49,10 @@ pub trait Storage<E: Env> {
     // The node to which each handle refers, or None for a storage whose contract doesn't state it.
     ghost nodes_by_handle: { Self → Option (ℕ → Option E.Node) };
 
-    // Relations that a storage may choose: what each call may return for a handle, and which cells
-    // `new_paged_out` may return for a type and a key. By default they may return anything. A typed
-    // reference returns what its storage has returned for it.
+    // Relations that a storage may choose: what each call may return for what it is given. By
+    // default it may return anything. A typed reference returns what its storage has returned.
+    ghost new_nodes: { Self → E.Node → FirstHandle → Node × Handle → Type 0 } = { λ s n f r. Unit {0} };
+
     ghost key_answers: { Self → Handle → Result Key Refusal → Type 0 } = { λ s h r. Unit {0} };
 
     ghost set_key_answers: { Self → Handle → ℕ → Result (Unit {0}) Refusal → Type 0 } = { λ s h k r. Unit {0} };
@@ -89,7 +90,8 @@ pub trait Storage<E: Env> {
         node: E::Node,
         first: FirstHandle,
     ) -> Result<(NodeNumber, HandleNumber), Error>
-        ensures value { IfOk result (λ r. IfSome (nodes_by_handle self.now) (λ at. at r.1.0 ≡ Some node)) };
+        ensures value { IfOk result (λ r. IfSome (nodes_by_handle self.now) (λ at. at r.1.0 ≡ Some node)) }
+        ensures made { IfOk result (new_nodes self.now node first) };
 
     /// Makes a cell that has a key and no value, with an unpinned loose handle that the caller
     /// owns. The call reads nothing: the caller must know that the blob of the key is read as a
