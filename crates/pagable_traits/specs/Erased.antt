@@ -4,7 +4,8 @@ use Rattle.pagable_value_spec.specs.{
   Meaning.Meaning,
   Shape.Shape,
   Writing.{Refused, WritesSome},
-  declared.{data_key.OptionalDataKey.OptionalDataKey, error.Error.Error, numbers.{ArcRef.ArcRef, HandleNumber.HandleNumber}},
+  declared.{data_key.OptionalDataKey.OptionalDataKey, error.Error.Error},
+  declared.numbers.{ArcRef.ArcRef, HandleNumber.HandleNumber},
 }
 use Rattle.std.specs.Prelude.{Bool, Err, IfSome, Ok, Option, Result, Some, false, option_and_then, true, ℕ, ◌≡◌}
 

@@ -234,7 +234,8 @@ impl<T> PagableArc<T> {
         ensures value { IfOk result (λ p. IsValueOfHandle T.held (S.nodes_by_handle storage.now) self.now.handle.0
             (arc_value p.value)) }
         ensures node { IfOk result (λ p. p.node ≡ self.now.node) }
-        ensures pin { IfOk result (λ p. IsPinOfClone (S.clones storage.now) (S.pins storage.now) self.now.handle p.handle) }
+        ensures pin { IfOk result (λ p. IsPinOfClone (S.clones storage.now) (S.pins storage.now) self.now.handle
+            p.handle) }
     {
         let clone = self.clone(rt, storage)?;
         let pin = clone.pin_sync(rt, alloc, storage);
