@@ -8,7 +8,7 @@ use Rattle.pagable_pager_spec.specs.{
   Order.{InOrder, IsBounded, IsWithinBound, MetError, OnceEach, Unfolds, is_claim_of, steps_of},
   Pager.{IsReadingOf, MachineState, PagerState, ValueStands, kids_of, world_of},
   Refusals.IsReference,
-  Runs.{Fact, Moment},
+  Runs.{Fact, Moment, ReadsAsValue},
   Workers.{IsPublished, is_workers_load},
   World.{OpenLoad, Reading, Seen, Shelf, Slot, Task, Values, Walking, World, Written, failed, key_at, no_result},
   World.{of_entry, of_item, row_at},
@@ -45,9 +45,9 @@ PinGives v s trees (Event.WorkerStep n) (EventReply.WorkerMoved (Ok reply)) s' t
     → GivesTree v s'.pager trees' k
 PinGives v s trees event reply s' trees' = Unit {0}
 
--- The value that a load of a key returns stands for the tree that the key reads as, and the caller owns its references.
+-- The key reads as a tree, the value that a load of the key returns stands for it, and the caller owns its references.
 pub record ReadIsRight {N E : Type 0} (v : Values N) (s : PagerState N E) (key : ℕ) (x : N) : Type 0 where
-  pub stands : (t : Tree) → t.type ≡ v.node_type x → ReadsTree s.core.stored v.types key t → ValueStands v s x t
+  pub stands : ReadsAsValue v s x key
   pub own : (r : ArcRef) → Among (v.references x) r → IsReference s.core Owner.Caller r
 
 abbrev pub ReadGives : {N E B W : Type 0} → Values N → Fact N E B W

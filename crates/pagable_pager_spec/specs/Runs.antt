@@ -6,8 +6,8 @@ use Rattle.pagable_pager_spec.specs.{
   Events.{Step, reading_at},
   Kinds.{any_mode, is_loose},
   Loads.{need_of, needs_lazy},
-  Pager.{EventBrings, EventHolds, IsCellOf, IsMachineWhole, MachineState, Moves, PagerState, ReplyWrites, SameTrees},
-  Pager.{StandsFor, ValueStands, world_of},
+  Pager.{CallBrings, EventBrings, EventHolds, HoldsItsNodes, IsCellOf, IsMachineWhole, MachineState, Moves, PagerState},
+  Pager.{ReplyWrites, SameTrees, StandsFor, ValueStands, world_of},
   Refusals.Owns,
   World.{Frame, IsSettled, Reading, Seen, Todo, Values, Walking, to_load, to_write},
 }
@@ -60,8 +60,9 @@ AsksWell v s trees (Call.LoadEnd l x) (Reply.LoadEnded (Ok k)) =
 AsksWell v s trees call reply = Unit {0}
 
 -- What is asked of a load's step. The type of each blob that the load reads can be read back: if the type has tags,
--- they are distinct, and each tag under which a value of the type is written has a reader of its body. And a key that
--- the step takes without reading it, for a loose reference, reads as some value of the kind's type.
+-- they are distinct, and each tag under which a value of the type is written has a reader of its body; and its static
+-- values hold no reference. And a key that the step takes without reading it, for a loose reference, reads as some value
+-- of the kind's type.
 pub record TakesWell {N E : Type 0} (v : Values N) (s : PagerState N E) (reading : Reading) : Type 0 where
   pub types : (frame : Frame) → Among reading.frames frame → IsReadableType v.types frame.node_type
   pub keys : (kind : Kind) (key : ℕ) → need_of v.types reading.frames ≡ needs_lazy kind key
@@ -119,6 +120,19 @@ events_of xs = map (λ x. x.event) xs
 
 abbrev pub replies_of : {N E B W : Type 0} → List (Moment N E B W) → List (EventReply N B W)
 replies_of xs = map (λ x. x.reply) xs
+
+-- a value that the call brings into memory holds its nodes' values, as they were before the call
+abbrev pub BringsHeld : {N E B : Type 0} → Values N → PagerState N E → Call N B → PagerState N E → Type 0
+BringsHeld {N} v s call s' = (n : ℕ) (x : N) → CallBrings s.core call n x → s'.values n ≡ Some x → HoldsItsNodes v s x
+
+-- asked of calls only: the values that steps of loads and workers bring hold their nodes' values (`EventHolds`)
+abbrev pub MomentBringsHeld : {N E B W : Type 0} → Values N → PagerState N E → Event N B W → PagerState N E → Type 0
+MomentBringsHeld v s (Event.Call call) s' = BringsHeld v s call s'
+MomentBringsHeld v s event s' = Unit {0}
+
+abbrev pub MomentsBringHeld : {N E B W : Type 0} → Values N → MachineState N E → List (Moment N E B W) → Type 0
+MomentsBringHeld v s [] = Unit {0}
+MomentsBringHeld v s (x ∷ xs) = MomentBringsHeld v s.pager x.event x.after.pager × MomentsBringHeld v x.after xs
 
 -- These events, with these replies, lead from the old machine to the new one.
 pub record HasRun {N E B W : Type 0} (m : Seen N B W) (old : MachineState N E) (happened : List (Event N B W))

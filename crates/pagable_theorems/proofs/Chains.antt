@@ -9,8 +9,8 @@ use Rattle.pagable_pager_spec.specs.{
   Pager.{EventBrings, IsReadingOf, StandsFor},
   Refusals.Owns,
   Rightness.{HasLetGo, IsRight, PinGives, StepsAreWithin, WorkerIsRight, claims_made, is_on_table},
-  Runs.{EventDoes, Fact, IsPremised, TakesWell, TreesAfter, TreesAlong, events_of, replies_of},
-  Theorem.HeadlineLaw,
+  Runs.{EventDoes, Fact, HasRun, IsPremised, TakesWell, TreesAfter, TreesAlong, events_of, replies_of},
+  Theorem.{HeadlineLaw, MeetsHeadline},
   Workers.{claim_fault, give_known, next_start, with_changed_slot},
   World.{SameShelf, published, to_publish, type_at},
   declared.{events.PinStep.PinStep, pinning.Pinning.Pinning},
@@ -20,6 +20,7 @@ use Rattle.pagable_theorems.proofs.{
   EventEffects.{ends-quiet, event-goes, site_of, walk-goes, works-free},
   FormsOfTrees.given-of,
   HandlesKept.{Stands, among-found, fell, found-number, goes-quiet, pins-hold, quiet-goes, stands-alike, stands-fell, stands-new, stands-whole, updated-at},
+  HeldValues.moments-held,
   LoadProgress.{Going, given-nodes, going-new, going-of, going-on, going-step, pin_stands, tree-stays},
   LoadResults.{at-once, keys-right},
   Merkle.tree_readable,
@@ -29,7 +30,7 @@ use Rattle.pagable_theorems.proofs.{
   StepBounds.{LoadsStand, Spares, event-on, reads-give, step-within, steps-left},
   TablesKept.{fits-on, keys-same},
   TreeProgress.{call-fits, fits-key, fits-nothing, none-comes, reading-fits, trees-go-on},
-  Trees.{one-small, same_some, sum-zero},
+  Trees.{chains_join, one-small, same_some, sum-zero},
   Words.{Action, Among, ArcRef, AreMoments, Beginning, Bool, Change, Claim, CloneCall, Core, Event, EventReply, HandleNumber, HandleRow, HandlesAreWhole},
   Words.{Happens, HoldsSettled, Identity, IsIdle, IsLawful, IsMachineWhole, IsPublished, IsWellAsked, List, MachineState, Moment, NodeNumber, None, Ok, Option},
   Words.{Owner, Reading, Seen, Shelf, Slot, Some, Todo, Tree, Values, Walking, WorkDoes, WorkFits, WorkerAnswer, WorkerNumber, WorkerReply, WorkerState},
@@ -38,10 +39,11 @@ use Rattle.pagable_theorems.proofs.{
   Words.{to_load, to_pin, to_set, to_start, to_write, true, type_of, world_of, ℕ, [], ◌&&◌, ◌++◌, ◌+◌, ◌∙◌, ◌∷◌, ◌≡◌, ◌≤◌, ◌⊎◌},
 }
 use Rattle.pagable_theorems.specs.{
+  SmallWorlds.RunsJoin,
   TreeSteps.{AllHold, ChangeFits, CoreGoes, EventFeels, HasHandle, HasPin, Holds, IsSteppedReading, KeyIsSet, KeysAreReady, KeysHeld, PinHolds, StandsAt},
   TreeSteps.{WaitsHeld, by-call, by-key, by-nothing, by-reading},
 }
-use Rattle.std.proofs.{Common.append-nil, Math.Nat.zero-add, lemmas.List.Sums.sum_by-append}
+use Rattle.std.proofs.{Common.append-nil, Math.Nat.zero-add, lemmas.List.{Sums.sum_by-append, map-append}}
 use Rattle.std.specs.Prelude.{is_none}
 
 module _ {c : Change} {w w' : Core} (goes : CoreGoes c w w') where
@@ -462,4 +464,29 @@ headline_law E m start moments whole idle chain =
       trees = λ trees stands lawful settled. along-with m lawful (IsRight m.values) (λ s xs. Unit {0})
           (λ s trees trees' x xs on so whole' happens asked right. (right, tt))
           start trees moments (idle-goes m lawful start trees whole idle settled stands) tt chain;
+      holds = λ brings held. moments-held m start moments chain brings (record { well = whole.pager; held = held });
     }
+
+module _ {N E B W : Type 0} (m : Seen N B W) where
+  -- whatever has run meets the headline
+  pub run-meets : {old new : MachineState N E} {happened : List (Event N B W)} {replied : List (EventReply N B W)} → HasRun m old happened replied new
+      → MeetsHeadline m old happened replied new
+  run-meets run = record {
+    run = run;
+    right = λ start before whole idle chain ends. headline_law E m start (before ++ run.moments) whole idle
+        ((chains_join E m).joins start before run.moments chain (subst (λ s. AreMoments m s run.moments) (sym ends) run.chain));
+  }
+
+pub runs_join : {N B W : Type 0} (E : Type 0) (m : Seen N B W) → RunsJoin E m
+runs_join {N} {B} {W} E m = record {
+  joins = λ old mid new happened more replied rest a b.
+      let xs = a.run.moments in let ys = b.run.moments in run-meets m (record {
+        moments = xs ++ ys;
+        events_are = map-append (λ x. x.event) xs ys ∙ ap (λ (l : List (Event N B W)). l ++ events_of ys) a.run.events_are
+            ∙ ap (λ (l : List (Event N B W)). happened ++ l) b.run.events_are;
+        replies_are = map-append (λ x. x.reply) xs ys ∙ ap (λ (l : List (EventReply N B W)). l ++ replies_of ys) a.run.replies_are
+            ∙ ap (λ (l : List (EventReply N B W)). replied ++ l) b.run.replies_are;
+        ends = (chains_join E m).ends old xs ys ∙ ap (λ (s : MachineState N E). state_after s ys) a.run.ends ∙ b.run.ends;
+        chain = (chains_join E m).joins old xs ys a.run.chain (subst (λ s. AreMoments m s ys) (sym a.run.ends) b.run.chain);
+      });
+}

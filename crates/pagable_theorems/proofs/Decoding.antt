@@ -7,15 +7,16 @@ use Rattle.pagable_pager_spec.specs.{
   Pager.{FrameFits, MeaningStands, NodeStands, ReadsNodeTree, followed-stands, integer-stands, none-stands, number-stands, pair-stands, pattern-stands},
   Pager.{reference-stands, text-stands, variant-stands},
   Refusals.reference_fault,
+  Runs.ReadsAsValue,
 }
 use Rattle.pagable_theorems.proofs.{
   Naturality.{Out, OutLook, any_cause, both-faulty, both-given, both-looked-up, both-not, both-refused, each, first-not, first-refused, keeps_forms, no_cause},
   Naturality.{one_cause, read_par, renamed, typed_par},
   RoundTrip.{Looked, form-again, looks-itself, not-looked, one-looked, read_again},
-  Trees.{AllTwo, Along, at-most-sum, counted, each-two, followed-along, integer-along, more-two, no-two, none-along, number-along, one-true, one_tree},
+  Trees.{AllTwo, Along, at-most-sum, counted, each-two, followed-along, integer-along, more-two, no-two, none-along, number-along, one-true},
   Trees.{pair-along, pattern-along, reference-along, refs-two, same-number, self-number, swap-two, text-along, tree_is, variant-along},
   Words.{Among, ArcRef, Blob, Bool, Core, Err, Error, Form, Frame, IsLawful, IsReadable, IsReadableType, IsReference, Kind, List, Meaning, None, Ok, Option},
-  Words.{Owner, PagerState, ReadsTree, Result, Shape, Some, Throughout, Tree, Types, ValueStands, Values, and_parts, ap, append-nil, append_assoc, arith},
+  Words.{Owner, PagerState, Result, Shape, Some, Throughout, Tree, Types, Values, and_parts, ap, append-nil, append_assoc, arith},
   Words.{basics, cases_Bool, cases_lt, false, followed, if◌then◌else◌, inl, inr, integer-leads, is_eager, is_in, length, length-append, map, next_in, none},
   Words.{one, pair, read, reference, references_fault, references_in, refl, rest, slice_get, subst, suc, sum_by-cons, sym, times, tree, true, type_of, variant},
   Words.{zero, ℕ, [], ◌&&◌, ◌++◌, ◌+◌, ◌==◌, ◌∙◌, ◌∷◌, ◌≡◌, ◌≤◌, ◌⊎◌},
@@ -408,18 +409,11 @@ module _ {N E : Type 0} {v : Values N} {s : PagerState N E} {trees : ℕ → Tre
       (subst (λ (t : Tree). NodeStands v s r.node.0 t) (tree_is typed meant) (h r (zero, refl)))
   leads-stands l h = search (number-stands, integer-stands, text-stands, pattern-stands, none-stands)
 
--- a value that was read of a blob stands for each tree of its type that the key reads as, where the nodes of its references stand for theirs
-pub read_stands : {N E : Type 0} {v : Values N} → IsLawful v → (s : PagerState N E) (trees : ℕ → Tree) (frame : Frame) (x : N) (t : Tree)
+-- a key reads as the tree for which a value that was read of its blob stands, where the nodes of its references stand for theirs
+pub read_stands : {N E : Type 0} {v : Values N} → IsLawful v → (s : PagerState N E) (trees : ℕ → Tree) (frame : Frame) (x : N)
     → IsReadableType v.types frame.node_type → FrameFits v.types s.core.stored trees frame → IsDecoded v frame x → ((r : ArcRef) → Among (v.references x) r
-    → NodeStands v s r.node.0 (trees r.node.0)) → t.type ≡ frame.node_type
-    → ReadsTree s.core.stored v.types frame.key t → ValueStands v s x t
-read_stands {v = v} lawful s trees frame x t readable fits decoded nodes typed reads_tree =
+    → NodeStands v s r.node.0 (trees r.node.0)) → ReadsAsValue v s x frame.key
+read_stands {v = v} lawful s trees frame x readable fits decoded nodes =
     let read = decodes lawful frame x readable fits decoded in let led = read.leads in
-    let same : read.t ≡ t = one_tree s.core.stored v.types frame.key read.t t (read.typed ∙ sym typed) read.reads reads_tree in
     let meant = leads-stands led.leads (λ r among. nodes r (meant-refs _ _ (λ is. sym (lawful.refers x led.own led.means is)) r among)) in
-    record {
-      own = led.own;
-      typed = led.typed ∙ ap (λ (z : Tree). z.type) same;
-      means = led.means;
-      stands = subst (λ (z : Tree). MeaningStands v s led.own z.meaning) same meant;
-    }
+    record { read = read.t; stands = record { own = led.own; typed = led.typed; means = led.means; stands = meant }; reads = read.reads }

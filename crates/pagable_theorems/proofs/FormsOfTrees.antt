@@ -3,13 +3,14 @@
 use Rattle.pagable_pager_spec.specs.{
   Pager.{IsWrittenOf, MeaningStands, NodeStands, away, followed-stands, here, kids_of, number-stands, pair-stands, reference-stands, variant-stands},
   Rightness.AreKeysOf,
+  Theorem.OneTreeLaw,
   World.{Outcome, digest, published, type_at},
 }
 use Rattle.pagable_theorems.proofs.{
   Decoding.{among-left, among-right, given-too},
   Naturality.{both-looked-up, each, keeps_forms, one_cause, read_par},
   RoundTrip.{looks-itself, read_again},
-  Trees.{AllTwo, Along, followed-along, more-two, no-two, one_tree, pair-along, reference-along, same-number, same_some, sum-le, sum-zero, variant-along},
+  Trees.{AllTwo, Along, followed-along, more-two, no-two, one_tree, pair-along, reference-along, same-number, same_some, sum-le, sum-zero, tree_is, variant-along},
   Words.{Among, ArcRef, Bool, Core, FollowsTo, Form, HandleRow, HandlesAreWhole, HoldsSettled, Identity, IsLawful, IsPagerWhole, IsPublished, IsReadable},
   Words.{IsReadableType, List, Meaning, Ok, Option, Owner, PagerStandsFor, PagerState, Shape, Shelf, Slot, Some, Throughout, Tree, Types, Values, Written, ap},
   Words.{append-nil, arith, basics, blob_of, held, identity_of, if_there, inr, integer-leads, is_handle, is_owned_by, is_some, le_trans, map, one, owner_value},
@@ -69,6 +70,11 @@ module _ {N E : Type 0} {v : Values N} {s : PagerState N E} (settled : HoldsSett
     one-meaning (reference-stands r a h) (reference-stands r2 b h2) e = let same : r2 ≡ r = cc in rw (same, one-node h (rw same at h2) refl) refl
     one-meaning h (number-stands j) e = cc
     one-meaning h g e = cc
+
+pub one_tree_law : {N : Type 0} (E : Type 0) (v : Values N) → OneTreeLaw E v
+one_tree_law E v s trees others n settled stands other live =
+    let typed = same_some _ _ (sym (other.typed n live) ∙ stands.typed n live) in
+    tree_is typed (one-node settled (other.stands n live) (stands.stands n live) typed)
 
 module _ {w : Core} (whole : HandlesAreWhole w) (n : ℕ) where
   pub held-of : is_some (w.cells n) ≡ true → 0 < held n w.rows

@@ -6,7 +6,7 @@ use Rattle.pagable_pager_spec.specs.{
   Basics.NodeNumber,
   Kinds.fits_mode,
   Pager.{HoldsItsNodes, HoldsItsValues, HoldsNode, HoldsPinned, MachineState, Moves},
-  Runs.{AreMoments, EventDoes, Moment, state_after},
+  Runs.{AreMoments, EventDoes, Moment, MomentBringsHeld, MomentsBringHeld, state_after},
 }
 use Rattle.pagable_theorems.proofs.{
   HandlesKept.good,
@@ -17,8 +17,7 @@ use Rattle.pagable_theorems.proofs.{
 }
 use Rattle.pagable_theorems.specs.{
   CallerLaws.{Operation, Operations, calls, goes-on, is-done, pages-item, pages-list, pins as pins-by, reads-key},
-  HeldLaws.{CallersBringHeld, HeldByCallersLaw, HeldByMomentsLaw, MomentBringsHeld, MomentsBringHeld, OperationBringsHeld, PinnedValuesAreHeld, ReadHoldsLaw},
-  HeldLaws.StepsKeepHeldValues,
+  HeldLaws.{CallersBringHeld, HeldByCallersLaw, OperationBringsHeld, PinnedValuesAreHeld, ReadHoldsLaw, StepsKeepHeldValues},
 }
 
 -- a reference that is read together with its value stands for a handle that pins
@@ -71,9 +70,9 @@ pinned_law E v s owner x whole none pinned = λ r among eager.
 
 -- ---- along callers' operations
 
-record Held {N E : Type 0} (v : Values N) (s : PagerState N E) : Type 0 where
-  well : IsPagerWhole v s
-  held : HoldsItsValues v s
+pub record Held {N E : Type 0} (v : Values N) (s : PagerState N E) : Type 0 where
+  pub well : IsPagerWhole v s
+  pub held : HoldsItsValues v s
 
 module _ {N E : Type 0} (v : Values N) where
   comes-held : {s s' : PagerState N E} → IsPagerWhole v s' → Moves (λ n x. HoldsItsNodes v s x) s s' → Held v s → Held v s'
@@ -164,11 +163,8 @@ module _ {N E B W : Type 0} (m : Seen N B W) where
   moment-held s s' (Event.WorkerStep k) reply d brings h = comes-held m.values d.whole.pager d.holds h
   moment-held s s' _ reply d brings h = nothing-comes m.values (λ n x came. came) d.whole.pager d.moves h
 
-  moments-held : (s : MachineState N E) (moments : List (Moment N E B W)) → AreMoments m s moments → MomentsBringHeld m.values s moments → Held m.values s.pager
+  pub moments-held : (s : MachineState N E) (moments : List (Moment N E B W)) → AreMoments m s moments → MomentsBringHeld m.values s moments → Held m.values s.pager
       → HoldsItsValues m.values (state_after s moments).pager
   unfolding state_after
   moments-held s [] chain brings h = h.held
   moments-held s (x ∷ xs) (does, chain) (own, brings) h = moments-held x.after xs chain brings (moment-held s x.after x.event x.reply does own h)
-
-pub held_by_moments_law : {N B W : Type 0} (E : Type 0) (m : Seen N B W) → HeldByMomentsLaw E m
-held_by_moments_law E m s moments whole chain brings held = moments-held m s moments chain brings (record { well = whole.pager; held = held })

@@ -9,7 +9,7 @@ use Rattle.pagable_pager_spec.specs.{
   Order.{IsWithinBound, Unfolds, UnfoldsFrom, after_kinds, unfolds},
   Pager.{FrameFits, IsReadingOf, IsWhole, NodeStands, OwnersAreThere, SameTrees, StandsFor},
   Rightness.{LoadsHaveStepsLeft, ReadGives, ReadIsRight, StepIsWithin},
-  Runs.EventDoes,
+  Runs.{EventDoes, ReadsAsValue},
   WorkerClaims.{GetsReference, IsFilledByReading, LeavesCache, OneIdentityLaw, StaysAlive},
   World.{type_at, usable},
 }
@@ -28,7 +28,7 @@ use Rattle.pagable_theorems.proofs.{
   Words.{Action, Alike, Among, ArcRef, AreMoments, Blob, Bool, Call, Change, Core, Error, Event, EventReply, Frame, FramesFit, GetsKnown, HandleNumber},
   Words.{HandleRow, HandlesAreWhole, Happens, IsLawful, IsMachineWhole, IsPagerWhole, IsReadableType, IsReference, IsWellAsked, KeepsOpen, Kind, Last, List},
   Words.{LoadAnswer, LoadNumber, MachineState, Moment, NodeNumber, None, Ok, OpenLoad, Option, OptionalDataKey, Owner, PagerStandsFor, PagerState, Reading},
-  Words.{ReadingFeels, ReadsRoot, ReadsTree, Result, Seen, Some, Tree, Types, Values, WorkerAnswer, WorkerState, World, adopted, and_parts, ap, arith, basics},
+  Words.{ReadingFeels, ReadsRoot, Result, Seen, Some, Tree, Types, Values, WorkerAnswer, WorkerState, World, adopted, and_parts, ap, arith, basics},
   Words.{false, find_row, first_key, held, inl, inr, is_eager, is_handle, is_in, is_owned_by, length, mode_of, moved, next_in, next_node, not, nothing_felt},
   Words.{one, owner_worker, refl, root_frame, rules, slice_get_within, state_after, step_of, subst, suc, sum_by-cons, sym, times, true, type_of, with_handle},
   Words.{world_of, zero, ℕ, [], ◌&&◌, ◌*◌, ◌++◌, ◌+◌, ◌<◌, ◌==◌, ◌∙◌, ◌∷◌, ◌≡◌, ◌≤◌, ◌⊎◌},
@@ -95,9 +95,8 @@ module _ {N E : Type 0} {v : Values N} (lawful : IsLawful v) (s s' : PagerState 
       record { row = record row { owner = Owner.Caller }; live = moved.3; at = stood.0; owned = refl; fits = stood.1; typed = of_kind } in
       let nodes_stand : (r : ArcRef) → Among (v.references x) r → NodeStands v s' r.node.0 (trees' r.node.0) =
       λ r among. stands'.stands r.node.0 (given-of whole'.whole.handles r.node.0 (owned r among).typed).0 in
-      let under = sym (root-key v.types s'.core.stored trees' load.key reading.node_type root.root here) in record {
-        stands = λ t typed reads_tree. read_stands lawful s' trees' root.root x t readable fits root.decoded nodes_stand (typed ∙ root.decoded.typed)
-            (subst (λ n. ReadsTree s'.core.stored v.types n t) under reads_tree);
+      let under = root-key v.types s'.core.stored trees' load.key reading.node_type root.root here in record {
+        stands = subst (λ n. ReadsAsValue v s' x n) under (read_stands lawful s' trees' root.root x readable fits root.decoded nodes_stand);
         own = owned;
       }
 

@@ -1,14 +1,14 @@
 -- The chain of two levels is a chain of the machine, and satisfies the headline with all that it asks.
 use Rattle.pagable_pager_spec.specs.{
-  Basics.is_loose_kind,
+  Basics.{is_eager, is_loose_kind},
   Calls.{CountCall, IsNext, UnpinCall, row_of, with_key, with_mode},
   Cascade.{IsLeast, is_keyed, nobody, owned_outside},
   Events.{Ends, ReadingsAre, WorkStays, no_shelf, reading_at, steps_after},
   LoadCalls.{BeginCall, EndCall, Installs, LazyCall},
   Loads.{ReadingDoes, answers_from, need_of, needs_lazy},
-  Pager.{EventBrings, EventHolds, IsCellOf, IsReadingWhole, Moves, ReadingBrings, ReplyWrites, TookWrites},
+  Pager.{EventBrings, EventHolds, HoldsItsNodes, HoldsItsValues, IsCellOf, IsReadingWhole, Moves, ReadingBrings, ReplyWrites, TookWrites},
   Refusals.named_fault,
-  Runs.{EventDoes, IsPremised, ReadsAsType, TakesWell, TodoAsksWell},
+  Runs.{EventDoes, IsPremised, MomentsBringHeld, ReadsAsType, TakesWell, TodoAsksWell},
   Workers.{claim_fault, fresh, is_counted, is_workers, is_workers_at, without_worker},
   World.{HasForm, SameShelf, digest, is_here, to_publish},
 }
@@ -18,7 +18,7 @@ use Rattle.pagable_theorems.proofs.{
   NewPager.new_whole,
   SmallPagers.{AreAlone, Few, Passes, alike-self, falls-alone, falls-so, loose-at, loose-holds, none-cached, updated-past, whole-so},
   Trees.same_some,
-  Words.{AreMoments, Beginning, Blob, CloneCall, Core, Event, EventReply, HandleRow, Happens, IsLawful, IsMachineWhole, IsReadable, IsReadableType},
+  Words.{Among, AreMoments, ArcRef, Beginning, Blob, CloneCall, Core, Event, EventReply, HandleRow, Happens, IsLawful, IsMachineWhole, IsReadable, IsReadableType},
   Words.{IsWellAsked, KeepsOpen, Kind, LiesIn, List, LoadAnswer, MachineState, Mode, None, Ok, OpenLoad, Option, Owner, PagerState, Reading, ReadsRoot, Shelf},
   Words.{Some, Todo, Tree, WalkDoes, Walking, WorkerAnswer, Written, arith, basics, blob_of, false, find_row, identity_of, if_there, inl, inr, is_in},
   Words.{is_named_by, is_some, length, owner_worker, reference-form, references_fault, references_in, refl, row_at, state_after, subst, suc, sym, to_finish},
@@ -379,11 +379,45 @@ no-other n all =
     let counted = later (two.at_work two.answered) two.loads (two.counts n) worked in
     let (row, is, told) = counted.0.step.happens.step.does.0.found in (grind basics)
 
+-- a value of these types holds its nodes' values, since its references are loose
+holds-nodes : (s : PagerState two.Sample (Unit {0})) (x : two.Sample) → HasKind x → HoldsItsNodes two.sample s x
+holds-nodes s None kind = λ r (i, is) eager. absurd cc
+holds-nodes s (Some q) kind = λ r among eager. absurd (by r among eager)
+  where
+    by : (r : ArcRef) → Among (q ∷ []) r → is_eager r.kind.0 ≡ true → ⊥
+    by r (zero, is) eager =
+        let same : q ≡ r = same_some _ _ is in
+        let e : is_eager 4 ≡ true = subst (λ k. is_eager k ≡ true) kind (subst (λ (x : ArcRef). is_eager x.kind.0 ≡ true) (sym same) eager) in cc
+    by r (suc i, is) eager = cc
+
+pages-bring : (n : ℕ) (x : two.Working) (more : List two.Happening) → ((y : two.Working) → MomentsBringHeld two.sample (two.at_work y) more)
+    → MomentsBringHeld two.sample (two.at_work x) (two.page_out n x ++ more)
+unfolding two.page_out
+pages-bring zero x more rest = rest x
+pages-bring (suc n) x more rest = (tt, pages-bring n (two.next x) more rest)
+
+loads-bring : (s : MachineState two.Sample (Unit {0})) → MomentsBringHeld two.sample s (two.loads ++ two.counts 2)
+loads-bring s =
+    (λ n x came is. absurd came, (tt, (tt, (tt, (tt, (tt, (tt, (tt, (λ n x came is. absurd came, tt)))))))))
+
+all-bring : MomentsBringHeld two.sample two.new_one (two.moments 2)
+all-bring = (
+  tt,
+  (
+    λ n x came is. holds-nodes _ x (subst HasKind (sym came.0) tt),
+    (
+      λ n x came is. holds-nodes _ x (subst HasKind (sym came.0) refl),
+      (tt, pages-bring 15 two.begun (two.loads ++ two.counts 2) (λ y. loads-bring (two.at_work y))),
+    ),
+  ),
+)
+
 pub headline_met : TwoLevelsMeetTheHeadline
 headline_met =
     let new = new_whole (Unit {0}) two.sample in let worked = pages 15 two.begun (two.loads ++ two.counts 2) births-good.3.0 begun-asks
     (loads-do, loads-asked) in
     let start = new.starts two.new_one (new.new _ _ tt) (new.idle _ _ tt) lawful in
+    let no-values : HoldsItsValues two.sample two.new_one.pager = record { each = λ n x is. absurd cc } in
     let premised : ArePremised two.new_one (two.moments 2) =
     asked _ _ tt (λ trees. tt) ⨾ asked _ _ tt (λ trees. tt) ⨾ asked _ _ tt (λ trees. tt) ⨾ asked _ _ tt (λ trees. tt) ⨾ worked.1 in
     assumption (
@@ -393,6 +427,8 @@ headline_met =
       start.stands,
       start.settled,
       premised,
+      all-bring,
+      no-values,
       headline_law (Unit {0}) two.sample_seen two.new_one (two.moments 2) start.whole start.idle (births-do _ worked.0),
       no-other,
     )

@@ -1,15 +1,14 @@
 -- What values in memory hold beside their references: the values of the references' nodes, after any step.
 use Rattle.pagable_pager_spec.specs.{
   Access.ReadRun,
-  Pager.{CallBrings, HoldsItsNodes, HoldsItsValues, HoldsPinned, IsMachineWhole, IsPagerWhole, MachineState, Moves},
-  Pager.PagerState,
+  Pager.{HoldsItsNodes, HoldsItsValues, HoldsPinned, IsPagerWhole, Moves, PagerState},
   Refusals.references_fault,
-  Runs.{AreMoments, Moment, state_after},
+  Runs.BringsHeld,
   World.{Seen, Values},
-  declared.{calls.Call.Call, events.Event.Event, handle_row.Owner.Owner},
+  declared.handle_row.Owner.Owner,
 }
 use Rattle.pagable_theorems.specs.CallerLaws.{Operation, Operations, calls, goes-on, is-done}
-use Rattle.std.specs.Prelude.{List, None, Ok, Some, ℕ, [], ◌∷◌, ◌≡◌}
+use Rattle.std.specs.Prelude.{None, Ok, ℕ, [], ◌≡◌}
 
 -- The law, for any step: if the step brings only values into memory that hold their nodes' values, and each value in
 -- memory did before, each does afterwards.
@@ -21,10 +20,6 @@ StepsKeepHeldValues {N} E v = (s s' : PagerState N E) → IsPagerWhole v s' → 
 abbrev pub PinnedValuesAreHeld : {N : Type 0} → (E : Type 0) → Values N → Type 0
 PinnedValuesAreHeld {N} E v = (s : PagerState N E) (owner : Owner) (x : N) → IsPagerWhole v s
     → references_fault s.core owner [] (v.references x) ≡ None → HoldsPinned v s x → HoldsItsNodes v s x
-
--- a value that the call brings into memory holds its nodes' values, as they were before the call
-abbrev pub BringsHeld : {N E B : Type 0} → Values N → PagerState N E → Call N B → PagerState N E → Type 0
-BringsHeld {N} v s call s' = (n : ℕ) (x : N) → CallBrings s.core call n x → s'.values n ≡ Some x → HoldsItsNodes v s x
 
 -- asked of calls only: the values that a pin, a read or a page-out brings were read by a load
 abbrev pub OperationBringsHeld : {N E B W : Type 0} {m : Seen N B W} {s s' : PagerState N E} → Operation m s s' → Type 0
@@ -41,22 +36,6 @@ CallersBringHeld (goes-on s mid s' one more) = OperationBringsHeld one × Caller
 abbrev pub HeldByCallersLaw : {N B W : Type 0} → (E : Type 0) → Seen N B W → Type 0
 HeldByCallersLaw {N} {B} {W} E m = (s s' : PagerState N E) (operations : Operations m s s') → IsPagerWhole m.values s
     → CallersBringHeld operations → HoldsItsValues m.values s → HoldsItsValues m.values s'
-
--- asked of calls only: a value that the call brings into memory holds its nodes' values, as they were before the call
-abbrev pub MomentBringsHeld : {N E B W : Type 0} → Values N → PagerState N E → Event N B W → PagerState N E → Type 0
-MomentBringsHeld v s (Event.Call call) s' = BringsHeld v s call s'
-MomentBringsHeld v s event s' = Unit {0}
-
-abbrev pub MomentsBringHeld : {N E B W : Type 0} → Values N → MachineState N E → List (Moment N E B W) → Type 0
-MomentsBringHeld v s [] = Unit {0}
-MomentsBringHeld v s (x ∷ xs) = MomentBringsHeld v s.pager x.event x.after.pager × MomentsBringHeld v x.after xs
-
--- The law, for every chain of moments: each value in memory holds its nodes' values at the end, if each did at first
--- and each that a caller brings does.
-abbrev pub HeldByMomentsLaw : {N B W : Type 0} → (E : Type 0) → Seen N B W → Type 0
-HeldByMomentsLaw {N} {B} {W} E m = (s : MachineState N E) (moments : List (Moment N E B W)) → IsMachineWhole m.values s
-    → AreMoments m s moments → MomentsBringHeld m.values s moments
-    → HoldsItsValues m.values s.pager → HoldsItsValues m.values (state_after s moments).pager
 
 -- The law of a read of a key: the value that it returns holds what the handles of its references pin.
 abbrev pub ReadHoldsLaw : {N : Type 0} → (E : Type 0) → Values N → Type 0

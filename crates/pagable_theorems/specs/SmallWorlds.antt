@@ -10,9 +10,10 @@ use Rattle.pagable_pager_spec.specs.{
   Loads.{asks, is_faulty, next_in, reads},
   Pager.{IsIdle, IsMachineWhole, IsNew, MachineState, PagerState, StandsFor},
   Runs.{AreMoments, HoldsSettled, Moment, state_after},
+  Theorem.MeetsHeadline,
   WorkerClaims.{IsFilledByReading, LeavesCache},
   World.{Core, Frame, IsLawful, Places, Seen, Values, Work},
-  declared.{handle_row.{HandleRow.HandleRow, Owner.Owner}, mode.Mode.Mode},
+  declared.{events.{Event.Event, EventReply.EventReply}, handle_row.{HandleRow.HandleRow, Owner.Owner}, mode.Mode.Mode},
 }
 use Rattle.std.specs.{
   Prelude.{Bool, List, None, Ok, Option, Some, false, filter, length, ℕ, [], ◌&&◌, ◌++◌, ◌==◌, ◌||◌, ◌∷◌, ◌≡◌},
@@ -125,6 +126,12 @@ pub record ChainsJoin {N B W : Type 0} (E : Type 0) (m : Seen N B W) : Type 0 wh
       → AreMoments m (state_after s xs) ys → AreMoments m s (xs ++ ys)
   pub ends : (s : MachineState N E) (xs ys : List (Moment N E B W)) → state_after s (xs ++ ys)
       ≡ state_after (state_after s xs) ys
+
+-- A run that meets the headline can be continued by another.
+pub record RunsJoin {N B W : Type 0} (E : Type 0) (m : Seen N B W) : Type 0 where
+  pub joins : (old mid new : MachineState N E) (happened more : List (Event N B W))
+      (replied rest : List (EventReply N B W)) → MeetsHeadline m old happened replied mid
+      → MeetsHeadline m mid more rest new → MeetsHeadline m old (happened ++ more) (replied ++ rest) new
 
 -- all that the headline asks of the machine at which a chain begins
 pub record StartsWell {N E : Type 0} (v : Values N) (s : MachineState N E) : Type 0 where

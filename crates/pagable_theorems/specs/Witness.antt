@@ -9,8 +9,8 @@ use Rattle.pagable_pager_spec.specs.{
   Kinds.{identity_of, owner_value, owner_worker, pins},
   LoadCalls.{adopted, is_owned_in, with_load, with_pin, without_load},
   Loads.{gone_on, root_frame},
-  Pager.{IsIdle, IsMachineWhole, MachineState, StandsFor},
-  Runs.{AreMoments, HoldsSettled, IsPremised, Moment},
+  Pager.{HoldsItsValues, IsIdle, IsMachineWhole, MachineState, StandsFor},
+  Runs.{AreMoments, HoldsSettled, IsPremised, Moment, MomentsBringHeld},
   Theorem.Headline,
   Workers.{answer_after, first_todo, fresh, give, is_workers, is_workers_at, open_node, with_changed_slot},
   Workers.{with_outcome, with_slot, with_wait, without_worker},
@@ -353,5 +353,7 @@ pub record TwoLevelsMeetTheHeadline : Type 0 where
   pub stands : (trees : ℕ → Tree) → StandsFor sample new_one trees
   pub settled : HoldsSettled sample new_one.pager
   pub premised : ArePremised new_one (moments 2)
+  pub brings : MomentsBringHeld sample new_one (moments 2)
+  pub holds : HoldsItsValues sample new_one.pager
   pub headline : Headline sample_seen new_one (moments 2)
   pub no_other : (n : ℕ) → AreMoments sample_seen new_one (moments n) → n ≡ 2

@@ -6,7 +6,7 @@
 ghost use Rattle.pagable_pager_spec.specs.{
   Access.{PinLaw, ReadLaw},
   Basics.Types,
-  Theorem.HeadlineLaw,
+  Theorem.{HeadlineLaw, OneTreeLaw},
   WorkerClaims.{KeyIsShallow, OneIdentityLaw},
   World.{Frame, Seen},
 };
@@ -14,10 +14,10 @@ ghost use Rattle.pagable_theorems.specs.{
   CallerLaws.{CallerLaw, PinnedAgainLaw},
   DepthLaws.{ClaimIsDeep, DepthIsHeight, HoldsAlong, LoadIsDeep, LoadOfPagedOutIsFaultless, UninterruptedLoadsAreSound},
   DepthLaws.WorkerReportsDepth,
-  HeldLaws.{HeldByCallersLaw, HeldByMomentsLaw, PinnedValuesAreHeld, ReadHoldsLaw, StepsKeepHeldValues},
+  HeldLaws.{HeldByCallersLaw, PinnedValuesAreHeld, ReadHoldsLaw, StepsKeepHeldValues},
   PageOutLaws.{ItemLaw, ListLaw},
   RefusalLaws.{BeginsRefusedLaw, LoadsRefusedLaw, PinsRefusedLaw, StorageErrorsAreTrue},
-  SmallWorlds.{ChainsJoin, LoadsAloneFillCache, NewMachineIsWhole, ReadStepIsUnique, ReleaseLaws},
+  SmallWorlds.{ChainsJoin, LoadsAloneFillCache, NewMachineIsWhole, ReadStepIsUnique, ReleaseLaws, RunsJoin},
   Witness.TwoLevelsMeetTheHeadline,
 };
 
@@ -36,14 +36,16 @@ pub fn release_laws()
     ensures read_step_is_unique { (types : Types) (frame : Frame) → ReadStepIsUnique types frame }
 {}
 
-/// States two laws, of chains of events and of new machines.
+/// States the laws of chains of events and of new machines.
 ///
 /// - A chain can be continued by another.
+/// - So can a run of a machine that meets the headline: both together meet it.
 /// - A new machine on which nobody works satisfies, if its values are lawful, what the headline
 ///   asks of the start: it satisfies the invariant, stands for any trees, and has no value in
 ///   memory.
 pub fn chain_laws<N: SeenAs<B, W>, B, W, E>()
     ensures chains_join { ChainsJoin E N.seen }
+    ensures runs_join { RunsJoin E N.seen }
     ensures new_machine_is_whole { NewMachineIsWhole E N.seen.values }
 {}
 
@@ -59,6 +61,12 @@ pub fn two_levels_meet_the_headline()
 /// (`Headline`).
 pub fn headline<N: SeenAs<B, W>, B, W, E>()
     ensures { HeadlineLaw E N.seen }
+{}
+
+/// States that a live node stands for one tree only, as long as no value in memory has two
+/// meanings. So the trees that the headline says are there, after each event, can't be chosen.
+pub fn live_node_has_one_tree<N: SeenAs<B, W>, B, W, E>()
+    ensures { OneTreeLaw E N.seen.values }
 {}
 
 /// States the laws of paths that are too long and of values without a form.
@@ -128,14 +136,12 @@ pub fn refusal_laws<N: SeenAs<B, W>, B, W>()
 ///   values of their nodes, if its references have no fault.
 /// - After any calls, pins, reads and page-outs each value in memory still holds these values, if
 ///   each value that a call of the caller brings does. Those that loads bring do.
-/// - The same holds along any chain of a machine's events, however the steps are interleaved.
 /// - The value that a read of a key returns holds what the handles of its references pin. The
 ///   caller owns these handles.
 pub fn held_value_laws<N: SeenAs<B, W>, B, W, E>()
     ensures steps_keep_held_values { StepsKeepHeldValues E N.seen.values }
     ensures pinned_values_are_held { PinnedValuesAreHeld E N.seen.values }
     ensures along_calls { HeldByCallersLaw E N.seen }
-    ensures along_events { HeldByMomentsLaw E N.seen }
     ensures read { ReadHoldsLaw E N.seen.values }
 {}
 
