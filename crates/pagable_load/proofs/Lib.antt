@@ -4,3 +4,4 @@ pub mod Lending
 pub mod PinsAndReads
 mod HeldByPins
 mod FromRoot
+pub mod Keyed

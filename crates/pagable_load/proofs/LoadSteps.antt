@@ -2,7 +2,7 @@
 use Rattle.either.specs.declared.Either.{Either}
 use Rattle.pagable_core.specs.{Context.at_front, Data.blob_of}
 use Rattle.pagable_load.specs.{
-  AccessView.{Acting, Acts, ActsThen, AdoptsValue, AsksFor, IfKnown, IsMade, MakesCallBringing, TakesLazily},
+  AccessView.{Acting, Acts, ActsThen, AdoptsValue, AsksFor, AsksRoot, IfKnown, IsMade, MakesCallBringing, TakesLazily},
   Decoding.{IsReadAs, Needs},
   Frames.{IsLoadOf, frame_of, frames_of, frames_onto, reading_of},
   LoadSteps.{Drops, Met, TriesStep},
@@ -20,7 +20,7 @@ use Rattle.pagable_pager_spec.specs.{
   Loads.{needs_lazy, needs_nested, nested_frame, read_with, reads, root_frame, to_adopt, with_got},
   Pager.{HoldsItsNodes, HoldsPinned, IsCellOf, IsNewNode, IsPagerWhole, Moves, PagerState, ReadingBrings},
   Refusals.OwnsLoad,
-  World.{Alike, Core, Frame, Reading, Values, row_at},
+  World.{Alike, Core, Frame, OpenLoad, Reading, Values, result_map, row_at},
   declared.{calls.FetchTarget.FetchTarget, events.LoadAnswer.LoadAnswer, handle_row.{HandleRow.HandleRow, Owner.Owner}},
 }
 use Rattle.pagable_theorems.proofs.{HandlesKept.{find-both, find-left, found-changed}, HeldValues.pinned_law}
@@ -216,6 +216,16 @@ module _ {w w' before left : Core} {given : ℕ → Bool} (test : ℕ → Bool) 
       pinned-by _ refl (sym (find-both k.0 (left_rows f.falls.gone left.rows) f.falls.entries) ∙ ap (λ rows. find_row k.0 rows) (sym f.falls.leaves.rows)
       ∙ live)
 
+-- a load of this key asks for its blob
+pub root-asked : {B : Type 0} {see : B → Blob} {w w' : Core} {me : Owner} {own : Own} {r : Result B Error} → IsLoadOf w me own
+    → AsksRoot see w me own.load own.key r w'
+    → LoadFetchCall w me own.load FetchTarget.Root (result_map (λ d. from_store (see d)) r) w'
+root-asked o a = elim a.asked [
+  | inl asked ↦ asked
+  | inr (other, refused, alike) ↦ let e : Some other.load ≡ Some o.load = sym other.open_load ∙ o.owned.stands_open in
+      let same : other.load ≡ o.load = cc in absurd (other.other (ap (λ (x : OpenLoad). x.key) same ∙ o.key))
+]
+
 module _ {N : Type 0} (E : Type 0) (v : Values N) (me : Owner) (own : Own) where
   abbrev reading : Reading
   reading = reading_of own
@@ -246,15 +256,15 @@ module _ {N : Type 0} (E : Type 0) (v : Values N) (me : Owner) (own : Own) where
   fails f = record { does = λ is. tt; meets = f }
 
   module _ (first : frames_of own.top own.below.items ≡ []) where
-    pub root_comes : (blob : Blob) (frames : List Frame) → frames ≡ root_frame own.key own.node_type blob ∷ [] → (s t : PagerState N E)
-        → MakesCall v (λ w'. LoadFetchCall s.core me own.load FetchTarget.Root (Ok (from_store blob)) w') s t → TriesStep v me own s (Ok None) frames t
-    root_comes blob frames is s t c = goes (λ o. went c tt (inl (record {
+    pub root_comes : {B : Type 0} (see : B → Blob) (blob : B) (frames : List Frame) → frames ≡ root_frame own.key own.node_type (see blob) ∷ [] → (s t : PagerState N E)
+        → MakesCall v (λ w'. AsksRoot see s.core me own.load own.key (Ok blob) w') s t → TriesStep v me own s (Ok None) frames t
+    root_comes see blob frames is s t c = goes (λ o. went c tt (inl (record {
       load = o.load;
-      blob = blob;
+      blob = see blob;
       first = first;
       open_load = o.owned.stands_open;
-      asked = c.step;
-      goes = is ∙ ap (λ k. root_frame k own.node_type blob ∷ []) (sym o.key);
+      asked = root-asked o c.step;
+      goes = is ∙ ap (λ k. root_frame k own.node_type (see blob) ∷ []) (sym o.key);
     })))
 
   module _ (kind : Kind) (key : ℕ) (top : Held) (under : List Held) (was : frames_of own.top own.below.items ≡ frame_of top ∷ frames_onto [] under) where

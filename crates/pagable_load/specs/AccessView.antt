@@ -8,15 +8,15 @@ use Rattle.pagable_pager_spec.specs.{
   LoadCalls.{AdoptCall, Given, LazyCall, LoadFetchCall, from_cache, from_store},
   Loads.ReadsRoot,
   Pager.{IsPagerWhole, Moves, PagerState},
-  World.{Core, Reading, Values, result_map, row_at},
+  World.{Alike, Core, OpenLoad, Reading, Values, result_map, row_at},
   declared.{calls.FetchTarget.FetchTarget, handle_row.{HandleRow.HandleRow, Owner.Owner}},
 }
 use Rattle.pagable_value_spec.specs.{
-  Blob.Blob,
+  Blob.{Blob, key_of},
   declared.{error.Error.Error, numbers.{ArcRef.ArcRef, HandleNumber.HandleNumber, Kind.Kind, LoadNumber.LoadNumber}},
   declared.numbers.WorkerNumber.WorkerNumber,
 }
-use Rattle.std.specs.Prelude.{Err, IfOk, IfSome, List, Ok, Option, Result, Some, ℕ, ◌≡◌}
+use Rattle.std.specs.Prelude.{Err, IfOk, IfSome, List, Ok, Option, Result, Some, ℕ, ◌≡◌, ◌≢◌, ◌⊎◌}
 
 -- the owner for whom the calls are made, the environment of the values, and the lender of the pager
 pub record Acting (E : Type 0) : Type 0 where
@@ -95,6 +95,23 @@ pub record AsksFor {B : Type 0} (see : B → Blob) (w : Core) (me : Owner) (l : 
     (r : Result (Either ArcRef B) Error) (w' : Core) : Type 0 where
   pub asked : LoadFetchCall w me l (FetchTarget.Nested kind key) (result_map (reference_or_blob see) r) w'
   pub made : IfOk r (λ found. IsFoundMade w' kind found)
+
+-- the load is open, and is of another key
+pub record IsOfOtherKey (w : Core) (l : LoadNumber) (key : ℕ) : Type 0 where
+  pub load : OpenLoad
+  pub open_load : w.loads l.0 ≡ Some load
+  pub other : load.key ≢ key
+
+-- a load asks for the blob of its own key, which has to be this one
+pub record AsksRoot {B : Type 0} (see : B → Blob) (w : Core) (me : Owner) (l : LoadNumber) (key : ℕ)
+    (r : Result B Error) (w' : Core) : Type 0 where
+  pub asked : LoadFetchCall w me l FetchTarget.Root (result_map (λ d. from_store (see d)) r) w'
+      ⊎ (IsOfOtherKey w l key × (r ≡ Err Error.NoSuchHandle) × Alike w w')
+
+-- a reference that the cache gives has the kind that was asked for; the hash of a blob is the key
+abbrev pub IsNamedOrKind : {B : Type 0} → (List ℕ → List ℕ) → (B → Blob) → Kind → ℕ → Either ArcRef B → Type 0
+IsNamedOrKind hash see kind key (Either.Left r) = r.kind ≡ kind
+IsNamedOrKind hash see kind key (Either.Right blob) = key_of hash (see blob) ≡ key
 
 -- a load takes a loose reference without reading it
 pub record TakesLazily (w : Core) (me : Owner) (l : LoadNumber) (kind : Kind) (key : ℕ) (r : Result ArcRef Error)

@@ -2,6 +2,7 @@ pub mod AccessView
 pub mod ResolvedReferences
 pub mod Decoding
 pub mod Frames
+pub mod Keyed
 pub mod LoadSteps
 pub mod WorkerCalls
 pub mod LoadEnd

@@ -3,7 +3,8 @@
 
 ghost use Rattle.pagable_core.specs.Data.{blob_of};
 ghost use Rattle.pagable_load.specs.{
-  AccessView.{Acting, Acts, ActsThen, AdoptsValue, AsksFor, IfKnown, IsReadBy, MakesCallBringing, TakesLazily},
+  AccessView.{Acting, Acts, ActsThen, AdoptsValue, AsksFor, AsksRoot, IfKnown, IsNamedOrKind, IsReadBy},
+  AccessView.{MakesCallBringing, TakesLazily},
   AccessView.{as_caller, as_worker, values_at},
   PinStart.{Shares, StartsPin},
   WorkerCalls.{RefusesEntry, ReleasesIfKeyed, SetsKeyAndReleases, SharesTaken, StartsEntry, StoresNode},
@@ -13,12 +14,11 @@ ghost use Rattle.pagable_pager_spec.specs.{
   Access.{EntryHas, MakesCall, WorkerStarts},
   Calls.{ReleaseCall, ScheduleCall, SetKeyCall, StoreCall, TakeCall, UnpinCall},
   Cascade.FallsAnyhow,
-  LoadCalls.{BeginKeyCall, DropCall, EndCall, HandOverCall, LoadFetchCall, from_store},
+  LoadCalls.{BeginKeyCall, DropCall, EndCall, HandOverCall},
   Pager.{IsCellOf, IsNewNode, PagerState},
   Refusals.WorkerFault,
   Workers.{WorkerEnds, claim_fault, is_workers_at},
   World.{Alike, result_map},
-  declared.calls.FetchTarget.FetchTarget,
 };
 ghost use Rattle.pagable_value_spec.specs.{Blob.key_of, declared.numbers.HandleNumber.HandleNumber as Handle};
 ghost use Rattle.std.specs.{Arc.arc_value, Prelude.{IfErr, IfNone, IfOk, IfSome, Option, length, ◌≡◌, ◌≤◌}};
@@ -171,19 +171,24 @@ pub trait Access<E: Env<Node: NodeSet<E>>> {
             (values_at E.Node.NodeSet E.Env E.Hash.KeyHash a.environment)
             (λ w'. BeginKeyCall s.core a.me key (result_map (λ l. Beginning.Load l key) result) w') s t) };
 
-    /// Fetches the blob of the load's own key.
+    /// Fetches the blob of the load's own key, which has to be `key`. Whatever the storage does, the
+    /// blob's hash is the key.
     ///
     /// # Errors
     ///
-    /// - `NoSuchHandle` if the load isn't open.
+    /// - `NoSuchHandle` if the load isn't open, or is of another key.
     /// - `NotYours` if another than this owner began it.
     /// - `NoData`, `OutOfMemory` or `Storage`, as the storage fails.
-    fn load_root(&mut self, alloc: Global, load: LoadNumber) -> Result<Arc<PagableData>, Error>
-        ensures { Acts known_state acting self.old self.new (λ a s t. MakesCall
+    fn load_root(
+        &mut self,
+        alloc: Global,
+        load: LoadNumber,
+        key: DataKey,
+    ) -> Result<Arc<PagableData>, Error>
+        ensures acts { Acts known_state acting self.old self.new (λ a s t. MakesCall
             (values_at E.Node.NodeSet E.Env E.Hash.KeyHash a.environment)
-            (λ w'. LoadFetchCall s.core a.me load FetchTarget.Root
-            (result_map (λ d. from_store (blob_of (arc_value d))) result) w') s
-            t) };
+            (λ w'. AsksRoot (λ d. blob_of (arc_value d)) s.core a.me load key result w') s t) }
+        ensures named { IfOk result (λ d. key_of E.Hash.digest (blob_of (arc_value d)) ≡ key) };
 
     /// Gets what a reference leads to: the cached node, by a handle that the load owns, or the blob
     /// if no node is cached.
@@ -201,9 +206,10 @@ pub trait Access<E: Env<Node: NodeSet<E>>> {
         kind: Kind,
         key: DataKey,
     ) -> Result<Either<ArcRef, Arc<PagableData>>, Error>
-        ensures { Acts known_state acting self.old self.new (λ a s t. MakesCall
+        ensures acts { Acts known_state acting self.old self.new (λ a s t. MakesCall
             (values_at E.Node.NodeSet E.Env E.Hash.KeyHash a.environment)
-            (λ w'. AsksFor (λ d. blob_of (arc_value d)) s.core a.me load kind key result w') s t) };
+            (λ w'. AsksFor (λ d. blob_of (arc_value d)) s.core a.me load kind key result w') s t) }
+        ensures named { IfOk result (IsNamedOrKind E.Hash.digest (λ d. blob_of (arc_value d)) kind key) };
 
     /// Resolves a loose reference without loading a value: returns a reference to the cached cell
     /// or to a new one, by a handle that the load owns.
@@ -221,9 +227,10 @@ pub trait Access<E: Env<Node: NodeSet<E>>> {
         kind: Kind,
         key: DataKey,
     ) -> Result<ArcRef, Error>
-        ensures { Acts known_state acting self.old self.new (λ a s t. MakesCall
+        ensures acts { Acts known_state acting self.old self.new (λ a s t. MakesCall
             (values_at E.Node.NodeSet E.Env E.Hash.KeyHash a.environment)
-            (λ w'. TakesLazily s.core a.me load kind key result w') s t) };
+            (λ w'. TakesLazily s.core a.me load kind key result w') s t) }
+        ensures kind { IfOk result (λ r. r.kind ≡ kind) };
 
     /// Makes a node of a value that the load has read, with a handle, which the load owns. If the
     /// cache has a node under the kind and key, drops the value and makes a handle of that node.
@@ -246,10 +253,11 @@ pub trait Access<E: Env<Node: NodeSet<E>>> {
         key: DataKey,
         node: E::Node,
     ) -> Result<ArcRef, (Error, E::Node)>
-        ensures { Acts known_state acting self.old self.new (λ a s t. MakesCallBringing
+        ensures acts { Acts known_state acting self.old self.new (λ a s t. MakesCallBringing
             (values_at E.Node.NodeSet E.Env E.Hash.KeyHash a.environment)
             (λ w'. AdoptsValue s.core a.me load kind key node (E.Node.type_of node) (E.Node.refs_of node) result w')
-            (λ n x. (x ≡ node) × IsNewNode s.core n) s t) };
+            (λ n x. (x ≡ node) × IsNewNode s.core n) s t) }
+        ensures kind { IfOk result (λ r. r.kind ≡ kind) };
 
     /// Ends a load of a cell: pins the cell, which gets the value if it has none, and returns the
     /// new Pinned handle. The value has to be the one that was read for the load's root, even if

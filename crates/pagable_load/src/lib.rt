@@ -5,6 +5,7 @@ pub mod access;
 pub mod batch;
 pub mod cell_reading;
 pub mod decoding;
+pub mod laws;
 pub mod pin;
 pub mod reading;
 pub mod step;

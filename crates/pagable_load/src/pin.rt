@@ -2,10 +2,15 @@
 //! the root's blob in between.
 
 ghost use Rattle.pagable_core.specs.Data.{blob_of};
-ghost use Rattle.pagable_load.specs.{AccessView.{Acts, values_at}, PinStart.StartsPin, PolledPin.{PinsFrom, start_of}};
+ghost use Rattle.pagable_load.specs.{
+  AccessView.{Acts, values_at},
+  Keyed.HasRead,
+  PinStart.StartsPin,
+  PolledPin.{PinsFrom, start_of},
+};
 ghost use Rattle.pagable_pager_spec.specs.Access.{MakesCall};
 ghost use Rattle.pagable_value_spec.specs.Blob.{key_of};
-ghost use Rattle.std.specs.{Arc.arc_value, Prelude.◌≡◌};
+ghost use Rattle.std.specs.{Arc.arc_value, Prelude.{IfOk, ◌≡◌}};
 
 use crate::access::{Access, PinStart};
 use crate::cell_reading::CellReading;
@@ -52,7 +57,8 @@ pub fn begin_polled_pin<E: Env<Node: NodeSet<E>>, A: Access<E>>(
 
 impl CellReading {
     /// Reads the cell's value from the root's blob, with all that is loaded with it, ends the load
-    /// and returns the new Pinned handle. The blob has to be the one of the reading's key.
+    /// and returns the new Pinned handle. The blob has to be the one of the reading's key. If Ok, a
+    /// value was read under that key, whatever the storage does.
     ///
     /// # Errors
     ///
@@ -65,9 +71,11 @@ impl CellReading {
         blob: Arc<PagableData>,
     ) -> Result<HandleNumber, Error>
         requires named { key_of E.Hash.digest (blob_of (arc_value blob)) ≡ self.reading.key }
-        ensures { Acts A.known_state A.acting access.old access.new (λ a s t.
+        ensures acts { Acts A.known_state A.acting access.old access.new (λ a s t.
             PinsFrom (values_at E.Node.NodeSet E.Env E.Hash.KeyHash a.environment) a.me self.reading
             (blob_of (arc_value blob)) s result t) }
+        ensures keyed { IfOk result (λ pinned. HasRead (values_at E.Node.NodeSet E.Env E.Hash.KeyHash
+            (A.acting access.old).environment) self.reading.key self.reading.node_type) }
     {
         let mut reading = self.reading;
         reading.put_root(alloc, blob);

@@ -5,6 +5,7 @@ ghost use Rattle.pagable_load.specs.{
   AccessView.{Acts, IfKnown, values_at},
   Decoding.{FramesChange, FramesChangeFor, IfValue, Needs, RowsFit, rows_of},
   Frames.{frames_of, reading_of},
+  Keyed.{IsKeyed, StaysKeyed},
   LoadEnd.EndsOrLeavesLess,
   LoadSteps.{Drops, IsSameLoad, RunsLoad, RunsLoadOrPart, TriesStep},
   PinStart.{PinsWithLoad, SharesPinned, Unpins},
@@ -50,6 +51,9 @@ impl Reading {
             (frames_of self.new.top self.new.below.items) result }
         ensures goes { IfOk result (λ answer. FramesChange false (frames_of self.old.top self.old.below.items)
             (frames_of self.new.top self.new.below.items)) }
+        ensures keyed { IfOk result (λ answer. StaysKeyed
+            (values_at E.Node.NodeSet E.Env E.Hash.KeyHash (A.acting access.old).environment) self.old.key self.old.node_type
+            (frames_of self.old.top self.old.below.items) answer (frames_of self.new.top self.new.below.items)) }
         ensures same { IsSameLoad self.old self.new self.old.steps }
     {
         let load = self.load;
@@ -81,6 +85,9 @@ impl Reading {
             (frames_of self.new.top self.new.below.items) result }
         ensures goes { IfOk result (λ answer. FramesChange true (frames_of self.old.top self.old.below.items)
             (frames_of self.new.top self.new.below.items)) }
+        ensures keyed { IfOk result (λ answer. StaysKeyed
+            (values_at E.Node.NodeSet E.Env E.Hash.KeyHash (A.acting access.old).environment) self.old.key self.old.node_type
+            (frames_of self.old.top self.old.below.items) answer (frames_of self.new.top self.new.below.items)) }
         ensures same { IsSameLoad self.old self.new self.old.steps }
     {
         let load = self.load;
@@ -96,7 +103,7 @@ impl Reading {
 
     // Ends the load with the root's value: the cell gets it and is pinned, or the caller gets it
     // and the handles of its references.
-    #[tactic(auto, using(crate::proofs::LoadSteps::acts_map, crate::proofs::LoadSteps::hands_over))]
+    #[tactic(auto, using(crate::proofs::Keyed::finishing))]
     fn finish<E: Env<Node: NodeSet<E>>, A: Access<E>>(
         &mut self,
         access: &mut A,
@@ -113,6 +120,9 @@ impl Reading {
         ensures leads { EndsOrLeavesLess self.old.for_cell (frames_of self.old.top self.old.below.items)
             (frames_of self.new.top self.new.below.items) result }
         ensures ends { IfOk result (λ answer. IsSome answer) }
+        ensures keyed { IfOk result (λ answer. StaysKeyed
+            (values_at E.Node.NodeSet E.Env E.Hash.KeyHash (A.acting access.old).environment) self.old.key self.old.node_type
+            (frames_of self.old.top self.old.below.items) answer (frames_of self.new.top self.new.below.items)) }
         ensures same { IsSameLoad self.old self.new self.old.steps }
     {
         if self.for_cell {
@@ -156,11 +166,14 @@ impl Reading {
             (frames_of self.new.top self.new.below.items) result }
         ensures goes { IfOk result (λ answer. FramesChangeFor need answer (frames_of self.old.top self.old.below.items)
             (frames_of self.new.top self.new.below.items)) }
+        ensures keyed { IfOk result (λ answer. StaysKeyed
+            (values_at E.Node.NodeSet E.Env E.Hash.KeyHash (A.acting access.old).environment) self.old.key self.old.node_type
+            (frames_of self.old.top self.old.below.items) answer (frames_of self.new.top self.new.below.items)) }
         ensures same { IsSameLoad self.old self.new self.old.steps }
     {
         let load = self.load;
         match need {
-            Need::Root => match access.load_root(alloc, load) {
+            Need::Root => match access.load_root(alloc, load, self.key) {
                 Ok(blob) => {
                     self.put_root(alloc, blob);
                     Ok(None)
@@ -200,7 +213,7 @@ impl Reading {
     }
 
     // Makes the step that gets what the load needs, and counts it. Drops the load if that fails.
-    #[tactic(auto, using(crate::proofs::LoadSteps::giving_up))]
+    #[tactic(auto, using(crate::proofs::LoadSteps::giving_up, crate::proofs::Keyed::staying))]
     fn step_for<E: Env<Node: NodeSet<E>>, A: Access<E>>(
         &mut self,
         access: &mut A,
@@ -218,6 +231,9 @@ impl Reading {
         ensures leads { EndsOrLeavesLess self.old.for_cell (frames_of self.old.top self.old.below.items)
             (frames_of self.new.top self.new.below.items) (Ok result) }
         ensures goes { FramesChangeFor need result (frames_of self.old.top self.old.below.items)
+            (frames_of self.new.top self.new.below.items) }
+        ensures keyed { StaysKeyed (values_at E.Node.NodeSet E.Env E.Hash.KeyHash (A.acting access.old).environment)
+            self.old.key self.old.node_type (frames_of self.old.top self.old.below.items) result
             (frames_of self.new.top self.new.below.items) }
         ensures same { IsSameLoad self.old self.new (one_more self.old.steps) }
     {
@@ -250,6 +266,9 @@ impl Reading {
             (frames_of self.new.top self.new.below.items) t) }
         ensures leads { EndsOrLeavesLess self.old.for_cell (frames_of self.old.top self.old.below.items)
             (frames_of self.new.top self.new.below.items) (Ok result) }
+        ensures keyed { StaysKeyed (values_at E.Node.NodeSet E.Env E.Hash.KeyHash (A.acting access.old).environment)
+            self.old.key self.old.node_type (frames_of self.old.top self.old.below.items) result
+            (frames_of self.new.top self.new.below.items) }
         ensures same { IsSameLoad self.old self.new (one_more self.old.steps) }
     {
         let need = self.next_need::<E, A>(access, alloc);
@@ -267,6 +286,7 @@ impl Reading {
     // Makes the first steps of a load that has just begun: fetches its root's blob and, if the
     // blob has no references, ends the load. Returns how the load ended, or None if it goes on.
     // Does nothing if the load has a blob.
+    #[tactic(auto, using(crate::proofs::Keyed::staying))]
     fn run_first_steps<E: Env<Node: NodeSet<E>>, A: Access<E>>(
         &mut self,
         access: &mut A,
@@ -277,6 +297,11 @@ impl Reading {
             self.old self.new s
             result t) }
         ensures ends { IfSome result (λ answer. EndsOrLeavesLess self.old.for_cell [] [] (Ok (Some answer))) }
+        ensures keyed { StaysKeyed (values_at E.Node.NodeSet E.Env E.Hash.KeyHash (A.acting access.old).environment)
+            self.old.key self.old.node_type (frames_of self.old.top self.old.below.items) result
+            (frames_of self.new.top self.new.below.items) }
+        ensures key { self.new.key ≡ self.old.key }
+        ensures node_type { self.new.node_type ≡ self.old.node_type }
         ensures for_cell { self.new.for_cell ≡ self.old.for_cell }
     {
         if self.top.is_some() {
@@ -307,6 +332,9 @@ impl Reading {
             (frames_of self.new.top self.new.below.items) t) }
         ensures leads { EndsOrLeavesLess self.old.for_cell (frames_of self.old.top self.old.below.items)
             (frames_of self.new.top self.new.below.items) (Ok result) }
+        ensures keyed { StaysKeyed (values_at E.Node.NodeSet E.Env E.Hash.KeyHash (A.acting access.old).environment)
+            self.old.key self.old.node_type (frames_of self.old.top self.old.below.items) result
+            (frames_of self.new.top self.new.below.items) }
         ensures same { IsSameLoad self.old self.new (one_more self.old.steps) }
         ensures ahead { IfNone result (RowsFit (values_at E.Node.NodeSet E.Env E.Hash.KeyHash
             (A.acting access.old).environment).types (frames_of self.new.top self.new.below.items)
@@ -333,6 +361,9 @@ impl Reading {
     ) -> LoadAnswer<E::Node>
         ensures acts { Acts A.known_state A.acting access.old access.new
             (λ a s t. RunsLoad (values_at E.Node.NodeSet E.Env E.Hash.KeyHash a.environment) a.me self.old s result t) }
+        ensures keyed { StaysKeyed (values_at E.Node.NodeSet E.Env E.Hash.KeyHash (A.acting access.old).environment)
+            self.old.key self.old.node_type (frames_of self.old.top self.old.below.items) (Some result)
+            (frames_of self.new.top self.new.below.items) }
         ensures ends { EndsOrLeavesLess self.old.for_cell [] [] (Ok (Some result)) }
     {
         if let Some(answer) = self.run_first_steps(access, alloc) {
@@ -475,7 +506,9 @@ pub fn read_over<E: Env<Node: NodeSet<E>>, A: Access<E>>(
     node_type: u32,
 ) -> Result<E::Node, Error>
     requires caller { (A.acting access.old).me ≡ Owner.Caller }
-    ensures { Acts A.known_state A.acting access.old access.new
+    ensures keyed { IfOk result (IsKeyed (values_at E.Node.NodeSet E.Env E.Hash.KeyHash
+        (A.acting access.old).environment) key node_type) }
+    ensures acts { Acts A.known_state A.acting access.old access.new
         (λ a s t. ReadsOver (values_at E.Node.NodeSet E.Env E.Hash.KeyHash a.environment) s key node_type result t) }
 {
     let load = access.load_key(key)?;

@@ -1,4 +1,6 @@
-use Rattle.pagable_load.proofs.{LoadSteps.{acts_map, acts_then}, PinsAndReads.{ends_so, goes_or_ends, none_gone, went_on}}
+use Rattle.pagable_load.proofs.Keyed.{then_stays}
+use Rattle.pagable_load.specs.AccessView.{values_at}
+use Rattle.pagable_load.proofs.{LoadSteps.{acts_map, acts_then, environment-is}, PinsAndReads.{ends_so, goes_or_ends, none_gone, went_on}}
 use Rattle.std.proofs.Common.{refl}
 use Rattle.pagable_load.proofs.reading.Reading.run_first_steps.Goals as goal
 
@@ -18,3 +20,8 @@ returns-clause-acts g c =
     acts_then c.in_default.ensures.acts c.step.ensures.acts
     (λ s mid t one two. goes_or_ends _ _ own now s mid t (went_on _ _ own own s s mid (none_gone own s) now _ c.step_for.ensures.same refl one) c.step.new.self
     _ c.step.result c.step.ensures.same refl two)
+
+pub returns-clause-keyed : goal.returns-clause-keyed
+returns-clause-keyed g c =
+    then_stays (values_at g.E.Node.NodeSet g.E.Env g.E.Hash.KeyHash) (environment-is c.in_default.ensures.acts.acting)
+    c.step_for.ensures.same.key c.step_for.ensures.same.node_type c.in_default.ensures.keyed c.step.ensures.keyed
