@@ -3,8 +3,8 @@
 use Rattle.pagable_load.proofs.{Batches.stopped_at, LoadSteps.{acts_map, hands_over}}
 use Rattle.pagable_load.specs.{
   Decoding.IsReadAs,
-  Keyed.{AfterKeyed, Came, DoesNotClash, EachGot, FramesKeyed, HasRead, HoldsKeyed, IsFrameKeyed, IsKeyed, LeavesAreRight, StaysKeyed, TreesAreRight, came-known, came-loose},
-  Keyed.{came-read, more-keyed, no-frames, root-keyed},
+  Keyed.{Came, EachGot, FramesKeyed, HasRead, HoldsKeyed, IsFrameKeyed, IsKeyed, LeavesAreRight, StaysKeyed, TreesAreRight, came-read, more-keyed},
+  Keyed.{no-frames, root-keyed},
 }
 use Rattle.pagable_pager_spec.specs.{
   Basics.{Among, Blob, Error, Kind, Tree, Types, is_eager, type_of},
@@ -20,8 +20,7 @@ use Rattle.pagable_value_spec.specs.{
   declared.numbers.{ArcRef.ArcRef, HandleNumber.HandleNumber},
 }
 use Rattle.std.proofs.{
-  Common.{Bool, List, None, Option, Some, ap, arith, false, if◌then◌else◌, inl, inr, length, refl, slice_get, subst, sym, true, ℕ, [], ◌++◌, ◌<◌, ◌∙◌},
-  Common.{◌∷◌, ◌≡◌, ◌≤◌, ◌⊎◌},
+  Common.{Bool, List, None, Option, Some, ap, arith, false, if◌then◌else◌, inl, inr, length, refl, slice_get, subst, sym, true, ℕ, [], ◌++◌, ◌∙◌, ◌∷◌, ◌≡◌, ◌⊎◌},
   lemmas.{List.{length-append, nil_from_length}, Option.slice_get_within},
 }
 
@@ -178,10 +177,9 @@ from_root {N} {v} {key} {key'} {t} {t'} {frames} {new} {k} blob of_key of_type i
     moved.follows (root_comes v key t blob is named)
 
 -- the value that was taken out of a node
-pub held_keyed : {N T A : Type 0} {v : Values N} {held : N → Option T} {key t : ℕ} {x : N} (see : A → T) (a : A) → IsKeyed v key t x
-    → Some (see a) ≡ held x
-    → HoldsKeyed v held key t (see a)
-held_keyed {x = x} see a read holds = record { x = x; keyed = read; holds = sym holds }
+pub held_keyed : {N T : Type 0} {v : Values N} {held : N → Option T} {key t : ℕ} {x : N} {a : T} → IsKeyed v key t x → Some a ≡ held x
+    → HoldsKeyed v held key t a
+held_keyed {x = x} read holds = record { x = x; keyed = read; holds = sym holds }
 
 -- ---- what a read tells of what a key says
 

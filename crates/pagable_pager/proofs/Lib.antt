@@ -5,3 +5,4 @@ pub mod LeafCalls
 pub mod LeafRuns
 pub mod LeafPins
 pub mod LentPins
+mod OwnKeys

@@ -22,6 +22,7 @@ use Rattle.pagable_tables.specs.{
   NumberTable.row_by,
   declared.{number_table.NumberTable.NumberTable, tables.Tables.Tables},
 }
+use Rattle.pagable_value_spec.specs.Blob.{key_of}
 use Rattle.pagable_value_spec.specs.declared.{
   numbers.{ArcRef.ArcRef, HandleNumber.HandleNumber, LoadNumber.LoadNumber, WorkerNumber.WorkerNumber},
 }
@@ -29,7 +30,7 @@ use Rattle.std.specs.{
   Arc.arc_value,
   Global.Global,
   Option.option_map,
-  Prelude.{Bool, IsTrue, None, Option, Some, false, true, ℕ, ◌+◌, ◌≡◌},
+  Prelude.{Bool, IsTrue, List, None, Option, Some, false, true, ℕ, ◌+◌, ◌≡◌},
   declared.sync.Arc.Arc,
 }
 use Rattle.pagable_tables.specs.Core as tables
@@ -139,6 +140,14 @@ from_cache_or_store see (Either.Right blob) = from_store (see blob)
 abbrev pub FitsWant : {B : Type 0} → FetchTarget → Either HandleNumber B → Type 0
 FitsWant FetchTarget.Root (Either.Left k) = ⊥
 FitsWant want given = Unit {0}
+
+-- the hash of a blob that a load has fetched is the load's own key, or the key that was asked for
+abbrev pub IsNamedFor : {B : Type 0} → (List ℕ → List ℕ) → (B → Blob) → Core → LoadNumber → FetchTarget
+    → Either HandleNumber B → Type 0
+IsNamedFor hash see w l want (Either.Left k) = Unit {0}
+IsNamedFor hash see w l FetchTarget.Root (Either.Right b) = (load : OpenLoad) × (w.loads l.0 ≡ Some load)
+    × (key_of hash (see b) ≡ load.key)
+IsNamedFor hash see w l (FetchTarget.Nested kind key) (Either.Right b) = key_of hash (see b) ≡ key
 
 -- whether the owner is the caller, or a worker at work
 abbrev pub may_call : Core → Owner → Bool

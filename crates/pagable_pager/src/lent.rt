@@ -234,14 +234,14 @@ impl<'a, E: Env<Node: NodeSet<E>>, S: PagableStorage<E>> Access<E> for Lent<'a, 
         }
     }
 
-    fn load_root(&mut self, alloc: Global, load: LoadNumber) -> Result<Arc<PagableData>, Error> {
-        let found = self
-            .pager
-            .load_fetch_for(self.me, alloc, load, FetchTarget::Root);
-        match with_invariant(found, self.pager)? {
-            Either::Right(blob) => Ok(blob),
-            Either::Left(_) => unreachable!(),
-        }
+    fn load_root(
+        &mut self,
+        alloc: Global,
+        load: LoadNumber,
+        key: DataKey,
+    ) -> Result<Arc<PagableData>, Error> {
+        let found = self.pager.load_root_for(self.me, alloc, load, key);
+        with_invariant(found, self.pager)
     }
 
     fn load_nested(

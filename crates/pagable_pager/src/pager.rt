@@ -3,11 +3,11 @@
 
 ghost use Rattle.futures.specs.{Poll.{IfReady, OnPending}, Task.{IsArmed, Keeps}};
 ghost use Rattle.pagable_core.specs.Data.{blob_of};
-ghost use Rattle.pagable_load.specs.{AccessView.values_at, PinStart.Shares};
+ghost use Rattle.pagable_load.specs.{AccessView.{AsksRoot, values_at}, PinStart.Shares};
 ghost use Rattle.pagable_pager.specs.{
   Polling.PollCall,
-  View.{AsksStorage, Calls, ChangesOnlyTables, FewerValues, FitsWant, KeepsWorkers, ReadsAs, SameValues},
-  View.{from_cache_or_store, may_call, pager_core, pager_state, type_of_root},
+  View.{AsksStorage, Calls, ChangesOnlyTables, FewerValues, FitsWant, IsNamedFor, KeepsWorkers, ReadsAs},
+  View.{SameValues, from_cache_or_store, may_call, pager_core, pager_state, type_of_root},
 };
 ghost use Rattle.pagable_pager_spec.specs.{
   Calls.{CloseCall, FetchCall, FlushCall, StoreCall},
@@ -431,6 +431,8 @@ impl<E: Env<Node: NodeSet<E>>, S: PagableStorage<E>> Pager<E, S> {
         ensures honest { IsTrue (S.is_honest self.new.storage) → IsTrue (S.is_honest self.old.storage) }
         ensures kept { KeepsWorkers (pager_core S.PagableStorage self.old) (pager_core S.PagableStorage self.new) }
         ensures fits { IfOk result (FitsWant want) }
+        ensures named { IfOk result (IsNamedFor E.Hash.digest (λ d. blob_of (arc_value d))
+            (pager_core S.PagableStorage self.old) load want) }
         ensures only { SameValues self.old self.new }
     {
         self.load_fetch_for(Owner::Caller, alloc, load, want)
@@ -450,6 +452,8 @@ impl<E: Env<Node: NodeSet<E>>, S: PagableStorage<E>> Pager<E, S> {
         ensures honest { IsTrue (S.is_honest self.new.storage) → IsTrue (S.is_honest self.old.storage) }
         ensures kept { KeepsWorkers (pager_core S.PagableStorage self.old) (pager_core S.PagableStorage self.new) }
         ensures fits { IfOk result (FitsWant want) }
+        ensures named { IfOk result (IsNamedFor E.Hash.digest (λ d. blob_of (arc_value d))
+            (pager_core S.PagableStorage self.old) load want) }
         ensures only { SameValues self.old self.new }
     {
         match want {
@@ -462,6 +466,29 @@ impl<E: Env<Node: NodeSet<E>>, S: PagableStorage<E>> Pager<E, S> {
                 None => Ok(Either::Right(self.fetch(alloc, key)?)),
             },
         }
+    }
+
+    // Fetches the blob of the load's own key, which has to be this one.
+    #[tactic(auto, using(std::proofs::lemmas::Bool::Decides::nat_tests))]
+    pub(crate) fn load_root_for(
+        &mut self,
+        me: Owner,
+        alloc: Global,
+        load: LoadNumber,
+        key: DataKey,
+    ) -> Result<Arc<PagableData>, Error>
+        ensures step { IsTrue (S.is_honest self.new.storage) → AsksRoot (λ d. blob_of (arc_value d))
+            (pager_core S.PagableStorage self.old) me load key result (pager_core S.PagableStorage self.new) }
+        ensures honest { IsTrue (S.is_honest self.new.storage) → IsTrue (S.is_honest self.old.storage) }
+        ensures kept { KeepsWorkers (pager_core S.PagableStorage self.old) (pager_core S.PagableStorage self.new) }
+        ensures named { IfOk result (λ found. key_of E.Hash.digest (blob_of (arc_value found)) ≡ key) }
+        ensures only { SameValues self.old self.new }
+    {
+        let row = checks::load_row(&self.tables, me, load)?;
+        if row.key != key {
+            return Err(Error::NoSuchHandle);
+        }
+        Ok(self.fetch(alloc, row.key)?)
     }
 
     /// Resolves a loose reference without loading a value: returns a handle, which the load owns,

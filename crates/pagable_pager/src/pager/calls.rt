@@ -164,6 +164,7 @@ impl<E: Env<Node: NodeSet<E>>, S: PagableStorage<E>> Pager<E, S> {
         ensures made { IsSome (row_at (pager_core S.PagableStorage self.now) handle) → IsMade
             (pager_core S.PagableStorage self.now) kind result }
         ensures handle { result.handle ≡ handle }
+        ensures kind { result.kind ≡ kind }
     {
         let node = match self.node_of(handle) {
             Ok(node) => node,

@@ -6,8 +6,8 @@ use Rattle.std.proofs.Common.{Ok, rules, subst}
 use Rattle.std.specs.Prelude.{IsTrue}
 use Rattle.pagable_pager.proofs.lent.LentAccess.load_adopt.Goals as goal
 
-pub returns-in_err-adopted : goal.returns-in_err-adopted
-returns-in_err-adopted g c =
+pub returns-in_err-adopted-clause-acts : goal.returns-in_err-adopted-clause-acts
+returns-in_err-adopted-clause-acts g c =
     let tells = g.S.PagableStorage in
     let e = c.in_err-adopted.ensures in
     record {
@@ -19,8 +19,8 @@ returns-in_err-adopted g c =
       acting = search rules;
     }
 
-pub returns : goal.returns
-returns g c =
+pub returns-clause-acts : goal.returns-clause-acts
+returns-clause-acts g c =
     let tells = g.S.PagableStorage in
     let e = c.in_ok-adopted.ensures in
     record {

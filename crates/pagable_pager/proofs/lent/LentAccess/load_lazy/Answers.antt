@@ -4,8 +4,8 @@ use Rattle.pagable_pager.specs.View.{pager_core}
 use Rattle.std.proofs.Common.{Ok, rules, subst}
 use Rattle.std.specs.Prelude.{IsTrue}
 
-pub returns : Rattle.pagable_pager.proofs.lent.LentAccess.load_lazy.Goals.returns
-returns g c =
+pub returns-clause-acts : Rattle.pagable_pager.proofs.lent.LentAccess.load_lazy.Goals.returns-clause-acts
+returns-clause-acts g c =
     let tells = g.S.PagableStorage in
     let e = c.in_ok-taken.ensures in
     record {

@@ -10,8 +10,8 @@ use Rattle.pagable_pager.proofs.lent.LentAccess.load_nested.Goals as goal
 pub invariant_of-self : goal.invariant_of-self
 invariant_of-self g c = record { at_work = still-at-work c.args.self.now.me c.load_fetch_for-found.ensures.kept c.args.self.now.at_work }
 
-pub returns-in-Left : goal.returns-in-Left
-returns-in-Left g c =
+pub returns-in-Left-clause-acts : goal.returns-in-Left-clause-acts
+returns-in-Left-clause-acts g c =
     let tells = g.S.PagableStorage in
     let e = c.in_ok-handle.ensures in
     record {

@@ -2,4 +2,4 @@ use Rattle.pagable_pager.proofs.LentCalls.{still-at-work}
 use Rattle.pagable_pager.proofs.lent.LentAccess.load_root.Goals as goal
 
 pub invariant_of-self : goal.invariant_of-self
-invariant_of-self g c = record { at_work = still-at-work c.args.self.now.me c.load_fetch_for-found.ensures.kept c.args.self.now.at_work }
+invariant_of-self g c = record { at_work = still-at-work c.args.self.now.me c.load_root_for-found.ensures.kept c.args.self.now.at_work }

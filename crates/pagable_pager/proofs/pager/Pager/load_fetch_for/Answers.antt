@@ -1,5 +1,6 @@
 use Rattle.pagable_pager.proofs.Invariant.{asks-kept}
-use Rattle.pagable_pager_spec.specs.Refusals.{earlier}
+use Rattle.pagable_pager.specs.View.{pager_core}
+use Rattle.pagable_pager_spec.specs.Refusals.{OwnsLoad, earlier}
 use Rattle.pagable_tables.proofs.SameViews.{failed, still}
 use Rattle.pagable_tables.specs.Core.{load_in, no_blobs}
 use Rattle.std.proofs.Common.{None, ap, inl, inr}
@@ -39,3 +40,10 @@ returns-in_ok-fetch-in-Root-clause-step g c =
 
 pub returns-in_err-known-in-Nested-clause-kept : goal.returns-in_err-known-in-Nested-clause-kept
 returns-in_err-known-in-Nested-clause-kept g c = asks-kept c.load_cached.result c.load_cached.ensures.step
+
+pub returns-in_ok-fetch-in-Root-clause-named : goal.returns-in_ok-fetch-in-Root-clause-named
+returns-in_ok-fetch-in-Root-clause-named g c =
+    let load = load_in c.in_ok-row-in-Root.row in
+    let owns : OwnsLoad (pager_core g.S.PagableStorage c.args.self.now) c.args.me c.args.load load =
+    rw (← c.self.view_is) (c.in_ok-row-in-Root.ensures.own _) in
+    rw c.in-Root.is (load, owns.stands_open, c.in_ok-fetch-in-Root.ensures.named)
