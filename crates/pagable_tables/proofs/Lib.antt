@@ -13,6 +13,7 @@ pub mod CallsKeepWhole
 pub mod OwnedByLoad
 pub mod LoadEnd
 pub mod NodesSound
+pub mod AlwaysSound
 pub mod LastHandles
 pub mod LeafRoom
 pub mod LeafLoad

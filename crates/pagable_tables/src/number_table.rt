@@ -2,7 +2,7 @@
 //! its own place, and a look-up takes two steps.
 
 ghost use Rattle.indexmap.specs.IndexMap.{get};
-ghost use Rattle.pagable_tables.specs.NumberTable.{place_at, row_by, row_in};
+ghost use Rattle.pagable_tables.specs.NumberTable.{chunk_capacity, place_at, row_by, row_in};
 ghost use Rattle.std.specs.{
   Prelude.{IsSome, None, Ok, OnOk, Option, Some, option_copied, slice_get, vec_capacity, vec_len, ℕ, [], ◌%◌, ◌&&◌},
   Prelude.{◌+◌, ◌/◌, ◌<◌, ◌==◌, ◌||◌, ◌≡◌, ◌≢◌, ◌≤◌},
@@ -50,12 +50,13 @@ fn add_places<T: Drop>(rows: &mut Vec<Option<T>>, many: usize) -> Result<(), All
     Ok(())
 }
 
-/// Removes the places behind the chunk's last row, and frees its memory if it has no row.
+/// Removes the places behind the chunk's last row of its 256, and frees its memory if it has no
+/// row.
 fn trim<T: Drop>(rows: &mut Vec<Option<T>>)
-    ensures rows { (p : ℕ) → row_in rows.new.items p ≡ row_in rows.old.items p }
-    ensures freed { ((p : ℕ) → row_in rows.old.items p ≡ None) → vec_capacity rows.new ≡ 0 }
+    ensures rows { (p : ℕ) → p < 256 → row_in rows.new.items p ≡ row_in rows.old.items p }
+    ensures freed { ((p : ℕ) → p < 256 → row_in rows.old.items p ≡ None) → vec_capacity rows.new ≡ 0 }
 {
-    let mut end = rows.len();
+    let mut end = rows.len().min(256);
     while end > 0 && rows[end - 1].is_none() {
         end -= 1;
     }
@@ -150,6 +151,8 @@ impl<T: Drop> NumberTable<T> {
         ensures value { result ≡ row_by self.old number }
         ensures here { row_by self.new number ≡ None }
         ensures others { (q : ℕ) → q ≢ number → row_by self.new q ≡ row_by self.old q }
+        ensures freed { IsSome result → ((q : ℕ) → q / 256 ≡ number / 256 → row_by self.new q ≡ None)
+            → chunk_capacity self.new number ≡ 0 }
     {
         let row = self.take(number)?;
         trim(&mut self.chunks[chunk_of(number)]);

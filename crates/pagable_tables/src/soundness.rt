@@ -1,16 +1,19 @@
 //! A check of whether all tables agree, for tests.
 
-ghost use Rattle.indexmap.specs.IndexMap.{get};
+ghost use Rattle.indexmap.specs.IndexMap.{IsUnique, get};
 ghost use Rattle.pagable_pager_spec.specs.{
   Kinds.{is_owner, is_shared, is_unpinned},
   declared.{handle_row.{HandleRow.HandleRow, Owner.Owner}, mode.Mode.Mode},
 };
 ghost use Rattle.pagable_tables.specs.{
+  Core.IsWhole,
+  Indexes.is_same,
   Nodes.{counts_at, has_value, refs_at},
   NumberTable.row_by,
   Soundness.{agree, are_counts_sound, are_handles_sound, are_nodes_sound, are_places_sound, are_references_owned},
   Soundness.{at_node, is_cache_entry_sound, is_cache_sound, is_known_to_owner, is_list_sound, is_node_sound},
   Soundness.{is_owned_once, is_row_sound, is_sound, pins_node, shares_node},
+  ValuesKept.AreKept,
   declared.place.Place.{Place, Place as Row},
 };
 ghost use Rattle.pagable_value_spec.specs.declared.{
@@ -256,7 +259,8 @@ fn is_cache_entry_sound(t: &Tables, kind: Kind, node: NodeNumber) -> bool
 
 #[tactic(auto, unfolding(crate::specs::Soundness::is_cache_sound))]
 fn is_cache_sound(t: &Tables) -> bool
-    ensures { result ≡ is_cache_sound t.now }
+    ensures exact { result ≡ is_cache_sound t.now }
+    ensures unique { IsUnique is_same t.now.cache }
 {
     t.cache.iter().all(|(known, node)| is_cache_entry_sound(t, Kind(known.0), *node))
 }
@@ -264,11 +268,12 @@ fn is_cache_sound(t: &Tables) -> bool
 /// Says whether handles, nodes and their counts, list, cache, loads, workers and values agree: each
 /// live handle has a node, and an owner that knows the handle; each node counts its handles, and
 /// has its value exactly while a handle pins it or it has no key; each value owns the handles of
-/// its references; and each cached node is of its kind. The check takes time quadratic in the size
-/// of the tables.
-#[tactic(auto, unfolding(crate::specs::Soundness::is_sound))]
+/// its references; and each cached node is of its kind. So they do in whole tables, with the values
+/// that have to be in memory. The check takes time quadratic in the size of the tables.
+#[tactic(auto, using(crate::proofs::AlwaysSound::sound), unfolding(crate::specs::Soundness::is_sound))]
 pub fn is_sound<N: Drop>(t: &Tables, values: &NodeValues<N>) -> bool
-    ensures { result ≡ is_sound t.now values.now }
+    ensures exact { result ≡ is_sound t.now values.now }
+    ensures always { IsWhole t.now → AreKept (counts_at t.now.ref_counts.nodes) (row_by values.now) → result ≡ true }
 {
     are_handles_sound(t)
         && (is_list_sound(t) && is_cache_sound(t))
