@@ -6,7 +6,7 @@ use Rattle.pagable_nodes.specs.{
   declared.either_node.EitherNode.EitherNode,
 }
 use Rattle.pagable_traits.specs.HeldValues.{Beside, holding_beside}
-use Rattle.std.specs.Int.{w64}
+use Rattle.std.specs.{Int.w64, Prelude.false}
 
 abbrev pub folder_encoding : Encoding Folder
 folder_encoding = fields (λ f. (f.name, (f.added_in, (f.readme, f.files))))

@@ -87,7 +87,7 @@ impl PagableSerialize<ProjectEnv> for Folder {
 impl<'de> PagableDeserialize<'de, ProjectEnv> for Folder {
     ghost read_causes = { folder_encoding.reads };
 
-    #[tactic(auto, using(pagable_nodes::proofs::Held::parts_hold))]
+    #[tactic(auto, using(std::proofs::lemmas::Result::err_from_is_err_and, pagable_nodes::proofs::Held::parts_hold))]
     fn pagable_deserialize<D: PagableDeserializer<ProjectEnv>>(
         alloc: Global,
         deserializer: &mut D,

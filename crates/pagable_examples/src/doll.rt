@@ -51,13 +51,15 @@ impl NodeValue<Dolls> for Doll {
         write_with_refs(&self.inner, serializer)
     }
 
-    #[tactic(auto, using(pagable_nodes::proofs::Held::parts_hold))]
+    #[tactic(auto, using(std::proofs::lemmas::Result::err_from_is_err_and, pagable_nodes::proofs::Held::parts_hold))]
     fn read<D: PagableDeserializer<Dolls>>(
         alloc: Global,
         deserializer: &mut D,
     ) -> Result<Doll, Error> {
-        let inner = PagableDeserialize::pagable_deserialize(alloc, deserializer)?;
-        Ok(Doll { inner })
+        match PagableDeserialize::pagable_deserialize(alloc, deserializer) {
+            Ok(inner) => Ok(Doll { inner }),
+            Err(e) => Err(e),
+        }
     }
 }
 

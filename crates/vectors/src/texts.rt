@@ -2,7 +2,7 @@
 //! is asked to store.
 
 ghost use Rattle.pagable_nodes.specs.Encoding.{many, one, text as text_encoding};
-ghost use Rattle.pagable_traits.specs.HeldValues.{only_references};
+ghost use Rattle.pagable_traits.specs.HeldValues.{lists_beside, only_references};
 
 use futures::task::{Context, Poll};
 use pagable::{
@@ -63,7 +63,7 @@ impl NodeValue<Texts> for String {
 impl NodeValue<Texts> for Vec<RawRef<0>> {
     ghost encoding = { many (one 0) };
 
-    ghost beside = { only_references };
+    ghost beside = { λ v. lists_beside only_references v.items };
 
     fn list_refs(&self, alloc: Global) -> Result<Vec<ArcRef>, Error> {
         references_of::<Texts, Vec<RawRef<0>>>(alloc, self)
