@@ -5,14 +5,16 @@ use Rattle.pagable_changes.proofs.{
   CellKeys.{IsQuiet, KeysGo, SetsAt, all-keys, quiet-keys, set-keys},
   FormsOverKeys.{alone, blob-reads, both-all, cell-key, each-has, first-down, first-same, first_of, has-now, key_now, ok-map, seen_in, self-equal},
 }
+use Rattle.pagable_changes.proofs.Passing.{passes}
 use Rattle.pagable_changes.specs.{
   Changes.{AllHaveKeys, FinishFails, FinishesOpenNode, FoundKeys, HasKey, OpenChildFails, OpenNodeFails, OpensNode, PagesOutChanged, PagesOutKeyless},
   Changes.{PinNodeFails, PinsLoosely, PinsNode, RecordsKey, ReleasesBoth, ReleasesPath, Stage, StoresBlob, Turn, TurnFails, Turns, Walks, all-is-stored},
-  Changes.{blob-is-refused, both-go, cell-gets-key, cell-has-key, cell-is-away, cell-is-not-pinned, cell-is-pinned, cell-is-taken, clone-is-refused, goes-down},
-  Changes.{goes-up, has-key, isnt-entered, isnt-left, isnt-taken, isnt-written, key-is-found, key-is-refused, key-was-found, no-handle, no-turn},
-  Changes.{node-is-refused, node-is-taken, none-is-open, nothing-is-begun, nothing-is-done, nothing-is-stored, nothing_found, one-goes, one-goes-first},
-  Changes.{one-more-turn, pin-is-refused, root-has-key, root-has-none, root-is-refused, root-is-walked, stage, walk-is-refused, way-is-refused, written_of},
-  Keys.{ChangedLaw, HasMerkleKeys},
+  Changes.{EndsTurns, a-turn-fails, blob-is-refused, both-go, cell-gets-key, cell-has-key, cell-is-away, cell-is-not-pinned, cell-is-pinned, cell-is-taken},
+  Changes.{clone-is-refused, goes-down, goes-up, handle-is-of-no-cell, has-key, isnt-entered, isnt-left, isnt-taken, isnt-written, key-is-found},
+  Changes.{key-is-refused, key-was-found, next-is-lost, no-handle, no-memory-for-path, no-turn, node-is-refused, node-is-taken, none-is-open},
+  Changes.{nothing-is-stored, nothing_found, one-goes, one-goes-first, one-more-turn, pin-is-refused, root-has-key, root-has-none, root-is-refused},
+  Changes.{root-is-walked, stage, turns-are-spent, walk-is-refused, way-is-too-deep, written_of},
+  Keys.{ChangedLaw, HasMerkleKeys, KeylessWrites, TurnWrites, TurnsWrite, WalkWrites, Writes},
   declared.{keys.FoundKey.FoundKey, nodes.OpenNode.OpenNode},
 }
 use Rattle.pagable_pager_spec.specs.{
@@ -43,6 +45,10 @@ use Rattle.std.proofs.{
   Common.{Err, IfOk, List, Ok, Result, Some, ap, arith, if◌then◌else◌, inl, inr, refl, subst, sym, ℕ, [], ◌<◌, ◌==◌, ◌∙◌, ◌∷◌, ◌≡◌, ◌≤◌},
   lemmas.Bool.{Decides.nat_tests, cases_Bool},
 }
+
+-- each of these types is read back
+abbrev AreReadable : {N : Type 0} → Values N → (ℕ → Type 0) → Type 0
+AreReadable v writes = (t : ℕ) → writes t → IsReadableType v.types t
 
 -- M: that each cell that had a key where the page-out began had the Merkle key of its tree
 module _ {N E : Type 0} (v : Values N) (lawful : IsLawful v) (M : Type 0) where
@@ -137,10 +143,12 @@ module _ {N E : Type 0} (v : Values N) (lawful : IsLawful v) (M : Type 0) where
 
   fails-to-enter : {s s' : PagerState N E} {trees : ℕ → Tree} {r : ArcRef} {e : Error} → OpenNodeFails v r s e s' → Stands v s trees → Went s trees s'
   fails-to-enter (isnt-taken e s' fails) at = fails-to-take fails at
-  fails-to-enter (isnt-written e c k mid s' takes lets) at = let a = takes-go takes at in went-then a (lets-go lets a.now)
+  fails-to-enter (isnt-written e c k mid s' takes why lets) at = let a = takes-go takes at in went-then a (lets-go lets a.now)
 
-  goes-nowhere : {s s' : PagerState N E} {trees : ℕ → Tree} {r : ArcRef} {e : Error} → OpenChildFails v r s e s' → Stands v s trees → Went s trees s'
-  goes-nowhere (way-is-refused e) at = went-same at
+  goes-nowhere : {s s' : PagerState N E} {trees : ℕ → Tree} {r : ArcRef} {o : OpenNode} {e : Error} → OpenChildFails v r o s e s' → Stands v s trees
+      → Went s trees s'
+  goes-nowhere (way-is-too-deep far) at = went-same at
+  goes-nowhere no-memory-for-path at = went-same at
   goes-nowhere (node-is-refused e s' fails) at = fails-to-enter fails at
 
   -- ---- what was written and found fits the trees
@@ -203,271 +211,288 @@ module _ {N E : Type 0} (v : Values N) (lawful : IsLawful v) (M : Type 0) where
     cloned = λ row live. let was = a.after.rows o.cloned.0 row live f.small in sym was.at ∙ f.cloned was.was was.live;
   }
 
-  module _ (readable : (t : ℕ) → IsReadableType v.types t) where
-    enters-fit : {s s' : PagerState N E} {trees : ℕ → Tree} {r : ArcRef} {o : OpenNode} → OpensNode v r s o s' → Stands v s trees
-        → (a : Went s trees s') × OpenFits s' a.trees' o
-    enters-fit {s} {s'} {trees} {r} {o} e at =
-        let a = takes-go e.takes at in
-        let w = e.writes in
-        let at_node = w.pin_at.found in
-        let shows = w.writes.shown.found in
-        let x = w.writes.x in
-        let rows : at_node.0 ≡ shows.0 = same_some _ _ (sym at_node.1 ∙ shows.1) in
-        let nodes : shows.0.node ≡ r.node = ap (λ (row : HandleRow). row.node) (sym rows) ∙ sym at_node.2 in
-        let has : s'.values r.node.0 ≡ Some x = ap (λ n. s'.values n.0) (sym nodes) ∙ shows.2.1 in
-        let well = a.now.well in
-        let typed = well.typed r.node.0 x has in
-        let live = given-of well.whole.handles r.node.0 typed in
-        let o_is = e.of in
-        let cloned = w.at.found in
-        let written : WroteTree v.types (ground s' a.trees') r.node.0 (written_of o.written) =
-        wrote a.now.stands well a.now.settled lawful r.node.0 (written_of o.written) (readable _)
-        (record { x = x; held = has; form = w.writes.form.form; listed = w.writes.form.listed }) in (
-          a,
-          record {
-            given = subst (λ (q : ArcRef). q.node.0 ≤ s'.core.last.node) (sym o_is) live.1;
-            wrote = subst (λ (q : ArcRef). WroteTree v.types (ground s' a.trees') q.node.0 (written_of o.written)) (sym o_is) written;
-            typed = λ q among.
-                let is = well.references r.node.0 x q has (rw w.writes.form.listed at among) in
-                same_some _ _ (sym (a.now.stands.typed q.node.0 (given-of well.whole.handles q.node.0 is.typed).0) ∙ is.typed);
-            small = rw (found-number o.cloned.0 s'.core.rows cloned.0 cloned.1) at (well.whole.handles.numbered cloned.0
-                (among-found o.cloned.0 s'.core.rows cloned.0 cloned.1)).1;
-            cloned = λ row is. ap (λ (q : HandleRow). q.node) (same_some _ _ (sym is ∙ cloned.1)) ∙ sym cloned.2 ∙ ap (λ (q : ArcRef). q.node) (sym o_is);
-          },
-        )
-
-    key-fits : {s : PagerState N E} {n : ℕ} {t : Tree} → NodeStands v s n t → (key : ℕ) → key_at s.core n ≡ OptionalDataKey.Some key
-        → ReadsTree s.core.stored v.types key t
-    key-fits (here n x own t there typed means stands fits) key set = fits key set
-    key-fits (away n key2 t none keyed2 fits) key set = fits key set
-
-    -- ---- the blob over the keys that are there reads as the node's tree
-
-    has-reads : {s : PagerState N E} {trees : ℕ → Tree} {found : FoundKeys} {r : ArcRef} {key : ℕ} → Stands v s trees → AreKeyed s trees
-        → FoundFits s trees found
-        → HasKey found s.core r key → KeyReads s trees r.node.0 key
-    has-reads {s} {trees} {r = r} {key} at keyed fits (cell-has-key key2 loose node keys) =
-        let live = rw (← node.found.2) at (row-held s.core r.handle node.found.0 node.found.1) in
+  enters-fit : {s s' : PagerState N E} {trees : ℕ → Tree} {r : ArcRef} {depth : ℕ} {o : OpenNode} → OpensNode v r depth s o s'
+      → IsReadableType v.types (type_of r.kind.0) → Stands v s trees
+      → (a : Went s trees s') × OpenFits s' a.trees' o
+  enters-fit {s} {s'} {trees} {r} {depth} {o} e readable at =
+      let a = takes-go e.takes at in
+      let w = e.writes in
+      let at_node = w.pin_at.found in
+      let shows = w.writes.shown.found in
+      let x = w.writes.x in
+      let rows : at_node.0 ≡ shows.0 = same_some _ _ (sym at_node.1 ∙ shows.1) in
+      let nodes : shows.0.node ≡ r.node = ap (λ (row : HandleRow). row.node) (sym rows) ∙ sym at_node.2 in
+      let has : s'.values r.node.0 ≡ Some x = ap (λ n. s'.values n.0) (sym nodes) ∙ shows.2.1 in
+      let well = a.now.well in
+      let typed = well.typed r.node.0 x has in
+      let live = given-of well.whole.handles r.node.0 typed in
+      let o_is = e.of in
+      let cloned = w.at.found in
+      let type_is : type_of r.kind.0 ≡ (a.trees' r.node.0).type =
+      sym w.writes.typed ∙ same_some _ _ (sym typed ∙ a.now.stands.typed r.node.0 live.0) in
+      let written : WroteTree v.types (ground s' a.trees') r.node.0 (written_of o.written) =
+      wrote a.now.stands well a.now.settled lawful r.node.0 (written_of o.written) (subst (λ t. IsReadableType v.types t) type_is readable)
+      (record { x = x; held = has; form = w.writes.form.form; listed = w.writes.form.listed }) in (
+        a,
         record {
-          given = (given-of at.well.whole.handles r.node.0 (at.stands.typed r.node.0 live)).1;
-          reads = key-fits (at.stands.stands r.node.0 live) key2 (cell-key r node keys);
-          is_key = λ m. keyed m r.node.0 key2 (cell-key r node keys);
-        }
-    has-reads at keyed fits (key-was-found k eager is) = fits _ k is
+          given = subst (λ (q : ArcRef). q.node.0 ≤ s'.core.last.node) (sym o_is) live.1;
+          wrote = subst (λ (q : ArcRef). WroteTree v.types (ground s' a.trees') q.node.0 (written_of o.written)) (sym o_is) written;
+          typed = λ q among.
+              let is = well.references r.node.0 x q has (rw w.writes.form.listed at among) in
+              same_some _ _ (sym (a.now.stands.typed q.node.0 (given-of well.whole.handles q.node.0 is.typed).0) ∙ is.typed);
+          small = rw (found-number o.cloned.0 s'.core.rows cloned.0 cloned.1) at (well.whole.handles.numbered cloned.0
+              (among-found o.cloned.0 s'.core.rows cloned.0 cloned.1)).1;
+          cloned = λ row is. ap (λ (q : HandleRow). q.node) (same_some _ _ (sym is ∙ cloned.1)) ∙ sym cloned.2 ∙ ap (λ (q : ArcRef). q.node) (sym o_is);
+        },
+      )
 
-    found-on : {s s' : PagerState N E} {trees : ℕ → Tree} (a : Went s trees s') {found : FoundKeys} → FoundFits s trees found → FoundFits s' a.trees' found
-    found-on a fits = λ n k is. key-on a (fits n k is)
+  key-fits : {s : PagerState N E} {n : ℕ} {t : Tree} → NodeStands v s n t → (key : ℕ) → key_at s.core n ≡ OptionalDataKey.Some key
+      → ReadsTree s.core.stored v.types key t
+  key-fits (here n x own t there typed means stands fits) key set = fits key set
+  key-fits (away n key2 t none keyed2 fits) key set = fits key set
 
-    -- the blob is stored
-    record Stored (s : PagerState N E) (trees : ℕ → Tree) (o : OpenNode) (key : ℕ) (mid : PagerState N E) : Type 0 where
-      pub went : Went s trees mid
-      pub fits : OpenFits mid went.trees' o
-      pub reads : KeyReads mid went.trees' o.reference.node.0 key
+  -- ---- the blob over the keys that are there reads as the node's tree
 
-    stores-fit : {s mid : PagerState N E} {trees : ℕ → Tree} {o : OpenNode} {found : FoundKeys} {key : ℕ} {keys : List ℕ}
-        → AllHaveKeys found s.core (written_of o.written).references keys
-        → StoresBlob v s (blob_of (written_of o.written).bytes keys) (Ok key) mid → Stands v s trees → AreKeyed s trees → OpenFits s trees o
-        → FoundFits s trees found → Stored s trees o key mid
-    stores-fit {s} {mid} {trees} {o} {found} {key} {keys} have stores at keyed fits founds =
-        let blob = blob_of (written_of o.written).bytes keys in
-        let a = quietly (Call.Store blob) (Reply.Stored (Ok key)) tt tt stores (λ d. d) tt at in
-        let f = open-on a fits in
-        let is_stored : mid.core.stored key ≡ Some blob = stores.step.stores.1.adds.each key
-        ∙ ap (λ b. if b then Some blob else s.core.stored key) (self-equal key) in
-        let each : (r : ArcRef) → Among (written_of o.written).references r
-        → ((a.trees' r.node.0).type ≡ type_of r.kind.0) × ReadsTree mid.core.stored v.types (key_now found s.core r) (a.trees' r.node.0) = λ r among.
-        let h = each-has have r among in (
-          f.typed r among,
-          rw (← (has-now h.1)) at (key-on a (has-reads at keyed founds h.1)).reads,
-        ) in
-        let kids : M → KeysOf v.hash v.types (kids_of a.trees' (written_of o.written).references) keys = λ m.
-        all-keys a.trees' have (λ r q among has. rw (← f.typed r among) ((key-on a (has-reads at keyed founds has)).is_key m)) in
-        let is_key : M → KeyOf v.hash v.types (a.trees' o.reference.node.0) key = λ m.
-        rw (← stores.step.stores.0) at (key-of (a.trees' o.reference.node.0) f.wrote.shape (written_of o.written).bytes
-        (kids_of a.trees' (written_of o.written).references) keys f.wrote.is
-        (tree-form f.wrote) (kids m)) in
-        record { went = a; fits = f; reads = record { given = f.given; reads = blob-reads f.wrote have each is_stored; is_key = is_key } }
+  has-reads : {s : PagerState N E} {trees : ℕ → Tree} {found : FoundKeys} {r : ArcRef} {key : ℕ} → Stands v s trees → AreKeyed s trees
+      → FoundFits s trees found
+      → HasKey found s.core r key → KeyReads s trees r.node.0 key
+  has-reads {s} {trees} {r = r} {key} at keyed fits (cell-has-key key2 loose node keys) =
+      let live = rw (← node.found.2) at (row-held s.core r.handle node.found.0 node.found.1) in
+      record {
+        given = (given-of at.well.whole.handles r.node.0 (at.stands.typed r.node.0 live)).1;
+        reads = key-fits (at.stands.stands r.node.0 live) key2 (cell-key r node keys);
+        is_key = λ m. keyed m r.node.0 key2 (cell-key r node keys);
+      }
+  has-reads at keyed fits (key-was-found k eager is) = fits _ k is
 
-    -- the key that is set through the node's handle is its tree's
-    set-is-key : {s : PagerState N E} {trees : ℕ → Tree} {o : OpenNode} {key : ℕ} → OpenFits s trees o → KeyReads s trees o.reference.node.0 key
-        → M → (n q : ℕ) → SetsAt s.core o.cloned key n q → KeyOf v.hash v.types (trees n) q
-    set-is-key {trees = trees} {o} f k m n q (row, live, at_node, is) =
-        let node : n ≡ o.reference.node.0 = at_node ∙ ap (λ (x : NodeNumber). x.0) (f.cloned row live) in
-        rw (node, is) (k.is_key m)
+  found-on : {s s' : PagerState N E} {trees : ℕ → Tree} (a : Went s trees s') {found : FoundKeys} → FoundFits s trees found → FoundFits s' a.trees' found
+  found-on a fits = λ n k is. key-on a (fits n k is)
 
-    -- its key is set, or found from now on
-    record Set (s : PagerState N E) (trees : ℕ → Tree) (found' : FoundKeys) (s' : PagerState N E) : Type 0 where
-      pub went : Went s trees s'
-      pub found : FoundFits s' went.trees' found'
+  -- the blob is stored
+  record Stored (s : PagerState N E) (trees : ℕ → Tree) (o : OpenNode) (key : ℕ) (mid : PagerState N E) : Type 0 where
+    pub went : Went s trees mid
+    pub fits : OpenFits mid went.trees' o
+    pub reads : KeyReads mid went.trees' o.reference.node.0 key
 
-    sets-fit : {s s' : PagerState N E} {trees : ℕ → Tree} {o : OpenNode} {found found' : FoundKeys} {key : ℕ} → RecordsKey v found o key s found' s'
-        → Stands v s trees → OpenFits s trees o
-        → FoundFits s trees found → KeyReads s trees o.reference.node.0 key → Set s trees found' s'
-    sets-fit {s} {trees = trees} {o} {key = key} (cell-gets-key found' s' loose sets same) at f founds k =
-        let b = by-call (Call.SetDataKey o.cloned key) (Reply.Done (Ok tt)) (λ c feels goes. set-keys o.cloned key (refl, refl) feels goes)
-        (set-is-key f k) tt sets (λ d. d)
-        (λ row owns. rw (← (f.cloned row owns.live)) at k.reads) at in
-        record { went = b; found = λ n x is. key-on b (founds n x (sym (same n) ∙ is)) }
-    sets-fit {s} {trees = trees} {o} {key = key} (key-is-found x found' eager is there others) at f founds k = record {
-      went = went-same at;
-      found = λ n y was. elim (cases_Bool (n == o.reference.node.0)) [
-        | inl e ↦
-            let same = same-number n o.reference.node.0 e in
-            let y_is : y ≡ x = same_some _ _ (sym was ∙ ap found' same ∙ there) in
-            let keys : key ≡ y.key = sym is ∙ ap (λ (z : FoundKey). z.key) (sym y_is) in
-            rw (← same) at (rw keys at k)
-        | inr e ↦ founds n y (sym (others n (λ same. absurd (grind (arith, nat_tests)))) ∙ was)
-      ];
-    }
+  stores-fit : {s mid : PagerState N E} {trees : ℕ → Tree} {o : OpenNode} {found : FoundKeys} {key : ℕ} {keys : List ℕ}
+      → AllHaveKeys found s.core (written_of o.written).references keys
+      → StoresBlob v s (blob_of (written_of o.written).bytes keys) (Ok key) mid → Stands v s trees → AreKeyed s trees → OpenFits s trees o
+      → FoundFits s trees found → Stored s trees o key mid
+  stores-fit {s} {mid} {trees} {o} {found} {key} {keys} have stores at keyed fits founds =
+      let blob = blob_of (written_of o.written).bytes keys in
+      let a = quietly (Call.Store blob) (Reply.Stored (Ok key)) tt tt stores (λ d. d) tt at in
+      let f = open-on a fits in
+      let is_stored : mid.core.stored key ≡ Some blob = stores.step.stores.1.adds.each key
+      ∙ ap (λ b. if b then Some blob else s.core.stored key) (self-equal key) in
+      let each : (r : ArcRef) → Among (written_of o.written).references r
+      → ((a.trees' r.node.0).type ≡ type_of r.kind.0) × ReadsTree mid.core.stored v.types (key_now found s.core r) (a.trees' r.node.0) = λ r among.
+      let h = each-has have r among in (
+        f.typed r among,
+        rw (← (has-now h.1)) at (key-on a (has-reads at keyed founds h.1)).reads,
+      ) in
+      let kids : M → KeysOf v.hash v.types (kids_of a.trees' (written_of o.written).references) keys = λ m.
+      all-keys a.trees' have (λ r q among has. rw (← f.typed r among) ((key-on a (has-reads at keyed founds has)).is_key m)) in
+      let is_key : M → KeyOf v.hash v.types (a.trees' o.reference.node.0) key = λ m.
+      rw (← stores.step.stores.0) at (key-of (a.trees' o.reference.node.0) f.wrote.shape (written_of o.written).bytes
+      (kids_of a.trees' (written_of o.written).references) keys f.wrote.is
+      (tree-form f.wrote) (kids m)) in
+      record { went = a; fits = f; reads = record { given = f.given; reads = blob-reads f.wrote have each is_stored; is_key = is_key } }
 
-    record Left (s : PagerState N E) (trees : ℕ → Tree) (o : OpenNode) (key : ℕ) (found' : FoundKeys) (s' : PagerState N E) : Type 0 where
-      pub went : Went s trees s'
-      pub found : FoundFits s' went.trees' found'
-      pub reads : KeyReads s' went.trees' o.reference.node.0 key
+  -- the key that is set through the node's handle is its tree's
+  set-is-key : {s : PagerState N E} {trees : ℕ → Tree} {o : OpenNode} {key : ℕ} → OpenFits s trees o → KeyReads s trees o.reference.node.0 key
+      → M → (n q : ℕ) → SetsAt s.core o.cloned key n q → KeyOf v.hash v.types (trees n) q
+  set-is-key {trees = trees} {o} f k m n q (row, live, at_node, is) =
+      let node : n ≡ o.reference.node.0 = at_node ∙ ap (λ (x : NodeNumber). x.0) (f.cloned row live) in
+      rw (node, is) (k.is_key m)
 
-    leaves-fit : {s s' : PagerState N E} {trees : ℕ → Tree} {o : OpenNode} {found found' : FoundKeys} {key : ℕ} → FinishesOpenNode v found s o key found' s'
-        → Stands v s trees → AreKeyed s trees
-        → OpenFits s trees o → FoundFits s trees found → Left s trees o key found' s'
-    leaves-fit l at keyed fits founds =
-        let a = stores-fit l.have l.stores at keyed fits founds in
-        let b = sets-fit l.sets a.went.now a.fits (found-on a.went founds) a.reads in
-        let d = lets-go l.lets b.went.now in
-        record { went = went-then a.went (went-then b.went d); found = found-on d b.found; reads = key-on d (key-on b.went a.reads) }
+  -- its key is set, or found from now on
+  record Set (s : PagerState N E) (trees : ℕ → Tree) (found' : FoundKeys) (s' : PagerState N E) : Type 0 where
+    pub went : Went s trees s'
+    pub found : FoundFits s' went.trees' found'
 
-    finish_open_node-fails : {s s' : PagerState N E} {trees : ℕ → Tree} {o : OpenNode} {found : FoundKeys} {e : Error} → FinishFails v found s o e s'
-        → Stands v s trees
-        → AreKeyed s trees
-        → OpenFits s trees o → FoundFits s trees found → Went s trees s'
-    finish_open_node-fails (nothing-is-stored e) at keyed fits founds = went-same at
-    finish_open_node-fails (blob-is-refused e keys s' have stores) at keyed fits founds =
-        quietly (Call.Store _) (Reply.Stored (Err e)) tt tt stores (λ d. d) tt at
-    finish_open_node-fails {o = o} (key-is-refused e key keys mid s' have stores unset) at keyed fits founds =
-        let a = stores-fit have stores at keyed fits founds in
-        let asks = λ (row : HandleRow) (owns : Owns mid.core Owner.Caller o.cloned is_loose row).
-        subst (λ n. ReadsTree mid.core.stored v.types key (a.went.trees' n.0)) (sym (a.fits.cloned row owns.live)) a.reads.reads in
-        went-then a.went (by-call (Call.SetDataKey o.cloned key) (Reply.Done (Err e)) (λ c feels goes. set-keys o.cloned key (refl, refl) feels goes)
-        (set-is-key a.fits a.reads) tt unset.refused (λ d. d) asks a.went.now)
+  sets-fit : {s s' : PagerState N E} {trees : ℕ → Tree} {o : OpenNode} {found found' : FoundKeys} {known : FoundKey} → RecordsKey v found o known s found' s'
+      → Stands v s trees → OpenFits s trees o
+      → FoundFits s trees found → KeyReads s trees o.reference.node.0 known.key → Set s trees found' s'
+  sets-fit {s} {trees = trees} {o} {known = known} (cell-gets-key found' s' loose sets same) at f founds k =
+      let b = by-call (Call.SetDataKey o.cloned known.key) (Reply.Done (Ok tt)) (λ c feels goes. set-keys o.cloned known.key (refl, refl) feels goes)
+      (set-is-key f k) tt sets (λ d. d)
+      (λ row owns. rw (← (f.cloned row owns.live)) at k.reads) at in
+      record { went = b; found = λ n x is. key-on b (founds n x (sym (same n) ∙ is)) }
+  sets-fit {s} {trees = trees} {o} {known = known} (key-is-found found' eager there others) at f founds k = record {
+    went = went-same at;
+    found = λ n y was. elim (cases_Bool (n == o.reference.node.0)) [
+      | inl e ↦
+          let same = same-number n o.reference.node.0 e in
+          let y_is : y ≡ known = same_some _ _ (sym was ∙ ap found' same ∙ there) in
+          let keys : known.key ≡ y.key = ap (λ (z : FoundKey). z.key) (sym y_is) in
+          rw (← same) at (rw keys at k)
+      | inr e ↦ founds n y (sym (others n (λ same. absurd (grind (arith, nat_tests)))) ∙ was)
+    ];
+  }
 
-    -- ---- turn by turn
+  record Left (s : PagerState N E) (trees : ℕ → Tree) (o : OpenNode) (key : ℕ) (found' : FoundKeys) (s' : PagerState N E) : Type 0 where
+    pub went : Went s trees s'
+    pub found : FoundFits s' went.trees' found'
+    pub reads : KeyReads s' went.trees' o.reference.node.0 key
 
-    -- what stands open, what was found and the pager fit the trees, and the walk began at this reference
-    record Fits (a : Stage N E) (trees : ℕ → Tree) (r : ArcRef) : Type 0 where
-      pub at : Stands v a.pager trees
-      pub keyed : AreKeyed a.pager trees
-      pub node : OpenFits a.pager trees a.node
-      pub path : (o : OpenNode) → Among a.path o → OpenFits a.pager trees o
-      pub found : FoundFits a.pager trees a.found
-      pub first : (first_of a.path a.node).reference ≡ r
+  leaves-fit : {s s' : PagerState N E} {trees : ℕ → Tree} {o : OpenNode} {found found' : FoundKeys} {key : ℕ} → FinishesOpenNode v found s o key found' s'
+      → Stands v s trees → AreKeyed s trees
+      → OpenFits s trees o → FoundFits s trees found → Left s trees o key found' s'
+  leaves-fit l at keyed fits founds =
+      let a = stores-fit l.have l.stores at keyed fits founds in
+      let b = sets-fit l.sets a.went.now a.fits (found-on a.went founds) a.reads in
+      let d = lets-go l.lets b.went.now in
+      record { went = went-then a.went (went-then b.went d); found = found-on d b.found; reads = key-on d (key-on b.went a.reads) }
 
-    looks-further : {s : PagerState N E} {trees : ℕ → Tree} {o : OpenNode} (next : ℕ) → OpenFits s trees o → OpenFits s trees (record o { keyed = next })
-    looks-further next f = record { given = f.given; wrote = f.wrote; typed = f.typed; small = f.small; cloned = f.cloned }
+  finish_open_node-fails : {s s' : PagerState N E} {trees : ℕ → Tree} {o : OpenNode} {found : FoundKeys} {e : Error} → FinishFails v found s o e s'
+      → Stands v s trees
+      → AreKeyed s trees
+      → OpenFits s trees o → FoundFits s trees found → Went s trees s'
+  finish_open_node-fails (nothing-is-stored e why) at keyed fits founds = went-same at
+  finish_open_node-fails (blob-is-refused e keys s' have stores) at keyed fits founds =
+      quietly (Call.Store _) (Reply.Stored (Err e)) tt tt stores (λ d. d) tt at
+  finish_open_node-fails {o = o} (key-is-refused e key keys mid s' have stores unset) at keyed fits founds =
+      let a = stores-fit have stores at keyed fits founds in
+      let asks = λ (row : HandleRow) (owns : Owns mid.core Owner.Caller o.cloned is_loose row).
+      subst (λ n. ReadsTree mid.core.stored v.types key (a.went.trees' n.0)) (sym (a.fits.cloned row owns.live)) a.reads.reads in
+      went-then a.went (by-call (Call.SetDataKey o.cloned key) (Reply.Done (Err e)) (λ c feels goes. set-keys o.cloned key (refl, refl) feels goes)
+      (set-is-key a.fits a.reads) tt unset.refused (λ d. d) asks a.went.now)
 
-    turn-fits : {a b : Stage N E} {trees : ℕ → Tree} {r : ArcRef} → Turn v a b → Fits a trees r → (w : Went a.pager trees b.pager) × Fits b w.trees' r
-    turn-fits {a} {b} {trees} {r} (has-key b2 next is) f =
-        rw is (
-          went-same f.at,
-          record {
-            at = f.at;
-            keyed = f.keyed;
-            node = looks-further next f.node;
-            path = f.path;
-            found = f.found;
-            first = first-same a.path a.node next ∙ f.first;
-          },
-        )
-    turn-fits {a} {b} {trees} {r} (goes-down b2 q among none waits same enters) f =
-        let (w, node) = enters-fit enters f.at in (
-          w,
-          record {
-            at = w.now;
-            keyed = w.keys f.keyed;
-            node = node;
-            path = rw waits (both-all a.path (a.node ∷ []) (λ o in_it. open-on w (f.path o in_it))
-                (alone (OpenFits b.pager w.trees') a.node (open-on w f.node)));
-            found = subst (FoundFits b.pager w.trees') (sym same) (found-on w f.found);
-            first = ap (λ p. (first_of p b.node).reference) waits ∙ ap (λ (o : OpenNode). o.reference) (first-down a.path a.node b.node) ∙ f.first;
-          },
-        )
-    turn-fits {a} {b} {trees} {r} (goes-up b2 key waits leaves) f =
-        let l = leaves-fit leaves f.at f.keyed f.node f.found in
-        let path = rw waits at f.path in (
-          l.went,
-          record {
-            at = l.went.now;
-            keyed = l.went.keys f.keyed;
-            node = open-on l.went (path b.node (among-right b.path (b.node ∷ []) 0 b.node refl));
-            path = λ o among. open-on l.went (path o (among-left b.path (b.node ∷ []) among.0 o among.1));
-            found = l.found;
-            first = sym (ap (λ (o : OpenNode). o.reference) (first-down b.path b.node a.node)) ∙ ap (λ p. (first_of p a.node).reference) (sym waits) ∙ f.first;
-          },
-        )
+  -- ---- turn by turn
 
-    turns-fit : {a b : Stage N E} {trees : ℕ → Tree} {r : ArcRef} → Turns v a b → Fits a trees r → (w : Went a.pager trees b.pager) × Fits b w.trees' r
-    turns-fit (no-turn a) f = (went-same f.at, f)
-    turns-fit (one-more-turn a b c more last) f =
-        let (w, g) = turns-fit more f in
-        let (u, h) = turn-fits last g in (went-then w u, h)
+  -- what stands open, what was found and the pager fit the trees, and the walk began at this reference
+  record Fits (a : Stage N E) (trees : ℕ → Tree) (r : ArcRef) : Type 0 where
+    pub at : Stands v a.pager trees
+    pub keyed : AreKeyed a.pager trees
+    pub node : OpenFits a.pager trees a.node
+    pub path : (o : OpenNode) → Among a.path o → OpenFits a.pager trees o
+    pub found : FoundFits a.pager trees a.found
+    pub first : (first_of a.path a.node).reference ≡ r
 
-    turn-fails : {a : Stage N E} {s' : PagerState N E} {trees : ℕ → Tree} {r : ArcRef} {e : Error} → TurnFails v a e s' → Fits a trees r → Went a.pager trees s'
-    turn-fails (nothing-is-done e) f = went-same f.at
-    turn-fails (isnt-entered e q s' among none fails) f = goes-nowhere fails f.at
-    turn-fails (isnt-left e s' fails) f = finish_open_node-fails fails f.at f.keyed f.node f.found
+  looks-further : {s : PagerState N E} {trees : ℕ → Tree} {o : OpenNode} (next : ℕ) → OpenFits s trees o → OpenFits s trees (record o { keyed = next })
+  looks-further next f = record { given = f.given; wrote = f.wrote; typed = f.typed; small = f.small; cloned = f.cloned }
 
-    gives-up : {path : List OpenNode} {s s' : PagerState N E} {trees : ℕ → Tree} → ReleasesPath v path s s' → Stands v s trees → Went s trees s'
-    gives-up (none-is-open s) at = went-same at
-    gives-up (one-goes-first path o s mid s' lets more) at = let a = lets-go lets at in went-then a (gives-up more a.now)
+  turn-fits : {a b : Stage N E} {trees : ℕ → Tree} {r : ArcRef} (turn : Turn v a b) → AreReadable v (TurnWrites turn) → Fits a trees r
+      → (w : Went a.pager trees b.pager) × Fits b w.trees' r
+  turn-fits {a} {b} {trees} {r} (has-key b2 q key next at has one is) readable f =
+      rw is (
+        went-same f.at,
+        record {
+          at = f.at;
+          keyed = f.keyed;
+          node = looks-further next f.node;
+          path = f.path;
+          found = f.found;
+          first = first-same a.path a.node next ∙ f.first;
+        },
+      )
+  turn-fits {a} {b} {trees} {r} (goes-down b2 q depth at none leads waits same enters) readable f =
+      let (w, node) = enters-fit enters (readable (type_of q.kind.0) refl) f.at in (
+        w,
+        record {
+          at = w.now;
+          keyed = w.keys f.keyed;
+          node = node;
+          path = rw waits (both-all a.path (a.node ∷ []) (λ o in_it. open-on w (f.path o in_it))
+              (alone (OpenFits b.pager w.trees') a.node (open-on w f.node)));
+          found = subst (FoundFits b.pager w.trees') (sym same) (found-on w f.found);
+          first = ap (λ p. (first_of p b.node).reference) waits ∙ ap (λ (o : OpenNode). o.reference) (first-down a.path a.node b.node) ∙ f.first;
+        },
+      )
+  turn-fits {a} {b} {trees} {r} (goes-up b2 key waits leaves) readable f =
+      let l = leaves-fit leaves f.at f.keyed f.node f.found in
+      let path = rw waits at f.path in (
+        l.went,
+        record {
+          at = l.went.now;
+          keyed = l.went.keys f.keyed;
+          node = open-on l.went (path b.node (among-right b.path (b.node ∷ []) 0 b.node refl));
+          path = λ o among. open-on l.went (path o (among-left b.path (b.node ∷ []) among.0 o among.1));
+          found = l.found;
+          first = sym (ap (λ (o : OpenNode). o.reference) (first-down b.path b.node a.node)) ∙ ap (λ p. (first_of p a.node).reference) (sym waits) ∙ f.first;
+        },
+      )
 
-    begun : {s : PagerState N E} {trees : ℕ → Tree} {first : OpenNode} → Stands v s trees → AreKeyed s trees → OpenFits s trees first
-        → Fits (stage [] first nothing_found s) trees first.reference
-    begun at keyed fits = record { at = at; keyed = keyed; node = fits; path = λ o among. absurd cc; found = λ n k is. absurd cc; first = refl }
+  turns-fit : {a b : Stage N E} {trees : ℕ → Tree} {r : ArcRef} (turns : Turns v a b) → AreReadable v (TurnsWrite turns) → Fits a trees r
+      → (w : Went a.pager trees b.pager) × Fits b w.trees' r
+  unfolding TurnsWrite
+  turns-fit (no-turn a) readable f = (went-same f.at, f)
+  turns-fit (one-more-turn a b c more last) readable f =
+      let (w, g) = turns-fit more (λ t writes. readable t (inl writes)) f in
+      let (u, h) = turn-fits last (λ t writes. readable t (inr writes)) g in (went-then w u, h)
 
-    walks-fit : {s s' : PagerState N E} {trees : ℕ → Tree} {first : OpenNode} {answer : Result ℕ Error} → Walks v first s answer s' → Stands v s trees
-        → AreKeyed s trees → OpenFits s trees first
-        → (w : Went s trees s') × IfOk answer (λ key. KeyReads s' w.trees' first.reference.node.0 key)
-    walks-fit {first = first} (all-is-stored a b key turns none leaves) at keyed fits =
-        let (w, g) = turns-fit turns (begun at keyed fits) in
-        let l = leaves-fit leaves g.at g.keyed g.node g.found in
-        let is : a.node.reference ≡ first.reference = sym (ap (λ p. (first_of p a.node).reference) none) ∙ g.first in
-        (went-then w l.went, subst (λ (q : ArcRef). KeyReads b.pager l.went.trees' q.node.0 key) is l.reads)
-    walks-fit (walk-is-refused a e mid low s' turns fails lets gives) at keyed fits =
-        let (w, g) = turns-fit turns (begun at keyed fits) in
-        let t = turn-fails fails g in
-        let u = lets-go lets t.now in
-        (went-then w (went-then t (went-then u (gives-up gives u.now))), tt)
+  turn-fails : {a : Stage N E} {s' : PagerState N E} {trees : ℕ → Tree} {r : ArcRef} {e : Error} → TurnFails v a e s' → Fits a trees r → Went a.pager trees s'
+  turn-fails (next-is-lost e q at vain) f = went-same f.at
+  turn-fails (isnt-entered e q s' at none fails) f = goes-nowhere fails f.at
+  turn-fails (isnt-left e s' fails) f = finish_open_node-fails fails f.at f.keyed f.node f.found
 
-    keyless-fits : {s s' : PagerState N E} {trees : ℕ → Tree} {h : HandleNumber} {r : Result ℕ Error} (row : HandleRow) → PagesOutKeyless v s h r s'
-        → Stands v s trees → AreKeyed s trees
-        → row_at s.core h ≡ Some row → (w : Went s trees s') × IfOk r (λ key. KeyReads s' w.trees' row.node.0 key)
-    keyless-fits row (nothing-is-begun e) at keyed live = (went-same at, tt)
-    keyless-fits row (root-is-refused q e s' root fails) at keyed live = (fails-to-enter fails at, tt)
-    keyless-fits {s} {s'} row (root-is-walked q first answer mid s2 root enters walks) at keyed live =
-        let (w, fits) = enters-fit enters at in
-        let (u, reads) = walks-fit walks w.now (w.keys keyed) fits in
-        let rows : root.at.found.0 ≡ row = same_some _ _ (sym root.at.found.1 ∙ live) in
-        let nodes : first.reference.node ≡ row.node = ap (λ (x : ArcRef). x.node) enters.of ∙ root.at.found.2 ∙ ap (λ (x : HandleRow). x.node) rows in
-        (went-then w u, subst (λ n. IfOk answer (λ key. KeyReads s' u.trees' n.0 key)) nodes reads)
+  turns-end : {a : Stage N E} {count : ℕ} {s' : PagerState N E} {trees : ℕ → Tree} {r : ArcRef} {e : Error} → EndsTurns v a count e s' → Fits a trees r
+      → Went a.pager trees s'
+  turns-end (a-turn-fails e s' fails) f = turn-fails fails f
+  turns-end (turns-are-spent spent) f = went-same f.at
 
-    pages-fit : {s s' : PagerState N E} {trees : ℕ → Tree} {h : HandleNumber} {r : Result ℕ Error} (row : HandleRow) → PagesOutChanged v s h r s'
-        → Stands v s trees → AreKeyed s trees
-        → row_at s.core h ≡ Some row → (w : Went s trees s') × IfOk r (λ key. KeyReads s' w.trees' row.node.0 key)
-    pages-fit row (no-handle e keys) at keyed live = (went-same at, tt)
-    pages-fit {s} {h = h} row (root-has-key key keys) at keyed live =
-        let rows : keys.found.0 ≡ row = same_some _ _ (sym keys.found.1 ∙ live) in
-        let set : key_at s.core row.node.0 ≡ OptionalDataKey.Some key = ap (λ (q : HandleRow). key_at s.core q.node.0) (sym rows) ∙ sym keys.found.2 in
-        let held = row-held s.core h row live in (
-          went-same at,
-          record {
-            given = (given-of at.well.whole.handles row.node.0 (at.stands.typed row.node.0 held)).1;
-            reads = key-fits (at.stands.stands row.node.0 held) key set;
-            is_key = λ m. keyed m row.node.0 key set;
-          },
-        )
-    pages-fit row (root-has-none answer s' keys pages) at keyed live = keyless-fits row pages at keyed live
+  gives-up : {path : List OpenNode} {s s' : PagerState N E} {trees : ℕ → Tree} → ReleasesPath v path s s' → Stands v s trees → Went s trees s'
+  gives-up (none-is-open s) at = went-same at
+  gives-up (one-goes-first path o s mid s' lets more) at = let a = lets-go lets at in went-then a (gives-up more a.now)
+
+  begun : {s : PagerState N E} {trees : ℕ → Tree} {first : OpenNode} → Stands v s trees → AreKeyed s trees → OpenFits s trees first
+      → Fits (stage [] first nothing_found s) trees first.reference
+  begun at keyed fits = record { at = at; keyed = keyed; node = fits; path = λ o among. absurd cc; found = λ n k is. absurd cc; first = refl }
+
+  walks-fit : {s s' : PagerState N E} {trees : ℕ → Tree} {first : OpenNode} {answer : Result ℕ Error} (walk : Walks v first s answer s')
+      → AreReadable v (WalkWrites walk) → Stands v s trees → AreKeyed s trees → OpenFits s trees first
+      → (w : Went s trees s') × IfOk answer (λ key. KeyReads s' w.trees' first.reference.node.0 key)
+  walks-fit {first = first} (all-is-stored a b key turns none leaves) readable at keyed fits =
+      let (w, g) = turns-fit turns readable (begun at keyed fits) in
+      let l = leaves-fit leaves g.at g.keyed g.node g.found in
+      let is : a.node.reference ≡ first.reference = sym (ap (λ p. (first_of p a.node).reference) none) ∙ g.first in
+      (went-then w l.went, subst (λ (q : ArcRef). KeyReads b.pager l.went.trees' q.node.0 key) is l.reads)
+  walks-fit (walk-is-refused a e mid low s' turns fails lets gives) readable at keyed fits =
+      let (w, g) = turns-fit turns readable (begun at keyed fits) in
+      let t = turns-end fails g in
+      let u = lets-go lets t.now in
+      (went-then w (went-then t (went-then u (gives-up gives u.now))), tt)
+
+  keyless-fits : {s s' : PagerState N E} {trees : ℕ → Tree} {h : HandleNumber} {r : Result ℕ Error} (row : HandleRow) (run : PagesOutKeyless v s h r s')
+      → AreReadable v (KeylessWrites run) → Stands v s trees → AreKeyed s trees
+      → row_at s.core h ≡ Some row → (w : Went s trees s') × IfOk r (λ key. KeyReads s' w.trees' row.node.0 key)
+  keyless-fits row (handle-is-of-no-cell e why) readable at keyed live = (went-same at, tt)
+  keyless-fits row (root-is-refused q e s' root fails) readable at keyed live = (fails-to-enter fails at, tt)
+  keyless-fits {s} {s'} row (root-is-walked q first answer mid s2 root enters walks) readable at keyed live =
+      let (w, fits) = enters-fit enters (readable (type_of q.kind.0) (inl refl)) at in
+      let (u, reads) = walks-fit walks (λ t writes. readable t (inr writes)) w.now (w.keys keyed) fits in
+      let rows : root.at.found.0 ≡ row = same_some _ _ (sym root.at.found.1 ∙ live) in
+      let nodes : first.reference.node ≡ row.node = ap (λ (x : ArcRef). x.node) enters.of ∙ root.at.found.2 ∙ ap (λ (x : HandleRow). x.node) rows in
+      (went-then w u, subst (λ n. IfOk answer (λ key. KeyReads s' u.trees' n.0 key)) nodes reads)
+
+  pages-fit : {s s' : PagerState N E} {trees : ℕ → Tree} {h : HandleNumber} {r : Result ℕ Error} (row : HandleRow) (run : PagesOutChanged v s h r s')
+      → AreReadable v (Writes run) → Stands v s trees → AreKeyed s trees
+      → row_at s.core h ≡ Some row → (w : Went s trees s') × IfOk r (λ key. KeyReads s' w.trees' row.node.0 key)
+  pages-fit row (no-handle e keys) readable at keyed live = (went-same at, tt)
+  pages-fit {s} {h = h} row (root-has-key key keys) readable at keyed live =
+      let rows : keys.found.0 ≡ row = same_some _ _ (sym keys.found.1 ∙ live) in
+      let set : key_at s.core row.node.0 ≡ OptionalDataKey.Some key = ap (λ (q : HandleRow). key_at s.core q.node.0) (sym rows) ∙ sym keys.found.2 in
+      let held = row-held s.core h row live in (
+        went-same at,
+        record {
+          given = (given-of at.well.whole.handles row.node.0 (at.stands.typed row.node.0 held)).1;
+          reads = key-fits (at.stands.stands row.node.0 held) key set;
+          is_key = λ m. keyed m row.node.0 key set;
+        },
+      )
+  pages-fit row (root-has-none answer s' keys pages) readable at keyed live = keyless-fits row pages readable at keyed live
+
+  -- the same of any handle
+  any-fits : {s s' : PagerState N E} {trees : ℕ → Tree} {h : HandleNumber} {r : Result ℕ Error} (run : PagesOutChanged v s h r s')
+      → AreReadable v (Writes run) → Stands v s trees → AreKeyed s trees → Went s trees s'
+  any-fits (no-handle e keys) readable at keyed = went-same at
+  any-fits (root-has-key key keys) readable at keyed = went-same at
+  any-fits (root-has-none answer s' keys pages) readable at keyed = (keyless-fits keys.found.0 pages readable at keyed keys.found.1).0
 
 pub changed_law : {N : Type 0} (E : Type 0) (v : Values N) → ChangedLaw E v
-changed_law E v s s' h r run well lawful = record {
-  reads = λ nobody settled readable row trees stands live.
-      let (w, reads) = pages-fit v lawful (HasMerkleKeys v s trees) readable row run
+changed_law E v s s' h r well lawful = record {
+  reads = λ run readable nobody settled row trees stands live.
+      let (w, reads) = pages-fit v lawful (HasMerkleKeys v s trees) row run readable
       (record { well = well; nobody = nobody; settled = settled; stands = stands }) (λ m. m) live in
       record {
         trees' = w.trees';
@@ -476,5 +501,22 @@ changed_law E v s s' h r run well lawful = record {
         reads = ok-map r (λ key k. k.reads) reads;
         keys = w.keys (λ m. m);
         is_key = λ m. ok-map r (λ key k. k.is_key m) reads;
+      };
+  operates = λ run readable.
+      let p = passes v run well in
+      record {
+        moves = p.moves;
+        whole = p.whole;
+        stay = λ nobody settled trees stands.
+            let w = any-fits v lawful ⊥ run readable (record { well = well; nobody = nobody; settled = settled; stands = stands }) (λ m. absurd m) in
+            record {
+              trees' = w.trees';
+              same = w.after.same;
+              stands = w.after.stands;
+              nobody = w.now.nobody;
+              nodes = w.after.nodes;
+              handles = w.after.handles;
+              rows = w.after.rows;
+            };
       };
 }

@@ -2,3 +2,4 @@ mod CellKeys
 mod Changing
 mod FormsOverKeys
 mod Kept
+mod Passing

@@ -2,13 +2,13 @@
 //! states that the pager's invariant holds.
 
 ghost use Rattle.pagable_changes.specs.{
-  Changes.{Clones, Loosens, Pins, Releases, ReleasesBoth, SetsKey, StoresBlob},
+  Changes.{Clones, IsElsewhere, Loosens, Pins, Releases, ReleasesBoth, SetsKey, StoresBlob},
   Keeping.KeepsStorage,
 };
 ghost use Rattle.pagable_core.specs.Data.{blob_of};
 ghost use Rattle.pagable_pager.specs.View.{Between, BetweenIfHonest, pager_core};
 ghost use Rattle.pagable_pager_spec.specs.Calls.{NodeCall};
-ghost use Rattle.std.specs.Prelude.{IsTrue, Ok, true, ◌≡◌};
+ghost use Rattle.std.specs.Prelude.{IsTrue, Ok, false, true, ◌≡◌};
 
 use pagable_codec::{Env, NodeSet};
 use pagable_core::{PagableData, PagableStorage};
@@ -23,7 +23,8 @@ pub(crate) fn is_handle_of<E: Env<Node: NodeSet<E>>, S: PagableStorage<E>>(
     handle: HandleNumber,
     node: NodeNumber,
 ) -> bool
-    ensures { result ≡ true → NodeCall (pager_core S.PagableStorage pager.now) handle (Ok node) }
+    ensures there { result ≡ true → NodeCall (pager_core S.PagableStorage pager.now) handle (Ok node) }
+    ensures elsewhere { result ≡ false → IsElsewhere (pager_core S.PagableStorage pager.now) handle node }
 {
     match pager.node_of(handle) {
         Ok(found) => found.0 == node.0,

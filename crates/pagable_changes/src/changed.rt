@@ -1,11 +1,11 @@
 //! The page-out of a root, at the cost of what changed.
 
 ghost use Rattle.pagable_changes.specs.{
-  Changes.{IsReferenceToCellOf, PagesOutChanged, PagesOutKeyless},
+  Changes.{IsNoCell, IsReferenceToCellOf, PagesOutChanged, PagesOutKeyless},
   Keys.KeepsTrees,
 };
 ghost use Rattle.pagable_pager.specs.View.{BetweenIfHonest, pager_core};
-ghost use Rattle.std.specs.Prelude.{IfOk, IsTrue, ◌≡◌};
+ghost use Rattle.std.specs.Prelude.{IfErr, IfOk, IsTrue, ◌≡◌};
 
 use crate::nodes::open_node;
 use crate::turns::walk;
@@ -20,9 +20,13 @@ fn root_of<E: Env<Node: NodeSet<E>>, S: PagableStorage<E>>(
     pager: &Pager<E, S>,
     handle: HandleNumber,
 ) -> Result<ArcRef, Error>
-    ensures { IfOk result (λ r. IsReferenceToCellOf (pager_core S.PagableStorage pager.now) handle r) }
+    ensures is { IfOk result (λ r. IsReferenceToCellOf (pager_core S.PagableStorage pager.now) handle r) }
+    ensures fails { IfErr result (IsNoCell (pager_core S.PagableStorage pager.now) handle) }
 {
-    let node = pager.node_of(handle)?;
+    let node = match pager.node_of(handle) {
+        Ok(node) => node,
+        Err(e) => return Err(e),
+    };
     let Some(node_type) = pager.node_live(node) else {
         return Err(Error::NoSuchHandle);
     };

@@ -1,10 +1,15 @@
 //! The keys of references: a cell's own key, or the key that this page-out found for another node.
 
-ghost use Rattle.pagable_changes.specs.Changes.{AllHaveKeys, AppendsKey, IsKeyOfTarget};
+ghost use Rattle.pagable_changes.specs.Changes.{AllHaveKeys, AppendsKey, IsElsewhere, IsKeyOfTarget, KeyFails};
+ghost use Rattle.pagable_changes.specs.Changes.{KeysFail, LooksInVain, height_over, height_through};
 ghost use Rattle.pagable_pager.specs.View.{pager_core};
-ghost use Rattle.pagable_pager_spec.specs.Calls.{KeyCall, NodeCall};
+ghost use Rattle.pagable_pager_spec.specs.{
+  Basics.is_loose_kind,
+  Calls.{KeyCall, NodeCall},
+  World.one_more,
+};
 ghost use Rattle.pagable_tables.specs.NumberTable.{row_by};
-ghost use Rattle.std.specs.Prelude.{IfOk, Ok, OnOk, slice_get, [], ◌++◌, ◌∷◌, ◌≡◌};
+ghost use Rattle.std.specs.Prelude.{IfErr, IfOk, IfSome, Ok, OnOk, if◌then◌else◌, slice_get, [], ◌++◌, ◌∷◌, ◌≡◌};
 
 use crate::calls::is_handle_of;
 use pagable_codec::{Env, NodeSet};
@@ -44,6 +49,8 @@ fn cell_key<E: Env<Node: NodeSet<E>>, S: PagableStorage<E>>(
     ensures of_node { IfOk result
         (λ key. NodeCall (pager_core S.PagableStorage pager.now) reference.handle (Ok reference.node)) }
     ensures key { IfOk result (λ key. KeyCall (pager_core S.PagableStorage pager.now) reference.handle (Ok key)) }
+    ensures refused { IfErr result (λ e. (e ≡ Error.NoSuchHandle)
+        × IsElsewhere (pager_core S.PagableStorage pager.now) reference.handle reference.node) }
 {
     if !is_handle_of(pager, reference.handle, reference.node) {
         return Err(Error::NoSuchHandle);
@@ -61,8 +68,11 @@ pub(crate) fn find_key<E: Env<Node: NodeSet<E>>, S: PagableStorage<E>>(
     found: &FoundKeys,
     reference: ArcRef,
 ) -> Result<Option<FoundKey>, Error>
-    ensures { IfOk result
+    ensures found { IfOk result
         (λ key. IsKeyOfTarget (λ n. row_by found.now n) (pager_core S.PagableStorage pager.now) reference key) }
+    ensures height { IfOk result (λ o. IfSome o (λ k. (if is_loose_kind reference.kind.0 then 0 else one_more k.height)
+        ≡ height_through (λ n. row_by found.now n) reference)) }
+    ensures refused { IfErr result (LooksInVain (pager_core S.PagableStorage pager.now) reference) }
 {
     if !reference.kind.is_loose() {
         return Ok(found_at(found, reference.node));
@@ -77,9 +87,11 @@ pub(crate) fn find_key<E: Env<Node: NodeSet<E>>, S: PagableStorage<E>>(
     }
 }
 
-// Returns the length of the longest path from the holder of a reference through its target, whose
-// own longest path has the length `height`: 0 for a loose reference, else one more.
-fn height_above(reference: ArcRef, height: u64) -> u64 {
+// Returns the length of the longest path from the holder of a reference through its target: 0 for a
+// loose reference, else one more than the target's own longest path, whose length is `height`.
+fn height_above(reference: ArcRef, height: u64) -> u64
+    ensures { result ≡ (if is_loose_kind reference.kind.0 then 0 else one_more height) }
+{
     if reference.kind.is_loose() {
         0
     } else {
@@ -89,7 +101,8 @@ fn height_above(reference: ArcRef, height: u64) -> u64 {
 
 // Appends a key.
 fn add_key(keys: &mut Vec<DataKey>, key: DataKey) -> Result<(), Error>
-    ensures { OnOk result (keys.new.items ≡ keys.old.items ++ key ∷ []) }
+    ensures adds { OnOk result (keys.new.items ≡ keys.old.items ++ key ∷ []) }
+    ensures refused { IfErr result (λ e. e ≡ Error.OutOfMemory) }
 {
     keys.push(key)?;
     Ok(())
@@ -102,21 +115,18 @@ fn reference_at(references: &Vec<ArcRef>, at: usize) -> Option<ArcRef>
     references.get(at).copied()
 }
 
-// Appends the key of the target of the reference at this index, and returns the length of the
-// longest path through that reference. Fails with `TooDeep` if the target has no key yet.
-fn append_key_at<E: Env<Node: NodeSet<E>>, S: PagableStorage<E>>(
+// Appends the key of a reference's target, and returns the length of the longest path through the
+// reference. Fails with `TooDeep` if the target has no key yet.
+fn append_key<E: Env<Node: NodeSet<E>>, S: PagableStorage<E>>(
     pager: &Pager<E, S>,
     found: &FoundKeys,
-    references: &Vec<ArcRef>,
-    at: usize,
+    reference: ArcRef,
     keys: &mut Vec<DataKey>,
 ) -> Result<u64, Error>
-    ensures { OnOk result (AppendsKey (λ n. row_by found.now n) (pager_core S.PagableStorage pager.now)
-        references.now.items at keys.old.items keys.new.items) }
+    ensures adds { IfOk result (AppendsKey (λ n. row_by found.now n) (pager_core S.PagableStorage pager.now) reference
+        keys.old.items keys.new.items) }
+    ensures fails { IfErr result (KeyFails (λ n. row_by found.now n) (pager_core S.PagableStorage pager.now) reference) }
 {
-    let Some(reference) = reference_at(references, at) else {
-        return Err(Error::TooDeep);
-    };
     let known = match find_key(pager, found, reference) {
         Ok(known) => known,
         Err(e) => return Err(e),
@@ -139,14 +149,20 @@ pub(crate) fn collect_keys<E: Env<Node: NodeSet<E>>, S: PagableStorage<E>>(
     found: &FoundKeys,
     references: &Vec<ArcRef>,
 ) -> Result<(Vec<DataKey>, u64), Error>
-    ensures { IfOk result (λ r. AllHaveKeys (λ n. row_by found.now n) (pager_core S.PagableStorage pager.now)
+    ensures keys { IfOk result (λ r. AllHaveKeys (λ n. row_by found.now n) (pager_core S.PagableStorage pager.now)
         references.now.items r.0.items) }
+    ensures height { IfOk result (λ r. r.1 ≡ height_over (λ n. row_by found.now n) references.now.items) }
+    ensures fails { IfErr result
+        (KeysFail (λ n. row_by found.now n) (pager_core S.PagableStorage pager.now) references.now.items) }
 {
     let mut keys = Vec::with_capacity(alloc, references.len())?;
     let mut height = 0;
     let mut at = 0;
     while at < references.len() {
-        let above = match append_key_at(pager, found, references, at, &mut keys) {
+        let Some(reference) = reference_at(references, at) else {
+            return Err(Error::TooDeep);
+        };
+        let above = match append_key(pager, found, reference, &mut keys) {
             Ok(above) => above,
             Err(e) => return Err(e),
         };

@@ -2,7 +2,8 @@
 //! the blob is stored.
 
 ghost use Rattle.pagable_changes.specs.{
-  Changes.{IsFormOf, OpenNodeFails, OpensNode, PinNodeFails, PinsLoosely, PinsNode, Writes, WritesNode, written_of},
+  Changes.{IsFormOf, OpenNodeFails, OpensNode, PinNodeFails, PinsLoosely, PinsNode, WriteFails, WriteNodeFails, Writes},
+  Changes.{WritesNode, written_of},
   Keeping.KeepsStorage,
 };
 ghost use Rattle.pagable_load.specs.AccessView.{values_at};
@@ -105,8 +106,9 @@ fn write<E: Env<Node: NodeSet<E>>>(
     alloc: Global,
     node: &E::Node,
 ) -> Result<SerializedData, Error>
-    ensures { IfOk result (λ d. IsFormOf (values_at E.Node.NodeSet E.Env E.Hash.KeyHash env.now) node.now
+    ensures form { IfOk result (λ d. IsFormOf (values_at E.Node.NodeSet E.Env E.Hash.KeyHash env.now) node.now
         (written_of d)) }
+    ensures refused { IfErr result (E.Node.NodeSet.write_causes (E.Node.NodeSet.type_of node.now)) }
 {
     let mut serializer = SerializerForPaging::new(alloc, env, session);
     node.write(&mut serializer)?;
@@ -121,8 +123,10 @@ fn write_pinned<E: Env<Node: NodeSet<E>>, S: PagableStorage<E>>(
     reference: ArcRef,
     pin: HandleNumber,
 ) -> Result<SerializedData, Error>
-    ensures { IfOk result (λ d. Writes (values_at E.Node.NodeSet E.Env E.Hash.KeyHash pager.now.environment)
+    ensures writes { IfOk result (λ d. Writes (values_at E.Node.NodeSet E.Env E.Hash.KeyHash pager.now.environment)
         (pager_state S.PagableStorage pager.now) reference pin (written_of d)) }
+    ensures fails { IfErr result (λ e. WriteFails (values_at E.Node.NodeSet E.Env E.Hash.KeyHash pager.now.environment)
+        (pager_state S.PagableStorage pager.now) reference pin e) }
 {
     match pager.value(pin) {
         Ok(Some(node)) => {
@@ -145,8 +149,11 @@ fn check_and_write<E: Env<Node: NodeSet<E>>, S: PagableStorage<E>>(
     cloned: HandleNumber,
     pin: HandleNumber,
 ) -> Result<SerializedData, Error>
-    ensures { IfOk result (λ d. WritesNode (values_at E.Node.NodeSet E.Env E.Hash.KeyHash pager.now.environment)
+    ensures writes { IfOk result (λ d. WritesNode (values_at E.Node.NodeSet E.Env E.Hash.KeyHash pager.now.environment)
         (pager_state S.PagableStorage pager.now) reference cloned pin (written_of d)) }
+    ensures fails { IfErr result (λ e. WriteNodeFails
+        (values_at E.Node.NodeSet E.Env E.Hash.KeyHash pager.now.environment) (pager_state S.PagableStorage pager.now)
+        reference cloned pin e) }
 {
     if !is_handle_of(pager, cloned, reference.node) {
         return Err(Error::NoSuchHandle);
@@ -166,7 +173,7 @@ pub(crate) fn open_node<E: Env<Node: NodeSet<E>>, S: PagableStorage<E>>(
     depth: u64,
 ) -> Result<OpenNode, Error>
     ensures opens { Between E.Node.NodeSet E.Env E.Hash.KeyHash S.PagableStorage pager.old pager.new
-        (λ v s s'. IfOk result (λ o. OpensNode v reference s o s')) }
+        (λ v s s'. IfOk result (λ o. OpensNode v reference depth s o s')) }
     ensures fails { Between E.Node.NodeSet E.Env E.Hash.KeyHash S.PagableStorage pager.old pager.new
         (λ v s s'. IfErr result (λ e. OpenNodeFails v reference s e s')) }
     ensures keeps { KeepsStorage pager.old pager.new }

@@ -1,15 +1,18 @@
 //! The walk of a page-out over the nodes that have no key, turn by turn.
 
 ghost use Rattle.pagable_changes.specs.{
-  Changes.{FinishFails, FinishesOpenNode, IsBlobOfNode, MakesTurn, OpenChildFails, OpensChild, RecordsKey},
-  Changes.{ReleasesPath, SetKeyFails, Turn, TurnFails, TurnsFail, TurnsUntilKey, Walks, stage},
+  Changes.{BlobFails, FinishFails, FinishesOpenNode, IsBlobOfNode, IsNext, LeadsTo, LeadsTooDeep, MakesTurn},
+  Changes.{OpenChildFails, OpensChild, RecordsKey, ReleasesPath, SetKeyFails, Turn, TurnFails, TurnsFail},
+  Changes.{TurnsUntilKey, Walks, stage},
   Keeping.KeepsStorage,
 };
 ghost use Rattle.pagable_core.specs.Data.{blob_of};
 ghost use Rattle.pagable_pager.specs.View.{Between, BetweenIfHonest, pager_core};
+ghost use Rattle.pagable_pager_spec.specs.Basics.{longest_path};
 ghost use Rattle.pagable_tables.specs.NumberTable.{place_at, row_by};
 ghost use Rattle.std.specs.{
-  Prelude.{IfErr, IfNone, IfOk, IfSome, IsSome, IsTrue, OnErr, OnOk, Some, slice_get, [], ◌++◌, ◌∷◌, ◌≡◌},
+  Prelude.{IfErr, IfNone, IfOk, IfSome, IsSome, IsTrue, OnErr, OnOk, Some, slice_get, [], ◌+◌},
+  Prelude.{◌++◌, ◌<◌, ◌∷◌, ◌≡◌, ◌≤◌},
 };
 
 use crate::calls::{release_both, set_key, store};
@@ -23,6 +26,21 @@ use pagable_value_spec::{ArcRef, DataKey, Error};
 use std::alloc::Global;
 use std::mem;
 
+// Fails with `TooDeep` if a node at this depth has a path below it of this height, and both together
+// are longer than a path may be.
+fn check_height(depth: u64, height: u64) -> Result<(), Error>
+    ensures within { OnOk result (depth + height ≤ longest_path) }
+    ensures high { IfErr result (λ e. (e ≡ Error.TooDeep) × (longest_path < depth + height)) }
+{
+    if height > LONGEST_PATH {
+        return Err(Error::TooDeep);
+    }
+    if depth > LONGEST_PATH - height {
+        return Err(Error::TooDeep);
+    }
+    Ok(())
+}
+
 // Makes the blob of a node whose references all have keys, and returns it with the length of the
 // longest path below the node. Fails with `TooDeep` if a path through the node is longer than 128.
 fn blob_of_node<E: Env<Node: NodeSet<E>>, S: PagableStorage<E>>(
@@ -31,12 +49,18 @@ fn blob_of_node<E: Env<Node: NodeSet<E>>, S: PagableStorage<E>>(
     found: &FoundKeys,
     node: &OpenNode,
 ) -> Result<(PagableData, u64), Error>
-    ensures { IfOk result
-        (λ r. IsBlobOfNode (λ n. row_by found.now n) (pager_core S.PagableStorage pager.now) node.now (blob_of r.0)) }
+    ensures is { IfOk result
+        (λ r. IsBlobOfNode (λ n. row_by found.now n) (pager_core S.PagableStorage pager.now) node.now (blob_of r.0) r.1) }
+    ensures fails { IfErr result
+        (BlobFails (λ n. row_by found.now n) (pager_core S.PagableStorage pager.now) node.now) }
 {
-    let (arcs, height) = collect_keys(alloc, pager, found, &node.written.arcs)?;
-    if height > LONGEST_PATH || node.depth > LONGEST_PATH - height {
-        return Err(Error::TooDeep);
+    let (arcs, height) = match collect_keys(alloc, pager, found, &node.written.arcs) {
+        Ok(collected) => collected,
+        Err(e) => return Err(e),
+    };
+    match check_height(node.depth, height) {
+        Ok(()) => {}
+        Err(e) => return Err(e),
     }
     let bytes = Vec::from_slice(alloc, node.written.bytes.as_slice())?;
     Ok((PagableData { bytes, arcs }, height))
@@ -53,7 +77,7 @@ fn record_key<E: Env<Node: NodeSet<E>>, S: PagableStorage<E>>(
     requires ready { IsSome (place_at found.old node.now.reference.node.0) }
     ensures sets { Between E.Node.NodeSet E.Env E.Hash.KeyHash S.PagableStorage pager.old pager.new
         (λ v s s'. OnOk result
-        (RecordsKey v (λ n. row_by found.old n) node.now known.key s (λ n. row_by found.new n) s')) }
+        (RecordsKey v (λ n. row_by found.old n) node.now known s (λ n. row_by found.new n) s')) }
     ensures refused { Between E.Node.NodeSet E.Env E.Hash.KeyHash S.PagableStorage pager.old pager.new
         (λ v s s'. IfErr result (λ e. SetKeyFails v node.now known.key s e s')) }
     ensures keeps { KeepsStorage pager.old pager.new }
@@ -98,23 +122,23 @@ fn finish_open_node<E: Env<Node: NodeSet<E>>, S: PagableStorage<E>>(
 }
 
 // Returns the depth of the target of a node's reference: 0 through a loose reference, else one more
-// than the node's.
-fn depth_below(node: &OpenNode, reference: ArcRef) -> u64 {
+// than the node's. Fails with `TooDeep` if a target that isn't a cell would lie too deep, or if the
+// reference is a loose one to a node that isn't older: a cell without a key was made before what
+// refers to it.
+fn depth_below(node: &OpenNode, reference: ArcRef) -> Result<u64, Error>
+    ensures leads { IfOk result (LeadsTo node.now reference) }
+    ensures fails { IfErr result (λ e. (e ≡ Error.TooDeep) × LeadsTooDeep node.now reference) }
+{
     if reference.kind.is_loose() {
-        0
-    } else {
-        node.depth.saturating_add(1)
+        if reference.node.0 >= node.reference.node.0 {
+            return Err(Error::TooDeep);
+        }
+        return Ok(0);
     }
-}
-
-// Returns whether a reference's target is too deep, or whether the reference is a loose one to a
-// node that isn't older: a cell without a key was made before what refers to it.
-fn is_too_deep(node: &OpenNode, reference: ArcRef, depth: u64) -> bool {
-    if reference.kind.is_loose() {
-        reference.node.0 >= node.reference.node.0
-    } else {
-        depth > LONGEST_PATH
+    if node.depth >= LONGEST_PATH {
+        return Err(Error::TooDeep);
     }
+    Ok(node.depth + 1)
 }
 
 // Pins and writes the target, which has no key, of a reference of the node at hand. The target
@@ -129,14 +153,14 @@ fn open_child<E: Env<Node: NodeSet<E>>, S: PagableStorage<E>>(
     ensures opens { Between E.Node.NodeSet E.Env E.Hash.KeyHash S.PagableStorage pager.old pager.new
         (λ v s s'. OnOk result (OpensChild v reference path.old.items node.old s path.new.items node.new s')) }
     ensures fails { Between E.Node.NodeSet E.Env E.Hash.KeyHash S.PagableStorage pager.old pager.new
-        (λ v s s'. IfErr result (λ e. OpenChildFails v reference s e s')) }
+        (λ v s s'. IfErr result (λ e. OpenChildFails v reference node.old s e s')) }
     ensures stays { OnErr result ((path.new.items ≡ path.old.items) × (node.new ≡ node.old)) }
     ensures keeps { KeepsStorage pager.old pager.new }
 {
-    let depth = depth_below(node, reference);
-    if is_too_deep(node, reference, depth) {
-        return Err(Error::TooDeep);
-    }
+    let depth = match depth_below(node, reference) {
+        Ok(depth) => depth,
+        Err(e) => return Err(e),
+    };
     path.reserve(1)?;
     let child = match open_node(alloc, pager, reference, depth) {
         Ok(child) => child,
@@ -153,6 +177,15 @@ fn next_reference(node: &OpenNode) -> Option<ArcRef>
     node.written.arcs.get(node.keyed).copied()
 }
 
+// Counts the node's next reference as one whose target has a key.
+fn pass_reference(node: &mut OpenNode)
+    ensures { (r : ArcRef) → IsNext node.old r → node.new ≡ record node.old { keyed = node.old.keyed + 1 } }
+{
+    if node.keyed < node.written.arcs.len() {
+        node.keyed += 1;
+    }
+}
+
 // Processes the node's next reference: counts it as keyed if its target has a key; otherwise makes
 // the target the node at hand, as `open_child` does.
 fn process_reference<E: Env<Node: NodeSet<E>>, S: PagableStorage<E>>(
@@ -163,7 +196,7 @@ fn process_reference<E: Env<Node: NodeSet<E>>, S: PagableStorage<E>>(
     node: &mut OpenNode,
     reference: ArcRef,
 ) -> Result<(), Error>
-    requires next { Some reference ≡ slice_get node.old.written.arcs.items node.old.keyed }
+    requires next { IsNext node.old reference }
     ensures turns { Between E.Node.NodeSet E.Env E.Hash.KeyHash S.PagableStorage pager.old pager.new
         (λ v s s'. OnOk result (Turn v (stage path.old.items node.old (λ n. row_by found.now n) s)
         (stage path.new.items node.new (λ n. row_by found.now n) s'))) }
@@ -178,7 +211,7 @@ fn process_reference<E: Env<Node: NodeSet<E>>, S: PagableStorage<E>>(
     };
     match known {
         Some(_) => {
-            node.keyed = node.keyed.saturating_add(1);
+            pass_reference(node);
             Ok(())
         }
         None => open_child(alloc, pager, path, node, reference),

@@ -5,7 +5,7 @@ use Rattle.pagable_changes.proofs.changed.page_out_changed.Goals as goal
 pub returns-clause-keeps_trees : goal.returns-clause-keeps_trees
 returns-clause-keeps_trees g c = λ honest.
     changed_law g.row.E.Denot (values_at g.E.Node.NodeSet g.E.Env g.E.Hash.KeyHash c.args.pager.now.environment) _ _ _ _
-    (c.page_out_root.ensures.pages honest) c.assert_invariant.ensures
+    c.assert_invariant.ensures
     (record {
       has_meaning = g.met.E.Node.NodeSet.has_meaning;
       refers = g.met.E.Node.NodeSet.refers;
