@@ -98,7 +98,8 @@ impl<'a, E: Env<Node: NodeSet<E>>, S: PagableStorage<E>> Lent<'a, E, S> {
 impl<'a, E: Env<Node: NodeSet<E>>, S: PagableStorage<E>> Lent<'a, E, S> {
     /// Computes whether the pager's tables and values agree, as `Pager::is_sound` does.
     pub fn is_sound(&self) -> bool
-        ensures { result ≡ is_sound self.now.pager.now.tables self.now.pager.now.values }
+        ensures exact { result ≡ is_sound self.now.pager.now.tables self.now.pager.now.values }
+        ensures always { result ≡ true }
     {
         self.pager.is_sound()
     }

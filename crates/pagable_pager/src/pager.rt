@@ -228,10 +228,11 @@ impl<E: Env<Node: NodeSet<E>>, S: PagableStorage<E>> Pager<E, S> {
     /// Computes, for tests, whether the pager's tables and values agree: each live handle has a
     /// node, and an owner that knows the handle; each node counts its handles, and has its value
     /// exactly if one pins it or it has no key; each value owns the handles of its references; the
-    /// list owns its handles; and each cached node is of its kind. It takes time quadratic in the
-    /// size of the tables.
+    /// list owns its handles; and each cached node is of its kind. They do in every pager. It takes
+    /// time quadratic in the size of the tables.
     pub fn is_sound(&self) -> bool
-        ensures { result ≡ is_sound self.now.tables self.now.values }
+        ensures exact { result ≡ is_sound self.now.tables self.now.values }
+        ensures always { result ≡ true }
     {
         soundness::is_sound(&self.tables, &self.values)
     }
