@@ -9,11 +9,12 @@ use Rattle.pagable_load.specs.{
 use Rattle.pagable_pager_spec.specs.{
   Basics.{Among, Blob, Error, Kind, Tree, Types, is_eager, type_of},
   Loads.{IsDecoded, ReadsNode, ReadsRoot, need_at, need_of, needs_lazy, needs_nested, nested_frame, next_in, root_frame},
-  Pager.{FrameFits, ReadsNodeTree},
+  Pager.{FrameFits, ReadsNodeTree, ValueStands},
+  Runs.ReadsAsValue,
   World.{Frame, Reading, Values},
   declared.events.LoadAnswer.LoadAnswer,
 }
-use Rattle.pagable_theorems.proofs.{Decoding.{decodes, read_stands}, LoadProgress.{asked, pushed}}
+use Rattle.pagable_theorems.proofs.{Decoding.{decodes, read_stands}, LoadProgress.{asked, pushed}, Trees.one_tree}
 use Rattle.pagable_value_spec.specs.{
   Blob.key_of,
   Trees.ReadsAs,
@@ -190,7 +191,10 @@ trees_are_right v s trees key t x read tree lawful readable keys clash typed rea
     let frame : Frame = record (root_frame key t read.blob) { got = read.got } in
     let fits : FrameFits v.types s.core.stored trees frame = record { is = said.stored ∙ ap Some same; few = read.few; got = nodes } in
     let d : IsDecoded v frame x = record { own = read.read.own; read = read.read.read; typed = read.read.typed; means = read.read.means } in
-    read_stands lawful s trees frame x tree readable fits d stand typed reads
+    let found : ReadsAsValue v s x key = read_stands lawful s trees frame x readable fits d stand in
+    let one : found.read ≡ tree =
+    one_tree s.core.stored v.types key found.read tree (sym found.stands.typed ∙ read.read.typed ∙ sym typed) found.reads reads in
+    subst (λ (z : Tree). ValueStands v s x z) one found.stands
 
 pub leaves_are_right : {N E : Type 0} (v : Values N) → LeavesAreRight E v
 leaves_are_right v s key t x read tree lawful readable keys clash leaf typed reads =
