@@ -53,9 +53,9 @@ abbrev pub OneTreeLaw : {N : Type 0} → (E : Type 0) → Values N → Type 0
 OneTreeLaw {N} E v = (s : PagerState N E) (trees others : ℕ → Tree) (n : ℕ) → HoldsSettled v s
     → PagerStandsFor v s trees → PagerStandsFor v s others → 0 < held n s.core.rows → others n ≡ trees n
 
--- What `Machine::run` promises of a list of events, if the storage is honest after the last, and `Machine::step` of one
--- event, if the storage is honest after that one. Runs join (law `runs_join`): so of events that run one by one it holds
--- up to the last one after which the storage is honest.
+-- What `Machine::run` of `pagable` promises of a list of events (clause `run`), if the storage is honest after the last.
+-- Runs join (law `runs_join`): so of lists that run one after another, such as lists of one event, it holds up to the
+-- last one after which the storage is honest.
 pub record MeetsHeadline {N E B W : Type 0} (m : Seen N B W) (old : MachineState N E) (happened : List (Event N B W))
     (replied : List (EventReply N B W)) (new : MachineState N E) : Type 0 where
   -- These events, with these replies, lead from the old machine to the new one, and the machine is whole after each: so
