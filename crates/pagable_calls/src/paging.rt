@@ -2,10 +2,11 @@
 //! is honest afterwards.
 
 ghost use Rattle.pagable_calls.specs.Paged.{IsFailed, PagesOutItem, PagesOutList, ReadsValue};
+ghost use Rattle.pagable_load.specs.{AccessView.values_at, Keyed.{HoldsKeyed, IsKeyed}};
 ghost use Rattle.pagable_pageout.specs.{PageOuts.{PagesItem, PagesList, answer_of}, Slots.written_of, Table.shelf_of};
 ghost use Rattle.pagable_pager.specs.View.{BetweenIfHonest};
 ghost use Rattle.pagable_pager_spec.specs.Access.{ReadsOver};
-ghost use Rattle.std.specs.{Arc.arc_value, Prelude.{IfErr, IsTrue, ◌≡◌}};
+ghost use Rattle.std.specs.{Arc.arc_value, Prelude.{IfErr, IfOk, IsTrue, ◌≡◌}};
 ghost use Rattle.pagable_pager_spec.specs.declared.handle_row.Owner.TheVariants as owners;
 
 use pagable_codec::{Env, NodeSet, OfNode};
@@ -27,6 +28,8 @@ fn read_lent<'a, E: Env<Node: NodeSet<E>>, S: PagableStorage<E>>(
     requires caller { lent.old.me ≡ owners.Caller }
     ensures reads { BetweenIfHonest E.Node.NodeSet E.Env E.Hash.KeyHash S.PagableStorage lent.old.pager.now
         lent.new.pager.now (λ v s s'. ReadsOver v s key node_type result s') }
+    ensures keyed { IfOk result (IsKeyed (values_at E.Node.NodeSet E.Env E.Hash.KeyHash
+        lent.old.pager.now.environment) key node_type) }
     ensures honest { IsTrue (S.is_honest lent.new.pager.now.storage) → IsTrue (S.is_honest lent.old.pager.now.storage) }
     ensures lender { lent.new.pager.ghost_name ≡ lent.old.pager.ghost_name }
 {
@@ -34,7 +37,8 @@ fn read_lent<'a, E: Env<Node: NodeSet<E>>, S: PagableStorage<E>>(
 }
 
 /// Reads a key as a value of this type, with all that is read together with it. The caller owns the
-/// handles of the value's references.
+/// handles of the value's references. Whatever the storage does, the value is what the wire format
+/// reads from a blob whose hash is the key.
 ///
 /// # Errors
 ///
@@ -48,6 +52,8 @@ pub fn read<E: Env<Node: NodeSet<E>>, S: PagableStorage<E>>(
 ) -> Result<E::Node, Error>
     ensures reads { BetweenIfHonest E.Node.NodeSet E.Env E.Hash.KeyHash S.PagableStorage pager.old pager.new
         (λ v s s'. ReadsOver v s key node_type result s') }
+    ensures keyed { IfOk result (IsKeyed (values_at E.Node.NodeSet E.Env E.Hash.KeyHash pager.old.environment) key
+        node_type) }
     ensures honest { IsTrue (S.is_honest pager.new.storage) → IsTrue (S.is_honest pager.old.storage) }
 {
     let mut lent = Lent::new(pager);
@@ -55,13 +61,14 @@ pub fn read<E: Env<Node: NodeSet<E>>, S: PagableStorage<E>>(
 }
 
 /// Reads a key as a value of the type T, as `read` does, and returns the value that its node holds.
+/// Whatever the storage does, that node is what a blob whose hash is the key reads as.
 ///
 /// # Errors
 ///
 /// - As `read`, without a node: nothing is left of the load.
 /// - `OutOfMemory`, `WrongKind` with the node, if the value can't be taken out of it or it holds
 ///   none: the caller owns the handles of the node's references.
-#[tactic(auto, using(crate::proofs::Driven::taking))]
+#[tactic(auto, using(crate::proofs::Driven::taking, pagable_load::proofs::Keyed::held_keyed))]
 pub fn deserialize_pagable_data<E: Env<Node: NodeSet<E>>, S: PagableStorage<E>, T: OfNode<E>>(
     alloc: Global,
     pager: &mut Pager<E, S>,
@@ -69,6 +76,8 @@ pub fn deserialize_pagable_data<E: Env<Node: NodeSet<E>>, S: PagableStorage<E>, 
 ) -> Result<Arc<T>, (Error, Option<E::Node>)>
     ensures reads { BetweenIfHonest E.Node.NodeSet E.Env E.Hash.KeyHash S.PagableStorage pager.old pager.new
         (λ v s s'. ReadsValue v arc_value T.held s key T.TYPE result s') }
+    ensures keyed { IfOk result (λ value. HoldsKeyed (values_at E.Node.NodeSet E.Env E.Hash.KeyHash
+        pager.old.environment) T.held key T.TYPE (arc_value value)) }
     ensures honest { IsTrue (S.is_honest pager.new.storage) → IsTrue (S.is_honest pager.old.storage) }
 {
     match read(alloc, pager, key, T::TYPE) {

@@ -39,7 +39,8 @@ impl<'a, R: Wait, E: Env<Node: NodeSet<E>>, S: PagableStorage<E>> Locked<'a, R, 
         pager: &'a Mutex<Pager<E, S>>,
         setting: &'a Setting<E>,
     ) -> Locked<'a, R, E, S>
-        ensures { result.me ≡ Owner.Caller }
+        ensures me { result.me ≡ Owner.Caller }
+        ensures environment { result.setting.now ≡ setting.now }
     {
         Locked {
             rt,
@@ -109,9 +110,14 @@ impl<'a, R: Wait, E: Env<Node: NodeSet<E>>, S: PagableStorage<E>> Access<E>
         Lent::for_owner(&mut *pager, self.me)?.load_key(key)
     }
 
-    fn load_root(&mut self, alloc: Global, load: LoadNumber) -> Result<Arc<PagableData>, Error> {
+    fn load_root(
+        &mut self,
+        alloc: Global,
+        load: LoadNumber,
+        key: DataKey,
+    ) -> Result<Arc<PagableData>, Error> {
         let mut pager = lock_briefly(self.pager, self.rt);
-        Lent::for_owner(&mut *pager, self.me)?.load_root(alloc, load)
+        Lent::for_owner(&mut *pager, self.me)?.load_root(alloc, load, key)
     }
 
     fn load_nested(

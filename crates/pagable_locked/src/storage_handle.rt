@@ -2,7 +2,7 @@
 //! outside of it.
 
 ghost use Rattle.pagable_core.specs.Data.{blob_of};
-ghost use Rattle.pagable_load.specs.AccessView.{values_at};
+ghost use Rattle.pagable_load.specs.{AccessView.{IsNamedOrKind, values_at}, Keyed.HoldsKeyed};
 ghost use Rattle.pagable_pageout.specs.{Results.IsKeyOverResults, Slots.written_of};
 ghost use Rattle.pagable_pager_spec.specs.declared.handle_row.Owner.{Owner};
 ghost use Rattle.pagable_value_spec.specs.Blob.{key_of};
@@ -66,7 +66,8 @@ impl<E: Env<Node: NodeSet<E>>, S: PagableStorage<E>> PagableStorageHandle<E, S> 
 
     /// Lends the caller's access on this thread, for loads and page-outs.
     pub fn access<'a, R: Wait>(&'a self, rt: &'a R) -> Locked<'a, R, E, S>
-        ensures { result.me ≡ Owner.Caller }
+        ensures me { result.me ≡ Owner.Caller }
+        ensures environment { result.setting.now.env ≡ (arc_value (arc_value self.now.inner).setting).env }
     {
         Locked::new(rt, &self.inner.pager, self.inner.setting.as_ref())
     }
@@ -91,12 +92,16 @@ impl<E: Env<Node: NodeSet<E>>, S: PagableStorage<E>> PagableStorageHandle<E, S> 
     ///   node: nothing is left of the load.
     /// - `OutOfMemory`, `WrongKind` with the node, if the value can't be taken out of it or has
     ///   another type: the caller owns the handles of the node's references.
+    #[tactic(auto, using(pagable_load::proofs::Keyed::held_keyed))]
     pub fn deserialize_pagable_data<R: Wait, T: OfNode<E>>(
         &self,
         rt: &R,
         alloc: Global,
         key: DataKey,
-    ) -> Result<Arc<T>, (Error, Option<E::Node>)> {
+    ) -> Result<Arc<T>, (Error, Option<E::Node>)>
+        ensures keyed { IfOk result (λ value. HoldsKeyed (values_at E.Node.NodeSet E.Env E.Hash.KeyHash
+            (arc_value (arc_value self.now.inner).setting).env) T.held key T.TYPE (arc_value value)) }
+    {
         let mut access = self.access(rt);
         match read_over(&mut access, alloc, key, T::TYPE) {
             Ok(node) => match T::from_node(alloc, &node) {
@@ -151,7 +156,9 @@ impl<E: Env<Node: NodeSet<E>>, S: PagableStorage<E>> PagableStorageHandle<E, S> 
         alloc: Global,
         kind: Kind,
         key: DataKey,
-    ) -> Result<Either<ArcRef, Arc<PagableData>>, Error> {
+    ) -> Result<Either<ArcRef, Arc<PagableData>>, Error>
+        ensures named { IfOk result (IsNamedOrKind E.Hash.digest (λ d. blob_of (arc_value d)) kind key) }
+    {
         let mut pager = self.inner.pager.lock(rt);
         match pager.cache_get(kind, key)? {
             Some(handle) => {

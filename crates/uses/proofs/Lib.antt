@@ -1,2 +1,3 @@
 mod Environment
+mod Published
 mod Working

@@ -3,17 +3,18 @@
 #![tactic(auto)]
 
 ghost use Rattle.pagable_core.specs.Data.{blob_of};
+ghost use Rattle.pagable_load.specs.AccessView.{values_at};
 ghost use Rattle.pagable_pageout.specs.Turns.{plain};
-ghost use Rattle.pagable_pager.specs.View.{BetweenIfHonest};
+ghost use Rattle.pagable_pager.specs.View.{BetweenIfHonest, pager_state};
 ghost use Rattle.pagable_theorems.specs.CallerLaws.{Operations};
 ghost use Rattle.pagable_value_spec.specs.Blob.{key_of};
 ghost use Rattle.std.specs.{Arc.arc_value, Prelude.{IfOk, IfSome, IsTrue, ◌≡◌}};
-ghost use Rattle.uses.specs.Again.{ShowsSame};
+ghost use Rattle.uses.specs.{Again.ShowsSame, Published.IsPublished};
 
-use pagable::paging::{page_out_pending, pin};
+use pagable::paging::{deserialize_pagable_data, page_out_pending, pin};
 use pagable::{
-    DataKey, Env, Error, HandleNumber, KeyHash, NodeSet, PagableData, PagableStorage, PageOutError,
-    Pager,
+    DataKey, Env, Error, HandleNumber, KeyHash, NodeSet, OfNode, PagableData, PagableStorage,
+    PageOutError, Pager,
 };
 use std::alloc::Global;
 use std::sync::Arc;
@@ -49,6 +50,24 @@ pub fn look_up<E: Env<Node: NodeSet<E>>, S: PagableStorage<E>>(
         Err(Error::NoData(_)) => Ok(None),
         Err(e) => Err(e),
     }
+}
+
+/// Reads the value of a key out of a cache that nobody has to trust: its storage may hold anything
+/// and answer anything. Ok means that the value is right (`IsPublished`): where a publisher has,
+/// under this key, a blob without references, the value stands for what that blob says, or the
+/// blob that was read is another one with the same hash.
+///
+/// # Errors
+/// - as `deserialize_pagable_data`.
+pub fn read_published<E: Env<Node: NodeSet<E>>, S: PagableStorage<E>, T: OfNode<E>>(
+    alloc: Global,
+    pager: &mut Pager<E, S>,
+    key: DataKey,
+) -> Result<Arc<T>, (Error, Option<E::Node>)>
+    ensures right { IfOk result (λ value. IsPublished (values_at E.Node.NodeSet E.Env E.Hash.KeyHash
+        pager.old.environment) (pager_state S.PagableStorage pager.old) T.held key T.TYPE (arc_value value)) }
+{
+    deserialize_pagable_data(alloc, pager, key)
 }
 
 /// Work with a pager: any calls of it, pins, readings and page-outs.
