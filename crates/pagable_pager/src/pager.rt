@@ -2,7 +2,7 @@
 //! blobs; and loads, by steps.
 
 ghost use Rattle.futures.specs.{Poll.{IfReady, OnPending}, Task.{IsArmed, Keeps}};
-ghost use Rattle.pagable_core.specs.Data.{blob_of};
+ghost use Rattle.pagable_core.specs.{Data.blob_of, Roots.StaysOrTakes};
 ghost use Rattle.pagable_load.specs.{AccessView.values_at, PinStart.Shares};
 ghost use Rattle.pagable_pager.specs.{
   Polling.PollCall,
@@ -21,7 +21,7 @@ ghost use Rattle.pagable_value_spec.specs.{Blob.{Blob, key_of}, Stored.{IsMemory
 ghost use Rattle.std.specs.{
   Arc.arc_value,
   Option.option_map,
-  Prelude.{IfErr, IfNone, IfOk, IsTrue, None, OnOk, Option, Some, false, nat_lt, true, ℕ, ◌≡◌},
+  Prelude.{IfErr, IfNone, IfOk, IsTrue, None, OnErr, OnOk, Option, Some, false, nat_lt, true, ℕ, ◌≡◌},
 };
 
 // A function whose name ends in `_for` does what the function without this ending does, for the
@@ -317,7 +317,8 @@ impl<E: Env<Node: NodeSet<E>>, S: PagableStorage<E>> Pager<E, S> {
         self.storage.store_keyed(alloc, key, blob)
     }
 
-    /// Makes the storage write what it has held back: afterwards all that is stored is persistent.
+    /// Makes the storage write what it has held back: afterwards all that is stored is persistent,
+    /// and so is what each name stands for.
     ///
     /// # Errors
     ///
@@ -327,6 +328,13 @@ impl<E: Env<Node: NodeSet<E>>, S: PagableStorage<E>> Pager<E, S> {
         ensures asks { AsksStorage S.PagableStorage self.old (λ w w'. FlushCall w result w') self.new }
         ensures sure { IsTrue (S.is_honest self.new.storage)
             → OnOk result (S.flushed self.new.storage ≡ S.stored self.new.storage) }
+        ensures sure_names { IsTrue (S.is_honest self.new.storage)
+            → OnOk result (S.roots_flushed self.new.storage ≡ S.roots self.new.storage) }
+        ensures same_names { IsTrue (S.is_honest self.new.storage)
+            → S.roots self.new.storage ≡ S.roots self.old.storage }
+        ensures durable_names { IsTrue (S.is_honest self.new.storage) → OnErr result
+            (StaysOrTakes (S.roots self.old.storage) (S.roots_flushed self.old.storage)
+            (S.roots_flushed self.new.storage)) }
         ensures refused { IfErr result (IsMemoryOrFailure (S.failed self.old.storage) (S.failed self.new.storage)) }
     {
         self.storage.flush()

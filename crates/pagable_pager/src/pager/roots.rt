@@ -1,6 +1,6 @@
 //! Names of root keys in a pager's storage.
 
-ghost use Rattle.pagable_core.specs.Roots.{HasBlobIfKey, RefusesRoot, Sets};
+ghost use Rattle.pagable_core.specs.Roots.{HasBlobIfKey, RefusesRoot, Sets, StaysOrTakes};
 ghost use Rattle.pagable_pager.specs.View.{AsksStorage};
 ghost use Rattle.pagable_pager_spec.specs.Calls.{Asked};
 ghost use Rattle.pagable_value_spec.specs.Stored.{IsMemoryOrFailure};
@@ -22,9 +22,10 @@ impl<E: Env<Node: NodeSet<E>>, S: Roots<E>> Pager<E, S> {
     pub fn root(&mut self, name: &str) -> Result<Option<DataKey>, Error>
         ensures asks { AsksStorage S.PagableStorage self.old Asked self.new }
         ensures ok { IsTrue (S.PagableStorage.is_honest self.new.storage) → IfOk result
-            (λ key. key ≡ S.Roots.roots self.old.storage name.now) }
-        ensures same { IsTrue (S.PagableStorage.is_honest self.new.storage) → S.Roots.roots self.new.storage
-            ≡ S.Roots.roots self.old.storage }
+            (λ key. key ≡ S.PagableStorage.roots self.old.storage name.now) }
+        ensures same_names { IsTrue (S.PagableStorage.is_honest self.new.storage)
+            → (S.PagableStorage.roots self.new.storage ≡ S.PagableStorage.roots self.old.storage)
+            × (S.PagableStorage.roots_flushed self.new.storage ≡ S.PagableStorage.roots_flushed self.old.storage) }
         ensures refused { IfErr result
             (IsMemoryOrFailure (S.PagableStorage.failed self.old.storage) (S.PagableStorage.failed self.new.storage)) }
     {
@@ -45,14 +46,17 @@ impl<E: Env<Node: NodeSet<E>>, S: Roots<E>> Pager<E, S> {
     pub fn set_root(&mut self, alloc: Global, name: &str, key: Option<DataKey>) -> Result<(), Error>
         ensures asks { AsksStorage S.PagableStorage self.old Asked self.new }
         ensures sets { IsTrue (S.PagableStorage.is_honest self.new.storage) → OnOk result
-            (Sets name.now key (S.Roots.roots self.old.storage) (S.Roots.roots self.new.storage)) }
+            (Sets name.now key (S.PagableStorage.roots self.old.storage) (S.PagableStorage.roots self.new.storage)) }
+        ensures durable_names { IsTrue (S.PagableStorage.is_honest self.new.storage)
+            → StaysOrTakes (S.PagableStorage.roots self.new.storage) (S.PagableStorage.roots_flushed self.old.storage)
+            (S.PagableStorage.roots_flushed self.new.storage) }
         ensures stands { IsTrue (S.PagableStorage.is_honest self.new.storage) → OnOk result
             (HasBlobIfKey (S.PagableStorage.stored self.old.storage) key) }
         ensures refused { IsTrue (S.PagableStorage.is_honest self.new.storage) → IfErr result (RefusesRoot key
             (S.PagableStorage.stored self.old.storage) (S.PagableStorage.is_closed self.old.storage)
             (S.PagableStorage.failed self.old.storage) (S.PagableStorage.failed self.new.storage)) }
         ensures kept { IsTrue (S.PagableStorage.is_honest self.new.storage) → OnErr result
-            (S.Roots.roots self.new.storage ≡ S.Roots.roots self.old.storage) }
+            (S.PagableStorage.roots self.new.storage ≡ S.PagableStorage.roots self.old.storage) }
     {
         self.storage.set_root(alloc, name, key)
     }
