@@ -1,13 +1,20 @@
 -- Copying what roots reach.
 use Rattle.pagable_core.specs.Roots.{Sets}
 use Rattle.pagable_file.proofs.Each.{each_so}
-use Rattle.pagable_file.specs.Copies.{AreCopied, HasCopied, HasWantedRoot, IsCopied, IsCopiedRoot, IsInBoth, IsPath, KeySet, Reaches, end_of}
-use Rattle.pagable_value_spec.specs.{Blob.Blob, Stored.{Adds, Keeps}}
+use Rattle.pagable_file.specs.Copies.{AreCopied, CountsCopied, HasCopied, HasWantedRoot, IsCopied, IsCopiedRoot, IsInBoth, IsPath, KeySet, Reaches, StaysOrCopies, StaysOrSets, end_of}
+use Rattle.pagable_file.specs.Names.{is_among}
+use Rattle.pagable_value_spec.specs.{Blob.Blob, Stored.{Adds, Keeps}, declared.error.Error.Error}
 use Rattle.std.proofs.{
-  Common.{Bool, List, None, Option, Some, arith, false, get_or, length, map, refl, subst, take, true, ℕ, [], ◌++◌, ◌+◌, ◌<◌, ◌∙◌, ◌∷◌, ◌≡◌},
-  lemmas.{Bool.Decides.nat_tests, List.{Elements.{All-contains, All-from_recursion}, get_or-map, map_more}, Slice.Eq.bytes_eq-Decides},
+  Common.{Bool, Err, IsSome, IsTrue, List, None, Ok, Option, Result, Some, String, arith, false, get_or, inl, inr, length, map, refl, string_bytes, subst, sym},
+  Common.{take, true, ℕ, [], ◌++◌, ◌+◌, ◌<◌, ◌∙◌, ◌∷◌, ◌≡◌, ◌⊎◌},
+  lemmas.{
+    Bool.{Decides.{Decides-eqb, nat_tests}, eqb-true},
+    Map.{Entries.length-keys_of, Made.AllPairs-from_IsDistinct, Views.{Contains-keys_from_lookup, IsSome-lookup_from_Contains}},
+    List.{Elements.{All-contains, All-from_recursion}, Folds.list_any_at, get_or-map, map_more},
+    Slice.Eq.bytes_eq-Decides,
+  },
 }
-use Rattle.std.specs.{HashMap.get, List.AllByRecursion as Each, Prelude.{if◌then◌else◌, nat_eq}, Str.bytes_eq}
+use Rattle.std.specs.{Cmp.nat_eq_equiv, HashMap.{IsUnique, get, hash_map_len}, Map.keys_of, List.AllByRecursion as Each, Prelude.{OnErr, OnOk, if◌then◌else◌, nat_eq}, Str.bytes_eq}
 
 -- a blob that was added stands under its key, and what stood elsewhere still does
 pub adds_stored : (key : ℕ) (blob : Blob) (old new : ℕ → Option Blob) → Adds key blob old new → new key ≡ Some blob
@@ -106,8 +113,70 @@ pub key_at_name : {A : Type 0} (f : A → Option ℕ) (names : List A) (keys : L
     ≡ get_or names i x → key ≡ get_or keys i key → keys ≡ map f names → key ≡ f x
 key_at_name f names keys i x key h is at e = cc (get_or-map f names i x key h)
 
+-- what was copied is counted
+pub counted : {A : Type 0} (from to : ℕ → Option Blob) (copied : KeySet) (wanted copies : List ℕ → Option ℕ) (names : List (String A)) (count : ℕ)
+    → count ≡ hash_map_len copied → IsUnique nat_eq copied → AreCopied from to copied
+    → Each (λ n. HasWantedRoot copied wanted copies (string_bytes n)) names → CountsCopied from to wanted names count
+counted from to copied wanted copies names count many unique all roots = record {
+  keys = keys_of copied.entries;
+  once = AllPairs-from_IsDistinct Decides-eqb (keys_of copied.entries) unique;
+  both = λ key among. let it = all key (IsSome-lookup_from_Contains nat_eq_equiv key copied.entries among) in (it.blob, it.there, it.stored);
+  all = λ key r.
+      let own = All-contains (λ n. HasWantedRoot copied wanted copies (string_bytes n)) names r.0
+      (All-from_recursion (λ n. HasWantedRoot copied wanted copies (string_bytes n)) names roots) r.1 r.2.0 r.2.1 in
+      Contains-keys_from_lookup eqb-true key copied.entries (rw r.2.2.2 at (reached from to copied all r.2.0 r.2.2.0 r.2.2.1 own.1));
+  many = many ∙ sym (length-keys_of copied.entries);
+}
+
+-- names that stay
+pub stays_all : {A : Type 0} (names : List (String A)) (wanted old new : List ℕ → Option ℕ) → new ≡ old → StaysOrCopies names wanted old new
+stays_all names wanted old new same q = inl (cc)
+
+pub stays_one : (name : List ℕ) (wanted old new : List ℕ → Option ℕ) → new ≡ old → StaysOrSets name wanted old new
+stays_one name wanted old new same q = inl (cc)
+
+-- a name that was set
+pub sets_one : (name : List ℕ) (root : ℕ) (wanted old new : List ℕ → Option ℕ) → Some root ≡ wanted name → Sets name (Some root) old new
+    → StaysOrSets name wanted old new
+sets_one name root wanted old new is sets q = go (bytes_eq name q) refl (sets q)
+  where
+    go : (b : Bool) → bytes_eq name q ≡ b → new q ≡ (if b then Some root else old q)
+        → (new q ≡ old q) ⊎ (IsTrue (bytes_eq q name) × IsSome (wanted q) × (new q ≡ wanted q))
+    go true e h =
+        let one : name ≡ q = (bytes_eq-Decides name q).0 e in
+        let own : wanted q ≡ Some root = cc in
+        inr ((bytes_eq-Decides q name).1 (sym one), rw own refl, h ∙ sym own)
+    go false e h = inl h
+
+pub sets_if : (r : Result (Unit {0}) Error) (name : List ℕ) (root : ℕ) (wanted old new : List ℕ → Option ℕ) → Some root ≡ wanted name
+    → OnOk r (Sets name (Some root) old new) → OnErr r (new ≡ old) → StaysOrSets name wanted old new
+sets_if (Ok _) name root wanted old new is sets stays = sets_one name root wanted old new is sets
+sets_if (Err e) name root wanted old new is sets stays = stays_one name wanted old new stays
+
+among_at : {A : Type 0} (names : List (String A)) (i : ℕ) (x : String A) (q : List ℕ) → i < length names → x ≡ get_or names i x
+    → IsTrue (bytes_eq q (string_bytes x)) → IsTrue (is_among q names)
+among_at names i x q within at is = list_any_at (λ n. bytes_eq q (string_bytes n)) names i x within (rw (← at) is)
+
+-- with one name more
+pub copies_more : {A : Type 0} (names : List (String A)) (i : ℕ) (x : String A) (text : List ℕ) (wanted old mid new : List ℕ → Option ℕ) → i < length names
+    → x ≡ get_or names i x → text ≡ string_bytes x
+    → StaysOrCopies names wanted old mid → StaysOrSets text wanted mid new → StaysOrCopies names wanted old new
+copies_more names i x text wanted old mid new within at own was sets q = go (was q) (sets q)
+  where
+    go : (mid q ≡ old q) ⊎ (IsTrue (is_among q names) × IsSome (wanted q) × (mid q ≡ wanted q))
+        → (new q ≡ mid q) ⊎ (IsTrue (bytes_eq q text) × IsSome (wanted q) × (new q ≡ wanted q))
+        → (new q ≡ old q) ⊎ (IsTrue (is_among q names) × IsSome (wanted q) × (new q ≡ wanted q))
+    go (inl a) (inl b) = inl (b ∙ a)
+    go (inr a) (inl b) = inr (a.0, a.1, b ∙ a.2)
+    go a (inr b) = inr (among_at names i x q within at (rw own at b.0), b.1, b.2)
+
+-- blobs were copied before any name was set
+pub copies_from : {A : Type 0} (names : List (String A)) (wanted old mid new : List ℕ → Option ℕ) → mid ≡ old → StaysOrCopies names wanted mid new
+    → StaysOrCopies names wanted old new
+copies_from names wanted old mid new same copies = rw (← same) copies
+
 pub ruleset copying = (adds_stored, adds_keeps, same_keeps, keeps_then, copied_stays, copied_more, none_copied)
 
-pub ruleset naming = (matches_set, others_stay, matches_none)
+pub ruleset naming = (matches_set, others_stay, matches_none, stays_one, stays_all, sets_one, sets_if)
 
-pub ruleset whole = (copied_stays, same_keeps, keeps_then)
+pub ruleset whole = (copied_stays, same_keeps, keeps_then, stays_all, copies_from)

@@ -4,6 +4,7 @@ mod Each
 mod Fetching
 mod Flawed
 mod Keys
+mod MapNames
 mod Named
 mod Names
 mod Opening

@@ -1,5 +1,5 @@
 -- Names of roots, and whether a blob is stored under a key.
-use Rattle.pagable_core.specs.Roots.{HasBlobIfKey, RefusesRoot, Sets}
+use Rattle.pagable_core.specs.Roots.{HasBlobIfKey, ListsEach, RefusesRoot, Sets, StaysOrTakes}
 use Rattle.pagable_file.proofs.Settling.{stays_then}
 use Rattle.pagable_file.specs.{
   Blobs.{HasNoOtherName, HoldsRoot, IsFoundAs, IsNamedAs, IsNotOther, LeavesCommitted, WaitingBlobs, WaitingRoots, before_root, found_root},
@@ -8,13 +8,13 @@ use Rattle.pagable_file.specs.{
   declared.{pending.{PendingBlob.PendingBlob, PendingRoot.PendingRoot}, rows.{Naming.Naming, Reading.Reading}},
 }
 use Rattle.pagable_value_spec.specs.{Blob.Blob, Outcomes.IsOutOfMemory, Stored.IsMemoryOrFailure, declared.error.Error.Error}
-use Rattle.sqlite_trees.specs.View.{View}
+use Rattle.sqlite_trees.specs.{Tree.Trees, View.View}
 use Rattle.sqlite_value.specs.Order.{Row}
 use Rattle.std.proofs.{
-  Common.{Bool, IsTrue, List, None, Option, Some, ap, arith, false, refl, sym, true, true≢false, ℕ, ◌∙◌, ◌≡◌, ◌≤◌},
+  Common.{Bool, Err, IsTrue, List, None, Ok, Option, Result, Some, ap, arith, false, inl, refl, sym, true, true≢false, ℕ, [], ◌∙◌, ◌≡◌, ◌≤◌},
   lemmas.{Bool.Decides.{Decides-int_eq, nat_tests}, Slice.Eq.bytes_eq-Decides},
 }
-use Rattle.std.specs.{BTreeMap.get, Map.lookup, Ordering.{int_cmp, int_eq}, Prelude.{if◌then◌else◌, is_some, ◌==◌}, Str.bytes_eq, String.string_bytes}
+use Rattle.std.specs.{BTreeMap.get, Map.lookup, Ordering.{int_cmp, int_eq}, Prelude.{OnErr, OnOk, if◌then◌else◌, is_some, ◌==◌}, Str.bytes_eq, String.string_bytes}
 
 -- whether a blob stands under a key, by what waits
 pub has_held : (waiting : WaitingBlobs) (rows : List Row) (key : ℕ) (it : PendingBlob) → Some it ≡ get int_cmp waiting (rowid_of key) → (it.key == key)
@@ -34,20 +34,22 @@ unfolding stored_with
 has_read waiting rows key found e f = rw (sym e) (row_has_blob rows key found f)
 
 -- which key a name stands for, by what waits
-pub root_held : (waiting : WaitingRoots) (rows : List Row) (name : List ℕ) (it : PendingRoot) → Some it ≡ get int_cmp waiting (rowid_of_name name)
-    → (if bytes_eq (string_bytes it.name) name then it.key else None) ≡ roots_with waiting rows name
+pub root_held : (waiting : WaitingRoots) (rows : List Row) (name : List ℕ) (it : PendingRoot) (key : Option ℕ) → Some it
+    ≡ get int_cmp waiting (rowid_of_name name)
+    → key ≡ (if bytes_eq (string_bytes it.name) name then it.key else None) → key ≡ roots_with waiting rows name
 unfolding roots_with
-root_held waiting rows name it e = rw (sym e) refl
+root_held waiting rows name it key e is = rw (sym e) is
 
 row_names : (rows : List Row) (name : List ℕ) (found : Option Naming) → IsNamedAs rows name found → found_root found ≡ roots_in rows name
 unfolding roots_in root_in
 row_names rows name found f = grind arith
 
 -- and by the table
-pub root_read : (waiting : WaitingRoots) (rows : List Row) (name : List ℕ) (found : Option Naming) → None ≡ get int_cmp waiting (rowid_of_name name)
-    → IsNamedAs rows name found → found_root found ≡ roots_with waiting rows name
+pub root_read : (waiting : WaitingRoots) (rows : List Row) (name : List ℕ) (found : Option Naming) (key : Option ℕ) → None
+    ≡ get int_cmp waiting (rowid_of_name name)
+    → IsNamedAs rows name found → key ≡ found_root found → key ≡ roots_with waiting rows name
 unfolding roots_with
-root_read waiting rows name found e f = rw (sym e) (row_names rows name found f)
+root_read waiting rows name found key e f is = rw (sym e) (is ∙ row_names rows name found f)
 
 -- no other name has the place
 pub place_held : (waiting : WaitingRoots) (rows : List Row) (name : List ℕ) (it : PendingRoot) → Some it ≡ get int_cmp waiting (rowid_of_name name)
@@ -100,21 +102,27 @@ refuses_root key stored closed was mid now e le h = grind arith
 pub none_there : (o : Option Blob) (there : Bool) → there ≡ is_some o → there ≡ false → o ≡ None
 none_there o there e h = grind arith
 
-pub ruleset looking = (has_held, has_read, place_held, place_read, stays_then, refuses_root, none_there)
+pub ruleset looking = (has_held, has_read, root_held, root_read, place_held, place_read, stays_then, refuses_root, none_there)
 
 -- what a storage answers, that is closed or not
 pub unnamed : (closed : Bool) (roots : List ℕ → Option ℕ) (name : List ℕ) → closed ≡ true → None ≡ roots_unless closed roots name
 unnamed closed roots name is = rw is refl
 
-pub answers_held : (closed : Bool) (waiting : WaitingRoots) (rows : List Row) (name : List ℕ) (it : PendingRoot) (key : Option ℕ) → closed ≡ false → Some it
-    ≡ get int_cmp waiting (rowid_of_name name)
-    → key ≡ (if bytes_eq (string_bytes it.name) name then it.key else None) → key ≡ roots_unless closed (roots_with waiting rows) name
-answers_held closed waiting rows name it key usable e is = rw usable (is ∙ root_held waiting rows name it e)
+pub answers_in : (closed : Bool) (roots : List ℕ → Option ℕ) (name : List ℕ) (key : Option ℕ) → closed ≡ false → key ≡ roots name
+    → key ≡ roots_unless closed roots name
+answers_in closed roots name key usable is = rw usable is
 
-pub answers_read : (closed : Bool) (waiting : WaitingRoots) (rows : List Row) (name : List ℕ) (found : Option Naming) (key : Option ℕ) → closed ≡ false → None
-    ≡ get int_cmp waiting (rowid_of_name name)
-    → IsNamedAs rows name found → key ≡ found_root found → key ≡ roots_unless closed (roots_with waiting rows) name
-answers_read closed waiting rows name found key usable e f is = rw usable (is ∙ root_read waiting rows name found e f)
+-- the names that a storage lists, that is closed or not
+pub none_listed : (closed : Bool) (roots : List ℕ → Option ℕ) (names : List (List ℕ)) → closed ≡ true → names ≡ [] → ListsEach (roots_unless closed roots) names
+none_listed closed roots names is none = rw (is, none) (record {
+  once = λ i j d lt within. absurd (omega arith);
+  all = λ name text stands. absurd (true≢false (sym stands));
+  only = λ name among. absurd (omega (arith, among.1));
+})
+
+pub each_in : (closed : Bool) (roots : List ℕ → Option ℕ) (names : List (List ℕ)) → closed ≡ false → ListsEach roots names
+    → ListsEach (roots_unless closed roots) names
+each_in closed roots names usable each = rw usable each
 
 pub kept_stored : (closed : Bool) (waiting : WaitingBlobs) (old new : View) → LeavesCommitted old new → IsTrue (is_honest_view new)
     → unless closed (stored_with waiting (new.committed blob_tree)) ≡ unless closed (stored_with waiting (old.committed blob_tree))
@@ -127,6 +135,41 @@ kept_flushed closed old new stays sure = cc (stays.same sure)
 pub kept_roots : (closed : Bool) (waiting : WaitingRoots) (old new : View) → LeavesCommitted old new → IsTrue (is_honest_view new)
     → roots_unless closed (roots_with waiting (new.committed root_tree)) ≡ roots_unless closed (roots_with waiting (old.committed root_tree))
 kept_roots closed waiting old new stays sure = cc (stays.same sure)
+
+pub kept_flushed_roots : (closed : Bool) (old new : View) → LeavesCommitted old new → IsTrue (is_honest_view new)
+    → roots_unless closed (roots_in (new.committed root_tree)) ≡ roots_unless closed (roots_in (old.committed root_tree))
+kept_flushed_roots closed old new stays sure = cc (stays.same sure)
+
+-- what the names durably stand for stays as it was
+pub stays_durable : (closed : Bool) (roots : List ℕ → Option ℕ) (old new : View) → LeavesCommitted old new → IsTrue (is_honest_view new)
+    → StaysOrTakes roots (roots_unless closed (roots_in (old.committed root_tree))) (roots_unless closed (roots_in (new.committed root_tree)))
+stays_durable closed roots old new stays sure = inl (kept_flushed_roots closed old new stays sure)
+
+pub same_durable : (roots old : List ℕ → Option ℕ) → StaysOrTakes roots old old
+same_durable roots old = inl refl
+
+pub ruleset names_kept = (kept_roots, kept_flushed_roots, stays_durable, same_durable)
+
+-- what a flush leaves, whether it succeeds or not
+pub closed_names : (closed : Bool) (roots flushed : List ℕ → Option ℕ) → closed ≡ true → roots_unless closed flushed ≡ roots_unless closed roots
+closed_names closed roots flushed is = rw is refl
+
+pub names_in : (r : Result (Unit {0}) Error) (was now : Bool) (waiting after : WaitingRoots) (old new : List Row) → now ≡ was
+    → OnOk r (roots_in new ≡ roots_with waiting old)
+    → roots_with after new ≡ roots_with waiting old → OnOk r (roots_unless now (roots_in new) ≡ roots_unless now (roots_with after new))
+names_in (Ok _) was now waiting after old new same is stays = ap (roots_unless now) (is ∙ sym stays)
+names_in (Err e) was now waiting after old new same is stays = tt
+
+pub stays_in : (was now : Bool) (waiting after : WaitingRoots) (old new : List Row) → now ≡ was → roots_with after new ≡ roots_with waiting old
+    → roots_unless now (roots_with after new) ≡ roots_unless was (roots_with waiting old)
+stays_in was now waiting after old new same stays = rw same (ap (roots_unless was) stays)
+
+pub durable_in : (r : Result (Unit {0}) Error) (was now : Bool) (roots : List ℕ → Option ℕ) (old new : Trees) → now ≡ was → OnErr r (new ≡ old)
+    → OnErr r (StaysOrTakes roots (roots_unless was (roots_in (old root_tree))) (roots_unless now (roots_in (new root_tree))))
+durable_in (Ok _) was now roots old new same is = tt
+durable_in (Err e) was now roots old new same is = inl (cc)
+
+pub ruleset flushing = (closed_names, names_in, stays_in, durable_in)
 
 pub kept_entries : (closed : Bool) (waiting after : WaitingRoots) (old new : View) → after.entries ≡ waiting.entries → LeavesCommitted old new
     → IsTrue (is_honest_view new)
@@ -161,8 +204,12 @@ refuses_memory key stored closed was now e is = rw is tt
 
 pub ruleset roots_named = (
   unnamed,
-  answers_held,
-  answers_read,
+  answers_in,
+  none_listed,
+  each_in,
+  kept_flushed_roots,
+  stays_durable,
+  same_durable,
   kept_stored,
   kept_flushed,
   kept_roots,

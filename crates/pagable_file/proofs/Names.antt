@@ -1,23 +1,24 @@
 -- Lists of names: which names they have, and that they leave none out.
-use Rattle.pagable_core.specs.Roots.{ListsAll, is_among}
-use Rattle.pagable_file.proofs.Each.{all_with, of_found}
+use Rattle.pagable_core.specs.Roots.{ListsEach, Sets}
+use Rattle.pagable_file.proofs.{Each.{all_with, of_found}, Settling.stays_then}
 use Rattle.pagable_file.specs.{
-  Blobs.{WaitingRoots, before_root, roots_unless, roots_with},
-  Names.{IsListed, IsNameListed, IsWaitingListed, KeepsNames},
+  Blobs.{WaitingRoots, before_root, roots_with},
+  Names.{FindsToo, IsListed, IsNameListed, IsWaitingListed, KeepsNames, LeavesOutNone, StandsAmong, is_among},
   Rows.{root_in, root_of_row, roots_in, row_at, rowid_of_name},
   declared.pending.PendingRoot.PendingRoot,
 }
-use Rattle.pagable_value_spec.specs.declared.error.Error.{Error}
+use Rattle.pagable_value_spec.specs.{Outcomes.IsOutOfMemory, Stored.IsMemoryOrFailure, declared.error.Error.Error}
 use Rattle.sqlite_value.specs.Order.{Row, bytes, column}
 use Rattle.std.proofs.{
-  Common.{Bool, IsSome, IsTrue, List, None, Option, Some, ap, append_assoc, arith, false, refl, subst, sym, true, ℕ, ℤ, [], ◌++◌, ◌∙◌, ◌∷◌, ◌≡◌},
-  lemmas.{List.Folds.list_any-append, Slice.Eq.bytes_eq-Decides},
+  Common.{Bool, IsSome, IsTrue, List, None, Option, Some, ap, append_assoc, arith, false, get_or, length, refl, subst, sym, take, true, ℕ, ℤ, [], ◌++◌, ◌+◌},
+  Common.{◌<◌, ◌∙◌, ◌∷◌, ◌≡◌, ◌≤◌},
+  lemmas.{List.Folds.{list_any-append, list_any_more}, Slice.Eq.bytes_eq-Decides},
 }
 use Rattle.std.specs.{
   BTreeMap.get,
   List.AllByRecursion,
   Ordering.{int_cmp, int_eq},
-  Prelude.{Err, IfOk, Ok, Result, String, Vec, is_some, string_bytes},
+  Prelude.{Err, IfOk, Ok, Result, String, Vec, if◌then◌else◌, is_some, string_bytes, ◌&&◌, ◌||◌},
   Str.{IsUtf8, bytes_eq},
 }
 
@@ -82,21 +83,128 @@ module _ {A : Type 0} (waiting : WaitingRoots) (rows : List Row) (first all : Li
       keeps name (subst (λ n. IsTrue (is_among n first)) is (listed none row at (subst IsUtf8 (sym is) text)))
 
   -- the names in the table and those that wait are all that stand for a key
-  pub lists_all : (closed : Bool) → ((place : ℤ) → IsListed waiting rows first place) → KeepsNames first all
-      → AllByRecursion (λ e. IsWaitingListed all e.1) waiting.entries → ListsAll (roots_unless closed (roots_with waiting rows)) all
+  pub lists_all : ((place : ℤ) → IsListed waiting rows first place) → KeepsNames first all
+      → AllByRecursion (λ e. IsWaitingListed all e.1) waiting.entries → LeavesOutNone (roots_with waiting rows) all
   unfolding roots_with roots_in
-  lists_all true listed keeps held name text stands = cc
-  lists_all false listed keeps held name text stands = go (get int_cmp waiting (rowid_of_name name)) refl
+  lists_all listed keeps held name text stands = go (get int_cmp waiting (rowid_of_name name)) refl
     where
       go : (o : Option PendingRoot) → get int_cmp waiting (rowid_of_name name) ≡ o → IsTrue (is_among name all)
       go (Some it) at = held_listed name it (of_found (IsWaitingListed all) (int_eq (rowid_of_name name)) waiting.entries it held at) (rw at at stands)
       go None at = stored_listed name (row_at rows (rowid_of_name name)) refl at (listed (rowid_of_name name)) keeps text (rw at at stands)
 
-pub lists_all_if : {A B : Type 0} (waiting : WaitingRoots) (rows : List Row) (first : List (String A)) (closed : Bool) (r : Result (Vec (String A) B) Error)
+pub lists_all_if : {A B : Type 0} (waiting : WaitingRoots) (rows : List Row) (first : List (String A)) (r : Result (Vec (String A) B) Error)
     → ((place : ℤ) → IsListed waiting rows first place) → IfOk r (λ all. KeepsNames first all.items)
     → IfOk r (λ all. AllByRecursion (λ e. IsWaitingListed all.items e.1) waiting.entries)
-    → IfOk r (λ all. ListsAll (roots_unless closed (roots_with waiting rows)) all.items)
-lists_all_if waiting rows first closed (Ok all) listed keeps held = lists_all waiting rows first all.items closed listed keeps held
-lists_all_if waiting rows first closed (Err e) listed keeps held = tt
+    → IfOk r (λ all. LeavesOutNone (roots_with waiting rows) all.items)
+lists_all_if waiting rows first (Ok all) listed keeps held = lists_all waiting rows first all.items listed keeps held
+lists_all_if waiting rows first (Err e) listed keeps held = tt
+
+-- no name was looked up
+pub none_among : {A : Type 0} (names : List (String A)) (roots found : List ℕ → Option ℕ) → names ≡ [] → ((name : List ℕ) → found name ≡ None)
+    → StandsAmong names roots found
+none_among names roots found empty none name = rw empty (none name)
+
+-- with one name more
+among_more : {A : Type 0} (names : List (String A)) (i : ℕ) (x : String A) → i < length names → x ≡ get_or names i x → (name : List ℕ)
+    → is_among name (take (i + 1) names) ≡ (is_among name (take i names) || bytes_eq name (string_bytes x))
+among_more names i x within is name =
+    rw (list_any_more (λ n. bytes_eq name (string_bytes n)) names i x within, ← is) refl
+
+-- one that stands for a key
+pub stands_more : {A : Type 0} (names : List (String A)) (i : ℕ) (x : String A) (text : List ℕ) (key : ℕ) (roots old new : List ℕ → Option ℕ)
+    → i < length names → x ≡ get_or names i x → text ≡ string_bytes x → Some key ≡ roots text → StandsAmong (take i names) roots old
+    → Sets text (Some key) old new → StandsAmong (take (i + 1) names) roots new
+stands_more names i x text key roots old new within is own stands was sets name =
+    rw (sets name, among_more names i x within is name, ← own) (go (bytes_eq text name) refl (is_among name (take i names)) (was name))
+  where
+    apart_too : bytes_eq text name ≡ false → bytes_eq name text ≡ false
+    apart_too e = grind (arith, bytes_eq-Decides)
+
+    go : (b : Bool) → bytes_eq text name ≡ b → (c : Bool) → old name ≡ (if c then roots name else None)
+        → (if b then Some key else old name) ≡ (if c || bytes_eq name text then roots name else None)
+    go true e true h =
+        let same : text ≡ name = (bytes_eq-Decides text name).0 e in
+        cc
+    go true e false h =
+        let same : text ≡ name = (bytes_eq-Decides text name).0 e in
+        rw ((bytes_eq-Decides name text).1 (sym same)) (cc)
+    go false e true h = h
+    go false e false h =
+        let apart : bytes_eq name text ≡ false = apart_too e in
+        rw apart h
+
+-- or stands for none
+pub stands_not : {A : Type 0} (names : List (String A)) (i : ℕ) (x : String A) (text : List ℕ) (roots old : List ℕ → Option ℕ)
+    → i < length names → x ≡ get_or names i x → text ≡ string_bytes x → None ≡ roots text → StandsAmong (take i names) roots old
+    → StandsAmong (take (i + 1) names) roots old
+stands_not names i x text roots old within is own none was name =
+    rw (among_more names i x within is name, ← own) (go (bytes_eq name text) refl (is_among name (take i names)) (was name))
+  where
+    go : (b : Bool) → bytes_eq name text ≡ b → (c : Bool) → old name ≡ (if c then roots name else None)
+        → old name ≡ (if c || b then roots name else None)
+    go b e true h = h
+    go true e false h =
+        let same : name ≡ text = (bytes_eq-Decides name text).0 e in
+        cc
+    go false e false h = h
+
+-- a name that was looked up
+pub finds_none : (name : List ℕ) (roots old : List ℕ → Option ℕ) → None ≡ roots name → FindsToo name roots old old
+finds_none name roots old none q = rw (sym none) (go (bytes_eq name q))
+  where
+    go : (b : Bool) → old q ≡ (if b && false then None else old q)
+    go true = refl
+    go false = refl
+
+pub finds_one : (name : List ℕ) (key : ℕ) (roots old new : List ℕ → Option ℕ) → Some key ≡ roots name → Sets name (Some key) old new → FindsToo name roots old new
+finds_one name key roots old new is sets q = rw (sym is, sets q) (go (bytes_eq name q))
+  where
+    go : (b : Bool) → (if b then Some key else old q) ≡ (if b && true then Some key else old q)
+    go true = refl
+    go false = refl
+
+pub stands_next : {A : Type 0} (names : List (String A)) (i : ℕ) (x : String A) (text : List ℕ) (roots old new : List ℕ → Option ℕ)
+    → i < length names → x ≡ get_or names i x → text ≡ string_bytes x → StandsAmong (take i names) roots old → FindsToo text roots old new
+    → StandsAmong (take (i + 1) names) roots new
+stands_next names i x text roots old new within is own was finds = go (roots text) refl
+  where
+    none_case : (q : List ℕ) (b : Bool) → (if b && false then None else old q) ≡ old q
+    none_case q true = refl
+    none_case q false = refl
+
+    some_case : (key : ℕ) (q : List ℕ) (b : Bool) → (if b && true then Some key else old q) ≡ (if b then Some key else old q)
+    some_case key q true = refl
+    some_case key q false = refl
+
+    go : (o : Option ℕ) → roots text ≡ o → StandsAmong (take (i + 1) names) roots new
+    go None e name =
+        let same : new name ≡ old name = finds name ∙ rw e (none_case name (bytes_eq text name)) in
+        same ∙ stands_not names i x text roots old within is own (sym e) was name
+    go (Some key) e =
+        let sets : Sets text (Some key) old new = λ q. finds q ∙ rw e (some_case key q (bytes_eq text q)) in
+        stands_more names i x text key roots old new within is own (sym e) was sets
+
+-- each name that was found, where none was left out
+pub lists_each : {A : Type 0} (known : List (String A)) (roots found : List ℕ → Option ℕ) (names : List (List ℕ)) → LeavesOutNone roots known
+    → StandsAmong known roots found → ListsEach found names → ListsEach roots names
+lists_each known roots found names all stands each = record {
+  once = each.once;
+  all = λ name text is.
+      let same : found name ≡ roots name = stands name ∙ rw (all name text is) refl in
+      each.all name text (rw same is);
+  only = λ name among. some_only (is_among name known) (roots name) (found name) (stands name) (each.only name among);
+}
+  where
+    some_only : (c : Bool) (own is : Option ℕ) → is ≡ (if c then own else None) → IsSome is → IsSome own
+    some_only c own is e h = grind arith
 
 pub ruleset adding = (pushed_keeps, pushed_lists, not_text)
+
+-- a refusal after others
+pub refused_later : (was mid now : ℕ) (e : Error) → was ≤ mid → IsMemoryOrFailure mid now e → IsMemoryOrFailure was now e
+refused_later was mid now e le h = grind arith
+
+pub refused_memory : (was now : ℕ) (e : Error) → IsOutOfMemory e → IsMemoryOrFailure was now e
+refused_memory was now e is = rw is tt
+
+pub ruleset listing = (none_among, finds_none, finds_one, lists_each, stays_then, refused_later, refused_memory)

@@ -1,9 +1,12 @@
 -- What a copy of one storage's blobs into another contains.
+use Rattle.pagable_file.specs.Names.{is_among}
 use Rattle.pagable_value_spec.specs.Blob.{Blob}
 use Rattle.std.specs.{
   HashMap.{HashMap, get},
-  List.{AllByRecursion, Contains},
-  Prelude.{IsSome, List, Option, Some, nat_eq, ℕ, [], ◌∷◌, ◌≡◌},
+  List.{AllByRecursion, AllPairs, Contains},
+  Prelude.{IsSome, IsTrue, List, Option, Some, String, length, nat_eq, string_bytes, ℕ, [], ◌∷◌, ◌≡◌, ◌≢◌},
+  Prelude.◌⊎◌,
+  Str.bytes_eq,
   declared.hash.{BuildHasherDefault.BuildHasherDefault, FoldHasher.FoldHasher},
 }
 
@@ -56,3 +59,28 @@ pub record IsSameRoot (from to : ℕ → Option Blob) (copies : List ℕ → Opt
 abbrev pub IsCopiedRoot : (ℕ → Option Blob) → (ℕ → Option Blob) → (List ℕ → Option ℕ) → (List ℕ → Option ℕ) → List ℕ
     → Type 0
 IsCopiedRoot from to roots copies name = (root : ℕ) → roots name ≡ Some root → IsSameRoot from to copies name root
+
+-- each name stands for what it stood for, or is this one, and was set to the wanted key
+abbrev pub StaysOrSets : List ℕ → (List ℕ → Option ℕ) → (List ℕ → Option ℕ) → (List ℕ → Option ℕ) → Type 0
+StaysOrSets name wanted old new = (q : List ℕ) → (new q ≡ old q)
+    ⊎ (IsTrue (bytes_eq q name) × IsSome (wanted q) × (new q ≡ wanted q))
+
+-- each name stands for what it stood for, or is one of these names, and was set to the wanted key
+abbrev pub StaysOrCopies : {A : Type 0} → List (String A) → (List ℕ → Option ℕ) → (List ℕ → Option ℕ)
+    → (List ℕ → Option ℕ)
+    → Type 0
+StaysOrCopies names wanted old new = (q : List ℕ) → (new q ≡ old q)
+    ⊎ (IsTrue (is_among q names) × IsSome (wanted q) × (new q ≡ wanted q))
+
+-- the key that one of these names stands for reaches this one
+abbrev pub IsReachedFrom : {A : Type 0} → (ℕ → Option Blob) → (List ℕ → Option ℕ) → List (String A) → ℕ → Type 0
+IsReachedFrom {A} stored roots names key = (name : String A) × Contains names name × ((root : ℕ)
+    × (roots (string_bytes name) ≡ Some root) × Reaches stored root key)
+
+-- As many keys as this: both storages have the same blob under each, and all that the names reach is among them.
+pub record CountsCopied {A : Type 0} (from to : ℕ → Option Blob) (roots : List ℕ → Option ℕ) (names : List (String A)) (count : ℕ) : Type 0 where
+  pub keys : List ℕ
+  pub once : AllPairs (λ a b. a ≢ b) keys
+  pub both : (key : ℕ) → Contains keys key → IsInBoth from to key
+  pub all : (key : ℕ) → IsReachedFrom from roots names key → Contains keys key
+  pub many : count ≡ length keys

@@ -2,5 +2,5 @@ pub mod Rows
 pub mod Blobs
 pub mod Closing
 pub mod Flaws
-pub mod Copies
 pub mod Names
+pub mod Copies

@@ -1,13 +1,29 @@
 -- Which names a list of names has.
-use Rattle.pagable_core.specs.Roots.{is_among}
 use Rattle.pagable_file.specs.{Blobs.WaitingRoots, Rows.row_at, declared.pending.PendingRoot.PendingRoot}
 use Rattle.sqlite_value.specs.Order.{Row, bytes, column}
 use Rattle.std.specs.{
   BTreeMap.get,
+  List.list_any,
   Ordering.int_cmp,
-  Prelude.{IsSome, IsTrue, List, None, Some, String, string_bytes, ℕ, ℤ, ◌≡◌},
-  Str.IsUtf8,
+  Prelude.{Bool, IsSome, IsTrue, List, None, Option, Some, String, if◌then◌else◌, is_some, string_bytes, ℕ, ℤ, ◌&&◌},
+  Prelude.◌≡◌,
+  Str.{IsUtf8, bytes_eq},
 }
+
+abbrev pub is_among : {A : Type 0} → List ℕ → List (String A) → Bool
+is_among name names = list_any (λ it. bytes_eq name (string_bytes it)) names
+
+-- each name, which is UTF-8, is among the names if it stands for a key
+abbrev pub LeavesOutNone : {A : Type 0} → (List ℕ → Option ℕ) → List (String A) → Type 0
+LeavesOutNone roots names = (name : List ℕ) → IsUtf8 name → IsSome (roots name) → IsTrue (is_among name names)
+
+-- each of the names is found with the key that it stands for, and no other name
+abbrev pub StandsAmong : {A : Type 0} → List (String A) → (List ℕ → Option ℕ) → (List ℕ → Option ℕ) → Type 0
+StandsAmong names roots found = (name : List ℕ) → found name ≡ (if is_among name names then roots name else None)
+
+-- this name is found too, if it stands for a key
+abbrev pub FindsToo : List ℕ → (List ℕ → Option ℕ) → (List ℕ → Option ℕ) → (List ℕ → Option ℕ) → Type 0
+FindsToo name roots old new = (q : List ℕ) → new q ≡ (if bytes_eq name q && is_some (roots name) then roots name else old q)
 
 -- each name that was there still is
 abbrev pub KeepsNames : {A : Type 0} → List (String A) → List (String A) → Type 0

@@ -1,7 +1,15 @@
 //! The copy of all that roots reach, from one storage into another.
 
 ghost use Rattle.pagable_core.specs.Data.{blob_of};
-ghost use Rattle.pagable_file.specs.Copies.{AreCopied, HasCopied, HasWantedRoot, IsCopiedRoot};
+ghost use Rattle.pagable_file.specs.Copies.{
+  AreCopied,
+  CountsCopied,
+  HasCopied,
+  HasWantedRoot,
+  IsCopiedRoot,
+  StaysOrCopies,
+  StaysOrSets,
+};
 ghost use Rattle.pagable_value_spec.specs.{Blob.key_of, Stored.Keeps};
 ghost use Rattle.std.specs.{
   List.AllByRecursion,
@@ -53,6 +61,7 @@ fn store_copy<E: Env, T: PagableStorage<E>>(
     ensures stored { IsTrue (T.is_honest to.new) → OnOk result
         (T.stored to.new (key_of E.Hash.digest (blob_of blob.now)) ≡ Some (blob_of blob.now)) }
     ensures keeps { IsTrue (T.is_honest to.new) → Keeps (T.stored to.old) (T.stored to.new) }
+    ensures names_stay { IsTrue (T.is_honest to.new) → T.roots to.new ≡ T.roots to.old }
     ensures honest { IsTrue (T.is_honest to.new) → IsTrue (T.is_honest to.old) }
 {
     let bytes = Vec::from_slice(alloc, blob.bytes.as_slice())?;
@@ -74,7 +83,9 @@ fn copy_blob<E: Env, S: PagableStorage<E>, T: PagableStorage<E>>(
         → OnOk result (AreCopied (S.stored from.old) (T.stored to.old) copied.old
         → AreCopied (S.stored from.old) (T.stored to.new) copied.new) }
     ensures same { IsTrue (S.is_honest from.new) → S.stored from.new ≡ S.stored from.old }
+    ensures same_names { IsTrue (S.is_honest from.new) → S.roots from.new ≡ S.roots from.old }
     ensures keeps { IsTrue (T.is_honest to.new) → Keeps (T.stored to.old) (T.stored to.new) }
+    ensures names_stay { IsTrue (T.is_honest to.new) → T.roots to.new ≡ T.roots to.old }
     ensures honest { IsTrue (S.is_honest from.new) → IsTrue (S.is_honest from.old) }
     ensures honest_copy { IsTrue (T.is_honest to.new) → IsTrue (T.is_honest to.old) }
 {
@@ -94,6 +105,7 @@ fn plan_copy<E: Env, S: PagableStorage<E>>(
     key: DataKey,
 ) -> Result<(), Error>
     ensures same { IsTrue (S.is_honest from.new) → S.stored from.new ≡ S.stored from.old }
+    ensures same_names { IsTrue (S.is_honest from.new) → S.roots from.new ≡ S.roots from.old }
     ensures honest { IsTrue (S.is_honest from.new) → IsTrue (S.is_honest from.old) }
 {
     if seen.insert(key, ())?.is_some() {
@@ -115,6 +127,7 @@ fn push_children(due: &mut Vec<CopyTask>, children: &[DataKey]) -> Result<(), Er
 /// Flushes if the count of copied blobs is a multiple of `BATCH`.
 fn flush_batch<E: Env, T: PagableStorage<E>>(to: &mut T, count: usize) -> Result<(), Error>
     ensures same { IsTrue (T.is_honest to.new) → T.stored to.new ≡ T.stored to.old }
+    ensures names_stay { IsTrue (T.is_honest to.new) → T.roots to.new ≡ T.roots to.old }
     ensures honest { IsTrue (T.is_honest to.new) → IsTrue (T.is_honest to.old) }
 {
     if count % BATCH == 0 {
@@ -140,7 +153,9 @@ fn perform_task<E: Env, S: PagableStorage<E>, T: PagableStorage<E>, W: Watch>(
         → OnOk result (AreCopied (S.stored from.old) (T.stored to.old) copied.old
         → AreCopied (S.stored from.old) (T.stored to.new) copied.new) }
     ensures same { IsTrue (S.is_honest from.new) → S.stored from.new ≡ S.stored from.old }
+    ensures same_names { IsTrue (S.is_honest from.new) → S.roots from.new ≡ S.roots from.old }
     ensures keeps { IsTrue (T.is_honest to.new) → Keeps (T.stored to.old) (T.stored to.new) }
+    ensures names_stay { IsTrue (T.is_honest to.new) → T.roots to.new ≡ T.roots to.old }
     ensures honest { IsTrue (S.is_honest from.new) → IsTrue (S.is_honest from.old) }
     ensures honest_copy { IsTrue (T.is_honest to.new) → IsTrue (T.is_honest to.old) }
 {
@@ -170,7 +185,9 @@ fn copy_reached<E: Env, S: PagableStorage<E>, T: PagableStorage<E>, W: Watch>(
     ensures copied { IsTrue (S.is_honest from.new) → IsTrue (T.is_honest to.new)
         → IfOk result (AreCopied (S.stored from.old) (T.stored to.new)) }
     ensures same { IsTrue (S.is_honest from.new) → S.stored from.new ≡ S.stored from.old }
+    ensures same_names { IsTrue (S.is_honest from.new) → S.roots from.new ≡ S.roots from.old }
     ensures keeps { IsTrue (T.is_honest to.new) → Keeps (T.stored to.old) (T.stored to.new) }
+    ensures names_stay { IsTrue (T.is_honest to.new) → T.roots to.new ≡ T.roots to.old }
     ensures honest { IsTrue (S.is_honest from.new) → IsTrue (S.is_honest from.old) }
     ensures honest_copy { IsTrue (T.is_honest to.new) → IsTrue (T.is_honest to.old) }
 {
@@ -203,9 +220,11 @@ fn read_roots<E: Env, S: Roots<E>>(
     names: &[String],
 ) -> Result<Vec<Option<DataKey>>, Error>
     ensures read { IsTrue (S.PagableStorage.is_honest from.new)
-        → IfOk result (λ keys. keys.items ≡ map (λ name. S.Roots.roots from.old (string_bytes name)) names.now) }
+        → IfOk result (λ keys. keys.items ≡ map (λ name. S.PagableStorage.roots from.old (string_bytes name)) names.now) }
     ensures same { IsTrue (S.PagableStorage.is_honest from.new) → S.PagableStorage.stored from.new
         ≡ S.PagableStorage.stored from.old }
+    ensures same_names { IsTrue (S.PagableStorage.is_honest from.new) → S.PagableStorage.roots from.new
+        ≡ S.PagableStorage.roots from.old }
     ensures honest { IsTrue (S.PagableStorage.is_honest from.new) → IsTrue (S.PagableStorage.is_honest from.old) }
 {
     let mut keys = Vec::new(alloc);
@@ -236,10 +255,12 @@ fn set_copied_root<E: Env, T: Roots<E>>(
     key: Option<DataKey>,
 ) -> Result<(), Error>
     ensures set { IsTrue (T.PagableStorage.is_honest to.new) → (wanted : List ℕ → Option ℕ) → key ≡ wanted name.now
-        → OnOk result (HasWantedRoot copied.now wanted (T.Roots.roots to.new) name.now) }
+        → OnOk result (HasWantedRoot copied.now wanted (T.PagableStorage.roots to.new) name.now) }
     ensures others { IsTrue (T.PagableStorage.is_honest to.new) → (wanted : List ℕ → Option ℕ) → key ≡ wanted name.now
-        → OnOk result ((q : List ℕ) → HasWantedRoot copied.now wanted (T.Roots.roots to.old) q
-        → HasWantedRoot copied.now wanted (T.Roots.roots to.new) q) }
+        → OnOk result ((q : List ℕ) → HasWantedRoot copied.now wanted (T.PagableStorage.roots to.old) q
+        → HasWantedRoot copied.now wanted (T.PagableStorage.roots to.new) q) }
+    ensures named { IsTrue (T.PagableStorage.is_honest to.new) → (wanted : List ℕ → Option ℕ) → key ≡ wanted name.now
+        → StaysOrSets name.now wanted (T.PagableStorage.roots to.old) (T.PagableStorage.roots to.new) }
     ensures same { IsTrue (T.PagableStorage.is_honest to.new) → T.PagableStorage.stored to.new
         ≡ T.PagableStorage.stored to.old }
     ensures honest { IsTrue (T.PagableStorage.is_honest to.new) → IsTrue (T.PagableStorage.is_honest to.old) }
@@ -265,9 +286,12 @@ fn set_roots<E: Env, T: Roots<E>>(
 ) -> Result<(), Error>
     ensures set { IsTrue (T.PagableStorage.is_honest to.new) → (wanted : List ℕ → Option ℕ) → keys.now
         ≡ map (λ name. wanted (string_bytes name)) names.now
-        → OnOk result (AllByRecursion (λ name. HasWantedRoot copied.now wanted (T.Roots.roots to.new)
+        → OnOk result (AllByRecursion (λ name. HasWantedRoot copied.now wanted (T.PagableStorage.roots to.new)
         (string_bytes name))
         names.now) }
+    ensures named { IsTrue (T.PagableStorage.is_honest to.new) → (wanted : List ℕ → Option ℕ) → keys.now
+        ≡ map (λ name. wanted (string_bytes name)) names.now
+        → StaysOrCopies names.now wanted (T.PagableStorage.roots to.old) (T.PagableStorage.roots to.new) }
     ensures same { IsTrue (T.PagableStorage.is_honest to.new) → T.PagableStorage.stored to.new
         ≡ T.PagableStorage.stored to.old }
     ensures honest { IsTrue (T.PagableStorage.is_honest to.new) → IsTrue (T.PagableStorage.is_honest to.old) }
@@ -280,7 +304,8 @@ fn set_roots<E: Env, T: Roots<E>>(
 
 /// Copies all that the roots of these names reach, and returns how many blobs that is. It copies
 /// children before the blobs that refer to them, and sets the roots last. It flushes after every
-/// 1,000 blobs; the caller must flush the roots. It skips a name that stands for no key.
+/// 1,000 blobs; the caller must flush the roots. It skips a name that stands for no key, and sets no
+/// name but these.
 ///
 /// # Errors
 ///
@@ -298,10 +323,18 @@ pub fn copy<E: Env, S: Roots<E>, T: Roots<E>, W: Watch>(
 ) -> Result<usize, Error>
     ensures copied { IsTrue (S.PagableStorage.is_honest from.new) → IsTrue (T.PagableStorage.is_honest to.new)
         → OnOk result (AllByRecursion (λ name. IsCopiedRoot (S.PagableStorage.stored from.old)
-        (T.PagableStorage.stored to.new) (S.Roots.roots from.old) (T.Roots.roots to.new) (string_bytes name))
+        (T.PagableStorage.stored to.new) (S.PagableStorage.roots from.old) (T.PagableStorage.roots to.new) (string_bytes name))
         names.now) }
     ensures same { IsTrue (S.PagableStorage.is_honest from.new) → S.PagableStorage.stored from.new
         ≡ S.PagableStorage.stored from.old }
+    ensures same_names { IsTrue (S.PagableStorage.is_honest from.new) → S.PagableStorage.roots from.new
+        ≡ S.PagableStorage.roots from.old }
+    ensures counts { IsTrue (S.PagableStorage.is_honest from.new) → IsTrue (T.PagableStorage.is_honest to.new)
+        → IfOk result (CountsCopied (S.PagableStorage.stored from.old) (T.PagableStorage.stored to.new)
+        (S.PagableStorage.roots from.old) names.now) }
+    ensures names { IsTrue (S.PagableStorage.is_honest from.new) → IsTrue (T.PagableStorage.is_honest to.new)
+        → StaysOrCopies names.now (S.PagableStorage.roots from.old) (T.PagableStorage.roots to.old)
+        (T.PagableStorage.roots to.new) }
     ensures keeps { IsTrue (T.PagableStorage.is_honest to.new)
         → Keeps (T.PagableStorage.stored to.old) (T.PagableStorage.stored to.new) }
     ensures honest { IsTrue (S.PagableStorage.is_honest from.new) → IsTrue (S.PagableStorage.is_honest from.old) }

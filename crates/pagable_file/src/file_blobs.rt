@@ -3,7 +3,7 @@
 ghost use Rattle.pagable_core.specs.Data.{blob_of};
 ghost use Rattle.pagable_file.specs.{
   Blobs.{AreKeyed, HasBlob, RefusesFound, RefusesHeld, RefusesOtherKey, RefusesRead, Settled, blob_pending},
-  Blobs.{is_honest_view, roots_with, settled_prop, stored_with, unless},
+  Blobs.{is_honest_view, roots_unless, roots_with, settled_prop, stored_with, unless},
   Rows.{blob_tree, blobs_in, root_tree, roots_in},
 };
 ghost use Rattle.pagable_value_spec.specs.{Blob.key_of, Stored.IsMemoryOrFailure};
@@ -11,7 +11,7 @@ ghost use Rattle.sqlite.specs.Held.{state};
 ghost use Rattle.sqlite_trees.specs.{Tree.Trees, View.IsClean};
 ghost use Rattle.std.specs.{
   Arc.arc_value,
-  Prelude.{IfErr, IfOk, IsTrue, OnOk, Some, false, is_some, [], ◌≡◌, ◌≤◌, ◌⊎◌},
+  Prelude.{IfErr, IfOk, IsTrue, OnErr, OnOk, Some, false, is_some, length, [], ◌≡◌, ◌≤◌, ◌⊎◌},
 };
 
 use crate::fault::Fault;
@@ -144,9 +144,9 @@ impl<E: Env, S: Store> FileBlobs<E, S> {
         ensures ok { IsTrue (is_honest_view (S.view self.new.store))
             → IfOk result (λ there. there ≡ is_some (unless self.old.closed
             (stored_with self.old.waiting ((S.view self.old.store).committed blob_tree)) key)) }
-        ensures same { IsTrue (is_honest_view (S.view self.new.store))
-            → unless self.new.closed (stored_with self.new.waiting ((S.view self.new.store).committed blob_tree))
-            ≡ unless self.old.closed (stored_with self.old.waiting ((S.view self.old.store).committed blob_tree)) }
+        ensures same { IsTrue (is_honest_view (S.view self.new.store)) → (S.view self.new.store).committed
+            ≡ (S.view self.old.store).committed }
+        ensures waits { (self.new.waiting ≡ self.old.waiting) × (self.new.waiting_roots ≡ self.old.waiting_roots) }
         ensures sure { IsTrue (is_honest_view (S.view self.new.store))
             → IsTrue (is_honest_view (S.view self.old.store)) }
         ensures only { IfErr result (IsMemoryOrFailure self.old.stats.failures self.new.stats.failures) }
@@ -168,7 +168,9 @@ impl<E: Env, S: Store> FileBlobs<E, S> {
     }
 
     /// Returns how many blobs wait for a flush.
-    pub fn pending(&self) -> usize {
+    pub fn pending(&self) -> usize
+        ensures { result ≡ length self.now.waiting.entries }
+    {
         self.waiting.len()
     }
 
@@ -196,6 +198,8 @@ impl<E: Env, S: Store> FileBlobs<E, S> {
             → roots_with self.new.waiting_roots ((S.view self.new.store).committed root_tree)
             ≡ roots_with self.old.waiting_roots ((S.view self.old.store).committed root_tree) }
         ensures nothing_waits { OnOk result ((self.new.waiting.entries ≡ []) × (self.new.waiting_roots.entries ≡ [])) }
+        ensures kept { IsTrue (is_honest_view (S.view self.new.store)) → OnErr result
+            ((S.view self.new.store).committed ≡ (S.view self.old.store).committed) }
         ensures sure { IsTrue (is_honest_view (S.view self.new.store))
             → IsTrue (is_honest_view (S.view self.old.store)) }
         ensures only { IfErr result (IsMemoryOrFailure self.old.stats.failures self.new.stats.failures) }
@@ -245,7 +249,11 @@ impl<E: Env, S: Store> PagableStorage<E> for FileBlobs<E, S> {
 
     ghost failed = { λ s. s.stats.failures };
 
-    #[tactic(auto, using(crate::proofs::Fetching::fetching))]
+    ghost roots = { λ s. roots_unless s.closed (roots_with s.waiting_roots ((S.view s.store).committed root_tree)) };
+
+    ghost roots_flushed = { λ s. roots_unless s.closed (roots_in ((S.view s.store).committed root_tree)) };
+
+    #[tactic(auto, using(crate::proofs::Fetching::fetching, crate::proofs::Named::names_kept))]
     fn fetch_data_blocking(
         &mut self,
         alloc: Global,
@@ -273,7 +281,7 @@ impl<E: Env, S: Store> PagableStorage<E> for FileBlobs<E, S> {
         Poll::Ready(self.fetch_data_blocking(alloc, key))
     }
 
-    #[tactic(auto, using(crate::proofs::Fetching::storing))]
+    #[tactic(auto, using(crate::proofs::Fetching::storing, crate::proofs::Named::names_kept))]
     fn store_data(&mut self, alloc: Global, blob: PagableData) -> Result<DataKey, Error> {
         if self.closed {
             return Err(Error::Closed);
@@ -297,6 +305,7 @@ impl<E: Env, S: Store> PagableStorage<E> for FileBlobs<E, S> {
         Ok(key)
     }
 
+    #[tactic(auto, using(crate::proofs::Named::flushing))]
     fn flush(&mut self) -> Result<(), Error> {
         if self.closed {
             return Ok(());

@@ -18,6 +18,7 @@ mod naming;
 pub mod open_error;
 pub mod pending;
 pub mod reopening;
+mod root_list;
 mod roots;
 pub mod rows;
 mod saving;

@@ -4,7 +4,7 @@
 ghost use Rattle.pagable_core.specs.Roots.{HasBlobIfKey, RefusesRoot};
 ghost use Rattle.pagable_file.specs.{
   Blobs.{HasNoOtherName, HoldsRoot, IsNotOther, LeavesCommitted, Settled, found_root, is_honest_view, reads_blob},
-  Blobs.stored_with,
+  Blobs.{roots_with, stored_with},
   Rows.{blob_tree, root_tree, row_at},
 };
 ghost use Rattle.pagable_value_spec.specs.{Outcomes.IsOutOfMemory, Stored.IsMemoryOrFailure};
@@ -93,7 +93,7 @@ fn test_key<S: Store>(
 
 /// Returns the key that `name` stands for according to `held`, the entry that waits for a flush at
 /// the name's place; None if it is another name's, or says that `name` stands for no key any more.
-pub fn held_root(held: &PendingRoot, name: &str) -> Option<DataKey>
+fn held_root(held: &PendingRoot, name: &str) -> Option<DataKey>
     ensures { result ≡ (if bytes_eq (string_bytes held.now.name) name.now then held.now.key else None) }
 {
     if held.name.as_bytes() == name.as_bytes() {
@@ -105,12 +105,37 @@ pub fn held_root(held: &PendingRoot, name: &str) -> Option<DataKey>
 
 /// Returns the key that a name stands for according to `found`, the row at the name's rowid; None
 /// if there is no row, it is another name's, or the name stands for no key any more.
-pub fn read_key_of(found: Option<Naming>) -> Option<DataKey>
+fn read_key_of(found: Option<Naming>) -> Option<DataKey>
     ensures { result ≡ found_root found }
 {
     match found {
         Some(Naming::Root(key)) => key,
         Some(Naming::Other) | None => None,
+    }
+}
+
+/// Returns the key that a name stands for, or None if it stands for none.
+#[tactic(auto, using(crate::proofs::Named::looking))]
+pub fn key_of_name<S: Store>(
+    store: &mut S,
+    row: &mut Row,
+    waiting: &WaitingRoots,
+    stats: &mut Stats,
+    name: &str,
+) -> Result<Option<DataKey>, Error>
+    requires settled { Settled (S.view store.old) }
+    ensures ok { IsTrue (is_honest_view (S.view store.new)) → IfOk result
+        (λ key. key ≡ roots_with waiting.now ((S.view store.old).committed root_tree) name.now) }
+    ensures stays { LeavesCommitted (S.view store.old) (S.view store.new) }
+    ensures only { IfErr result (IsMemoryOrFailure stats.old.failures stats.new.failures) }
+    ensures failures_never_fall { stats.old.failures ≤ stats.new.failures }
+{
+    if let Some(held) = waiting_root_at(waiting, name) {
+        return Ok(held_root(held, name));
+    }
+    match read_root_of_name(store, row, name) {
+        Ok(found) => Ok(read_key_of(found)),
+        Err(error) => Err(count_store_error(stats, error)),
     }
 }
 
