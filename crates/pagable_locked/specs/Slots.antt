@@ -1,12 +1,12 @@
--- The outcomes of slots and claims are those of their identities.
+-- The outcomes of slots and claims are those of their identities; and how many claims a claim counts.
 use Rattle.pagable_codec.specs.{
   declared.{env.Env.Ghosts as Environments, hash.KeyHash.Ghosts as Hashes, nodes.NodeSet.Ghosts as Nodes},
 }
 use Rattle.pagable_locked.specs.declared.table.ClaimFound.{ClaimFound}
 use Rattle.pagable_pageout.specs.declared.lent_slot.Outcome.{Outcome}
-use Rattle.pagable_value_spec.specs.declared.numbers.Identity.{Identity}
+use Rattle.pagable_value_spec.specs.declared.{error.Error.Error, numbers.Identity.Identity}
 use Rattle.std.specs.{
-  Prelude.{IfSome, ◌≡◌, ◌≢◌},
+  Prelude.{IfSome, Ok, Result, ℕ, ◌≡◌, ◌≢◌},
   declared.cmp.{Ord.Ghosts as Orders, PartialEq.Ghosts as Equalities, PartialOrd.Ghosts as PartialOrders},
 }
 
@@ -39,3 +39,8 @@ module _ {E EN EH EK EV : Type 0} {g : Environments E EN EH EK EV} {gh : Hashes 
   IsClaimFoundOf i (ClaimFound.Claimed slot) = slot.identity ≡ i
   IsClaimFoundOf i (ClaimFound.Waits slot) = slot.identity ≡ i
   IsClaimFoundOf i (ClaimFound.Ended outcome) = IfSome outcome (λ r. r.identity ≡ i)
+
+  -- how many claims a worker's claim counts: one if the identity was free, none if it wasn't or the claim is refused
+  abbrev pub claims_made : Result (ClaimFound E EN EH EK EV g gh go gq gp gn) Error → ℕ
+  claims_made (Ok (ClaimFound.Claimed slot)) = 1
+  claims_made result = 0

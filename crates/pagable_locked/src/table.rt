@@ -1,7 +1,7 @@
 //! The table of slots that threads share. A call holds its lock only to look up, make or claim a
 //! slot; each slot has a lock of its own.
 
-ghost use Rattle.pagable_locked.specs.Slots.{IsClaimFoundOf};
+ghost use Rattle.pagable_locked.specs.Slots.{IsClaimFoundOf, claims_made};
 ghost use Rattle.std.specs.{BTreeSet.btree_set_len, Prelude.{IfOk, OnErr, if◌then◌else◌, ◌+◌, ◌<◌, ◌≡◌}};
 
 use crate::lock::lock_briefly;
@@ -156,6 +156,7 @@ impl<E: Env<Node: NodeSet<E>>, L: Ledger> Slots<E, L> {
         share: &mut ClaimShare<L>,
     ) -> Result<ClaimFound<E>, Error>
         ensures own { IfOk result (IsClaimFoundOf identity) }
+        ensures amount { share.new.share.amount ≡ share.old.share.amount + claims_made result }
         ensures parts { share.new.share.parts ≡ share.old.share.parts }
     {
         let slot = self.slot(alloc, identity)?;
@@ -273,7 +274,8 @@ impl<L: Ledger> WorkerShare<L> {
         worker: WorkerNumber,
         identity: Identity,
     ) -> Result<ClaimFound<E>, Error>
-        ensures { IfOk result (IsClaimFoundOf identity) }
+        ensures own { IfOk result (IsClaimFoundOf identity) }
+        ensures amount { self.new.share.share.amount ≡ self.old.share.share.amount + claims_made result }
     {
         let WorkerShare { share } = self;
         lock_briefly(&table.slots, rt).claim_for_worker(rt, alloc, worker, identity, share)
