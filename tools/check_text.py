@@ -63,8 +63,9 @@ TAKING = "lock.rt"
 # The locks of a slot and of the table are others.
 OTHER_LOCKS = {"state", "slots"}
 CALLED = re.compile(r"(?<!fn )\b(\w+)(?:::<[^(){};]*>)?\(")
-# What may stand before a parenthesis behind the lock, beside one call of the pager: the answer, the access of an owner, and what may follow that call.
-PLAIN = {"Ok", "Err", "Some", "Left", "Right", "Worker"}
+# What may stand before a parenthesis behind the lock, beside one call of the pager: the answer, what does nothing, the
+# access of an owner, and what may follow that call.
+PLAIN = {"Ok", "Err", "Some", "Left", "Right", "Worker", "assert_invariant"}
 ACCESS = {"new", "for_owner"}
 # What may follow a call, once each: the node of the handle that it answered, and the blob where the cache answered none.
 FOLLOWS, ALSO = {"node_of"}, {"cache_get": {"fetch"}}

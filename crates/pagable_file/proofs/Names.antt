@@ -180,9 +180,9 @@ stands_next names i x text roots old new within is own was finds = go (roots tex
     go None e name =
         let same : new name ≡ old name = finds name ∙ rw e (none_case name (bytes_eq text name)) in
         same ∙ stands_not names i x text roots old within is own (sym e) was name
-    go (Some key) e =
+    go (Some key) e name =
         let sets : Sets text (Some key) old new = λ q. finds q ∙ rw e (some_case key q (bytes_eq text q)) in
-        stands_more names i x text key roots old new within is own (sym e) was sets
+        stands_more names i x text key roots old new within is own (sym e) was sets name
 
 -- each name that was found, where none was left out
 pub lists_each : {A : Type 0} (known : List (String A)) (roots found : List ℕ → Option ℕ) (names : List (List ℕ)) → LeavesOutNone roots known

@@ -1,5 +1,8 @@
 //! A pager that threads share, over blobs in memory.
 
+ghost use Rattle.pagable_value_spec.specs.Outcomes.{IsOutOfMemory};
+ghost use Rattle.std.specs.{Arc.arc_value, Prelude.{IfErr, IfOk, Ok, ◌≡◌}};
+
 use crate::storage_handle::PagableStorageHandle;
 use pagable_codec::{Env, NodeSet};
 use pagable_core::{InMemoryBlobs, SessionOf};
@@ -23,6 +26,8 @@ impl<E: Env<Node: NodeSet<E>>> InMemoryPagableStorage<E> {
     pub fn new(alloc: Global, env: E) -> Result<InMemoryPagableStorage<E>, Error>
     where
         E: Drop,
+        ensures environment { IfOk result (λ s. (arc_value (arc_value s.handle.inner).setting).env ≡ env) }
+        ensures only { IfErr result IsOutOfMemory }
     {
         let handle = PagableStorageHandle::new(alloc, InMemoryBlobs::new(alloc), env)?;
         Ok(InMemoryPagableStorage { handle })
@@ -36,6 +41,7 @@ impl<E: Env<Node: NodeSet<E>>> InMemoryPagableStorage<E> {
     pub fn default(alloc: Global) -> Result<InMemoryPagableStorage<E>, Error>
     where
         E: Default + Drop,
+        ensures { IfErr result IsOutOfMemory }
     {
         InMemoryPagableStorage::new(alloc, E::default())
     }
@@ -45,13 +51,18 @@ impl<E: Env<Node: NodeSet<E>>> InMemoryPagableStorage<E> {
     /// # Errors
     ///
     /// - `OutOfMemory` if it is shared too often already.
-    pub fn handle(&self) -> Result<PagableStorageHandle<E, InMemoryBlobs<E>>, Error> {
+    pub fn handle(&self) -> Result<PagableStorageHandle<E, InMemoryBlobs<E>>, Error>
+        ensures same { IfOk result (λ h. arc_value h.inner ≡ arc_value self.now.handle.inner) }
+        ensures only { IfErr result IsOutOfMemory }
+    {
         self.handle.clone()
     }
 
     /// Lends the context of the one session of all values that this pager writes and reads. It
     /// takes no lock.
-    pub fn session_context(&self) -> &SessionOf<E> {
+    pub fn session_context(&self) -> &SessionOf<E>
+        ensures { result.now ≡ (arc_value (arc_value self.now.handle.inner).setting).session }
+    {
         self.handle.session_context()
     }
 
@@ -72,7 +83,9 @@ impl<E: Env<Node: NodeSet<E>>> InMemoryPagableStorage<E> {
     }
 
     /// Closes the storage: see `PagableStorageHandle::close`.
-    pub fn close<R: Wait>(&self, rt: &R) -> Result<(), Error> {
+    pub fn close<R: Wait>(&self, rt: &R) -> Result<(), Error>
+        ensures { result ≡ Ok tt }
+    {
         self.handle.close(rt)
     }
 }

@@ -39,8 +39,8 @@ impl<'a, R: Wait, E: Env<Node: NodeSet<E>>, S: PagableStorage<E>> Locked<'a, R, 
         pager: &'a Mutex<Pager<E, S>>,
         setting: &'a Setting<E>,
     ) -> Locked<'a, R, E, S>
-        ensures me { result.me ≡ Owner.Caller }
-        ensures environment { result.setting.now ≡ setting.now }
+        ensures caller { result.me ≡ Owner.Caller }
+        ensures setting { result.setting.now ≡ setting.now }
     {
         Locked {
             rt,

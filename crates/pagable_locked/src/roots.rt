@@ -1,4 +1,8 @@
 //! Names of roots, in a storage that threads share.
+#![tactic(auto, using(crate::proofs::Refusals::only))]
+
+ghost use Rattle.pagable_locked.specs.Refusals.{IsOfStorage};
+ghost use Rattle.std.specs.Prelude.{IfErr};
 
 use crate::storage_handle::PagableStorageHandle;
 use pagable_codec::{Env, NodeSet};
@@ -13,7 +17,9 @@ impl<E: Env<Node: NodeSet<E>>, S: Roots<E>> PagableStorageHandle<E, S> {
     /// # Errors
     ///
     /// - `OutOfMemory`, `Storage` as the storage fails.
-    pub fn root<R: Wait>(&self, rt: &R, name: &str) -> Result<Option<DataKey>, Error> {
+    pub fn root<R: Wait>(&self, rt: &R, name: &str) -> Result<Option<DataKey>, Error>
+        ensures only { IfErr result IsOfStorage }
+    {
         self.inner.pager.lock(rt).root(name)
     }
 

@@ -1,12 +1,21 @@
 //! A handle of a storage that threads share: a pager behind a lock, with environment and session
 //! outside of it.
+#![tactic(auto, using(crate::proofs::Refusals::only, crate::proofs::Numbers::later))]
 
 ghost use Rattle.pagable_core.specs.Data.{blob_of};
 ghost use Rattle.pagable_load.specs.{AccessView.{IsNamedOrKind, values_at}, Keyed.HoldsKeyed};
 ghost use Rattle.pagable_pageout.specs.{Results.IsKeyOverResults, Slots.written_of};
 ghost use Rattle.pagable_pager_spec.specs.declared.handle_row.Owner.{Owner};
-ghost use Rattle.pagable_value_spec.specs.Blob.{key_of};
-ghost use Rattle.std.specs.{Arc.arc_value, Prelude.{IfOk, ◌<◌, ◌≡◌}};
+ghost use Rattle.pagable_locked.specs.Refusals.{
+  IsOfFetch,
+  IsOfGrowth,
+  IsOfListing,
+  IsOfOffer,
+  IsOfStorage,
+  IsOfStore,
+};
+ghost use Rattle.pagable_value_spec.specs.{Blob.key_of, Outcomes.IsOutOfMemory};
+ghost use Rattle.std.specs.{Arc.arc_value, Prelude.{IfErr, IfOk, IfSome, Ok, ◌<◌, ◌≡◌, ◌≤◌}};
 
 use crate::locked::Locked;
 use crate::share::{ClaimShare, WorkerShare};
@@ -46,6 +55,8 @@ impl<E: Env<Node: NodeSet<E>>, S: PagableStorage<E>> PagableStorageHandle<E, S> 
     where
         E: Drop,
         S: Drop,
+        ensures environment { IfOk result (λ h. (arc_value (arc_value h.inner).setting).env ≡ env) }
+        ensures only { IfErr result IsOutOfMemory }
     {
         let setting = Arc::new(alloc, Setting::new(alloc, env))?;
         let pager = Pager::with_shared_setting(alloc, storage, Arc::try_clone(&setting)?);
@@ -59,27 +70,34 @@ impl<E: Env<Node: NodeSet<E>>, S: PagableStorage<E>> PagableStorageHandle<E, S> 
     /// # Errors
     ///
     /// - `OutOfMemory` if it is shared too often already.
-    pub fn clone(&self) -> Result<PagableStorageHandle<E, S>, Error> {
+    pub fn clone(&self) -> Result<PagableStorageHandle<E, S>, Error>
+        ensures same { IfOk result (λ h. arc_value h.inner ≡ arc_value self.now.inner) }
+        ensures only { IfErr result IsOutOfMemory }
+    {
         let inner = Arc::try_clone(&self.inner)?;
         Ok(PagableStorageHandle { inner })
     }
 
     /// Lends the caller's access on this thread, for loads and page-outs.
     pub fn access<'a, R: Wait>(&'a self, rt: &'a R) -> Locked<'a, R, E, S>
-        ensures me { result.me ≡ Owner.Caller }
-        ensures environment { result.setting.now.env ≡ (arc_value (arc_value self.now.inner).setting).env }
+        ensures caller { result.me ≡ Owner.Caller }
+        ensures setting { result.setting.now ≡ arc_value (arc_value self.now.inner).setting }
     {
         Locked::new(rt, &self.inner.pager, self.inner.setting.as_ref())
     }
 
     /// Lends the environment. It takes no lock.
-    pub fn env(&self) -> &E {
+    pub fn env(&self) -> &E
+        ensures { result.now ≡ (arc_value (arc_value self.now.inner).setting).env }
+    {
         &self.inner.setting.env
     }
 
     /// Lends the context of the one session of all values that this pager writes and reads. It
     /// takes no lock.
-    pub fn session_context(&self) -> &SessionOf<E> {
+    pub fn session_context(&self) -> &SessionOf<E>
+        ensures { result.now ≡ (arc_value (arc_value self.now.inner).setting).session }
+    {
         &self.inner.setting.session
     }
 
@@ -122,7 +140,9 @@ impl<E: Env<Node: NodeSet<E>>, S: PagableStorage<E>> PagableStorageHandle<E, S> 
     /// - `NotYours` if the caller doesn't own it.
     /// - `WrongMode` if it isn't loose and unpinned.
     /// - `OutOfMemory` if the list can't grow. After each error nothing has changed.
-    pub fn schedule_for_paging<R: Wait>(&self, rt: &R, handle: HandleNumber) -> Result<(), Error> {
+    pub fn schedule_for_paging<R: Wait>(&self, rt: &R, handle: HandleNumber) -> Result<(), Error>
+        ensures only { IfErr result IsOfListing }
+    {
         self.inner.pager.lock(rt).schedule_for_paging(handle)
     }
 
@@ -139,6 +159,7 @@ impl<E: Env<Node: NodeSet<E>>, S: PagableStorage<E>> PagableStorageHandle<E, S> 
         key: DataKey,
     ) -> Result<Arc<PagableData>, Error>
         ensures named { IfOk result (λ found. key_of E.Hash.digest (blob_of (arc_value found)) ≡ key) }
+        ensures only { IfErr result (IsOfFetch key) }
     {
         self.inner.pager.lock(rt).fetch(alloc, key)
     }
@@ -185,11 +206,13 @@ impl<E: Env<Node: NodeSet<E>>, S: PagableStorage<E>> PagableStorageHandle<E, S> 
         kind: Kind,
         key: DataKey,
         handle: HandleNumber,
-    ) -> Result<Option<HandleNumber>, Error> {
-        self.inner
-            .pager
-            .lock(rt)
-            .on_arc_deserialized(kind, key, handle)
+    ) -> Result<Option<HandleNumber>, Error>
+        ensures later { IfOk result (λ found. IfSome found (λ h. handle.0 ≤ h.0)) }
+        ensures only { IfErr result IsOfOffer }
+    {
+        let mut pager = self.inner.pager.lock(rt);
+        pager.assert_invariant();
+        pager.on_arc_deserialized(kind, key, handle)
     }
 
     /// Stores a blob, and returns its key.
@@ -205,6 +228,7 @@ impl<E: Env<Node: NodeSet<E>>, S: PagableStorage<E>> PagableStorageHandle<E, S> 
         blob: PagableData,
     ) -> Result<DataKey, Error>
         ensures key { IfOk result (λ key. key ≡ key_of E.Hash.digest (blob_of blob)) }
+        ensures only { IfErr result IsOfStore }
     {
         let key = blob.compute_key::<E::Hash>();
         self.inner.pager.lock(rt).store_keyed(alloc, key, blob)
@@ -215,7 +239,9 @@ impl<E: Env<Node: NodeSet<E>>, S: PagableStorage<E>> PagableStorageHandle<E, S> 
     /// # Errors
     ///
     /// - `OutOfMemory`, `Storage` as the storage fails.
-    pub fn flush<R: Wait>(&self, rt: &R) -> Result<(), Error> {
+    pub fn flush<R: Wait>(&self, rt: &R) -> Result<(), Error>
+        ensures only { IfErr result IsOfStorage }
+    {
         self.inner.pager.lock(rt).flush()
     }
 
@@ -230,12 +256,16 @@ impl<E: Env<Node: NodeSet<E>>, S: PagableStorage<E>> PagableStorageHandle<E, S> 
         rt: &R,
         kind: Kind,
         key: DataKey,
-    ) -> Result<Option<HandleNumber>, Error> {
+    ) -> Result<Option<HandleNumber>, Error>
+        ensures only { IfErr result IsOfGrowth }
+    {
         self.inner.pager.lock(rt).cache_get(kind, key)
     }
 
     /// Empties the cache. Never fails.
-    pub fn cache_clear<R: Wait>(&self, rt: &R) -> Result<(), Error> {
+    pub fn cache_clear<R: Wait>(&self, rt: &R) -> Result<(), Error>
+        ensures { result ≡ Ok tt }
+    {
         self.inner.pager.lock(rt).cache_clear()
     }
 
@@ -277,6 +307,7 @@ impl<E: Env<Node: NodeSet<E>>, S: PagableStorage<E>> PagableStorageHandle<E, S> 
             (values_at E.Node.NodeSet E.Env E.Hash.KeyHash)
             (written_of (arc_value item)) key ∥₁) }
         ensures parts { share.new.share.parts ≡ share.old.share.parts }
+        ensures counted { share.old.share.amount ≤ share.new.share.amount }
     {
         let walk = WorkerShare::split_off(share);
         let mut claims = SharedClaims::new(rt, alloc, table, walk);
@@ -305,7 +336,9 @@ impl<E: Env<Node: NodeSet<E>>, S: PagableStorage<E>> PagableStorageHandle<E, S> 
     /// Closes the storage: there are no blobs, no cached nodes and no cells waiting for page-out
     /// from then on. Each fetch fails with `NoData`, storing fails with `Closed`, and nothing is
     /// cached or listed any more. It can't fail.
-    pub fn close<R: Wait>(&self, rt: &R) -> Result<(), Error> {
+    pub fn close<R: Wait>(&self, rt: &R) -> Result<(), Error>
+        ensures { result ≡ Ok tt }
+    {
         self.inner.pager.lock(rt).close()
     }
 }

@@ -260,7 +260,7 @@ impl<E: Env<Node: NodeSet<E>>, L: Ledger> SlotTable<E, L> {
 
 impl<L: Ledger> WorkerShare<L> {
     /// Claims an identity for a worker's walk, or returns its outcome; if it is claimed and has no
-    /// outcome yet, notes that the worker waits for it.
+    /// outcome yet, notes that the worker waits for it. Counts a claim that it makes in this share.
     ///
     /// # Errors
     ///

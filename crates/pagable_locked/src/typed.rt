@@ -1,4 +1,5 @@
 //! The calls that typed handles make on a storage that threads share.
+#![tactic(auto, using(crate::proofs::Refusals::only, crate::proofs::Numbers::later))]
 
 use crate::handle_pin::HandlePin;
 use crate::lock::lock_briefly;
@@ -12,11 +13,26 @@ use std::alloc::Global;
 use std::sync::Wait;
 
 impl<E: Env<Node: NodeSet<E>>, S: PagableStorage<E>> Storage<E> for PagableStorageHandle<E, S> {
-    ghost use Rattle.std.specs.Prelude.{None};
+    ghost use Rattle.std.specs.Prelude.{IfErr, None};
+    ghost use Rattle.pagable_locked.specs.Refusals.{IsOfMode, IsOfQuery, IsOfRelease, IsOfUnpin};
 
     type Pin = HandlePin<E, S>;
 
     ghost nodes_by_handle = { λ s. None };
+
+    ghost unpin_answers = { λ s h r. IfErr r IsOfUnpin };
+
+    ghost loosen_answers = { λ s h r. IfErr r IsOfMode };
+
+    ghost release_answers = { λ s h r. IfErr r IsOfRelease };
+
+    ghost counts = { λ s h r. IfErr r IsOfQuery };
+
+    ghost key_answers = { λ s h r. IfErr r IsOfQuery };
+
+    ghost set_key_answers = { λ s h k r. IfErr r IsOfRelease };
+
+    ghost paged_out_answers = { λ s h r. IfErr r IsOfQuery };
 
     fn insert<R: Wait>(
         &self,
@@ -50,7 +66,9 @@ impl<E: Env<Node: NodeSet<E>>, S: PagableStorage<E>> Storage<E> for PagableStora
     }
 
     fn clone_handle<R: Wait>(&self, rt: &R, handle: HandleNumber) -> Result<HandleNumber, Error> {
-        lock_briefly(&self.inner.pager, rt).clone(handle)
+        let mut pager = lock_briefly(&self.inner.pager, rt);
+        pager.assert_invariant();
+        pager.clone(handle)
     }
 
     fn pin<R: Wait>(
