@@ -153,3 +153,17 @@ def hostile(program, library, tally):
     if (out, status, refused) != (b"".join(answer + b"\n" for _, answer in HOSTILE if answer), 0, 0):
         tally.fault("pagectl, lines that are no lines", f"status {status}, {refused} large requests, `{out[:200]}`")
     tally.places["pagectl", "hostile lines"] += len(HOSTILE)
+
+
+WRONG_WORDS = [["weigh", "more"], ["weight"], ["-h"], [""], ["weigh", ""], [b"\xff"], [b"weigh", b"\xff"]]
+USAGE = (b"", b"usage: pagectl weigh|sha256\n", 2)
+
+
+def wrong_words(program, tally):
+    """Command lines that are none: the usage on standard error alone, and the status 2."""
+    for words in WRONG_WORDS:
+        done = subprocess.run([program, *words], input=b"pending\n", capture_output=True)
+        if (done.stdout, done.stderr, done.returncode) != USAGE:
+            told = f"status {done.returncode}, `{done.stdout[:200]}`, `{done.stderr[:200]}`"
+            tally.fault(f"pagectl, a call with {words}", told)
+    tally.places["pagectl", "wrong command lines"] += len(WRONG_WORDS)

@@ -134,6 +134,7 @@ def tried(program, library):
     pagectl.each_request(program, library, tally)
     pagectl.each_reading_and_writing(program, library, tally)
     pagectl.hostile(program, library, tally)
+    pagectl.wrong_words(program, tally)
     return tally
 
 

@@ -1,6 +1,6 @@
 #!/usr/bin/env python3
 """Tries what users may do to files of blobs: kills, full disks, a second writer, gc beside others, damage, copies of
-the file alone, SQLite's own shell, and texts that one run saves and the next one opens.
+the file alone, SQLite's own shell, texts that one run saves and the next one opens, and calls that are none.
 
     tools/file_blobs/check.py [PROGRAM [KILLS [STEP [SECONDS [SEED]]]]]
 
@@ -218,6 +218,24 @@ def texts(program, folder):
     return None
 
 
+def statuses(program, folder):
+    """Calls that are none of the usage end with the status 2, and those that fail with 1; neither makes a file."""
+    file, none = removed(folder / "statuses.blobs"), folder / "none.blobs"
+    key = run(program, file, "put", "01").stdout.split()[0]
+    usage, missing = ("", "usage: blobctl FILE ["), ("", f"blobctl: {none}: there is no such file\n")
+    bare = [["texts"], ["-f"], [none, "stats"], [none, "stat", "more"], [none, "tree"], [none, "copy"], [none, "put"]]
+    wanted = [(words, 2, usage) for words in [[], *bare]]
+    for words in (["stat"], ["list"], ["roots"], ["tree", key], ["dot", key], ["fsck"], ["copy", file], ["gc"]):
+        wanted.append(([none, *words], 1, missing))
+    wanted += [([file, "tree", "no"], 1, ("bad line\n", "")), ([file, "put", "0"], 1, ("bad line\n", ""))]
+    for words, status, (said, why) in wanted:
+        done = subprocess.run([program, *words], input="", capture_output=True, text=True, check=False)
+        if (done.returncode, done.stdout) != (status, said) or not done.stderr.startswith(why) or none.exists():
+            return f"statuses: {words} gives {done.returncode} {done.stdout}{done.stderr}"
+    print(f"statuses: {len(wanted)} calls that are none or fail")
+    return None
+
+
 def main():
     rounds, step, seconds, seed = [*map(int, sys.argv[2:]), *[20, 80, 5, 5][len(sys.argv[2:]) :]]
     if not damages.shell_is_there():
@@ -229,7 +247,7 @@ def main():
         tests = [
             (kills, rounds), (collecting.kills, rounds), (collecting.race, seconds), (collecting.keeps,),
             (damages.opens,), (damages.rows,), (damages.pages, step),
-            (copies,), (order,), (full_disk,), (shell,), (texts,),
+            (copies,), (order,), (full_disk,), (shell,), (texts,), (statuses,),
         ]
         faults = [test(program, folder, *words) for test, *words in tests]
     if any(faults):

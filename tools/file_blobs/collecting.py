@@ -166,6 +166,9 @@ def access(program, file, shown):
     link.symlink_to(file)
     done = run(program, link, "gc")
     new = file.stat()
+    left = [it.name for it in file.parent.glob(f"{file.name}?*")]
+    if left:
+        return f"gc: {left} stand beside the file"
     if done.returncode or new.st_ino == number or not link.is_symlink():
         return f"gc behind a link: {done.stdout}{done.stderr}"
     if (new.st_mode & 0o7777, new.st_uid, new.st_gid) != (0o640, *owner):
