@@ -124,7 +124,9 @@ def stamp_libraries(room):
     rt = importlib.util.module_from_spec(importlib.util.spec_from_loader("rt", loader))
     loader.exec_module(rt)
     rt.Crate.allowed = rt.handles_of(room)
-    for crate in rt.crates_of(room):
+    # (`rt.crates_of` of some kits takes more, and moves the folders `out` away)
+    rt.rtlib.Crate = rt.Crate
+    for crate in rt.rtlib.crates_below(room):
         if os.path.isdir(crate.rlib):
             Path(crate.folder, "out/rlib/stamp").write_text(crate.stamp(), encoding="utf-8")
 
