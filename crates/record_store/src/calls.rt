@@ -1,8 +1,11 @@
 //! The calls by which programs use a store of records, whatever storage is below it.
 
-ghost use Rattle.std.specs.{Arc.arc_value, Prelude.{slice_get, string_bytes, ◌≡◌}};
+ghost use Rattle.record_store.specs.Records.{IsKeyOfBare};
+ghost use Rattle.std.specs.{Arc.arc_value, Prelude.{IfOk, slice_get, string_bytes, ◌≡◌}};
 
 use crate::store_error::StoreError;
+use pagable_codec::KeyHash;
+use pagable_core::Sha256Key;
 use pagable_nodes::Record;
 use pagable_value_spec::{DataKey, HandleNumber};
 use std::alloc::Global;
@@ -48,7 +51,10 @@ pub trait RecordCalls {
     ///
     /// # Errors
     ///
-    /// - as `Pager::clone`, `typed_references::loose` and `cells::insert`.
+    /// Each leaves no handle behind.
+    ///
+    /// - as `Pager::clone`, `typed_references::loose`, `Record::node`, `Pager::new_loose` and
+    ///   `Pager::unpin`.
     fn insert(
         &mut self,
         tag: u32,
@@ -62,7 +68,9 @@ pub trait RecordCalls {
     ///
     /// # Errors
     ///
-    /// - as `paging::pin`.
+    /// Each leaves no handle behind but the budget's.
+    ///
+    /// - as `paging::pin`, `Pager::clone` and `Pager::unpin`.
     fn read(&mut self, handle: HandleNumber) -> Result<RecordView, StoreError>;
 
     /// Returns another handle of a handle's record.
@@ -101,7 +109,8 @@ pub trait RecordCalls {
     /// # Errors
     ///
     /// - `TooLong`, `OutOfMemory`.
-    fn key_of_text(&self, text: &str) -> Result<DataKey, StoreError>;
+    fn key_of_text(&self, text: &str) -> Result<DataKey, StoreError>
+        ensures { IfOk result (IsKeyOfBare ⟦<Sha256Key as KeyHash>⟧.digest TEXT text.now) };
 
     /// Pages out a handle's record with what changed of all that it reaches, makes the root's name
     /// stand for its key, and flushes blobs and name together. The store stays open.

@@ -1,5 +1,7 @@
 //! Programs that continue from run to run, by the records of a file.
 
+ghost use Rattle.std.specs.Prelude.{OnOk};
+
 use crate::calls::RecordCalls;
 use crate::record_store::RecordStore;
 use anyhow::{Context, Result};
@@ -18,25 +20,27 @@ pub trait Job {
     /// How many records stay in memory besides the new ones.
     const KEPT_RECORDS: u64;
 
+    // What holds once a run has succeeded.
+    ghost succeeds: { Self → Type 0 } = { λ _. Unit {0} };
+
     /// Does the work of a run, and saves its record under `ROOT`. `last` is the handle of the record
     /// that was saved there last, if there is one.
     ///
     /// # Errors
     ///
     /// - the job's own: what it saved before stays saved.
-    fn run<R: RecordCalls>(&self, store: &mut R, last: Option<HandleNumber>) -> Result<()>;
+    fn run<R: RecordCalls>(&self, store: &mut R, last: Option<HandleNumber>) -> Result<()>
+        ensures { OnOk result (succeeds self.now) };
 }
 
-/// Runs a job over the records of a storage.
+/// Runs a job over the records of a storage. It succeeds only if the job's run did.
 ///
 /// # Errors
 ///
 /// - as `RecordStore::open` and `Job::run`.
-pub fn run_over<J: Job, S: Roots<Records> + Drop>(
-    alloc: Global,
-    storage: S,
-    job: &J,
-) -> Result<()> {
+pub fn run_over<J: Job, S: Roots<Records> + Drop>(alloc: Global, storage: S, job: &J) -> Result<()>
+    ensures { OnOk result (J.succeeds job.now) }
+{
     let (mut store, last) = RecordStore::open(alloc, storage, J::ROOT, J::KEPT_RECORDS)?;
     job.run(&mut store, last)
 }
@@ -62,7 +66,9 @@ fn run_over_opened<J: Job, S: Roots<Records> + CloseFile + Drop>(
     path: &str,
     storage: Result<S, OpenError>,
     job: &J,
-) -> Result<()> {
+) -> Result<()>
+    ensures { OnOk result (J.succeeds job.now) }
+{
     let storage = storage.context(format_args!("opening {path}"))?;
     let (mut store, last) = RecordStore::open(alloc, storage, J::ROOT, J::KEPT_RECORDS)?;
     let done = job.run(&mut store, last);
@@ -72,11 +78,13 @@ fn run_over_opened<J: Job, S: Roots<Records> + CloseFile + Drop>(
 }
 
 /// Runs a job over the records of a file, which it creates if there is none, and closes the file: then it
-/// holds all that was saved, without its log.
+/// holds all that was saved, without its log. It succeeds only if the job's run did.
 ///
 /// # Errors
 ///
 /// - as `FileBlobs::open` and `close_files`, with the path, and as `run_over`.
-pub fn run_over_file<J: Job>(rt: &HostRuntime, path: &str, job: &J) -> Result<()> {
+pub fn run_over_file<J: Job>(rt: &HostRuntime, path: &str, job: &J) -> Result<()>
+    ensures { OnOk result (J.succeeds job.now) }
+{
     run_over_opened(rt.alloc(), path, FileBlobs::open(rt, path), job)
 }

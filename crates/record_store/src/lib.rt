@@ -3,7 +3,11 @@
 #![tactic(auto)]
 
 pub mod calls;
+pub(crate) mod handles;
+pub(crate) mod inserting;
 pub mod job;
+pub mod laws;
+pub(crate) mod reading;
 pub mod record_store;
 pub mod store_error;
 
