@@ -20,7 +20,7 @@ module _ {N E : Type 0} (v : Values N) (s : PagerState N E) (whole : IsPagerWhol
       omega (arith, given, is, above)
 
   pub clone_is_later : (me : Owner) (h : HandleNumber) (r : Result HandleNumber Error) (w' : Core) → CloneCall s.core me h r w' → IfOk r (λ k. h.0 < k.0)
-  clone_is_later me h (Ok k) w' c = below-next h k c.made.0 c.made.1.0 c.made.1.1.0
+  clone_is_later me h (Ok k) w' c = below-next h k c.made.0 c.made.1 c.made.2
   clone_is_later me h (Err e) w' c = tt
 
   pub offered_is_later : (me : Owner) (kind : Kind) (key : ℕ) (h : HandleNumber) (r : Result (Option HandleNumber) Error) (w' : Core)
@@ -28,9 +28,9 @@ module _ {N E : Type 0} (v : Values N) (s : PagerState N E) (whole : IsPagerWhol
   offered_is_later me kind key h (Ok None) w' c = tt
   offered_is_later me kind key h (Err e) w' c = tt
   offered_is_later me kind key h (Ok (Some k)) w' c =
-      elim c.answers.1.1.1 [
+      elim c.answers.3 [
         | inl (closed, is, same) ↦ let same_number = ap (λ (x : HandleNumber). x.0) is in omega (arith, same_number)
-        | inr (stands, n, usable, next, falls) ↦ let lt = below-next h k c.answers.0 c.answers.1.0.live next in omega (arith, lt)
+        | inr (stands, (n, usable, next, falls)) ↦ let lt = below-next h k c.answers.0 c.answers.1.live next in omega (arith, lt)
       ]
 
 pub ruleset later = (clone_is_later, offered_is_later)

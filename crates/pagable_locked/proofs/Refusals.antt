@@ -102,7 +102,7 @@ list-growth : (w w' : Core) (e : Error) → IsListRefusal w w' e → IsOfGrowth 
 list-growth w w' e is = grind basics
 
 falls-growth : (before w : Core) (given : ℕ → Bool) (e : Error) (w' : Core) → Falls before w given (Err e) w' → IsOfGrowth e
-falls-growth before w given e w' falls = list-growth w w' e falls.tells.not_all.1.1.1
+falls-growth before w given e w' falls = list-growth w w' e falls.tells.not_all.3
 
 same-error : (r : Result (Unit {0}) Error) (e f : Error) → r ≡ Err e → r ≡ Err f → e ≡ f
 same-error r e f is was = cc

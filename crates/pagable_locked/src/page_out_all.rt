@@ -197,25 +197,23 @@ fn order_results<E: Env<Node: NodeSet<E>>>(
     Ok(keys)
 }
 
-// Makes the report of these results, with the claims of the whole share. Returns that share too.
+// Makes the report of these results, with the claims of the whole share.
 fn make_report<R: Wait, E: Env<Node: NodeSet<E>>, L: Ledger>(
     rt: &R,
     table: &SlotTable<E, L>,
     mut all: ClaimShare<L>,
     keys: Vec<Result<DataKey, PageOutError>>,
-) -> (PageOutReport, ClaimShare<L>)
+) -> PageOutReport
     requires { all.share.parts ≡ L.parts }
-    ensures keys { result.0.keys ≡ keys }
-    ensures claims { result.0.claims ≡ result.1.share.amount }
-    ensures parts { result.1.share.parts ≡ L.parts }
+    ensures keys { result.keys ≡ keys }
+    ensures claims { result.claims ≡ all.share.amount }
 {
     let claims = table.count_claims(rt, &mut all);
-    (PageOutReport { keys, claims }, all)
+    PageOutReport { keys, claims }
 }
 
 impl<E: Env<Node: NodeSet<E>>, S: PagableStorage<E>> PagableStorageHandle<E, S> {
-    // Pages out all items on a table made for this call, whose claims the ledger L counts. Returns
-    // the report, and the whole share of that ledger: the report's claims are its amount.
+    // Pages out all items on a table made for this call.
     fn page_out_on<L, R, G>(
         &self,
         rt: &R,
@@ -224,7 +222,7 @@ impl<E: Env<Node: NodeSet<E>>, S: PagableStorage<E>> PagableStorageHandle<E, S> 
         workers: usize,
         gate: &G,
         parts: Blank,
-    ) -> Result<(PageOutReport, ClaimShare<L>), Error>
+    ) -> Result<PageOutReport, Error>
     where
         L: Ledger + Send + Sync,
         R: Threads + Wait + Sync,
@@ -238,10 +236,8 @@ impl<E: Env<Node: NodeSet<E>>, S: PagableStorage<E>> PagableStorageHandle<E, S> 
         requires name { parts.name ≡ L.name }
         requires parts { parts.parts ≡ L.parts }
         requires workers { (0 < workers) × (parts.parts ≡ workers + 1) }
-        ensures keys { IfOk result (λ r. AnswersEach (IsAnswerOf E.Hash.digest
-            (values_at E.Node.NodeSet E.Env E.Hash.KeyHash)) items.now r.0.keys.items) }
-        ensures claims { IfOk result (λ r. r.0.claims ≡ r.1.share.amount) }
-        ensures whole { IfOk result (λ r. r.1.share.parts ≡ L.parts) }
+        ensures { IfOk result (λ r. AnswersEach (IsAnswerOf E.Hash.digest
+            (values_at E.Node.NodeSet E.Env E.Hash.KeyHash)) items.now r.keys.items) }
     {
         let (table, mut all) = SlotTable::<E, L>::new(alloc, parts);
         let jobs = make_jobs(alloc, workers, &mut all)?;
@@ -302,9 +298,6 @@ impl<E: Env<Node: NodeSet<E>>, S: PagableStorage<E>> PagableStorageHandle<E, S> 
         // More workers than items would have nothing to do.
         let workers = workers.min(items.len().max(1));
         let parts = Blank::new(workers as u64 + 1);
-        let (report, _all) = self.page_out_on::<Brand, R, G>(
-            rt, alloc, items, workers, gate, parts,
-        )?;
-        Ok(report)
+        self.page_out_on::<Brand, R, G>(rt, alloc, items, workers, gate, parts)
     }
 }
