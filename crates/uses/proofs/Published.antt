@@ -7,7 +7,7 @@ use Rattle.std.specs.Prelude.{IfOk}
 use Rattle.uses.specs.Published.{IsPublished, over}
 
 module _ {N T E : Type 0} {v : Values N} {s : PagerState N E} {held : N → Option T} {key t : ℕ} where
-  is_published : {a : T} → HoldsKeyed v held key t a → IsPublished v s held key t a
+  pub is_published : {a : T} → HoldsKeyed v held key t a → IsPublished v s held key t a
   is_published h = record {
     x = h.x;
     holds = h.holds;
@@ -17,6 +17,7 @@ module _ {N T E : Type 0} {v : Values N} {s : PagerState N E} {held : N → Opti
         leaves_are_right v (over published s) key t h.x h.keyed tree lawful readable keys clash leaf typed reads;
   }
 
-  pub read_so : {A F : Type 0} (see : A → T) (r : Result A F) → IfOk r (λ a. HoldsKeyed v held key t (see a)) → IfOk r (λ a. IsPublished v s held key t (see a))
-  read_so see (Ok a) h = is_published h
-  read_so see (Err e) h = tt
+-- what holds of each value that is returned
+pub if-ok : {A F : Type 0} {P Q : A → Type 0} → ((a : A) → P a → Q a) → (r : Result A F) → IfOk r P → IfOk r Q
+if-ok so (Ok a) h = so a h
+if-ok so (Err e) h = tt

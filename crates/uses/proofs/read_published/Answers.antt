@@ -1,5 +1,6 @@
-use Rattle.uses.proofs.Published.{read_so}
-use Rattle.std.specs.Arc.{arc_value}
+use Rattle.uses.proofs.Published.{if-ok, is_published}
 
 pub returns : Rattle.uses.proofs.read_published.Goals.returns
-returns g c = record { right = read_so arc_value c.deserialize_pagable_data.result c.deserialize_pagable_data.ensures.keyed }
+returns g c = record {
+  right = if-ok (λ a h. is_published h) c.deserialize_pagable_data.result c.deserialize_pagable_data.ensures.keyed;
+}
