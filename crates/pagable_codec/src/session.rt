@@ -1,22 +1,20 @@
 //! The values that one session of reading and writing shares: a map behind a lock.
 
 ghost use Rattle.pagable_value_spec.specs.{
-  Composite.MayHold,
   Outcomes.IsOutOfMemory,
-  Session.{DoesUnderLock, IsCloneOf, IsHandedBack},
+  Session.{IsCloneOf, IsHandedBack},
 };
 ghost use Rattle.std.proofs.Common.{rules};
 ghost use Rattle.std.specs.{
   BTreeMap.{IsEmpty, IsUnchanged, Updates, get},
   Cmp.Rules.comparing,
   Prelude.{IfErr, IfOk, IfSome, IsSome, IsTrue, None, OnErr, OnOk, Some, refl, ◌≡◌},
-  Sync.Mutex.mutex_guard_value,
 };
 
 use pagable_flavors::Error;
 use std::alloc::Global;
 use std::collections::BTreeMap;
-use std::sync::{Arc, Mutex, MutexGuard, Wait};
+use std::sync::{Arc, Mutex, Wait};
 
 /// A value that a session keeps: its clones are equal to it.
 pub trait SessionValue: Clone + Eq + Drop {
@@ -159,37 +157,15 @@ impl<K: Ord + Drop, V: Drop> SessionContext<K, V> {
 }
 
 impl<K: Ord + Drop, V: SessionValue> SessionContext<K, V> {
-    /// Takes the lock, and with it the map.
-    #[tactic(auto, unfolding(pagable_value_spec::specs::Composite::MayHold))]
-    fn lock_map<R: Wait>(&self, rt: &R) -> MutexGuard<'_, SessionMap<K, V>>
-        ensures { MayHold self.now (mutex_guard_value result) }
-    {
-        self.map.lock(rt)
-    }
-
-    /// Releases the lock; the map stays as the caller left it.
-    #[tactic(auto, unfolding(pagable_value_spec::specs::Composite::MayHold))]
-    fn unlock_map(&self, map: MutexGuard<'_, SessionMap<K, V>>)
-        ensures { MayHold self.now (mutex_guard_value map.entry) }
-    {
-        drop(map);
-    }
-
     /// Calls `SessionMap::get` under the lock.
     ///
     /// # Errors
     ///
     /// - `OutOfMemory` only.
     pub fn get<R: Wait>(&self, rt: &R, key: &K) -> Result<Option<V>, Error>
-        ensures does { DoesUnderLock self.now (λ (old new : SessionMap K V). IfOk result
-            (IsCloneOf V.is_clone (get K.cmp old.values key.now))
-            × OnErr result (IsSome (get K.cmp old.values key.now))) }
         ensures only { IfErr result IsOutOfMemory }
     {
-        let map = self.lock_map(rt);
-        let value = map.get(key);
-        self.unlock_map(map);
-        value
+        self.map.lock(rt).get(key)
     }
 
     /// Calls `SessionMap::set` under the lock.
@@ -198,15 +174,10 @@ impl<K: Ord + Drop, V: SessionValue> SessionContext<K, V> {
     ///
     /// - `OutOfMemory` only: the map is unchanged, and the caller gets key and value back.
     pub fn set<R: Wait>(&self, rt: &R, key: K, value: V) -> Result<(), (Error, K, V)>
-        ensures does { DoesUnderLock self.now (λ (old new : SessionMap K V). OnOk result
-            (Updates K.cmp old.values new.values key (Some value)) × OnErr result (IsUnchanged old.values new.values)) }
         ensures only { IfErr result (λ e. IsOutOfMemory e.0) }
         ensures back { IfErr result (λ e. (e.1 ≡ key) × (e.2 ≡ value)) }
     {
-        let mut map = self.lock_map(rt);
-        let done = map.set(key, value);
-        self.unlock_map(map);
-        done
+        self.map.lock(rt).set(key, value)
     }
 
     /// Calls `SessionMap::get_or_insert_with` under the lock; `make` runs under the lock too.
@@ -222,18 +193,9 @@ impl<K: Ord + Drop, V: SessionValue> SessionContext<K, V> {
         make: F,
     ) -> Result<V, (Error, K, Option<V>)>
         requires { F.pre make }
-        ensures does { DoesUnderLock self.now (λ (old new : SessionMap K V).
-            IfOk result (λ y. (x : V) → get K.cmp old.values key ≡ Some x → V.is_clone x y
-            × IsUnchanged old.values new.values) ×
-            IfOk result (λ y. get K.cmp old.values key ≡ None → (x : V) × F.post make x × V.is_clone x y
-            × Updates K.cmp old.values new.values key (Some x)) ×
-            OnErr result (IsUnchanged old.values new.values)) }
         ensures only { IfErr result (λ e. IsOutOfMemory e.0) }
         ensures back { IfErr result (λ e. (e.1 ≡ key) × IfSome e.2 (F.post make)) }
     {
-        let mut map = self.lock_map(rt);
-        let value = map.get_or_insert_with(key, make);
-        self.unlock_map(map);
-        value
+        self.map.lock(rt).get_or_insert_with(key, make)
     }
 }

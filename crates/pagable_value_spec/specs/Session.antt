@@ -1,5 +1,4 @@
 -- What a look-up in a session's map returns.
-use Rattle.pagable_value_spec.specs.Composite.{MayHold}
 use Rattle.std.specs.Prelude.{IsSome, None, Option, Some, ◌≡◌}
 
 -- None if the map has no value, and otherwise a clone of its value
@@ -13,11 +12,3 @@ IsCloneOf is_clone _ _ = ⊥
 abbrev pub IsHandedBack : {V : Type 0} → (V → Type 0) → Option V → Option V → Type 0
 IsHandedBack made old None = IsSome old
 IsHandedBack made old (Some x) = (old ≡ None) × made x
-
--- one step under a lock: `old` is what the lock may hold before, `new` what it may hold afterwards
-pub record DoesUnderLock {C M : Type 0} (lock : C) (step : M → M → Type 0) : Type 0 where
-  pub old : M
-  pub new : M
-  pub lent : MayHold lock old
-  pub left : MayHold lock new
-  pub does : step old new
