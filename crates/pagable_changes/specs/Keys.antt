@@ -24,14 +24,14 @@ use Rattle.pagable_changes.specs.Changes.{
 use Rattle.pagable_changes.specs.declared.nodes.OpenNode.{OpenNode}
 use Rattle.pagable_pager_spec.specs.{
   Basics.{Error, HandleNumber, OptionalDataKey, ReadsTree, Tree, type_of},
-  Pager.{IsPagerWhole, Moves, PagerStandsFor, PagerState, SameTrees},
+  Pager.{IsPagerWhole, PagerStandsFor, PagerState, SameTrees},
   Runs.HoldsSettled,
   World.{IsLawful, Values, key_at, row_at},
   declared.handle_row.HandleRow.HandleRow,
 }
-use Rattle.pagable_theorems.specs.{PageOutLaws.NobodyWorks, TreeSteps.RowsGo}
+use Rattle.pagable_theorems.specs.{CallerLaws.KeepsNodes, PageOutLaws.NobodyWorks}
 use Rattle.pagable_value_spec.specs.{Canonical.IsReadableType, Merkle.KeyOf}
-use Rattle.std.specs.Prelude.{IfOk, Result, Some, ℕ, ◌≡◌, ◌≤◌, ◌⊎◌}
+use Rattle.std.specs.Prelude.{IfOk, Result, Some, ℕ, ◌≡◌, ◌⊎◌}
 
 -- the types of the values that turns write, that a walk writes, and that a page-out writes
 module _ {N E : Type 0} {v : Values N} where
@@ -76,25 +76,6 @@ pub record LeavesTrees {N E : Type 0} (v : Values N) (s : PagerState N E) (trees
   pub reads : IfOk r (λ key. ReadsTree s'.core.stored v.types key (trees' n))
   pub keys : HasMerkleKeys v s trees → HasMerkleKeys v s' trees'
   pub is_key : HasMerkleKeys v s trees → IfOk r (λ key. KeyOf v.hash v.types (trees' n) key)
-
--- each node keeps its tree, each handle its node, and nobody works
-pub record NodesStay {N E : Type 0} (v : Values N) (s : PagerState N E) (trees : ℕ → Tree) (s' : PagerState N E)
-    : Type 0 where
-  pub trees' : ℕ → Tree
-  pub same : SameTrees s.core.last.node trees trees'
-  pub stands : PagerStandsFor v s' trees'
-  pub nobody : NobodyWorks s'.core
-  pub nodes : s.core.last.node ≤ s'.core.last.node
-  pub handles : s.core.last.handle ≤ s'.core.last.handle
-  pub rows : RowsGo s.core.last.handle s.core.rows s'.core.rows
-
--- An operation that brings no value into memory, and after which nodes have stayed so, whatever trees the pager stood
--- for: if nobody worked, and no value in memory was written later.
-pub record KeepsNodes {N E : Type 0} (v : Values N) (s s' : PagerState N E) : Type 0 where
-  pub moves : Moves (λ n x. ⊥) s s'
-  pub whole : IsPagerWhole v s'
-  pub stay : NobodyWorks s.core → HoldsSettled v s → (trees : ℕ → Tree) → PagerStandsFor v s trees
-      → NodesStay v s trees s'
 
 -- If each type that the page-out writes is read back, nobody works, no value in memory is written later, and the pager
 -- stands for trees (so each key is read as its cell's tree), then the pager leaves trees as `LeavesTrees` says, for the

@@ -10,7 +10,7 @@ use Rattle.pagable_pager_spec.specs.{
 use Rattle.pagable_theorems.proofs.{
   FormsOfTrees.cell-of,
   HandlesKept.{PinOf, among-found, end-call, found-number, low-whole, pin-call, updated-at},
-  LoadProgress.{pin_stands, row-held, was-open},
+  LoadProgress.{pin_stands, row-held, settled-on, was-open},
   LoadResults.{After, after-then, caller-feels, pin-after, read-after},
   Operations.{Stands, Stays, call-nobody, call-stays, item-stays, list-stays, plain-stays, plainly, stays-same, stays-then},
   Trees.same_some,
@@ -20,7 +20,7 @@ use Rattle.pagable_theorems.proofs.{
 }
 use Rattle.pagable_theorems.specs.{
   CallerLaws.{AreRight, AskWell, CallerLaw, Operation, OperationAsksWell, OperationIsRight, Operations, PinAsksWell, PinIsRight, PinnedAgainLaw, ReadAsksWell},
-  CallerLaws.{ReadingIsRight, calls, goes-on, is-done, pages-item, pages-list, pins, reads-key},
+  CallerLaws.{ReadingIsRight, calls, goes-on, is-done, keeps-nodes, pages-item, pages-list, pins, reads-key},
   PageOutLaws.NobodyWorks,
 }
 
@@ -150,6 +150,15 @@ module _ {N E B W : Type 0} (m : Seen N B W) (lawful : IsLawful m.values) where
   operation-stays (reads-key key t r s s' run) at asks = read-stays run at asks
   operation-stays (pages-item item answer s s' new run) at asks = item-stays m lawful item at new run asks
   operation-stays (pages-list i answer s s' run) at asks = list-stays m lawful run at asks
+  operation-stays {trees = trees} (keeps-nodes s s' keeps) at asks =
+      let n = keeps.stay at.nobody at.settled trees at.stands in (
+        record {
+          trees' = n.trees';
+          after = record { same = n.same; nodes = n.nodes; stands = n.stands; handles = n.handles; rows = n.rows };
+          now = record { well = keeps.whole; nobody = n.nobody; settled = settled-on m.values at.settled keeps.moves; stands = n.stands };
+        },
+        tt,
+      )
 
   all-right : {s s' : PagerState N E} (trees : ℕ → Tree) (operations : Operations m s s') → Stands m.values s trees → AreRight trees operations
   unfolding AreRight

@@ -16,7 +16,7 @@ use Rattle.pagable_theorems.proofs.{
   Words.{sym, true, ℕ, [], ◌<◌, ◌∙◌, ◌∷◌, ◌≡◌},
 }
 use Rattle.pagable_theorems.specs.{
-  CallerLaws.{Operation, Operations, calls, goes-on, is-done, pages-item, pages-list, pins as pins-by, reads-key},
+  CallerLaws.{Operation, Operations, calls, goes-on, is-done, keeps-nodes, pages-item, pages-list, pins as pins-by, reads-key},
   HeldLaws.{CallersBringHeld, HeldByCallersLaw, OperationBringsHeld, PinnedValuesAreHeld, ReadHoldsLaw, StepsKeepHeldValues},
 }
 
@@ -135,6 +135,7 @@ module _ {N E B W : Type 0} (m : Seen N B W) where
   operation-held (reads-key key t r s s' run) brings was = read-held m.values run was
   operation-held (pages-item item answer s s' new run) brings was = item-held run was
   operation-held (pages-list i answer s s' run) brings was = list-held run was
+  operation-held (keeps-nodes s s' keeps) brings was = nothing-comes m.values (λ n x came. came) keeps.whole keeps.moves was
 
   all-held : {s s' : PagerState N E} (operations : Operations m s s') → CallersBringHeld operations → Held m.values s → Held m.values s'
   unfolding CallersBringHeld

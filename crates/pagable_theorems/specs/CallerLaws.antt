@@ -13,7 +13,8 @@ use Rattle.pagable_pager_spec.specs.{
   declared.pinning.Pinning.Pinning,
 }
 use Rattle.pagable_theorems.specs.PageOutLaws.{EachIsPagedOut, ItemAsksWell, LeavesPagedOut, ListAsksWell, NobodyWorks}
-use Rattle.std.specs.Prelude.{Err, Ok, Result, ℕ, ◌≡◌}
+use Rattle.pagable_theorems.specs.TreeSteps.RowsGo
+use Rattle.std.specs.Prelude.{Err, Ok, Result, ℕ, ◌≡◌, ◌≤◌}
 
 -- a call of the pager: its step, and the value that it brings into memory
 pub record IsCall {N E B W : Type 0} (m : Seen N B W) (s : PagerState N E) (call : Call N B) (reply : Reply N B)
@@ -22,7 +23,27 @@ pub record IsCall {N E B W : Type 0} (m : Seen N B W) (s : PagerState N E) (call
   pub moves : Moves (CallBrings s.core call) s s'
   pub whole : IsPagerWhole m.values s'
 
--- one call of the pager; or a pin; or a read; or a page-out of an item on a new table, or of the list's first i entries
+-- each node keeps its tree, each handle its node, and nobody works
+pub record NodesStay {N E : Type 0} (v : Values N) (s : PagerState N E) (trees : ℕ → Tree) (s' : PagerState N E)
+    : Type 0 where
+  pub trees' : ℕ → Tree
+  pub same : SameTrees s.core.last.node trees trees'
+  pub stands : PagerStandsFor v s' trees'
+  pub nobody : NobodyWorks s'.core
+  pub nodes : s.core.last.node ≤ s'.core.last.node
+  pub handles : s.core.last.handle ≤ s'.core.last.handle
+  pub rows : RowsGo s.core.last.handle s.core.rows s'.core.rows
+
+-- An operation that brings no value into memory, and after which nodes have stayed so, whatever trees the pager stood
+-- for: if nobody worked, and no value in memory was written later.
+pub record KeepsNodes {N E : Type 0} (v : Values N) (s s' : PagerState N E) : Type 0 where
+  pub moves : Moves (λ n x. ⊥) s s'
+  pub whole : IsPagerWhole v s'
+  pub stay : NobodyWorks s.core → HoldsSettled v s → (trees : ℕ → Tree) → PagerStandsFor v s trees
+      → NodesStay v s trees s'
+
+-- one call of the pager; or a pin; or a read; or a page-out of an item on a new table, or of the list's first i entries;
+-- or any other operation that brings no value into memory and keeps trees, as a page-out of what changed
 pub data Operation {N E B W : Type 0} (m : Seen N B W) : PagerState N E → PagerState N E → Type 0 where
   calls : (call : Call N B) (reply : Reply N B) (s s' : PagerState N E) → IsCall m s call reply s' → Operation m s s'
   pins : (h : HandleNumber) (r : Result HandleNumber Error) (s s' : PagerState N E) → PinRun m.values s h r s'
@@ -34,6 +55,7 @@ pub data Operation {N E B W : Type 0} (m : Seen N B W) : PagerState N E → Page
       → Operation m s.pager s'.pager
   pages-list : (i : ℕ) (answer : Result (Unit {0}) WorkerAnswer) (s s' : PagerState N E) → ListRun m i s answer s'
       → Operation m s s'
+  keeps-nodes : (s s' : PagerState N E) → KeepsNodes m.values s s' → Operation m s s'
 
 -- operations, one after the other
 pub data Operations {N E B W : Type 0} (m : Seen N B W) : PagerState N E → PagerState N E → Type 0 where
@@ -62,6 +84,7 @@ OperationAsksWell trees (pins h r s s' run) = PinAsksWell run
 OperationAsksWell trees (reads-key key t r s s' run) = ReadAsksWell run
 OperationAsksWell trees (pages-item item answer s s' new run) = ItemAsksWell run
 OperationAsksWell trees (pages-list i answer s s' run) = ListAsksWell run
+OperationAsksWell trees (keeps-nodes s s' keeps) = Unit {0}
 
 -- what a pin as one operation gives; below: a read of a key
 abbrev pub PinIsRight : {N E : Type 0} → Values N → PagerState N E → (ℕ → Tree) → Result HandleNumber Error → Type 0
@@ -87,6 +110,7 @@ OperationIsRight {m = m} trees trees' (pages-item item answer s s' new run) =
     (key : ℕ) → answer ≡ WorkerAnswer.Key key → LeavesPagedOut m.values s'.pager s'.shelf trees'
     (of_item (m.written_of item)) key
 OperationIsRight trees trees' (pages-list i answer s s' run) = EachIsPagedOut run trees
+OperationIsRight trees trees' (keeps-nodes s s' keeps) = Unit {0}
 
 -- trees after each operation, which each node keeps and for which it is right, as long as all were asked well
 unfoldable pub AreRight : {N E B W : Type 0} {m : Seen N B W} {s s' : PagerState N E} → (ℕ → Tree) → Operations m s s'
