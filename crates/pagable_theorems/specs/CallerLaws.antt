@@ -13,7 +13,7 @@ use Rattle.pagable_pager_spec.specs.{
   declared.pinning.Pinning.Pinning,
 }
 use Rattle.pagable_theorems.specs.PageOutLaws.{EachIsPagedOut, ItemAsksWell, LeavesPagedOut, ListAsksWell, NobodyWorks}
-use Rattle.pagable_theorems.specs.TreeSteps.RowsGo
+use Rattle.pagable_theorems.specs.TreeSteps.{RowsGo}
 use Rattle.std.specs.Prelude.{Err, Ok, Result, ℕ, ◌≡◌, ◌≤◌}
 
 -- a call of the pager: its step, and the value that it brings into memory
