@@ -1,5 +1,6 @@
 -- The lemmas by which the laws of `src/` are proved, by file.
 use Rattle.pagable_theorems.proofs.{
+  CallerFailures.paged_out_is_pinned,
   Callers.caller_law,
   CascadeWitness.fall_laws,
   Chains.{headline_law, runs_join},
@@ -60,6 +61,7 @@ pub ruleset world_laws = (
   item_law,
   list_law,
   caller_law,
+  paged_out_is_pinned,
   held_law,
   pinned_law,
   held_by_callers_law,

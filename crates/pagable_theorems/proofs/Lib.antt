@@ -31,6 +31,7 @@ mod LoadFaults
 mod RefusalCauses
 mod RefusalEffects
 mod UninterruptedLoads
+mod CallerFailures
 mod Heights
 pub mod ValueRows
 pub mod ValuesOwned

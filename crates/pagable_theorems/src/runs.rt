@@ -11,6 +11,7 @@ ghost use Rattle.pagable_pager_spec.specs.{
   World.{Frame, Seen},
 };
 ghost use Rattle.pagable_theorems.specs.{
+  CallerFailures.PagedOutIsPinned,
   CallerLaws.{CallerLaw, PinnedAgainLaw},
   DepthLaws.{ClaimIsDeep, DepthIsHeight, HoldsAlong, LoadIsDeep, LoadOfPagedOutIsFaultless, UninterruptedLoadsAreSound},
   DepthLaws.WorkerReportsDepth,
@@ -167,4 +168,15 @@ pub fn page_out_laws<N: SeenAs<B, W>, B, W, E>()
 pub fn caller_laws<N: SeenAs<B, W>, B, W, E>()
     ensures trees_stay { CallerLaw E N.seen }
     ensures pinned_again { PinnedAgainLaw E N.seen }
+{}
+
+/// States the laws of failures of pins, reads and page-outs by one call, on a pager that nobody
+/// else uses, if keys, types and values are as the headline asks.
+///
+/// - If the caller's handle is a live loose one, and its cell has a key that a page-out of an item
+///   or of the list has published for its node, then a pin by it fails only if numbers or memory
+///   run out, or if the storage or the type's own reader fails: whatever operations there were
+///   since, what was paged out can be pinned again.
+pub fn caller_failure_laws<N: SeenAs<B, W>, B, W, E>()
+    ensures paged_out_is_pinned { PagedOutIsPinned E N.seen }
 {}

@@ -1,0 +1,329 @@
+-- A pin of what a page-out published fails by chance alone: what was published stays stored as a form of its node's tree, whatever operations follow, and a
+-- load that nobody interrupts keeps its handles.
+use Rattle.pagable_pager_spec.specs.{
+  Access.{AccessState, EntryRun, ItemRun, ListRun, LoadAsksWell, LoadRun, LoadStarts, MakesCall, PinRun, ReadRun, WalkStep, WorkerRun, entry-is-refused},
+  Access.{entry-is-walked, fails, item-is-walked, load-ends, load-fails, load-goes-on, load-is-refused, load-pins, load-reads, no-entry-worker, no-more},
+  Access.{no-worker, pages, pin-is-refused, pins-at-once, reading-fails, reading-is-refused, skips, worker-ends, worker-goes-on},
+  Calls.with_handle,
+  Events.{CallDoes, no_shelf},
+  Kinds.is_loose,
+  LoadCalls.BeginCall,
+  Loads.{GoesOn, LoadDoes},
+  Refusals.{Owns, handle_fault},
+  WorkerClaims.IsOfChance,
+  Workers.fresh,
+  World.SameShelf,
+  declared.pinning.Pinning.Pinning,
+}
+use Rattle.pagable_theorems.proofs.{
+  CallEffects.{begin-goes, calls-go},
+  Callers.operation-stays,
+  Effects.with-one,
+  EventEffects.{ends-quiet, walk-goes},
+  HandlesKept.{alike, stands-alike, stands-whole, updated-at},
+  LoadFaults.{OfPagedOut, Only, cause, only-earlier, only-if, only-refused, only-where},
+  LoadProgress.row-held,
+  LoadResults.{After, Under, begun, caller-feels, stepped, under},
+  Moments.same-shelf,
+  Operations.{Stands, Stays, entry-stays, entry-walks, ground, item-stays, item-walks, plain-stays, stays-same, stays-then},
+  ReadingSteps.caller-free,
+  TablesKept.{keys-same, slot-on},
+  Trees.same_some,
+  UninterruptedLoads.{LoadReady, goes-ready, only-chance},
+  Words.{Action, Alike, Beginning, Blob, Call, Core, Err, Error, Event, Frame, HandleNumber, HandleRow, Identity, IsLawful, IsPublished, KeepsOpen, List},
+  Words.{LoadAnswer, Mode, NodeNumber, None, Ok, OpenLoad, Option, OptionalDataKey, Owner, PagerState, Reading, Reply, Result, Seen, Shelf, Some, Todo, Tree},
+  Words.{Values, WorkerAnswer, WorkerState, answer_after, ap, basics, inl, inr, key_at, of_cell, refl, row_at, subst, sym, updated, ℕ, [], ◌+◌, ◌∙◌, ◌≡◌, ◌⊎◌},
+}
+use Rattle.pagable_theorems.specs.{
+  CallerFailures.{EntryPublishes, HavePublished, ListPublishes, PagedOutIsPinned, Publishes},
+  CallerLaws.{AskWell, Operation, OperationAsksWell, Operations, PinAsksWell, calls, goes-on, is-done, keeps-nodes, pages-item, pages-list, pins, reads-key},
+  PageOutLaws.{EntryAsksWell, ItemAsksWell, ListAsksWell},
+  TreeSteps.{KeepsStored, SlotsFit},
+}
+
+-- ---- what was stored stays stored, and what a page-out published stays a form of its node's tree
+
+stored-then : {a b c : ℕ → Option Blob} → KeepsStored a b → KeepsStored b c → KeepsStored a c
+stored-then first second key blob is = second key blob (first key blob is)
+
+-- a page-out has published the key for the identity, on a table that fits the trees
+record PagedOut {N E : Type 0} (v : Values N) (s : PagerState N E) (trees : ℕ → Tree) (i : Identity) (key : ℕ) : Type 0 where
+  shelf : Shelf
+  height : ℕ
+  slots : SlotsFit v (ground s trees) shelf
+  known : IsPublished shelf i key height
+
+paged-on : {N E : Type 0} {v : Values N} {s s' : PagerState N E} {trees trees' : ℕ → Tree} {i : Identity} {key : ℕ} → After v s trees s' trees'
+    → KeepsStored s.core.stored s'.core.stored → PagedOut v s trees i key → PagedOut v s' trees' i key
+paged-on {v = v} after stored p = record {
+  shelf = p.shelf;
+  height = p.height;
+  slots = λ j slot is. slot-on v (record { kept = stored; last = after.nodes; trees = after.same }) (keys-same (λ q. refl)) (p.slots j slot is);
+  known = p.known;
+}
+
+module _ {N E : Type 0} (v : Values N) where
+  load-stored : {reading : Reading} {s s' : PagerState N E} {answer : LoadAnswer N} → LoadRun v Owner.Caller reading s answer s'
+      → KeepsStored s.core.stored s'.core.stored
+  load-stored (load-ends reading answer s s' step) = (caller-feels step).does.goes.stored
+  load-stored (load-goes-on reading frames answer s mid s' step more) = stored-then (caller-feels step).does.goes.stored (load-stored more)
+
+  plainly-stored : {w : Core} {s s' : PagerState N E} → w.stored ≡ s.core.stored → MakesCall v (λ w'. Alike w w') s s'
+      → KeepsStored s.core.stored s'.core.stored
+  plainly-stored same c key blob is = (alike c.step).stored key blob (ap (λ (f : ℕ → Option Blob). f key) same ∙ is)
+
+  begun-stored : {s s' : PagerState N E} {h : HandleNumber} (r : Result Beginning Error) → MakesCall v (λ w'. BeginCall s.core Owner.Caller h r w') s s'
+      → KeepsStored s.core.stored s'.core.stored
+  begun-stored r c = (begin-goes r c.step).stored
+
+module _ {N B W : Type 0} (m : Seen N B W) where
+  call-stored : (w w' : Core) (call : Call N B) (reply : Reply N B) → KeepsOpen {N = N} {B = B} {W = W} (Event.Call call)
+      → CallDoes m w Owner.Caller call reply w' → KeepsStored w.stored w'.stored
+  call-stored w w' call reply opens does = (calls-go m w Owner.Caller caller-free w' call reply opens does).does.goes.stored
+
+module _ {N E B W : Type 0} (m : Seen N B W) where
+  pin-stored : {s s' : PagerState N E} {h : HandleNumber} {r : Result HandleNumber Error} → PinRun m.values s h r s'
+      → KeepsStored s.core.stored s'.core.stored
+  pin-stored {h = h} (pins-at-once k s' c) = call-stored m _ _ (Call.Pin h) (Reply.Pin (Ok (Pinning.Pinned k))) tt c.step
+  pin-stored {h = h} (pin-is-refused e s' c) = call-stored m _ _ (Call.Pin h) (Reply.Pin (Err e)) tt c.step
+  pin-stored (load-is-refused e s' c) = begun-stored m.values (Err e) c
+  pin-stored (load-pins k reading mid s' starts run) = stored-then (begun-stored m.values _ starts.begins) (load-stored m.values run)
+  pin-stored (load-fails e reading mid s' starts run) = stored-then (begun-stored m.values _ starts.begins) (load-stored m.values run)
+
+  read-stored : {s s' : PagerState N E} {key t : ℕ} {r : Result N Error} → ReadRun m.values s key t r s' → KeepsStored s.core.stored s'.core.stored
+  read-stored {key = key} (reading-is-refused e s' c) = call-stored m _ _ (Call.LoadKey key) (Reply.Begun (Err e)) tt c.step
+  read-stored {key = key} (load-reads x l mid s' starts run) =
+      stored-then (call-stored m _ _ (Call.LoadKey key) (Reply.Begun (Ok (Beginning.Load l key))) tt starts.step) (load-stored m.values run)
+  read-stored {key = key} (reading-fails e l mid s' starts run) =
+      stored-then (call-stored m _ _ (Call.LoadKey key) (Reply.Begun (Ok (Beginning.Load l key))) tt starts.step) (load-stored m.values run)
+
+  walk-stored : {n : ℕ} {todo next : List Todo} {s s' : AccessState N E} {step : Action W} → WalkStep m n todo s step next s'
+      → KeepsStored s.pager.core.stored s'.pager.core.stored
+  walk-stored {n} {todo} {s = s} {step = step} w =
+      let site : WorkerState = record { core = s.pager.core; shelf = s.shelf; todo = todo } in
+      stored-then (walk-goes m n site w.after todo step w.does.does).goes.stored (ends-quiet (answer_after todo step) n w.ends).stored
+
+  worker-stored : {n : ℕ} {todo : List Todo} {s s' : AccessState N E} {steps : List (Action W)} {answer : WorkerAnswer} → WorkerRun m n todo s steps answer s'
+      → KeepsStored s.pager.core.stored s'.pager.core.stored
+  worker-stored (worker-ends todo next step answer s s' w is) = walk-stored w
+  worker-stored (worker-goes-on todo next step steps answer s mid s' w is more) = stored-then (walk-stored w) (worker-stored more)
+
+-- ---- what each operation leaves, with the keys that it published
+
+abbrev Nothing : Identity → ℕ → Type 0
+Nothing i key = ⊥
+
+module _ {N E B W : Type 0} (m : Seen N B W) (lawful : IsLawful m.values) where
+  record Leaves (s : PagerState N E) (trees : ℕ → Tree) (s' : PagerState N E) (Published : Identity → ℕ → Type 0) : Type 0 where
+    stays : Stays m.values s trees s'
+    stored : KeepsStored s.core.stored s'.core.stored
+    paged : (i : Identity) (key : ℕ) → Published i key → PagedOut m.values s' stays.trees' i key
+
+  -- what was published before, or afterwards
+  leaves-then : {s mid s' : PagerState N E} {trees : ℕ → Tree} {First More Both : Identity → ℕ → Type 0} (a : Leaves s trees mid First)
+      → Leaves mid a.stays.trees' s' More → ((i : Identity) (key : ℕ) → Both i key → First i key ⊎ More i key) → Leaves s trees s' Both
+  leaves-then a b cases = record {
+    stays = stays-then a.stays.after b.stays;
+    stored = stored-then a.stored b.stored;
+    paged = λ i key both. elim (cases i key both) [ inl is ↦ paged-on b.stays.after b.stored (a.paged i key is) | inr is ↦ b.paged i key is ];
+  }
+
+  entry-leaves : {s s' : PagerState N E} {place : ℕ} {answer : WorkerAnswer} {trees : ℕ → Tree} (run : EntryRun m s place answer s')
+      → Stands m.values s trees → EntryAsksWell run → Leaves s trees s' (EntryPublishes run)
+  entry-leaves {place = place} (entry-is-refused h row t s' is none c) at asks = record {
+    stays = (entry-stays m lawful {place = place} at (entry-is-refused h row t s' is none c) asks).0;
+    stored = plainly-stored m.values refl c;
+    paged = λ i key no. absurd no;
+  }
+  entry-leaves {place = place} (no-entry-worker e s' why c) at asks = record {
+    stays = (entry-stays m lawful {place = place} at (no-entry-worker e s' why c) asks).0;
+    stored = plainly-stored m.values refl c;
+    paged = λ i key no. absurd no;
+  }
+  entry-leaves {s} {place = place} {trees = trees} (entry-is-walked h row t n steps answer mid s' is kinds starts run) at asks =
+      let r = entry-walks m lawful (record { pager = s; shelf = no_shelf }) at.well at.nobody (same-shelf refl) at.settled trees at.stands place h row t n mid is
+      kinds starts run asks in
+      record {
+        stays = r.stays;
+        stored = stored-then (plainly-stored m.values refl starts.begins) (worker-stored m run);
+        paged = λ i key (height, known). record { shelf = s'.shelf; height = height; slots = r.slots; known = known };
+      }
+
+  list-leaves : {place : ℕ} {s s' : PagerState N E} {answer : Result (Unit {0}) WorkerAnswer} {trees : ℕ → Tree} (run : ListRun m place s answer s')
+      → Stands m.values s trees → ListAsksWell run → Leaves s trees s' (ListPublishes run)
+  unfolding ListAsksWell ListPublishes
+  list-leaves (no-more s) at asks = record { stays = stays-same m lawful at; stored = λ key blob is. is; paged = λ i key no. absurd no }
+  list-leaves {trees = trees} (skips place below old h told answer s mid low s' is has takes releases more) at asks =
+      let a = (plain-stays m lawful (Call.TakePending below) (Reply.TakenPending (Some h)) at takes takes.step tt tt).0 in
+      let b = (plain-stays m lawful (Call.Release h) (Reply.Done told) a.now releases releases.step tt tt).0 in
+      let first : Leaves s trees low Nothing = record {
+        stays = stays-then a.after b;
+        stored = stored-then (call-stored m _ _ (Call.TakePending below) (Reply.TakenPending (Some h)) tt takes.step)
+            (call-stored m _ _ (Call.Release h) (Reply.Done told) tt releases.step);
+        paged = λ i key no. absurd no;
+      } in
+      leaves-then first (list-leaves more b.now asks) (λ i key is. inr is)
+  list-leaves (pages place below first h answer s mid s' is has entry more) at asks =
+      let a = entry-leaves entry at asks.0 in leaves-then a (list-leaves more a.stays.now asks.1) (λ i key is. is)
+  list-leaves (fails place below h e s s' is has entry) at asks = entry-leaves entry at asks
+
+  item-leaves : {s s' : AccessState N E} {answer : WorkerAnswer} {trees : ℕ → Tree} (item : W) → Stands m.values s.pager trees → SameShelf no_shelf s.shelf
+      → (run : ItemRun m s (m.written_of item) answer s') → ItemAsksWell run
+      → Leaves s.pager trees s'.pager (λ i key. (height : ℕ) × IsPublished s'.shelf i key height)
+  item-leaves item at new (no-worker e s' why c same) asks = record {
+    stays = (item-stays m lawful item at new (no-worker e s' why c same) asks).0;
+    stored = plainly-stored m.values refl c;
+    paged = λ i key (height, known). absurd (cc (sym known.claimed ∙ same.slots i ∙ new.slots i));
+  }
+  item-leaves {s} {trees = trees} item at new (item-is-walked n steps answer mid s' starts run) asks =
+      let r = item-walks m lawful s at.well at.nobody new at.settled trees at.stands item starts run asks in
+      record {
+        stays = r.stays;
+        stored = stored-then (plainly-stored m.values refl starts.begins) (worker-stored m run);
+        paged = λ i key (height, known). record { shelf = s'.shelf; height = height; slots = r.slots; known = known };
+      }
+
+  plainly-leaves : {s s' : PagerState N E} {trees : ℕ → Tree} (one : Operation m s s') → Stands m.values s trees → OperationAsksWell trees one
+      → KeepsStored s.core.stored s'.core.stored → Leaves s trees s' Nothing
+  plainly-leaves one at asks stored = record { stays = (operation-stays m lawful one at asks).0; stored = stored; paged = λ i key no. absurd no }
+
+  operation-leaves : {s s' : PagerState N E} {trees : ℕ → Tree} (one : Operation m s s') → Stands m.values s trees → OperationAsksWell trees one
+      → Leaves s trees s' (Publishes one)
+  operation-leaves (calls call reply s s' c) at asks = plainly-leaves (calls call reply s s' c) at asks (call-stored m _ _ call reply asks.0 c.step.does)
+  operation-leaves (pins h r s s' run) at asks = plainly-leaves (pins h r s s' run) at asks (pin-stored m run)
+  operation-leaves (reads-key key t r s s' run) at asks = plainly-leaves (reads-key key t r s s' run) at asks (read-stored m run)
+  operation-leaves (pages-item item answer s s' new run) at asks = item-leaves item at new run asks
+  operation-leaves (pages-list place answer s s' run) at asks = list-leaves run at asks
+  operation-leaves {trees = trees} (keeps-nodes s s' keeps) at asks =
+      plainly-leaves (keeps-nodes s s' keeps) at asks (keeps.stay at.nobody at.settled trees at.stands).stored
+
+  all-leave : {s s' : PagerState N E} {trees : ℕ → Tree} (operations : Operations m s s') → Stands m.values s trees → AskWell operations
+      → Leaves s trees s' (HavePublished operations)
+  unfolding AskWell HavePublished
+  all-leave (is-done s) at asks = record { stays = stays-same m lawful at; stored = λ key blob is. is; paged = λ i key no. absurd no }
+  all-leave {trees = trees} (goes-on s mid s' one more) at asks =
+      let a = operation-leaves one at (asks.0 trees at.stands) in leaves-then a (all-leave more a.stays.now asks.1) (λ i key is. is)
+
+-- ---- a load by one call
+
+module _ {N : Type 0} (v : Values N) (w w' : Core) (me : Owner) (reading : Reading) (l : ℕ) (load : OpenLoad) where
+  -- a load that goes on leaves each load open
+  goes-open : (frames : List Frame) → GoesOn v w me reading frames w' → w.loads l ≡ Some load → w'.loads l ≡ Some load
+  goes-open frames (inl g) is = g.asked.gives.2.asked.leaves.loads l ∙ is
+  goes-open frames (inr (inl g)) is = g.asked.gives.2.leaves.loads l ∙ is
+  goes-open frames (inr (inr (inl g))) is = g.asked.gives.2.1.asked.leaves.loads l ∙ is
+  goes-open frames (inr (inr (inr (inl g)))) is = elim g.asked.makes.3 [
+    | inl c ↦ c.leaves.loads l ∙ is
+    | inr (none, few, next, a) ↦ (grind (basics, a.loads l))
+  ]
+  goes-open frames (inr (inr (inr (inr g)))) is = elim g.adopted.adopts.makes [
+    | inl (n, usable, f) ↦ f.falls.leaves.loads l ∙ is
+    | inr (none, few, a) ↦ (grind (basics, a.loads l))
+  ]
+
+-- the caller's load of a cell whose key was published
+module _ {N E : Type 0} (v : Values N) (lawful : IsLawful v) (load : OpenLoad) (own : load.owner ≡ Owner.Caller) (node : NodeNumber) (h : HandleNumber)
+    (i : Identity) where
+  record Loading (s : PagerState N E) (trees : ℕ → Tree) (reading : Reading) : Type 0 where
+    under : Under v s trees load.key reading
+    open_load : s.core.loads reading.load.0 ≡ Some load
+    root : load.root ≡ of_cell node reading.node_type h
+    ready : LoadReady s.core reading.load load reading.frames
+    paged : PagedOut v s trees i load.key
+    typed : (trees i.node.0).type ≡ reading.node_type
+
+  fails-by-chance : {reading : Reading} {s s' : PagerState N E} {answer : LoadAnswer N} (run : LoadRun v Owner.Caller reading s answer s') → LoadAsksWell run
+      → (trees : ℕ → Tree) → Loading s trees reading → (e : Error) → answer ≡ LoadAnswer.Refused e → IsOfChance e
+  unfolding LoadAsksWell
+  fails-by-chance (load-ends reading answer s s' step) asks trees l e is =
+      let does = (subst (λ (a : LoadAnswer N). LoadDoes v s.core Owner.Caller reading (Some a) [] s'.core) is step.does.does).0 in
+      let o : OfPagedOut v s.core trees reading load = record {
+        shelf = l.paged.shelf;
+        slots = l.paged.slots;
+        i = i;
+        height = l.paged.height;
+        known = l.paged.known;
+        typed = l.typed;
+        node = node;
+        h = h;
+        root = l.root;
+        open_load = l.open_load;
+        may = grind (basics, l.open_load, own);
+        fits = l.under.going.fits load l.open_load;
+        asked = l.under.going.asked;
+      } in
+      only-chance v lawful s trees l.under.stands reading load asks.1.types l.ready l.under.going l.open_load e
+      (cause v lawful s.core trees reading load o s'.core e does)
+  fails-by-chance (load-goes-on reading frames answer s mid s' step more) asks trees l e is =
+      let a = stepped lawful s mid trees load.key reading None frames l.under asks.0 asks.1 step in
+      let goes = step.does.does in
+      let given = (l.paged.slots i l.paged.known.slot l.paged.known.claimed).given in
+      fails-by-chance more asks.2 a.trees' (record {
+        under = a.still refl;
+        open_load = goes-open v s.core mid.core Owner.Caller reading reading.load.0 load frames goes l.open_load;
+        root = l.root;
+        ready = goes-ready v lawful s.core mid.core reading asks.1.types load trees load.key reading.node_type l.under.well.whole.handles l.ready
+            l.under.going.held (l.under.going.fits load l.open_load) frames goes;
+        paged = paged-on a.after (caller-feels step).does.goes.stored l.paged;
+        typed = ap (λ (t : Tree). t.type) (a.after.same i.node.0 given) ∙ l.typed;
+      }) e is
+
+-- ---- a pin
+
+module _ {N E : Type 0} (v : Values N) (lawful : IsLawful v) {s : PagerState N E} {trees : ℕ → Tree} (at : Stands v s trees) (h : HandleNumber)
+    (row : HandleRow) (owns : Owns s.core Owner.Caller h is_loose row) (i : Identity) (same : i.node ≡ row.node) (key : ℕ)
+    (keyed : key_at s.core row.node.0 ≡ OptionalDataKey.Some key) (paged : PagedOut v s trees i key) where
+  no-fault : handle_fault s.core Owner.Caller h is_loose ≡ None
+  no-fault = grind (basics, owns.live, owns.own, owns.as_asked)
+
+  no-cause : Only IsOfChance (handle_fault s.core Owner.Caller h is_loose)
+  no-cause e is = absurd (cc (sym no-fault ∙ is))
+
+  loading : {e : Error} {reading : Reading} {mid s' : PagerState N E} → LoadStarts v s h reading mid
+      → (run : LoadRun v Owner.Caller reading mid (LoadAnswer.Refused e) s') → LoadAsksWell run → IsOfChance e
+  loading {e} {reading} {mid} starts run asks =
+      let c = starts.begins in let g = c.step.begins in let b = g.2 in let next = b.2.above in let t = b.4.0 in let a = b.4.2 in
+      let rows : g.0 ≡ row = same_some _ _ (sym g.1.live ∙ owns.live) in
+      let keys : starts.key ≡ key = (grind (basics, rows, keyed, b.1)) in
+      let load : OpenLoad = record { owner = Owner.Caller; key = starts.key; root = of_cell g.0.node t h } in
+      let open_load : mid.core.loads reading.load.0 ≡ Some load =
+      a.loads reading.load.0 ∙ ap (updated (s.core.last.load + 1) (Some load) s.core.loads) next ∙ updated-at (s.core.last.load + 1) (Some load) s.core.loads in
+      let new : reading ≡ fresh reading.load t = (grind (basics, same_some, open_load, starts.is)) in
+      let does = begin-goes _ c.step in
+      let after = begun lawful s mid trees at.well at.settled at.stands does c.moves c.whole in
+      let u = under lawful s mid trees at.well at.settled at.stands does c.moves c.whole (with_handle s.core g.0.node Mode.LooseUnpinned
+      (Owner.Load reading.load)) reading.load t starts.key (of_cell g.0.node t h) next a in
+      let live = stands-alike a (with-one s.core g.0.node Mode.LooseUnpinned (Owner.Load reading.load)
+      (stands-whole at.well.whole.handles h.0 g.0 g.1.live)) in
+      let typed : (trees g.0.node.0).type ≡ t = same_some _ _ (sym (at.stands.typed g.0.node.0 (row-held s.core h g.0 g.1.live)) ∙ b.4.1) in
+      let nodes : i.node ≡ g.0.node = same ∙ ap (λ (x : HandleRow). x.node) (sym rows) in
+      let ready : LoadReady mid.core reading.load load [] = record {
+        begun = λ node u q root. let hs : h ≡ q = cc in record {
+          row = g.0;
+          live = subst (λ (x : HandleNumber). row_at mid.core x ≡ Some g.0) hs live.live;
+          own = g.1.own;
+        };
+        live = λ frame r among got. absurd (cc (among.1));
+        once = tt;
+      } in
+      fails-by-chance v lawful load refl g.0.node h i run asks trees (rw new (record {
+        under = u;
+        open_load = open_load;
+        root = refl;
+        ready = ready;
+        paged = paged-on after does.stored (subst (λ k. PagedOut v s trees i k) (sym keys) paged);
+        typed = ap (λ (n : NodeNumber). (trees n.0).type) nodes ∙ typed;
+      })) e refl
+
+  pin-by-chance : {e : Error} {s' : PagerState N E} (run : PinRun v s h (Err e) s') → PinAsksWell run → IsOfChance e
+  pin-by-chance (pin-is-refused e s' c) asks = only-refused {P = IsOfChance} e c.step.refused
+      (only-earlier _ _ no-cause (only-where _ _ (only-if IsOfChance _ Error.NumbersSpent tt))) tt
+  pin-by-chance (load-is-refused e s' c) asks = only-refused {P = IsOfChance} e c.step.refused
+      (only-earlier _ _ no-cause
+      (only-where _ _ (only-earlier _ _ (only-if IsOfChance _ Error.NumbersSpent tt) (only-if IsOfChance _ Error.NumbersSpent tt)))) tt
+  pin-by-chance (load-fails e reading mid s' starts run) asks = loading starts run asks
+
+pub paged_out_is_pinned : {N B W : Type 0} (E : Type 0) (m : Seen N B W) → PagedOutIsPinned E m
+paged_out_is_pinned E m s later s' trees h row i key e operations pin well nobody lawful settled stands asks pin_asks owns keyed same published =
+    let a = all-leave m lawful operations (record { well = well; nobody = nobody; settled = settled; stands = stands }) asks in
+    pin-by-chance m.values lawful a.stays.now h row owns i same key keyed (a.paged i key published) pin pin_asks
