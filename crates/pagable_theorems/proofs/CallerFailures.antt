@@ -12,7 +12,7 @@ use Rattle.pagable_pager_spec.specs.{
   Refusals.{Owns, handle_fault},
   WorkerClaims.IsOfChance,
   Workers.fresh,
-  World.SameShelf,
+  World.{SameShelf, type_at},
   declared.pinning.Pinning.Pinning,
 }
 use Rattle.pagable_theorems.proofs.{
@@ -30,9 +30,10 @@ use Rattle.pagable_theorems.proofs.{
   TablesKept.{keys-same, slot-on},
   Trees.same_some,
   UninterruptedLoads.{LoadReady, goes-ready, only-chance},
-  Words.{Action, Alike, Beginning, Blob, Call, Core, Err, Error, Event, Frame, HandleNumber, HandleRow, Identity, IsLawful, IsPublished, KeepsOpen, List},
-  Words.{LoadAnswer, Mode, NodeNumber, None, Ok, OpenLoad, Option, OptionalDataKey, Owner, PagerState, Reading, Reply, Result, Seen, Shelf, Some, Todo, Tree},
-  Words.{Values, WorkerAnswer, WorkerState, answer_after, ap, basics, inl, inr, key_at, of_cell, refl, row_at, subst, sym, updated, ℕ, [], ◌+◌, ◌∙◌, ◌≡◌, ◌⊎◌},
+  Words.{Action, Alike, Beginning, Blob, Call, Core, Err, Error, Event, Frame, HandleNumber, HandleRow, HoldsSettled, Identity, IsLawful, IsPagerWhole},
+  Words.{IsPublished, KeepsOpen, List, LoadAnswer, Mode, NodeNumber, None, Ok, OpenLoad, Option, OptionalDataKey, Owner, PagerStandsFor, PagerState, Reading},
+  Words.{Reply, Result, Seen, Shelf, Some, Todo, Tree, Values, WorkerAnswer, WorkerState, answer_after, ap, basics, inl, inr, key_at, of_cell, refl, row_at},
+  Words.{subst, sym, updated, ℕ, [], ◌+◌, ◌∙◌, ◌≡◌, ◌⊎◌},
 }
 use Rattle.pagable_theorems.specs.{
   CallerFailures.{EntryPublishes, HavePublished, ListPublishes, PagedOutIsPinned, Publishes},
@@ -43,7 +44,7 @@ use Rattle.pagable_theorems.specs.{
 
 -- ---- what was stored stays stored, and what a page-out published stays a form of its node's tree
 
-stored-then : {a b c : ℕ → Option Blob} → KeepsStored a b → KeepsStored b c → KeepsStored a c
+pub stored-then : {a b c : ℕ → Option Blob} → KeepsStored a b → KeepsStored b c → KeepsStored a c
 stored-then first second key blob is = second key blob (first key blob is)
 
 -- a page-out has published the key for the identity, on a table that fits the trees
@@ -63,7 +64,7 @@ paged-on {v = v} after stored p = record {
 }
 
 module _ {N E : Type 0} (v : Values N) where
-  load-stored : {reading : Reading} {s s' : PagerState N E} {answer : LoadAnswer N} → LoadRun v Owner.Caller reading s answer s'
+  pub load-stored : {reading : Reading} {s s' : PagerState N E} {answer : LoadAnswer N} → LoadRun v Owner.Caller reading s answer s'
       → KeepsStored s.core.stored s'.core.stored
   load-stored (load-ends reading answer s s' step) = (caller-feels step).does.goes.stored
   load-stored (load-goes-on reading frames answer s mid s' step more) = stored-then (caller-feels step).does.goes.stored (load-stored more)
@@ -141,8 +142,8 @@ module _ {N E B W : Type 0} (m : Seen N B W) (lawful : IsLawful m.values) where
     paged = λ i key no. absurd no;
   }
   entry-leaves {s} {place = place} {trees = trees} (entry-is-walked h row t n steps answer mid s' is kinds starts run) at asks =
-      let r = entry-walks m lawful (record { pager = s; shelf = no_shelf }) at.well at.nobody (same-shelf refl) at.settled trees at.stands place h row t n mid is
-      kinds starts run asks in
+      let r = entry-walks m lawful (record { pager = s; shelf = no_shelf }) at.well at.nobody (same-shelf refl) at.settled trees at.stands place h row t n
+      mid is kinds starts run asks in
       record {
         stays = r.stays;
         stored = stored-then (plainly-stored m.values refl starts.begins) (worker-stored m run);
@@ -204,11 +205,11 @@ module _ {N E B W : Type 0} (m : Seen N B W) (lawful : IsLawful m.values) where
   all-leave {trees = trees} (goes-on s mid s' one more) at asks =
       let a = operation-leaves one at (asks.0 trees at.stands) in leaves-then a (all-leave more a.stays.now asks.1) (λ i key is. is)
 
--- ---- a load by one call
+-- ---- a load by one call: its begin, and that it stays open
 
 module _ {N : Type 0} (v : Values N) (w w' : Core) (me : Owner) (reading : Reading) (l : ℕ) (load : OpenLoad) where
   -- a load that goes on leaves each load open
-  goes-open : (frames : List Frame) → GoesOn v w me reading frames w' → w.loads l ≡ Some load → w'.loads l ≡ Some load
+  pub goes-open : (frames : List Frame) → GoesOn v w me reading frames w' → w.loads l ≡ Some load → w'.loads l ≡ Some load
   goes-open frames (inl g) is = g.asked.gives.2.asked.leaves.loads l ∙ is
   goes-open frames (inr (inl g)) is = g.asked.gives.2.leaves.loads l ∙ is
   goes-open frames (inr (inr (inl g))) is = g.asked.gives.2.1.asked.leaves.loads l ∙ is
@@ -220,6 +221,51 @@ module _ {N : Type 0} (v : Values N) (w w' : Core) (me : Owner) (reading : Readi
     | inl (n, usable, f) ↦ f.falls.leaves.loads l ∙ is
     | inr (none, few, a) ↦ (grind (basics, a.loads l))
   ]
+
+abbrev pub load_of : HandleNumber → HandleRow → ℕ → ℕ → OpenLoad
+load_of h row t key = record { owner = Owner.Caller; key = key; root = of_cell row.node t h }
+
+-- a load of the handle's cell has begun
+pub record Begun {N E : Type 0} (v : Values N) (s : PagerState N E) (trees : ℕ → Tree) (h : HandleNumber) (reading : Reading)
+    (mid : PagerState N E) : Type 0 where
+  pub row : HandleRow
+  pub t : ℕ
+  pub key : ℕ
+  pub owns : Owns s.core Owner.Caller h is_loose row
+  pub typed : type_at s.core row.node.0 ≡ Some t
+  pub keyed : key_at s.core row.node.0 ≡ OptionalDataKey.Some key
+  pub new : reading ≡ fresh reading.load t
+  pub open_load : mid.core.loads reading.load.0 ≡ Some (load_of h row t key)
+  pub under : Under v mid trees key (fresh reading.load t)
+  pub after : After v s trees mid trees
+  pub stored : KeepsStored s.core.stored mid.core.stored
+  pub live : row_at mid.core h ≡ Some row
+
+module _ {N E : Type 0} (v : Values N) (lawful : IsLawful v) (s : PagerState N E) (trees : ℕ → Tree) (well : IsPagerWhole v s) (settled : HoldsSettled v s)
+    (stands : PagerStandsFor v s trees) where
+  pub load-begins : {h : HandleNumber} {reading : Reading} {mid : PagerState N E} → LoadStarts v s h reading mid → Begun v s trees h reading mid
+  load-begins {h} {reading} {mid} starts =
+      let c = starts.begins in let g = c.step.begins in let row = g.0 in let b = g.2 in let next = b.2.above in let t = b.4.0 in let a = b.4.2 in
+      let load = load_of h row t starts.key in
+      let open_load : mid.core.loads reading.load.0 ≡ Some load =
+      a.loads reading.load.0 ∙ ap (updated (s.core.last.load + 1) (Some load) s.core.loads) next ∙ updated-at (s.core.last.load + 1) (Some load) s.core.loads in
+      let does = begin-goes _ c.step in
+      record {
+        row = row;
+        t = t;
+        key = starts.key;
+        owns = g.1;
+        typed = b.4.1;
+        keyed = b.1;
+        new = (grind (basics, same_some, open_load, starts.is));
+        open_load = open_load;
+        under = under lawful s mid trees well settled stands does c.moves c.whole
+            (with_handle s.core row.node Mode.LooseUnpinned (Owner.Load reading.load)) reading.load t starts.key (of_cell row.node t h) next a;
+        after = begun lawful s mid trees well settled stands does c.moves c.whole;
+        stored = does.stored;
+        live = (stands-alike a (with-one s.core row.node Mode.LooseUnpinned (Owner.Load reading.load)
+            (stands-whole well.whole.handles h.0 row g.1.live))).live;
+      }
 
 -- the caller's load of a cell whose key was published
 module _ {N E : Type 0} (v : Values N) (lawful : IsLawful v) (load : OpenLoad) (own : load.owner ≡ Owner.Caller) (node : NodeNumber) (h : HandleNumber)
@@ -282,38 +328,31 @@ module _ {N E : Type 0} (v : Values N) (lawful : IsLawful v) {s : PagerState N E
   loading : {e : Error} {reading : Reading} {mid s' : PagerState N E} → LoadStarts v s h reading mid
       → (run : LoadRun v Owner.Caller reading mid (LoadAnswer.Refused e) s') → LoadAsksWell run → IsOfChance e
   loading {e} {reading} {mid} starts run asks =
-      let c = starts.begins in let g = c.step.begins in let b = g.2 in let next = b.2.above in let t = b.4.0 in let a = b.4.2 in
-      let rows : g.0 ≡ row = same_some _ _ (sym g.1.live ∙ owns.live) in
-      let keys : starts.key ≡ key = (grind (basics, rows, keyed, b.1)) in
-      let load : OpenLoad = record { owner = Owner.Caller; key = starts.key; root = of_cell g.0.node t h } in
-      let open_load : mid.core.loads reading.load.0 ≡ Some load =
-      a.loads reading.load.0 ∙ ap (updated (s.core.last.load + 1) (Some load) s.core.loads) next ∙ updated-at (s.core.last.load + 1) (Some load) s.core.loads in
-      let new : reading ≡ fresh reading.load t = (grind (basics, same_some, open_load, starts.is)) in
-      let does = begin-goes _ c.step in
-      let after = begun lawful s mid trees at.well at.settled at.stands does c.moves c.whole in
-      let u = under lawful s mid trees at.well at.settled at.stands does c.moves c.whole (with_handle s.core g.0.node Mode.LooseUnpinned
-      (Owner.Load reading.load)) reading.load t starts.key (of_cell g.0.node t h) next a in
-      let live = stands-alike a (with-one s.core g.0.node Mode.LooseUnpinned (Owner.Load reading.load)
-      (stands-whole at.well.whole.handles h.0 g.0 g.1.live)) in
-      let typed : (trees g.0.node.0).type ≡ t = same_some _ _ (sym (at.stands.typed g.0.node.0 (row-held s.core h g.0 g.1.live)) ∙ b.4.1) in
-      let nodes : i.node ≡ g.0.node = same ∙ ap (λ (x : HandleRow). x.node) (sym rows) in
-      let ready : LoadReady mid.core reading.load load [] = record {
+      let b = load-begins v lawful s trees at.well at.settled at.stands starts in
+      let rows : b.row ≡ row = same_some _ _ (sym b.owns.live ∙ owns.live) in
+      let keys : b.key ≡ key = (grind (basics, rows, keyed, b.keyed)) in
+      let typed : (trees b.row.node.0).type ≡ b.t = same_some _ _
+      (sym (at.stands.typed b.row.node.0 (row-held s.core h b.row b.owns.live)) ∙ b.typed) in
+      let nodes : i.node ≡ b.row.node = same ∙ ap (λ (x : HandleRow). x.node) (sym rows) in
+      let ready : LoadReady mid.core reading.load (load_of h b.row b.t b.key) [] = record {
         begun = λ node u q root. let hs : h ≡ q = cc in record {
-          row = g.0;
-          live = subst (λ (x : HandleNumber). row_at mid.core x ≡ Some g.0) hs live.live;
-          own = g.1.own;
+          row = b.row;
+          live = subst (λ (x : HandleNumber). row_at mid.core x ≡ Some b.row) hs b.live;
+          own = b.owns.own;
         };
         live = λ frame r among got. absurd (cc (among.1));
         once = tt;
       } in
-      fails-by-chance v lawful load refl g.0.node h i run asks trees (rw new (record {
-        under = u;
-        open_load = open_load;
+      let l : Loading v lawful (load_of h b.row b.t b.key) refl b.row.node h i mid trees (fresh reading.load b.t) = record {
+        under = b.under;
+        open_load = b.open_load;
         root = refl;
         ready = ready;
-        paged = paged-on after does.stored (subst (λ k. PagedOut v s trees i k) (sym keys) paged);
+        paged = paged-on b.after b.stored (subst (λ k. PagedOut v s trees i k) (sym keys) paged);
         typed = ap (λ (n : NodeNumber). (trees n.0).type) nodes ∙ typed;
-      })) e refl
+      } in
+      fails-by-chance v lawful (load_of h b.row b.t b.key) refl b.row.node h i run asks trees
+      (subst (λ (z : Reading). Loading v lawful (load_of h b.row b.t b.key) refl b.row.node h i mid trees z) (sym b.new) l) e refl
 
   pin-by-chance : {e : Error} {s' : PagerState N E} (run : PinRun v s h (Err e) s') → PinAsksWell run → IsOfChance e
   pin-by-chance (pin-is-refused e s' c) asks = only-refused {P = IsOfChance} e c.step.refused

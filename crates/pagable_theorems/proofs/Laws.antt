@@ -1,5 +1,6 @@
 -- The lemmas by which the laws of `src/` are proved, by file.
 use Rattle.pagable_theorems.proofs.{
+  CallerDepths.{item_key_is_shallow, item_reports_depth, pin_is_deep, read_is_deep},
   CallerFailures.paged_out_is_pinned,
   Callers.caller_law,
   CascadeWitness.fall_laws,
@@ -62,6 +63,10 @@ pub ruleset world_laws = (
   list_law,
   caller_law,
   paged_out_is_pinned,
+  item_key_is_shallow,
+  item_reports_depth,
+  pin_is_deep,
+  read_is_deep,
   held_law,
   pinned_law,
   held_by_callers_law,

@@ -32,6 +32,7 @@ mod RefusalCauses
 mod RefusalEffects
 mod UninterruptedLoads
 mod CallerFailures
+mod CallerDepths
 mod Heights
 pub mod ValueRows
 pub mod ValuesOwned

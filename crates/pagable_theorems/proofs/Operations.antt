@@ -15,21 +15,22 @@ use Rattle.pagable_theorems.proofs.{
   EventEffects.event-goes,
   HandlesKept.{rows-self, updated-at},
   LoadProgress.{moves-as, settled-on},
-  LoadResults.{After, after-then},
+  LoadResults.{After, after-then, answered},
   Moments.{IsAtRest, WorksAlone, at-rest, at-work, entry-began, item-began, moved, reply-of, rest-whole, same-shelf, table-made, walking-on, with-table},
   Moments.{with-table-rests, works-alone},
   ReadingSteps.caller-free,
+  TablesKept.{done-on, keys-same},
   Trees.{same-number, same_some},
   Words.{Action, Alike, Call, Core, Event, EventReply, HandleNumber, HandleRow, HoldsSettled, IsLawful, IsPagerWhole, IsWellAsked, KeepsOpen, List},
   Words.{MachineState, Moment, None, Ok, Option, Owner, PagerStandsFor, PagerState, Reply, Result, Seen, Shelf, Some, Task, Todo, Tree, Values, Walking},
-  Words.{WorkerAnswer, answer_after, ap, arith, basics, cases_Bool, inl, inr, length, of_item, refl, subst, sym, true, world_of, ℕ, ◌+◌, ◌<◌, ◌==◌, ◌∙◌, ◌≡◌},
-  Words.◌≤◌,
+  Words.{WorkerAnswer, WorkerState, answer_after, ap, arith, basics, cases_Bool, inl, inr, length, of_item, refl, subst, sym, true, world_of, ℕ, ◌+◌, ◌<◌},
+  Words.{◌==◌, ◌∙◌, ◌≡◌, ◌≤◌},
 }
 use Rattle.pagable_theorems.specs.{
   CallerLaws.{CallIsRight, IsCall},
   PageOutLaws.{EachIsPagedOut, EntryAsksWell, EntryIsPagedOut, ItemAsksWell, ItemLaw, LeavesPagedOut, ListAsksWell, ListLaw, NobodyWorks, WorkerAsksWell},
   SmallWorlds.no_work,
-  TreeSteps.{Ground, SlotsFit},
+  TreeSteps.{Ground, IsDone, SlotsFit, Walks},
 }
 use Rattle.std.specs.Prelude.{is_none}
 
@@ -61,10 +62,11 @@ pub record Ended {N E : Type 0} (v : Values N) (s : PagerState N E) (trees : ℕ
   pub stays : Stays v s trees s'.pager
   pub out : (key : ℕ) → answer ≡ WorkerAnswer.Key key → LeavesPagedOut v s'.pager s'.shelf stays.trees' task key
   pub slots : SlotsFit v (ground s'.pager stays.trees') s'.shelf
+  pub done : (key : ℕ) → answer ≡ WorkerAnswer.Key key → IsDone v s'.shelf task key
 
 from-after : {N E : Type 0} {v : Values N} {s mid : PagerState N E} {trees trees' : ℕ → Tree} {answer : WorkerAnswer} {task : Task} {s' : AccessState N E}
     → After v s trees mid trees' → Ended v mid trees' answer task s' → Ended v s trees answer task s'
-from-after a r = record { stays = stays-then a r.stays; out = r.out; slots = r.slots }
+from-after a r = record { stays = stays-then a r.stays; out = r.out; slots = r.slots; done = r.done }
 
 module _ {N E B W : Type 0} (m : Seen N B W) (lawful : IsLawful m.values) where
   record Came (a : MachineState N E) (trees : ℕ → Tree) (x : Moment N E B W) : Type 0 where
@@ -145,6 +147,13 @@ module _ {N E B W : Type 0} (m : Seen N B W) (lawful : IsLawful m.values) where
                 is_key = c.right.key now key there_now e;
               };
           slots = subst (λ (x : Shelf). SlotsFit m.values (ground s'.pager c.trees') x) (updated-at t s'.shelf base.shelves) (c.going.fits.slots t);
+          done = λ key same.
+              let site : WorkerState = record { core = s.pager.core; shelf = s.shelf; todo = todo } in
+              let walking = walking-on t task todo count None in
+              let walks = subst (λ (x : Shelf). Walks m.values (ground s.pager trees) x task todo) (updated-at t s.shelf base.shelves)
+              (on.fits.walks n walking (updated-at n (Some walking) base.walkings)) in
+              let a = answered m n (ground s.pager trees) task site w.after todo step w.does.does walks key (is ∙ ap Some same) in
+              done-on (keys-same (λ i. w.shelf_is.slots i ∙ a.1 i)) m.values task key a.0;
         }
     ends (worker-goes-on todo next step steps answer s mid s' w is more) asks count trees alone on =
         let c = step-comes s mid todo next count step trees w alone on asks.0 asks.1 in

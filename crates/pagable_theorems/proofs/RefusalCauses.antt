@@ -307,7 +307,7 @@ module _ {N B W : Type 0} (m : Seen N B W) (lawful : IsLawful m.values) (w : Cor
   nested-deep : (u : Core) → RefusesNested m.values.types w me reading Error.TooDeep u → Deep
   nested-deep u x1 = grind (basics, not-asked, of-path)
 
-  fails-deep : (w' : Core) → Fails m.values w me reading Error.TooDeep w' → Deep
+  pub fails-deep : (w' : Core) → Fails m.values w me reading Error.TooDeep w' → Deep
   fails-deep w' (inr ended) = absurd (by-handle-row w me ended.ended.refused.h any_mode Error.TooDeep ended.ended.refused.why)
   fails-deep w' (inl gives) = elim gives.meets [
     | inl (refuses, a) ↦ (grind (basics, down-to, kinds_of, faulty-by-kinds, next_in))

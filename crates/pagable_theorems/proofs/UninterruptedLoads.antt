@@ -23,8 +23,8 @@ use Rattle.pagable_theorems.proofs.{
   Words.{HandlesAreWhole, Happens, IsLawful, IsMachineWhole, IsReadableType, IsReference, IsWellAsked, Kind, List, LoadAnswer, LoadNumber, MachineState, Mode},
   Words.{Moment, NodeNumber, None, Ok, OpenLoad, Option, OptionalDataKey, Owner, PagerStandsFor, PagerState, Reading, Reply, Seen, Some, Tree, Values, adopted},
   Words.{ap, arith, basics, false, false_from_ne_true, find_row, held, if_there, inl, inr, is_in, is_named_by, is_some, mode_of, next_node, of_cell},
-  Words.{owner_value, references_fault, refl, root_frame, row_at, rules, slice_get, subst, suc, sym, type_of, with_handle, world_of, zero, ℕ, [], ◌+◌, ◌<◌, ◌==◌},
-  Words.{◌∙◌, ◌∷◌, ◌≡◌, ◌⊎◌},
+  Words.{owner_value, references_fault, refl, root_frame, row_at, rules, slice_get, subst, suc, sym, type_of, with_handle, world_of, zero, ℕ, [], ◌+◌, ◌<◌},
+  Words.{◌==◌, ◌∙◌, ◌∷◌, ◌≡◌, ◌⊎◌},
 }
 use Rattle.pagable_theorems.specs.{DepthLaws.{HasBegun, IsBeginOf, UninterruptedLoadsAreSound}, TreeSteps.FramesHeld}
 
